@@ -1,0 +1,11 @@
+pub mod Commuting
+pub mod Dialogue
+pub mod Length
+pub mod Names
+pub mod Op
+pub mod Reply
+pub mod ReplyText
+pub mod Serial
+pub mod Tables
+pub mod Values
+pub mod formers

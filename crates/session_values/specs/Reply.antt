@@ -1,0 +1,27 @@
+-- Replies as contracts see them: plain records, of which the type keeps a fact.
+use Rattle.std.specs.Prelude.{◌≡◌, ℕ, ◌<◌, ◌≤◌, List, [], ◌∷◌, take}
+use Rattle.session_values.specs.declared.value.Value.{Value}
+use Rattle.session_values.specs.declared.value.Value.TheVariants.{Nil}
+
+pub record ReplyView : Type 0 where
+  pub count : ℕ
+  pub a : Value
+  pub b : Value
+  pub c : Value
+  pub d : Value
+
+-- it has 1 to 4 values, and the others are nil
+abbrev pub IsReply : ℕ → Value → Value → Value → Type 0
+IsReply count b c d = (0 < count) × (count ≤ 4) × (count < 2 → b ≡ Nil) × (count < 3 → c ≡ Nil) × (count < 4 → d ≡ Nil)
+
+-- its values, in order
+abbrev pub values_of : ReplyView → List Value
+values_of r = take r.count (r.a ∷ r.b ∷ r.c ∷ r.d ∷ [])
+
+-- The reply of these values: nil alone where there are none, and the first four where there are more.
+abbrev pub reply_of : List Value → ReplyView
+reply_of [] = record { count = 1; a = Nil; b = Nil; c = Nil; d = Nil }
+reply_of (a ∷ []) = record { count = 1; a = a; b = Nil; c = Nil; d = Nil }
+reply_of (a ∷ b ∷ []) = record { count = 2; a = a; b = b; c = Nil; d = Nil }
+reply_of (a ∷ b ∷ c ∷ []) = record { count = 3; a = a; b = b; c = c; d = Nil }
+reply_of (a ∷ b ∷ c ∷ d ∷ more) = record { count = 4; a = a; b = b; c = c; d = d }
