@@ -1,0 +1,67 @@
+-- Reads and writes one after another.
+use Rattle.std.proofs.Common.{◌≡◌, ℕ, ◌+◌, ◌<◌, ◌≤◌, List, [], ◌++◌, take, drop, length, Option, Some, None, IfSome, sym, ap, ◌∙◌, subst, append_assoc, arith, append-nil, length-append}
+use Rattle.std.proofs.lemmas.List.{take-append-le, take_all}
+use Rattle.std.proofs.Math.Seq.{take-add, take-append_seam, drop-append_seam}
+use Rattle.byte_ends.specs.Ends.{Rose, Grew, GrewByFront}
+
+-- these bytes were taken from the front of what was there, and the rest is there still
+abbrev pub Taken : Option (List ℕ) → Option (List ℕ) → List ℕ → Type 0
+Taken old now bytes = IfSome old (λ all. (rest : List ℕ) × (all ≡ bytes ++ rest) × (now ≡ Some rest))
+
+-- where nothing changed, nothing was written
+pub grew_nothing : (old new : Option (List ℕ)) → new ≡ old → Grew old new []
+grew_nothing None new same = tt
+grew_nothing (Some held) new same = same ∙ ap Some (sym (append-nil held))
+
+-- one more write
+pub grew_more : (old mid new : Option (List ℕ)) (xs ys : List ℕ) → Grew old mid xs → Grew mid new ys → Grew old new (xs ++ ys)
+grew_more None mid new xs ys first more = first
+grew_more (Some held) mid new xs ys first more =
+    let grown : Grew (Some (held ++ xs)) new ys = subst (λ o. Grew o new ys) first more in
+    grown ∙ ap Some (append_assoc held xs ys)
+
+-- all is a front
+pub front_of_all : (old new : Option (List ℕ)) (xs : List ℕ) → Grew old new xs → GrewByFront old new xs
+front_of_all None new xs grew = grew
+front_of_all (Some held) new xs grew =
+    (length xs, omega arith, grew ∙ ap (λ ys. Some (held ++ ys)) (sym (take_all (length xs) xs (omega arith))))
+
+-- a front of the first bytes is a front of more
+pub front_of_more : (old new : Option (List ℕ)) (xs ys : List ℕ) → GrewByFront old new xs → GrewByFront old new (xs ++ ys)
+front_of_more None new xs ys grew = grew
+front_of_more (Some held) new xs ys grew =
+    (grew.0, omega (arith, grew.1, length-append xs ys), grew.2 ∙ ap (λ us. Some (held ++ us)) (sym (take-append-le grew.0 xs ys grew.1)))
+
+-- a front of the last bytes ends a front of all
+front_of_last : (xs ys : List ℕ) (n : ℕ) → take (length xs + n) (xs ++ ys) ≡ xs ++ take n ys
+front_of_last xs ys n =
+    take-add (length xs) n (xs ++ ys) ∙ ap (λ us. us ++ take n (drop (length xs) (xs ++ ys))) (take-append_seam xs ys)
+    ∙ ap (λ us. xs ++ take n us) (drop-append_seam xs ys)
+
+-- a write that breaks off leaves a front of all
+pub grew_front : (old mid new : Option (List ℕ)) (xs ys : List ℕ) → Grew old mid xs → GrewByFront mid new ys → GrewByFront old new (xs ++ ys)
+grew_front None mid new xs ys first broken = first
+grew_front (Some held) mid new xs ys first broken =
+    let f : GrewByFront (Some (held ++ xs)) new ys = subst (λ o. GrewByFront o new ys) first broken in
+    let within : f.0 ≤ length ys = f.1 in (
+      length xs + f.0,
+      omega (arith, within, length-append xs ys),
+      f.2 ∙ ap Some (append_assoc held xs (take f.0 ys) ∙ ap (λ us. held ++ us) (sym (front_of_last xs ys f.0))),
+    )
+
+-- the same of a part in the middle
+pub grew_front_within : (old mid new : Option (List ℕ)) (xs ys zs : List ℕ) → Grew old mid xs → GrewByFront mid new ys → GrewByFront old new (xs ++ (ys ++ zs))
+grew_front_within old mid new xs ys zs first broken = grew_front old mid new xs (ys ++ zs) first (front_of_more mid new ys zs broken)
+
+-- a count that rose has risen since earlier
+pub rose_since : (before mid now : ℕ) → before ≤ mid → Rose mid now → Rose before now
+rose_since before mid now later rose = omega (arith, later, rose)
+
+-- a count that rose stays risen
+pub rose_still : (before mid now : ℕ) → Rose before mid → mid ≤ now → Rose before now
+rose_still before mid now rose later = omega (arith, rose, later)
+
+-- more was taken than so many bytes
+pub long_taken : (old now : Option (List ℕ)) (bytes : List ℕ) (n : ℕ) → Taken old now bytes → n < length bytes → IfSome old (λ all. n < length all)
+long_taken None now bytes n taken long = taken
+long_taken (Some all) now bytes n taken long = omega (arith, long, ap length taken.1, length-append bytes taken.0)

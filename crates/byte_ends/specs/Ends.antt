@@ -1,0 +1,39 @@
+-- What reads and writes do, at sources and sinks that may tell their bytes.
+use Rattle.std.specs.Prelude.{◌≡◌, ℕ, ◌+◌, ◌-◌, ◌<◌, ◌≤◌, ◌^◌, min, List, [], ◌++◌, length, take, drop, Option, Some, IfSome}
+use Rattle.byte_ends.specs.declared.source.Got.{Got}
+use Rattle.byte_ends.specs.declared.source.Got.TheVariants as got
+use Rattle.byte_ends.specs.declared.sink.Put.{Put}
+use Rattle.byte_ends.specs.declared.sink.Put.TheVariants as put
+
+-- one more, up to the largest u64
+abbrev pub raised : ℕ → ℕ
+raised count = min (count + 1) (2 ^ 64 - 1)
+
+-- a count rose, or stands at the largest u64
+abbrev pub Rose : ℕ → ℕ → Type 0
+Rose before now = raised before ≤ now
+
+-- the next n of the old bytes stand at the front of the buffer, and the others are left
+pub record Gave (old : List ℕ) (new : Option (List ℕ)) (n : ℕ) (buf : List ℕ) : Type 0 where
+  pub within : n ≤ length old
+  pub bytes : take n buf ≡ take n old
+  pub rest : new ≡ Some (drop n old)
+
+-- what a read gave, where old and new are what was left before and is left now
+abbrev pub ReadGives : Option (List ℕ) → Option (List ℕ) → List ℕ → Got → Type 0
+ReadGives old new buf (got.Bytes n) = (0 < n) × (n ≤ length buf) × IfSome old (λ bytes. Gave bytes new n buf)
+ReadGives old new buf got.End = (new ≡ old) × IfSome old (λ bytes. bytes ≡ [])
+ReadGives old new buf got.Failed = new ≡ old
+
+-- what a write took, where old and new are what was held before and is held now
+abbrev pub WriteTakes : Option (List ℕ) → Option (List ℕ) → List ℕ → Put → Type 0
+WriteTakes old new bytes (put.Took n) = (0 < n) × (n ≤ length bytes) × IfSome old (λ held. new ≡ Some (held ++ take n bytes))
+WriteTakes old new bytes put.Failed = new ≡ old
+
+-- what is held grew by these bytes, where it is told
+abbrev pub Grew : Option (List ℕ) → Option (List ℕ) → List ℕ → Type 0
+Grew old new bytes = IfSome old (λ held. new ≡ Some (held ++ bytes))
+
+-- what is held grew by a front of these bytes, where it is told
+abbrev pub GrewByFront : Option (List ℕ) → Option (List ℕ) → List ℕ → Type 0
+GrewByFront old new bytes = IfSome old (λ held. (n : ℕ) × (n ≤ length bytes) × (new ≡ Some (held ++ take n bytes)))

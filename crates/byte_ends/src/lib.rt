@@ -1,0 +1,25 @@
+//! Where bytes come from and where they go: sources and sinks, those in memory, and how all bytes
+//! are read and written.
+#![tactic(auto)]
+
+mod calls;
+mod memory_sink;
+mod memory_source;
+mod reading;
+mod sink;
+mod source;
+mod sure_sink;
+mod sure_source;
+mod writing;
+
+pub use memory_sink::MemorySink;
+pub use memory_source::MemorySource;
+pub use reading::{MAX_INPUT, Unread, read_all};
+pub use sink::{Put, Sink};
+pub use source::{Got, Source};
+pub use sure_sink::SureSink;
+pub use sure_source::SureSource;
+pub use writing::write_all;
+
+#[cfg(test)]
+mod tests;

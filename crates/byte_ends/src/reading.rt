@@ -1,0 +1,45 @@
+// All bytes of a source.
+
+ghost use Rattle.std.specs.Prelude.{◌≡◌, ◌<◌, ◌≤◌, [], length, vec_len, Some, IfOk, OnOk, IfSome, IsErrOf};
+ghost use Rattle.byte_ends.specs.Ends.{Rose};
+
+use crate::source::{Got, Source};
+use std::alloc::Global;
+
+/// The most bytes that are read.
+pub const MAX_INPUT: usize = 4194304;
+
+/// Why a source wasn't read to its end.
+#[derive(Clone, Copy, Debug, PartialEq, Eq)]
+pub enum Unread {
+    /// It has more than `MAX_INPUT` bytes.
+    TooLarge,
+    /// A read failed.
+    Failed,
+    NoMemory,
+}
+
+/// All that the source has, up to its end.
+pub fn read_all<I: Source>(alloc: Global, source: &mut I) -> Result<Vec<u8>, Unread>
+    ensures read { IfOk result (λ bytes. IfSome (I.left source.old) (λ all. bytes.items ≡ all)) }
+    ensures bound { IfOk result (λ bytes. vec_len bytes ≤ 4194304) }
+    ensures end { OnOk result (IfSome (I.left source.old) (λ _. I.left source.new ≡ Some [])) }
+    ensures large { IsErrOf result Unread.TooLarge → IfSome (I.left source.old) (λ all. 4194304 < length all) }
+    ensures failed { IsErrOf result Unread.Failed → Rose (I.faults source.old) (I.faults source.new) }
+    ensures later { I.faults source.old ≤ I.faults source.new }
+{
+    let mut bytes = Vec::new(alloc);
+    let mut buf = [0u8; 16384];
+    'pieces: while bytes.len() <= MAX_INPUT {
+        match source.read(&mut buf) {
+            Got::Failed => return Err(Unread::Failed),
+            Got::End => return Ok(bytes),
+            Got::Bytes(n) => {
+                if bytes.extend_from_slice(&buf[..n as usize]).is_err() {
+                    return Err(Unread::NoMemory);
+                }
+            }
+        }
+    }
+    Err(Unread::TooLarge)
+}

@@ -1,0 +1,59 @@
+// Room for a line.
+
+ghost use Rattle.std.specs.Prelude.{◌≡◌, ◌+◌, ◌≤◌, [], ◌++◌, length};
+
+use std::marker::Model;
+
+/// The longest line: a ticket of 5 digits, a space and 64 bytes for each of 4 values, a line feed.
+const LONGEST: usize = 266;
+
+/// A line's bytes, in room for 266 of them.
+#[derive(Drop)]
+pub struct LineBuf {
+    room: [u8; LONGEST],
+    len: usize,
+}
+
+impl Model for LineBuf {
+    ghost use Rattle.std.specs.Prelude.{List, ℕ, take, ◌≤◌};
+
+    ghost Value = { List ℕ };
+
+    ghost view = { λ b. take b.len b.room };
+
+    ghost invariant = { λ b. b.len ≤ 266 };
+}
+
+impl LineBuf {
+    /// A buffer that holds nothing yet.
+    pub fn new() -> LineBuf
+        ensures { result ≡ [] }
+    {
+        LineBuf {
+            room: [0; LONGEST],
+            len: 0,
+        }
+    }
+
+    /// The line that stands in it.
+    pub fn bytes(&self) -> &[u8]
+        ensures { result.now ≡ self.now }
+    {
+        &self.room[..self.len]
+    }
+
+    pub(crate) fn clear(&mut self)
+        ensures { self.new ≡ [] }
+    {
+        self.len = 0;
+    }
+
+    pub(crate) fn push(&mut self, text: &[u8])
+        requires { length self.old + length text.now ≤ 266 }
+        ensures { self.new ≡ self.old ++ text.now }
+    {
+        let end = self.len + text.len();
+        self.room[self.len..end].copy_from_slice(text);
+        self.len = end;
+    }
+}

@@ -1,0 +1,55 @@
+// A reply's line.
+
+ghost use Rattle.std.specs.Prelude.{◌≡◌, ◌+◌, ◌*◌, ◌<◌, ◌≤◌, ◌++◌, length};
+ghost use Rattle.std.specs.List.{AllByRecursion};
+ghost use Rattle.session_values.specs.Reply.{values_of};
+ghost use Rattle.session_values.specs.ReplyText.{IsPrintable, value_text, values_text, line_text};
+
+use crate::line_buf::LineBuf;
+use itoa::Buffer;
+use session_values::{Names, Reply, Value};
+
+/// The line of a ticket and its reply, in place of what the buffer held.
+pub fn line(ticket: u32, reply: &Reply, names: &Names, out: &mut LineBuf)
+    requires ticket { ticket < 20000 }
+    requires printable { AllByRecursion (IsPrintable names.now) (values_of reply.now) }
+    ensures { out.new ≡ line_text names.now ticket reply.now }
+{
+    let count = reply.count as usize;
+    let values = [reply.a, reply.b, reply.c, reply.d];
+    let mut buffer = Buffer::new();
+    out.clear();
+    out.push(buffer.format(ticket).as_bytes());
+    push_values(&values[..count], names, out);
+    out.push(b"\n");
+}
+
+/// Appends a space and the text of each value.
+fn push_values(values: &[Value], names: &Names, out: &mut LineBuf)
+    requires printable { AllByRecursion (IsPrintable names.now) values.now }
+    requires room { length out.old + 65 * length values.now ≤ 266 }
+    ensures text { out.new ≡ out.old ++ values_text names.now values.now }
+    ensures len { length out.new ≤ length out.old + 65 * length values.now }
+{
+    'values: for value in values {
+        out.push(b" ");
+        push_value(*value, names, out);
+    }
+}
+
+/// Appends the text of a value.
+fn push_value(value: Value, names: &Names, out: &mut LineBuf)
+    requires printable { IsPrintable names.now value }
+    requires room { length out.old + 64 ≤ 266 }
+    ensures text { out.new ≡ out.old ++ value_text names.now value }
+    ensures len { length out.new ≤ length out.old + 64 }
+{
+    match value {
+        Value::Nil => out.push(b"nil"),
+        Value::Num(n) => {
+            let mut buffer = Buffer::new();
+            out.push(buffer.format(n).as_bytes());
+        }
+        Value::Sym(place) => out.push(names.text(place).as_bytes()),
+    }
+}
