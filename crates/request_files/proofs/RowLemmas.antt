@@ -1,0 +1,122 @@
+-- Rows, from the first to the last.
+use Rattle.std.proofs.Common.{◌≡◌, ℕ, ◌+◌, ◌<◌, ◌≤◌, List, [], ◌∷◌, ◌++◌, length, map, Some, None, refl, sym, ap, ◌∙◌, subst, arith, append_assoc, length-append}
+use Rattle.std.proofs.lemmas.List.{append-nil}
+use Rattle.std.specs.Option.{option_or}
+use Rattle.std.specs.List.{AllByRecursion}
+use Rattle.session_values.specs.Names.{Begins}
+use Rattle.session_values.specs.declared.value.Value.{Value}
+use Rattle.session_values.proofs.Named.{begins_same, begins_then}
+use Rattle.request_files.specs.declared.head.Head.{Head}
+use Rattle.request_files.specs.declared.request.Request.{Request}
+use Rattle.request_files.specs.declared.tally.Tally.{Tally}
+use Rattle.request_files.specs.declared.refusal.RequestRefusal.{RequestRefusal}
+use Rattle.request_files.specs.Text.{Text, words}
+use Rattle.request_files.specs.Values.{values_of, placed_all}
+use Rattle.request_files.specs.Requests.{Row, row_of, rows, row_before, AreKnown, handler_of, fault_of, with_request, first_fault, no_requests, request_of, names_behind, IsWithin, Accepted, AreRequests}
+use Rattle.request_files.proofs.ValueLemmas.{placed_all_begins, values_kept}
+use Rattle.request_files.proofs.HandlerLemmas.{handler_kept}
+use Rattle.request_files.proofs.FaultLemmas.{fault_kept}
+
+-- ---- rows of lines
+
+pub rows_nil : (n : ℕ) → rows n [] ≡ []
+unfolding rows
+rows_nil n = refl
+
+rows_skip : (n : ℕ) (l : Text) (ls : List Text) → words l ≡ [] → rows n (l ∷ ls) ≡ rows (n + 1) ls
+unfolding rows
+rows_skip n l ls e = ap (λ ws. row_before n ws (rows (n + 1) ls)) e
+
+rows_more : (n : ℕ) (l : Text) (ls : List Text) (w : Text) (ws : List Text) → words l ≡ w ∷ ws → rows n (l ∷ ls) ≡ row_of n w ws ∷ rows (n + 1) ls
+unfolding rows
+rows_more n l ls w ws e = ap (λ ws. row_before n ws (rows (n + 1) ls)) e
+
+pub rows_step : (n m k : ℕ) (ls0 : List Text) (l : Text) (ls : List Text) (w : Text) (ws : List Text) → ls0 ≡ l ∷ ls → m ≡ n → k ≡ n + 1 → words l ≡ w ∷ ws → rows n ls0 ≡ row_of m w ws ∷ rows k ls
+rows_step n m k ls0 l ls w ws is same next e =
+    ap (rows n) is ∙ rows_more n l ls w ws e ∙ ap (λ m. row_of m w ws ∷ rows (n + 1) ls) (sym same) ∙ ap (λ k. row_of m w ws ∷ rows k ls) (sym next)
+
+pub rows_pass : (n k : ℕ) (ls0 : List Text) (l : Text) (ls : List Text) → ls0 ≡ l ∷ ls → k ≡ n + 1 → words l ≡ [] → rows n ls0 ≡ rows k ls
+rows_pass n k ls0 l ls is next e = ap (rows n) is ∙ rows_skip n l ls e ∙ ap (λ k. rows k ls) (sym next)
+
+-- ---- the names behind rows
+
+pub behind_nil : (names : List Text) → names_behind names [] ≡ names
+unfolding names_behind
+behind_nil names = refl
+
+pub behind_step : (names : List Text) (r : Row) (rs : List Row) → names_behind names (r ∷ rs) ≡ names_behind (placed_all names r.args) rs
+unfolding names_behind
+behind_step names r rs = refl
+
+pub behind_begins : (names : List Text) (rs : List Row) → Begins names (names_behind names rs)
+unfolding names_behind
+behind_begins names [] = begins_same names
+behind_begins names (r ∷ rs) = begins_then _ _ _ (placed_all_begins names r.args) (behind_begins (placed_all names r.args) rs)
+
+-- ---- the same requests among more names
+
+request_kept : (old now final : List Text) (heads : List Head) (r : Row) → Begins old now → AreKnown old heads → Begins (placed_all now r.args) final
+    → request_of now (placed_all now r.args) heads r ≡ request_of old final heads r
+unfolding request_of
+request_kept old now final heads r p k f =
+    let make : ℕ → List Value → Request = λ n vs. record { handler = n; args = vs } in
+    ap (λ n. make n (values_of (placed_all now r.args) r.args)) (handler_kept old now heads r.name p k) ∙ ap (make (handler_of old heads r.name)) (sym (values_kept now r.args final f))
+
+all_less : (m n : ℕ) (heads : List Head) → m ≤ n → AllByRecursion (λ h. h.name < m) heads → AllByRecursion (λ h. h.name < n) heads
+all_less m n [] h k = k
+all_less m n (x ∷ xs) h k = (omega (arith, k.0), all_less m n xs h k.1)
+
+pub known_kept : (old now : List Text) (heads : List Head) → Begins old now → AreKnown old heads → AreKnown now heads
+known_kept old now heads p k = all_less (length old) (length now) heads (omega (arith, ap length p.1, length-append old p.0)) k
+
+-- ---- some rows are read, and these are left
+
+pub record Going (old : List Text) (heads : List Head) (rs0 : List Row) (names : List Text) (rs : List Row) (found : List Request) (t : Tally) : Type 0 where
+  pub faults : first_fault old heads t rs ≡ first_fault old heads no_requests rs0
+  pub requests : found ++ map (request_of old (names_behind old rs0) heads) rs ≡ map (request_of old (names_behind old rs0) heads) rs0
+  pub behind : names_behind names rs ≡ names_behind old rs0
+  pub kept : Begins old names
+  pub within : IsWithin t
+  pub count : length found ≡ t.requests
+
+pub going_start : (old : List Text) (heads : List Head) (rs0 : List Row) → Going old heads rs0 old rs0 [] no_requests
+going_start old heads rs0 = record { faults = refl; requests = refl; behind = refl; kept = begins_same old; within = omega arith; count = refl }
+
+fault_step : (old : List Text) (heads : List Head) (t : Tally) (r : Row) (rs : List Row) → first_fault old heads t (r ∷ rs) ≡ option_or (fault_of old heads t r) (first_fault old heads (with_request t) rs)
+unfolding first_fault
+fault_step old heads t r rs = refl
+
+pub going_turn : (old : List Text) (heads : List Head) (rs0 : List Row) (names : List Text) (r : Row) (rs : List Row) (found : List Request) (t : Tally) (new : List Text) (request : Request) (next : Tally)
+    → AreKnown old heads → Going old heads rs0 names (r ∷ rs) found t → Accepted names new heads t r request next → Going old heads rs0 new rs (found ++ request ∷ []) next
+going_turn old heads rs0 names r rs found t new request next k g a =
+    let fine : fault_of old heads t r ≡ None = sym (fault_kept old names heads t r g.kept k) ∙ a.fine in
+    let behind : names_behind new rs ≡ names_behind old rs0 = ap (λ ns. names_behind ns rs) a.names ∙ sym (behind_step names r rs) ∙ g.behind in
+    let front : Begins (placed_all names r.args) (names_behind old rs0) = subst (λ ns. Begins (placed_all names r.args) ns) (sym (behind_step names r rs) ∙ g.behind) (behind_begins (placed_all names r.args) rs) in
+    let same : request ≡ request_of old (names_behind old rs0) heads r = a.made ∙ ap (λ ns. request_of names ns heads r) a.names ∙ request_kept old names (names_behind old rs0) heads r g.kept k front in
+    record {
+      faults = ap (λ t. first_fault old heads t rs) a.sums ∙ ap (λ f. option_or f (first_fault old heads (with_request t) rs)) (sym fine) ∙ sym (fault_step old heads t r rs) ∙ g.faults;
+      requests = append_assoc found (request ∷ []) _ ∙ ap (λ x. found ++ x ∷ map (request_of old (names_behind old rs0) heads) rs) same ∙ g.requests;
+      behind = behind;
+      kept = begins_then _ _ _ g.kept (subst (Begins names) (sym a.names) (placed_all_begins names r.args));
+      within = a.within;
+      count = omega (arith, length-append found (request ∷ []), g.count, ap (λ t. t.requests) a.sums);
+    }
+
+pub going_fault : (old : List Text) (heads : List Head) (rs0 : List Row) (names : List Text) (r : Row) (rs : List Row) (found : List Request) (t : Tally) (e : RequestRefusal)
+    → AreKnown old heads → Going old heads rs0 names (r ∷ rs) found t → fault_of names heads t r ≡ Some e → first_fault old heads no_requests rs0 ≡ Some e
+going_fault old heads rs0 names r rs found t e k g f =
+    sym g.faults ∙ fault_step old heads t r rs ∙ ap (λ f. option_or f (first_fault old heads (with_request t) rs)) (sym (fault_kept old names heads t r g.kept k) ∙ f)
+
+first_nil : (old : List Text) (heads : List Head) (t : Tally) → first_fault old heads t [] ≡ None
+unfolding first_fault
+first_nil old heads t = refl
+
+pub going_end : (old : List Text) (heads : List Head) (rs0 : List Row) (names : List Text) (found : List Request) (t : Tally)
+    → Going old heads rs0 names [] found t → AreRequests old names heads rs0 found
+going_end old heads rs0 names found t g =
+    let n : names ≡ names_behind old rs0 = sym (behind_nil names) ∙ g.behind in
+    record {
+      fine = sym g.faults ∙ first_nil old heads t;
+      requests = sym (append-nil found) ∙ g.requests ∙ ap (λ ns. map (request_of old ns heads) rs0) (sym n);
+      names = n;
+    }

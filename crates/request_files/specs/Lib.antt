@@ -1,0 +1,5 @@
+pub mod Divide
+pub mod Requests
+pub mod Steps
+pub mod Text
+pub mod Values

@@ -1,0 +1,26 @@
+//! The request part of a session file: where it begins, its lines and their words, and the
+//! requests that they are.
+#![tactic(auto)]
+
+mod arguments;
+mod divided;
+mod head;
+mod line;
+mod lines;
+mod refusal;
+mod request;
+mod request_line;
+mod requests;
+mod scan;
+mod tally;
+#[cfg(test)]
+mod tests;
+mod word_value;
+
+pub use divided::{Divided, divide};
+pub use head::Head;
+pub use line::Line;
+pub use lines::Lines;
+pub use refusal::RequestRefusal;
+pub use request::Request;
+pub use requests::read_requests;

@@ -1,0 +1,10 @@
+// A request.
+
+use session_values::{Listed, Value};
+
+/// A request: a handler by its number, and its arguments.
+#[derive(Debug, Drop)]
+pub struct Request {
+    pub handler: u32,
+    pub args: Listed<Value>,
+}

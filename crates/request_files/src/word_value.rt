@@ -1,0 +1,90 @@
+// Words as values.
+
+ghost use Rattle.std.specs.Prelude.{◌≡◌, ◌<◌, length, slice_index, IfOk, OnOk, OnErr};
+ghost use Rattle.std.specs.List.{list_all};
+ghost use Rattle.request_files.specs.Values as spec;
+
+use session_values::{Names, NoMemory, Value};
+
+#[inline]
+fn first_byte(word: &str) -> u8
+    ensures { result ≡ slice_index word.now 0 }
+{
+    word.as_bytes().first().copied().unwrap_or(0)
+}
+
+/// The number that the word is, if it is one.
+fn number(word: &str) -> Option<i64>
+    ensures { result ≡ spec.number word.now }
+{
+    let first = first_byte(word);
+    // `parse` takes a plus sign, which a session's numbers don't have
+    if first == b'+' {
+        return None;
+    }
+    word.parse::<i64>().ok()
+}
+
+#[inline]
+fn is_letter(byte: u8) -> bool
+    ensures { result ≡ spec.is_letter byte }
+{
+    byte >= b'A' && byte <= b'Z' || byte >= b'a' && byte <= b'z'
+}
+
+#[inline]
+fn is_symbol_byte(byte: u8) -> bool
+    ensures { result ≡ spec.is_symbol_byte byte }
+{
+    is_letter(byte)
+        || byte >= b'0' && byte <= b'9'
+        || byte == b'_'
+        || byte == b'.'
+        || byte == b'-'
+        || byte == b'@'
+        || byte == b':'
+}
+
+fn are_symbol_bytes(bytes: &[u8]) -> bool
+    ensures { result ≡ list_all spec.is_symbol_byte bytes.now }
+{
+    bytes.iter().all(|b| is_symbol_byte(*b))
+}
+
+#[tactic(auto, unfolding(crate::specs::Values::is_symbol))]
+fn is_symbol(word: &str) -> bool
+    ensures { result ≡ spec.is_symbol word.now }
+{
+    let bytes = word.as_bytes();
+    let first = first_byte(word);
+    if word == "nil" {
+        return false;
+    }
+    if !is_letter(first) {
+        return false;
+    }
+    if bytes.len() > 64 {
+        return false;
+    }
+    are_symbol_bytes(bytes)
+}
+
+/// The value of a word, if it is one. A symbol is placed in the list of names.
+#[tactic(auto, unfolding(crate::specs::Values::value_of, crate::specs::Values::placed))]
+pub(crate) fn value(word: &str, names: &mut Names) -> Result<Option<Value>, NoMemory>
+    requires { length names.old < 4294967295 }
+    ensures value { IfOk result (λ v. v ≡ spec.value_of names.new word.now) }
+    ensures names { OnOk result (names.new ≡ spec.placed names.old word.now) }
+    ensures err { OnErr result (names.new ≡ names.old) }
+{
+    if is_symbol(word) {
+        return Ok(Some(Value::Sym(names.place(word)?)));
+    }
+    if word == "nil" {
+        return Ok(Some(Value::Nil));
+    }
+    match number(word) {
+        Some(n) => Ok(Some(Value::Num(n))),
+        None => Ok(None),
+    }
+}
