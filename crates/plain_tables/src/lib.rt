@@ -1,0 +1,11 @@
+//! Ordered maps and sets as the plain tables of a session.
+#![tactic(auto)]
+
+mod table;
+mod tables;
+#[cfg(test)]
+mod tests;
+mod value_map;
+mod value_set;
+
+pub use tables::PlainTables;

@@ -1,0 +1,90 @@
+// One map from values to values.
+
+ghost use Rattle.std.specs.Prelude.{◌≡◌, IfOk, OnOk, OnErr, IsOk, IsTrue, pos, unwrap_or};
+ghost use Rattle.std.specs.FinMap as map;
+ghost use Rattle.session_values.specs.Tables.{map_reply, map_after, is_read};
+
+use session_values::{Kind, NoMemory, Op, Value};
+use std::alloc::Global;
+use std::collections::BTreeMap;
+use std::marker::Model;
+
+/// A map in the order of its keys.
+#[derive(Drop)]
+pub struct ValueMap {
+    bound: BTreeMap<Value, Value>,
+}
+
+impl Model for ValueMap {
+    ghost use Rattle.plain_tables.specs.Views.{MapView, map_code, map_of};
+
+    ghost Value = { MapView };
+
+    ghost coded = { map_code };
+
+    ghost view = { λ m. map_of m.bound };
+}
+
+impl ValueMap {
+    pub fn new(alloc: Global) -> ValueMap
+        ensures { result ≡ map.empty }
+    {
+        ValueMap {
+            bound: BTreeMap::new(alloc),
+        }
+    }
+
+    /// The value of a key, or nil.
+    pub fn get(&self, key: Value) -> Value
+        ensures { result ≡ unwrap_or (map.get self.now key) Value.Nil }
+    {
+        self.bound.get(&key).copied().unwrap_or(Value::Nil)
+    }
+
+    /// Binds a key, and answers what it was bound to before, or nil.
+    pub fn swap(&mut self, key: Value, value: Value) -> Result<Value, NoMemory>
+        ensures reply { IfOk result (λ old. old ≡ unwrap_or (map.get self.old key) Value.Nil) }
+        ensures after { OnOk result (self.new ≡ map.insert self.old key value) }
+        ensures err { OnErr result (self.new ≡ self.old) }
+    {
+        let old = self.bound.insert(key, value)?;
+        Ok(old.unwrap_or(Value::Nil))
+    }
+
+    /// Unbinds a key.
+    pub fn remove(&mut self, key: Value)
+        ensures { self.new ≡ map.remove self.old key }
+    {
+        self.bound.remove(&key);
+    }
+
+    /// How many keys are bound.
+    pub fn size(&self) -> i64
+        ensures { result ≡ pos (map.len self.now) }
+    {
+        self.bound.len() as i64
+    }
+
+    /// Does one operation. One on sets answers nil and changes nothing.
+    pub fn apply(&mut self, op: Op) -> Result<Value, NoMemory>
+        ensures reply { IfOk result (λ value. value ≡ map_reply self.old op.kind op.key) }
+        ensures after { OnOk result (self.new ≡ map_after self.old op.kind op.key op.value) }
+        ensures err { OnErr result (self.new ≡ self.old) }
+        ensures sure { IsTrue (is_read op.kind) → IsOk result }
+    {
+        match op.kind {
+            Kind::Get => Ok(self.get(op.key)),
+            Kind::Put => {
+                self.swap(op.key, op.value)?;
+                Ok(Value::Nil)
+            }
+            Kind::Swap => self.swap(op.key, op.value),
+            Kind::Del => {
+                self.remove(op.key);
+                Ok(Value::Nil)
+            }
+            Kind::Size => Ok(Value::Num(self.size())),
+            _ => Ok(Value::Nil),
+        }
+    }
+}
