@@ -1,0 +1,51 @@
+-- Reserved words and signs.
+use Rattle.std.specs.Prelude.{ℕ, if◌then◌else◌, List, [], ◌∷◌, Option, Some, None, codes}
+use Rattle.std.specs.Str.{bytes_eq}
+use Rattle.handler_tokens.specs.declared.word.Sort.{Sort}
+use Rattle.handler_tokens.specs.declared.word.Sort.TheVariants as sort
+
+-- the sort that stands beside the text in a table
+abbrev pub sort_in : List (List ℕ × Sort) → List ℕ → Option Sort
+sort_in [] text = None
+sort_in (row ∷ rows) text = if bytes_eq text row.0 then Some row.1 else sort_in rows text
+
+-- the words of the operations
+abbrev pub operations : List (List ℕ × Sort)
+operations =
+    (codes "get", sort.Get) ∷ (codes "put", sort.Put) ∷ (codes "swap", sort.Swap) ∷ (codes "del", sort.Del) ∷ (codes "size", sort.Size)
+    ∷ (codes "has", sort.Has) ∷ (codes "add", sort.Add) ∷ (codes "mark", sort.Mark) ∷ (codes "drop", sort.Drop) ∷ (codes "count", sort.Count) ∷ []
+
+-- the other reserved words
+abbrev pub statement_words : List (List ℕ × Sort)
+statement_words =
+    (codes "map", sort.Map) ∷ (codes "set", sort.Set) ∷ (codes "handler", sort.Handler) ∷ (codes "let", sort.Let) ∷ (codes "if", sort.If)
+    ∷ (codes "else", sort.Else) ∷ (codes "repeat", sort.Repeat) ∷ (codes "as", sort.As) ∷ (codes "reply", sort.Reply) ∷ (codes "nil", sort.Nil)
+    ∷ (codes "mayuse", sort.MayUse) ∷ (codes "nothing", sort.Nothing) ∷ (codes "any", sort.Any) ∷ []
+
+-- the first sort, or the second one where it is missing
+abbrev pub or_else : Option Sort → Option Sort → Option Sort
+or_else None other = other
+or_else (Some s) other = Some s
+
+-- the operation that the text is
+unfoldable pub operation_of : List ℕ → Option Sort
+operation_of text = sort_in operations text
+
+-- the other reserved word that the text is
+unfoldable pub statement_word_of : List ℕ → Option Sort
+statement_word_of text = sort_in statement_words text
+
+-- the reserved word that the text is
+unfoldable pub keyword_of : List ℕ → Option Sort
+keyword_of text = or_else (statement_word_of text) (operation_of text)
+
+-- the signs
+abbrev pub signs : List (List ℕ × Sort)
+signs =
+    (codes "(", sort.LeftParen) ∷ (codes ")", sort.RightParen) ∷ (codes "{", sort.LeftBrace) ∷ (codes "}", sort.RightBrace) ∷ (codes ",", sort.Comma)
+    ∷ (codes ";", sort.Semicolon) ∷ (codes "=", sort.Assign) ∷ (codes "==", sort.Same) ∷ (codes "!=", sort.Differ) ∷ (codes "<", sort.Less)
+    ∷ (codes "<=", sort.LessOrSame) ∷ (codes "+", sort.Plus) ∷ (codes "-", sort.Minus) ∷ (codes "*", sort.Times) ∷ []
+
+-- the sign that the text is
+unfoldable pub sign_of : List ℕ → Option Sort
+sign_of text = sort_in signs text
