@@ -19,3 +19,6 @@ pub use no_memory::NoMemory;
 pub use op::Op;
 pub use reply::Reply;
 pub use value::Value;
+
+#[cfg(test)]
+mod tests;
