@@ -1,0 +1,58 @@
+// Literals and names where a value stands.
+
+ghost use Rattle.std.specs.Prelude.{◌≡◌, ◌≤◌, ◌∷◌, []};
+ghost use Rattle.handler_syntax.specs.Next.{Anywhere, an_atom, after_minus};
+ghost use Rattle.handler_syntax.specs.Phrase as spec;
+ghost use Rattle.handler_syntax.specs.Reads.{Reads};
+
+use crate::expr::Atom;
+use crate::refusal::{SyntaxRefusal, refusal};
+use handler_tokens::{Reader, Sort};
+use session_values::Value;
+
+const MAX_NUMBER: u64 = 9_223_372_036_854_775_807;
+
+const MAX_NEGATIVE: u64 = 9_223_372_036_854_775_808;
+
+/// The number behind a literal's minus.
+fn negative(reader: &mut Reader<'_>) -> Result<i64, SyntaxRefusal>
+    ensures reads { Reads spec.number_words spec.negative_of Anywhere (after_minus ∷ []) [] reader.old result reader.new }
+    ensures names { reader.new.names ≡ reader.old.names }
+    ensures count { reader.old.count ≤ reader.new.count }
+{
+    let word = reader.take()?;
+    match word.sort {
+        Sort::Number(value) => {
+            if value > MAX_NEGATIVE {
+                return Err(SyntaxRefusal::NumberTooLarge { at: word.at });
+            }
+            Ok(if value > MAX_NUMBER {
+                i64::MIN
+            } else {
+                -(value as i64)
+            })
+        }
+        _ => Err(refusal(word)),
+    }
+}
+
+pub(crate) fn atom(reader: &mut Reader<'_>) -> Result<Atom, SyntaxRefusal>
+    ensures reads { Reads spec.atom_words spec.atom_tree Anywhere (an_atom ∷ []) [] reader.old result reader.new }
+    ensures names { reader.new.names ≡ reader.old.names }
+    ensures count { reader.old.count ≤ reader.new.count }
+{
+    let word = reader.take()?;
+    match word.sort {
+        Sort::Name(name) => Ok(Atom::Name { name, at: word.at }),
+        Sort::Nil => Ok(Atom::Lit(Value::Nil)),
+        Sort::Symbol(place) => Ok(Atom::Lit(Value::Sym(place))),
+        Sort::Number(value) => {
+            if value > MAX_NUMBER {
+                return Err(SyntaxRefusal::NumberTooLarge { at: word.at });
+            }
+            Ok(Atom::Lit(Value::Num(value as i64)))
+        }
+        Sort::Minus => Ok(Atom::Lit(Value::Num(negative(reader)?))),
+        _ => Err(refusal(word)),
+    }
+}

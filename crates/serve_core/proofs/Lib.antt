@@ -1,0 +1,11 @@
+pub mod AnswerLemmas
+pub mod Asking
+pub mod Bools
+pub mod Firsts
+pub mod Fits
+pub mod LoadingLemmas
+pub mod Printing
+pub mod Resolving
+pub mod SheetLemmas
+pub mod TopLemmas
+pub mod Turns

@@ -1,0 +1,11 @@
+pub mod Answer
+pub mod Built
+pub mod Checked
+pub mod Dialogue
+pub mod Fit
+pub mod Loaded
+pub mod Message
+pub mod Names
+pub mod Printable
+pub mod Resolves
+pub mod Session
