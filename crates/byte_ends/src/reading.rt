@@ -5,17 +5,21 @@ ghost use Rattle.byte_ends.specs.Ends.{Rose};
 
 use crate::source::{Got, Source};
 use std::alloc::Global;
+use thiserror::Error;
 
 /// The most bytes that are read.
 pub const MAX_INPUT: usize = 4194304;
 
 /// Why a source wasn't read to its end.
-#[derive(Clone, Copy, Debug, PartialEq, Eq)]
+#[derive(Clone, Copy, Debug, PartialEq, Eq, Error)]
 pub enum Unread {
     /// It has more than `MAX_INPUT` bytes.
+    #[error("too many bytes")]
     TooLarge,
     /// A read failed.
+    #[error("a read failed")]
     Failed,
+    #[error("no memory")]
     NoMemory,
 }
 

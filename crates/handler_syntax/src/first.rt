@@ -21,12 +21,15 @@ use crate::refusal::{SyntaxRefusal, refusal};
 use handler_tokens::{Reader, Sort};
 use session_values::{Listed, Names, NoMemory, TableKind};
 use std::alloc::Global;
+use thiserror::Error;
 
 /// Why a source isn't read.
-#[derive(Debug, Drop)]
+#[derive(Debug, Drop, Error)]
 pub enum FirstRefusal {
     /// It isn't in the first form.
+    #[error("not in the first form")]
     NotBuilt,
+    #[error("no memory")]
     NoMemory,
 }
 

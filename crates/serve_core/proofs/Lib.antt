@@ -3,6 +3,7 @@ pub mod Asking
 pub mod Bools
 pub mod Firsts
 pub mod Fits
+pub mod Lists
 pub mod LoadingLemmas
 pub mod Printing
 pub mod Resolving

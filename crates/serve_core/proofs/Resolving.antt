@@ -1,7 +1,6 @@
 -- The resolution of a list, element by element.
-use Rattle.std.proofs.Common.{◌≡◌, ℕ, ◌+◌, ◌<◌, ◌≤◌, Bool, true, false, ◌&&◌, List, [], ◌∷◌, ◌++◌, map, take, drop, length, get_or, Some, is_some, refl, sym, ap, ◌∙◌, subst, append_assoc, append-nil}
+use Rattle.std.proofs.Common.{◌≡◌, ℕ, ◌+◌, ◌<◌, Bool, true, false, ◌&&◌, List, [], ◌∷◌, ◌++◌, map, take, drop, length, get_or, Some, is_some, refl, sym, ap, ◌∙◌, subst, append_assoc}
 use Rattle.std.proofs.lemmas.List.{drop_more, take_more, map-append}
-use Rattle.std.proofs.Math.ListN.{drop_of_length-le}
 use Rattle.std.specs.List.{list_all}
 use Rattle.handler_syntax.specs.declared.stmt.Stmt.{Stmt}
 use Rattle.handler_syntax.specs.declared.file.File.{File}
@@ -11,34 +10,14 @@ use Rattle.serve_core.specs.Built.{stmt_is_built, handler_is_built, table_is_bui
 use Rattle.serve_core.specs.Names.{number_of, are_new, stmt_is_declared, declares, block_keeps_rules, handler_keeps_rules, table_names, handler_names, keeps_rules}
 use Rattle.serve_core.specs.Checked.{checked_stmt, checked_block, variables_behind}
 use Rattle.serve_core.specs.Resolves.{Resolves}
-use Rattle.serve_core.proofs.Bools.{both, none_of, none_else, regrouped}
-
--- the element at a place, and those behind it
-pub rest_at : {X : Type 0} (xs : List X) (i : ℕ) (x : X) → i < length xs → get_or xs i x ≡ x → drop i xs ≡ x ∷ drop (i + 1) xs
-rest_at xs i x h is = drop_more xs i x h ∙ ap (λ y. y ∷ drop (i + 1) xs) is
+use Rattle.serve_core.proofs.Lists.{rest_at}
+use Rattle.serve_core.proofs.Bools.{both, none_of, none_else}
 
 -- ---- a list of which each element is tested and changed by itself
 
 pub record Mapped {X Y : Type 0} (test : X → Bool) (value : X → Y) (xs : List X) (i : ℕ) (found : List Y) : Type 0 where
   pub tested : list_all test (drop i xs) ≡ list_all test xs
   pub mapped : found ++ map value (drop i xs) ≡ map value xs
-
-module _ {X Y : Type 0} (test : X → Bool) (value : X → Y) (xs : List X) where
-  pub mapped_turn : (i : ℕ) (x : X) (found more : List Y) (y : Y) → i < length xs → get_or xs i x ≡ x → Mapped test value xs i found → Resolves (test x) (value x) (Some y) → more ≡ found ++ y ∷ [] → Mapped test value xs (i + 1) more
-  mapped_turn i x found more y h is m r pushed =
-      let rest = rest_at xs i x h is in
-      subst (Mapped test value xs (i + 1)) (sym pushed) record {
-        tested = sym (ap (λ b. b && list_all test (drop (i + 1) xs)) r.0) ∙ sym (ap (list_all test) rest) ∙ m.tested;
-        mapped = append_assoc found (y ∷ []) (map value (drop (i + 1) xs)) ∙ ap (λ z. found ++ z ∷ map value (drop (i + 1) xs)) r.1 ∙ ap (λ ys. found ++ map value ys) (sym rest) ∙ m.mapped;
-      }
-
-  pub mapped_fails : (i : ℕ) (x : X) (found : List Y) → i < length xs → get_or xs i x ≡ x → Mapped test value xs i found → test x ≡ false → list_all test xs ≡ false
-  mapped_fails i x found h is m r = sym m.tested ∙ ap (list_all test) (rest_at xs i x h is) ∙ ap (λ b. b && list_all test (drop (i + 1) xs)) r
-
-  pub mapped_end : (i : ℕ) (found : List Y) → length xs ≤ i → Mapped test value xs i found → Resolves (list_all test xs) (map value xs) (Some found)
-  mapped_end i found h m =
-      let none = drop_of_length-le xs h in
-      (sym m.tested ∙ ap (list_all test) none, sym (append-nil found) ∙ sym (ap (λ ys. found ++ map value ys) none) ∙ m.mapped)
 
 -- two tests of each element, apart and together
 pub all_both : {X : Type 0} (p q : X → Bool) (xs : List X) → (list_all p xs && list_all q xs) ≡ list_all (λ x. p x && q x) xs
@@ -76,27 +55,6 @@ module _ (tables start : List ℕ) (body : List Stmt) where
             ∙ ap (λ z. found ++ z ∷ checked_block tables (variables ++ declares x) (drop (i + 1) body)) r.1 ∙ ap (λ ss. found ++ checked_block tables variables ss) (sym rest) ∙ g.checked;
         behind = ap (λ vs. variables_behind vs (drop (i + 1) body)) e ∙ sym (ap (variables_behind variables) rest) ∙ g.behind;
       }
-
-  pub going_fails : (i : ℕ) (variables : List ℕ) (found : List CheckedStmt) (x : Stmt) → i < length body → get_or body i x ≡ x
-      → Going tables start body i variables found → stmt_passes tables variables x ≡ false → (list_all stmt_is_built body && block_keeps_rules tables start body) ≡ false
-  going_fails i variables found x h is g r =
-      let rest = rest_at body i x h is in
-      let more = drop (i + 1) body in
-      ap (λ b. b && block_keeps_rules tables start body) (sym g.built ∙ ap (list_all stmt_is_built) rest)
-      ∙ ap (λ b. (stmt_is_built x && list_all stmt_is_built more) && b) (sym g.keeps ∙ ap (block_keeps_rules tables variables) rest)
-      ∙ sym (regrouped (stmt_is_built x) (stmt_is_declared tables variables x) (are_new variables (declares x)) (list_all stmt_is_built more) (block_keeps_rules tables (variables ++ declares x) more))
-      ∙ ap (λ b. b && (list_all stmt_is_built more && block_keeps_rules tables (variables ++ declares x) more)) r
-
-  pub going_end : (i : ℕ) (variables : List ℕ) (found : List CheckedStmt) → length body ≤ i → Going tables start body i variables found
-      → Resolves (list_all stmt_is_built body && block_keeps_rules tables start body) (checked_block tables start body) (Some found)
-  going_end i variables found h g =
-      let none = drop_of_length-le body h in (
-        sym (ap (λ b. b && block_keeps_rules tables start body) (sym (ap (list_all stmt_is_built) none) ∙ g.built)) ∙ sym (sym (ap (block_keeps_rules tables variables) none) ∙ g.keeps),
-        sym (append-nil found) ∙ sym (ap (λ ss. found ++ checked_block tables variables ss) none) ∙ g.checked,
-      )
-
-  pub going_behind : (i : ℕ) (variables : List ℕ) (found : List CheckedStmt) → length body ≤ i → Going tables start body i variables found → variables ≡ variables_behind start body
-  going_behind i variables found h g = sym (ap (variables_behind variables) (drop_of_length-le body h)) ∙ g.behind
 
 -- ---- names that are new
 

@@ -1,9 +1,7 @@
 -- A handler served statement by statement.
-use Rattle.std.proofs.Common.{◌≡◌, ℕ, zero, suc, ◌+◌, ◌<◌, ◌≤◌, List, [], ◌∷◌, map, drop, length, get_or, Option, Some, None, refl, sym, ap, ◌∙◌, subst, arith}
-use Rattle.std.proofs.lemmas.List.{drop_more}
+use Rattle.std.proofs.Common.{◌≡◌, ℕ, zero, suc, ◌+◌, ◌<◌, List, [], ◌∷◌, map, drop, length, get_or, Option, Some, None, refl, sym, ap, ◌∙◌, subst}
 use Rattle.std.proofs.Math.Seq.{map-set_same}
 use Rattle.session_values.specs.declared.kind.TableKind.TheVariants.{Map}
-use Rattle.std.specs.List.{AllByRecursion}
 use Rattle.session_values.specs.declared.value.Value.{Value}
 use Rattle.session_values.specs.declared.op.Op.{Op}
 use Rattle.session_values.specs.declared.reply.Reply.{Reply}
@@ -15,6 +13,7 @@ use Rattle.serve_core.specs.declared.checked.CheckedAtom.{CheckedAtom}
 use Rattle.serve_core.specs.declared.checked.CheckedCall.{CheckedCall}
 use Rattle.serve_core.specs.declared.checked.CheckedStmt.{CheckedStmt}
 use Rattle.serve_core.specs.declared.checked.CheckedStmt.TheVariants.{Perform, Answer}
+use Rattle.serve_core.proofs.Lists.{rest_at}
 use Rattle.serve_core.specs.Dialogue.{Env, run, calls_bound, op_of, with_reply, atom_value}
 
 -- what is served of these statements
@@ -45,15 +44,11 @@ taken_answers (suc n) f ts r = refl
 pub answers_at_once : (n : ℕ) (f : Dialogue) (ts : Tables) (r : Reply) → f [] ≡ Answers r → serve n f ts ≡ record { entries = []; answer = Some r; after = ts }
 answers_at_once n f ts r e = serve_taken n f ts ∙ ap (taken n f ts) e ∙ taken_answers n f ts r
 
--- the statement at a place, and those behind it
-pub drop_at : (body : List CheckedStmt) (i : ℕ) (x : CheckedStmt) → i < length body → get_or body i x ≡ x → drop i body ≡ x ∷ drop (i + 1) body
-drop_at body i x h is = drop_more body i x h ∙ ap (λ y. y ∷ drop (i + 1) body) is
-
 -- an operation is done, and what follows is served with its reply
 pub perform_turn : (body : List CheckedStmt) (i : ℕ) (x : Option ℕ) (c : CheckedCall) (env : Env) (ts : Tables) → i < length body → get_or body i (Perform x c) ≡ Perform x c
     → Alike (served (drop (i + 1) body) (with_reply x (reply ts (op_of env c)) env) (step ts (op_of env c))) (served (drop i body) env ts)
 perform_turn body i x c env ts h is =
-    subst (λ b. Alike (served (drop (i + 1) body) (with_reply x (reply ts (op_of env c)) env) (step ts (op_of env c))) (served b env ts)) (sym (drop_at body i (Perform x c) h is))
+    subst (λ b. Alike (served (drop (i + 1) body) (with_reply x (reply ts (op_of env c)) env) (step ts (op_of env c))) (served b env ts)) (sym (rest_at body i (Perform x c) h is))
     (record { answer = refl; after = refl })
 
 -- the reply that ends a handler at a statement
@@ -64,17 +59,8 @@ pub answer_turn : (body : List CheckedStmt) (i : ℕ) (vs : List CheckedAtom) (e
     → EndsWith (served (drop i body) env ts) ts (reply_of (map (atom_value env) vs))
 answer_turn body i vs env ts h is =
     let all = answers_at_once (calls_bound (drop (i + 1) body)) (run (Answer vs ∷ drop (i + 1) body) env) ts (reply_of (map (atom_value env) vs)) refl in
-    subst (λ b. EndsWith (served b env ts) ts (reply_of (map (atom_value env) vs))) (sym (drop_at body i (Answer vs) h is))
+    subst (λ b. EndsWith (served b env ts) ts (reply_of (map (atom_value env) vs))) (sym (rest_at body i (Answer vs) h is))
     (ap (λ (s : Served). s.answer) all, ap (λ (s : Served). s.after) all)
-
-drop_past : (xs : List CheckedStmt) (n : ℕ) → length xs ≤ n → drop n xs ≡ []
-drop_past [] zero h = refl
-drop_past [] (suc n) h = refl
-drop_past (x ∷ xs) zero h = absurd (omega arith)
-drop_past (x ∷ xs) (suc n) h = drop_past xs n (omega (arith, h))
-
-pub end_turn : (body : List CheckedStmt) (i : ℕ) (env : Env) (ts : Tables) → length body ≤ i → EndsWith (served (drop i body) env ts) ts (reply_of [])
-end_turn body i env ts h = subst (λ b. EndsWith (served b env ts) ts (reply_of [])) (sym (drop_past body i h)) (refl, refl)
 
 -- a serving that ends like one that ends with a reply
 pub alike_ends : (a b : Served) (ts : Tables) (r : Reply) → Alike a b → EndsWith a ts r → EndsWith b ts r
@@ -94,12 +80,6 @@ perform_more body i x c env env' ts ts' op v whole h is alike o r t e =
     let now = alike_then _ _ _ (perform_turn body i x c env ts h is) alike in
     let on = subst (λ (f : Env). Alike (served (drop (i + 1) body) f (step ts (op_of env c))) whole) (sym vars) now in
     subst (λ (us : Tables). Alike (served (drop (i + 1) body) env' us) whole) (sym tables) on
-
--- what holds of each element holds at a place
-pub at_place : {X : Type 0} (P : X → Type 0) (xs : List X) (i : ℕ) (x : X) → AllByRecursion P xs → i < length xs → get_or xs i x ≡ x → P x
-at_place P [] i x all h is = absurd (omega arith)
-at_place P (y ∷ ys) zero x all h is = subst P is all.0
-at_place P (y ∷ ys) (suc i) x all h is = at_place P ys i x all.1 (omega (arith, h)) is
 
 -- ---- no operation changes the kinds of the tables
 
