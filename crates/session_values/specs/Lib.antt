@@ -1,5 +1,7 @@
 pub mod Commuting
+pub mod Containers
 pub mod Dialogue
+pub mod Kinds
 pub mod Length
 pub mod Names
 pub mod Op

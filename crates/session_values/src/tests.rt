@@ -40,6 +40,28 @@ fn lists_and_boxes(rt: HostRuntime) -> Result<(), Fail> {
 }
 
 #[test]
+fn kinds_have_words(rt: HostRuntime) {
+    let rows = [
+        (Kind::Get, "get", 1u32, true, false),
+        (Kind::Put, "put", 2, true, true),
+        (Kind::Swap, "swap", 2, true, true),
+        (Kind::Del, "del", 1, true, false),
+        (Kind::Size, "size", 0, true, false),
+        (Kind::Has, "has", 1, false, false),
+        (Kind::Add, "add", 1, false, true),
+        (Kind::Mark, "mark", 1, false, true),
+        (Kind::Drop, "drop", 1, false, false),
+        (Kind::Count, "count", 0, false, false),
+    ];
+    for (kind, word, arguments, on_map, adds) in rows {
+        assert_eq!(rt; kind.word(), word);
+        assert_eq!(rt; kind.arguments(), arguments, "{word}");
+        assert_eq!(rt; kind.on_map(), on_map, "{word}");
+        assert_eq!(rt; kind.adds(), adds, "{word}");
+    }
+}
+
+#[test]
 fn values_are_ordered(rt: HostRuntime) {
     let ordered = [
         Value::Nil,
