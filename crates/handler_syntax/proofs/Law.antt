@@ -7,7 +7,7 @@ use Rattle.handler_tokens.specs.Words.{words, words_of, names_of, names_after, f
 use Rattle.handler_tokens.proofs.Pieces.{pieces_few}
 use Rattle.handler_tokens.proofs.WordsNamed.{words_named}
 use Rattle.std.specs.List.{AllByRecursion}
-use Rattle.handler_syntax.specs.declared.file.File.{File}
+use Rattle.handler_trees.specs.declared.file.File.{File}
 use Rattle.handler_syntax.specs.Refusal.{refusal}
 use Rattle.handler_syntax.specs.Next.{fault, whole_file}
 use Rattle.handler_syntax.specs.Phrase.{FilePhrase, file_words, file_tree}

@@ -4,11 +4,11 @@ use Rattle.handler_tokens.specs.Words.{first_word}
 use Rattle.handler_tokens.specs.declared.word.Word.{Word}
 use Rattle.handler_tokens.specs.declared.word.Sort.TheVariants as sort
 use Rattle.handler_tokens.specs.Reading.{Reading}
-use Rattle.handler_syntax.specs.declared.expr.Expr.{Expr}
-use Rattle.handler_syntax.specs.declared.expr.Expr.TheVariants as expr
-use Rattle.handler_syntax.specs.declared.stmt.Stmt.{Stmt}
-use Rattle.handler_syntax.specs.declared.file.Param.{Param}
-use Rattle.handler_syntax.specs.declared.file.Handler.{Handler}
+use Rattle.handler_trees.specs.declared.expr.Expr.{Expr}
+use Rattle.handler_trees.specs.declared.expr.Expr.TheVariants as expr
+use Rattle.handler_trees.specs.declared.stmt.Stmt.{Stmt}
+use Rattle.handler_trees.specs.declared.file.Param.{Param}
+use Rattle.handler_trees.specs.declared.file.Handler.{Handler}
 use Rattle.handler_syntax.specs.Next.{Anywhere, an_atom, more_values, statements, a_name, more_params, handlers}
 use Rattle.handler_syntax.specs.Phrase.{word, NamePhrase, AtomPhrase, MoreValues, no_value, more_value, count, StmtPhrase, StmtsPhrase, no_stmt, more_stmts, MoreParams, no_more, more_param, HandlerPhrase, HandlersPhrase, no_handler, more_handlers, name_words, atom_words, more_words, stmt_words, stmts_words, more_params_words, handler_words, handlers_words, atom_tree, more_trees, stmt_tree, stmts_trees, param_of, more_params_trees, handler_tree, handlers_trees}
 use Rattle.handler_syntax.specs.Reads.{Passed}

@@ -2,9 +2,9 @@
 use Rattle.std.proofs.Common.{◌≡◌, ℕ, List, [], ◌∷◌, refl, sym, ap, ◌∙◌}
 use Rattle.handler_tokens.specs.declared.word.Word.{Word}
 use Rattle.handler_tokens.specs.declared.word.Sort.TheVariants as sort
-use Rattle.handler_syntax.specs.declared.stmt.Stmt.TheVariants as stmt
-use Rattle.handler_syntax.specs.declared.stmt.Right.TheVariants as right
-use Rattle.handler_syntax.specs.declared.expr.Expr.TheVariants as expr
+use Rattle.handler_trees.specs.declared.stmt.Stmt.TheVariants as stmt
+use Rattle.handler_trees.specs.declared.stmt.Right.TheVariants as right
+use Rattle.handler_trees.specs.declared.expr.Expr.TheVariants as expr
 use Rattle.handler_syntax.specs.Phrase.{word, NamePhrase, name_words, name_of, named, digits, AtomPhrase, name_atom, nil_atom, symbol_atom, number_atom, negative_atom, TargetPhrase, a_target, GetPhrase, a_get, PutPhrase, a_put, MoreValues, no_value, more_value, StmtPhrase, let_stmt, put_stmt, reply_stmt, StmtsPhrase, no_stmt, more_stmts, BlockPhrase, block, MoreParams, no_more, more_param, ParamsPhrase, no_param, some_params, HandlersPhrase, no_handler, more_handlers, a_handler, FilePhrase, a_file, a_map, atom_words, target_words, get_words, put_words, more_words, stmt_words, stmts_words, block_words, more_params_words, params_words, handlers_words, file_words, atom_tree, target_of, get_tree, put_tree, more_trees, stmt_tree, stmts_trees, block_trees, param_of, more_params_trees, params_trees, handlers_trees, file_tree}
 
 -- one tree, and one rest

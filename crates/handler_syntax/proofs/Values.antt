@@ -1,16 +1,16 @@
 -- The trees that functions build are those of their phrases.
 use Rattle.std.proofs.Common.{◌≡◌, ◌+◌, ℕ, List, [], ◌∷◌, length, arith, ap, ◌∙◌}
 use Rattle.session_values.specs.declared.kind.Kind.{Kind}
-use Rattle.handler_syntax.specs.declared.expr.Atom.{Atom}
-use Rattle.handler_syntax.specs.declared.stmt.Call.{Call}
+use Rattle.handler_trees.specs.declared.expr.Atom.{Atom}
+use Rattle.handler_trees.specs.declared.stmt.Call.{Call}
 use Rattle.handler_syntax.specs.declared.parse_stmt.Target.{Target}
 use Rattle.session_values.specs.declared.kind.TableKind.TheVariants as table_kind
 use Rattle.handler_tokens.specs.declared.word.Word.{Word}
-use Rattle.handler_syntax.specs.declared.stmt.Stmt.{Stmt}
-use Rattle.handler_syntax.specs.declared.file.Param.{Param}
-use Rattle.handler_syntax.specs.declared.file.TableDecl.{TableDecl}
-use Rattle.handler_syntax.specs.declared.file.Handler.{Handler}
-use Rattle.handler_syntax.specs.declared.file.File.{File}
+use Rattle.handler_trees.specs.declared.stmt.Stmt.{Stmt}
+use Rattle.handler_trees.specs.declared.file.Param.{Param}
+use Rattle.handler_trees.specs.declared.file.TableDecl.{TableDecl}
+use Rattle.handler_trees.specs.declared.file.Handler.{Handler}
+use Rattle.handler_trees.specs.declared.file.File.{File}
 use Rattle.handler_syntax.specs.Phrase.{NamePhrase, named, name_of, name_words, param_of, a_map, table_tree, call_of}
 
 abbrev call_with : Kind → ℕ → Target → List Atom → Call

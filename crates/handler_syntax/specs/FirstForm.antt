@@ -1,7 +1,7 @@
 -- Sources in the first form.
 use Rattle.std.specs.Prelude.{◌≡◌, ◌≤◌, List, []}
 use Rattle.handler_tokens.specs.declared.word.Word.{Word}
-use Rattle.handler_syntax.specs.declared.file.File.{File}
+use Rattle.handler_trees.specs.declared.file.File.{File}
 use Rattle.handler_syntax.specs.Next.{max_number, max_negative}
 use Rattle.handler_syntax.specs.Phrase.{digits, AtomPhrase, number_atom, negative_atom, TargetPhrase, a_target, GetPhrase, a_get, PutPhrase, a_put, MoreValues, no_value, more_value, StmtPhrase, let_stmt, put_stmt, reply_stmt, StmtsPhrase, no_stmt, more_stmts, BlockPhrase, block, a_handler, HandlersPhrase, no_handler, more_handlers, FilePhrase, a_file, file_words, file_tree}
 

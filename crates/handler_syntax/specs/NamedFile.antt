@@ -3,16 +3,16 @@ use Rattle.std.specs.Prelude.{ℕ, List}
 use Rattle.std.specs.List.{AllByRecursion}
 use Rattle.session_values.specs.Names.{IsNamed}
 use Rattle.session_values.specs.ReplyText.{IsPrintable}
-use Rattle.handler_syntax.specs.declared.expr.Atom.{Atom}
-use Rattle.handler_syntax.specs.declared.expr.Atom.TheVariants as atom
-use Rattle.handler_syntax.specs.declared.expr.Expr.{Expr, out-Expr}
-use Rattle.handler_syntax.specs.declared.expr.Expr.TheOpen.{Expr-F}
-use Rattle.handler_syntax.specs.declared.stmt.Right.{Right}
-use Rattle.handler_syntax.specs.declared.stmt.Right.TheVariants as right
-use Rattle.handler_syntax.specs.declared.stmt.Stmt.{Stmt, out-Stmt}
-use Rattle.handler_syntax.specs.declared.stmt.Stmt.TheOpen.{Stmt-F}
-use Rattle.handler_syntax.specs.declared.file.Handler.{Handler}
-use Rattle.handler_syntax.specs.declared.file.File.{File}
+use Rattle.handler_trees.specs.declared.expr.Atom.{Atom}
+use Rattle.handler_trees.specs.declared.expr.Atom.TheVariants as atom
+use Rattle.handler_trees.specs.declared.expr.Expr.{Expr, out-Expr}
+use Rattle.handler_trees.specs.declared.expr.Expr.TheOpen.{Expr-F}
+use Rattle.handler_trees.specs.declared.stmt.Right.{Right}
+use Rattle.handler_trees.specs.declared.stmt.Right.TheVariants as right
+use Rattle.handler_trees.specs.declared.stmt.Stmt.{Stmt, out-Stmt}
+use Rattle.handler_trees.specs.declared.stmt.Stmt.TheOpen.{Stmt-F}
+use Rattle.handler_trees.specs.declared.file.Handler.{Handler}
+use Rattle.handler_trees.specs.declared.file.File.{File}
 
 -- a literal is printable
 abbrev pub IsNamedAtom : List (List ℕ) → Atom → Type 0

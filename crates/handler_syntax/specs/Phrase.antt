@@ -7,19 +7,19 @@ use Rattle.session_values.specs.declared.kind.TableKind.TheVariants as table_kin
 use Rattle.handler_tokens.specs.declared.word.Sort.{Sort}
 use Rattle.handler_tokens.specs.declared.word.Sort.TheVariants as sort
 use Rattle.handler_tokens.specs.declared.word.Word.{Word}
-use Rattle.handler_syntax.specs.declared.expr.Atom.{Atom}
-use Rattle.handler_syntax.specs.declared.expr.Atom.TheVariants as atom
-use Rattle.handler_syntax.specs.declared.expr.Expr.{Expr}
-use Rattle.handler_syntax.specs.declared.expr.Expr.TheVariants as expr
-use Rattle.handler_syntax.specs.declared.stmt.Stmt.{Stmt}
-use Rattle.handler_syntax.specs.declared.stmt.Stmt.TheVariants as stmt
-use Rattle.handler_syntax.specs.declared.stmt.Right.TheVariants as right
-use Rattle.handler_syntax.specs.declared.stmt.Call.{Call}
+use Rattle.handler_trees.specs.declared.expr.Atom.{Atom}
+use Rattle.handler_trees.specs.declared.expr.Atom.TheVariants as atom
+use Rattle.handler_trees.specs.declared.expr.Expr.{Expr}
+use Rattle.handler_trees.specs.declared.expr.Expr.TheVariants as expr
+use Rattle.handler_trees.specs.declared.stmt.Stmt.{Stmt}
+use Rattle.handler_trees.specs.declared.stmt.Stmt.TheVariants as stmt
+use Rattle.handler_trees.specs.declared.stmt.Right.TheVariants as right
+use Rattle.handler_trees.specs.declared.stmt.Call.{Call}
 use Rattle.handler_syntax.specs.declared.parse_stmt.Target.{Target}
-use Rattle.handler_syntax.specs.declared.file.Param.{Param}
-use Rattle.handler_syntax.specs.declared.file.TableDecl.{TableDecl}
-use Rattle.handler_syntax.specs.declared.file.Handler.{Handler}
-use Rattle.handler_syntax.specs.declared.file.File.{File}
+use Rattle.handler_trees.specs.declared.file.Param.{Param}
+use Rattle.handler_trees.specs.declared.file.TableDecl.{TableDecl}
+use Rattle.handler_trees.specs.declared.file.Handler.{Handler}
+use Rattle.handler_trees.specs.declared.file.File.{File}
 
 -- ---- phrases, each with the places of its words
 

@@ -12,13 +12,13 @@ ghost use Rattle.handler_syntax.specs.Reads.{HasNoEnd, Reads};
 ghost use Rattle.handler_syntax.specs.declared.refusal.SyntaxRefusal.TheVariants as syntax_refusal;
 ghost use Rattle.handler_syntax.specs.declared.first.FirstRefusal.{FirstRefusal};
 ghost use Rattle.handler_syntax.specs.declared.first.FirstRefusal.TheVariants as first_refusal;
-ghost use Rattle.handler_syntax.specs.declared.file.File.{File};
+ghost use Rattle.handler_trees.specs.declared.file.File.{File};
 
-use crate::file::{File, TableDecl};
 use crate::parse_handler::handlers;
 use crate::parse_words::{mark, name};
 use crate::refusal::{SyntaxRefusal, refusal};
 use handler_tokens::{Reader, Sort};
+use handler_trees::{File, TableDecl};
 use session_values::{Listed, Names, NoMemory, TableKind};
 use std::alloc::Global;
 use thiserror::Error;

@@ -5,9 +5,9 @@ ghost use Rattle.handler_syntax.specs.Next.{Anywhere, an_atom, after_minus};
 ghost use Rattle.handler_syntax.specs.Phrase as spec;
 ghost use Rattle.handler_syntax.specs.Reads.{Reads};
 
-use crate::expr::Atom;
 use crate::refusal::{SyntaxRefusal, refusal};
 use handler_tokens::{Reader, Sort};
+use handler_trees::Atom;
 use session_values::Value;
 
 const MAX_NUMBER: u64 = 9_223_372_036_854_775_807;

@@ -7,11 +7,11 @@ ghost use Rattle.handler_syntax.specs.Next.{Anywhere, a_name, first_param, more_
 ghost use Rattle.handler_syntax.specs.Phrase as spec;
 ghost use Rattle.handler_syntax.specs.Reads.{Reads};
 
-use crate::file::{Handler, Handlers, Param, Params};
 use crate::parse_stmt::block;
 use crate::parse_words::{mark, name};
 use crate::refusal::SyntaxRefusal;
 use handler_tokens::{Reader, Sort};
+use handler_trees::{Handler, Handlers, Param, Params};
 use session_values::Listed;
 use std::alloc::Global;
 

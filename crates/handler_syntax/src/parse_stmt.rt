@@ -7,12 +7,11 @@ ghost use Rattle.handler_syntax.specs.Next.{Anywhere, mark, target_parts, get_ca
 ghost use Rattle.handler_syntax.specs.Phrase as spec;
 ghost use Rattle.handler_syntax.specs.Reads.{Reads};
 
-use crate::expr::{Atom, Expr, Exprs};
 use crate::parse_atom::atom;
 use crate::parse_words::{mark, name};
 use crate::refusal::{SyntaxRefusal, refusal};
-use crate::stmt::{Block, Call, Right, Stmt};
 use handler_tokens::{Reader, Sort};
+use handler_trees::{Atom, Block, Call, Expr, Exprs, Right, Stmt};
 use session_values::{Kind, Listed};
 use std::alloc::Global;
 

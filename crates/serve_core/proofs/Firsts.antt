@@ -6,17 +6,17 @@ use Rattle.std.specs.List.{AllByRecursion, list_all}
 use Rattle.session_values.specs.Names.{Begins}
 use Rattle.session_values.proofs.Named.{printable_kept}
 use Rattle.handler_tokens.specs.declared.word.Word.{Word}
-use Rattle.handler_syntax.specs.declared.expr.Atom.{Atom}
-use Rattle.handler_syntax.specs.declared.expr.Atom.TheVariants as atom
-use Rattle.handler_syntax.specs.declared.expr.Expr.{Expr, out-Expr}
-use Rattle.handler_syntax.specs.declared.expr.Expr.TheVariants as expr
-use Rattle.handler_syntax.specs.declared.stmt.Stmt.{Stmt}
-use Rattle.handler_syntax.specs.declared.stmt.Stmt as statements
-use Rattle.handler_syntax.specs.declared.expr.Expr as expressions
-use Rattle.handler_syntax.specs.declared.stmt.Stmt.TheVariants as stmt
-use Rattle.handler_syntax.specs.declared.stmt.Right.TheVariants as right
-use Rattle.handler_syntax.specs.declared.file.Handler.{Handler}
-use Rattle.handler_syntax.specs.declared.file.File.{File}
+use Rattle.handler_trees.specs.declared.expr.Atom.{Atom}
+use Rattle.handler_trees.specs.declared.expr.Atom.TheVariants as atom
+use Rattle.handler_trees.specs.declared.expr.Expr.{Expr, out-Expr}
+use Rattle.handler_trees.specs.declared.expr.Expr.TheVariants as expr
+use Rattle.handler_trees.specs.declared.stmt.Stmt.{Stmt}
+use Rattle.handler_trees.specs.declared.stmt.Stmt as statements
+use Rattle.handler_trees.specs.declared.expr.Expr as expressions
+use Rattle.handler_trees.specs.declared.stmt.Stmt.TheVariants as stmt
+use Rattle.handler_trees.specs.declared.stmt.Right.TheVariants as right
+use Rattle.handler_trees.specs.declared.file.Handler.{Handler}
+use Rattle.handler_trees.specs.declared.file.File.{File}
 use Rattle.handler_syntax.specs.FirstForm.{IsFirstForm}
 use Rattle.handler_syntax.specs.NamedFile.{IsNamedAtom, IsNamedValue, IsNamedStmt, IsNamedHandler, IsNamedFile}
 use Rattle.handler_syntax.specs.Phrase.{a_get, a_put, a_target, MoreValues, no_value, more_value, count, more_trees, StmtPhrase, let_stmt, put_stmt, reply_stmt, stmt_tree, StmtsPhrase, no_stmt, more_stmts, stmts_trees, block, a_handler, HandlersPhrase, no_handler, more_handlers, handlers_trees, a_map, FilePhrase, a_file, file_tree}

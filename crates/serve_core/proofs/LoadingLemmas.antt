@@ -3,7 +3,7 @@ use Rattle.std.proofs.Common.{◌≡◌, ◌≢◌, ◌⊎◌, inl, inr, ◌≤�
 use Rattle.std.specs.List.{AllByRecursion}
 use Rattle.session_values.specs.Names.{Begins}
 use Rattle.session_values.specs.declared.kind.TableKind.{TableKind}
-use Rattle.handler_syntax.specs.declared.file.File.{File}
+use Rattle.handler_trees.specs.declared.file.File.{File}
 use Rattle.request_files.specs.declared.head.Head.{Head}
 use Rattle.request_files.specs.declared.request.Request.{Request}
 use Rattle.request_files.specs.Requests.{AreKnown, AreRequests, ArePrintable, first_fault, no_requests, request_of, names_behind}

@@ -2,9 +2,9 @@
 use Rattle.std.proofs.Common.{◌≡◌, ℕ, ◌+◌, ◌<◌, Bool, true, false, ◌&&◌, List, [], ◌∷◌, ◌++◌, map, take, drop, length, get_or, Some, is_some, refl, sym, ap, ◌∙◌, subst, append_assoc}
 use Rattle.std.proofs.lemmas.List.{drop_more, take_more, map-append}
 use Rattle.std.specs.List.{list_all}
-use Rattle.handler_syntax.specs.declared.stmt.Stmt.{Stmt}
-use Rattle.handler_syntax.specs.declared.file.File.{File}
-use Rattle.handler_syntax.specs.declared.file.Handler.{Handler}
+use Rattle.handler_trees.specs.declared.stmt.Stmt.{Stmt}
+use Rattle.handler_trees.specs.declared.file.File.{File}
+use Rattle.handler_trees.specs.declared.file.Handler.{Handler}
 use Rattle.serve_core.specs.declared.checked.CheckedStmt.{CheckedStmt}
 use Rattle.serve_core.specs.Built.{stmt_is_built, handler_is_built, table_is_built, is_built}
 use Rattle.serve_core.specs.Names.{number_of, are_new, stmt_is_declared, declares, block_keeps_rules, handler_keeps_rules, table_names, handler_names, keeps_rules}

@@ -7,7 +7,7 @@ use Rattle.serve_core.specs.declared.status.Status.{Status}
 use Rattle.serve_core.specs.declared.status.Status.TheVariants as status
 use Rattle.handler_tokens.specs.declared.word.Word.{Word}
 use Rattle.handler_tokens.specs.Words.{words_of}
-use Rattle.handler_syntax.specs.declared.file.File.{File}
+use Rattle.handler_trees.specs.declared.file.File.{File}
 use Rattle.handler_syntax.specs.FirstForm.{IsFirstForm}
 use Rattle.handler_syntax.proofs.Unique.{same_file}
 use Rattle.serve_core.specs.Answer.{Answer, IsServed, IsRefused, IsAnswer, is_command, parts_of, text_of}

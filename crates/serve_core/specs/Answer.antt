@@ -5,8 +5,8 @@ use Rattle.std.specs.Str.{bytes_eq}
 use Rattle.session_values.specs.ReplyText.{reply_text}
 use Rattle.session_values.specs.Serial.{Session, serial_replies}
 use Rattle.handler_tokens.specs.Words.{words_of, names_of}
-use Rattle.handler_syntax.specs.declared.file.Handler.{Handler}
-use Rattle.handler_syntax.specs.declared.file.File.{File}
+use Rattle.handler_trees.specs.declared.file.Handler.{Handler}
+use Rattle.handler_trees.specs.declared.file.File.{File}
 use Rattle.handler_syntax.specs.FirstForm.{IsFirstForm}
 use Rattle.request_files.specs.declared.head.Head.{Head}
 use Rattle.request_files.specs.declared.request.Request.{Request}

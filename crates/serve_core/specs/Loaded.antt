@@ -2,7 +2,7 @@
 use Rattle.std.specs.Prelude.{◌≡◌, ◌≤◌, ℕ, true, List, length}
 use Rattle.std.specs.List.{AllByRecursion}
 use Rattle.handler_tokens.specs.Words.{words_of, names_of}
-use Rattle.handler_syntax.specs.declared.file.File.{File}
+use Rattle.handler_trees.specs.declared.file.File.{File}
 use Rattle.handler_syntax.specs.FirstForm.{IsFirstForm}
 use Rattle.handler_syntax.specs.NamedFile.{IsNamedFile}
 use Rattle.request_files.specs.Requests.{ArePrintable}

@@ -4,7 +4,7 @@ use Rattle.std.proofs.lemmas.Bool.{lt-leb}
 use Rattle.session_values.specs.declared.value.Value.TheVariants as value
 use Rattle.handler_tokens.specs.declared.word.Sort.TheVariants as sort
 use Rattle.handler_syntax.specs.Phrase.{word}
-use Rattle.handler_syntax.specs.declared.expr.Atom.TheVariants as atom
+use Rattle.handler_trees.specs.declared.expr.Atom.TheVariants as atom
 use Rattle.handler_syntax.specs.Next.{an_atom, after_minus}
 use Rattle.handler_syntax.specs.Phrase.{digits, name_atom, nil_atom, symbol_atom, number_atom, negative_atom}
 use Rattle.handler_syntax.proofs.Steps.{took, passed_one, passed_then}

@@ -1,7 +1,7 @@
 use Rattle.std.proofs.Common.{ℕ, ◌∷◌, [], refl, ap, ◌∙◌}
 use Rattle.handler_tokens.specs.declared.word.Sort.TheVariants as sort
-use Rattle.handler_syntax.specs.declared.stmt.Stmt.TheVariants as stmt
-use Rattle.handler_syntax.specs.declared.stmt.Right.TheVariants as right
+use Rattle.handler_trees.specs.declared.stmt.Stmt.TheVariants as stmt
+use Rattle.handler_trees.specs.declared.stmt.Right.TheVariants as right
 use Rattle.handler_syntax.specs.Next.{mark, a_name, get_call, statements}
 use Rattle.handler_syntax.specs.Phrase.{word, let_stmt, name_words, get_words, name_of}
 use Rattle.handler_syntax.proofs.Steps.{took, passed_one, passed_then, passed_framed}

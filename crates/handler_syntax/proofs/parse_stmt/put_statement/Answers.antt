@@ -1,5 +1,5 @@
 use Rattle.std.proofs.Common.{◌∷◌, [], ap, ◌∙◌}
-use Rattle.handler_syntax.specs.declared.stmt.Stmt.TheVariants as stmt
+use Rattle.handler_trees.specs.declared.stmt.Stmt.TheVariants as stmt
 use Rattle.handler_syntax.specs.Next.{statements}
 use Rattle.handler_syntax.specs.Phrase.{put_stmt, put_words}
 use Rattle.handler_syntax.proofs.Steps.{passed_then, passed_framed}

@@ -1,6 +1,6 @@
 use Rattle.std.proofs.Common.{◌≡◌, ℕ, ◌∷◌, [], ap, ◌∙◌}
 use Rattle.handler_tokens.specs.declared.word.Sort.TheVariants as sort
-use Rattle.handler_syntax.specs.declared.expr.Atom.{Atom}
+use Rattle.handler_trees.specs.declared.expr.Atom.{Atom}
 use Rattle.handler_syntax.specs.declared.parse_stmt.Target.{Target}
 use Rattle.handler_syntax.specs.Next.{mark, a_name, an_atom}
 use Rattle.handler_syntax.specs.Phrase.{word, a_target, name_words, NamePhrase, AtomPhrase, name_of, atom_tree, target_of}

@@ -1,6 +1,6 @@
 use Rattle.std.proofs.Common.{◌∷◌, [], refl, ap, ◌∙◌}
 use Rattle.handler_tokens.specs.declared.word.Sort.TheVariants as sort
-use Rattle.handler_syntax.specs.declared.stmt.Stmt.TheVariants as stmt
+use Rattle.handler_trees.specs.declared.stmt.Stmt.TheVariants as stmt
 use Rattle.handler_syntax.specs.Next.{mark, an_atom, more_values, statements}
 use Rattle.handler_syntax.specs.Phrase.{word, reply_stmt, values_words}
 use Rattle.handler_syntax.proofs.Steps.{took, passed_one, passed_then, passed_framed}

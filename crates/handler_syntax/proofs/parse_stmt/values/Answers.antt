@@ -1,7 +1,7 @@
 use Rattle.std.proofs.Common.{◌-◌, ◌+◌, ◌∷◌, [], ◌++◌, length, refl, sym, ap, ◌∙◌, arith, length-append}
 use Rattle.std.proofs.lemmas.Result.{err_from_is_err_and}
 use Rattle.handler_tokens.specs.declared.word.Sort.TheVariants as sort
-use Rattle.handler_syntax.specs.declared.expr.Expr.TheVariants as expr
+use Rattle.handler_trees.specs.declared.expr.Expr.TheVariants as expr
 use Rattle.handler_syntax.specs.Next.{more_values}
 use Rattle.handler_syntax.specs.Phrase.{word, no_value, atom_words, more_words, atom_tree, more_trees}
 use Rattle.handler_syntax.proofs.Loops.{and_value, and_value-words, and_value-trees, and_value-count, value_step}

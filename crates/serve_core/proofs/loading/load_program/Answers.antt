@@ -1,7 +1,7 @@
 use Rattle.std.proofs.Common.{◌≡◌, ◌≢◌, ◌∙◌, ◌&&◌, true, false, Option, List, refl, sym, ap, subst}
 use Rattle.std.proofs.lemmas.Bool.{false≢true}
 use Rattle.handler_tokens.specs.Words.{words_of}
-use Rattle.handler_syntax.specs.declared.file.File.{File}
+use Rattle.handler_trees.specs.declared.file.File.{File}
 use Rattle.handler_syntax.specs.declared.first.FirstRefusal.TheVariants as refusal
 use Rattle.serve_core.specs.declared.checked.CheckedHandler.{CheckedHandler}
 use Rattle.serve_core.specs.Built.{is_built}

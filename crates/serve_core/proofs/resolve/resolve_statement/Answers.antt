@@ -1,6 +1,6 @@
 use Rattle.std.proofs.Common.{◌∙◌, ap, sym, subst, IfOk}
-use Rattle.handler_syntax.specs.declared.stmt.Stmt.{Stmt}
-use Rattle.handler_syntax.specs.declared.stmt.Stmt.TheVariants as stmt
+use Rattle.handler_trees.specs.declared.stmt.Stmt.{Stmt}
+use Rattle.handler_trees.specs.declared.stmt.Stmt.TheVariants as stmt
 use Rattle.serve_core.specs.Checked.{checked_stmt}
 use Rattle.serve_core.specs.Resolves.{Resolves}
 use Rattle.serve_core.proofs.Resolving.{stmt_passes}
