@@ -1,0 +1,4 @@
+pub mod Foresight
+pub mod Instantiate
+pub mod Symbol
+pub mod Symbols

@@ -1,0 +1,16 @@
+//! Symbols of operations, and foresights: lists of symbols that say what may still be called.
+#![tactic(auto)]
+
+mod arg;
+mod covering;
+mod foresight;
+mod instantiating;
+mod symbol;
+#[cfg(test)]
+mod tests;
+
+pub use arg::Arg;
+pub use covering::covered;
+pub use foresight::Foresight;
+pub use instantiating::instantiate;
+pub use symbol::{Symbol, matches};

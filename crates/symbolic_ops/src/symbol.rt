@@ -1,0 +1,73 @@
+// Symbols.
+
+ghost use Rattle.std.specs.Prelude.{◌≡◌};
+ghost use Rattle.std.specs.Bool.{Decides};
+ghost use Rattle.symbolic_ops.specs.Symbols.{Below, HasNoVar, StandsFor, exact_symbol};
+
+use crate::arg::Arg;
+use session_values::{Kind, Op, Value};
+use std::marker::Model;
+
+/// The operations of one kind on one table whose arguments agree with these. An argument that the
+/// kind has no use for is known to be nil.
+#[derive(Clone, Copy, Debug, PartialEq, Eq)]
+pub struct Symbol {
+    pub kind: Kind,
+    /// The table's number, from 0 in the order of the file.
+    pub table: u32,
+    pub key: Arg,
+    pub value: Arg,
+}
+
+impl Model for Symbol {
+    ghost use Rattle.symbolic_ops.specs.Symbol.{SymbolView, IsSymbol};
+
+    ghost Value = { SymbolView };
+
+    ghost view = { λ s. record { kind = s.kind; table = s.table; key = s.key; value = s.value } };
+
+    ghost invariant = { λ s. IsSymbol s.kind s.key s.value };
+
+    ghost inverse = { λ s. record { kind = s.kind; table = s.table; key = s.key; value = s.value } };
+}
+
+impl Symbol {
+    /// The symbol that stands for this operation alone.
+    pub fn exact(op: &Op) -> Symbol
+        ensures { result ≡ exact_symbol op.now }
+    {
+        Symbol {
+            kind: op.kind,
+            table: op.table,
+            key: Arg::Known(op.key),
+            value: Arg::Known(op.value),
+        }
+    }
+
+    /// Whether no argument is a variable.
+    pub fn has_no_var(&self) -> bool
+        ensures { Decides result (HasNoVar self.now) }
+    {
+        self.key.is_no_var() && self.value.is_no_var()
+    }
+
+    /// Whether the other one stands for all that this one stands for.
+    #[inline(always)]
+    pub(crate) fn is_below(&self, other: &Symbol) -> bool
+        ensures { Decides result (Below self.now other.now) }
+    {
+        self.kind == other.kind
+            && self.table == other.table
+            && self.key.is_below(other.key)
+            && self.value.is_below(other.value)
+    }
+}
+
+/// Whether the symbol stands for the operation.
+#[inline(always)]
+pub fn matches(s: &Symbol, op: &Op) -> bool
+    requires { HasNoVar s.now }
+    ensures { Decides result (StandsFor s.now op.now) }
+{
+    s.kind == op.kind && s.table == op.table && s.key.agrees(op.key) && s.value.agrees(op.value)
+}
