@@ -1,0 +1,103 @@
+-- Changes at different keys.
+use Rattle.std.proofs.Common.{◌≡◌, Option, Some, None, Bool, true, false, cond, not, ◌&&◌, ◌||◌, refl, sym, ◌∙◌, ap, subst}
+use Rattle.std.specs.Ordering.{is_eq}
+use Rattle.std.specs.Cmp.{Equal-is, tied_itself}
+use Rattle.std.specs.FinMap as map
+use Rattle.std.specs.FinSet as set
+use Rattle.session_values.specs.declared.value.Value.{Value}
+use Rattle.session_values.specs.Values.{value_cmp, value_eq, value_cmp_total, value_cmp-IsAntisymmetric}
+
+-- a value is the same as itself, and as no other
+pub same_value : (v w : Value) → value_eq v w ≡ true → v ≡ w
+same_value v w e = value_cmp-IsAntisymmetric v w ((Equal-is (value_cmp v w)).0 e)
+
+pub value_eq-self : (v : Value) → value_eq v v ≡ true
+value_eq-self v = ap is_eq (tied_itself value_cmp_total v)
+
+pub not_same : (v w : Value) → value_eq v w ≡ false → v ≡ w → ⊥
+not_same v w e h = let P : Value → Type 0 = λ x. value_eq v x ≡ false in let q : value_eq v v ≡ false = subst P (sym h) e in both_ways (value_eq v v) (value_eq-self v) q
+  where
+    both_ways : (b : Bool) → b ≡ true → b ≡ false → ⊥
+    both_ways b p q = cc
+
+module _ (M V E : Type 0) (get : M → Value → V) (act : E → Value → M → M) (put : E → V → V)
+    (get-act : (e : E) (k : Value) (m : M) (q : Value) → get (act e k m) q ≡ cond (value_eq q k) (put e (get m q)) (get m q))
+    (same : (m n : M) → ((q : Value) → get m q ≡ get n q) → m ≡ n) where
+  -- a change at another key leaves what is at this one
+  pub get_apart : (e : E) (k q : Value) (m : M) → value_eq q k ≡ false → get (act e k m) q ≡ get m q
+  get_apart e k q m h = get-act e k m q ∙ ap (λ (b : Bool). cond b (put e (get m q)) (get m q)) h
+
+  -- changes at different keys give the same in both orders
+  pub act_apart : (e f : E) (k j : Value) (m : M) → value_eq k j ≡ false → act f j (act e k m) ≡ act e k (act f j m)
+  act_apart e f k j m h = same (act f j (act e k m)) (act e k (act f j m)) (λ q.
+      get-act f j (act e k m) q
+      ∙ ap (λ (v : V). cond (value_eq q j) (put f v) v) (get-act e k m q)
+      ∙ cases q (value_eq q k) (value_eq q j) refl refl
+      ∙ sym (ap (λ (v : V). cond (value_eq q k) (put e v) v) (get-act f j m q))
+      ∙ sym (get-act e k (act f j m) q))
+    where
+      cases : (q : Value) (b c : Bool) → value_eq q k ≡ b → value_eq q j ≡ c → cond c (put f (cond b (put e (get m q)) (get m q))) (cond b (put e (get m q)) (get m q)) ≡ cond b (put e (cond c (put f (get m q)) (get m q))) (cond c (put f (get m q)) (get m q))
+      cases q true true x y = absurd (not_same k j h (sym (same_value q k x) ∙ same_value q j y))
+      cases q true false x y = refl
+      cases q false true x y = refl
+      cases q false false x y = refl
+
+-- ---- of maps
+pub data MapAct : Type 0 where
+  Keep : MapAct
+  Bind : Value → MapAct
+  Unbind : MapAct
+
+abbrev pub act_on_map : MapAct → Value → map.FinMap value_cmp Value → map.FinMap value_cmp Value
+act_on_map Keep k m = m
+act_on_map (Bind v) k m = map.insert m k v
+act_on_map Unbind k m = map.remove m k
+
+abbrev pub bound_by : MapAct → Option Value → Option Value
+bound_by Keep o = o
+bound_by (Bind v) o = Some v
+bound_by Unbind o = None
+
+same_both : {A : Type 0} (b : Bool) (x : A) → x ≡ cond b x x
+same_both true x = refl
+same_both false x = refl
+
+pub get-act_on_map : (e : MapAct) (k : Value) (m : map.FinMap value_cmp Value) (q : Value) → map.get (act_on_map e k m) q ≡ cond (value_eq q k) (bound_by e (map.get m q)) (map.get m q)
+get-act_on_map Keep k m q = same_both (value_eq q k) (map.get m q)
+get-act_on_map (Bind v) k m q = map.get-insert value_cmp_total m k v q
+get-act_on_map Unbind k m q = map.get-remove value_cmp_total m k q
+
+pub same_map : (m n : map.FinMap value_cmp Value) → ((q : Value) → map.get m q ≡ map.get n q) → m ≡ n
+same_map = map.same_map value_cmp_total value_cmp-IsAntisymmetric
+
+-- ---- of sets
+pub data SetAct : Type 0 where
+  Stay : SetAct
+  Join : SetAct
+  Leave : SetAct
+
+abbrev pub act_on_set : SetAct → Value → set.FinSet value_cmp → set.FinSet value_cmp
+act_on_set Stay k s = s
+act_on_set Join k s = set.insert s k
+act_on_set Leave k s = set.remove s k
+
+abbrev pub member_by : SetAct → Bool → Bool
+member_by Stay b = b
+member_by Join b = true
+member_by Leave b = false
+
+pub contains-act_on_set : (e : SetAct) (k : Value) (s : set.FinSet value_cmp) (q : Value) → set.contains (act_on_set e k s) q ≡ cond (value_eq q k) (member_by e (set.contains s q)) (set.contains s q)
+contains-act_on_set Stay k s q = same_both (value_eq q k) (set.contains s q)
+contains-act_on_set Join k s q = set.contains-insert value_cmp_total s k q ∙ or_cond (value_eq q k) (set.contains s q)
+  where
+    or_cond : (b c : Bool) → (b || c) ≡ cond b true c
+    or_cond true c = refl
+    or_cond false c = refl
+contains-act_on_set Leave k s q = set.contains-remove value_cmp_total s k q ∙ and_cond (value_eq q k) (set.contains s q)
+  where
+    and_cond : (b c : Bool) → (not b && c) ≡ cond b false c
+    and_cond true c = refl
+    and_cond false c = refl
+
+pub same_set : (s t : set.FinSet value_cmp) → ((q : Value) → set.contains s q ≡ set.contains t q) → s ≡ t
+same_set = set.same_set value_cmp_total value_cmp-IsAntisymmetric

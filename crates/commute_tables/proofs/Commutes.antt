@@ -1,0 +1,424 @@
+-- Which operations commute.
+use Rattle.std.proofs.Common.{◌≡◌, ℕ, pos, zero, suc, ◌<◌, ◌≤◌, ◌≢◌, length, ◌⊎◌, inl, inr, Option, Bool, true, false, cond, not, ◌&&◌, ◌||◌, eqb, refl, sym, ◌∙◌, ap, subst, arith}
+use Rattle.std.specs.Option.{unwrap_or}
+use Rattle.std.proofs.Math.ListN.{set as put_at}
+use Rattle.std.proofs.lemmas.List.{get_or-set_same, get_or-set_other, set_past, set-set, set_comm}
+use Rattle.std.proofs.lemmas.Bool.Decides.{nat_tests}
+use Rattle.std.specs.FinMap as map
+use Rattle.std.specs.FinSet as set
+use Rattle.session_values.specs.declared.kind.Kind.{Kind}
+use Rattle.session_values.specs.declared.kind.Kind.TheVariants.{Get, Put, Swap, Del, Size, Has, Add, Mark, Drop, Count}
+use Rattle.session_values.specs.declared.kind.TableKind.TheVariants.{Map}
+use Rattle.session_values.specs.declared.op.Op.{Op}
+use Rattle.session_values.specs.declared.value.Value.{Value}
+use Rattle.session_values.specs.declared.value.Value.TheVariants.{Nil, Num}
+use Rattle.session_values.specs.Values.{value_cmp, value_eq}
+use Rattle.session_values.specs.Tables.{Tables, Container, Bindings, Members, empty_of, table, reply, step, map_reply, map_after, set_reply, set_after, reply_on, after_on, bit}
+use Rattle.session_values.specs.Commuting.{Swaps, Commute}
+use Rattle.commute_tables.specs.Relation.{same_bool, is_keyed, is_plain, kind_place, is_on_map, commutes}
+use Rattle.session_values.specs.Tables.{is_read}
+use Rattle.commute_tables.proofs.Apart.{same_value, not_same, get_apart, act_apart, MapAct, Keep, Bind, Unbind, act_on_map, bound_by, get-act_on_map, same_map, SetAct, Stay, Join, Leave, act_on_set, member_by, contains-act_on_set, same_set}
+
+-- ---- on one container
+pub record SwapsOn (c : Container) (a b : Op) : Type 0 where
+  pub after : after_on (after_on c a) b ≡ after_on (after_on c b) a
+  pub first : reply_on c a ≡ reply_on (after_on c b) a
+  pub second : reply_on (after_on c a) b ≡ reply_on c b
+
+abbrev pub step_at : ℕ → Tables → Op → Tables
+step_at i ts op = put_at ts i (after_on (table ts i) op)
+
+pub record SwapsAt (i j : ℕ) (ts : Tables) (a b : Op) : Type 0 where
+  pub tables : step_at j (step_at i ts a) b ≡ step_at i (step_at j ts b) a
+  pub first : reply_on (table ts i) a ≡ reply_on (table (step_at j ts b) i) a
+  pub second : reply_on (table (step_at i ts a) j) b ≡ reply_on (table ts j) b
+
+lt_or : (a b : ℕ) → (a < b) ⊎ (b ≤ a)
+lt_or a b = grind arith
+
+pub table_after : (i : ℕ) (ts : Tables) (a : Op) → i < length ts → table (step_at i ts a) i ≡ after_on (table ts i) a
+table_after i ts a l = get_or-set_same ts i (after_on (table ts i) a) (empty_of Map) l
+
+pub twice_after : (i : ℕ) (ts : Tables) (a b : Op) → i < length ts → step_at i (step_at i ts a) b ≡ put_at ts i (after_on (after_on (table ts i) a) b)
+twice_after i ts a b l = ap (λ (c : Container). put_at (step_at i ts a) i (after_on c b)) (table_after i ts a l) ∙ set-set ts i (after_on (table ts i) a) (after_on (after_on (table ts i) a) b)
+
+past_after : (i : ℕ) (ts : Tables) (a : Op) → length ts ≤ i → step_at i ts a ≡ ts
+past_after i ts a l = set_past ts i (after_on (table ts i) a) l
+
+swaps_at : (i : ℕ) (ts : Tables) (a b : Op) → SwapsOn (table ts i) a b → SwapsAt i i ts a b
+swaps_at i ts a b s =
+    elim (lt_or i (length ts)) [
+      | inl l ↦ record {
+        tables = twice_after i ts a b l ∙ ap (put_at ts i) s.after ∙ sym (twice_after i ts b a l);
+        first = s.first ∙ ap (λ (c : Container). reply_on c a) (sym (table_after i ts b l));
+        second = ap (λ (c : Container). reply_on c b) (table_after i ts a l) ∙ s.second;
+      }
+      | inr l ↦ record {
+        tables = ap (λ (us : Tables). step_at i us b) (past_after i ts a l) ∙ past_after i ts b l ∙ sym (ap (λ (us : Tables). step_at i us a) (past_after i ts b l) ∙ past_after i ts a l);
+        first = ap (λ (us : Tables). reply_on (table us i) a) (sym (past_after i ts b l));
+        second = ap (λ (us : Tables). reply_on (table us i) b) (past_after i ts a l);
+      }
+    ]
+
+swaps_apart : (i j : ℕ) (ts : Tables) (a b : Op) → i ≢ j → SwapsAt i j ts a b
+swaps_apart i j ts a b n =
+    let m : j ≢ i = λ e. n (sym e) in
+    let x : Container = after_on (table ts i) a in
+    let y : Container = after_on (table ts j) b in
+    let p : table (step_at i ts a) j ≡ table ts j = get_or-set_other ts i j x (empty_of Map) m in
+    let q : table (step_at j ts b) i ≡ table ts i = get_or-set_other ts j i y (empty_of Map) n in
+    record {
+      tables = ap (λ (c : Container). put_at (step_at i ts a) j (after_on c b)) p ∙ set_comm ts i j x y n ∙ sym (ap (λ (c : Container). put_at (step_at j ts b) i (after_on c a)) q);
+      first = ap (λ (c : Container). reply_on c a) (sym q);
+      second = ap (λ (c : Container). reply_on c b) p;
+    }
+
+swaps_from : (ts : Tables) (a b : Op) → SwapsAt a.table b.table ts a b → Swaps ts a b
+unfolding step reply
+swaps_from ts a b s = record { tables = s.tables; first = s.first; second = s.second }
+
+pub swaps_to : (ts : Tables) (a b : Op) → Swaps ts a b → SwapsAt a.table b.table ts a b
+unfolding step reply
+swaps_to ts a b s = record { tables = s.tables; first = s.first; second = s.second }
+
+commute_on : (a b : Op) → a.table ≡ b.table → ((c : Container) → SwapsOn c a b) → Commute a b
+commute_on a b e h = record { at = λ ts. let P : ℕ → Type 0 = λ j. SwapsAt a.table j ts a b in swaps_from ts a b (subst P e (swaps_at a.table ts a b (h (table ts a.table)))) }
+
+commute_apart : (a b : Op) → a.table ≢ b.table → Commute a b
+commute_apart a b n = record { at = λ ts. swaps_from ts a b (swaps_apart a.table b.table ts a b n) }
+
+-- ---- what each kind does to a map
+abbrev pub map_act : Kind → Value → MapAct
+map_act Put v = Bind v
+map_act Swap v = Bind v
+map_act Del v = Unbind
+map_act _ v = Keep
+
+pub map_after_is : (m : map.FinMap value_cmp Value) (kind : Kind) (k v : Value) → map_after m kind k v ≡ act_on_map (map_act kind v) k m
+map_after_is m Get k v = refl
+map_after_is m Put k v = refl
+map_after_is m Swap k v = refl
+map_after_is m Del k v = refl
+map_after_is m Size k v = refl
+map_after_is m Has k v = refl
+map_after_is m Add k v = refl
+map_after_is m Mark k v = refl
+map_after_is m Drop k v = refl
+map_after_is m Count k v = refl
+
+abbrev pub map_read : Kind → Option Value → Value
+map_read Get o = unwrap_or o Nil
+map_read Swap o = unwrap_or o Nil
+map_read _ o = Nil
+
+pub map_reply_is : (m : map.FinMap value_cmp Value) (kind : Kind) (k : Value) → is_keyed kind ≡ true → map_reply m kind k ≡ map_read kind (map.get m k)
+map_reply_is m Get k h = refl
+map_reply_is m Put k h = refl
+map_reply_is m Swap k h = refl
+map_reply_is m Del k h = refl
+map_reply_is m Size k h = cc
+map_reply_is m Has k h = refl
+map_reply_is m Add k h = refl
+map_reply_is m Mark k h = refl
+map_reply_is m Drop k h = refl
+map_reply_is m Count k h = refl
+
+abbrev pub set_act : Kind → SetAct
+set_act Add = Join
+set_act Mark = Join
+set_act Drop = Leave
+set_act _ = Stay
+
+pub set_after_is : (s : set.FinSet value_cmp) (kind : Kind) (k : Value) → set_after s kind k ≡ act_on_set (set_act kind) k s
+set_after_is s Get k = refl
+set_after_is s Put k = refl
+set_after_is s Swap k = refl
+set_after_is s Del k = refl
+set_after_is s Size k = refl
+set_after_is s Has k = refl
+set_after_is s Add k = refl
+set_after_is s Mark k = refl
+set_after_is s Drop k = refl
+set_after_is s Count k = refl
+
+abbrev pub set_read : Kind → Bool → Value
+set_read Has b = bit b
+set_read Add b = cond b (Num (pos 0)) (Num (pos 1))
+set_read _ b = Nil
+
+pub set_reply_is : (s : set.FinSet value_cmp) (kind : Kind) (k : Value) → is_keyed kind ≡ true → set_reply s kind k ≡ set_read kind (set.contains s k)
+set_reply_is s Get k h = refl
+set_reply_is s Put k h = refl
+set_reply_is s Swap k h = refl
+set_reply_is s Del k h = refl
+set_reply_is s Size k h = refl
+set_reply_is s Has k h = refl
+set_reply_is s Add k h = refl
+set_reply_is s Mark k h = refl
+set_reply_is s Drop k h = refl
+set_reply_is s Count k h = cc
+
+-- ---- different keys
+value_eq-sym : (v w : Value) → value_eq v w ≡ false → value_eq w v ≡ false
+value_eq-sym v w h = go (value_eq w v) refl
+  where
+    go : (b : Bool) → value_eq w v ≡ b → value_eq w v ≡ false
+    go true e = absurd (not_same v w h (sym (same_value w v e)))
+    go false e = e
+
+keys_apart : (c : Container) (a b : Op) → is_keyed a.kind ≡ true → is_keyed b.kind ≡ true → value_eq a.key b.key ≡ false → SwapsOn c a b
+keys_apart (Bindings m) a b p q h =
+    let e : MapAct = map_act a.kind a.value in
+    let f : MapAct = map_act b.kind b.value in
+    let both : (x y : Op) → map_after (map_after m x.kind x.key x.value) y.kind y.key y.value ≡ act_on_map (map_act y.kind y.value) y.key (act_on_map (map_act x.kind x.value) x.key m) = λ x y. map_after_is (map_after m x.kind x.key x.value) y.kind y.key y.value ∙ ap (act_on_map (map_act y.kind y.value) y.key) (map_after_is m x.kind x.key x.value) in
+    let other : (x y : Op) → is_keyed x.kind ≡ true → value_eq x.key y.key ≡ false → map_reply m x.kind x.key ≡ map_reply (map_after m y.kind y.key y.value) x.kind x.key = λ x y r d.
+    map_reply_is m x.kind x.key r
+    ∙ ap (map_read x.kind) (sym (get_apart (map.FinMap value_cmp Value) (Option Value) MapAct map.get act_on_map bound_by get-act_on_map same_map (map_act y.kind y.value) y.key x.key m d) ∙ ap (λ (n : map.FinMap value_cmp Value). map.get n x.key) (sym (map_after_is m y.kind y.key y.value)))
+    ∙ sym (map_reply_is (map_after m y.kind y.key y.value) x.kind x.key r) in
+    record {
+      after = ap (λ (n : map.FinMap value_cmp Value). Bindings n) (both a b ∙ act_apart (map.FinMap value_cmp Value) (Option Value) MapAct map.get act_on_map bound_by get-act_on_map same_map e f a.key b.key m h ∙ sym (both b a));
+      first = other a b p h;
+      second = sym (other b a q (value_eq-sym a.key b.key h));
+    }
+keys_apart (Members s) a b p q h =
+    let both : (x y : Op) → set_after (set_after s x.kind x.key) y.kind y.key ≡ act_on_set (set_act y.kind) y.key (act_on_set (set_act x.kind) x.key s) = λ x y. set_after_is (set_after s x.kind x.key) y.kind y.key ∙ ap (act_on_set (set_act y.kind) y.key) (set_after_is s x.kind x.key) in
+    let other : (x y : Op) → is_keyed x.kind ≡ true → value_eq x.key y.key ≡ false → set_reply s x.kind x.key ≡ set_reply (set_after s y.kind y.key) x.kind x.key = λ x y r d.
+    set_reply_is s x.kind x.key r
+    ∙ ap (set_read x.kind) (sym (get_apart (set.FinSet value_cmp) Bool SetAct set.contains act_on_set member_by contains-act_on_set same_set (set_act y.kind) y.key x.key s d) ∙ ap (λ (n : set.FinSet value_cmp). set.contains n x.key) (sym (set_after_is s y.kind y.key)))
+    ∙ sym (set_reply_is (set_after s y.kind y.key) x.kind x.key r) in
+    record {
+      after = ap (λ (n : set.FinSet value_cmp). Members n) (both a b ∙ act_apart (set.FinSet value_cmp) Bool SetAct set.contains act_on_set member_by contains-act_on_set same_set (set_act a.kind) (set_act b.kind) a.key b.key s h ∙ sym (both b a));
+      first = other a b p h;
+      second = sym (other b a q (value_eq-sym a.key b.key h));
+    }
+
+-- ---- operations that leave a container as it is
+record Leaves (c : Container) (op : Op) : Type 0 where
+  stays : after_on c op ≡ c
+
+both_leave : (c : Container) (a b : Op) → after_on c a ≡ c → after_on c b ≡ c → SwapsOn c a b
+both_leave c a b p q = record {
+  after = ap (λ (d : Container). after_on d b) p ∙ q ∙ sym (ap (λ (d : Container). after_on d a) q ∙ p);
+  first = ap (λ (d : Container). reply_on d a) (sym q);
+  second = ap (λ (d : Container). reply_on d b) p;
+}
+
+pub read_leaves : (c : Container) (op : Op) → is_read op.kind ≡ true → after_on c op ≡ c
+read_leaves (Bindings m) op h = ap (λ (n : map.FinMap value_cmp Value). Bindings n) (go op.kind h)
+  where
+    go : (kind : Kind) → is_read kind ≡ true → map_after m kind op.key op.value ≡ m
+    go Get h = refl
+    go Put h = cc
+    go Swap h = cc
+    go Del h = cc
+    go Size h = refl
+    go Has h = refl
+    go Add h = refl
+    go Mark h = refl
+    go Drop h = refl
+    go Count h = refl
+read_leaves (Members s) op h = ap (λ (n : set.FinSet value_cmp). Members n) (go op.kind h)
+  where
+    go : (kind : Kind) → is_read kind ≡ true → set_after s kind op.key ≡ s
+    go Get h = refl
+    go Put h = refl
+    go Swap h = refl
+    go Del h = refl
+    go Size h = refl
+    go Has h = refl
+    go Add h = cc
+    go Mark h = cc
+    go Drop h = cc
+    go Count h = refl
+
+-- ---- operations of another kind of container
+-- one that isn't of the container's kind leaves it and replies nil
+silent_on_map : (m : map.FinMap value_cmp Value) (kind : Kind) (k v : Value) → is_on_map kind ≡ false → (map_after m kind k v ≡ m) × (map_reply m kind k ≡ Nil)
+silent_on_map m Get k v h = cc
+silent_on_map m Put k v h = cc
+silent_on_map m Swap k v h = cc
+silent_on_map m Del k v h = cc
+silent_on_map m Size k v h = cc
+silent_on_map m Has k v h = (refl, refl)
+silent_on_map m Add k v h = (refl, refl)
+silent_on_map m Mark k v h = (refl, refl)
+silent_on_map m Drop k v h = (refl, refl)
+silent_on_map m Count k v h = (refl, refl)
+
+silent_on_set : (s : set.FinSet value_cmp) (kind : Kind) (k : Value) → is_on_map kind ≡ true → (set_after s kind k ≡ s) × (set_reply s kind k ≡ Nil)
+silent_on_set s Get k h = (refl, refl)
+silent_on_set s Put k h = (refl, refl)
+silent_on_set s Swap k h = (refl, refl)
+silent_on_set s Del k h = (refl, refl)
+silent_on_set s Size k h = (refl, refl)
+silent_on_set s Has k h = cc
+silent_on_set s Add k h = cc
+silent_on_set s Mark k h = cc
+silent_on_set s Drop k h = cc
+silent_on_set s Count k h = cc
+
+-- an operation that leaves a container and each container that the other makes of it, and replies nil there
+beside_silent : (c : Container) (a b : Op) → after_on c b ≡ c → after_on (after_on c a) b ≡ after_on c a → reply_on (after_on c a) b ≡ Nil → reply_on c b ≡ Nil → SwapsOn c a b
+beside_silent c a b p q r t = record {
+  after = q ∙ sym (ap (λ (d : Container). after_on d a) p);
+  first = ap (λ (d : Container). reply_on d a) (sym p);
+  second = r ∙ sym t;
+}
+
+pub flip : (c : Container) (a b : Op) → SwapsOn c b a → SwapsOn c a b
+flip c a b s = record { after = sym s.after; first = sym s.second; second = sym s.first }
+
+one_silent : (c : Container) (a b : Op) → is_on_map a.kind ≡ true → is_on_map b.kind ≡ false → SwapsOn c a b
+one_silent (Bindings m) a b p q =
+    let x : (n : map.FinMap value_cmp Value) → (map_after n b.kind b.key b.value ≡ n) × (map_reply n b.kind b.key ≡ Nil) = λ n. silent_on_map n b.kind b.key b.value q in
+    beside_silent (Bindings m) a b (ap (λ (n : map.FinMap value_cmp Value). Bindings n) (x m).0) (ap (λ (n : map.FinMap value_cmp Value). Bindings n) (x _).0) (x _).1 (x m).1
+one_silent (Members s) a b p q =
+    let x : (n : set.FinSet value_cmp) → (set_after n a.kind a.key ≡ n) × (set_reply n a.kind a.key ≡ Nil) = λ n. silent_on_set n a.kind a.key p in
+    flip (Members s) a b (beside_silent (Members s) b a (ap (λ (n : set.FinSet value_cmp). Members n) (x s).0) (ap (λ (n : set.FinSet value_cmp). Members n) (x _).0) (x _).1 (x s).1)
+
+-- ---- one plain change
+plain_reply : (c : Container) (op : Op) → is_plain op.kind ≡ true → reply_on c op ≡ Nil
+plain_reply (Bindings m) op h = go op.kind h
+  where
+    go : (kind : Kind) → is_plain kind ≡ true → map_reply m kind op.key ≡ Nil
+    go Get h = cc
+    go Put h = refl
+    go Swap h = cc
+    go Del h = refl
+    go Size h = cc
+    go Has h = refl
+    go Add h = refl
+    go Mark h = refl
+    go Drop h = refl
+    go Count h = refl
+plain_reply (Members s) op h = go op.kind h
+  where
+    go : (kind : Kind) → is_plain kind ≡ true → set_reply s kind op.key ≡ Nil
+    go Get h = refl
+    go Put h = refl
+    go Swap h = refl
+    go Del h = refl
+    go Size h = refl
+    go Has h = cc
+    go Add h = cc
+    go Mark h = refl
+    go Drop h = refl
+    go Count h = cc
+
+-- the kind of a place
+kind_at : ℕ → Kind
+kind_at zero = Get
+kind_at (suc zero) = Put
+kind_at (suc (suc zero)) = Swap
+kind_at (suc (suc (suc zero))) = Del
+kind_at (suc (suc (suc (suc zero)))) = Size
+kind_at (suc (suc (suc (suc (suc zero))))) = Has
+kind_at (suc (suc (suc (suc (suc (suc zero)))))) = Add
+kind_at (suc (suc (suc (suc (suc (suc (suc zero))))))) = Mark
+kind_at (suc (suc (suc (suc (suc (suc (suc (suc zero)))))))) = Drop
+kind_at (suc (suc (suc (suc (suc (suc (suc (suc (suc n))))))))) = Count
+
+kind_at-place : (kind : Kind) → kind_at (kind_place kind) ≡ kind
+unfolding kind_at
+kind_at-place Get = refl
+kind_at-place Put = refl
+kind_at-place Swap = refl
+kind_at-place Del = refl
+kind_at-place Size = refl
+kind_at-place Has = refl
+kind_at-place Add = refl
+kind_at-place Mark = refl
+kind_at-place Drop = refl
+kind_at-place Count = refl
+
+pub same_kind : (a b : Kind) → eqb (kind_place a) (kind_place b) ≡ true → a ≡ b
+same_kind a b e = sym (kind_at-place a) ∙ ap kind_at (same (kind_place a) (kind_place b) e) ∙ kind_at-place b
+  where
+    same : (x y : ℕ) → eqb x y ≡ true → x ≡ y
+    same x y e = grind (arith, nat_tests)
+
+same_change : (c : Container) (a b : Op) → a.kind ≡ b.kind → a.key ≡ b.key → is_plain a.kind ≡ true → (eqb (kind_place a.kind) 1 ≡ true → a.value ≡ b.value) → after_on c a ≡ after_on c b
+same_change (Bindings m) a b e k p v =
+    ap (λ (n : map.FinMap value_cmp Value). Bindings n) (go a.kind p v ∙ ap (λ (x : Value). map_after m a.kind x b.value) k ∙ ap (λ (x : Kind). map_after m x b.key b.value) e)
+  where
+    go : (kind : Kind) → is_plain kind ≡ true → (eqb (kind_place kind) 1 ≡ true → a.value ≡ b.value) → map_after m kind a.key a.value ≡ map_after m kind a.key b.value
+    go Get h v = refl
+    go Put h v = ap (map.insert m a.key) (v refl)
+    go Swap h v = cc
+    go Del h v = refl
+    go Size h v = refl
+    go Has h v = refl
+    go Add h v = refl
+    go Mark h v = refl
+    go Drop h v = refl
+    go Count h v = refl
+same_change (Members s) a b e k p v = ap (λ (n : set.FinSet value_cmp). Members n) (ap (set_after s a.kind) k ∙ ap (λ (x : Kind). set_after s x b.key) e)
+
+one_change : (c : Container) (a b : Op) → a.kind ≡ b.kind → a.key ≡ b.key → is_plain a.kind ≡ true → (eqb (kind_place a.kind) 1 ≡ true → a.value ≡ b.value) → SwapsOn c a b
+one_change c a b e k p v =
+    let q : is_plain b.kind ≡ true = ap is_plain (sym e) ∙ p in
+    record {
+      after = sym (same_change (after_on c a) a b e k p v) ∙ ap (λ (d : Container). after_on d a) (same_change c a b e k p v);
+      first = plain_reply c a p ∙ sym (plain_reply (after_on c b) a p);
+      second = plain_reply (after_on c a) b q ∙ sym (plain_reply c b q);
+    }
+
+-- ---- the test is right where it says that they commute
+pub or_cases : (x y : Bool) → (x || y) ≡ true → (x ≡ true) ⊎ (y ≡ true)
+or_cases true y e = inl refl
+or_cases false y e = inr e
+
+pub and_both : (x y : Bool) → (x && y) ≡ true → (x ≡ true) × (y ≡ true)
+and_both true y e = (refl, e)
+and_both false y e = cc
+
+pub not_true : (x : Bool) → not x ≡ true → x ≡ false
+not_true true e = cc
+not_true false e = refl
+
+homes : (a b : Op) → same_bool (is_on_map a.kind) (is_on_map b.kind) ≡ false → (c : Container) → SwapsOn c a b
+homes a b h c = go (is_on_map a.kind) (is_on_map b.kind) refl refl h
+  where
+    go : (x y : Bool) → is_on_map a.kind ≡ x → is_on_map b.kind ≡ y → same_bool x y ≡ false → SwapsOn c a b
+    go true true p q h = cc
+    go true false p q h = one_silent c a b p q
+    go false true p q h = flip c a b (one_silent c b a q p)
+    go false false p q h = cc
+
+pub commutes-Commute : (a b : Op) → commutes a b ≡ true → Commute a b
+commutes-Commute a b h = tables (eqb a.table b.table) refl
+  where
+    put_same : (x y : Bool) → (not x || y) ≡ true → x ≡ true → y ≡ true
+    put_same true y e f = e
+    put_same false y e f = cc
+
+    last : a.table ≡ b.table → (is_plain a.kind && eqb (kind_place a.kind) (kind_place b.kind) && value_eq a.key b.key && (not (eqb (kind_place a.kind) 1) || value_eq a.value b.value)) ≡ true → Commute a b
+    last t h =
+        let x : ((is_plain a.kind && eqb (kind_place a.kind) (kind_place b.kind) && value_eq a.key b.key) ≡ true) × ((not (eqb (kind_place a.kind) 1) || value_eq a.value b.value) ≡ true) = and_both _ _ h in
+        let y : ((is_plain a.kind && eqb (kind_place a.kind) (kind_place b.kind)) ≡ true) × (value_eq a.key b.key ≡ true) = and_both _ _ x.0 in
+        let z : (is_plain a.kind ≡ true) × (eqb (kind_place a.kind) (kind_place b.kind) ≡ true) = and_both _ _ y.0 in
+        commute_on a b t (λ c. one_change c a b (same_kind a.kind b.kind z.1) (same_value a.key b.key y.1) z.0 (λ p. same_value a.value b.value (put_same _ _ x.1 p)))
+
+    rest : a.table ≡ b.table → (not (same_bool (is_on_map a.kind) (is_on_map b.kind)) || (is_read a.kind && is_read b.kind) || (is_keyed a.kind && is_keyed b.kind && not (value_eq a.key b.key)) || (is_plain a.kind && eqb (kind_place a.kind) (kind_place b.kind) && value_eq a.key b.key && (not (eqb (kind_place a.kind) 1) || value_eq a.value b.value))) ≡ true → Commute a b
+    rest t h = elim (or_cases _ _ h) [
+      | inl x ↦ elim (or_cases _ _ x) [
+        | inl y ↦ elim (or_cases _ _ y) [
+          | inl z ↦ commute_on a b t (homes a b (not_true _ z))
+          | inr z ↦ let w : (is_read a.kind ≡ true) × (is_read b.kind ≡ true) = and_both _ _ z in commute_on a b t (λ c. both_leave c a b (read_leaves c a w.0) (read_leaves c b w.1))
+        ]
+        | inr y ↦ let w : ((is_keyed a.kind && is_keyed b.kind) ≡ true) × (not (value_eq a.key b.key) ≡ true) = and_both _ _ y in
+            let u : (is_keyed a.kind ≡ true) × (is_keyed b.kind ≡ true) = and_both _ _ w.0 in
+            commute_on a b t (λ c. keys_apart c a b u.0 u.1 (not_true _ w.1))
+      ]
+      | inr x ↦ last t x
+    ]
+
+    tables : (x : Bool) → eqb a.table b.table ≡ x → Commute a b
+    tables true e = rest (same a.table b.table e) (ap (λ (x : Bool). not x || not (same_bool (is_on_map a.kind) (is_on_map b.kind)) || (is_read a.kind && is_read b.kind) || (is_keyed a.kind && is_keyed b.kind && not (value_eq a.key b.key)) || (is_plain a.kind && eqb (kind_place a.kind) (kind_place b.kind) && value_eq a.key b.key && (not (eqb (kind_place a.kind) 1) || value_eq a.value b.value))) (sym e) ∙ h)
+      where
+        same : (x y : ℕ) → eqb x y ≡ true → x ≡ y
+        same x y e = grind (arith, nat_tests)
+    tables false e = commute_apart a b (differs a.table b.table e)
+      where
+        differs : (x y : ℕ) → eqb x y ≡ false → x ≢ y
+        differs x y e = grind (arith, nat_tests)

@@ -1,0 +1,3 @@
+pub mod Relation
+pub mod Symbols
+pub mod ToldApart

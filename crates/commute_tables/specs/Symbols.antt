@@ -1,0 +1,21 @@
+-- When an operation commutes with all that a symbol stands for.
+use Rattle.std.specs.Prelude.{List}
+use Rattle.session_values.specs.declared.op.Op.{Op}
+use Rattle.session_values.specs.Commuting.{Commute}
+use Rattle.symbolic_ops.specs.declared.symbol.Symbol.{Symbol}
+use Rattle.symbolic_ops.specs.Symbols.{StandsFor, Matches}
+use Rattle.commute_tables.specs.ToldApart.{Differ}
+
+-- the operation commutes with every operation that the symbol stands for
+pub record CommutesWith (a : Op) (s : Symbol) : Type 0 where
+  pub each : (b : Op) → StandsFor s b → Commute a b
+
+-- the operation commutes with every operation that some symbol of the list stands for
+pub record CommutesWithAll (a : Op) (f : List Symbol) : Type 0 where
+  pub each : (b : Op) → Matches f b → Commute a b
+
+-- the symbol stands for an operation with which a doesn't commute
+pub record DiffersFromSome (a : Op) (s : Symbol) : Type 0 where
+  pub op : Op
+  pub stands : StandsFor s op
+  pub differ : Differ a op

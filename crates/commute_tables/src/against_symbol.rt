@@ -1,0 +1,81 @@
+// An operation against a symbol.
+
+ghost use Rattle.std.specs.Prelude.{◌≡◌, ◌==◌, ◌&&◌, ◌||◌, not};
+ghost use Rattle.std.specs.Bool.{Decides, MatchBool};
+ghost use Rattle.symbolic_ops.specs.Symbols.{HasNoVar};
+ghost use Rattle.commute_tables.specs.Relation.{commutes_symbol, is_apart, is_keyed, is_plain, is_same, kind_place};
+ghost use Rattle.commute_tables.specs.Symbols.{CommutesWith, DiffersFromSome};
+
+use crate::kinds::{both_read, is_keyed, is_plain, one_home};
+use session_values::{Kind, Op, Value};
+use symbolic_ops::{Arg, Symbol};
+
+/// The argument is a known value other than this one.
+#[inline(always)]
+fn known_apart(v: Value, arg: Arg) -> bool
+    ensures { result ≡ is_apart v arg }
+{
+    match arg {
+        Arg::Known(w) => v != w,
+        _ => false,
+    }
+}
+
+/// The argument is known to be this value.
+#[inline(always)]
+fn known_same(v: Value, arg: Arg) -> bool
+    ensures { result ≡ is_same v arg }
+{
+    match arg {
+        Arg::Known(w) => v == w,
+        Arg::Var(_) | Arg::Any => false,
+    }
+}
+
+/// The keys are known to differ.
+#[inline(always)]
+fn keys_known_apart(a: &Op, s: &Symbol) -> bool
+    ensures { result ≡ (is_keyed a.now.kind && is_keyed s.now.kind && is_apart a.now.key s.now.key) }
+{
+    is_keyed(a.kind) && is_keyed(s.kind) && known_apart(a.key, s.key)
+}
+
+/// They are one plain change, whatever the key.
+#[inline(always)]
+fn known_change(a: &Op, s: &Symbol) -> bool
+    ensures { result ≡ (is_plain a.now.kind && (kind_place a.now.kind == kind_place s.now.kind) && (not (kind_place a.now.kind == 1) || is_same a.now.value s.now.value)) }
+{
+    is_plain(a.kind) && a.kind == s.kind && (a.kind != Kind::Put || known_same(a.value, s.value))
+}
+
+/// What the relation says.
+#[inline(always)]
+fn test(a: &Op, s: &Symbol) -> bool
+    ensures { result ≡ commutes_symbol a.now s.now }
+{
+    if a.table != s.table {
+        return true;
+    }
+    if !one_home(a.kind, s.kind) {
+        return true;
+    }
+    if both_read(a.kind, s.kind) {
+        return true;
+    }
+    if keys_known_apart(a, s) {
+        return true;
+    }
+    known_change(a, s)
+}
+
+/// Whether the operation commutes with each one that the symbol stands for.
+#[inline(always)]
+#[tactic(auto, using(crate::proofs::AgainstSymbols::symbol_decided, crate::proofs::AgainstSymbols::symbol_exactly))]
+pub fn commute_symbol(a: &Op, s: &Symbol) -> bool
+    requires { HasNoVar s.now }
+    ensures exact { Decides result (CommutesWith a.now s.now) }
+    // Where it doesn't, the symbol stands for an operation with which it doesn't commute.
+    ensures told { MatchBool result (CommutesWith a.now s.now) (DiffersFromSome a.now s.now) }
+{
+    test(a, s)
+}

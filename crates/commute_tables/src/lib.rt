@@ -1,0 +1,12 @@
+//! Whether operations commute, told by their kinds, tables, keys and values alone.
+#![tactic(auto)]
+
+mod against_symbol;
+mod commuting;
+mod kinds;
+pub mod laws;
+#[cfg(test)]
+mod tests;
+
+pub use against_symbol::commute_symbol;
+pub use commuting::commute;
