@@ -1,0 +1,3 @@
+pub mod Regroup
+pub mod Replay
+pub mod Serial

@@ -1,0 +1,4 @@
+pub mod Desks
+pub mod Foreknown
+pub mod Journal
+pub mod Script

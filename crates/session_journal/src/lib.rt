@@ -1,0 +1,14 @@
+//! The journal of finished operations, what a script of tickets means, and desks at which tickets
+//! are served.
+#![tactic(auto)]
+
+mod desk;
+mod event;
+mod journal;
+pub mod laws;
+mod script;
+
+pub use desk::Desk;
+pub use event::Event;
+pub use journal::Journal;
+pub use script::Script;
