@@ -1,0 +1,83 @@
+-- The records of a book after one of them is replaced, and narrower foresights.
+use Rattle.std.proofs.Common.{◌≡◌, ℕ, ◌<◌, ◌≤◌, ◌≢◌, List, [], ◌∷◌, length, ◌⊎◌, inl, inr, Option, Some, None, true, false, eqb, get_or, refl, sym, ◌∙◌, subst, arith}
+use Rattle.std.proofs.Math.ListN.{set}
+use Rattle.std.proofs.lemmas.List.{get_or-set_same, get_or-set_other, get_or_past, length-set}
+use Rattle.std.proofs.lemmas.Bool.Decides.{nat_tests}
+use Rattle.std.specs.List.{AllByRecursion}
+use Rattle.session_values.specs.declared.op.Op.{Op}
+use Rattle.session_values.specs.declared.value.Value.{Value}
+use Rattle.symbolic_ops.specs.declared.arg.Arg.{Arg}
+use Rattle.symbolic_ops.specs.declared.arg.Arg.TheVariants.{Known, Var, Any}
+use Rattle.symbolic_ops.specs.declared.symbol.Symbol.{Symbol}
+use Rattle.session_values.specs.Commuting.{Commute}
+use Rattle.symbolic_ops.specs.Symbols.{Agrees, ArgBelow, Below, IsBelowSome, Covered, StandsFor, Matches}
+use Rattle.commute_tables.specs.Symbols.{CommutesWith, CommutesWithAll}
+
+-- a place that has something is within the list
+pub within : {X : Type 0} (l : List (Option X)) (c : ℕ) (x : X) → get_or l c None ≡ Some x → c < length l
+within {X} l c x h = by_cases (lt_or c (length l))
+  where
+    lt_or : (a b : ℕ) → (a < b) ⊎ (b ≤ a)
+    lt_or a b = grind arith
+
+    by_cases : (c < length l) ⊎ (length l ≤ c) → c < length l
+    by_cases (inl k) = k
+    by_cases (inr k) = let e : ◌≡◌ {A = Option X} None (Some x) = sym (get_or_past l c None k) ∙ h in cc
+
+-- what stands at a place after place c is set: at c what was set, and elsewhere what was there
+pub at_set : {X : Type 0} (l : List (Option X)) (c d : ℕ) (x : Option X) (s : X) → get_or (set l c x) d None ≡ Some s → ((d ≡ c) × (x ≡ Some s)) ⊎ ((d ≢ c) × (get_or l d None ≡ Some s))
+at_set {X} l c d x s h =
+    elim (eqb d c) as (λ b. eqb d c ≡ b → ((d ≡ c) × (x ≡ Some s)) ⊎ ((d ≢ c) × (get_or l d None ≡ Some s))) [
+      | true ↦ λ e. let is : d ≡ c = same d c e in inl (is, here is)
+      | false ↦ λ e. let apart : d ≢ c = differs d c e in inr (apart, sym (get_or-set_other l c d x None apart) ∙ h)
+    ] refl
+  where
+    same : (d c : ℕ) → eqb d c ≡ true → d ≡ c
+    same d c e = grind (arith, nat_tests)
+
+    differs : (d c : ℕ) → eqb d c ≡ false → d ≢ c
+    differs d c e = grind (arith, nat_tests)
+
+    here : d ≡ c → x ≡ Some s
+    here is =
+        let k : d < length (set l c x) = within (set l c x) d s h in
+        let k2 : c < length l = omega (arith, length-set l c x) in
+        let P : ℕ → Type 0 = λ j. get_or (set l c x) j None ≡ Some s in
+        sym (get_or-set_same l c x None k2) ∙ subst P is h
+
+pub set_other : {X : Type 0} (l : List (Option X)) (c d : ℕ) (x : Option X) (s : X) → d ≢ c → get_or l d None ≡ Some s → get_or (set l c x) d None ≡ Some s
+set_other l c d x s apart h = get_or-set_other l c d x None apart ∙ h
+
+-- ---- narrower foresights stand for fewer operations
+agrees : (a b : Arg) (v : Value) → ArgBelow a b → Agrees a v → Agrees b v
+agrees a Any v h k = tt
+agrees (Known u) (Known w) v h k = sym h ∙ k
+agrees (Var x) (Known w) v h k = absurd h
+agrees Any (Known w) v h k = absurd h
+agrees (Known u) (Var y) v h k = absurd h
+agrees (Var x) (Var y) v h k = absurd h
+agrees Any (Var y) v h k = absurd h
+
+stands : (g s : Symbol) (op : Op) → Below g s → StandsFor g op → StandsFor s op
+stands g s op b h = record { kind = sym b.kind ∙ h.kind; table = sym b.table ∙ h.table; key = agrees g.key s.key op.key b.key h.key; value = agrees g.value s.value op.value b.value h.value }
+
+matches_some : (g : Symbol) (f : List Symbol) (op : Op) → IsBelowSome g f → StandsFor g op → Matches f op
+matches_some g [] op b h = b
+matches_some g (s ∷ f) op (inl b) h = inl (stands g s op b h)
+matches_some g (s ∷ f) op (inr b) h = inr (matches_some g f op b h)
+
+pub Covered-Matches : (g f : List Symbol) (op : Op) → Covered g f → Matches g op → Matches f op
+Covered-Matches [] f op c h = absurd h
+Covered-Matches (s ∷ g) f op c (inl h) = matches_some s f op c.0 h
+Covered-Matches (s ∷ g) f op c (inr h) = Covered-Matches g f op c.1 h
+
+pub CommutesWithAll-narrow : (a : Op) (g f : List Symbol) → Covered g f → CommutesWithAll a f → CommutesWithAll a g
+CommutesWithAll-narrow a g f c h = record { each = λ b k. h.each b (Covered-Matches g f b c k) }
+
+pub CommutesWithAll-each : (a : Op) (f : List Symbol) → AllByRecursion (λ s. CommutesWith a s) f → CommutesWithAll a f
+CommutesWithAll-each a f h = record { each = λ b k. go f h b k }
+  where
+    go : (f : List Symbol) → AllByRecursion (λ s. CommutesWith a s) f → (b : Op) → Matches f b → Commute a b
+    go [] h b k = absurd k
+    go (s ∷ f) h b (inl k) = h.0.each b k
+    go (s ∷ f) h b (inr k) = go f h.1 b k
