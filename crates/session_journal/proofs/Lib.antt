@@ -1,3 +1,6 @@
+pub mod ListKeeps
+pub mod ListLawful
 pub mod Regroup
 pub mod Replay
+pub mod Rows
 pub mod Serial

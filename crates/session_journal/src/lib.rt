@@ -6,9 +6,14 @@ mod desk;
 mod event;
 mod journal;
 pub mod laws;
+mod list_script;
 mod script;
 
 pub use desk::Desk;
 pub use event::Event;
 pub use journal::Journal;
+pub use list_script::ListScript;
 pub use script::Script;
+
+#[cfg(test)]
+mod tests;
