@@ -1,0 +1,15 @@
+pub mod AtSeat
+pub mod Rows
+pub mod Moved
+pub mod Asks
+pub mod Slots
+pub mod Gives
+pub mod Takes
+pub mod Returns
+pub mod Several
+pub mod Crews
+pub mod Opened
+pub mod Closes
+pub mod Sets
+pub mod Fills
+pub mod Counting

@@ -1,0 +1,233 @@
+-- What an asking for a set of turns tells, in the words of a contract.
+use Rattle.std.proofs.Common.{◌≡◌, ◌≢◌, ℕ, ◌+◌, ◌-◌, ◌^◌, ◌<◌, ◌≤◌, ◌⊎◌, inl, inr, List, [], ◌∷◌, length, get_or, Bool, true, false, cond, ◌&&◌, min, refl, sym, ap, ap₂, ◌∙◌, arith}
+use Rattle.std.specs.Prelude.{Some, None, slice_get, ◌==◌, bit_and}
+use Rattle.std.proofs.lemmas.Nat.{and_le_l}
+use Rattle.std.proofs.lemmas.Nat.Bits.{bit_at_and, bit_at-lt, bit_at_not, bit_at-zero}
+use Rattle.std.proofs.lemmas.Option.{none-some}
+use mathlib.Core.Option.{none}
+use mathlib.Core.Logic.{dite}
+use native.Mathlib.Decide.{dec_lt}
+use lib.ListN.{get_elem?}
+use Rattle.std.specs.Int.{bit_at, bit_not, w64}
+use Rattle.atomic_table.specs.Table.{step}
+use Rattle.atomic_table.specs.Seated.{TableId}
+use Rattle.turn_board.specs.declared.view.View.{View}
+use Rattle.turn_board.specs.declared.view.Place.TheVariants.{Vacant, Lies}
+use Rattle.turn_board.specs.Tied.{counted, place}
+use Rattle.turn_board.specs.Steps.{asked, asked_view, given_view, lies, lost_at, note_of, caller_of}
+use Rattle.turn_board.specs.Passes.{Pass, Placed, Sitting, held, lost}
+use Rattle.turn_board.specs.Moving.{Emptied}
+use Rattle.turn_board.specs.Boards.{SameVoice, Tells, MissedAll}
+use Rattle.turn_board.proofs.AtSeat.{at}
+use Rattle.turn_board.proofs.Rows.{two, row-length, row-here, row-past, changed-here, changed-else, get-within, past-end}
+
+-- no turn of the set was found taken
+pub none-taken : (found set : ℕ) → bit_and found set ≡ 0 → (u : ℕ) → bit_at set u ≡ 1 → bit_at found u ≡ 0
+none-taken found set e u s = two (bit_at found u) (λ x. x ≡ 0) (bit_at-lt found u) (λ _. refl)
+    (λ f. absurd (let z : min (bit_at found u) (bit_at set u) ≡ 0 = sym (bit_at_and found set u) ∙ ap (λ (n : ℕ). bit_at n u) e ∙ bit_at-zero u in omega arith))
+
+-- the bits that are cleared again are those that were just set
+module _ (found set : ℕ) (f-fits : found < 2 ^ 64) (s-fits : set < 2 ^ 64) where
+  won-set : ℕ
+  won-set = bit_and set (bit_not w64 found)
+
+  mask-at : (u : ℕ) → u < 64 → bit_at (bit_not w64 (bit_and set (bit_not w64 found))) u ≡ 1 - min (bit_at set u) (1 - bit_at found u)
+  mask-at u h = bit_at_not w64 (bit_and set (bit_not w64 found)) u (let l = and_le_l set (bit_not w64 found) in omega arith) h
+      ∙ ap (λ (b : ℕ). 1 - b) (bit_at_and set (bit_not w64 found) u ∙ ap (min (bit_at set u)) (bit_at_not w64 found u f-fits h))
+
+  pub cleared : (u : ℕ) → u < 64 → bit_at (bit_not w64 (bit_and set (bit_not w64 found))) u ≡ 0 → (bit_at set u ≡ 1) × (bit_at found u ≡ 0)
+  cleared u h e = let m = mask-at u h in let a = bit_at-lt set u in let b = bit_at-lt found u in (omega arith, omega arith)
+
+  pub not-cleared : (u : ℕ) → u < 64 → bit_at (bit_not w64 (bit_and set (bit_not w64 found))) u ≡ 1 → bit_at set u ≡ 1 → bit_at found u ≡ 1
+  not-cleared u h e s = let m = mask-at u h in let b = bit_at-lt found u in omega arith
+
+module _ {V C : Type 0} (holds : List C → List C → Type 0) (id : TableId) (p q : Pass V C) (set found : ℕ) (sitting : Sitting id p) (same-table : q.table_id ≡ p.table_id) (same-id : q.id ≡ p.id)
+    (a : asked holds (step id.slots 0 set 0 none) p.me found q.me) where
+  abbrev v : View C
+  v = p.me.0
+
+  view-is : q.me.0 ≡ asked_view id.slots set found a.0 v
+  view-is = ap (λ m. m.0) a.2
+
+  won : ℕ → Bool
+  won u = (bit_at set u == 1) && (bit_at found u == 0)
+
+  abbrev won' : ℕ → Bool
+  won' u = (bit_at set u == 1) && (bit_at found u == 0)
+
+  abbrev missed' : ℕ → Bool
+  missed' u = (bit_at set u == 1) && (bit_at found u == 1)
+
+  both : (u x y : ℕ) (f : ℕ → ℕ → Bool) → bit_at set u ≡ x → bit_at found u ≡ y → f (bit_at set u) (bit_at found u) ≡ f x y
+  both u x y f e g = ap₂ f e g
+
+  lose-set : (u : ℕ) → bit_at set u ≡ 0 → won' u ≡ false
+  lose-set u e = ap (λ (b : ℕ). (b == 1) && (bit_at found u == 0)) e
+
+  lose-found : (u : ℕ) → bit_at found u ≡ 1 → won' u ≡ false
+  lose-found u e = two (bit_at set u) (λ x. ((x == 1) && (bit_at found u == 0)) ≡ false) (bit_at-lt set u) (λ _. refl) (λ _. ap (λ (b : ℕ). b == 0) e)
+
+  keep-set : (u : ℕ) → bit_at set u ≡ 0 → missed' u ≡ false
+  keep-set u e = ap (λ (b : ℕ). (b == 1) && (bit_at found u == 1)) e
+
+  keep-found : (u : ℕ) → bit_at found u ≡ 0 → missed' u ≡ false
+  keep-found u e = two (bit_at set u) (λ x. ((x == 1) && (bit_at found u == 1)) ≡ false) (bit_at-lt set u) (λ _. refl) (λ _. ap (λ (b : ℕ). b == 1) e)
+
+  pub held-else : (u : ℕ) → won' u ≡ false → held q u ≡ held p u
+  held-else u e = ap (λ (x : View C). counted x u) view-is ∙ changed-else id.slots v.counts None won' (slice_get a.0) u sitting.placed.counts e
+
+  pub place-else : (u : ℕ) → won' u ≡ false → place q.me.0 u ≡ place v u
+  place-else u e = ap (λ (x : View C). place x u) view-is ∙ changed-else id.slots v.places Vacant won' (λ y. lies (slice_get a.0 y)) u sitting.placed.places e
+
+  lost-else : (u : ℕ) → missed' u ≡ false → lost q u ≡ lost p u
+  lost-else u e = ap (λ (x : View C). lost_at x u) view-is ∙ changed-else id.slots v.lost 0 missed' (λ y. lost_at v y + 1) u sitting.placed.losses e
+
+  pub now-lie : (u : ℕ) → u < id.slots → bit_at set u ≡ 1 → bit_at found u ≡ 0 → (c : C) × (held q u ≡ Some c) × (place q.me.0 u ≡ Lies c)
+  now-lie u near s f = let g = get-within a.0 u (let h : length a.0 ≡ id.slots = a.1 in omega arith) in let e : won' u ≡ true = both u 1 0 (λ x y. (x == 1) && (y == 0)) s f in (
+    g.0,
+    ap (λ (x : View C). counted x u) view-is ∙ changed-here id.slots v.counts None won' (slice_get a.0) u near e ∙ g.1,
+    ap (λ (x : View C). place x u) view-is ∙ changed-here id.slots v.places Vacant won' (λ y. lies (slice_get a.0 y)) u near e ∙ ap lies g.1,
+  )
+
+  pub losses-now : (u : ℕ) → u < id.slots → lost q u ≡ lost p u + min (bit_at found u) (bit_at set u)
+  losses-now u near = two (bit_at set u) (λ x. lost q u ≡ lost p u + min (bit_at found u) x) (bit_at-lt set u)
+      (λ z. lost-else u (keep-set u z) ∙ (omega arith))
+      (λ o. two (bit_at found u) (λ y. lost q u ≡ lost p u + min y 1) (bit_at-lt found u) (λ z. lost-else u (keep-found u z) ∙ (omega arith))
+      (λ f. ap (λ (x : View C). lost_at x u) view-is ∙ changed-here id.slots v.lost 0 missed' (λ y. lost_at v y + 1) u near (both u 1 1 (λ x y. (x == 1) && (y == 1)) o f) ∙ refl))
+
+  pub set-placed : Placed id q
+  set-placed = record {
+    of_table = same-table ∙ sitting.placed.of_table;
+    empty = ap (λ m. m.1) a.2 ∙ sitting.placed.empty;
+    counts = ap (λ (x : View C). length x.counts) view-is ∙ row-length 0 id.slots (λ u. cond (won' u) (slice_get a.0 u) (counted v u));
+    places = ap (λ (x : View C). length x.places) view-is ∙ row-length 0 id.slots (λ u. cond (won' u) (lies (slice_get a.0 u)) (place v u));
+    losses = ap (λ (x : View C). length x.lost) view-is ∙ row-length 0 id.slots (λ u. cond (missed' u) (lost_at v u + 1) (lost_at v u));
+    one = (sitting.placed.one.0, sitting.placed.one.1, ap (λ (x : View C). x.speaks) view-is ∙ sitting.placed.one.2);
+  }
+
+  places-past : (u : ℕ) → id.slots ≤ u → place q.me.0 u ≡ Vacant
+  places-past u h = past-end q.me.0.places u Vacant (let l = set-placed.places in omega arith)
+
+  -- the values were moved out
+  module _ (r : Pass V C) (e : Emptied set id.slots q r) where
+    pub all-out : Sitting id r
+    all-out = record {
+      placed = record {
+        of_table = e.table ∙ set-placed.of_table;
+        empty = e.none ∙ set-placed.empty;
+        counts = ap length e.counts ∙ set-placed.counts;
+        places = e.long ∙ set-placed.places;
+        losses = ap length e.lost ∙ set-placed.losses;
+        one = (set-placed.one.0, set-placed.one.1, e.speaks ∙ set-placed.one.2);
+      };
+      vacant = λ u. dite (dec_lt u id.slots)
+          (λ h. two (bit_at set u) (λ _. place r.me.0 u ≡ Vacant) (bit_at-lt set u) (λ z. e.others u z ∙ place-else u (lose-set u z) ∙ sitting.vacant u) (λ o. e.out u h o))
+          (λ h. let k : id.slots ≤ u = omega arith in e.later u k ∙ places-past u k);
+    }
+
+    pub all-voice : {R : Type 0} → SameVoice (at R p) (at R r)
+    all-voice = record {
+      caller_is = ap caller_of e.speaks ∙ ap (λ (x : View C). caller_of x.speaks) view-is;
+      note_is = ap note_of e.speaks ∙ ap (λ (x : View C). note_of x.speaks) view-is;
+      crew_is = e.crew ∙ ap (λ (x : View C). x.crew) view-is;
+      given_is = e.given ∙ ap (λ (x : View C). x.given) view-is;
+    }
+
+    pub all-others : (u : ℕ) → bit_at set u ≡ 0 → held r u ≡ held p u
+    all-others u z = ap (λ l. get_or l u None) e.counts ∙ held-else u (lose-set u z)
+
+    pub all-lost : ((u : ℕ) → bit_at set u ≡ 1 → bit_at found u ≡ 0) → (u : ℕ) → lost r u ≡ lost p u
+    all-lost free u = ap (λ l. get_or l u 0) e.lost ∙ two (bit_at set u) (λ _. lost q u ≡ lost p u) (bit_at-lt set u) (λ z. lost-else u (keep-set u z)) (λ o. lost-else u (keep-found u (free u o)))
+
+    pub all-tells : {R : Type 0} → Tells holds id.slots (at R r)
+    all-tells = let one = sitting.placed.one in let o = a.3 in let sp : q.me.0.speaks ≡ (one.0, one.1) ∷ [] = ap (λ (x : View C). x.speaks) view-is ∙ one.2 in
+        let n = o.spoken 0 one.0 one.1 (ap (λ (l : List (ℕ × C)). get_elem? l 0) sp) in record {
+          contents = o.contents;
+          notes = o.notes;
+          tied = o.tied;
+          turns_is = o.turns_is;
+          callers = n.0 ∙ sym e.crew;
+          own = λ u c h. o.own u c (sym (ap (λ l. get_or l u None) e.counts) ∙ h);
+          noted = ap (λ l. slice_get o.notes (caller_of l)) e.speaks ∙ ap (λ (l : List (ℕ × C)). slice_get o.notes (caller_of l)) sp ∙ n.1 ∙ sym (ap note_of sp) ∙ sym (ap note_of e.speaks);
+        }
+
+  -- the turns that were just got were given back
+  module _ (few : id.slots ≤ 57) (f-fits : found < 2 ^ 64) (s-fits : set < 2 ^ 64) where
+    pub untouched : (u : ℕ) → u < id.slots → bit_at (bit_not w64 (bit_and set (bit_not w64 found))) u ≡ 0 → (c : C) × (counted q.me.0 u ≡ Some c) × (place q.me.0 u ≡ Lies c)
+    untouched u near z = let b = cleared found set f-fits s-fits u (omega arith) z in now-lie u near b.0 b.1
+
+    module _ (free : (u : ℕ) → bit_at set u ≡ 1 → held p u ≡ None) (r : Pass V C) (r-table : r.table_id ≡ q.table_id) (r-id : r.id ≡ q.id)
+        (r-is : r.me ≡ (given_view id.slots (bit_not w64 (bit_and set (bit_not w64 found))) (counted q.me.0) q.me.0.speaks q.me.0.given q.me.0, q.me.1)) where
+      r-view : r.me.0 ≡ given_view id.slots (bit_not w64 (bit_and set (bit_not w64 found))) (counted q.me.0) q.me.0.speaks q.me.0.given q.me.0
+      r-view = ap (λ m. m.0) r-is
+
+      abbrev gone : ℕ → Bool
+      gone u = bit_at (bit_not w64 (bit_and set (bit_not w64 found))) u == 0
+
+      lost-bits : (u : ℕ) → u < id.slots → bit_at (bit_not w64 (bit_and set (bit_not w64 found))) u ≡ 1 → won' u ≡ false
+      lost-bits u near o = two (bit_at set u) (λ x. ((x == 1) && (bit_at found u == 0)) ≡ false) (bit_at-lt set u) (λ _. refl)
+          (λ s. ap (λ (b : ℕ). b == 0) (not-cleared found set f-fits s-fits u (omega arith) o s))
+
+      pub back-held : (u : ℕ) → held r u ≡ held p u
+      back-held u = ap (λ (x : View C). counted x u) r-view ∙ dite (dec_lt u id.slots)
+          (λ h. row-here id.slots (λ y. cond (gone y) None (counted q.me.0 y)) None u h ∙ two (bit_at (bit_not w64 (bit_and set (bit_not w64 found))) u) (λ x. cond (x == 0) None (counted q.me.0 u) ≡ held p u) (bit_at-lt (bit_not w64 (bit_and set (bit_not w64 found))) u)
+          (λ z. sym (free u (cleared found set f-fits s-fits u (omega arith) z).0))
+          (λ o. held-else u (lost-bits u h o)))
+          (λ h. let k : id.slots ≤ u = omega arith in row-past 0 id.slots (λ y. cond (gone y) None (counted q.me.0 y)) None u k ∙ sym (past-end v.counts u None (let l = sitting.placed.counts in omega arith)))
+
+      back-place : (u : ℕ) → place r.me.0 u ≡ Vacant
+      back-place u = ap (λ (x : View C). place x u) r-view ∙ dite (dec_lt u id.slots)
+          (λ h. row-here id.slots (λ y. cond (gone y) Vacant (place q.me.0 y)) Vacant u h ∙ two (bit_at (bit_not w64 (bit_and set (bit_not w64 found))) u) (λ x. cond (x == 0) Vacant (place q.me.0 u) ≡ Vacant) (bit_at-lt (bit_not w64 (bit_and set (bit_not w64 found))) u)
+          (λ z. refl)
+          (λ o. place-else u (lost-bits u h o) ∙ sitting.vacant u))
+          (λ h. let k : id.slots ≤ u = omega arith in row-past 0 id.slots (λ y. cond (gone y) Vacant (place q.me.0 y)) Vacant u k)
+
+      pub back-sits : Sitting id r
+      back-sits = record {
+        placed = record {
+          of_table = r-table ∙ set-placed.of_table;
+          empty = ap (λ m. m.1) r-is ∙ set-placed.empty;
+          counts = ap (λ (x : View C). length x.counts) r-view ∙ row-length 0 id.slots (λ y. cond (gone y) None (counted q.me.0 y));
+          places = ap (λ (x : View C). length x.places) r-view ∙ row-length 0 id.slots (λ y. cond (gone y) Vacant (place q.me.0 y));
+          losses = ap (λ (x : View C). length x.lost) r-view ∙ set-placed.losses;
+          one = (set-placed.one.0, set-placed.one.1, ap (λ (x : View C). x.speaks) r-view ∙ set-placed.one.2);
+        };
+        vacant = back-place;
+      }
+
+      pub back-voice : {R : Type 0} → SameVoice (at R p) (at R r)
+      back-voice = record {
+        caller_is = ap (λ (x : View C). caller_of x.speaks) r-view ∙ ap (λ (x : View C). caller_of x.speaks) view-is;
+        note_is = ap (λ (x : View C). note_of x.speaks) r-view ∙ ap (λ (x : View C). note_of x.speaks) view-is;
+        crew_is = ap (λ (x : View C). x.crew) r-view ∙ ap (λ (x : View C). x.crew) view-is;
+        given_is = ap (λ (x : View C). x.given) r-view ∙ ap (λ (x : View C). x.given) view-is;
+      }
+
+      back-losses : (u : ℕ) → u < id.slots → lost r u ≡ lost p u + min (bit_at found u) (bit_at set u)
+      back-losses u near = ap (λ (x : View C). lost_at x u) r-view ∙ losses-now u near
+
+      back-unlost : (u : ℕ) → bit_at set u ≡ 0 → lost r u ≡ lost p u
+      back-unlost u z = ap (λ (x : View C). lost_at x u) r-view ∙ lost-else u (keep-set u z)
+
+      -- the least turn that was found taken, and what was lost
+      module _ (within : (u : ℕ) → bit_at set u ≡ 1 → u < id.slots) (t : ℕ) (asked' : bit_at set t ≡ 1) (taken : bit_at found t ≡ 1) (least : (u : ℕ) → u < t → min (bit_at found u) (bit_at set u) ≡ 0) where
+        lost-below : (u : ℕ) → u < t → lost r u ≡ lost p u
+        lost-below u h = two (bit_at set u) (λ _. lost r u ≡ lost p u) (bit_at-lt set u) (λ z. back-unlost u z)
+            (λ o. back-losses u (within u o) ∙ (let l = least u h in omega arith))
+
+        lost-above : (u : ℕ) → (lost r u ≡ lost p u) ⊎ ((bit_at set u ≡ 1) × (lost r u ≡ lost p u + 1))
+        lost-above u = two (bit_at set u) (λ _. (lost r u ≡ lost p u) ⊎ ((bit_at set u ≡ 1) × (lost r u ≡ lost p u + 1))) (bit_at-lt set u) (λ z. inl (back-unlost u z))
+            (λ o. let n = back-losses u (within u o) in two (bit_at found u) (λ _. (lost r u ≡ lost p u) ⊎ ((bit_at set u ≡ 1) × (lost r u ≡ lost p u + 1))) (bit_at-lt found u)
+            (λ z. inl (n ∙ (omega arith))) (λ f. inr (o, n ∙ (omega arith))))
+
+        pub missed-all : {R : Type 0} → MissedAll (at R p) (at R r) set t
+        missed-all = record {
+          asked = asked';
+          held_is = back-held;
+          here = back-losses t (within t asked') ∙ (omega arith);
+          below = lost-below;
+          above = λ u h. lost-above u;
+        }
+
+  pub set-alone : (t : ℕ) → t < id.slots → bit_at found t ≡ 1 → held p t ≡ None → p.me.0.crew ≢ 1
+  set-alone t near taken none' sole = let c = a.4 sole ((sitting.placed.one.0, sitting.placed.one.1), [], sitting.placed.one.2) t near taken in none-some c.0 (sym none' ∙ c.1)

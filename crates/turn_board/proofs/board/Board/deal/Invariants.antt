@@ -1,0 +1,17 @@
+use Rattle.std.proofs.Common.{◌≡◌, ◌+◌, ◌≤◌, Some, vec_len, vec_capacity, ℕ, suc}
+use Rattle.std.specs.Prelude.{slice_get}
+use Rattle.turn_board.specs.Tied.{all_speak}
+use Rattle.turn_board.specs.Openings.{IdleFirst, Unlost, Fresh}
+use Rattle.turn_board.proofs.board.Board.deal.Given as goal
+
+abbrev pub invariant-loop-next : goal.invariant-loop-next
+invariant-loop-next g l =
+    let id = l.self.table.shared.table_id in
+    record {
+      idle : IdleFirst id l.first.pass;
+      unlost : Unlost l.first.pass;
+      crew_is : l.first.pass.me.0.crew ≡ l.callers;
+      callers : (k n : ℕ) × (l.next ≡ suc k) × (k + suc n ≡ l.callers) × (vec_len l.list ≡ k) × ((b : _) → l.fn.first.pass.me.0.speaks ≡ all_speak 0 l.callers b → l.first.pass.me.0.speaks ≡ all_speak k (suc n) b);
+      room : l.callers ≤ vec_capacity l.list;
+      each : (b : _) → l.fn.first.pass.me.0.speaks ≡ all_speak 0 l.callers b → (i : ℕ) (s : _) → slice_get l.list.items i ≡ Some s → Fresh id l.callers b i s.pass;
+    }

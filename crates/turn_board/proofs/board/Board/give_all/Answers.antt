@@ -1,0 +1,69 @@
+use Rattle.std.proofs.Common.{arith, refl, sym, ◌∙◌, subst, ◌≡◌, ℕ, ◌<◌, ◌+◌, ◌^◌, Some}
+use Rattle.std.specs.Prelude.{bit_or}
+use Rattle.std.proofs.lemmas.Nat.{or_lt}
+use Rattle.turn_board.specs.Hands.{HandsView, put_back}
+use Rattle.std.specs.Int.{bit_not, w64}
+use Rattle.turn_board.specs.declared.view.Place.TheVariants.{Lies}
+use Rattle.turn_board.specs.Tied.{place}
+use Rattle.turn_board.specs.Steps.{given_view, noted}
+use Rattle.turn_board.specs.Boards.{held}
+use Rattle.turn_board.proofs.Returns.{held-near, has-book}
+use Rattle.turn_board.proofs.Fills.{waiting, all-lie, booked-all, all-sits}
+use Rattle.turn_board.proofs.board.Board.give_all.Goals as goal
+
+or-fits : (s : ℕ) → s < 2 ^ 64 → bit_or s 1 < 2 ^ 64
+or-fits s h = or_lt 64 s 1 h (omega arith)
+
+pub lower-requires-clause-held : goal.lower-requires-clause-held
+lower-requires-clause-held g c =
+    has-book (held c.args.seat.now) (put_back g.R.TieRule.content c.args.book c.args.hands.now.pairs) (g.R.TieRule.content c.args.book) c.requires.held refl
+
+pub lower-requires-clause-turn : goal.lower-requires-clause-turn
+lower-requires-clause-turn g c =
+    let h = has-book (held c.args.seat.now) (put_back g.R.TieRule.content c.args.book c.args.hands.now.pairs) (g.R.TieRule.content c.args.book) c.requires.held refl in
+    held-near c.args.seat.now.pass.me.0 _ 0 h.0 c.requires.seat.placed.counts h.1
+
+pub lower_all-mask-requires-clause-held : goal.lower_all-mask-requires-clause-held
+lower_all-mask-requires-clause-held g c =
+    let id = c.args.self.now.table.shared.table_id in
+    let p = c.args.seat.now.pass in
+    let xs = c.args.hands.now.pairs in
+    let m = c.lower.new.seat.pass in
+    waiting g.R.TieRule.content id c.args.self.now.few p c.requires.seat c.args.book xs c.requires.once c.requires.held m c.lower.ensures.2
+
+pub settle_all-requires-clause-lies : goal.settle_all-requires-clause-lies
+settle_all-requires-clause-lies g c = λ u near o.
+    let id = c.args.self.now.table.shared.table_id in
+    let p = c.args.seat.now.pass in
+    let xs = c.args.hands.now.pairs in
+    let m = c.lower.new.seat.pass in
+    let s : ℕ = c.lower_all-mask.result in
+    let q = c.lower_all-mask.new.seat.pass in
+    subst (λ (v : g.row.V.Denot × HandsView g.row.V.Denot). (x : g.row.R-Content.Denot) × (put_back g.R.TieRule.content v.0 v.1.pairs u ≡ Some x) × (place q.me.0 u ≡ Lies x)) (λ k. (sym c.of-copy.ensures k, sym c.of-list.ensures k))
+    (all-lie g.R.TieRule.content id c.args.self.now.few p c.requires.seat c.args.book xs c.requires.once c.requires.held m c.lower.ensures.2 s q c.lower_all-mask.ensures.seat u o)
+
+pub returns-clause-seat : goal.returns-clause-seat
+returns-clause-seat g c =
+    let id = c.args.self.now.table.shared.table_id in
+    let p = c.args.seat.now.pass in
+    let xs = c.args.hands.now.pairs in
+    let m = c.lower.new.seat.pass in
+    let s : ℕ = c.lower_all-mask.result in
+    let q = c.lower_all-mask.new.seat.pass in
+    let r = c.settle_all.new.seat.pass in
+    let fits = or-fits s c.lower_all-mask.type_inv in
+    let r-is = subst (λ (v : g.row.V.Denot × HandsView g.row.V.Denot). r.me ≡ (given_view id.slots (bit_not w64 (bit_or s 1)) (put_back g.R.TieRule.content v.0 v.1.pairs) (noted (Some (g.R.TieRule.content v.0)) q.me.0.speaks) (q.me.0.given + 1) q.me.0, q.me.1)) (λ k. (c.of-copy.ensures k, c.of-list.ensures k)) c.settle_all.ensures.view in
+    all-sits g.R.TieRule.content id c.args.self.now.few p c.requires.seat c.args.book xs c.requires.once c.requires.held m c.lower.ensures.2 s q c.lower_all-mask.ensures.seat fits r r-is (c.settle_all.ensures.seat.0 ∙ c.lower_all-mask.ensures.seat.table ∙ c.lower.ensures.0 ∙ c.requires.seat.placed.of_table)
+
+pub returns-clause-booked : goal.returns-clause-booked
+returns-clause-booked g c =
+    let id = c.args.self.now.table.shared.table_id in
+    let p = c.args.seat.now.pass in
+    let xs = c.args.hands.now.pairs in
+    let m = c.lower.new.seat.pass in
+    let s : ℕ = c.lower_all-mask.result in
+    let q = c.lower_all-mask.new.seat.pass in
+    let r = c.settle_all.new.seat.pass in
+    let fits = or-fits s c.lower_all-mask.type_inv in
+    let r-is = subst (λ (v : g.row.V.Denot × HandsView g.row.V.Denot). r.me ≡ (given_view id.slots (bit_not w64 (bit_or s 1)) (put_back g.R.TieRule.content v.0 v.1.pairs) (noted (Some (g.R.TieRule.content v.0)) q.me.0.speaks) (q.me.0.given + 1) q.me.0, q.me.1)) (λ k. (c.of-copy.ensures k, c.of-list.ensures k)) c.settle_all.ensures.view in
+    booked-all g.R.TieRule.content id c.args.self.now.few p c.requires.seat c.args.book xs c.requires.once c.requires.held m c.lower.ensures.2 s q c.lower_all-mask.ensures.seat fits r r-is

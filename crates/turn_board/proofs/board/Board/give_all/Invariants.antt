@@ -1,0 +1,8 @@
+use Rattle.turn_board.specs.Hands.{put_back}
+use Rattle.turn_board.proofs.board.Board.give_all.Given as goal
+
+abbrev pub ghosts-lower : goal.ghosts-lower
+ghosts-lower g a = record { turn = a.turn }
+
+abbrev pub ghosts-settle_all : goal.ghosts-settle_all
+ghosts-settle_all g a = record { new = put_back g.R.TieRule.content a.book.now.value a.list.now.value.pairs }

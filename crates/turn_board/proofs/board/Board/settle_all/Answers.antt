@@ -1,0 +1,27 @@
+use Rattle.std.proofs.Common.{arith, refl, sym, ap, subst, ℕ, bit_and}
+use mathlib.Core.Option.{none}
+use Rattle.std.specs.Int.{bit_not, w64}
+use Rattle.atomic_table.specs.Table.{step, Allows}
+use Rattle.turn_board.specs.Tied.{Tied}
+use Rattle.turn_board.specs.Steps.{booked, caller_of}
+use Rattle.turn_board.specs.Boards.{held}
+use Rattle.turn_board.specs.Hands.{put_back}
+use Rattle.turn_board.proofs.Gives.{books}
+use Rattle.turn_board.proofs.Fills.{from-mask}
+use Rattle.turn_board.proofs.board.Board.settle_all.Goals as goal
+
+pub fetch_and-requires : goal.fetch_and-requires
+fetch_and-requires g c =
+    let p = c.args.seat.now.pass in
+    let id = c.args.self.now.table.shared.table_id in
+    let crew = c.args.self.now.table.shared.key.crew in
+    let one = c.requires.seat.one in
+    let new = put_back g.R.TieRule.content c.args.book.now.value c.args.list.now.value.pairs in
+    let book = g.R.TieRule.content c.args.book.now.value in (
+      c.requires.seat.of_table,
+      (let h = c.args.self.now.one in omega arith),
+      subst (λ n. Allows (Tied g.R.TieRule.content g.R.TieRule.holds crew) id.slots p.id p.me 0 (λ x. bit_and x (bit_not w64 c.args.mask)) (λ _ m. booked n (step id.slots 0 (bit_not w64 c.args.mask) 0 none) p.me m)) (sym c.requires.new)
+          (books g.R.TieRule.content g.R.TieRule.holds crew g.R.TieRule.moves g.R.TieRule.kept id.slots p.id p.me (bit_not w64 c.args.mask) one.0 one.1 new book one.2 refl c.requires.held
+          (subst (λ (k : ℕ). g.R.TieRule.moves id.slots k (held c.args.seat.now) new) (ap caller_of one.2) c.requires.moves)
+          (λ u h e. c.requires.lies u h (from-mask c.args.mask u c.ranges.mask.fits (let f = c.args.self.now.few in omega arith) e))),
+    )

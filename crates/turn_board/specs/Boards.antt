@@ -1,0 +1,164 @@
+-- What contracts say of a board, of its seats, and of what a call does to a seat.
+use Rattle.std.specs.Prelude.{◌≡◌, ◌≢◌, ℕ, ◌+◌, ◌<◌, ◌⊎◌, List, ◌++◌, map, length, Option, Some, None, slice_get, replicate}
+use Rattle.std.specs.Int.{bit_at}
+use Rattle.turn_board.specs.declared.board.Board.{Board}
+use Rattle.turn_board.specs.declared.seat.Seat.{Seat}
+use Rattle.turn_board.specs.declared.taken.Taken.{Taken}
+use Rattle.turn_board.specs.declared.taken.Taken.TheVariants.{Here, Busy}
+use Rattle.turn_board.specs.declared.taken.TookAll.{TookAll}
+use Rattle.turn_board.specs.declared.taken.TookAll.TheVariants as all
+use Rattle.turn_board.specs.Maps.{bits_of}
+use Rattle.turn_board.specs.Hands.{in_hands, Once}
+use Rattle.turn_board.specs.Passes.{Sitting}
+use Rattle.turn_board.specs.Passes as passes
+
+-- the rule holds of these values, where each caller's note is the content of the first
+abbrev pub CanOpen : {V C : Type 0} → (V → C) → (List C → List C → Type 0) → List V → ℕ → Type 0
+CanOpen {V} {C} content holds values callers = (b : C) × (slice_get (map content values) 0 ≡ Some b) × holds (map content values) (replicate callers b)
+
+module _ {V R C : Type 0} where
+  -- the number of turns
+  abbrev pub turn_count : Board V R C → ℕ
+  turn_count b = b.table.shared.table_id.slots
+
+  -- it is a seat of this board, for one caller
+  abbrev pub IsSeatOf : Board V R C → Seat V R C → Type 0
+  IsSeatOf b s = Sitting b.table.shared.table_id s.pass
+
+  -- the counted contents of the turns that the seat holds
+  abbrev pub held : Seat V R C → ℕ → Option C
+  held s = passes.held s.pass
+
+  -- the content of the book as the seat's caller last gave it back. Each seat of a board has one
+  abbrev pub note : Seat V R C → Option C
+  note s = passes.note s.pass
+
+  -- the number of the seat's caller
+  abbrev pub caller : Seat V R C → ℕ
+  caller s = passes.caller s.pass
+
+  -- how often this seat found a turn taken
+  abbrev pub lost : Seat V R C → ℕ → ℕ
+  lost s = passes.lost s.pass
+
+  -- how often this seat gave the book back
+  abbrev pub given : Seat V R C → ℕ
+  given s = s.pass.me.0.given
+
+  -- the number of callers of the board
+  abbrev pub crew : Seat V R C → ℕ
+  crew s = s.pass.me.0.crew
+
+  -- the seat of the caller k of n, as a board is opened: nothing is held, lost or given
+  pub record Begins (b : Board V R C) (n : ℕ) (opening : C) (k : ℕ) (s : Seat V R C) : Type 0 where
+    pub seat : IsSeatOf b s
+    pub caller_is : caller s ≡ k
+    pub note_is : note s ≡ Some opening
+    pub crew_is : crew s ≡ n
+    pub free : (t : ℕ) → held s t ≡ None
+    pub unlost : (t : ℕ) → lost s t ≡ 0
+    pub ungiven : given s ≡ 0
+
+  -- the seat of the caller k of n, which holds nothing: with all others the board can be closed
+  pub record Ends (b : Board V R C) (n k : ℕ) (s : Seat V R C) : Type 0 where
+    pub seat : IsSeatOf b s
+    pub caller_is : caller s ≡ k
+    pub crew_is : crew s ≡ n
+    pub free : (t : ℕ) → held s t ≡ None
+
+  -- the board's seats, in the order of its n callers, as it is opened
+  abbrev pub AllBegin : Board V R C → ℕ → C → List (Seat V R C) → Type 0
+  AllBegin b n opening seats = (i : ℕ) (s : Seat V R C) → slice_get seats i ≡ Some s → Begins b n opening i s
+
+  -- seats of the board in the order of its n callers, which hold nothing
+  abbrev pub AllEnd : Board V R C → ℕ → List (Seat V R C) → Type 0
+  AllEnd b n seats = (i : ℕ) (s : Seat V R C) → slice_get seats i ≡ Some s → Ends b n i s
+
+  -- each bit of the set names a turn of the board, from 1 on, that the seat doesn't hold
+  abbrev pub CanAsk : Board V R C → Seat V R C → ℕ → Type 0
+  CanAsk b s set = (u : ℕ) → bit_at set u ≡ 1 → (0 < u) × (u < turn_count b) × (held s u ≡ None)
+
+  -- what the rule tells a seat: it holds of some contents of all turns and some notes of all
+  -- callers, and the contents that the seat holds and its caller's note are among them
+  pub record Tells (holds : List C → List C → Type 0) (turns : ℕ) (s : Seat V R C) : Type 0 where
+    pub contents : List C
+    pub notes : List C
+    pub tied : holds contents notes
+    pub turns_is : length contents ≡ turns
+    pub callers : length notes ≡ crew s
+    pub own : (t : ℕ) (c : C) → held s t ≡ Some c → slice_get contents t ≡ Some c
+    pub noted : slice_get notes (caller s) ≡ note s
+
+  module _ (p q : Seat V R C) where
+    -- the seat speaks for the same caller with the same note, and gave the book back as often
+    pub record SameVoice : Type 0 where
+      pub caller_is : caller q ≡ caller p
+      pub note_is : note q ≡ note p
+      pub crew_is : crew q ≡ crew p
+      pub given_is : given q ≡ given p
+
+    -- the seat has the turn t with the content c beside what it held
+    pub record Gained (t : ℕ) (c : C) : Type 0 where
+      pub here : held q t ≡ Some c
+      pub others : (u : ℕ) → u ≢ t → held q u ≡ held p u
+      pub lost_is : (u : ℕ) → lost q u ≡ lost p u
+
+    -- the turn t was found taken
+    pub record Missed (t : ℕ) : Type 0 where
+      pub held_is : (u : ℕ) → held q u ≡ held p u
+      pub here : lost q t ≡ lost p t + 1
+      pub others : (u : ℕ) → u ≢ t → lost q u ≡ lost p u
+
+    -- the turn t was given back
+    pub record Released (t : ℕ) : Type 0 where
+      pub here : held q t ≡ None
+      pub others : (u : ℕ) → u ≢ t → held q u ≡ held p u
+      pub lost_is : (u : ℕ) → lost q u ≡ lost p u
+
+    -- the book was given back, and the turns that are still held have new contents
+    pub record Booked (new : ℕ → Option C) : Type 0 where
+      pub book : held q 0 ≡ None
+      pub others : (t : ℕ) → 0 < t → held q t ≡ new t
+      pub noted : note q ≡ new 0
+      pub caller_is : caller q ≡ caller p
+      pub crew_is : crew q ≡ crew p
+      pub given_is : given q ≡ given p + 1
+      pub lost_is : (t : ℕ) → lost q t ≡ lost p t
+
+    -- the book and all other turns of the seat were given back
+    pub record BookedAll (book : C) : Type 0 where
+      pub nothing : (t : ℕ) → held q t ≡ None
+      pub noted : note q ≡ Some book
+      pub caller_is : caller q ≡ caller p
+      pub crew_is : crew q ≡ crew p
+      pub given_is : given q ≡ given p + 1
+      pub lost_is : (t : ℕ) → lost q t ≡ lost p t
+
+    -- the seat has the turns of the set beside what it held, and their values were added in rising
+    -- order
+    pub record GainedAll (content : V → C) (turns set : ℕ) (before after : List (ℕ × V)) : Type 0 where
+      pub new : List (ℕ × V)
+      pub added : after ≡ before ++ new
+      pub rising : map (λ (x : ℕ × V). x.0) new ≡ bits_of set turns
+      pub once : Once content new
+      pub here : (u : ℕ) → bit_at set u ≡ 1 → (c : C) × (held q u ≡ Some c) × (in_hands content new u ≡ Some c)
+      pub others : (u : ℕ) → bit_at set u ≡ 0 → (held q u ≡ held p u) × (in_hands content new u ≡ None)
+      pub lost_is : (u : ℕ) → lost q u ≡ lost p u
+
+    -- some turns of the set were found taken, and t is the least of them
+    pub record MissedAll (set t : ℕ) : Type 0 where
+      pub asked : bit_at set t ≡ 1
+      pub held_is : (u : ℕ) → held q u ≡ held p u
+      pub here : lost q t ≡ lost p t + 1
+      pub below : (u : ℕ) → u < t → lost q u ≡ lost p u
+      pub above : (u : ℕ) → t < u → (lost q u ≡ lost p u) ⊎ ((bit_at set u ≡ 1) × (lost q u ≡ lost p u + 1))
+
+  module _ (content : V → C) (holds : List C → List C → Type 0) (turns : ℕ) (p q : Seat V R C) where
+    -- Busy never comes where the board has one caller
+    abbrev pub Answered : ℕ → Taken V → Type 0
+    Answered t (Here v) = Gained p q t (content v) × Tells holds turns q
+    Answered t (Busy u) = (u ≡ t) × Missed p q t × (crew p ≢ 1)
+
+    abbrev pub AnsweredAll : ℕ → List (ℕ × V) → List (ℕ × V) → TookAll → Type 0
+    AnsweredAll set before after all.Here = GainedAll p q content turns set before after × Tells holds turns q
+    AnsweredAll set before after (all.Busy t) = (after ≡ before) × MissedAll p q set t × (crew p ≢ 1)

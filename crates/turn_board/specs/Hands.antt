@@ -1,0 +1,23 @@
+-- Turns with their values, as contracts see them, and the contents that they give to their turns.
+use Rattle.std.specs.Prelude.{◌≡◌, ℕ, zero, suc, ◌<◌, ◌==◌, cond, List, [], ◌∷◌, Option, Some, None}
+
+pub record HandsView (V : Type 0) : Type 0 where
+  pub pairs : List (ℕ × V)
+  -- for how many pairs memory is reserved
+  pub room : ℕ
+
+module _ {V C : Type 0} (content : V → C) where
+  -- the content of the value that stands first under a turn
+  abbrev pub in_hands : List (ℕ × V) → ℕ → Option C
+  in_hands [] t = None
+  in_hands (x ∷ xs) t = cond (x.0 == t) (Some (content x.1)) (in_hands xs t)
+
+  -- each turn stands once, and turn 0 not at all
+  abbrev pub Once : List (ℕ × V) → Type 0
+  Once [] = Unit {0}
+  Once (x ∷ xs) = (0 < x.0) × (in_hands xs x.0 ≡ None) × Once xs
+
+  -- the contents of a book and of the values in the hands
+  abbrev pub put_back : V → List (ℕ × V) → ℕ → Option C
+  put_back book xs zero = Some (content book)
+  put_back book xs (suc t) = in_hands xs (suc t)

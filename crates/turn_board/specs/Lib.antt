@@ -1,0 +1,11 @@
+pub mod Maps
+pub mod Hands
+pub mod Tied
+pub mod Steps
+pub mod Passes
+pub mod Moving
+pub mod Openings
+pub mod Closings
+pub mod Boards
+pub mod Counters
+pub mod CounterLaw

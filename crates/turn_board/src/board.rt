@@ -1,0 +1,63 @@
+// The board, and how many turns it has.
+ghost use Rattle.std.specs.Prelude.{◌≡◌, ◌<◌, ◌≤◌, [], vec_capacity};
+
+use crate::tie::Tie;
+use crate::tie_rule::TieRule;
+use crate::view::{Opening, View};
+use atomic_table::Table;
+use std::alloc::Global;
+use std::sync::Mutex;
+
+/// An empty list with room for the values of a board.
+#[derive(Drop)]
+pub(crate) struct Spare<V> {
+    pub(crate) list: Vec<V>,
+    ghost empty: { list.items ≡ [] },
+    ghost roomy: { 57 ≤ vec_capacity list },
+}
+
+/// Values, each behind a turn, for callers that take turns, use the values and give them back.
+/// Turn 0 is the book's. Between any two atomic steps the rule `R` holds of the counted contents
+/// of all values and of what each caller last gave back.
+pub struct Board<V, R: TieRule<V>> {
+    pub(crate) table: Table<Option<V>, View<R::Content>, Opening<V>, Tie<R>, Global>,
+    // The list that `close` fills. A lock lets threads share the board where V is only Send; no
+    // thread takes it.
+    pub(crate) kept: Mutex<Spare<V>>,
+    ghost one: { table.shared.table_id.words ≡ 1 },
+    ghost some: { 0 < table.shared.table_id.slots },
+    ghost few: { table.shared.table_id.slots ≤ 57 },
+}
+
+impl<V: Drop, R: TieRule<V>> Drop for Board<V, R> {
+    fn drop(self) {
+        let Board { table, kept } = self;
+        drop(table);
+        drop(kept);
+    }
+}
+
+impl<V, R: TieRule<V>> Board<V, R> {
+    ghost use Rattle.std.specs.Prelude.{◌≡◌, ◌<◌, ◌≤◌};
+    ghost use Rattle.turn_board.specs.Boards.{turn_count};
+
+    /// The number of turns.
+    pub fn turns(&self) -> u32
+        ensures turns { result ≡ turn_count self.now }
+        ensures range { (0 < turn_count self.now) × (turn_count self.now ≤ 57) }
+    {
+        self.table.slot_count() as u32
+    }
+
+    pub(crate) fn into_parts(
+        self,
+    ) -> (
+        Table<Option<V>, View<R::Content>, Opening<V>, Tie<R>, Global>,
+        Mutex<Spare<V>>,
+    )
+        ensures { result.0 ≡ self.table }
+    {
+        let Board { table, kept } = self;
+        (table, kept)
+    }
+}

@@ -1,0 +1,103 @@
+// Opening a board.
+ghost use Rattle.std.specs.Prelude.{◌≡◌, ◌+◌, ◌<◌, ◌≤◌, ◌-◌, [], IfOk, map, Some, vec_len, vec_capacity};
+
+use crate::board::{Board, Spare};
+use crate::no_memory::NoMemory;
+use crate::plays::Part;
+use crate::seat::Seat;
+use crate::seats::Seats;
+use crate::tie_rule::TieRule;
+use crate::view::Opening;
+use atomic_table::Table;
+use std::alloc::{AllocError, Global};
+use std::snapshot::Snapshot;
+use std::sync::Mutex;
+
+impl<V, R: TieRule<V>> Board<V, R> {
+    ghost use Rattle.std.specs.Prelude.{ℕ, suc, ◌∷◌, ◌++◌, length, slice_get};
+    ghost use Rattle.turn_board.specs.declared.seat.Seat.{Seat as SeatOf};
+    ghost use Rattle.turn_board.specs.Tied.{all_speak};
+    ghost use Rattle.turn_board.specs.Openings.{IdleFirst, Unlost, Fresh};
+
+    // Cuts off the first caller, for a seat of its own.
+    fn part(&self, seat: &mut Seat<V, R>) -> Seat<V, R>
+        requires seat { IdleFirst self.now.table.shared.table_id seat.old.pass }
+        requires callers { (k n : ℕ) × (c : R.Content)
+            × (seat.old.pass.me.0.speaks ≡ all_speak k (suc n) c) }
+        ensures first { IdleFirst self.now.table.shared.table_id seat.new.pass
+            × (seat.new.pass.me.0.crew ≡ seat.old.pass.me.0.crew) }
+        ensures one { IdleFirst self.now.table.shared.table_id result.pass
+            × (result.pass.me.0.crew ≡ seat.old.pass.me.0.crew) }
+        ensures callers { (k n : ℕ) (c : R.Content)
+            → seat.old.pass.me.0.speaks ≡ all_speak k (suc n) c
+            → (seat.new.pass.me.0.speaks ≡ all_speak (suc k) n c)
+            × (result.pass.me.0.speaks ≡ (k, c) ∷ []) }
+        ensures counts { Unlost result.pass × (Unlost seat.old.pass → Unlost seat.new.pass) }
+    {
+        Seat {
+            pass: self.table.shared.split_seat::<Part>(&mut seat.pass),
+        }
+    }
+
+    // Gives each caller but the last a seat of its own, and the last one what is left.
+    fn deal(&self, mut first: Seat<V, R>, list: &mut Vec<Seat<V, R>>, callers: u32)
+        requires room { (list.old.items ≡ []) × (callers ≤ vec_capacity list.old) × (0 < callers) }
+        requires first { IdleFirst self.now.table.shared.table_id first.pass × Unlost first.pass }
+        requires crew { (first.pass.me.0.crew ≡ callers)
+            × ((b : R.Content) × (first.pass.me.0.speaks ≡ all_speak 0 callers b)) }
+        ensures len { length list.new.items ≡ callers }
+        ensures each { (b : R.Content) → first.pass.me.0.speaks ≡ all_speak 0 callers b
+            → (i : ℕ) (s : SeatOf V R R.Content) → slice_get list.new.items i ≡ Some s
+            → Fresh self.now.table.shared.table_id callers b i s.pass }
+    {
+        for next in 1..callers {
+            list.push_reserved(self.part(&mut first));
+        }
+        list.push_reserved(first);
+    }
+}
+
+// Each value in a slot of its own.
+fn filled_slots<V: Drop>(alloc: Global, values: Vec<V>) -> Result<Vec<Option<V>>, AllocError>
+    ensures { IfOk result (λ slots. slots.items ≡ map Some values.items) }
+{
+    values.into_iter().map(Some).collect(alloc)
+}
+
+impl<V: Drop, R: TieRule<V>> Board<V, R> {
+    ghost use Rattle.std.specs.Prelude.{length, slice_get};
+    ghost use Rattle.turn_board.specs.Boards.{turn_count, AllBegin, CanOpen};
+
+    /// A board over these values, by turn, and a seat for each caller. Nothing is taken yet, and
+    /// the content of the first value is each caller's note.
+    pub fn open(
+        alloc: Global,
+        values: Vec<V>,
+        callers: u32,
+    ) -> Result<(Board<V, R>, Seats<V, R>), NoMemory>
+        requires turns { vec_len values ≤ 57 }
+        requires callers { (0 < callers) × (callers ≤ 32) }
+        requires rule { CanOpen R.content R.holds values.items callers }
+        ensures sizes { IfOk result (λ r. (turn_count r.0 ≡ vec_len values) × (length r.1 ≡ callers)) }
+        ensures each { IfOk result (λ r. (b : R.Content)
+            → slice_get (map R.content values.items) 0 ≡ Some b → AllBegin r.0 callers b r.1) }
+    {
+        let mut list = Vec::with_capacity(alloc, callers as usize)?;
+        let kept = Vec::with_capacity(alloc, 57)?;
+        let about = Opening {
+            turns: values.len() as u64,
+            crew: callers as u64,
+            book: Snapshot::of(&values[0]),
+        };
+        let slots = filled_slots(alloc, values)?;
+        match Table::new(alloc, &[0], slots, &about) {
+            Ok((table, pass)) => {
+                let kept = Mutex::new(Spare { list: kept });
+                let board = Board { table, kept };
+                board.deal(Seat { pass }, &mut list, callers);
+                Ok((board, Seats::from_vec(list)))
+            }
+            Err(_) => Err(NoMemory),
+        }
+    }
+}

@@ -1,0 +1,18 @@
+// The rule of the table under a board: the board's own, over counted contents and notes.
+
+use crate::tie_rule::TieRule;
+use crate::view::{Opening, View};
+use atomic_table::TableRule;
+use std::marker::PhantomData;
+
+pub struct Tie<R> {
+    marker: PhantomData<R>,
+}
+
+impl<V, R: TieRule<V>> TableRule<Option<V>, View<R::Content>, Opening<V>> for Tie<R> {
+    ghost use Rattle.turn_board.specs.Tied.{Tied, first_view};
+
+    ghost holds = { λ key. Tied R.content R.holds key.crew };
+
+    ghost first = { λ key. first_view key.turns key.crew (R.content key.book.value) };
+}

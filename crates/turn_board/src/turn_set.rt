@@ -1,0 +1,143 @@
+// Taking a set of turns in one step, and giving the book back with all other turns in one.
+ghost use Rattle.std.specs.Prelude.{◌≡◌, ◌≢◌, ℕ, ◌+◌, ◌<◌, ◌≤◌, [], Some, None, length};
+ghost use Rattle.std.specs.Int.{bit_at, bit_not, w64};
+
+use crate::board::Board;
+use crate::hands::Hands;
+use crate::plays::{Ask, Book, Change, Return};
+use crate::seat::Seat;
+use crate::taken::TookAll;
+use crate::tie_rule::TieRule;
+use std::marker::Brand;
+use std::snapshot::Snapshot;
+
+impl<V, R: TieRule<V>> Board<V, R> {
+    ghost use Rattle.turn_board.specs.declared.view.Place.TheVariants.{Vacant, Lies};
+    ghost use Rattle.turn_board.specs.Tied.{place};
+    ghost use Rattle.turn_board.specs.Maps.{bits_of, SameTurns};
+    ghost use Rattle.turn_board.specs.Hands.{in_hands, put_back, Once};
+    ghost use Rattle.turn_board.specs.Steps.{given_view, noted};
+    ghost use Rattle.turn_board.specs.Passes.{Placed};
+    ghost use Rattle.turn_board.specs.Passes as passes;
+    ghost use Rattle.turn_board.specs.Moving.{Emptied, Lifted, Filled};
+    ghost use Rattle.turn_board.specs.Boards.{IsSeatOf, turn_count, held, caller, CanAsk, SameVoice, AnsweredAll, BookedAll};
+
+    /// Takes all turns of a set, or none: bit t of `turns` asks for turn t.
+    pub fn try_take_all(&self, seat: &mut Seat<V, R>, turns: u64, hands: &mut Hands<V>) -> TookAll
+        requires seat { IsSeatOf self.now seat.old }
+        requires set { CanAsk self.now seat.old turns }
+        requires some { 0 < turns }
+        requires room { length hands.old.pairs + length (bits_of turns (turn_count self.now))
+            ≤ hands.old.room }
+        ensures seat { IsSeatOf self.now seat.new × SameVoice seat.old seat.new }
+        ensures answer { AnsweredAll R.content R.holds (turn_count self.now) seat.old seat.new turns
+            hands.old.pairs hands.new.pairs result }
+        ensures room { hands.new.room ≡ hands.old.room }
+    {
+        let found = self
+            .table
+            .shared
+            .fetch_or::<Ask<R>>(&mut seat.pass, 0, turns);
+        let taken = found & turns;
+        if taken != 0 {
+            let won = turns & !found;
+            self.table
+                .shared
+                .fetch_and::<Return<R>>(&mut seat.pass, 0, !won);
+            return TookAll::Busy {
+                turn: taken.trailing_zeros(),
+            };
+        }
+        self.lift_all(seat, turns, hands);
+        TookAll::Here
+    }
+
+    // Moves the values of a set of turns out of their slots.
+    fn lift_all(&self, seat: &mut Seat<V, R>, set: u64, hands: &mut Hands<V>)
+        requires seat { Placed self.now.table.shared.table_id seat.old.pass }
+        requires lies { (u : ℕ) → bit_at set u ≡ 1 → (c : R.Content) × (0 < u)
+            × (passes.held seat.old.pass u ≡ Some c) × (place seat.old.pass.me.0 u ≡ Lies c) }
+        requires room { length hands.old.pairs + length (bits_of set self.now.table.shared.table_id.slots)
+            ≤ hands.old.room }
+        ensures seat { Emptied set self.now.table.shared.table_id.slots seat.old.pass seat.new.pass }
+        ensures pairs { Lifted R.content set self.now.table.shared.table_id.slots
+            (passes.held seat.old.pass) hands.old.pairs hands.new.pairs }
+        ensures room { hands.new.room ≡ hands.old.room }
+    {
+        let mut left = set;
+        while left != 0 {
+            let turn = left.trailing_zeros();
+            let value = self.lift::<Brand>(seat, turn);
+            hands.push(turn, value);
+            left &= !(1u64 << turn);
+        }
+    }
+
+    /// Gives back the book and all other turns of the seat. From this one step on the contents of
+    /// the book and of what was in the hands count, and that of the book is the caller's note.
+    pub fn give_all(&self, seat: &mut Seat<V, R>, book: V, hands: &mut Hands<V>)
+        requires seat { IsSeatOf self.now seat.old }
+        requires once { Once R.content hands.old.pairs }
+        requires held { SameTurns (held seat.old) (put_back R.content book hands.old.pairs) }
+        requires moves { R.moves (turn_count self.now) (caller seat.old) (held seat.old)
+            (put_back R.content book hands.old.pairs) }
+        ensures seat { IsSeatOf self.now seat.new }
+        ensures booked { BookedAll seat.old seat.new (R.content book) }
+        ensures hands { (hands.new.pairs ≡ []) × (hands.new.room ≡ hands.old.room) }
+    {
+        let copy = Snapshot::of(&book);
+        let list = Snapshot::of(&*hands);
+        self.lower::<Brand>(seat, 0, book);
+        let mask = self.lower_all(seat, hands);
+        self.settle_all::<Brand>(seat, &copy, &list, mask | 1);
+    }
+
+    // Moves all values of the hands into their slots, and gives the set of their turns.
+    fn lower_all(&self, seat: &mut Seat<V, R>, hands: &mut Hands<V>) -> u64
+        requires seat { Placed self.now.table.shared.table_id seat.old.pass }
+        requires once { Once R.content hands.old.pairs }
+        requires held { (u : ℕ) (c : R.Content) → in_hands R.content hands.old.pairs u ≡ Some c
+            → ((d : R.Content) × (passes.held seat.old.pass u ≡ Some d))
+            × (place seat.old.pass.me.0 u ≡ Vacant) }
+        ensures seat { Filled R.content hands.old.pairs result seat.old.pass seat.new.pass }
+        ensures hands { (hands.new.pairs ≡ []) × (hands.new.room ≡ hands.old.room) }
+    {
+        let mut mask = 0u64;
+        while let Some((turn, value)) = hands.take_first() {
+            self.lower::<Brand>(seat, turn, value);
+            mask |= 1u64 << turn;
+        }
+        mask
+    }
+
+    // The one step that gives the book and all other turns back.
+    fn settle_all<K: Change<R::Content>>(
+        &self,
+        seat: &mut Seat<V, R>,
+        book: &Snapshot<V>,
+        list: &Snapshot<Hands<V>>,
+        mask: u64,
+    )
+        requires new { K.new ≡ put_back R.content book.now.value list.now.value.pairs }
+        requires seat { Placed self.now.table.shared.table_id seat.old.pass }
+        requires lies { (u : ℕ) → u < turn_count self.now → bit_at mask u ≡ 1 → (c : R.Content)
+            × (put_back R.content book.now.value list.now.value.pairs u ≡ Some c)
+            × (place seat.old.pass.me.0 u ≡ Lies c) }
+        requires held { SameTurns (held seat.old) (put_back R.content book.now.value list.now.value.pairs) }
+        requires moves { R.moves (turn_count self.now) (caller seat.old) (held seat.old)
+            (put_back R.content book.now.value list.now.value.pairs) }
+        ensures seat { (seat.new.pass.table_id ≡ seat.old.pass.table_id)
+            × (seat.new.pass.id ≡ seat.old.pass.id) }
+        ensures view { seat.new.pass.me ≡ (
+          given_view (turn_count self.now) (bit_not w64 mask)
+              (put_back R.content book.now.value list.now.value.pairs)
+              (noted (Some (R.content book.now.value)) seat.old.pass.me.0.speaks)
+              (seat.old.pass.me.0.given + 1) seat.old.pass.me.0,
+          seat.old.pass.me.1,
+        ) }
+    {
+        self.table
+            .shared
+            .fetch_and::<Book<R, K>>(&mut seat.pass, 0, !mask);
+    }
+}

@@ -1,0 +1,44 @@
+// What a seat knows. No value of a view is made.
+
+use std::collections::LinkedList;
+use std::snapshot::Snapshot;
+
+/// Where the value of a held turn is: the slot is at home and empty, or the seat has it, or a value
+/// with this content lies in it.
+pub enum Place<C> {
+    Vacant,
+    Away,
+    Lies(C),
+}
+
+pub struct View<C> {
+    /// The callers that the seat speaks for, each with its note.
+    pub speaks: LinkedList<(u64, C)>,
+    /// By turn: the counted content, where the seat holds the turn.
+    pub counts: LinkedList<Option<C>>,
+    pub places: LinkedList<Place<C>>,
+    /// By turn: how often the seat found it taken.
+    pub lost: LinkedList<u64>,
+    /// How often the seat gave the book back.
+    pub given: u64,
+    /// The number of callers of the board.
+    pub crew: u64,
+}
+
+/// What the table is told when it is made.
+pub struct Opening<V> {
+    pub turns: u64,
+    pub crew: u64,
+    pub book: Snapshot<V>,
+}
+
+impl<V> Drop for Opening<V> {
+    fn drop(self) {
+        let Opening {
+            turns: _,
+            crew: _,
+            book,
+        } = self;
+        drop(book);
+    }
+}
