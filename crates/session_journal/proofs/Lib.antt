@@ -1,5 +1,6 @@
 pub mod ListKeeps
 pub mod ListLawful
+mod OneMap
 pub mod Regroup
 pub mod Replay
 pub mod Rows

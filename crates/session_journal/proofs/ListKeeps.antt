@@ -1,6 +1,5 @@
 -- What a list of tickets keeps when a ticket, an operation or a symbol is added.
-use Rattle.std.proofs.Common.{◌≡◌, ℕ, zero, suc, ◌+◌, ◌-◌, ◌^◌, ◌<◌, ◌≤◌, List, [], ◌∷◌, ◌++◌, length, take, drop, get_or, cond, ◌&&◌, eqb, ◌⊎◌, inl, inr, refl, sym, ◌∙◌, ap, subst, arith, length-append}
-use mathlib.Core.List.{map}
+use Rattle.std.proofs.Common.{◌≡◌, ℕ, zero, suc, ◌+◌, ◌-◌, ◌^◌, ◌<◌, ◌≤◌, List, [], ◌∷◌, ◌++◌, length, take, drop, get_or, cond, ◌&&◌, eqb, inl, inr, refl, sym, ◌∙◌, ap, subst, arith, length-append}
 use Rattle.std.proofs.Math.ListN.{set}
 use Rattle.std.proofs.lemmas.List.{length-set}
 use Rattle.std.specs.List.{AllByRecursion}
@@ -16,7 +15,7 @@ use Rattle.session_journal.specs.Script.{HasValues, IsScript, calls, room}
 use Rattle.session_journal.specs.Lists.{Ticket, ListView, HasPlace, ticket_at, last_ticket, with_last, adding, IsTicket, list_meaning, answers_only, calls_more, allows_more}
 use Rattle.session_journal.specs.ListRows.{ticket_of_row, tickets_of, Follow, KeepsRows}
 use Rattle.session_journal.proofs.ListLawful.{HasFew, list_lawful, at_ticket, sum_tickets}
-use Rattle.session_journal.proofs.Rows.{front_stays, last_grows, last_end, follow_more, follow_push, rows_stay, map_stays, last_set, last_is, map-push, length-rows, total_is, row_within, ticket_is}
+use Rattle.session_journal.proofs.Rows.{front_stays, last_grows, last_end, follow_more, follow_push, rows_stay, last_set, last_is, map-push, length-rows, total_is, row_within, ticket_is}
 
 -- ---- how many operations may add a key
 pub adding-append : (i : ℕ) (xs ys : List Op) → adding i (xs ++ ys) ≡ adding i xs + adding i ys

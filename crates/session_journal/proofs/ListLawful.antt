@@ -1,5 +1,5 @@
 -- A list of tickets is a script.
-use Rattle.std.proofs.Common.{◌≡◌, ℕ, zero, suc, ◌+◌, ◌<◌, ◌≤◌, List, [], ◌∷◌, ◌++◌, length, cond, ◌&&◌, eqb, Bool, true, false, refl, sym, ◌∙◌, ap, subst, arith}
+use Rattle.std.proofs.Common.{◌≡◌, ℕ, zero, suc, ◌+◌, ◌≤◌, List, [], ◌∷◌, ◌++◌, length, cond, ◌&&◌, eqb, Bool, true, false, refl, ap, subst, arith}
 use Rattle.std.specs.List.{AllByRecursion}
 use Rattle.session_values.specs.declared.value.Value.{Value}
 use Rattle.session_values.specs.declared.kind.TableKind.{TableKind}
@@ -7,10 +7,9 @@ use Rattle.session_values.specs.declared.op.Op.{Op}
 use Rattle.session_values.specs.declared.reply.Reply.{Reply}
 use Rattle.session_values.specs.Dialogue.{Calls, Answers, Entry, rest, Follows}
 use Rattle.session_values.specs.Tables.{Fits, is_adding}
-use Rattle.session_values.specs.Values.{IsValue}
 use Rattle.symbolic_ops.specs.Symbols.{Matches}
-use Rattle.session_journal.specs.Script.{HasValues, IsForesight, IsScript, adds_on, sum_below, calls, room}
-use Rattle.session_journal.specs.Lists.{Ticket, no_ticket, ticket_at, says, adding, IsTicket, list_meaning}
+use Rattle.session_journal.specs.Script.{HasValues, IsForesight, IsScript, adds_on, sum_below}
+use Rattle.session_journal.specs.Lists.{Ticket, ticket_at, says, adding, IsTicket, list_meaning}
 
 calls_it : (o p : Op) → Calls o ≡ Calls p → o ≡ p
 calls_it o p e = cc

@@ -1,11 +1,11 @@
 -- The rows of a list of tickets, whose operations and symbols lie one after another.
-use Rattle.std.specs.Prelude.{◌≡◌, ℕ, ◌+◌, ◌-◌, ◌≤◌, List, [], ◌∷◌, length, map, take, drop}
+use Rattle.std.specs.Prelude.{◌≡◌, ℕ, ◌+◌, ◌≤◌, List, [], ◌∷◌, length, map, take, drop}
 use Rattle.std.specs.List.{AllByRecursion}
 use Rattle.session_values.specs.declared.kind.TableKind.{TableKind}
 use Rattle.session_values.specs.declared.op.Op.{Op}
 use Rattle.symbolic_ops.specs.declared.symbol.Symbol.{Symbol}
 use Rattle.session_journal.specs.declared.list_script.Row.{Row}
-use Rattle.session_journal.specs.Lists.{Ticket, ListView, IsTicket}
+use Rattle.session_journal.specs.Lists.{Ticket, IsTicket}
 
 -- the ticket of a row
 abbrev pub ticket_of_row : List Op → List Symbol → Row → Ticket

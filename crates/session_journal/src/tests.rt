@@ -2,7 +2,7 @@
 
 ghost use Rattle.std.specs.Prelude.{◌≡◌, ◌≤◌, ◌<◌, ◌∷◌, [], map};
 ghost use Rattle.session_values.specs.declared.kind.TableKind.TheVariants.{Map};
-ghost use Rattle.session_values.specs.Tables.{kind_of};
+ghost use Rattle.session_values.specs.Tables.{Fits, kind_of};
 
 use crate::{Event, Journal, ListScript, Script};
 use plain_tables::PlainTables;
@@ -11,7 +11,9 @@ use std::alloc::Global;
 use std::test::Fail;
 use symbolic_ops::{Arg, Foresight, Symbol};
 
-fn put(key: i64, value: i64) -> Op {
+fn put(key: i64, value: i64) -> Op
+    ensures { Fits (Map ∷ []) result }
+{
     Op {
         kind: Kind::Put,
         table: 0,
@@ -20,12 +22,53 @@ fn put(key: i64, value: i64) -> Op {
     }
 }
 
-fn get(key: i64) -> Op {
+fn get(key: i64) -> Op
+    ensures { Fits (Map ∷ []) result }
+{
     Op {
         kind: Kind::Get,
         table: 0,
         key: Value::Num(key),
         value: Value::Nil,
+    }
+}
+
+/// The reply of an operation on one map, or none where it is of another table.
+#[tactic(auto, using(crate::proofs::OneMap::fits_one_map))]
+fn reply_on(tables: &mut PlainTables, op: Op) -> Result<Option<Value>, NoMemory>
+    requires { map kind_of tables.old ≡ Map ∷ [] }
+    ensures { map kind_of tables.new ≡ Map ∷ [] }
+{
+    if op.table != 0 {
+        return Ok(None);
+    }
+    if !op.kind.on_map() {
+        return Ok(None);
+    }
+    let reply = tables.apply(op)?;
+    Ok(Some(reply))
+}
+
+/// Whether the event, done on one map, gives its reply, where it is a finished operation of a
+/// ticket from `first` to `last`.
+fn replay_one(
+    tables: &mut PlainTables,
+    event: &Event,
+    first: u32,
+    last: u32,
+) -> Result<bool, NoMemory>
+    requires { map kind_of tables.old ≡ Map ∷ [] }
+    ensures { map kind_of tables.new ≡ Map ∷ [] }
+{
+    match *event {
+        Event::Done { ticket, op, reply } => {
+            if ticket < first || last < ticket {
+                return Ok(true);
+            }
+            let found = reply_on(tables, op)?;
+            Ok(found == Some(reply))
+        }
+        _ => Ok(true),
     }
 }
 
@@ -42,15 +85,8 @@ fn replay(
 {
     let mut replays = true;
     for event in events {
-        if let Event::Done { ticket, op, reply } = *event
-            && first <= ticket
-            && ticket <= last
-            && op.table == 0
-            && op.kind.on_map()
-        {
-            let found = tables.apply(op)?;
-            replays = replays && found == reply;
-        }
+        let same = replay_one(tables, event, first, last)?;
+        replays = replays && same;
     }
     Ok(replays)
 }
@@ -103,11 +139,13 @@ fn only_what_commutes_regroups(rt: HostRuntime) -> Result<(), Fail> {
 /// What a script says of itself, and what its first ticket declares.
 fn numbers<S: Script>(script: &S, out: &mut Foresight) -> (u32, u32, u32)
     requires { 256 ≤ out.old.room }
+    ensures { out.new.room ≡ out.old.room }
 {
     let requests = script.requests();
-    if requests > 0 {
-        script.entry(0, out);
+    if requests == 0 {
+        return (0, 0, 0);
     }
+    script.entry(0, out);
     (requests, script.calls(), script.room(0))
 }
 

@@ -1,4 +1,4 @@
-use Rattle.std.proofs.Common.{◌≡◌, ℕ, suc, ◌+◌, ◌^◌, ◌<◌, length, arith}
+use Rattle.std.proofs.Common.{◌+◌, ◌^◌, ◌<◌, length, arith}
 use Rattle.session_journal.proofs.ListKeeps.{some_rows, counts_fit, allow_keeps, allow_gives}
 use Rattle.session_journal.proofs.list_script.ListScript.allow.Goals as goal
 

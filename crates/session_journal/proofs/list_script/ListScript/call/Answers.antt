@@ -1,9 +1,8 @@
-use Rattle.std.proofs.Common.{◌≡◌, ℕ, suc, ◌+◌, ◌^◌, ◌<◌, ◌++◌, ◌∷◌, [], length, ap, ◌∙◌, subst, arith}
+use Rattle.std.proofs.Common.{◌+◌, ◌^◌, ◌<◌, ◌++◌, ◌∷◌, [], length, ap, ◌∙◌, subst, arith}
 use Rattle.session_values.specs.declared.op.Op.{Op}
 use Rattle.session_values.specs.Dialogue.{Calls}
 use Rattle.session_values.specs.Values.{IsValue}
 use Rattle.symbolic_ops.specs.declared.symbol.Symbol.{Symbol}
-use Rattle.symbolic_ops.specs.Symbols.{exact_symbol}
 use Rattle.session_journal.specs.Script.{HasValues}
 use Rattle.session_journal.proofs.ListKeeps.{some_rows, counts_fit, call_keeps, call_gives}
 use Rattle.session_journal.proofs.list_script.ListScript.call.Goals as goal

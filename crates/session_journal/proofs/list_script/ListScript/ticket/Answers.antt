@@ -1,4 +1,4 @@
-use Rattle.std.proofs.Common.{◌≡◌, ◌∙◌, ap}
+use Rattle.std.proofs.Common.{◌∙◌}
 use Rattle.session_journal.proofs.ListKeeps.{ticket_keeps}
 use Rattle.session_journal.proofs.list_script.ListScript.ticket.Goals as goal
 

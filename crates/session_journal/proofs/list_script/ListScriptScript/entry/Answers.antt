@@ -1,11 +1,7 @@
 use Rattle.std.proofs.Common.{◌≡◌, ℕ, ◌+◌, ◌-◌, ◌≤◌, List, length, take, drop, sym, ◌∙◌, ap, subst, arith}
 use Rattle.std.specs.List.{AllByRecursion}
 use Rattle.symbolic_ops.specs.declared.symbol.Symbol.{Symbol}
-use Rattle.symbolic_ops.specs.Foresight.{ForesightView}
 use Rattle.symbolic_ops.specs.Symbols.{HasNoVar}
-use Rattle.session_journal.specs.declared.list_script.Row.{Row}
-use Rattle.session_journal.specs.ListRows.{ticket_of_row}
-use Rattle.session_journal.specs.Lists.{IsTicket}
 use Rattle.session_journal.proofs.ListKeeps.{entry_is, entry_row, entry_within}
 use Rattle.session_journal.proofs.list_script.ListScriptScript.entry.Goals as goal
 

@@ -1,4 +1,4 @@
-use Rattle.std.proofs.Common.{◌≡◌, List, ap, ◌∙◌}
+use Rattle.std.proofs.Common.{List, ap, ◌∙◌}
 use Rattle.session_values.specs.declared.op.Op.{Op}
 use Rattle.session_journal.specs.Lists.{adding}
 use Rattle.session_journal.proofs.ListKeeps.{room_is}
