@@ -56,7 +56,7 @@ inside : {X : Type 0} (x y : X) → ◌≡◌ {A = Option X} (Some x) (Some y) �
 inside {X} x y e = cc
 
 -- two records of one ticket are of one caller
-one_caller : (m : Meaning) (b : Book) → Lawful m b → (c d : ℕ) (s z : Serving) → record_of b c ≡ Some s → record_of b d ≡ Some z → s.ticket ≡ z.ticket → c ≡ d
+pub one_caller : (m : Meaning) (b : Book) → Lawful m b → (c d : ℕ) (s z : Serving) → record_of b c ≡ Some s → record_of b d ≡ Some z → s.ticket ≡ z.ticket → c ≡ d
 one_caller m b L c d s z p q e = inside c d (sym (L.records c s p).owner ∙ ap (owner b.journal) e ∙ (L.records d z q).owner)
 
 -- the record of a ticket, where one record is replaced by one of its ticket

@@ -1,1 +1,6 @@
 pub mod Book
+pub mod Books
+pub mod CallerRecord
+pub mod Found
+pub mod Kept
+pub mod Rows

@@ -9,7 +9,8 @@ ghost use Rattle.commute_tables.specs.Symbols.{CommutesWith};
 ghost use Rattle.session_journal.specs.Foreknown.{Foreknown};
 ghost use Rattle.session_journal.specs.Journal.{Replays, after, begun, ended, entries, regrouped, run};
 ghost use Rattle.session_journal.specs.Script.{Meaning, IsScript, IsForesight, calls, room, session_of};
-ghost use Rattle.admission_book.specs.Book.{Book, Serving, Lawful, IsOpen, IsFree, TellsAll, now, record_of, opened, events_of, after_begin, after_narrow, after_admit, after_delay, after_done, after_end};
+ghost use Rattle.admission_book.specs.Book.{Book, Serving, Lawful, IsOpen, IsFree, IsBlocker, TellsAll, now, record_of, opened, events_of, after_begin, after_narrow, after_admit, after_delay, after_done, after_end};
+ghost use Rattle.admission_book.specs.Books.{IsOldestOpen};
 
 use session_values::{Op, Reply, Value};
 use symbolic_ops::Symbol;
@@ -64,4 +65,12 @@ pub fn telling()
 /// Each ticket of a script is answered when the tickets are served one at a time.
 pub fn answering()
     ensures { (m : Meaning) (t : ℕ) → IsScript m → (r : Reply) × ((serial (session_of m) t).answer ≡ Some r) }
+{}
+
+/// No operation is both free and delayed, each that is delayed has one blocker, and the oldest open
+/// ticket has none.
+pub fn blocking()
+    ensures delayed { (b : Book) (t : ℕ) (op : Op) (older : ℕ) (y : Symbol) → IsBlocker b t op older y → IsFree b t op → ⊥ }
+    ensures one { (m : Meaning) (b : Book) (t : ℕ) (op : Op) (u : ℕ) (v : ℕ) (y : Symbol) (z : Symbol) → Lawful m b → IsBlocker b t op u y → IsBlocker b t op v z → (u ≡ v) × (y ≡ z) }
+    ensures oldest { (m : Meaning) (b : Book) (t : ℕ) (op : Op) → Lawful m b → IsOldestOpen (Some t) b.journal → IsFree b t op }
 {}

@@ -1,4 +1,14 @@
 //! The admission of operations by what older tickets have declared.
 #![tactic(auto)]
 
+mod admission;
+mod blocker;
+mod book;
+mod caller_record;
+mod fields;
 pub mod laws;
+#[cfg(test)]
+mod tests;
+
+pub use admission::Admission;
+pub use book::{Book, Replies};

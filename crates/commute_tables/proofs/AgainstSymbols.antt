@@ -16,7 +16,8 @@ use Rattle.commute_tables.specs.Symbols.{CommutesWith, DiffersFromSome}
 use Rattle.commute_tables.specs.Relation.{is_apart, is_same, commutes_symbol}
 use Rattle.commute_tables.proofs.Apart.{same_value, value_eq-self}
 use Rattle.commute_tables.proofs.Commutes.{and_both, not_true, same_kind, commutes-Commute}
-use Rattle.commute_tables.proofs.Telling.{other, other_differs, or_false, not_false, commutes-Differ, not_commute}
+use Rattle.commute_tables.proofs.Telling.{or_false, not_false, commutes-Differ, not_commute}
+use Rattle.commute_tables.proofs.TellingPairs.{other, other_differs}
 
 plain_keyed : (kind : Kind) → is_plain kind ≡ true → is_keyed kind ≡ true
 plain_keyed Get h = refl

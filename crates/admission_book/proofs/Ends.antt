@@ -1,0 +1,53 @@
+-- The fields of a book in which a ticket ends.
+use Rattle.std.proofs.Common.{◌≡◌, ℕ, ◌<◌, List, [], ◌∷◌, ◌++◌, Option, Some, None, length, refl, sym, ◌∙◌, ap, subst, arith}
+use Rattle.std.proofs.Math.ListN.{set}
+use Rattle.session_values.specs.declared.reply.Reply.{Reply}
+use Rattle.session_journal.specs.declared.event.Event.{Event}
+use Rattle.session_journal.specs.declared.event.Event.TheVariants.{End}
+use Rattle.session_journal.specs.Journal.{begun}
+use Rattle.session_journal.specs.Script.{Meaning}
+use Rattle.admission_book.specs.Book.{Serving, Lawful, record_of, after_end}
+use Rattle.admission_book.specs.declared.caller_record.CallerRecord.{CallerRecord}
+use Rattle.admission_book.specs.CallerRecord.{serving_of, servings, record_at, after_ticket}
+use Rattle.admission_book.specs.Books.{MayEnd, HasEnded}
+use Rattle.admission_book.specs.Kept.{book_of, KeepsRecord}
+use Rattle.admission_book.proofs.Events.{begun_stays}
+use Rattle.admission_book.proofs.Keep.{keeps_end}
+use Rattle.admission_book.proofs.Room.{few_begun}
+use Rattle.admission_book.proofs.Shown.{served, shown, keeps_none, keeps_more, keeps_set, one, others, Place, served_at}
+
+module _ (m : Meaning) (J : List Event) (k : List (Option Reply)) (rs : List CallerRecord) (t : ℕ) (r : Reply) (i : ℕ) (old : CallerRecord)
+    (L : Lawful m (book_of J k rs)) (may : MayEnd m (book_of J k rs) t r) (p : Place rs i t old) (each_kept : length k ≡ m.requests) where
+  at : record_of (book_of J k rs) i ≡ Some (served t old)
+  at = served_at J k rs i t old p
+
+  same : may.serving ≡ served t old
+  same = (one m (book_of J k rs) L may.caller i may.serving (served t old) may.is at may.ticket).1
+
+  pub end_within : t < length k
+  end_within =
+      let l : t < begun J = (L.records i (served t old) at).is_open.begun in
+      omega (arith, l, each_kept, few_begun m (length (servings rs)) J L.turns)
+
+  pub end_lawful : Lawful m (after_end (book_of J k rs) i (served t old) r)
+  end_lawful = keeps_end m (book_of J k rs) i (served t old) r L at (sym (ap (λ (s : Serving). s.flight) same) ∙ may.idle) may.answers end_within
+
+  pub end_shown : (K : List Event) (new : CallerRecord) → K ≡ J ++ End t r ∷ [] → new ≡ after_ticket old → book_of K (set k t (Some r)) (set rs i new) ≡ after_end (book_of J k rs) i (served t old) r
+  end_shown K new grown e =
+      shown K (set k t (Some r)) rs i new None (ap (λ (x : CallerRecord). serving_of x) e)
+      ∙ ap (λ (H : List Event). record { journal = H; kept = set k t (Some r); records = set (servings rs) i None }) grown
+
+  pub ended_so : HasEnded (book_of J k rs) t r (after_end (book_of J k rs) i (served t old) r)
+  ended_so c s q e = let h : (i ≡ c) × (served t old ≡ s) = one m (book_of J k rs) L i c (served t old) s at q (sym e) in λ j. after_end (book_of J k rs) (h.0 j) (h.1 j) r
+
+  pub end_keeps : (new : CallerRecord) → new ≡ after_ticket old → ((c : ℕ) → KeepsRecord J (record_at rs c)) → (c : ℕ) → KeepsRecord (J ++ End t r ∷ []) (record_at (set rs i new) c)
+  end_keeps new e each =
+      let P : CallerRecord → Type 0 = λ x. KeepsRecord J x in
+      let Q : CallerRecord → Type 0 = λ x. KeepsRecord (J ++ End t r ∷ []) x in
+      let k_old : KeepsRecord J old = subst P p.is (each i) in
+      keeps_set (J ++ End t r ∷ []) rs i new p.within
+      (subst Q (sym e) (keeps_none (J ++ End t r ∷ []) (after_ticket old) refl k_old.room))
+      (λ c apart. keeps_more J rs c (End t r) (others m (book_of J k rs) L i c (served t old) at apart) (each c))
+
+  pub end_count : (n : ℕ) → n ≡ begun J → n ≡ begun (J ++ End t r ∷ [])
+  end_count n e = e ∙ sym (begun_stays J (End t r) refl)

@@ -1,0 +1,156 @@
+-- The records of a book as its fields keep them.
+use Rattle.std.proofs.Common.{◌≡◌, ◌≢◌, ℕ, zero, suc, ◌+◌, ◌*◌, ◌<◌, ◌≤◌, List, [], ◌∷◌, ◌++◌, ◌⊎◌, inl, inr, Option, Some, None, Bool, true, false, cond, eqb, length, get_or, length-append, refl, sym, ◌∙◌, ap, subst, arith}
+use Rattle.std.proofs.Math.ListN.{set}
+use Rattle.std.proofs.lemmas.List.{map-set, get_or-set_same, get_or-set_other, get_or_default}
+use Rattle.std.proofs.lemmas.Bool.Decides.{nat_tests}
+use Rattle.session_values.specs.declared.reply.Reply.{Reply}
+use Rattle.session_journal.specs.declared.event.Event.{Event}
+use Rattle.session_journal.specs.declared.event.Event.TheVariants.{Begin, Done, Delay, End}
+use Rattle.session_journal.specs.Journal.{JournalView, begun, ticket_of}
+use Rattle.session_journal.specs.Script.{Meaning, IsScript, calls}
+use Rattle.admission_book.specs.Book.{Book, Serving, Lawful, record_of, delayed_after, is_delayed, is_delayed_from}
+use Rattle.admission_book.specs.declared.caller_record.CallerRecord.{CallerRecord}
+use Rattle.admission_book.specs.CallerRecord.{serving_at, serving_of, servings, record_at, idle_record}
+use Rattle.admission_book.specs.Books.{BookView}
+use Rattle.admission_book.specs.Kept.{book_of, Keeps, KeepsRecord}
+use Rattle.admission_book.proofs.Keep.{one_caller}
+use Rattle.admission_book.proofs.Room.{few_events}
+
+-- ---- between the fields and what contracts see of them
+pub here : {S : Type 0} (P : Meaning → Book → Type 0) (meaning : S → Meaning) (s : S) (b : Book) (v : BookView S) → record { script = s; book = b } ≡ v → P (meaning v.script) v.book → P (meaning s) b
+here {S} P meaning s b v is p = let Q : BookView S → Type 0 = λ w. P (meaning w.script) w.book in subst Q (sym is) p
+
+pub there : {S : Type 0} (P : Meaning → Book → Type 0) (meaning : S → Meaning) (s : S) (b : Book) (v : BookView S) → record { script = s; book = b } ≡ v → P (meaning s) b → P (meaning v.script) v.book
+there {S} P meaning s b v is p = let Q : BookView S → Type 0 = λ w. P (meaning w.script) w.book in subst Q is p
+
+-- what a call leaves, where d is the book that the new fields show
+pub leaves : {S : Type 0} (P : Book → Book → Type 0) (s : S) (b : Book) (v : BookView S) (d d2 : Book) → record { script = s; book = b } ≡ v → d ≡ d2 → P b d2 → P v.book d
+leaves {S} P s b v d d2 is e p = let Q : BookView S → Type 0 = λ w. P w.book d in let R : Book → Type 0 = λ x. P b x in subst Q is (subst R (sym e) p)
+
+pub leaves_of : {S : Type 0} (P : Meaning → Book → Book → Type 0) (meaning : S → Meaning) (s : S) (b : Book) (v : BookView S) (d d2 : Book) → record { script = s; book = b } ≡ v → d ≡ d2 → P (meaning s) b d2 → P (meaning v.script) v.book d
+leaves_of {S} P meaning s b v d d2 is e p = let Q : BookView S → Type 0 = λ w. P (meaning w.script) w.book d in let R : Book → Type 0 = λ x. P (meaning s) b x in subst Q is (subst R (sym e) p)
+
+pub lawful_same : (m : Meaning) (d d2 : Book) → d ≡ d2 → Lawful m d2 → Lawful m d
+lawful_same m d d2 e L = let P : Book → Type 0 = λ x. Lawful m x in subst P (sym e) L
+
+pub events_are : (j : JournalView) (K : List Event) (room : ℕ) → j ≡ record { events = K; room = room } → j.events ≡ K
+events_are j K room e = ap (λ (x : JournalView). x.events) e
+
+-- ---- one record
+-- what a record shows that has the ticket t
+abbrev pub served : ℕ → CallerRecord → Serving
+served t r = record { ticket = t; foresight = r.foresight.symbols; flight = r.flight }
+
+pub serving_is : (r : CallerRecord) (t : ℕ) → r.ticket ≡ Some t → serving_of r ≡ Some (served t r)
+serving_is r t e = ap (λ (o : Option ℕ). serving_at o r.foresight.symbols r.flight) e
+
+pub ticket_is : (r : CallerRecord) (s : Serving) → serving_of r ≡ Some s → r.ticket ≡ Some s.ticket
+ticket_is r s e = go r.ticket refl
+  where
+    inside : (x y : Serving) → ◌≡◌ {A = Option Serving} (Some x) (Some y) → x ≡ y
+    inside x y h = cc
+
+    none : {A : Type 0} → ◌≡◌ {A = Option Serving} None (Some s) → A
+    none h = cc
+
+    go : (o : Option ℕ) → r.ticket ≡ o → r.ticket ≡ Some s.ticket
+    go None p = none (sym (ap (λ (x : Option ℕ). serving_at x r.foresight.symbols r.flight) p) ∙ e)
+    go (Some u) p = p ∙ ap (λ (z : Serving). Some z.ticket) (inside (served u r) s (sym (serving_is r u p) ∙ e))
+
+pub keeps_has : (J : List Event) (r : CallerRecord) (t : ℕ) → r.ticket ≡ Some t → 256 ≤ r.foresight.room → r.delayed ≡ is_delayed J t → KeepsRecord J r
+keeps_has J r t has room noted = record { room = room; noted = λ s e. noted ∙ ap (is_delayed J) (inside t s.ticket (sym has ∙ ticket_is r s e)) }
+  where
+    inside : (x y : ℕ) → ◌≡◌ {A = Option ℕ} (Some x) (Some y) → x ≡ y
+    inside x y h = cc
+
+pub keeps_none : (J : List Event) (r : CallerRecord) → r.ticket ≡ None → 256 ≤ r.foresight.room → KeepsRecord J r
+keeps_none J r has room = record { room = room; noted = λ s e. none s (sym has ∙ ticket_is r s e) }
+  where
+    none : {A : Type 0} (s : Serving) → ◌≡◌ {A = Option ℕ} None (Some s.ticket) → A
+    none s h = cc
+
+-- ---- all records
+pub servings_at : (rs : List CallerRecord) (c : ℕ) → get_or (servings rs) c None ≡ serving_of (record_at rs c)
+servings_at [] c = refl
+servings_at (r ∷ rs) zero = refl
+servings_at (r ∷ rs) (suc c) = servings_at rs c
+
+pub record_here : (rs : List CallerRecord) (i : ℕ) (old : CallerRecord) → i < length rs → old ≡ get_or rs i old → record_at rs i ≡ old
+record_here rs i old within is = get_or_default rs i idle_record old within ∙ sym is
+
+-- the book that the fields show after one record is replaced
+pub shown : (K : List Event) (k : List (Option Reply)) (rs : List CallerRecord) (i : ℕ) (new : CallerRecord) (x : Option Serving) → serving_of new ≡ x → book_of K k (set rs i new) ≡ record { journal = K; kept = k; records = set (servings rs) i x }
+shown K k rs i new x e = ap (λ (us : List (Option Serving)). record { journal = K; kept = k; records = us }) (map-set (λ (r : CallerRecord). serving_of r) rs i new ∙ ap (λ (o : Option Serving). set (servings rs) i o) e)
+
+pub keeps_set : (J : List Event) (rs : List CallerRecord) (i : ℕ) (new : CallerRecord) → i < length rs → KeepsRecord J new → ((c : ℕ) → c ≢ i → KeepsRecord J (record_at rs c)) → (c : ℕ) → KeepsRecord J (record_at (set rs i new) c)
+keeps_set J rs i new within this others c =
+    let P : CallerRecord → Type 0 = λ r. KeepsRecord J r in
+    elim (same_or c i) [
+      | inl e ↦ let Q : ℕ → Type 0 = λ j. KeepsRecord J (record_at (set rs i new) j) in subst Q (sym e) (subst P (sym (get_or-set_same rs i new idle_record within)) this)
+      | inr e ↦ subst P (sym (get_or-set_other rs i c new idle_record e)) (others c e)
+    ]
+  where
+    same_or : (a b : ℕ) → (a ≡ b) ⊎ (a ≢ b)
+    same_or a b = grind (arith, nat_tests)
+
+-- ---- one event more
+pub is_delayed-push : (b : Bool) (J : List Event) (e : Event) (t : ℕ) → is_delayed_from b (J ++ e ∷ []) t ≡ delayed_after t e (is_delayed_from b J t)
+is_delayed-push b [] e t = refl
+is_delayed-push b (x ∷ J) e t = is_delayed-push (delayed_after t x b) J e t
+
+cond_other : (u t : ℕ) (x b : Bool) → u ≢ t → cond (eqb t u) x b ≡ b
+cond_other u t x b h = elim (eqb t u) as (λ v. eqb t u ≡ v → cond v x b ≡ b) [ true ↦ λ e. absurd (h (grind (arith, nat_tests))) | false ↦ λ e. refl ] refl
+
+pub cond_same : (t : ℕ) (x b : Bool) → cond (eqb t t) x b ≡ x
+cond_same t x b = elim (eqb t t) as (λ v. eqb t t ≡ v → cond v x b ≡ x) [ true ↦ λ e. refl | false ↦ λ e. absurd (grind (arith, nat_tests)) ] refl
+
+after_other : (e : Event) (b : Bool) (u : ℕ) → u ≢ ticket_of e → delayed_after u e b ≡ b
+after_other (Begin t c) b u h = cond_other u t false b h
+after_other (Done t op r) b u h = cond_other u t false b h
+after_other (Delay t op o y) b u h = cond_other u t true b h
+after_other (End t r) b u h = cond_other u t false b h
+
+-- a record of another ticket is kept
+pub keeps_more : (J : List Event) (rs : List CallerRecord) (c : ℕ) (e : Event) → ((s : Serving) → get_or (servings rs) c None ≡ Some s → s.ticket ≢ ticket_of e) → KeepsRecord J (record_at rs c) → KeepsRecord (J ++ e ∷ []) (record_at rs c)
+keeps_more J rs c e apart k = record {
+  room = k.room;
+  noted = λ s p. k.noted s p ∙ sym (is_delayed-push false J e s.ticket ∙ after_other e (is_delayed J s.ticket) s.ticket (apart s (servings_at rs c ∙ p)));
+}
+
+-- the fields with one event more
+pub keeps_with : (m : Meaning) (count count2 : ℕ) (journal journal2 : JournalView) (k k2 : List (Option Reply)) (listed : List Reply) (spare : ℕ) (rs rs2 : List CallerRecord) (K : List Event)
+    → Keeps m count journal k listed spare rs → journal2 ≡ record { events = K; room = journal.room } → count2 ≡ begun K → length k2 ≡ length k → ((c : ℕ) → KeepsRecord K (record_at rs2 c)) → Keeps m count2 journal2 k2 listed spare rs2
+keeps_with m count count2 journal journal2 k k2 listed spare rs rs2 K keeps is counted same each =
+    let P : JournalView → Type 0 = λ j. Keeps m count2 j k2 listed spare rs2 in
+    subst P (sym is) (record { script = keeps.script; counted = counted; events = keeps.events; one_each = same ∙ keeps.one_each; none_listed = keeps.none_listed; list_room = keeps.list_room; each = each })
+
+-- there is room for an event that leads to a lawful book
+pub room_for : (m : Meaning) (J : List Event) (e : Event) (k : List (Option Reply)) (us : List (Option Serving)) (room : ℕ) → IsScript m → 2 * m.requests + 2 * calls m ≤ room → Lawful m (record { journal = J ++ e ∷ []; kept = k; records = us }) → length J < room
+room_for m J e k us room S h L = omega (arith, few_events m _ S L, length-append J (e ∷ []), h)
+
+-- ---- a ticket stands in one record
+module _ (m : Meaning) (b : Book) (L : Lawful m b) where
+  pub one : (c d : ℕ) (s z : Serving) → record_of b c ≡ Some s → record_of b d ≡ Some z → s.ticket ≡ z.ticket → (c ≡ d) × (s ≡ z)
+  one c d s z p q e = let h : c ≡ d = one_caller m b L c d s z p q e in (h, inside s z (sym p ∙ ap (λ (j : ℕ). record_of b j) h ∙ q))
+    where
+      inside : (x y : Serving) → ◌≡◌ {A = Option Serving} (Some x) (Some y) → x ≡ y
+      inside x y h = cc
+
+  pub others : (i c : ℕ) (z : Serving) → record_of b i ≡ Some z → c ≢ i → (s : Serving) → record_of b c ≡ Some s → s.ticket ≢ z.ticket
+  others i c z at apart s p = λ e. apart (one c i s z p at e).0
+
+-- ---- the record that has the ticket t stands at place i
+pub record Place (rs : List CallerRecord) (i t : ℕ) (old : CallerRecord) : Type 0 where
+  pub within : i < length rs
+  pub is : record_at rs i ≡ old
+  pub has : old.ticket ≡ Some t
+
+pub place : (xs rs : List CallerRecord) (i t : ℕ) (old : CallerRecord) → xs ≡ rs → i < length xs → (record_at xs i).ticket ≡ Some t → old ≡ get_or rs i old → Place rs i t old
+place xs rs i t old same within has is =
+    let here : i < length rs = let P : List CallerRecord → Type 0 = λ l. i < length l in subst P same within in
+    let at : record_at rs i ≡ old = record_here rs i old here is in
+    let Q : List CallerRecord → Type 0 = λ l. (record_at l i).ticket ≡ Some t in
+    record { within = here; is = at; has = sym (ap (λ (r : CallerRecord). r.ticket) at) ∙ subst Q same has }
+
+pub served_at : (J : List Event) (k : List (Option Reply)) (rs : List CallerRecord) (i t : ℕ) (old : CallerRecord) → Place rs i t old → record_of (book_of J k rs) i ≡ Some (served t old)
+served_at J k rs i t old p = servings_at rs i ∙ ap (λ (r : CallerRecord). serving_of r) p.is ∙ serving_is old t p.has

@@ -1,0 +1,32 @@
+use Rattle.std.proofs.Common.{refl}
+use Rattle.session_journal.specs.Script.{Meaning}
+use Rattle.admission_book.specs.Book.{Book, Lawful}
+use Rattle.admission_book.specs.Books.{MayNarrow, Narrowed}
+use Rattle.admission_book.proofs.Shown.{here, leaves, lawful_same, place, keeps_with}
+use Rattle.admission_book.proofs.Foreknown.{foreknown}
+use Rattle.admission_book.proofs.Narrows.{narrow_lawful, narrow_shown, narrowed, narrow_keeps}
+use Rattle.admission_book.proofs.book.Book.narrow.Goals as goal
+
+pub invariant_of-self : goal.invariant_of-self
+invariant_of-self g c =
+    let p = place _ _ _ _ _ c.as_slice.ensures.value c.place_of-caller.ensures.within c.place_of-caller.ensures.serves c.index_mut.ensures.value in
+    let L = here Lawful g.S.Script.meaning _ _ _ c.self.view_is c.requires.lawful in
+    let may = here (λ (m : Meaning) (b : Book). MayNarrow m b c.args.t c.args.f.now.symbols) g.S.Script.meaning _ _ _ c.self.view_is c.requires.may in
+    keeps_with _ _ _ c.self.inside.journal c.self.inside.journal _ _ _ _ _ _ _ c.self.invariant refl c.self.invariant.counted refl (narrow_keeps _ _ _ _ _ _ _ _ L may p c.narrow.new.self c.narrow.ensures c.self.invariant.each)
+
+pub returns-clause-narrowed : goal.returns-clause-narrowed
+returns-clause-narrowed g c =
+    let p = place _ _ _ _ _ c.as_slice.ensures.value c.place_of-caller.ensures.within c.place_of-caller.ensures.serves c.index_mut.ensures.value in
+    let L = here Lawful g.S.Script.meaning _ _ _ c.self.view_is c.requires.lawful in
+    let may = here (λ (m : Meaning) (b : Book). MayNarrow m b c.args.t c.args.f.now.symbols) g.S.Script.meaning _ _ _ c.self.view_is c.requires.may in
+    leaves (λ (b d : Book). Narrowed b c.args.t c.args.f.now.symbols d) _ _ _ _ _ c.self.view_is (narrow_shown _ _ _ _ _ _ _ _ L may p c.narrow.new.self c.narrow.ensures) (narrowed _ _ _ _ _ _ _ _ L may p)
+
+pub returns-clause-lawful : goal.returns-clause-lawful
+returns-clause-lawful g c =
+    let p = place _ _ _ _ _ c.as_slice.ensures.value c.place_of-caller.ensures.within c.place_of-caller.ensures.serves c.index_mut.ensures.value in
+    let L = here Lawful g.S.Script.meaning _ _ _ c.self.view_is c.requires.lawful in
+    let may = here (λ (m : Meaning) (b : Book). MayNarrow m b c.args.t c.args.f.now.symbols) g.S.Script.meaning _ _ _ c.self.view_is c.requires.may in
+    lawful_same _ _ _ (narrow_shown _ _ _ _ _ _ _ _ L may p c.narrow.new.self c.narrow.ensures) (narrow_lawful _ _ _ _ _ _ _ _ L may p)
+
+pub returns-clause-foreknown : goal.returns-clause-foreknown
+returns-clause-foreknown g c = foreknown _ _ c.self.invariant.script (returns-clause-lawful g c)

@@ -1,0 +1,11 @@
+use Rattle.session_journal.specs.Script.{Meaning}
+use Rattle.admission_book.specs.Book.{Book, Lawful}
+use Rattle.admission_book.specs.Books.{IsOldestOpen}
+use Rattle.admission_book.proofs.Shown.{here, there}
+use Rattle.admission_book.proofs.Oldest.{oldest}
+use Rattle.admission_book.proofs.book.Book.oldest_open.Goals as goal
+
+pub returns : goal.returns
+returns g c =
+    let L = here Lawful g.S.Script.meaning _ _ _ c.self.view_is c.requires.lawful in
+    there (λ (m : Meaning) (b : Book). IsOldestOpen c.least_ticket.result b.journal) g.S.Script.meaning _ _ _ c.self.view_is (oldest _ _ _ _ _ _ c.as_slice.ensures.value L c.least_ticket.ensures)

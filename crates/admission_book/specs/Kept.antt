@@ -1,0 +1,51 @@
+-- What the fields of a book keep.
+use Rattle.std.specs.Prelude.{◌≡◌, ℕ, ◌<◌, ◌≤◌, ◌+◌, ◌*◌, ◌⊎◌, List, [], Option, Some, None, length}
+use Rattle.session_values.specs.declared.reply.Reply.{Reply}
+use Rattle.session_journal.specs.declared.event.Event.{Event}
+use Rattle.session_journal.specs.Journal.{JournalView, begun}
+use Rattle.session_journal.specs.Script.{Meaning, IsScript, calls}
+use Rattle.admission_book.specs.Book.{Book, Serving, is_delayed}
+use Rattle.admission_book.specs.declared.caller_record.CallerRecord.{CallerRecord}
+use Rattle.admission_book.specs.CallerRecord.{serving_of, servings, record_at}
+
+-- the book that the fields show
+abbrev pub book_of : List Event → List (Option Reply) → List CallerRecord → Book
+book_of J kept rs = record { journal = J; kept = kept; records = servings rs }
+
+-- a record has room for any foresight, and knows whether the last event of its ticket is a Delay
+pub record KeepsRecord (J : List Event) (r : CallerRecord) : Type 0 where
+  pub room : 256 ≤ r.foresight.room
+  pub noted : (s : Serving) → serving_of r ≡ Some s → r.delayed ≡ is_delayed J s.ticket
+
+-- the begun tickets are counted, and there is room for all that the script can make of the book
+pub record Keeps (m : Meaning) (count : ℕ) (journal : JournalView) (kept : List (Option Reply)) (listed : List Reply) (spare : ℕ) (records : List CallerRecord) : Type 0 where
+  pub script : IsScript m
+  pub counted : count ≡ begun journal.events
+  pub events : 2 * m.requests + 2 * calls m ≤ journal.room
+  pub one_each : length kept ≡ m.requests
+  pub none_listed : listed ≡ []
+  pub list_room : m.requests ≤ spare
+  pub each : (c : ℕ) → KeepsRecord journal.events (record_at records c)
+
+-- ---- parts of the calls
+-- the record of some caller has the ticket
+pub record IsServed (rs : List CallerRecord) (t : ℕ) : Type 0 where
+  pub caller : ℕ
+  pub ticket : (record_at rs caller).ticket ≡ Some t
+
+-- the least ticket of the first i records, where they have one
+abbrev pub IsAtMost : Option ℕ → ℕ → Type 0
+IsAtMost None u = ⊥
+IsAtMost (Some t) u = t ≤ u
+
+abbrev pub IfServed : List CallerRecord → Option ℕ → Type 0
+IfServed rs None = Unit {0}
+IfServed rs (Some t) = IsServed rs t
+
+pub record IsLeastTicket (rs : List CallerRecord) (i : ℕ) (found : Option ℕ) : Type 0 where
+  pub each : (c u : ℕ) → c < i → (record_at rs c).ticket ≡ Some u → IsAtMost found u
+  pub at : IfServed rs found
+
+-- the lesser of two tickets, where there are any
+abbrev pub IsLesser : Option ℕ → Option ℕ → Option ℕ → Type 0
+IsLesser a b r = ((r ≡ a) × ((u : ℕ) → b ≡ Some u → IsAtMost a u)) ⊎ ((r ≡ b) × ((u : ℕ) → a ≡ Some u → IsAtMost b u))

@@ -1,0 +1,71 @@
+// Who delays an operation.
+
+ghost use Rattle.std.specs.Prelude.{◌≡◌, ◌<◌, MatchOption};
+ghost use Rattle.std.specs.List.{AllByRecursion};
+ghost use Rattle.symbolic_ops.specs.Symbols.{HasNoVar};
+ghost use Rattle.commute_tables.specs.Symbols.{CommutesWith};
+ghost use Rattle.admission_book.specs.Book.{IsFirstAgainst};
+ghost use Rattle.admission_book.specs.CallerRecord.{serving_of, servings};
+ghost use Rattle.admission_book.specs.Found.{Found, NextFound, bound};
+
+use crate::caller_record::CallerRecord;
+use commute_tables::commute_symbol;
+use session_values::Op;
+use symbolic_ops::Symbol;
+
+/// An older open ticket, and its first symbol with which an operation doesn't commute.
+#[derive(Clone, Copy)]
+pub(crate) struct Blocker {
+    pub(crate) older: u32,
+    pub(crate) symbol: Symbol,
+}
+
+/// The first symbol with which the operation doesn't commute.
+fn first_against(op: &Op, symbols: &[Symbol]) -> Option<Symbol>
+    requires { AllByRecursion HasNoVar symbols.now }
+    ensures { MatchOption result (AllByRecursion (λ y. CommutesWith op.now y) symbols.now) (λ y. IsFirstAgainst op.now symbols.now y) }
+{
+    for s in symbols {
+        if !commute_symbol(op, s) {
+            return Some(*s);
+        }
+    }
+    None
+}
+
+/// The ticket below which a blocker is sought.
+fn limit(found: &Option<Blocker>, t: u32) -> u32
+    ensures { result ≡ bound t found.now }
+{
+    match found {
+        Some(b) => b.older,
+        None => t,
+    }
+}
+
+/// The blocker of one record, where it is older than the one that was found before.
+fn nearer(found: Option<Blocker>, r: &CallerRecord, t: u32, op: &Op) -> Option<Blocker>
+    ensures { NextFound t op.now found (serving_of r.now) result }
+{
+    let Some(u) = r.ticket else {
+        return found;
+    };
+    if u >= limit(&found, t) {
+        return found;
+    }
+    match first_against(op, r.foresight.symbols()) {
+        Some(symbol) => Some(Blocker { older: u, symbol }),
+        None => found,
+    }
+}
+
+/// The least older open ticket with a symbol against the operation, and its first one.
+pub(crate) fn least_against(records: &[CallerRecord], t: u32, op: &Op) -> Option<Blocker>
+    ensures { Found (servings records.now) t op.now result }
+{
+    let mut found = None;
+    for r in records {
+        found = nearer(found, r, t, op);
+    }
+    found
+}

@@ -1,0 +1,241 @@
+// Books.
+
+ghost use Rattle.std.specs.Prelude.{◌≡◌, ℕ, ◌+◌, ◌*◌, ◌<◌, ◌≤◌, Some, IsSome, IfOk, IfSome, length, map};
+ghost use Rattle.session_values.specs.Serial.{serial, serial_replies, tables_before};
+ghost use Rattle.session_journal.specs.Foreknown.{Foreknown};
+ghost use Rattle.session_journal.specs.Journal.{after, begun, ended};
+ghost use Rattle.session_journal.specs.Script.{calls, session_of};
+ghost use Rattle.admission_book.specs.Book.{Lawful, kept_for, opened};
+ghost use Rattle.admission_book.specs.Books.{Admits, Begins, DidIt, Grows, HasEnded, IfNext, IsOldestOpen, MayAdmit, MayBeginNext, MayDo, MayEnd, MayNarrow, Narrowed};
+
+use crate::admission::Admission;
+use crate::blocker::least_against;
+use crate::caller_record::CallerRecord;
+use crate::fields::{all_replies, idle_records, least_ticket, no_replies, note_delay, place_of};
+use session_journal::{Event, Journal, Script};
+use session_values::{Listed, NoMemory, Op, Reply, Value};
+use std::alloc::Global;
+use std::marker::Model;
+use symbolic_ops::Foresight;
+
+/// The replies of all tickets, in their order.
+pub type Replies = Listed<Reply>;
+
+/// A script, the journal of what was done of it, the replies of its tickets that have ended, and
+/// for each caller the ticket that it serves.
+#[derive(Drop)]
+pub struct Book<S: Script + Drop> {
+    script: S,
+    begun: u32,
+    journal: Journal,
+    kept: Vec<Option<Reply>>,
+    /// Empty, with room for the replies that `close` gives.
+    listed: Vec<Reply>,
+    records: Vec<CallerRecord>,
+}
+
+impl<S: Script + Drop> Model for Book<S> {
+    ghost use Rattle.std.specs.Prelude.{vec_capacity};
+    ghost use Rattle.admission_book.specs.Books.{BookView};
+    ghost use Rattle.admission_book.specs.Kept.{Keeps, book_of};
+
+    ghost Value = { BookView S };
+
+    ghost view = { λ b. record { script = b.script; book = book_of b.journal.events b.kept.items b.records.items } };
+
+    ghost invariant = { λ b. Keeps (S.meaning b.script) b.begun b.journal b.kept.items b.listed.items (vec_capacity b.listed) b.records.items };
+}
+
+impl<S: Script + Drop> Book<S> {
+    /// A book in which no ticket is begun. No later call takes memory.
+    pub fn open(alloc: Global, script: S, callers: u32) -> Result<Book<S>, NoMemory>
+        requires some { 1 ≤ callers }
+        requires few { callers ≤ 32 }
+        ensures script { IfOk result (λ b. b.script ≡ script) }
+        ensures opened { IfOk result (λ b. b.book ≡ opened (S.meaning script).requests callers) }
+        ensures lawful { IfOk result (λ b. Lawful (S.meaning b.script) b.book) }
+    {
+        let requests = script.requests();
+        let calls = script.calls();
+        let journal = Journal::with_room(alloc, 2 * requests + 2 * calls)?;
+        let kept = no_replies(alloc, requests)?;
+        let listed = Vec::with_capacity(alloc, requests as usize)?;
+        let records = idle_records(alloc, callers)?;
+        Ok(Book {
+            script,
+            begun: 0,
+            journal,
+            kept,
+            listed,
+            records,
+        })
+    }
+
+    pub fn script(&self) -> &S
+        ensures { result.now ≡ self.now.script }
+    {
+        &self.script
+    }
+
+    /// The next ticket, or None where all are begun.
+    pub fn next_ticket(&self) -> Option<u32>
+        ensures { IfNext result (S.meaning self.now.script).requests self.now.book.journal }
+    {
+        if self.begun < self.script.requests() {
+            Some(self.begun)
+        } else {
+            None
+        }
+    }
+
+    /// Begins the next ticket for a caller, or None where all are begun.
+    pub fn begin(&mut self, caller: u32, entry: &Foresight) -> Option<u32>
+        requires lawful { Lawful (S.meaning self.old.script) self.old.book }
+        requires may { MayBeginNext (S.meaning self.old.script) self.old.book caller entry.now.symbols }
+        ensures script { self.new.script ≡ self.old.script }
+        ensures begins { Begins (S.meaning self.old.script) self.old.book caller entry.now.symbols result self.new.book }
+        ensures lawful { Lawful (S.meaning self.new.script) self.new.book }
+        ensures foreknown { (u : ℕ) → u < begun self.new.book.journal → Foreknown (S.meaning self.new.script) self.new.book.journal u }
+        ensures grows { Grows self.old.book.journal self.new.book.journal }
+    {
+        if self.begun >= self.script.requests() {
+            return None;
+        }
+        let t = self.begun;
+        self.journal
+            .push_reserved(Event::Begin { ticket: t, caller });
+        self.begun += 1;
+        self.records[caller as usize].begin(t, entry);
+        Some(t)
+    }
+
+    /// Makes a list that the ticket's foresight covers its foresight.
+    pub fn narrow(&mut self, t: u32, f: &Foresight)
+        requires lawful { Lawful (S.meaning self.old.script) self.old.book }
+        requires may { MayNarrow (S.meaning self.old.script) self.old.book t f.now.symbols }
+        ensures script { self.new.script ≡ self.old.script }
+        ensures narrowed { Narrowed self.old.book t f.now.symbols self.new.book }
+        ensures lawful { Lawful (S.meaning self.new.script) self.new.book }
+        ensures foreknown { (u : ℕ) → u < begun self.new.book.journal → Foreknown (S.meaning self.new.script) self.new.book.journal u }
+        ensures grows { Grows self.old.book.journal self.new.book.journal }
+    {
+        let caller = place_of(self.records.as_slice(), t);
+        self.records[caller].narrow(f);
+    }
+
+    /// Puts the operation in flight, unless an older open ticket may still call one with which it
+    /// doesn't commute. The first such answer about an operation is noted in the journal.
+    pub fn admit(&mut self, t: u32, op: Op) -> Admission
+        requires lawful { Lawful (S.meaning self.old.script) self.old.book }
+        requires may { MayAdmit (S.meaning self.old.script) self.old.book t op }
+        ensures script { self.new.script ≡ self.old.script }
+        ensures admits { Admits self.old.book t op result self.new.book }
+        ensures oldest { IsOldestOpen (Some t) self.old.book.journal → result ≡ Admission.Admitted }
+        ensures lawful { Lawful (S.meaning self.new.script) self.new.book }
+        ensures foreknown { (u : ℕ) → u < begun self.new.book.journal → Foreknown (S.meaning self.new.script) self.new.book.journal u }
+        ensures grows { Grows self.old.book.journal self.new.book.journal }
+    {
+        let caller = place_of(self.records.as_slice(), t);
+        let Some(b) = least_against(self.records.as_slice(), t, &op) else {
+            self.records[caller].launch(op);
+            return Admission::Admitted;
+        };
+        let delay = Event::Delay {
+            ticket: t,
+            op,
+            older: b.older,
+            symbol: b.symbol,
+        };
+        note_delay(&mut self.journal, &mut self.records[caller], delay);
+        Admission::Delayed {
+            older: b.older,
+            symbol: b.symbol,
+        }
+    }
+
+    /// Notes that the operation in flight was done with this reply, and narrows.
+    pub fn done(&mut self, t: u32, reply: Value, next: &Foresight)
+        requires lawful { Lawful (S.meaning self.old.script) self.old.book }
+        requires may { MayDo (S.meaning self.old.script) self.old.book t reply next.now.symbols }
+        ensures script { self.new.script ≡ self.old.script }
+        ensures did { DidIt self.old.book t reply next.now.symbols self.new.book }
+        ensures lawful { Lawful (S.meaning self.new.script) self.new.book }
+        ensures foreknown { (u : ℕ) → u < begun self.new.book.journal → Foreknown (S.meaning self.new.script) self.new.book.journal u }
+        ensures grows { Grows self.old.book.journal self.new.book.journal }
+    {
+        let caller = place_of(self.records.as_slice(), t);
+        let op = self.records[caller].finish(next);
+        let done = Event::Done {
+            ticket: t,
+            op,
+            reply,
+        };
+        self.journal.push_reserved(done);
+    }
+
+    /// Ends the ticket with its reply.
+    pub fn end(&mut self, t: u32, reply: Reply)
+        requires lawful { Lawful (S.meaning self.old.script) self.old.book }
+        requires may { MayEnd (S.meaning self.old.script) self.old.book t reply }
+        ensures script { self.new.script ≡ self.old.script }
+        ensures ended { HasEnded self.old.book t reply self.new.book }
+        ensures lawful { Lawful (S.meaning self.new.script) self.new.book }
+        ensures foreknown { (u : ℕ) → u < begun self.new.book.journal → Foreknown (S.meaning self.new.script) self.new.book.journal u }
+        ensures grows { Grows self.old.book.journal self.new.book.journal }
+    {
+        let caller = place_of(self.records.as_slice(), t);
+        self.records[caller].end();
+        self.journal.push_reserved(Event::End { ticket: t, reply });
+        self.kept[t as usize] = Some(reply);
+    }
+
+    /// The least open ticket, or None where none is open.
+    pub fn oldest_open(&self) -> Option<u32>
+        requires lawful { Lawful (S.meaning self.now.script) self.now.book }
+        ensures { IsOldestOpen result self.now.book.journal }
+    {
+        least_ticket(self.records.as_slice())
+    }
+
+    /// What was done, with room for all that is still to come.
+    pub fn journal(&self) -> &Journal
+        requires lawful { Lawful (S.meaning self.now.script) self.now.book }
+        ensures events { result.now.events ≡ self.now.book.journal }
+        ensures few { length self.now.book.journal ≤ 2 * (S.meaning self.now.script).requests + 2 * calls (S.meaning self.now.script) }
+        ensures room { 2 * (S.meaning self.now.script).requests + 2 * calls (S.meaning self.now.script) ≤ result.now.room }
+    {
+        &self.journal
+    }
+
+    /// The reply of a ticket, or None where it hasn't ended.
+    pub fn reply(&self, t: u32) -> Option<Reply>
+        requires lawful { Lawful (S.meaning self.now.script) self.now.book }
+        requires ticket { t < (S.meaning self.now.script).requests }
+        ensures kept { result ≡ kept_for self.now.book t }
+        ensures ended { result ≡ ended self.now.book.journal t }
+        ensures serial { IfSome result (λ r. (serial (session_of (S.meaning self.now.script)) t).answer ≡ Some r) }
+    {
+        self.kept[t as usize]
+    }
+
+    /// What was done of all tickets, and their replies.
+    pub fn close(self) -> (Journal, Replies)
+        requires lawful { Lawful (S.meaning self.script) self.book }
+        requires ended { (t : ℕ) → t < (S.meaning self.script).requests → IsSome (ended self.book.journal t) }
+        ensures events { result.0.events ≡ self.book.journal }
+        ensures kept { map (λ r. Some r) result.1 ≡ self.book.kept }
+        ensures tables { after (S.meaning self.script).shape result.0.events ≡ tables_before (session_of (S.meaning self.script)) (S.meaning self.script).requests }
+        ensures serial { result.1 ≡ serial_replies (session_of (S.meaning self.script)) (S.meaning self.script).requests }
+    {
+        let Book {
+            script: _,
+            begun: _,
+            journal,
+            kept,
+            listed,
+            records: _,
+        } = self;
+        let replies = all_replies(kept.as_slice(), listed);
+        (journal, Listed::from_vec(replies))
+    }
+}

@@ -1,0 +1,89 @@
+// What a book keeps of one caller.
+
+ghost use Rattle.std.specs.Prelude.{◌≡◌, ◌≤◌, Some, IsSome, IfOk, length};
+ghost use Rattle.std.specs.Bool.{Decides};
+ghost use Rattle.admission_book.specs.CallerRecord.{idle_record, with_ticket, with_symbols, with_flight, after_flight, after_ticket};
+
+use session_values::{NoMemory, Op};
+use std::alloc::Global;
+use symbolic_ops::Foresight;
+
+/// The ticket that a caller serves, if any, with its foresight and the operation in flight.
+#[derive(Drop)]
+pub(crate) struct CallerRecord {
+    pub(crate) ticket: Option<u32>,
+    pub(crate) foresight: Foresight,
+    pub(crate) flight: Option<Op>,
+    /// Whether the last event of the ticket is a Delay.
+    pub(crate) delayed: bool,
+}
+
+impl CallerRecord {
+    /// One of a caller that serves no ticket, with room for the symbols of any foresight.
+    pub(crate) fn idle(alloc: Global) -> Result<CallerRecord, NoMemory>
+        ensures { IfOk result (λ r. r ≡ idle_record) }
+    {
+        let foresight = Foresight::with_room(alloc, 256)?;
+        Ok(CallerRecord {
+            ticket: None,
+            foresight,
+            flight: None,
+            delayed: false,
+        })
+    }
+
+    /// Whether it serves this ticket.
+    pub(crate) fn serves(&self, t: u32) -> bool
+        ensures { Decides result (self.now.ticket ≡ Some t) }
+    {
+        match self.ticket {
+            Some(u) => u == t,
+            None => false,
+        }
+    }
+
+    pub(crate) fn begin(&mut self, t: u32, entry: &Foresight)
+        requires { length entry.now.symbols ≤ self.old.foresight.room }
+        ensures { self.new ≡ with_ticket self.old t entry.now.symbols }
+    {
+        self.ticket = Some(t);
+        self.flight = None;
+        self.delayed = false;
+        self.foresight.replace(entry);
+    }
+
+    pub(crate) fn narrow(&mut self, f: &Foresight)
+        requires { length f.now.symbols ≤ self.old.foresight.room }
+        ensures { self.new ≡ with_symbols self.old f.now.symbols }
+    {
+        self.foresight.replace(f);
+    }
+
+    pub(crate) fn launch(&mut self, op: Op)
+        ensures { self.new ≡ with_flight self.old op }
+    {
+        self.flight = Some(op);
+    }
+
+    /// Takes the operation out of flight, and narrows.
+    pub(crate) fn finish(&mut self, next: &Foresight) -> Op
+        requires flight { IsSome self.old.flight }
+        requires room { length next.now.symbols ≤ self.old.foresight.room }
+        ensures op { self.old.flight ≡ Some result }
+        ensures finished { self.new ≡ after_flight self.old next.now.symbols }
+    {
+        let op = self.flight.unwrap();
+        self.flight = None;
+        self.delayed = false;
+        self.foresight.replace(next);
+        op
+    }
+
+    pub(crate) fn end(&mut self)
+        ensures { self.new ≡ after_ticket self.old }
+    {
+        self.ticket = None;
+        self.flight = None;
+        self.delayed = false;
+    }
+}

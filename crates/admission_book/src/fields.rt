@@ -1,0 +1,96 @@
+// Steps over the fields of a book.
+
+ghost use Rattle.std.specs.Prelude.{◌≡◌, ◌<◌, ◌≤◌, ◌∷◌, ◌++◌, [], Some, None, IsSome, IfOk, cond, length, map, replicate, false, vec_capacity};
+ghost use Rattle.std.specs.List.{AllByRecursion};
+ghost use Rattle.admission_book.specs.CallerRecord.{idle_record, record_at, with_delay};
+ghost use Rattle.admission_book.specs.Kept.{IsLeastTicket, IsLesser, IsServed};
+
+use crate::caller_record::CallerRecord;
+use session_journal::{Event, Journal};
+use session_values::{NoMemory, Reply};
+use std::alloc::Global;
+
+/// Records of so many callers that serve no ticket.
+pub(crate) fn idle_records(alloc: Global, callers: u32) -> Result<Vec<CallerRecord>, NoMemory>
+    ensures { IfOk result (λ rs. rs.items ≡ replicate callers idle_record) }
+{
+    let mut records = Vec::with_capacity(alloc, callers as usize)?;
+    for _ in 0..callers {
+        records.push_reserved(CallerRecord::idle(alloc)?);
+    }
+    Ok(records)
+}
+
+/// A place for the reply of each ticket, with none in it.
+pub(crate) fn no_replies(alloc: Global, tickets: u32) -> Result<Vec<Option<Reply>>, NoMemory>
+    ensures { IfOk result (λ rs. rs.items ≡ replicate tickets None) }
+{
+    let mut replies = Vec::with_capacity(alloc, tickets as usize)?;
+    for _ in 0..tickets {
+        replies.push_reserved(None);
+    }
+    Ok(replies)
+}
+
+/// The place of the record that has the ticket.
+pub(crate) fn place_of(records: &[CallerRecord], t: u32) -> usize
+    requires { IsServed records.now t }
+    ensures within { result < length records.now }
+    ensures serves { (record_at records.now result).ticket ≡ Some t }
+{
+    for (i, r) in records.iter().enumerate() {
+        if r.serves(t) {
+            return i;
+        }
+    }
+    unreachable!()
+}
+
+/// The lesser of two tickets, where there are any.
+fn lesser(a: Option<u32>, b: Option<u32>) -> Option<u32>
+    ensures { IsLesser a b result }
+{
+    match (a, b) {
+        (Some(t), Some(u)) => Some(t.min(u)),
+        (Some(t), None) => Some(t),
+        (None, b) => b,
+    }
+}
+
+/// The least ticket that a record has.
+pub(crate) fn least_ticket(records: &[CallerRecord]) -> Option<u32>
+    ensures { IsLeastTicket records.now (length records.now) result }
+{
+    let mut found = None;
+    for r in records {
+        found = lesser(found, r.ticket);
+    }
+    found
+}
+
+/// Notes a delay, where the last event of the record's ticket is none.
+pub(crate) fn note_delay(journal: &mut Journal, r: &mut CallerRecord, delay: Event)
+    requires { r.old.delayed ≡ false → length journal.old.events < journal.old.room }
+    ensures journal { journal.new ≡ record { events = cond r.old.delayed journal.old.events (journal.old.events ++ delay ∷ []); room = journal.old.room } }
+    ensures noted { r.new ≡ with_delay r.old }
+{
+    if r.delayed {
+        return;
+    }
+    journal.push_reserved(delay);
+    r.delayed = true;
+}
+
+/// Appends the kept replies to a list that has room for them.
+pub(crate) fn all_replies(kept: &[Option<Reply>], list: Vec<Reply>) -> Vec<Reply>
+    requires empty { list.items ≡ [] }
+    requires room { length kept.now ≤ vec_capacity list }
+    requires ended { AllByRecursion (λ r. IsSome r) kept.now }
+    ensures { map (λ r. Some r) result.items ≡ kept.now }
+{
+    let mut list = list;
+    for r in kept {
+        list.push_reserved(r.unwrap());
+    }
+    list
+}

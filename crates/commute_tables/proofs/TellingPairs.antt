@@ -1,0 +1,364 @@
+-- The containers that tell apart the orders of each pair of kinds that doesn't commute.
+use Rattle.std.proofs.Common.{◌≡◌, ℕ, pos, ◌+◌, ◌-◌, ◌⊎◌, inl, inr, Option, Some, None, Bool, true, false, cond, not, ◌&&◌, ◌||◌, refl, sym, ◌∙◌, ap, subst, lit<}
+use Rattle.std.specs.Prelude.{is_some}
+use Rattle.std.specs.Option.{unwrap_or}
+use Rattle.std.specs.FinMap as map
+use Rattle.std.specs.FinSet as set
+use Rattle.session_values.specs.declared.kind.Kind.{Kind}
+use Rattle.session_values.specs.declared.kind.Kind.TheVariants.{Get, Put, Swap, Del, Size, Has, Add, Mark, Drop, Count}
+use Rattle.session_values.specs.declared.kind.TableKind.TheVariants.{Map, Set}
+use Rattle.session_values.specs.declared.op.Op.{Op}
+use Rattle.session_values.specs.declared.value.Value.{Value}
+use Rattle.session_values.specs.declared.value.Value.TheVariants.{Nil, Num}
+use Rattle.session_values.specs.Values.{value_cmp, value_eq, value_cmp_total, IsValue}
+use Rattle.session_values.specs.Tables.{Container, Bindings, Members, map_reply, map_after, set_after, bit, home, AreValues}
+use Rattle.session_values.specs.Tables.{kind_of}
+use Rattle.commute_tables.proofs.Apart.{same_value, value_eq-self, not_same}
+use Rattle.commute_tables.proofs.Commutes.{flip}
+use Rattle.commute_tables.proofs.OneTable.{SwapsOn}
+
+abbrev pub op : Kind → ℕ → Value → Value → Op
+op kind i k v = record { kind = kind; table = i; key = k; value = v }
+
+-- a container that tells
+pub record Tells (a b : Op) : Type 0 where
+  pub container : Container
+  pub kind : kind_of container ≡ home a.kind
+  pub values : IsValue a.key → IsValue b.key → AreValues container
+  pub differ : SwapsOn container a b → ⊥
+
+pub turn : (a b : Op) → home b.kind ≡ home a.kind → Tells b a → Tells a b
+turn a b h t = record { container = t.container; kind = t.kind ∙ h; values = λ p q. t.values q p; differ = λ s. t.differ (flip t.container b a s) }
+
+abbrev pub no_map : map.FinMap value_cmp Value
+no_map = map.empty
+
+abbrev pub no_set : set.FinSet value_cmp
+no_set = set.empty
+
+-- ---- values apart
+pub zero_one : ◌≡◌ {A = Value} (Num (pos 0)) (Num (pos 1)) → ⊥
+zero_one e = cc
+
+pub nil_zero : ◌≡◌ {A = Value} (Num (pos 0)) Nil → ⊥
+nil_zero e = cc
+
+-- 0, or 1 where it would be the same
+abbrev pub other : Value → Value
+other w = cond (value_eq w (Num (pos 0))) (Num (pos 1)) (Num (pos 0))
+
+pub other_differs : (w : Value) → other w ≡ w → ⊥
+other_differs w = go (value_eq w (Num (pos 0))) refl
+  where
+    go : (b : Bool) → value_eq w (Num (pos 0)) ≡ b → cond b (Num (pos 1)) (Num (pos 0)) ≡ w → ⊥
+    go true p e = zero_one (sym (same_value w (Num (pos 0)) p) ∙ sym e)
+    go false p e = not_same w (Num (pos 0)) p (sym e)
+
+-- ---- look-ups
+pub got : (m : map.FinMap value_cmp Value) (k v : Value) → map.get (map.insert m k v) k ≡ Some v
+got m k v = map.get-insert value_cmp_total m k v k ∙ ap (λ (b : Bool). cond b (Some v) (map.get m k)) (value_eq-self k)
+
+pub gone : (m : map.FinMap value_cmp Value) (k : Value) → map.get (map.remove m k) k ≡ None
+gone m k = map.get-remove value_cmp_total m k k ∙ ap (λ (b : Bool). cond b None (map.get m k)) (value_eq-self k)
+
+pub len_one : (k v : Value) → map.len (map.insert no_map k v) ≡ 1
+len_one k v = map.len-insert value_cmp_total no_map k v ∙ ap (λ (o : Option Value). cond (is_some o) (map.len no_map) (map.len no_map + 1)) (map.get-empty value_cmp k) ∙ ap (λ (n : ℕ). n + 1) (map.len-empty value_cmp Value)
+
+pub len_none : map.len no_map ≡ 0
+len_none = map.len-empty value_cmp Value
+
+pub member : (s : set.FinSet value_cmp) (k : Value) → set.contains (set.insert s k) k ≡ true
+member s k = set.contains-insert value_cmp_total s k k ∙ ap (λ (b : Bool). b || set.contains s k) (value_eq-self k)
+
+pub left : (s : set.FinSet value_cmp) (k : Value) → set.contains (set.remove s k) k ≡ false
+left s k = set.contains-remove value_cmp_total s k k ∙ ap (λ (b : Bool). not b && set.contains s k) (value_eq-self k)
+
+pub absent : (k : Value) → set.contains no_set k ≡ false
+absent k = set.contains-empty value_cmp k
+
+pub count_one : (k : Value) → set.len (set.insert no_set k) ≡ 1
+count_one k = set.len-insert value_cmp_total no_set k ∙ ap (λ (b : Bool). cond b (set.len no_set) (set.len no_set + 1)) (absent k) ∙ ap (λ (n : ℕ). n + 1) (set.len-empty value_cmp)
+
+-- ---- values that a program can hold
+pub values_none : AreValues (Bindings no_map)
+values_none k v h = absurd (none_some (sym (map.get-empty value_cmp k) ∙ h))
+  where
+    none_some : ◌≡◌ {A = Option Value} None (Some v) → ⊥
+    none_some e = cc
+
+pub values_one : (k v : Value) → IsValue k → IsValue v → AreValues (Bindings (map.insert no_map k v))
+values_one k v p q l x h = by_key (value_eq l k) refl (sym (map.get-insert value_cmp_total no_map k v l) ∙ h)
+  where
+    inside : (a b : Value) → ◌≡◌ {A = Option Value} (Some a) (Some b) → a ≡ b
+    inside a b e = cc
+
+    none_some : ◌≡◌ {A = Option Value} None (Some x) → ⊥
+    none_some e = cc
+
+    by_key : (b : Bool) → value_eq l k ≡ b → cond b (Some v) (map.get no_map l) ≡ Some x → IsValue l × IsValue x
+    by_key true e g = let P : Value → Type 0 = λ y. IsValue y in (subst P (sym (same_value l k e)) p, subst P (inside v x g) q)
+    by_key false e g = absurd (none_some (sym (map.get-empty value_cmp l) ∙ g))
+
+pub members_none : AreValues (Members no_set)
+members_none k h = absurd (both_ways (set.contains no_set k) h (set.contains-empty value_cmp k))
+  where
+    both_ways : (b : Bool) → b ≡ true → b ≡ false → ⊥
+    both_ways b p q = cc
+
+pub members_one : (k : Value) → IsValue k → AreValues (Members (set.insert no_set k))
+members_one k p l h = by_key (value_eq l k) refl (sym (set.contains-insert value_cmp_total no_set k l) ∙ h)
+  where
+    both_ways : (b : Bool) → b ≡ true → b ≡ false → ⊥
+    both_ways b p q = cc
+
+    by_key : (b : Bool) → value_eq l k ≡ b → (b || set.contains no_set l) ≡ true → IsValue l
+    by_key true e g = let P : Value → Type 0 = λ y. IsValue y in subst P (sym (same_value l k e)) p
+    by_key false e g = absurd (both_ways (set.contains no_set l) g (set.contains-empty value_cmp l))
+
+pub other_value : (w : Value) → IsValue (other w)
+other_value w = go (value_eq w (Num (pos 0)))
+  where
+    go : (b : Bool) → IsValue (cond b (Num (pos 1)) (Num (pos 0)))
+    go true = lit< tt
+    go false = lit< tt
+
+-- ---- maps
+-- get and swap see what put and swap bind
+unfoldable pub sees : Kind → Bool
+sees Get = true
+sees Swap = true
+sees _ = false
+
+unfoldable pub binds : Kind → Bool
+binds Put = true
+binds Swap = true
+binds _ = false
+
+pub seen : (kind : Kind) (m : map.FinMap value_cmp Value) (k v : Value) → sees kind ≡ true → map_reply (map.insert m k v) kind k ≡ v
+unfolding sees
+seen Get m k v h = ap (λ (o : Option Value). unwrap_or o Nil) (got m k v)
+seen Put m k v h = cc
+seen Swap m k v h = ap (λ (o : Option Value). unwrap_or o Nil) (got m k v)
+seen Del m k v h = cc
+seen Size m k v h = cc
+seen Has m k v h = cc
+seen Add m k v h = cc
+seen Mark m k v h = cc
+seen Drop m k v h = cc
+seen Count m k v h = cc
+
+pub bound : (kind : Kind) (m : map.FinMap value_cmp Value) (k v : Value) → binds kind ≡ true → map_after m kind k v ≡ map.insert m k v
+unfolding binds
+bound Get m k v h = cc
+bound Put m k v h = refl
+bound Swap m k v h = refl
+bound Del m k v h = cc
+bound Size m k v h = cc
+bound Has m k v h = cc
+bound Add m k v h = cc
+bound Mark m k v h = cc
+bound Drop m k v h = cc
+bound Count m k v h = cc
+
+pub map_kind : (x : Kind) → (sees x ≡ true) ⊎ (binds x ≡ true) → Map ≡ home x
+unfolding sees binds
+map_kind Get h = refl
+map_kind Put h = refl
+map_kind Swap h = refl
+map_kind Del h = refl
+map_kind Size h = refl
+map_kind Has (inl h) = cc
+map_kind Has (inr h) = cc
+map_kind Add (inl h) = cc
+map_kind Add (inr h) = cc
+map_kind Mark (inl h) = cc
+map_kind Mark (inr h) = cc
+map_kind Drop (inl h) = cc
+map_kind Drop (inr h) = cc
+map_kind Count (inl h) = cc
+map_kind Count (inr h) = cc
+
+-- one that sees against one that binds
+pub see_bind : (x y : Kind) (i j : ℕ) (k v w : Value) → sees x ≡ true → binds y ≡ true → Tells (op x i k v) (op y j k w)
+see_bind x y i j k v w p q =
+    let m : map.FinMap value_cmp Value = map.insert no_map k (other w) in
+    record {
+      container = Bindings m;
+      kind = map_kind x (inl p);
+      values = λ p q. values_one k (other w) p (other_value w);
+      differ = λ s. other_differs w (sym (seen x no_map k (other w) p) ∙ s.first ∙ ap (λ (n : map.FinMap value_cmp Value). map_reply n x k) (bound y m k w q) ∙ seen x m k w p);
+    }
+
+-- one that sees against del
+pub see_del : (x : Kind) (i j : ℕ) (k v w : Value) → sees x ≡ true → Tells (op x i k v) (op Del j k w)
+unfolding sees
+see_del x i j k v w p =
+    let m : map.FinMap value_cmp Value = map.insert no_map k (Num (pos 0)) in
+    record {
+      container = Bindings m;
+      kind = map_kind x (inl p);
+      values = λ p q. values_one k (Num (pos 0)) p (lit< tt);
+      differ = λ s. nil_zero (sym (seen x no_map k (Num (pos 0)) p) ∙ s.first ∙ unseen x p);
+    }
+  where
+    unseen : (x : Kind) → sees x ≡ true → map_reply (map.remove (map.insert no_map k (Num (pos 0))) k) x k ≡ Nil
+    unseen Get p = ap (λ (o : Option Value). unwrap_or o Nil) (gone _ k)
+    unseen Put p = cc
+    unseen Swap p = ap (λ (o : Option Value). unwrap_or o Nil) (gone _ k)
+    unseen Del p = cc
+    unseen Size p = cc
+    unseen Has p = cc
+    unseen Add p = cc
+    unseen Mark p = cc
+    unseen Drop p = cc
+    unseen Count p = cc
+
+-- what is bound after both
+pub look : Container → Value → Option Value
+look (Bindings m) k = map.get m k
+look (Members s) k = None
+
+-- two puts of different values
+pub put_put : (i j : ℕ) (k v w : Value) → value_eq v w ≡ false → Tells (op Put i k v) (op Put j k w)
+unfolding look
+put_put i j k v w h = record {
+  container = Bindings no_map;
+  kind = refl;
+  values = λ p q. values_none;
+  differ = λ s. not_same v w h (inside v w (sym (got (map.insert no_map k w) k v) ∙ sym (ap (λ (c : Container). look c k) s.after) ∙ got (map.insert no_map k v) k w));
+}
+  where
+    inside : (v w : Value) → ◌≡◌ {A = Option Value} (Some v) (Some w) → v ≡ w
+    inside v w e = cc
+
+-- one that binds against del
+pub bind_del : (x : Kind) (i j : ℕ) (k v w : Value) → binds x ≡ true → Tells (op x i k v) (op Del j k w)
+unfolding look
+bind_del x i j k v w p = record {
+  container = Bindings no_map;
+  kind = map_kind x (inr p);
+  values = λ p q. values_none;
+  differ = λ s. none_some v (sym (gone _ k) ∙ ap (λ (c : Container). look c k) s.after ∙ ap (λ (n : map.FinMap value_cmp Value). map.get n k) (bound x _ k v p) ∙ got _ k v);
+}
+  where
+    none_some : (v : Value) → ◌≡◌ {A = Option Value} None (Some v) → ⊥
+    none_some v e = cc
+
+-- one that binds against size
+pub bind_size : (x : Kind) (i j : ℕ) (k l v w : Value) → binds x ≡ true → Tells (op x i k v) (op Size j l w)
+bind_size x i j k l v w p = record {
+  container = Bindings no_map;
+  kind = map_kind x (inr p);
+  values = λ p q. values_none;
+  differ = λ s. zero_one (sym (ap (λ (n : ℕ). Num (pos n)) len_none) ∙ sym s.second ∙ ap (λ (m : map.FinMap value_cmp Value). Num (pos (map.len m))) (bound x no_map k v p) ∙ ap (λ (n : ℕ). Num (pos n)) (len_one k v));
+}
+
+-- del against size
+pub del_size : (i j : ℕ) (k l v w : Value) → Tells (op Del i k v) (op Size j l w)
+del_size i j k l v w =
+    let m : map.FinMap value_cmp Value = map.insert no_map k (Num (pos 0)) in
+    let fewer : map.len (map.remove m k) ≡ 0 = map.len-remove value_cmp_total m k ∙ ap (λ (o : Option Value). cond (is_some o) (map.len m - 1) (map.len m)) (got no_map k (Num (pos 0))) ∙ ap (λ (n : ℕ). n - 1) (len_one k (Num (pos 0))) in
+    record {
+      container = Bindings m;
+      kind = refl;
+      values = λ p q. values_one k (Num (pos 0)) p (lit< tt);
+      differ = λ s. zero_one (sym (ap (λ (n : ℕ). Num (pos n)) fewer) ∙ s.second ∙ ap (λ (n : ℕ). Num (pos n)) (len_one k (Num (pos 0))));
+    }
+
+-- ---- sets
+unfoldable pub joins : Kind → Bool
+joins Add = true
+joins Mark = true
+joins _ = false
+
+pub joined : (kind : Kind) (s : set.FinSet value_cmp) (k : Value) → joins kind ≡ true → set_after s kind k ≡ set.insert s k
+unfolding joins
+joined Get s k h = cc
+joined Put s k h = cc
+joined Swap s k h = cc
+joined Del s k h = cc
+joined Size s k h = cc
+joined Has s k h = cc
+joined Add s k h = refl
+joined Mark s k h = refl
+joined Drop s k h = cc
+joined Count s k h = cc
+
+pub set_kind : (x : Kind) → joins x ≡ true → Set ≡ home x
+unfolding joins
+set_kind Get h = cc
+set_kind Put h = cc
+set_kind Swap h = cc
+set_kind Del h = cc
+set_kind Size h = cc
+set_kind Has h = cc
+set_kind Add h = refl
+set_kind Mark h = refl
+set_kind Drop h = cc
+set_kind Count h = cc
+
+-- has against one that joins
+pub has_join : (y : Kind) (i j : ℕ) (k v w : Value) → joins y ≡ true → Tells (op Has i k v) (op y j k w)
+has_join y i j k v w p = record {
+  container = Members no_set;
+  kind = refl;
+  values = λ p q. members_none;
+  differ = λ s. zero_one (sym (ap bit (absent k)) ∙ s.first ∙ ap (λ (t : set.FinSet value_cmp). bit (set.contains t k)) (joined y no_set k p) ∙ ap bit (member no_set k));
+}
+
+-- has against drop
+pub has_drop : (i j : ℕ) (k v w : Value) → Tells (op Has i k v) (op Drop j k w)
+has_drop i j k v w = record {
+  container = Members (set.insert no_set k);
+  kind = refl;
+  values = λ p q. members_one k p;
+  differ = λ s. zero_one (sym (ap bit (left _ k)) ∙ sym s.first ∙ ap bit (member no_set k));
+}
+
+-- add against one that joins
+pub add_join : (y : Kind) (i j : ℕ) (k v w : Value) → joins y ≡ true → Tells (op Add i k v) (op y j k w)
+add_join y i j k v w p = record {
+  container = Members no_set;
+  kind = refl;
+  values = λ p q. members_none;
+  differ = λ s. zero_one (sym (ap (λ (b : Bool). cond b (Num (pos 0)) (Num (pos 1))) (member no_set k)) ∙ sym (ap (λ (t : set.FinSet value_cmp). cond (set.contains t k) (Num (pos 0)) (Num (pos 1))) (joined y no_set k p)) ∙ sym s.first ∙ ap (λ (b : Bool). cond b (Num (pos 0)) (Num (pos 1))) (absent k));
+}
+
+-- whether it is a member after both
+pub in_it : Container → Value → Bool
+in_it (Bindings m) k = false
+in_it (Members s) k = set.contains s k
+
+-- one that joins against drop
+pub join_drop : (x : Kind) (i j : ℕ) (k v w : Value) → joins x ≡ true → Tells (op x i k v) (op Drop j k w)
+unfolding in_it
+join_drop x i j k v w p = record {
+  container = Members no_set;
+  kind = set_kind x p;
+  values = λ p q. members_none;
+  differ = λ s. false_true (sym (left _ k) ∙ ap (λ (c : Container). in_it c k) s.after ∙ ap (λ (t : set.FinSet value_cmp). set.contains t k) (joined x _ k p) ∙ member _ k);
+}
+  where
+    false_true : false ≡ true → ⊥
+    false_true e = cc
+
+-- one that joins against count
+pub join_count : (x : Kind) (i j : ℕ) (k l v w : Value) → joins x ≡ true → Tells (op x i k v) (op Count j l w)
+join_count x i j k l v w p = record {
+  container = Members no_set;
+  kind = set_kind x p;
+  values = λ p q. members_none;
+  differ = λ s. zero_one (sym (ap (λ (n : ℕ). Num (pos n)) (set.len-empty value_cmp)) ∙ sym s.second ∙ ap (λ (t : set.FinSet value_cmp). Num (pos (set.len t))) (joined x no_set k p) ∙ ap (λ (n : ℕ). Num (pos n)) (count_one k));
+}
+
+-- drop against count
+pub drop_count : (i j : ℕ) (k l v w : Value) → Tells (op Drop i k v) (op Count j l w)
+drop_count i j k l v w =
+    let t : set.FinSet value_cmp = set.insert no_set k in
+    let fewer : set.len (set.remove t k) ≡ 0 = set.len-remove value_cmp_total t k ∙ ap (λ (b : Bool). cond b (set.len t - 1) (set.len t)) (member no_set k) ∙ ap (λ (n : ℕ). n - 1) (count_one k) in
+    record {
+      container = Members t;
+      kind = refl;
+      values = λ p q. members_one k p;
+      differ = λ s. zero_one (sym (ap (λ (n : ℕ). Num (pos n)) fewer) ∙ s.second ∙ ap (λ (n : ℕ). Num (pos n)) (count_one k));
+    }

@@ -1,0 +1,137 @@
+-- How operations, comparisons and right sides begin.
+use Rattle.std.proofs.Common.{◌≡◌, ℕ, List, [], ◌∷◌, ◌++◌, Option, Some, None, refl, sym, ap, subst, ◌∙◌}
+use Rattle.session_values.specs.declared.kind.Kind.{Kind}
+use Rattle.session_values.specs.declared.kind.Kind.TheVariants as kind
+use Rattle.session_values.specs.declared.kind.TableKind.{TableKind}
+use Rattle.session_values.specs.declared.kind.TableKind.TheVariants as table
+use Rattle.handler_tokens.specs.declared.word.Word.{Word}
+use Rattle.handler_tokens.specs.declared.word.Sort.{Sort}
+use Rattle.handler_tokens.specs.declared.word.Sort.TheVariants as sort
+use Rattle.handler_tokens.specs.Words.{first_word}
+use Rattle.handler_trees.specs.declared.stmt.Compare.{Compare}
+use Rattle.handler_trees.specs.declared.stmt.Compare.TheVariants as compare
+use Rattle.handler_grammar.specs.declared.input.Input.{Input}
+use Rattle.handler_grammar.specs.declared.refusal.SyntaxRefusal.{SyntaxRefusal}
+use Rattle.handler_grammar.specs.Sorts.{operation, operation_sort, comparison, comparison_sort, table_kind, table_sort, call_start, statement_start}
+use Rattle.handler_grammar.specs.declared.sorts.Start.{Start}
+use Rattle.handler_grammar.specs.declared.sorts.Start.TheVariants as start
+use Rattle.handler_grammar.specs.Next.{Part, mark, statements, call_parts, where_operation, a_right, expression, right_row, where_statement, expression_row, operand_over, taking, at_top, after_taking, fault}
+use Rattle.handler_grammar.specs.Reads.{Refused, Passed}
+
+-- ---- the word of an operation
+
+pub operation_is : (s : Sort) (k : Kind) → operation s ≡ Some k → s ≡ operation_sort k
+operation_is sort.Get k e = let h : kind.Get ≡ k = cc in ap operation_sort h
+operation_is sort.Put k e = let h : kind.Put ≡ k = cc in ap operation_sort h
+operation_is sort.Swap k e = let h : kind.Swap ≡ k = cc in ap operation_sort h
+operation_is sort.Del k e = let h : kind.Del ≡ k = cc in ap operation_sort h
+operation_is sort.Size k e = let h : kind.Size ≡ k = cc in ap operation_sort h
+operation_is sort.Has k e = let h : kind.Has ≡ k = cc in ap operation_sort h
+operation_is sort.Add k e = let h : kind.Add ≡ k = cc in ap operation_sort h
+operation_is sort.Mark k e = let h : kind.Mark ≡ k = cc in ap operation_sort h
+operation_is sort.Drop k e = let h : kind.Drop ≡ k = cc in ap operation_sort h
+operation_is sort.Count k e = let h : kind.Count ≡ k = cc in ap operation_sort h
+operation_is _ k e = absurd (cc)
+
+pub operation_again : (k : Kind) → operation (operation_sort k) ≡ Some k
+operation_again kind.Get = refl
+operation_again _ = refl
+
+pub operation_goes_on : (k : Kind) → operation_sort k ≡ sort.End → ⊥
+operation_goes_on kind.Get e = cc
+operation_goes_on _ e = cc
+
+pub right_operation : (k : Kind) → right_row (operation_sort k) ≡ Some call_parts
+right_operation kind.Get = refl
+right_operation _ = refl
+
+pub operation_free : (k : Kind) (under : List Part) → operand_over under (operation_sort k) ≡ None
+operation_free kind.Get under = refl
+operation_free _ under = refl
+
+pub statement_operation : (k : Kind) → where_statement (statement_start (operation_sort k)) ≡ Some (call_parts ++ mark sort.Semicolon ∷ statements ∷ [])
+statement_operation kind.Get = refl
+statement_operation _ = refl
+
+-- the word that a statement begins with
+abbrev pub StartsWith : Sort → Start → Type 0
+StartsWith s start.Let = s ≡ sort.Let
+StartsWith s (start.Assign n) = s ≡ sort.Name n
+StartsWith s (start.Call k) = operation s ≡ Some k
+StartsWith s start.If = s ≡ sort.If
+StartsWith s start.Repeat = s ≡ sort.Repeat
+StartsWith s start.Reply = s ≡ sort.Reply
+
+abbrev WhereStarts : Sort → Option Start → Type 0
+WhereStarts s (Some b) = StartsWith s b
+WhereStarts s None = Unit {0}
+
+starts_call : (s : Sort) (o : Option Kind) → operation s ≡ o → WhereStarts s (call_start o)
+starts_call s (Some k) e = e
+starts_call s None e = tt
+
+where_starts : (s : Sort) → WhereStarts s (statement_start s)
+where_starts sort.Let = refl
+where_starts (sort.Name n) = refl
+where_starts sort.If = refl
+where_starts sort.Repeat = refl
+where_starts sort.Reply = refl
+where_starts s = starts_call s (operation s) refl
+
+pub starts_with : (s : Sort) (b : Start) → statement_start s ≡ Some b → StartsWith s b
+starts_with s b e = subst (WhereStarts s) e (where_starts s)
+
+-- ---- comparisons and kinds of tables
+
+pub comparison_is : (s : Sort) (c : Compare) → comparison s ≡ Some c → s ≡ comparison_sort c
+comparison_is sort.Same c e = let h : compare.Same ≡ c = cc in ap comparison_sort h
+comparison_is sort.Differ c e = let h : compare.Differ ≡ c = cc in ap comparison_sort h
+comparison_is sort.Less c e = let h : compare.Less ≡ c = cc in ap comparison_sort h
+comparison_is sort.LessOrSame c e = let h : compare.LessOrSame ≡ c = cc in ap comparison_sort h
+comparison_is _ c e = absurd (cc)
+
+pub comparison_again : (c : Compare) → comparison (comparison_sort c) ≡ Some c
+comparison_again compare.Same = refl
+comparison_again _ = refl
+
+pub comparison_goes_on : (c : Compare) → comparison_sort c ≡ sort.End → ⊥
+comparison_goes_on compare.Same e = cc
+comparison_goes_on _ e = cc
+
+pub table_is : (s : Sort) (k : TableKind) → table_kind s ≡ Some k → s ≡ table_sort k
+table_is sort.Map k e = let h : table.Map ≡ k = cc in ap table_sort h
+table_is sort.Set k e = let h : table.Set ≡ k = cc in ap table_sort h
+table_is _ k e = absurd (cc)
+
+pub table_again : (k : TableKind) → table_kind (table_sort k) ≡ Some k
+table_again table.Map = refl
+table_again table.Set = refl
+
+pub table_goes_on : (k : TableKind) → table_sort k ≡ sort.End → ⊥
+table_goes_on table.Map e = cc
+table_goes_on table.Set e = cc
+
+-- ---- a right side that doesn't begin with an operation is an expression
+
+right_as : (end n : ℕ) (under : List Part) (w : Word) (ws : List Word) (o : Option (List Part)) → after_taking w n (λ ps m. fault end ps m ws) (at_top a_right under o (taking under w.sort)) ≡ after_taking w n (λ ps m. fault end ps m ws) (at_top expression under o (taking under w.sort))
+right_as end n under w ws None = refl
+right_as end n under w ws (Some left) = refl
+
+right_same : (end : ℕ) (under : List Part) (n : ℕ) (ws : List Word) → operation (first_word end ws).sort ≡ None → fault end (a_right ∷ under) n ws ≡ fault end (expression ∷ under) n ws
+right_same end under n [] e = refl
+right_same end under n (w ∷ ws) e =
+    ap (λ o. after_taking w n (λ ps m. fault end ps m ws) (at_top a_right under (where_operation call_parts (expression_row w.sort) o) (taking under w.sort))) e
+    ∙ right_as end n under w ws (expression_row w.sort)
+
+pub passed_plain : (U : List Part → Type 0) (ps qs : List Part) (a b : Input) (w : Word) → w ≡ first_word a.reader.end a.reader.words → operation w.sort ≡ None → Passed U (expression ∷ ps) qs a b → Passed U (a_right ∷ ps) qs a b
+passed_plain U ps qs a b w f e p = record {
+  end_same = p.end_same;
+  no_longer = p.no_longer;
+  no_end = p.no_end;
+  fault_same = λ under h. right_same a.reader.end (ps ++ under) a.signs a.reader.words (ap (λ x. operation x.sort) (sym f) ∙ e) ∙ p.fault_same under h;
+}
+
+pub refused_plain : (U : List Part → Type 0) (ps : List Part) (a : Input) (r : SyntaxRefusal) (w : Word) → w ≡ first_word a.reader.end a.reader.words → operation w.sort ≡ None → Refused U (expression ∷ ps) a r → Refused U (a_right ∷ ps) a r
+refused_plain U ps a r w f e p = record {
+  fault_is = λ under h. right_same a.reader.end (ps ++ under) a.signs a.reader.words (ap (λ x. operation x.sort) (sym f) ∙ e) ∙ p.fault_is under h;
+}

@@ -1,0 +1,60 @@
+-- How an expression begins.
+use Rattle.std.proofs.Common.{◌≡◌, ℕ, List, [], ◌∷◌, ◌++◌, refl, ◌∙◌}
+use Rattle.std.specs.Prelude.{Result, Ok, Err}
+use Rattle.handler_tokens.specs.declared.word.Word.{Word}
+use Rattle.handler_tokens.specs.declared.word.Sort.{Sort}
+use Rattle.handler_tokens.specs.declared.word.Sort.TheVariants as sort
+use Rattle.handler_tokens.specs.Words.{first_word}
+use Rattle.handler_trees.specs.declared.expr.Expr.{Expr}
+use Rattle.handler_grammar.specs.declared.input.Input.{Input}
+use Rattle.handler_grammar.specs.declared.refusal.SyntaxRefusal.{SyntaxRefusal}
+use Rattle.handler_grammar.specs.Next.{Part, Opened, expression, operand, more_factors, more_terms, an_atom, fault}
+use Rattle.handler_grammar.specs.Phrase.{word, expr_words}
+use Rattle.handler_grammar.specs.Tree.{expr_tree}
+use Rattle.handler_grammar.specs.Reads.{Refused, Passed, Reads}
+
+-- an operand that doesn't begin with a parenthesis is an atom
+atom_start : (end : ℕ) (under : List Part) (n : ℕ) (s : Sort) (at : ℕ) (ws : List Word) → (s ≡ sort.LeftParen → ⊥) → fault end (operand ∷ under) n (word s at ∷ ws) ≡ fault end (an_atom ∷ under) n (word s at ∷ ws)
+atom_start end under n sort.LeftParen at ws off = absurd (off refl)
+atom_start end under n _ at ws off = refl
+
+operand_same : (end : ℕ) (under : List Part) (n : ℕ) (ws : List Word) → ((first_word end ws).sort ≡ sort.LeftParen → ⊥) → fault end (operand ∷ under) n ws ≡ fault end (an_atom ∷ under) n ws
+operand_same end under n [] off = refl
+operand_same end under n (w ∷ ws) off = atom_start end under n w.sort w.at ws off
+
+pub passed_atom : (U : List Part → Type 0) (ps qs : List Part) (a b : Input) → ((first_word a.reader.end a.reader.words).sort ≡ sort.LeftParen → ⊥) → Passed U (an_atom ∷ ps) qs a b → Passed U (operand ∷ ps) qs a b
+passed_atom U ps qs a b off f = record {
+  end_same = f.end_same;
+  no_longer = f.no_longer;
+  no_end = f.no_end;
+  fault_same = λ under h. operand_same a.reader.end (ps ++ under) a.signs a.reader.words off ∙ f.fault_same under h;
+}
+
+pub refused_atom : (U : List Part → Type 0) (ps : List Part) (a : Input) (e : SyntaxRefusal) → ((first_word a.reader.end a.reader.words).sort ≡ sort.LeftParen → ⊥) → Refused U (an_atom ∷ ps) a e → Refused U (operand ∷ ps) a e
+refused_atom U ps a e off f = record { fault_is = λ under h. operand_same a.reader.end (ps ++ under) a.signs a.reader.words off ∙ f.fault_is under h }
+
+-- a whole expression begins as an operand does, with no sign so far
+expression_start : (end : ℕ) (under : List Part) (n : ℕ) (s : Sort) (at : ℕ) (ws : List Word) → fault end (expression ∷ under) n (word s at ∷ ws) ≡ fault end (operand ∷ more_factors ∷ more_terms ∷ under) 0 (word s at ∷ ws)
+expression_start end under n (sort.Name x) at ws = refl
+expression_start end under n (sort.Symbol x) at ws = refl
+expression_start end under n (sort.Number x) at ws = refl
+expression_start end under n sort.Nil at ws = refl
+expression_start end under n sort.Minus at ws = refl
+expression_start end under n sort.LeftParen at ws = refl
+expression_start end under n _ at ws = refl
+
+pub expression_same : (end : ℕ) (under : List Part) (n : ℕ) (ws : List Word) → fault end (expression ∷ under) n ws ≡ fault end (operand ∷ more_factors ∷ more_terms ∷ under) 0 ws
+expression_same end under n [] = refl
+expression_same end under n (w ∷ ws) = expression_start end under n w.sort w.at ws
+
+pub whole_reads : (a b : Input) (r : Result Expr SyntaxRefusal) → Reads expr_words expr_tree (Opened 0) (operand ∷ more_factors ∷ more_terms ∷ []) [] (record a { signs = 0 }) r b → Reads expr_words expr_tree (Opened 0) (expression ∷ []) [] a r b
+whole_reads a b (Ok v) f = (
+  f.0,
+  record {
+    end_same = f.1.end_same;
+    no_longer = f.1.no_longer;
+    no_end = f.1.no_end;
+    fault_same = λ under h. expression_same a.reader.end under a.signs a.reader.words ∙ f.1.fault_same under h;
+  },
+)
+whole_reads a b (Err e) f = λ some. record { fault_is = λ under h. expression_same a.reader.end under a.signs a.reader.words ∙ (f some).fault_is under h }

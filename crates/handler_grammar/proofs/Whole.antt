@@ -1,0 +1,66 @@
+-- What the parser's answers say of a whole source.
+use Rattle.std.proofs.Common.{◌≡◌, ◌≤◌, ℕ, suc, List, [], ◌∷◌, Some, None, length, refl, sym, ap, ◌∙◌, subst, arith}
+use Rattle.std.specs.Prelude.{◌≢◌, Result, Ok, Err, IfOk, OnOk, IfErr, MatchResult}
+use Rattle.std.specs.List.{AllByRecursion}
+use Rattle.handler_tokens.specs.declared.word.Word.{Word}
+use Rattle.handler_tokens.specs.Tokens.{Piece, pieces}
+use Rattle.handler_tokens.specs.Words.{words, words_of, names_of, names_after, IsNamedWord}
+use Rattle.handler_tokens.proofs.Pieces.{pieces_few}
+use Rattle.handler_tokens.proofs.WordsNamed.{words_named}
+use Rattle.handler_trees.specs.declared.file.File.{File}
+use Rattle.handler_grammar.specs.declared.refusal.SyntaxRefusal.{SyntaxRefusal}
+use Rattle.handler_grammar.specs.declared.refusal.SyntaxRefusal.TheVariants.{NoMemory}
+use Rattle.handler_grammar.specs.FirstFault.{IsFile, IsFirstFault}
+use Rattle.handler_grammar.specs.Limits.{IsFileWithin}
+use Rattle.handler_grammar.specs.NamedFile.{IsNamedFile}
+use Rattle.handler_grammar.specs.Next.{fault, whole_file}
+use Rattle.handler_grammar.proofs.NamedFile.{file_named}
+use Rattle.handler_grammar.proofs.UniqueFile.{same_file}
+use Rattle.handler_grammar.proofs.Law.{first_fault}
+use Rattle.handler_grammar.proofs.FitsFile.{fits, passed_whole}
+
+words_length : (names : List (List ℕ)) (ps : List Piece) → length (words names ps) ≡ length ps
+words_length names [] = refl
+words_length names (p ∷ ps) = ap (λ n. suc n) (words_length (names_after names p) ps)
+
+-- there are no more words than bytes
+pub words_few : (names : List (List ℕ)) (source : List ℕ) → length (words_of names source) ≤ length source
+unfolding words_of
+words_few names source = omega (arith, words_length names (pieces 0 0 source), pieces_few 0 0 source)
+
+only_memory : (e : SyntaxRefusal) → ((e ≡ NoMemory → ⊥) → ⊥) → e ≡ NoMemory
+only_memory NoMemory h = refl
+only_memory _ h = absurd (h (λ q. cc))
+
+-- a refusal of the walk is the first fault
+pub refused_first : (end : ℕ) (ws : List Word) (r : Result File SyntaxRefusal) → IfErr r (λ e. e ≢ NoMemory → fault end whole_file 0 ws ≡ Some e) → IfErr r (λ e. e ≢ NoMemory → IsFirstFault end ws e)
+refused_first end ws (Ok v) h = h
+refused_first end ws (Err e) h = λ some. first_fault end e ws (h some)
+
+-- a text within the limits has no fault
+no_fault : (end : ℕ) (ws : List Word) (file : File) → IsFileWithin ws file → fault end whole_file 0 ws ≡ None
+no_fault end ws file f = ap (fault end whole_file 0) f.1 ∙ passed_whole end f.0 f.3
+
+-- words of the grammar, within its limits, are read with their one tree
+pub read_only : (end : ℕ) (ws : List Word) (r : Result File SyntaxRefusal) → IfOk r (IsFile ws) → IfErr r (λ e. e ≢ NoMemory → fault end whole_file 0 ws ≡ Some e) → (file : File) → IsFileWithin ws file → MatchResult r (λ read. read ≡ file) (λ e. e ≡ NoMemory)
+read_only end ws (Ok read) ok exact file f = ok.2 ∙ same_file ok.0 f.0 (sym ok.1 ∙ f.1) ∙ sym f.2
+read_only end ws (Err e) ok exact file f = only_memory e (λ some. let h = exact some in let k = no_fault end ws file f in cc)
+
+-- what was read with no fault is within the limits
+pub read_within : (end : ℕ) (ws : List Word) (r : Result File SyntaxRefusal) → IfOk r (IsFile ws) → OnOk r (fault end whole_file 0 ws ≡ None) → IfOk r (IsFileWithin ws)
+read_within end ws (Ok file) ok within = (ok.0, ok.1, ok.2, fits end ok.0 (ap (fault end whole_file 0) (sym ok.1) ∙ within))
+read_within end ws (Err e) ok within = tt
+
+-- what the walk finds
+pub read_exact : (end : ℕ) (ws : List Word) (r : Result File SyntaxRefusal) → OnOk r (fault end whole_file 0 ws ≡ None) → IfErr r (λ e. e ≢ NoMemory → fault end whole_file 0 ws ≡ Some e) → MatchResult r (λ file. fault end whole_file 0 ws ≡ None) (λ e. e ≢ NoMemory → fault end whole_file 0 ws ≡ Some e)
+read_exact end ws (Ok file) within exact = within
+read_exact end ws (Err e) within exact = exact
+
+pub named_tree : (names : List (List ℕ)) (source : List ℕ) (file : File) → IsFile (words_of names source) file → IsNamedFile (names_of names source) file
+named_tree names source file r =
+    subst (IsNamedFile (names_of names source)) (sym r.2) (file_named (names_of names source) r.0 (subst (AllByRecursion (IsNamedWord (names_of names source))) r.1 (words_named names source)))
+
+-- the names behind a source that was read
+pub read_named : (names all : List (List ℕ)) (source : List ℕ) (r : Result File SyntaxRefusal) → IfOk r (IsFile (words_of names source)) → OnOk r (all ≡ names_of names source) → IfOk r (IsNamedFile all)
+read_named names all source (Ok file) ok same = subst (λ ns. IsNamedFile ns file) (sym same) (named_tree names source file ok)
+read_named names all source (Err e) ok same = tt

@@ -1,0 +1,27 @@
+use Rattle.std.proofs.Common.{arith, refl, ◌≡◌, ◌≤◌, ℕ, zero, suc, pos, ◌-ℤ◌, to_z, of_z, w64, ap, []}
+use Rattle.std.proofs.lemmas.Int.{ints}
+use Rattle.std.proofs.lemmas.Bool.{lt-leb}
+use Rattle.handler_grammar.specs.Next.{after_minus, where_over, number_size}
+use Rattle.handler_grammar.specs.Phrase.{digits}
+use Rattle.handler_grammar.specs.Tree.{minus_ℕ}
+use Rattle.handler_grammar.proofs.Steps.{took, passed_one}
+use Rattle.handler_grammar.proofs.parse_atom.negative.Goals as goal
+
+minus_is : (v : ℕ) → v ≤ 9223372036854775807 → to_z w64 (of_z w64 (pos 0 -ℤ to_z w64 v)) ≡ minus_ℕ v
+minus_is zero h = omega (arith, ints)
+minus_is (suc n) h = omega (arith, ints)
+
+pub returns-then-value-gt-MAX_NUMBER-clause-reads : goal.returns-then-value-gt-MAX_NUMBER-clause-reads
+returns-then-value-gt-MAX_NUMBER-clause-reads c =
+    let most : 9223372036854775808 ≡ c.in-Number.value = omega (arith, c.if-value-gt-MAX_NEGATIVE.false, c.if-value-gt-MAX_NUMBER.true) in
+    let read = took _ _ _ _ _ c.in_ok-word.ensures.word c.in-Number.is (λ e. cc) c.in_ok-word.ensures.words in (
+      record { phrase = digits c.in-Number.value c.in_ok-word.word.at; read = read; value = ap minus_ℕ most },
+      passed_one _ _ _ after_minus [] _ read c.take.ensures.end c.take.ensures.signs refl (λ under h. ap (where_over number_size) (lt-leb _ _ (omega (arith, c.if-value-gt-MAX_NEGATIVE.false)))),
+    )
+
+pub returns-else-value-gt-MAX_NUMBER-clause-reads : goal.returns-else-value-gt-MAX_NUMBER-clause-reads
+returns-else-value-gt-MAX_NUMBER-clause-reads c =
+    let read = took _ _ _ _ _ c.in_ok-word.ensures.word c.in-Number.is (λ e. cc) c.in_ok-word.ensures.words in (
+      record { phrase = digits c.in-Number.value c.in_ok-word.word.at; read = read; value = minus_is _ (omega (arith, c.if-value-gt-MAX_NUMBER.false)) },
+      passed_one _ _ _ after_minus [] _ read c.take.ensures.end c.take.ensures.signs refl (λ under h. ap (where_over number_size) (lt-leb _ _ (omega (arith, c.if-value-gt-MAX_NEGATIVE.false)))),
+    )

@@ -1,0 +1,13 @@
+use Rattle.std.proofs.Common.{[], refl, ap, arith}
+use Rattle.std.proofs.lemmas.Bool.{lt-leb}
+use Rattle.handler_grammar.specs.Next.{a_count, where_over, number_size}
+use Rattle.handler_grammar.specs.Phrase.{digits}
+use Rattle.handler_grammar.proofs.Steps.{took, passed_one}
+use Rattle.handler_grammar.proofs.parse_call.turn_count.Goals as goal
+
+pub returns-else-value-gt-MAX_NUMBER-clause-reads : goal.returns-else-value-gt-MAX_NUMBER-clause-reads
+returns-else-value-gt-MAX_NUMBER-clause-reads c =
+    let read = took _ _ _ _ _ c.in_ok-word.ensures.word c.in-Number.is (λ e. cc) c.in_ok-word.ensures.words in (
+      record { phrase = digits c.in-Number.value c.in_ok-word.word.at; read = read; value = refl },
+      passed_one _ _ _ a_count [] _ read c.take.ensures.end c.take.ensures.signs refl (λ under h. ap (where_over number_size) (lt-leb _ _ (omega (arith, c.if-value-gt-MAX_NUMBER.false)))),
+    )

@@ -1,0 +1,23 @@
+use Rattle.std.proofs.Common.{◌≡◌, ◌+◌, ◌∷◌, [], ◌++◌, length, sym, ap, ◌∙◌, arith, length-append}
+use Rattle.handler_grammar.specs.Phrase.{handlers_words}
+use Rattle.handler_grammar.specs.Tree.{handlers_trees}
+use Rattle.handler_grammar.proofs.ListLoops.{and_handler, and_handler-words, and_handler-trees}
+use Rattle.handler_grammar.proofs.Steps.{passed_then, passed_still}
+use Rattle.handler_grammar.proofs.parse_handler.handlers.Goals as goal
+
+pub handlers-preserved : goal.handlers-preserved
+handlers-preserved c =
+    let so_far = c.handlers.invariant in
+    let seen = c.in_ok-peek.ensures in
+    let f = c.in_ok-next-in-Handler.ensures in
+    let s = f.reads.0.phrase in
+    let long : length c.push.new.self.items ≡ length c.handlers.items.items + 1 = ap length c.in_ok-push-in-Handler.ensures.items ∙ length-append c.handlers.items.items _ in
+    record {
+      so_far = and_handler so_far.so_far s;
+      read = so_far.read ∙ ap (handlers_words so_far.so_far) (sym seen.words ∙ f.reads.0.read) ∙ sym (and_handler-words so_far.so_far s _);
+      value = c.in_ok-push-in-Handler.ensures.items ∙ ap (λ l. l ++ c.in_ok-next-in-Handler.next ∷ []) so_far.value ∙ ap (λ x. handlers_trees so_far.so_far ++ x ∷ []) f.reads.0.value ∙ sym (and_handler-trees so_far.so_far s);
+      room = omega (arith, so_far.room, f.shorter, long, ap length seen.words);
+      passed = passed_then so_far.passed (passed_then (passed_still seen.words seen.end seen.signs) f.reads.1);
+      names = f.names ∙ seen.names ∙ so_far.names;
+      grown = omega (arith, f.count, seen.count, so_far.grown);
+    }

@@ -1,0 +1,17 @@
+use Rattle.std.proofs.Common.{refl, sym, ◌∙◌, []}
+use Rattle.handler_grammar.specs.Next.{mark}
+use Rattle.handler_grammar.proofs.Steps.{took, passed_one, refused_is, refused_none}
+use Rattle.handler_grammar.proofs.Rows.{mark_same, mark_no_end, none_left}
+use Rattle.handler_grammar.proofs.parse_words.mark.Goals as goal
+
+pub returns-then-is_mark-clause-reads : goal.returns-then-is_mark-clause-reads
+returns-then-is_mark-clause-reads c =
+    let known = sym c.is_mark.ensures ∙ c.if-is_mark.true in
+    let read = took _ _ _ _ _ c.in_ok-word.ensures.word (mark_same _ _ known) (mark_no_end _ c.requires) c.in_ok-word.ensures.words in (
+      record { phrase = c.in_ok-word.word.at; read = read; value = refl },
+      passed_one _ _ _ (mark c.args.sort) [] _ read c.take.ensures.end c.take.ensures.signs c.requires (λ under h. refl),
+    )
+
+pub returns-else-is_mark-clause-reads : goal.returns-else-is_mark-clause-reads
+returns-else-is_mark-clause-reads c = λ some.
+    refused_is c.refusal.ensures (refused_none _ (mark c.args.sort) [] _ _ c.in_ok-word.ensures.word refl (none_left _ (sym c.is_mark.ensures ∙ c.if-is_mark.false)))

@@ -1,0 +1,9 @@
+pub mod Sorts
+pub mod Refusal
+pub mod Phrase
+pub mod Tree
+pub mod Next
+pub mod Reads
+pub mod FirstFault
+pub mod Limits
+pub mod NamedFile

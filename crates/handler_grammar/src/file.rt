@@ -1,0 +1,106 @@
+// Whole files, and the call that reads them.
+
+ghost use Rattle.std.specs.Prelude.{◌≡◌, ◌≢◌, ◌≤◌, ◌<◌, ◌+◌, ◌^◌, [], length, None, Some, IfOk, OnOk, IfErr, MatchResult};
+ghost use Rattle.session_values.specs.Names.{Begins};
+ghost use Rattle.handler_tokens.specs.Words.{words_of, names_of};
+ghost use Rattle.handler_grammar.specs.FirstFault.{IsFile, IsFirstFault};
+ghost use Rattle.handler_grammar.specs.Limits.{IsFileWithin};
+ghost use Rattle.handler_grammar.specs.NamedFile.{IsNamedFile};
+ghost use Rattle.handler_grammar.specs.Next.{Inside, fault, whole_file};
+ghost use Rattle.handler_grammar.specs.Phrase as spec;
+ghost use Rattle.handler_grammar.specs.Tree as tree;
+ghost use Rattle.handler_grammar.specs.Reads.{HasNoEnd, Reads};
+ghost use Rattle.handler_grammar.specs.declared.refusal.SyntaxRefusal.TheVariants as syntax_refusal;
+ghost use Rattle.handler_trees.specs.declared.file.File.{File};
+
+use crate::input::Input;
+use crate::parse_handler::handlers;
+use crate::parse_table::tables;
+use crate::refusal::{SyntaxRefusal, refusal};
+use handler_tokens::{Reader, Sort};
+use handler_trees::File;
+use session_values::Names;
+use std::alloc::Global;
+
+fn file(alloc: Global, input: &mut Input<'_>) -> Result<File, SyntaxRefusal>
+    requires { length input.old.reader.words < 2 ^ 32 }
+    ensures reads { Reads spec.file_words tree.file_tree (Inside 0) whole_file [] input.old result input.new }
+    ensures names { input.new.reader.names ≡ input.old.reader.names }
+    ensures count { input.old.reader.count ≤ input.new.reader.count }
+{
+    let tables = tables(alloc, input)?;
+    let handlers = handlers(alloc, input)?;
+    Ok(File { tables, handlers })
+}
+
+/// A file, with nothing behind it.
+fn whole(alloc: Global, input: &mut Input<'_>) -> Result<File, SyntaxRefusal>
+    requires few { length input.old.reader.words < 2 ^ 32 }
+    requires no_end { HasNoEnd input.old.reader.words }
+    requires signs { input.old.signs ≡ 0 }
+    ensures ok { IfOk result (λ file. IsFile input.old.reader.words file) }
+    ensures within { OnOk result (fault input.old.reader.end whole_file 0 input.old.reader.words ≡ None) }
+    ensures exact { IfErr result (λ e. e ≢ syntax_refusal.NoMemory → fault input.old.reader.end whole_file 0 input.old.reader.words ≡ Some e) }
+    ensures finished { OnOk result (input.new.reader.words ≡ []) }
+    ensures names { input.new.reader.names ≡ input.old.reader.names }
+    ensures count { input.old.reader.count ≤ input.new.reader.count }
+{
+    let file = file(alloc, input)?;
+    let word = input.peek()?;
+    match word.sort {
+        Sort::End => Ok(file),
+        _ => Err(refusal(word)),
+    }
+}
+
+/// The file that a source is, and the names behind what was read of it.
+fn read_source(alloc: Global, source: &str, names: Names) -> (Result<File, SyntaxRefusal>, Names)
+    requires short { length source.now ≤ 4194304 }
+    requires room { length names ≤ 4000000000 }
+    ensures ok { IfOk result.0 (λ file. IsFile (words_of names source.now) file) }
+    ensures within { OnOk result.0 (fault (length source.now) whole_file 0 (words_of names source.now) ≡ None) }
+    ensures exact { IfErr result.0 (λ e. e ≢ syntax_refusal.NoMemory → fault (length source.now) whole_file 0 (words_of names source.now) ≡ Some e) }
+    ensures names { OnOk result.0 (result.1 ≡ names_of names source.now) }
+    ensures kept { Begins names result.1 }
+    ensures few { length result.1 ≤ length names + length source.now }
+{
+    let mut input = Input {
+        reader: Reader::over(source, names),
+        signs: 0,
+    };
+    let found = whole(alloc, &mut input);
+    let Input { reader, signs: _ } = input;
+    (found, reader.into_names())
+}
+
+/// The file that a source is. `names` then has the names and symbols of the source too; after a
+/// refusal, perhaps some of them.
+pub fn parse(alloc: Global, source: &str, names: &mut Names) -> Result<File, SyntaxRefusal>
+    requires short { length source.now ≤ 4194304 }
+    requires room { length names.old ≤ 4000000000 }
+    // The source is a file of the grammar, within its limits, and this is its tree.
+    ensures ok { IfOk result (IsFileWithin (words_of names.old source.now)) }
+    // Such a file is read, unless memory runs out, and it has no other tree.
+    ensures only { (file : File)
+        → IsFileWithin (words_of names.old source.now) file
+        → MatchResult result (λ read. read ≡ file) (λ e. e ≡ syntax_refusal.NoMemory) }
+    // The walk over the words finds no fault, or this one.
+    ensures exact { MatchResult result
+        (λ file. fault (length source.now) whole_file 0 (words_of names.old source.now) ≡ None)
+        (λ e. e ≢ syntax_refusal.NoMemory
+        → fault (length source.now) whole_file 0 (words_of names.old source.now) ≡ Some e) }
+    // What is refused has its first fault here.
+    ensures refused { IfErr result (λ e.
+        e ≢ syntax_refusal.NoMemory
+        → IsFirstFault (length source.now) (words_of names.old source.now) e) }
+    ensures names { OnOk result (names.new ≡ names_of names.old source.now) }
+    // After a refusal too.
+    ensures kept { Begins names.old names.new }
+    ensures few { length names.new ≤ length names.old + length source.now }
+    ensures named { IfOk result (IsNamedFile names.new) }
+{
+    let own = std::mem::replace(names, Names::new(alloc)?);
+    let (found, own) = read_source(alloc, source, own);
+    *names = own;
+    found
+}

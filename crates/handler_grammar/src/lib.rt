@@ -1,0 +1,24 @@
+//! The parser of a file of handlers, for the whole language.
+#![tactic(auto)]
+
+mod file;
+mod input;
+mod parse_atom;
+mod parse_block;
+mod parse_call;
+mod parse_expr;
+mod parse_handler;
+mod parse_stmt;
+mod parse_table;
+mod parse_words;
+mod refusal;
+mod sorts;
+#[cfg(test)]
+mod tests;
+
+pub use file::parse;
+pub use handler_trees::{
+    Atom, Atoms, Block, Calc, Call, Compare, Cond, Expr, Exprs, File, Handler, Handlers, Param,
+    Params, Right, Stmt, TableDecl, TableDecls,
+};
+pub use refusal::SyntaxRefusal;

@@ -1,0 +1,76 @@
+// The words that stand for operations, comparisons and kinds of tables.
+
+ghost use Rattle.std.specs.Prelude.{◌≡◌};
+ghost use Rattle.handler_grammar.specs.Sorts as spec;
+
+use handler_tokens::Sort;
+use handler_trees::Compare;
+use session_values::{Kind, TableKind};
+
+/// What a statement begins with.
+#[derive(Clone, Copy)]
+pub(crate) enum Start {
+    Let,
+    Assign(u32),
+    Call(Kind),
+    If,
+    Repeat,
+    Reply,
+}
+
+/// The operation that a word names.
+pub(crate) fn operation(sort: Sort) -> Option<Kind>
+    ensures { result ≡ spec.operation sort }
+{
+    match sort {
+        Sort::Get => Some(Kind::Get),
+        Sort::Put => Some(Kind::Put),
+        Sort::Swap => Some(Kind::Swap),
+        Sort::Del => Some(Kind::Del),
+        Sort::Size => Some(Kind::Size),
+        Sort::Has => Some(Kind::Has),
+        Sort::Add => Some(Kind::Add),
+        Sort::Mark => Some(Kind::Mark),
+        Sort::Drop => Some(Kind::Drop),
+        Sort::Count => Some(Kind::Count),
+        _ => None,
+    }
+}
+
+/// The comparison that a sign is.
+pub(crate) fn comparison(sort: Sort) -> Option<Compare>
+    ensures { result ≡ spec.comparison sort }
+{
+    match sort {
+        Sort::Same => Some(Compare::Same),
+        Sort::Differ => Some(Compare::Differ),
+        Sort::Less => Some(Compare::Less),
+        Sort::LessOrSame => Some(Compare::LessOrSame),
+        _ => None,
+    }
+}
+
+/// The kind of table that a word begins.
+pub(crate) fn table_kind(sort: Sort) -> Option<TableKind>
+    ensures { result ≡ spec.table_kind sort }
+{
+    match sort {
+        Sort::Map => Some(TableKind::Map),
+        Sort::Set => Some(TableKind::Set),
+        _ => None,
+    }
+}
+
+/// The statement that a word begins.
+pub(crate) fn statement_start(sort: Sort) -> Option<Start>
+    ensures { result ≡ spec.statement_start sort }
+{
+    match sort {
+        Sort::Let => Some(Start::Let),
+        Sort::Name(name) => Some(Start::Assign(name)),
+        Sort::If => Some(Start::If),
+        Sort::Repeat => Some(Start::Repeat),
+        Sort::Reply => Some(Start::Reply),
+        sort => operation(sort).map(Start::Call),
+    }
+}

@@ -1,0 +1,158 @@
+// Sources of the grammar, and sources that are refused.
+
+ghost use Rattle.std.specs.Prelude.{◌≤◌, length};
+
+use super::*;
+use session_values::Names;
+use std::alloc::Global;
+use std::test::Fail;
+
+const SESSION: &str =
+    "map seats;\nset online;\nhandler login(u, now) {\n  let old = swap(seats, u, now);\n  mark(online, u);\n  reply old;\n}\nhandler logout(u) {\n  del(seats, u);\n  drop(online, u);\n}\n";
+
+const SIXTEEN_SIGNS: &str = "+1-1*1+1-1*1+1-1*1+1-1*1+1-1*1+1";
+
+const SIXTEEN_BLOCKS: &str =
+    "{if 1==1{if 1==1{if 1==1{if 1==1{if 1==1{if 1==1{if 1==1{if 1==1{if 1==1{if 1==1{if 1==1{if 1==1{if 1==1{if 1==1{if 1==1{";
+
+/// The tree of a source as text, or why it has none.
+fn shown(alloc: Global, source: &str) -> Result<String, Fail>
+    requires { length source.now ≤ 4194304 }
+{
+    let mut names = Names::new(alloc)?;
+    match parse(alloc, source, &mut names) {
+        Ok(file) => Ok(format!(in alloc; "{file:?}")?),
+        Err(e) => Ok(format!(in alloc; "{e:?}")?),
+    }
+}
+
+#[test]
+fn refuses_at_the_first_fault(rt: HostRuntime) -> Result<(), Fail> {
+    for (source, refusal) in [
+        ("map m;\nhandler f(", "Unexpected { at: 17, found: End }"),
+        ("map m$;", "BadByte { at: 5 }"),
+        ("\0", "BadByte { at: 0 }"),
+        (
+            "handler f() { reply 9223372036854775808; }",
+            "NumberTooLarge { at: 20 }",
+        ),
+        (
+            "handler f() { reply -9223372036854775809; }",
+            "NumberTooLarge { at: 21 }",
+        ),
+        (
+            "handler f() { repeat 9223372036854775808 as i { } }",
+            "NumberTooLarge { at: 21 }",
+        ),
+        (
+            "map m; handler f() { put(m, 99999999999999999999, ",
+            "NumberTooLarge { at: 28 }",
+        ),
+        (
+            "map aaaaaaaaaaaaaaaaaaaaaaaaaaaaaaaaaaaaaaaaaaaaaaaaaaaaaaaaaaaaaaaaa",
+            "NameTooLong { at: 4 }",
+        ),
+        (
+            "handler f() { reply (((((((((((((((((",
+            "TooDeep { at: 36 }",
+        ),
+        (
+            "handler f() { } map m;",
+            "Unexpected { at: 16, found: Key }",
+        ),
+        (
+            "handler f() { if 1 { } }",
+            "Unexpected { at: 19, found: Sign }",
+        ),
+        (
+            "handler f() { x + 1; }",
+            "Unexpected { at: 16, found: Sign }",
+        ),
+        (
+            "handler f() { let x = get(m, 1, 2, 3); }",
+            "Unexpected { at: 33, found: Sign }",
+        ),
+        (
+            "handler f() { reply 1, 2, 3, 4, 5; }",
+            "Unexpected { at: 30, found: Sign }",
+        ),
+        ("handler f(x,) { }", "Unexpected { at: 12, found: Sign }"),
+    ] {
+        let text = shown(rt.alloc(), source)?;
+        assert_eq!(rt; text.as_str(), refusal, "{source}");
+    }
+    Ok(())
+}
+
+#[test]
+fn counts_signs_and_blocks(rt: HostRuntime) -> Result<(), Fail> {
+    let alloc = rt.alloc();
+    let signs = format!(in alloc; "{SIXTEEN_SIGNS}{SIXTEEN_SIGNS}{SIXTEEN_SIGNS}{SIXTEEN_SIGNS}")?;
+    let most = format!(in alloc;
+        "handler f() {SIXTEEN_BLOCKS}reply ((((((((((((((((-1)))))))))))))))){signs}, 2 {signs};}}}}}}}}}}}}}}}}}}}}}}}}}}}}}}}}"
+    )?;
+    assert!(rt; most.len() < 4000);
+    let tree = shown(alloc, most.as_str())?;
+    assert!(rt; tree.as_str().starts_with("File"), "{tree}");
+    let sign = format!(in alloc; "handler f() {{ reply 1{signs}+1; }}")?;
+    assert!(rt; sign.len() < 4000);
+    assert_eq!(rt;
+        shown(alloc, sign.as_str())?.as_str(),
+        "TooDeep { at: 149 }"
+    );
+    let block = format!(in alloc; "handler f() {SIXTEEN_BLOCKS}if 1==1{{")?;
+    assert!(rt; block.len() < 4000);
+    assert_eq!(rt;
+        shown(alloc, block.as_str())?.as_str(),
+        "TooDeep { at: 140 }"
+    );
+    Ok(())
+}
+
+#[test]
+fn reads_fronts_of_a_session(rt: HostRuntime) -> Result<(), Fail> {
+    let mut whole = Vec::new(rt.alloc());
+    for end in 0..173usize {
+        if let Some(front) = SESSION.get(..end) {
+            let text = shown(rt.alloc(), front)?;
+            if text.as_str().starts_with("File") {
+                whole.push(end)?;
+            }
+        }
+    }
+    assert_eq!(rt;
+        whole.as_slice(),
+        [0, 10, 11, 22, 23, 113, 114, 171, 172].as_slice()
+    );
+    Ok(())
+}
+
+#[test]
+fn reads_trees(rt: HostRuntime) -> Result<(), Fail> {
+    for (source, tree) in [
+        (
+            "",
+            "File { tables: Listed { items: [] }, handlers: Listed { items: [] } }",
+        ),
+        (
+            "set s;",
+            "File { tables: Listed { items: [TableDecl { kind: Set, name: 0, at: 4 }] }, handlers: Listed { items: [] } }",
+        ),
+        (
+            "handler f() { reply 1 - 2 - 3 * (4 + 'a), nil; }",
+            "File { tables: Listed { items: [] }, handlers: Listed { items: [Handler { name: 0, at: 8, params: Listed { items: [] }, body: Listed { items: [Answer { at: 14, values: Listed { items: [Binary { calc: Minus, left: Boxed { inner: Binary { calc: Minus, left: Boxed { inner: Leaf(Lit(Num(1))) }, right: Boxed { inner: Leaf(Lit(Num(2))) } } }, right: Boxed { inner: Binary { calc: Times, left: Boxed { inner: Leaf(Lit(Num(3))) }, right: Boxed { inner: Binary { calc: Plus, left: Boxed { inner: Leaf(Lit(Num(4))) }, right: Boxed { inner: Leaf(Lit(Sym(1))) } } } } } }, Leaf(Lit(Nil))] } }] } }] } }",
+        ),
+        (
+            "map m; handler f(k) { x = size(m); del(m, k); if k <= 1 { } else { y = k; } }",
+            "File { tables: Listed { items: [TableDecl { kind: Map, name: 0, at: 4 }] }, handlers: Listed { items: [Handler { name: 1, at: 15, params: Listed { items: [Param { name: 2, at: 17 }] }, body: Listed { items: [Assign { name: 3, at: 22, right: Result(Call { kind: Size, at: 26, table: 0, table_at: 31, args: Listed { items: [] } }) }, Perform { call: Call { kind: Del, at: 35, table: 0, table_at: 39, args: Listed { items: [Name { name: 2, at: 42 }] } } }, Choose { at: 46, cond: Cond { compare: LessOrSame, left: Leaf(Name { name: 2, at: 49 }), right: Leaf(Lit(Num(1))) }, yes: Listed { items: [] }, no: Listed { items: [Assign { name: 4, at: 67, right: Plain(Leaf(Name { name: 2, at: 71 })) }] } }] } }] } }",
+        ),
+        (
+            "map m; handler f() { repeat 3 as i { let j = -9223372036854775808; } }",
+            "File { tables: Listed { items: [TableDecl { kind: Map, name: 0, at: 4 }] }, handlers: Listed { items: [Handler { name: 1, at: 15, params: Listed { items: [] }, body: Listed { items: [Repeat { at: 21, turns: 3, turns_at: 28, name: 2, name_at: 33, body: Listed { items: [Let { name: 3, at: 41, right: Plain(Leaf(Lit(Num(-9223372036854775808)))) }] } }] } }] } }",
+        ),
+    ] {
+        let text = shown(rt.alloc(), source)?;
+        assert_eq!(rt; text.as_str(), tree, "{source}");
+    }
+    Ok(())
+}

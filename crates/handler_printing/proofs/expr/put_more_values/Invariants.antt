@@ -1,0 +1,12 @@
+use Rattle.std.proofs.Common.{map, drop, string_bytes}
+use Rattle.std.specs.List.{flat_map}
+use Rattle.handler_printing.specs.Canonical.{whole_text, further}
+use Rattle.handler_printing.specs.Mentions.{AreNamed, expr_mentions}
+use Rattle.handler_printing.proofs.Loops.{Owes}
+use Rattle.handler_printing.proofs.expr.put_more_values.Given as goal
+
+abbrev pub invariant-loop-value : goal.invariant-loop-value
+invariant-loop-value l = record {
+  text : Owes (further (map (whole_text l.names) l.values)) (further (map (whole_text l.names) (drop l.value-index l.values))) (string_bytes l.fn.out) (string_bytes l.out);
+  named : AreNamed l.names (flat_map expr_mentions (drop l.value-index l.values));
+}

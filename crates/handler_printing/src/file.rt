@@ -1,0 +1,103 @@
+// Files of handlers.
+
+ghost use Rattle.std.specs.Prelude.{◌≡◌, IfOk, OnOk, map, string_bytes};
+ghost use Rattle.std.specs.List.{flat_map};
+ghost use Rattle.handler_printing.specs.Canonical as spec;
+ghost use Rattle.handler_printing.specs.Canonical.{canonical_text};
+ghost use Rattle.handler_printing.specs.Mentions.{AreNamed, table_mentions, param_mentions, handler_mentions, file_mentions};
+ghost use Rattle.handler_printing.specs.Readable.{AreReadable, ReadsBack};
+ghost use Rattle.handler_printing.specs.Writing.{Adds};
+
+use crate::piece::{put, put_name};
+use crate::stmt::put_block;
+use handler_trees::{File, Handler, Param, TableDecl};
+use session_values::{Names, NoMemory, TableKind};
+use std::alloc::Global;
+
+/// The canonical text of a file, whose names and symbols are those of the list.
+pub fn print(alloc: Global, file: &File, names: &Names) -> Result<String, NoMemory>
+    requires { AreNamed names.now (file_mentions file.now) }
+    ensures text { IfOk result (λ text. string_bytes text ≡ canonical_text names.now file.now) }
+    // Where names, symbols and numbers can be read, the text gives the words of the file again.
+    ensures words { IfOk result (λ text. AreReadable names.now (file_mentions file.now) → ReadsBack names.now file.now (string_bytes text)) }
+{
+    // That the texts of the list are different is what `len` says of it.
+    let _count = names.len();
+    let mut out = String::new(alloc);
+    put_tables(file.tables.as_slice(), names, &mut out)?;
+    put_handlers(file.handlers.as_slice(), names, &mut out)?;
+    Ok(out)
+}
+
+fn table_word(kind: TableKind) -> &'static str
+    ensures { result.now ≡ spec.table_word kind }
+{
+    match kind {
+        TableKind::Map => "map ",
+        TableKind::Set => "set ",
+    }
+}
+
+/// Appends a line for each table.
+fn put_tables(tables: &[TableDecl], names: &Names, out: &mut String) -> Result<(), NoMemory>
+    requires { AreNamed names.now (flat_map table_mentions tables.now) }
+    ensures { OnOk result (Adds (spec.each (map (spec.table_text names.now) tables.now)) (string_bytes out.old) (string_bytes out.new)) }
+{
+    for table in tables {
+        put(table_word(table.kind), out)?;
+        put_name(table.name, names, out)?;
+        put(";\n", out)?;
+    }
+    Ok(())
+}
+
+/// Appends the lines of each handler.
+fn put_handlers(handlers: &[Handler], names: &Names, out: &mut String) -> Result<(), NoMemory>
+    requires { AreNamed names.now (flat_map handler_mentions handlers.now) }
+    ensures { OnOk result (Adds (spec.each (map (spec.handler_text names.now) handlers.now)) (string_bytes out.old) (string_bytes out.new)) }
+{
+    for handler in handlers {
+        put_handler(handler, names, out)?;
+    }
+    Ok(())
+}
+
+/// Appends the lines of a handler.
+fn put_handler(handler: &Handler, names: &Names, out: &mut String) -> Result<(), NoMemory>
+    requires { AreNamed names.now (handler_mentions handler.now) }
+    ensures { OnOk result (Adds (spec.handler_text names.now handler.now) (string_bytes out.old) (string_bytes out.new)) }
+{
+    put("handler ", out)?;
+    put_name(handler.name, names, out)?;
+    put("(", out)?;
+    put_params(handler.params.as_slice(), names, out)?;
+    put(") {\n", out)?;
+    put_block(handler.body.as_slice(), 0, names, out)?;
+    put("}\n", out)
+}
+
+/// Appends parameters, with a comma and a space between them.
+fn put_params(params: &[Param], names: &Names, out: &mut String) -> Result<(), NoMemory>
+    requires { AreNamed names.now (flat_map param_mentions params.now) }
+    ensures { OnOk result (Adds (spec.listed (map (spec.param_text names.now) params.now)) (string_bytes out.old) (string_bytes out.new)) }
+{
+    match params {
+        [] => Ok(()),
+        [first, more @ ..] => {
+            put_name(first.name, names, out)?;
+            put_more_params(more, names, out)
+        }
+    }
+}
+
+/// Appends a comma, a space and the parameter, for each parameter.
+fn put_more_params(params: &[Param], names: &Names, out: &mut String) -> Result<(), NoMemory>
+    requires { AreNamed names.now (flat_map param_mentions params.now) }
+    ensures { OnOk result (Adds (spec.further (map (spec.param_text names.now) params.now)) (string_bytes out.old) (string_bytes out.new)) }
+{
+    for param in params {
+        put(", ", out)?;
+        put_name(param.name, names, out)?;
+    }
+    Ok(())
+}

@@ -1,0 +1,13 @@
+pub mod Atoms
+pub mod Bare
+pub mod Calls
+pub mod Exprs
+pub mod Files
+pub mod Longer
+pub mod Parsed
+pub mod Readable
+pub mod ReadableTokens
+pub mod ReadableWords
+pub mod Sources
+pub mod Stmts
+pub mod Words
