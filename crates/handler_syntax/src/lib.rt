@@ -1,17 +1,13 @@
-//! The parser of a file of handlers.
+//! The handler language: its tokens, its trees, its parser and its printer.
 #![tactic(auto)]
 
-mod first;
-mod parse_atom;
-mod parse_handler;
-mod parse_stmt;
-mod parse_words;
-mod refusal;
-#[cfg(test)]
-mod tests;
-
-pub use first::{FirstRefusal, parse_first};
+pub use handler_grammar::{SyntaxRefusal, parse};
+pub use handler_printing::print;
+pub use handler_tokens::{Token, TokenKind, Tokens};
 pub use handler_trees::{
     Atom, Atoms, Block, Calc, Call, Compare, Cond, Expr, Exprs, File, Handler, Handlers, Param,
     Params, Right, Stmt, TableDecl, TableDecls,
 };
+
+#[cfg(test)]
+mod tests;

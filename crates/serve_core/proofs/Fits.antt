@@ -26,7 +26,7 @@ use Rattle.serve_core.specs.declared.checked.CheckedAtom.{CheckedAtom}
 use Rattle.serve_core.specs.declared.checked.CheckedAtom.TheVariants.{Lit, Var}
 use Rattle.serve_core.specs.declared.checked.CheckedStmt.{CheckedStmt}
 use Rattle.serve_core.specs.declared.checked.CheckedStmt.TheVariants.{Perform, Answer}
-use Rattle.serve_core.specs.Built.{takes, call_is_built, stmt_is_built, handler_is_built, is_map, table_is_built, is_built}
+use Rattle.serve_core.specs.Built.{takes, call_is_built, stmt_is_built, handler_is_built, is_map, tables_are_built, is_built}
 use Rattle.serve_core.specs.Names.{is_declared, atom_is_declared, expr_is_declared, call_is_declared, declares, stmt_is_declared, block_keeps_rules, param_names, handler_keeps_rules, table_names, keeps_rules}
 use Rattle.serve_core.specs.Checked.{number_in, checked_atom, checked_value, key_of, value_of, checked_call, checked_stmt, checked_block, variables_behind, checked_handler, checked_handlers, shape_of}
 use Rattle.serve_core.specs.Fit.{IsFitAtom, IsFitCall, IsFitVar, IsFit, IsFitHandler}
@@ -40,7 +40,10 @@ chosen k m false e d = absurd (cc)
 pub number_within : (names : List ℕ) (name : ℕ) → is_declared names name ≡ true → number_in names name < length names
 number_within names name d = chosen _ (length names) _ refl d
 
-pub is_map_at : (ts : List TableDecl) (i : ℕ) → list_all table_is_built ts ≡ true → i < length ts → slice_get (map (λ (t : TableDecl). t.kind) ts) i ≡ Some Map
+abbrev pub is_map_table : TableDecl → Bool
+is_map_table t = is_map t.kind
+
+pub is_map_at : (ts : List TableDecl) (i : ℕ) → list_all is_map_table ts ≡ true → i < length ts → slice_get (map (λ (t : TableDecl). t.kind) ts) i ≡ Some Map
 is_map_at [] i e h = absurd (omega arith)
 is_map_at (t ∷ ts) zero e h = ap Some (map_kind t.kind (both _ _ e).0) where
   map_kind : (k : TableKind) → is_map k ≡ true → k ≡ Map
@@ -86,7 +89,7 @@ arguments_fit variables Put (a ∷ b ∷ []) t d =
     record { is_map = refl; key_fits = atom_fits variables a (both _ _ d).0; value_fits = atom_fits variables b (both _ _ (both _ _ d).1).0; no_key = λ h. absurd (omega (arith, h)); no_value = λ h. absurd (omega (arith, h)) }
 arguments_fit variables _ _ t d = absurd (cc)
 
-pub call_fits : (ts : List TableDecl) (variables : List ℕ) (c : Call) → list_all table_is_built ts ≡ true → call_is_built c ≡ true → call_is_declared (table_names ts) variables c ≡ true
+pub call_fits : (ts : List TableDecl) (variables : List ℕ) (c : Call) → list_all is_map_table ts ≡ true → call_is_built c ≡ true → call_is_declared (table_names ts) variables c ≡ true
     → IsFitCall (map (λ (t : TableDecl). t.kind) ts) (length variables) (checked_call (table_names ts) variables c)
 call_fits ts variables c maps built d =
     let parts = both _ _ d in
@@ -116,19 +119,19 @@ some_test n e = grind (arith, nat_tests)
 few_test : (n : ℕ) → nat_le n 4 ≡ true → n ≤ 4
 few_test n e = grind (arith, nat_tests)
 
-pub stmt_fits : (ts : List TableDecl) (variables : List ℕ) (s : Stmt) → list_all table_is_built ts ≡ true → stmt_is_built s ≡ true → stmt_is_declared (table_names ts) variables s ≡ true
+pub stmt_fits : (ts : List TableDecl) (variables : List ℕ) (s : Stmt) → list_all is_map_table ts ≡ true → stmt_is_built s ≡ true → stmt_is_declared (table_names ts) variables s ≡ true
     → IsFit (map (λ (t : TableDecl). t.kind) ts) (length (variables ++ declares s)) (checked_stmt (table_names ts) variables s)
 stmt_fits ts variables (stmt.Let name at (right.Result c)) maps built d =
     let n = length (variables ++ name ∷ []) in
     let more = length-append variables (name ∷ []) in
-    let fit = call_fits ts variables c maps built d in
+    let fit = call_fits ts variables c maps (both _ _ built).1 d in
     let longer : length variables ≤ n = omega (arith, more) in
     (omega (arith, more), record { table = fit.table; key = atom_more (length variables) n _ longer fit.key; value = atom_more (length variables) n _ longer fit.value; no_key = fit.no_key; no_value = fit.no_value })
 stmt_fits ts variables (stmt.Perform c) maps built d =
-    subst (λ n. IsFit (map (λ (t : TableDecl). t.kind) ts) n (Perform None (checked_call (table_names ts) variables c))) (let e : length variables ≡ length (variables ++ []) = omega (arith, length-append variables []) in e) (tt, call_fits ts variables c maps built d)
+    subst (λ n. IsFit (map (λ (t : TableDecl). t.kind) ts) n (Perform None (checked_call (table_names ts) variables c))) (let e : length variables ≡ length (variables ++ []) = omega (arith, length-append variables []) in e) (tt, call_fits ts variables c maps (both _ _ built).1 d)
 stmt_fits ts variables (stmt.Answer at values) maps built d =
     let n = length-map values (checked_value variables) in
-    let tests = both _ _ built in
+    let tests = both _ _ (both _ _ built).0 in
     let fit : IsFit (map (λ (t : TableDecl). t.kind) ts) (length variables) (Answer (map (checked_value variables) values)) =
     (omega (arith, n, some_test (length values) tests.0), omega (arith, n, few_test (length values) tests.1), values_fit variables values d) in
     subst (λ m. IsFit (map (λ (t : TableDecl). t.kind) ts) m (Answer (map (checked_value variables) values))) (let e : length variables ≡ length (variables ++ []) = omega (arith, length-append variables []) in e) fit
@@ -138,7 +141,7 @@ behind_longer : (variables : List ℕ) (ss : List Stmt) → length variables ≤
 behind_longer variables [] = omega arith
 behind_longer variables (s ∷ ss) = omega (arith, behind_longer (variables ++ declares s) ss, length-append variables (declares s))
 
-pub block_fits : (ts : List TableDecl) (variables : List ℕ) (ss : List Stmt) (m : ℕ) → list_all table_is_built ts ≡ true → list_all stmt_is_built ss ≡ true → block_keeps_rules (table_names ts) variables ss ≡ true
+pub block_fits : (ts : List TableDecl) (variables : List ℕ) (ss : List Stmt) (m : ℕ) → list_all is_map_table ts ≡ true → list_all stmt_is_built ss ≡ true → block_keeps_rules (table_names ts) variables ss ≡ true
     → length (variables_behind variables ss) ≤ m → AllByRecursion (IsFit (map (λ (t : TableDecl). t.kind) ts) m) (checked_block (table_names ts) variables ss)
 block_fits ts variables [] m maps built keeps h = tt
 block_fits ts variables (s ∷ ss) m maps built keeps h =
@@ -148,7 +151,7 @@ block_fits ts variables (s ∷ ss) m maps built keeps h =
       block_fits ts (variables ++ declares s) ss m maps b.1 tests.1 h,
     )
 
-pub handlers_fit : (ts : List TableDecl) (hs : List Handler) → list_all table_is_built ts ≡ true → list_all handler_is_built hs ≡ true → list_all (handler_keeps_rules (table_names ts)) hs ≡ true
+pub handlers_fit : (ts : List TableDecl) (hs : List Handler) → list_all is_map_table ts ≡ true → list_all handler_is_built hs ≡ true → list_all (handler_keeps_rules (table_names ts)) hs ≡ true
     → AllByRecursion (IsFitHandler (map (λ (t : TableDecl). t.kind) ts)) (map (checked_handler (table_names ts)) hs)
 handlers_fit ts [] maps built keeps = tt
 handlers_fit ts (h ∷ hs) maps built keeps =
@@ -161,9 +164,14 @@ handlers_fit ts (h ∷ hs) maps built keeps =
       handlers_fit ts hs maps b.1 k.1,
     )
 
+one_map : (ts : List TableDecl) → tables_are_built ts ≡ true → list_all is_map_table ts ≡ true
+one_map [] e = refl
+one_map (t ∷ []) e = ap (λ b. b && true) e
+one_map (t ∷ u ∷ ts) e = absurd (cc)
+
 -- all handlers of a file that keeps the rules
 pub file_fits : (f : File) → (is_built f && keeps_rules f) ≡ true → AllByRecursion (IsFitHandler (shape_of f)) (checked_handlers f)
 file_fits f e =
     let parts = both _ _ e in
     let built = both _ _ parts.0 in
-    handlers_fit f.tables f.handlers built.0 built.1 (both _ _ parts.1).1
+    handlers_fit f.tables f.handlers (one_map f.tables built.0) built.1 (both _ _ parts.1).1

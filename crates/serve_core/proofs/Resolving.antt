@@ -1,13 +1,15 @@
 -- The resolution of a list, element by element.
-use Rattle.std.proofs.Common.{◌≡◌, ℕ, ◌+◌, ◌<◌, Bool, true, false, ◌&&◌, List, [], ◌∷◌, ◌++◌, map, take, drop, length, get_or, Some, is_some, refl, sym, ap, ◌∙◌, subst, append_assoc}
+use Rattle.std.proofs.Common.{◌≡◌, ℕ, ◌+◌, ◌<◌, Bool, true, false, ◌&&◌, nat_lt, nat_le, List, [], ◌∷◌, ◌++◌, map, take, drop, length, get_or, Some, is_some, refl, sym, ap, ◌∙◌, subst, append_assoc}
 use Rattle.std.proofs.lemmas.List.{drop_more, take_more, map-append}
 use Rattle.std.specs.List.{list_all}
+use Rattle.handler_trees.specs.declared.expr.Expr.{Expr}
+use Rattle.handler_trees.specs.declared.expr.Expr.TheVariants as expr
 use Rattle.handler_trees.specs.declared.stmt.Stmt.{Stmt}
 use Rattle.handler_trees.specs.declared.file.File.{File}
 use Rattle.handler_trees.specs.declared.file.Handler.{Handler}
 use Rattle.serve_core.specs.declared.checked.CheckedStmt.{CheckedStmt}
-use Rattle.serve_core.specs.Built.{stmt_is_built, handler_is_built, table_is_built, is_built}
-use Rattle.serve_core.specs.Names.{number_of, are_new, stmt_is_declared, declares, block_keeps_rules, handler_keeps_rules, table_names, handler_names, keeps_rules}
+use Rattle.serve_core.specs.Built.{stmt_is_built, handler_is_built, is_leaf, tables_are_built, is_built}
+use Rattle.serve_core.specs.Names.{number_of, are_new, expr_is_declared, stmt_is_declared, declares, block_keeps_rules, handler_keeps_rules, table_names, handler_names, keeps_rules}
 use Rattle.serve_core.specs.Checked.{checked_stmt, checked_block, variables_behind}
 use Rattle.serve_core.specs.Resolves.{Resolves}
 use Rattle.serve_core.proofs.Lists.{rest_at}
@@ -28,6 +30,29 @@ all_both p q (x ∷ xs) = go (p x) (q x) (list_all p xs) (list_all q xs) ∙ ap 
   go true false true d = refl
   go true false false d = refl
   go false b c d = refl
+
+-- a test of each element that holds only where another does
+all_within : {X : Type 0} (p q : X → Bool) → ((x : X) → q x ≡ (p x && q x)) → (xs : List X) → list_all q xs ≡ (list_all p xs && list_all q xs)
+all_within p q h xs = same xs ∙ sym (all_both p q xs) where
+  same : (xs : List _) → list_all q xs ≡ list_all (λ x. p x && q x) xs
+  same [] = refl
+  same (x ∷ xs) = ap (λ b. b && list_all q xs) (h x) ∙ ap (λ b. (p x && q x) && b) (same xs)
+
+-- what is declared is a leaf
+leaf_declared : (variables : List ℕ) (e : Expr) → expr_is_declared variables e ≡ (is_leaf e && expr_is_declared variables e)
+leaf_declared variables (expr.Leaf a) = refl
+leaf_declared variables _ = refl
+
+pub leaves_declared : (variables : List ℕ) (es : List Expr) → list_all (expr_is_declared variables) es ≡ (list_all is_leaf es && list_all (expr_is_declared variables) es)
+leaves_declared variables es = all_within is_leaf (expr_is_declared variables) (leaf_declared variables) es
+
+-- a reply of 1 to 4 values that are declared
+pub reply_passes : (variables : List ℕ) (es : List Expr) → (nat_lt 0 (length es) && nat_le (length es) 4) ≡ true → list_all (expr_is_declared variables) es ≡ true
+    → (((nat_lt 0 (length es) && nat_le (length es) 4) && list_all is_leaf es) && (list_all (expr_is_declared variables) es && true)) ≡ true
+reply_passes variables es few declared =
+    let leaves : list_all is_leaf es ≡ true = (both _ _ (sym (leaves_declared variables es) ∙ declared)).0 in
+    ap (λ b. (b && list_all is_leaf es) && (list_all (expr_is_declared variables) es && true)) few
+    ∙ ap (λ b. b && (list_all (expr_is_declared variables) es && true)) leaves ∙ ap (λ b. b && true) declared
 
 -- ---- statements, each after what those before it declare
 
@@ -73,7 +98,7 @@ new_fails names i h known so_far =
 
 -- ---- a whole file, of which all but the handlers was tested
 
-pub whole : (f : File) → list_all table_is_built f.tables ≡ true → are_new [] (table_names f.tables) ≡ true → are_new [] (handler_names f.handlers) ≡ true
+pub whole : (f : File) → tables_are_built f.tables ≡ true → are_new [] (table_names f.tables) ≡ true → are_new [] (handler_names f.handlers) ≡ true
     → list_all (λ h. handler_is_built h && handler_keeps_rules (table_names f.tables) h) f.handlers ≡ (is_built f && keeps_rules f)
 whole f maps tables handlers =
     let built = list_all handler_is_built f.handlers in

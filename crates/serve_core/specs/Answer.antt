@@ -1,20 +1,28 @@
 -- What is answered to a command line and an input.
-use Rattle.std.specs.Prelude.{◌≡◌, ℕ, ◌+◌, ◌<◌, ◌≤◌, Bool, true, false, IsUtf8, List, [], ◌∷◌, length, map, take, drop, codes, None}
+use Rattle.std.specs.Prelude.{◌≡◌, ◌≢◌, ℕ, ◌+◌, ◌<◌, ◌≤◌, Bool, true, false, IsUtf8, List, [], length, map, take, drop, Option, Some, None}
 use Rattle.std.specs.List.{list_any, position_or_len}
-use Rattle.std.specs.Str.{bytes_eq}
 use Rattle.session_values.specs.ReplyText.{reply_text}
 use Rattle.session_values.specs.Serial.{Session, serial_replies}
 use Rattle.handler_tokens.specs.Words.{words_of, names_of}
 use Rattle.handler_trees.specs.declared.file.Handler.{Handler}
 use Rattle.handler_trees.specs.declared.file.File.{File}
-use Rattle.handler_syntax.specs.FirstForm.{IsFirstForm}
+use Rattle.handler_grammar.specs.FirstFault.{IsFirstFault}
+use Rattle.handler_grammar.specs.Limits.{IsFileWithin}
+use Rattle.handler_grammar.specs.Next.{fault, whole_file}
+use Rattle.handler_grammar.specs.declared.refusal.SyntaxRefusal.{SyntaxRefusal}
+use Rattle.handler_grammar.specs.declared.refusal.SyntaxRefusal.TheVariants as syntax_refusal
+use Rattle.handler_printing.specs.Canonical.{canonical_text}
 use Rattle.request_files.specs.declared.head.Head.{Head}
 use Rattle.request_files.specs.declared.request.Request.{Request}
 use Rattle.request_files.specs.Text.{lines}
 use Rattle.request_files.specs.Divide.{is_dividing, head_size, mark_size}
 use Rattle.request_files.specs.Requests.{Row, rows, first_fault, no_requests, request_of, names_behind}
+use Rattle.serve_core.specs.declared.command.Command.{Command}
+use Rattle.serve_core.specs.declared.command.Command.TheVariants.{Check, Serve}
 use Rattle.serve_core.specs.declared.status.Fault.{Fault}
-use Rattle.serve_core.specs.declared.status.Fault.TheVariants.{TooLarge, NotText, NoRequests, NotBuilt}
+use Rattle.serve_core.specs.declared.status.Fault.TheVariants.{TooLarge, NotText, NoRequests, HasRequests, Syntax, NotBuilt}
+use Rattle.serve_core.specs.Built.{is_built}
+use Rattle.serve_core.specs.Commands.{command_of}
 use Rattle.serve_core.specs.Names.{keeps_rules}
 use Rattle.serve_core.specs.Checked.{checked_handlers, shape_of}
 use Rattle.serve_core.specs.Session.{session_of}
@@ -52,11 +60,18 @@ rows_of parts = rows parts.first (lines parts.requests)
 abbrev pub all_names_of : Parts → List (List ℕ)
 all_names_of parts = names_behind (handler_names_of parts) (rows_of parts)
 
--- the parts are those of a session whose handlers' tree is this: the tree is that of the text, its names keep the rules, and no request has a fault
+-- the parts are those of a session whose handlers' tree is this: the tree is that of the text, in the first form, its names keep the rules, and no request has a fault
 pub record IsSession (parts : Parts) (file : File) : Type 0 where
-  pub form : IsFirstForm (words_of [] parts.handlers) file
+  pub form : IsFileWithin (words_of [] parts.handlers) file
+  pub built : is_built file ≡ true
   pub rules : keeps_rules file ≡ true
   pub requests : first_fault (handler_names_of parts) (heads_of file.handlers) no_requests (rows_of parts) ≡ None
+
+-- the handlers' text has a tree, and the parts are those of no session
+pub record HasNoSession (parts : Parts) : Type 0 where
+  pub file : File
+  pub form : IsFileWithin (words_of [] parts.handlers) file
+  pub unserved : IsSession parts file → ⊥
 
 abbrev pub requests_of : Parts → File → List Request
 requests_of parts file = map (request_of (handler_names_of parts) (all_names_of parts) (heads_of file.handlers)) (rows_of parts)
@@ -69,6 +84,33 @@ session parts file = session_of (shape_of file) (checked_handlers file) (request
 abbrev pub text_of : Parts → File → List ℕ
 text_of parts file = reply_text (all_names_of parts) 0 (serial_replies (session parts file) (session parts file).requests)
 
+-- ---- what a command reads
+
+abbrev pub max_input : ℕ
+max_input = 4194304
+
+-- whether a command reads requests behind a dividing line
+abbrev pub reads_requests : Command → Bool
+reads_requests Check = false
+reads_requests Serve = true
+
+-- the text of the handlers
+abbrev pub handlers_of : Command → List ℕ → List ℕ
+handlers_of Check bytes = bytes
+handlers_of Serve bytes = (parts_of bytes).handlers
+
+-- a file with the parts that the command reads
+pub record IsInput (command : Command) (bytes : List ℕ) : Type 0 where
+  pub short : length bytes ≤ max_input
+  pub utf8 : IsUtf8 bytes
+  pub parts : is_divided bytes ≡ reads_requests command
+
+-- The handlers' text, behind these names, has this first fault: the walk over its words finds it, and there no file goes on or a limit is broken. Want of memory is no fault.
+pub record HasSyntaxFault (names : List (List ℕ)) (text : List ℕ) (e : SyntaxRefusal) : Type 0 where
+  pub walked : fault (length text) whole_file 0 (words_of names text) ≡ Some e
+  pub first : IsFirstFault (length text) (words_of names text) e
+  pub certain : e ≢ syntax_refusal.NoMemory
+
 -- ---- the answer
 
 pub data Answer : Type 0 where
@@ -76,35 +118,43 @@ pub data Answer : Type 0 where
   Refused : Fault → Answer
   Text : List ℕ → Answer
 
--- the one command line: the word `serve`
-abbrev pub is_command : List (List ℕ) → Bool
-is_command (w ∷ []) = bytes_eq w (codes "serve")
-is_command _ = false
-
-abbrev pub max_input : ℕ
-max_input = 4194304
-
--- a file that has both parts
-pub record IsDivided (bytes : List ℕ) : Type 0 where
-  pub short : length bytes ≤ max_input
-  pub utf8 : IsUtf8 bytes
-  pub divided : is_divided bytes ≡ true
-
 -- the first broken rule, in the order of the cases
-abbrev pub IsRefused : List ℕ → Fault → Type 0
-IsRefused bytes TooLarge = max_input < length bytes
-IsRefused bytes NotText = (length bytes ≤ max_input) × (IsUtf8 bytes → ⊥)
-IsRefused bytes NoRequests = (length bytes ≤ max_input) × IsUtf8 bytes × (is_divided bytes ≡ false)
-IsRefused bytes NotBuilt = IsDivided bytes × ((file : File) → IsSession (parts_of bytes) file → ⊥)
+abbrev pub IsRefused : Command → List ℕ → Fault → Type 0
+IsRefused command bytes TooLarge = max_input < length bytes
+IsRefused command bytes NotText = (length bytes ≤ max_input) × (IsUtf8 bytes → ⊥)
+IsRefused Serve bytes NoRequests = (length bytes ≤ max_input) × IsUtf8 bytes × (is_divided bytes ≡ false)
+IsRefused Check bytes NoRequests = ⊥
+IsRefused Check bytes HasRequests = (length bytes ≤ max_input) × IsUtf8 bytes × (is_divided bytes ≡ true)
+IsRefused Serve bytes HasRequests = ⊥
+IsRefused command bytes (Syntax e) = IsInput command bytes × HasSyntaxFault [] (handlers_of command bytes) e
+IsRefused Serve bytes NotBuilt = IsInput Serve bytes × HasNoSession (parts_of bytes)
+IsRefused Check bytes NotBuilt = ⊥
+
+-- the canonical text of the handlers
+pub record IsChecked (bytes text : List ℕ) : Type 0 where
+  pub input : IsInput Check bytes
+  pub file : File
+  pub form : IsFileWithin (words_of [] bytes) file
+  pub text_is : text ≡ canonical_text (names_of [] bytes) file
 
 -- the text of the replies
 pub record IsServed (bytes text : List ℕ) : Type 0 where
-  pub divided : IsDivided bytes
+  pub input : IsInput Serve bytes
   pub file : File
   pub is_session : IsSession (parts_of bytes) file
   pub text_is : text ≡ text_of (parts_of bytes) file
 
+abbrev pub IsText : Command → List ℕ → List ℕ → Type 0
+IsText Check bytes text = IsChecked bytes text
+IsText Serve bytes text = IsServed bytes text
+
+-- what is answered where this is the command, if the words are one
+abbrev pub CommandAnswers : Option Command → List ℕ → Answer → Type 0
+CommandAnswers None bytes Usage = Unit {0}
+CommandAnswers None bytes _ = ⊥
+CommandAnswers (Some command) bytes Usage = ⊥
+CommandAnswers (Some command) bytes (Refused fault) = IsRefused command bytes fault
+CommandAnswers (Some command) bytes (Text text) = IsText command bytes text
+
 abbrev pub IsAnswer : List (List ℕ) → List ℕ → Answer → Type 0
-IsAnswer words bytes Usage = is_command words ≡ false
-IsAnswer words bytes (Refused fault) = (is_command words ≡ true) × IsRefused bytes fault
-IsAnswer words bytes (Text text) = (is_command words ≡ true) × IsServed bytes text
+IsAnswer words bytes answer = CommandAnswers (command_of words) bytes answer

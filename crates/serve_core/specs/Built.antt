@@ -1,4 +1,4 @@
--- What is built so far of the language: the statements of the first form.
+-- The first form: what can be served so far of the language.
 use Rattle.std.specs.Prelude.{Bool, true, false, ◌&&◌, nat_lt, nat_le, List, [], ◌∷◌, length}
 use Rattle.std.specs.List.{list_all}
 use Rattle.session_values.specs.declared.kind.Kind.{Kind}
@@ -6,6 +6,8 @@ use Rattle.session_values.specs.declared.kind.Kind.TheVariants.{Get, Put}
 use Rattle.session_values.specs.declared.kind.TableKind.{TableKind}
 use Rattle.session_values.specs.declared.kind.TableKind.TheVariants.{Map, Set}
 use Rattle.handler_trees.specs.declared.expr.Atom.{Atom}
+use Rattle.handler_trees.specs.declared.expr.Expr.{Expr}
+use Rattle.handler_trees.specs.declared.expr.Expr.TheVariants as expr
 use Rattle.handler_trees.specs.declared.stmt.Stmt.{Stmt}
 use Rattle.handler_trees.specs.declared.stmt.Stmt.TheVariants as stmt
 use Rattle.handler_trees.specs.declared.stmt.Right.TheVariants as right
@@ -23,10 +25,24 @@ takes _ _ = false
 abbrev pub call_is_built : Call → Bool
 call_is_built c = takes c.kind c.args
 
+abbrev pub is_get : Kind → Bool
+is_get Get = true
+is_get _ = false
+
+abbrev pub is_put : Kind → Bool
+is_put Put = true
+is_put _ = false
+
+-- a literal or a variable
+abbrev pub is_leaf : Expr → Bool
+is_leaf (expr.Leaf a) = true
+is_leaf _ = false
+
+-- `let` and a `get`, a `put`, or a reply of 1 to 4 leaves
 abbrev pub stmt_is_built : Stmt → Bool
-stmt_is_built (stmt.Let name at (right.Result c)) = call_is_built c
-stmt_is_built (stmt.Perform c) = call_is_built c
-stmt_is_built (stmt.Answer at values) = nat_lt 0 (length values) && nat_le (length values) 4
+stmt_is_built (stmt.Let name at (right.Result c)) = is_get c.kind && call_is_built c
+stmt_is_built (stmt.Perform c) = is_put c.kind && call_is_built c
+stmt_is_built (stmt.Answer at values) = nat_lt 0 (length values) && nat_le (length values) 4 && list_all is_leaf values
 stmt_is_built _ = false
 
 abbrev pub handler_is_built : Handler → Bool
@@ -36,9 +52,11 @@ abbrev pub is_map : TableKind → Bool
 is_map Map = true
 is_map Set = false
 
-abbrev pub table_is_built : TableDecl → Bool
-table_is_built t = is_map t.kind
+-- one map
+abbrev pub tables_are_built : List TableDecl → Bool
+tables_are_built (t ∷ []) = is_map t.kind
+tables_are_built _ = false
 
--- all tables are maps, and all statements are of the first form
+-- there is one table, a map, and all statements are of the first form
 abbrev pub is_built : File → Bool
-is_built f = list_all table_is_built f.tables && list_all handler_is_built f.handlers
+is_built f = tables_are_built f.tables && list_all handler_is_built f.handlers

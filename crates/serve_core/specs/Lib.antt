@@ -1,6 +1,7 @@
 pub mod Answer
 pub mod Built
 pub mod Checked
+pub mod Commands
 pub mod Dialogue
 pub mod Fit
 pub mod Loaded

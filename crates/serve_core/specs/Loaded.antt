@@ -1,17 +1,17 @@
 -- What is made of the two parts of a session file before it is served.
-use Rattle.std.specs.Prelude.{◌≡◌, ◌≤◌, ℕ, true, List, length}
+use Rattle.std.specs.Prelude.{◌≡◌, ◌≤◌, ℕ, true, false, ◌&&◌, List, [], length}
 use Rattle.std.specs.List.{AllByRecursion}
 use Rattle.handler_tokens.specs.Words.{words_of, names_of}
 use Rattle.handler_trees.specs.declared.file.File.{File}
-use Rattle.handler_syntax.specs.FirstForm.{IsFirstForm}
-use Rattle.handler_syntax.specs.NamedFile.{IsNamedFile}
+use Rattle.handler_grammar.specs.Limits.{IsFileWithin}
+use Rattle.handler_grammar.specs.NamedFile.{IsNamedFile}
 use Rattle.request_files.specs.Requests.{ArePrintable}
 use Rattle.serve_core.specs.declared.loading.Program.{Program}
 use Rattle.serve_core.specs.declared.loading.Loaded.{Loaded}
 use Rattle.serve_core.specs.declared.unserved.Unserved.{Unserved}
 use Rattle.serve_core.specs.declared.unserved.Unserved.TheVariants as unserved
-use Rattle.serve_core.specs.declared.status.Fault.TheVariants.{NotBuilt}
-use Rattle.serve_core.specs.Answer.{Parts, heads_of, all_names_of, requests_of, IsSession}
+use Rattle.serve_core.specs.declared.status.Fault.TheVariants.{Syntax, NotBuilt}
+use Rattle.serve_core.specs.Answer.{Parts, heads_of, all_names_of, requests_of, IsSession, HasNoSession, HasSyntaxFault}
 use Rattle.serve_core.specs.Built.{is_built}
 use Rattle.serve_core.specs.Checked.{checked_handlers, shape_of}
 use Rattle.serve_core.specs.Fit.{IsFitHandler}
@@ -19,10 +19,9 @@ use Rattle.serve_core.specs.Names.{keeps_rules}
 use Rattle.serve_core.specs.Printable.{IsPrintableHandler}
 use Rattle.serve_core.specs.Session.{IsAsked}
 
--- the handlers' text has this tree and no other, and the tree's names keep the rules
+-- the handlers' text has this tree, in the first form, and the tree's names keep the rules
 pub record IsFile (old : List (List ℕ)) (text : List ℕ) (new : List (List ℕ)) (file : File) : Type 0 where
-  pub form : IsFirstForm (words_of old text) file
-  pub only : (other : File) → IsFirstForm (words_of old text) other → other ≡ file
+  pub form : IsFileWithin (words_of old text) file
   pub built : is_built file ≡ true
   pub rules : keeps_rules file ≡ true
   pub names : new ≡ names_of old text
@@ -36,9 +35,11 @@ pub record IsProgram (old : List (List ℕ)) (text : List ℕ) (new : List (List
   pub heads : p.heads.items ≡ heads_of file.handlers
   pub handlers : p.handlers ≡ checked_handlers file
 
--- no tree of the text keeps the rules
-abbrev pub HasNoFile : List (List ℕ) → List ℕ → Type 0
-HasNoFile old text = (file : File) → IsFirstForm (words_of old text) file → keeps_rules file ≡ true → ⊥
+-- the text has a tree, which isn't in the first form or doesn't keep the rules
+pub record HasNoFile (old : List (List ℕ)) (text : List ℕ) : Type 0 where
+  pub file : File
+  pub form : IsFileWithin (words_of old text) file
+  pub fails : (is_built file && keeps_rules file) ≡ false
 
 -- what is loaded is the parts' session, and it can be served and printed
 pub record IsLoaded (parts : Parts) (l : Loaded) : Type 0 where
@@ -54,11 +55,21 @@ pub record IsLoaded (parts : Parts) (l : Loaded) : Type 0 where
   pub printed : ArePrintable l.names l.requests
   pub few : length l.requests ≤ 20000
 
--- the parts are those of no session
-abbrev pub HasNoSession : Parts → Type 0
-HasNoSession parts = (file : File) → IsSession parts file → ⊥
+-- ---- why nothing is made: memory ran out, or this fault is the first
 
--- why nothing is served: memory ran out, or there is nothing to serve
-abbrev pub Because : Type 0 → Unserved → Type 0
-Because reason unserved.NoMemory = Unit {0}
-Because reason (unserved.Refused fault) = (fault ≡ NotBuilt) × reason
+abbrev pub IsSyntaxReason : List (List ℕ) → List ℕ → Unserved → Type 0
+IsSyntaxReason old text unserved.NoMemory = Unit {0}
+IsSyntaxReason old text (unserved.Refused (Syntax e)) = HasSyntaxFault old text e
+IsSyntaxReason old text (unserved.Refused _) = ⊥
+
+abbrev pub IsFileReason : List (List ℕ) → List ℕ → Unserved → Type 0
+IsFileReason old text unserved.NoMemory = Unit {0}
+IsFileReason old text (unserved.Refused (Syntax e)) = HasSyntaxFault old text e
+IsFileReason old text (unserved.Refused NotBuilt) = HasNoFile old text
+IsFileReason old text (unserved.Refused _) = ⊥
+
+abbrev pub IsReason : Parts → Unserved → Type 0
+IsReason parts unserved.NoMemory = Unit {0}
+IsReason parts (unserved.Refused (Syntax e)) = HasSyntaxFault [] parts.handlers e
+IsReason parts (unserved.Refused NotBuilt) = HasNoSession parts
+IsReason parts (unserved.Refused _) = ⊥

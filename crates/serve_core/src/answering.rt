@@ -3,6 +3,8 @@
 ghost use Rattle.std.specs.Prelude.{◌≡◌, ◌≤◌, Err, length, vec_len, IfOk};
 ghost use Rattle.session_values.specs.ReplyText.{reply_text};
 ghost use Rattle.serve_core.specs.Answer.{IsServed, IsRefused};
+ghost use Rattle.serve_core.specs.declared.command.Command.{Command};
+ghost use Rattle.serve_core.specs.declared.command.Command.TheVariants.{Serve};
 ghost use Rattle.serve_core.specs.declared.status.Fault.{Fault};
 ghost use Rattle.serve_core.specs.Printable.{ArePrintableReplies};
 
@@ -27,7 +29,7 @@ pub(crate) fn answer(alloc: Global, bytes: &[u8]) -> Result<Replies, Unserved>
     ensures served { IfOk result (λ r. IsServed bytes.now (reply_text r.names 0 r.replies.items)) }
     ensures printable { IfOk result (λ r. ArePrintableReplies r.names r.replies.items) }
     ensures few { IfOk result (λ r. vec_len r.replies ≤ 20000) }
-    ensures refused { (fault : Fault) → result ≡ Err (Unserved.Refused fault) → IsRefused bytes.now fault }
+    ensures refused { (fault : Fault) → result ≡ Err (Unserved.Refused fault) → IsRefused Serve bytes.now fault }
 {
     let Ok(text) = std::str::from_utf8(bytes) else {
         return Err(Unserved::Refused(Fault::NotText));

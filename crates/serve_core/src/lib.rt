@@ -1,13 +1,17 @@
-//! The top call: the words of a command line and a session file in, the reply lines out.
+//! The top call: the words of a command line and an input in, the canonical text of handlers or the
+//! reply lines of a session out.
 #![tactic(auto)]
 
 mod answering;
 mod checked;
+mod checking;
+mod command;
 mod laws;
 mod loading;
 mod machine;
 mod message;
 mod resolve;
+mod responding;
 mod serving;
 mod status;
 mod top;
@@ -15,9 +19,10 @@ mod unserved;
 mod writing;
 
 pub use byte_ends::{Got, MemorySink, MemorySource, Put, Sink, Source, SureSink, SureSource};
+pub use handler_syntax::{SyntaxRefusal, TokenKind};
 pub use laws::{all_answered, one_answer};
 pub use status::{Fault, Status};
-pub use top::run;
+pub use top::{describe, run};
 
 #[cfg(test)]
 mod tests;

@@ -1,6 +1,9 @@
 // Loading: from the two parts of a session file to what can be served.
 
 ghost use Rattle.std.specs.Prelude.{◌≡◌, ◌≢◌, ◌⊎◌, ◌+◌, ◌<◌, ◌≤◌, ◌^◌, [], length, vec_len, IfOk, IfErr, OnOk, OnErr, MatchResult};
+ghost use Rattle.handler_tokens.specs.Words.{words_of, names_of};
+ghost use Rattle.handler_grammar.specs.Limits.{IsFileWithin};
+ghost use Rattle.handler_grammar.specs.NamedFile.{IsNamedFile};
 ghost use Rattle.serve_core.specs.Answer.{heads_of as heads_spec};
 ghost use Rattle.serve_core.specs.Checked.{shape_of as shape_spec};
 ghost use Rattle.serve_core.specs.Loaded as spec;
@@ -9,7 +12,7 @@ use crate::checked::CheckedHandler;
 use crate::resolve::resolve;
 use crate::status::Fault;
 use crate::unserved::Unserved;
-use handler_syntax::{File, FirstRefusal, Handlers, parse_first};
+use handler_syntax::{File, Handlers, SyntaxRefusal, parse};
 use request_files::{Head, Request, RequestRefusal, read_requests};
 use session_values::{Listed, Names, NoMemory, TableKind};
 use std::alloc::Global;
@@ -44,7 +47,7 @@ pub(crate) fn load(
     requires requests { length requests.now ≤ 4194304 }
     requires first { first ≤ 4194306 }
     ensures loaded { IfOk result (λ l. spec.IsLoaded (record { handlers = handlers.now; requests = requests.now; first = first }) l) }
-    ensures refused { IfErr result (λ e. spec.Because (spec.HasNoSession (record { handlers = handlers.now; requests = requests.now; first = first })) e) }
+    ensures refused { IfErr result (λ e. spec.IsReason (record { handlers = handlers.now; requests = requests.now; first = first }) e) }
 {
     let mut names = Names::new(alloc)?;
     let program = load_program(alloc, handlers, &mut names)?;
@@ -70,18 +73,31 @@ fn refused_by(e: RequestRefusal) -> Unserved
     }
 }
 
+/// The file that the text of the handlers is.
+pub(crate) fn read_file(alloc: Global, text: &str, names: &mut Names) -> Result<File, Unserved>
+    requires short { length text.now ≤ 4194304 }
+    requires room { length names.old ≤ 4000000000 }
+    ensures file { IfOk result (IsFileWithin (words_of names.old text.now)) }
+    ensures names { OnOk result (names.new ≡ names_of names.old text.now) }
+    ensures named { IfOk result (IsNamedFile names.new) }
+    ensures few { OnOk result (length names.new ≤ length names.old + length text.now) }
+    ensures refused { IfErr result (spec.IsSyntaxReason names.old text.now) }
+{
+    match parse(alloc, text, names) {
+        Ok(file) => Ok(file),
+        Err(SyntaxRefusal::NoMemory) => Err(Unserved::NoMemory),
+        Err(e) => Err(Unserved::Refused(Fault::Syntax(e))),
+    }
+}
+
 fn load_program(alloc: Global, text: &str, names: &mut Names) -> Result<Program, Unserved>
     requires short { length text.now ≤ 4194304 }
     requires room { length names.old ≤ 4000000000 }
     ensures program { IfOk result (λ p. spec.IsProgram names.old text.now names.new p) }
     ensures few { OnOk result (length names.new ≤ length names.old + length text.now) }
-    ensures refused { IfErr result (λ e. spec.Because (spec.HasNoFile names.old text.now) e) }
+    ensures refused { IfErr result (spec.IsFileReason names.old text.now) }
 {
-    let file = match parse_first(alloc, text, names) {
-        Ok(file) => file,
-        Err(FirstRefusal::NotBuilt) => return Err(Unserved::Refused(Fault::NotBuilt)),
-        Err(FirstRefusal::NoMemory) => return Err(Unserved::NoMemory),
-    };
+    let file = read_file(alloc, text, names)?;
     match resolve(alloc, &file)? {
         Some(handlers) => Ok(Program {
             shape: shape_of(alloc, &file)?,

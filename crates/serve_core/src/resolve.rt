@@ -1,6 +1,6 @@
 // Resolution: the names of tables and variables become numbers.
 
-ghost use Rattle.std.specs.Prelude.{◌≡◌, ◌<◌, ◌^◌, ◌++◌, ◌&&◌, [], ◌∷◌, length, map, vec_len, IfOk, OnOk, IsSome, IfSome};
+ghost use Rattle.std.specs.Prelude.{◌≡◌, ◌<◌, ◌^◌, ◌++◌, ◌&&◌, nat_lt, nat_le, [], ◌∷◌, length, map, vec_len, None, IfOk, OnOk, IsSome, IfSome};
 ghost use Rattle.std.specs.List.{list_all};
 ghost use Rattle.serve_core.specs.Built as built;
 ghost use Rattle.serve_core.specs.Checked as spec;
@@ -9,7 +9,8 @@ ghost use Rattle.serve_core.specs.Resolves.{Resolves};
 
 use crate::checked::{CheckedAtom, CheckedCall, CheckedHandler, CheckedStmt};
 use handler_syntax::{
-    Atom, Block, Call, Expr, Exprs, File, Handler, Handlers, Params, Right, Stmt, TableDecls,
+    Atom, Block, Call, Expr, Exprs, File, Handler, Handlers, Params, Right, Stmt, TableDecl,
+    TableDecls,
 };
 use session_values::{Kind, Listed, NoMemory, TableKind, Value};
 use std::alloc::Global;
@@ -21,7 +22,7 @@ pub(crate) fn resolve(
 ) -> Result<Option<Listed<CheckedHandler>>, NoMemory>
     ensures { IfOk result (λ found. Resolves (built.is_built file.now && names.keeps_rules file.now) (spec.checked_handlers file.now) found) }
 {
-    if !are_maps(file) {
+    if !is_one_map(file.tables.as_slice()) {
         return Ok(None);
     }
     let tables = table_names(alloc, &file.tables)?;
@@ -70,13 +71,22 @@ fn numbered(names: Vec<u32>) -> Result<Vec<u32>, NoMemory>
     }
 }
 
-fn are_maps(file: &File) -> bool
-    ensures { result ≡ list_all built.table_is_built file.now.tables }
+fn is_one_map(tables: &[TableDecl]) -> bool
+    ensures { result ≡ built.tables_are_built tables.now }
 {
-    file.tables
-        .as_slice()
-        .iter()
-        .all(|t| t.kind == TableKind::Map)
+    match tables {
+        [table] => is_map(table.kind),
+        _ => false,
+    }
+}
+
+fn is_map(kind: TableKind) -> bool
+    ensures { result ≡ built.is_map kind }
+{
+    match kind {
+        TableKind::Map => true,
+        TableKind::Set => false,
+    }
 }
 
 /// Whether no name stands twice.
@@ -195,11 +205,8 @@ fn resolve_statement(
             Right::Result(source) => resolve_let(tables, variables, *name, source),
             Right::Plain(_) => Ok(None),
         },
-        Stmt::Perform { call: source } => match resolve_call(tables, variables, source) {
-            Some(call) => Ok(Some(CheckedStmt::Perform { var: None, call })),
-            None => Ok(None),
-        },
-        Stmt::Answer { values, .. } if (1..=4).contains(&values.len()) => {
+        Stmt::Perform { call: source } => Ok(resolve_put(tables, variables, source)),
+        Stmt::Answer { values, .. } if is_few(values.len()) => {
             match resolve_values(alloc, variables, values)? {
                 Some(values) => Ok(Some(CheckedStmt::Answer { values })),
                 None => Ok(None),
@@ -207,6 +214,13 @@ fn resolve_statement(
         }
         _ => Ok(None),
     }
+}
+
+/// Whether a reply may have so many values.
+fn is_few(count: u32) -> bool
+    ensures { result ≡ (nat_lt 0 count && nat_le count 4) }
+{
+    0 < count && count <= 4
 }
 
 /// A call whose reply is kept in a new variable.
@@ -219,11 +233,14 @@ fn resolve_let(
     requires tables { length tables.now < 2 ^ 32 }
     requires short { vec_len variables.old < 2 ^ 32 }
     ensures found { IfOk result (λ found. Resolves
-        (built.call_is_built source.now && (names.call_is_declared tables.now variables.old.items source.now && names.are_new variables.old.items (name ∷ [])))
+        ((built.is_get source.now.kind && built.call_is_built source.now) && (names.call_is_declared tables.now variables.old.items source.now && names.are_new variables.old.items (name ∷ [])))
         (CheckedStmt.Perform (Some (length variables.old.items)) (spec.checked_call tables.now variables.old.items source.now)) found) }
     ensures variables { IfOk result (λ found. IsSome found → variables.new.items ≡ variables.old.items ++ name ∷ []) }
     ensures short { OnOk result (vec_len variables.new < 2 ^ 32) }
 {
+    if !is_get(source.kind) {
+        return Ok(None);
+    }
     let Some(call) = resolve_call(tables, variables, source) else {
         return Ok(None);
     };
@@ -239,6 +256,41 @@ fn resolve_let(
         var: Some(var),
         call,
     }))
+}
+
+/// A `put`, whose reply is dropped.
+fn resolve_put(tables: &[u32], variables: &[u32], source: &Call) -> Option<CheckedStmt>
+    requires tables { length tables.now < 2 ^ 32 }
+    requires variables { length variables.now < 2 ^ 32 }
+    ensures { Resolves
+        ((built.is_put source.now.kind && built.call_is_built source.now) && names.call_is_declared tables.now variables.now source.now)
+        (CheckedStmt.Perform None (spec.checked_call tables.now variables.now source.now)) result }
+{
+    if !is_put(source.kind) {
+        return None;
+    }
+    match resolve_call(tables, variables, source) {
+        Some(call) => Some(CheckedStmt::Perform { var: None, call }),
+        None => None,
+    }
+}
+
+fn is_get(kind: Kind) -> bool
+    ensures { result ≡ built.is_get kind }
+{
+    match kind {
+        Kind::Get => true,
+        _ => false,
+    }
+}
+
+fn is_put(kind: Kind) -> bool
+    ensures { result ≡ built.is_put kind }
+{
+    match kind {
+        Kind::Put => true,
+        _ => false,
+    }
 }
 
 fn resolve_call(tables: &[u32], variables: &[u32], source: &Call) -> Option<CheckedCall>

@@ -1,22 +1,29 @@
 // How a run ends.
 
-/// Why a session file is refused.
-#[derive(Clone, Copy, Debug, PartialEq, Eq)]
+use handler_syntax::SyntaxRefusal;
+
+/// Why an input is refused.
+#[derive(Debug, Drop)]
 pub enum Fault {
     /// It has more than 4,194,304 bytes.
     TooLarge,
     /// It is no UTF-8.
     NotText,
-    /// It has no dividing line.
+    /// It has no dividing line, and requests are to be served.
     NoRequests,
-    /// A part of it isn't built yet, or breaks a rule of names or of requests.
+    /// It has a dividing line, and is to be a file of handlers alone.
+    HasRequests,
+    /// The text of the handlers is no file of the grammar within its limits. This is never want of
+    /// memory.
+    Syntax(SyntaxRefusal),
+    /// A part of it can't be served yet, or breaks a rule of names or of requests.
     NotBuilt,
 }
 
 /// How a run ended.
-#[derive(Clone, Copy, Debug, PartialEq, Eq)]
+#[derive(Debug, Drop)]
 pub enum Status {
-    /// All replies were written.
+    /// The whole text was written.
     Fine,
     Refused(Fault),
     /// The words are no command line; nothing was read.
@@ -24,6 +31,6 @@ pub enum Status {
     NoMemory,
     /// The source failed.
     ReadFault,
-    /// The sink failed; what was written is a front of the replies.
+    /// The sink failed; what was written is a front of the text.
     WriteFault,
 }

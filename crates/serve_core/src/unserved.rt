@@ -1,11 +1,11 @@
-// Why a session isn't served.
+// Why there is nothing to write.
 
 use crate::status::Fault;
 use session_values::NoMemory;
 use std::alloc::{AllocError, AllocFailed};
 
 /// Why there is nothing to write.
-#[derive(Clone, Copy, Debug, PartialEq, Eq)]
+#[derive(Debug, Drop)]
 pub(crate) enum Unserved {
     Refused(Fault),
     NoMemory,

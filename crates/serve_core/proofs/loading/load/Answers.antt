@@ -3,8 +3,8 @@ use Rattle.request_files.specs.declared.head.Head.{Head}
 use Rattle.request_files.specs.Text.{lines}
 use Rattle.request_files.specs.Requests.{AreRequests, rows}
 use Rattle.serve_core.specs.Answer.{Parts}
-use Rattle.serve_core.specs.Loaded.{IsProgram, HasNoSession}
-use Rattle.serve_core.proofs.LoadingLemmas.{program_known, loads, no_session, because_of}
+use Rattle.serve_core.specs.Loaded.{IsProgram}
+use Rattle.serve_core.proofs.LoadingLemmas.{program_known, loads, no_session, request_reason}
 use Rattle.serve_core.proofs.loading.load.Goals as goal
 
 pub read_requests-found-requires-clause-known : goal.read_requests-found-requires-clause-known
@@ -27,5 +27,5 @@ returns-in-Err-clause-refused c =
     let names = c.load_program.new.names in
     let p = c.in_ok-program.program in
     let program = subst (λ (ns : List (List ℕ)). IsProgram ns c.args.handlers.now names p) c.in_ok-names.ensures c.in_ok-program.ensures.program in
-    because_of (HasNoSession parts) c.refused_by.result c.in-Err.e c.refused_by.ensures
+    request_reason parts c.refused_by.result c.in-Err.e c.refused_by.ensures
     (λ other. no_session parts names p c.deref.result.now c.in-Err.e program c.deref.ensures.value (c.in-Err.ensures.refused c.in-Err.e refl other))
