@@ -13,6 +13,7 @@ use crate::resolve::resolve;
 use crate::status::Fault;
 use crate::unserved::Unserved;
 use handler_syntax::{File, Handlers, SyntaxRefusal, parse};
+use handler_trees::File as Tree;
 use request_files::{Head, Request, RequestRefusal, read_requests};
 use session_values::{Listed, Names, NoMemory, TableKind};
 use std::alloc::Global;
@@ -97,7 +98,7 @@ fn load_program(alloc: Global, text: &str, names: &mut Names) -> Result<Program,
     ensures few { OnOk result (length names.new ≤ length names.old + length text.now) }
     ensures refused { IfErr result (spec.IsFileReason names.old text.now) }
 {
-    let file = read_file(alloc, text, names)?;
+    let file = read_file(alloc, text, names)?.into_tree();
     match resolve(alloc, &file)? {
         Some(handlers) => Ok(Program {
             shape: shape_of(alloc, &file)?,
@@ -108,7 +109,7 @@ fn load_program(alloc: Global, text: &str, names: &mut Names) -> Result<Program,
     }
 }
 
-fn shape_of(alloc: Global, file: &File) -> Result<Vec<TableKind>, NoMemory>
+fn shape_of(alloc: Global, file: &Tree) -> Result<Vec<TableKind>, NoMemory>
     ensures { IfOk result (λ shape. shape.items ≡ shape_spec file.now) }
 {
     Ok(

@@ -9,16 +9,16 @@ ghost use Rattle.serve_core.specs.Resolves.{Resolves};
 
 use crate::checked::{CheckedAtom, CheckedCall, CheckedHandler, CheckedStmt};
 use handler_syntax::{
-    Atom, Block, Call, Expr, Exprs, File, Handler, Handlers, Params, Right, Stmt, TableDecl,
-    TableDecls,
+    Atom, Block, Call, Expr, Exprs, Handler, Handlers, Params, Right, Stmt, TableDecl, TableDecls,
 };
+use handler_trees::File as Tree;
 use session_values::{Kind, Listed, NoMemory, TableKind, Value};
 use std::alloc::Global;
 
 /// The checked handlers of a file, or `None` where one breaks a rule of names or isn't built yet.
 pub(crate) fn resolve(
     alloc: Global,
-    file: &File,
+    file: &Tree,
 ) -> Result<Option<Listed<CheckedHandler>>, NoMemory>
     ensures { IfOk result (λ found. Resolves (built.is_built file.now && names.keeps_rules file.now) (spec.checked_handlers file.now) found) }
 {

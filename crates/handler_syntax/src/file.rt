@@ -1,0 +1,43 @@
+// Files of handlers.
+
+ghost use Rattle.std.specs.Prelude.{◌≡◌};
+
+use handler_trees::File as Tree;
+use std::marker::Model;
+
+/// The tree of a file of handlers that keeps the limits of the language, so that its canonical
+/// text can be read back. Contracts see it as the tree.
+#[derive(Debug, Drop)]
+pub struct File {
+    pub(crate) tree: Tree,
+}
+
+impl Model for File {
+    ghost use Rattle.std.specs.Coded.{codes};
+    ghost use Rattle.handler_trees.specs.contracts.stmt.Stmt as stmt;
+    ghost use Rattle.handler_trees.specs.declared.file.File.{File as Tree};
+    ghost use Rattle.handler_syntax.specs.Keeps.{KeepsLimits};
+
+    ghost Value = { Tree };
+
+    ghost coded = { Prim.hlevel (codes, stmt.the_row.coded) };
+
+    ghost view = { λ f. f.tree };
+
+    ghost invariant = { λ f. KeepsLimits f.tree };
+}
+
+impl File {
+    pub fn tree(&self) -> &Tree
+        ensures { result.now ≡ self.now }
+    {
+        &self.tree
+    }
+
+    pub fn into_tree(self) -> Tree
+        ensures { result ≡ self }
+    {
+        let File { tree } = self;
+        tree
+    }
+}

@@ -1,0 +1,48 @@
+// Reading.
+
+ghost use Rattle.std.specs.Prelude.{◌≡◌, ◌≢◌, ◌≤◌, ◌+◌, length, None, Some, IfOk, OnOk, IfErr, MatchResult};
+ghost use Rattle.session_values.specs.Names.{Begins};
+ghost use Rattle.handler_tokens.specs.Words.{words_of, names_of};
+ghost use Rattle.handler_trees.specs.declared.file.File.{File as Tree};
+ghost use Rattle.handler_grammar.specs.FirstFault.{IsFirstFault};
+ghost use Rattle.handler_grammar.specs.Limits.{IsFileWithin};
+ghost use Rattle.handler_grammar.specs.NamedFile.{IsNamedFile};
+ghost use Rattle.handler_grammar.specs.Next.{fault, whole_file};
+ghost use Rattle.handler_grammar.specs.declared.refusal.SyntaxRefusal.TheVariants as syntax_refusal;
+
+use crate::file::File;
+use handler_grammar::SyntaxRefusal;
+use session_values::Names;
+use std::alloc::Global;
+
+/// The file that a source is. `names` then has the names and symbols of the source too; after a
+/// refusal, perhaps some of them.
+pub fn parse(alloc: Global, source: &str, names: &mut Names) -> Result<File, SyntaxRefusal>
+    requires short { length source.now ≤ 4194304 }
+    requires room { length names.old ≤ 4000000000 }
+    // The source is a file of the grammar, within its limits, and this is its tree.
+    ensures ok { IfOk result (IsFileWithin (words_of names.old source.now)) }
+    // Such a file is read, unless memory runs out, and it has no other tree.
+    ensures only { (tree : Tree)
+        → IsFileWithin (words_of names.old source.now) tree
+        → MatchResult result (λ read. read ≡ tree) (λ e. e ≡ syntax_refusal.NoMemory) }
+    // The walk over the words finds no fault, or this one.
+    ensures exact { MatchResult result
+        (λ file. fault (length source.now) whole_file 0 (words_of names.old source.now) ≡ None)
+        (λ e. e ≢ syntax_refusal.NoMemory
+        → fault (length source.now) whole_file 0 (words_of names.old source.now) ≡ Some e) }
+    // What is refused has its first fault here.
+    ensures refused { IfErr result (λ e.
+        e ≢ syntax_refusal.NoMemory
+        → IsFirstFault (length source.now) (words_of names.old source.now) e) }
+    ensures names { OnOk result (names.new ≡ names_of names.old source.now) }
+    // After a refusal too.
+    ensures kept { Begins names.old names.new }
+    ensures few { length names.new ≤ length names.old + length source.now }
+    ensures named { IfOk result (IsNamedFile names.new) }
+{
+    match handler_grammar::parse(alloc, source, names) {
+        Ok(tree) => Ok(File { tree }),
+        Err(e) => Err(e),
+    }
+}
