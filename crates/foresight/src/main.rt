@@ -1,4 +1,4 @@
-//! The program: session files from standard input to reply lines on standard output.
+//! The program: `check` and `serve`, from standard input to standard output.
 #![tactic(auto)]
 
 mod input;
