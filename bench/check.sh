@@ -10,9 +10,14 @@ trap 'rm -rf "$work"' EXIT
 
 awk 'BEGIN {
   print "map m;"
-  for (i = 0; i < 22000; i++)
-    print "handler h" i "(k, v) { let w = v + " i " * 2 - 1; let old = swap(m, k, w); if old == nil { put(m, k, (v + 1) * (v - 1)); } else { repeat 3 as i { old = old * 2 + i; } } reply old, v, -7, '"'"'s" i "; }"
-}' | head -c 4194304 | awk '{ lines[NR] = $0 } END { for (i = 1; i < NR; i++) print lines[i] }' > "$work/handlers"
+  left = 4194304 - 7
+  for (i = 0; ; i++) {
+    line = "handler h" i "(k, v) { let w = v + " i " * 2 - 1; let old = swap(m, k, w); if old == nil { put(m, k, w); } else { repeat 3 as i { old = old * 2 + (i - w) * 7; } } reply old, v, -7, " "\047s" i "; }"
+    left -= length(line) + 1
+    if (left < 0) exit
+    print line
+  }
+}' > "$work/handlers"
 
 once() { local from to; from=$(date +%s%N); "$@" > "$work/out"; to=$(date +%s%N); echo $(((to - from) / 1000)); }
 least() { local best=999999999 t; for _ in 1 2 3 4 5 6 7 8 9 10; do t=$(once "$@"); [ "$t" -lt "$best" ] && best=$t; done; echo "$best"; }
