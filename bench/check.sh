@@ -7,6 +7,7 @@ cd "$(dirname "$0")/.."
 program=$PWD/crates/foresight/out/foresight
 work=$(mktemp -d)
 trap 'rm -rf "$work"' EXIT
+. bench/measure.sh
 
 awk 'BEGIN {
   print "map m;"
@@ -19,8 +20,6 @@ awk 'BEGIN {
   }
 }' > "$work/handlers"
 
-once() { local from to; from=$(date +%s%N); "$@" > "$work/out"; to=$(date +%s%N); echo $(((to - from) / 1000)); }
-least() { local best=999999999 t; for _ in 1 2 3 4 5 6 7 8 9 10; do t=$(once "$@"); [ "$t" -lt "$best" ] && best=$t; done; echo "$best"; }
 check() { "$program" check < "$work/handlers"; }
 count() { wc < "$work/handlers"; }
 
@@ -29,10 +28,5 @@ check > "$work/canonical"
 echo "canonical bytes $(wc -c < "$work/canonical")"
 checked=$(least check)
 counted=$(least count)
-echo "check ${checked} us, wc ${counted} us (least of ten), ratio $(awk "BEGIN { printf \"%.1f\", $checked / $counted }")"
-python3 - "$program" "$work/handlers" <<'P'
-import resource, subprocess, sys
-with open(sys.argv[2], "rb") as handlers:
-    subprocess.run([sys.argv[1], "check"], stdin=handlers, stdout=subprocess.DEVNULL, check=True)
-print("peak memory", resource.getrusage(resource.RUSAGE_CHILDREN).ru_maxrss, "KiB")
-P
+compare check "$checked" "wc" "$counted"
+peak "$program" check "$work/handlers"

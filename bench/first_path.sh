@@ -6,6 +6,7 @@ cd "$(dirname "$0")/.."
 program=$PWD/crates/foresight/out/foresight
 work=$(mktemp -d)
 trap 'rm -rf "$work"' EXIT
+. bench/measure.sh
 
 awk 'BEGIN {
   print "map m;"
@@ -20,8 +21,6 @@ awk 'BEGIN {
   }
 }' > "$work/session"
 
-once() { local from to; from=$(date +%s%N); "$@" > "$work/out"; to=$(date +%s%N); echo $(((to - from) / 1000)); }
-least() { local best=999999999 t; for _ in 1 2 3 4 5 6 7 8 9 10; do t=$(once "$@"); [ "$t" -lt "$best" ] && best=$t; done; echo "$best"; }
 serve() { "$program" serve < "$work/session"; }
 count() { wc -l < "$work/session"; }
 
@@ -30,10 +29,5 @@ serve > "$work/replies"
 echo "replies $(wc -l < "$work/replies")"
 served=$(least serve)
 counted=$(least count)
-echo "serve ${served} us, wc -l ${counted} us (least of ten), ratio $(awk "BEGIN { printf \"%.1f\", $served / $counted }")"
-python3 - "$program" "$work/session" <<'P'
-import resource, subprocess, sys
-with open(sys.argv[2], "rb") as session:
-    subprocess.run([sys.argv[1], "serve"], stdin=session, stdout=subprocess.DEVNULL, check=True)
-print("peak memory", resource.getrusage(resource.RUSAGE_CHILDREN).ru_maxrss, "KiB")
-P
+compare serve "$served" "wc -l" "$counted"
+peak "$program" serve "$work/session"
