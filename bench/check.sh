@@ -1,13 +1,7 @@
 #!/usr/bin/env bash
-# Measures `foresight check` on a file of dense handlers of 4,194,304 bytes at most: its time against
+# Measures `foresight check` on a file of dense handlers of at most 4,194,304 bytes: its time against
 # `wc` of the same file in the same run, and its peak memory.
-# Prove and build it first: (cd crates/foresight && rt run -- serve < ../../examples/first.session)
-set -euo pipefail
-cd "$(dirname "$0")/.."
-program=$PWD/crates/foresight/out/foresight
-work=$(mktemp -d)
-trap 'rm -rf "$work"' EXIT
-. bench/measure.sh
+. "$(dirname "$0")/measure.sh"
 
 awk 'BEGIN {
   print "map m;"

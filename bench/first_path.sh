@@ -1,12 +1,7 @@
 #!/usr/bin/env bash
-# Measures the program on a file of 20,000 requests over 5,000 keys: its time against `wc -l` of the
-# same file in the same run, and its peak memory. Prove and build it first: (cd crates/foresight && rt run < ../../examples/first.session)
-set -euo pipefail
-cd "$(dirname "$0")/.."
-program=$PWD/crates/foresight/out/foresight
-work=$(mktemp -d)
-trap 'rm -rf "$work"' EXIT
-. bench/measure.sh
+# Measures `foresight serve` on a file of 20,000 requests over 5,000 keys: its time against `wc -l` of
+# the same file in the same run, and its peak memory.
+. "$(dirname "$0")/measure.sh"
 
 awk 'BEGIN {
   print "map m;"

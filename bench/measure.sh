@@ -1,4 +1,10 @@
-# What both benchmarks measure with: sourced by them, with $work a folder of their own.
+# What both benchmarks stand on, sourced by them: the program, a folder of their own, and how they measure.
+# The program is proved and built by: (cd crates/foresight && rt run -- serve < ../../examples/first.session)
+set -euo pipefail
+cd "$(dirname "${BASH_SOURCE[0]}")/.."
+program=$PWD/crates/foresight/out/foresight
+work=$(mktemp -d)
+trap 'rm -rf "$work"' EXIT
 
 # Microseconds of one run of a command, whose output goes into the folder.
 once() { local from to; from=$(date +%s%N); "$@" > "$work/out"; to=$(date +%s%N); echo $(((to - from) / 1000)); }
