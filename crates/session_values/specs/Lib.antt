@@ -2,7 +2,6 @@ pub mod Commuting
 pub mod Containers
 pub mod Dialogue
 pub mod Kinds
-pub mod Length
 pub mod Names
 pub mod Op
 pub mod Reply
@@ -10,4 +9,3 @@ pub mod ReplyText
 pub mod Serial
 pub mod Tables
 pub mod Values
-pub mod formers

@@ -5,8 +5,8 @@ ghost use Rattle.std.specs.List.{position};
 ghost use Rattle.std.specs.Str.{bytes_eq};
 ghost use Rattle.session_values.specs.Names.{with_text, place_of, AreDistinct};
 
-use crate::no_memory::NoMemory;
 use indexmap::IndexSet;
+use owned_lists::NoMemory;
 use std::alloc::Global;
 use std::marker::Model;
 
