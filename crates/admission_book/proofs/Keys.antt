@@ -13,11 +13,13 @@ use Rattle.session_values.specs.declared.kind.TableKind.TheVariants.{Map, Set}
 use Rattle.session_values.specs.declared.op.Op.{Op}
 use Rattle.session_values.specs.declared.value.Value.{Value}
 use Rattle.session_values.specs.Values.{value_cmp, value_cmp_total}
-use Rattle.session_values.specs.Tables.{Tables, Container, Bindings, Members, empty_of, start, table, step, map_after, set_after, after_on, size_of, is_adding}
+use Rattle.session_values.specs.Kinds.{is_adding}
+use Rattle.session_values.specs.Tables.{Tables, Container, Bindings, Members, empty_of, start, table, step, map_after, set_after, after_on, size_of}
 use Rattle.session_values.specs.Dialogue.{Entry}
 use Rattle.session_journal.specs.Journal.{Deed, entry_of, deeds, of_ticket, in_order, run, begun, after}
 use Rattle.session_values.specs.Dialogue.{Calls}
-use Rattle.session_journal.specs.Script.{Meaning, IsScript, adds_on, sum_below, room}
+use Rattle.session_values.specs.Sums.{sum_below}
+use Rattle.session_journal.specs.Script.{Meaning, IsScript, adds_on, room}
 use Rattle.admission_book.specs.Book.{Book, IsOpen, now, Lawful}
 use Rattle.admission_book.proofs.Events.{Follows-push, OnlyBegun, only_begun}
 use Rattle.admission_book.proofs.Room.{sum_below_le, sum_below_zero, few_begun}

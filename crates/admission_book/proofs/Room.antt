@@ -10,7 +10,8 @@ use Rattle.session_journal.specs.declared.event.Event.TheVariants.{Begin, Done, 
 use Rattle.session_values.specs.Dialogue.{Entry}
 use Rattle.session_journal.specs.Journal.{Deed, of_ticket, entries, begun, end_of, ended}
 use Rattle.session_values.specs.Dialogue.{Next, Calls, Answers, Dialogue, rest, replies, Follows, EndsBy}
-use Rattle.session_journal.specs.Script.{Meaning, IsScript, sum_below, calls}
+use Rattle.session_values.specs.Sums.{sum_below}
+use Rattle.session_journal.specs.Script.{Meaning, IsScript, calls}
 use Rattle.admission_book.specs.Book.{Book, IsOpen, now, delayed_after, is_delayed_from, is_delayed, MayCome, ComeInTurn, Lawful}
 use Rattle.admission_book.proofs.Events.{deeds_stay, begun_stays, begun_more, first_same, ended_other, ended_new, entries_other, entries_more, through_turns}
 use Rattle.session_journal.proofs.Serial.{not_ended, EndsBy-rest}

@@ -3,7 +3,8 @@
 ghost use Rattle.std.specs.Prelude.{◌≡◌, ℕ, ◌<◌, List, [], ◌∷◌, ◌++◌, length, ◌+◌, ◌*◌, ◌≤◌, true, None, Some};
 ghost use Rattle.session_values.specs.Dialogue.{Calls, Answers, rest, replies};
 ghost use Rattle.session_values.specs.Serial.{serial, tables_before};
-ghost use Rattle.session_values.specs.Tables.{start, reply, table, size_of, is_adding};
+ghost use Rattle.session_values.specs.Kinds.{is_adding};
+ghost use Rattle.session_values.specs.Tables.{start, reply, table, size_of};
 ghost use Rattle.symbolic_ops.specs.Symbols.{Covered};
 ghost use Rattle.commute_tables.specs.Symbols.{CommutesWith};
 ghost use Rattle.session_journal.specs.Foreknown.{Foreknown};

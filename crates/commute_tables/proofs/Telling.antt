@@ -12,10 +12,11 @@ use Rattle.session_values.specs.declared.kind.TableKind.TheVariants.{Map, Set}
 use Rattle.session_values.specs.declared.op.Op.{Op}
 use Rattle.session_values.specs.declared.value.Value.{Value}
 use Rattle.session_values.specs.Values.{value_eq, IsValue}
-use Rattle.session_values.specs.Tables.{Tables, Container, empty_of, start, table, reply_on, after_on, home, Fits, AreValues}
+use Rattle.session_values.specs.Kinds.{home, is_keyed, is_plain, kind_place, is_on_map, is_read}
+use Rattle.session_values.specs.Tables.{Tables, Container, empty_of, start, table, reply_on, after_on, Fits, AreValues}
 use Rattle.session_values.specs.Commuting.{Commute}
-use Rattle.commute_tables.specs.Relation.{same_bool, is_keyed, is_plain, kind_place, is_on_map, commutes}
-use Rattle.session_values.specs.Tables.{is_read, kind_of}
+use Rattle.commute_tables.specs.Relation.{same_bool, commutes}
+use Rattle.session_values.specs.Tables.{kind_of}
 use Rattle.commute_tables.specs.ToldApart.{ToldApart, Differ, CommuteAt}
 use Rattle.commute_tables.proofs.Apart.{same_value, value_eq-self}
 use Rattle.std.specs.List.{AllByRecursion}

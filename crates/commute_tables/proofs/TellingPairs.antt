@@ -11,7 +11,8 @@ use Rattle.session_values.specs.declared.op.Op.{Op}
 use Rattle.session_values.specs.declared.value.Value.{Value}
 use Rattle.session_values.specs.declared.value.Value.TheVariants.{Nil, Num}
 use Rattle.session_values.specs.Values.{value_cmp, value_eq, value_cmp_total, IsValue}
-use Rattle.session_values.specs.Tables.{Container, Bindings, Members, map_reply, map_after, set_after, bit, home, AreValues}
+use Rattle.session_values.specs.Kinds.{home}
+use Rattle.session_values.specs.Tables.{Container, Bindings, Members, map_reply, map_after, set_after, bit, AreValues}
 use Rattle.session_values.specs.Tables.{kind_of}
 use Rattle.commute_tables.proofs.Apart.{same_value, value_eq-self, not_same}
 use Rattle.commute_tables.proofs.Commutes.{flip}
@@ -115,8 +116,8 @@ members_one k p l h = by_key (value_eq l k) refl (sym (set.contains-insert value
     by_key true e g = let P : Value → Type 0 = λ y. IsValue y in subst P (sym (same_value l k e)) p
     by_key false e g = absurd (both_ways (set.contains no_set l) g (set.contains-empty value_cmp l))
 
-pub other_value : (w : Value) → IsValue (other w)
-other_value w = go (value_eq w (Num (pos 0)))
+pub other_held : (w : Value) → IsValue (other w)
+other_held w = go (value_eq w (Num (pos 0)))
   where
     go : (b : Bool) → IsValue (cond b (Num (pos 1)) (Num (pos 0)))
     go true = lit< tt
@@ -185,7 +186,7 @@ see_bind x y i j k v w p q =
     record {
       container = Bindings m;
       kind = map_kind x (inl p);
-      values = λ p q. values_one k (other w) p (other_value w);
+      values = λ p q. values_one k (other w) p (other_held w);
       differ = λ s. other_differs w (sym (seen x no_map k (other w) p) ∙ s.first ∙ ap (λ (n : map.FinMap value_cmp Value). map_reply n x k) (bound y m k w q) ∙ seen x m k w p);
     }
 

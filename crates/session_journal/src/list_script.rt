@@ -3,7 +3,8 @@
 ghost use Rattle.std.specs.Prelude.{◌≡◌, ℕ, ◌<◌, ◌≤◌, ◌-◌, ◌++◌, ◌∷◌, ◌&&◌, ◌==◌, [], cond, length, IfOk};
 ghost use Rattle.std.specs.List.{AllByRecursion};
 ghost use Rattle.session_values.specs.Dialogue.{Answers};
-ghost use Rattle.session_values.specs.Tables.{Fits, is_adding};
+ghost use Rattle.session_values.specs.Kinds.{is_adding};
+ghost use Rattle.session_values.specs.Tables.{Fits};
 ghost use Rattle.session_journal.specs.Script.{HasValues};
 ghost use Rattle.session_values.specs.Values.{IsValue};
 ghost use Rattle.symbolic_ops.specs.Symbols.{HasNoVar};

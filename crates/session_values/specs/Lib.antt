@@ -7,5 +7,6 @@ pub mod Op
 pub mod Reply
 pub mod ReplyText
 pub mod Serial
+pub mod Sums
 pub mod Tables
 pub mod Values
