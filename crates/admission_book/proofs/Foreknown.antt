@@ -24,8 +24,8 @@ use Rattle.session_journal.proofs.Serial.{matched, Settled, Known, all_known, fi
 use Rattle.admission_book.proofs.Events.{only_begun}
 
 -- a book's journal regrouped by ticket replays and gives the same tables
-pub regrouped_lawful : (m : Meaning) (b : Book) → Lawful m b → Instead (start m.shape) (in_order (deeds b.journal)) (regrouped b.journal)
-regrouped_lawful m b L = regrouped_replays (begun b.journal) (start m.shape) (deeds b.journal) (only_begun m (length b.records) b.journal L.turns).deeds L.inversions L.replays
+pub regrouped_lawful : (m : Meaning) (b : Book) → Lawful m b → Instead (m.opening) (in_order (deeds b.journal)) (regrouped b.journal)
+regrouped_lawful m b L = regrouped_replays (begun b.journal) (m.opening) (deeds b.journal) (only_begun m (length b.records) b.journal L.turns).deeds L.inversions L.replays
 
 Commute-sym : (a b : Op) → Commute a b → Commute b a
 Commute-sym a b c = record { at = λ ts. let s : Swaps ts a b = c.at ts in record { tables = sym s.tables; first = sym s.second; second = sym s.first } }
@@ -108,6 +108,6 @@ opened_lawful m callers = record {
     nothing {X} (suc n) (suc i) = nothing {X = X} n i
 
 -- where all begun tickets have ended, the tables are those of serving them one at a time
-pub all_ended : (m : Meaning) (b : Book) → IsScript m → Lawful m b → ((t : ℕ) → t < begun b.journal → (r : Reply) × (ended b.journal t ≡ Some r)) → after m.shape b.journal ≡ tables_before (session_of m) (begun b.journal)
+pub all_ended : (m : Meaning) (b : Book) → IsScript m → Lawful m b → ((t : ℕ) → t < begun b.journal → (r : Reply) × (ended b.journal t ≡ Some r)) → after m.opening b.journal ≡ tables_before (session_of m) (begun b.journal)
 all_ended m b S L e =
     sym (regrouped_lawful m b L).same ∙ final m (deeds b.journal) (begun b.journal) (settled m b S L) (λ t l. let p : (r : Reply) × (ended b.journal t ≡ Some r) = e t l in (p.0, L.answered t p.0 p.1)) (regrouped_lawful m b L).replays

@@ -109,7 +109,7 @@ pub record Holds (m : Meaning) (b : Book) (c : ℕ) (s : Serving) : Type 0 where
 -- a book that the methods of a book can lead to
 pub record Lawful (m : Meaning) (b : Book) : Type 0 where
   -- the journal replays
-  pub replays : Replays (start m.shape) (in_order (deeds b.journal))
+  pub replays : Replays (m.opening) (in_order (deeds b.journal))
   -- each ticket's entries are what it calls, and its Reply, which is kept, what it answers
   pub follows : (t : ℕ) → Follows (m.next t) (entries b.journal t)
   pub answered : (t : ℕ) (r : Reply) → ended b.journal t ≡ Some r → now m b.journal t ≡ Answers r

@@ -224,7 +224,7 @@ impl<S: Script + Drop> Book<S> {
         requires ended { (t : ℕ) → t < (S.meaning self.script).requests → IsSome (ended self.book.journal t) }
         ensures events { result.0.events ≡ self.book.journal }
         ensures kept { map (λ r. Some r) result.1 ≡ self.book.kept }
-        ensures tables { after (S.meaning self.script).shape result.0.events ≡ tables_before (session_of (S.meaning self.script)) (S.meaning self.script).requests }
+        ensures tables { after (S.meaning self.script).opening result.0.events ≡ tables_before (session_of (S.meaning self.script)) (S.meaning self.script).requests }
         ensures serial { result.1 ≡ serial_replies (session_of (S.meaning self.script)) (S.meaning self.script).requests }
     {
         let Book {

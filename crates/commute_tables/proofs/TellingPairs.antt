@@ -15,6 +15,7 @@ use Rattle.session_values.specs.Kinds.{home}
 use Rattle.session_values.specs.Tables.{Container, Bindings, Members, map_reply, map_after, set_after, bit, AreValues}
 use Rattle.session_values.specs.Tables.{kind_of}
 use Rattle.commute_tables.proofs.Apart.{same_value, value_eq-self, not_same}
+use Rattle.session_values.proofs.Starts.{values_none, members_none}
 use Rattle.commute_tables.proofs.Commutes.{flip}
 use Rattle.commute_tables.proofs.OneTable.{SwapsOn}
 
@@ -81,12 +82,6 @@ pub count_one : (k : Value) → set.len (set.insert no_set k) ≡ 1
 count_one k = set.len-insert value_cmp_total no_set k ∙ ap (λ (b : Bool). cond b (set.len no_set) (set.len no_set + 1)) (absent k) ∙ ap (λ (n : ℕ). n + 1) (set.len-empty value_cmp)
 
 -- ---- values that a program can hold
-pub values_none : AreValues (Bindings no_map)
-values_none k v h = absurd (none_some (sym (map.get-empty value_cmp k) ∙ h))
-  where
-    none_some : ◌≡◌ {A = Option Value} None (Some v) → ⊥
-    none_some e = cc
-
 pub values_one : (k v : Value) → IsValue k → IsValue v → AreValues (Bindings (map.insert no_map k v))
 values_one k v p q l x h = by_key (value_eq l k) refl (sym (map.get-insert value_cmp_total no_map k v l) ∙ h)
   where
@@ -99,12 +94,6 @@ values_one k v p q l x h = by_key (value_eq l k) refl (sym (map.get-insert value
     by_key : (b : Bool) → value_eq l k ≡ b → cond b (Some v) (map.get no_map l) ≡ Some x → IsValue l × IsValue x
     by_key true e g = let P : Value → Type 0 = λ y. IsValue y in (subst P (sym (same_value l k e)) p, subst P (inside v x g) q)
     by_key false e g = absurd (none_some (sym (map.get-empty value_cmp l) ∙ g))
-
-pub members_none : AreValues (Members no_set)
-members_none k h = absurd (both_ways (set.contains no_set k) h (set.contains-empty value_cmp k))
-  where
-    both_ways : (b : Bool) → b ≡ true → b ≡ false → ⊥
-    both_ways b p q = cc
 
 pub members_one : (k : Value) → IsValue k → AreValues (Members (set.insert no_set k))
 members_one k p l h = by_key (value_eq l k) refl (sym (set.contains-insert value_cmp_total no_set k l) ∙ h)

@@ -38,12 +38,6 @@ set-table [] i h = refl
 set-table (c ∷ all) zero h = refl
 set-table (c ∷ all) (suc i) h = ap (λ cs. c ∷ cs) (set-table all i (omega (arith, h)))
 
--- empty tables have the kinds that were asked for
-pub kinds-start : (shape : List TableKind) → map kind_of (start shape) ≡ shape
-kinds-start [] = refl
-kinds-start (Map ∷ shape) = ap (λ kinds. Map ∷ kinds) (kinds-start shape)
-kinds-start (Set ∷ shape) = ap (λ kinds. Set ∷ kinds) (kinds-start shape)
-
 kind-after : (c : Container) (op : Op) → kind_of (after_on c op) ≡ kind_of c
 kind-after (Bindings m) op = refl
 kind-after (Members s) op = refl

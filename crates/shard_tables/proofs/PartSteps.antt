@@ -11,7 +11,7 @@ use Rattle.session_values.specs.declared.kind.Kind.TheVariants.{Get, Put, Swap, 
 use Rattle.session_values.specs.declared.op.Op.{Op}
 use Rattle.session_values.specs.declared.value.Value.{Value}
 use Rattle.session_values.specs.declared.value.Value.TheVariants.{Nil, Num}
-use Rattle.session_values.specs.Kinds.{arguments}
+use Rattle.session_values.specs.Op.{arguments}
 use Rattle.session_values.specs.Values.{value_cmp, value_eq, value_cmp_total, value_cmp-IsAntisymmetric}
 use Rattle.session_values.specs.Tables.{Container, Bindings, Members, reply_on, after_on, map_reply, map_after, set_reply, set_after, kind_of, empty_of, bit}
 use Rattle.shard_tables.specs.Parts.{kept_by, part}

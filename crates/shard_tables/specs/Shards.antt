@@ -7,8 +7,7 @@ use Rattle.session_values.specs.contracts.value.Value as value
 use Rattle.session_values.specs.declared.op.Op.{Op}
 use Rattle.session_values.specs.declared.value.Value.{Value}
 use Rattle.session_values.specs.Values.{value_cmp}
-use Rattle.session_values.specs.Kinds.{is_adding}
-use Rattle.session_values.specs.Tables.{Container, Bindings, Members, after_on, size_of}
+use Rattle.session_values.specs.Tables.{Container, Bindings, Members, after_on, size_of, is_adding}
 use Rattle.shard_tables.specs.Keys.{AreDifferent}
 
 -- a shard of a map: the bindings of its part

@@ -3,8 +3,7 @@
 ghost use Rattle.std.specs.Prelude.{◌≡◌, ◌<◌, ◌≤◌, IfOk, false, pos, unwrap_or, position};
 ghost use Rattle.std.specs.FinMap as map;
 ghost use Rattle.session_values.specs.declared.kind.TableKind.TheVariants.{Map};
-ghost use Rattle.session_values.specs.Kinds.{home};
-ghost use Rattle.session_values.specs.Tables.{reply_on, size_of, empty_of};
+ghost use Rattle.session_values.specs.Tables.{reply_on, size_of, home, empty_of};
 ghost use Rattle.session_values.specs.Values.{value_eq};
 ghost use Rattle.shard_tables.specs.Shards.{map_shard, HasRoomFor, shard_after, spare_of};
 

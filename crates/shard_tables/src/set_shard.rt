@@ -3,8 +3,7 @@
 ghost use Rattle.std.specs.Prelude.{◌≡◌, ◌<◌, ◌≤◌, IfOk, false, pos, position, not, is_some};
 ghost use Rattle.std.specs.FinSet as set;
 ghost use Rattle.session_values.specs.declared.kind.TableKind.TheVariants.{Set};
-ghost use Rattle.session_values.specs.Kinds.{home};
-ghost use Rattle.session_values.specs.Tables.{reply_on, size_of, empty_of, bit};
+ghost use Rattle.session_values.specs.Tables.{reply_on, size_of, home, empty_of, bit};
 ghost use Rattle.session_values.specs.Values.{value_eq};
 ghost use Rattle.shard_tables.specs.Shards.{set_shard, HasRoomFor, shard_after, spare_of};
 
