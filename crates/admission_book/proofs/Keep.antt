@@ -11,7 +11,7 @@ use Rattle.session_values.specs.declared.reply.Reply.{Reply}
 use Rattle.symbolic_ops.specs.declared.symbol.Symbol.{Symbol}
 use Rattle.session_journal.specs.declared.event.Event.{Event}
 use Rattle.session_journal.specs.declared.event.Event.TheVariants.{Begin, Done, Delay, End}
-use Rattle.session_values.specs.Tables.{start, reply}
+use Rattle.session_values.specs.Tables.{reply}
 use Rattle.symbolic_ops.specs.Symbols.{Matches, Covered}
 use Rattle.commute_tables.specs.Symbols.{CommutesWith, CommutesWithAll}
 use Rattle.session_values.specs.Dialogue.{Entry}
@@ -251,7 +251,7 @@ keeps_done m b c s op r f L at flying is cov fore =
     let calls : now m J t ≡ Calls op = here.flight op flying in
     let ds : deeds (J ++ v ∷ []) ≡ deeds J ++ new ∷ [] = deeds-append J (v ∷ []) in
     let count : begun (J ++ v ∷ []) ≡ begun J = begun_stays J v refl in
-    let matches : Matches s.foresight op = here.foresight.covers.each [] op (to_rest t (entries J t) op calls) in
+    let matches : Matches s.foresight op = here.foresight.covers.each [] op tt (to_rest t (entries J t) op calls) in
     let no_flight : (u : ℕ) (g : List Symbol) (z : Serving) (o : Op) → ◌≡◌ {A = Option Serving} (Some x) (Some z) → u < z.ticket → z.flight ≡ Some o → CommutesWithAll o g = λ u g z o e l fl. absurd (none_some o (ap (λ (y : Serving). y.flight) (inside x z e) ∙ fl)) in
     record {
       replays = let P : List Deed → Type 0 = λ es. Replays (m.opening) (in_order es) in

@@ -1,20 +1,13 @@
 -- How many keys a table has at most.
 use Rattle.std.proofs.Common.{◌≡◌, ℕ, zero, suc, ◌+◌, ◌-◌, ◌<◌, ◌≤◌, ◌≢◌, List, [], ◌∷◌, ◌++◌, length, ◌⊎◌, inl, inr, Bool, true, false, cond, ◌&&◌, eqb, get_or, refl, sym, ◌∙◌, ap, subst, arith}
 use Rattle.std.specs.List.{AllByRecursion}
-use Rattle.std.proofs.Math.ListN.{set as put_at}
-use Rattle.std.proofs.lemmas.List.{get_or-set_same, get_or-set_other, set_past}
 use Rattle.std.proofs.lemmas.Bool.Decides.{nat_tests}
-use Rattle.std.specs.FinMap as map
-use Rattle.std.specs.FinSet as set
-use Rattle.session_values.specs.declared.kind.Kind.{Kind}
-use Rattle.session_values.specs.declared.kind.Kind.TheVariants.{Get, Put, Swap, Del, Size, Has, Add, Mark, Drop, Count}
-use Rattle.session_values.specs.declared.kind.TableKind.{TableKind}
-use Rattle.session_values.specs.declared.kind.TableKind.TheVariants.{Map, Set}
 use Rattle.session_values.specs.declared.op.Op.{Op}
-use Rattle.session_values.specs.declared.value.Value.{Value}
-use Rattle.session_values.specs.Values.{value_cmp, value_cmp_total}
 use Rattle.session_values.specs.Kinds.{is_adding}
-use Rattle.session_values.specs.Tables.{Tables, Container, Bindings, Members, empty_of, start, table, step, map_after, set_after, after_on, size_of}
+use Rattle.session_values.specs.Tables.{table, size_of}
+use Rattle.session_values.proofs.Sizes.{one_if}
+use Rattle.session_values.proofs.Sums.{sum_below_le, sum_below_zero, sum_more, sum_same}
+use Rattle.session_journal.proofs.Values.{run_few}
 use Rattle.session_values.specs.Dialogue.{Entry}
 use Rattle.session_journal.specs.Journal.{Deed, entry_of, deeds, of_ticket, in_order, run, begun, after}
 use Rattle.session_values.specs.Dialogue.{Calls}
@@ -22,7 +15,7 @@ use Rattle.session_values.specs.Sums.{sum_below}
 use Rattle.session_journal.specs.Script.{Meaning, IsScript, adds_on, room}
 use Rattle.admission_book.specs.Book.{Book, IsOpen, now, Lawful}
 use Rattle.admission_book.proofs.Events.{Follows-push, OnlyBegun, only_begun}
-use Rattle.admission_book.proofs.Room.{sum_below_le, sum_below_zero, few_begun}
+use Rattle.admission_book.proofs.Room.{few_begun}
 
 -- ---- by ticket
 adds_by_ticket : (n i : ℕ) (ds : List Deed) → AllByRecursion (λ d. d.ticket < n) ds → adds_on i (in_order ds) ≡ sum_below n (λ t. adds_on i (of_ticket t ds))

@@ -4,7 +4,7 @@ ghost use Rattle.std.specs.Prelude.{◌≡◌, ℕ, ◌<◌, List, [], ◌∷◌
 ghost use Rattle.session_values.specs.Dialogue.{Calls, Answers, rest, replies};
 ghost use Rattle.session_values.specs.Serial.{serial, tables_before};
 ghost use Rattle.session_values.specs.Kinds.{is_adding};
-ghost use Rattle.session_values.specs.Tables.{start, reply, table, size_of};
+ghost use Rattle.session_values.specs.Tables.{reply, table, size_of};
 ghost use Rattle.symbolic_ops.specs.Symbols.{Covered};
 ghost use Rattle.commute_tables.specs.Symbols.{CommutesWith};
 ghost use Rattle.session_journal.specs.Foreknown.{Foreknown};
@@ -49,12 +49,13 @@ pub fn ending()
     ensures { (m : Meaning) (b : Book) → IsScript m → Lawful m b → ((t : ℕ) → t < begun b.journal → (r : Reply) × (ended b.journal t ≡ Some r)) → after m.opening b.journal ≡ tables_before (session_of m) (begun b.journal) }
 {}
 
-/// A lawful book has no more events, and its tables no more keys, than its script allows, and fewer
-/// keys while a call that may add one is still to come.
+/// A lawful book has no more events than its script allows, and its tables no more keys than the
+/// opening ones and the adding calls together, and fewer while a call that may add one is still to
+/// come.
 pub fn bounds()
     ensures events { (m : Meaning) (b : Book) → IsScript m → Lawful m b → length b.journal ≤ 2 * m.requests + 2 * calls m }
-    ensures keys { (m : Meaning) (b : Book) (i : ℕ) → IsScript m → Lawful m b → size_of (table (after m.opening b.journal) i) ≤ room m i }
-    ensures fewer { (m : Meaning) (b : Book) (t : ℕ) (op : Op) → IsScript m → Lawful m b → IsOpen b.journal t → now m b.journal t ≡ Calls op → is_adding op.kind ≡ true → size_of (table (after m.opening b.journal) op.table) < room m op.table }
+    ensures keys { (m : Meaning) (b : Book) (i : ℕ) → IsScript m → Lawful m b → size_of (table (after m.opening b.journal) i) ≤ size_of (table m.opening i) + room m i }
+    ensures fewer { (m : Meaning) (b : Book) (t : ℕ) (op : Op) → IsScript m → Lawful m b → IsOpen b.journal t → now m b.journal t ≡ Calls op → is_adding op.kind ≡ true → size_of (table (after m.opening b.journal) op.table) < size_of (table m.opening op.table) + room m op.table }
 {}
 
 /// The events of each ticket of a lawful book are its Begin; for each call at most one Delay and
