@@ -7,6 +7,7 @@ pub mod laws;
 mod names;
 mod op;
 mod reply;
+mod seeded;
 mod value;
 
 pub use kind::{Kind, TableKind};
