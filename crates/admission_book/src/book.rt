@@ -2,11 +2,11 @@
 
 ghost use Rattle.std.specs.Prelude.{◌≡◌, ℕ, ◌+◌, ◌*◌, ◌<◌, ◌≤◌, Some, IsSome, IfOk, IfSome, length, map};
 ghost use Rattle.session_values.specs.Serial.{serial, serial_replies, tables_before};
-ghost use Rattle.session_journal.specs.Foreknown.{Foreknown};
-ghost use Rattle.session_journal.specs.Journal.{after, begun, ended};
+ghost use Rattle.session_journal.specs.Journal.{after, ended};
 ghost use Rattle.session_journal.specs.Script.{IsScript, calls, session_of};
-ghost use Rattle.admission_book.specs.Book.{Lawful, kept_for, opened};
-ghost use Rattle.admission_book.specs.Books.{Admits, Begins, DidIt, Grows, HasEnded, IfNext, IsOldestOpen, MayAdmit, MayBeginNext, MayDo, MayEnd, MayNarrow, Narrowed};
+ghost use Rattle.admission_book.specs.Book.{kept_for, opened};
+ghost use Rattle.admission_book.specs.Lawful.{Lawful};
+ghost use Rattle.admission_book.specs.Books.{Admits, Begins, DidIt, HasEnded, IfNext, IsOldestOpen, MayAdmit, MayBeginNext, MayDo, MayEnd, MayNarrow, Narrowed, StaysLawful};
 
 use crate::admission::Admission;
 use crate::blocker::least_against;
@@ -94,11 +94,8 @@ impl<S: Script + Drop> Book<S> {
     pub fn begin(&mut self, caller: u32, entry: &Foresight) -> Option<u32>
         requires lawful { Lawful (S.meaning self.old.script) self.old.book }
         requires may { MayBeginNext (S.meaning self.old.script) self.old.book caller entry.now.symbols }
-        ensures script { self.new.script ≡ self.old.script }
         ensures begins { Begins (S.meaning self.old.script) self.old.book caller entry.now.symbols result self.new.book }
-        ensures lawful { Lawful (S.meaning self.new.script) self.new.book }
-        ensures foreknown { (u : ℕ) → u < begun self.new.book.journal → Foreknown (S.meaning self.new.script) self.new.book.journal u }
-        ensures grows { Grows self.old.book.journal self.new.book.journal }
+        ensures stays { StaysLawful S S.meaning self.old self.new }
     {
         if self.begun >= self.script.requests() {
             return None;
@@ -115,11 +112,8 @@ impl<S: Script + Drop> Book<S> {
     pub fn narrow(&mut self, t: u32, f: &Foresight)
         requires lawful { Lawful (S.meaning self.old.script) self.old.book }
         requires may { MayNarrow (S.meaning self.old.script) self.old.book t f.now.symbols }
-        ensures script { self.new.script ≡ self.old.script }
         ensures narrowed { Narrowed self.old.book t f.now.symbols self.new.book }
-        ensures lawful { Lawful (S.meaning self.new.script) self.new.book }
-        ensures foreknown { (u : ℕ) → u < begun self.new.book.journal → Foreknown (S.meaning self.new.script) self.new.book.journal u }
-        ensures grows { Grows self.old.book.journal self.new.book.journal }
+        ensures stays { StaysLawful S S.meaning self.old self.new }
     {
         let caller = place_of(self.records.as_slice(), t);
         self.records[caller].narrow(f);
@@ -130,12 +124,9 @@ impl<S: Script + Drop> Book<S> {
     pub fn admit(&mut self, t: u32, op: Op) -> Admission
         requires lawful { Lawful (S.meaning self.old.script) self.old.book }
         requires may { MayAdmit (S.meaning self.old.script) self.old.book t op }
-        ensures script { self.new.script ≡ self.old.script }
         ensures admits { Admits self.old.book t op result self.new.book }
         ensures oldest { IsOldestOpen (Some t) self.old.book.journal → result ≡ Admission.Admitted }
-        ensures lawful { Lawful (S.meaning self.new.script) self.new.book }
-        ensures foreknown { (u : ℕ) → u < begun self.new.book.journal → Foreknown (S.meaning self.new.script) self.new.book.journal u }
-        ensures grows { Grows self.old.book.journal self.new.book.journal }
+        ensures stays { StaysLawful S S.meaning self.old self.new }
     {
         let caller = place_of(self.records.as_slice(), t);
         let Some(b) = least_against(self.records.as_slice(), t, &op) else {
@@ -159,11 +150,8 @@ impl<S: Script + Drop> Book<S> {
     pub fn done(&mut self, t: u32, reply: Value, next: &Foresight)
         requires lawful { Lawful (S.meaning self.old.script) self.old.book }
         requires may { MayDo (S.meaning self.old.script) self.old.book t reply next.now.symbols }
-        ensures script { self.new.script ≡ self.old.script }
         ensures did { DidIt self.old.book t reply next.now.symbols self.new.book }
-        ensures lawful { Lawful (S.meaning self.new.script) self.new.book }
-        ensures foreknown { (u : ℕ) → u < begun self.new.book.journal → Foreknown (S.meaning self.new.script) self.new.book.journal u }
-        ensures grows { Grows self.old.book.journal self.new.book.journal }
+        ensures stays { StaysLawful S S.meaning self.old self.new }
     {
         let caller = place_of(self.records.as_slice(), t);
         let op = self.records[caller].finish(next);
@@ -179,11 +167,8 @@ impl<S: Script + Drop> Book<S> {
     pub fn end(&mut self, t: u32, reply: Reply)
         requires lawful { Lawful (S.meaning self.old.script) self.old.book }
         requires may { MayEnd (S.meaning self.old.script) self.old.book t reply }
-        ensures script { self.new.script ≡ self.old.script }
         ensures ended { HasEnded self.old.book t reply self.new.book }
-        ensures lawful { Lawful (S.meaning self.new.script) self.new.book }
-        ensures foreknown { (u : ℕ) → u < begun self.new.book.journal → Foreknown (S.meaning self.new.script) self.new.book.journal u }
-        ensures grows { Grows self.old.book.journal self.new.book.journal }
+        ensures stays { StaysLawful S S.meaning self.old self.new }
     {
         let caller = place_of(self.records.as_slice(), t);
         self.records[caller].end();

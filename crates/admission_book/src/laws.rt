@@ -10,7 +10,9 @@ ghost use Rattle.commute_tables.specs.Symbols.{CommutesWith};
 ghost use Rattle.session_journal.specs.Foreknown.{Foreknown};
 ghost use Rattle.session_journal.specs.Journal.{Replays, after, begun, ended, entries, regrouped, run};
 ghost use Rattle.session_journal.specs.Script.{Meaning, IsScript, IsForesight, calls, room, session_of};
-ghost use Rattle.admission_book.specs.Book.{Book, Serving, Lawful, IsOpen, IsFree, IsBlocker, TellsAll, now, record_of, opened, events_of, after_begin, after_narrow, after_admit, after_delay, after_done, after_end};
+ghost use Rattle.admission_book.specs.Book.{Book, Serving, IsFree, IsBlocker, record_of, opened, after_begin, after_narrow, after_admit, after_delay, after_done, after_end};
+ghost use Rattle.admission_book.specs.EventsInTurn.{IsOpen, TellsAll, now, events_of};
+ghost use Rattle.admission_book.specs.Lawful.{Lawful};
 ghost use Rattle.admission_book.specs.Books.{IsOldestOpen};
 
 use session_values::{Op, Reply, Value};
