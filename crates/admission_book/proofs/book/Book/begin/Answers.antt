@@ -10,7 +10,6 @@ use Rattle.admission_book.proofs.Stays.{grows_by, stays, stays_same}
 use Rattle.admission_book.proofs.Begins.{begin_lawful, begin_shown, begin_keeps, begin_count, begins, within}
 use Rattle.admission_book.proofs.book.Book.begin.Goals as goal
 
-
 pub returns-then-self-requests-clause-stays : goal.returns-then-self-requests-clause-stays
 returns-then-self-requests-clause-stays g c = stays_same g.S.Script.meaning _ _ _ c.self.view_is c.self.invariant.script c.requires.lawful
 
