@@ -13,7 +13,9 @@ use Rattle.session_journal.specs.declared.event.Event.{Event}
 use Rattle.session_journal.specs.declared.event.Event.TheVariants.{Done}
 use Rattle.session_journal.specs.Journal.{begun, entries, after}
 use Rattle.session_journal.specs.Script.{Meaning, IsForesight}
-use Rattle.admission_book.specs.Book.{Serving, Lawful, record_of, is_delayed, after_done}
+use Rattle.admission_book.specs.Book.{Serving, record_of, after_done}
+use Rattle.admission_book.specs.EventsInTurn.{is_delayed}
+use Rattle.admission_book.specs.Lawful.{Lawful}
 use Rattle.admission_book.specs.declared.caller_record.CallerRecord.{CallerRecord}
 use Rattle.admission_book.specs.CallerRecord.{serving_of, servings, record_at, after_flight}
 use Rattle.admission_book.specs.Books.{MayDo, DidIt}

@@ -15,7 +15,8 @@ use Rattle.session_journal.specs.Journal.{Deed, entry_of, deeds, of_ticket, in_o
 use Rattle.session_values.specs.Dialogue.{Answers, Dialogue, rest, replies, Follows}
 use Rattle.session_journal.specs.Script.{Covers, Meaning, IsScript, session_of}
 use Rattle.session_values.specs.Serial.{tables_before}
-use Rattle.admission_book.specs.Book.{Serving, Book, record_of, Holds, Lawful, opened}
+use Rattle.admission_book.specs.Book.{Serving, Book, record_of, Holds, opened}
+use Rattle.admission_book.specs.Lawful.{Lawful}
 use Rattle.session_journal.specs.Foreknown.{Foreknown}
 use Rattle.session_journal.proofs.Replay.{Instead}
 use Rattle.session_journal.proofs.Regroup.{regrouped_replays}

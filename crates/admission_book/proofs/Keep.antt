@@ -18,7 +18,9 @@ use Rattle.session_values.specs.Dialogue.{Entry}
 use Rattle.session_journal.specs.Journal.{Deed, entry_of, deeds, Replays, of_ticket, in_order, InversionsCommute, entries, begun, end_of, caller_of, ended, owner, after}
 use Rattle.session_values.specs.Dialogue.{Calls, Answers, rest, replies, Follows}
 use Rattle.session_journal.specs.Script.{IsForesight, Meaning}
-use Rattle.admission_book.specs.Book.{Serving, Book, record_of, kept_for, IsOpen, now, is_delayed, ComeInTurn, Holds, Lawful, IsFree, with_event, after_begin, after_narrow, after_admit, after_delay, after_done, after_end}
+use Rattle.admission_book.specs.Book.{Serving, Book, record_of, kept_for, Holds, IsFree, with_event, after_begin, after_narrow, after_admit, after_delay, after_done, after_end}
+use Rattle.admission_book.specs.EventsInTurn.{IsOpen, now, is_delayed, ComeInTurn}
+use Rattle.admission_book.specs.Lawful.{Lawful}
 use Rattle.session_journal.proofs.Replay.{Replays-append}
 use Rattle.admission_book.proofs.Events.{deeds-append, in_order-append, deeds_stay, begun_stays, begun_more, first_same, owner_other, owner_new, ended_other, ended_new, entries_other, entries_more, Follows-push, All-push, All-weaker, InversionsCommute-push, ComeInTurn-push, OnlyBegun, only_begun}
 use Rattle.admission_book.proofs.Records.{within, at_set, set_other, CommutesWithAll-narrow, CommutesWithAll-each}

@@ -1,5 +1,5 @@
 -- How many keys a table has at most.
-use Rattle.std.proofs.Common.{◌≡◌, ℕ, zero, suc, ◌+◌, ◌-◌, ◌<◌, ◌≤◌, ◌≢◌, List, [], ◌∷◌, ◌++◌, length, ◌⊎◌, inl, inr, Bool, true, false, cond, ◌&&◌, eqb, get_or, refl, sym, ◌∙◌, ap, subst, arith}
+use Rattle.std.proofs.Common.{◌≡◌, ℕ, zero, suc, ◌+◌, ◌<◌, ◌≤◌, List, [], ◌∷◌, ◌++◌, length, Bool, true, false, cond, ◌&&◌, eqb, refl, sym, ◌∙◌, ap, subst, arith}
 use Rattle.std.specs.List.{AllByRecursion}
 use Rattle.std.proofs.lemmas.Bool.Decides.{nat_tests}
 use Rattle.session_values.specs.declared.op.Op.{Op}
@@ -9,11 +9,13 @@ use Rattle.session_values.proofs.Sizes.{one_if}
 use Rattle.session_values.proofs.Sums.{sum_below_le, sum_below_zero, sum_more, sum_same}
 use Rattle.session_journal.proofs.Values.{run_few}
 use Rattle.session_values.specs.Dialogue.{Entry}
-use Rattle.session_journal.specs.Journal.{Deed, entry_of, deeds, of_ticket, in_order, run, begun, after}
+use Rattle.session_journal.specs.Journal.{Deed, entry_of, deeds, of_ticket, in_order, begun, after}
 use Rattle.session_values.specs.Dialogue.{Calls}
 use Rattle.session_values.specs.Sums.{sum_below}
 use Rattle.session_journal.specs.Script.{Meaning, IsScript, adds_on, room}
-use Rattle.admission_book.specs.Book.{Book, IsOpen, now, Lawful}
+use Rattle.admission_book.specs.Book.{Book}
+use Rattle.admission_book.specs.EventsInTurn.{IsOpen, now}
+use Rattle.admission_book.specs.Lawful.{Lawful}
 use Rattle.admission_book.proofs.Events.{Follows-push, OnlyBegun, only_begun}
 use Rattle.admission_book.proofs.Room.{few_begun}
 

@@ -15,4 +15,5 @@ pub mod Replies
 pub mod Room
 pub mod Scans
 pub mod Shown
+pub mod Stays
 pub mod Stories

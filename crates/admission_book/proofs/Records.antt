@@ -5,13 +5,10 @@ use Rattle.std.proofs.lemmas.List.{get_or-set_same, get_or-set_other, get_or_pas
 use Rattle.std.proofs.lemmas.Bool.Decides.{nat_tests}
 use Rattle.std.specs.List.{AllByRecursion}
 use Rattle.session_values.specs.declared.op.Op.{Op}
-use Rattle.session_values.specs.declared.value.Value.{Value}
-use Rattle.symbolic_ops.specs.declared.arg.Arg.{Arg}
-use Rattle.symbolic_ops.specs.declared.arg.Arg.TheVariants.{Known, Var, Any}
 use Rattle.symbolic_ops.specs.declared.symbol.Symbol.{Symbol}
 use Rattle.session_values.specs.Commuting.{Commute}
 use Rattle.symbolic_ops.proofs.Above.{covered_matches}
-use Rattle.symbolic_ops.specs.Symbols.{Agrees, ArgBelow, Below, IsBelowSome, Covered, StandsFor, Matches}
+use Rattle.symbolic_ops.specs.Symbols.{Covered, Matches}
 use Rattle.commute_tables.specs.Symbols.{CommutesWith, CommutesWithAll}
 
 -- a place that has something is within the list

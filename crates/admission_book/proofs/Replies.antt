@@ -9,7 +9,8 @@ use Rattle.session_values.specs.declared.reply.Reply.{Reply}
 use Rattle.session_values.specs.Serial.{answered, serial, serial_replies, tables_before}
 use Rattle.session_journal.specs.Journal.{begun, ended, after}
 use Rattle.session_journal.specs.Script.{Meaning, IsScript, session_of}
-use Rattle.admission_book.specs.Book.{Book, Serving, Lawful}
+use Rattle.admission_book.specs.Book.{Book, Serving}
+use Rattle.admission_book.specs.Lawful.{Lawful}
 use Rattle.admission_book.specs.CallerRecord.{servings, idle_record}
 use Rattle.admission_book.proofs.Events.{only_begun}
 use Rattle.admission_book.proofs.Foreknown.{foreknown, all_ended}

@@ -12,7 +12,9 @@ use Rattle.session_journal.specs.Journal.{Deed, of_ticket, entries, begun, end_o
 use Rattle.session_values.specs.Dialogue.{Next, Calls, Answers, Dialogue, rest, replies, Follows, EndsBy}
 use Rattle.session_values.specs.Sums.{sum_below}
 use Rattle.session_journal.specs.Script.{Meaning, IsScript, calls}
-use Rattle.admission_book.specs.Book.{Book, IsOpen, now, delayed_after, is_delayed_from, is_delayed, MayCome, ComeInTurn, Lawful}
+use Rattle.admission_book.specs.Book.{Book}
+use Rattle.admission_book.specs.EventsInTurn.{IsOpen, now, delayed_after, is_delayed_from, is_delayed, MayCome, ComeInTurn}
+use Rattle.admission_book.specs.Lawful.{Lawful}
 use Rattle.admission_book.proofs.Events.{deeds_stay, begun_stays, begun_more, first_same, ended_other, ended_new, entries_other, entries_more, through_turns}
 use Rattle.session_values.proofs.Sums.{sum_below_le, sum_below_zero}
 use Rattle.session_journal.proofs.Serial.{not_ended, EndsBy-rest}

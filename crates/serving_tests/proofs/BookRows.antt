@@ -1,5 +1,5 @@
 -- The books of the tests: what each call asks, and what it leaves.
-use Rattle.std.proofs.Common.{◌≡◌, ℕ, ◌<◌, List, [], ◌∷◌, ◌++◌, inl, inr, Some, None, refl, sym, ◌∙◌, ap, subst, arith}
+use Rattle.std.proofs.Common.{◌≡◌, ℕ, ◌<◌, ◌^◌, List, [], ◌∷◌, ◌++◌, inl, inr, Some, None, refl, sym, ◌∙◌, ap, subst, arith}
 use Rattle.session_values.specs.declared.op.Op.{Op}
 use Rattle.session_values.specs.declared.reply.Reply.{Reply}
 use Rattle.session_values.specs.declared.value.Value.{Value}
@@ -9,14 +9,18 @@ use Rattle.session_values.specs.Tables.{Container, Bindings, Members, Tables, re
 use Rattle.symbolic_ops.specs.declared.symbol.Symbol.{Symbol}
 use Rattle.symbolic_ops.specs.Foresight.{ForesightView}
 use Rattle.symbolic_ops.specs.Symbols.{Matches, StandsFor, exact_symbol}
+use Rattle.session_values.specs.Op.{IsHeld}
+use Rattle.session_values.specs.Values.{IsValue}
+use Rattle.std.specs.List.{AllByRecursion}
 use Rattle.std.specs.Option.{IsSome}
+use Rattle.symbolic_ops.proofs.Above.{exact_stands}
 use Rattle.session_journal.specs.Journal.{ended}
 use Rattle.session_journal.specs.Lists.{ListView, list_meaning, says}
 use Rattle.admission_book.specs.declared.admission.Admission.{Admission}
 use Rattle.admission_book.specs.declared.admission.Admission.TheVariants.{Admitted, Delayed}
 use Rattle.admission_book.specs.Book.{Book, Serving, after_admit, after_delay}
 use Rattle.admission_book.specs.Books.{BookView, MayAdmit, MayEnd, HasEnded, MayDo, MayNarrow, DidIt, Narrowed, Admits}
-use Rattle.admission_book.specs.Rows.{IsAt, get_or_puts, gets_and_put, calls_nothing, both_begun, all_begun, one_begun, once_ended, put_once, narrowed_older, put_twice, put_of, get_of, nil_reply}
+use Rattle.serving_tests.specs.BookRows.{IsAt, get_or_puts, gets_and_put, calls_nothing, both_begun, all_begun, one_begun, once_ended, put_once, narrowed_older, put_twice, put_of, get_of, nil_reply}
 
 -- a fact of the script and the book, where they are known
 pub at_here : (P : ListView → Book → Type 0) (s : ListView) (b : Book) (w : ListView) (d : Book) → w ≡ s → d ≡ b → P s b → P w d
@@ -25,19 +29,26 @@ at_here P s b w d e h p =
     let R : Book → Type 0 = λ x. P w x in
     subst R (sym h) (subst Q (sym e) p)
 
+-- ---- a put that a program can hold
+held_put : (k v : ℕ) → k < 2 ^ 63 → v < 2 ^ 63 → IsHeld (put_of k v)
+held_put k v l m = record { key = l; value = m; unused = (λ h. absurd (omega (arith, h)), λ h. absurd (omega (arith, h))) }
+
+put_stands : (k v : ℕ) → k < 2 ^ 63 → v < 2 ^ 63 → StandsFor (exact_symbol (put_of k v)) (put_of k v)
+put_stands k v l m = exact_stands (put_of k v) (held_put k v l m)
+
 -- ---- what is still called is declared
-no_calls : (more : List Value) (op : Op) → says [] nil_reply more ≡ Calls op → Matches [] op
-no_calls more op e = impossible nil_reply op e
+no_calls : (more : List Value) (op : Op) → AllByRecursion IsValue more → says [] nil_reply more ≡ Calls op → Matches [] op
+no_calls more op values e = impossible nil_reply op e
   where
     impossible : (r : Reply) (op : Op) → Answers r ≡ Calls op → ⊥
     impossible r op e = cc
 
-calls_put : (more : List Value) (op : Op) → says (put_of 1 7 ∷ []) nil_reply more ≡ Calls op → Matches (exact_symbol (put_of 1 7) ∷ []) op
-calls_put [] op e = let P : Op → Type 0 = λ o. StandsFor (exact_symbol (put_of 1 7)) o in inl (subst P (inside (put_of 1 7) op e) (record { kind = refl; table = refl; key = refl; value = refl }))
+calls_put : (more : List Value) (op : Op) → AllByRecursion IsValue more → says (put_of 1 7 ∷ []) nil_reply more ≡ Calls op → Matches (exact_symbol (put_of 1 7) ∷ []) op
+calls_put [] op values e = let P : Op → Type 0 = λ o. StandsFor (exact_symbol (put_of 1 7)) o in inl (subst P (inside (put_of 1 7) op e) (put_stands 1 7 (omega arith) (omega arith)))
   where
     inside : (a b : Op) → Calls a ≡ Calls b → a ≡ b
     inside a b e = cc
-calls_put (v ∷ more) op e = absurd (no_calls more op e)
+calls_put (v ∷ more) op values e = absurd (no_calls more op values.1 e)
 
 put_is_nil : (ts : Tables) (k v : ℕ) → Nil ≡ reply ts (put_of k v)
 unfolding reply
@@ -98,7 +109,7 @@ abbrev pub flying_again : Serving
 flying_again = record { ticket = 1; foresight = exact_symbol (put_of 1 7) ∷ []; flight = Some (put_of 1 7) }
 
 pub may_admit_twice : (older : ℕ) (y : Symbol) → MayAdmit (list_meaning get_or_puts.shape get_or_puts.tickets) (narrowed_older older y) 1 (put_of 1 7)
-may_admit_twice older y = record { caller = 1; serving = waiting_again; is = refl; ticket = refl; idle = refl; calls = refl; matches = inl (record { kind = refl; table = refl; key = refl; value = refl }) }
+may_admit_twice older y = record { caller = 1; serving = waiting_again; is = refl; ticket = refl; idle = refl; calls = refl; matches = inl (put_stands 1 7 (omega arith) (omega arith)) }
 
 pub admitted_twice : (b d : Book) (older : ℕ) (y : Symbol) → b ≡ narrowed_older older y → Admits b 1 (put_of 1 7) Admitted d → d ≡ after_admit (narrowed_older older y) 1 waiting_again (put_of 1 7)
 admitted_twice b d older y e h = let P : Book → Type 0 = λ x. Admits x 1 (put_of 1 7) Admitted d in (subst P e h).1 1 waiting_again refl refl
@@ -171,7 +182,7 @@ module _ (v w x : BookView ListView) (r : Admission) (older : ℕ) (y : Symbol) 
 -- ---- the other books
 pub may_admit_third : (v : BookView ListView) → IsAt gets_and_put all_begun v → MayAdmit (list_meaning v.script.shape v.script.tickets) v.book 2 (put_of 2 7)
 may_admit_third v a = at_here (λ (z : ListView) (b : Book). MayAdmit (list_meaning z.shape z.tickets) b 2 (put_of 2 7)) gets_and_put all_begun v.script v.book a.script a.book
-    (record { caller = 2; serving = record { ticket = 2; foresight = exact_symbol (put_of 2 7) ∷ []; flight = None }; is = refl; ticket = refl; idle = refl; calls = refl; matches = inl (record { kind = refl; table = refl; key = refl; value = refl }) })
+    (record { caller = 2; serving = record { ticket = 2; foresight = exact_symbol (put_of 2 7) ∷ []; flight = None }; is = refl; ticket = refl; idle = refl; calls = refl; matches = inl (put_stands 2 7 (omega arith) (omega arith)) })
 
 pub may_end_once : (v : BookView ListView) → IsAt calls_nothing one_begun v → MayEnd (list_meaning v.script.shape v.script.tickets) v.book 0 nil_reply
 may_end_once v a = at_here (λ (z : ListView) (b : Book). MayEnd (list_meaning z.shape z.tickets) b 0 nil_reply) calls_nothing one_begun v.script v.book a.script a.book

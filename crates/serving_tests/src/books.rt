@@ -2,11 +2,12 @@
 
 ghost use Rattle.std.specs.Prelude.{◌≡◌, ◌<◌, ◌≤◌, None, Some, OnOk, IfOk, length};
 ghost use Rattle.session_journal.specs.Journal.{begun};
-ghost use Rattle.admission_book.specs.Book.{Lawful, record_of};
+ghost use Rattle.admission_book.specs.Book.{record_of};
+ghost use Rattle.admission_book.specs.Lawful.{Lawful};
 ghost use Rattle.admission_book.specs.Books.{Begins};
-ghost use Rattle.admission_book.specs.Rows.{IsAt, all_begun, both_begun, calls_nothing, get_or_puts, gets_and_put, once_ended, one_begun, put_once, put_twice};
+ghost use Rattle.serving_tests.specs.BookRows.{IsAt, all_begun, both_begun, calls_nothing, get_or_puts, gets_and_put, once_ended, one_begun, put_once, put_twice};
 
-use crate::{Admission, Book};
+use admission_book::{Admission, Book};
 use session_journal::{Event, ListScript, Script};
 use session_values::{Kind, NoMemory, Op, Reply, TableKind, Value};
 use std::alloc::Global;
@@ -164,37 +165,66 @@ fn put_twice(book: &mut Book<ListScript>, scratch: &mut Foresight) -> Result<(u3
     Ok((older, symbol))
 }
 
-#[test]
-fn a_younger_ticket_waits_until_an_older_one_narrows(rt: HostRuntime) -> Result<(), Fail> {
-    let mut scratch = Foresight::with_room(rt.alloc(), 256)?;
-    let mut book = both_begun(rt.alloc(), &mut scratch)?;
+/// What the book says once ticket 1 has put once: how many events there are, the last one, the
+/// oldest open ticket, and the reply of ticket 1.
+fn said_after_one_put(
+    alloc: Global,
+) -> Result<(usize, Option<Event>, Option<u32>, Option<Reply>), Fail> {
+    let mut scratch = Foresight::with_room(alloc, 256)?;
+    let mut book = both_begun(alloc, &mut scratch)?;
     put_once(&mut book, &mut scratch)?;
+    let events = book.journal().events();
+    let (len, last) = (events.len(), events.last().copied());
+    Ok((len, last, book.oldest_open(), book.reply(1)))
+}
+
+#[test]
+fn an_operation_that_was_done_is_the_last_event(rt: HostRuntime) -> Result<(), Fail> {
+    let said = said_after_one_put(rt.alloc())?;
     let done = Event::Done {
         ticket: 1,
         op: PUT_2,
         reply: Value::Nil,
     };
-    assert_eq!(rt; book.journal().events().len(), 3);
-    assert_eq!(rt; book.journal().events().last(), Some(&done));
-    assert_eq!(rt; book.oldest_open(), Some(0));
-    assert_eq!(rt; book.reply(1), None);
-    let (older, symbol) = put_twice(&mut book, &mut scratch)?;
-    assert_eq!(rt; (older, symbol), (0, Symbol::exact(&GET_1)));
-    assert_eq!(rt; book.next_ticket(), None);
-    assert_eq!(rt; begin_next(&mut book, 2, &mut scratch), None);
+    assert_eq!(rt; said, (3, Some(done), Some(0), None));
     Ok(())
+}
+
+/// Who delays the second put until it narrows, by which symbol, and the next ticket when both are
+/// begun, asked for and begun.
+fn said_of_second_put(alloc: Global) -> Result<(u32, Symbol, Option<u32>, Option<u32>), Fail> {
+    let mut scratch = Foresight::with_room(alloc, 256)?;
+    let mut book = both_begun(alloc, &mut scratch)?;
+    put_once(&mut book, &mut scratch)?;
+    let (older, symbol) = put_twice(&mut book, &mut scratch)?;
+    let next = book.next_ticket();
+    let begun = begin_next(&mut book, 2, &mut scratch);
+    Ok((older, symbol, next, begun))
+}
+
+#[test]
+fn a_younger_ticket_waits_until_an_older_one_narrows(rt: HostRuntime) -> Result<(), Fail> {
+    let said = said_of_second_put(rt.alloc())?;
+    assert_eq!(rt; said, (0, Symbol::exact(&GET_1), None, None));
+    Ok(())
+}
+
+/// What the third ticket is told about its put, and how many events there are then.
+fn said_to_third(alloc: Global) -> Result<(Admission, usize), Fail> {
+    let mut scratch = Foresight::with_room(alloc, 256)?;
+    let mut book = all_begun(alloc, &mut scratch)?;
+    let answer = book.admit(2, PUT_2);
+    Ok((answer, book.journal().events().len()))
 }
 
 #[test]
 fn the_least_ticket_and_its_first_symbol_are_named(rt: HostRuntime) -> Result<(), Fail> {
-    let mut scratch = Foresight::with_room(rt.alloc(), 256)?;
-    let mut book = all_begun(rt.alloc(), &mut scratch)?;
+    let said = said_to_third(rt.alloc())?;
     let delayed = Admission::Delayed {
         older: 0,
         symbol: Symbol::exact(&GET_2),
     };
-    assert_eq!(rt; book.admit(2, PUT_2), delayed);
-    assert_eq!(rt; book.journal().events().len(), 4);
+    assert_eq!(rt; said, (delayed, 4));
     Ok(())
 }
 
@@ -217,15 +247,35 @@ fn end_it(book: &mut Book<ListScript>)
     book.end(0, NIL);
 }
 
+/// The reply of the ticket that has ended, and the oldest open ticket then.
+fn said_after_end(alloc: Global) -> Result<(Option<Reply>, Option<u32>), Fail> {
+    let mut scratch = Foresight::with_room(alloc, 256)?;
+    let mut book = one_begun(alloc, &mut scratch)?;
+    end_it(&mut book);
+    Ok((book.reply(0), book.oldest_open()))
+}
+
 #[test]
 fn an_ended_ticket_has_its_reply(rt: HostRuntime) -> Result<(), Fail> {
-    let mut scratch = Foresight::with_room(rt.alloc(), 256)?;
-    let mut book = one_begun(rt.alloc(), &mut scratch)?;
+    let said = said_after_end(rt.alloc())?;
+    assert_eq!(rt; said, (Some(NIL), None));
+    Ok(())
+}
+
+/// What a closed book gives: the events, the room that is left, the replies, and the first one.
+fn given_at_close(alloc: Global) -> Result<(usize, u32, usize, Option<Reply>), Fail> {
+    let mut scratch = Foresight::with_room(alloc, 256)?;
+    let mut book = one_begun(alloc, &mut scratch)?;
     end_it(&mut book);
-    assert_eq!(rt; book.reply(0), Some(NIL));
-    assert_eq!(rt; book.oldest_open(), None);
     let (journal, replies) = book.close();
-    assert_eq!(rt; (journal.events().len(), journal.spare()), (2, 0));
-    assert_eq!(rt; replies.as_slice(), [NIL].as_slice());
+    let list = replies.as_slice();
+    let (events, left) = (journal.events().len(), journal.spare());
+    Ok((events, left, list.len(), list.first().copied()))
+}
+
+#[test]
+fn a_closed_book_gives_its_journal_and_replies(rt: HostRuntime) -> Result<(), Fail> {
+    let given = given_at_close(rt.alloc())?;
+    assert_eq!(rt; given, (2, 0, 1, Some(NIL)));
     Ok(())
 }

@@ -1,6 +1,5 @@
 pub mod ListKeeps
 pub mod ListLawful
-mod OneMap
 pub mod Regroup
 pub mod Replay
 pub mod Rows

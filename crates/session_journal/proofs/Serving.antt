@@ -1,5 +1,5 @@
 -- The replies of the serial run are values that a program can hold.
-use Rattle.std.proofs.Common.{◌≡◌, ℕ, zero, suc, ◌+◌, ◌-◌, ◌<◌, ◌≤◌, ◌^◌, List, [], ◌∷◌, Bool, true, false, cond, ◌&&◌, eqb, Some, None, refl, sym, ◌∙◌, ap, subst, arith}
+use Rattle.std.proofs.Common.{◌≡◌, ℕ, zero, suc, ◌+◌, ◌-◌, ◌<◌, ◌≤◌, ◌^◌, List, [], ◌∷◌, ◌&&◌, eqb, Some, None, refl, sym, ◌∙◌, ap, subst, arith}
 use Rattle.std.specs.List.{AllByRecursion}
 use Rattle.session_values.specs.declared.value.Value.{Value}
 use Rattle.session_values.specs.declared.op.Op.{Op}
@@ -9,12 +9,12 @@ use Rattle.session_values.specs.Kinds.{is_adding}
 use Rattle.session_values.specs.Op.{IsHeld}
 use Rattle.session_values.specs.Serial.{Served, served_first, serve, serial, tables_before}
 use Rattle.session_values.specs.Sums.{sum_below}
-use Rattle.session_values.specs.Tables.{AreValues, Tables, reply, size_of, start, step, table}
+use Rattle.session_values.specs.Tables.{AreValues, Tables, reply, size_of, step, table}
 use Rattle.session_values.specs.Values.{IsValue}
 use Rattle.session_values.proofs.Sizes.{one_if, step_few}
 use Rattle.session_values.proofs.Starts.{start_none, values_of_start}
 use Rattle.session_values.proofs.Sums.{sum_below_up}
-use Rattle.session_journal.specs.Script.{HasValues, IsScript, Meaning, adds_on, room, session_of}
+use Rattle.session_journal.specs.Script.{HasValues, IsScript, Meaning, adds_on, session_of}
 use Rattle.session_journal.proofs.Serial.{serve-answers, serve-calls}
 use Rattle.session_journal.proofs.Values.{AreReplies, reply_values, step_values}
 

@@ -1,5 +1,5 @@
 -- Tables whose keys and values a program can hold keep that, and reply such values.
-use Rattle.std.proofs.Common.{◌≡◌, ℕ, zero, suc, ◌+◌, ◌<◌, ◌≤◌, ◌^◌, pos, List, [], ◌∷◌, Option, Some, None, Bool, true, false, cond, not, ◌&&◌, ◌||◌, refl, sym, ◌∙◌, ap, subst, arith, lit<}
+use Rattle.std.proofs.Common.{◌≡◌, ℕ, zero, suc, ◌+◌, ◌<◌, ◌≤◌, ◌^◌, pos, List, [], ◌∷◌, Option, Some, None, Bool, true, false, cond, not, ◌&&◌, ◌||◌, refl, sym, ◌∙◌, subst, arith, lit<}
 use Rattle.std.specs.Prelude.{unwrap_or, if◌then◌else◌}
 use Rattle.std.specs.List.{AllByRecursion}
 use Rattle.std.specs.FinMap as map
@@ -157,4 +157,3 @@ reply_values ts op h l = reply_value (table ts op.table) op (table_values ts op.
 pub run_few : (ts : Tables) (es : List Entry) (i : ℕ) → size_of (table (run ts es) i) ≤ size_of (table ts i) + adds_on i es
 run_few ts [] i = omega arith
 run_few ts (e ∷ es) i = omega (arith, run_few (step ts e.op) es i, step_few ts e.op i)
-

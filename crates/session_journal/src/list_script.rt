@@ -16,10 +16,15 @@ use symbolic_ops::{Foresight, Symbol};
 /// Where a ticket's operations and symbols lie, and its reply.
 #[derive(Clone, Copy, Debug)]
 pub(crate) struct Row {
+    /// What the ticket answers.
     pub(crate) reply: Reply,
+    /// The place of its first operation among those of all tickets.
     pub(crate) first_op: u32,
+    /// How many operations it calls.
     pub(crate) ops: u32,
+    /// The place of its first symbol among those of all tickets.
     pub(crate) first_symbol: u32,
+    /// How many symbols it declares.
     pub(crate) symbols: u32,
 }
 
@@ -28,9 +33,13 @@ pub(crate) struct Row {
 /// tickets declare.
 #[derive(Debug, Drop)]
 pub struct ListScript {
+    /// The kinds of the tables, by table number.
     shape: Vec<TableKind>,
+    /// A row for each ticket, by ticket number.
     rows: Vec<Row>,
+    /// The operations of all tickets, each ticket's behind those of the one before.
     ops: Vec<Op>,
+    /// What the tickets declare, each ticket's symbols behind those of the one before.
     symbols: Vec<Symbol>,
 }
 
@@ -41,9 +50,16 @@ impl Model for ListScript {
 
     ghost Value = { ListView };
 
-    ghost view = { λ s. record { shape = s.shape.items; tickets = tickets_of s.ops.items s.symbols.items s.rows.items; tickets_left = vec_capacity s.rows - length s.rows.items; calls_left = vec_capacity s.ops - length s.ops.items; symbols_left = vec_capacity s.symbols - length s.symbols.items } };
+    ghost view = { λ s. record {
+      shape = s.shape.items;
+      tickets = tickets_of s.ops.items s.symbols.items s.rows.items;
+      tickets_left = vec_capacity s.rows - length s.rows.items;
+      calls_left = vec_capacity s.ops - length s.ops.items;
+      symbols_left = vec_capacity s.symbols - length s.symbols.items;
+    } };
 
-    ghost invariant = { λ s. KeepsRows s.shape.items s.rows.items s.ops.items s.symbols.items (vec_capacity s.rows) (vec_capacity s.ops) (vec_capacity s.symbols) };
+    ghost invariant = { λ s. KeepsRows s.shape.items s.rows.items s.ops.items s.symbols.items
+        (vec_capacity s.rows) (vec_capacity s.ops) (vec_capacity s.symbols) };
 }
 
 impl ListScript {
@@ -59,7 +75,13 @@ impl ListScript {
         requires tickets { tickets ≤ 20000 }
         requires calls { calls ≤ 200000 }
         requires symbols { symbols ≤ 400000 }
-        ensures { IfOk result (λ s. s ≡ record { shape = shape.now; tickets = []; tickets_left = tickets; calls_left = calls; symbols_left = symbols }) }
+        ensures { IfOk result (λ s. s ≡ record {
+          shape = shape.now;
+          tickets = [];
+          tickets_left = tickets;
+          calls_left = calls;
+          symbols_left = symbols;
+        }) }
     {
         Ok(ListScript {
             shape: shape.to_vec(alloc)?,
@@ -72,7 +94,13 @@ impl ListScript {
     /// Adds a ticket without operations that answers this reply.
     pub fn ticket(&mut self, reply: Reply)
         requires { 0 < self.old.tickets_left }
-        ensures { self.new ≡ record { shape = self.old.shape; tickets = self.old.tickets ++ answers_only reply ∷ []; tickets_left = self.old.tickets_left - 1; calls_left = self.old.calls_left; symbols_left = self.old.symbols_left } }
+        ensures { self.new ≡ record {
+          shape = self.old.shape;
+          tickets = self.old.tickets ++ answers_only reply ∷ [];
+          tickets_left = self.old.tickets_left - 1;
+          calls_left = self.old.calls_left;
+          symbols_left = self.old.symbols_left;
+        } }
     {
         reply.bounds();
         self.rows.push_reserved(Row {
@@ -90,7 +118,13 @@ impl ListScript {
         requires place { HasPlace self.old.tickets }
         requires calls { 0 < self.old.calls_left }
         requires symbols { 0 < self.old.symbols_left }
-        ensures { self.new ≡ record { shape = self.old.shape; tickets = with_last self.old.tickets (calls_more (last_ticket self.old.tickets) op); tickets_left = self.old.tickets_left; calls_left = self.old.calls_left - 1; symbols_left = self.old.symbols_left - 1 } }
+        ensures { self.new ≡ record {
+          shape = self.old.shape;
+          tickets = with_last self.old.tickets (calls_more (last_ticket self.old.tickets) op);
+          tickets_left = self.old.tickets_left;
+          calls_left = self.old.calls_left - 1;
+          symbols_left = self.old.symbols_left - 1;
+        } }
     {
         op.bounds();
         let last = self.rows.len() - 1;
@@ -109,7 +143,13 @@ impl ListScript {
         requires known { HasNoVar s }
         requires place { HasPlace self.old.tickets }
         requires symbols { 0 < self.old.symbols_left }
-        ensures { self.new ≡ record { shape = self.old.shape; tickets = with_last self.old.tickets (allows_more (last_ticket self.old.tickets) s); tickets_left = self.old.tickets_left; calls_left = self.old.calls_left; symbols_left = self.old.symbols_left - 1 } }
+        ensures { self.new ≡ record {
+          shape = self.old.shape;
+          tickets = with_last self.old.tickets (allows_more (last_ticket self.old.tickets) s);
+          tickets_left = self.old.tickets_left;
+          calls_left = self.old.calls_left;
+          symbols_left = self.old.symbols_left - 1;
+        } }
     {
         let last = self.rows.len() - 1;
         self.symbols.push_reserved(s);

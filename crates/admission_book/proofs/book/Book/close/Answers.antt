@@ -3,7 +3,8 @@ use Rattle.std.specs.Option.{IsSome}
 use Rattle.session_values.specs.Serial.{serial_replies, tables_before}
 use Rattle.session_journal.specs.Journal.{after, ended}
 use Rattle.session_journal.specs.Script.{Meaning, session_of}
-use Rattle.admission_book.specs.Book.{Book, Lawful}
+use Rattle.admission_book.specs.Book.{Book}
+use Rattle.admission_book.specs.Lawful.{Lawful}
 use Rattle.admission_book.proofs.Shown.{here, there}
 use Rattle.admission_book.proofs.Replies.{kept_some, tables_serial, replies_serial}
 use Rattle.admission_book.proofs.book.Book.close.Goals as goal

@@ -1,7 +1,5 @@
-use Rattle.std.proofs.Common.{◌+◌, ◌^◌, ◌<◌, ◌++◌, ◌∷◌, [], length, ap, ◌∙◌, subst, arith}
-use Rattle.session_values.specs.declared.op.Op.{Op}
+use Rattle.std.proofs.Common.{◌+◌, ◌^◌, ◌<◌, ◌++◌, ◌∷◌, [], length, ap, ◌∙◌, arith}
 use Rattle.session_values.specs.Dialogue.{Calls}
-use Rattle.session_values.specs.Op.{IsHeld}
 use Rattle.symbolic_ops.specs.declared.symbol.Symbol.{Symbol}
 use Rattle.session_journal.specs.Script.{HasValues}
 use Rattle.session_journal.proofs.ListKeeps.{some_rows, counts_fit, call_keeps, call_gives}

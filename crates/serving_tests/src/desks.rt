@@ -1,6 +1,6 @@
 // Two tickets of one operation each, served at a desk as any desk may be.
 
-ghost use Rattle.std.specs.Prelude.{◌≡◌, List, ◌∷◌, [], IfOk};
+ghost use Rattle.std.specs.Prelude.{◌≡◌, ◌<◌, List, ◌∷◌, [], IfOk, true};
 ghost use Rattle.session_values.specs.Dialogue.{Calls, Answers};
 ghost use Rattle.session_values.specs.Tables.{Fits};
 ghost use Rattle.symbolic_ops.specs.Symbols.{Covered};
@@ -9,9 +9,10 @@ ghost use Rattle.session_journal.specs.Lists.{answers_only, calls_more};
 ghost use Rattle.session_journal.specs.Script.{IsScript};
 ghost use Rattle.plain_desk.specs.PlainDesks.{at_beginning};
 
-use crate::{DoneCall, PlainDesk};
+use crate::map_ops::{get, put};
+use plain_desk::{DoneCall, PlainDesk};
 use session_journal::{Desk, ListScript, Script};
-use session_values::{Kind, NoMemory, Op, Reply, TableKind, Value};
+use session_values::{NoMemory, Op, Reply, TableKind, Value};
 use std::alloc::Global;
 use std::sync::Wait;
 use std::test::Fail;
@@ -39,31 +40,10 @@ fn serve<D: Desk, R: Threads + Wait + Sync>(
     ensures served { IfOk result (λ v. D.at desk.new ≡ with_end (with_entry (D.at desk.old) (record { op = op; reply = v }) declared.now.symbols)) }
 {
     let value = desk.call(rt, op)?;
+    value.bounds();
     desk.finish(rt, declared);
     desk.end(rt, reply);
     Ok(value)
-}
-
-fn put(key: i64, value: i64) -> Op
-    ensures { Fits (TableKind.Map ∷ []) result }
-{
-    Op {
-        kind: Kind::Put,
-        table: 0,
-        key: Value::Num(key),
-        value: Value::Num(value),
-    }
-}
-
-fn get(key: i64) -> Op
-    ensures { Fits (TableKind.Map ∷ []) result }
-{
-    Op {
-        kind: Kind::Get,
-        table: 0,
-        key: Value::Num(key),
-        value: Value::Nil,
-    }
 }
 
 fn answer(n: i64) -> Reply {
@@ -97,40 +77,81 @@ fn two_tickets(
     Ok(script)
 }
 
+// What ticket t declares at its beginning.
+fn declared_at<S: Script>(alloc: Global, script: &S, t: u32) -> Result<Foresight, NoMemory>
+    requires { t < (S.meaning script.now).requests }
+    ensures { IfOk result (λ f. f.symbols ≡ (S.meaning script.now).entry t) }
+{
+    let mut declared = Foresight::with_room(alloc, 256)?;
+    script.entry(t, &mut declared);
+    Ok(declared)
+}
+
+// Whether the next ticket is this one, which has then begun.
+fn begins<S: Script + Drop>(desk: &mut PlainDesk<S>, t: u32) -> bool
+    requires { desk.old.desk.ended ≡ true }
+    ensures script { desk.new.script ≡ desk.old.script }
+    ensures begins { result ≡ true → desk.new.desk ≡ at_beginning (S.meaning desk.old.script) t }
+{
+    desk.start() == Some(t)
+}
+
+// Whether the desk has ended these two tickets and no other, the second one with this entry, and
+// begins no more.
+fn has_ended<S: Script + Drop>(
+    desk: &mut PlainDesk<S>,
+    one: Reply,
+    two: Reply,
+    done: DoneCall,
+) -> bool
+    requires { desk.old.desk.ended ≡ true }
+{
+    let replies = [desk.reply(0), desk.reply(1), desk.reply(2)];
+    let is_kept = match desk.entries(1) {
+        Some(entries) => entries == [done].as_slice(),
+        None => false,
+    };
+    is_kept && replies == [Some(one), Some(two), None] && desk.start() == None
+}
+
+// What a desk says that serves two tickets in order: the reply of the first one before it begins,
+// the reply of each call, and whether it has then ended both. None where another ticket begins.
+fn serve_both<R: Threads + Wait + Sync>(
+    alloc: Global,
+    rt: &R,
+    first: Op,
+    one: Reply,
+    second: Op,
+    two: Reply,
+) -> Result<Option<(Option<Reply>, Value, Value, bool)>, NoMemory>
+    requires first { Fits (TableKind.Map ∷ []) first }
+    requires second { Fits (TableKind.Map ∷ []) second }
+{
+    let script = two_tickets(alloc, first, one, second, two)?;
+    let _lawful = script.requests();
+    let declared = declared_at(alloc, &script, 0)?;
+    let more = declared_at(alloc, &script, 1)?;
+    let mut desk = PlainDesk::new(alloc, script, &[TableKind::Map])?;
+    let before = desk.reply(0);
+    if !begins(&mut desk, 0) {
+        return Ok(None);
+    }
+    let value = serve(&mut desk, rt, 0, first, &declared, one)?;
+    if !begins(&mut desk, 1) {
+        return Ok(None);
+    }
+    let other = serve(&mut desk, rt, 1, second, &more, two)?;
+    let done = DoneCall {
+        op: second,
+        reply: other,
+    };
+    let ended = has_ended(&mut desk, one, two, done);
+    Ok(Some((before, value, other, ended)))
+}
+
 #[test]
 fn two_tickets_are_served_in_order(rt: HostRuntime) -> Result<(), Fail> {
-    let first = put(1, 7);
-    let one = answer(1);
-    let second = get(1);
-    let two = answer(2);
-    let script = two_tickets(rt.alloc(), first, one, second, two)?;
-    let _lawful = script.requests();
-    let mut declared = Foresight::with_room(rt.alloc(), 256)?;
-    script.entry(0, &mut declared);
-    let mut more = Foresight::with_room(rt.alloc(), 256)?;
-    script.entry(1, &mut more);
-    let mut desk = PlainDesk::new(rt.alloc(), script, &[TableKind::Map])?;
-    assert_eq!(rt; desk.reply(0), None);
-    let t = desk.start();
-    assert_eq!(rt; t, Some(0));
-    let value = serve(&mut desk, &rt, 0, first, &declared, one)?;
-    assert_eq!(rt; value, Value::Nil);
-    let u = desk.start();
-    assert_eq!(rt; u, Some(1));
-    let value = serve(&mut desk, &rt, 1, second, &more, two)?;
-    assert_eq!(rt; value, Value::Num(7));
-    assert_eq!(rt; desk.start(), None);
-    assert_eq!(rt; desk.reply(0), Some(one));
-    assert_eq!(rt; desk.reply(1), Some(two));
-    assert_eq!(rt; desk.reply(2), None);
-    let done = desk.entries(1).ok_or("no entries")?;
-    assert_eq!(rt; done.len(), 1);
-    assert_eq!(rt;
-        done.first(),
-        Some(&DoneCall {
-            op: second,
-            reply: value
-        })
-    );
+    let served = serve_both(rt.alloc(), &rt, put(1, 7), answer(1), get(1), answer(2))?;
+    assert_eq!(rt; served, Some((None, Value::Nil, Value::Num(7), true)));
     Ok(())
 }

@@ -1,37 +1,16 @@
 // Journals, and a list of tickets as a script.
 
-ghost use Rattle.std.specs.Prelude.{◌≡◌, ◌≤◌, ◌<◌, ◌∷◌, [], map};
+ghost use Rattle.std.specs.Prelude.{◌≡◌, ◌≤◌, ◌<◌, ◌∷◌, [], IfOk, length, map};
 ghost use Rattle.session_values.specs.declared.kind.TableKind.TheVariants.{Map};
-ghost use Rattle.session_values.specs.Tables.{Fits, kind_of};
+ghost use Rattle.session_values.specs.Tables.{kind_of};
 
-use crate::{Event, Journal, ListScript, Script};
+use crate::map_ops::{get, put};
 use plain_tables::PlainTables;
+use session_journal::{Event, Journal, ListScript, Script};
 use session_values::{Kind, NoMemory, Op, Reply, TableKind, Value};
 use std::alloc::Global;
 use std::test::Fail;
 use symbolic_ops::{Arg, Foresight, Symbol};
-
-fn put(key: i64, value: i64) -> Op
-    ensures { Fits (Map ∷ []) result }
-{
-    Op {
-        kind: Kind::Put,
-        table: 0,
-        key: Value::Num(key),
-        value: Value::Num(value),
-    }
-}
-
-fn get(key: i64) -> Op
-    ensures { Fits (Map ∷ []) result }
-{
-    Op {
-        kind: Kind::Get,
-        table: 0,
-        key: Value::Num(key),
-        value: Value::Nil,
-    }
-}
 
 /// The reply of an operation on one map, or none where it is of another table.
 #[tactic(auto, using(crate::proofs::OneMap::fits_one_map))]
@@ -125,41 +104,66 @@ fn journal_of(alloc: Global, young: Op, old: Op, reply: Value) -> Result<Journal
     Ok(journal)
 }
 
+/// The room that is left in such a journal, and whether it replays in its order, and regrouped.
+fn replayed(
+    alloc: Global,
+    young: Op,
+    old: Op,
+    reply: Value,
+) -> Result<(u32, bool, bool), NoMemory> {
+    let journal = journal_of(alloc, young, old, reply)?;
+    let (in_order, regrouped) = replays_twice(alloc, &journal)?;
+    Ok((journal.spare(), in_order, regrouped))
+}
+
 #[test]
-fn only_what_commutes_regroups(rt: HostRuntime) -> Result<(), Fail> {
-    let apart = journal_of(rt.alloc(), put(2, 7), get(1), Value::Nil)?;
-    assert_eq!(rt; apart.spare(), 0);
-    assert_eq!(rt; replays_twice(rt.alloc(), &apart)?, (true, true));
-    let beside = journal_of(rt.alloc(), put(1, 7), get(1), Value::Num(7))?;
-    assert_eq!(rt; replays_twice(rt.alloc(), &beside)?, (true, false));
-    assert_eq!(rt; std::mem::size_of::<Event>() <= 112, true);
+fn what_commutes_regroups(rt: HostRuntime) -> Result<(), Fail> {
+    let apart = replayed(rt.alloc(), put(2, 7), get(1), Value::Nil)?;
+    assert_eq!(rt; apart, (0, true, true));
     Ok(())
 }
 
-/// What a script says of itself, and what its first ticket declares.
-fn numbers<S: Script>(script: &S, out: &mut Foresight) -> (u32, u32, u32)
-    requires { 256 ≤ out.old.room }
-    ensures { out.new.room ≡ out.old.room }
-{
-    let requests = script.requests();
-    if requests == 0 {
-        return (0, 0, 0);
-    }
-    script.entry(0, out);
-    (requests, script.calls(), script.room(0))
+#[test]
+fn what_does_not_commute_stays_in_order(rt: HostRuntime) -> Result<(), Fail> {
+    let beside = replayed(rt.alloc(), put(1, 7), get(1), Value::Num(7))?;
+    assert_eq!(rt; beside, (0, true, false));
+    Ok(())
 }
 
 #[test]
-fn a_list_of_tickets_is_a_script(rt: HostRuntime) -> Result<(), Fail> {
-    let reply = Reply {
-        count: 1,
-        a: Value::Nil,
-        b: Value::Nil,
-        c: Value::Nil,
-        d: Value::Nil,
-    };
-    let mut script = ListScript::with_room(rt.alloc(), &[TableKind::Map], 2, 3, 4)?;
-    script.ticket(reply);
+fn an_event_is_small(rt: HostRuntime) {
+    assert_eq!(rt; std::mem::size_of::<Event>() <= 112, true);
+}
+
+/// What a script says of itself: its tickets, its calls, and its adding calls on table 0.
+fn numbers<S: Script>(script: &S) -> (u32, u32, u32) {
+    (script.requests(), script.calls(), script.room(0))
+}
+
+/// How many symbols a ticket declares, and the first one.
+fn declared<S: Script>(script: &S, t: u32, out: &mut Foresight) -> (u32, Option<Symbol>)
+    requires ticket { t < (S.meaning script.now).requests }
+    requires room { 256 ≤ out.old.room }
+    ensures { out.new.room ≡ out.old.room }
+{
+    script.entry(t, out);
+    (out.len(), out.symbols().first().copied())
+}
+
+const NIL: Reply = Reply {
+    count: 1,
+    a: Value::Nil,
+    b: Value::Nil,
+    c: Value::Nil,
+    d: Value::Nil,
+};
+
+/// A ticket that puts, gets and may delete, and one that puts.
+fn two_tickets(alloc: Global) -> Result<ListScript, NoMemory>
+    ensures { IfOk result (λ s. length s.tickets ≡ 2) }
+{
+    let mut script = ListScript::with_room(alloc, &[TableKind::Map], 2, 3, 4)?;
+    script.ticket(NIL);
     script.call(put(2, 7));
     script.call(get(1));
     script.allow(Symbol {
@@ -168,14 +172,40 @@ fn a_list_of_tickets_is_a_script(rt: HostRuntime) -> Result<(), Fail> {
         key: Arg::Any,
         value: Arg::Known(Value::Nil),
     });
-    script.ticket(reply);
+    script.ticket(NIL);
     script.call(put(1, 7));
-    let mut out = Foresight::with_room(rt.alloc(), 256)?;
-    assert_eq!(rt; numbers(&script, &mut out), (2, 3, 2));
-    assert_eq!(rt; out.len(), 3);
-    assert_eq!(rt; out.symbols().first(), Some(&Symbol::exact(&put(2, 7))));
-    script.entry(1, &mut out);
-    assert_eq!(rt; out.len(), 1);
-    assert_eq!(rt; out.symbols().first(), Some(&Symbol::exact(&put(1, 7))));
+    Ok(script)
+}
+
+/// What such a list says of itself.
+fn list_numbers(alloc: Global) -> Result<(u32, u32, u32), NoMemory> {
+    let script = two_tickets(alloc)?;
+    Ok(numbers(&script))
+}
+
+/// What the tickets of such a list declare.
+fn list_entries(
+    alloc: Global,
+) -> Result<((u32, Option<Symbol>), (u32, Option<Symbol>)), NoMemory> {
+    let script = two_tickets(alloc)?;
+    let mut out = Foresight::with_room(alloc, 256)?;
+    let first = declared(&script, 0, &mut out);
+    let second = declared(&script, 1, &mut out);
+    Ok((first, second))
+}
+
+#[test]
+fn a_list_of_tickets_is_a_script(rt: HostRuntime) -> Result<(), Fail> {
+    let numbers = list_numbers(rt.alloc())?;
+    assert_eq!(rt; numbers, (2, 3, 2));
+    Ok(())
+}
+
+#[test]
+fn tickets_of_a_list_declare_what_they_call(rt: HostRuntime) -> Result<(), Fail> {
+    let entries = list_entries(rt.alloc())?;
+    let first = Symbol::exact(&put(2, 7));
+    let second = Symbol::exact(&put(1, 7));
+    assert_eq!(rt; entries, ((3, Some(first)), (1, Some(second))));
     Ok(())
 }
