@@ -54,7 +54,7 @@ impl PlaceIndex {
         requires index { IsIndexOf (map T.key_of items.now) self.now }
         requires different { AreDifferent T.key_of items.now }
         requires free { length items.now < slot_count self.now }
-        ensures place { result ≡ position (is_under T.key_of key) items.now }
+        ensures { result ≡ position (is_under T.key_of key) items.now }
     {
         self.table.place(self.table.seek(items, key))
     }

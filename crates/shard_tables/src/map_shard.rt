@@ -1,12 +1,13 @@
 // One shard of a map.
 
-ghost use Rattle.std.specs.Prelude.{◌≡◌, ◌<◌, ◌≤◌, IfOk, false, pos, unwrap_or, position};
+ghost use Rattle.std.specs.Prelude.{◌≡◌, ◌<◌, ◌≤◌, IfOk, false, pos, unwrap_or, length, slice_get};
 ghost use Rattle.std.specs.FinMap as map;
 ghost use Rattle.session_values.specs.declared.kind.TableKind.TheVariants.{Map};
-ghost use Rattle.session_values.specs.Tables.{reply_on, size_of, home, empty_of};
-ghost use Rattle.session_values.specs.Values.{value_eq};
-ghost use Rattle.shard_tables.specs.Shards.{map_shard, HasRoomFor, shard_after, spare_of};
+ghost use Rattle.session_values.specs.Tables.{Bindings, reply_on, size_of, home, empty_of};
+ghost use Rattle.place_index.specs.Keys.{AreDifferent};
+ghost use Rattle.shard_tables.specs.Shards.{bindings, map_shard, HasRoomFor, shard_after, spare_of};
 
+use place_index::PlaceIndex;
 use session_values::{Kind, NoMemory, Op, Value};
 use std::alloc::Global;
 use std::marker::Model;
@@ -15,21 +16,21 @@ use std::marker::Model;
 #[derive(Drop)]
 pub struct MapShard {
     pairs: Vec<(Value, Value)>,
+    index: PlaceIndex,
     room: u32,
 }
 
 impl Model for MapShard {
     ghost use Rattle.std.specs.Prelude.{vec_capacity};
-    ghost use Rattle.std.specs.FinMap as map;
     ghost use Rattle.shard_tables.specs.Shards.{MapView, FitsRoom, map_code};
 
     ghost Value = { MapView };
 
     ghost coded = { map_code };
 
-    ghost view = { λ s. record { bindings = map.from_entries s.pairs.items; room = s.room } };
+    ghost view = { λ s. record { entries = s.pairs.items; room = s.room } };
 
-    ghost invariant = { λ s. FitsRoom (λ p. p.0) s.pairs.items (vec_capacity s.pairs) s.room };
+    ghost invariant = { λ s. FitsRoom (λ p. p.0) s.pairs.items (vec_capacity s.pairs) s.room s.index };
 }
 
 impl MapShard {
@@ -39,7 +40,8 @@ impl MapShard {
         ensures { IfOk result (λ shard. map_shard shard ≡ record { container = empty_of Map; room = room }) }
     {
         let pairs = Vec::with_capacity(alloc, room as usize)?;
-        Ok(MapShard { pairs, room })
+        let index = PlaceIndex::with_room(alloc, room)?;
+        Ok(MapShard { pairs, index, room })
     }
 
     /// Does one operation on the part.
@@ -61,7 +63,7 @@ impl MapShard {
                 Value::Nil
             }
             Kind::Size => Value::Num(self.size()),
-            _ => Value::Nil,
+            Kind::Has | Kind::Add | Kind::Mark | Kind::Drop | Kind::Count => Value::Nil,
         }
     }
 
@@ -74,28 +76,46 @@ impl MapShard {
         self.room - self.pairs.len() as u32
     }
 
-    fn get(&self, key: Value) -> Value
-        ensures { result ≡ unwrap_or (map.get self.now.bindings key) Value.Nil }
+    /// How many keys there are.
+    pub fn len(&self) -> u32
+        ensures len { result ≡ length self.now.entries }
+        ensures size { result ≡ size_of (map_shard self.now).container }
+        ensures different { AreDifferent (λ e. e.0) self.now.entries }
     {
-        match place_of(&self.pairs, key) {
+        self.pairs.len() as u32
+    }
+
+    /// A key and what it is bound to.
+    pub fn entry(&self, i: u32) -> (Value, Value)
+        requires { i < length self.now.entries }
+        ensures entry { slice_get self.now.entries i ≡ Some result }
+        ensures bound { map.get (bindings self.now) result.0 ≡ Some result.1 }
+    {
+        self.pairs[i as usize]
+    }
+
+    fn get(&self, key: Value) -> Value
+        ensures { result ≡ unwrap_or (map.get (bindings self.now) key) Value.Nil }
+    {
+        match self.index.place_of(&self.pairs, key) {
             Some(place) => self.pairs[place].1,
             None => Value::Nil,
         }
     }
 
     fn size(&self) -> i64
-        ensures { result ≡ pos (map.len self.now.bindings) }
+        ensures { result ≡ pos (map.len (bindings self.now)) }
     {
         self.pairs.len() as i64
     }
 
     // Answers what the key was bound to before, or nil.
     fn bind(&mut self, key: Value, value: Value) -> Value
-        requires { map.contains_key self.old.bindings key ≡ false → map.len self.old.bindings < self.old.room }
-        ensures reply { result ≡ unwrap_or (map.get self.old.bindings key) Value.Nil }
-        ensures after { self.new ≡ record { bindings = map.insert self.old.bindings key value; room = self.old.room } }
+        requires { map.contains_key (bindings self.old) key ≡ false → map.len (bindings self.old) < self.old.room }
+        ensures reply { result ≡ unwrap_or (map.get (bindings self.old) key) Value.Nil }
+        ensures after { map_shard self.new ≡ record { container = Bindings (map.insert (bindings self.old) key value); room = self.old.room } }
     {
-        match place_of(&self.pairs, key) {
+        match self.index.enter(&self.pairs, key) {
             Some(place) => {
                 let old = self.pairs[place].1;
                 self.pairs[place] = (key, value);
@@ -109,17 +129,10 @@ impl MapShard {
     }
 
     fn unbind(&mut self, key: Value)
-        ensures { self.new ≡ record { bindings = map.remove self.old.bindings key; room = self.old.room } }
+        ensures { map_shard self.new ≡ record { container = Bindings (map.remove (bindings self.old) key); room = self.old.room } }
     {
-        if let Some(place) = place_of(&self.pairs, key) {
+        if let Some(place) = self.index.remove(&self.pairs, key) {
             self.pairs.swap_remove(place);
         }
     }
-}
-
-// The place of the pair with this key.
-fn place_of(pairs: &[(Value, Value)], key: Value) -> Option<usize>
-    ensures { result ≡ position (λ pair. value_eq key pair.0) pairs.now }
-{
-    pairs.iter().position(|pair| pair.0 == key)
 }
