@@ -67,3 +67,13 @@ slot_count index = 2 ^ index.bits
 -- the places of these keys, in their order, are what the index holds
 abbrev pub IsIndexOf : List Value → IndexView → Type 0
 IsIndexOf keys index = IsIndex index.bits keys index.slots
+
+-- the search for a key looks at n slots: each but the last is taken, and the last holds this place
+-- or, where there is none, is free
+pub record IsSearch (index : IndexView) (key : Value) (place : Option ℕ) (n : ℕ) : Type 0 where
+  pub path : (s : ℕ) → s < slot_count index
+      → distance (slot_count index) (start_of key index.bits) s + 1 < n
+      → 0 < slice_index index.slots s
+  pub end : (s : ℕ) → s < slot_count index
+      → distance (slot_count index) (start_of key index.bits) s + 1 ≡ n
+      → place_in (slice_index index.slots s) ≡ place

@@ -1,10 +1,10 @@
 // The index of a list, as contracts see it.
 
-ghost use Rattle.std.specs.Prelude.{◌≡◌, ◌<◌, ◌≤◌, ◌+◌, ◌-◌, ◌*◌, ◌^◌, ℕ, [], ◌∷◌, ◌++◌, length, map, position, slice_index, IfOk, IfSome, IfNone};
+ghost use Rattle.std.specs.Prelude.{◌≡◌, ◌<◌, ◌≤◌, ◌+◌, ◌-◌, ◌*◌, ◌^◌, [], ◌∷◌, ◌++◌, length, map, position, IfOk, IfSome, IfNone};
 ghost use Rattle.std.specs.List.{swap_remove};
 ghost use Rattle.session_values.specs.declared.value.Value.TheVariants.{Nil};
 ghost use Rattle.place_index.specs.Keys.{is_under, AreDifferent};
-ghost use Rattle.place_index.specs.Slots.{start_of, distance, place_in, slot_count, IsIndexOf};
+ghost use Rattle.place_index.specs.Slots.{slot_count, IsIndexOf, IsSearch};
 
 use crate::keyed::Keyed;
 use crate::slot_table::SlotTable;
@@ -86,7 +86,8 @@ impl PlaceIndex {
         requires free { length items.now < slot_count self.old }
         ensures place { result ≡ position (is_under T.key_of key) items.now }
         ensures absent { IfNone result (self.new ≡ self.old) }
-        ensures index { IfSome result (λ place. IsIndexOf (swap_remove (map T.key_of items.now) place Nil) self.new) }
+        ensures index { IfSome result (λ place.
+            IsIndexOf (swap_remove (map T.key_of items.now) place Nil) self.new) }
         ensures slots { slot_count self.new ≡ slot_count self.old }
     {
         let slot = self.table.seek(items, key);
@@ -103,6 +104,7 @@ impl PlaceIndex {
         requires index { IsIndexOf (map T.key_of items.now) self.now }
         requires different { AreDifferent T.key_of items.now }
         requires free { length items.now < slot_count self.now }
+        ensures search { IsSearch self.now key (position (is_under T.key_of key) items.now) result }
         ensures some { 0 < result }
         ensures few { result ≤ length items.now + 1 }
     {

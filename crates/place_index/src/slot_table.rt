@@ -61,8 +61,10 @@ impl SlotTable {
         requires different { AreDifferent T.key_of items.now }
         requires room { length items.now < 2 ^ self.now.bits }
         ensures within { result < 2 ^ self.now.bits }
-        ensures place { place_in (slice_index self.now.slots.items result) ≡ position (is_under T.key_of key) items.now }
-        ensures path { IsReached (2 ^ self.now.bits) (start_of key self.now.bits) self.now.slots.items result }
+        ensures place { place_in (slice_index self.now.slots.items result)
+            ≡ position (is_under T.key_of key) items.now }
+        ensures path { IsReached (2 ^ self.now.bits) (start_of key self.now.bits)
+            self.now.slots.items result }
     {
         let mut slot = start_slot(key, self.bits) as usize;
         loop {
@@ -119,10 +121,12 @@ impl SlotTable {
     // was before the last element moved to this place.
     pub(crate) fn free<T: Keyed>(&mut self, items: &[T], place: usize, slot: usize)
         requires place { place < length items.now }
-        requires index { IsIndexBut self.old.bits (swap_remove (map T.key_of items.now) place Nil) self.old.slots.items slot }
+        requires index { IsIndexBut self.old.bits (swap_remove (map T.key_of items.now) place Nil)
+            self.old.slots.items slot }
         requires room { length items.now < 2 ^ self.old.bits }
         ensures bits { self.new.bits ≡ self.old.bits }
-        ensures index { IsIndex self.old.bits (swap_remove (map T.key_of items.now) place Nil) self.new.slots.items }
+        ensures index { IsIndex self.old.bits (swap_remove (map T.key_of items.now) place Nil)
+            self.new.slots.items }
     {
         let mut hole = slot;
         let mut next = self.after(slot);

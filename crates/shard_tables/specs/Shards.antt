@@ -50,7 +50,8 @@ has_key (Members s) k = set.contains s k
 
 -- where the operation adds a key that is absent, room is left
 abbrev pub HasRoomFor : Op → ShardView → Type 0
-HasRoomFor op s = is_adding op.kind ≡ true → has_key s.container op.key ≡ false → size_of s.container < s.room
+HasRoomFor op s =
+    is_adding op.kind ≡ true → has_key s.container op.key ≡ false → size_of s.container < s.room
 
 -- a shard after an operation: its room stays
 abbrev pub shard_after : ShardView → Op → ShardView
@@ -59,14 +60,19 @@ shard_after s op = record { container = after_on s.container op; room = s.room }
 -- how a map's shard is told from others, and a set's
 abbrev pub map_code : Coded MapView
 map_code =
-    code_by (List (Value × Value) × ℕ) (coded× (coded_list (coded× value.the_row.coded value.the_row.coded)) coded_ℕ) (λ s. (s.entries, s.room)) (λ p. record { entries = p.0; room = p.1 }) (λ _. refl)
+    code_by (List (Value × Value) × ℕ)
+    (coded× (coded_list (coded× value.the_row.coded value.the_row.coded)) coded_ℕ)
+    (λ s. (s.entries, s.room)) (λ p. record { entries = p.0; room = p.1 }) (λ _. refl)
 
 abbrev pub set_code : Coded SetView
-set_code = code_by (List Value × ℕ) (coded× (coded_list value.the_row.coded) coded_ℕ) (λ s. (s.entries, s.room)) (λ p. record { entries = p.0; room = p.1 }) (λ _. refl)
+set_code =
+    code_by (List Value × ℕ) (coded× (coded_list value.the_row.coded) coded_ℕ)
+    (λ s. (s.entries, s.room)) (λ p. record { entries = p.0; room = p.1 }) (λ _. refl)
 
 -- the elements of a shard have different keys, and their places are what the index holds; there are
 -- at most as many as the room, for which the capacity is there and half of the index's slots
-pub record FitsRoom {X : Type 0} (key : X → Value) (items : List X) (capacity room : ℕ) (index : IndexView) : Type 0 where
+pub record FitsRoom {X : Type 0} (key : X → Value) (items : List X) (capacity room : ℕ)
+    (index : IndexView) : Type 0 where
   pub different : AreDifferent key items
   pub indexed : IsIndexOf (map_list key items) index
   pub within : length items ≤ room

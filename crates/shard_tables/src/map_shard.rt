@@ -1,6 +1,6 @@
 // One shard of a map.
 
-ghost use Rattle.std.specs.Prelude.{◌≡◌, ◌<◌, ◌≤◌, IfOk, false, pos, unwrap_or, length, slice_get};
+ghost use Rattle.std.specs.Prelude.{◌≡◌, ◌<◌, ◌≤◌, ◌+◌, IfOk, false, pos, unwrap_or, length, slice_get};
 ghost use Rattle.std.specs.FinMap as map;
 ghost use Rattle.session_values.specs.declared.kind.TableKind.TheVariants.{Map};
 ghost use Rattle.session_values.specs.Tables.{Bindings, reply_on, size_of, home, empty_of};
@@ -12,7 +12,8 @@ use session_values::{Kind, NoMemory, Op, Value};
 use std::alloc::Global;
 use std::marker::Model;
 
-/// The bindings of a part of a map, in no order. After `with_room` it takes no memory.
+/// The bindings of a part of a map, in no order, each found by an index of places.
+/// After `with_room` it takes no memory.
 #[derive(Drop)]
 pub struct MapShard {
     pairs: Vec<(Value, Value)>,
@@ -94,6 +95,15 @@ impl MapShard {
         self.pairs[i as usize]
     }
 
+    /// How many slots a search for this key looks at: the measure of an operation on it, for tests
+    /// and benchmarks.
+    pub fn probes(&self, key: Value) -> u32
+        ensures some { 0 < result }
+        ensures few { result ≤ length self.now.entries + 1 }
+    {
+        self.index.probes(&self.pairs, key)
+    }
+
     fn get(&self, key: Value) -> Value
         ensures { result ≡ unwrap_or (map.get (bindings self.now) key) Value.Nil }
     {
@@ -111,9 +121,14 @@ impl MapShard {
 
     // Answers what the key was bound to before, or nil.
     fn bind(&mut self, key: Value, value: Value) -> Value
-        requires { map.contains_key (bindings self.old) key ≡ false → map.len (bindings self.old) < self.old.room }
+        requires { map.contains_key (bindings self.old) key ≡ false
+            → map.len (bindings self.old) < self.old.room }
         ensures reply { result ≡ unwrap_or (map.get (bindings self.old) key) Value.Nil }
-        ensures after { map_shard self.new ≡ record { container = Bindings (map.insert (bindings self.old) key value); room = self.old.room } }
+        ensures after { map_shard self.new
+            ≡ record {
+              container = Bindings (map.insert (bindings self.old) key value);
+              room = self.old.room;
+            } }
     {
         match self.index.enter(&self.pairs, key) {
             Some(place) => {
@@ -129,7 +144,11 @@ impl MapShard {
     }
 
     fn unbind(&mut self, key: Value)
-        ensures { map_shard self.new ≡ record { container = Bindings (map.remove (bindings self.old) key); room = self.old.room } }
+        ensures { map_shard self.new
+            ≡ record {
+              container = Bindings (map.remove (bindings self.old) key);
+              room = self.old.room;
+            } }
     {
         if let Some(place) = self.index.remove(&self.pairs, key) {
             self.pairs.swap_remove(place);

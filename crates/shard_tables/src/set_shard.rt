@@ -1,6 +1,6 @@
 // One shard of a set.
 
-ghost use Rattle.std.specs.Prelude.{◌≡◌, ◌<◌, ◌≤◌, IfOk, false, pos, not, length, slice_get, true};
+ghost use Rattle.std.specs.Prelude.{◌≡◌, ◌<◌, ◌≤◌, ◌+◌, IfOk, false, pos, not, length, slice_get, true};
 ghost use Rattle.std.specs.FinSet as set;
 ghost use Rattle.session_values.specs.declared.kind.TableKind.TheVariants.{Set};
 ghost use Rattle.session_values.specs.Tables.{Members, reply_on, size_of, home, empty_of, bit};
@@ -12,7 +12,8 @@ use session_values::{Kind, NoMemory, Op, Value};
 use std::alloc::Global;
 use std::marker::Model;
 
-/// The members of a part of a set, in no order. After `with_room` it takes no memory.
+/// The members of a part of a set, in no order, each found by an index of places.
+/// After `with_room` it takes no memory.
 #[derive(Drop)]
 pub struct SetShard {
     keys: Vec<Value>,
@@ -94,6 +95,15 @@ impl SetShard {
         self.keys[i as usize]
     }
 
+    /// How many slots a search for this key looks at: the measure of an operation on it, for tests
+    /// and benchmarks.
+    pub fn probes(&self, key: Value) -> u32
+        ensures some { 0 < result }
+        ensures few { result ≤ length self.now.entries + 1 }
+    {
+        self.index.probes(&self.keys, key)
+    }
+
     fn has(&self, key: Value) -> bool
         ensures { result ≡ set.contains (members self.now) key }
     {
@@ -108,9 +118,14 @@ impl SetShard {
 
     // Answers whether the key was none.
     fn add(&mut self, key: Value) -> bool
-        requires { set.contains (members self.old) key ≡ false → set.len (members self.old) < self.old.room }
+        requires { set.contains (members self.old) key ≡ false
+            → set.len (members self.old) < self.old.room }
         ensures new { result ≡ not (set.contains (members self.old) key) }
-        ensures after { set_shard self.new ≡ record { container = Members (set.insert (members self.old) key); room = self.old.room } }
+        ensures after { set_shard self.new
+            ≡ record {
+              container = Members (set.insert (members self.old) key);
+              room = self.old.room;
+            } }
     {
         match self.index.enter(&self.keys, key) {
             Some(_) => false,
@@ -122,7 +137,11 @@ impl SetShard {
     }
 
     fn remove(&mut self, key: Value)
-        ensures { set_shard self.new ≡ record { container = Members (set.remove (members self.old) key); room = self.old.room } }
+        ensures { set_shard self.new
+            ≡ record {
+              container = Members (set.remove (members self.old) key);
+              room = self.old.room;
+            } }
     {
         if let Some(place) = self.index.remove(&self.keys, key) {
             self.keys.swap_remove(place);
