@@ -63,7 +63,7 @@ impl MapShard {
                 self.unbind(op.key);
                 Value::Nil
             }
-            Kind::Size => Value::Num(self.size()),
+            Kind::Size => Value::Num(i64::from(self.len())),
             Kind::Has | Kind::Add | Kind::Mark | Kind::Drop | Kind::Count => Value::Nil,
         }
     }
@@ -74,7 +74,7 @@ impl MapShard {
         ensures within { size_of (map_shard self.now).container ≤ self.now.room }
         ensures limit { self.now.room ≤ 1073741824 }
     {
-        self.room - self.pairs.len() as u32
+        self.room - self.len()
     }
 
     /// How many keys there are.
@@ -111,12 +111,6 @@ impl MapShard {
             Some(place) => self.pairs[place].1,
             None => Value::Nil,
         }
-    }
-
-    fn size(&self) -> i64
-        ensures { result ≡ pos (map.len (bindings self.now)) }
-    {
-        self.pairs.len() as i64
     }
 
     // Answers what the key was bound to before, or nil.

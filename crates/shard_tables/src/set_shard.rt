@@ -63,7 +63,7 @@ impl SetShard {
                 self.remove(op.key);
                 Value::Nil
             }
-            Kind::Count => Value::Num(self.count()),
+            Kind::Count => Value::Num(i64::from(self.len())),
             Kind::Get | Kind::Put | Kind::Swap | Kind::Del | Kind::Size => Value::Nil,
         }
     }
@@ -74,7 +74,7 @@ impl SetShard {
         ensures within { size_of (set_shard self.now).container ≤ self.now.room }
         ensures limit { self.now.room ≤ 1073741824 }
     {
-        self.room - self.keys.len() as u32
+        self.room - self.len()
     }
 
     /// How many members there are.
@@ -108,12 +108,6 @@ impl SetShard {
         ensures { result ≡ set.contains (members self.now) key }
     {
         self.index.place_of(&self.keys, key).is_some()
-    }
-
-    fn count(&self) -> i64
-        ensures { result ≡ pos (set.len (members self.now)) }
-    {
-        self.keys.len() as i64
     }
 
     // Answers whether the key was none.
