@@ -263,36 +263,6 @@ fn shards_reply_as_the_plain_tables(rt: HostRuntime) -> Result<(), Fail> {
     Ok(())
 }
 
-// The first key of a full shard at which a reply or the room that is left isn't as it must be.
-fn first_lost(part: &mut Part, count: u32) -> Option<u32> {
-    for i in 0..count {
-        let key = Num(i64::from(i));
-        if part.apply(op_of(Kind::Put, key, Sym(i))) != Some(Nil) || part.spare() != count - 1 - i {
-            return Some(i);
-        }
-    }
-    for i in 0..count {
-        if part.apply(op_of(Kind::Get, Num(i64::from(i)), Nil)) != Some(Sym(i)) {
-            return Some(i);
-        }
-    }
-    for i in 0..count {
-        let key = Num(i64::from(i));
-        if part.apply(op_of(Kind::Del, key, Nil)) != Some(Nil) || part.spare() != i + 1 {
-            return Some(i);
-        }
-    }
-    None
-}
-
-#[test]
-fn large_shard_is_filled_and_emptied(rt: HostRuntime) -> Result<(), Fail> {
-    let mut part = Part::Bindings(MapShard::with_room(rt.alloc(), 200000)?);
-    assert_eq!(rt; first_lost(&mut part, 200000), None);
-    assert_eq!(rt; part.spare(), 200000);
-    Ok(())
-}
-
 // What a shard of a map is read out as: at most three entries.
 fn entries_of(shard: &MapShard) -> [Option<(Value, Value)>; 3] {
     let mut entries = [None; 3];
@@ -331,11 +301,13 @@ fn entries_are_the_keys_that_are_left(rt: HostRuntime) -> Result<(), Fail> {
     Ok(())
 }
 
-// How many of the operations of a kind on the keys below `count` are done and reply this.
-fn replies(shard: &mut MapShard, kind: Kind, count: u32, reply: Value) -> u64 {
+// How many of the operations of a kind on the keys below `count` are done and reply as they must,
+// where key i is bound to symbol i.
+fn replies(shard: &mut MapShard, kind: Kind, count: u32) -> u64 {
     let mut done = 0u64;
     for i in 0..count {
-        if on_map(shard, op_of(kind, Num(i64::from(i)), Sym(7))) == Some(reply) {
+        let wanted = if kind == Kind::Get { Sym(i) } else { Nil };
+        if on_map(shard, op_of(kind, Num(i64::from(i)), Sym(i))) == Some(wanted) {
             done = done.wrapping_add(1);
         }
     }
@@ -357,13 +329,13 @@ fn of_a_full_shard(alloc: Global, room: u32) -> Result<(u64, u64, u64, bool, u32
     requires { room ≤ 1073741824 }
 {
     let mut shard = MapShard::with_room(alloc, room)?;
-    let put = replies(&mut shard, Kind::Put, room, Nil);
+    let put = replies(&mut shard, Kind::Put, room);
     let is_near = looked_at(&shard, room) <= u64::from(room) * 2;
     let mut got = 0u64;
     for _ in 0..20 {
-        got = got.wrapping_add(replies(&mut shard, Kind::Get, room, Sym(7)));
+        got = got.wrapping_add(replies(&mut shard, Kind::Get, room));
     }
-    let deleted = replies(&mut shard, Kind::Del, room, Nil);
+    let deleted = replies(&mut shard, Kind::Del, room);
     Ok((put, got, deleted, is_near, shard.spare()))
 }
 
@@ -379,7 +351,7 @@ fn a_full_shard_is_read_and_emptied(rt: HostRuntime) -> Result<(), Fail> {
 // went, and those for a hundred keys once all are gone.
 fn of_a_shard_in_use(alloc: Global, keys: u32) -> Result<(u64, u64, u64), NoMemory> {
     let mut shard = MapShard::with_room(alloc, 16)?;
-    replies(&mut shard, Kind::Put, 12, Nil);
+    replies(&mut shard, Kind::Put, 12);
     let before = looked_at(&shard, 12);
     for key in 0..keys {
         on_map(&mut shard, op_of(Kind::Put, Num(i64::from(key) + 12), Nil));
@@ -392,7 +364,7 @@ fn of_a_shard_in_use(alloc: Global, keys: u32) -> Result<(u64, u64, u64), NoMemo
         );
     }
     let gone = looked_at(&shard, 100);
-    replies(&mut shard, Kind::Put, 12, Nil);
+    replies(&mut shard, Kind::Put, 12);
     Ok((before, looked_at(&shard, 12), gone))
 }
 
