@@ -48,7 +48,7 @@ stays_taken xs e x t l p h = elim (cases_eq t e) [
   | inr i ↦ omega (arith, get_or-set_other xs e t x 0 i)
 ]
 
--- the homes of the places before stay
+-- the searches for the keys before begin where they began
 old_start : (bits : ℕ) (keys : List Value) (k : Value) (x : ℕ) → 0 < x → x ≤ length keys → start_in bits (keys ++ k ∷ []) x ≡ start_in bits keys x
 old_start bits keys k x p l = ap (λ (v : Value). start_of v bits) (get_or_append_left keys (k ∷ []) Nil (x - 1) (omega arith))
 

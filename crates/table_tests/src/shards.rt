@@ -110,9 +110,8 @@ fn first_wrong(part: &mut Part, cases: &[Case]) -> Option<usize> {
     cases.iter().position(|(op, reply, spare)| part.apply(*op) != *reply || part.spare() != *spare)
 }
 
-#[test]
-fn map_shard_gives_places_back(rt: HostRuntime) -> Result<(), Fail> {
-    let mut part = Part::Bindings(MapShard::with_room(rt.alloc(), 2)?);
+fn first_wrong_of_a_map(alloc: Global) -> Result<Option<usize>, NoMemory> {
+    let mut part = Part::Bindings(MapShard::with_room(alloc, 2)?);
     let cases = [
         (op_of(Kind::Size, Nil, Nil), Some(Num(0)), 2),
         (op_of(Kind::Put, Num(1), Num(5)), Some(Nil), 1),
@@ -127,13 +126,17 @@ fn map_shard_gives_places_back(rt: HostRuntime) -> Result<(), Fail> {
         (op_of(Kind::Get, Num(2), Nil), Some(Num(7)), 0),
         (op_of(Kind::Get, Nil, Nil), Some(Sym(3)), 0),
     ];
-    assert_eq!(rt; first_wrong(&mut part, &cases), None);
-    Ok(())
+    Ok(first_wrong(&mut part, &cases))
 }
 
 #[test]
-fn set_shard_gives_places_back(rt: HostRuntime) -> Result<(), Fail> {
-    let mut part = Part::Members(SetShard::with_room(rt.alloc(), 2)?);
+fn map_shard_gives_places_back(rt: HostRuntime) -> Result<(), Fail> {
+    assert_eq!(rt; first_wrong_of_a_map(rt.alloc())?, None);
+    Ok(())
+}
+
+fn first_wrong_of_a_set(alloc: Global) -> Result<Option<usize>, NoMemory> {
+    let mut part = Part::Members(SetShard::with_room(alloc, 2)?);
     let cases = [
         (op_of(Kind::Add, Num(1), Nil), Some(Num(1)), 1),
         (op_of(Kind::Add, Num(1), Nil), Some(Num(0)), 1),
@@ -146,7 +149,12 @@ fn set_shard_gives_places_back(rt: HostRuntime) -> Result<(), Fail> {
         (op_of(Kind::Has, Num(2), Nil), Some(Num(1)), 0),
         (op_of(Kind::Has, Sym(0), Nil), Some(Num(1)), 0),
     ];
-    assert_eq!(rt; first_wrong(&mut part, &cases), None);
+    Ok(first_wrong(&mut part, &cases))
+}
+
+#[test]
+fn set_shard_gives_places_back(rt: HostRuntime) -> Result<(), Fail> {
+    assert_eq!(rt; first_wrong_of_a_set(rt.alloc())?, None);
     Ok(())
 }
 
@@ -285,19 +293,26 @@ fn members_of(shard: &SetShard) -> [Option<Value>; 3] {
     members
 }
 
-#[test]
-fn entries_are_the_keys_that_are_left(rt: HostRuntime) -> Result<(), Fail> {
-    let mut map = MapShard::with_room(rt.alloc(), 3)?;
-    let mut set = SetShard::with_room(rt.alloc(), 3)?;
+type ReadOut = ([Option<(Value, Value)>; 3], [Option<Value>; 3]);
+
+// A map and a set to which three keys of one start slot came and of which one went.
+fn read_out(alloc: Global) -> Result<ReadOut, NoMemory> {
+    let mut map = MapShard::with_room(alloc, 3)?;
+    let mut set = SetShard::with_room(alloc, 3)?;
     for key in [Num(0), Num(STEP), Nil] {
         on_map(&mut map, op_of(Kind::Put, key, Sym(7)));
         on_set(&mut set, op_of(Kind::Mark, key, Nil));
     }
     on_map(&mut map, op_of(Kind::Del, Num(0), Nil));
     on_set(&mut set, op_of(Kind::Drop, Num(STEP), Nil));
-    let read = (entries_of(&map), members_of(&set));
-    let left = [Some((Nil, Sym(7))), Some((Num(STEP), Sym(7))), None];
-    assert_eq!(rt; read, (left, [Some(Num(0)), Some(Nil), None]));
+    Ok((entries_of(&map), members_of(&set)))
+}
+
+#[test]
+fn entries_are_the_keys_that_are_left(rt: HostRuntime) -> Result<(), Fail> {
+    let map = [Some((Nil, Sym(7))), Some((Num(STEP), Sym(7))), None];
+    let set = [Some(Num(0)), Some(Nil), None];
+    assert_eq!(rt; read_out(rt.alloc())?, (map, set));
     Ok(())
 }
 
