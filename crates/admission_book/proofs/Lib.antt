@@ -13,7 +13,6 @@ pub mod Oldest
 pub mod Records
 pub mod Replies
 pub mod Room
-pub mod Rows
 pub mod Scans
 pub mod Shown
 pub mod Stories

@@ -61,7 +61,7 @@ module _ (m : Meaning) (b : Book) (S : IsScript m) (L : Lawful m b) (done : (t :
     | inr l ↦ omega (arith, few_begun m (length b.records) b.journal L.turns)
   ]
 
-  pub tables_serial : after m.shape b.journal ≡ tables_before (session_of m) m.requests
+  pub tables_serial : after m.opening b.journal ≡ tables_before (session_of m) m.requests
   tables_serial = all_ended m b S L (λ t l. some_is (ended b.journal t) (done t (omega (arith, l, all_begun)))) ∙ ap (tables_before (session_of m)) all_begun
 
   -- the first n replies

@@ -7,7 +7,6 @@ use Rattle.session_values.specs.declared.reply.Reply.{Reply}
 use Rattle.symbolic_ops.specs.declared.symbol.Symbol.{Symbol}
 use Rattle.session_journal.specs.declared.event.Event.{Event}
 use Rattle.session_journal.specs.declared.event.Event.TheVariants.{Begin, Done, Delay, End}
-use Rattle.session_values.specs.Tables.{start}
 use Rattle.commute_tables.specs.Symbols.{CommutesWith, CommutesWithAll}
 use Rattle.session_journal.specs.Journal.{deeds, in_order, entries, begun, ended, owner, Replays, InversionsCommute, ticket_of}
 use Rattle.session_values.specs.Dialogue.{Next, Calls, Answers, Dialogue, rest, replies, Follows}
@@ -109,7 +108,7 @@ pub record Holds (m : Meaning) (b : Book) (c : ℕ) (s : Serving) : Type 0 where
 -- a book that the methods of a book can lead to
 pub record Lawful (m : Meaning) (b : Book) : Type 0 where
   -- the journal replays
-  pub replays : Replays (start m.shape) (in_order (deeds b.journal))
+  pub replays : Replays (m.opening) (in_order (deeds b.journal))
   -- each ticket's entries are what it calls, and its Reply, which is kept, what it answers
   pub follows : (t : ℕ) → Follows (m.next t) (entries b.journal t)
   pub answered : (t : ℕ) (r : Reply) → ended b.journal t ≡ Some r → now m b.journal t ≡ Answers r

@@ -78,7 +78,7 @@ pub record MayDo (m : Meaning) (b : Book) (t : ℕ) (r : Value) (f : List Symbol
   pub is : record_of b caller ≡ Some serving
   pub ticket : serving.ticket ≡ t
   pub flight : serving.flight ≡ Some op
-  pub reply_is : r ≡ reply (after m.shape b.journal) op
+  pub reply_is : r ≡ reply (after m.opening b.journal) op
   pub covered : Covered f serving.foresight
   pub covers : IsForesight (rest (m.next t) (replies (entries b.journal t ++ record { op = op; reply = r } ∷ []))) f
 

@@ -3,4 +3,3 @@ pub mod Books
 pub mod CallerRecord
 pub mod Found
 pub mod Kept
-pub mod Rows

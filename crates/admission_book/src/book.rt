@@ -4,7 +4,7 @@ ghost use Rattle.std.specs.Prelude.{◌≡◌, ℕ, ◌+◌, ◌*◌, ◌<◌, �
 ghost use Rattle.session_values.specs.Serial.{serial, serial_replies, tables_before};
 ghost use Rattle.session_journal.specs.Foreknown.{Foreknown};
 ghost use Rattle.session_journal.specs.Journal.{after, begun, ended};
-ghost use Rattle.session_journal.specs.Script.{calls, session_of};
+ghost use Rattle.session_journal.specs.Script.{IsScript, calls, session_of};
 ghost use Rattle.admission_book.specs.Book.{Lawful, kept_for, opened};
 ghost use Rattle.admission_book.specs.Books.{Admits, Begins, DidIt, Grows, HasEnded, IfNext, IsOldestOpen, MayAdmit, MayBeginNext, MayDo, MayEnd, MayNarrow, Narrowed};
 
@@ -71,8 +71,10 @@ impl<S: Script + Drop> Book<S> {
         })
     }
 
+    /// The script, which is lawful.
     pub fn script(&self) -> &S
-        ensures { result.now ≡ self.now.script }
+        ensures script { result.now ≡ self.now.script }
+        ensures lawful { IsScript (S.meaning self.now.script) }
     {
         &self.script
     }
@@ -207,15 +209,16 @@ impl<S: Script + Drop> Book<S> {
         &self.journal
     }
 
-    /// The reply of a ticket, or None where it hasn't ended.
+    /// The reply of a ticket, or None where it hasn't ended or isn't one of the script's.
     pub fn reply(&self, t: u32) -> Option<Reply>
-        requires lawful { Lawful (S.meaning self.now.script) self.now.book }
-        requires ticket { t < (S.meaning self.now.script).requests }
         ensures kept { result ≡ kept_for self.now.book t }
-        ensures ended { result ≡ ended self.now.book.journal t }
-        ensures serial { IfSome result (λ r. (serial (session_of (S.meaning self.now.script)) t).answer ≡ Some r) }
+        ensures ended { Lawful (S.meaning self.now.script) self.now.book → result ≡ ended self.now.book.journal t }
+        ensures serial { Lawful (S.meaning self.now.script) self.now.book → IfSome result (λ r. (serial (session_of (S.meaning self.now.script)) t).answer ≡ Some r) }
     {
-        self.kept[t as usize]
+        match self.kept.get(t as usize) {
+            Some(reply) => *reply,
+            None => None,
+        }
     }
 
     /// What was done of all tickets, and their replies.
@@ -224,7 +227,7 @@ impl<S: Script + Drop> Book<S> {
         requires ended { (t : ℕ) → t < (S.meaning self.script).requests → IsSome (ended self.book.journal t) }
         ensures events { result.0.events ≡ self.book.journal }
         ensures kept { map (λ r. Some r) result.1 ≡ self.book.kept }
-        ensures tables { after (S.meaning self.script).shape result.0.events ≡ tables_before (session_of (S.meaning self.script)) (S.meaning self.script).requests }
+        ensures tables { after (S.meaning self.script).opening result.0.events ≡ tables_before (session_of (S.meaning self.script)) (S.meaning self.script).requests }
         ensures serial { result.1 ≡ serial_replies (session_of (S.meaning self.script)) (S.meaning self.script).requests }
     {
         let Book {

@@ -3,7 +3,8 @@
 ghost use Rattle.std.specs.Prelude.{◌≡◌, ℕ, ◌<◌, List, [], ◌∷◌, ◌++◌, length, ◌+◌, ◌*◌, ◌≤◌, true, None, Some};
 ghost use Rattle.session_values.specs.Dialogue.{Calls, Answers, rest, replies};
 ghost use Rattle.session_values.specs.Serial.{serial, tables_before};
-ghost use Rattle.session_values.specs.Tables.{start, reply, table, size_of, is_adding};
+ghost use Rattle.session_values.specs.Kinds.{is_adding};
+ghost use Rattle.session_values.specs.Tables.{reply, table, size_of};
 ghost use Rattle.symbolic_ops.specs.Symbols.{Covered};
 ghost use Rattle.commute_tables.specs.Symbols.{CommutesWith};
 ghost use Rattle.session_journal.specs.Foreknown.{Foreknown};
@@ -17,8 +18,8 @@ use symbolic_ops::Symbol;
 
 /// A lawful book's journal regrouped by ticket replays, and gives the same tables.
 pub fn regrouping()
-    ensures replays { (m : Meaning) (b : Book) → Lawful m b → Replays (start m.shape) (regrouped b.journal) }
-    ensures tables { (m : Meaning) (b : Book) → Lawful m b → run (start m.shape) (regrouped b.journal) ≡ after m.shape b.journal }
+    ensures replays { (m : Meaning) (b : Book) → Lawful m b → Replays (m.opening) (regrouped b.journal) }
+    ensures tables { (m : Meaning) (b : Book) → Lawful m b → run (m.opening) (regrouped b.journal) ≡ after m.opening b.journal }
 {}
 
 /// An opened book is lawful.
@@ -32,7 +33,7 @@ pub fn keeping()
     ensures narrow { (m : Meaning) (b : Book) (c : ℕ) (s : Serving) (f : List Symbol) → Lawful m b → record_of b c ≡ Some s → s.flight ≡ None → Covered f s.foresight → IsForesight (rest (m.next s.ticket) (replies (entries b.journal s.ticket))) f → Lawful m (after_narrow b c s f) }
     ensures admit { (m : Meaning) (b : Book) (c : ℕ) (s : Serving) (op : Op) → Lawful m b → record_of b c ≡ Some s → now m b.journal s.ticket ≡ Calls op → IsFree b s.ticket op → Lawful m (after_admit b c s op) }
     ensures delay { (m : Meaning) (b : Book) (t : ℕ) (op : Op) (older : ℕ) (y : Symbol) → Lawful m b → IsOpen b.journal t → now m b.journal t ≡ Calls op → older < t → (CommutesWith op y → ⊥) → Lawful m (after_delay b t op older y) }
-    ensures done { (m : Meaning) (b : Book) (c : ℕ) (s : Serving) (op : Op) (r : Value) (f : List Symbol) → Lawful m b → record_of b c ≡ Some s → s.flight ≡ Some op → r ≡ reply (after m.shape b.journal) op → Covered f s.foresight → IsForesight (rest (m.next s.ticket) (replies (entries b.journal s.ticket ++ record { op = op; reply = r } ∷ []))) f → Lawful m (after_done b c s op r f) }
+    ensures done { (m : Meaning) (b : Book) (c : ℕ) (s : Serving) (op : Op) (r : Value) (f : List Symbol) → Lawful m b → record_of b c ≡ Some s → s.flight ≡ Some op → r ≡ reply (after m.opening b.journal) op → Covered f s.foresight → IsForesight (rest (m.next s.ticket) (replies (entries b.journal s.ticket ++ record { op = op; reply = r } ∷ []))) f → Lawful m (after_done b c s op r f) }
     ensures end { (m : Meaning) (b : Book) (c : ℕ) (s : Serving) (r : Reply) → Lawful m b → record_of b c ≡ Some s → s.flight ≡ None → now m b.journal s.ticket ≡ Answers r → s.ticket < length b.kept → Lawful m (after_end b c s r) }
 {}
 
@@ -45,15 +46,16 @@ pub fn foreknowing()
 /// Where all begun tickets of a lawful book have ended, its tables are those of serving the tickets
 /// one at a time.
 pub fn ending()
-    ensures { (m : Meaning) (b : Book) → IsScript m → Lawful m b → ((t : ℕ) → t < begun b.journal → (r : Reply) × (ended b.journal t ≡ Some r)) → after m.shape b.journal ≡ tables_before (session_of m) (begun b.journal) }
+    ensures { (m : Meaning) (b : Book) → IsScript m → Lawful m b → ((t : ℕ) → t < begun b.journal → (r : Reply) × (ended b.journal t ≡ Some r)) → after m.opening b.journal ≡ tables_before (session_of m) (begun b.journal) }
 {}
 
-/// A lawful book has no more events, and its tables no more keys, than its script allows, and fewer
-/// keys while a call that may add one is still to come.
+/// A lawful book has no more events than its script allows, and its tables no more keys than the
+/// opening ones and the adding calls together, and fewer while a call that may add one is still to
+/// come.
 pub fn bounds()
     ensures events { (m : Meaning) (b : Book) → IsScript m → Lawful m b → length b.journal ≤ 2 * m.requests + 2 * calls m }
-    ensures keys { (m : Meaning) (b : Book) (i : ℕ) → IsScript m → Lawful m b → size_of (table (after m.shape b.journal) i) ≤ room m i }
-    ensures fewer { (m : Meaning) (b : Book) (t : ℕ) (op : Op) → IsScript m → Lawful m b → IsOpen b.journal t → now m b.journal t ≡ Calls op → is_adding op.kind ≡ true → size_of (table (after m.shape b.journal) op.table) < room m op.table }
+    ensures keys { (m : Meaning) (b : Book) (i : ℕ) → IsScript m → Lawful m b → size_of (table (after m.opening b.journal) i) ≤ size_of (table m.opening i) + room m i }
+    ensures fewer { (m : Meaning) (b : Book) (t : ℕ) (op : Op) → IsScript m → Lawful m b → IsOpen b.journal t → now m b.journal t ≡ Calls op → is_adding op.kind ≡ true → size_of (table (after m.opening b.journal) op.table) < size_of (table m.opening op.table) + room m op.table }
 {}
 
 /// The events of each ticket of a lawful book are its Begin; for each call at most one Delay and

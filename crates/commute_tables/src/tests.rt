@@ -2,7 +2,7 @@
 
 ghost use Rattle.std.specs.Prelude.{◌≡◌, ◌∷◌, [], Some, slice_get};
 ghost use Rattle.session_values.specs.declared.kind.TableKind.TheVariants.{Map, Set};
-ghost use Rattle.session_values.specs.Tables.{home};
+ghost use Rattle.session_values.specs.Kinds.{home};
 ghost use Rattle.symbolic_ops.specs.Symbols.{HasNoVar};
 
 use crate::{commute, commute_symbol};

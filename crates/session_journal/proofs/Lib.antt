@@ -5,3 +5,5 @@ pub mod Regroup
 pub mod Replay
 pub mod Rows
 pub mod Serial
+pub mod Serving
+pub mod Values

@@ -4,7 +4,7 @@ use Rattle.std.specs.Prelude.{slice_get}
 use Rattle.session_values.specs.declared.kind.Kind.{Kind}
 use Rattle.session_values.specs.declared.kind.TableKind.{TableKind}
 use Rattle.session_values.specs.declared.kind.TableKind.TheVariants.{Map}
-use Rattle.session_values.specs.Tables.{home}
+use Rattle.session_values.specs.Kinds.{home}
 
 -- an operation of a map on the first table fits one map
 pub fits_one_map : (kinds : List TableKind) (table : ℕ) (kind : Kind) → kinds ≡ Map ∷ [] → table ≡ 0 → home kind ≡ Map → slice_get kinds table ≡ Some (home kind)

@@ -2,15 +2,13 @@
 
 ghost use Rattle.std.specs.Prelude.{◌≡◌, ℕ, ◌<◌, ◌≤◌, ◌-◌, ◌++◌, ◌∷◌, ◌&&◌, ◌==◌, [], cond, length, IfOk};
 ghost use Rattle.std.specs.List.{AllByRecursion};
-ghost use Rattle.session_values.specs.Dialogue.{Answers};
-ghost use Rattle.session_values.specs.Tables.{Fits, is_adding};
-ghost use Rattle.session_journal.specs.Script.{HasValues};
-ghost use Rattle.session_values.specs.Values.{IsValue};
+ghost use Rattle.session_values.specs.Kinds.{is_adding};
+ghost use Rattle.session_values.specs.Tables.{Fits};
 ghost use Rattle.symbolic_ops.specs.Symbols.{HasNoVar};
 ghost use Rattle.session_journal.specs.Lists.{HasPlace, adding, answers_only, allows_more, calls_more, last_ticket, with_last};
 
 use crate::script::Script;
-use session_values::{NoMemory, Op, Reply, TableKind, Value};
+use session_values::{NoMemory, Op, Reply, TableKind};
 use std::alloc::Global;
 use std::marker::Model;
 use symbolic_ops::{Foresight, Symbol};
@@ -48,17 +46,6 @@ impl Model for ListScript {
     ghost invariant = { λ s. KeepsRows s.shape.items s.rows.items s.ops.items s.symbols.items (vec_capacity s.rows) (vec_capacity s.ops) (vec_capacity s.symbols) };
 }
 
-/// A value is one that a program can hold.
-fn see_value(v: Value)
-    ensures { IsValue v }
-{
-    match v {
-        Value::Nil => {}
-        Value::Num(_) => {}
-        Value::Sym(_) => {}
-    }
-}
-
 impl ListScript {
     /// No tickets yet, over tables of these kinds, with room for so many tickets, operations and
     /// symbols of all tickets together.
@@ -87,7 +74,7 @@ impl ListScript {
         requires { 0 < self.old.tickets_left }
         ensures { self.new ≡ record { shape = self.old.shape; tickets = self.old.tickets ++ answers_only reply ∷ []; tickets_left = self.old.tickets_left - 1; calls_left = self.old.calls_left; symbols_left = self.old.symbols_left } }
     {
-        see_reply(&reply);
+        reply.bounds();
         self.rows.push_reserved(Row {
             reply,
             first_op: self.ops.len() as u32,
@@ -105,8 +92,7 @@ impl ListScript {
         requires symbols { 0 < self.old.symbols_left }
         ensures { self.new ≡ record { shape = self.old.shape; tickets = with_last self.old.tickets (calls_more (last_ticket self.old.tickets) op); tickets_left = self.old.tickets_left; calls_left = self.old.calls_left - 1; symbols_left = self.old.symbols_left - 1 } }
     {
-        see_value(op.key);
-        see_value(op.value);
+        op.bounds();
         let last = self.rows.len() - 1;
         self.ops.push_reserved(op);
         self.symbols.push_reserved(Symbol::exact(&op));
@@ -135,16 +121,6 @@ impl ListScript {
     }
 }
 
-/// The values of a reply are such that a program can hold.
-fn see_reply(reply: &Reply)
-    ensures { HasValues (Answers reply.now) }
-{
-    see_value(reply.a);
-    see_value(reply.b);
-    see_value(reply.c);
-    see_value(reply.d);
-}
-
 /// 1 where the operation may add a key to the table, else 0.
 fn adds_to(op: &Op, table: u32) -> u32
     ensures { result ≡ cond {A = ℕ} (is_adding op.now.kind && (op.now.table == table)) 1 0 }
@@ -168,18 +144,6 @@ fn count_adding(ops: &[Op], table: u32) -> u32
     count
 }
 
-/// Replaces the content of `out` by these symbols.
-fn copy_symbols(symbols: &[Symbol], out: &mut Foresight)
-    requires known { AllByRecursion HasNoVar symbols.now }
-    requires room { length symbols.now ≤ out.old.room }
-    ensures { out.new ≡ record { symbols = symbols.now; room = out.old.room } }
-{
-    out.clear();
-    for s in symbols {
-        out.push(*s);
-    }
-}
-
 impl Script for ListScript {
     ghost use Rattle.session_journal.specs.Lists.{list_meaning};
 
@@ -192,7 +156,7 @@ impl Script for ListScript {
     fn entry(&self, t: u32, out: &mut Foresight) {
         let row = self.rows[t as usize];
         let first = row.first_symbol as usize;
-        copy_symbols(&self.symbols[first..first + row.symbols as usize], out);
+        out.copy_from(&self.symbols[first..first + row.symbols as usize]);
     }
 
     fn calls(&self) -> u32 {

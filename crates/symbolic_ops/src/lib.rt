@@ -5,6 +5,7 @@ mod arg;
 mod covering;
 mod foresight;
 mod instantiating;
+pub mod laws;
 mod symbol;
 #[cfg(test)]
 mod tests;

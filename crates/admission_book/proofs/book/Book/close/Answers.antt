@@ -18,7 +18,7 @@ pub returns-clause-tables : goal.returns-clause-tables
 returns-clause-tables g c =
     let L = here Lawful g.S.Script.meaning _ _ _ c.self.view_is c.requires.lawful in
     let done = here (λ (m : Meaning) (b : Book). (t : ℕ) → t < m.requests → IsSome (ended b.journal t)) g.S.Script.meaning _ _ _ c.self.view_is c.requires.ended in
-    there (λ (m : Meaning) (b : Book). after m.shape c.self.inside.journal.events ≡ tables_before (session_of m) m.requests) g.S.Script.meaning _ _ _ c.self.view_is (tables_serial _ _ c.self.invariant.script L done)
+    there (λ (m : Meaning) (b : Book). after m.opening c.self.inside.journal.events ≡ tables_before (session_of m) m.requests) g.S.Script.meaning _ _ _ c.self.view_is (tables_serial _ _ c.self.invariant.script L done)
 
 pub returns-clause-serial : goal.returns-clause-serial
 returns-clause-serial g c =

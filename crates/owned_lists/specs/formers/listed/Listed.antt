@@ -16,11 +16,11 @@ use Rattle.std.specs.formers.vec.Vec as vec
 use Rattle.std.specs.declared.alloc.Global.{Global}
 use Rattle.std.specs.contracts.alloc.Global as heap
 use Rattle.std.specs.contracts.impls.GlobalAllocator.TheImpl.{ghosts}
-use Rattle.session_values.specs.Length.{length_map}
-use Rattle.session_values.specs.declared.listed.Listed.TheInside.{Inside}
-use Rattle.session_values.specs.declared.listed.Listed.TheView.{view, invariant}
-use Rattle.session_values.specs.contracts.listed.Listed as C
-use Rattle.session_values.specs.contracts.listed.Listed.TheInside as I
+use Rattle.owned_lists.specs.Length.{length_map}
+use Rattle.owned_lists.specs.declared.listed.Listed.TheInside.{Inside}
+use Rattle.owned_lists.specs.declared.listed.Listed.TheView.{view, invariant}
+use Rattle.owned_lists.specs.contracts.listed.Listed as C
+use Rattle.owned_lists.specs.contracts.listed.Listed.TheInside as I
 
 abbrev pub the_former : Former {0} → Former {0}
 the_former g = list g
