@@ -26,7 +26,10 @@ impl<V, R: TieRule<V>> Board<V, R> {
             result }
     {
         let bit = 1u64 << turn;
-        let found = self.table.shared.fetch_or::<Ask<R>>(&mut seat.pass, MASK, bit);
+        let found = self
+            .table
+            .shared
+            .fetch_or::<Ask<R>>(&mut seat.pass, MASK, bit);
         if found & bit != 0 {
             return Taken::Busy { turn };
         }

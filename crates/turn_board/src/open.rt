@@ -2,13 +2,13 @@
 ghost use Rattle.std.specs.Prelude.{◌≡◌, ◌+◌, ◌<◌, ◌≤◌, ◌-◌, [], IfOk, map, Some, vec_len, vec_capacity};
 
 use crate::board::{Board, Spare, WORDS};
-use crate::no_memory::NoMemory;
+use crate::lists::Seats;
 use crate::plays::Part;
 use crate::seat::Seat;
-use crate::seats::Seats;
 use crate::tie_rule::TieRule;
 use crate::view::Opening;
 use atomic_table::Table;
+use owned_lists::NoMemory;
 use std::alloc::{AllocError, Global};
 use std::snapshot::Snapshot;
 use std::sync::Mutex;

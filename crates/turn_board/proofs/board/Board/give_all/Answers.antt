@@ -56,7 +56,7 @@ returns-clause-seat g c =
     let content = g.R.TieRule.content in
     let x = given-back content id.slots q r c.of-copy.result.value c.args.book c.of-list.result.value c.args.hands.now c.of-copy.ensures c.of-list.ensures (bit_not w64 (bit_or s 1)) c.settle.ensures.booked in
     all-sits content id c.args.self.now.few p c.requires.seat c.args.book xs c.requires.once c.requires.held m c.lower.ensures.2 s q c.lower_all-mask.ensures.seat (or-fits s c.lower_all-mask.type_inv) r (suc x.0, overlay (put_back content c.args.book xs) x.1) x.2
-        (c.settle.ensures.seat.0 ∙ c.lower_all-mask.ensures.seat.table ∙ c.lower.ensures.0 ∙ c.requires.seat.placed.of_table)
+    (c.settle.ensures.seat.0 ∙ c.lower_all-mask.ensures.seat.table ∙ c.lower.ensures.0 ∙ c.requires.seat.placed.of_table)
 
 pub returns-clause-booked : goal.returns-clause-booked
 returns-clause-booked g c =
