@@ -1,1 +1,3 @@
 pub mod BookRows
+pub mod CounterLaw
+pub mod Counters

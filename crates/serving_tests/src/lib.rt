@@ -1,7 +1,9 @@
-//! Tests of the crates that serve requests: the journal, the plain desk and the admission book. They
-//! stand above those crates, so that each is proved once.
+//! Tests of the crates that serve requests. They stand above those crates, so that each is proved
+//! once.
 #![tactic(auto)]
 
+#[cfg(test)]
+mod board;
 #[cfg(test)]
 mod books;
 #[cfg(test)]

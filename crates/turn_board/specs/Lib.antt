@@ -1,11 +1,10 @@
 pub mod Maps
 pub mod Hands
 pub mod Tied
+pub mod Changes
 pub mod Steps
 pub mod Passes
 pub mod Moving
 pub mod Openings
 pub mod Closings
 pub mod Boards
-pub mod Counters
-pub mod CounterLaw
