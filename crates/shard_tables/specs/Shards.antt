@@ -7,7 +7,8 @@ use Rattle.session_values.specs.contracts.value.Value as value
 use Rattle.session_values.specs.declared.op.Op.{Op}
 use Rattle.session_values.specs.declared.value.Value.{Value}
 use Rattle.session_values.specs.Values.{value_cmp}
-use Rattle.session_values.specs.Tables.{Container, Bindings, Members, after_on, size_of, is_adding}
+use Rattle.session_values.specs.Kinds.{is_adding}
+use Rattle.session_values.specs.Tables.{Container, Bindings, Members, after_on, size_of}
 use Rattle.place_index.specs.Keys.{AreDifferent}
 use Rattle.place_index.specs.Slots.{IndexView, slot_count, IsIndexOf}
 

@@ -3,7 +3,8 @@
 ghost use Rattle.std.specs.Prelude.{◌≡◌, ◌<◌, ◌≤◌, ◌+◌, IfOk, false, pos, unwrap_or, length, slice_get};
 ghost use Rattle.std.specs.FinMap as map;
 ghost use Rattle.session_values.specs.declared.kind.TableKind.TheVariants.{Map};
-ghost use Rattle.session_values.specs.Tables.{Bindings, reply_on, size_of, home, empty_of};
+ghost use Rattle.session_values.specs.Kinds.{home};
+ghost use Rattle.session_values.specs.Tables.{Bindings, reply_on, size_of, empty_of};
 ghost use Rattle.place_index.specs.Keys.{AreDifferent};
 ghost use Rattle.shard_tables.specs.Shards.{bindings, map_shard, HasRoomFor, shard_after, spare_of};
 

@@ -3,7 +3,8 @@
 ghost use Rattle.std.specs.Prelude.{◌≡◌, ◌<◌, ◌≤◌, ◌+◌, IfOk, false, pos, not, length, slice_get, true};
 ghost use Rattle.std.specs.FinSet as set;
 ghost use Rattle.session_values.specs.declared.kind.TableKind.TheVariants.{Set};
-ghost use Rattle.session_values.specs.Tables.{Members, reply_on, size_of, home, empty_of, bit};
+ghost use Rattle.session_values.specs.Kinds.{home};
+ghost use Rattle.session_values.specs.Tables.{Members, reply_on, size_of, empty_of, bit};
 ghost use Rattle.place_index.specs.Keys.{AreDifferent};
 ghost use Rattle.shard_tables.specs.Shards.{members, set_shard, HasRoomFor, shard_after, spare_of};
 

@@ -3,7 +3,7 @@
 ghost use Rattle.std.specs.Prelude.{◌≡◌, ◌<◌, ◌≤◌, [], ◌∷◌, Some, slice_get};
 ghost use Rattle.session_values.specs.declared.kind.TableKind.TheVariants.{Map, Set};
 ghost use Rattle.session_values.specs.Op.{IsOp};
-ghost use Rattle.session_values.specs.Tables.{home};
+ghost use Rattle.session_values.specs.Kinds.{home};
 
 use place_index::PlaceIndex;
 use plain_tables::PlainTables;
