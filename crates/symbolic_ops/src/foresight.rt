@@ -85,7 +85,7 @@ impl Foresight {
         requires room { length symbols.now ≤ self.old.room }
         ensures { self.new ≡ record { symbols = symbols.now; room = self.old.room } }
     {
-        self.symbols.clear();
+        self.clear();
         // It has the room, so this takes no memory.
         let _copied = self.symbols.extend_from_slice(symbols);
     }

@@ -5,7 +5,7 @@ ghost use Rattle.session_values.specs.declared.kind.TableKind.TheVariants.{Map, 
 ghost use Rattle.session_values.specs.Op.{IsOp};
 ghost use Rattle.session_values.specs.Kinds.{home};
 
-use super::*;
+use plain_tables::PlainTables;
 use session_values::Value::{Nil, Num, Sym};
 use session_values::{Kind, NoMemory, Op, TableKind, Value};
 use std::alloc::Global;

@@ -5,27 +5,15 @@ ghost use Rattle.session_values.specs.declared.kind.TableKind.TheVariants.{Map, 
 ghost use Rattle.session_values.specs.Kinds.{home};
 ghost use Rattle.symbolic_ops.specs.Symbols.{HasNoVar};
 
-use crate::{commute, commute_symbol};
+use crate::kinds::KINDS;
+use commute_tables::{commute, commute_symbol};
 use plain_tables::PlainTables;
 use session_values::{Kind, NoMemory, Op, TableKind, Value};
 use std::alloc::Global;
 use std::test::Fail;
 use symbolic_ops::{Arg, Symbol};
 
-const KINDS: [Kind; 10] = [
-    Kind::Get,
-    Kind::Put,
-    Kind::Swap,
-    Kind::Del,
-    Kind::Size,
-    Kind::Has,
-    Kind::Add,
-    Kind::Mark,
-    Kind::Drop,
-    Kind::Count,
-];
-
-/// An operation on the map 0 or the set 1.
+// An operation on the map 0 or the set 1.
 fn op(kind: Kind, key: i64, value: i64) -> Op
     ensures { slice_get (Map ∷ Set ∷ []) result.table ≡ Some (home result.kind) }
 {
@@ -52,7 +40,7 @@ fn op(kind: Kind, key: i64, value: i64) -> Op
     }
 }
 
-/// The replies of two operations, and what the tables hold after both.
+// The replies of two operations, and what the tables hold after both.
 #[derive(Clone, Copy, PartialEq)]
 struct Outcome {
     first: Value,
@@ -84,7 +72,7 @@ fn done_in_order(alloc: Global, held: Op, a: Op, b: Op) -> Result<Outcome, NoMem
     })
 }
 
-/// Whether both orders give the same after the operation `held`.
+// Whether both orders give the same after the operation `held`.
 fn swap_after(alloc: Global, held: Op, a: Op, b: Op) -> Result<bool, NoMemory>
     requires held { slice_get (Map ∷ Set ∷ []) held.table ≡ Some (home held.kind) }
     requires first { slice_get (Map ∷ Set ∷ []) a.table ≡ Some (home a.kind) }
@@ -100,7 +88,7 @@ fn swap_after(alloc: Global, held: Op, a: Op, b: Op) -> Result<bool, NoMemory>
     )
 }
 
-/// Whether both orders give the same where the key is bound to 0 or to 1, or a member.
+// Whether both orders give the same where the key is bound to 0 or to 1, or a member.
 fn swap_at_key(alloc: Global, key: i64, a: Op, b: Op) -> Result<bool, NoMemory>
     requires first { slice_get (Map ∷ Set ∷ []) a.table ≡ Some (home a.kind) }
     requires second { slice_get (Map ∷ Set ∷ []) b.table ≡ Some (home b.kind) }
@@ -111,7 +99,7 @@ fn swap_at_key(alloc: Global, key: i64, a: Op, b: Op) -> Result<bool, NoMemory>
     Ok(zero && one && member)
 }
 
-/// Whether both orders give the same at the tables that tell of the keys 1 and 2.
+// Whether both orders give the same at the tables that tell of the keys 1 and 2.
 fn swap_everywhere(alloc: Global, a: Op, b: Op) -> Result<bool, NoMemory>
     requires first { slice_get (Map ∷ Set ∷ []) a.table ≡ Some (home a.kind) }
     requires second { slice_get (Map ∷ Set ∷ []) b.table ≡ Some (home b.kind) }
@@ -122,7 +110,7 @@ fn swap_everywhere(alloc: Global, a: Op, b: Op) -> Result<bool, NoMemory>
     Ok(empty && at_one && at_two)
 }
 
-/// The first kind whose operation on this key and value is told wrongly beside `a`.
+// The first kind whose operation on this key and value is told wrongly beside `a`.
 fn wrong_beside(alloc: Global, a: Op, key: i64, value: i64) -> Result<Option<Kind>, NoMemory>
     requires { slice_get (Map ∷ Set ∷ []) a.table ≡ Some (home a.kind) }
 {
@@ -137,7 +125,7 @@ fn wrong_beside(alloc: Global, a: Op, key: i64, value: i64) -> Result<Option<Kin
     Ok(None)
 }
 
-/// The first pair of kinds that is told wrongly.
+// The first pair of kinds that is told wrongly, the second of which has this key and value.
 fn first_wrong(alloc: Global, key: i64, value: i64) -> Result<Option<(Kind, Kind)>, NoMemory> {
     for kind in KINDS {
         if let Some(other) = wrong_beside(alloc, op(kind, 1, 5), key, value)? {
@@ -149,55 +137,65 @@ fn first_wrong(alloc: Global, key: i64, value: i64) -> Result<Option<(Kind, Kind
 
 #[test]
 fn all_pairs_of_kinds_as_the_tables_tell(rt: HostRuntime) -> Result<(), Fail> {
-    assert_eq!(rt; first_wrong(rt.alloc(), 1, 5)?, None);
-    assert_eq!(rt; first_wrong(rt.alloc(), 1, 6)?, None);
-    assert_eq!(rt; first_wrong(rt.alloc(), 2, 5)?, None);
-    assert_eq!(rt; first_wrong(rt.alloc(), 2, 6)?, None);
+    for (key, value) in [(1, 5), (1, 6), (2, 5), (2, 6)] {
+        assert_eq!(rt; first_wrong(rt.alloc(), key, value)?, None, "{key} {value}");
+    }
     Ok(())
 }
 
 #[test]
 fn worked_pairs(rt: HostRuntime) {
-    let rows = [
-        (Kind::Swap, Kind::Swap, false),
-        (Kind::Del, Kind::Del, true),
-        (Kind::Size, Kind::Get, true),
-        (Kind::Size, Kind::Del, false),
-        (Kind::Add, Kind::Add, false),
-        (Kind::Mark, Kind::Mark, true),
-        (Kind::Add, Kind::Mark, false),
-    ];
-    for (a, b, same) in rows {
-        assert_eq!(rt; commute(&op(a, 1, 5), &op(b, 1, 5)), same, "{a:?} {b:?}");
-    }
+    // It names a map, and works on sets: no tables fit it beside an operation on that map.
     let elsewhere = Op {
         kind: Kind::Has,
         table: 0,
         key: Value::Num(1),
         value: Value::Nil,
     };
-    assert_eq!(rt; commute(&op(Kind::Put, 1, 5), &elsewhere), true);
+    let rows = [
+        (Kind::Swap, op(Kind::Swap, 1, 5), false),
+        (Kind::Del, op(Kind::Del, 1, 5), true),
+        (Kind::Size, op(Kind::Get, 1, 5), true),
+        (Kind::Size, op(Kind::Del, 1, 5), false),
+        (Kind::Add, op(Kind::Add, 1, 5), false),
+        (Kind::Mark, op(Kind::Mark, 1, 5), true),
+        (Kind::Add, op(Kind::Mark, 1, 5), false),
+        (Kind::Put, elsewhere, true),
+    ];
+    for (kind, other, wanted) in rows {
+        assert_eq!(rt; commute(&op(kind, 1, 5), &other), wanted, "{kind:?} {other:?}");
+    }
+}
+
+// Whether `put` of 5 at 1, and `get` of 1, commute with each `put` on their map with these
+// arguments.
+fn told_of_puts(key: Arg, value: Arg) -> [bool; 2] {
+    let symbol = Symbol {
+        kind: Kind::Put,
+        table: 0,
+        key,
+        value,
+    };
+    if symbol.has_no_var() {
+        let put = commute_symbol(&op(Kind::Put, 1, 5), &symbol);
+        [put, commute_symbol(&op(Kind::Get, 1, 0), &symbol)]
+    } else {
+        [false, false]
+    }
 }
 
 #[test]
 fn worked_symbols(rt: HostRuntime) {
     let one = Arg::Known(Value::Num(1));
+    let two = Arg::Known(Value::Num(2));
     let five = Arg::Known(Value::Num(5));
     let rows = [
-        (Kind::Put, Arg::Any, five, true),
-        (Kind::Put, one, Arg::Any, false),
-        (Kind::Put, Arg::Any, Arg::Any, false),
+        (Arg::Any, five, [true, false]),
+        (one, Arg::Any, [false, false]),
+        (Arg::Any, Arg::Any, [false, false]),
+        (two, Arg::Any, [true, true]),
     ];
-    for (kind, key, value, same) in rows {
-        let s = Symbol {
-            kind: Kind::Put,
-            table: 0,
-            key,
-            value,
-        };
-        let found = s.has_no_var() && commute_symbol(&op(kind, 1, 5), &s);
-        assert_eq!(rt; found, same, "{key:?} {value:?}");
-        let read = s.has_no_var() && commute_symbol(&op(Kind::Get, 1, 0), &s);
-        assert_eq!(rt; read, false, "get, {key:?} {value:?}");
+    for (key, value, wanted) in rows {
+        assert_eq!(rt; told_of_puts(key, value), wanted, "{key:?} {value:?}");
     }
 }
