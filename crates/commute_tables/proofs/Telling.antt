@@ -214,5 +214,3 @@ Decides-commute a b r e = (λ h. commutes-Commute a b (sym e ∙ h), λ k. e ∙
     go : (c : Bool) → commutes a b ≡ c → Commute a b → commutes a b ≡ true
     go true f k = f
     go false f k = absurd (not_commute a b f k)
-
-pub ruleset commute_exactly = (Decides-commute)
