@@ -3,7 +3,6 @@
 ghost use Rattle.std.specs.Prelude.{◌≡◌, ◌∷◌, [], Some, slice_get};
 ghost use Rattle.session_values.specs.declared.kind.TableKind.TheVariants.{Map, Set};
 ghost use Rattle.session_values.specs.Kinds.{home};
-ghost use Rattle.symbolic_ops.specs.Symbols.{HasNoVar};
 
 use crate::kinds::KINDS;
 use commute_tables::{commute, commute_symbol};
@@ -163,7 +162,11 @@ fn worked_pairs(rt: HostRuntime) {
         (Kind::Put, elsewhere, true),
     ];
     for (kind, other, wanted) in rows {
-        assert_eq!(rt; commute(&op(kind, 1, 5), &other), wanted, "{kind:?} {other:?}");
+        assert_eq!(rt;
+            commute(&op(kind, 1, 5), &other),
+            wanted,
+            "{kind:?} {other:?}"
+        );
     }
 }
 

@@ -42,7 +42,10 @@ fn kinds_are_what_they_are(rt: HostRuntime) {
         (Kind::Add, ("add", 1, [false, true, false, true, false])),
         (Kind::Mark, ("mark", 1, [false, true, false, true, true])),
         (Kind::Drop, ("drop", 1, [false, true, false, false, true])),
-        (Kind::Count, ("count", 0, [false, false, true, false, false])),
+        (
+            Kind::Count,
+            ("count", 0, [false, false, true, false, false]),
+        ),
     ];
     for (kind, wanted) in rows {
         assert_eq!(rt; told(kind), wanted);

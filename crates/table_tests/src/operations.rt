@@ -1,6 +1,6 @@
 // The ten operations, each by its reply and by what the next ones see.
 
-ghost use Rattle.std.specs.Prelude.{◌≡◌, List, [], ◌∷◌, Some, slice_get};
+ghost use Rattle.std.specs.Prelude.{◌≡◌, [], ◌∷◌, Some, slice_get};
 ghost use Rattle.session_values.specs.declared.kind.TableKind.TheVariants.{Map, Set};
 ghost use Rattle.session_values.specs.Op.{IsOp};
 ghost use Rattle.session_values.specs.Kinds.{home};

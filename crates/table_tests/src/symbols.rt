@@ -9,7 +9,9 @@ use symbolic_ops::laws::order_of_args;
 use symbolic_ops::{Arg, Foresight, Symbol, covered, instantiate, matches};
 
 const NIL: Arg = Arg::Known(Value::Nil);
+
 const ONE: Arg = Arg::Known(Value::Num(1));
+
 const FIVE: Arg = Arg::Known(Value::Num(5));
 
 fn get(table: u32, key: Arg) -> Symbol {
