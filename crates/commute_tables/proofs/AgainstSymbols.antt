@@ -228,5 +228,3 @@ Decides-commute_symbol a s r v b g e = (λ h. symbol_commutes a s (sym e ∙ h),
     go : (c : Bool) → commutes_symbol a s ≡ c → CommutesWith a s → commutes_symbol a s ≡ true
     go true f k = f
     go false f k = absurd (not_commute a (near a s) (near_differs a s f) (k.each (near a s) (near_stands a s v b g)))
-
-pub ruleset symbol_exactly = (Decides-commute_symbol)

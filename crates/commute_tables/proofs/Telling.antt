@@ -1,14 +1,13 @@
 -- The states that tell apart the orders of operations that don't commute.
 use Rattle.std.proofs.Common.{◌≡◌, ℕ, zero, suc, ◌<◌, List, [], ◌∷◌, length, Option, Some, None, Bool, true, false, not, ◌&&◌, ◌||◌, eqb, refl, sym, ◌∙◌, ap, subst, arith}
 use Rattle.std.specs.Prelude.{slice_get}
-use mathlib.Core.List.{map as list_map}
 use Rattle.std.proofs.Math.ListN.{set as put_at, replicate}
 use Rattle.std.proofs.lemmas.List.{get_or-set_same, length-set, map-set}
 use Rattle.std.proofs.lemmas.Bool.Decides.{nat_tests}
 use Rattle.session_values.specs.declared.kind.Kind.{Kind}
 use Rattle.session_values.specs.declared.kind.Kind.TheVariants.{Get, Put, Swap, Del, Size, Has, Add, Mark, Drop, Count}
 use Rattle.session_values.specs.declared.kind.TableKind.{TableKind}
-use Rattle.session_values.specs.declared.kind.TableKind.TheVariants.{Map, Set}
+use Rattle.session_values.specs.declared.kind.TableKind.TheVariants.{Map}
 use Rattle.session_values.specs.declared.op.Op.{Op}
 use Rattle.session_values.specs.declared.value.Value.{Value}
 use Rattle.session_values.specs.Values.{value_eq, IsValue}
@@ -214,5 +213,3 @@ Decides-commute a b r e = (λ h. commutes-Commute a b (sym e ∙ h), λ k. e ∙
     go : (c : Bool) → commutes a b ≡ c → Commute a b → commutes a b ≡ true
     go true f k = f
     go false f k = absurd (not_commute a b f k)
-
-pub ruleset commute_exactly = (Decides-commute)

@@ -71,7 +71,6 @@ fn test(a: &Op, s: &Symbol) -> bool
 
 /// Whether the operation commutes with each one that the symbol stands for.
 #[inline(always)]
-#[tactic(auto, using(crate::proofs::AgainstSymbols::symbol_decided, crate::proofs::AgainstSymbols::symbol_exactly))]
 pub fn commute_symbol(a: &Op, s: &Symbol) -> bool
     requires { HasNoVar s.now }
     ensures exact { Decides result (CommutesWith a.now s.now) }

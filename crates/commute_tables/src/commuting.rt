@@ -54,7 +54,6 @@ fn test(a: &Op, b: &Op) -> bool
 /// tables. Operations on containers of different kinds that name one table do, since no tables fit
 /// both.
 #[inline(always)]
-#[tactic(auto, using(crate::proofs::Telling::decided, crate::proofs::Telling::commute_exactly))]
 pub fn commute(a: &Op, b: &Op) -> bool
     ensures exact { Decides result (Commute a.now b.now) }
     // Where they don't, these tables tell, whatever kinds they have.

@@ -4,7 +4,6 @@ use Rattle.std.proofs.Math.ListN.{set}
 use Rattle.std.proofs.lemmas.List.{length-map, map-append, take_more}
 use Rattle.std.proofs.lemmas.Option.{slice_get_within}
 use Rattle.session_values.specs.declared.kind.TableKind.{TableKind}
-use Rattle.session_values.specs.declared.kind.TableKind.TheVariants.{Map, Set}
 use Rattle.session_values.specs.declared.op.Op.{Op}
 use Rattle.session_values.specs.Kinds.{home}
 use Rattle.session_values.specs.Tables.{Container, Bindings, Members, Tables, start, empty_of, table, reply, reply_on, step, after_on, kind_of}

@@ -18,6 +18,7 @@ pub enum Table {
 }
 
 impl Table {
+    /// An empty container of this kind.
     pub fn new(alloc: Global, kind: TableKind) -> Table
         ensures { container_of result ≡ empty_of kind }
     {

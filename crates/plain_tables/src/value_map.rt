@@ -27,6 +27,7 @@ impl Model for ValueMap {
 }
 
 impl ValueMap {
+    /// A map in which no key is bound.
     pub fn new(alloc: Global) -> ValueMap
         ensures { result ≡ map.empty }
     {

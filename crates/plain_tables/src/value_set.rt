@@ -27,6 +27,7 @@ impl Model for ValueSet {
 }
 
 impl ValueSet {
+    /// A set without members.
     pub fn new(alloc: Global) -> ValueSet
         ensures { result ≡ set.empty }
     {
@@ -35,6 +36,7 @@ impl ValueSet {
         }
     }
 
+    /// Whether the key is a member.
     pub fn has(&self, key: Value) -> bool
         ensures { result ≡ set.contains self.now key }
     {

@@ -1,5 +1,5 @@
 -- How many keys operations leave.
-use Rattle.std.proofs.Common.{◌≡◌, ℕ, zero, suc, ◌+◌, ◌-◌, ◌<◌, ◌≤◌, ◌≢◌, List, [], ◌∷◌, length, ◌⊎◌, inl, inr, Bool, true, false, cond, ◌&&◌, eqb, get_or, refl, ◌∙◌, ap, subst, arith}
+use Rattle.std.proofs.Common.{◌≡◌, ℕ, ◌+◌, ◌-◌, ◌<◌, ◌≤◌, ◌≢◌, length, ◌⊎◌, inl, inr, Bool, true, false, cond, ◌&&◌, eqb, get_or, refl, ◌∙◌, ap, subst, arith}
 use Rattle.std.proofs.Math.ListN.{set as put_at}
 use Rattle.std.proofs.lemmas.List.{get_or-set_same, get_or-set_other, set_past}
 use Rattle.std.proofs.lemmas.Bool.Decides.{nat_tests}

@@ -21,10 +21,10 @@ pub fn order_of_values(a: Value, b: Value) -> Ordering
 }
 
 /// Kinds are ordered by their places in the table of kinds.
-pub fn order_of_kinds(a: Kind, b: Kind) -> Ordering
-    ensures written { result ≡ kind_cmp a b }
+pub fn order_of_kinds(kind: Kind, other: Kind) -> Ordering
+    ensures written { result ≡ kind_cmp kind other }
     ensures total { IsTotalOrder kind_cmp }
     ensures exact { IsAntisymmetric kind_cmp }
 {
-    a.cmp(&b)
+    kind.cmp(&other)
 }

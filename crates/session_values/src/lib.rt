@@ -16,6 +16,3 @@ pub use op::Op;
 pub use owned_lists::{Boxed, Listed, NoMemory};
 pub use reply::Reply;
 pub use value::Value;
-
-#[cfg(test)]
-mod tests;

@@ -1,6 +1,6 @@
 // The list of names.
 
-ghost use Rattle.std.specs.Prelude.{◌≡◌, ◌+◌, ◌<◌, ◌≤◌, ◌↔◌, [], IfOk, IfSome, IfNone, IfErr, OnErr, length, Some, slice_get, Contains};
+ghost use Rattle.std.specs.Prelude.{◌≡◌, ◌<◌, [], IfOk, IfSome, IfNone, OnErr, length, Some, slice_get, Contains};
 ghost use Rattle.std.specs.List.{position};
 ghost use Rattle.std.specs.Str.{bytes_eq};
 ghost use Rattle.session_values.specs.Names.{with_text, place_of, AreDistinct};
@@ -20,8 +20,6 @@ pub struct Names {
 
 impl Model for Names {
     ghost use Rattle.std.specs.Prelude.{List, ℕ, length, map, string_bytes, ◌<◌, ◌^◌};
-    ghost use Rattle.std.specs.String.{string_eq};
-    ghost use Rattle.indexmap.specs.IndexSet.{IsUnique};
     ghost use Rattle.session_values.specs.Names.{AreDistinct};
 
     ghost Value = { List (List ℕ) };
@@ -87,6 +85,7 @@ impl Names {
         self.texts.as_slice()[place as usize].as_str()
     }
 
+    /// How many names there are.
     pub fn len(&self) -> u32
         ensures len { result ≡ length self.now }
         ensures distinct { AreDistinct self.now }

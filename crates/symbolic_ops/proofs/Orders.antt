@@ -2,14 +2,14 @@
 use Rattle.std.proofs.Common.{◌≡◌, ℕ, zero, suc, refl, sym, ap, ◌∙◌}
 use Rattle.std.specs.declared.cmp.Ordering.{Ordering}
 use Rattle.std.specs.declared.cmp.Ordering.TheVariants.{Less, Equal, Greater}
-use Rattle.std.specs.Ordering.{nat_cmp, on, then_cmp, ordering_then, ordering_reverse}
+use Rattle.std.specs.Ordering.{nat_cmp, ordering_then, ordering_reverse}
 use Rattle.std.specs.Cmp.{IsTotalOrder}
 use Rattle.std.proofs.lemmas.Cmp.{nat_cmp_total, on_total, then_total}
 use Rattle.std.specs.FinMap.{IsAntisymmetric, nat_cmp-IsAntisymmetric}
 use Rattle.session_values.specs.Kinds.{kind_cmp, kind_place}
 use Rattle.session_values.specs.declared.kind.Kind.{Kind}
 use Rattle.session_values.specs.declared.kind.Kind.TheVariants.{Get, Put, Swap, Del, Size, Has, Add, Mark, Drop, Count}
-use Rattle.session_values.specs.Values.{value_cmp, value_cmp_total, value_cmp-IsAntisymmetric}
+use Rattle.session_values.specs.Values.{value_cmp_total, value_cmp-IsAntisymmetric}
 use Rattle.symbolic_ops.specs.Order.{arg_cmp, symbol_cmp}
 use Rattle.symbolic_ops.specs.declared.arg.Arg.{Arg}
 use Rattle.symbolic_ops.specs.declared.arg.Arg.TheVariants.{Known, Var, Any}

@@ -1,6 +1,5 @@
 // Arguments of symbols.
 
-ghost use Rattle.std.specs.Prelude.{◌≡◌};
 ghost use Rattle.std.specs.Bool.{Decides};
 ghost use Rattle.symbolic_ops.specs.Symbol.{IsHeldArg};
 ghost use Rattle.symbolic_ops.specs.Symbols.{Agrees, ArgBelow, IsNoVar};

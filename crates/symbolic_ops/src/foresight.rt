@@ -41,6 +41,7 @@ impl Foresight {
         Ok(Foresight { symbols, room })
     }
 
+    /// How many symbols it has.
     pub fn len(&self) -> u32
         ensures len { result ≡ length self.now.symbols }
         ensures room { result ≤ self.now.room }
@@ -48,6 +49,7 @@ impl Foresight {
         self.symbols.len() as u32
     }
 
+    /// The symbol at a place, from 0.
     pub fn symbol(&self, i: u32) -> Symbol
         requires { i < length self.now.symbols }
         ensures symbol { slice_get self.now.symbols i ≡ Some result }
@@ -71,6 +73,7 @@ impl Foresight {
         self.symbols.clear();
     }
 
+    /// Appends a symbol, in the room that it has.
     pub fn push(&mut self, s: Symbol)
         requires known { HasNoVar s }
         requires room { length self.old.symbols < self.old.room }
@@ -85,7 +88,7 @@ impl Foresight {
         requires room { length symbols.now ≤ self.old.room }
         ensures { self.new ≡ record { symbols = symbols.now; room = self.old.room } }
     {
-        self.symbols.clear();
+        self.clear();
         // It has the room, so this takes no memory.
         let _copied = self.symbols.extend_from_slice(symbols);
     }

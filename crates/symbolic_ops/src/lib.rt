@@ -7,8 +7,6 @@ mod foresight;
 mod instantiating;
 pub mod laws;
 mod symbol;
-#[cfg(test)]
-mod tests;
 
 pub use arg::Arg;
 pub use covering::covered;

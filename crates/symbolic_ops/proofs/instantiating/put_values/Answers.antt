@@ -1,4 +1,4 @@
-use Rattle.std.proofs.Common.{◌≡◌, ◌<◌, length, ap, sym, ◌∙◌, rules}
+use Rattle.std.proofs.Common.{◌<◌, length, ap, sym, ◌∙◌, rules}
 use Rattle.symbolic_ops.specs.Instantiate.{symbol_in}
 use Rattle.symbolic_ops.specs.Symbols.{HasNoVar}
 use Rattle.symbolic_ops.proofs.PutValues.{values_put, known_put}
