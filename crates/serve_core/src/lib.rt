@@ -10,8 +10,8 @@ mod laws;
 mod loading;
 mod machine;
 mod message;
+mod replies;
 mod resolve;
-mod responding;
 mod serving;
 mod status;
 mod top;
@@ -20,9 +20,6 @@ mod writing;
 
 pub use byte_ends::{Got, MemorySink, MemorySource, Put, Sink, Source, SureSink, SureSource};
 pub use handler_syntax::{SyntaxRefusal, TokenKind};
-pub use laws::{all_answered, one_answer};
+pub use laws::{all_answered, one_answer, some_answer};
 pub use status::{Fault, Status};
-pub use top::{describe, run};
-
-#[cfg(test)]
-mod tests;
+pub use top::{describe, run, tell};

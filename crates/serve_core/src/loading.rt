@@ -1,4 +1,4 @@
-// Loading: from the two parts of a session file to what can be served.
+// Reading a session: from the two parts of a session file to what can be served.
 
 ghost use Rattle.std.specs.Prelude.{◌≡◌, ◌≢◌, ◌⊎◌, ◌+◌, ◌<◌, ◌≤◌, ◌^◌, [], length, vec_len, IfOk, IfErr, OnOk, OnErr, MatchResult};
 ghost use Rattle.handler_tokens.specs.Words.{words_of, names_of};
@@ -38,7 +38,7 @@ pub(crate) struct Loaded {
 }
 
 /// The session of a handlers' part and a requests' part, whose first line has the number `first`.
-pub(crate) fn load(
+pub(crate) fn read_session(
     alloc: Global,
     handlers: &str,
     requests: &str,
@@ -51,7 +51,7 @@ pub(crate) fn load(
     ensures refused { IfErr result (λ e. spec.IsReason (record { handlers = handlers.now; requests = requests.now; first = first }) e) }
 {
     let mut names = Names::new(alloc)?;
-    let program = load_program(alloc, handlers, &mut names)?;
+    let program = read_program(alloc, handlers, &mut names)?;
     let found = read_requests(alloc, &program.heads, requests, first, &mut names);
     match found {
         Ok(requests) => Ok(Loaded {
@@ -91,7 +91,8 @@ pub(crate) fn read_file(alloc: Global, text: &str, names: &mut Names) -> Result<
     }
 }
 
-fn load_program(alloc: Global, text: &str, names: &mut Names) -> Result<Program, Unserved>
+/// The handlers of a session file, by the text of them.
+fn read_program(alloc: Global, text: &str, names: &mut Names) -> Result<Program, Unserved>
     requires short { length text.now ≤ 4194304 }
     requires room { length names.old ≤ 4000000000 }
     ensures program { IfOk result (λ p. spec.IsProgram names.old text.now names.new p) }

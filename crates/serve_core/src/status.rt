@@ -1,5 +1,7 @@
 // How a run ends.
 
+ghost use Rattle.std.specs.Prelude.{◌≡◌};
+
 use handler_syntax::SyntaxRefusal;
 
 /// Why an input is refused.
@@ -33,4 +35,23 @@ pub enum Status {
     ReadFault,
     /// The sink failed; what was written is a front of the text.
     WriteFault,
+}
+
+impl Status {
+    ghost use Rattle.serve_core.specs.ExitStatus.{exit_status};
+
+    /// The program's exit status: 0 fine, 1 refused, 2 usage, 3 no memory, 4 read fault, 5 write
+    /// fault.
+    pub fn number(&self) -> u8
+        ensures { result ≡ exit_status self.now }
+    {
+        match self {
+            Status::Fine => 0,
+            Status::Refused(_) => 1,
+            Status::Usage => 2,
+            Status::NoMemory => 3,
+            Status::ReadFault => 4,
+            Status::WriteFault => 5,
+        }
+    }
 }
