@@ -31,11 +31,16 @@ pub fn read_all<I: Source>(alloc: Global, source: &mut I) -> Result<Vec<u8>, Unr
     ensures bound { IfOk result (λ bytes. vec_len bytes ≤ 4194304) }
     ensures end { OnOk result (IsAtEnd (I.left source.old) (I.left source.new)) }
     // There are more than the bound. The first ones up to the bound and one more are gone.
-    ensures large { IsErrOf result Unread.TooLarge → IfSome (I.left source.old) (λ all. 4194304 < length all) }
-    ensures gone { IsErrOf result Unread.TooLarge → LostFirst (I.left source.old) (I.left source.new) 4194305 }
-    ensures failed { IsErrOf result Unread.Failed → Rose (I.faults source.old) (I.faults source.new) }
-    // What was read is gone, and no more: after a fault no more than the bound, and never more than one byte above it.
-    ensures broken { IsErrOf result Unread.Failed → LostAtMost (I.left source.old) (I.left source.new) 4194304 }
+    ensures large { IsErrOf result Unread.TooLarge
+        → IfSome (I.left source.old) (λ all. 4194304 < length all) }
+    ensures gone { IsErrOf result Unread.TooLarge
+        → LostFirst (I.left source.old) (I.left source.new) 4194305 }
+    ensures failed { IsErrOf result Unread.Failed
+        → Rose (I.faults source.old) (I.faults source.new) }
+    // What was read is gone, and no more: at a fault no more than the bound, and never more than
+    // one byte above it.
+    ensures broken { IsErrOf result Unread.Failed
+        → LostAtMost (I.left source.old) (I.left source.new) 4194304 }
     ensures lost { LostAtMost (I.left source.old) (I.left source.new) 4194305 }
     ensures later { I.faults source.old ≤ I.faults source.new }
 {

@@ -3,6 +3,8 @@
 
 mod input;
 mod output;
+#[cfg(test)]
+mod tests;
 mod tries;
 mod words;
 

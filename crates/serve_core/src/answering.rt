@@ -18,7 +18,8 @@ pub(crate) fn answer<I: Source, O: Sink>(
     out: &mut O,
 ) -> Status
     ensures { Runs (Some command)
-        (change I.left I.faults source.old source.new) (change O.held O.faults out.old out.new) result }
+        (change I.left I.faults source.old source.new)
+        (change O.held O.faults out.old out.new) result }
 {
     let bytes = match read_all(alloc, source) {
         Ok(bytes) => bytes,
@@ -34,7 +35,8 @@ fn write_answer<O: Sink>(alloc: Global, command: Command, bytes: &[u8], out: &mu
     requires { length bytes.now ≤ 4194304 }
     ensures usage { result ≢ Status.Usage }
     ensures read_fault { result ≢ Status.ReadFault }
-    ensures answered { Answered (Some command) bytes.now (change O.held O.faults out.old out.new) result }
+    ensures answered { Answered (Some command) bytes.now
+        (change O.held O.faults out.old out.new) result }
     ensures written { Written (change O.held O.faults out.old out.new) result }
 {
     match command {

@@ -20,7 +20,8 @@ pub(crate) fn write_canonical<O: Sink>(alloc: Global, bytes: &[u8], out: &mut O)
     requires { length bytes.now ≤ 4194304 }
     ensures usage { result ≢ Status.Usage }
     ensures read_fault { result ≢ Status.ReadFault }
-    ensures answered { Answered (Some Check) bytes.now (change O.held O.faults out.old out.new) result }
+    ensures answered { Answered (Some Check) bytes.now
+        (change O.held O.faults out.old out.new) result }
     ensures written { Written (change O.held O.faults out.old out.new) result }
 {
     let text = match canonical_text(alloc, bytes) {
@@ -39,7 +40,8 @@ pub(crate) fn write_canonical<O: Sink>(alloc: Global, bytes: &[u8], out: &mut O)
 fn canonical_text(alloc: Global, bytes: &[u8]) -> Result<String, Unserved>
     requires { length bytes.now ≤ 4194304 }
     ensures checked { IfOk result (λ text. IsChecked bytes.now (string_bytes text)) }
-    ensures refused { (fault : Fault) → result ≡ Err (Unserved.Refused fault) → IsRefused Check bytes.now fault }
+    ensures refused { (fault : Fault) → result ≡ Err (Unserved.Refused fault)
+        → IsRefused Check bytes.now fault }
 {
     let Ok(text) = std::str::from_utf8(bytes) else {
         return Err(Unserved::Refused(Fault::NotText));

@@ -14,6 +14,7 @@ mod replies;
 mod resolve;
 mod serving;
 mod status;
+mod syntax_fault;
 mod top;
 mod unserved;
 mod writing;
@@ -22,4 +23,5 @@ pub use byte_ends::{Got, MemorySink, MemorySource, Put, Sink, Source, SureSink, 
 pub use handler_syntax::{SyntaxRefusal, TokenKind};
 pub use laws::{all_answered, one_answer, some_answer};
 pub use status::{Fault, Status};
+pub use syntax_fault::SyntaxFault;
 pub use top::{describe, run, tell};

@@ -11,6 +11,7 @@ ghost use Rattle.serve_core.specs.Loaded as spec;
 use crate::checked::CheckedHandler;
 use crate::resolve::resolve;
 use crate::status::Fault;
+use crate::syntax_fault::SyntaxFault;
 use crate::unserved::Unserved;
 use handler_syntax::{File, Handlers, SyntaxRefusal, parse};
 use handler_trees::File as Tree;
@@ -47,8 +48,10 @@ pub(crate) fn read_session(
     requires handlers { length handlers.now ≤ 4194304 }
     requires requests { length requests.now ≤ 4194304 }
     requires first { first ≤ 4194306 }
-    ensures loaded { IfOk result (λ l. spec.IsLoaded (record { handlers = handlers.now; requests = requests.now; first = first }) l) }
-    ensures refused { IfErr result (λ e. spec.IsReason (record { handlers = handlers.now; requests = requests.now; first = first }) e) }
+    ensures loaded { IfOk result (λ l. spec.IsLoaded
+        (record { handlers = handlers.now; requests = requests.now; first = first }) l) }
+    ensures refused { IfErr result (λ e. spec.IsReason
+        (record { handlers = handlers.now; requests = requests.now; first = first }) e) }
 {
     let mut names = Names::new(alloc)?;
     let program = read_program(alloc, handlers, &mut names)?;
@@ -66,7 +69,8 @@ pub(crate) fn read_session(
 
 /// Why nothing is served where requests are refused.
 fn refused_by(e: RequestRefusal) -> Unserved
-    ensures { (result ≡ Unserved.NoMemory) ⊎ ((result ≡ Unserved.Refused Fault.NotBuilt) × (e ≢ RequestRefusal.NoMemory)) }
+    ensures { (result ≡ Unserved.NoMemory)
+        ⊎ ((result ≡ Unserved.Refused Fault.NotBuilt) × (e ≢ RequestRefusal.NoMemory)) }
 {
     match e {
         RequestRefusal::NoMemory => Unserved::NoMemory,
@@ -87,7 +91,7 @@ pub(crate) fn read_file(alloc: Global, text: &str, names: &mut Names) -> Result<
     match parse(alloc, text, names) {
         Ok(file) => Ok(file),
         Err(SyntaxRefusal::NoMemory) => Err(Unserved::NoMemory),
-        Err(e) => Err(Unserved::Refused(Fault::Syntax(e))),
+        Err(e) => Err(Unserved::Refused(Fault::Syntax(SyntaxFault::new(e)))),
     }
 }
 

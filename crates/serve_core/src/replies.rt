@@ -23,7 +23,8 @@ pub(crate) fn write_replies<O: Sink>(alloc: Global, bytes: &[u8], out: &mut O) -
     requires { length bytes.now ≤ 4194304 }
     ensures usage { result ≢ Status.Usage }
     ensures read_fault { result ≢ Status.ReadFault }
-    ensures answered { Answered (Some Serve) bytes.now (change O.held O.faults out.old out.new) result }
+    ensures answered { Answered (Some Serve) bytes.now
+        (change O.held O.faults out.old out.new) result }
     ensures written { Written (change O.held O.faults out.old out.new) result }
 {
     let found = match replies_of(alloc, bytes) {
@@ -51,7 +52,8 @@ fn replies_of(alloc: Global, bytes: &[u8]) -> Result<Replies, Unserved>
     ensures served { IfOk result (λ r. IsServed bytes.now (reply_text r.names 0 r.replies.items)) }
     ensures printable { IfOk result (λ r. ArePrintableReplies r.names r.replies.items) }
     ensures few { IfOk result (λ r. vec_len r.replies ≤ 20000) }
-    ensures refused { (fault : Fault) → result ≡ Err (Unserved.Refused fault) → IsRefused Serve bytes.now fault }
+    ensures refused { (fault : Fault) → result ≡ Err (Unserved.Refused fault)
+        → IsRefused Serve bytes.now fault }
 {
     let Ok(text) = std::str::from_utf8(bytes) else {
         return Err(Unserved::Refused(Fault::NotText));

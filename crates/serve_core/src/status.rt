@@ -2,7 +2,7 @@
 
 ghost use Rattle.std.specs.Prelude.{◌≡◌};
 
-use handler_syntax::SyntaxRefusal;
+use crate::syntax_fault::SyntaxFault;
 
 /// Why an input is refused.
 #[derive(Debug, Drop)]
@@ -15,9 +15,8 @@ pub enum Fault {
     NoRequests,
     /// It has a dividing line, and is to be a file of handlers alone.
     HasRequests,
-    /// The text of the handlers is no file of the grammar within its limits. This is never want of
-    /// memory.
-    Syntax(SyntaxRefusal),
+    /// The text of the handlers is no file of the grammar within its limits.
+    Syntax(SyntaxFault),
     /// A part of it can't be served yet, or breaks a rule of names or of requests.
     NotBuilt,
 }

@@ -25,7 +25,8 @@ pub fn run<I: Source, O: Sink, E: Sink>(
     err: &mut E,
 ) -> Status
     ensures runs { Runs (commands.command_of (map string_bytes words.now.items))
-        (change I.left I.faults source.old source.new) (change O.held O.faults out.old out.new) result }
+        (change I.left I.faults source.old source.new)
+        (change O.held O.faults out.old out.new) result }
     ensures tells { Tells (change E.held E.faults err.old err.new) result }
 {
     match command_of(words) {
@@ -50,7 +51,8 @@ pub fn describe<I: Source, O: Sink, E: Sink>(
 ) -> Status
     requires { shown ≡ false }
     ensures runs { Runs (Some Check)
-        (change I.left I.faults source.old source.new) (change O.held O.faults out.old out.new) result }
+        (change I.left I.faults source.old source.new)
+        (change O.held O.faults out.old out.new) result }
     ensures tells { Tells (change E.held E.faults err.old err.new) result }
 {
     run_command(alloc, Command::Check, source, out, err)
@@ -65,7 +67,8 @@ fn run_command<I: Source, O: Sink, E: Sink>(
     err: &mut E,
 ) -> Status
     ensures runs { Runs (Some command)
-        (change I.left I.faults source.old source.new) (change O.held O.faults out.old out.new) result }
+        (change I.left I.faults source.old source.new)
+        (change O.held O.faults out.old out.new) result }
     ensures tells { Tells (change E.held E.faults err.old err.new) result }
 {
     let status = answer(alloc, command, source, out);

@@ -47,7 +47,11 @@ pub(crate) fn ends_so(
 }
 
 // The handlers' part, the dividing line, and some request lines.
-pub(crate) fn session(alloc: Global, handlers: &str, requests: &str) -> Result<Vec<u8>, AllocError> {
+pub(crate) fn session(
+    alloc: Global,
+    handlers: &str,
+    requests: &str,
+) -> Result<Vec<u8>, AllocError> {
     let text = format!(in alloc; "{handlers}%%\n{requests}")?;
     Ok(text.into_bytes())
 }

@@ -160,9 +160,17 @@ fn reads_most(
     for _ in 0..20000 {
         text.push_str("nop\n")?;
     }
-    let most = if text.len() <= 1000000 { count(alloc, text.as_str())? } else { Ok(0) };
+    let most = if text.len() <= 1000000 {
+        count(alloc, text.as_str())?
+    } else {
+        Ok(0)
+    };
     text.push_str("enter alice")?;
-    let more = if text.len() <= 1000000 { count(alloc, text.as_str())? } else { Ok(0) };
+    let more = if text.len() <= 1000000 {
+        count(alloc, text.as_str())?
+    } else {
+        Ok(0)
+    };
     Ok((most, more))
 }
 

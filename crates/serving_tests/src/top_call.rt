@@ -176,7 +176,14 @@ fn inputs_that_are_refused(rt: HostRuntime) -> Result<(), Fail> {
 fn bytes_that_are_no_text(rt: HostRuntime) -> Result<(), Fail> {
     let alloc = rt.alloc();
     for command in ["check", "serve"] {
-        let is_refused = ends_so(alloc, command, vec![in alloc; 255u8]?, 1, b"", "refused T4\n")?;
+        let is_refused = ends_so(
+            alloc,
+            command,
+            vec![in alloc; 255u8]?,
+            1,
+            b"",
+            "refused T4\n",
+        )?;
         assert!(rt; is_refused, "{command:?}");
     }
     Ok(())
@@ -245,9 +252,11 @@ fn fails_so(
         (Vec::new(alloc), vec![in alloc; 1u32]?)
     };
     let ran = run_on(alloc, command, input, first, second)?;
-    Ok(ran.status == status
-        && ran.out.as_slice() == out.as_bytes()
-        && ran.err.as_slice() == err.as_bytes())
+    Ok(
+        ran.status == status
+            && ran.out.as_slice() == out.as_bytes()
+            && ran.err.as_slice() == err.as_bytes(),
+    )
 }
 
 #[test]
@@ -281,9 +290,11 @@ fn is_usage(alloc: Global, first: &str, second: &str) -> Result<bool, Fail> {
     let mut out = MemorySink::with_room(alloc, 100, 100, Vec::new(alloc))?;
     let mut err = MemorySink::with_room(alloc, 100, 100, Vec::new(alloc))?;
     let status = run(alloc, &words, &mut source, &mut out, &mut err);
-    Ok(status.number() == 2
-        && out.bytes().is_empty()
-        && err.bytes() == b"usage: foresight check | serve\n".as_slice())
+    Ok(
+        status.number() == 2
+            && out.bytes().is_empty()
+            && err.bytes() == b"usage: foresight check | serve\n".as_slice(),
+    )
 }
 
 #[test]
