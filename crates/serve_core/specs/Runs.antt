@@ -54,13 +54,17 @@ has_read_all status.WriteFault = true
 -- ---- what is promised
 
 -- what an input is answered with, and what of the answer was written
-pub record Answered {O : Type 0} (command : Option Command) (bytes : List ℕ) (out : Change O) (s : Status) : Type 0 where
+pub record Answered {O : Type 0} (command : Option Command) (bytes : List ℕ) (out : Change O)
+    (s : Status) : Type 0 where
   -- Where a run ends well, the command's text was written.
-  pub fine : s ≡ status.Fine → (text : List ℕ) × CommandAnswers command bytes (answer.Text text) × Took out text
+  pub fine : s ≡ status.Fine
+      → (text : List ℕ) × CommandAnswers command bytes (answer.Text text) × Took out text
   -- A refusal is the first broken rule.
-  pub refused : (fault : Fault) → s ≡ status.Refused fault → CommandAnswers command bytes (answer.Refused fault)
+  pub refused : (fault : Fault) → s ≡ status.Refused fault
+      → CommandAnswers command bytes (answer.Refused fault)
   -- What was written before the sink failed is a front of the text.
-  pub front : s ≡ status.WriteFault → (text : List ℕ) × CommandAnswers command bytes (answer.Text text) × TookFront out text
+  pub front : s ≡ status.WriteFault
+      → (text : List ℕ) × CommandAnswers command bytes (answer.Text text) × TookFront out text
 
 -- what becomes of the output
 pub record Written {O : Type 0} (out : Change O) (s : Status) : Type 0 where
@@ -70,19 +74,23 @@ pub record Written {O : Type 0} (out : Change O) (s : Status) : Type 0 where
 
 -- no rule is broken
 abbrev pub IsUnrefused : Option Command → List ℕ → Type 0
-IsUnrefused command bytes = (fault : Fault) → CommandAnswers command bytes (answer.Refused fault) → ⊥
+IsUnrefused command bytes =
+    (fault : Fault) → CommandAnswers command bytes (answer.Refused fault) → ⊥
 
 -- A run of a command, or of no command where the words are none.
-pub record Runs {I O : Type 0} (command : Option Command) (source : Change I) (out : Change O) (s : Status) : Type 0 where
+pub record Runs {I O : Type 0} (command : Option Command) (source : Change I) (out : Change O)
+    (s : Status) : Type 0 where
   -- Usage comes exactly where the words are no command line, and then nothing is read.
   pub usage : (s ≡ status.Usage) ↔ (is_some command ≡ false)
   pub unread : s ≡ status.Usage → IsUntouched source
   -- The text, the refusal, or a front of the text: its clauses are `fine`, `refused` and `front`.
   pub answered : Told source (λ bytes. Answered command bytes out s)
   -- The first broken rule is refused, unless a read fails or memory runs out.
-  pub refusing : Told source (λ bytes. (fault : Fault) → CommandAnswers command bytes (answer.Refused fault)
+  pub refusing : Told source (λ bytes. (fault : Fault)
+      → CommandAnswers command bytes (answer.Refused fault)
       → (Failed source → ⊥) → (s ≡ status.Refused fault) ⊎ (s ≡ status.NoMemory))
-  -- Where no rule is broken, and neither the source nor the sink fails, a command ends well or wants memory.
+  -- Where no rule is broken, and neither the source nor the sink fails, a command ends well or
+  -- wants memory.
   pub complete : is_some command ≡ true → Told source (λ bytes. IsUnrefused command bytes
       → (Failed source → ⊥) → (Failed out → ⊥) → (s ≡ status.Fine) ⊎ (s ≡ status.NoMemory))
   pub read_fault : s ≡ status.ReadFault → Failed source
@@ -90,7 +98,8 @@ pub record Runs {I O : Type 0} (command : Option Command) (source : Change I) (o
   pub written : Written out s
   -- The source was read to its end, or up to the first byte that is too many; never further.
   pub end : has_read_all s ≡ true → IsAtEnd (source.bytes source.old) (source.bytes source.new)
-  pub gone : s ≡ status.Refused TooLarge → LostFirst (source.bytes source.old) (source.bytes source.new) (max_input + 1)
+  pub gone : s ≡ status.Refused TooLarge
+      → LostFirst (source.bytes source.old) (source.bytes source.new) (max_input + 1)
   pub lost : LostAtMost (source.bytes source.old) (source.bytes source.new) (max_input + 1)
 
 -- The line on the error output is the status's, or a front of it where that output failed.
