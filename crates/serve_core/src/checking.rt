@@ -7,12 +7,12 @@ ghost use Rattle.serve_core.specs.declared.command.Command.TheVariants.{Check};
 ghost use Rattle.serve_core.specs.declared.status.Fault.{Fault};
 
 use crate::loading::read_file;
+use crate::naming::names_of_input;
 use crate::status::{Fault, Status};
 use crate::unserved::Unserved;
 use byte_ends::{Sink, write_all};
 use handler_syntax::print;
 use request_files::divide;
-use session_values::Names;
 use std::alloc::Global;
 
 /// Writes the canonical text of a file of handlers.
@@ -49,7 +49,7 @@ fn canonical_text(alloc: Global, bytes: &[u8]) -> Result<String, Unserved>
     if divide(text).is_some() {
         return Err(Unserved::Refused(Fault::HasRequests));
     }
-    let mut names = Names::new(alloc)?;
+    let mut names = names_of_input(alloc, text, "");
     let file = read_file(alloc, text, &mut names)?;
     Ok(print(alloc, &file, &names)?)
 }

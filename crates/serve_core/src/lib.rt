@@ -10,6 +10,7 @@ mod laws;
 mod loading;
 mod machine;
 mod message;
+mod naming;
 mod replies;
 mod resolve;
 mod serving;

@@ -9,6 +9,7 @@ ghost use Rattle.serve_core.specs.Checked.{shape_of as shape_spec};
 ghost use Rattle.serve_core.specs.Loaded as spec;
 
 use crate::checked::CheckedHandler;
+use crate::naming::names_of_input;
 use crate::resolve::resolve;
 use crate::status::Fault;
 use crate::syntax_fault::SyntaxFault;
@@ -53,7 +54,7 @@ pub(crate) fn read_session(
     ensures refused { IfErr result (λ e. spec.IsReason
         (record { handlers = handlers.now; requests = requests.now; first = first }) e) }
 {
-    let mut names = Names::new(alloc)?;
+    let mut names = names_of_input(alloc, handlers, requests);
     let program = read_program(alloc, handlers, &mut names)?;
     let found = read_requests(alloc, &program.heads, requests, first, &mut names);
     match found {
