@@ -50,7 +50,7 @@ module _ {V C : Type 0} (content : V → C) (homes : List (maybe.Option (Option 
   InPlace t Away = Unit {0}
   InPlace t (Lies c) = Lying t c
 
--- no change is later than the present one, and that one left the contents
+-- a view's change is none later than the last one, and where it is the last one it left the contents
 abbrev pub Left : {C : Type 0} → ℕ → List C → View C → Type 0
 Left now contents v = (v.change.0 ≤ now) × (v.change.0 ≡ now → v.change.1 ≡ contents)
 
@@ -64,7 +64,7 @@ module _ {V C : Type 0} (content : V → C) (crew : ℕ) (owner seat_of : ℕ �
     pub spoken : (i k : ℕ) (c : C) → get_elem? v.speaks i ≡ some (k, c) → (v.crew ≡ crew) × (k < crew) × (seat_of k ≡ j) × (slice_get notes k ≡ Some c)
     pub held : (t : ℕ) (c : C) → counted v t ≡ Some c → (t < length s.homes) × (slice_get contents t ≡ Some c) × InPlace content s.homes t (place v t) × ((k : ℕ) × (owner t ≡ suc k) × (seat_of k ≡ j))
 
--- the seat of the caller k speaks for it
+-- a view speaks for the caller k, that of its seat: with its note, as `spoken` says
 abbrev pub Heard : {C : Type 0} → (ℕ → ℕ) → List (View C) → ℕ → Type 0
 Heard {C} seat_of views k = (v : View C) × (i : ℕ) × (c : C) × (get_elem? views (seat_of k) ≡ some v) × (get_elem? v.speaks i ≡ some (k, c))
 

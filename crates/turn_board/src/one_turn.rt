@@ -1,5 +1,5 @@
 // Taking one turn, and giving one back.
-ghost use Rattle.std.specs.Prelude.{◌≡◌, ℕ, ◌+◌, ◌<◌, Some, None};
+ghost use Rattle.std.specs.Prelude.{◌≡◌, ◌<◌, Some, None};
 
 use crate::board::{Board, MASK};
 use crate::hands::Hands;

@@ -1,5 +1,5 @@
 // Opening a board.
-ghost use Rattle.std.specs.Prelude.{◌≡◌, ◌+◌, ◌<◌, ◌≤◌, ◌-◌, [], IfOk, map, Some, vec_len, vec_capacity};
+ghost use Rattle.std.specs.Prelude.{◌≡◌, ◌<◌, ◌≤◌, ◌-◌, [], IfOk, map, Some, vec_len, vec_capacity};
 
 use crate::board::{Board, Spare, WORDS};
 use crate::lists::Seats;
@@ -14,7 +14,7 @@ use std::snapshot::Snapshot;
 use std::sync::Mutex;
 
 impl<V, R: TieRule<V>> Board<V, R> {
-    ghost use Rattle.std.specs.Prelude.{ℕ, suc, ◌∷◌, ◌++◌, length, slice_get};
+    ghost use Rattle.std.specs.Prelude.{ℕ, suc, ◌∷◌, length, slice_get};
     ghost use Rattle.turn_board.specs.declared.seat.Seat.{Seat as SeatOf};
     ghost use Rattle.turn_board.specs.Tied.{all_speak};
     ghost use Rattle.turn_board.specs.Openings.{IdleFirst, Unlost, Fresh};

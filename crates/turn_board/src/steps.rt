@@ -1,5 +1,5 @@
 // How a value leaves its slot, how it gets there, and the step that gives the book back.
-ghost use Rattle.std.specs.Prelude.{◌≡◌, ℕ, ◌<◌, Some, [], ◌∷◌};
+ghost use Rattle.std.specs.Prelude.{◌≡◌, ℕ, ◌<◌, Some, []};
 
 use crate::board::{Board, MASK};
 use crate::hands::Hands;

@@ -1,6 +1,6 @@
 // Taking a set of turns in one step, and giving the book back with all other turns in one.
-ghost use Rattle.std.specs.Prelude.{◌≡◌, ◌≢◌, ℕ, ◌+◌, ◌<◌, ◌≤◌, [], Some, None, length};
-ghost use Rattle.std.specs.Int.{bit_at, bit_not, w64};
+ghost use Rattle.std.specs.Prelude.{◌≡◌, ℕ, ◌+◌, ◌<◌, ◌≤◌, [], Some, length};
+ghost use Rattle.std.specs.Int.{bit_at};
 
 use crate::board::{Board, MASK};
 use crate::hands::Hands;
