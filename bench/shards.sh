@@ -39,8 +39,9 @@ END {
     split(at, head, " "); split(line[at], t, " ")
     printf "%-24s %6d keys: put %.1f get %.1f absent %.1f del %.1f ns, mean %.1f\n", head[1], head[2], t[1] / 10, t[2] / 10, t[3] / 10, t[4] / 10, best[at] / 10
     if (head[1] == "one_start_slot") continue
+    if (!(head[2] in low)) sizes[m++] = head[2]
     if (!(head[2] in low) || best[at] < low[head[2]]) low[head[2]] = best[at]
     if (best[at] > high[head[2]]) high[head[2]] = best[at]
   }
-  for (count in low) printf "%d keys: the worst mean is %.1f times the best\n", count, high[count] / low[count]
+  for (i = 0; i < m; i++) printf "%d keys: the worst mean is %.1f times the best\n", sizes[i], high[sizes[i]] / low[sizes[i]]
 }'

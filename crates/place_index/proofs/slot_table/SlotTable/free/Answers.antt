@@ -3,7 +3,7 @@ use Rattle.session_values.specs.declared.value.Value.{Value}
 use Rattle.session_values.specs.declared.value.Value.TheVariants.{Nil}
 use Rattle.std.proofs.Math.ListN.{set}
 use Rattle.std.specs.List.{swap_remove}
-use Rattle.std.proofs.lemmas.List.{length-map, get_or-map, get_or_read}
+use Rattle.std.proofs.lemmas.List.{length-map, get_or_read}
 use Rattle.place_index.specs.declared.slot_table.SlotTable.{SlotTable}
 use Rattle.place_index.specs.Slots.{start_of, distance, after, start_in, IsIndex}
 use Rattle.place_index.proofs.Distances.{distance-after}

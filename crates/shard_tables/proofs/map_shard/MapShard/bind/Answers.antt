@@ -1,4 +1,4 @@
-use Rattle.std.proofs.Common.{◌≡◌, ◌^◌, ℕ, sym, ap, ◌∙◌, subst, arith, length, get_or, List, [], ◌∷◌, ◌++◌, Option, is_some, unwrap_or, position, length-append}
+use Rattle.std.proofs.Common.{◌≡◌, ℕ, sym, ap, ◌∙◌, subst, arith, length, get_or, List, [], ◌∷◌, ◌++◌, Option, is_some, unwrap_or, position, length-append}
 use Rattle.std.proofs.Math.ListN.{set}
 use Rattle.std.proofs.lemmas.List.{length-set}
 use Rattle.std.specs.Prelude.{map as map_list}

@@ -1,4 +1,4 @@
-use Rattle.std.proofs.Common.{◌≡◌, ◌^◌, ◌-◌, length, ℕ, sym, ap, ◌∙◌, subst, arith, get_or, List, position}
+use Rattle.std.proofs.Common.{ℕ, sym, ap, ◌∙◌, subst, arith, get_or, List, position}
 use Rattle.std.specs.Prelude.{map as map_list}
 use Rattle.std.specs.List.{swap_remove}
 use Rattle.std.specs.FinMap as map
@@ -9,7 +9,7 @@ use Rattle.session_values.specs.Values.{value_cmp}
 use Rattle.place_index.specs.Slots.{IsIndexOf}
 use Rattle.place_index.proofs.Lists.{keys_out}
 use Rattle.place_index.specs.Keys.{is_under, AreDifferent}
-use Rattle.shard_tables.specs.Shards.{MapView, ShardView, map_shard, bindings}
+use Rattle.shard_tables.specs.Shards.{MapView, ShardView, bindings}
 use Rattle.place_index.proofs.Values.{same_value}
 use Rattle.place_index.proofs.Places.{place_within, no_place}
 use Rattle.place_index.proofs.Different.{taken_out}

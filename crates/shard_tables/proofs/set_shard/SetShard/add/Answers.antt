@@ -1,14 +1,13 @@
-use Rattle.std.proofs.Common.{◌≡◌, ◌^◌, ℕ, sym, ap, ◌∙◌, subst, arith, length, List, [], ◌∷◌, ◌++◌, Option, is_some, not, position, length-append}
-use Rattle.std.proofs.lemmas.List.{length-map}
+use Rattle.std.proofs.Common.{◌≡◌, ℕ, sym, ap, ◌∙◌, subst, arith, length, List, [], ◌∷◌, ◌++◌, Option, is_some, not, position, length-append}
 use Rattle.std.specs.Prelude.{map as map_list}
 use Rattle.std.specs.FinSet as set
 use Rattle.session_values.specs.declared.value.Value.{Value}
 use Rattle.session_values.specs.Tables.{Members}
 use Rattle.session_values.specs.Values.{value_cmp}
-use Rattle.place_index.specs.Slots.{IndexView, IsIndexOf}
+use Rattle.place_index.specs.Slots.{IsIndexOf}
 use Rattle.place_index.proofs.Lists.{index_pushed}
 use Rattle.place_index.specs.Keys.{is_under, AreDifferent}
-use Rattle.shard_tables.specs.Shards.{SetView, ShardView, set_shard, members}
+use Rattle.shard_tables.specs.Shards.{SetView, ShardView, members}
 use Rattle.place_index.proofs.Places.{is_some-position, no_place}
 use Rattle.place_index.proofs.Different.{different_push}
 use Rattle.shard_tables.proofs.SetLemmas.{itself, set_of, has_under, has_missed, len_keys, same_in, push_key}
