@@ -11,6 +11,7 @@ pub struct Seeded {
 }
 
 impl Seeded {
+    /// Hashers that begin with what this seed leaves.
     pub fn new(seed: u64) -> Seeded {
         let mut first = FoldHasher::default();
         first.write(&seed.to_le_bytes());

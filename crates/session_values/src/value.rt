@@ -19,11 +19,5 @@ impl Value {
     #[inline(always)]
     pub fn bounds(self)
         ensures { IsValue self }
-    {
-        match self {
-            Value::Nil => {}
-            Value::Num(_) => {}
-            Value::Sym(_) => {}
-        }
-    }
+    {}
 }
