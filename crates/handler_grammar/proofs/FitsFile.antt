@@ -10,7 +10,8 @@ use Rattle.handler_trees.specs.declared.stmt.Compare.{Compare}
 use Rattle.handler_trees.specs.declared.stmt.Compare.TheVariants as compare
 use Rattle.handler_grammar.specs.declared.refusal.SyntaxRefusal.{SyntaxRefusal}
 use Rattle.handler_grammar.specs.Sorts.{operation_sort, comparison_sort, table_sort}
-use Rattle.handler_grammar.specs.Next.{Part, fault, block_depth, max_number, max_depth, open_in, depth_of, tables, handlers, first_param, more_params, a_block, statements, or_else, a_right, more_arguments, a_compare, more_values, expression, more_factors, more_terms, mark, call_parts, whole_file}
+use Rattle.handler_grammar.specs.Bounds.{block_depth, max_number, max_depth}
+use Rattle.handler_grammar.specs.Next.{Part, fault, open_in, depth_of, tables, handlers, first_param, more_params, a_block, statements, or_else, a_right, more_arguments, a_compare, more_values, expression, more_factors, more_terms, mark, call_parts, whole_file}
 use Rattle.handler_grammar.specs.Phrase.{word, NamePhrase, named, name_words, digits, name_atom, nil_atom, symbol_atom, number_atom, negative_atom, plain, grouped, term, sum, ExprPhrase, expr_words, MoreAtoms, no_atom, more_atom, atom_count, atoms_words, OperandsPhrase, operands, operands_words, a_call, RightPhrase, result_right, plain_right, right_words, CondPhrase, a_cond, cond_words, a_turns, MoreValues, no_value, more_value, value_count, more_words, StmtPhrase, let_stmt, assign_stmt, call_stmt, if_stmt, repeat_stmt, reply_stmt, stmt_words, ElsePhrase, no_else, an_else, else_words, StmtsPhrase, no_stmt, more_stmts, stmts_words, BlockPhrase, block, block_words, MoreParams, no_more, more_param, more_params_words, ParamsPhrase, no_param, some_params, params_words, HandlersPhrase, no_handler, more_handlers, a_handler, handlers_words, TablesPhrase, no_table, more_tables, a_table, tables_words, FilePhrase, a_file, file_words}
 use Rattle.handler_grammar.specs.Limits.{expr_signs, AtomsFit, OperandsFit, RightFits, CondFits, MoreFit, StmtFits, ElseFits, StmtsFit, BlockFits, HandlersFit, FileFits}
 use Rattle.handler_grammar.proofs.Steps.{taken}
