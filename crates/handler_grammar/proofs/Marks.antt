@@ -9,7 +9,6 @@ use Rattle.handler_tokens.specs.declared.word.Sort.TheVariants as sort
 use Rattle.handler_trees.specs.declared.stmt.Compare.{Compare}
 use Rattle.handler_trees.specs.declared.stmt.Compare.TheVariants as compare
 use Rattle.handler_grammar.specs.Bounds.{block_depth, open_parentheses, max_depth, max_open}
-use Rattle.handler_grammar.specs.Sorts.{operation_sort, comparison_sort, table_sort}
 use Rattle.handler_grammar.specs.Limits.{factor_signs, factors_signs, term_signs, terms_signs, expr_signs}
 use Rattle.handler_grammar.specs.Marked.{Marked, fine, limited, all_fine, atom_marked, sign_marked, factor_marked, factors_marked, term_marked, terms_marked, expr_marked, whole_marked, atoms_marked, operands_marked, right_marked, cond_marked, turns_marked, more_marked, stmt_marked, else_marked, stmts_marked, block_marked, handlers_marked, file_marked}
 use Rattle.handler_grammar.specs.Next.{Part, Taken, taking, broken, signs_after, open_in, depth_of, tables, handlers, first_param, more_params, a_block, statements, or_else, a_right, more_arguments, a_compare, more_values, expression, operand, more_factors, more_terms, closing, an_atom, mark, call_parts, whole_file}
@@ -144,35 +143,23 @@ plain_marks (sum (term (plain (number_atom (digits v p))) fs) ts) n under rest =
 plain_marks (sum (term (plain (negative_atom p d)) fs) ts) n under rest = refl
 plain_marks (sum (term (grouped p e q) fs) ts) n under rest = refl
 
--- the word of an operation, where a right side or a statement may come
-right_call : (k : Kind) (p n : ℕ) (under : List Part) (ws : List Word) → marks (a_right ∷ under) n (word (operation_sort k) p ∷ ws) ≡ fine (word (operation_sort k) p) ∷ marks (call_parts ++ under) 0 ws
-right_call kind.Get p n under ws = refl
-right_call _ p n under ws = refl
-
-statement_call : (k : Kind) (p n : ℕ) (under : List Part) (ws : List Word) → marks (statements ∷ under) n (word (operation_sort k) p ∷ ws) ≡ fine (word (operation_sort k) p) ∷ marks (call_parts ++ mark sort.Semicolon ∷ statements ∷ under) n ws
-statement_call kind.Get p n under ws = refl
-statement_call _ p n under ws = refl
-
 right_goes : (r : RightPhrase) (q n : ℕ) (under : List Part) (rest : List Word) → open_in under ≡ 0 → Goes (marks (a_right ∷ mark sort.Semicolon ∷ under) n (right_words r (word sort.Semicolon q ∷ rest))) (λ l. right_marked r (fine (word sort.Semicolon q) ∷ l)) (λ m. marks under m rest)
 right_goes (result_right (a_call k p o)) q n under rest none =
-    went 0
-    (right_call k p n (mark sort.Semicolon ∷ under) (operands_words o (word sort.Semicolon q ∷ rest))
-    ∙ ap (λ l. fine (word (operation_sort k) p) ∷ l) (operands_marks o 0 (mark sort.Semicolon ∷ under) (word sort.Semicolon q ∷ rest)))
+    went 0 (ap (λ l. fine (word (sort.Do k) p) ∷ l) (operands_marks o 0 (mark sort.Semicolon ∷ under) (word sort.Semicolon q ∷ rest)))
 right_goes (plain_right e) q n under rest none =
     goes_from (plain_marks e n (mark sort.Semicolon ∷ under) (word sort.Semicolon q ∷ rest))
     (goes_then (whole_marked e) (λ l. fine (word sort.Semicolon q) ∷ l) (λ m. marks (more_factors ∷ more_terms ∷ mark sort.Semicolon ∷ under) m (word sort.Semicolon q ∷ rest))
     (expression_goes e (mark sort.Semicolon ∷ under) n (word sort.Semicolon q ∷ rest) none) (λ m. went m refl))
 
 -- a comparison's sign goes on with no operator
-compare_marks : (c : Compare) (p n : ℕ) (under : List Part) (rest : List Word) → marks (more_factors ∷ more_terms ∷ a_compare ∷ under) n (word (comparison_sort c) p ∷ rest) ≡ fine (word (comparison_sort c) p) ∷ marks under n rest
-compare_marks compare.Same p n under rest = refl
-compare_marks _ p n under rest = refl
+compare_marks : (c : Compare) (p n : ℕ) (under : List Part) (rest : List Word) → marks (more_factors ∷ more_terms ∷ a_compare ∷ under) n (word (sort.Compare c) p ∷ rest) ≡ fine (word (sort.Compare c) p) ∷ marks under n rest
+compare_marks c p n under rest = refl
 
 cond_goes : (c : CondPhrase) (n : ℕ) (under : List Part) (rest : List Word) → open_in under ≡ 0 → Goes (marks (expression ∷ a_compare ∷ expression ∷ under) n (cond_words c rest)) (cond_marked c) (λ m. marks (more_factors ∷ more_terms ∷ under) m rest)
 cond_goes (a_cond a c p b) n under rest none =
-    goes_then (whole_marked a) (λ l. fine (word (comparison_sort c) p) ∷ whole_marked b l) (λ m. marks (more_factors ∷ more_terms ∷ a_compare ∷ expression ∷ under) m (word (comparison_sort c) p ∷ expr_words b rest))
-    (expression_goes a (a_compare ∷ expression ∷ under) n (word (comparison_sort c) p ∷ expr_words b rest) none)
-    (λ m. goes_then (λ l. fine (word (comparison_sort c) p) ∷ l) (whole_marked b) (λ k. marks (expression ∷ under) k (expr_words b rest))
+    goes_then (whole_marked a) (λ l. fine (word (sort.Compare c) p) ∷ whole_marked b l) (λ m. marks (more_factors ∷ more_terms ∷ a_compare ∷ expression ∷ under) m (word (sort.Compare c) p ∷ expr_words b rest))
+    (expression_goes a (a_compare ∷ expression ∷ under) n (word (sort.Compare c) p ∷ expr_words b rest) none)
+    (λ m. goes_then (λ l. fine (word (sort.Compare c) p) ∷ l) (whole_marked b) (λ k. marks (expression ∷ under) k (expr_words b rest))
     (went m (compare_marks c p m (expression ∷ under) (expr_words b rest))) (λ k. expression_goes b under k rest none))
 
 -- ---- values, statements and blocks
@@ -190,17 +177,12 @@ values_goes (more_value p e vs) (suc m) q n under rest none h =
     (went n refl) (λ k. expression_goes e (more_values m ∷ mark sort.Semicolon ∷ under) k (more_words vs (word sort.Semicolon q ∷ rest)) none))
     (λ k. values_goes vs m q k under rest none (omega (arith, h)))
 
--- no operation is `else`
-not_else_call : (k : Kind) (p n : ℕ) (under : List Part) (ws : List Word) → marks (or_else ∷ statements ∷ under) n (word (operation_sort k) p ∷ ws) ≡ marks (statements ∷ under) n (word (operation_sort k) p ∷ ws)
-not_else_call kind.Get p n under ws = refl
-not_else_call _ p n under ws = refl
-
 -- no statement begins with `else`
 after_if : (ss : StmtsPhrase) (q n : ℕ) (under : List Part) (rest : List Word) → marks (or_else ∷ statements ∷ mark sort.RightBrace ∷ under) n (stmts_words ss (word sort.RightBrace q ∷ rest)) ≡ marks (statements ∷ mark sort.RightBrace ∷ under) n (stmts_words ss (word sort.RightBrace q ∷ rest))
 after_if no_stmt q n under rest = refl
 after_if (more_stmts (let_stmt p x a r e) ss) q n under rest = refl
 after_if (more_stmts (assign_stmt (named x p) a r e) ss) q n under rest = refl
-after_if (more_stmts (call_stmt (a_call k p o) e) ss) q n under rest = not_else_call k p n (mark sort.RightBrace ∷ under) _
+after_if (more_stmts (call_stmt (a_call k p o) e) ss) q n under rest = refl
 after_if (more_stmts (if_stmt p c b e) ss) q n under rest = refl
 after_if (more_stmts (repeat_stmt p t b) ss) q n under rest = refl
 after_if (more_stmts (reply_stmt p v e) ss) q n under rest = refl
@@ -230,9 +212,7 @@ mutual
       (went n refl) (λ m. right_goes r e m (statements ∷ mark sort.RightBrace ∷ under) (stmts_words ss (word sort.RightBrace q ∷ rest)) none)
   stmt_goes (call_stmt (a_call k p o) e) ss q n under rest none =
       let further = stmts_words ss (word sort.RightBrace q ∷ rest) in
-      went n
-      (statement_call k p n (mark sort.RightBrace ∷ under) (operands_words o (word sort.Semicolon e ∷ further))
-      ∙ ap (λ l. fine (word (operation_sort k) p) ∷ l) (operands_marks o n (mark sort.Semicolon ∷ statements ∷ mark sort.RightBrace ∷ under) (word sort.Semicolon e ∷ further)))
+      went n (ap (λ l. fine (word (sort.Do k) p) ∷ l) (operands_marks o n (mark sort.Semicolon ∷ statements ∷ mark sort.RightBrace ∷ under) (word sort.Semicolon e ∷ further)))
   stmt_goes (if_stmt p c b e) ss q n under rest none =
       let further = stmts_words ss (word sort.RightBrace q ∷ rest) in
       let parts = statements ∷ mark sort.RightBrace ∷ under in
@@ -283,19 +263,18 @@ handlers_marks (more_handlers (a_handler p (named x y) l ps r b) hs) n =
     (params_marks ps r n (a_block ∷ handlers ∷ []) (block_words b (handlers_words hs []))
     ∙ ap (λ k. all_fine (params_words ps []) (fine (word sort.RightParen r) ∷ k)) (body.is ∙ ap (block_marked b 0) (handlers_marks hs body.signs)))
 
-table_marks : (k : TableKind) (x : NamePhrase) (p e n : ℕ) (under : List Part) (ws : List Word) → marks (tables ∷ under) n (word (table_sort k) p ∷ name_words x (word sort.Semicolon e ∷ ws)) ≡ all_fine (word (table_sort k) p ∷ name_words x (word sort.Semicolon e ∷ [])) (marks (tables ∷ under) n ws)
-table_marks table.Map (named x q) p e n under ws = refl
-table_marks table.Set (named x q) p e n under ws = refl
+table_marks : (k : TableKind) (x : NamePhrase) (p e n : ℕ) (under : List Part) (ws : List Word) → marks (tables ∷ under) n (word (sort.Table k) p ∷ name_words x (word sort.Semicolon e ∷ ws)) ≡ all_fine (word (sort.Table k) p ∷ name_words x (word sort.Semicolon e ∷ [])) (marks (tables ∷ under) n ws)
+table_marks k (named x q) p e n under ws = refl
 
 -- the words of one table before those of others
-fine_table : (k : TableKind) (x : NamePhrase) (p e : ℕ) (ws : List Word) (l : List Marked) → all_fine (word (table_sort k) p ∷ name_words x (word sort.Semicolon e ∷ [])) (all_fine ws l) ≡ all_fine (word (table_sort k) p ∷ name_words x (word sort.Semicolon e ∷ ws)) l
+fine_table : (k : TableKind) (x : NamePhrase) (p e : ℕ) (ws : List Word) (l : List Marked) → all_fine (word (sort.Table k) p ∷ name_words x (word sort.Semicolon e ∷ [])) (all_fine ws l) ≡ all_fine (word (sort.Table k) p ∷ name_words x (word sort.Semicolon e ∷ ws)) l
 fine_table k (named x q) p e ws l = refl
 
 tables_marks : (ts : TablesPhrase) (n : ℕ) (under : List Part) (rest : List Word) → marks (tables ∷ under) n (tables_words ts rest) ≡ all_fine (tables_words ts []) (marks (tables ∷ under) n rest)
 tables_marks no_table n under rest = refl
 tables_marks (more_tables (a_table k p x e) ts) n under rest =
     table_marks k x p e n under (tables_words ts rest)
-    ∙ ap (all_fine (word (table_sort k) p ∷ name_words x (word sort.Semicolon e ∷ []))) (tables_marks ts n under rest)
+    ∙ ap (all_fine (word (sort.Table k) p ∷ name_words x (word sort.Semicolon e ∷ []))) (tables_marks ts n under rest)
     ∙ fine_table k x p e (tables_words ts []) (marks (tables ∷ under) n rest)
 
 no_table_next : (hs : HandlersPhrase) (n : ℕ) → marks whole_file n (handlers_words hs []) ≡ marks (handlers ∷ []) n (handlers_words hs [])

@@ -5,7 +5,6 @@ use Rattle.handler_tokens.specs.declared.word.Sort.{Sort}
 use Rattle.handler_tokens.specs.declared.word.Sort.TheVariants as sort
 use Rattle.handler_tokens.specs.declared.word.Word.{Word}
 use Rattle.handler_grammar.specs.Bounds.{Limit, where_over, number_size, block_depth, open_parentheses, operator_signs, max_number, max_negative, max_depth, max_open, max_signs}
-use Rattle.handler_grammar.specs.Sorts.{operation_sort, comparison_sort}
 use Rattle.handler_grammar.specs.Phrase.{word, NamePhrase, named, NumberPhrase, digits, AtomPhrase, name_atom, nil_atom, symbol_atom, number_atom, negative_atom, FactorPhrase, plain, grouped, MoreFactors, no_factor, times, TermPhrase, term, MoreTerms, no_term, plus, minus, ExprPhrase, sum, MoreAtoms, no_atom, more_atom, OperandsPhrase, operands, CallPhrase, a_call, RightPhrase, result_right, plain_right, CondPhrase, a_cond, TurnsPhrase, a_turns, MoreValues, no_value, more_value, ValuesPhrase, StmtPhrase, let_stmt, assign_stmt, call_stmt, if_stmt, repeat_stmt, reply_stmt, ElsePhrase, no_else, an_else, StmtsPhrase, no_stmt, more_stmts, BlockPhrase, block, params_words, HandlersPhrase, no_handler, more_handlers, a_handler, tables_words, FilePhrase, a_file}
 use Rattle.handler_grammar.specs.Limits.{factor_signs, term_signs}
 
@@ -89,14 +88,14 @@ operands_marked (operands l t xs r) rest =
     fine (word sort.LeftParen l) ∷ name_marked t (atoms_marked xs.atoms (fine (word sort.RightParen r) ∷ rest))
 
 abbrev pub call_marked : CallPhrase → List Marked → List Marked
-call_marked (a_call k p o) rest = fine (word (operation_sort k) p) ∷ operands_marked o rest
+call_marked (a_call k p o) rest = fine (word (sort.Do k) p) ∷ operands_marked o rest
 
 abbrev pub right_marked : RightPhrase → List Marked → List Marked
 right_marked (result_right c) rest = call_marked c rest
 right_marked (plain_right e) rest = whole_marked e rest
 
 abbrev pub cond_marked : CondPhrase → List Marked → List Marked
-cond_marked (a_cond a c p b) rest = whole_marked a (fine (word (comparison_sort c) p) ∷ whole_marked b rest)
+cond_marked (a_cond a c p b) rest = whole_marked a (fine (word (sort.Compare c) p) ∷ whole_marked b rest)
 
 abbrev pub turns_marked : TurnsPhrase → List Marked → List Marked
 turns_marked (a_turns d a n) rest = number_marked max_number d (fine (word sort.As a) ∷ name_marked n rest)
