@@ -8,7 +8,6 @@ use Rattle.handler_tokens.specs.declared.word.Word.{Word}
 use Rattle.handler_tokens.specs.declared.word.Sort.{Sort}
 use Rattle.handler_tokens.specs.declared.word.Sort.TheVariants as sort
 use Rattle.handler_trees.specs.declared.stmt.Compare.TheVariants as compare
-use Rattle.handler_grammar.specs.Sorts.{operation_sort, table_sort}
 use Rattle.handler_grammar.specs.Next.{Part, tables, handlers, first_param, more_params, a_block, statements, or_else, a_right, more_arguments, a_compare, a_count, more_values, expression, operand, more_factors, more_terms, closing, an_atom, after_minus, a_name, mark, row, call_parts, atom_row, operand_row, before_rest, expression_row}
 use Rattle.handler_grammar.specs.Phrase.{word, named, name_words, digits, number_words, name_atom, nil_atom, symbol_atom, number_atom, negative_atom, atom_words, plain, grouped, factor_words, times, factors_words, term, plus, minus, terms_words, sum, expr_words, more_atom, atoms_words, operands, a_call, result_right, plain_right, right_words, a_cond, compare_words, a_turns, more_value, more_words, let_stmt, assign_stmt, call_stmt, if_stmt, repeat_stmt, reply_stmt, an_else, else_words, more_stmts, stmts_words, block, block_words, more_param, some_params, params_words, a_handler, more_handlers, a_table, more_tables}
 use Rattle.handler_grammar.proofs.Spells.{Spells}
@@ -94,28 +93,19 @@ from_expression : (s : Sort) (o : Option (List Part)) → FromExpression s o
 from_expression s None b = tt
 from_expression s (Some left) b = λ at under ws h. let r = b at under ws h in (r.0, (plain_right r.1.0, r.1.1), r.2)
 
-call_back : (k : Kind) → RowBack a_right (operation_sort k) (Some call_parts)
+call_back : (k : Kind) → RowBack a_right (sort.Do k) (Some call_parts)
 call_back k = λ at under ws h.
     let l = h.1.0 in
     let n = h.2.1.0 in
     let xs = h.2.2.1.0 in
     let r = h.2.2.2.1.0 in (
       h.2.2.2.0,
-      (result_right (a_call k at (operands l n (record { atoms = xs; few = h.2.2.1.1 }) r)), ap (λ v. word (operation_sort k) at ∷ v) (h.1.1 ∙ ap (λ v. word sort.LeftParen l ∷ v) (h.2.1.1 ∙ ap (name_words n) (h.2.2.1.2 ∙ ap (atoms_words xs) h.2.2.2.1.1)))),
+      (result_right (a_call k at (operands l n (record { atoms = xs; few = h.2.2.1.1 }) r)), ap (λ v. word (sort.Do k) at ∷ v) (h.1.1 ∙ ap (λ v. word sort.LeftParen l ∷ v) (h.2.1.1 ∙ ap (name_words n) (h.2.2.1.2 ∙ ap (atoms_words xs) h.2.2.2.1.1)))),
       h.2.2.2.2,
     )
 
 right_back : (s : Sort) → RowBack a_right s (row a_right s)
-right_back sort.Get = call_back kind.Get
-right_back sort.Put = call_back kind.Put
-right_back sort.Swap = call_back kind.Swap
-right_back sort.Del = call_back kind.Del
-right_back sort.Size = call_back kind.Size
-right_back sort.Has = call_back kind.Has
-right_back sort.Add = call_back kind.Add
-right_back sort.Mark = call_back kind.Mark
-right_back sort.Drop = call_back kind.Drop
-right_back sort.Count = call_back kind.Count
+right_back (sort.Do k) = call_back k
 right_back s = from_expression s (expression_row s) (expression_back s)
 
 arguments_back : (n : ℕ) (s : Sort) → RowBack (more_arguments n) s (row (more_arguments n) s)
@@ -123,10 +113,7 @@ arguments_back (suc n) sort.Comma = λ at under ws h. (h.2.0, (more_atom at h.1.
 arguments_back _ _ = tt
 
 compare_back : (s : Sort) → RowBack a_compare s (row a_compare s)
-compare_back sort.Same = λ at under ws h. (ws, ((compare.Same, at), refl), h)
-compare_back sort.Differ = λ at under ws h. (ws, ((compare.Differ, at), refl), h)
-compare_back sort.Less = λ at under ws h. (ws, ((compare.Less, at), refl), h)
-compare_back sort.LessOrSame = λ at under ws h. (ws, ((compare.LessOrSame, at), refl), h)
+compare_back (sort.Compare c) = λ at under ws h. (ws, ((c, at), refl), h)
 compare_back _ = tt
 
 -- ---- single words
@@ -158,7 +145,7 @@ else_back : (s : Sort) → RowBack or_else s (row or_else s)
 else_back sort.Else = λ at under ws h. (h.0, (an_else at h.1.0, ap (λ l. word sort.Else at ∷ l) h.1.1), h.2)
 else_back _ = tt
 
-call_stmt_back : (k : Kind) → RowBack statements (operation_sort k) (Some (call_parts ++ mark sort.Semicolon ∷ statements ∷ []))
+call_stmt_back : (k : Kind) → RowBack statements (sort.Do k) (Some (call_parts ++ mark sort.Semicolon ∷ statements ∷ []))
 call_stmt_back k = λ at under ws h.
     let l = h.1.0 in
     let n = h.2.1.0 in
@@ -167,7 +154,7 @@ call_stmt_back k = λ at under ws h.
     let e = h.2.2.2.2.1.0 in
     let ss = h.2.2.2.2.2.1.0 in (
       h.2.2.2.2.2.0,
-      (more_stmts (call_stmt (a_call k at (operands l n (record { atoms = xs; few = h.2.2.1.1 }) r)) e) ss, ap (λ v. word (operation_sort k) at ∷ v) (h.1.1 ∙ ap (λ v. word sort.LeftParen l ∷ v) (h.2.1.1 ∙ ap (name_words n) (h.2.2.1.2 ∙ ap (atoms_words xs) (h.2.2.2.1.1 ∙ ap (λ v. word sort.RightParen r ∷ v) (h.2.2.2.2.1.1 ∙ ap (λ v. word sort.Semicolon e ∷ v) h.2.2.2.2.2.1.1)))))),
+      (more_stmts (call_stmt (a_call k at (operands l n (record { atoms = xs; few = h.2.2.1.1 }) r)) e) ss, ap (λ v. word (sort.Do k) at ∷ v) (h.1.1 ∙ ap (λ v. word sort.LeftParen l ∷ v) (h.2.1.1 ∙ ap (name_words n) (h.2.2.1.2 ∙ ap (atoms_words xs) (h.2.2.2.1.1 ∙ ap (λ v. word sort.RightParen r ∷ v) (h.2.2.2.2.1.1 ∙ ap (λ v. word sort.Semicolon e ∷ v) h.2.2.2.2.2.1.1)))))),
       h.2.2.2.2.2.2,
     )
 
@@ -221,16 +208,7 @@ statements_back sort.Reply = λ at under ws h.
       (more_stmts (reply_stmt at (record { first = s; more = vs; few = h.2.1.1 }) q) ss, ap (λ l. word sort.Reply at ∷ l) (h.1.1 ∙ ap (expr_words s) (h.2.1.2 ∙ ap (more_words vs) (h.2.2.1.1 ∙ ap (λ l. word sort.Semicolon q ∷ l) h.2.2.2.1.1)))),
       h.2.2.2.2,
     )
-statements_back sort.Get = call_stmt_back kind.Get
-statements_back sort.Put = call_stmt_back kind.Put
-statements_back sort.Swap = call_stmt_back kind.Swap
-statements_back sort.Del = call_stmt_back kind.Del
-statements_back sort.Size = call_stmt_back kind.Size
-statements_back sort.Has = call_stmt_back kind.Has
-statements_back sort.Add = call_stmt_back kind.Add
-statements_back sort.Mark = call_stmt_back kind.Mark
-statements_back sort.Drop = call_stmt_back kind.Drop
-statements_back sort.Count = call_stmt_back kind.Count
+statements_back (sort.Do k) = call_stmt_back k
 statements_back _ = tt
 
 -- ---- handlers and tables
@@ -257,16 +235,15 @@ handlers_back sort.Handler = λ at under ws h.
     )
 handlers_back _ = tt
 
-table_back : (k : TableKind) → RowBack tables (table_sort k) (Some (a_name ∷ mark sort.Semicolon ∷ tables ∷ []))
+table_back : (k : TableKind) → RowBack tables (sort.Table k) (Some (a_name ∷ mark sort.Semicolon ∷ tables ∷ []))
 table_back k = λ at under ws h.
     let n = h.1.0 in
     let e = h.2.1.0 in
     let ts = h.2.2.1.0 in
-    (h.2.2.0, (more_tables (a_table k at n e) ts, ap (λ v. word (table_sort k) at ∷ v) (h.1.1 ∙ ap (name_words n) (h.2.1.1 ∙ ap (λ v. word sort.Semicolon e ∷ v) h.2.2.1.1))), h.2.2.2)
+    (h.2.2.0, (more_tables (a_table k at n e) ts, ap (λ v. word (sort.Table k) at ∷ v) (h.1.1 ∙ ap (name_words n) (h.2.1.1 ∙ ap (λ v. word sort.Semicolon e ∷ v) h.2.2.1.1))), h.2.2.2)
 
 tables_back : (s : Sort) → RowBack tables s (row tables s)
-tables_back sort.Map = table_back table.Map
-tables_back sort.Set = table_back table.Set
+tables_back (sort.Table k) = table_back k
 tables_back _ = tt
 
 pub row_back : (p : Part) (s : Sort) → RowBack p s (row p s)

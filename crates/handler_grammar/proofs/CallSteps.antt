@@ -12,7 +12,7 @@ use Rattle.handler_trees.specs.declared.stmt.Compare.{Compare}
 use Rattle.handler_trees.specs.declared.stmt.Compare.TheVariants as compare
 use Rattle.handler_grammar.specs.declared.input.Input.{Input}
 use Rattle.handler_grammar.specs.declared.refusal.SyntaxRefusal.{SyntaxRefusal}
-use Rattle.handler_grammar.specs.Sorts.{operation, operation_sort, comparison, comparison_sort, table_kind, table_sort, call_start, statement_start}
+use Rattle.handler_grammar.specs.Sorts.{operation, comparison, table_kind, call_start, statement_start}
 use Rattle.handler_grammar.specs.declared.sorts.Start.{Start}
 use Rattle.handler_grammar.specs.declared.sorts.Start.TheVariants as start
 use Rattle.handler_grammar.specs.Next.{Part, mark, statements, call_parts, where_operation, a_right, expression, right_row, where_statement, expression_row, operand_over, taking, at_top, after_taking, fault}
@@ -20,38 +20,9 @@ use Rattle.handler_grammar.specs.Reads.{Refused, Passed}
 
 -- ---- the word of an operation
 
-pub operation_is : (s : Sort) (k : Kind) → operation s ≡ Some k → s ≡ operation_sort k
-operation_is sort.Get k e = let h : kind.Get ≡ k = cc in ap operation_sort h
-operation_is sort.Put k e = let h : kind.Put ≡ k = cc in ap operation_sort h
-operation_is sort.Swap k e = let h : kind.Swap ≡ k = cc in ap operation_sort h
-operation_is sort.Del k e = let h : kind.Del ≡ k = cc in ap operation_sort h
-operation_is sort.Size k e = let h : kind.Size ≡ k = cc in ap operation_sort h
-operation_is sort.Has k e = let h : kind.Has ≡ k = cc in ap operation_sort h
-operation_is sort.Add k e = let h : kind.Add ≡ k = cc in ap operation_sort h
-operation_is sort.Mark k e = let h : kind.Mark ≡ k = cc in ap operation_sort h
-operation_is sort.Drop k e = let h : kind.Drop ≡ k = cc in ap operation_sort h
-operation_is sort.Count k e = let h : kind.Count ≡ k = cc in ap operation_sort h
+pub operation_is : (s : Sort) (k : Kind) → operation s ≡ Some k → s ≡ sort.Do k
+operation_is (sort.Do j) k e = let h : j ≡ k = cc in ap sort.Do h
 operation_is _ k e = absurd (cc)
-
-pub operation_again : (k : Kind) → operation (operation_sort k) ≡ Some k
-operation_again kind.Get = refl
-operation_again _ = refl
-
-pub operation_goes_on : (k : Kind) → operation_sort k ≡ sort.End → ⊥
-operation_goes_on kind.Get e = cc
-operation_goes_on _ e = cc
-
-pub right_operation : (k : Kind) → right_row (operation_sort k) ≡ Some call_parts
-right_operation kind.Get = refl
-right_operation _ = refl
-
-pub operation_free : (k : Kind) (under : List Part) → operand_over under (operation_sort k) ≡ None
-operation_free kind.Get under = refl
-operation_free _ under = refl
-
-pub statement_operation : (k : Kind) → where_statement (statement_start (operation_sort k)) ≡ Some (call_parts ++ mark sort.Semicolon ∷ statements ∷ [])
-statement_operation kind.Get = refl
-statement_operation _ = refl
 
 -- the word that a statement begins with
 abbrev pub StartsWith : Sort → Start → Type 0
@@ -83,33 +54,13 @@ starts_with s b e = subst (WhereStarts s) e (where_starts s)
 
 -- ---- comparisons and kinds of tables
 
-pub comparison_is : (s : Sort) (c : Compare) → comparison s ≡ Some c → s ≡ comparison_sort c
-comparison_is sort.Same c e = let h : compare.Same ≡ c = cc in ap comparison_sort h
-comparison_is sort.Differ c e = let h : compare.Differ ≡ c = cc in ap comparison_sort h
-comparison_is sort.Less c e = let h : compare.Less ≡ c = cc in ap comparison_sort h
-comparison_is sort.LessOrSame c e = let h : compare.LessOrSame ≡ c = cc in ap comparison_sort h
+pub comparison_is : (s : Sort) (c : Compare) → comparison s ≡ Some c → s ≡ sort.Compare c
+comparison_is (sort.Compare d) c e = let h : d ≡ c = cc in ap sort.Compare h
 comparison_is _ c e = absurd (cc)
 
-pub comparison_again : (c : Compare) → comparison (comparison_sort c) ≡ Some c
-comparison_again compare.Same = refl
-comparison_again _ = refl
-
-pub comparison_goes_on : (c : Compare) → comparison_sort c ≡ sort.End → ⊥
-comparison_goes_on compare.Same e = cc
-comparison_goes_on _ e = cc
-
-pub table_is : (s : Sort) (k : TableKind) → table_kind s ≡ Some k → s ≡ table_sort k
-table_is sort.Map k e = let h : table.Map ≡ k = cc in ap table_sort h
-table_is sort.Set k e = let h : table.Set ≡ k = cc in ap table_sort h
+pub table_is : (s : Sort) (k : TableKind) → table_kind s ≡ Some k → s ≡ sort.Table k
+table_is (sort.Table j) k e = let h : j ≡ k = cc in ap sort.Table h
 table_is _ k e = absurd (cc)
-
-pub table_again : (k : TableKind) → table_kind (table_sort k) ≡ Some k
-table_again table.Map = refl
-table_again table.Set = refl
-
-pub table_goes_on : (k : TableKind) → table_sort k ≡ sort.End → ⊥
-table_goes_on table.Map e = cc
-table_goes_on table.Set e = cc
 
 -- ---- a right side that doesn't begin with an operation is an expression
 

@@ -10,11 +10,11 @@ use Rattle.handler_grammar.proofs.Spells.{Begins, Spells, still, go_on_still}
 use Rattle.handler_grammar.proofs.Back.{RowBack, row_back}
 
 -- a part that may be empty is written with no word
-abbrev MayBeEmpty : Part → Bool → Type 0
+abbrev pub MayBeEmpty : Part → Bool → Type 0
 MayBeEmpty p true = (ws : List Word) → Begins p ws ws
 MayBeEmpty p false = Unit {0}
 
-empty : (p : Part) → MayBeEmpty p (may_be_empty p)
+pub empty : (p : Part) → MayBeEmpty p (may_be_empty p)
 empty tables = λ ws. (no_table, refl)
 empty handlers = λ ws. (no_handler, refl)
 empty first_param = λ ws. (no_param, refl)
@@ -45,7 +45,7 @@ back : (ps : List Part) (s : Sort) → Back ps s (taking ps s)
 back [] s = tt
 back (p ∷ ps) s = top_back p ps s (row p s) (taking ps s) (row_back p s) (back ps s)
 
-abbrev StillBack : List Part → List Word → Option (List Part) → Type 0
+abbrev pub StillBack : List Part → List Word → Option (List Part) → Type 0
 StillBack ps ws None = Unit {0}
 StillBack ps ws (Some qs) = (more : List Word) → Spells qs more → Spells ps (ws ++ more)
 
@@ -58,7 +58,7 @@ at_taken ps w ws None b h = tt
 at_taken ps w ws (Some t) b h = at_still ps w ws t (still (t.left ++ t.under) ws) (h (t.left ++ t.under)) b
 
 -- what is still to come after words, put behind them, is what was to come before
-still_back : (ws : List Word) (ps : List Part) → StillBack ps ws (still ps ws)
+pub still_back : (ws : List Word) (ps : List Part) → StillBack ps ws (still ps ws)
 still_back [] ps = λ more h. h
 still_back (w ∷ ws) ps = at_taken ps w ws (taking ps w.sort) (back ps w.sort) (λ qs. still_back ws qs)
 
@@ -73,7 +73,7 @@ shortest statements rest = (rest, (no_stmt, refl))
 shortest or_else rest = (rest, (no_else, refl))
 shortest a_right rest = (word sort.Nil 0 ∷ rest, (plain_right (sum (term (plain (nil_atom 0)) no_factor) no_term), refl))
 shortest (more_arguments n) rest = (rest, (no_atom, omega arith, refl))
-shortest a_compare rest = (word sort.Less 0 ∷ rest, ((compare.Less, 0), refl))
+shortest a_compare rest = (word (sort.Compare compare.Less) 0 ∷ rest, ((compare.Less, 0), refl))
 shortest a_count rest = (word (sort.Number 0) 0 ∷ rest, (digits 0 0, refl))
 shortest (more_values n) rest = (rest, (no_value, omega arith, refl))
 shortest expression rest = (word sort.Nil 0 ∷ rest, (sum (term (plain (nil_atom 0)) no_factor) no_term, refl))

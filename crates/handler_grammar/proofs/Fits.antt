@@ -4,7 +4,8 @@ use Rattle.std.proofs.lemmas.Bool.{ltb-true, ltb-false, leb-true, leb-false}
 use Rattle.handler_tokens.specs.declared.word.Word.{Word}
 use Rattle.handler_tokens.specs.declared.word.Sort.TheVariants as sort
 use Rattle.handler_grammar.specs.declared.refusal.SyntaxRefusal.{SyntaxRefusal}
-use Rattle.handler_grammar.specs.Next.{Part, fault, go_on, Limit, number_size, open_parentheses, operator_signs, where_over, max_number, max_negative, max_open, max_signs, open_in, expression, operand, more_factors, more_terms, closing, an_atom}
+use Rattle.handler_grammar.specs.Bounds.{Limit, number_size, open_parentheses, operator_signs, where_over, max_number, max_negative, max_open, max_signs}
+use Rattle.handler_grammar.specs.Next.{Part, fault, go_on, open_in, expression, operand, more_factors, more_terms, closing, an_atom}
 use Rattle.handler_grammar.specs.Phrase.{word, digits, AtomPhrase, name_atom, nil_atom, symbol_atom, number_atom, negative_atom, atom_words, FactorPhrase, plain, grouped, factor_words, MoreFactors, no_factor, times, factors_words, TermPhrase, term, term_words, MoreTerms, no_term, plus, minus, terms_words, ExprPhrase, sum, expr_words}
 use Rattle.handler_grammar.specs.Limits.{AtomFits, factor_signs, factors_signs, term_signs, terms_signs, expr_signs, FactorFits, FactorsFit, TermFits, TermsFit, GroupFits, ExprFits}
 use Rattle.handler_grammar.proofs.ExprSteps.{expression_same}

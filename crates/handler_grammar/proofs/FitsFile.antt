@@ -9,12 +9,11 @@ use Rattle.handler_tokens.specs.declared.word.Sort.TheVariants as sort
 use Rattle.handler_trees.specs.declared.stmt.Compare.{Compare}
 use Rattle.handler_trees.specs.declared.stmt.Compare.TheVariants as compare
 use Rattle.handler_grammar.specs.declared.refusal.SyntaxRefusal.{SyntaxRefusal}
-use Rattle.handler_grammar.specs.Sorts.{operation_sort, comparison_sort, table_sort}
-use Rattle.handler_grammar.specs.Next.{Part, fault, block_depth, max_number, max_depth, open_in, depth_of, tables, handlers, first_param, more_params, a_block, statements, or_else, a_right, more_arguments, a_compare, more_values, expression, more_factors, more_terms, mark, call_parts, whole_file}
+use Rattle.handler_grammar.specs.Bounds.{block_depth, max_number, max_depth}
+use Rattle.handler_grammar.specs.Next.{Part, fault, open_in, depth_of, tables, handlers, first_param, more_params, a_block, statements, or_else, a_right, more_arguments, a_compare, more_values, expression, more_factors, more_terms, mark, call_parts, whole_file}
 use Rattle.handler_grammar.specs.Phrase.{word, NamePhrase, named, name_words, digits, name_atom, nil_atom, symbol_atom, number_atom, negative_atom, plain, grouped, term, sum, ExprPhrase, expr_words, MoreAtoms, no_atom, more_atom, atom_count, atoms_words, OperandsPhrase, operands, operands_words, a_call, RightPhrase, result_right, plain_right, right_words, CondPhrase, a_cond, cond_words, a_turns, MoreValues, no_value, more_value, value_count, more_words, StmtPhrase, let_stmt, assign_stmt, call_stmt, if_stmt, repeat_stmt, reply_stmt, stmt_words, ElsePhrase, no_else, an_else, else_words, StmtsPhrase, no_stmt, more_stmts, stmts_words, BlockPhrase, block, block_words, MoreParams, no_more, more_param, more_params_words, ParamsPhrase, no_param, some_params, params_words, HandlersPhrase, no_handler, more_handlers, a_handler, handlers_words, TablesPhrase, no_table, more_tables, a_table, tables_words, FilePhrase, a_file, file_words}
 use Rattle.handler_grammar.specs.Limits.{expr_signs, AtomsFit, OperandsFit, RightFits, CondFits, MoreFit, StmtFits, ElseFits, StmtsFit, BlockFits, HandlersFit, FileFits}
 use Rattle.handler_grammar.proofs.Steps.{taken}
-use Rattle.handler_grammar.proofs.CallSteps.{right_operation, operation_free, statement_operation}
 use Rattle.handler_grammar.proofs.Fits.{Either, passes, stops, either_then, either_from, number_fits, limit_fits, argument_fits, expression_fits}
 
 -- the same where the walk goes on behind some number of operator signs
@@ -73,20 +72,19 @@ module _ (end : ℕ) where
 
   right_fits : (r : RightPhrase) (q n : ℕ) (under : List Part) (rest : List Word) → open_in under ≡ 0 → Within (RightFits r) (fault end (a_right ∷ mark sort.Semicolon ∷ under) n (right_words r (word sort.Semicolon q ∷ rest))) (λ m. fault end under m rest)
   right_fits (result_right (a_call k p o)) q n under rest h =
-      within_from (taken end a_right call_parts (mark sort.Semicolon ∷ under) n (word (operation_sort k) p) (operands_words o (word sort.Semicolon q ∷ rest)) (right_operation k) (operation_free k (mark sort.Semicolon ∷ under)))
+      within_from (taken end a_right call_parts (mark sort.Semicolon ∷ under) n (word (sort.Do k) p) (operands_words o (word sort.Semicolon q ∷ rest)) refl refl)
       (within_either 0 refl (operands_fit o 0 (mark sort.Semicolon ∷ under) (word sort.Semicolon q ∷ rest)))
   right_fits (plain_right e) q n under rest h =
       within_from (plain_begins e n (mark sort.Semicolon ∷ under) (word sort.Semicolon q ∷ rest))
       (within_either (expr_signs e) refl (expression_fits end e (mark sort.Semicolon ∷ under) n (word sort.Semicolon q ∷ rest) h))
 
-  compare_pass : (c : Compare) (p n : ℕ) (under : List Part) (rest : List Word) → fault end (more_factors ∷ more_terms ∷ a_compare ∷ under) n (word (comparison_sort c) p ∷ rest) ≡ fault end under n rest
-  compare_pass compare.Same p n under rest = refl
-  compare_pass _ p n under rest = refl
+  compare_pass : (c : Compare) (p n : ℕ) (under : List Part) (rest : List Word) → fault end (more_factors ∷ more_terms ∷ a_compare ∷ under) n (word (sort.Compare c) p ∷ rest) ≡ fault end under n rest
+  compare_pass c p n under rest = refl
 
   cond_fits : (c : CondPhrase) (n : ℕ) (under : List Part) (rest : List Word) → open_in under ≡ 0 → Within (CondFits c) (fault end (expression ∷ a_compare ∷ expression ∷ under) n (cond_words c rest)) (λ m. fault end (more_factors ∷ more_terms ∷ under) m rest)
   cond_fits (a_cond a c p b) n under rest h =
       within_either (expr_signs b) refl
-      (either_then (expression_fits end a (a_compare ∷ expression ∷ under) n (word (comparison_sort c) p ∷ expr_words b rest) h)
+      (either_then (expression_fits end a (a_compare ∷ expression ∷ under) n (word (sort.Compare c) p ∷ expr_words b rest) h)
       (λ k. either_from (compare_pass c p (expr_signs a) (expression ∷ under) (expr_words b rest)) (expression_fits end b under (expr_signs a) rest h)))
 
   -- ---- the values of a reply
@@ -105,16 +103,12 @@ module _ (end : ℕ) where
 
   -- ---- statements and blocks
 
-  not_else_call : (k : Kind) (p n : ℕ) (under : List Part) (ws : List Word) → fault end (or_else ∷ statements ∷ under) n (word (operation_sort k) p ∷ ws) ≡ fault end (statements ∷ under) n (word (operation_sort k) p ∷ ws)
-  not_else_call kind.Get p n under ws = refl
-  not_else_call _ p n under ws = refl
-
   -- no statement begins with `else`
   after_if : (ss : StmtsPhrase) (q n : ℕ) (under : List Part) (rest : List Word) → fault end (or_else ∷ statements ∷ mark sort.RightBrace ∷ under) n (stmts_words ss (word sort.RightBrace q ∷ rest)) ≡ fault end (statements ∷ mark sort.RightBrace ∷ under) n (stmts_words ss (word sort.RightBrace q ∷ rest))
   after_if no_stmt q n under rest = refl
   after_if (more_stmts (let_stmt p x a r e) ss) q n under rest = refl
   after_if (more_stmts (assign_stmt (named x p) a r e) ss) q n under rest = refl
-  after_if (more_stmts (call_stmt (a_call k p o) e) ss) q n under rest = not_else_call k p n (mark sort.RightBrace ∷ under) _
+  after_if (more_stmts (call_stmt (a_call k p o) e) ss) q n under rest = refl
   after_if (more_stmts (if_stmt p c b e) ss) q n under rest = refl
   after_if (more_stmts (repeat_stmt p t b) ss) q n under rest = refl
   after_if (more_stmts (reply_stmt p v e) ss) q n under rest = refl
@@ -142,7 +136,7 @@ module _ (end : ℕ) where
     stmt_fits (let_stmt p (named x y) a r e) ss q d n under rest h k = right_fits r e n (statements ∷ mark sort.RightBrace ∷ under) (stmts_words ss (word sort.RightBrace q ∷ rest)) h
     stmt_fits (assign_stmt (named x y) a r e) ss q d n under rest h k = right_fits r e n (statements ∷ mark sort.RightBrace ∷ under) (stmts_words ss (word sort.RightBrace q ∷ rest)) h
     stmt_fits (call_stmt (a_call c p o) e) ss q d n under rest h k =
-        within_from (taken end statements (call_parts ++ mark sort.Semicolon ∷ statements ∷ []) (mark sort.RightBrace ∷ under) n (word (operation_sort c) p) (operands_words o (word sort.Semicolon e ∷ stmts_words ss (word sort.RightBrace q ∷ rest))) (statement_operation c) refl)
+        within_from (taken end statements (call_parts ++ mark sort.Semicolon ∷ statements ∷ []) (mark sort.RightBrace ∷ under) n (word (sort.Do c) p) (operands_words o (word sort.Semicolon e ∷ stmts_words ss (word sort.RightBrace q ∷ rest))) refl refl)
         (within_either n refl (operands_fit o n (mark sort.Semicolon ∷ statements ∷ mark sort.RightBrace ∷ under) (word sort.Semicolon e ∷ stmts_words ss (word sort.RightBrace q ∷ rest))))
     stmt_fits (if_stmt p c b e) ss q d n under rest h k =
         let further = stmts_words ss (word sort.RightBrace q ∷ rest) in
@@ -189,9 +183,8 @@ module _ (end : ℕ) where
       within_from (params_pass ps r n (a_block ∷ handlers ∷ []) (block_words b (handlers_words hs [])))
       (within_then {y = λ m. fault end (handlers ∷ []) m (handlers_words hs [])} (block_fits b 0 n (handlers ∷ []) (handlers_words hs []) refl refl) (λ m. handlers_fit hs m))
 
-  table_pass : (k : TableKind) (x : NamePhrase) (p e n : ℕ) (under : List Part) (ws : List Word) → fault end (tables ∷ under) n (word (table_sort k) p ∷ name_words x (word sort.Semicolon e ∷ ws)) ≡ fault end (tables ∷ under) n ws
-  table_pass table.Map (named x q) p e n under ws = refl
-  table_pass table.Set (named x q) p e n under ws = refl
+  table_pass : (k : TableKind) (x : NamePhrase) (p e n : ℕ) (under : List Part) (ws : List Word) → fault end (tables ∷ under) n (word (sort.Table k) p ∷ name_words x (word sort.Semicolon e ∷ ws)) ≡ fault end (tables ∷ under) n ws
+  table_pass k (named x q) p e n under ws = refl
 
   tables_pass : (ts : TablesPhrase) (n : ℕ) (under : List Part) (rest : List Word) → fault end (tables ∷ under) n (tables_words ts rest) ≡ fault end (tables ∷ under) n rest
   tables_pass no_table n under rest = refl

@@ -12,7 +12,10 @@ pub mod Back
 pub mod Completed
 pub mod Takes
 pub mod TakesFile
+pub mod Marks
+pub mod Walk
 pub mod Law
+pub mod Found
 pub mod Unique
 pub mod UniqueCalls
 pub mod UniqueFile

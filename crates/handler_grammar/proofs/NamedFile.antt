@@ -17,7 +17,6 @@ use Rattle.handler_trees.specs.declared.stmt.Stmt.TheVariants as stmt
 use Rattle.handler_trees.specs.declared.stmt.Right.{Right}
 use Rattle.handler_trees.specs.declared.stmt.Call.{Call}
 use Rattle.handler_trees.specs.declared.stmt.Cond.{Cond}
-use Rattle.handler_grammar.specs.Sorts.{comparison_sort}
 use Rattle.handler_grammar.specs.Phrase.{word, NamePhrase, named, name_words, digits, AtomPhrase, name_atom, nil_atom, symbol_atom, number_atom, negative_atom, atom_words, FactorPhrase, plain, grouped, factor_words, MoreFactors, no_factor, times, factors_words, TermPhrase, term, term_words, MoreTerms, no_term, plus, minus, terms_words, ExprPhrase, sum, expr_words, MoreAtoms, no_atom, more_atom, atoms_words, CallPhrase, a_call, operands, call_words, RightPhrase, result_right, plain_right, right_words, CondPhrase, a_cond, cond_words, a_turns, MoreValues, no_value, more_value, more_words, StmtPhrase, let_stmt, assign_stmt, call_stmt, if_stmt, repeat_stmt, reply_stmt, stmt_words, ElsePhrase, no_else, an_else, else_words, StmtsPhrase, no_stmt, more_stmts, stmts_words, BlockPhrase, block, block_words, MoreParams, no_more, more_param, more_params_words, ParamsPhrase, no_param, some_params, params_words, HandlersPhrase, no_handler, more_handlers, a_handler, handlers_words, TablesPhrase, no_table, more_tables, a_table, tables_words, FilePhrase, a_file, file_words}
 use Rattle.handler_grammar.specs.Tree.{atom_tree, factor_tree, factors_tree, term_tree, terms_tree, expr_tree, atoms_trees, call_tree, right_tree, cond_tree, more_trees, stmt_tree, else_trees, stmts_trees, block_trees, more_params_trees, params_trees, handlers_trees, tables_trees, file_tree}
 use Rattle.handler_grammar.specs.NamedFile.{joined, atom_places, expr_places, call_places, right_places, cond_places, stmt_places, param_places, handler_places, table_places, IsNamedFile}
@@ -115,7 +114,7 @@ module _ (names : List (List ℕ)) where
 
   cond_named : (c : CondPhrase) (rest : List Word) → AllNamed (cond_words c rest) → Named (cond_places (cond_tree c)) × AllNamed rest
   cond_named (a_cond a c p b) rest h =
-      let k = expr_named a (word (comparison_sort c) p ∷ expr_words b rest) h in
+      let k = expr_named a (word (sort.Compare c) p ∷ expr_words b rest) h in
       let m = expr_named b rest k.1.1 in
       (named_join (expr_places (expr_tree a)) (expr_places (expr_tree b)) k.0 m.0, m.1)
 

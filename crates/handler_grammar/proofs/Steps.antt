@@ -9,7 +9,8 @@ use Rattle.handler_grammar.specs.Phrase.{word}
 use Rattle.handler_grammar.specs.declared.input.Input.{Input}
 use Rattle.handler_grammar.specs.declared.refusal.SyntaxRefusal.{SyntaxRefusal}
 use Rattle.handler_grammar.specs.Refusal.{refusal}
-use Rattle.handler_grammar.specs.Next.{Part, row, taking, at_top, or_below, Limit, limit_refusal, broken, signs_after, go_on, after_taking, fault, may_be_empty, may_end, at_end}
+use Rattle.handler_grammar.specs.Bounds.{Limit, limit_refusal}
+use Rattle.handler_grammar.specs.Next.{Part, row, taking, at_top, or_below, broken, signs_after, go_on, after_taking, fault, may_be_empty, may_end, at_end}
 use Rattle.handler_grammar.specs.Reads.{HasNoEnd, fault_at, Refused, Passed}
 
 -- ---- one word against the walk

@@ -4,10 +4,8 @@ use Rattle.handler_tokens.specs.declared.word.Word.{Word}
 use Rattle.handler_tokens.specs.declared.word.Sort.TheVariants as sort
 use Rattle.handler_trees.specs.declared.stmt.Compare.{Compare}
 use Rattle.handler_trees.specs.declared.stmt.Compare.TheVariants as compare
-use Rattle.handler_grammar.specs.Sorts.{operation_sort, comparison_sort}
 use Rattle.handler_grammar.specs.Next.{Part, a_right, more_arguments, a_compare, expression, operand, more_factors, more_terms, closing, mark, call_parts, taking, at_top}
 use Rattle.handler_grammar.specs.Phrase.{word, named, digits, AtomPhrase, name_atom, nil_atom, symbol_atom, number_atom, negative_atom, atom_words, FactorPhrase, plain, grouped, factor_words, MoreFactors, no_factor, times, factors_words, TermPhrase, term, term_words, MoreTerms, no_term, plus, minus, terms_words, ExprPhrase, sum, expr_words, MoreAtoms, no_atom, more_atom, atom_count, atoms_words, OperandsPhrase, operands, operands_words, a_call, RightPhrase, result_right, plain_right, right_words, CondPhrase, a_cond, cond_words}
-use Rattle.handler_grammar.proofs.CallSteps.{right_operation}
 use Rattle.handler_grammar.proofs.Spells.{still, go_on_still}
 
 atom_taken : (a : AtomPhrase) (under : List Part) (rest : List Word) → still (operand ∷ under) (atom_words a rest) ≡ still under rest
@@ -80,19 +78,16 @@ operands_taken (operands l (named n p) xs r) under rest = arguments_taken xs.ato
 
 -- a right side, where a semicolon follows
 pub right_taken : (r : RightPhrase) (q : ℕ) (under : List Part) (rest : List Word) → still (a_right ∷ mark sort.Semicolon ∷ under) (right_words r (word sort.Semicolon q ∷ rest)) ≡ still under rest
-right_taken (result_right (a_call k p o)) q under rest =
-    ap (λ row. go_on_still (λ qs. still qs (operands_words o (word sort.Semicolon q ∷ rest))) (at_top a_right (mark sort.Semicolon ∷ under) row (taking (mark sort.Semicolon ∷ under) (operation_sort k)))) (right_operation k)
-    ∙ operands_taken o (mark sort.Semicolon ∷ under) (word sort.Semicolon q ∷ rest)
+right_taken (result_right (a_call k p o)) q under rest = operands_taken o (mark sort.Semicolon ∷ under) (word sort.Semicolon q ∷ rest)
 right_taken (plain_right e) q under rest =
     plain_begins e (mark sort.Semicolon ∷ under) (word sort.Semicolon q ∷ rest) ∙ expression_taken e (mark sort.Semicolon ∷ under) (word sort.Semicolon q ∷ rest)
 
 -- a comparison's sign goes on with no operator
-compare_taken : (c : Compare) (p : ℕ) (under : List Part) (rest : List Word) → still (more_factors ∷ more_terms ∷ a_compare ∷ under) (word (comparison_sort c) p ∷ rest) ≡ still under rest
-compare_taken compare.Same p under rest = refl
-compare_taken _ p under rest = refl
+compare_taken : (c : Compare) (p : ℕ) (under : List Part) (rest : List Word) → still (more_factors ∷ more_terms ∷ a_compare ∷ under) (word (sort.Compare c) p ∷ rest) ≡ still under rest
+compare_taken c p under rest = refl
 
 pub cond_taken : (c : CondPhrase) (under : List Part) (rest : List Word) → still (expression ∷ a_compare ∷ expression ∷ under) (cond_words c rest) ≡ still (more_factors ∷ more_terms ∷ under) rest
 cond_taken (a_cond a c p b) under rest =
-    expression_taken a (a_compare ∷ expression ∷ under) (word (comparison_sort c) p ∷ expr_words b rest)
+    expression_taken a (a_compare ∷ expression ∷ under) (word (sort.Compare c) p ∷ expr_words b rest)
     ∙ compare_taken c p (expression ∷ under) (expr_words b rest)
     ∙ expression_taken b under rest

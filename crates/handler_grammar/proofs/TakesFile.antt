@@ -6,7 +6,6 @@ use Rattle.session_values.specs.declared.kind.Kind.{Kind}
 use Rattle.session_values.specs.declared.kind.Kind.TheVariants as kind
 use Rattle.session_values.specs.declared.kind.TableKind.{TableKind}
 use Rattle.session_values.specs.declared.kind.TableKind.TheVariants as table
-use Rattle.handler_grammar.specs.Sorts.{operation_sort, table_sort}
 use Rattle.handler_grammar.specs.Next.{Part, tables, handlers, first_param, more_params, a_block, statements, or_else, more_values, more_factors, more_terms, mark, call_parts, may_end, whole_file}
 use Rattle.handler_grammar.specs.Phrase.{word, NamePhrase, named, name_words, digits, a_call, a_turns, MoreValues, no_value, more_value, value_count, more_words, StmtPhrase, let_stmt, assign_stmt, call_stmt, if_stmt, repeat_stmt, reply_stmt, stmt_words, no_else, an_else, StmtsPhrase, no_stmt, more_stmts, stmts_words, BlockPhrase, block, block_words, MoreParams, no_more, more_param, more_params_words, ParamsPhrase, no_param, some_params, params_words, HandlersPhrase, no_handler, more_handlers, a_handler, handlers_words, TablesPhrase, no_table, more_tables, a_table, tables_words, FilePhrase, a_file, file_words}
 use Rattle.handler_grammar.proofs.Spells.{still}
@@ -22,21 +21,12 @@ values_taken (more_value p e vs) zero q under rest h = absurd (omega (arith, h))
 values_taken (more_value p e vs) (suc n) q under rest h =
     expression_taken e (more_values n ∷ mark sort.Semicolon ∷ under) (more_words vs (word sort.Semicolon q ∷ rest)) ∙ values_taken vs n q under rest (omega (arith, h))
 
-call_begins : (k : Kind) (p e : ℕ) (under : List Part) (ws : List Word) → still (statements ∷ under) (word (operation_sort k) p ∷ ws) ≡ still (call_parts ++ mark sort.Semicolon ∷ statements ∷ under) ws
-call_begins kind.Get p e under ws = refl
-call_begins _ p e under ws = refl
-
--- no operation is `else`
-not_else_call : (k : Kind) (p : ℕ) (under : List Part) (ws : List Word) → still (or_else ∷ statements ∷ under) (word (operation_sort k) p ∷ ws) ≡ still (statements ∷ under) (word (operation_sort k) p ∷ ws)
-not_else_call kind.Get p under ws = refl
-not_else_call _ p under ws = refl
-
 -- no statement begins with `else`
 after_if : (ss : StmtsPhrase) (q : ℕ) (under : List Part) (rest : List Word) → still (or_else ∷ statements ∷ mark sort.RightBrace ∷ under) (stmts_words ss (word sort.RightBrace q ∷ rest)) ≡ still (statements ∷ mark sort.RightBrace ∷ under) (stmts_words ss (word sort.RightBrace q ∷ rest))
 after_if no_stmt q under rest = refl
 after_if (more_stmts (let_stmt p n a r e) ss) q under rest = refl
 after_if (more_stmts (assign_stmt (named n p) a r e) ss) q under rest = refl
-after_if (more_stmts (call_stmt (a_call k p o) e) ss) q under rest = not_else_call k p (mark sort.RightBrace ∷ under) _
+after_if (more_stmts (call_stmt (a_call k p o) e) ss) q under rest = refl
 after_if (more_stmts (if_stmt p c b e) ss) q under rest = refl
 after_if (more_stmts (repeat_stmt p t b) ss) q under rest = refl
 after_if (more_stmts (reply_stmt p v e) ss) q under rest = refl
@@ -53,7 +43,7 @@ mutual
   stmt_taken (let_stmt p (named n m) a r e) ss q under rest = right_taken r e (statements ∷ mark sort.RightBrace ∷ under) _
   stmt_taken (assign_stmt (named n m) a r e) ss q under rest = right_taken r e (statements ∷ mark sort.RightBrace ∷ under) _
   stmt_taken (call_stmt (a_call k p o) e) ss q under rest =
-      call_begins k p e (mark sort.RightBrace ∷ under) _ ∙ operands_taken o (mark sort.Semicolon ∷ statements ∷ mark sort.RightBrace ∷ under) _
+      operands_taken o (mark sort.Semicolon ∷ statements ∷ mark sort.RightBrace ∷ under) _
   stmt_taken (if_stmt p c (block z inner y) no_else) ss q under rest =
       cond_taken c (a_block ∷ or_else ∷ statements ∷ mark sort.RightBrace ∷ under) _
       ∙ stmts_taken inner y (or_else ∷ statements ∷ mark sort.RightBrace ∷ under) _
@@ -86,9 +76,8 @@ handlers_taken (more_handlers (a_handler p (named n q) l ps r b) hs) =
     ∙ block_taken b (handlers ∷ []) (handlers_words hs [])
     ∙ handlers_taken hs
 
-table_taken : (k : TableKind) (n : NamePhrase) (p e : ℕ) (under : List Part) (ws : List Word) → still (tables ∷ under) (word (table_sort k) p ∷ name_words n (word sort.Semicolon e ∷ ws)) ≡ still (tables ∷ under) ws
-table_taken table.Map (named n q) p e under ws = refl
-table_taken table.Set (named n q) p e under ws = refl
+table_taken : (k : TableKind) (n : NamePhrase) (p e : ℕ) (under : List Part) (ws : List Word) → still (tables ∷ under) (word (sort.Table k) p ∷ name_words n (word sort.Semicolon e ∷ ws)) ≡ still (tables ∷ under) ws
+table_taken k (named n q) p e under ws = refl
 
 tables_taken : (ts : TablesPhrase) (under : List Part) (rest : List Word) → still (tables ∷ under) (tables_words ts rest) ≡ still (tables ∷ under) rest
 tables_taken no_table under rest = refl

@@ -11,10 +11,9 @@ use Rattle.handler_trees.specs.declared.stmt.Compare.TheVariants as compare
 use Rattle.handler_trees.specs.declared.stmt.Cond.{Cond}
 use Rattle.handler_trees.specs.declared.stmt.Right.TheVariants as right
 use Rattle.handler_grammar.specs.declared.parse_call.Turns.{Turns}
-use Rattle.handler_grammar.specs.Sorts.{operation, operation_sort, comparison, comparison_sort}
+use Rattle.handler_grammar.specs.Sorts.{operation, comparison}
 use Rattle.handler_grammar.specs.Phrase.{word, NumberPhrase, digits, number_words, name_atom, nil_atom, symbol_atom, number_atom, negative_atom, plain, grouped, term, sum, ExprPhrase, expr_words, MoreAtoms, no_atom, more_atom, atoms_words, OperandsPhrase, operands, operands_words, CallPhrase, a_call, call_words, RightPhrase, result_right, plain_right, right_words, CondPhrase, a_cond, cond_words, TurnsPhrase, a_turns, turns_words, MoreValues, no_value, more_value, more_words, ValuesPhrase, values_words}
 use Rattle.handler_grammar.specs.Tree.{name_of, count_of, atom_tree, expr_tree, atoms_trees, call_of, call_tree, right_tree, cond_tree, turns_of, more_trees, values_trees}
-use Rattle.handler_grammar.proofs.CallSteps.{operation_again, comparison_again}
 use Rattle.handler_grammar.proofs.Unique.{Same, tail, head_sort, head_at, NotSign, same_name, same_atom, same_expr}
 
 -- ---- operations
@@ -38,8 +37,8 @@ same_operands k p (operands l n xs q) (operands l' n' ys q') r s e =
     let m = same_atoms xs.atoms ys.atoms q q' r s h.rest in
     record { tree = ap (λ v. call_with k p v (atoms_trees xs.atoms)) h.tree ∙ ap (call_with k p (name_of n')) m.tree; rest = m.rest }
 
-same_kind : (k j : Kind) → operation_sort k ≡ operation_sort j → k ≡ j
-same_kind k j e = let h : Some k ≡ Some j = sym (operation_again k) ∙ ap operation e ∙ operation_again j in cc
+same_kind : (k j : Kind) → sort.Do k ≡ sort.Do j → k ≡ j
+same_kind k j e = let h : Some k ≡ Some j = ap operation e in cc
 
 pub same_call : (c d : CallPhrase) (r s : List Word) → call_words c r ≡ call_words d s → Same (call_tree c) (call_tree d) r s
 same_call (a_call k p o) (a_call j q u) r s e =
@@ -64,20 +63,17 @@ no_operation (sum (term (grouped p e q) fs) ts) r = refl
 pub same_right : (x y : RightPhrase) (r s : List Word) → NotSign r → NotSign s → right_words x r ≡ right_words y s → Same (right_tree x) (right_tree y) r s
 same_right (result_right c) (result_right d) r s nr ns e = let h = same_call c d r s e in record { tree = ap right.Result h.tree; rest = h.rest }
 same_right (plain_right a) (plain_right b) r s nr ns e = let h = same_expr a b r s nr ns e in record { tree = ap right.Plain h.tree; rest = h.rest }
-same_right (result_right (a_call k p o)) (plain_right b) r s nr ns e = absurd (let h : Some k ≡ None = sym (operation_again k) ∙ ap FirstOperation e ∙ no_operation b s in cc)
-same_right (plain_right a) (result_right (a_call k p o)) r s nr ns e = absurd (let h : None ≡ Some k = sym (no_operation a r) ∙ ap FirstOperation e ∙ operation_again k in cc)
+same_right (result_right (a_call k p o)) (plain_right b) r s nr ns e = absurd (let h : Some k ≡ None = ap FirstOperation e ∙ no_operation b s in cc)
+same_right (plain_right a) (result_right (a_call k p o)) r s nr ns e = absurd (let h : None ≡ Some k = sym (no_operation a r) ∙ ap FirstOperation e in cc)
 
 -- ---- conditions and heads of repeats
 
-same_compare : (c d : Compare) → comparison_sort c ≡ comparison_sort d → c ≡ d
-same_compare c d e = let h : Some c ≡ Some d = sym (comparison_again c) ∙ ap comparison e ∙ comparison_again d in cc
+same_compare : (c d : Compare) → sort.Compare c ≡ sort.Compare d → c ≡ d
+same_compare c d e = let h : Some c ≡ Some d = ap comparison e in cc
 
 -- a comparison is no operator
-compare_no_sign : (c : Compare) (p : ℕ) (r : List Word) → NotSign (word (comparison_sort c) p ∷ r)
-compare_no_sign compare.Same p r = ((λ e. cc), (λ e. cc), (λ e. cc))
-compare_no_sign compare.Differ p r = ((λ e. cc), (λ e. cc), (λ e. cc))
-compare_no_sign compare.Less p r = ((λ e. cc), (λ e. cc), (λ e. cc))
-compare_no_sign compare.LessOrSame p r = ((λ e. cc), (λ e. cc), (λ e. cc))
+compare_no_sign : (c : Compare) (p : ℕ) (r : List Word) → NotSign (word (sort.Compare c) p ∷ r)
+compare_no_sign c p r = ((λ e. cc), (λ e. cc), (λ e. cc))
 
 cond_with : Compare → Expr → Expr → Cond
 cond_with c a b = record { compare = c; left = a; right = b }

@@ -11,10 +11,9 @@ use Rattle.handler_trees.specs.declared.file.File.{File}
 use Rattle.handler_trees.specs.declared.file.Handler.{Handler}
 use Rattle.handler_grammar.specs.declared.sorts.Start.{Start}
 use Rattle.handler_grammar.specs.declared.sorts.Start.TheVariants as start
-use Rattle.handler_grammar.specs.Sorts.{operation_sort, statement_start, table_kind}
+use Rattle.handler_grammar.specs.Sorts.{statement_start, table_kind}
 use Rattle.handler_grammar.specs.Phrase.{word, NamePhrase, named, name_words, a_call, StmtPhrase, let_stmt, assign_stmt, call_stmt, if_stmt, repeat_stmt, reply_stmt, stmt_words, ElsePhrase, no_else, an_else, else_words, StmtsPhrase, no_stmt, more_stmts, stmts_words, BlockPhrase, block, block_words, MoreParams, no_more, more_param, more_params_words, ParamsPhrase, no_param, some_params, params_words, HandlersPhrase, no_handler, more_handlers, a_handler, handlers_words, TablesPhrase, no_table, more_tables, a_table, tables_words, FilePhrase, a_file, file_words}
 use Rattle.handler_grammar.specs.Tree.{name_of, right_tree, cond_tree, turns_of, repeat_tree, values_trees, stmt_tree, else_trees, stmts_trees, block_trees, param_of, more_params_trees, params_trees, handlers_trees, table_tree, tables_trees, file_tree}
-use Rattle.handler_grammar.proofs.CallSteps.{table_again}
 use Rattle.handler_grammar.proofs.Unique.{Same, tail, head_sort, head_at, NotSign, same_name}
 use Rattle.handler_grammar.proofs.UniqueCalls.{same_call, same_right, same_cond, same_turns, same_values}
 
@@ -42,9 +41,8 @@ index (if_stmt p c b e) = 4
 index (repeat_stmt p t b) = 5
 index (reply_stmt p v e) = 6
 
-call_index : (k : Kind) → index_of (statement_start (operation_sort k)) ≡ 3
-call_index kind.Get = refl
-call_index _ = refl
+call_index : (k : Kind) → index_of (statement_start (sort.Do k)) ≡ 3
+call_index k = refl
 
 stmt_index : (s : StmtPhrase) (r : List Word) → first_index (stmt_words s r) ≡ index s
 stmt_index (let_stmt p n a x e) r = refl
@@ -180,10 +178,10 @@ no_first_table (more_handlers (a_handler p n l ps r b) hs) = refl
 
 same_tables : (ts us : TablesPhrase) (hs gs : HandlersPhrase) → tables_words ts (handlers_words hs []) ≡ tables_words us (handlers_words gs []) → Same (tables_trees ts) (tables_trees us) (handlers_words hs []) (handlers_words gs [])
 same_tables no_table no_table hs gs e = record { tree = refl; rest = e }
-same_tables no_table (more_tables (a_table k p n z) us) hs gs e = absurd (let h : None ≡ Some k = sym (no_first_table hs) ∙ ap first_table e ∙ table_again k in cc)
-same_tables (more_tables (a_table k p n z) ts) no_table hs gs e = absurd (let h : Some k ≡ None = sym (table_again k) ∙ ap first_table e ∙ no_first_table gs in cc)
+same_tables no_table (more_tables (a_table k p n z) us) hs gs e = absurd (let h : None ≡ Some k = sym (no_first_table hs) ∙ ap first_table e in cc)
+same_tables (more_tables (a_table k p n z) ts) no_table hs gs e = absurd (let h : Some k ≡ None = ap first_table e ∙ no_first_table gs in cc)
 same_tables (more_tables (a_table k p n z) ts) (more_tables (a_table k' p' n' z') us) hs gs e =
-    let s : Some k ≡ Some k' = sym (table_again k) ∙ ap table_kind (head_sort e) ∙ table_again k' in
+    let s : Some k ≡ Some k' = ap table_kind (head_sort e) in
     let same : k ≡ k' = cc in
     let h = same_name n n' _ _ (tail e) in
     let m = same_tables ts us hs gs (tail h.rest) in

@@ -1,5 +1,5 @@
 -- What the parser's answers say of a whole source.
-use Rattle.std.proofs.Common.{◌≡◌, ◌≤◌, ℕ, suc, List, [], ◌∷◌, Some, None, length, refl, sym, ap, ◌∙◌, subst, arith}
+use Rattle.std.proofs.Common.{◌≡◌, ◌≤◌, ℕ, suc, List, [], ◌∷◌, Some, None, length, ◌⊎◌, inl, inr, refl, sym, ap, ◌∙◌, subst, arith}
 use Rattle.std.specs.Prelude.{◌≢◌, Result, Ok, Err, IfOk, OnOk, IfErr, MatchResult}
 use Rattle.std.specs.List.{AllByRecursion}
 use Rattle.handler_tokens.specs.declared.word.Word.{Word}
@@ -9,7 +9,7 @@ use Rattle.handler_tokens.proofs.Pieces.{pieces_few}
 use Rattle.handler_tokens.proofs.WordsNamed.{words_named}
 use Rattle.handler_trees.specs.declared.file.File.{File}
 use Rattle.handler_grammar.specs.declared.refusal.SyntaxRefusal.{SyntaxRefusal}
-use Rattle.handler_grammar.specs.declared.refusal.SyntaxRefusal.TheVariants.{NoMemory}
+use Rattle.handler_grammar.specs.declared.refusal.SyntaxRefusal.TheVariants.{BadByte, Unexpected, NumberTooLarge, NameTooLong, TooDeep, NoMemory}
 use Rattle.handler_grammar.specs.FirstFault.{IsFile, IsFirstFault}
 use Rattle.handler_grammar.specs.Limits.{IsFileWithin}
 use Rattle.handler_grammar.specs.NamedFile.{IsNamedFile}
@@ -17,6 +17,7 @@ use Rattle.handler_grammar.specs.Next.{fault, whole_file}
 use Rattle.handler_grammar.proofs.NamedFile.{file_named}
 use Rattle.handler_grammar.proofs.UniqueFile.{same_file}
 use Rattle.handler_grammar.proofs.Law.{first_fault}
+use Rattle.handler_grammar.proofs.Found.{first_found}
 use Rattle.handler_grammar.proofs.FitsFile.{fits, passed_whole}
 
 words_length : (names : List (List ℕ)) (ps : List Piece) → length (words names ps) ≡ length ps
@@ -51,10 +52,21 @@ pub read_within : (end : ℕ) (ws : List Word) (r : Result File SyntaxRefusal) �
 read_within end ws (Ok file) ok within = (ok.0, ok.1, ok.2, fits end ok.0 (ap (fault end whole_file 0) (sym ok.1) ∙ within))
 read_within end ws (Err e) ok within = tt
 
--- what the walk finds
-pub read_exact : (end : ℕ) (ws : List Word) (r : Result File SyntaxRefusal) → OnOk r (fault end whole_file 0 ws ≡ None) → IfErr r (λ e. e ≢ NoMemory → fault end whole_file 0 ws ≡ Some e) → MatchResult r (λ file. fault end whole_file 0 ws ≡ None) (λ e. e ≢ NoMemory → fault end whole_file 0 ws ≡ Some e)
-read_exact end ws (Ok file) within exact = within
-read_exact end ws (Err e) within exact = exact
+-- a source with a first fault is refused for it
+pub read_fault : (end : ℕ) (ws : List Word) (r : Result File SyntaxRefusal) → OnOk r (fault end whole_file 0 ws ≡ None) → IfErr r (λ e. e ≢ NoMemory → fault end whole_file 0 ws ≡ Some e) → (e : SyntaxRefusal) → IsFirstFault end ws e → MatchResult r (λ file. ⊥) (λ d. (d ≡ e) ⊎ (d ≡ NoMemory))
+read_fault end ws (Ok file) within exact e f = let h = first_found end e ws f in cc
+read_fault end ws (Err d) within exact e f = by d exact
+  where
+    other : (d : SyntaxRefusal) → fault end whole_file 0 ws ≡ Some d → d ≡ e
+    other d h = let k = first_found end e ws f in cc
+
+    by : (d : SyntaxRefusal) → (d ≢ NoMemory → fault end whole_file 0 ws ≡ Some d) → (d ≡ e) ⊎ (d ≡ NoMemory)
+    by NoMemory h = inr refl
+    by (BadByte at) h = inl (other (BadByte at) (h (λ q. cc)))
+    by (Unexpected at found) h = inl (other (Unexpected at found) (h (λ q. cc)))
+    by (NumberTooLarge at) h = inl (other (NumberTooLarge at) (h (λ q. cc)))
+    by (NameTooLong at) h = inl (other (NameTooLong at) (h (λ q. cc)))
+    by (TooDeep at) h = inl (other (TooDeep at) (h (λ q. cc)))
 
 pub named_tree : (names : List (List ℕ)) (source : List ℕ) (file : File) → IsFile (words_of names source) file → IsNamedFile (names_of names source) file
 named_tree names source file r =

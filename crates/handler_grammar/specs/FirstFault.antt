@@ -1,11 +1,12 @@
 -- Where words leave the grammar or its limits, in the grammar's own words.
-use Rattle.std.specs.Prelude.{◌≡◌, ℕ, List, [], ◌∷◌, ◌++◌, Option, Some, None, ◌⊎◌}
+use Rattle.std.specs.Prelude.{◌≡◌, ℕ, true, List, [], ◌∷◌, ◌++◌, ◌⊎◌}
 use Rattle.handler_tokens.specs.declared.word.Word.{Word}
 use Rattle.handler_tokens.specs.declared.word.Sort.TheVariants as sort
 use Rattle.handler_trees.specs.declared.file.File.{File}
 use Rattle.handler_grammar.specs.declared.refusal.SyntaxRefusal.{SyntaxRefusal}
 use Rattle.handler_grammar.specs.Refusal.{refusal}
-use Rattle.handler_grammar.specs.Next.{Part, Taken, taking, Limit, broken, signs_after, limit_refusal, whole_file}
+use Rattle.handler_grammar.specs.Bounds.{Limit, limit_refusal}
+use Rattle.handler_grammar.specs.Marked.{Marked, limited, all_fine, file_marked}
 use Rattle.handler_grammar.specs.Phrase.{word, FilePhrase, file_words}
 use Rattle.handler_grammar.specs.Limits.{FileFits}
 use Rattle.handler_grammar.specs.Tree.{file_tree}
@@ -30,35 +31,20 @@ BeginsFileWithin ws = (p : FilePhrase) × (more : List Word) × (ws ++ more ≡ 
 
 -- ---- limits
 
--- what is to come behind words, and the operator signs of the expression that is open
-pub record State : Type 0 where
-  pub parts : List Part
-  pub signs : ℕ
+-- A text of the grammar begins with these words, none of which breaks a limit, and goes on with marked ones.
+pub record GoesOn (before : List Word) (more : List Marked) : Type 0 where
+  pub phrase : FilePhrase
+  pub marked : file_marked phrase ≡ all_fine before more
 
-abbrev pub if_within : Option Limit → Option State → Option State
-if_within None after = after
-if_within (Some l) after = None
+-- some text of the grammar begins with these words, none of which breaks a limit
+pub record IsWithinLimits (before : List Word) : Type 0 where
+  pub more : List Marked
+  pub text : GoesOn before more
 
-abbrev pub walk_on : ℕ → Word → (List Part → ℕ → Option State) → Option Taken → Option State
-walk_on signs w rest None = None
-walk_on signs w rest (Some t) = if_within (broken t.part t.under signs w.sort) (rest (t.left ++ t.under) (signs_after t.part signs))
-
--- The state behind words, of which none is unexpected and none breaks a limit.
-abbrev pub state_after : List Part → ℕ → List Word → Option State
-state_after ps signs [] = Some (record { parts = ps; signs = signs })
-state_after ps signs (w ∷ ws) = walk_on signs w (λ qs n. state_after qs n ws) (taking ps w.sort)
-
--- none of the words is unexpected, and none breaks a limit
-abbrev pub IsWithinLimits : List Word → Type 0
-IsWithinLimits ws = (state : State) × (state_after whole_file 0 ws ≡ Some state)
-
--- A word breaks this limit, where none of the words before it breaks one.
+-- behind these words, none of which breaks a limit, the word breaks this one
 pub record Breaks (before : List Word) (w : Word) (limit : Limit) : Type 0 where
-  pub state : State
-  pub reached : state_after whole_file 0 before ≡ Some state
-  pub taker : Taken
-  pub takes : taking state.parts w.sort ≡ Some taker
-  pub over : broken taker.part taker.under state.signs w.sort ≡ Some limit
+  pub more : List Marked
+  pub text : GoesOn before (limited limit true w ∷ more)
 
 -- ---- the first fault
 
@@ -67,7 +53,7 @@ pub record IsUnexpected (before : List Word) (w : Word) (e : SyntaxRefusal) : Ty
   pub none : BeginsText (before ++ w ∷ []) → ⊥
   pub refusal_is : e ≡ refusal w
 
--- One does, but none within the limits, since this word breaks a limit.
+-- One does, but none within the limits, since this word breaks a limit, as the first one.
 pub record IsOverLimit (before : List Word) (w : Word) (e : SyntaxRefusal) : Type 0 where
   pub begun : BeginsText (before ++ w ∷ [])
   pub none_within : BeginsFileWithin (before ++ w ∷ []) → ⊥

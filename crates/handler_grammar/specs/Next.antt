@@ -11,7 +11,7 @@ use Rattle.handler_grammar.specs.Sorts.{operation, comparison, table_kind, state
 use Rattle.handler_grammar.specs.declared.sorts.Start.{Start}
 use Rattle.handler_grammar.specs.declared.sorts.Start.TheVariants as start
 use Rattle.handler_grammar.specs.declared.refusal.SyntaxRefusal.{SyntaxRefusal}
-use Rattle.handler_grammar.specs.declared.refusal.SyntaxRefusal.TheVariants.{NumberTooLarge, TooDeep}
+use Rattle.handler_grammar.specs.Bounds.{Limit, number_size, block_depth, open_parentheses, operator_signs, where_over, limit_refusal, max_number, max_negative, max_depth, max_open, max_signs}
 use Rattle.handler_grammar.specs.Refusal.{refusal}
 
 -- A part that is still to come. A mark is one given word, and closing is the parenthesis that ends a group of an
@@ -204,29 +204,6 @@ taking (p ∷ ps) s = at_top p ps (row p s) (taking ps s)
 
 -- ---- limits
 
--- a literal's number, or how often a repeat runs; blocks in blocks; groups in groups; the operators of an expression
-pub data Limit : Type 0 where
-  number_size : Limit
-  block_depth : Limit
-  open_parentheses : Limit
-  operator_signs : Limit
-
--- the largest number, and the largest behind a literal's minus
-abbrev pub max_number : ℕ
-max_number = 9223372036854775807
-
-abbrev pub max_negative : ℕ
-max_negative = 9223372036854775808
-
-abbrev pub max_depth : ℕ
-max_depth = 16
-
-abbrev pub max_open : ℕ
-max_open = 16
-
-abbrev pub max_signs : ℕ
-max_signs = 64
-
 -- how many parentheses of an expression are open
 abbrev pub and_if_closing : Part → ℕ → ℕ
 and_if_closing closing n = n + 1
@@ -253,10 +230,6 @@ signs_after more_factors n = n + 1
 signs_after more_terms n = n + 1
 signs_after _ n = n
 
-abbrev pub where_over : Limit → Bool → Option Limit
-where_over l true = Some l
-where_over l false = None
-
 abbrev pub number_over : ℕ → Sort → Option Limit
 number_over limit (sort.Number n) = where_over number_size (nat_lt limit n)
 number_over limit _ = None
@@ -278,10 +251,6 @@ broken more_terms under signs s = where_over operator_signs (nat_le max_signs si
 broken an_atom under signs s = number_over max_number s
 broken after_minus under signs s = number_over max_negative s
 broken _ under signs s = None
-
-abbrev pub limit_refusal : Limit → ℕ → SyntaxRefusal
-limit_refusal number_size at = NumberTooLarge at
-limit_refusal _ at = TooDeep at
 
 -- ---- the walk over the words
 

@@ -6,7 +6,6 @@ use Rattle.handler_tokens.specs.declared.word.Sort.{Sort}
 use Rattle.handler_tokens.specs.declared.word.Sort.TheVariants as sort
 use Rattle.handler_tokens.specs.declared.word.Word.{Word}
 use Rattle.handler_trees.specs.declared.stmt.Compare.{Compare}
-use Rattle.handler_grammar.specs.Sorts.{operation_sort, comparison_sort, table_sort}
 
 -- ---- phrases, each with the places of its words
 
@@ -214,7 +213,7 @@ abbrev pub operands_words : OperandsPhrase → List Word → List Word
 operands_words (operands l t xs r) rest = word sort.LeftParen l ∷ name_words t (arguments_words xs (word sort.RightParen r ∷ rest))
 
 abbrev pub call_words : CallPhrase → List Word → List Word
-call_words (a_call k p o) rest = word (operation_sort k) p ∷ operands_words o rest
+call_words (a_call k p o) rest = word (sort.Do k) p ∷ operands_words o rest
 
 abbrev pub right_words : RightPhrase → List Word → List Word
 right_words (result_right c) rest = call_words c rest
@@ -222,10 +221,10 @@ right_words (plain_right e) rest = expr_words e rest
 
 -- a comparison's sign, with its place
 abbrev pub compare_words : Compare × ℕ → List Word → List Word
-compare_words c rest = word (comparison_sort c.0) c.1 ∷ rest
+compare_words c rest = word (sort.Compare c.0) c.1 ∷ rest
 
 abbrev pub cond_words : CondPhrase → List Word → List Word
-cond_words (a_cond a c p b) rest = expr_words a (word (comparison_sort c) p ∷ expr_words b rest)
+cond_words (a_cond a c p b) rest = expr_words a (word (sort.Compare c) p ∷ expr_words b rest)
 
 abbrev pub turns_words : TurnsPhrase → List Word → List Word
 turns_words (a_turns d a n) rest = number_words d (word sort.As a ∷ name_words n rest)
@@ -276,7 +275,7 @@ handlers_words no_handler rest = rest
 handlers_words (more_handlers h hs) rest = handler_words h (handlers_words hs rest)
 
 abbrev pub table_words : TablePhrase → List Word → List Word
-table_words (a_table k p n e) rest = word (table_sort k) p ∷ name_words n (word sort.Semicolon e ∷ rest)
+table_words (a_table k p n e) rest = word (sort.Table k) p ∷ name_words n (word sort.Semicolon e ∷ rest)
 
 abbrev pub tables_words : TablesPhrase → List Word → List Word
 tables_words no_table rest = rest

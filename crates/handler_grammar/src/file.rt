@@ -1,6 +1,6 @@
 // Whole files, and the call that reads them.
 
-ghost use Rattle.std.specs.Prelude.{◌≡◌, ◌≢◌, ◌≤◌, ◌<◌, ◌+◌, ◌^◌, [], length, None, Some, IfOk, OnOk, IfErr, MatchResult};
+ghost use Rattle.std.specs.Prelude.{◌≡◌, ◌≢◌, ◌≤◌, ◌<◌, ◌+◌, ◌^◌, [], length, None, Some, IfOk, OnOk, IfErr, MatchResult, ◌⊎◌};
 ghost use Rattle.session_values.specs.Names.{Begins};
 ghost use Rattle.handler_tokens.specs.Words.{words_of, names_of};
 ghost use Rattle.handler_grammar.specs.FirstFault.{IsFile, IsFirstFault};
@@ -10,6 +10,7 @@ ghost use Rattle.handler_grammar.specs.Next.{Inside, fault, whole_file};
 ghost use Rattle.handler_grammar.specs.Phrase as spec;
 ghost use Rattle.handler_grammar.specs.Tree as tree;
 ghost use Rattle.handler_grammar.specs.Reads.{HasNoEnd, Reads};
+ghost use Rattle.handler_grammar.specs.declared.refusal.SyntaxRefusal.{SyntaxRefusal as Refusal};
 ghost use Rattle.handler_grammar.specs.declared.refusal.SyntaxRefusal.TheVariants as syntax_refusal;
 ghost use Rattle.handler_trees.specs.declared.file.File.{File};
 
@@ -84,15 +85,14 @@ pub fn parse(alloc: Global, source: &str, names: &mut Names) -> Result<File, Syn
     ensures only { (file : File)
         → IsFileWithin (words_of names.old source.now) file
         → MatchResult result (λ read. read ≡ file) (λ e. e ≡ syntax_refusal.NoMemory) }
-    // The walk over the words finds no fault, or this one.
-    ensures exact { MatchResult result
-        (λ file. fault (length source.now) whole_file 0 (words_of names.old source.now) ≡ None)
-        (λ e. e ≢ syntax_refusal.NoMemory
-        → fault (length source.now) whole_file 0 (words_of names.old source.now) ≡ Some e) }
     // What is refused has its first fault here.
     ensures refused { IfErr result (λ e.
         e ≢ syntax_refusal.NoMemory
         → IsFirstFault (length source.now) (words_of names.old source.now) e) }
+    // A source with a first fault is refused for it, unless memory runs out.
+    ensures fault { (e : Refusal)
+        → IsFirstFault (length source.now) (words_of names.old source.now) e
+        → MatchResult result (λ file. ⊥) (λ r. (r ≡ e) ⊎ (r ≡ syntax_refusal.NoMemory)) }
     ensures names { OnOk result (names.new ≡ names_of names.old source.now) }
     // After a refusal too.
     ensures kept { Begins names.old names.new }

@@ -2,7 +2,7 @@
 
 ghost use Rattle.std.specs.Prelude.{◌≡◌, ◌≤◌, ◌+◌, length, drop, IfOk, IfErr, OnOk};
 ghost use Rattle.handler_tokens.specs.Words.{first_word};
-ghost use Rattle.handler_grammar.specs.Next.{max_signs};
+ghost use Rattle.handler_grammar.specs.Bounds.{max_signs};
 ghost use Rattle.handler_grammar.specs.declared.refusal.SyntaxRefusal.TheVariants as refusal;
 
 use crate::refusal::SyntaxRefusal;

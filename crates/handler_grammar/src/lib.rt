@@ -13,8 +13,6 @@ mod parse_table;
 mod parse_words;
 mod refusal;
 mod sorts;
-#[cfg(test)]
-mod tests;
 
 pub use file::parse;
 pub use handler_trees::{

@@ -3,7 +3,8 @@
 ghost use Rattle.std.specs.Prelude.{◌≡◌, ◌≤◌, ◌<◌, ◌^◌, ◌∷◌, [], length, OnOk, Some};
 ghost use Rattle.handler_tokens.specs.Words.{first_word};
 ghost use Rattle.handler_tokens.specs.declared.word.Sort.TheVariants as sort;
-ghost use Rattle.handler_grammar.specs.Next.{Inside, a_block, or_else, statements, max_depth};
+ghost use Rattle.handler_grammar.specs.Bounds.{max_depth};
+ghost use Rattle.handler_grammar.specs.Next.{Inside, a_block, or_else, statements};
 ghost use Rattle.handler_grammar.specs.Phrase as spec;
 ghost use Rattle.handler_grammar.specs.Sorts as sorts;
 ghost use Rattle.handler_grammar.specs.Tree as tree;

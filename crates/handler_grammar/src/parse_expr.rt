@@ -1,7 +1,8 @@
 // Expressions, where `*` binds tighter than `+` and `-`.
 
 ghost use Rattle.std.specs.Prelude.{◌≡◌, ◌≤◌, ◌∷◌, [], IfOk};
-ghost use Rattle.handler_grammar.specs.Next.{Anywhere, Opened, expression, operand, more_factors, more_terms, closing, max_open};
+ghost use Rattle.handler_grammar.specs.Bounds.{max_open};
+ghost use Rattle.handler_grammar.specs.Next.{Anywhere, Opened, expression, operand, more_factors, more_terms, closing};
 ghost use Rattle.handler_grammar.specs.Phrase as spec;
 ghost use Rattle.handler_grammar.specs.Tree.{factor_tree, term_tree, expr_tree};
 ghost use Rattle.handler_grammar.specs.Reads.{Reads};

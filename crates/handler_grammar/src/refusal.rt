@@ -63,34 +63,6 @@ impl<T: Drop> From<AllocFailed<T>> for SyntaxRefusal {
     }
 }
 
-fn kind_of(sort: Sort) -> TokenKind
-    ensures { result ≡ spec.kind_of sort }
-{
-    match sort {
-        Sort::Name(_) => TokenKind::Name,
-        Sort::Symbol(_) => TokenKind::Symbol,
-        Sort::Number(_) => TokenKind::Number,
-        Sort::Comma
-        | Sort::Semicolon
-        | Sort::Assign
-        | Sort::LeftParen
-        | Sort::RightParen
-        | Sort::LeftBrace
-        | Sort::RightBrace
-        | Sort::Same
-        | Sort::Differ
-        | Sort::Less
-        | Sort::LessOrSame
-        | Sort::Plus
-        | Sort::Minus
-        | Sort::Times => TokenKind::Sign,
-        Sort::Long => TokenKind::Long,
-        Sort::Bad => TokenKind::Bad,
-        Sort::End => TokenKind::End,
-        _ => TokenKind::Key,
-    }
-}
-
 /// Why a word that no rule takes is refused.
 pub(crate) fn refusal(word: Word) -> SyntaxRefusal
     ensures { result ≡ spec.refusal word }
@@ -100,7 +72,7 @@ pub(crate) fn refusal(word: Word) -> SyntaxRefusal
         Sort::Long => SyntaxRefusal::NameTooLong { at: word.at },
         sort => SyntaxRefusal::Unexpected {
             at: word.at,
-            found: kind_of(sort),
+            found: sort.kind(),
         },
     }
 }

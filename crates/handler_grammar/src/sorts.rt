@@ -23,16 +23,7 @@ pub(crate) fn operation(sort: Sort) -> Option<Kind>
     ensures { result ≡ spec.operation sort }
 {
     match sort {
-        Sort::Get => Some(Kind::Get),
-        Sort::Put => Some(Kind::Put),
-        Sort::Swap => Some(Kind::Swap),
-        Sort::Del => Some(Kind::Del),
-        Sort::Size => Some(Kind::Size),
-        Sort::Has => Some(Kind::Has),
-        Sort::Add => Some(Kind::Add),
-        Sort::Mark => Some(Kind::Mark),
-        Sort::Drop => Some(Kind::Drop),
-        Sort::Count => Some(Kind::Count),
+        Sort::Do(kind) => Some(kind),
         _ => None,
     }
 }
@@ -42,10 +33,7 @@ pub(crate) fn comparison(sort: Sort) -> Option<Compare>
     ensures { result ≡ spec.comparison sort }
 {
     match sort {
-        Sort::Same => Some(Compare::Same),
-        Sort::Differ => Some(Compare::Differ),
-        Sort::Less => Some(Compare::Less),
-        Sort::LessOrSame => Some(Compare::LessOrSame),
+        Sort::Compare(compare) => Some(compare),
         _ => None,
     }
 }
@@ -55,8 +43,7 @@ pub(crate) fn table_kind(sort: Sort) -> Option<TableKind>
     ensures { result ≡ spec.table_kind sort }
 {
     match sort {
-        Sort::Map => Some(TableKind::Map),
-        Sort::Set => Some(TableKind::Set),
+        Sort::Table(kind) => Some(kind),
         _ => None,
     }
 }

@@ -16,7 +16,7 @@ use Rattle.handler_trees.specs.declared.expr.Calc.TheVariants as calc
 use Rattle.handler_trees.specs.declared.stmt.Compare.{Compare}
 use Rattle.handler_trees.specs.declared.stmt.Compare.TheVariants as compare
 use Rattle.handler_printing.specs.Canonical.{operator_text, compare_text, table_word}
-use Rattle.handler_printing.specs.CanonicalWords.{operation_sort, calc_sort, comparison_sort, table_sort}
+use Rattle.handler_printing.specs.CanonicalWords.{calc_sort}
 use Rattle.handler_printing.proofs.Lexing.{Reading, reading, behind, blank, line_feed, token}
 
 -- with one word before
@@ -57,21 +57,21 @@ module _ (names : List (List ℕ)) where
   unfolding scan scan_sign sign_of
   assign rest = blank names (codes "= " ++ rest) ∙ token names 61 ([]) (32 ∷ rest) kind.Sign sort.Assign refl refl refl refl ∙ ap (one sort.Assign) (blank names rest)
 
-  pub same : (rest : List ℕ) → read (codes " == " ++ rest) ≡ one sort.Same (read rest)
+  pub same : (rest : List ℕ) → read (codes " == " ++ rest) ≡ one (sort.Compare compare.Same) (read rest)
   unfolding scan scan_sign sign_of
-  same rest = blank names (codes "== " ++ rest) ∙ token names 61 (61 ∷ []) (32 ∷ rest) kind.Sign sort.Same refl refl refl refl ∙ ap (one sort.Same) (blank names rest)
+  same rest = blank names (codes "== " ++ rest) ∙ token names 61 (61 ∷ []) (32 ∷ rest) kind.Sign (sort.Compare compare.Same) refl refl refl refl ∙ ap (one (sort.Compare compare.Same)) (blank names rest)
 
-  pub differ : (rest : List ℕ) → read (codes " != " ++ rest) ≡ one sort.Differ (read rest)
+  pub differ : (rest : List ℕ) → read (codes " != " ++ rest) ≡ one (sort.Compare compare.Differ) (read rest)
   unfolding scan scan_sign sign_of
-  differ rest = blank names (codes "!= " ++ rest) ∙ token names 33 (61 ∷ []) (32 ∷ rest) kind.Sign sort.Differ refl refl refl refl ∙ ap (one sort.Differ) (blank names rest)
+  differ rest = blank names (codes "!= " ++ rest) ∙ token names 33 (61 ∷ []) (32 ∷ rest) kind.Sign (sort.Compare compare.Differ) refl refl refl refl ∙ ap (one (sort.Compare compare.Differ)) (blank names rest)
 
-  pub less : (rest : List ℕ) → read (codes " < " ++ rest) ≡ one sort.Less (read rest)
+  pub less : (rest : List ℕ) → read (codes " < " ++ rest) ≡ one (sort.Compare compare.Less) (read rest)
   unfolding scan scan_sign sign_of
-  less rest = blank names (codes "< " ++ rest) ∙ token names 60 ([]) (32 ∷ rest) kind.Sign sort.Less refl refl refl refl ∙ ap (one sort.Less) (blank names rest)
+  less rest = blank names (codes "< " ++ rest) ∙ token names 60 ([]) (32 ∷ rest) kind.Sign (sort.Compare compare.Less) refl refl refl refl ∙ ap (one (sort.Compare compare.Less)) (blank names rest)
 
-  pub less_or_same : (rest : List ℕ) → read (codes " <= " ++ rest) ≡ one sort.LessOrSame (read rest)
+  pub less_or_same : (rest : List ℕ) → read (codes " <= " ++ rest) ≡ one (sort.Compare compare.LessOrSame) (read rest)
   unfolding scan scan_sign sign_of
-  less_or_same rest = blank names (codes "<= " ++ rest) ∙ token names 60 (61 ∷ []) (32 ∷ rest) kind.Sign sort.LessOrSame refl refl refl refl ∙ ap (one sort.LessOrSame) (blank names rest)
+  less_or_same rest = blank names (codes "<= " ++ rest) ∙ token names 60 (61 ∷ []) (32 ∷ rest) kind.Sign (sort.Compare compare.LessOrSame) refl refl refl refl ∙ ap (one (sort.Compare compare.LessOrSame)) (blank names rest)
 
   pub plus : (rest : List ℕ) → read (codes " + " ++ rest) ≡ one sort.Plus (read rest)
   unfolding scan scan_sign sign_of
@@ -95,7 +95,7 @@ module _ (names : List (List ℕ)) where
   operator calc.Minus rest = minus rest
   operator calc.Times rest = times rest
 
-  pub comparison : (c : Compare) (rest : List ℕ) → read (compare_text c ++ rest) ≡ one (comparison_sort c) (read rest)
+  pub comparison : (c : Compare) (rest : List ℕ) → read (compare_text c ++ rest) ≡ one (sort.Compare c) (read rest)
   comparison compare.Same rest = same rest
   comparison compare.Differ rest = differ rest
   comparison compare.Less rest = less rest
@@ -123,13 +123,13 @@ module _ (names : List (List ℕ)) where
   unfolding scan scan_name keyword_of statement_word_of
   handler_word rest = token names 104 (97 ∷ 110 ∷ 100 ∷ 108 ∷ 101 ∷ 114 ∷ []) (32 ∷ rest) kind.Name sort.Handler refl refl refl refl ∙ ap (one sort.Handler) (blank names rest)
 
-  pub map_word : (rest : List ℕ) → read (codes "map " ++ rest) ≡ one sort.Map (read rest)
+  pub map_word : (rest : List ℕ) → read (codes "map " ++ rest) ≡ one (sort.Table table_kind.Map) (read rest)
   unfolding scan scan_name keyword_of statement_word_of
-  map_word rest = token names 109 (97 ∷ 112 ∷ []) (32 ∷ rest) kind.Name sort.Map refl refl refl refl ∙ ap (one sort.Map) (blank names rest)
+  map_word rest = token names 109 (97 ∷ 112 ∷ []) (32 ∷ rest) kind.Name (sort.Table table_kind.Map) refl refl refl refl ∙ ap (one (sort.Table table_kind.Map)) (blank names rest)
 
-  pub set_word : (rest : List ℕ) → read (codes "set " ++ rest) ≡ one sort.Set (read rest)
+  pub set_word : (rest : List ℕ) → read (codes "set " ++ rest) ≡ one (sort.Table table_kind.Set) (read rest)
   unfolding scan scan_name keyword_of statement_word_of
-  set_word rest = token names 115 (101 ∷ 116 ∷ []) (32 ∷ rest) kind.Name sort.Set refl refl refl refl ∙ ap (one sort.Set) (blank names rest)
+  set_word rest = token names 115 (101 ∷ 116 ∷ []) (32 ∷ rest) kind.Name (sort.Table table_kind.Set) refl refl refl refl ∙ ap (one (sort.Table table_kind.Set)) (blank names rest)
 
   pub else_word : (rest : List ℕ) → read (codes "else " ++ rest) ≡ one sort.Else (read rest)
   unfolding scan scan_name keyword_of statement_word_of
@@ -139,23 +139,23 @@ module _ (names : List (List ℕ)) where
   unfolding scan scan_name keyword_of statement_word_of
   as_word rest = token names 97 (115 ∷ []) (32 ∷ rest) kind.Name sort.As refl refl refl refl ∙ ap (one sort.As) (blank names rest)
 
-  pub table : (k : TableKind) (rest : List ℕ) → read (table_word k ++ rest) ≡ one (table_sort k) (read rest)
+  pub table : (k : TableKind) (rest : List ℕ) → read (table_word k ++ rest) ≡ one (sort.Table k) (read rest)
   table table_kind.Map rest = map_word rest
   table table_kind.Set rest = set_word rest
 
   -- an operation's word stands before a parenthesis
-  pub operation_word : (k : Kind) (rest : List ℕ) → read (word_of k ++ (codes "(" ++ rest)) ≡ one (operation_sort k) (one sort.LeftParen (read rest))
+  pub operation_word : (k : Kind) (rest : List ℕ) → read (word_of k ++ (codes "(" ++ rest)) ≡ one (sort.Do k) (one sort.LeftParen (read rest))
   unfolding scan scan_name keyword_of statement_word_of operation_of
-  operation_word operation.Get rest = token names 103 (101 ∷ 116 ∷ []) (40 ∷ rest) kind.Name sort.Get refl refl refl refl ∙ ap (one sort.Get) (left_paren rest)
-  operation_word operation.Put rest = token names 112 (117 ∷ 116 ∷ []) (40 ∷ rest) kind.Name sort.Put refl refl refl refl ∙ ap (one sort.Put) (left_paren rest)
-  operation_word operation.Swap rest = token names 115 (119 ∷ 97 ∷ 112 ∷ []) (40 ∷ rest) kind.Name sort.Swap refl refl refl refl ∙ ap (one sort.Swap) (left_paren rest)
-  operation_word operation.Del rest = token names 100 (101 ∷ 108 ∷ []) (40 ∷ rest) kind.Name sort.Del refl refl refl refl ∙ ap (one sort.Del) (left_paren rest)
-  operation_word operation.Size rest = token names 115 (105 ∷ 122 ∷ 101 ∷ []) (40 ∷ rest) kind.Name sort.Size refl refl refl refl ∙ ap (one sort.Size) (left_paren rest)
-  operation_word operation.Has rest = token names 104 (97 ∷ 115 ∷ []) (40 ∷ rest) kind.Name sort.Has refl refl refl refl ∙ ap (one sort.Has) (left_paren rest)
-  operation_word operation.Add rest = token names 97 (100 ∷ 100 ∷ []) (40 ∷ rest) kind.Name sort.Add refl refl refl refl ∙ ap (one sort.Add) (left_paren rest)
-  operation_word operation.Mark rest = token names 109 (97 ∷ 114 ∷ 107 ∷ []) (40 ∷ rest) kind.Name sort.Mark refl refl refl refl ∙ ap (one sort.Mark) (left_paren rest)
-  operation_word operation.Drop rest = token names 100 (114 ∷ 111 ∷ 112 ∷ []) (40 ∷ rest) kind.Name sort.Drop refl refl refl refl ∙ ap (one sort.Drop) (left_paren rest)
-  operation_word operation.Count rest = token names 99 (111 ∷ 117 ∷ 110 ∷ 116 ∷ []) (40 ∷ rest) kind.Name sort.Count refl refl refl refl ∙ ap (one sort.Count) (left_paren rest)
+  operation_word operation.Get rest = token names 103 (101 ∷ 116 ∷ []) (40 ∷ rest) kind.Name (sort.Do operation.Get) refl refl refl refl ∙ ap (one (sort.Do operation.Get)) (left_paren rest)
+  operation_word operation.Put rest = token names 112 (117 ∷ 116 ∷ []) (40 ∷ rest) kind.Name (sort.Do operation.Put) refl refl refl refl ∙ ap (one (sort.Do operation.Put)) (left_paren rest)
+  operation_word operation.Swap rest = token names 115 (119 ∷ 97 ∷ 112 ∷ []) (40 ∷ rest) kind.Name (sort.Do operation.Swap) refl refl refl refl ∙ ap (one (sort.Do operation.Swap)) (left_paren rest)
+  operation_word operation.Del rest = token names 100 (101 ∷ 108 ∷ []) (40 ∷ rest) kind.Name (sort.Do operation.Del) refl refl refl refl ∙ ap (one (sort.Do operation.Del)) (left_paren rest)
+  operation_word operation.Size rest = token names 115 (105 ∷ 122 ∷ 101 ∷ []) (40 ∷ rest) kind.Name (sort.Do operation.Size) refl refl refl refl ∙ ap (one (sort.Do operation.Size)) (left_paren rest)
+  operation_word operation.Has rest = token names 104 (97 ∷ 115 ∷ []) (40 ∷ rest) kind.Name (sort.Do operation.Has) refl refl refl refl ∙ ap (one (sort.Do operation.Has)) (left_paren rest)
+  operation_word operation.Add rest = token names 97 (100 ∷ 100 ∷ []) (40 ∷ rest) kind.Name (sort.Do operation.Add) refl refl refl refl ∙ ap (one (sort.Do operation.Add)) (left_paren rest)
+  operation_word operation.Mark rest = token names 109 (97 ∷ 114 ∷ 107 ∷ []) (40 ∷ rest) kind.Name (sort.Do operation.Mark) refl refl refl refl ∙ ap (one (sort.Do operation.Mark)) (left_paren rest)
+  operation_word operation.Drop rest = token names 100 (114 ∷ 111 ∷ 112 ∷ []) (40 ∷ rest) kind.Name (sort.Do operation.Drop) refl refl refl refl ∙ ap (one (sort.Do operation.Drop)) (left_paren rest)
+  operation_word operation.Count rest = token names 99 (111 ∷ 117 ∷ 110 ∷ 116 ∷ []) (40 ∷ rest) kind.Name (sort.Do operation.Count) refl refl refl refl ∙ ap (one (sort.Do operation.Count)) (left_paren rest)
 
   -- ---- ends of lines
 

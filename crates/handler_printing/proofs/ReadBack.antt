@@ -109,7 +109,7 @@ module _ (names : List (List ℕ)) (distinct : AreDistinct names) where
       let after = codes ")" ++ rest in
       let args = Canonical.further (map texts call.args) after in
       operation_word names call.kind (Canonical.name_text names call.table args)
-      ∙ ap (λ r. one (CanonicalWords.operation_sort call.kind) (one sort.LeftParen r))
+      ∙ ap (λ r. one (sort.Do call.kind) (one sort.LeftParen r))
       (name names call.table args distinct h.0 (further_ends texts CanonicalWords.atom_sorts call.args after refl)
       ∙ ap (one (sort.Name call.table))
       (further_reads texts CanonicalWords.atom_sorts call.args (all_of atom_mentions _ atom_reads call.args h.1) after refl ∙ ap (behind (CanonicalWords.further_sorts (map CanonicalWords.atom_sorts call.args))) (right_paren names rest)))
@@ -182,7 +182,7 @@ module _ (names : List (List ℕ)) (distinct : AreDistinct names) where
       let k = both (expr_mentions cond.left) (expr_mentions cond.right) h in
       let second = Canonical.whole_text names cond.right rest in
       whole_reads cond.left k.0 (Canonical.compare_text cond.compare ++ second) (comparison_ends cond.compare second)
-      ∙ ap (behind (CanonicalWords.whole_sorts cond.left)) (comparison names cond.compare second ∙ ap (one (CanonicalWords.comparison_sort cond.compare)) (whole_reads cond.right k.1 rest ends))
+      ∙ ap (behind (CanonicalWords.whole_sorts cond.left)) (comparison names cond.compare second ∙ ap (one (sort.Compare cond.compare)) (whole_reads cond.right k.1 rest ends))
 
   right_reads : (r : Right) → Readable (right_mentions r) → Reads (Canonical.right_text names r) (CanonicalWords.right_sorts r)
   right_reads (right.Plain e) h rest ends = whole_reads e h rest ends
@@ -299,7 +299,7 @@ module _ (names : List (List ℕ)) (distinct : AreDistinct names) where
   table_reads : (t : TableDecl) → Readable (table_mentions t) → Closed (Canonical.table_text names t) (CanonicalWords.table_sorts t)
   table_reads t h rest =
       let after = codes ";\n" ++ rest in
-      table names t.kind (Canonical.name_text names t.name after) ∙ ap (one (CanonicalWords.table_sort t.kind)) (name names t.name after distinct h.0 refl ∙ ap (one (sort.Name t.name)) (semicolon_line names rest))
+      table names t.kind (Canonical.name_text names t.name after) ∙ ap (one (sort.Table t.kind)) (name names t.name after distinct h.0 refl ∙ ap (one (sort.Name t.name)) (semicolon_line names rest))
 
   param_reads : (p : Param) → Readable (param_mentions p) → Reads (Canonical.param_text names p) (CanonicalWords.param_sorts p)
   param_reads p h rest ends = name names p.name rest distinct h.0 ends

@@ -1,9 +1,5 @@
 -- The words of a file's canonical text, places aside. Those of each part are followed by the given ones.
 use Rattle.std.specs.Prelude.{ℕ, suc, ℤ, pos, negsuc, if◌then◌else◌, List, [], ◌∷◌, map}
-use Rattle.session_values.specs.declared.kind.Kind.{Kind}
-use Rattle.session_values.specs.declared.kind.Kind.TheVariants as operation
-use Rattle.session_values.specs.declared.kind.TableKind.{TableKind}
-use Rattle.session_values.specs.declared.kind.TableKind.TheVariants as table_kind
 use Rattle.session_values.specs.declared.value.Value.{Value}
 use Rattle.session_values.specs.declared.value.Value.TheVariants as value
 use Rattle.handler_tokens.specs.declared.word.Sort.{Sort}
@@ -15,8 +11,6 @@ use Rattle.handler_trees.specs.declared.expr.Calc.TheVariants as calc
 use Rattle.handler_trees.specs.declared.expr.Expr.{Expr, fold-Expr}
 use Rattle.handler_trees.specs.declared.expr.Expr.TheOpen.{Expr-F}
 use Rattle.handler_trees.specs.declared.stmt.Call.{Call}
-use Rattle.handler_trees.specs.declared.stmt.Compare.{Compare}
-use Rattle.handler_trees.specs.declared.stmt.Compare.TheVariants as compare
 use Rattle.handler_trees.specs.declared.stmt.Cond.{Cond}
 use Rattle.handler_trees.specs.declared.stmt.Right.{Right}
 use Rattle.handler_trees.specs.declared.stmt.Right.TheVariants as right
@@ -50,32 +44,10 @@ listed_sorts (w ∷ ws) rest = w (further_sorts ws rest)
 
 -- ---- single words
 
-abbrev pub operation_sort : Kind → Sort
-operation_sort operation.Get = sort.Get
-operation_sort operation.Put = sort.Put
-operation_sort operation.Swap = sort.Swap
-operation_sort operation.Del = sort.Del
-operation_sort operation.Size = sort.Size
-operation_sort operation.Has = sort.Has
-operation_sort operation.Add = sort.Add
-operation_sort operation.Mark = sort.Mark
-operation_sort operation.Drop = sort.Drop
-operation_sort operation.Count = sort.Count
-
 abbrev pub calc_sort : Calc → Sort
 calc_sort calc.Plus = sort.Plus
 calc_sort calc.Minus = sort.Minus
 calc_sort calc.Times = sort.Times
-
-abbrev pub comparison_sort : Compare → Sort
-comparison_sort compare.Same = sort.Same
-comparison_sort compare.Differ = sort.Differ
-comparison_sort compare.Less = sort.Less
-comparison_sort compare.LessOrSame = sort.LessOrSame
-
-abbrev pub table_sort : TableKind → Sort
-table_sort table_kind.Map = sort.Map
-table_sort table_kind.Set = sort.Set
 
 -- ---- literals, calls and expressions
 
@@ -93,7 +65,7 @@ atom_sorts (atom.Lit v) rest = literal_sorts v rest
 atom_sorts (atom.Name n p) rest = sort.Name n ∷ rest
 
 abbrev pub call_sorts : Call → Sorts
-call_sorts call rest = operation_sort call.kind ∷ sort.LeftParen ∷ sort.Name call.table ∷ further_sorts (map atom_sorts call.args) (sort.RightParen ∷ rest)
+call_sorts call rest = sort.Do call.kind ∷ sort.LeftParen ∷ sort.Name call.table ∷ further_sorts (map atom_sorts call.args) (sort.RightParen ∷ rest)
 
 abbrev pub opening_sorts : Level → Calc → Sorts
 opening_sorts l c rest = if is_bracketed l c then sort.LeftParen ∷ rest else rest
@@ -113,7 +85,7 @@ abbrev pub whole_sorts : Expr → Sorts
 whole_sorts e = expr_sorts e level.Whole
 
 abbrev pub cond_sorts : Cond → Sorts
-cond_sorts cond rest = whole_sorts cond.left (comparison_sort cond.compare ∷ whole_sorts cond.right rest)
+cond_sorts cond rest = whole_sorts cond.left (sort.Compare cond.compare ∷ whole_sorts cond.right rest)
 
 abbrev pub right_sorts : Right → Sorts
 right_sorts (right.Plain e) rest = whole_sorts e rest
@@ -151,7 +123,7 @@ block_sorts block rest = each_sorts (map stmt_sorts block) rest
 -- ---- files
 
 abbrev pub table_sorts : TableDecl → Sorts
-table_sorts t rest = table_sort t.kind ∷ sort.Name t.name ∷ sort.Semicolon ∷ rest
+table_sorts t rest = sort.Table t.kind ∷ sort.Name t.name ∷ sort.Semicolon ∷ rest
 
 abbrev pub param_sorts : Param → Sorts
 param_sorts p rest = sort.Name p.name ∷ rest

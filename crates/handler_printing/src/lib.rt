@@ -7,6 +7,3 @@ mod piece;
 mod stmt;
 
 pub use file::print;
-
-#[cfg(test)]
-mod tests;

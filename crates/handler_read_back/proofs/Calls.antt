@@ -14,7 +14,7 @@ use Rattle.handler_grammar.specs.Sorts as grammar
 use Rattle.handler_grammar.specs.Phrase.{named, MoreAtoms, no_atom, more_atom, atom_count, ArgumentsPhrase, operands, CallPhrase, a_call, RightPhrase, result_right, plain_right, CondPhrase, a_cond, MoreValues, no_value, more_value, value_count, ValuesPhrase, atoms_words, arguments_words, call_words, right_words, cond_words, more_words, values_words}
 use Rattle.handler_grammar.specs.Tree.{atom_tree, atoms_trees, call_tree, right_tree, cond_tree, expr_tree, more_trees, values_trees}
 use Rattle.handler_grammar.specs.Limits.{AtomsFit, CallFits, RightFits, CondFits, MoreFit, ValuesFit}
-use Rattle.handler_printing.specs.CanonicalWords.{operation_sort, comparison_sort, atom_sorts, further_sorts, listed_sorts, call_sorts, whole_sorts, right_sorts, cond_sorts}
+use Rattle.handler_printing.specs.CanonicalWords.{atom_sorts, further_sorts, listed_sorts, call_sorts, whole_sorts, right_sorts, cond_sorts}
 use Rattle.handler_read_back.specs.SameTree.{atom_bare, expr_bare, call_bare, right_bare, cond_bare}
 use Rattle.handler_read_back.proofs.Atoms.{atom_reads}
 use Rattle.handler_read_back.proofs.Exprs.{whole_reads}
@@ -47,18 +47,6 @@ arguments_read xs h =
 
 -- ---- operations
 
-same_operation : (k : Kind) → operation_sort k ≡ grammar.operation_sort k
-same_operation operation.Get = refl
-same_operation operation.Put = refl
-same_operation operation.Swap = refl
-same_operation operation.Del = refl
-same_operation operation.Size = refl
-same_operation operation.Has = refl
-same_operation operation.Add = refl
-same_operation operation.Mark = refl
-same_operation operation.Drop = refl
-same_operation operation.Count = refl
-
 pub record IsCall (c d : CallPhrase) : Type 0 where
   pub tree : call_bare (call_tree d) ≡ call_bare (call_tree c)
   pub fits : CallFits d
@@ -69,10 +57,9 @@ bare_call k n args = record { kind = k; at = 0; table = n; table_at = 0; args = 
 pub call_reads : (c : CallPhrase) → CallFits c → Reads call_words (IsCall c) (call_sorts (call_tree c))
 unfolding bare_call
 call_reads (a_call k p (operands l (named n q) xs r)) h =
-    sorted (λ ss. ap (λ s. s ∷ sort.LeftParen ∷ sort.Name n ∷ further_sorts (map atom_sorts (atoms_trees xs.atoms)) (sort.RightParen ∷ ss)) (same_operation k))
-    (made (followed (mark (grammar.operation_sort k)) (followed (mark sort.LeftParen) (followed (mark (sort.Name n)) (followed (arguments_read xs h) (mark sort.RightParen)))))
+    made (followed (mark (sort.Do k)) (followed (mark sort.LeftParen) (followed (mark (sort.Name n)) (followed (arguments_read xs h) (mark sort.RightParen)))))
     (λ x. a_call k x.0 (operands x.1.0 (named n x.1.1.0) x.1.1.1.0 x.1.1.1.1)) (λ x rest. refl)
-    (λ x g. record { tree = ap (bare_call k n) g.1.1.1.0.tree; fits = g.1.1.1.0.fits }))
+    (λ x g. record { tree = ap (bare_call k n) g.1.1.1.0.tree; fits = g.1.1.1.0.fits })
 
 -- ---- right sides and conditions
 
@@ -84,12 +71,6 @@ pub right_reads : (r : RightPhrase) → RightFits r → Reads right_words (IsRig
 right_reads (result_right c) h = made (call_reads c h) result_right (λ d rest. refl) (λ d g. record { tree = ap right.Result g.tree; fits = g.fits })
 right_reads (plain_right e) h = made (whole_reads e h) plain_right (λ x rest. refl) (λ x g. record { tree = ap right.Plain g.tree; fits = g.fits })
 
-same_comparison : (c : Compare) → comparison_sort c ≡ grammar.comparison_sort c
-same_comparison compare.Same = refl
-same_comparison compare.Differ = refl
-same_comparison compare.Less = refl
-same_comparison compare.LessOrSame = refl
-
 pub record IsCond (c d : CondPhrase) : Type 0 where
   pub tree : cond_bare (cond_tree d) ≡ cond_bare (cond_tree c)
   pub fits : CondFits d
@@ -100,12 +81,11 @@ bare_cond c a b = record { compare = c; left = a; right = b }
 pub cond_reads : (c : CondPhrase) → CondFits c → Reads cond_words (IsCond c) (cond_sorts (cond_tree c))
 unfolding bare_cond
 cond_reads (a_cond a c p b) h =
-    sorted (λ ss. ap (λ s. whole_sorts (expr_tree a) (s ∷ whole_sorts (expr_tree b) ss)) (same_comparison c))
-    (made (followed (whole_reads a h.0) (followed (mark (grammar.comparison_sort c)) (whole_reads b h.1))) (λ x. a_cond x.0 c x.1.0 x.1.1) (λ x rest. refl)
+    made (followed (whole_reads a h.0) (followed (mark (sort.Compare c)) (whole_reads b h.1))) (λ x. a_cond x.0 c x.1.0 x.1.1) (λ x rest. refl)
     (λ x g. record {
       tree = ap (λ y. bare_cond c y (expr_bare (expr_tree x.1.1))) g.0.tree ∙ ap (bare_cond c (expr_bare (expr_tree a))) g.1.1.tree;
       fits = (g.0.fits, g.1.1.fits);
-    }))
+    })
 
 -- ---- the values of a reply
 

@@ -6,7 +6,7 @@ use Rattle.handler_trees.specs.declared.expr.Calc.{Calc}
 use Rattle.handler_trees.specs.declared.expr.Calc.TheVariants as calc
 use Rattle.handler_trees.specs.declared.expr.Expr.{Expr}
 use Rattle.handler_trees.specs.declared.expr.Expr.TheVariants as expr
-use Rattle.handler_grammar.specs.Next.{max_open}
+use Rattle.handler_grammar.specs.Bounds.{max_open}
 use Rattle.handler_grammar.specs.Phrase.{AtomPhrase, FactorPhrase, plain, grouped, MoreFactors, no_factor, times, TermPhrase, term, MoreTerms, no_term, plus, minus, ExprPhrase, sum, factor_words, term_words, expr_words}
 use Rattle.handler_grammar.specs.Tree.{atom_tree, factor_tree, factors_tree, term_tree, terms_tree, expr_tree}
 use Rattle.handler_grammar.specs.Limits.{AtomFits, factor_signs, factors_signs, term_signs, terms_signs, expr_signs, FactorFits, FactorsFit, TermFits, TermsFit, GroupFits, ExprFits}

@@ -16,7 +16,7 @@ use Rattle.handler_grammar.specs.Phrase.{NamePhrase, named, MoreParams, no_more,
 use Rattle.handler_grammar.specs.Tree.{param_of, more_params_trees, params_trees, stmts_trees, handler_tree, handlers_trees, table_tree, tables_trees, file_tree}
 use Rattle.handler_grammar.specs.Limits.{HandlersFit, FileFits, IsFileWithin}
 use Rattle.handler_printing.specs.Canonical.{canonical_text}
-use Rattle.handler_printing.specs.CanonicalWords.{each_sorts, further_sorts, listed_sorts, table_sort, param_sorts, handler_sorts, table_sorts, canonical_words}
+use Rattle.handler_printing.specs.CanonicalWords.{each_sorts, further_sorts, listed_sorts, param_sorts, handler_sorts, table_sorts, canonical_words}
 use Rattle.handler_printing.specs.Mentions.{file_mentions}
 use Rattle.handler_printing.specs.Readable.{AreReadable}
 use Rattle.handler_printing.proofs.ReadBack as printed
@@ -89,20 +89,15 @@ handlers_read (more_handlers (a_handler p n l ps r b) hs) h =
 
 -- ---- tables
 
-same_kind : (k : TableKind) → table_sort k ≡ grammar.table_sort k
-same_kind kind.Map = refl
-same_kind kind.Set = refl
-
 record AreTables (ts us : TablesPhrase) : Type 0 where
   tree : map table_bare (tables_trees us) ≡ map table_bare (tables_trees ts)
 
 tables_read : (ts : TablesPhrase) → Reads tables_words (AreTables ts) (each_sorts (map table_sorts (tables_trees ts)))
 tables_read no_table = empty no_table (λ rest. refl) (record { tree = refl })
 tables_read (more_tables (a_table k p (named n q) e) ts) =
-    sorted (λ ss. ap (λ s. s ∷ sort.Name n ∷ sort.Semicolon ∷ each_sorts (map table_sorts (tables_trees ts)) ss) (same_kind k))
-    (made (followed (mark (grammar.table_sort k)) (followed (mark (sort.Name n)) (followed (mark sort.Semicolon) (tables_read ts))))
+    made (followed (mark (sort.Table k)) (followed (mark (sort.Name n)) (followed (mark sort.Semicolon) (tables_read ts))))
     (λ x. more_tables (a_table k x.0 (named n x.1.0) x.1.1.0) x.1.1.1) (λ x rest. refl)
-    (λ x g. record { tree = ap (λ l. table_bare (table_tree (a_table k p (named n q) e)) ∷ l) g.1.1.1.tree }))
+    (λ x g. record { tree = ap (λ l. table_bare (table_tree (a_table k p (named n q) e)) ∷ l) g.1.1.1.tree })
 
 -- ---- files
 

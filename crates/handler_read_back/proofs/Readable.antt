@@ -13,7 +13,6 @@ use Rattle.handler_trees.specs.declared.expr.Calc.TheVariants as calc
 use Rattle.handler_trees.specs.declared.expr.Expr.{Expr}
 use Rattle.handler_trees.specs.declared.expr.Expr.TheVariants as expr
 use Rattle.handler_trees.specs.declared.file.File.{File}
-use Rattle.handler_grammar.specs.Sorts.{comparison_sort}
 use Rattle.handler_grammar.specs.Phrase.{word, NamePhrase, named, name_words, digits, AtomPhrase, name_atom, nil_atom, symbol_atom, number_atom, negative_atom, atom_words, FactorPhrase, plain, grouped, factor_words, MoreFactors, no_factor, times, factors_words, TermPhrase, term, term_words, MoreTerms, no_term, plus, minus, terms_words, ExprPhrase, sum, expr_words, MoreAtoms, no_atom, more_atom, atoms_words, CallPhrase, a_call, operands, call_words, RightPhrase, result_right, plain_right, right_words, CondPhrase, a_cond, cond_words, a_turns, MoreValues, no_value, more_value, more_words, StmtPhrase, let_stmt, assign_stmt, call_stmt, if_stmt, repeat_stmt, reply_stmt, stmt_words, ElsePhrase, no_else, an_else, else_words, StmtsPhrase, no_stmt, more_stmts, stmts_words, BlockPhrase, block, block_words, MoreParams, no_more, more_param, more_params_words, ParamsPhrase, no_param, some_params, params_words, HandlersPhrase, no_handler, more_handlers, a_handler, handlers_words, TablesPhrase, no_table, more_tables, a_table, tables_words, FilePhrase, a_file, file_words}
 use Rattle.handler_grammar.specs.Tree.{atom_tree, factor_tree, factors_tree, term_tree, terms_tree, expr_tree, atoms_trees, call_tree, right_tree, cond_tree, more_trees, stmt_tree, else_trees, stmts_trees, block_trees, more_params_trees, params_trees, handlers_trees, tables_trees, file_tree}
 use Rattle.handler_grammar.specs.Limits.{AtomFits, FactorFits, FactorsFit, TermFits, TermsFit, GroupFits, AtomsFit, CallFits, RightFits, CondFits, MoreFit, StmtFits, ElseFits, StmtsFit, BlockFits, HandlersFit, FileFits, IsFileWithin}
@@ -88,7 +87,7 @@ module _ (names : List (List ℕ)) where
 
   cond_read : (c : CondPhrase) (rest : List Word) → CondFits c → AllRead (cond_words c rest) → Readable (cond_mentions (cond_tree c)) × AllRead rest
   cond_read (a_cond a c p b) rest fits h =
-      let k = expr_read a 0 (word (comparison_sort c) p ∷ expr_words b rest) fits.0.0 h in
+      let k = expr_read a 0 (word (sort.Compare c) p ∷ expr_words b rest) fits.0.0 h in
       let m = expr_read b 0 rest fits.1.0 k.1.1 in
       (both (expr_mentions (expr_tree a)) (expr_mentions (expr_tree b)) k.0 m.0, m.1)
 

@@ -4,7 +4,7 @@ use Rattle.handler_tokens.specs.declared.word.Sort.{Sort}
 use Rattle.handler_tokens.specs.declared.word.Sort.TheVariants as sort
 use Rattle.handler_tokens.specs.declared.word.Word.{Word}
 use Rattle.handler_trees.specs.declared.stmt.Stmt.TheVariants as stmt
-use Rattle.handler_grammar.specs.Next.{max_depth}
+use Rattle.handler_grammar.specs.Bounds.{max_depth}
 use Rattle.handler_grammar.specs.Phrase.{word, named, digits, a_turns, StmtPhrase, let_stmt, assign_stmt, call_stmt, if_stmt, repeat_stmt, reply_stmt, ElsePhrase, no_else, an_else, StmtsPhrase, no_stmt, more_stmts, block, stmt_words, else_words, stmts_words}
 use Rattle.handler_grammar.specs.Tree.{right_tree, call_tree, cond_tree, values_trees, stmt_tree, else_trees, stmts_trees}
 use Rattle.handler_grammar.specs.Limits.{StmtFits, ElseFits, StmtsFit}

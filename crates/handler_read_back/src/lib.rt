@@ -3,7 +3,5 @@
 
 mod again;
 pub mod laws;
-#[cfg(test)]
-mod tests;
 
 pub use again::reprint;

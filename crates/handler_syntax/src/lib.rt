@@ -14,6 +14,3 @@ pub use handler_trees::{
 };
 pub use printing::print;
 pub use reading::parse;
-
-#[cfg(test)]
-mod tests;

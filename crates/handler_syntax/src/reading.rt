@@ -1,13 +1,13 @@
 // Reading.
 
-ghost use Rattle.std.specs.Prelude.{◌≡◌, ◌≢◌, ◌≤◌, ◌+◌, length, None, Some, IfOk, OnOk, IfErr, MatchResult};
+ghost use Rattle.std.specs.Prelude.{◌≡◌, ◌≢◌, ◌≤◌, ◌+◌, ◌⊎◌, length, IfOk, OnOk, IfErr, MatchResult};
 ghost use Rattle.session_values.specs.Names.{Begins};
 ghost use Rattle.handler_tokens.specs.Words.{words_of, names_of};
 ghost use Rattle.handler_trees.specs.declared.file.File.{File as Tree};
 ghost use Rattle.handler_grammar.specs.FirstFault.{IsFirstFault};
 ghost use Rattle.handler_grammar.specs.Limits.{IsFileWithin};
 ghost use Rattle.handler_grammar.specs.NamedFile.{IsNamedFile};
-ghost use Rattle.handler_grammar.specs.Next.{fault, whole_file};
+ghost use Rattle.handler_grammar.specs.declared.refusal.SyntaxRefusal.{SyntaxRefusal as Refusal};
 ghost use Rattle.handler_grammar.specs.declared.refusal.SyntaxRefusal.TheVariants as syntax_refusal;
 
 use crate::file::File;
@@ -26,15 +26,14 @@ pub fn parse(alloc: Global, source: &str, names: &mut Names) -> Result<File, Syn
     ensures only { (tree : Tree)
         → IsFileWithin (words_of names.old source.now) tree
         → MatchResult result (λ read. read ≡ tree) (λ e. e ≡ syntax_refusal.NoMemory) }
-    // The walk over the words finds no fault, or this one.
-    ensures exact { MatchResult result
-        (λ file. fault (length source.now) whole_file 0 (words_of names.old source.now) ≡ None)
-        (λ e. e ≢ syntax_refusal.NoMemory
-        → fault (length source.now) whole_file 0 (words_of names.old source.now) ≡ Some e) }
     // What is refused has its first fault here.
     ensures refused { IfErr result (λ e.
         e ≢ syntax_refusal.NoMemory
         → IsFirstFault (length source.now) (words_of names.old source.now) e) }
+    // A source with a first fault is refused for it, unless memory runs out.
+    ensures fault { (e : Refusal)
+        → IsFirstFault (length source.now) (words_of names.old source.now) e
+        → MatchResult result (λ file. ⊥) (λ r. (r ≡ e) ⊎ (r ≡ syntax_refusal.NoMemory)) }
     ensures names { OnOk result (names.new ≡ names_of names.old source.now) }
     // After a refusal too.
     ensures kept { Begins names.old names.new }

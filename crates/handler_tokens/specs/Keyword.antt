@@ -1,6 +1,11 @@
 -- Reserved words and signs.
-use Rattle.std.specs.Prelude.{ℕ, if◌then◌else◌, List, [], ◌∷◌, Option, Some, None, codes}
+use Rattle.std.specs.Prelude.{ℕ, if◌then◌else◌, List, [], ◌∷◌, map, Option, Some, None, codes}
 use Rattle.std.specs.Str.{bytes_eq}
+use Rattle.session_values.specs.declared.kind.Kind.{Kind}
+use Rattle.session_values.specs.declared.kind.Kind.TheVariants as kind
+use Rattle.session_values.specs.declared.kind.TableKind.TheVariants as table
+use Rattle.session_values.specs.Kinds.{word_of}
+use Rattle.handler_trees.specs.declared.stmt.Compare.TheVariants as compare
 use Rattle.handler_tokens.specs.declared.word.Sort.{Sort}
 use Rattle.handler_tokens.specs.declared.word.Sort.TheVariants as sort
 
@@ -9,16 +14,21 @@ abbrev pub sort_in : List (List ℕ × Sort) → List ℕ → Option Sort
 sort_in [] text = None
 sort_in (row ∷ rows) text = if bytes_eq text row.0 then Some row.1 else sort_in rows text
 
+-- all kinds of operations
+abbrev pub kinds : List Kind
+kinds = kind.Get ∷ kind.Put ∷ kind.Swap ∷ kind.Del ∷ kind.Size ∷ kind.Has ∷ kind.Add ∷ kind.Mark ∷ kind.Drop ∷ kind.Count ∷ []
+
+abbrev pub operation_row : Kind → List ℕ × Sort
+operation_row k = (word_of k, sort.Do k)
+
 -- the words of the operations
 abbrev pub operations : List (List ℕ × Sort)
-operations =
-    (codes "get", sort.Get) ∷ (codes "put", sort.Put) ∷ (codes "swap", sort.Swap) ∷ (codes "del", sort.Del) ∷ (codes "size", sort.Size)
-    ∷ (codes "has", sort.Has) ∷ (codes "add", sort.Add) ∷ (codes "mark", sort.Mark) ∷ (codes "drop", sort.Drop) ∷ (codes "count", sort.Count) ∷ []
+operations = map operation_row kinds
 
 -- the other reserved words
 abbrev pub statement_words : List (List ℕ × Sort)
 statement_words =
-    (codes "map", sort.Map) ∷ (codes "set", sort.Set) ∷ (codes "handler", sort.Handler) ∷ (codes "let", sort.Let) ∷ (codes "if", sort.If)
+    (codes "map", sort.Table table.Map) ∷ (codes "set", sort.Table table.Set) ∷ (codes "handler", sort.Handler) ∷ (codes "let", sort.Let) ∷ (codes "if", sort.If)
     ∷ (codes "else", sort.Else) ∷ (codes "repeat", sort.Repeat) ∷ (codes "as", sort.As) ∷ (codes "reply", sort.Reply) ∷ (codes "nil", sort.Nil)
     ∷ (codes "mayuse", sort.MayUse) ∷ (codes "nothing", sort.Nothing) ∷ (codes "any", sort.Any) ∷ []
 
@@ -43,8 +53,8 @@ keyword_of text = or_else (statement_word_of text) (operation_of text)
 abbrev pub signs : List (List ℕ × Sort)
 signs =
     (codes "(", sort.LeftParen) ∷ (codes ")", sort.RightParen) ∷ (codes "{", sort.LeftBrace) ∷ (codes "}", sort.RightBrace) ∷ (codes ",", sort.Comma)
-    ∷ (codes ";", sort.Semicolon) ∷ (codes "=", sort.Assign) ∷ (codes "==", sort.Same) ∷ (codes "!=", sort.Differ) ∷ (codes "<", sort.Less)
-    ∷ (codes "<=", sort.LessOrSame) ∷ (codes "+", sort.Plus) ∷ (codes "-", sort.Minus) ∷ (codes "*", sort.Times) ∷ []
+    ∷ (codes ";", sort.Semicolon) ∷ (codes "=", sort.Assign) ∷ (codes "==", sort.Compare compare.Same) ∷ (codes "!=", sort.Compare compare.Differ) ∷ (codes "<", sort.Compare compare.Less)
+    ∷ (codes "<=", sort.Compare compare.LessOrSame) ∷ (codes "+", sort.Plus) ∷ (codes "-", sort.Minus) ∷ (codes "*", sort.Times) ∷ []
 
 -- the sign that the text is
 unfoldable pub sign_of : List ℕ → Option Sort

@@ -1,8 +1,9 @@
 -- The tokens of a text, in order.
-use Rattle.std.specs.Prelude.{◌≡◌, ℕ, zero, suc, ◌+◌, ◌-◌, false, if◌then◌else◌, List, [], ◌∷◌, ◌++◌, take, drop, length, is_some}
+use Rattle.std.specs.Prelude.{◌≡◌, ℕ, zero, suc, ◌+◌, ◌-◌, false, if◌then◌else◌, List, [], ◌∷◌, ◌++◌, take, drop, length, Option, None, is_some}
 use Rattle.handler_tokens.specs.declared.token_kind.TokenKind.{TokenKind}
 use Rattle.handler_tokens.specs.declared.token_kind.TokenKind.TheVariants as kind
 use Rattle.handler_tokens.specs.declared.token.Token.{Token}
+use Rattle.handler_tokens.specs.declared.word.Sort.{Sort}
 use Rattle.handler_tokens.specs.Keyword.{keyword_of}
 use Rattle.handler_tokens.specs.Scan.{gap, scan}
 
@@ -10,6 +11,11 @@ use Rattle.handler_tokens.specs.Scan.{gap, scan}
 abbrev pub with_reserved : TokenKind → List ℕ → TokenKind
 with_reserved kind.Name text = if is_some (keyword_of text) then kind.Key else kind.Name
 with_reserved k text = k
+
+-- what a token of this kind is to the grammar, where it is a reserved word
+abbrev pub reserved_by : TokenKind → List ℕ → Option Sort
+reserved_by kind.Key text = keyword_of text
+reserved_by k text = None
 
 -- a token, without where its text lies in memory
 pub record Piece : Type 0 where

@@ -84,3 +84,24 @@ IsNamedSort names s = Unit {0}
 -- the same of a word
 abbrev pub IsNamedWord : List (List ℕ) → Word → Type 0
 IsNamedWord names word = IsNamedSort names word.sort
+
+-- the kind of a word's token
+abbrev pub kind_of : Sort → TokenKind
+kind_of (sort.Name n) = kind.Name
+kind_of (sort.Symbol n) = kind.Symbol
+kind_of (sort.Number n) = kind.Number
+kind_of sort.Comma = kind.Sign
+kind_of sort.Semicolon = kind.Sign
+kind_of sort.Assign = kind.Sign
+kind_of sort.LeftParen = kind.Sign
+kind_of sort.RightParen = kind.Sign
+kind_of sort.LeftBrace = kind.Sign
+kind_of sort.RightBrace = kind.Sign
+kind_of (sort.Compare c) = kind.Sign
+kind_of sort.Plus = kind.Sign
+kind_of sort.Minus = kind.Sign
+kind_of sort.Times = kind.Sign
+kind_of sort.Long = kind.Long
+kind_of sort.Bad = kind.Bad
+kind_of sort.End = kind.End
+kind_of _ = kind.Key

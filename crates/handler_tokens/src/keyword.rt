@@ -1,9 +1,24 @@
 // Reserved words and signs.
 
-ghost use Rattle.std.specs.Prelude.{◌≡◌};
+ghost use Rattle.std.specs.Prelude.{◌≡◌, map};
 ghost use Rattle.handler_tokens.specs.Keyword as spec;
 
 use crate::word::Sort;
+use handler_trees::Compare;
+use session_values::{Kind, TableKind};
+
+const KINDS: [Kind; 10] = [
+    Kind::Get,
+    Kind::Put,
+    Kind::Swap,
+    Kind::Del,
+    Kind::Size,
+    Kind::Has,
+    Kind::Add,
+    Kind::Mark,
+    Kind::Drop,
+    Kind::Count,
+];
 
 /// The reserved word that the text is.
 #[tactic(auto, unfolding(crate::specs::Keyword::keyword_of))]
@@ -21,8 +36,8 @@ fn statement_word(text: &str) -> Option<Sort>
     ensures { result ≡ spec.statement_word_of text.now }
 {
     match text {
-        "map" => Some(Sort::Map),
-        "set" => Some(Sort::Set),
+        "map" => Some(Sort::Table(TableKind::Map)),
+        "set" => Some(Sort::Table(TableKind::Set)),
         "handler" => Some(Sort::Handler),
         "let" => Some(Sort::Let),
         "if" => Some(Sort::If),
@@ -38,23 +53,24 @@ fn statement_word(text: &str) -> Option<Sort>
     }
 }
 
+/// The operation whose word the text is.
 #[tactic(auto, unfolding(crate::specs::Keyword::operation_of))]
 fn operation(text: &str) -> Option<Sort>
     ensures { result ≡ spec.operation_of text.now }
 {
-    match text {
-        "get" => Some(Sort::Get),
-        "put" => Some(Sort::Put),
-        "swap" => Some(Sort::Swap),
-        "del" => Some(Sort::Del),
-        "size" => Some(Sort::Size),
-        "has" => Some(Sort::Has),
-        "add" => Some(Sort::Add),
-        "mark" => Some(Sort::Mark),
-        "drop" => Some(Sort::Drop),
-        "count" => Some(Sort::Count),
-        _ => None,
+    operation_among(&KINDS, text)
+}
+
+/// The first of these operations whose word the text is.
+fn operation_among(kinds: &[Kind], text: &str) -> Option<Sort>
+    ensures { result ≡ spec.sort_in (map spec.operation_row kinds.now) text.now }
+{
+    for kind in kinds {
+        if text == kind.word() {
+            return Some(Sort::Do(*kind));
+        }
     }
+    None
 }
 
 /// The sign that the text is.
@@ -70,10 +86,10 @@ pub(crate) fn sign(text: &str) -> Option<Sort>
         "," => Some(Sort::Comma),
         ";" => Some(Sort::Semicolon),
         "=" => Some(Sort::Assign),
-        "==" => Some(Sort::Same),
-        "!=" => Some(Sort::Differ),
-        "<" => Some(Sort::Less),
-        "<=" => Some(Sort::LessOrSame),
+        "==" => Some(Sort::Compare(Compare::Same)),
+        "!=" => Some(Sort::Compare(Compare::Differ)),
+        "<" => Some(Sort::Compare(Compare::Less)),
+        "<=" => Some(Sort::Compare(Compare::LessOrSame)),
         "+" => Some(Sort::Plus),
         "-" => Some(Sort::Minus),
         "*" => Some(Sort::Times),

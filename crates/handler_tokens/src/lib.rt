@@ -15,6 +15,3 @@ pub use token::Token;
 pub use token_kind::TokenKind;
 pub use tokens::Tokens;
 pub use word::{Sort, Word};
-
-#[cfg(test)]
-mod tests;

@@ -109,14 +109,14 @@ fn next_word(tokens: &mut Tokens<'_>, names: &mut Names) -> Result<Option<Word>,
     ensures err { OnErr result ((names.new ≡ names.old) × (tokens.new ≡ tokens.old)) }
 {
     let mut after = *tokens;
-    let token = after.token();
+    let (token, reserved) = after.cut();
     match token.kind {
         TokenKind::End => {
             *tokens = after;
             Ok(None)
         }
         _ => {
-            let next = word(names, token)?;
+            let next = word(names, token, reserved)?;
             *tokens = after;
             Ok(Some(next))
         }

@@ -3,12 +3,13 @@
 ghost use Rattle.std.specs.Prelude.{◌≡◌, ◌≤◌, ◌<◌, ◌+◌, ◌++◌, ◌^◌, length, false};
 ghost use Rattle.handler_tokens.specs.Gap.{IsGap};
 ghost use Rattle.handler_tokens.specs.Scan.{gap};
-ghost use Rattle.handler_tokens.specs.Tokens.{Cuts};
+ghost use Rattle.handler_tokens.specs.Tokens.{Cuts, with_reserved, reserved_by};
 
 use crate::keyword::keyword;
 use crate::scan::{gap_len, scan};
 use crate::token::Token;
 use crate::token_kind::TokenKind;
+use crate::word::Sort;
 
 /// The tokens of a source, from its front. The last one is `End`.
 #[derive(Clone, Copy, Debug)]
@@ -40,6 +41,34 @@ impl<'a> Tokens<'a> {
         self.at + self.rest.len() as u32
     }
 
+    /// The next token, and what it is to the grammar where it is a reserved word. It is `End` once
+    /// nothing is left.
+    pub(crate) fn cut(&mut self) -> (Token<'a>, Option<Sort>)
+        ensures cut { Cuts self.old.rest.now result.0.kind result.0.text.now self.new.rest.now }
+        ensures reserved { result.1 ≡ reserved_by result.0.kind result.0.text.now }
+        ensures between { IsGap self.old.rest.now (result.0.text.now ++ self.new.rest.now) }
+        ensures start { result.0.start ≡ self.old.at + gap false self.old.rest.now }
+        ensures end { result.0.end ≡ result.0.start + length result.0.text.now }
+        ensures at { self.new.at ≡ result.0.end }
+        ensures ended { self.new.ended ≡ self.old.ended }
+    {
+        let (gap, rest) = self.rest.split_at(gap_len(self.rest.as_bytes()));
+        let (found, len) = scan(rest.as_bytes());
+        let (text, after) = rest.split_at(len);
+        let (kind, reserved) = told_apart(found, text);
+        let start = self.at + gap.len() as u32;
+        let end = start + len as u32;
+        self.rest = after;
+        self.at = end;
+        let token = Token {
+            kind,
+            text,
+            start,
+            end,
+        };
+        (token, reserved)
+    }
+
     /// The next token, which is `End` once nothing is left.
     pub(crate) fn token(&mut self) -> Token<'a>
         ensures cut { Cuts self.old.rest.now result.kind result.text.now self.new.rest.now }
@@ -49,24 +78,22 @@ impl<'a> Tokens<'a> {
         ensures at { self.new.at ≡ result.end }
         ensures ended { self.new.ended ≡ self.old.ended }
     {
-        let (gap, rest) = self.rest.split_at(gap_len(self.rest.as_bytes()));
-        let (kind, len) = scan(rest.as_bytes());
-        let (text, after) = rest.split_at(len);
-        let kind = if kind == TokenKind::Name && keyword(text).is_some() {
-            TokenKind::Key
-        } else {
-            kind
-        };
-        let start = self.at + gap.len() as u32;
-        let end = start + len as u32;
-        self.rest = after;
-        self.at = end;
-        Token {
-            kind,
-            text,
-            start,
-            end,
-        }
+        self.cut().0
+    }
+}
+
+/// The kind of a token that was found as this one, and what it is where it is a reserved word.
+fn told_apart(found: TokenKind, text: &str) -> (TokenKind, Option<Sort>)
+    ensures kind { result.0 ≡ with_reserved found text.now }
+    ensures reserved { result.1 ≡ reserved_by result.0 text.now }
+{
+    match found {
+        TokenKind::Name => match keyword(text) {
+            Some(sort) => (TokenKind::Key, Some(sort)),
+            None => (TokenKind::Name, None),
+        },
+        TokenKind::Key => (TokenKind::Key, keyword(text)),
+        _ => (found, None),
     }
 }
 

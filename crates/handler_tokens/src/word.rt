@@ -1,5 +1,12 @@
 // Words: what a token is to the grammar.
 
+ghost use Rattle.std.specs.Prelude.{◌≡◌};
+ghost use Rattle.handler_tokens.specs.Words.{kind_of};
+
+use crate::token_kind::TokenKind;
+use handler_trees::Compare;
+use session_values::{Kind, TableKind};
+
 /// What a word is. A name and a symbol are the place of their text in the list of names, a number
 /// is its value, or 2^64 - 1 where it is larger.
 #[derive(Clone, Copy, Debug, PartialEq, Eq)]
@@ -7,8 +14,8 @@ pub enum Sort {
     Name(u32),
     Symbol(u32),
     Number(u64),
-    Map,
-    Set,
+    /// The word of a table's kind.
+    Table(TableKind),
     Handler,
     Let,
     If,
@@ -20,16 +27,8 @@ pub enum Sort {
     MayUse,
     Nothing,
     Any,
-    Get,
-    Put,
-    Swap,
-    Del,
-    Size,
-    Has,
-    Add,
-    Mark,
-    Drop,
-    Count,
+    /// The word of an operation.
+    Do(Kind),
     LeftParen,
     RightParen,
     LeftBrace,
@@ -37,10 +36,8 @@ pub enum Sort {
     Comma,
     Semicolon,
     Assign,
-    Same,
-    Differ,
-    Less,
-    LessOrSame,
+    /// The sign of a comparison.
+    Compare(Compare),
     Plus,
     Minus,
     Times,
@@ -48,6 +45,34 @@ pub enum Sort {
     Bad,
     /// The end of the source.
     End,
+}
+
+impl Sort {
+    /// The kind of the token that the word is.
+    pub fn kind(self) -> TokenKind
+        ensures { result ≡ kind_of self }
+    {
+        match self {
+            Sort::Name(_) => TokenKind::Name,
+            Sort::Symbol(_) => TokenKind::Symbol,
+            Sort::Number(_) => TokenKind::Number,
+            Sort::Comma
+            | Sort::Semicolon
+            | Sort::Assign
+            | Sort::LeftParen
+            | Sort::RightParen
+            | Sort::LeftBrace
+            | Sort::RightBrace
+            | Sort::Compare(_)
+            | Sort::Plus
+            | Sort::Minus
+            | Sort::Times => TokenKind::Sign,
+            Sort::Long => TokenKind::Long,
+            Sort::Bad => TokenKind::Bad,
+            Sort::End => TokenKind::End,
+            _ => TokenKind::Key,
+        }
+    }
 }
 
 /// A word, and the byte place where its token starts.

@@ -1,10 +1,10 @@
 // What tokens are to the grammar.
 
 ghost use Rattle.std.specs.Prelude.{◌≡◌, ◌<◌, length, IfOk, OnOk, OnErr};
-ghost use Rattle.handler_tokens.specs.Tokens.{piece_of};
+ghost use Rattle.handler_tokens.specs.Tokens.{piece_of, reserved_by};
 ghost use Rattle.handler_tokens.specs.Words as spec;
 
-use crate::keyword::{keyword, sign};
+use crate::keyword::sign;
 use crate::scan::byte_at;
 use crate::token::Token;
 use crate::token_kind::TokenKind;
@@ -35,17 +35,22 @@ fn unquoted(text: &str) -> &str
     }
 }
 
-/// The word of a token. A name or a symbol is placed in the list of names.
+/// The word of a token, which is this reserved word if it is one. A name or a symbol is placed in the list of names.
 #[tactic(auto, unfolding(crate::specs::Words::names_after, crate::specs::Words::word_after))]
-pub(crate) fn word(names: &mut Names, token: Token<'_>) -> Result<Word, NoMemory>
-    requires { length names.old < 4294967295 }
+pub(crate) fn word(
+    names: &mut Names,
+    token: Token<'_>,
+    reserved: Option<Sort>,
+) -> Result<Word, NoMemory>
+    requires room { length names.old < 4294967295 }
+    requires reserved { reserved ≡ reserved_by token.kind token.text.now }
     ensures value { IfOk result (λ w. w ≡ spec.word_after names.old (piece_of token.entry)) }
     ensures names { OnOk result (names.new ≡ spec.names_after names.old (piece_of token.entry)) }
     ensures err { OnErr result (names.new ≡ names.old) }
 {
     let sort = match token.kind {
         TokenKind::Name => Sort::Name(names.place(token.text)?),
-        TokenKind::Key => keyword(token.text).unwrap_or(Sort::Bad),
+        TokenKind::Key => reserved.unwrap_or(Sort::Bad),
         TokenKind::Symbol => Sort::Symbol(names.place(unquoted(token.text))?),
         TokenKind::Number => Sort::Number(number(token.text)),
         TokenKind::Sign => sign(token.text).unwrap_or(Sort::Bad),

@@ -8,7 +8,6 @@ use Rattle.handler_trees.specs.declared.file.Handler.{Handler}
 use Rattle.handler_trees.specs.declared.file.File.{File}
 use Rattle.handler_grammar.specs.FirstFault.{IsFirstFault}
 use Rattle.handler_grammar.specs.Limits.{IsFileWithin}
-use Rattle.handler_grammar.specs.Next.{fault, whole_file}
 use Rattle.handler_grammar.specs.declared.refusal.SyntaxRefusal.{SyntaxRefusal}
 use Rattle.handler_grammar.specs.declared.refusal.SyntaxRefusal.TheVariants as syntax_refusal
 use Rattle.handler_printing.specs.Canonical.{canonical_text}
@@ -105,9 +104,8 @@ pub record IsInput (command : Command) (bytes : List ℕ) : Type 0 where
   pub utf8 : IsUtf8 bytes
   pub parts : is_divided bytes ≡ reads_requests command
 
--- The handlers' text, behind these names, has this first fault: the walk over its words finds it, and there no file goes on or a limit is broken. Want of memory is no fault.
+-- The handlers' text, behind these names, has this first fault. Want of memory is no fault.
 pub record HasSyntaxFault (names : List (List ℕ)) (text : List ℕ) (e : SyntaxRefusal) : Type 0 where
-  pub walked : fault (length text) whole_file 0 (words_of names text) ≡ Some e
   pub first : IsFirstFault (length text) (words_of names text) e
   pub certain : e ≢ syntax_refusal.NoMemory
 

@@ -1,11 +1,11 @@
 use Rattle.std.proofs.Common.{◌∷◌, [], refl, sym, ap, ◌∙◌}
 use Rattle.std.proofs.lemmas.Result.{err_from_is_err_and}
+use Rattle.handler_tokens.specs.declared.word.Sort.TheVariants as sort
 use Rattle.handler_trees.specs.declared.stmt.Right.TheVariants as right
-use Rattle.handler_grammar.specs.Sorts.{operation_sort}
 use Rattle.handler_grammar.specs.Next.{Opened, a_right, call_parts}
 use Rattle.handler_grammar.specs.Phrase.{word, a_call, result_right, plain_right}
 use Rattle.handler_grammar.proofs.Steps.{took_seen, passed_one, passed_then, passed_framed, passed_still, refused_after, refused_framed}
-use Rattle.handler_grammar.proofs.CallSteps.{operation_is, operation_goes_on, right_operation, operation_free, passed_plain, refused_plain}
+use Rattle.handler_grammar.proofs.CallSteps.{operation_is, passed_plain, refused_plain}
 use Rattle.handler_grammar.proofs.parse_call.right_side.Goals as goal
 
 pub returns-in_err-call-in-Some-clause-reads : goal.returns-in_err-call-in-Some-clause-reads
@@ -13,9 +13,9 @@ returns-in_err-call-in-Some-clause-reads c =
     let seen = c.in_ok-word.ensures in
     let taken = c.in_ok-take-in-Some.ensures in
     let k = c.in-Some.kind in
-    let read = took_seen c.args.input.now c.peek.new.self c.take.new.self _ (operation_sort k) seen.word seen.words (operation_is _ k (sym c.in-Some.ensures)) (operation_goes_on k) taken.words in
+    let read = took_seen c.args.input.now c.peek.new.self c.take.new.self _ (sort.Do k) seen.word seen.words (operation_is _ k (sym c.in-Some.ensures)) (λ e. cc) taken.words in
     let p = err_from_is_err_and c.from_residual-in_err-call-in-Some.result c.from_residual-in_err-call-in-Some.ensures.1 in
-    rw (p.1, p.2) (λ some. refused_after (passed_one (Opened 0) c.args.input.now (record c.take.new.self { signs = 0 }) a_right call_parts _ read (taken.end ∙ seen.end) refl (right_operation k) (λ under h. operation_free k under)) (refused_framed [] (λ under h. tt) (c.in_err-call-in-Some.ensures.reads some)))
+    rw (p.1, p.2) (λ some. refused_after (passed_one (Opened 0) c.args.input.now (record c.take.new.self { signs = 0 }) a_right call_parts _ read (taken.end ∙ seen.end) refl refl (λ under h. refl)) (refused_framed [] (λ under h. tt) (c.in_err-call-in-Some.ensures.reads some)))
 
 pub returns-in_err-value-in-None-clause-reads : goal.returns-in_err-value-in-None-clause-reads
 returns-in_err-value-in-None-clause-reads c =
@@ -37,12 +37,12 @@ returns-in_ok-call-in-Some-clause-reads c =
     let taken = c.in_ok-take-in-Some.ensures in
     let k = c.in-Some.kind in
     let at = c.in_ok-word.word.at in
-    let read = took_seen c.args.input.now c.peek.new.self c.take.new.self _ (operation_sort k) seen.word seen.words (operation_is _ k (sym c.in-Some.ensures)) (operation_goes_on k) taken.words in
+    let read = took_seen c.args.input.now c.peek.new.self c.take.new.self _ (sort.Do k) seen.word seen.words (operation_is _ k (sym c.in-Some.ensures)) (λ e. cc) taken.words in
     let o = c.in_ok-call-in-Some.ensures.reads in (
       record {
         phrase = result_right (a_call k at o.0.phrase);
-        read = read ∙ ap (λ l. word (operation_sort k) at ∷ l) o.0.read;
+        read = read ∙ ap (λ l. word (sort.Do k) at ∷ l) o.0.read;
         value = ap right.Result o.0.value;
       },
-      passed_then (passed_one (Opened 0) c.args.input.now (record c.take.new.self { signs = 0 }) a_right call_parts _ read (taken.end ∙ seen.end) refl (right_operation k) (λ under h. operation_free k under)) (passed_framed [] (λ under h. tt) o.1),
+      passed_then (passed_one (Opened 0) c.args.input.now (record c.take.new.self { signs = 0 }) a_right call_parts _ read (taken.end ∙ seen.end) refl refl (λ under h. refl)) (passed_framed [] (λ under h. tt) o.1),
     )

@@ -5,7 +5,8 @@ use Rattle.handler_tokens.specs.declared.word.Sort.TheVariants as sort
 use Rattle.handler_trees.specs.declared.expr.Calc.{Calc}
 use Rattle.handler_trees.specs.declared.expr.Calc.TheVariants as calc
 use Rattle.handler_trees.specs.declared.expr.Expr.TheVariants as expr
-use Rattle.handler_grammar.specs.Next.{Opened, operand, more_factors, more_terms, closing, where_over, open_parentheses, operator_signs}
+use Rattle.handler_grammar.specs.Bounds.{where_over, open_parentheses, operator_signs}
+use Rattle.handler_grammar.specs.Next.{Opened, operand, more_factors, more_terms, closing}
 use Rattle.handler_grammar.specs.Phrase.{word, plain, grouped, no_factor, term, MoreTerms, no_term, sum, expr_words, factor_words, factors_words, term_words, terms_words}
 use Rattle.handler_grammar.specs.Tree.{factors_tree, factor_tree, terms_tree, term_tree}
 use Rattle.handler_grammar.specs.Reads.{Passed}

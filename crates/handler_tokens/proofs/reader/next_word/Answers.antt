@@ -5,8 +5,8 @@ use Rattle.handler_tokens.proofs.NamesGrow.{begins_after, begins_length}
 use Rattle.handler_tokens.proofs.ReaderLemmas.{Gave, gave_end, gave_less, gave_words, gave_names, gave_room, gave_none}
 use Rattle.handler_tokens.proofs.reader.next_word.Goals as goal
 
-ended : (c : goal.In-End) → Gave c.args.tokens.now c.token-token.result c.token-token.new.self
-ended c = record { cut = c.token-token.ensures.cut; start = c.token-token.ensures.start; end = c.token-token.ensures.end; at = c.token-token.ensures.at }
+ended : (c : goal.In-End) → Gave c.args.tokens.now c.cut-reserved.result.0 c.cut-reserved.new.self
+ended c = record { cut = c.cut-reserved.ensures.cut; start = c.cut-reserved.ensures.start; end = c.cut-reserved.ensures.end; at = c.cut-reserved.ensures.at }
 
 pub returns-in-End-clause-words : goal.returns-in-End-clause-words
 returns-in-End-clause-words c = ap (words c.args.names.now) (gave_none _ _ _ (ended c) c.in-End.is).0
@@ -23,8 +23,8 @@ returns-in-End-clause-end c = gave_end _ _ _ (ended c)
 pub returns-in-End-clause-room : goal.returns-in-End-clause-room
 returns-in-End-clause-room c = omega (arith, gave_less _ _ _ (ended c))
 
-gave : (c : goal.In_ok-next-in_default) → Gave c.args.tokens.now c.token-token.result c.token-token.new.self
-gave c = record { cut = c.token-token.ensures.cut; start = c.token-token.ensures.start; end = c.token-token.ensures.end; at = c.token-token.ensures.at }
+gave : (c : goal.In_ok-next-in_default) → Gave c.args.tokens.now c.cut-reserved.result.0 c.cut-reserved.new.self
+gave c = record { cut = c.cut-reserved.ensures.cut; start = c.cut-reserved.ensures.start; end = c.cut-reserved.ensures.end; at = c.cut-reserved.ensures.at }
 
 pub returns-in_ok-next-in_default : goal.returns-in_ok-next-in_default
 returns-in_ok-next-in_default c =
@@ -37,6 +37,6 @@ returns-in_ok-next-in_default c =
       last = λ e. absurd (cc);
       end = gave_end _ _ _ g;
       room = rw done.names (gave_room _ _ _ old g c.in_default.not-End);
-      count = rw done.names (begins_length old _ (begins_after old (piece_of c.token-token.result)));
+      count = rw done.names (begins_length old _ (begins_after old (piece_of c.cut-reserved.result.0)));
       err = tt;
     }

@@ -4,7 +4,7 @@ use Rattle.std.specs.Str.{IsCharBoundary}
 use Rattle.handler_tokens.specs.Scan.{gap}
 use Rattle.handler_tokens.proofs.GapFills.{cut_between}
 use Rattle.handler_tokens.proofs.Cut.{gap_cut, scan_cut}
-use Rattle.handler_tokens.proofs.tokens.Tokens.token.Goals as goal
+use Rattle.handler_tokens.proofs.tokens.Tokens.cut.Goals as goal
 
 pub split_at-requires : goal.split_at-requires
 split_at-requires c =
@@ -13,8 +13,8 @@ split_at-requires c =
 
 pub split_at-requires-2 : goal.split_at-requires-2
 split_at-requires-2 c =
-    let k : IsCharBoundary c.as_bytes-2.result.now c.scan-kind.result.1 = subst (λ s. IsCharBoundary c.as_bytes-2.result.now s.1) (sym c.scan-kind.ensures) (scan_cut _ c.as_bytes-2.ensures.utf8) in
-    subst (λ l. IsCharBoundary l c.scan-kind.result.1) c.as_bytes-2.ensures.value k
+    let k : IsCharBoundary c.as_bytes-2.result.now c.scan-found.result.1 = subst (λ s. IsCharBoundary c.as_bytes-2.result.now s.1) (sym c.scan-found.ensures) (scan_cut _ c.as_bytes-2.ensures.utf8) in
+    subst (λ l. IsCharBoundary l c.scan-found.result.1) c.as_bytes-2.ensures.value k
 
 pub returns-clause-between : goal.returns-clause-between
 returns-clause-between c =
