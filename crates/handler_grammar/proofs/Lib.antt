@@ -6,7 +6,7 @@ pub mod Loops
 pub mod ListLoops
 pub mod ParamSteps
 pub mod Values
-pub mod NamedFile
+pub mod Said
 pub mod Spells
 pub mod Back
 pub mod Completed

@@ -1,20 +1,21 @@
 -- What the parser's answers say of a whole source.
 use Rattle.std.proofs.Common.{◌≡◌, ◌≤◌, ℕ, suc, List, [], ◌∷◌, Some, None, length, ◌⊎◌, inl, inr, refl, sym, ap, ◌∙◌, subst, arith}
-use Rattle.std.specs.Prelude.{◌≢◌, Result, Ok, Err, IfOk, OnOk, IfErr, MatchResult}
-use Rattle.std.specs.List.{AllByRecursion}
+use Rattle.std.specs.Prelude.{◌≢◌, ◌+◌, Result, Ok, Err, IfOk, OnOk, IfErr, MatchResult}
 use Rattle.handler_tokens.specs.declared.word.Word.{Word}
 use Rattle.handler_tokens.specs.Tokens.{Piece, pieces}
-use Rattle.handler_tokens.specs.Words.{words, words_of, names_of, names_after, IsNamedWord}
+use Rattle.handler_tokens.specs.Words.{words, words_of, names_of, names_after}
 use Rattle.handler_tokens.proofs.Pieces.{pieces_few}
-use Rattle.handler_tokens.proofs.WordsNamed.{words_named}
+use Rattle.session_values.specs.Names.{Begins}
 use Rattle.handler_trees.specs.declared.file.File.{File}
+use Rattle.handler_trees.specs.Mentions.{AreNamed, file_mentions}
+use Rattle.handler_tokens.specs.Texts.{IsNamedFile}
 use Rattle.handler_grammar.specs.declared.refusal.SyntaxRefusal.{SyntaxRefusal}
 use Rattle.handler_grammar.specs.declared.refusal.SyntaxRefusal.TheVariants.{BadByte, Unexpected, NumberTooLarge, NameTooLong, TooDeep, NoMemory}
 use Rattle.handler_grammar.specs.FirstFault.{IsFile, IsFirstFault}
 use Rattle.handler_grammar.specs.Limits.{IsFileWithin}
-use Rattle.handler_grammar.specs.NamedFile.{IsNamedFile}
+use Rattle.handler_grammar.specs.Parsed.{Parsed}
 use Rattle.handler_grammar.specs.Next.{fault, whole_file}
-use Rattle.handler_grammar.proofs.NamedFile.{file_named}
+use Rattle.handler_grammar.proofs.Said.{source_readable, have_texts, texts_below}
 use Rattle.handler_grammar.proofs.UniqueFile.{same_file}
 use Rattle.handler_grammar.proofs.Law.{first_fault}
 use Rattle.handler_grammar.proofs.Found.{first_found}
@@ -68,11 +69,29 @@ read_fault end ws (Err d) within exact e f = by d exact
     by (NameTooLong at) h = inl (other (NameTooLong at) (h (λ q. cc)))
     by (TooDeep at) h = inl (other (TooDeep at) (h (λ q. cc)))
 
-pub named_tree : (names : List (List ℕ)) (source : List ℕ) (file : File) → IsFile (words_of names source) file → IsNamedFile (names_of names source) file
-named_tree names source file r =
-    subst (IsNamedFile (names_of names source)) (sym r.2) (file_named (names_of names source) r.0 (subst (AllByRecursion (IsNamedWord (names_of names source))) r.1 (words_named names source)))
+-- each name and each symbol of what was read has a text
+named_tree : (names : List (List ℕ)) (source : List ℕ) (r : Result File SyntaxRefusal) (all : List (List ℕ)) → IfOk r (IsFileWithin (words_of names source)) → OnOk r (all ≡ names_of names source) → IfOk r (IsNamedFile all)
+named_tree names source (Ok file) all ok same = subst (λ ns. IsNamedFile ns file) (sym same) (have_texts (names_of names source) (file_mentions file) (source_readable names source file ok))
+named_tree names source (Err e) all ok same = tt
 
--- the names behind a source that was read
-pub read_named : (names all : List (List ℕ)) (source : List ℕ) (r : Result File SyntaxRefusal) → IfOk r (IsFile (words_of names source)) → OnOk r (all ≡ names_of names source) → IfOk r (IsNamedFile all)
-read_named names all source (Ok file) ok same = subst (λ ns. IsNamedFile ns file) (sym same) (named_tree names source file ok)
-read_named names all source (Err e) ok same = tt
+printable_tree : (r : Result File SyntaxRefusal) (all : List (List ℕ)) → IfOk r (IsNamedFile all) → IfOk r (λ file. AreNamed all (file_mentions file))
+printable_tree (Ok file) all named = texts_below all (file_mentions file) named
+printable_tree (Err e) all named = tt
+
+-- what is known of a source that was read, or refused
+pub parsed : (old : List (List ℕ)) (source : List ℕ) (r : Result File SyntaxRefusal) (new : List (List ℕ)) → IfOk r (IsFile (words_of old source)) → OnOk r (fault (length source) whole_file 0 (words_of old source) ≡ None)
+    → IfErr r (λ e. e ≢ NoMemory → fault (length source) whole_file 0 (words_of old source) ≡ Some e) → OnOk r (new ≡ names_of old source) → Begins old new → length new ≤ length old + length source → Parsed old source r new
+parsed old source r new ok within exact names kept few =
+    let form = read_within (length source) (words_of old source) r ok within in
+    let named = named_tree old source r new form names in
+    record {
+      ok = form;
+      only = read_only (length source) (words_of old source) r ok exact;
+      refused = refused_first (length source) (words_of old source) r exact;
+      fault = read_fault (length source) (words_of old source) r within exact;
+      names = names;
+      kept = kept;
+      few = few;
+      named = named;
+      printable = printable_tree r new named;
+    }

@@ -8,4 +8,4 @@ pub mod Next
 pub mod Reads
 pub mod FirstFault
 pub mod Limits
-pub mod NamedFile
+pub mod Parsed

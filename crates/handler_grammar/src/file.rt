@@ -1,16 +1,14 @@
 // Whole files, and the call that reads them.
 
-ghost use Rattle.std.specs.Prelude.{◌≡◌, ◌≢◌, ◌≤◌, ◌<◌, ◌+◌, ◌^◌, [], length, None, Some, IfOk, OnOk, IfErr, MatchResult, ◌⊎◌};
+ghost use Rattle.std.specs.Prelude.{◌≡◌, ◌≢◌, ◌≤◌, ◌<◌, ◌+◌, ◌^◌, [], length, None, Some, IfOk, OnOk, IfErr};
 ghost use Rattle.session_values.specs.Names.{Begins};
 ghost use Rattle.handler_tokens.specs.Words.{words_of, names_of};
-ghost use Rattle.handler_grammar.specs.FirstFault.{IsFile, IsFirstFault};
-ghost use Rattle.handler_grammar.specs.Limits.{IsFileWithin};
-ghost use Rattle.handler_grammar.specs.NamedFile.{IsNamedFile};
+ghost use Rattle.handler_grammar.specs.FirstFault.{IsFile};
 ghost use Rattle.handler_grammar.specs.Next.{Inside, fault, whole_file};
 ghost use Rattle.handler_grammar.specs.Phrase as spec;
 ghost use Rattle.handler_grammar.specs.Tree as tree;
+ghost use Rattle.handler_grammar.specs.Parsed.{Parsed};
 ghost use Rattle.handler_grammar.specs.Reads.{HasNoEnd, Reads};
-ghost use Rattle.handler_grammar.specs.declared.refusal.SyntaxRefusal.{SyntaxRefusal as Refusal};
 ghost use Rattle.handler_grammar.specs.declared.refusal.SyntaxRefusal.TheVariants as syntax_refusal;
 ghost use Rattle.handler_trees.specs.declared.file.File.{File};
 
@@ -79,25 +77,7 @@ fn read_source(alloc: Global, source: &str, names: Names) -> (Result<File, Synta
 pub fn parse(alloc: Global, source: &str, names: &mut Names) -> Result<File, SyntaxRefusal>
     requires short { length source.now ≤ 4194304 }
     requires room { length names.old ≤ 4000000000 }
-    // The source is a file of the grammar, within its limits, and this is its tree.
-    ensures ok { IfOk result (IsFileWithin (words_of names.old source.now)) }
-    // Such a file is read, unless memory runs out, and it has no other tree.
-    ensures only { (file : File)
-        → IsFileWithin (words_of names.old source.now) file
-        → MatchResult result (λ read. read ≡ file) (λ e. e ≡ syntax_refusal.NoMemory) }
-    // What is refused has its first fault here.
-    ensures refused { IfErr result (λ e.
-        e ≢ syntax_refusal.NoMemory
-        → IsFirstFault (length source.now) (words_of names.old source.now) e) }
-    // A source with a first fault is refused for it, unless memory runs out.
-    ensures fault { (e : Refusal)
-        → IsFirstFault (length source.now) (words_of names.old source.now) e
-        → MatchResult result (λ file. ⊥) (λ r. (r ≡ e) ⊎ (r ≡ syntax_refusal.NoMemory)) }
-    ensures names { OnOk result (names.new ≡ names_of names.old source.now) }
-    // After a refusal too.
-    ensures kept { Begins names.old names.new }
-    ensures few { length names.new ≤ length names.old + length source.now }
-    ensures named { IfOk result (IsNamedFile names.new) }
+    ensures { Parsed names.old source.now result names.new }
 {
     let own = std::mem::replace(names, Names::new(alloc)?);
     let (found, own) = read_source(alloc, source, own);

@@ -3,6 +3,7 @@
 
 mod file;
 mod input;
+mod list;
 mod parse_atom;
 mod parse_block;
 mod parse_call;

@@ -11,6 +11,7 @@ ghost use Rattle.handler_grammar.specs.Tree as tree;
 ghost use Rattle.handler_grammar.specs.Reads.{Reads};
 
 use crate::input::Input;
+use crate::list::list;
 use crate::parse_call::{condition, repeat_head};
 use crate::parse_stmt::{assignment, call_statement, let_statement, reply_statement};
 use crate::parse_words::mark;
@@ -158,7 +159,7 @@ fn statements(alloc: Global, input: &mut Input<'_>, depth: u32) -> Result<Block,
                 let next = statement(alloc, input, depth, start)?;
                 items.push(next)?;
             }
-            None => return Ok(Listed::from_vec(items)),
+            None => return Ok(list(items)),
         }
     }
 }

@@ -8,6 +8,7 @@ ghost use Rattle.handler_grammar.specs.Reads.{Reads};
 ghost use Rattle.handler_tokens.specs.declared.word.Sort.TheVariants as sort;
 
 use crate::input::Input;
+use crate::list::list;
 use crate::parse_atom::{MAX_NUMBER, atom};
 use crate::parse_expr::expression;
 use crate::parse_words::{mark, name};
@@ -15,7 +16,7 @@ use crate::refusal::{SyntaxRefusal, refusal};
 use crate::sorts::{comparison, operation};
 use handler_tokens::Sort;
 use handler_trees::{Atoms, Call, Compare, Cond, Right};
-use session_values::{Kind, Listed};
+use session_values::Kind;
 use std::alloc::Global;
 
 /// How often a repeat runs, and its variable.
@@ -41,10 +42,10 @@ fn arguments(alloc: Global, input: &mut Input<'_>) -> Result<Atoms, SyntaxRefusa
                 let argument = atom(input)?;
                 items.push(argument)?;
             }
-            _ => return Ok(Listed::from_vec(items)),
+            _ => return Ok(list(items)),
         }
     }
-    Ok(Listed::from_vec(items))
+    Ok(list(items))
 }
 
 /// What follows the word of an operation, which stands at this place.

@@ -9,6 +9,7 @@ ghost use Rattle.handler_grammar.specs.Tree as tree;
 ghost use Rattle.handler_grammar.specs.Reads.{Reads};
 
 use crate::input::Input;
+use crate::list::list;
 use crate::parse_block::block;
 use crate::parse_words::{mark, name};
 use crate::refusal::SyntaxRefusal;
@@ -38,7 +39,7 @@ fn some_params(alloc: Global, input: &mut Input<'_>) -> Result<Params, SyntaxRef
                 let (name, at) = name(input)?;
                 params.push(Param { name, at })?;
             }
-            _ => return Ok(Listed::from_vec(params)),
+            _ => return Ok(list(params)),
         }
     }
 }
@@ -95,7 +96,7 @@ pub(crate) fn handlers(alloc: Global, input: &mut Input<'_>) -> Result<Handlers,
                 let next = handler(alloc, input)?;
                 items.push(next)?;
             }
-            _ => return Ok(Listed::from_vec(items)),
+            _ => return Ok(list(items)),
         }
     }
 }

@@ -10,13 +10,14 @@ ghost use Rattle.handler_grammar.specs.Tree as tree;
 ghost use Rattle.handler_grammar.specs.Reads.{Reads};
 
 use crate::input::Input;
+use crate::list::list;
 use crate::parse_call::{operands, right_side};
 use crate::parse_expr::expression;
 use crate::parse_words::{mark, name};
 use crate::refusal::SyntaxRefusal;
 use handler_tokens::Sort;
 use handler_trees::{Exprs, Stmt};
-use session_values::{Kind, Listed};
+use session_values::Kind;
 use std::alloc::Global;
 
 /// A `let` statement in hand.
@@ -97,10 +98,10 @@ fn values(alloc: Global, input: &mut Input<'_>) -> Result<Exprs, SyntaxRefusal>
                 let value = expression(alloc, input)?;
                 values.push(value)?;
             }
-            _ => return Ok(Listed::from_vec(values)),
+            _ => return Ok(list(values)),
         }
     }
-    Ok(Listed::from_vec(values))
+    Ok(list(values))
 }
 
 /// A `reply` statement in hand.

@@ -9,12 +9,13 @@ ghost use Rattle.handler_grammar.specs.Tree as tree;
 ghost use Rattle.handler_grammar.specs.Reads.{Reads};
 
 use crate::input::Input;
+use crate::list::list;
 use crate::parse_words::{mark, name};
 use crate::refusal::SyntaxRefusal;
 use crate::sorts::table_kind;
 use handler_tokens::Sort;
 use handler_trees::{TableDecl, TableDecls};
-use session_values::{Listed, TableKind};
+use session_values::TableKind;
 use std::alloc::Global;
 
 /// A table whose first word is in hand.
@@ -45,7 +46,7 @@ pub(crate) fn tables(alloc: Global, input: &mut Input<'_>) -> Result<TableDecls,
                 let next = table(input, kind)?;
                 items.push(next)?;
             }
-            None => return Ok(Listed::from_vec(items)),
+            None => return Ok(list(items)),
         }
     }
 }

@@ -5,5 +5,4 @@ pub mod Loops
 pub mod Parts
 pub mod ReadBack
 pub mod Sizes
-pub mod SourceWords
 pub mod Tokens

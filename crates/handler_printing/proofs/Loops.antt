@@ -2,9 +2,10 @@
 use Rattle.std.proofs.Common.{◌≡◌, ℕ, zero, suc, ◌+◌, ◌-◌, ◌<◌, ◌≤◌, List, [], ◌∷◌, ◌++◌, map, length, take, drop, get_or, refl, sym, ap, ◌∙◌, subst, arith}
 use Rattle.std.proofs.lemmas.List.{drop_more, drop_all, take_all}
 use Rattle.std.specs.Prelude.{codes}
-use Rattle.std.specs.List.{AllByRecursion, flat_map}
+use Rattle.std.specs.List.{flat_map}
 use Rattle.handler_printing.specs.Canonical.{each, further, listed, indent, lines_at}
-use Rattle.handler_printing.specs.Mentions.{Mention, AreNamed}
+use Rattle.handler_trees.specs.Mentions.{Mention, AreNamed}
+use Rattle.handler_trees.proofs.Mentions.{all_first}
 use Rattle.handler_printing.specs.Writing.{Text, Adds}
 
 -- with what is left to write, the bytes are those that were there with the whole text behind them
@@ -69,14 +70,6 @@ lines_end f xs depth inner i {was} {now} e h o =
     record { before = λ rest. done.before rest ∙ ap (λ r. was ++ r) (sym (lines_each f xs inner rest)) ∙ ap (λ n. was ++ lines_at n (map f xs) rest) e }
 
 -- ---- mentions
-
-pub all_first : {X : Type 0} (P : X → Type 0) (xs ys : List X) → AllByRecursion P (xs ++ ys) → AllByRecursion P xs × AllByRecursion P ys
-all_first P [] ys h = (tt, h)
-all_first P (x ∷ xs) ys h = let k = all_first P xs ys h.1 in ((h.0, k.0), k.1)
-
-pub all_join : {X : Type 0} (P : X → Type 0) (xs ys : List X) → AllByRecursion P xs → AllByRecursion P ys → AllByRecursion P (xs ++ ys)
-all_join P [] ys h k = k
-all_join P (x ∷ xs) ys h k = (h.0, all_join P xs ys h.1 k)
 
 -- those of an element, and of the elements behind it
 pub named_turn : {X : Type 0} (names : List (List ℕ)) (f : X → List Mention) (xs : List X) (i : ℕ) (x d : X) → i < length xs → x ≡ get_or xs i d → AreNamed names (flat_map f (drop i xs)) → AreNamed names (f x) × AreNamed names (flat_map f (drop (i + 1) xs))

@@ -1,68 +1,16 @@
--- What a tree mentions, part by part.
-use Rattle.std.proofs.Common.{◌≡◌, ℕ, pos, ◌<◌, List, [], ◌∷◌, ◌++◌, map, length, refl, sym, ap, ◌∙◌, subst, rules}
+-- Places of a tree that are below a count, part by part.
+use Rattle.std.proofs.Common.{◌≡◌, ℕ, ◌<◌, List, ◌∷◌, ◌++◌, length, refl, sym, ap, ◌∙◌, subst}
 use Rattle.std.specs.List.{flat_map}
-use Rattle.handler_trees.specs.declared.expr.Atom.{Atom}
 use Rattle.handler_trees.specs.declared.expr.Calc.{Calc}
-use Rattle.handler_trees.specs.declared.expr.Expr.{Expr, the_lemmas}
+use Rattle.handler_trees.specs.declared.expr.Expr.{Expr}
 use Rattle.handler_trees.specs.declared.expr.Expr.TheVariants as expr
-use Rattle.handler_trees.specs.declared.stmt.Call.{Call}
 use Rattle.handler_trees.specs.declared.stmt.Cond.{Cond}
-use Rattle.handler_trees.specs.declared.stmt.Right.{Right}
-use Rattle.handler_trees.specs.declared.stmt.Stmt.{Stmt, the_lemmas as stmt_lemmas}
+use Rattle.handler_trees.specs.declared.stmt.Stmt.{Stmt}
 use Rattle.handler_trees.specs.declared.stmt.Stmt.TheVariants as stmt
 use Rattle.handler_trees.specs.declared.file.Handler.{Handler}
 use Rattle.handler_trees.specs.declared.file.File.{File}
-use Rattle.handler_printing.specs.Mentions.{Mention, a_name, a_number, AreBelow, AreNamed, joined, atom_mentions, expr_mentions, call_mentions, right_mentions, cond_mentions, stmt_mentions, table_mentions, param_mentions, handler_mentions, file_mentions}
-use Rattle.handler_printing.proofs.Loops.{all_first, all_join}
-
-pub mentions_leaf : (a : Atom) → expr_mentions (expr.Leaf a) ≡ atom_mentions a
-mentions_leaf a = search (rules, the_lemmas)
-
-pub mentions_binary : (c : Calc) (l r : Expr) → expr_mentions (expr.Binary c l r) ≡ expr_mentions l ++ expr_mentions r
-mentions_binary c l r = search (rules, the_lemmas)
-
-joined_map : (ss : List Stmt) → joined (map stmt_mentions ss) ≡ flat_map stmt_mentions ss
-joined_map [] = refl
-joined_map (s ∷ ss) = ap (λ ms. stmt_mentions s ++ ms) (joined_map ss)
-
-pub mentions_let : (n p : ℕ) (r : Right) → stmt_mentions (stmt.Let n p r) ≡ a_name n ∷ right_mentions r
-mentions_let n p r = search (rules, stmt_lemmas)
-
-pub mentions_assign : (n p : ℕ) (r : Right) → stmt_mentions (stmt.Assign n p r) ≡ a_name n ∷ right_mentions r
-mentions_assign n p r = search (rules, stmt_lemmas)
-
-pub mentions_perform : (call : Call) → stmt_mentions (stmt.Perform call) ≡ call_mentions call
-mentions_perform call = search (rules, stmt_lemmas)
-
-choose_joined : (p : ℕ) (cond : Cond) (first second : List Stmt) → stmt_mentions (stmt.Choose p cond first second) ≡ cond_mentions cond ++ (joined (map stmt_mentions first) ++ joined (map stmt_mentions second))
-choose_joined p cond first second = search (rules, stmt_lemmas)
-
-pub mentions_choose : (p : ℕ) (cond : Cond) (first second : List Stmt) → stmt_mentions (stmt.Choose p cond first second) ≡ cond_mentions cond ++ (flat_map stmt_mentions first ++ flat_map stmt_mentions second)
-mentions_choose p cond first second =
-    choose_joined p cond first second ∙ ap (λ ms. cond_mentions cond ++ (ms ++ joined (map stmt_mentions second))) (joined_map first)
-    ∙ ap (λ ms. cond_mentions cond ++ (flat_map stmt_mentions first ++ ms)) (joined_map second)
-
-repeat_joined : (p turns q n r : ℕ) (body : List Stmt) → stmt_mentions (stmt.Repeat p turns q n r body) ≡ a_number (pos turns) ∷ a_name n ∷ joined (map stmt_mentions body)
-repeat_joined p turns q n r body = search (rules, stmt_lemmas)
-
-pub mentions_repeat : (p turns q n r : ℕ) (body : List Stmt) → stmt_mentions (stmt.Repeat p turns q n r body) ≡ a_number (pos turns) ∷ a_name n ∷ flat_map stmt_mentions body
-mentions_repeat p turns q n r body = repeat_joined p turns q n r body ∙ ap (λ ms. a_number (pos turns) ∷ a_name n ∷ ms) (joined_map body)
-
-pub mentions_answer : (p : ℕ) (values : List Expr) → stmt_mentions (stmt.Answer p values) ≡ flat_map expr_mentions values
-mentions_answer p values = search (rules, stmt_lemmas)
-
--- ---- places that are below a count
-
-pub below_choice : (count p : ℕ) (cond : Cond) (xs ys : List Stmt) → AreBelow count (expr_mentions cond.left) → AreBelow count (expr_mentions cond.right) → AreBelow count (flat_map stmt_mentions xs) → AreBelow count (flat_map stmt_mentions ys)
-    → AreBelow count (stmt_mentions (stmt.Choose p cond xs ys))
-below_choice count p cond xs ys a b c d =
-    let P = λ (ms : List Mention). AreBelow count ms in
-    subst P (sym (mentions_choose p cond xs ys)) (all_join _ (cond_mentions cond) _ (all_join _ (expr_mentions cond.left) _ a b) (all_join _ (flat_map stmt_mentions xs) _ c d))
-
-pub below_repeat : (count p turns q n r : ℕ) (body : List Stmt) → n < count → AreBelow count (flat_map stmt_mentions body) → AreBelow count (stmt_mentions (stmt.Repeat p turns q n r body))
-below_repeat count p turns q n r body a b =
-    let P = λ (ms : List Mention). AreBelow count ms in
-    subst P (sym (mentions_repeat p turns q n r body)) (tt, (a, b))
+use Rattle.handler_trees.specs.Mentions.{Mention, AreNamed, expr_mentions, cond_mentions, stmt_mentions, table_mentions, param_mentions, handler_mentions, file_mentions}
+use Rattle.handler_trees.proofs.Mentions.{mentions_binary, mentions_choose, mentions_repeat, all_first}
 
 -- ---- names of a list
 

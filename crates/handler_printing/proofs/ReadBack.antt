@@ -31,14 +31,15 @@ use Rattle.handler_printing.specs.declared.expr.Level.{Level}
 use Rattle.handler_printing.specs.declared.expr.Level.TheVariants as level
 use Rattle.handler_printing.specs.Canonical
 use Rattle.handler_printing.specs.CanonicalWords
-use Rattle.handler_printing.specs.Mentions.{Mention, value_mentions, atom_mentions, expr_mentions, call_mentions, right_mentions, cond_mentions, stmt_mentions, table_mentions, param_mentions, handler_mentions, file_mentions}
-use Rattle.handler_printing.specs.Readable.{AreReadable, IsNameText, text_at, ReadsBack}
+use Rattle.handler_trees.specs.Mentions.{Mention, value_mentions, atom_mentions, expr_mentions, call_mentions, right_mentions, cond_mentions, stmt_mentions, table_mentions, param_mentions, handler_mentions, file_mentions}
+use Rattle.handler_tokens.specs.Texts.{AreReadable, IsNameText, text_at}
+use Rattle.handler_printing.specs.Readable.{ReadsBack}
 use Rattle.handler_printing.specs.Writing.{Text, Adds}
 use Rattle.handler_printing.proofs.Chunks.{one, left_paren, right_paren, assign, negative, operator, comparison, let_word, if_word, repeat_word, reply_word, handler_word, table, operation_word, semicolon_line, left_brace_line, right_brace_line, else_line, params_end, comma_space, as_between}
 use Rattle.handler_printing.proofs.Inductions as trees
 use Rattle.handler_printing.proofs.Lexing.{Reading, reading, behind, blank, nothing}
-use Rattle.handler_printing.proofs.Loops.{all_first}
-use Rattle.handler_printing.proofs.Parts as parts
+use Rattle.handler_trees.proofs.Mentions as parts
+use Rattle.handler_trees.proofs.Mentions.{all_first}
 use Rattle.handler_printing.proofs.Tokens.{Ends, name, nil, symbol, number}
 
 module _ (names : List (List ℕ)) (distinct : AreDistinct names) where

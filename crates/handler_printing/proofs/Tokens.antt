@@ -17,8 +17,8 @@ use Rattle.handler_tokens.specs.Scan.{is_in, gap, scan, scan_name, scan_symbol, 
 use Rattle.handler_tokens.specs.Keyword.{keyword_of, statement_word_of}
 use Rattle.handler_tokens.specs.Words.{number_from, number_of, unquoted, names_by, sort_by}
 use Rattle.handler_printing.specs.Canonical.{name_text}
-use Rattle.handler_printing.specs.Readable.{IsRun, IsNameText, IsSymbolText, text_at}
-use Rattle.handler_printing.proofs.Loops.{all_join}
+use Rattle.handler_tokens.specs.Texts.{IsRun, IsNameText, IsSymbolText, text_at}
+use Rattle.handler_trees.proofs.Mentions.{all_join}
 use Rattle.handler_printing.proofs.Lexing.{behind, reading, token}
 
 -- ---- what ends a token

@@ -4,8 +4,9 @@ ghost use Rattle.std.specs.Prelude.{◌≡◌, IfOk, OnOk, map, string_bytes};
 ghost use Rattle.std.specs.List.{flat_map};
 ghost use Rattle.handler_printing.specs.Canonical as spec;
 ghost use Rattle.handler_printing.specs.Canonical.{canonical_text};
-ghost use Rattle.handler_printing.specs.Mentions.{AreNamed, table_mentions, param_mentions, handler_mentions, file_mentions};
-ghost use Rattle.handler_printing.specs.Readable.{AreReadable, ReadsBack};
+ghost use Rattle.handler_trees.specs.Mentions.{AreNamed, table_mentions, param_mentions, handler_mentions, file_mentions};
+ghost use Rattle.handler_tokens.specs.Texts.{AreReadable};
+ghost use Rattle.handler_printing.specs.Readable.{ReadsBack};
 ghost use Rattle.handler_printing.specs.Writing.{Adds};
 
 use crate::piece::{put, put_name};

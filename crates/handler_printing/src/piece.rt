@@ -3,7 +3,7 @@
 ghost use Rattle.std.specs.Prelude.{◌<◌, ◌++◌, OnOk, length, map, string_bytes};
 ghost use Rattle.std.specs.List.{flat_map};
 ghost use Rattle.handler_printing.specs.Canonical.{name_text, literal_text, atom_text, call_text, further, indent};
-ghost use Rattle.handler_printing.specs.Mentions.{AreNamed, value_mentions, atom_mentions, call_mentions};
+ghost use Rattle.handler_trees.specs.Mentions.{AreNamed, value_mentions, atom_mentions, call_mentions};
 ghost use Rattle.handler_printing.specs.Writing.{Adds};
 
 use handler_trees::{Atom, Call};

@@ -3,7 +3,7 @@
 ghost use Rattle.std.specs.Prelude.{◌≡◌, ◌+◌, ◌<◌, OnOk, length, map, string_bytes};
 ghost use Rattle.std.specs.List.{flat_map};
 ghost use Rattle.handler_printing.specs.Canonical as spec;
-ghost use Rattle.handler_printing.specs.Mentions.{AreNamed, right_mentions, cond_mentions, stmt_mentions};
+ghost use Rattle.handler_trees.specs.Mentions.{AreNamed, right_mentions, cond_mentions, stmt_mentions};
 ghost use Rattle.handler_printing.specs.Writing.{Adds};
 
 use crate::expr::{Level, put_expr, put_values};

@@ -1,2 +1,14 @@
-pub mod Laws
-pub mod Mentioned
+pub mod Atoms
+pub mod Bare
+pub mod Bounded
+pub mod Calls
+pub mod Exprs
+pub mod Facts
+pub mod Files
+pub mod Longer
+pub mod Parentheses
+pub mod ReadAgain
+pub mod SameText
+pub mod Sources
+pub mod Stmts
+pub mod Words

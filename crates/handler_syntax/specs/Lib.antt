@@ -1,1 +1,5 @@
+pub mod Bounds
 pub mod Keeps
+pub mod Language
+pub mod Parentheses
+pub mod SameTree

@@ -1,6 +1,7 @@
 // Files of handlers.
 
 ghost use Rattle.std.specs.Prelude.{◌≡◌};
+ghost use Rattle.handler_syntax.specs.Bounds.{KeepsBounds};
 
 use handler_trees::File as Tree;
 use std::marker::Model;
@@ -28,8 +29,10 @@ impl Model for File {
 }
 
 impl File {
+    /// The tree, and what whoever reads it may rely on.
     pub fn tree(&self) -> &Tree
-        ensures { result.now ≡ self.now }
+        ensures tree { result.now ≡ self.now }
+        ensures bounds { KeepsBounds self.now }
     {
         &self.tree
     }

@@ -1,16 +1,19 @@
 //! The handler language: its tokens, its trees, its parser and its printer.
 #![tactic(auto)]
 
+mod again;
 mod file;
+pub mod laws;
 mod printing;
 mod reading;
 
+pub use again::reprint;
 pub use file::File;
 pub use handler_grammar::SyntaxRefusal;
 pub use handler_tokens::{Token, TokenKind, Tokens};
 pub use handler_trees::{
-    Atom, Atoms, Block, Calc, Call, Compare, Cond, Expr, Exprs, Handler, Handlers, Param, Params,
-    Right, Stmt, TableDecl, TableDecls,
+    Atom, Atoms, Block, Calc, Call, Compare, Cond, Expr, Exprs, File as Tree, Handler, Handlers,
+    Param, Params, Right, Stmt, TableDecl, TableDecls,
 };
 pub use printing::print;
 pub use reading::parse;

@@ -1,14 +1,7 @@
 // Reading.
 
-ghost use Rattle.std.specs.Prelude.{◌≡◌, ◌≢◌, ◌≤◌, ◌+◌, ◌⊎◌, length, IfOk, OnOk, IfErr, MatchResult};
-ghost use Rattle.session_values.specs.Names.{Begins};
-ghost use Rattle.handler_tokens.specs.Words.{words_of, names_of};
-ghost use Rattle.handler_trees.specs.declared.file.File.{File as Tree};
-ghost use Rattle.handler_grammar.specs.FirstFault.{IsFirstFault};
-ghost use Rattle.handler_grammar.specs.Limits.{IsFileWithin};
-ghost use Rattle.handler_grammar.specs.NamedFile.{IsNamedFile};
-ghost use Rattle.handler_grammar.specs.declared.refusal.SyntaxRefusal.{SyntaxRefusal as Refusal};
-ghost use Rattle.handler_grammar.specs.declared.refusal.SyntaxRefusal.TheVariants as syntax_refusal;
+ghost use Rattle.std.specs.Prelude.{◌≤◌, length};
+ghost use Rattle.handler_grammar.specs.Parsed.{Parsed};
 
 use crate::file::File;
 use handler_grammar::SyntaxRefusal;
@@ -20,25 +13,7 @@ use std::alloc::Global;
 pub fn parse(alloc: Global, source: &str, names: &mut Names) -> Result<File, SyntaxRefusal>
     requires short { length source.now ≤ 4194304 }
     requires room { length names.old ≤ 4000000000 }
-    // The source is a file of the grammar, within its limits, and this is its tree.
-    ensures ok { IfOk result (IsFileWithin (words_of names.old source.now)) }
-    // Such a file is read, unless memory runs out, and it has no other tree.
-    ensures only { (tree : Tree)
-        → IsFileWithin (words_of names.old source.now) tree
-        → MatchResult result (λ read. read ≡ tree) (λ e. e ≡ syntax_refusal.NoMemory) }
-    // What is refused has its first fault here.
-    ensures refused { IfErr result (λ e.
-        e ≢ syntax_refusal.NoMemory
-        → IsFirstFault (length source.now) (words_of names.old source.now) e) }
-    // A source with a first fault is refused for it, unless memory runs out.
-    ensures fault { (e : Refusal)
-        → IsFirstFault (length source.now) (words_of names.old source.now) e
-        → MatchResult result (λ file. ⊥) (λ r. (r ≡ e) ⊎ (r ≡ syntax_refusal.NoMemory)) }
-    ensures names { OnOk result (names.new ≡ names_of names.old source.now) }
-    // After a refusal too.
-    ensures kept { Begins names.old names.new }
-    ensures few { length names.new ≤ length names.old + length source.now }
-    ensures named { IfOk result (IsNamedFile names.new) }
+    ensures { Parsed names.old source.now result names.new }
 {
     match handler_grammar::parse(alloc, source, names) {
         Ok(tree) => Ok(File { tree }),

@@ -80,7 +80,7 @@ char_cut bs u some =
     (λ h. pick C (nat_lt b 240) _ _ (λ i. let k = in_three bs u some (grind (arith, nat_tests)) (grind (arith, nat_tests)) in by_char bs _ 3 k.1)
     (λ i. let k = in_four bs u some (grind (arith, nat_tests)) in by_char bs _ 4 k.1)))
 
-prefix_le : (p : ℕ → Bool) (xs : List ℕ) → prefix_len p xs ≤ length xs
+pub prefix_le : (p : ℕ → Bool) (xs : List ℕ) → prefix_len p xs ≤ length xs
 prefix_le p [] = omega arith
 prefix_le p (x ∷ xs) = pick (λ n. n ≤ suc (length xs)) (p x) (1 + prefix_len p xs) 0 (λ _. omega (arith, prefix_le p xs)) (λ _. omega arith)
 

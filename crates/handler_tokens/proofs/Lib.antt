@@ -1,7 +1,12 @@
 pub mod Cut
 pub mod GapFills
+pub mod WordKinds
+pub mod Longest
 pub mod NamesGrow
 pub mod NumberLemmas
 pub mod Pieces
 pub mod ReaderLemmas
+pub mod Spelled
+pub mod TextTokens
+pub mod TextWords
 pub mod WordsNamed

@@ -81,7 +81,7 @@ full_goes_on b r text h =
 
 -- ---- the first token, and those that follow it
 
-pieces_skip : (n at : ℕ) (bs : List ℕ) → pieces n at bs ≡ pieces 0 (at + n) (drop n bs)
+pub pieces_skip : (n at : ℕ) (bs : List ℕ) → pieces n at bs ≡ pieces 0 (at + n) (drop n bs)
 pieces_skip zero at [] = refl
 pieces_skip (suc n) at [] = refl
 pieces_skip zero at (b ∷ bs) = let e : at ≡ at + 0 = omega arith in ap (λ k. pieces 0 k (b ∷ bs)) e
@@ -98,7 +98,7 @@ gap_skipped (b ∷ bs) at = by (gap false (b ∷ bs)) refl
     by zero e = sym (ap (λ k. pieces k at (b ∷ bs)) e)
     by (suc g) e = ap (λ k. behind_gap k at (b ∷ bs) (λ n. pieces n (at + 1) bs)) e ∙ sym (ap (λ k. pieces k at (b ∷ bs)) e)
 
-behind : (bs : List ℕ) (at : ℕ) → pieces 0 at bs ≡ pieces 0 (at + gap false bs) (drop (gap false bs) bs)
+pub behind : (bs : List ℕ) (at : ℕ) → pieces 0 at bs ≡ pieces 0 (at + gap false bs) (drop (gap false bs) bs)
 behind bs at = gap_skipped bs at ∙ pieces_skip (gap false bs) at bs
 
 -- no gap stands before the first one

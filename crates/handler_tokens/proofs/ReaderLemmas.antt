@@ -26,7 +26,7 @@ gave_end old token new g = omega (arith, g.start, g.end, g.at, cut_length _ _ _ 
 pub gave_less : (old : Tokens) (token : Token) (new : Tokens) → Gave old token new → length new.rest.now ≤ length old.rest.now
 gave_less old token new g = omega (arith, cut_length _ _ _ _ g.cut)
 
-gave_next : (old : Tokens) (token : Token) (new : Tokens) → Gave old token new → (token.kind ≡ kind.End → ⊥) → pieces 0 old.at old.rest.now ≡ piece_of token ∷ pieces 0 new.at new.rest.now
+pub gave_next : (old : Tokens) (token : Token) (new : Tokens) → Gave old token new → (token.kind ≡ kind.End → ⊥) → pieces 0 old.at old.rest.now ≡ piece_of token ∷ pieces 0 new.at new.rest.now
 gave_next old token new g other =
     let behind : new.at ≡ old.at + gap false old.rest.now + length token.text.now = omega (arith, g.start, g.end, g.at) in
     pieces_next old.at old.rest.now token.kind token.text.now new.rest.now g.cut other

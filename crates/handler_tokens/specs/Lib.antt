@@ -1,8 +1,11 @@
 pub mod Gap
 pub mod Keyword
+pub mod Longest
 pub mod Reader
 pub mod Reading
 pub mod Scan
+pub mod Spelled
 pub mod Steps
+pub mod Texts
 pub mod Tokens
 pub mod Words

@@ -4,7 +4,7 @@ use Rattle.std.proofs.lemmas.List.{length-map}
 use Rattle.std.proofs.lemmas.Bool.Decides.{nat_tests}
 use Rattle.std.specs.List.{AllByRecursion}
 use Rattle.std.specs.Option.{option_or}
-use Rattle.handler_trees.specs.declared.file.Handler.{Handler}
+use Rattle.handler_syntax.specs.Language.{Handler}
 use Rattle.request_files.specs.declared.head.Head.{Head}
 use Rattle.request_files.specs.declared.request.Request.{Request}
 use Rattle.request_files.specs.declared.refusal.RequestRefusal.{RequestRefusal}

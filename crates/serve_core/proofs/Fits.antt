@@ -9,18 +9,11 @@ use Rattle.session_values.specs.declared.kind.Kind.TheVariants.{Get, Put}
 use Rattle.session_values.specs.declared.kind.TableKind.{TableKind}
 use Rattle.session_values.specs.declared.kind.TableKind.TheVariants.{Map, Set}
 use Rattle.session_values.specs.Kinds.{arguments, home}
-use Rattle.handler_trees.specs.declared.expr.Atom.{Atom}
-use Rattle.handler_trees.specs.declared.expr.Atom.TheVariants as atom
-use Rattle.handler_trees.specs.declared.expr.Expr.{Expr}
-use Rattle.handler_trees.specs.declared.expr.Expr.TheVariants as expr
-use Rattle.handler_trees.specs.declared.stmt.Stmt.{Stmt}
-use Rattle.handler_trees.specs.declared.stmt.Stmt.TheVariants as stmt
-use Rattle.handler_trees.specs.declared.stmt.Right.TheVariants as right
-use Rattle.handler_trees.specs.declared.stmt.Call.{Call}
-use Rattle.handler_trees.specs.declared.file.Param.{Param}
-use Rattle.handler_trees.specs.declared.file.TableDecl.{TableDecl}
-use Rattle.handler_trees.specs.declared.file.Handler.{Handler}
-use Rattle.handler_trees.specs.declared.file.File.{File}
+use Rattle.handler_syntax.specs.Language.{Atom, Expr, Stmt, Call, Param, TableDecl, Handler, File}
+use Rattle.handler_syntax.specs.Language.atom
+use Rattle.handler_syntax.specs.Language.expr
+use Rattle.handler_syntax.specs.Language.stmt
+use Rattle.handler_syntax.specs.Language.right
 use Rattle.serve_core.specs.declared.checked.CheckedAtom.{CheckedAtom}
 use Rattle.serve_core.specs.declared.checked.CheckedAtom.TheVariants.{Lit, Var}
 use Rattle.serve_core.specs.declared.checked.CheckedStmt.{CheckedStmt}

@@ -2,11 +2,8 @@
 use Rattle.std.proofs.Common.{◌≡◌, ℕ, ◌+◌, ◌<◌, Bool, true, false, ◌&&◌, nat_lt, nat_le, List, [], ◌∷◌, ◌++◌, map, take, drop, length, get_or, Some, is_some, refl, sym, ap, ◌∙◌, subst, append_assoc}
 use Rattle.std.proofs.lemmas.List.{drop_more, take_more, map-append}
 use Rattle.std.specs.List.{list_all}
-use Rattle.handler_trees.specs.declared.expr.Expr.{Expr}
-use Rattle.handler_trees.specs.declared.expr.Expr.TheVariants as expr
-use Rattle.handler_trees.specs.declared.stmt.Stmt.{Stmt}
-use Rattle.handler_trees.specs.declared.file.File.{File}
-use Rattle.handler_trees.specs.declared.file.Handler.{Handler}
+use Rattle.handler_syntax.specs.Language.{Expr, Stmt, File, Handler}
+use Rattle.handler_syntax.specs.Language.expr
 use Rattle.serve_core.specs.declared.checked.CheckedStmt.{CheckedStmt}
 use Rattle.serve_core.specs.Built.{stmt_is_built, handler_is_built, is_leaf, tables_are_built, is_built}
 use Rattle.serve_core.specs.Names.{number_of, are_new, expr_is_declared, stmt_is_declared, declares, block_keeps_rules, handler_keeps_rules, table_names, handler_names, keeps_rules}

@@ -6,25 +6,16 @@ use Rattle.serve_core.specs.declared.command.Command.{Command}
 use Rattle.serve_core.specs.declared.command.Command.TheVariants.{Check, Serve}
 use Rattle.serve_core.specs.declared.status.Fault.{Fault}
 use Rattle.serve_core.specs.declared.status.Fault.TheVariants.{TooLarge, NotText, NoRequests, HasRequests, Syntax, NotBuilt}
-use Rattle.handler_tokens.specs.Words.{words_of, names_of}
-use Rattle.handler_trees.specs.declared.file.File.{File}
-use Rattle.handler_grammar.specs.FirstFault.{IsFirstFault}
-use Rattle.handler_grammar.specs.Limits.{IsFileWithin}
-use Rattle.handler_grammar.specs.declared.refusal.SyntaxRefusal.{SyntaxRefusal}
-use Rattle.handler_syntax.proofs.Laws.{one_tree, one_fault, no_fault}
-use Rattle.handler_printing.specs.Canonical.{canonical_text}
+use Rattle.handler_syntax.specs.Language.{names_of, File, HasFault, IsSourceOf, SyntaxRefusal, canonical_text}
+use Rattle.handler_syntax.proofs.Facts.{one_tree, one_fault, no_fault}
 use Rattle.serve_core.specs.Answer.{Answer, IsInput, IsText, IsChecked, IsServed, IsRefused, HasNoSession, CommandAnswers, IsAnswer, is_divided, reads_requests, handlers_of, max_input, parts_of, text_of}
 use Rattle.serve_core.specs.Commands.{command_of}
 use Rattle.serve_core.specs.Answer as answers
 
 -- ---- trees
 
--- the first fault of a text's words
-abbrev HasFault : List ℕ → SyntaxRefusal → Type 0
-HasFault text e = IsFirstFault (length text) (words_of [] text) e
-
-has_no_fault : (text : List ℕ) (file : File) (e : SyntaxRefusal) → IsFileWithin (words_of [] text) file → HasFault text e → ⊥
-has_no_fault text file e f h = no_fault (length text) (words_of [] text) file e f h
+has_no_fault : (text : List ℕ) (file : File) (e : SyntaxRefusal) → IsSourceOf [] text file → HasFault [] text e → ⊥
+has_no_fault text file e f h = no_fault [] text file e f h
 
 -- ---- no two faults are the first one
 
@@ -70,7 +61,7 @@ module _ (bytes : List ℕ) where
 
   -- with the right parts, there is a fault of syntax, or none and no session
   input_refused : (c : Command) (g : Fault) → IsInput c bytes → IsRefused c bytes g
-      → ((e : SyntaxRefusal) × (g ≡ Syntax e) × HasFault (handlers_of c bytes) e) ⊎ ((g ≡ NotBuilt) × (c ≡ Serve) × HasNoSession (parts_of bytes))
+      → ((e : SyntaxRefusal) × (g ≡ Syntax e) × HasFault [] (handlers_of c bytes) e) ⊎ ((g ≡ NotBuilt) × (c ≡ Serve) × HasNoSession (parts_of bytes))
   input_refused c TooLarge i r = absurd (omega (arith, i.short, r))
   input_refused c NotText i r = absurd (r.1 i.utf8)
   input_refused Serve NoRequests i r = absurd (false≢true (sym r.2 ∙ i.parts))
@@ -81,16 +72,16 @@ module _ (bytes : List ℕ) where
   input_refused Serve NotBuilt i r = inr (refl, refl, r.1)
   input_refused Check NotBuilt i r = absurd r
 
-  syntax_once : (c : Command) (e : SyntaxRefusal) (g : Fault) → IsInput c bytes → HasFault (handlers_of c bytes) e → IsRefused c bytes g → Syntax e ≡ g
+  syntax_once : (c : Command) (e : SyntaxRefusal) (g : Fault) → IsInput c bytes → HasFault [] (handlers_of c bytes) e → IsRefused c bytes g → Syntax e ≡ g
   syntax_once c e g i w r = go (input_refused c g i r) where
-    go : (((d : SyntaxRefusal) × (g ≡ Syntax d) × HasFault (handlers_of c bytes) d) ⊎ ((g ≡ NotBuilt) × (c ≡ Serve) × HasNoSession (parts_of bytes))) → Syntax e ≡ g
-    go (inl d) = ap Syntax (one_fault (length (handlers_of c bytes)) (words_of [] (handlers_of c bytes)) e d.0 w d.2) ∙ sym d.1
+    go : (((d : SyntaxRefusal) × (g ≡ Syntax d) × HasFault [] (handlers_of c bytes) d) ⊎ ((g ≡ NotBuilt) × (c ≡ Serve) × HasNoSession (parts_of bytes))) → Syntax e ≡ g
+    go (inl d) = ap Syntax (one_fault [] (handlers_of c bytes) e d.0 w d.2) ∙ sym d.1
     go (inr n) =
-        absurd (has_no_fault (parts_of bytes).handlers n.2.file e n.2.form (subst (λ (k : Command). HasFault (handlers_of k bytes) e) n.1 w))
+        absurd (has_no_fault (parts_of bytes).handlers n.2.file e n.2.form (subst (λ (k : Command). HasFault [] (handlers_of k bytes) e) n.1 w))
 
   unbuilt_once : (g : Fault) → IsInput Serve bytes → HasNoSession (parts_of bytes) → IsRefused Serve bytes g → NotBuilt ≡ g
   unbuilt_once g i n r = go (input_refused Serve g i r) where
-    go : (((d : SyntaxRefusal) × (g ≡ Syntax d) × HasFault (parts_of bytes).handlers d) ⊎ ((g ≡ NotBuilt) × (Serve ≡ Serve) × HasNoSession (parts_of bytes))) → NotBuilt ≡ g
+    go : (((d : SyntaxRefusal) × (g ≡ Syntax d) × HasFault [] (parts_of bytes).handlers d) ⊎ ((g ≡ NotBuilt) × (Serve ≡ Serve) × HasNoSession (parts_of bytes))) → NotBuilt ≡ g
     go (inl d) = absurd (has_no_fault (parts_of bytes).handlers n.file d.0 n.form d.2)
     go (inr m) = sym m.0
 
@@ -111,25 +102,25 @@ input_of : (c : Command) (bytes text : List ℕ) → IsText c bytes text → IsI
 input_of Check bytes text t = t.input
 input_of Serve bytes text t = t.input
 
-no_fault_of : (c : Command) (bytes text : List ℕ) (e : SyntaxRefusal) → IsText c bytes text → HasFault (handlers_of c bytes) e → ⊥
+no_fault_of : (c : Command) (bytes text : List ℕ) (e : SyntaxRefusal) → IsText c bytes text → HasFault [] (handlers_of c bytes) e → ⊥
 no_fault_of Check bytes text e t f = has_no_fault bytes t.file e t.form f
 no_fault_of Serve bytes text e t f = has_no_fault (parts_of bytes).handlers t.file e t.is_session.form f
 
 has_session : (bytes text : List ℕ) → IsServed bytes text → HasNoSession (parts_of bytes) → ⊥
 has_session bytes text t n =
-    n.unserved (subst (λ (f : File). answers.IsSession (parts_of bytes) f) (one_tree (words_of [] (parts_of bytes).handlers) t.file n.file t.is_session.form n.form) t.is_session)
+    n.unserved (subst (λ (f : File). answers.IsSession (parts_of bytes) f) (one_tree [] (parts_of bytes).handlers t.file n.file t.is_session.form n.form) t.is_session)
 
 pub text_or_refused : (c : Command) (bytes text : List ℕ) (f : Fault) → IsText c bytes text → IsRefused c bytes f → ⊥
 text_or_refused c bytes text f t r = go (input_refused bytes c f (input_of c bytes text t) r) where
-  go : (((d : SyntaxRefusal) × (f ≡ Syntax d) × HasFault (handlers_of c bytes) d) ⊎ ((f ≡ NotBuilt) × (c ≡ Serve) × HasNoSession (parts_of bytes))) → ⊥
+  go : (((d : SyntaxRefusal) × (f ≡ Syntax d) × HasFault [] (handlers_of c bytes) d) ⊎ ((f ≡ NotBuilt) × (c ≡ Serve) × HasNoSession (parts_of bytes))) → ⊥
   go (inl d) = no_fault_of c bytes text d.0 t d.2
   go (inr n) = has_session bytes text (subst (λ (k : Command). IsText k bytes text) n.1 t) n.2
 
 -- ---- one answer at most
 
 same_text : (c : Command) (bytes s t : List ℕ) → IsText c bytes s → IsText c bytes t → s ≡ t
-same_text Check bytes s t h k = h.text_is ∙ ap (canonical_text (names_of [] bytes)) (one_tree (words_of [] bytes) h.file k.file h.form k.form) ∙ sym k.text_is
-same_text Serve bytes s t h k = h.text_is ∙ ap (text_of (parts_of bytes)) (one_tree (words_of [] (parts_of bytes).handlers) h.file k.file h.is_session.form k.is_session.form) ∙ sym k.text_is
+same_text Check bytes s t h k = h.text_is ∙ ap (canonical_text (names_of [] bytes)) (one_tree [] bytes h.file k.file h.form k.form) ∙ sym k.text_is
+same_text Serve bytes s t h k = h.text_is ∙ ap (text_of (parts_of bytes)) (one_tree [] (parts_of bytes).handlers h.file k.file h.is_session.form k.is_session.form) ∙ sym k.text_is
 
 same_answers : (o : Option Command) (bytes : List ℕ) (a b : Answer) → CommandAnswers o bytes a → CommandAnswers o bytes b → a ≡ b
 same_answers None bytes answers.Usage answers.Usage h k = refl

@@ -3,14 +3,8 @@ use Rattle.std.specs.Prelude.{◌≡◌, ◌≢◌, ℕ, ◌+◌, ◌<◌, ◌�
 use Rattle.std.specs.List.{list_any, position_or_len}
 use Rattle.session_values.specs.ReplyText.{reply_text}
 use Rattle.session_values.specs.Serial.{Session, serial_replies}
-use Rattle.handler_tokens.specs.Words.{words_of, names_of}
-use Rattle.handler_trees.specs.declared.file.Handler.{Handler}
-use Rattle.handler_trees.specs.declared.file.File.{File}
-use Rattle.handler_grammar.specs.FirstFault.{IsFirstFault}
-use Rattle.handler_grammar.specs.Limits.{IsFileWithin}
-use Rattle.handler_grammar.specs.declared.refusal.SyntaxRefusal.{SyntaxRefusal}
-use Rattle.handler_grammar.specs.declared.refusal.SyntaxRefusal.TheVariants as syntax_refusal
-use Rattle.handler_printing.specs.Canonical.{canonical_text}
+use Rattle.handler_syntax.specs.Language.{names_of, Handler, File, HasFault, IsSourceOf, SyntaxRefusal, canonical_text}
+use Rattle.handler_syntax.specs.Language.syntax_refusal
 use Rattle.request_files.specs.declared.head.Head.{Head}
 use Rattle.request_files.specs.declared.request.Request.{Request}
 use Rattle.request_files.specs.Text.{lines}
@@ -61,7 +55,7 @@ all_names_of parts = names_behind (handler_names_of parts) (rows_of parts)
 
 -- the parts are those of a session whose handlers' tree is this: the tree is that of the text, in the first form, its names keep the rules, and no request has a fault
 pub record IsSession (parts : Parts) (file : File) : Type 0 where
-  pub form : IsFileWithin (words_of [] parts.handlers) file
+  pub form : IsSourceOf [] parts.handlers file
   pub built : is_built file ≡ true
   pub rules : keeps_rules file ≡ true
   pub requests : first_fault (handler_names_of parts) (heads_of file.handlers) no_requests (rows_of parts) ≡ None
@@ -69,7 +63,7 @@ pub record IsSession (parts : Parts) (file : File) : Type 0 where
 -- the handlers' text has a tree, and the parts are those of no session
 pub record HasNoSession (parts : Parts) : Type 0 where
   pub file : File
-  pub form : IsFileWithin (words_of [] parts.handlers) file
+  pub form : IsSourceOf [] parts.handlers file
   pub unserved : IsSession parts file → ⊥
 
 abbrev pub requests_of : Parts → File → List Request
@@ -106,7 +100,7 @@ pub record IsInput (command : Command) (bytes : List ℕ) : Type 0 where
 
 -- The handlers' text, behind these names, has this first fault. Want of memory is no fault.
 pub record HasSyntaxFault (names : List (List ℕ)) (text : List ℕ) (e : SyntaxRefusal) : Type 0 where
-  pub first : IsFirstFault (length text) (words_of names text) e
+  pub first : HasFault names text e
   pub certain : e ≢ syntax_refusal.NoMemory
 
 -- ---- the answer
@@ -132,7 +126,7 @@ IsRefused Check bytes NotBuilt = ⊥
 pub record IsChecked (bytes text : List ℕ) : Type 0 where
   pub input : IsInput Check bytes
   pub file : File
-  pub form : IsFileWithin (words_of [] bytes) file
+  pub form : IsSourceOf [] bytes file
   pub text_is : text ≡ canonical_text (names_of [] bytes) file
 
 -- the text of the replies

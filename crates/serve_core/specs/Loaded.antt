@@ -1,10 +1,7 @@
 -- What is made of the two parts of a session file before it is served.
 use Rattle.std.specs.Prelude.{◌≡◌, ◌≤◌, ℕ, true, false, ◌&&◌, List, [], length}
 use Rattle.std.specs.List.{AllByRecursion}
-use Rattle.handler_tokens.specs.Words.{words_of, names_of}
-use Rattle.handler_trees.specs.declared.file.File.{File}
-use Rattle.handler_grammar.specs.Limits.{IsFileWithin}
-use Rattle.handler_grammar.specs.NamedFile.{IsNamedFile}
+use Rattle.handler_syntax.specs.Language.{names_of, File, IsSourceOf, IsNamedFile}
 use Rattle.request_files.specs.Requests.{ArePrintable}
 use Rattle.serve_core.specs.declared.loading.Program.{Program}
 use Rattle.serve_core.specs.declared.loading.Loaded.{Loaded}
@@ -21,7 +18,7 @@ use Rattle.serve_core.specs.Session.{IsAsked}
 
 -- the handlers' text has this tree, in the first form, and the tree's names keep the rules
 pub record IsFile (old : List (List ℕ)) (text : List ℕ) (new : List (List ℕ)) (file : File) : Type 0 where
-  pub form : IsFileWithin (words_of old text) file
+  pub form : IsSourceOf old text file
   pub built : is_built file ≡ true
   pub rules : keeps_rules file ≡ true
   pub names : new ≡ names_of old text
@@ -38,7 +35,7 @@ pub record IsProgram (old : List (List ℕ)) (text : List ℕ) (new : List (List
 -- the text has a tree, which isn't in the first form or doesn't keep the rules
 pub record HasNoFile (old : List (List ℕ)) (text : List ℕ) : Type 0 where
   pub file : File
-  pub form : IsFileWithin (words_of old text) file
+  pub form : IsSourceOf old text file
   pub fails : (is_built file && keeps_rules file) ≡ false
 
 -- what is loaded is the parts' session, and it can be served and printed

@@ -1,8 +1,8 @@
 -- The line on the error output.
 use Rattle.std.specs.Prelude.{ℕ, List, [], ◌∷◌, ◌++◌, codes}
 use Rattle.std.specs.Fmt.{decimal}
-use Rattle.handler_grammar.specs.declared.refusal.SyntaxRefusal.{SyntaxRefusal}
-use Rattle.handler_grammar.specs.declared.refusal.SyntaxRefusal.TheVariants as refusal
+use Rattle.handler_syntax.specs.Language.{SyntaxRefusal}
+use Rattle.handler_syntax.specs.Language.syntax_refusal as refusal
 use Rattle.serve_core.specs.declared.status.Fault.{Fault}
 use Rattle.serve_core.specs.declared.status.Fault.TheVariants.{TooLarge, NotText, NoRequests, HasRequests, Syntax, NotBuilt}
 use Rattle.serve_core.specs.declared.status.Status.{Status}

@@ -1,18 +1,11 @@
 -- Which names a file may use: each is declared once, and only what is declared is used.
 use Rattle.std.specs.Prelude.{ℕ, ◌==◌, Bool, true, false, ◌&&◌, is_some, is_none, List, [], ◌∷◌, ◌++◌, map, Option, position}
 use Rattle.std.specs.List.{list_all}
-use Rattle.handler_trees.specs.declared.expr.Atom.{Atom}
-use Rattle.handler_trees.specs.declared.expr.Atom.TheVariants as atom
-use Rattle.handler_trees.specs.declared.expr.Expr.{Expr}
-use Rattle.handler_trees.specs.declared.expr.Expr.TheVariants as expr
-use Rattle.handler_trees.specs.declared.stmt.Stmt.{Stmt}
-use Rattle.handler_trees.specs.declared.stmt.Stmt.TheVariants as stmt
-use Rattle.handler_trees.specs.declared.stmt.Right.TheVariants as right
-use Rattle.handler_trees.specs.declared.stmt.Call.{Call}
-use Rattle.handler_trees.specs.declared.file.Param.{Param}
-use Rattle.handler_trees.specs.declared.file.TableDecl.{TableDecl}
-use Rattle.handler_trees.specs.declared.file.Handler.{Handler}
-use Rattle.handler_trees.specs.declared.file.File.{File}
+use Rattle.handler_syntax.specs.Language.{Atom, Expr, Stmt, Call, Param, TableDecl, Handler, File}
+use Rattle.handler_syntax.specs.Language.atom
+use Rattle.handler_syntax.specs.Language.expr
+use Rattle.handler_syntax.specs.Language.stmt
+use Rattle.handler_syntax.specs.Language.right
 
 -- the number of a name among the declared ones, in their order
 abbrev pub number_of : List ℕ → ℕ → Option ℕ

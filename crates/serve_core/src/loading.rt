@@ -1,9 +1,7 @@
 // Reading a session: from the two parts of a session file to what can be served.
 
 ghost use Rattle.std.specs.Prelude.{◌≡◌, ◌≢◌, ◌⊎◌, ◌+◌, ◌<◌, ◌≤◌, ◌^◌, [], length, vec_len, IfOk, IfErr, OnOk, OnErr, MatchResult};
-ghost use Rattle.handler_tokens.specs.Words.{words_of, names_of};
-ghost use Rattle.handler_grammar.specs.Limits.{IsFileWithin};
-ghost use Rattle.handler_grammar.specs.NamedFile.{IsNamedFile};
+ghost use Rattle.handler_syntax.specs.Language.{names_of, file_mentions, AreNamed, IsSourceOf, IsNamedFile};
 ghost use Rattle.serve_core.specs.Answer.{heads_of as heads_spec};
 ghost use Rattle.serve_core.specs.Checked.{shape_of as shape_spec};
 ghost use Rattle.serve_core.specs.Loaded as spec;
@@ -14,8 +12,7 @@ use crate::resolve::resolve;
 use crate::status::Fault;
 use crate::syntax_fault::SyntaxFault;
 use crate::unserved::Unserved;
-use handler_syntax::{File, Handlers, SyntaxRefusal, parse};
-use handler_trees::File as Tree;
+use handler_syntax::{File, Handlers, SyntaxRefusal, Tree, parse};
 use request_files::{Head, Request, RequestRefusal, read_requests};
 use session_values::{Listed, Names, NoMemory, TableKind};
 use std::alloc::Global;
@@ -83,9 +80,10 @@ fn refused_by(e: RequestRefusal) -> Unserved
 pub(crate) fn read_file(alloc: Global, text: &str, names: &mut Names) -> Result<File, Unserved>
     requires short { length text.now ≤ 4194304 }
     requires room { length names.old ≤ 4000000000 }
-    ensures file { IfOk result (IsFileWithin (words_of names.old text.now)) }
+    ensures file { IfOk result (IsSourceOf names.old text.now) }
     ensures names { OnOk result (names.new ≡ names_of names.old text.now) }
     ensures named { IfOk result (IsNamedFile names.new) }
+    ensures printable { IfOk result (λ file. AreNamed names.new (file_mentions file)) }
     ensures few { OnOk result (length names.new ≤ length names.old + length text.now) }
     ensures refused { IfErr result (spec.IsSyntaxReason names.old text.now) }
 {

@@ -10,8 +10,8 @@ ghost use Rattle.serve_core.specs.Resolves.{Resolves};
 use crate::checked::{CheckedAtom, CheckedCall, CheckedHandler, CheckedStmt};
 use handler_syntax::{
     Atom, Block, Call, Expr, Exprs, Handler, Handlers, Params, Right, Stmt, TableDecl, TableDecls,
+    Tree,
 };
-use handler_trees::File as Tree;
 use session_values::{Kind, Listed, NoMemory, TableKind, Value};
 use std::alloc::Global;
 

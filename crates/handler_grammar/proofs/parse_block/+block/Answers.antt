@@ -115,7 +115,7 @@ statements-returns-in-None t c =
     let seen = c.in_ok-peek.ensures in
     record {
       reads = (
-        record { phrase = so_far.so_far; read = so_far.read ∙ ap (stmts_words so_far.so_far) (sym seen.words); value = c.from_vec.ensures ∙ so_far.value },
+        record { phrase = so_far.so_far; read = so_far.read ∙ ap (stmts_words so_far.so_far) (sym seen.words); value = c.list.ensures ∙ so_far.value },
         passed_then so_far.passed (passed_over _ statements [] _ _ _ seen.word seen.words seen.end seen.signs refl (ap where_statement (sym c.in-None.ensures))),
       );
       names = seen.names ∙ so_far.names;

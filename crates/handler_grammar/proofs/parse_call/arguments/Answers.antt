@@ -38,7 +38,7 @@ returns-in_default c =
         record {
           phrase = record { atoms = so_far.so_far; few = omega (arith, so_far.few, c.loop-turn-test.true) };
           read = so_far.read ∙ ap (atoms_words so_far.so_far) (sym seen.words);
-          value = c.from_vec.ensures ∙ so_far.value;
+          value = c.list.ensures ∙ so_far.value;
         },
         passed_then so_far.passed (passed_over _ (more_arguments (2 - c.loop-turn.turn)) [] _ _ _ seen.word seen.words seen.end seen.signs refl (arguments_none _ _ c.in_default.not-Comma)),
       );
@@ -71,7 +71,7 @@ returns-clause-reads c =
       record {
         phrase = record { atoms = so_far.so_far; few = omega (arith, so_far.few, c.loop-turn.auto.turn-end) };
         read = so_far.read;
-        value = c.from_vec-2.ensures ∙ so_far.value;
+        value = c.list-2.ensures ∙ so_far.value;
       },
       passed_then so_far.passed (passed_empty _ (more_arguments (2 - c.loop-turn.turn)) [] _ _ refl refl (arguments_full _ _ (omega (arith, c.loop-turn-test.false)))),
     )

@@ -51,7 +51,7 @@ returns-in_default c =
         record {
           phrase = record { first = so_far.first; more = so_far.more };
           read = so_far.read ∙ ap (λ l. name_words so_far.first (more_params_words so_far.more l)) (sym seen.words);
-          value = c.from_vec.ensures ∙ so_far.value;
+          value = c.list.ensures ∙ so_far.value;
         },
         passed_then so_far.passed (passed_over _ more_params [] _ _ _ seen.word seen.words seen.end seen.signs refl (more_params_none _ c.in_default.not-Comma)),
       );

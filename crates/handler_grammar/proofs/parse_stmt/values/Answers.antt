@@ -41,7 +41,7 @@ returns-in_default c =
         record {
           phrase = record { first = so_far.first; more = so_far.more; few = omega (arith, so_far.few, c.loop-turn-test.true) };
           read = so_far.read ∙ ap (λ l. expr_words so_far.first (more_words so_far.more l)) (sym seen.words);
-          value = c.from_vec.ensures ∙ so_far.value;
+          value = c.list.ensures ∙ so_far.value;
         },
         passed_then so_far.passed (passed_over _ (more_values (3 - c.loop-turn.turn)) [] _ _ _ seen.word seen.words seen.end seen.signs refl (values_none _ _ c.in_default.not-Comma)),
       );
@@ -75,7 +75,7 @@ returns-clause-reads c =
       record {
         phrase = record { first = so_far.first; more = so_far.more; few = omega (arith, so_far.few, c.loop-turn.auto.turn-end) };
         read = so_far.read;
-        value = c.from_vec-2.ensures ∙ so_far.value;
+        value = c.list-2.ensures ∙ so_far.value;
       },
       passed_then so_far.passed (passed_empty _ (more_values (3 - c.loop-turn.turn)) [] _ _ refl refl (values_full _ _ (omega (arith, c.loop-turn-test.false)))),
     )

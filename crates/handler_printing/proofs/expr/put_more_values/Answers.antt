@@ -1,5 +1,5 @@
 use Rattle.handler_printing.specs.Canonical.{whole_text}
-use Rattle.handler_printing.specs.Mentions.{expr_mentions}
+use Rattle.handler_trees.specs.Mentions.{expr_mentions}
 use Rattle.handler_printing.proofs.Loops.{further_turn, further_end, named_turn}
 use Rattle.handler_printing.proofs.expr.put_more_values.Goals as goal
 

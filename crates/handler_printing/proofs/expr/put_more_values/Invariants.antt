@@ -1,7 +1,7 @@
 use Rattle.std.proofs.Common.{map, drop, string_bytes}
 use Rattle.std.specs.List.{flat_map}
 use Rattle.handler_printing.specs.Canonical.{whole_text, further}
-use Rattle.handler_printing.specs.Mentions.{AreNamed, expr_mentions}
+use Rattle.handler_trees.specs.Mentions.{AreNamed, expr_mentions}
 use Rattle.handler_printing.proofs.Loops.{Owes}
 use Rattle.handler_printing.proofs.expr.put_more_values.Given as goal
 

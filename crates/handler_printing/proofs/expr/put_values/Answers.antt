@@ -1,4 +1,4 @@
-use Rattle.handler_printing.specs.Mentions.{expr_mentions}
+use Rattle.handler_trees.specs.Mentions.{expr_mentions}
 use Rattle.handler_printing.proofs.Loops.{named_first}
 use Rattle.handler_printing.proofs.expr.put_values.Goals as goal
 

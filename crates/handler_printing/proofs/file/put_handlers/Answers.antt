@@ -1,5 +1,5 @@
 use Rattle.handler_printing.specs.Canonical.{handler_text}
-use Rattle.handler_printing.specs.Mentions.{handler_mentions}
+use Rattle.handler_trees.specs.Mentions.{handler_mentions}
 use Rattle.handler_printing.proofs.Loops.{each_turn, named_turn}
 use Rattle.handler_printing.proofs.file.put_handlers.Goals as goal
 

@@ -1,7 +1,7 @@
 use Rattle.std.proofs.Common.{map, drop, string_bytes}
 use Rattle.std.specs.List.{flat_map}
 use Rattle.handler_printing.specs.Canonical.{handler_text, each}
-use Rattle.handler_printing.specs.Mentions.{AreNamed, handler_mentions}
+use Rattle.handler_trees.specs.Mentions.{AreNamed, handler_mentions}
 use Rattle.handler_printing.proofs.Loops.{Owes}
 use Rattle.handler_printing.proofs.file.put_handlers.Given as goal
 

@@ -2,7 +2,7 @@ use Rattle.std.proofs.Common.{refl}
 use Rattle.session_values.specs.declared.value.Value.TheVariants.{Nil}
 use Rattle.handler_trees.specs.declared.expr.Atom.TheVariants.{Lit}
 use Rattle.handler_printing.specs.Canonical.{atom_text}
-use Rattle.handler_printing.specs.Mentions.{atom_mentions}
+use Rattle.handler_trees.specs.Mentions.{atom_mentions}
 use Rattle.handler_printing.proofs.Loops.{further_turn, further_end, named_turn}
 use Rattle.handler_printing.proofs.piece.put_arguments.Goals as goal
 

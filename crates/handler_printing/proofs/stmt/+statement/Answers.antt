@@ -1,7 +1,7 @@
 use Rattle.std.proofs.Common.{◌+◌, rules}
 use Rattle.handler_trees.specs.declared.stmt.Stmt.{Stmt}
 use Rattle.handler_printing.specs.Canonical.{stmt_text}
-use Rattle.handler_printing.specs.Mentions.{stmt_mentions}
+use Rattle.handler_trees.specs.Mentions.{stmt_mentions}
 use Rattle.handler_printing.proofs.Loops.{each_turn, lines_end, named_turn}
 use Rattle.handler_printing.proofs.Parts.{named_choice, named_repeat}
 use Rattle.handler_printing.proofs.Sizes.{choice_smaller, repeat_smaller, member_smaller}

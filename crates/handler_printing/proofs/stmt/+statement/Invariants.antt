@@ -2,7 +2,7 @@ use Rattle.std.proofs.Common.{◌+◌, map, drop, string_bytes}
 use Rattle.std.specs.List.{flat_map}
 use Rattle.handler_trees.specs.declared.stmt.Stmt.{Stmt}
 use Rattle.handler_printing.specs.Canonical.{stmt_text, each}
-use Rattle.handler_printing.specs.Mentions.{AreNamed, stmt_mentions}
+use Rattle.handler_trees.specs.Mentions.{AreNamed, stmt_mentions}
 use Rattle.handler_printing.proofs.Loops.{Owes}
 use Rattle.handler_printing.proofs.Sizes.{stmt_size, block_size}
 use Rattle.handler_printing.proofs.stmt.+statement.Given as goal

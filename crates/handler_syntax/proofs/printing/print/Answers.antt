@@ -1,10 +1,16 @@
 use Rattle.std.proofs.Common.{◌≡◌, sym, ◌∙◌, ap, subst, string_bytes}
 use Rattle.handler_printing.specs.Canonical.{canonical_text}
 use Rattle.handler_syntax.specs.Keeps.{KeepsLimits, IsReadAs}
+use Rattle.handler_syntax.proofs.Files.{text_again}
 use Rattle.handler_syntax.proofs.printing.print.Goals as goal
 
-pub returns-in-Ok-clause-back : goal.returns-in-Ok-clause-back
-returns-in-Ok-clause-back c = λ r.
-    let within : KeepsLimits c.args.file.now = subst KeepsLimits c.file.view_is c.file.invariant in
-    let text : string_bytes c.in-Ok.text ≡ canonical_text c.args.names.now c.args.file.now = c.in-Ok.ensures.text ∙ ap (canonical_text c.args.names.now) c.file.view_is in
-    subst (IsReadAs c.args.names.now c.args.file.now) (sym text) (c.reads_back.ensures c.args.names.now within.0 c.args.file.now c.len-count.ensures.distinct within.1 r)
+pub returns-in-Ok : goal.returns-in-Ok
+returns-in-Ok c =
+    let names = c.args.names.now in
+    let file = c.args.file.now in
+    let within : KeepsLimits file = subst KeepsLimits c.file.view_is c.file.invariant in
+    let text : string_bytes c.in-Ok.text ≡ canonical_text names file = c.in-Ok.ensures.text ∙ ap (canonical_text names) c.file.view_is in
+    record {
+      text = text;
+      back = λ named. subst (IsReadAs names file) (sym text) (text_again names within.0 file c.len-count.ensures.distinct within.1 named);
+    }

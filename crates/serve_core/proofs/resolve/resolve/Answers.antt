@@ -1,6 +1,6 @@
 use Rattle.std.proofs.Common.{◌≡◌, ◌∙◌, true, Bool, ◌&&◌, List, ℕ, [], map, sym, ap, subst, IfOk}
 use Rattle.std.specs.List.{list_all}
-use Rattle.handler_trees.specs.declared.file.Handler.{Handler}
+use Rattle.handler_syntax.specs.Language.{Handler}
 use Rattle.serve_core.specs.Built.{handler_is_built, tables_are_built}
 use Rattle.serve_core.specs.Names.{are_new, handler_keeps_rules}
 use Rattle.serve_core.specs.Checked.{checked_handler, checked_handlers}

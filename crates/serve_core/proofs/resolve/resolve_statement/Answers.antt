@@ -1,7 +1,7 @@
 use Rattle.std.proofs.Common.{◌≡◌, ◌∙◌, ◌&&◌, true, nat_lt, nat_le, List, ℕ, Option, Some, map, ap, sym, subst, IfOk}
 use Rattle.std.specs.List.{list_all}
-use Rattle.handler_trees.specs.declared.stmt.Stmt.{Stmt}
-use Rattle.handler_trees.specs.declared.stmt.Stmt.TheVariants as stmt
+use Rattle.handler_syntax.specs.Language.{Stmt}
+use Rattle.handler_syntax.specs.Language.stmt
 use Rattle.serve_core.specs.declared.checked.CheckedAtom.{CheckedAtom}
 use Rattle.serve_core.specs.declared.checked.CheckedStmt.TheVariants as checked
 use Rattle.serve_core.specs.Names.{expr_is_declared}

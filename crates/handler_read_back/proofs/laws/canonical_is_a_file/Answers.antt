@@ -1,5 +1,0 @@
-use Rattle.handler_read_back.proofs.Files.{canonical_again}
-use Rattle.handler_read_back.proofs.laws.canonical_is_a_file.Goals as goal
-
-pub returns : goal.returns
-returns c = canonical_again

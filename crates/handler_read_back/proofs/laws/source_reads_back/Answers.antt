@@ -1,5 +1,0 @@
-use Rattle.handler_read_back.proofs.Sources.{source_again}
-use Rattle.handler_read_back.proofs.laws.source_reads_back.Goals as goal
-
-pub returns : goal.returns
-returns c = source_again

@@ -1,0 +1,6 @@
+use Rattle.handler_trees.specs.Mentions.{file_mentions}
+use Rattle.handler_grammar.proofs.Said.{texts_kept}
+use Rattle.handler_syntax.proofs.laws.names_stay_readable.Goals as goal
+
+pub returns : goal.returns
+returns c = λ old new file b h. texts_kept old new b (file_mentions file) h

@@ -1,0 +1,11 @@
+use Rattle.handler_syntax.proofs.Facts.{one_tree, one_fault, no_fault}
+use Rattle.handler_syntax.proofs.laws.one_answer.Goals as goal
+
+pub returns-clause-tree : goal.returns-clause-tree
+returns-clause-tree c = one_tree
+
+pub returns-clause-fault : goal.returns-clause-fault
+returns-clause-fault c = one_fault
+
+pub returns-clause-either : goal.returns-clause-either
+returns-clause-either c = no_fault

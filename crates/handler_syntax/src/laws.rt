@@ -1,0 +1,136 @@
+//! Laws of canonical text: each is the contract of a function with an empty body.
+
+ghost use Rattle.std.specs.Prelude.{◌≡◌, ℕ, List, [], ◌∷◌, map, take};
+ghost use Rattle.session_values.specs.Names.{AreDistinct, Begins};
+ghost use Rattle.handler_tokens.specs.declared.word.Word.{Word};
+ghost use Rattle.handler_tokens.specs.Words.{kind_of, words_of, names_of};
+ghost use Rattle.handler_trees.specs.declared.file.File.{File};
+ghost use Rattle.handler_trees.specs.declared.expr.Calc.{Calc};
+ghost use Rattle.handler_trees.specs.declared.expr.Expr.{Expr};
+ghost use Rattle.handler_trees.specs.declared.expr.Expr.TheVariants as expr;
+ghost use Rattle.handler_tokens.specs.Longest.{IsFirstToken};
+ghost use Rattle.handler_tokens.specs.Scan.{scan};
+ghost use Rattle.handler_tokens.specs.Spelled.{Spell, IsNext};
+ghost use Rattle.handler_tokens.specs.Steps.{Gives};
+ghost use Rattle.handler_tokens.specs.Tokens.{Piece, pieces, with_reserved};
+ghost use Rattle.handler_tokens.specs.declared.token.Token.{Token};
+ghost use Rattle.handler_tokens.specs.declared.tokens.Tokens.{Tokens};
+ghost use Rattle.handler_grammar.specs.Limits.{FileFits, IsFileWithin};
+ghost use Rattle.handler_grammar.specs.Marked.{all_fine, file_marked};
+ghost use Rattle.handler_grammar.specs.Parsed.{IsSourceOf, HasFault};
+ghost use Rattle.handler_grammar.specs.Phrase.{FilePhrase, file_words};
+ghost use Rattle.handler_grammar.specs.declared.refusal.SyntaxRefusal.{SyntaxRefusal};
+ghost use Rattle.handler_printing.specs.Canonical.{canonical_text, whole_text};
+ghost use Rattle.handler_printing.specs.CanonicalWords.{canonical_words};
+ghost use Rattle.handler_trees.specs.Mentions.{AreNamed, file_mentions};
+ghost use Rattle.handler_tokens.specs.Texts.{IsNamedFile};
+ghost use Rattle.handler_syntax.specs.Parentheses.{operands_text};
+ghost use Rattle.handler_syntax.specs.SameTree.{SameTree};
+
+/// The canonical words of a file within the limits, at whatever places, are a file within the
+/// limits again, with the same tree, places aside.
+pub fn canonical_is_a_file()
+    ensures { (ws us : List Word) (file : File)
+        → IsFileWithin ws file
+        → map (λ (w : Word). w.sort) us ≡ canonical_words file
+        → (g : File) × IsFileWithin us g × SameTree file g }
+{}
+
+/// The canonical text of a file within the limits is read as the same tree, places aside, and
+/// brings no new name. `names` is the list of names that the file's are places in.
+pub fn reads_back()
+    ensures { (names : List (List ℕ)) (ws : List Word) (file : File)
+        → AreDistinct names
+        → IsFileWithin ws file
+        → IsNamedFile names file
+        → (g : File) × IsFileWithin (words_of names (canonical_text names file)) g × SameTree file g × (names_of names (canonical_text names file) ≡ names) }
+{}
+
+/// The tree of a source within the limits can be printed with the names behind the source, and its
+/// text can be read again.
+pub fn what_is_read_is_printable()
+    ensures named { (names : List (List ℕ)) (source : List ℕ) (file : File)
+        → IsFileWithin (words_of names source) file
+        → AreNamed (names_of names source) (file_mentions file) }
+    ensures readable { (names : List (List ℕ)) (source : List ℕ) (file : File)
+        → IsFileWithin (words_of names source) file
+        → IsNamedFile (names_of names source) file }
+{}
+
+/// What is read of a source is read again, places aside, from its canonical text with the names
+/// behind the source.
+pub fn source_reads_back()
+    ensures { (names : List (List ℕ)) (source : List ℕ) (file : File)
+        → AreDistinct names
+        → IsFileWithin (words_of names source) file
+        → (g : File) × IsFileWithin (words_of (names_of names source) (canonical_text (names_of names source) file)) g × SameTree file g × (names_of (names_of names source) (canonical_text (names_of names source) file) ≡ names_of names source) }
+{}
+
+/// A source has one tree at most and one first fault at most, and not both.
+pub fn one_answer()
+    ensures tree { (names : List (List ℕ)) (source : List ℕ) (f g : File)
+        → IsSourceOf names source f → IsSourceOf names source g → f ≡ g }
+    ensures fault { (names : List (List ℕ)) (source : List ℕ) (d e : SyntaxRefusal)
+        → HasFault names source d → HasFault names source e → d ≡ e }
+    ensures either { (names : List (List ℕ)) (source : List ℕ) (f : File) (e : SyntaxRefusal)
+        → IsSourceOf names source f → HasFault names source e → ⊥ }
+{}
+
+/// A file is within the limits exactly where no word of it breaks one.
+pub fn limits_are_of_words()
+    ensures within { (p : FilePhrase)
+        → FileFits p → file_marked p ≡ all_fine (file_words p []) [] }
+    ensures unbroken { (p : FilePhrase)
+        → file_marked p ≡ all_fine (file_words p []) [] → FileFits p }
+{}
+
+/// The kind that an unexpected word is refused with is that of its token.
+pub fn found_is_the_kind_of_the_token()
+    ensures { (names : List (List ℕ)) (source : List ℕ)
+        → map (λ (w : Word). kind_of w.sort) (words_of names source)
+        ≡ map (λ (p : Piece). p.kind) (pieces 0 0 source) }
+{}
+
+/// Parentheses stand round the right operand of a sum or a difference that is one, round an
+/// operand of a product that is a sum or a difference, round its right operand that is a product,
+/// and nowhere else.
+pub fn parentheses_stand_where_they_are_needed()
+    ensures { (names : List (List ℕ)) (c : Calc) (l r : Expr) (rest : List ℕ)
+        → whole_text names (expr.Binary c l r) rest ≡ operands_text names c l r rest }
+{}
+
+/// Equal trees, places aside, have equal text.
+pub fn same_trees_have_the_same_text()
+    ensures { (names : List (List ℕ)) (f g : File)
+        → SameTree f g → canonical_text names f ≡ canonical_text names g }
+{}
+
+/// What is read of a canonical text is printed as that text again.
+pub fn canonical_text_is_kept()
+    ensures { (names : List (List ℕ)) (ws : List Word) (file read : File)
+        → AreDistinct names
+        → IsFileWithin ws file
+        → IsNamedFile names file
+        → IsSourceOf names (canonical_text names file) read
+        → canonical_text names read ≡ canonical_text names file }
+{}
+
+/// What names can be written with one list can be written with a longer one.
+pub fn names_stay_readable()
+    ensures { (old new : List (List ℕ)) (file : File)
+        → Begins old new → IsNamedFile old file → IsNamedFile new file }
+{}
+
+/// The token at the front of a text is the longest front that is one.
+pub fn tokens_are_the_longest()
+    ensures { (b : ℕ) (bs : List ℕ)
+        → IsFirstToken (b ∷ bs) (with_reserved (scan (b ∷ bs)).0 (take (scan (b ∷ bs)).1 (b ∷ bs))) (scan (b ∷ bs)).1 }
+{}
+
+/// The tokens of a source, with the blanks and comments between them, are the source; and each
+/// call of the iterator gives the first of those that are to come.
+pub fn tokens_are_the_source()
+    ensures spelled { (source : List ℕ) → Spell (pieces 0 0 source) source }
+    ensures next { (old : Tokens) (token : Token) (new : Tokens)
+        → Gives old token new → IsNext old token new }
+{}
