@@ -28,7 +28,7 @@ empty more_terms = λ ws. (no_term, refl)
 empty _ = tt
 
 -- a word taken from a stack of parts, undone
-abbrev Back : List Part → Sort → Option Taken → Type 0
+abbrev pub Back : List Part → Sort → Option Taken → Type 0
 Back ps s None = Unit {0}
 Back ps s (Some t) = (at : ℕ) (ws : List Word) → Spells (t.left ++ t.under) ws → Spells ps (word s at ∷ ws)
 
@@ -41,7 +41,7 @@ top_back : (p : Part) (under : List Part) (s : Sort) (o : Option (List Part)) (b
 top_back p under s None below r h = below_back p under s (may_be_empty p) below (empty p) h
 top_back p under s (Some left) below r h = λ at ws sp. r at under ws sp
 
-back : (ps : List Part) (s : Sort) → Back ps s (taking ps s)
+pub back : (ps : List Part) (s : Sort) → Back ps s (taking ps s)
 back [] s = tt
 back (p ∷ ps) s = top_back p ps s (row p s) (taking ps s) (row_back p s) (back ps s)
 

@@ -22,3 +22,4 @@ pub mod UniqueFile
 pub mod Whole
 pub mod Fits
 pub mod FitsFile
+pub mod SomeFile

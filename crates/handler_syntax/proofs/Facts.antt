@@ -12,6 +12,7 @@ use Rattle.handler_trees.specs.Mentions.{a_name, a_symbol}
 use Rattle.handler_tokens.specs.Texts.{HasText}
 use Rattle.session_values.specs.Names.{IsNamed}
 pub use Rattle.handler_trees.proofs.Mentions.{mentions_leaf, mentions_binary, mentions_let, mentions_assign, mentions_perform, mentions_choose, mentions_repeat, mentions_answer, all_first, all_join}
+pub use Rattle.handler_grammar.proofs.SomeFile.{file_or_fault, fault_certain}
 use Rattle.handler_grammar.proofs.UniqueFile.{same_file}
 
 pub one_tree : (names : List (List ℕ)) (source : List ℕ) (f g : File) → IsSourceOf names source f → IsSourceOf names source g → f ≡ g

@@ -1,6 +1,6 @@
 //! Laws of canonical text: each is the contract of a function with an empty body.
 
-ghost use Rattle.std.specs.Prelude.{◌≡◌, ℕ, List, [], ◌∷◌, map, take};
+ghost use Rattle.std.specs.Prelude.{◌≡◌, ◌≢◌, ◌⊎◌, ℕ, List, [], ◌∷◌, length, map, take};
 ghost use Rattle.session_values.specs.Names.{AreDistinct, Begins};
 ghost use Rattle.handler_tokens.specs.declared.word.Word.{Word};
 ghost use Rattle.handler_tokens.specs.Words.{kind_of, words_of, names_of};
@@ -20,6 +20,7 @@ ghost use Rattle.handler_grammar.specs.Marked.{all_fine, file_marked};
 ghost use Rattle.handler_grammar.specs.Parsed.{IsSourceOf, HasFault};
 ghost use Rattle.handler_grammar.specs.Phrase.{FilePhrase, file_words};
 ghost use Rattle.handler_grammar.specs.declared.refusal.SyntaxRefusal.{SyntaxRefusal};
+ghost use Rattle.handler_grammar.specs.declared.refusal.SyntaxRefusal.TheVariants as syntax_refusal;
 ghost use Rattle.handler_printing.specs.Canonical.{canonical_text, whole_text};
 ghost use Rattle.handler_printing.specs.CanonicalWords.{canonical_words};
 ghost use Rattle.handler_trees.specs.Mentions.{AreNamed, file_mentions};
@@ -66,8 +67,14 @@ pub fn source_reads_back()
         → (g : File) × IsFileWithin (words_of (names_of names source) (canonical_text (names_of names source) file)) g × SameTree file g × (names_of (names_of names source) (canonical_text (names_of names source) file) ≡ names_of names source) }
 {}
 
-/// A source has one tree at most and one first fault at most, and not both.
+/// A source has a tree or a first fault, one of them at most, and not both; and a fault is never
+/// want of memory.
 pub fn one_answer()
+    ensures some { (names : List (List ℕ)) (source : List ℕ)
+        → ((file : File) × IsSourceOf names source file)
+        ⊎ ((e : SyntaxRefusal) × HasFault names source e) }
+    ensures certain { (names : List (List ℕ)) (source : List ℕ) (e : SyntaxRefusal)
+        → HasFault names source e → e ≢ syntax_refusal.NoMemory }
     ensures tree { (names : List (List ℕ)) (source : List ℕ) (f g : File)
         → IsSourceOf names source f → IsSourceOf names source g → f ≡ g }
     ensures fault { (names : List (List ℕ)) (source : List ℕ) (d e : SyntaxRefusal)

@@ -10,6 +10,5 @@ pub mod Resolving
 pub mod RunLemmas
 pub mod SheetLemmas
 pub mod SomeAnswer
-pub mod Spelled
 pub mod TopLemmas
 pub mod Turns

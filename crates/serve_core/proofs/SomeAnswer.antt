@@ -5,13 +5,8 @@ use lib.Dec.{leb}
 use Rattle.std.specs.Prelude.{IsUtf8}
 use Rattle.std.specs.Str.{is_utf8}
 use Rattle.std.proofs.lemmas.Str.{IsUtf8-from_is_utf8, is_utf8-from_IsUtf8}
-use Rattle.handler_tokens.specs.Words.{words_of, names_of}
-use Rattle.handler_trees.specs.declared.file.File.{File}
-use Rattle.handler_grammar.specs.Limits.{IsFileWithin}
-use Rattle.handler_grammar.specs.Next.{fault, whole_file}
-use Rattle.handler_grammar.specs.declared.refusal.SyntaxRefusal.{SyntaxRefusal}
-use Rattle.handler_grammar.proofs.Law.{first_fault}
-use Rattle.handler_printing.specs.Canonical.{canonical_text}
+use Rattle.handler_syntax.specs.Language.{File, HasFault, IsSourceOf, SyntaxRefusal, canonical_text, names_of}
+use Rattle.handler_syntax.proofs.Facts.{fault_certain, file_or_fault as some_answer}
 use Rattle.request_files.specs.Requests.{first_fault as first_request_fault, no_requests}
 use Rattle.serve_core.specs.declared.command.Command.{Command}
 use Rattle.serve_core.specs.declared.command.Command.TheVariants.{Check, Serve}
@@ -21,7 +16,6 @@ use Rattle.serve_core.specs.Answer.{Answer, Parts, IsAnswer, CommandAnswers, IsI
 use Rattle.serve_core.specs.Built.{is_built}
 use Rattle.serve_core.specs.Commands.{command_of}
 use Rattle.serve_core.specs.Names.{keeps_rules}
-use Rattle.serve_core.proofs.Spelled.{has_file, fault_certain}
 
 -- ---- what can be decided
 
@@ -51,17 +45,15 @@ size_decided n m = by (leb n m) refl
     by false e = inr (leb-false n m e)
 
 -- the handlers' text is a file within the limits, or has a first fault
-file_or_fault : (text : List ℕ) → ((file : File) × IsFileWithin (words_of [] text) file) ⊎ ((e : SyntaxRefusal) × HasSyntaxFault [] text e)
-file_or_fault text = by (fault (length text) whole_file 0 (words_of [] text)) refl
+file_or_fault : (text : List ℕ) → ((file : File) × IsSourceOf [] text file) ⊎ ((e : SyntaxRefusal) × HasSyntaxFault [] text e)
+file_or_fault text = by (some_answer [] text)
   where
-    by : (o : Option SyntaxRefusal) → fault (length text) whole_file 0 (words_of [] text) ≡ o → ((file : File) × IsFileWithin (words_of [] text) file) ⊎ ((e : SyntaxRefusal) × HasSyntaxFault [] text e)
-    by None e = inl (has_file (length text) (words_of [] text) e)
-    by (Some r) e =
-        let first = first_fault (length text) r (words_of [] text) e in
-        inr (r, record { walked = e; first = first; certain = fault_certain (length text) (words_of [] text) r first })
+    by : ((file : File) × IsSourceOf [] text file) ⊎ ((e : SyntaxRefusal) × HasFault [] text e) → ((file : File) × IsSourceOf [] text file) ⊎ ((e : SyntaxRefusal) × HasSyntaxFault [] text e)
+    by (inl f) = inl f
+    by (inr r) = inr (r.0, record { first = r.1; certain = fault_certain _ _ r.0 r.1 })
 
 -- a tree is that of a session, or not
-session_decided : (parts : Parts) (file : File) → IsFileWithin (words_of [] parts.handlers) file → Decided (IsSession parts file)
+session_decided : (parts : Parts) (file : File) → IsSourceOf [] parts.handlers file → Decided (IsSession parts file)
 session_decided parts file form = by (is_true (is_built file)) (is_true (keeps_rules file)) (none_decided (first_request_fault (handler_names_of parts) (heads_of file.handlers) no_requests (rows_of parts)))
   where
     by : Decided (is_built file ≡ true) → Decided (keeps_rules file ≡ true) → Decided (first_request_fault (handler_names_of parts) (heads_of file.handlers) no_requests (rows_of parts) ≡ None) → Decided (IsSession parts file)
@@ -79,18 +71,18 @@ module _ (bytes : List ℕ) where
   checked : IsInput Check bytes → AnswerOf Check
   checked input = by (file_or_fault bytes)
     where
-      by : ((file : File) × IsFileWithin (words_of [] bytes) file) ⊎ ((e : SyntaxRefusal) × HasSyntaxFault [] bytes e) → AnswerOf Check
+      by : ((file : File) × IsSourceOf [] bytes file) ⊎ ((e : SyntaxRefusal) × HasSyntaxFault [] bytes e) → AnswerOf Check
       by (inl f) = (answers.Text (canonical_text (names_of [] bytes) f.0), record { input = input; file = f.0; form = f.1; text_is = refl })
       by (inr e) = (answers.Refused (Syntax e.0), (input, e.1))
 
   served : IsInput Serve bytes → AnswerOf Serve
   served input = by (file_or_fault (parts_of bytes).handlers)
     where
-      with_file : (file : File) → IsFileWithin (words_of [] (parts_of bytes).handlers) file → Decided (IsSession (parts_of bytes) file) → AnswerOf Serve
+      with_file : (file : File) → IsSourceOf [] (parts_of bytes).handlers file → Decided (IsSession (parts_of bytes) file) → AnswerOf Serve
       with_file file form (inl s) = (answers.Text (text_of (parts_of bytes) file), record { input = input; file = file; is_session = s; text_is = refl })
       with_file file form (inr n) = (answers.Refused NotBuilt, (input, record { file = file; form = form; unserved = n }))
 
-      by : ((file : File) × IsFileWithin (words_of [] (parts_of bytes).handlers) file) ⊎ ((e : SyntaxRefusal) × HasSyntaxFault [] (parts_of bytes).handlers e) → AnswerOf Serve
+      by : ((file : File) × IsSourceOf [] (parts_of bytes).handlers file) ⊎ ((e : SyntaxRefusal) × HasSyntaxFault [] (parts_of bytes).handlers e) → AnswerOf Serve
       by (inl f) = with_file f.0 f.1 (session_decided (parts_of bytes) f.0 f.1)
       by (inr e) = (answers.Refused (Syntax e.0), (input, e.1))
 

@@ -14,14 +14,14 @@ pub struct SyntaxFault {
 
 impl Model for SyntaxFault {
     ghost use Rattle.std.specs.Prelude.{◌≢◌};
-    ghost use Rattle.handler_grammar.specs.declared.refusal.SyntaxRefusal.{SyntaxRefusal};
-    ghost use Rattle.handler_grammar.specs.declared.refusal.SyntaxRefusal.TheVariants.{NoMemory};
+    ghost use Rattle.handler_syntax.specs.Language.{SyntaxRefusal};
+    ghost use Rattle.handler_syntax.specs.Language as language;
 
     ghost Value = { SyntaxRefusal };
 
     ghost view = { λ s. s.refusal };
 
-    ghost invariant = { λ s. s.refusal ≢ NoMemory };
+    ghost invariant = { λ s. s.refusal ≢ language.syntax_refusal.NoMemory };
 }
 
 impl SyntaxFault {

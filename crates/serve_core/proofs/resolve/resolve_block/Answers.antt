@@ -1,6 +1,6 @@
 use Rattle.std.proofs.Common.{◌≡◌, ◌++◌, ◌&&◌, ◌∙◌, List, Option, IsSome, rules, sym, ap, subst}
 use Rattle.std.specs.List.{list_all}
-use Rattle.handler_trees.specs.declared.stmt.Stmt.{Stmt}
+use Rattle.handler_syntax.specs.Language.{Stmt}
 use Rattle.serve_core.specs.declared.checked.CheckedStmt.{CheckedStmt}
 use Rattle.serve_core.specs.Built.{stmt_is_built}
 use Rattle.serve_core.specs.Names.{declares, block_keeps_rules}
