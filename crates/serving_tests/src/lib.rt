@@ -1,5 +1,5 @@
-//! Tests of the crates that serve requests: the journal, the plain desk and the admission book. They
-//! stand above those crates, so that each is proved once.
+//! Tests of the crates that serve requests: the journal, the plain desk and the admission book.
+//! They stand above those crates, so that each is proved once.
 #![tactic(auto)]
 
 #[cfg(test)]
