@@ -90,7 +90,8 @@ fn begin_next<S: Script + Drop>(
     requires idle { record_of book.old.book caller ≡ None }
     requires room { 256 ≤ scratch.old.room }
     ensures script { book.new.script ≡ book.old.script }
-    ensures begins { Begins (S.meaning book.old.script) book.old.book caller ((S.meaning book.old.script).entry (begun book.old.book.journal)) result book.new.book }
+    ensures begins { Begins (S.meaning book.old.script) book.old.book caller
+        ((S.meaning book.old.script).entry (begun book.old.book.journal)) result book.new.book }
     ensures lawful { Lawful (S.meaning book.new.script) book.new.book }
     ensures room { scratch.new.room ≡ scratch.old.room }
 {

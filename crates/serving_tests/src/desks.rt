@@ -31,13 +31,18 @@ fn serve<D: Desk, R: Threads + Wait + Sync>(
     requires lawful { IsScript (D.Served.meaning (D.script desk.old)) }
     requires begins { D.at desk.old ≡ at_beginning (D.Served.meaning (D.script desk.old)) t }
     requires calls { (D.Served.meaning (D.script desk.old)).next t [] ≡ Calls op }
-    requires answers { (v : Value) → (D.Served.meaning (D.script desk.old)).next t (v ∷ []) ≡ Answers reply }
+    requires answers { (v : Value) →
+        (D.Served.meaning (D.script desk.old)).next t (v ∷ []) ≡ Answers reply }
     requires entry { (D.Served.meaning (D.script desk.old)).entry t ≡ declared.now.symbols }
-    requires told { (v : Value) → (D.Served.meaning (D.script desk.old)).told t (v ∷ []) ≡ declared.now.symbols }
-    requires due { (rs : List Value) → (D.Served.meaning (D.script desk.old)).due t rs ≡ declared.now.symbols }
+    requires told { (v : Value) →
+        (D.Served.meaning (D.script desk.old)).told t (v ∷ []) ≡ declared.now.symbols }
+    requires due { (rs : List Value) →
+        (D.Served.meaning (D.script desk.old)).due t rs ≡ declared.now.symbols }
     requires covered { Covered declared.now.symbols declared.now.symbols }
     ensures script { D.script desk.new ≡ D.script desk.old }
-    ensures served { IfOk result (λ v. D.at desk.new ≡ with_end (with_entry (D.at desk.old) (record { op = op; reply = v }) declared.now.symbols)) }
+    ensures served { IfOk result (λ v.
+        D.at desk.new ≡ with_end (with_entry (D.at desk.old)
+        (record { op = op; reply = v }) declared.now.symbols)) }
 {
     let value = desk.call(rt, op)?;
     value.bounds();
@@ -67,7 +72,8 @@ fn two_tickets(
     requires first { Fits (TableKind.Map ∷ []) first }
     requires second { Fits (TableKind.Map ∷ []) second }
     ensures shape { IfOk result (λ s. s.shape ≡ TableKind.Map ∷ []) }
-    ensures tickets { IfOk result (λ s. s.tickets ≡ calls_more (answers_only one) first ∷ calls_more (answers_only two) second ∷ []) }
+    ensures tickets { IfOk result (λ s. s.tickets
+        ≡ calls_more (answers_only one) first ∷ calls_more (answers_only two) second ∷ []) }
 {
     let mut script = ListScript::with_room(alloc, &[TableKind::Map], 2, 2, 2)?;
     script.ticket(one);
