@@ -23,7 +23,7 @@ use Rattle.session_journal.proofs.Replay.{run-append}
 use Rattle.shard_tables.specs.Parts.{part, shard_of}
 use Rattle.shard_tables.proofs.PartSteps.{part_after, part_stays, part_reply, part_kind}
 use Rattle.admission_book.proofs.Events.{deeds-append, in_order-append}
-use Rattle.hall_rule.specs.Contents.{shards_in, share, tables_after}
+use Rattle.hall_rule.specs.Contents.{shards_in, share, opening_tables, tables_after}
 use Rattle.hall_rule.specs.Turns.{IsTurnOf}
 use Rattle.hall_rule.specs.Law.{none_some, inside, lies_within}
 
@@ -77,12 +77,12 @@ keyless_stays (Members s) op h = ap Members (set_stays s op.kind op.key h)
 -- ---- the tables after the operation
 pub after-done : (m : Meaning) (J : List Event) (t : ℕ) (op : Op) (r : Value) → tables_after m (J ++ Done t op r ∷ []) ≡ step (tables_after m J) op
 after-done m J t op r =
-    ap (λ (ds : List Deed). run (start m.shape) (in_order ds)) (deeds-append J (Done t op r ∷ []))
-    ∙ ap (run (start m.shape)) (in_order-append (deeds J) (record { ticket = t; op = op; reply = r } ∷ []))
-    ∙ run-append (start m.shape) (in_order (deeds J)) (record { op = op; reply = r } ∷ [])
+    ap (λ (ds : List Deed). run (opening_tables m) (in_order ds)) (deeds-append J (Done t op r ∷ []))
+    ∙ ap (run (opening_tables m)) (in_order-append (deeds J) (record { ticket = t; op = op; reply = r } ∷ []))
+    ∙ run-append (opening_tables m) (in_order (deeds J)) (record { op = op; reply = r } ∷ [])
 
 after-quiet : (m : Meaning) (J more : List Event) → deeds more ≡ [] → tables_after m (J ++ more) ≡ tables_after m J
-after-quiet m J more e = ap (λ (ds : List Deed). run (start m.shape) (in_order ds)) (deeds-append J more ∙ ap (λ (ds : List Deed). deeds J ++ ds) e ∙ append-nil (deeds J))
+after-quiet m J more e = ap (λ (ds : List Deed). run (opening_tables m) (in_order ds)) (deeds-append J more ∙ ap (λ (ds : List Deed). deeds J ++ ds) e ∙ append-nil (deeds J))
 
 length-step : (ts : Tables) (op : Op) → length (step ts op) ≡ length ts
 unfolding step
@@ -96,8 +96,11 @@ length-start : (shape : List TableKind) → length (start shape) ≡ length shap
 length-start [] = refl
 length-start (kind ∷ shape) = ap suc (length-start shape)
 
-pub length-after : (m : Meaning) (J : List Event) → length (tables_after m J) ≡ length m.shape
-length-after m J = length-run (start m.shape) (in_order (deeds J)) ∙ length-start m.shape
+pub length-opening : (m : Meaning) → opening_tables m ≡ start m.shape → length (opening_tables m) ≡ length m.shape
+length-opening m o = ap length o ∙ length-start m.shape
+
+pub length-after : (m : Meaning) → opening_tables m ≡ start m.shape → (J : List Event) → length (tables_after m J) ≡ length m.shape
+length-after m o J = length-run (opening_tables m) (in_order (deeds J)) ∙ length-opening m o
 
 table-step : (ts : Tables) (op : Op) → op.table < length ts → table (step ts op) op.table ≡ after_on (table ts op.table) op
 unfolding step
@@ -138,22 +141,22 @@ kind_start [] i k e = absurd (none_some k e)
 kind_start (x ∷ shape) zero k e = kind_empty x ∙ inside x k e
 kind_start (x ∷ shape) (suc i) k e = kind_start shape i k e
 
-pub kind_table : (m : Meaning) (J : List Event) (i : ℕ) (k : TableKind) → slice_get m.shape i ≡ Some k → kind_of (table (tables_after m J) i) ≡ k
-kind_table m J i k e =
-    let l : i < length (start m.shape) = omega (arith, lies_within m.shape i k e, length-start m.shape) in
-    kind_run (start m.shape) (in_order (deeds J)) i l ∙ kind_start m.shape i k e
+pub kind_table : (m : Meaning) → opening_tables m ≡ start m.shape → (J : List Event) (i : ℕ) (k : TableKind) → slice_get m.shape i ≡ Some k → kind_of (table (tables_after m J) i) ≡ k
+kind_table m o J i k e =
+    let l : i < length (opening_tables m) = omega (arith, lies_within m.shape i k e, length-opening m o) in
+    kind_run (opening_tables m) (in_order (deeds J)) i l ∙ ap (λ (ts : Tables). kind_of (table ts i)) o ∙ kind_start m.shape i k e
 
-pub kind_share : (m : Meaning) (turns : ℕ) (J : List Event) (j i : ℕ) (k : TableKind) → j / shards_in m turns ≡ i → slice_get m.shape i ≡ Some k → kind_of (share m turns J j) ≡ k
-kind_share m turns J j i k at e =
+pub kind_share : (m : Meaning) → opening_tables m ≡ start m.shape → (turns : ℕ) (J : List Event) (j i : ℕ) (k : TableKind) → j / shards_in m turns ≡ i → slice_get m.shape i ≡ Some k → kind_of (share m turns J j) ≡ k
+kind_share m o turns J j i k at e =
     part_kind (shards_in m turns) (j % shards_in m turns) (table (tables_after m J) (j / shards_in m turns))
     ∙ ap (λ (a : ℕ). kind_of (table (tables_after m J) a)) at
-    ∙ kind_table m J i k e
+    ∙ kind_table m o J i k e
 
 -- ---- the shares after the operation
 pub share_quiet : (m : Meaning) (turns : ℕ) (J more : List Event) (j : ℕ) → deeds more ≡ [] → share m turns J j ≡ share m turns (J ++ more) j
 share_quiet m turns J more j e = ap (λ (ts : Tables). part (shards_in m turns) (j % shards_in m turns) (table ts (j / shards_in m turns))) (sym (after-quiet m J more e))
 
-module _ (m : Meaning) (turns : ℕ) (J : List Event) (t : ℕ) (op : Op) (r : Value) (l : op.table < length m.shape) where
+module _ (m : Meaning) (o : opening_tables m ≡ start m.shape) (turns : ℕ) (J : List Event) (t : ℕ) (op : Op) (r : Value) (l : op.table < length m.shape) where
   abbrev n : ℕ
   n = shards_in m turns
 
@@ -161,7 +164,7 @@ module _ (m : Meaning) (turns : ℕ) (J : List Event) (t : ℕ) (op : Op) (r : V
   K = J ++ Done t op r ∷ []
 
   low : op.table < length (tables_after m J)
-  low = omega (arith, l, length-after m J)
+  low = omega (arith, l, length-after m o J)
 
   -- where the part of the operation's table goes over into what the operation makes of it
   at_table : (j : ℕ) (f : Container → Container) → j / n ≡ op.table → part n (j % n) (after_on (table (tables_after m J) op.table) op) ≡ f (part n (j % n) (table (tables_after m J) op.table)) → share m turns K j ≡ f (share m turns J j)

@@ -1,7 +1,7 @@
 -- What counts of the values behind a hall's turns, and what each shard holds after a journal.
 use Rattle.std.specs.Prelude.{◌≡◌, ◌≢◌, ℕ, ◌-◌, ◌/◌, ◌%◌, ◌≤◌, List, ◌++◌, Some, length}
 use Rattle.std.specs.List.{AllByRecursion}
-use Rattle.session_values.specs.Tables.{Container, Tables, table}
+use Rattle.session_values.specs.Tables.{Container, Tables, start, table}
 use Rattle.session_journal.specs.declared.event.Event.{Event}
 use Rattle.session_journal.specs.Journal.{after, owner, ticket_of}
 use Rattle.session_journal.specs.Script.{Meaning, room}
@@ -20,6 +20,10 @@ shards_of turns tables = (turns - 1) / tables
 -- how many shards each table of a script has behind so many turns
 abbrev pub shards_in : Meaning → ℕ → ℕ
 shards_in m turns = shards_of turns (length m.shape)
+
+-- the tables before any ticket is begun
+abbrev pub opening_tables : Meaning → Tables
+opening_tables m = start m.shape
 
 -- the tables after the operations that were done
 abbrev pub tables_after : Meaning → List Event → Tables
