@@ -15,7 +15,7 @@ use Rattle.turn_board.specs.declared.view.Place.TheVariants.{Vacant, Lies}
 use Rattle.turn_board.specs.Tied.{Tied, TurnOk, InPlace, Lying, counted, place}
 use Rattle.turn_board.specs.Steps.{Sits, Told, asked, asked_view, lies}
 use Rattle.turn_board.proofs.Rows.{by_bool, two, row-here, row-past}
-use Rattle.turn_board.proofs.Moved.{there, Same, Mine, Owns, moved}
+use Rattle.turn_board.proofs.Moved.{there, Same, Mine, Owns, no-change, moved}
 
 abbrev pub won : ℕ → ℕ → Bool
 won a b = (a == 1) && (b == 0)
@@ -40,13 +40,13 @@ module _ {V C : Type 0} (content : V → C) (holds : List C → List C → Type 
 
   module _ (s : State (Option V) (View C)) (r : Tied content holds crew s) (id : ℕ) (v : View C) (set' slots k0 : ℕ) (c0 : C) (wide : length s.homes ≡ slots) (at : get_elem? s.views id ≡ some v) (one : v.speaks ≡ (k0, c0) ∷ []) (free : (t : ℕ) → bit_at set' t ≡ 1 → counted v t ≡ None) where
     word : ℕ
-    word = get_or s.words 0 0
+    word = get_or s.words 7 0
 
     abbrev got : ℕ → Bool
-    got t = won (bit_at set' t) (bit_at (get_or s.words 0 0) t)
+    got t = won (bit_at set' t) (bit_at (get_or s.words 7 0) t)
 
     abbrev w : View C
-    w = asked_view slots set' (get_or s.words 0 0) r.contents v
+    w = asked_view slots set' (get_or s.words 7 0) r.contents v
 
     abbrev owner' : ℕ → ℕ
     owner' t = cond (got t) (suc k0) (r.owner t)
@@ -60,22 +60,22 @@ module _ {V C : Type 0} (content : V → C) (holds : List C → List C → Type 
     place-at : (t : ℕ) → t < slots → place w t ≡ cond (got t) (lies (slice_get r.contents t)) (place v t)
     place-at t h = row-here slots (λ u. cond (got u) (lies (slice_get r.contents u)) (place v u)) Vacant t h
 
-    free-turn : (t : ℕ) → t < length s.homes → bit_at (get_or s.words 0 0) t ≡ 0 → (o : ℕ) → r.owner t ≡ o → TurnOk content crew r.owner r.seat_of r.contents r.notes s t o → (o ≡ 0) × ((c : C) × (slice_get r.contents t ≡ Some c) × Lying content s.homes t c)
+    free-turn : (t : ℕ) → t < length s.homes → bit_at (get_or s.words 7 0) t ≡ 0 → (o : ℕ) → r.owner t ≡ o → TurnOk content crew r.owner r.seat_of r.contents r.notes s t o → (o ≡ 0) × ((c : C) × (slice_get r.contents t ≡ Some c) × Lying content s.homes t c)
     free-turn t h z zero e k = (refl, k.1)
-    free-turn t h z (suc o) e k = absurd (let a : bit_at (get_or s.words 0 0) t ≡ 1 = k.0 in omega arith)
+    free-turn t h z (suc o) e k = absurd (let a : bit_at (get_or s.words 7 0) t ≡ 1 = k.0 in omega arith)
 
-    new-bit : (t : ℕ) → bit_at (bit_or (get_or s.words 0 0) set') t ≡ max (bit_at (get_or s.words 0 0) t) (bit_at set' t)
-    new-bit t = bit_at_or (get_or s.words 0 0) set' t
+    new-bit : (t : ℕ) → bit_at (bit_or (get_or s.words 7 0) set') t ≡ max (bit_at (get_or s.words 7 0) t) (bit_at set' t)
+    new-bit t = bit_at_or (get_or s.words 7 0) set' t
 
     abbrev SameAt : ℕ → Type 0
-    SameAt = Same content holds crew s r id v w (bit_or (get_or s.words 0 0) set') s.homes r.contents r.notes owner'
+    SameAt = Same content holds crew s r id v w (bit_or (get_or s.words 7 0) set') s.homes r.contents r.notes owner'
 
     abbrev MineAt : ℕ → Type 0
-    MineAt = Mine content holds crew s r id v w (bit_or (get_or s.words 0 0) set') s.homes r.contents r.notes owner'
+    MineAt = Mine content holds crew s r id v w (bit_or (get_or s.words 7 0) set') s.homes r.contents r.notes owner'
 
     stays : (t : ℕ) → t < slots → got t ≡ false → SameAt t
     stays t h e = record {
-      bit = new-bit t ∙ won-false (bit_at set' t) (bit_at (get_or s.words 0 0) t) (bit_at-lt set' t) (bit_at-lt (get_or s.words 0 0) t) e;
+      bit = new-bit t ∙ won-false (bit_at set' t) (bit_at (get_or s.words 7 0) t) (bit_at-lt set' t) (bit_at-lt (get_or s.words 7 0) t) e;
       owned = ap (λ (b : Bool). cond b (suc k0) (r.owner t)) e;
       home = refl;
       content_is = refl;
@@ -86,16 +86,16 @@ module _ {V C : Type 0} (content : V → C) (holds : List C → List C → Type 
     gains : (t : ℕ) → t < length s.homes → got t ≡ true → MineAt t
     gains t near e =
         let h : t < slots = omega arith in
-        let bits = won-true (bit_at set' t) (bit_at (get_or s.words 0 0) t) (bit_at-lt set' t) (bit_at-lt (get_or s.words 0 0) t) e in
+        let bits = won-true (bit_at set' t) (bit_at (get_or s.words 7 0) t) (bit_at-lt set' t) (bit_at-lt (get_or s.words 7 0) t) e in
         let f = free-turn t near bits.1 (r.owner t) refl (r.each_turn t near) in
         let c : C = f.1.0 in
         let is : counted w t ≡ Some c = count-at t h ∙ ap (λ (b : Bool). cond b (slice_get r.contents t) (counted v t)) e ∙ f.1.1 in
         let put : place w t ≡ Lies c = place-at t h ∙ ap (λ (b : Bool). cond b (lies (slice_get r.contents t)) (place v t)) e ∙ ap lies f.1.1 in
         let own : owner' t ≡ suc k0 = ap (λ (b : Bool). cond b (suc k0) (r.owner t)) e in
-        let set-bit : bit_at (bit_or (get_or s.words 0 0) set') t ≡ 1 = new-bit t ∙ ap₂ max bits.1 bits.0 in
+        let set-bit : bit_at (bit_or (get_or s.words 7 0) set') t ≡ 1 = new-bit t ∙ ap₂ max bits.1 bits.0 in
         record {
           ours = λ k g. absurd (suc-ne-zero k (sym g ∙ f.0));
-          owns = subst (λ (o : ℕ). Owns content holds crew s r id v w (bit_or (get_or s.words 0 0) set') s.homes r.contents r.notes owner' t o) (sym own) (set-bit, voice.1, voice.2, (c, is));
+          owns = subst (λ (o : ℕ). Owns content holds crew s r id v w (bit_or (get_or s.words 7 0) set') s.homes r.contents r.notes owner' t o) (sym own) (set-bit, voice.1, voice.2, (c, is));
           held = λ d g. (f.1.1 ∙ sym is ∙ g, subst (InPlace content s.homes t) (sym put) f.1.2, (k0, own, voice.2));
         }
 
@@ -109,22 +109,22 @@ module _ {V C : Type 0} (content : V → C) (holds : List C → List C → Type 
     voices : (i k : ℕ) (c : C) → get_elem? v.speaks i ≡ some (k, c) → (v.crew ≡ crew) × (k < crew) × (r.seat_of k ≡ id) × (slice_get r.notes k ≡ Some c)
     voices = (r.each_view id v at).spoken
 
-    pub asked-tied : Tied content holds crew record { words = set s.words 0 (bit_or (get_or s.words 0 0) set'); homes = s.homes; views = set s.views id w }
-    asked-tied = moved content holds crew s r id v w (bit_or (get_or s.words 0 0) set') s.homes r.contents r.notes owner' at refl each within voices (λ k ne. refl) r.turns r.callers r.tied
+    pub asked-tied : Tied content holds crew record { words = set s.words 7 (bit_or (get_or s.words 7 0) set'); homes = s.homes; views = set s.views id w }
+    asked-tied = moved content holds crew s r id v w (bit_or (get_or s.words 7 0) set') s.homes r.contents r.notes owner' at refl each within voices (λ k ne. refl) r.now (no-change r.now r.contents v w r.opened (r.changes id v at) refl refl) r.turns r.callers r.tied
 
     -- a board of one caller has no other seat that could hold a turn
-    alone : v.crew ≡ 1 → (t : ℕ) → t < length s.homes → bit_at (get_or s.words 0 0) t ≡ 1 → (o : ℕ) → TurnOk content crew r.owner r.seat_of r.contents r.notes s t o → (c : C) × (counted v t ≡ Some c)
-    alone sole t h bit zero k = absurd (let a : bit_at (get_or s.words 0 0) t ≡ 0 = k.0 in omega arith)
+    alone : v.crew ≡ 1 → (t : ℕ) → t < length s.homes → bit_at (get_or s.words 7 0) t ≡ 1 → (o : ℕ) → TurnOk content crew r.owner r.seat_of r.contents r.notes s t o → (c : C) × (counted v t ≡ Some c)
+    alone sole t h bit zero k = absurd (let a : bit_at (get_or s.words 7 0) t ≡ 0 = k.0 in omega arith)
     alone sole t h bit (suc o) k =
         let crew-is : v.crew ≡ crew = voice.0 in let mine : k0 < crew = voice.1 in let its : o < crew = k.1 in let same : o ≡ k0 = omega arith in
         let sits : get_elem? s.views id ≡ some k.2.0 = ap (get_elem? s.views) (sym (ap r.seat_of same ∙ voice.2)) ∙ k.2.2 in
         (k.2.1, ap (λ (x : View C). counted x t) (some-injective v k.2.0 (sym at ∙ sits)) ∙ k.2.3)
 
   pub asks : (slots id : ℕ) (me : Sits V C) (set' k0 : ℕ) (c0 : C) → me.0.speaks ≡ (k0, c0) ∷ [] → ((t : ℕ) → bit_at set' t ≡ 1 → counted me.0 t ≡ None)
-      → Allows (Tied content holds crew) slots id me 0 (λ n. bit_or n set') (asked holds (step slots 0 set' 0 none) me)
+      → Allows (Tied content holds crew) slots id me 7 (λ n. bit_or n set') (asked holds (step slots 7 set' 0 none) me)
   asks slots id me set' k0 c0 one free s r wide at small =
       let v : View C = me.0 in
-      let w : View C = asked_view slots set' (get_or s.words 0 0) r.contents v in
+      let w : View C = asked_view slots set' (get_or s.words 7 0) r.contents v in
       let tied = asked-tied s r id v set' slots k0 c0 wide at one free in (
         w,
         keeps,
@@ -134,7 +134,7 @@ module _ {V C : Type 0} (content : V → C) (holds : List C → List C → Type 
           r.contents,
           r.turns ∙ wide,
           refl,
-          tells record { words = set s.words 0 (bit_or (get_or s.words 0 0) set'); homes = s.homes; views = set s.views id w } tied id slots w wide (set_here s.views id w (there s.views id v at)),
+          tells record { words = set s.words 7 (bit_or (get_or s.words 7 0) set'); homes = s.homes; views = set s.views id w } tied id slots w wide (set_here s.views id w (there s.views id v at)),
           λ sole _ t h bit. let near : t < length s.homes = omega arith in alone s r id v set' slots k0 c0 wide at one free sole t near bit (r.owner t) (r.each_turn t near),
         ),
       )

@@ -1,5 +1,5 @@
 -- Cutting a caller off and putting callers together keep the rule.
-use Rattle.std.proofs.Common.{◌≡◌, ◌≢◌, ℕ, zero, suc, ◌<◌, ◌≤◌, ◌⊎◌, inl, inr, ⊎_elim, List, [], ◌∷◌, ◌++◌, length, get_or, set, Bool, cond, refl, sym, ap, ◌∙◌, subst, arith, eq-eqb, ne_eqb, length-set}
+use Rattle.std.proofs.Common.{◌≡◌, ◌≢◌, ℕ, zero, suc, ◌+◌, ◌<◌, ◌≤◌, ◌⊎◌, inl, inr, ⊎_elim, List, [], ◌∷◌, ◌++◌, length, get_or, set, Bool, cond, ltb, ltb-true, ltb-false, refl, sym, ap, ◌∙◌, subst, arith, eq-eqb, ne_eqb, length-set}
 use Rattle.std.specs.Prelude.{Option, Some, None, slice_get, ◌==◌}
 use Rattle.std.proofs.lemmas.Option.{none-some}
 use mathlib.Core.Option.{some, some-injective, some-ne-none}
@@ -7,11 +7,12 @@ use mathlib.Core.Logic.{dite}
 use native.Mathlib.Decide.{ℕ_discrete}
 use lib.ListN.{get_elem?}
 use Rattle.atomic_table.specs.Table.{State, Splits, Joins}
-use Rattle.atomic_table.proofs.Lists.{at_set, set_else, at_longer}
+use Rattle.atomic_table.proofs.Lists.{at_set, set_here, set_else, at_longer, at_last}
 use Rattle.turn_board.specs.declared.view.View.{View}
-use Rattle.turn_board.specs.Tied.{Tied, TurnOk, ViewOk, counted, all_speak}
-use Rattle.turn_board.specs.Steps.{left_view, right_view, both_views, spent_view, tail, head}
-use Rattle.turn_board.proofs.Rows.{row-past, row-here}
+use Rattle.turn_board.specs.Tied.{Tied, TurnOk, ViewOk, Left, Heard, counted, all_speak}
+use Rattle.turn_board.specs.Steps.{left_view, right_view, both_views, spent_view, tail, head, later}
+use Rattle.turn_board.proofs.Rows.{by_bool, row-past, row-here}
+use Rattle.turn_board.proofs.Moved.{there}
 
 pub at_end : {A : Type 0} (l : List A) (a b : A) (j : ℕ) → get_elem? (l ++ a ∷ []) j ≡ some b → (get_elem? l j ≡ some b) ⊎ ((j ≡ length l) × (a ≡ b))
 at_end [] a b zero e = inr (refl, some-injective a b e)
@@ -23,6 +24,16 @@ pub at_either : {A : Type 0} (xs ys : List A) (a : A) (i : ℕ) → get_elem? (x
 at_either [] ys a i e = inr (i, e)
 at_either (x ∷ xs) ys a zero e = inl e
 at_either (x ∷ xs) ys a (suc i) e = at_either xs ys a i e
+
+pub at-behind : {A : Type 0} (xs ys : List A) (a : A) (i n : ℕ) → n ≡ length xs + i → get_elem? ys i ≡ some a → get_elem? (xs ++ ys) n ≡ some a
+at-behind [] ys a i n is e = ap (get_elem? ys) (let g : n ≡ i = omega arith in g) ∙ e
+at-behind (x ∷ xs) ys a i zero is e = absurd (omega arith)
+at-behind (x ∷ xs) ys a i (suc n) is e = at-behind xs ys a i n (omega arith) e
+
+-- another caller than the first stands in the rest
+in-rest : {C : Type 0} (k0 : ℕ) (c0 : C) (xs : List (ℕ × C)) (i k : ℕ) (c : C) → k ≢ k0 → get_elem? {A = ℕ × C} ((k0, c0) ∷ xs) i ≡ some (k, c) → (j : ℕ) × (get_elem? xs j ≡ some (k, c))
+in-rest {C} k0 c0 xs zero k c ne e = absurd (ne (sym (ap (λ (x : ℕ × C). x.0) (some-injective {A = ℕ × C} (k0, c0) (k, c) e))))
+in-rest k0 c0 xs (suc i) k c ne e = (i, e)
 
 -- a list that is not empty has its head, and the rest of it
 module _ {A : Type 0} where
@@ -118,19 +129,59 @@ module _ {V C : Type 0} (content : V → C) (holds : List C → List C → Type 
           (λ (h : (j ≡ length (set s.views id (left_view v))) × (right_view v ≡ u)). subst (λ (y : ℕ × View C). Ok y.0 y.1) (λ i. (sym (h.0 ∙ length-set s.views id (left_view v)) i, h.1 i)) right-ok)
           (at_end (set s.views id (left_view v)) (right_view v) u j e)
 
+      left-view : get_elem? (set s.views id (left_view v) ++ right_view v ∷ []) id ≡ some (left_view v)
+      left-view = at_longer (set s.views id (left_view v)) (right_view v ∷ []) id (left_view v) (set_here s.views id (left_view v) (there s.views id v at))
+
+      else-view : (j : ℕ) (u : View C) → j ≢ id → get_elem? s.views j ≡ some u → get_elem? (set s.views id (left_view v) ++ right_view v ∷ []) j ≡ some u
+      else-view j u ne e = at_longer (set s.views id (left_view v)) (right_view v ∷ []) j u (set_else s.views id j (left_view v) ne ∙ e)
+
+      caller-cut : (k : ℕ) → k < crew → Heard after-seat (set s.views id (left_view v) ++ right_view v ∷ []) k
+      caller-cut k near = let h = r.each_caller k near in dite (ℕ_discrete k k0)
+          (λ e. (
+            right_view v,
+            0,
+            c0,
+            ap (get_elem? (set s.views id (left_view v) ++ right_view v ∷ [])) (seat-new k e) ∙ at_last (set s.views id (left_view v)) (right_view v) (length s.views) (length-set s.views id (left_view v)),
+            ap (λ (l : List (ℕ × C)). get_elem? (head l) 0) one ∙ ap (λ (m : ℕ). some (m, c0)) (sym e),
+          ))
+          (λ n. dite (ℕ_discrete (r.seat_of k) id)
+          (λ e. let same : h.0 ≡ v = some-injective h.0 v (sym h.3 ∙ ap (get_elem? s.views) e ∙ at) in
+          let x = in-rest k0 c0 xs h.1 k h.2 n (sym (ap (λ (l : List (ℕ × C)). get_elem? l h.1) one) ∙ ap (λ (y : View C). get_elem? y.speaks h.1) (sym same) ∙ h.4) in
+          (left_view v, x.0, h.2, ap (get_elem? (set s.views id (left_view v) ++ right_view v ∷ [])) (seat-old k n ∙ e) ∙ left-view, ap (λ (l : List (ℕ × C)). get_elem? (tail l) x.0) one ∙ x.1))
+          (λ m. (h.0, h.1, h.2, ap (get_elem? (set s.views id (left_view v) ++ right_view v ∷ [])) (seat-old k n) ∙ else-view (r.seat_of k) h.0 m h.3, h.4)))
+
+      changes-cut : (j : ℕ) (u : View C) → get_elem? (set s.views id (left_view v) ++ right_view v ∷ []) j ≡ some u → Left r.now r.contents u
+      changes-cut j u e = ⊎_elim
+          (λ (h : get_elem? (set s.views id (left_view v)) j ≡ some u). ⊎_elim
+          (λ (x : (j ≡ id) × (left_view v ≡ u)). subst (Left r.now r.contents) x.1 (r.changes id v at))
+          (λ (x : (j ≢ id) × (get_elem? s.views j ≡ some u)). r.changes j u x.1)
+          (at_set s.views id j (left_view v) u h))
+          (λ (h : (j ≡ length (set s.views id (left_view v))) × (right_view v ≡ u)). subst (Left r.now r.contents) h.1 (r.changes id v at))
+          (at_end (set s.views id (left_view v)) (right_view v) u j e)
+
+      latest-cut : (j : ℕ) × (u : View C) × (get_elem? (set s.views id (left_view v) ++ right_view v ∷ []) j ≡ some u) × (u.change.0 ≡ r.now)
+      latest-cut = let l = r.latest in dite (ℕ_discrete l.0 id)
+          (λ e. (id, left_view v, left-view, ap (λ (x : View C). x.change.0) (some-injective v l.1 (sym at ∙ ap (get_elem? s.views) (sym e) ∙ l.2)) ∙ l.3))
+          (λ n. (l.0, l.1, else-view l.0 l.1 n l.2, l.3))
+
       pub cut-tied : Tied content holds crew cut
       cut-tied = record {
         owner = r.owner;
         seat_of = after-seat;
         contents = r.contents;
         notes = r.notes;
-        one_word = r.one_word;
+        now = r.now;
+        words = r.words;
         turns = r.turns;
         small = r.small;
         callers = r.callers;
         tied = r.tied;
         each_turn = λ t h. turn-cut t (r.owner t) (r.each_turn t h);
         each_view = each-cut;
+        each_caller = caller-cut;
+        opened = r.opened;
+        changes = changes-cut;
+        latest = latest-cut;
       }
 
   pub parts : (id : ℕ) (v : View C) (k0 : ℕ) (c0 : C) (xs : List (ℕ × C)) → ((t : ℕ) → counted v t ≡ None) → v.speaks ≡ (k0, c0) ∷ xs → ((i k : ℕ) (c : C) → get_elem? xs i ≡ some (k, c) → k ≢ k0)
@@ -199,19 +250,73 @@ module _ {V C : Type 0} (content : V → C) (holds : List C → List C → Type 
         (at_set s.views id j (both_views v w) u x.1))
         (at_set (set s.views id (both_views v w)) other j spent_view u e)
 
+    both-view : get_elem? (set (set s.views id (both_views v w)) other spent_view) id ≡ some (both_views v w)
+    both-view = set_else (set s.views id (both_views v w)) other id spent_view (λ e. ne (sym e)) ∙ set_here s.views id (both_views v w) (there s.views id v at)
+
+    third-view : (j : ℕ) (u : View C) → j ≢ id → j ≢ other → get_elem? s.views j ≡ some u → get_elem? (set (set s.views id (both_views v w)) other spent_view) j ≡ some u
+    third-view j u n1 n2 e = set_else (set s.views id (both_views v w)) other j spent_view n2 ∙ set_else s.views id j (both_views v w) n1 ∙ e
+
+    caller-joined : (k : ℕ) → k < crew → Heard to-seat (set (set s.views id (both_views v w)) other spent_view) k
+    caller-joined k near = let h = r.each_caller k near in dite (ℕ_discrete (r.seat_of k) other)
+        (λ e. let same : h.0 ≡ w = some-injective h.0 w (sym h.3 ∙ ap (get_elem? s.views) e ∙ was-other) in
+        (both_views v w, h.1, h.2, ap (get_elem? (set (set s.views id (both_views v w)) other spent_view)) (moves-to k e) ∙ both-view, at_longer w.speaks v.speaks h.1 (k, h.2) (ap (λ (y : View C). get_elem? y.speaks h.1) (sym same) ∙ h.4)))
+        (λ n. dite (ℕ_discrete (r.seat_of k) id)
+        (λ e. let same : h.0 ≡ v = some-injective h.0 v (sym h.3 ∙ ap (get_elem? s.views) e ∙ at) in
+        (both_views v w, length w.speaks + h.1, h.2, ap (get_elem? (set (set s.views id (both_views v w)) other spent_view)) (remains k n ∙ e) ∙ both-view, at-behind w.speaks v.speaks (k, h.2) h.1 (length w.speaks + h.1) refl (ap (λ (y : View C). get_elem? y.speaks h.1) (sym same) ∙ h.4)))
+        (λ m. (h.0, h.1, h.2, ap (get_elem? (set (set s.views id (both_views v w)) other spent_view)) (remains k n) ∙ third-view (r.seat_of k) h.0 m n h.3, h.4)))
+
+    abbrev LeftAs : ℕ × List C → Type 0
+    LeftAs x = (x.0 ≤ r.now) × (x.0 ≡ r.now → x.1 ≡ r.contents)
+
+    both-left : Left r.now r.contents (both_views v w)
+    both-left = by_bool (ltb v.change.0 w.change.0) (λ b. LeftAs (cond b w.change v.change)) (λ _. r.changes other w was-other) (λ _. r.changes id v at)
+
+    spent-left : Left r.now r.contents (spent_view {C = C})
+    spent-left = (omega arith, λ e. absurd (let h = r.opened in omega arith))
+
+    changes-joined : (j : ℕ) (u : View C) → get_elem? (set (set s.views id (both_views v w)) other spent_view) j ≡ some u → Left r.now r.contents u
+    changes-joined j u e = ⊎_elim
+        (λ (x : (j ≡ other) × (spent_view ≡ u)). subst (Left r.now r.contents) x.1 spent-left)
+        (λ (x : (j ≢ other) × (get_elem? (set s.views id (both_views v w)) j ≡ some u)). ⊎_elim
+        (λ (y : (j ≡ id) × (both_views v w ≡ u)). subst (Left r.now r.contents) y.1 both-left)
+        (λ (y : (j ≢ id) × (get_elem? s.views j ≡ some u)). r.changes j u y.1)
+        (at_set s.views id j (both_views v w) u x.1))
+        (at_set (set s.views id (both_views v w)) other j spent_view u e)
+
+    -- the later of the two changes is the newest where either is
+    newest-left : v.change.0 ≡ r.now → (later v.change w.change).0 ≡ r.now
+    newest-left e = by_bool (ltb v.change.0 w.change.0) (λ b. (cond b w.change v.change).0 ≡ r.now)
+        (λ t. absurd (let h = ltb-true v.change.0 w.change.0 t in let k = (r.changes other w was-other).0 in omega arith)) (λ _. e)
+
+    newest-right : w.change.0 ≡ r.now → (later v.change w.change).0 ≡ r.now
+    newest-right e = by_bool (ltb v.change.0 w.change.0) (λ b. (cond b w.change v.change).0 ≡ r.now)
+        (λ _. e) (λ f. let h = ltb-false v.change.0 w.change.0 f in let k = (r.changes id v at).0 in omega arith)
+
+    latest-joined : (j : ℕ) × (u : View C) × (get_elem? (set (set s.views id (both_views v w)) other spent_view) j ≡ some u) × (u.change.0 ≡ r.now)
+    latest-joined = let l = r.latest in dite (ℕ_discrete l.0 id)
+        (λ e. (id, both_views v w, both-view, newest-left (ap (λ (x : View C). x.change.0) (some-injective v l.1 (sym at ∙ ap (get_elem? s.views) (sym e) ∙ l.2)) ∙ l.3)))
+        (λ n. dite (ℕ_discrete l.0 other)
+        (λ e. (id, both_views v w, both-view, newest-right (ap (λ (x : View C). x.change.0) (some-injective w l.1 (sym was-other ∙ ap (get_elem? s.views) (sym e) ∙ l.2)) ∙ l.3)))
+        (λ m. (l.0, l.1, third-view l.0 l.1 n m l.2, l.3)))
+
     pub joined-tied : Tied content holds crew joined
     joined-tied = record {
       owner = r.owner;
       seat_of = to-seat;
       contents = r.contents;
       notes = r.notes;
-      one_word = r.one_word;
+      now = r.now;
+      words = r.words;
       turns = r.turns;
       small = r.small;
       callers = r.callers;
       tied = r.tied;
       each_turn = λ t h. turn-joined t (r.owner t) (r.each_turn t h);
       each_view = each-joined;
+      each_caller = caller-joined;
+      opened = r.opened;
+      changes = changes-joined;
+      latest = latest-joined;
     }
 
   pub merges : (id other : ℕ) (v w : View C) → ((t : ℕ) → counted v t ≡ None) → ((t : ℕ) → counted w t ≡ None) → w.crew ≡ v.crew → Joins (Tied content holds crew) id v other w (both_views v w) spent_view

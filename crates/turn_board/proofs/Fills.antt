@@ -32,6 +32,9 @@ pub record Filling {V C : Type 0} (content : V → C) (xs rest : List (ℕ × V)
   pub lost : q.me.0.lost ≡ p.me.0.lost
   pub given : q.me.0.given ≡ p.me.0.given
   pub crew : q.me.0.crew ≡ p.me.0.crew
+  pub asks : q.me.0.asks ≡ p.me.0.asks
+  pub givings : q.me.0.givings ≡ p.me.0.givings
+  pub change : q.me.0.change ≡ p.me.0.change
   pub long : length q.me.0.places ≡ length p.me.0.places
   pub waits : (u : ℕ) (c : C) → in_hands content rest u ≡ Some c → bit_at set u ≡ 0
   pub there : (u : ℕ) → bit_at set u ≡ 1 → (c : C) × (in_hands content xs u ≡ Some c) × (place q.me.0 u ≡ Lies c)
@@ -51,6 +54,9 @@ module _ {V C : Type 0} (content : V → C) where
     lost = refl;
     given = refl;
     crew = refl;
+    asks = refl;
+    givings = refl;
+    change = refl;
     long = refl;
     waits = λ u c e. bit_at-zero u;
     there = λ u o. absurd (let z = bit_at-zero u in omega arith);
@@ -67,6 +73,9 @@ module _ {V C : Type 0} (content : V → C) where
     lost = f.lost;
     given = f.given;
     crew = f.crew;
+    asks = f.asks;
+    givings = f.givings;
+    change = f.change;
     long = f.long;
     there = f.there;
     others = λ u z. let o = f.others u z in (o.0 ∙ none-in rest u e, o.1);
@@ -102,6 +111,9 @@ module _ {V C : Type 0} (content : V → C) where
       lost = ap (λ m. m.0.lost) r-is ∙ f.lost;
       given = ap (λ m. m.0.given) r-is ∙ f.given;
       crew = ap (λ m. m.0.crew) r-is ∙ f.crew;
+      asks = ap (λ m. m.0.asks) r-is ∙ f.asks;
+      givings = ap (λ m. m.0.givings) r-is ∙ f.givings;
+      change = ap (λ m. m.0.change) r-is ∙ f.change;
       long = ap (λ m. length m.0.places) r-is ∙ length-set q.me.0.places t (Lies (content x)) ∙ f.long;
       waits = λ u c e. dite (ℕ_discrete u t)
           (λ s. absurd (none-some c (sym (ap (in_hands content more) s ∙ once-of.1) ∙ e)))
@@ -164,12 +176,12 @@ module _ {V C : Type 0} (content : V → C) (id : TableId) (few : id.slots ≤ 5
     pub filled-placed : Placed id m → Placed id q
     filled-placed x = record { of_table = f.table ∙ x.of_table; empty = f.none ∙ x.empty; counts = ap length f.counts ∙ x.counts; places = f.long ∙ x.places; losses = ap length f.lost ∙ x.losses; one = (x.one.0, x.one.1, f.speaks ∙ x.one.2) }
 
-    module _ (fits : bit_or set 1 < 2 ^ 64) (r : Pass V C)
-        (r-is : r.me ≡ (given_view id.slots (bit_not w64 (bit_or set 1)) (put_back content book xs) (noted (Some (content book)) q.me.0.speaks) (q.me.0.given + 1) q.me.0, q.me.1)) where
+    module _ (fits : bit_or set 1 < 2 ^ 64) (r : Pass V C) (change : ℕ × List C)
+        (r-is : r.me ≡ (given_view id.slots (bit_not w64 (bit_or set 1)) (put_back content book xs) (noted (Some (content book)) q.me.0.speaks) (q.me.0.given + 1) change q.me.0, q.me.1)) where
       abbrev M : ℕ
       M = bit_not w64 (bit_or set 1)
 
-      r-view : r.me.0 ≡ given_view id.slots (bit_not w64 (bit_or set 1)) (put_back content book xs) (noted (Some (content book)) q.me.0.speaks) (q.me.0.given + 1) q.me.0
+      r-view : r.me.0 ≡ given_view id.slots (bit_not w64 (bit_or set 1)) (put_back content book xs) (noted (Some (content book)) q.me.0.speaks) (q.me.0.given + 1) change q.me.0
       r-view = ap (λ y. y.0) r-is
 
       -- a bit that stays set is of a turn that was not held
@@ -210,8 +222,17 @@ module _ {V C : Type 0} (content : V → C) (id : TableId) (few : id.slots ≤ 5
       all-losses : (u : ℕ) → lost_at r.me.0 u ≡ lost_at p.me.0 u
       all-losses u = ap (λ (x : View C). lost_at x u) r-view ∙ ap (λ l. get_or l u 0) f.lost ∙ ap (λ y. lost_at y.0 u) m-is
 
+      all-asks : r.me.0.asks ≡ p.me.0.asks
+      all-asks = ap (λ (x : View C). x.asks) r-view ∙ f.asks ∙ ap (λ y. y.0.asks) m-is
+
+      all-givings : r.me.0.givings ≡ p.me.0.givings + 1
+      all-givings = ap (λ (x : View C). x.givings) r-view ∙ ap (λ (n : ℕ). n + 1) (f.givings ∙ ap (λ y. y.0.givings) m-is)
+
+      pub all-change : r.me.0.change ≡ change
+      all-change = ap (λ (x : View C). x.change) r-view
+
       pub booked-all : {R : Type 0} → BookedAll (at R p) (at R r) (content book)
-      booked-all = record { nothing = all-gone; noted = all-noted; caller_is = all-caller; crew_is = all-crew; given_is = all-given; lost_is = all-losses }
+      booked-all = record { nothing = all-gone; noted = all-noted; caller_is = all-caller; crew_is = all-crew; given_is = all-given; lost_is = all-losses; asks_is = all-asks; givings_is = all-givings }
 
       pub all-sits : r.table_id ≡ id → Sitting id r
       all-sits table = record {

@@ -15,7 +15,7 @@ use Rattle.turn_board.specs.Maps.{overlay, FitsTurns, SameTurns}
 use Rattle.turn_board.specs.Tied.{Tied, TurnOk, InPlace, counted, place}
 use Rattle.turn_board.specs.Steps.{Sits, given_view, noted, returned, booked}
 use Rattle.turn_board.proofs.Rows.{two, row-here, row-past, get-set_same, get-set_other, overlay-length, overlay-some, overlay-none}
-use Rattle.turn_board.proofs.Moved.{Same, Mine, Owns, moved}
+use Rattle.turn_board.proofs.Moved.{Same, Mine, Owns, Follows, no-change, moved}
 
 pub cases : {C : Type 0} (o : Option C) (P : Type 0) → (o ≡ None → P) → ((c : C) → o ≡ Some c → P) → P
 cases None P p q = p refl
@@ -26,17 +26,17 @@ only {C} k0 b zero k c e = let g = some-injective {A = ℕ × C} (k0, b) (k, c) 
 only {C} k0 b (suc i) k c e = absurd (some-ne-none {A = ℕ × C} (k, c) (sym e))
 
 module _ {V C : Type 0} (content : V → C) (holds : List C → List C → Type 0) (crew : ℕ) where
-  module _ (s : State (Option V) (View C)) (r : Tied content holds crew s) (id slots mask : ℕ) (v : View C) (new : ℕ → Option C) (speaks : List (ℕ × C)) (given : ℕ) (contents notes : List C)
+  module _ (s : State (Option V) (View C)) (r : Tied content holds crew s) (id slots mask : ℕ) (v : View C) (new : ℕ → Option C) (speaks : List (ℕ × C)) (given : ℕ) (change : ℕ × List C) (contents notes : List C)
       (at : get_elem? s.views id ≡ some v) (wide : length s.homes ≡ slots)
       (changed : (t : ℕ) (d : C) → t < slots → new t ≡ Some d → slice_get contents t ≡ Some d)
       (unchanged : (t : ℕ) → new t ≡ None → slice_get contents t ≡ slice_get r.contents t)
       (same : SameTurns (counted v) new)
       (freed : (t : ℕ) → t < slots → bit_at mask t ≡ 0 → (d : C) × (new t ≡ Some d) × (place v t ≡ Lies d)) where
     abbrev w : View C
-    w = given_view slots mask new speaks given v
+    w = given_view slots mask new speaks given change v
 
     abbrev word : ℕ
-    word = bit_and (get_or s.words 0 0) mask
+    word = bit_and (get_or s.words 7 0) mask
 
     abbrev owner' : ℕ → ℕ
     owner' t = cond (bit_at mask t == 0) 0 (r.owner t)
@@ -56,8 +56,8 @@ module _ {V C : Type 0} (content : V → C) (holds : List C → List C → Type 
     place-at : (t : ℕ) → t < slots → place w t ≡ cond (bit_at mask t == 0) Vacant (place v t)
     place-at t h = row-here slots (λ u. cond (bit_at mask u == 0) Vacant (place v u)) Vacant t h
 
-    word-at : (t : ℕ) → bit_at word t ≡ min (bit_at (get_or s.words 0 0) t) (bit_at mask t)
-    word-at t = bit_at_and (get_or s.words 0 0) mask t
+    word-at : (t : ℕ) → bit_at word t ≡ min (bit_at (get_or s.words 7 0) t) (bit_at mask t)
+    word-at t = bit_at_and (get_or s.words 7 0) mask t
 
     is-zero : (t : ℕ) → bit_at mask t ≡ 0 → (bit_at mask t == 0) ≡ true
     is-zero t e = eq-eqb (bit_at mask t) 0 e
@@ -68,7 +68,7 @@ module _ {V C : Type 0} (content : V → C) (holds : List C → List C → Type 
     was : (t : ℕ) (d : C) → new t ≡ Some d → (c : C) × (counted v t ≡ Some c)
     was t d e = cases (counted v t) ((c : C) × (counted v t ≡ Some c)) (λ n. absurd (none-some d (sym (same.0 t n) ∙ e))) (λ c g. (c, g))
 
-    held-bit : (t k : ℕ) (o : ℕ) → o ≡ suc k → TurnOk content crew r.owner r.seat_of r.contents r.notes s t o → (bit_at (get_or s.words 0 0) t ≡ 1) × (k < crew)
+    held-bit : (t k : ℕ) (o : ℕ) → o ≡ suc k → TurnOk content crew r.owner r.seat_of r.contents r.notes s t o → (bit_at (get_or s.words 7 0) t ≡ 1) × (k < crew)
     held-bit t k zero e q = absurd (omega arith)
     held-bit t k (suc o) e q = (q.0, (let g : o < crew = q.1 in omega arith))
 
@@ -83,7 +83,7 @@ module _ {V C : Type 0} (content : V → C) (holds : List C → List C → Type 
         let c = was t f.0 f.1 in
         let x = (r.each_view id v at).held t c.0 c.1 in
         let zero-owner : owner' t ≡ 0 = ap (λ (b : Bool). cond b 0 (r.owner t)) (is-zero t z) in
-        let low : bit_at word t ≡ 0 = word-at t ∙ ap (min (bit_at (get_or s.words 0 0) t)) z ∙ (let m : min (bit_at (get_or s.words 0 0) t) 0 ≡ 0 = omega arith in m) in
+        let low : bit_at word t ≡ 0 = word-at t ∙ ap (min (bit_at (get_or s.words 7 0) t)) z ∙ (let m : min (bit_at (get_or s.words 7 0) t) 0 ≡ 0 = omega arith in m) in
         let gone : counted w t ≡ None = count-at t h ∙ ap (λ (b : Bool). cond b None (new t)) (is-zero t z) in
         record {
           ours = ours t c.0 c.1;
@@ -110,9 +110,9 @@ module _ {V C : Type 0} (content : V → C) (holds : List C → List C → Type 
     stays : (t : ℕ) → t < length s.homes → bit_at mask t ≡ 1 → new t ≡ None → SameAt t
     stays t near o e =
         let h : t < slots = omega arith in
-        let small : bit_at (get_or s.words 0 0) t < 2 = bit_at-lt (get_or s.words 0 0) t in
+        let small : bit_at (get_or s.words 7 0) t < 2 = bit_at-lt (get_or s.words 7 0) t in
         record {
-          bit = word-at t ∙ ap (min (bit_at (get_or s.words 0 0) t)) o ∙ (let m : min (bit_at (get_or s.words 0 0) t) 1 ≡ bit_at (get_or s.words 0 0) t = omega arith in m);
+          bit = word-at t ∙ ap (min (bit_at (get_or s.words 7 0) t)) o ∙ (let m : min (bit_at (get_or s.words 7 0) t) 1 ≡ bit_at (get_or s.words 7 0) t = omega arith in m);
           owned = ap (λ (b : Bool). cond b 0 (r.owner t)) (is-one t o);
           home = refl;
           content_is = unchanged t e;
@@ -129,44 +129,58 @@ module _ {V C : Type 0} (content : V → C) (holds : List C → List C → Type 
         (λ h. absurd (none-some c (sym (row-past 0 slots (λ u. cond (bit_at mask u == 0) None (new u)) None t (let g : slots ≤ t = omega arith in g)) ∙ e)))
 
     pub given-tied : ((i k : ℕ) (c : C) → get_elem? speaks i ≡ some (k, c) → (v.crew ≡ crew) × (k < crew) × (r.seat_of k ≡ id) × (slice_get notes k ≡ Some c))
-        → ((k : ℕ) → r.seat_of k ≢ id → slice_get notes k ≡ slice_get r.notes k) → length contents ≡ length s.homes → length notes ≡ crew → holds contents notes
-        → Tied content holds crew record { words = set s.words 0 word; homes = s.homes; views = set s.views id w }
-    given-tied voices others full all ok = moved content holds crew s r id v w word s.homes contents notes owner' at refl each within voices others full all ok
+        → ((k : ℕ) → r.seat_of k ≢ id → slice_get notes k ≡ slice_get r.notes k) → (now : ℕ) → Follows r.now r.contents v now contents w → length contents ≡ length s.homes → length notes ≡ crew → holds contents notes
+        → Tied content holds crew record { words = set s.words 7 word; homes = s.homes; views = set s.views id w }
+    given-tied voices others now follows full all ok = moved content holds crew s r id v w word s.homes contents notes owner' at refl each within voices others now follows full all ok
 
   pub returns : (slots id : ℕ) (me : Sits V C) (mask : ℕ) → ((t : ℕ) → t < slots → bit_at mask t ≡ 0 → (d : C) × (counted me.0 t ≡ Some d) × (place me.0 t ≡ Lies d))
-      → Allows (Tied content holds crew) slots id me 0 (λ n. bit_and n mask) (λ _ m. returned (step slots 0 mask 0 none) me m)
+      → Allows (Tied content holds crew) slots id me 7 (λ n. bit_and n mask) (λ _ m. returned (step slots 7 mask 0 none) me m)
   returns slots id me mask freed s r wide at small =
       let v : View C = me.0 in (
-        given_view slots mask (counted v) v.speaks v.given v,
+        given_view slots mask (counted v) v.speaks v.given v.change v,
         keeps,
         tt,
-        given-tied s r id slots mask v (counted v) v.speaks v.given r.contents r.notes at wide (λ t d h e. ((r.each_view id v at).held t d e).1) (λ t e. refl) ((λ t e. e), (λ t e. e)) freed
-            ((r.each_view id v at).spoken) (λ k ne. refl) r.turns r.callers r.tied,
+        given-tied s r id slots mask v (counted v) v.speaks v.given v.change r.contents r.notes at wide (λ t d h e. ((r.each_view id v at).held t d e).1) (λ t e. refl) ((λ t e. e), (λ t e. e)) freed
+            ((r.each_view id v at).spoken) (λ k ne. refl) r.now (no-change r.now r.contents v (given_view slots mask (counted v) v.speaks v.given v.change v) r.opened (r.changes id v at) refl refl) r.turns r.callers r.tied,
         refl,
       )
+
+  -- the view after the book was given back has the newest change
+  new-follows : (s : State (Option V) (View C)) (r : Tied content holds crew s) (id slots mask : ℕ) (v : View C) (k0 : ℕ) (c0 : C) (new : ℕ → Option C) (book : C) → v.speaks ≡ (k0, c0) ∷ [] → noted (new 0) v.speaks ≡ (k0, book) ∷ [] → get_elem? s.views id ≡ some v
+      → Follows r.now r.contents v (suc r.now) (overlay new r.contents) (given_view slots mask new (noted (new 0) v.speaks) (v.given + 1) (suc r.now, overlay new r.contents) v)
+  new-follows s r id slots mask v k0 c0 new book one is at = record {
+    heard = λ i k c e. let x = only k0 c0 i k c (sym (ap (λ (l : List (ℕ × C)). get_elem? l i) one) ∙ e) in
+        (0, book, ap (λ (l : List (ℕ × C)). get_elem? l 0) is ∙ ap (λ (m : ℕ). some (m, book)) x.0);
+    opened = omega arith;
+    own = (omega arith, λ e. refl);
+    others = λ u h. let near : u.change.0 ≤ r.now = h.0 in (omega arith, λ e. absurd (omega arith));
+    newest = inl refl;
+  }
 
   module _ (moves : ℕ → ℕ → (ℕ → Option C) → (ℕ → Option C) → Type 0)
       (kept : (contents notes : List C) (caller : ℕ) (old new : ℕ → Option C) (book : C) → holds contents notes → FitsTurns contents old → SameTurns old new → new 0 ≡ Some book → caller < length notes → moves (length contents) caller old new → holds (overlay new contents) (set notes caller book)) where
     pub books : (slots id : ℕ) (me : Sits V C) (mask k0 : ℕ) (c0 : C) (new : ℕ → Option C) (book : C) → me.0.speaks ≡ (k0, c0) ∷ [] → new 0 ≡ Some book → SameTurns (counted me.0) new → moves slots k0 (counted me.0) new
         → ((t : ℕ) → t < slots → bit_at mask t ≡ 0 → (d : C) × (new t ≡ Some d) × (place me.0 t ≡ Lies d))
-        → Allows (Tied content holds crew) slots id me 0 (λ n. bit_and n mask) (λ _ m. booked new (step slots 0 mask 0 none) me m)
+        → Allows (Tied content holds crew) slots id me 7 (λ n. bit_and n mask) (λ _ m. booked new (step slots 7 mask 0 none) me m)
     books slots id me mask k0 c0 new book one has same may freed s r wide at small =
         let v : View C = me.0 in
         let voice = (r.each_view id v at).spoken 0 k0 c0 (ap (λ (l : List (ℕ × C)). get_elem? l 0) one) in
         let is : noted (new 0) v.speaks ≡ (k0, book) ∷ [] = ap₂ noted has one in
         let crew-is : length r.notes ≡ crew = r.callers in
+        let fits : FitsTurns r.contents (counted v) = λ t c e. ((r.each_view id v at).held t c e).1 in
         let near : k0 < length r.notes = (let g : k0 < crew = voice.1 in omega arith) in (
-          given_view slots mask new (noted (new 0) v.speaks) (v.given + 1) v,
+          given_view slots mask new (noted (new 0) v.speaks) (v.given + 1) (suc r.now, overlay new r.contents) v,
           keeps,
           tt,
-          given-tied s r id slots mask v new (noted (new 0) v.speaks) (v.given + 1) (overlay new r.contents) (set r.notes k0 book) at wide
+          given-tied s r id slots mask v new (noted (new 0) v.speaks) (v.given + 1) (suc r.now, overlay new r.contents) (overlay new r.contents) (set r.notes k0 book) at wide
               (λ t d h e. overlay-some 0 new r.contents t d (let g : length r.contents ≡ length s.homes = r.turns in omega arith) (ap new (omega arith) ∙ e))
               (λ t e. overlay-none 0 new r.contents t (ap new (omega arith) ∙ e))
               same freed
               (λ i k c e. let x = only k0 book i k c (sym (ap (λ (l : List (ℕ × C)). get_elem? l i) is) ∙ e) in
               (voice.0, subst (λ (j : ℕ). j < crew) x.0 voice.1, ap r.seat_of (sym x.0) ∙ voice.2, ap (slice_get (set r.notes k0 book)) (sym x.0) ∙ get-set_same r.notes k0 book near ∙ ap Some x.1))
               (λ k ne. get-set_other r.notes k0 k book (λ e. ne (ap r.seat_of e ∙ voice.2)))
+              (suc r.now) (new-follows s r id slots mask v k0 c0 new book one is at)
               (overlay-length 0 new r.contents ∙ r.turns) (length-set r.notes k0 book ∙ r.callers)
-              (kept r.contents r.notes k0 (counted v) new book r.tied (λ t c e. ((r.each_view id v at).held t c e).1) same has near (subst (λ (n : ℕ). moves n k0 (counted v) new) (sym (r.turns ∙ wide)) may)),
-          refl,
+              (kept r.contents r.notes k0 (counted v) new book r.tied fits same has near (subst (λ (n : ℕ). moves n k0 (counted v) new) (sym (r.turns ∙ wide)) may)),
+          (r.now, r.contents, refl, (r.changes id v at).0, r.turns ∙ wide, fits),
         )

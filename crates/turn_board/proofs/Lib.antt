@@ -12,4 +12,3 @@ pub mod Opened
 pub mod Closes
 pub mod Sets
 pub mod Fills
-pub mod Counting

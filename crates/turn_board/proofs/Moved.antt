@@ -1,5 +1,5 @@
 -- A step of one seat keeps the rule where each turn either stays as it was or is the seat's own.
-use Rattle.std.proofs.Common.{◌≡◌, ◌≢◌, ℕ, zero, suc, ◌<◌, ◌≤◌, ◌⊎◌, ⊎_elim, List, [], ◌∷◌, length, get_or, set, sym, ap, ◌∙◌, subst, arith, length-set, get_or-set_same}
+use Rattle.std.proofs.Common.{◌≡◌, ◌≢◌, ℕ, zero, suc, ◌<◌, ◌≤◌, ◌⊎◌, inr, ⊎_elim, refl, List, [], ◌∷◌, length, get_or, set, sym, ap, ◌∙◌, subst, arith, length-set, get_or-set_same}
 use mathlib.Core.Option.{some, some-injective}
 use mathlib.Core.Option as maybe
 use mathlib.Core.Logic.{dite}
@@ -12,12 +12,29 @@ use Rattle.atomic_table.proofs.Lists.{at_set, set_here, set_else}
 use Rattle.turn_board.specs.declared.view.View.{View}
 use Rattle.turn_board.specs.declared.view.Place.{Place}
 use Rattle.turn_board.specs.declared.view.Place.TheVariants.{Vacant, Away, Lies}
-use Rattle.turn_board.specs.Tied.{Tied, TurnOk, ViewOk, InPlace, Lying, counted, place}
+use Rattle.turn_board.specs.Tied.{Tied, TurnOk, ViewOk, InPlace, Lying, Left, Heard, counted, place}
 
 pub there : {A : Type 0} (l : List A) (i : ℕ) (a : A) → get_elem? l i ≡ some a → i < length l
 there [] i a e = absurd (maybe.some-ne-none a (sym e))
 there (x ∷ xs) zero a e = omega arith
 there (x ∷ xs) (suc i) a e = let h = there xs i a e in omega arith
+
+-- the view w follows v: it speaks for the same callers, and its change is v's or a new one
+pub record Follows {C : Type 0} (before : ℕ) (old : List C) (v : View C) (now : ℕ) (contents : List C) (w : View C) : Type 0 where
+  pub heard : (i k : ℕ) (c : C) → get_elem? v.speaks i ≡ some (k, c) → (j : ℕ) × (d : C) × (get_elem? w.speaks j ≡ some (k, d))
+  pub opened : 0 < now
+  pub own : Left now contents w
+  pub others : (u : View C) → Left before old u → Left now contents u
+  pub newest : (w.change.0 ≡ now) ⊎ ((now ≡ before) × (w.change.0 ≡ v.change.0))
+
+pub no-change : {C : Type 0} (now : ℕ) (contents : List C) (v w : View C) → 0 < now → Left now contents v → w.speaks ≡ v.speaks → w.change ≡ v.change → Follows now contents v now contents w
+no-change {C} now contents v w pos left same change = record {
+  heard = λ i k c e. (i, c, ap (λ (l : List (ℕ × C)). get_elem? l i) same ∙ e);
+  opened = pos;
+  own = subst (λ (x : ℕ × List C). (x.0 ≤ now) × (x.0 ≡ now → x.1 ≡ contents)) (sym change) left;
+  others = λ u h. h;
+  newest = inr (refl, ap (λ (x : ℕ × List C). x.0) change);
+}
 
 module _ {V C : Type 0} (content : V → C) (holds : List C → List C → Type 0) (crew : ℕ) where
   abbrev pub St : Type 0
@@ -25,10 +42,10 @@ module _ {V C : Type 0} (content : V → C) (holds : List C → List C → Type 
 
   module _ (s : St) (r : Tied content holds crew s) (id : ℕ) (v w : View C) (word : ℕ) (homes : List (maybe.Option (Option V))) (contents notes : List C) (owner : ℕ → ℕ) where
     abbrev pub after : St
-    after = record { words = set s.words 0 word; homes = homes; views = set s.views id w }
+    after = record { words = set s.words 7 word; homes = homes; views = set s.views id w }
 
     pub record Same (t : ℕ) : Type 0 where
-      pub bit : bit_at word t ≡ bit_at (get_or s.words 0 0) t
+      pub bit : bit_at word t ≡ bit_at (get_or s.words 7 0) t
       pub owned : owner t ≡ r.owner t
       pub home : get_elem? homes t ≡ get_elem? s.homes t
       pub content_is : slice_get contents t ≡ slice_get r.contents t
@@ -51,8 +68,8 @@ module _ {V C : Type 0} (content : V → C) (holds : List C → List C → Type 
       abbrev Is : ℕ → ℕ → Type 0
       Is t o = TurnOk content crew owner r.seat_of contents notes after t o
 
-      shown : get_or (set s.words 0 word) 0 0 ≡ word
-      shown = get_or-set_same s.words 0 word 0 (let h : length s.words ≡ 1 = r.one_word in omega arith)
+      shown : get_or (set s.words 7 word) 7 0 ≡ word
+      shown = get_or-set_same s.words 7 word 0 (let h : length s.words ≡ 15 = r.words in omega arith)
 
       lying : (t : ℕ) (c : C) → get_elem? homes t ≡ get_elem? s.homes t → Lying content s.homes t c → Lying content homes t c
       lying t c e l = (l.0, e ∙ l.1, l.2)
@@ -121,17 +138,46 @@ module _ {V C : Type 0} (content : V → C) (holds : List C → List C → Type 
             (λ (h : (j ≡ id) × (w ≡ u)). subst (λ (x : ℕ × View C). ViewOk content crew owner r.seat_of contents notes after x.0 x.1) (λ i. (sym h.0 i, h.1 i)) mine_view)
             (λ (h : (j ≢ id) × (get_elem? s.views j ≡ some u)). other_view j u h.0 h.1) (at_set s.views id j w u e)
 
-        pub moved : length contents ≡ length s.homes → length notes ≡ crew → holds contents notes → Tied content holds crew after
-        moved full all keeps = record {
+        module _ (now : ℕ) (follows : Follows r.now r.contents v now contents w) where
+          own-view : get_elem? (set s.views id w) id ≡ some w
+          own-view = set_here s.views id w (there s.views id v at)
+
+          each_caller : (k : ℕ) → k < crew → Heard r.seat_of (set s.views id w) k
+          each_caller k near = let h = r.each_caller k near in dite (ℕ_discrete (r.seat_of k) id)
+              (λ e. let same : h.0 ≡ v = some-injective h.0 v (sym h.3 ∙ ap (get_elem? s.views) e ∙ at) in
+              let x = follows.heard h.1 k h.2 (ap (λ (y : View C). get_elem? y.speaks h.1) (sym same) ∙ h.4) in
+              (w, x.0, x.1, ap (get_elem? (set s.views id w)) e ∙ own-view, x.2))
+              (λ n. (h.0, h.1, h.2, set_else s.views id (r.seat_of k) w n ∙ h.3, h.4))
+
+          changes : (j : ℕ) (u : View C) → get_elem? (set s.views id w) j ≡ some u → Left now contents u
+          changes j u e = ⊎_elim
+              (λ (h : (j ≡ id) × (w ≡ u)). subst (Left now contents) h.1 follows.own)
+              (λ (h : (j ≢ id) × (get_elem? s.views j ≡ some u)). follows.others u (r.changes j u h.1)) (at_set s.views id j w u e)
+
+          latest : (j : ℕ) × (u : View C) × (get_elem? (set s.views id w) j ≡ some u) × (u.change.0 ≡ now)
+          latest = ⊎_elim
+              (λ (h : w.change.0 ≡ now). (id, w, own-view, h))
+              (λ (h : (now ≡ r.now) × (w.change.0 ≡ v.change.0)). let l = r.latest in dite (ℕ_discrete l.0 id)
+              (λ e. (id, w, own-view, h.1 ∙ ap (λ (x : View C). x.change.0) (some-injective v l.1 (sym at ∙ ap (get_elem? s.views) (sym e) ∙ l.2)) ∙ l.3 ∙ sym h.0))
+              (λ n. (l.0, l.1, set_else s.views id l.0 w n ∙ l.2, l.3 ∙ sym h.0)))
+              follows.newest
+
+        pub moved : (now : ℕ) → Follows r.now r.contents v now contents w → length contents ≡ length s.homes → length notes ≡ crew → holds contents notes → Tied content holds crew after
+        moved now follows full all keeps = record {
           owner = owner;
           seat_of = r.seat_of;
           contents = contents;
           notes = notes;
-          one_word = length-set s.words 0 word ∙ r.one_word;
+          now = now;
+          words = length-set s.words 7 word ∙ r.words;
           turns = full ∙ sym as_long;
           small = (let g : length s.homes ≤ 57 = r.small in omega arith);
           callers = all;
           tied = keeps;
           each_turn = each_turn;
           each_view = each_view;
+          each_caller = each_caller now follows;
+          opened = follows.opened;
+          changes = changes now follows;
+          latest = latest now follows;
         }

@@ -1,19 +1,22 @@
 -- What a giving back leaves, in the words of a contract.
-use Rattle.std.proofs.Common.{◌≡◌, ◌≢◌, ℕ, ◌+◌, ◌-◌, ◌^◌, ◌<◌, ◌≤◌, List, [], ◌∷◌, length, Bool, true, false, cond, sym, ap, ap₂, ◌∙◌, arith, eq-eqb, ne_eqb, get_or-set_same, get_or-set_other}
-use Rattle.std.specs.Prelude.{Option, Some, None, ◌==◌}
+use Rattle.std.proofs.Common.{◌≡◌, ◌≢◌, ℕ, ◌+◌, ◌-◌, ◌^◌, ◌<◌, ◌≤◌, List, [], ◌∷◌, length, Bool, true, false, cond, sym, ap, ap₂, ◌∙◌, subst, arith, eq-eqb, ne_eqb, get_or-set_same, get_or-set_other}
+use Rattle.std.specs.Prelude.{Option, Some, None, ◌==◌, slice_index_or}
 use Rattle.std.proofs.lemmas.Nat.{pow_below}
 use Rattle.std.proofs.lemmas.Nat.Bits.{bit_at-pow_same, bit_at-pow_other, bit_at_not}
 use Rattle.std.proofs.lemmas.Option.{none-some}
 use mathlib.Core.Logic.{dite}
 use native.Mathlib.Decide.{dec_lt, ℕ_discrete}
 use Rattle.std.specs.Int.{bit_at, bit_not, w64}
+use mathlib.Core.Option.{none}
+use Rattle.atomic_table.specs.Table.{Step, step}
 use Rattle.atomic_table.specs.Seated.{TableId}
 use Rattle.turn_board.specs.declared.view.View.{View}
 use Rattle.turn_board.specs.declared.view.Place.TheVariants.{Vacant, Lies}
 use Rattle.turn_board.specs.Tied.{counted, place}
-use Rattle.turn_board.specs.Steps.{given_view, put_place, lost_at, note_of, caller_of, noted}
+use Rattle.turn_board.specs.Steps.{Sits, booked, given_view, put_place, lost_at, note_of, caller_of, noted}
 use Rattle.turn_board.specs.Passes.{Pass, Sitting, held, lost}
-use Rattle.turn_board.specs.Boards.{SameVoice, Released, Booked}
+use Rattle.turn_board.specs.Hands.{HandsView, put_back}
+use Rattle.turn_board.specs.Boards.{SameVoice, Released, Booked, Changed}
 use Rattle.turn_board.proofs.AtSeat.{at}
 use Rattle.turn_board.specs.Maps.{SameTurns}
 use Rattle.turn_board.proofs.Rows.{row-length, row-here, row-past, past-end}
@@ -26,9 +29,9 @@ cleared-here t h = bit_at_not w64 (2 ^ t) t (pow_below t 64 h) h ∙ ap (λ (b :
 pub cleared-else : (t u : ℕ) → t < 64 → u < 64 → u ≢ t → bit_at (bit_not w64 (2 ^ t)) u ≡ 1
 cleared-else t u h k ne = bit_at_not w64 (2 ^ t) u (pow_below t 64 h) k ∙ ap (λ (b : ℕ). 1 - b) (bit_at-pow_other t u ne)
 
-module _ {V C : Type 0} (id : TableId) (v : View C) (t mask : ℕ) (new : ℕ → Option C) (speaks : List (ℕ × C)) (given : ℕ) (q : Pass V C)
-    (q-is : q.me ≡ (given_view id.slots mask new speaks given v, [])) (zero-here : bit_at mask t ≡ 0) (ones : (u : ℕ) → u < id.slots → u ≢ t → bit_at mask u ≡ 1) (near : t < id.slots) where
-  view-is : q.me.0 ≡ given_view id.slots mask new speaks given v
+module _ {V C : Type 0} (id : TableId) (v : View C) (t mask : ℕ) (new : ℕ → Option C) (speaks : List (ℕ × C)) (given : ℕ) (change : ℕ × List C) (q : Pass V C)
+    (q-is : q.me ≡ (given_view id.slots mask new speaks given change v, [])) (zero-here : bit_at mask t ≡ 0) (ones : (u : ℕ) → u < id.slots → u ≢ t → bit_at mask u ≡ 1) (near : t < id.slots) where
+  view-is : q.me.0 ≡ given_view id.slots mask new speaks given change v
   view-is = ap (λ m. m.0) q-is
 
   gone : ℕ → Bool
@@ -94,32 +97,34 @@ module _ {V C : Type 0} (id : TableId) (few : id.slots ≤ 57) (p : Pass V C) (s
       (λ s. (x, ap₂ counted m-view s ∙ is, ap₂ place m-view s ∙ get_or-set_same p.me.0.places t (Lies x) Vacant (let l : length p.me.0.places ≡ id.slots = sitting.placed.places in let b : t < id.slots = below in omega arith)))
       (λ ne. absurd (let b : t < id.slots = below in let o = cleared-else t u (omega arith) (omega arith) ne in omega arith))
 
-  module _ (q : Pass V C) (same-table : q.table_id ≡ p.table_id) (same-id : q.id ≡ p.id) (q-is : q.me ≡ (given_view id.slots (bit_not w64 (2 ^ t)) (counted m.me.0) m.me.0.speaks m.me.0.given m.me.0, m.me.1)) where
+  module _ (q : Pass V C) (same-table : q.table_id ≡ p.table_id) (same-id : q.id ≡ p.id) (q-is : q.me ≡ (given_view id.slots (bit_not w64 (2 ^ t)) (counted m.me.0) m.me.0.speaks m.me.0.given m.me.0.change m.me.0, m.me.1)) where
     zero-bit : bit_at (bit_not w64 (2 ^ t)) t ≡ 0
     zero-bit = cleared-here t (let b : t < id.slots = below in omega arith)
 
     one-bits : (u : ℕ) → u < id.slots → u ≢ t → bit_at (bit_not w64 (2 ^ t)) u ≡ 1
     one-bits u h ne = cleared-else t u (let b : t < id.slots = below in omega arith) (omega arith) ne
 
-    q-now : q.me ≡ (given_view id.slots (bit_not w64 (2 ^ t)) (counted p.me.0) p.me.0.speaks p.me.0.given (put_place t (Lies x) p.me.0), [])
-    q-now = q-is ∙ ap (λ y. (given_view id.slots (bit_not w64 (2 ^ t)) (counted y.0) y.0.speaks y.0.given y.0, y.1)) m-is
+    q-now : q.me ≡ (given_view id.slots (bit_not w64 (2 ^ t)) (counted p.me.0) p.me.0.speaks p.me.0.given p.me.0.change (put_place t (Lies x) p.me.0), [])
+    q-now = q-is ∙ ap (λ y. (given_view id.slots (bit_not w64 (2 ^ t)) (counted y.0) y.0.speaks y.0.given y.0.change y.0, y.1)) m-is
 
     pub gave : {R : Type 0} → Released (at R p) (at R q) t
     gave = record {
-      here = held-here id (put_place t (Lies x) p.me.0) t (bit_not w64 (2 ^ t)) (counted p.me.0) p.me.0.speaks p.me.0.given q q-now zero-bit one-bits below;
+      here = held-here id (put_place t (Lies x) p.me.0) t (bit_not w64 (2 ^ t)) (counted p.me.0) p.me.0.speaks p.me.0.given p.me.0.change q q-now zero-bit one-bits below;
       others = λ u ne. dite (dec_lt u id.slots)
-          (λ h. held-else id (put_place t (Lies x) p.me.0) t (bit_not w64 (2 ^ t)) (counted p.me.0) p.me.0.speaks p.me.0.given q q-now zero-bit one-bits below u h ne)
-          (λ h. let k : id.slots ≤ u = omega arith in held-past id (put_place t (Lies x) p.me.0) t (bit_not w64 (2 ^ t)) (counted p.me.0) p.me.0.speaks p.me.0.given q q-now zero-bit one-bits below u k
+          (λ h. held-else id (put_place t (Lies x) p.me.0) t (bit_not w64 (2 ^ t)) (counted p.me.0) p.me.0.speaks p.me.0.given p.me.0.change q q-now zero-bit one-bits below u h ne)
+          (λ h. let k : id.slots ≤ u = omega arith in held-past id (put_place t (Lies x) p.me.0) t (bit_not w64 (2 ^ t)) (counted p.me.0) p.me.0.speaks p.me.0.given p.me.0.change q q-now zero-bit one-bits below u k
           ∙ sym (past-end p.me.0.counts u None (let l : length p.me.0.counts ≡ id.slots = sitting.placed.counts in omega arith)));
-      lost_is = λ u. lost-same id (put_place t (Lies x) p.me.0) t (bit_not w64 (2 ^ t)) (counted p.me.0) p.me.0.speaks p.me.0.given q q-now zero-bit one-bits below u;
+      lost_is = λ u. lost-same id (put_place t (Lies x) p.me.0) t (bit_not w64 (2 ^ t)) (counted p.me.0) p.me.0.speaks p.me.0.given p.me.0.change q q-now zero-bit one-bits below u;
+      asks_is = ap (λ y. y.0.asks) q-now;
+      givings_is = ap (λ y. y.0.givings) q-now;
     }
 
     pub sits-again : Sitting id q
-    sits-again = sits id (put_place t (Lies x) p.me.0) t (bit_not w64 (2 ^ t)) (counted p.me.0) p.me.0.speaks p.me.0.given q q-now zero-bit one-bits below (same-table ∙ sitting.placed.of_table) sitting.placed.losses sitting.placed.one
+    sits-again = sits id (put_place t (Lies x) p.me.0) t (bit_not w64 (2 ^ t)) (counted p.me.0) p.me.0.speaks p.me.0.given p.me.0.change q q-now zero-bit one-bits below (same-table ∙ sitting.placed.of_table) sitting.placed.losses sitting.placed.one
         (λ u ne. get_or-set_other p.me.0.places t u (Lies x) Vacant ne ∙ sitting.vacant u)
 
     pub voice-again : {R : Type 0} → SameVoice (at R p) (at R q)
-    voice-again = record { caller_is = ap (λ y. caller_of y.0.speaks) q-now; note_is = ap (λ y. note_of y.0.speaks) q-now; crew_is = ap (λ y. y.0.crew) q-now; given_is = ap (λ y. y.0.given) q-now }
+    voice-again = record { caller_is = ap (λ y. caller_of y.0.speaks) q-now; note_is = ap (λ y. note_of y.0.speaks) q-now; crew_is = ap (λ y. y.0.crew) q-now; given_is = ap (λ y. y.0.given) q-now; change_is = ap (λ y. y.0.change) q-now }
 
 -- who is to give the book back holds turn 0
 pub has-book : {C : Type 0} (old new : ℕ → Option C) (b : C) → SameTurns old new → new 0 ≡ Some b → (c : C) × (old 0 ≡ Some c)
@@ -127,13 +132,13 @@ has-book {C} old new b same e = cases (old 0) ((c : C) × (old 0 ≡ Some c)) (�
 
 -- the book is given back: p before, m after its value was laid into the slot, q after the step
 module _ {V C : Type 0} (id : TableId) (few : id.slots ≤ 57) (p : Pass V C) (sitting : Sitting id p) (new : ℕ → Option C) (b : C) (has : new 0 ≡ Some b) (same : SameTurns (held p) new) (mask : ℕ) (zero-bit : bit_at mask 0 ≡ 0) (ones : (u : ℕ) → 0 < u → u < id.slots → bit_at mask u ≡ 1)
-    (m : Pass V C) (m-is : m.me ≡ (put_place 0 (Lies b) p.me.0, [])) (q : Pass V C)
-    (q-is : q.me ≡ (given_view id.slots mask new (noted (Some b) m.me.0.speaks) (m.me.0.given + 1) m.me.0, m.me.1)) where
+    (m : Pass V C) (m-is : m.me ≡ (put_place 0 (Lies b) p.me.0, [])) (q : Pass V C) (change : ℕ × List C)
+    (q-is : q.me ≡ (given_view id.slots mask new (noted (Some b) m.me.0.speaks) (m.me.0.given + 1) change m.me.0, m.me.1)) where
   private-below : 0 < id.slots
   private-below = let h = has-book (held p) new b same has in held-near p.me.0 id.slots 0 h.0 sitting.placed.counts h.1
 
-  book-now : q.me ≡ (given_view id.slots mask new (noted (Some b) p.me.0.speaks) (p.me.0.given + 1) (put_place 0 (Lies b) p.me.0), [])
-  book-now = q-is ∙ ap (λ y. (given_view id.slots mask new (noted (Some b) y.0.speaks) (y.0.given + 1) y.0, y.1)) m-is
+  book-now : q.me ≡ (given_view id.slots mask new (noted (Some b) p.me.0.speaks) (p.me.0.given + 1) change (put_place 0 (Lies b) p.me.0), [])
+  book-now = q-is ∙ ap (λ y. (given_view id.slots mask new (noted (Some b) y.0.speaks) (y.0.given + 1) change y.0, y.1)) m-is
 
   one-else : (u : ℕ) → u < id.slots → u ≢ 0 → bit_at mask u ≡ 1
   one-else u h ne = ones u (omega arith) h
@@ -142,12 +147,12 @@ module _ {V C : Type 0} (id : TableId) (few : id.slots ≤ 57) (p : Pass V C) (s
   speaks-now = ap (noted (Some b)) sitting.placed.one.2
 
   book-gone : held q 0 ≡ None
-  book-gone = held-here id (put_place 0 (Lies b) p.me.0) 0 mask new (noted (Some b) p.me.0.speaks) (p.me.0.given + 1) q book-now zero-bit one-else private-below
+  book-gone = held-here id (put_place 0 (Lies b) p.me.0) 0 mask new (noted (Some b) p.me.0.speaks) (p.me.0.given + 1) change q book-now zero-bit one-else private-below
 
   others-new : (u : ℕ) → 0 < u → held q u ≡ new u
   others-new u pos = dite (dec_lt u id.slots)
-      (λ h. held-else id (put_place 0 (Lies b) p.me.0) 0 mask new (noted (Some b) p.me.0.speaks) (p.me.0.given + 1) q book-now zero-bit one-else private-below u h (λ e. omega arith))
-      (λ h. let k : id.slots ≤ u = omega arith in held-past id (put_place 0 (Lies b) p.me.0) 0 mask new (noted (Some b) p.me.0.speaks) (p.me.0.given + 1) q book-now zero-bit one-else private-below u k
+      (λ h. held-else id (put_place 0 (Lies b) p.me.0) 0 mask new (noted (Some b) p.me.0.speaks) (p.me.0.given + 1) change q book-now zero-bit one-else private-below u h (λ e. omega arith))
+      (λ h. let k : id.slots ≤ u = omega arith in held-past id (put_place 0 (Lies b) p.me.0) 0 mask new (noted (Some b) p.me.0.speaks) (p.me.0.given + 1) change q book-now zero-bit one-else private-below u k
       ∙ sym (same.0 u (past-end p.me.0.counts u None (let l : length p.me.0.counts ≡ id.slots = sitting.placed.counts in omega arith))))
 
   book-noted : note_of q.me.0.speaks ≡ new 0
@@ -165,9 +170,36 @@ module _ {V C : Type 0} (id : TableId) (few : id.slots ≤ 57) (p : Pass V C) (s
   book-lost : (u : ℕ) → lost q u ≡ lost p u
   book-lost u = ap (λ y. lost_at y.0 u) book-now
 
+  book-asks : q.me.0.asks ≡ p.me.0.asks
+  book-asks = ap (λ y. y.0.asks) book-now
+
+  book-givings : q.me.0.givings ≡ p.me.0.givings + 1
+  book-givings = ap (λ y. y.0.givings) book-now
+
+  pub book-change : q.me.0.change ≡ change
+  book-change = ap (λ y. y.0.change) book-now
+
   pub booked-now : {R : Type 0} → Booked (at R p) (at R q) new
-  booked-now = record { book = book-gone; others = others-new; noted = book-noted; caller_is = book-caller; crew_is = book-crew; given_is = book-given; lost_is = book-lost }
+  booked-now = record { book = book-gone; others = others-new; noted = book-noted; caller_is = book-caller; crew_is = book-crew; given_is = book-given; lost_is = book-lost; asks_is = book-asks; givings_is = book-givings }
 
   pub book-sits : q.table_id ≡ p.table_id → Sitting id q
-  book-sits same-table = sits id (put_place 0 (Lies b) p.me.0) 0 mask new (noted (Some b) p.me.0.speaks) (p.me.0.given + 1) q book-now zero-bit one-else private-below (same-table ∙ sitting.placed.of_table) sitting.placed.losses (sitting.placed.one.0, b, speaks-now)
+  book-sits same-table = sits id (put_place 0 (Lies b) p.me.0) 0 mask new (noted (Some b) p.me.0.speaks) (p.me.0.given + 1) change q book-now zero-bit one-else private-below (same-table ∙ sitting.placed.of_table) sitting.placed.losses (sitting.placed.one.0, b, speaks-now)
       (λ u ne. get_or-set_other p.me.0.places 0 u (Lies b) Vacant ne ∙ sitting.vacant u)
+
+-- all bits of the complement of 1 but the first one
+pub kept-ones : (slots : ℕ) → slots ≤ 57 → (u : ℕ) → 0 < u → u < slots → bit_at (bit_not w64 1) u ≡ 1
+kept-ones slots few u pos near = cleared-else 0 u (omega arith) (omega arith) (λ e. omega arith)
+
+-- what the step that gives the book back tells, of the values themselves
+pub given-back : {V C : Type 0} (content : V → C) (slots : ℕ) (m q : Pass V C) (copy book : V) (list hands : HandsView V) → copy ≡ book → list ≡ hands → (mask : ℕ) → booked (put_back content copy list.pairs) (step slots 7 mask 0 none) m.me q.me → booked (put_back content book hands.pairs) (step slots 7 mask 0 none) m.me q.me
+given-back {V} {C} content slots m q copy book list hands e f mask b = subst (λ (x : V × HandsView V). booked (put_back content x.0 x.1.pairs) (step slots 7 mask 0 none) m.me q.me) (λ k. (e k, f k)) b
+
+-- it is one change of counted contents: p before the call, m before the step, q after it
+pub changed-now : {V R C : Type 0} (p m q : Pass V C) (new : ℕ → Option C) (st : Step (Option V)) → booked new st m.me q.me → m.me.0.counts ≡ p.me.0.counts → m.me.0.change ≡ p.me.0.change → Changed (at R p) (at R q) st.slots new
+changed-now p m q new st b counts change = record {
+  contents = b.1;
+  turns_is = b.4;
+  before = λ t c e. b.5 t c (ap (λ l. slice_index_or l t None) counts ∙ e);
+  after = ap (λ y. y.0.change.1) b.2;
+  later = let a = ap (λ (y : Sits _ _). y.0.change.0) b.2 in let o = ap (λ (y : ℕ × List _). y.0) change in let h = b.3 in omega arith;
+}

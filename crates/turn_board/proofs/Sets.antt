@@ -1,30 +1,32 @@
 -- What an asking for a set of turns tells, in the words of a contract.
-use Rattle.std.proofs.Common.{◌≡◌, ◌≢◌, ℕ, ◌+◌, ◌-◌, ◌^◌, ◌<◌, ◌≤◌, ◌⊎◌, inl, inr, List, [], ◌∷◌, length, get_or, Bool, true, false, cond, ◌&&◌, min, refl, sym, ap, ap₂, ◌∙◌, arith}
+use Rattle.std.proofs.Common.{◌≡◌, ◌≢◌, ℕ, ◌+◌, ◌-◌, ◌^◌, ◌<◌, ◌≤◌, ◌⊎◌, inl, inr, List, [], length, get_or, Bool, true, false, cond, ◌&&◌, min, refl, sym, ap, ap₂, ◌∙◌, arith}
 use Rattle.std.specs.Prelude.{Some, None, slice_get, ◌==◌, bit_and}
 use Rattle.std.proofs.lemmas.Nat.{and_le_l}
-use Rattle.std.proofs.lemmas.Nat.Bits.{bit_at_and, bit_at-lt, bit_at_not, bit_at-zero}
+use Rattle.std.proofs.lemmas.Nat.Bits.{bit_at_and, bit_at-lt, bit_at_not, bit_at-zero, bit_at-trailing_zeros}
 use Rattle.std.proofs.lemmas.Option.{none-some}
 use mathlib.Core.Option.{none}
 use mathlib.Core.Logic.{dite}
 use native.Mathlib.Decide.{dec_lt}
-use lib.ListN.{get_elem?}
-use Rattle.std.specs.Int.{bit_at, bit_not, w64}
+use Rattle.std.specs.Int.{bit_at, bit_not, trailing_zeros, w64}
 use Rattle.atomic_table.specs.Table.{step}
 use Rattle.atomic_table.specs.Seated.{TableId}
 use Rattle.turn_board.specs.declared.view.View.{View}
 use Rattle.turn_board.specs.declared.view.Place.TheVariants.{Vacant, Lies}
 use Rattle.turn_board.specs.Tied.{counted, place}
-use Rattle.turn_board.specs.Steps.{asked, asked_view, given_view, lies, lost_at, note_of, caller_of}
+use Rattle.turn_board.specs.Steps.{asked, asked_view, given_view, lies, lost_at, one_more_lost, note_of, caller_of}
 use Rattle.turn_board.specs.Passes.{Pass, Placed, Sitting, held, lost}
 use Rattle.turn_board.specs.Moving.{Emptied}
 use Rattle.turn_board.specs.Boards.{SameVoice, Tells, MissedAll}
-use Rattle.turn_board.proofs.AtSeat.{at}
+use Rattle.turn_board.proofs.AtSeat.{at, told}
 use Rattle.turn_board.proofs.Rows.{two, row-length, row-here, row-past, changed-here, changed-else, get-within, past-end}
 
 -- no turn of the set was found taken
 pub none-taken : (found set : ℕ) → bit_and found set ≡ 0 → (u : ℕ) → bit_at set u ≡ 1 → bit_at found u ≡ 0
 none-taken found set e u s = two (bit_at found u) (λ x. x ≡ 0) (bit_at-lt found u) (λ _. refl)
     (λ f. absurd (let z : min (bit_at found u) (bit_at set u) ≡ 0 = sym (bit_at_and found set u) ∙ ap (λ (n : ℕ). bit_at n u) e ∙ bit_at-zero u in omega arith))
+
+pub positive : (n : ℕ) → (n ≡ 0 → ⊥) → 0 < n
+positive n ne = omega arith
 
 -- the bits that are cleared again are those that were just set
 module _ (found set : ℕ) (f-fits : found < 2 ^ 64) (s-fits : set < 2 ^ 64) where
@@ -41,8 +43,23 @@ module _ (found set : ℕ) (f-fits : found < 2 ^ 64) (s-fits : set < 2 ^ 64) whe
   pub not-cleared : (u : ℕ) → u < 64 → bit_at (bit_not w64 (bit_and set (bit_not w64 found))) u ≡ 1 → bit_at set u ≡ 1 → bit_at found u ≡ 1
   not-cleared u h e s = let m = mask-at u h in let b = bit_at-lt found u in omega arith
 
+  -- where no bit was just set
+  pub nothing-won : bit_and set (bit_not w64 found) ≡ 0 → (u : ℕ) → u < 64 → bit_at set u ≡ 1 → bit_at found u ≡ 1
+  nothing-won e u h s =
+      let m = sym (bit_at_and set (bit_not w64 found) u) ∙ ap (λ (n : ℕ). bit_at n u) e ∙ bit_at-zero u in let n = bit_at_not w64 found u f-fits h in
+      let b = bit_at-lt found u in omega arith
+
+  -- and where one was
+  pub one-won : bit_and set (bit_not w64 found) ≢ 0 → ((u : ℕ) → bit_at set u ≡ 1 → bit_at found u ≡ 1) → ⊥
+  one-won ne all' =
+      let low = bit_at-trailing_zeros w64 (bit_and set (bit_not w64 found)) (positive (bit_and set (bit_not w64 found)) ne) (let l = and_le_l set (bit_not w64 found) in omega arith) in
+      let u = trailing_zeros w64 (bit_and set (bit_not w64 found)) in
+      let near : u < 64 = low.0 in
+      let m = sym (bit_at_and set (bit_not w64 found) u) ∙ low.1 in let n = bit_at_not w64 found u f-fits near in
+      let a = bit_at-lt set u in let b = bit_at-lt found u in let f = all' u (omega arith) in omega arith
+
 module _ {V C : Type 0} (holds : List C → List C → Type 0) (id : TableId) (p q : Pass V C) (set found : ℕ) (sitting : Sitting id p) (same-table : q.table_id ≡ p.table_id) (same-id : q.id ≡ p.id)
-    (a : asked holds (step id.slots 0 set 0 none) p.me found q.me) where
+    (a : asked holds (step id.slots 7 set 0 none) p.me found q.me) where
   abbrev v : View C
   v = p.me.0
 
@@ -80,7 +97,7 @@ module _ {V C : Type 0} (holds : List C → List C → Type 0) (id : TableId) (p
   place-else u e = ap (λ (x : View C). place x u) view-is ∙ changed-else id.slots v.places Vacant won' (λ y. lies (slice_get a.0 y)) u sitting.placed.places e
 
   lost-else : (u : ℕ) → missed' u ≡ false → lost q u ≡ lost p u
-  lost-else u e = ap (λ (x : View C). lost_at x u) view-is ∙ changed-else id.slots v.lost 0 missed' (λ y. lost_at v y + 1) u sitting.placed.losses e
+  lost-else u e = ap (λ (x : View C). lost_at x u) view-is ∙ changed-else id.slots v.lost 0 missed' (λ y. one_more_lost (counted v y) (lost_at v y)) u sitting.placed.losses e
 
   pub now-lie : (u : ℕ) → u < id.slots → bit_at set u ≡ 1 → bit_at found u ≡ 0 → (c : C) × (held q u ≡ Some c) × (place q.me.0 u ≡ Lies c)
   now-lie u near s f = let g = get-within a.0 u (let h : length a.0 ≡ id.slots = a.1 in omega arith) in let e : won' u ≡ true = both u 1 0 (λ x y. (x == 1) && (y == 0)) s f in (
@@ -89,11 +106,11 @@ module _ {V C : Type 0} (holds : List C → List C → Type 0) (id : TableId) (p
     ap (λ (x : View C). place x u) view-is ∙ changed-here id.slots v.places Vacant won' (λ y. lies (slice_get a.0 y)) u near e ∙ ap lies g.1,
   )
 
-  pub losses-now : (u : ℕ) → u < id.slots → lost q u ≡ lost p u + min (bit_at found u) (bit_at set u)
-  losses-now u near = two (bit_at set u) (λ x. lost q u ≡ lost p u + min (bit_at found u) x) (bit_at-lt set u)
+  pub losses-now : (u : ℕ) → u < id.slots → (bit_at set u ≡ 1 → held p u ≡ None) → lost q u ≡ lost p u + min (bit_at found u) (bit_at set u)
+  losses-now u near none' = two (bit_at set u) (λ x. lost q u ≡ lost p u + min (bit_at found u) x) (bit_at-lt set u)
       (λ z. lost-else u (keep-set u z) ∙ (omega arith))
       (λ o. two (bit_at found u) (λ y. lost q u ≡ lost p u + min y 1) (bit_at-lt found u) (λ z. lost-else u (keep-found u z) ∙ (omega arith))
-      (λ f. ap (λ (x : View C). lost_at x u) view-is ∙ changed-here id.slots v.lost 0 missed' (λ y. lost_at v y + 1) u near (both u 1 1 (λ x y. (x == 1) && (y == 1)) o f) ∙ refl))
+      (λ f. ap (λ (x : View C). lost_at x u) view-is ∙ changed-here id.slots v.lost 0 missed' (λ y. one_more_lost (counted v y) (lost_at v y)) u near (both u 1 1 (λ x y. (x == 1) && (y == 1)) o f) ∙ ap (λ h. one_more_lost h (lost_at v u)) (none' o)))
 
   pub set-placed : Placed id q
   set-placed = record {
@@ -101,8 +118,20 @@ module _ {V C : Type 0} (holds : List C → List C → Type 0) (id : TableId) (p
     empty = ap (λ m. m.1) a.2 ∙ sitting.placed.empty;
     counts = ap (λ (x : View C). length x.counts) view-is ∙ row-length 0 id.slots (λ u. cond (won' u) (slice_get a.0 u) (counted v u));
     places = ap (λ (x : View C). length x.places) view-is ∙ row-length 0 id.slots (λ u. cond (won' u) (lies (slice_get a.0 u)) (place v u));
-    losses = ap (λ (x : View C). length x.lost) view-is ∙ row-length 0 id.slots (λ u. cond (missed' u) (lost_at v u + 1) (lost_at v u));
+    losses = ap (λ (x : View C). length x.lost) view-is ∙ row-length 0 id.slots (λ u. cond (missed' u) (one_more_lost (counted v u) (lost_at v u)) (lost_at v u));
     one = (sitting.placed.one.0, sitting.placed.one.1, ap (λ (x : View C). x.speaks) view-is ∙ sitting.placed.one.2);
+  }
+
+  pub set-tells : {R : Type 0} → Tells holds id.slots (at R q)
+  set-tells {R} = told R holds id.slots q sitting.placed.one.0 sitting.placed.one.1 (ap (λ (x : View C). x.speaks) view-is ∙ sitting.placed.one.2) a.3
+
+  pub set-voice : {R : Type 0} → SameVoice (at R p) (at R q)
+  set-voice = record {
+    caller_is = ap (λ (x : View C). caller_of x.speaks) view-is;
+    note_is = ap (λ (x : View C). note_of x.speaks) view-is;
+    crew_is = ap (λ (x : View C). x.crew) view-is;
+    given_is = ap (λ (x : View C). x.given) view-is;
+    change_is = ap (λ (x : View C). x.change) view-is;
   }
 
   places-past : (u : ℕ) → id.slots ≤ u → place q.me.0 u ≡ Vacant
@@ -131,6 +160,7 @@ module _ {V C : Type 0} (holds : List C → List C → Type 0) (id : TableId) (p
       note_is = ap note_of e.speaks ∙ ap (λ (x : View C). note_of x.speaks) view-is;
       crew_is = e.crew ∙ ap (λ (x : View C). x.crew) view-is;
       given_is = e.given ∙ ap (λ (x : View C). x.given) view-is;
+      change_is = e.change ∙ ap (λ (x : View C). x.change) view-is;
     }
 
     pub all-others : (u : ℕ) → bit_at set u ≡ 0 → held r u ≡ held p u
@@ -139,17 +169,22 @@ module _ {V C : Type 0} (holds : List C → List C → Type 0) (id : TableId) (p
     pub all-lost : ((u : ℕ) → bit_at set u ≡ 1 → bit_at found u ≡ 0) → (u : ℕ) → lost r u ≡ lost p u
     all-lost free u = ap (λ l. get_or l u 0) e.lost ∙ two (bit_at set u) (λ _. lost q u ≡ lost p u) (bit_at-lt set u) (λ z. lost-else u (keep-set u z)) (λ o. lost-else u (keep-found u (free u o)))
 
+    pub all-asks : r.me.0.asks ≡ p.me.0.asks + 1
+    all-asks = e.asks ∙ ap (λ (x : View C). x.asks) view-is
+
+    pub all-givings : r.me.0.givings ≡ p.me.0.givings
+    all-givings = e.givings ∙ ap (λ (x : View C). x.givings) view-is
+
     pub all-tells : {R : Type 0} → Tells holds id.slots (at R r)
-    all-tells = let one = sitting.placed.one in let o = a.3 in let sp : q.me.0.speaks ≡ (one.0, one.1) ∷ [] = ap (λ (x : View C). x.speaks) view-is ∙ one.2 in
-        let n = o.spoken 0 one.0 one.1 (ap (λ (l : List (ℕ × C)). get_elem? l 0) sp) in record {
-          contents = o.contents;
-          notes = o.notes;
-          tied = o.tied;
-          turns_is = o.turns_is;
-          callers = n.0 ∙ sym e.crew;
-          own = λ u c h. o.own u c (sym (ap (λ l. get_or l u None) e.counts) ∙ h);
-          noted = ap (λ l. slice_get o.notes (caller_of l)) e.speaks ∙ ap (λ (l : List (ℕ × C)). slice_get o.notes (caller_of l)) sp ∙ n.1 ∙ sym (ap note_of sp) ∙ sym (ap note_of e.speaks);
-        }
+    all-tells {R} = let o : Tells holds id.slots (at R q) = set-tells {R = R} in record {
+      contents = o.contents;
+      notes = o.notes;
+      tied = o.tied;
+      turns_is = o.turns_is;
+      callers = o.callers ∙ sym e.crew;
+      own = λ u c h. o.own u c (sym (ap (λ l. get_or l u None) e.counts) ∙ h);
+      noted = ap (λ l. slice_get o.notes (caller_of l)) e.speaks ∙ o.noted ∙ sym (ap note_of e.speaks);
+    }
 
   -- the turns that were just got were given back
   module _ (few : id.slots ≤ 57) (f-fits : found < 2 ^ 64) (s-fits : set < 2 ^ 64) where
@@ -157,8 +192,8 @@ module _ {V C : Type 0} (holds : List C → List C → Type 0) (id : TableId) (p
     untouched u near z = let b = cleared found set f-fits s-fits u (omega arith) z in now-lie u near b.0 b.1
 
     module _ (free : (u : ℕ) → bit_at set u ≡ 1 → held p u ≡ None) (r : Pass V C) (r-table : r.table_id ≡ q.table_id) (r-id : r.id ≡ q.id)
-        (r-is : r.me ≡ (given_view id.slots (bit_not w64 (bit_and set (bit_not w64 found))) (counted q.me.0) q.me.0.speaks q.me.0.given q.me.0, q.me.1)) where
-      r-view : r.me.0 ≡ given_view id.slots (bit_not w64 (bit_and set (bit_not w64 found))) (counted q.me.0) q.me.0.speaks q.me.0.given q.me.0
+        (r-is : r.me ≡ (given_view id.slots (bit_not w64 (bit_and set (bit_not w64 found))) (counted q.me.0) q.me.0.speaks q.me.0.given q.me.0.change q.me.0, q.me.1)) where
+      r-view : r.me.0 ≡ given_view id.slots (bit_not w64 (bit_and set (bit_not w64 found))) (counted q.me.0) q.me.0.speaks q.me.0.given q.me.0.change q.me.0
       r-view = ap (λ m. m.0) r-is
 
       abbrev gone : ℕ → Bool
@@ -201,33 +236,83 @@ module _ {V C : Type 0} (holds : List C → List C → Type 0) (id : TableId) (p
         note_is = ap (λ (x : View C). note_of x.speaks) r-view ∙ ap (λ (x : View C). note_of x.speaks) view-is;
         crew_is = ap (λ (x : View C). x.crew) r-view ∙ ap (λ (x : View C). x.crew) view-is;
         given_is = ap (λ (x : View C). x.given) r-view ∙ ap (λ (x : View C). x.given) view-is;
+        change_is = ap (λ (x : View C). x.change) r-view ∙ ap (λ (x : View C). x.change) view-is;
       }
 
-      back-losses : (u : ℕ) → u < id.slots → lost r u ≡ lost p u + min (bit_at found u) (bit_at set u)
-      back-losses u near = ap (λ (x : View C). lost_at x u) r-view ∙ losses-now u near
+      pub back-lost : (u : ℕ) → lost r u ≡ lost q u
+      back-lost u = ap (λ (x : View C). lost_at x u) r-view
 
-      back-unlost : (u : ℕ) → bit_at set u ≡ 0 → lost r u ≡ lost p u
-      back-unlost u z = ap (λ (x : View C). lost_at x u) r-view ∙ lost-else u (keep-set u z)
+      pub back-asks : r.me.0.asks ≡ q.me.0.asks
+      back-asks = ap (λ (x : View C). x.asks) r-view
 
-      -- the least turn that was found taken, and what was lost
-      module _ (within : (u : ℕ) → bit_at set u ≡ 1 → u < id.slots) (t : ℕ) (asked' : bit_at set t ≡ 1) (taken : bit_at found t ≡ 1) (least : (u : ℕ) → u < t → min (bit_at found u) (bit_at set u) ≡ 0) where
-        lost-below : (u : ℕ) → u < t → lost r u ≡ lost p u
-        lost-below u h = two (bit_at set u) (λ _. lost r u ≡ lost p u) (bit_at-lt set u) (λ z. back-unlost u z)
-            (λ o. back-losses u (within u o) ∙ (let l = least u h in omega arith))
+      pub back-givings : r.me.0.givings ≡ p.me.0.givings + 1
+      back-givings = ap (λ (x : View C). x.givings) r-view ∙ ap (λ (x : View C). x.givings + 1) view-is
 
-        lost-above : (u : ℕ) → (lost r u ≡ lost p u) ⊎ ((bit_at set u ≡ 1) × (lost r u ≡ lost p u + 1))
-        lost-above u = two (bit_at set u) (λ _. (lost r u ≡ lost p u) ⊎ ((bit_at set u ≡ 1) × (lost r u ≡ lost p u + 1))) (bit_at-lt set u) (λ z. inl (back-unlost u z))
-            (λ o. let n = back-losses u (within u o) in two (bit_at found u) (λ _. (lost r u ≡ lost p u) ⊎ ((bit_at set u ≡ 1) × (lost r u ≡ lost p u + 1))) (bit_at-lt found u)
-            (λ z. inl (n ∙ (omega arith))) (λ f. inr (o, n ∙ (omega arith))))
+      pub back-tells : {R : Type 0} → Tells holds id.slots (at R r)
+      back-tells {R} = let o : Tells holds id.slots (at R q) = set-tells {R = R} in record {
+        contents = o.contents;
+        notes = o.notes;
+        tied = o.tied;
+        turns_is = o.turns_is;
+        callers = o.callers ∙ ap (λ (x : View C). x.crew) (sym r-view);
+        own = λ u c e. two (bit_at set u) (λ _. slice_get o.contents u ≡ Some c) (bit_at-lt set u)
+            (λ z. o.own u c (held-else u (lose-set u z) ∙ sym (back-held u) ∙ e))
+            (λ s. absurd (none-some c (sym (free u s) ∙ sym (back-held u) ∙ e)));
+        noted = ap (λ (x : View C). slice_get o.notes (caller_of x.speaks)) r-view ∙ o.noted ∙ sym (ap (λ (x : View C). note_of x.speaks) r-view);
+      }
 
-        pub missed-all : {R : Type 0} → MissedAll (at R p) (at R r) set t
-        missed-all = record {
-          asked = asked';
-          held_is = back-held;
-          here = back-losses t (within t asked') ∙ (omega arith);
-          below = lost-below;
-          above = λ u h. lost-above u;
-        }
+    -- there is none to give back
+    module _ (within : (u : ℕ) → bit_at set u ≡ 1 → u < id.slots) (nothing : bit_and set (bit_not w64 found) ≡ 0) where
+      pub all-found : (u : ℕ) → bit_at set u ≡ 1 → bit_at found u ≡ 1
+      all-found u s = nothing-won found set f-fits s-fits nothing u (let h = within u s in omega arith) s
+
+      none-got : (u : ℕ) → won' u ≡ false
+      none-got u = two (bit_at set u) (λ _. won' u ≡ false) (bit_at-lt set u) (lose-set u) (λ s. lose-found u (all-found u s))
+
+      pub still-held : (u : ℕ) → held q u ≡ held p u
+      still-held u = held-else u (none-got u)
+
+      pub still-sits : Sitting id q
+      still-sits = record { placed = set-placed; vacant = λ u. place-else u (none-got u) ∙ sitting.vacant u }
+
+  -- some turn of the set was found taken: p before the call, q after the asking, r at its end
+  module _ (within : (u : ℕ) → bit_at set u ≡ 1 → u < id.slots) (free : (u : ℕ) → bit_at set u ≡ 1 → held p u ≡ None) (r : Pass V C) (r-held : (u : ℕ) → held r u ≡ held p u) (r-lost : (u : ℕ) → lost r u ≡ lost q u) where
+    lost-bit : (u : ℕ) → bit_at set u ≡ 1 → lost r u ≡ lost p u + min (bit_at found u) (bit_at set u)
+    lost-bit u s = r-lost u ∙ losses-now u (within u s) (free u)
+
+    lost-rest : (u : ℕ) → bit_at set u ≡ 0 → lost r u ≡ lost p u
+    lost-rest u z = r-lost u ∙ lost-else u (keep-set u z)
+
+    -- whose lost rose was found taken
+    is-free : (u : ℕ) → bit_at set u ≡ 1 → lost r u ≡ lost p u → bit_at found u ≡ 0
+    is-free u s e = let n = lost-bit u s in let b = bit_at-lt found u in omega arith
+
+    is-taken : (u : ℕ) → bit_at set u ≡ 1 → lost r u ≡ lost p u + 1 → bit_at found u ≡ 1
+    is-taken u s e = let n = lost-bit u s in let b = bit_at-lt found u in omega arith
+
+    module _ (t : ℕ) (asked' : bit_at set t ≡ 1) (taken : bit_at found t ≡ 1) (least : (u : ℕ) → u < t → min (bit_at found u) (bit_at set u) ≡ 0)
+        (r-asks : r.me.0.asks ≡ q.me.0.asks) (won-back : (u : ℕ) → bit_at set u ≡ 1 → bit_at found u ≡ 0 → r.me.0.givings ≡ p.me.0.givings + 1)
+        (no-back : ((u : ℕ) → bit_at set u ≡ 1 → bit_at found u ≡ 1) → r.me.0.givings ≡ p.me.0.givings) where
+      lost-below : (u : ℕ) → u < t → lost r u ≡ lost p u
+      lost-below u h = two (bit_at set u) (λ _. lost r u ≡ lost p u) (bit_at-lt set u) (λ z. lost-rest u z)
+          (λ o. lost-bit u o ∙ (let l = least u h in omega arith))
+
+      lost-above : (u : ℕ) → (lost r u ≡ lost p u) ⊎ ((bit_at set u ≡ 1) × (lost r u ≡ lost p u + 1))
+      lost-above u = two (bit_at set u) (λ _. (lost r u ≡ lost p u) ⊎ ((bit_at set u ≡ 1) × (lost r u ≡ lost p u + 1))) (bit_at-lt set u) (λ z. inl (lost-rest u z))
+          (λ o. let n = lost-bit u o in two (bit_at found u) (λ _. (lost r u ≡ lost p u) ⊎ ((bit_at set u ≡ 1) × (lost r u ≡ lost p u + 1))) (bit_at-lt found u)
+          (λ z. inl (n ∙ (omega arith))) (λ f. inr (o, n ∙ (omega arith))))
+
+      pub missed-all : {R : Type 0} → MissedAll (at R p) (at R r) set t
+      missed-all = record {
+        asked = asked';
+        held_is = r-held;
+        here = lost-bit t asked' ∙ (omega arith);
+        below = lost-below;
+        above = λ u h. lost-above u;
+        asks_is = r-asks ∙ ap (λ (x : View C). x.asks) view-is;
+        some_won = λ u s e. won-back u s (is-free u s e);
+        none_won = λ h. no-back (λ u s. is-taken u s (h u s));
+      }
 
   pub set-alone : (t : ℕ) → t < id.slots → bit_at found t ≡ 1 → held p t ≡ None → p.me.0.crew ≢ 1
   set-alone t near taken none' sole = let c = a.4 sole ((sitting.placed.one.0, sitting.placed.one.1), [], sitting.placed.one.2) t near taken in none-some c.0 (sym none' ∙ c.1)

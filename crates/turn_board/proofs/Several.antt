@@ -112,6 +112,9 @@ module _ {V C : Type 0} (set t : ℕ) (p q : Pass V C) (e : Emptied set t p q) w
     lost = e.lost;
     given = e.given;
     crew = e.crew;
+    asks = e.asks;
+    givings = e.givings;
+    change = e.change;
     long = e.long;
     out = λ u near o. dite (dec_lt u t) (λ b. e.out u b o) (λ b. absurd (let z = gap u (omega arith) near in omega arith));
     later = λ u k. e.later u (omega arith);
@@ -128,6 +131,9 @@ module _ {V C : Type 0} (set t : ℕ) (p q : Pass V C) (e : Emptied set t p q) w
     lost = ap (λ m. m.0.lost) is ∙ e.lost;
     given = ap (λ m. m.0.given) is ∙ e.given;
     crew = ap (λ m. m.0.crew) is ∙ e.crew;
+    asks = ap (λ m. m.0.asks) is ∙ e.asks;
+    givings = ap (λ m. m.0.givings) is ∙ e.givings;
+    change = ap (λ m. m.0.change) is ∙ e.change;
     long = ap (λ m. length m.0.places) is ∙ length-set q.me.0.places t Vacant ∙ e.long;
     out = λ u h b. ap (λ m. place m.0 u) is ∙ dite (ℕ_discrete u t)
         (λ s. ap (place (put_place t Vacant q.me.0)) s ∙ get_or-set_same q.me.0.places t Vacant Vacant (let l = e.long in omega arith))

@@ -1,5 +1,5 @@
 -- What an asking for one turn tells, in the words of a contract.
-use Rattle.std.proofs.Common.{◌≡◌, ◌≢◌, ℕ, zero, suc, ◌+◌, ◌*◌, ◌^◌, ◌<◌, List, [], ◌∷◌, length, Bool, true, false, cond, ◌&&◌, refl, sym, ap, ap₂, ◌∙◌, arith, length-set, get_or-set_same, get_or-set_other}
+use Rattle.std.proofs.Common.{◌≡◌, ◌≢◌, ℕ, zero, suc, ◌*◌, ◌^◌, ◌<◌, List, [], length, Bool, true, false, cond, ◌&&◌, refl, sym, ap, ap₂, ◌∙◌, arith, length-set, get_or-set_same, get_or-set_other}
 use Rattle.std.specs.Prelude.{Some, None, slice_get, ◌==◌, bit_and}
 use Rattle.std.proofs.lemmas.Nat.{pow_pos}
 use Rattle.std.proofs.lemmas.Nat.Bits.{and_pow, bit_at-pow_same, bit_at-pow_other, bit_at-lt}
@@ -7,17 +7,16 @@ use Rattle.std.proofs.lemmas.Option.{none-some}
 use mathlib.Core.Option.{none}
 use mathlib.Core.Logic.{dite}
 use native.Mathlib.Decide.{ℕ_discrete}
-use lib.ListN.{get_elem?}
 use Rattle.std.specs.Int.{bit_at}
 use Rattle.atomic_table.specs.Table.{step}
 use Rattle.atomic_table.specs.Seated.{TableId}
 use Rattle.turn_board.specs.declared.view.View.{View}
 use Rattle.turn_board.specs.declared.view.Place.TheVariants.{Vacant, Lies}
 use Rattle.turn_board.specs.Tied.{counted, place}
-use Rattle.turn_board.specs.Steps.{asked, asked_view, lies, lost_at, put_place, note_of, caller_of}
+use Rattle.turn_board.specs.Steps.{asked, asked_view, lies, lost_at, one_more_lost, put_place, note_of, caller_of}
 use Rattle.turn_board.specs.Passes.{Pass, Placed, Sitting, held, lost}
 use Rattle.turn_board.specs.Boards.{SameVoice, Gained, Missed, Tells}
-use Rattle.turn_board.proofs.AtSeat.{at}
+use Rattle.turn_board.proofs.AtSeat.{at, told}
 use Rattle.turn_board.proofs.Rows.{row-length, changed-here, changed-else, get-within}
 
 -- the bit t of the word that was found is not set where the test says so
@@ -35,7 +34,7 @@ found-taken found t ne = one-of (bit_at found t) (bit_at-lt found t) (λ z. ne (
     one-of b h n = omega arith
 
 module _ {V C : Type 0} (holds : List C → List C → Type 0) (id : TableId) (p q : Pass V C) (t found : ℕ) (near : t < id.slots) (sits : Placed id p) (same-table : q.table_id ≡ p.table_id) (same-id : q.id ≡ p.id)
-    (a : asked holds (step id.slots 0 (2 ^ t) 0 none) p.me found q.me) where
+    (a : asked holds (step id.slots 7 (2 ^ t) 0 none) p.me found q.me) where
   abbrev v : View C
   v = p.me.0
 
@@ -67,7 +66,7 @@ module _ {V C : Type 0} (holds : List C → List C → Type 0) (id : TableId) (p
   place-else u e = ap (λ (x : View C). place x u) view-is ∙ changed-else id.slots v.places Vacant won (λ y. lies (slice_get a.0 y)) u sits.places e
 
   lost-else : (u : ℕ) → missed u ≡ false → lost q u ≡ lost p u
-  lost-else u e = ap (λ (x : View C). lost_at x u) view-is ∙ changed-else id.slots v.lost 0 missed (λ y. lost_at v y + 1) u sits.losses e
+  lost-else u e = ap (λ (x : View C). lost_at x u) view-is ∙ changed-else id.slots v.lost 0 missed (λ y. one_more_lost (counted v y) (lost_at v y)) u sits.losses e
 
   pub still-placed : Placed id q
   still-placed = record {
@@ -75,12 +74,15 @@ module _ {V C : Type 0} (holds : List C → List C → Type 0) (id : TableId) (p
     empty = ap (λ m. m.1) a.2 ∙ sits.empty;
     counts = ap (λ (x : View C). length x.counts) view-is ∙ row-length 0 id.slots (λ u. cond (won u) (slice_get a.0 u) (counted v u));
     places = ap (λ (x : View C). length x.places) view-is ∙ row-length 0 id.slots (λ u. cond (won u) (lies (slice_get a.0 u)) (place v u));
-    losses = ap (λ (x : View C). length x.lost) view-is ∙ row-length 0 id.slots (λ u. cond (missed u) (lost_at v u + 1) (lost_at v u));
+    losses = ap (λ (x : View C). length x.lost) view-is ∙ row-length 0 id.slots (λ u. cond (missed u) (one_more_lost (counted v u) (lost_at v u)) (lost_at v u));
     one = (sits.one.0, sits.one.1, ap (λ (x : View C). x.speaks) view-is ∙ sits.one.2);
   }
 
   pub same-voice : {R : Type 0} → SameVoice (at R p) (at R q)
-  same-voice = record { caller_is = ap (λ (x : View C). caller_of x.speaks) view-is; note_is = ap (λ (x : View C). note_of x.speaks) view-is; crew_is = ap (λ (x : View C). x.crew) view-is; given_is = ap (λ (x : View C). x.given) view-is }
+  same-voice = record { caller_is = ap (λ (x : View C). caller_of x.speaks) view-is; note_is = ap (λ (x : View C). note_of x.speaks) view-is; crew_is = ap (λ (x : View C). x.crew) view-is; given_is = ap (λ (x : View C). x.given) view-is; change_is = ap (λ (x : View C). x.change) view-is }
+
+  pub tells-still : {R : Type 0} → Tells holds id.slots (at R q)
+  tells-still {R} = told R holds id.slots q sits.one.0 sits.one.1 (ap (λ (x : View C). x.speaks) view-is ∙ sits.one.2) a.3
 
   -- the turn was free
   module _ (free : bit_at found t ≡ 0) where
@@ -107,19 +109,20 @@ module _ {V C : Type 0} (holds : List C → List C → Type 0) (id : TableId) (p
         here = ap (λ (x : View C). counted x t) r-view ∙ e;
         others = λ u ne. ap (λ (x : View C). counted x u) r-view ∙ held-else u (won-else u ne);
         lost_is = λ u. ap (λ (x : View C). lost_at x u) r-view ∙ lost-else u (missed-none u);
+        asks_is = ap (λ (x : View C). x.asks) r-view ∙ ap (λ (x : View C). x.asks) view-is;
+        givings_is = ap (λ (x : View C). x.givings) r-view ∙ ap (λ (x : View C). x.givings) view-is;
       }
 
       pub tells-now : {R : Type 0} → Tells holds id.slots (at R r)
-      tells-now = let one = sits.one in let o = a.3 in let sp : q.me.0.speaks ≡ (one.0, one.1) ∷ [] = ap (λ (x : View C). x.speaks) view-is ∙ one.2 in
-          let n = o.spoken 0 one.0 one.1 (ap (λ (l : List (ℕ × C)). get_elem? l 0) sp) in record {
-            contents = o.contents;
-            notes = o.notes;
-            tied = o.tied;
-            turns_is = o.turns_is;
-            callers = n.0 ∙ ap (λ (x : View C). x.crew) (sym r-view);
-            own = λ u c e. o.own u c (sym (ap (λ (x : View C). counted x u) r-view) ∙ e);
-            noted = ap (λ (x : View C). slice_get o.notes (caller_of x.speaks)) r-view ∙ ap (λ (l : List (ℕ × C)). slice_get o.notes (caller_of l)) sp ∙ n.1 ∙ sym (ap note_of sp) ∙ sym (ap (λ (x : View C). note_of x.speaks) r-view);
-          }
+      tells-now {R} = let o : Tells holds id.slots (at R q) = tells-still {R = R} in record {
+        contents = o.contents;
+        notes = o.notes;
+        tied = o.tied;
+        turns_is = o.turns_is;
+        callers = o.callers ∙ ap (λ (x : View C). x.crew) (sym r-view);
+        own = λ u c e. o.own u c (sym (ap (λ (x : View C). counted x u) r-view) ∙ e);
+        noted = ap (λ (x : View C). slice_get o.notes (caller_of x.speaks)) r-view ∙ o.noted ∙ sym (ap (λ (x : View C). note_of x.speaks) r-view);
+      }
 
       pub sits-now : ((u : ℕ) → place v u ≡ Vacant) → Sitting id r
       sits-now vacant = record {
@@ -143,6 +146,7 @@ module _ {V C : Type 0} (holds : List C → List C → Type 0) (id : TableId) (p
         note_is = ap (λ (x : View C). note_of x.speaks) r-view ∙ ap (λ (x : View C). note_of x.speaks) view-is;
         crew_is = ap (λ (x : View C). x.crew) r-view ∙ ap (λ (x : View C). x.crew) view-is;
         given_is = ap (λ (x : View C). x.given) r-view ∙ ap (λ (x : View C). x.given) view-is;
+        change_is = ap (λ (x : View C). x.change) r-view ∙ ap (λ (x : View C). x.change) view-is;
       }
 
   -- the turn was taken
@@ -150,11 +154,13 @@ module _ {V C : Type 0} (holds : List C → List C → Type 0) (id : TableId) (p
     won-none : (u : ℕ) → won u ≡ false
     won-none u = dite (ℕ_discrete u t) (λ e. ap won e ∙ test-at 1 (λ x y. (x == 1) && (y == 0)) taken) (λ ne. won-else u ne)
 
-    pub now-missed : {R : Type 0} → Missed (at R p) (at R q) t
-    now-missed = record {
+    pub now-missed : {R : Type 0} → held p t ≡ None → Missed (at R p) (at R q) t
+    now-missed none' = record {
       held_is = λ u. held-else u (won-none u);
-      here = ap (λ (x : View C). lost_at x t) view-is ∙ changed-here id.slots v.lost 0 missed (λ y. lost_at v y + 1) t near (test-at 1 (λ x y. (x == 1) && (y == 1)) taken);
+      here = ap (λ (x : View C). lost_at x t) view-is ∙ changed-here id.slots v.lost 0 missed (λ y. one_more_lost (counted v y) (lost_at v y)) t near (test-at 1 (λ x y. (x == 1) && (y == 1)) taken) ∙ ap (λ o. one_more_lost o (lost_at v t)) none';
       others = λ u ne. lost-else u (missed-else u ne);
+      asks_is = ap (λ (x : View C). x.asks) view-is;
+      givings_is = ap (λ (x : View C). x.givings) view-is;
     }
 
     pub sits-still : ((u : ℕ) → place v u ≡ Vacant) → Sitting id q

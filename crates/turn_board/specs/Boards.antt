@@ -7,7 +7,7 @@ use Rattle.turn_board.specs.declared.taken.Taken.{Taken}
 use Rattle.turn_board.specs.declared.taken.Taken.TheVariants.{Here, Busy}
 use Rattle.turn_board.specs.declared.taken.TookAll.{TookAll}
 use Rattle.turn_board.specs.declared.taken.TookAll.TheVariants as all
-use Rattle.turn_board.specs.Maps.{bits_of}
+use Rattle.turn_board.specs.Maps.{bits_of, overlay, FitsTurns}
 use Rattle.turn_board.specs.Hands.{in_hands, Once}
 use Rattle.turn_board.specs.Passes.{Sitting}
 use Rattle.turn_board.specs.Passes as passes
@@ -37,7 +37,7 @@ module _ {V R C : Type 0} where
   abbrev pub caller : Seat V R C → ℕ
   caller s = passes.caller s.pass
 
-  -- how often this seat found a turn taken
+  -- how often this seat found a turn taken by another one
   abbrev pub lost : Seat V R C → ℕ → ℕ
   lost s = passes.lost s.pass
 
@@ -49,6 +49,20 @@ module _ {V R C : Type 0} where
   abbrev pub crew : Seat V R C → ℕ
   crew s = s.pass.me.0.crew
 
+  -- how often this seat asked for turns: a set that one step asks for is asked for once
+  abbrev pub asks : Seat V R C → ℕ
+  asks s = s.pass.me.0.asks
+
+  -- how often this seat gave turns back: all turns that one step gives back are given back once
+  abbrev pub givings : Seat V R C → ℕ
+  givings s = s.pass.me.0.givings
+
+  -- the last change of counted contents by this seat, and before that the opening: its number among
+  -- all changes of the board, and the contents of all turns that it left. What the latest change of
+  -- all seats left is counted, so no step that leaves this as it was changes a counted content
+  abbrev pub last_change : Seat V R C → ℕ × List C
+  last_change s = s.pass.me.0.change
+
   -- the seat of the caller k of n, as a board is opened: nothing is held, lost or given
   pub record Begins (b : Board V R C) (n : ℕ) (opening : C) (k : ℕ) (s : Seat V R C) : Type 0 where
     pub seat : IsSeatOf b s
@@ -58,6 +72,8 @@ module _ {V R C : Type 0} where
     pub free : (t : ℕ) → held s t ≡ None
     pub unlost : (t : ℕ) → lost s t ≡ 0
     pub ungiven : given s ≡ 0
+    pub unasked : asks s ≡ 0
+    pub ungiving : givings s ≡ 0
 
   -- the seat of the caller k of n, which holds nothing: with all others the board can be closed
   pub record Ends (b : Board V R C) (n k : ℕ) (s : Seat V R C) : Type 0 where
@@ -69,6 +85,10 @@ module _ {V R C : Type 0} where
   -- the board's seats, in the order of its n callers, as it is opened
   abbrev pub AllBegin : Board V R C → ℕ → C → List (Seat V R C) → Type 0
   AllBegin b n opening seats = (i : ℕ) (s : Seat V R C) → slice_get seats i ≡ Some s → Begins b n opening i s
+
+  -- the opening is the first change of counted contents, which leaves these
+  abbrev pub AllOpened : List C → List (Seat V R C) → Type 0
+  AllOpened contents seats = (i : ℕ) (s : Seat V R C) → slice_get seats i ≡ Some s → last_change s ≡ (1, contents)
 
   -- seats of the board in the order of its n callers, which hold nothing
   abbrev pub AllEnd : Board V R C → ℕ → List (Seat V R C) → Type 0
@@ -90,30 +110,38 @@ module _ {V R C : Type 0} where
     pub noted : slice_get notes (caller s) ≡ note s
 
   module _ (p q : Seat V R C) where
-    -- the seat speaks for the same caller with the same note, and gave the book back as often
+    -- the seat speaks for the same caller with the same note, gave the book back as often, and no
+    -- step of it changed a counted content
     pub record SameVoice : Type 0 where
       pub caller_is : caller q ≡ caller p
       pub note_is : note q ≡ note p
       pub crew_is : crew q ≡ crew p
       pub given_is : given q ≡ given p
+      pub change_is : last_change q ≡ last_change p
 
-    -- the seat has the turn t with the content c beside what it held
+    -- the seat has the turn t with the content c beside what it held, for which it asked once
     pub record Gained (t : ℕ) (c : C) : Type 0 where
       pub here : held q t ≡ Some c
       pub others : (u : ℕ) → u ≢ t → held q u ≡ held p u
       pub lost_is : (u : ℕ) → lost q u ≡ lost p u
+      pub asks_is : asks q ≡ asks p + 1
+      pub givings_is : givings q ≡ givings p
 
-    -- the turn t was found taken
+    -- the turn t was asked for once, and found taken by another seat
     pub record Missed (t : ℕ) : Type 0 where
       pub held_is : (u : ℕ) → held q u ≡ held p u
       pub here : lost q t ≡ lost p t + 1
       pub others : (u : ℕ) → u ≢ t → lost q u ≡ lost p u
+      pub asks_is : asks q ≡ asks p + 1
+      pub givings_is : givings q ≡ givings p
 
     -- the turn t was given back
     pub record Released (t : ℕ) : Type 0 where
       pub here : held q t ≡ None
       pub others : (u : ℕ) → u ≢ t → held q u ≡ held p u
       pub lost_is : (u : ℕ) → lost q u ≡ lost p u
+      pub asks_is : asks q ≡ asks p
+      pub givings_is : givings q ≡ givings p + 1
 
     -- the book was given back, and the turns that are still held have new contents
     pub record Booked (new : ℕ → Option C) : Type 0 where
@@ -124,8 +152,19 @@ module _ {V R C : Type 0} where
       pub crew_is : crew q ≡ crew p
       pub given_is : given q ≡ given p + 1
       pub lost_is : (t : ℕ) → lost q t ≡ lost p t
+      pub asks_is : asks q ≡ asks p
+      pub givings_is : givings q ≡ givings p + 1
 
-    -- the book and all other turns of the seat were given back
+    -- the contents of the turns that the seat held became the new ones, in one change, and those of
+    -- all other turns stayed
+    pub record Changed (turns : ℕ) (new : ℕ → Option C) : Type 0 where
+      pub contents : List C
+      pub turns_is : length contents ≡ turns
+      pub before : FitsTurns contents (held p)
+      pub after : (last_change q).1 ≡ overlay new contents
+      pub later : (last_change p).0 < (last_change q).0
+
+    -- the book and all other turns of the seat were given back, in one step
     pub record BookedAll (book : C) : Type 0 where
       pub nothing : (t : ℕ) → held q t ≡ None
       pub noted : note q ≡ Some book
@@ -133,9 +172,11 @@ module _ {V R C : Type 0} where
       pub crew_is : crew q ≡ crew p
       pub given_is : given q ≡ given p + 1
       pub lost_is : (t : ℕ) → lost q t ≡ lost p t
+      pub asks_is : asks q ≡ asks p
+      pub givings_is : givings q ≡ givings p + 1
 
-    -- the seat has the turns of the set beside what it held, and their values were added in rising
-    -- order
+    -- the seat has the turns of the set beside what it held, for all of which it asked in one step,
+    -- and their values were added in rising order
     pub record GainedAll (content : V → C) (turns set : ℕ) (before after : List (ℕ × V)) : Type 0 where
       pub new : List (ℕ × V)
       pub added : after ≡ before ++ new
@@ -144,21 +185,28 @@ module _ {V R C : Type 0} where
       pub here : (u : ℕ) → bit_at set u ≡ 1 → (c : C) × (held q u ≡ Some c) × (in_hands content new u ≡ Some c)
       pub others : (u : ℕ) → bit_at set u ≡ 0 → (held q u ≡ held p u) × (in_hands content new u ≡ None)
       pub lost_is : (u : ℕ) → lost q u ≡ lost p u
+      pub asks_is : asks q ≡ asks p + 1
+      pub givings_is : givings q ≡ givings p
 
-    -- some turns of the set were found taken, and t is the least of them
+    -- all turns of the set were asked for in one step, some were found taken by other seats, and t is
+    -- the least of these. The others were given back in one step, and no step was made where there
+    -- were none
     pub record MissedAll (set t : ℕ) : Type 0 where
       pub asked : bit_at set t ≡ 1
       pub held_is : (u : ℕ) → held q u ≡ held p u
       pub here : lost q t ≡ lost p t + 1
       pub below : (u : ℕ) → u < t → lost q u ≡ lost p u
       pub above : (u : ℕ) → t < u → (lost q u ≡ lost p u) ⊎ ((bit_at set u ≡ 1) × (lost q u ≡ lost p u + 1))
+      pub asks_is : asks q ≡ asks p + 1
+      pub some_won : (u : ℕ) → bit_at set u ≡ 1 → lost q u ≡ lost p u → givings q ≡ givings p + 1
+      pub none_won : ((u : ℕ) → bit_at set u ≡ 1 → lost q u ≡ lost p u + 1) → givings q ≡ givings p
 
   module _ (content : V → C) (holds : List C → List C → Type 0) (turns : ℕ) (p q : Seat V R C) where
-    -- Busy never comes where the board has one caller
+    -- each answer tells the rule. Busy never comes where the board has one caller
     abbrev pub Answered : ℕ → Taken V → Type 0
     Answered t (Here v) = Gained p q t (content v) × Tells holds turns q
-    Answered t (Busy u) = (u ≡ t) × Missed p q t × (crew p ≢ 1)
+    Answered t (Busy u) = (u ≡ t) × Missed p q t × (crew p ≢ 1) × Tells holds turns q
 
     abbrev pub AnsweredAll : ℕ → List (ℕ × V) → List (ℕ × V) → TookAll → Type 0
     AnsweredAll set before after all.Here = GainedAll p q content turns set before after × Tells holds turns q
-    AnsweredAll set before after (all.Busy t) = (after ≡ before) × MissedAll p q set t × (crew p ≢ 1)
+    AnsweredAll set before after (all.Busy t) = (after ≡ before) × MissedAll p q set t × (crew p ≢ 1) × Tells holds turns q

@@ -7,5 +7,3 @@ pub mod Moving
 pub mod Openings
 pub mod Closings
 pub mod Boards
-pub mod Counters
-pub mod CounterLaw

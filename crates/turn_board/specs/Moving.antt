@@ -17,6 +17,9 @@ pub record Emptied {V C : Type 0} (set n : ℕ) (p q : Pass V C) : Type 0 where
   pub lost : q.me.0.lost ≡ p.me.0.lost
   pub given : q.me.0.given ≡ p.me.0.given
   pub crew : q.me.0.crew ≡ p.me.0.crew
+  pub asks : q.me.0.asks ≡ p.me.0.asks
+  pub givings : q.me.0.givings ≡ p.me.0.givings
+  pub change : q.me.0.change ≡ p.me.0.change
   pub long : length q.me.0.places ≡ length p.me.0.places
   pub out : (u : ℕ) → u < n → bit_at set u ≡ 1 → place q.me.0 u ≡ Vacant
   pub later : (u : ℕ) → n ≤ u → place q.me.0 u ≡ place p.me.0 u
@@ -42,6 +45,9 @@ pub record Filled {V C : Type 0} (content : V → C) (xs : List (ℕ × V)) (set
   pub lost : q.me.0.lost ≡ p.me.0.lost
   pub given : q.me.0.given ≡ p.me.0.given
   pub crew : q.me.0.crew ≡ p.me.0.crew
+  pub asks : q.me.0.asks ≡ p.me.0.asks
+  pub givings : q.me.0.givings ≡ p.me.0.givings
+  pub change : q.me.0.change ≡ p.me.0.change
   pub long : length q.me.0.places ≡ length p.me.0.places
   pub there : (u : ℕ) → bit_at set u ≡ 1 → (c : C) × (in_hands content xs u ≡ Some c) × (place q.me.0 u ≡ Lies c)
   pub others : (u : ℕ) → bit_at set u ≡ 0 → (in_hands content xs u ≡ None) × (place q.me.0 u ≡ place p.me.0 u)

@@ -1,5 +1,5 @@
 -- What each step makes of a view, and what it tells.
-use Rattle.std.specs.Prelude.{◌≡◌, ℕ, ◌+◌, ◌<◌, ◌==◌, ◌&&◌, cond, List, [], ◌∷◌, ◌++◌, length, Option, Some, None, slice_get, slice_index_or, slice_set}
+use Rattle.std.specs.Prelude.{◌≡◌, ℕ, ◌+◌, ◌<◌, ◌≤◌, ◌==◌, ◌&&◌, cond, ltb, suc, List, [], ◌∷◌, ◌++◌, length, Option, Some, None, slice_get, slice_index_or, slice_set}
 use mathlib.Core.Option.{some}
 use lib.ListN.{get_elem?}
 use Rattle.std.specs.Int.{bit_at}
@@ -7,7 +7,7 @@ use Rattle.atomic_table.specs.Table.{Step, Me, rest}
 use Rattle.turn_board.specs.declared.view.View.{View}
 use Rattle.turn_board.specs.declared.view.Place.{Place}
 use Rattle.turn_board.specs.declared.view.Place.TheVariants.{Vacant, Away, Lies}
-use Rattle.turn_board.specs.Maps.{row}
+use Rattle.turn_board.specs.Maps.{row, overlay, FitsTurns}
 use Rattle.turn_board.specs.Tied.{counted, place, idle}
 
 module _ {C : Type 0} where
@@ -18,30 +18,41 @@ module _ {C : Type 0} where
   abbrev pub lost_at : View C → ℕ → ℕ
   lost_at v t = slice_index_or v.lost t 0
 
+  -- one more, where another seat holds the turn
+  abbrev pub one_more_lost : Option C → ℕ → ℕ
+  one_more_lost None n = n + 1
+  one_more_lost (Some c) n = n
+
   -- a turn of the set was found free
   abbrev pub asked_view : ℕ → ℕ → ℕ → List C → View C → View C
   asked_view turns set found contents v = record {
     speaks = v.speaks;
     counts = row 0 turns (λ t. cond ((bit_at set t == 1) && (bit_at found t == 0)) (slice_get contents t) (counted v t));
     places = row 0 turns (λ t. cond ((bit_at set t == 1) && (bit_at found t == 0)) (lies (slice_get contents t)) (place v t));
-    lost = row 0 turns (λ t. cond ((bit_at set t == 1) && (bit_at found t == 1)) (lost_at v t + 1) (lost_at v t));
+    lost = row 0 turns (λ t. cond ((bit_at set t == 1) && (bit_at found t == 1)) (one_more_lost (counted v t) (lost_at v t)) (lost_at v t));
     given = v.given;
     crew = v.crew;
+    asks = v.asks + 1;
+    givings = v.givings;
+    change = v.change;
   }
 
   -- the turns that the mask lacks are given back, and the others have new contents
-  abbrev pub given_view : ℕ → ℕ → (ℕ → Option C) → List (ℕ × C) → ℕ → View C → View C
-  given_view turns mask new speaks given v = record {
+  abbrev pub given_view : ℕ → ℕ → (ℕ → Option C) → List (ℕ × C) → ℕ → ℕ × List C → View C → View C
+  given_view turns mask new speaks given change v = record {
     speaks = speaks;
     counts = row 0 turns (λ t. cond (bit_at mask t == 0) None (new t));
     places = row 0 turns (λ t. cond (bit_at mask t == 0) Vacant (place v t));
     lost = v.lost;
     given = given;
     crew = v.crew;
+    asks = v.asks;
+    givings = v.givings + 1;
+    change = change;
   }
 
   abbrev pub put_place : ℕ → Place C → View C → View C
-  put_place t p v = record { speaks = v.speaks; counts = v.counts; places = slice_set v.places t p; lost = v.lost; given = v.given; crew = v.crew }
+  put_place t p v = record { speaks = v.speaks; counts = v.counts; places = slice_set v.places t p; lost = v.lost; given = v.given; crew = v.crew; asks = v.asks; givings = v.givings; change = v.change }
 
   abbrev pub note_of : List (ℕ × C) → Option C
   note_of [] = None
@@ -67,17 +78,21 @@ module _ {C : Type 0} where
 
   -- a seat loses its first caller, and a new seat has it
   abbrev pub left_view : View C → View C
-  left_view v = record { speaks = tail v.speaks; counts = v.counts; places = v.places; lost = v.lost; given = v.given; crew = v.crew }
+  left_view v = record { speaks = tail v.speaks; counts = v.counts; places = v.places; lost = v.lost; given = v.given; crew = v.crew; asks = v.asks; givings = v.givings; change = v.change }
 
   abbrev pub right_view : View C → View C
-  right_view v = idle (length v.counts) v.crew (head v.speaks)
+  right_view v = idle (length v.counts) v.crew v.change (head v.speaks)
+
+  -- of two changes the later one
+  abbrev pub later : ℕ × List C → ℕ × List C → ℕ × List C
+  later a b = cond (ltb a.0 b.0) b a
 
   -- a seat has the callers of another one too
   abbrev pub both_views : View C → View C → View C
-  both_views v w = record { speaks = w.speaks ++ v.speaks; counts = v.counts; places = v.places; lost = v.lost; given = v.given; crew = v.crew }
+  both_views v w = record { speaks = w.speaks ++ v.speaks; counts = v.counts; places = v.places; lost = v.lost; given = v.given; crew = v.crew; asks = v.asks; givings = v.givings; change = later v.change w.change }
 
   abbrev pub spent_view : View C
-  spent_view = idle 0 0 []
+  spent_view = idle 0 0 (0, []) []
 
   -- what the rule tells of a view: it holds of some contents and notes, and those of the view are among them
   pub record Told (holds : List C → List C → Type 0) (turns : ℕ) (v : View C) : Type 0 where
@@ -116,8 +131,11 @@ module _ {V C : Type 0} where
 
   -- turns are given back by clearing bits, with the contents that they had
   abbrev pub returned : Step (Option V) → Sits V C → Sits V C → Type 0
-  returned st m m' = m' ≡ (given_view st.slots st.first (counted m.0) m.0.speaks m.0.given m.0, m.1)
+  returned st m m' = m' ≡ (given_view st.slots st.first (counted m.0) m.0.speaks m.0.given m.0.change m.0, m.1)
 
-  -- the book is given back, and the turns that the seat holds have new contents
+  -- the book is given back, and the turns that the seat holds have new contents: this is the change
+  -- after n others, of these contents
   abbrev pub booked : (ℕ → Option C) → Step (Option V) → Sits V C → Sits V C → Type 0
-  booked new st m m' = m' ≡ (given_view st.slots st.first new (noted (new 0) m.0.speaks) (m.0.given + 1) m.0, m.1)
+  booked new st m m' =
+      (n : ℕ) × (contents : List C) × (m' ≡ (given_view st.slots st.first new (noted (new 0) m.0.speaks) (m.0.given + 1) (suc n, overlay new contents) m.0, m.1))
+      × (m.0.change.0 ≤ n) × (length contents ≡ st.slots) × FitsTurns contents (counted m.0)

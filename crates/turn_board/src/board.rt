@@ -8,6 +8,13 @@ use atomic_table::Table;
 use std::alloc::Global;
 use std::sync::Mutex;
 
+/// The words of a board's table. All turns stand in the one in the middle, and the others are never
+/// written, so that nothing else that changes lies in its cache line of 64 bytes.
+pub(crate) const WORDS: [u64; 15] = [0; 15];
+
+/// The place of the word in which all turns stand: bit t is set where turn t is taken.
+pub(crate) const MASK: usize = 7;
+
 /// An empty list with room for the values of a board.
 #[derive(Drop)]
 pub(crate) struct Spare<V> {
@@ -24,7 +31,7 @@ pub struct Board<V, R: TieRule<V>> {
     // The list that `close` fills. A lock lets threads share the board where V is only Send; no
     // thread takes it.
     pub(crate) kept: Mutex<Spare<V>>,
-    ghost one: { table.shared.table_id.words ≡ 1 },
+    ghost words: { table.shared.table_id.words ≡ 15 },
     ghost some: { 0 < table.shared.table_id.slots },
     ghost few: { table.shared.table_id.slots ≤ 57 },
 }

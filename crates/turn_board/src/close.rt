@@ -7,11 +7,10 @@ ghost use Rattle.turn_board.specs.declared.seat.Seat.{Seat as SeatOf};
 ghost use Rattle.turn_board.specs.Closings.{AllSome, all_voices};
 
 use crate::board::{Board, Spare};
+use crate::lists::{Seats, Values};
 use crate::plays::Part;
 use crate::seat::Seat;
-use crate::seats::Seats;
 use crate::tie_rule::TieRule;
-use crate::values::Values;
 use atomic_table::Closed;
 use std::alloc::Global;
 

@@ -5,28 +5,22 @@
 mod board;
 mod close;
 mod hands;
-mod no_memory;
+mod lists;
 mod one_turn;
 mod open;
 mod plays;
 mod seat;
-mod seats;
 mod steps;
 mod taken;
 mod tie;
 mod tie_rule;
 mod turn_set;
-mod values;
 mod view;
 
 pub use board::Board;
 pub use hands::Hands;
-pub use no_memory::NoMemory;
+pub use lists::{Seats, Values};
+pub use owned_lists::NoMemory;
 pub use seat::Seat;
-pub use seats::Seats;
 pub use taken::{Taken, TookAll};
 pub use tie_rule::TieRule;
-pub use values::Values;
-
-#[cfg(test)]
-mod tests;

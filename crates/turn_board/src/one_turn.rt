@@ -1,9 +1,9 @@
 // Taking one turn, and giving one back.
 ghost use Rattle.std.specs.Prelude.{◌≡◌, ℕ, ◌+◌, ◌<◌, Some, None};
 
-use crate::board::Board;
+use crate::board::{Board, MASK};
 use crate::hands::Hands;
-use crate::plays::{Ask, Book, Change, Return};
+use crate::plays::{Ask, Return};
 use crate::seat::Seat;
 use crate::taken::Taken;
 use crate::tie_rule::TieRule;
@@ -11,14 +11,9 @@ use std::marker::Brand;
 use std::snapshot::Snapshot;
 
 impl<V, R: TieRule<V>> Board<V, R> {
-    ghost use Rattle.std.specs.Int.{bit_at};
-    ghost use Rattle.turn_board.specs.Boards.{IsSeatOf, turn_count, held, caller, SameVoice, Answered, Released, Booked};
+    ghost use Rattle.turn_board.specs.Boards.{IsSeatOf, turn_count, held, caller, SameVoice, Answered, Released, Booked, Changed};
     ghost use Rattle.turn_board.specs.Hands.{put_back};
     ghost use Rattle.turn_board.specs.Maps.{SameTurns};
-    ghost use Rattle.turn_board.specs.declared.view.Place.TheVariants.{Lies};
-    ghost use Rattle.turn_board.specs.Tied.{place};
-    ghost use Rattle.turn_board.specs.Steps.{given_view, noted};
-    ghost use Rattle.turn_board.specs.Passes.{Placed};
 
     /// Takes a turn and its value, if no other seat holds it. `lost` of the turn rises where one
     /// does.
@@ -31,7 +26,10 @@ impl<V, R: TieRule<V>> Board<V, R> {
             result }
     {
         let bit = 1u64 << turn;
-        let found = self.table.shared.fetch_or::<Ask<R>>(&mut seat.pass, 0, bit);
+        let found = self
+            .table
+            .shared
+            .fetch_or::<Ask<R>>(&mut seat.pass, MASK, bit);
         if found & bit != 0 {
             return Taken::Busy { turn };
         }
@@ -50,7 +48,7 @@ impl<V, R: TieRule<V>> Board<V, R> {
         let bit = 1u64 << turn;
         self.table
             .shared
-            .fetch_and::<Return<R>>(&mut seat.pass, 0, !bit);
+            .fetch_and::<Return<R>>(&mut seat.pass, MASK, !bit);
     }
 
     /// Gives the book back. From this one step on the contents of the book and of what is in the
@@ -62,39 +60,12 @@ impl<V, R: TieRule<V>> Board<V, R> {
             (put_back R.content book hands.now.pairs) }
         ensures seat { IsSeatOf self.now seat.new }
         ensures booked { Booked seat.old seat.new (put_back R.content book hands.now.pairs) }
+        ensures changed { Changed seat.old seat.new (turn_count self.now)
+            (put_back R.content book hands.now.pairs) }
     {
         let copy = Snapshot::of(&book);
+        let list = Snapshot::of(hands);
         self.lower::<Brand>(seat, 0, book);
-        self.settle::<Brand>(seat, &copy, hands);
-    }
-
-    // The one step that gives the book back.
-    fn settle<K: Change<R::Content>>(
-        &self,
-        seat: &mut Seat<V, R>,
-        book: &Snapshot<V>,
-        hands: &Hands<V>,
-    )
-        requires new { K.new ≡ put_back R.content book.now.value hands.now.pairs }
-        requires seat { Placed self.now.table.shared.table_id seat.old.pass }
-        requires lies { place seat.old.pass.me.0 0 ≡ Lies (R.content book.now.value) }
-        requires held { SameTurns (held seat.old) (put_back R.content book.now.value hands.now.pairs) }
-        requires moves { R.moves (turn_count self.now) (caller seat.old) (held seat.old)
-            (put_back R.content book.now.value hands.now.pairs) }
-        ensures seat { (seat.new.pass.table_id ≡ seat.old.pass.table_id)
-            × (seat.new.pass.id ≡ seat.old.pass.id) }
-        ensures view { (mask : ℕ) × (bit_at mask 0 ≡ 0)
-            × ((t : ℕ) → 0 < t → t < turn_count self.now → bit_at mask t ≡ 1)
-            × (seat.new.pass.me ≡ (
-              given_view (turn_count self.now) mask
-                  (put_back R.content book.now.value hands.now.pairs)
-                  (noted (Some (R.content book.now.value)) seat.old.pass.me.0.speaks)
-                  (seat.old.pass.me.0.given + 1) seat.old.pass.me.0,
-              seat.old.pass.me.1,
-            )) }
-    {
-        self.table
-            .shared
-            .fetch_and::<Book<R, K>>(&mut seat.pass, 0, !1);
+        self.settle::<Brand>(seat, &copy, &list, 1);
     }
 }

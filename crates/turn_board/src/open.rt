@@ -1,14 +1,14 @@
 // Opening a board.
 ghost use Rattle.std.specs.Prelude.{◌≡◌, ◌+◌, ◌<◌, ◌≤◌, ◌-◌, [], IfOk, map, Some, vec_len, vec_capacity};
 
-use crate::board::{Board, Spare};
-use crate::no_memory::NoMemory;
+use crate::board::{Board, Spare, WORDS};
+use crate::lists::Seats;
 use crate::plays::Part;
 use crate::seat::Seat;
-use crate::seats::Seats;
 use crate::tie_rule::TieRule;
 use crate::view::Opening;
 use atomic_table::Table;
+use owned_lists::NoMemory;
 use std::alloc::{AllocError, Global};
 use std::snapshot::Snapshot;
 use std::sync::Mutex;
@@ -33,6 +33,8 @@ impl<V, R: TieRule<V>> Board<V, R> {
             → (seat.new.pass.me.0.speaks ≡ all_speak (suc k) n c)
             × (result.pass.me.0.speaks ≡ (k, c) ∷ []) }
         ensures counts { Unlost result.pass × (Unlost seat.old.pass → Unlost seat.new.pass) }
+        ensures change { (seat.new.pass.me.0.change ≡ seat.old.pass.me.0.change)
+            × (result.pass.me.0.change ≡ seat.old.pass.me.0.change) }
     {
         Seat {
             pass: self.table.shared.split_seat::<Part>(&mut seat.pass),
@@ -48,7 +50,7 @@ impl<V, R: TieRule<V>> Board<V, R> {
         ensures len { length list.new.items ≡ callers }
         ensures each { (b : R.Content) → first.pass.me.0.speaks ≡ all_speak 0 callers b
             → (i : ℕ) (s : SeatOf V R R.Content) → slice_get list.new.items i ≡ Some s
-            → Fresh self.now.table.shared.table_id callers b i s.pass }
+            → Fresh self.now.table.shared.table_id callers b first.pass.me.0.change i s.pass }
     {
         for next in 1..callers {
             list.push_reserved(self.part(&mut first));
@@ -66,7 +68,7 @@ fn filled_slots<V: Drop>(alloc: Global, values: Vec<V>) -> Result<Vec<Option<V>>
 
 impl<V: Drop, R: TieRule<V>> Board<V, R> {
     ghost use Rattle.std.specs.Prelude.{length, slice_get};
-    ghost use Rattle.turn_board.specs.Boards.{turn_count, AllBegin, CanOpen};
+    ghost use Rattle.turn_board.specs.Boards.{turn_count, AllBegin, AllOpened, CanOpen};
 
     /// A board over these values, by turn, and a seat for each caller. Nothing is taken yet, and
     /// the content of the first value is each caller's note.
@@ -81,6 +83,7 @@ impl<V: Drop, R: TieRule<V>> Board<V, R> {
         ensures sizes { IfOk result (λ r. (turn_count r.0 ≡ vec_len values) × (length r.1 ≡ callers)) }
         ensures each { IfOk result (λ r. (b : R.Content)
             → slice_get (map R.content values.items) 0 ≡ Some b → AllBegin r.0 callers b r.1) }
+        ensures opened { IfOk result (λ r. AllOpened (map R.content values.items) r.1) }
     {
         let mut list = Vec::with_capacity(alloc, callers as usize)?;
         let kept = Vec::with_capacity(alloc, 57)?;
@@ -88,9 +91,10 @@ impl<V: Drop, R: TieRule<V>> Board<V, R> {
             turns: values.len() as u64,
             crew: callers as u64,
             book: Snapshot::of(&values[0]),
+            values: Snapshot::of(&values),
         };
         let slots = filled_slots(alloc, values)?;
-        match Table::new(alloc, &[0], slots, &about) {
+        match Table::new(alloc, &WORDS, slots, &about) {
             Ok((table, pass)) => {
                 let kept = Mutex::new(Spare { list: kept });
                 let board = Board { table, kept };

@@ -10,9 +10,11 @@ pub struct Tie<R> {
 }
 
 impl<V, R: TieRule<V>> TableRule<Option<V>, View<R::Content>, Opening<V>> for Tie<R> {
+    ghost use Rattle.std.specs.Prelude.{map};
     ghost use Rattle.turn_board.specs.Tied.{Tied, first_view};
 
     ghost holds = { λ key. Tied R.content R.holds key.crew };
 
-    ghost first = { λ key. first_view key.turns key.crew (R.content key.book.value) };
+    ghost first = { λ key. first_view key.turns key.crew (R.content key.book.value)
+        (map R.content key.values.value.items) };
 }

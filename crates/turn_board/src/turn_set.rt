@@ -2,9 +2,9 @@
 ghost use Rattle.std.specs.Prelude.{◌≡◌, ◌≢◌, ℕ, ◌+◌, ◌<◌, ◌≤◌, [], Some, None, length};
 ghost use Rattle.std.specs.Int.{bit_at, bit_not, w64};
 
-use crate::board::Board;
+use crate::board::{Board, MASK};
 use crate::hands::Hands;
-use crate::plays::{Ask, Book, Change, Return};
+use crate::plays::{Ask, Return};
 use crate::seat::Seat;
 use crate::taken::TookAll;
 use crate::tie_rule::TieRule;
@@ -16,11 +16,10 @@ impl<V, R: TieRule<V>> Board<V, R> {
     ghost use Rattle.turn_board.specs.Tied.{place};
     ghost use Rattle.turn_board.specs.Maps.{bits_of, SameTurns};
     ghost use Rattle.turn_board.specs.Hands.{in_hands, put_back, Once};
-    ghost use Rattle.turn_board.specs.Steps.{given_view, noted};
     ghost use Rattle.turn_board.specs.Passes.{Placed};
     ghost use Rattle.turn_board.specs.Passes as passes;
     ghost use Rattle.turn_board.specs.Moving.{Emptied, Lifted, Filled};
-    ghost use Rattle.turn_board.specs.Boards.{IsSeatOf, turn_count, held, caller, CanAsk, SameVoice, AnsweredAll, BookedAll};
+    ghost use Rattle.turn_board.specs.Boards.{IsSeatOf, turn_count, held, caller, CanAsk, SameVoice, AnsweredAll, BookedAll, Changed};
 
     /// Takes all turns of a set, or none: bit t of `turns` asks for turn t.
     pub fn try_take_all(&self, seat: &mut Seat<V, R>, turns: u64, hands: &mut Hands<V>) -> TookAll
@@ -37,19 +36,21 @@ impl<V, R: TieRule<V>> Board<V, R> {
         let found = self
             .table
             .shared
-            .fetch_or::<Ask<R>>(&mut seat.pass, 0, turns);
+            .fetch_or::<Ask<R>>(&mut seat.pass, MASK, turns);
         let taken = found & turns;
-        if taken != 0 {
-            let won = turns & !found;
-            self.table
-                .shared
-                .fetch_and::<Return<R>>(&mut seat.pass, 0, !won);
-            return TookAll::Busy {
-                turn: taken.trailing_zeros(),
-            };
+        if taken == 0 {
+            self.lift_all(seat, turns, hands);
+            return TookAll::Here;
         }
-        self.lift_all(seat, turns, hands);
-        TookAll::Here
+        let turn = taken.trailing_zeros();
+        let won = turns & !found;
+        if won == 0 {
+            return TookAll::Busy { turn };
+        }
+        self.table
+            .shared
+            .fetch_and::<Return<R>>(&mut seat.pass, MASK, !won);
+        TookAll::Busy { turn }
     }
 
     // Moves the values of a set of turns out of their slots.
@@ -83,13 +84,15 @@ impl<V, R: TieRule<V>> Board<V, R> {
             (put_back R.content book hands.old.pairs) }
         ensures seat { IsSeatOf self.now seat.new }
         ensures booked { BookedAll seat.old seat.new (R.content book) }
+        ensures changed { Changed seat.old seat.new (turn_count self.now)
+            (put_back R.content book hands.old.pairs) }
         ensures hands { (hands.new.pairs ≡ []) × (hands.new.room ≡ hands.old.room) }
     {
         let copy = Snapshot::of(&book);
         let list = Snapshot::of(&*hands);
         self.lower::<Brand>(seat, 0, book);
         let mask = self.lower_all(seat, hands);
-        self.settle_all::<Brand>(seat, &copy, &list, mask | 1);
+        self.settle::<Brand>(seat, &copy, &list, mask | 1);
     }
 
     // Moves all values of the hands into their slots, and gives the set of their turns.
@@ -108,36 +111,5 @@ impl<V, R: TieRule<V>> Board<V, R> {
             mask |= 1u64 << turn;
         }
         mask
-    }
-
-    // The one step that gives the book and all other turns back.
-    fn settle_all<K: Change<R::Content>>(
-        &self,
-        seat: &mut Seat<V, R>,
-        book: &Snapshot<V>,
-        list: &Snapshot<Hands<V>>,
-        mask: u64,
-    )
-        requires new { K.new ≡ put_back R.content book.now.value list.now.value.pairs }
-        requires seat { Placed self.now.table.shared.table_id seat.old.pass }
-        requires lies { (u : ℕ) → u < turn_count self.now → bit_at mask u ≡ 1 → (c : R.Content)
-            × (put_back R.content book.now.value list.now.value.pairs u ≡ Some c)
-            × (place seat.old.pass.me.0 u ≡ Lies c) }
-        requires held { SameTurns (held seat.old) (put_back R.content book.now.value list.now.value.pairs) }
-        requires moves { R.moves (turn_count self.now) (caller seat.old) (held seat.old)
-            (put_back R.content book.now.value list.now.value.pairs) }
-        ensures seat { (seat.new.pass.table_id ≡ seat.old.pass.table_id)
-            × (seat.new.pass.id ≡ seat.old.pass.id) }
-        ensures view { seat.new.pass.me ≡ (
-          given_view (turn_count self.now) (bit_not w64 mask)
-              (put_back R.content book.now.value list.now.value.pairs)
-              (noted (Some (R.content book.now.value)) seat.old.pass.me.0.speaks)
-              (seat.old.pass.me.0.given + 1) seat.old.pass.me.0,
-          seat.old.pass.me.1,
-        ) }
-    {
-        self.table
-            .shared
-            .fetch_and::<Book<R, K>>(&mut seat.pass, 0, !mask);
     }
 }

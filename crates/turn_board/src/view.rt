@@ -17,12 +17,19 @@ pub struct View<C> {
     /// By turn: the counted content, where the seat holds the turn.
     pub counts: LinkedList<Option<C>>,
     pub places: LinkedList<Place<C>>,
-    /// By turn: how often the seat found it taken.
+    /// By turn: how often the seat found it taken by another seat.
     pub lost: LinkedList<u64>,
     /// How often the seat gave the book back.
     pub given: u64,
     /// The number of callers of the board.
     pub crew: u64,
+    /// How often the seat asked for turns: for a set that is asked for in one step, once.
+    pub asks: u64,
+    /// How often the seat gave turns back: for all turns that one step gives back, once.
+    pub givings: u64,
+    /// The last change of counted contents that the seat made, or knows of from its beginning: its
+    /// number among all changes of the board, and the contents of all turns that it left.
+    pub change: (u64, LinkedList<C>),
 }
 
 /// What the table is told when it is made.
@@ -30,6 +37,7 @@ pub struct Opening<V> {
     pub turns: u64,
     pub crew: u64,
     pub book: Snapshot<V>,
+    pub values: Snapshot<Vec<V>>,
 }
 
 impl<V> Drop for Opening<V> {
@@ -38,7 +46,9 @@ impl<V> Drop for Opening<V> {
             turns: _,
             crew: _,
             book,
+            values,
         } = self;
         drop(book);
+        drop(values);
     }
 }

@@ -11,7 +11,8 @@ invariant-loop-next g l =
       idle : IdleFirst id l.first.pass;
       unlost : Unlost l.first.pass;
       crew_is : l.first.pass.me.0.crew ≡ l.callers;
+      change_is : l.first.pass.me.0.change ≡ l.fn.first.pass.me.0.change;
       callers : (k n : ℕ) × (l.next ≡ suc k) × (k + suc n ≡ l.callers) × (vec_len l.list ≡ k) × ((b : _) → l.fn.first.pass.me.0.speaks ≡ all_speak 0 l.callers b → l.first.pass.me.0.speaks ≡ all_speak k (suc n) b);
       room : l.callers ≤ vec_capacity l.list;
-      each : (b : _) → l.fn.first.pass.me.0.speaks ≡ all_speak 0 l.callers b → (i : ℕ) (s : _) → slice_get l.list.items i ≡ Some s → Fresh id l.callers b i s.pass;
+      each : (b : _) → l.fn.first.pass.me.0.speaks ≡ all_speak 0 l.callers b → (i : ℕ) (s : _) → slice_get l.list.items i ≡ Some s → Fresh id l.callers b l.fn.first.pass.me.0.change i s.pass;
     }

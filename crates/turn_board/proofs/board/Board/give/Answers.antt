@@ -23,8 +23,8 @@ fetch_and-requires g c =
     let near = held-near p.me.0 id.slots t _ c.requires.seat.placed.counts c.requires.same in
     let e = one_shl t 64 (few-turns t id.slots c.args.self.now.few near) in (
       c.lower.ensures.0 ∙ c.requires.seat.placed.of_table,
-      (let h = c.args.self.now.one in omega arith),
-      subst (λ (b : ℕ). Allows (Tied g.R.TieRule.content g.R.TieRule.holds crew) id.slots m.id m.me 0 (λ x. bit_and x (bit_not w64 b)) (λ _ n. returned (step id.slots 0 (bit_not w64 b) 0 none) m.me n)) (sym e)
+      (let h = c.args.self.now.words in omega arith),
+      subst (λ (b : ℕ). Allows (Tied g.R.TieRule.content g.R.TieRule.holds crew) id.slots m.id m.me 7 (λ x. bit_and x (bit_not w64 b)) (λ _ n. returned (step id.slots 7 (bit_not w64 b) 0 none) m.me n)) (sym e)
           (returns g.R.TieRule.content g.R.TieRule.holds crew id.slots m.id m.me (bit_not w64 (2 ^ t))
           (freed id c.args.self.now.few p c.requires.seat t (g.R.TieRule.content c.args.value) c.requires.same m c.lower.ensures.2)),
     )
@@ -38,7 +38,7 @@ returns-clause-seat g c =
     let id = c.args.self.now.table.shared.table_id in
     let near = held-near p.me.0 id.slots t _ c.requires.seat.placed.counts c.requires.same in
     let e = one_shl t 64 (few-turns t id.slots c.args.self.now.few near) in
-    let q-is = subst (λ (b : ℕ). q.me ≡ (given_view id.slots (bit_not w64 b) (counted m.me.0) m.me.0.speaks m.me.0.given m.me.0, m.me.1)) e c.fetch_and.ensures.2 in
+    let q-is = subst (λ (b : ℕ). q.me ≡ (given_view id.slots (bit_not w64 b) (counted m.me.0) m.me.0.speaks m.me.0.given m.me.0.change m.me.0, m.me.1)) e c.fetch_and.ensures.2 in
     let table = c.fetch_and.ensures.0 ∙ c.lower.ensures.0 in
     let seat-id = c.fetch_and.ensures.1 ∙ c.lower.ensures.1 in (
       sits-again id c.args.self.now.few p c.requires.seat t (g.R.TieRule.content c.args.value) c.requires.same m c.lower.ensures.2 q table seat-id q-is,
@@ -54,5 +54,5 @@ returns-clause-gave g c =
     let id = c.args.self.now.table.shared.table_id in
     let near = held-near p.me.0 id.slots t _ c.requires.seat.placed.counts c.requires.same in
     let e = one_shl t 64 (few-turns t id.slots c.args.self.now.few near) in
-    let q-is = subst (λ (b : ℕ). q.me ≡ (given_view id.slots (bit_not w64 b) (counted m.me.0) m.me.0.speaks m.me.0.given m.me.0, m.me.1)) e c.fetch_and.ensures.2 in
+    let q-is = subst (λ (b : ℕ). q.me ≡ (given_view id.slots (bit_not w64 b) (counted m.me.0) m.me.0.speaks m.me.0.given m.me.0.change m.me.0, m.me.1)) e c.fetch_and.ensures.2 in
     gave id c.args.self.now.few p c.requires.seat t (g.R.TieRule.content c.args.value) c.requires.same m c.lower.ensures.2 q (c.fetch_and.ensures.0 ∙ c.lower.ensures.0) (c.fetch_and.ensures.1 ∙ c.lower.ensures.1) q-is

@@ -1,13 +1,15 @@
-use Rattle.std.proofs.Common.{arith, refl, sym, ◌∙◌, subst, ◌≡◌, ℕ, ◌<◌, ◌+◌, ◌^◌, Some}
+use Rattle.std.proofs.Common.{arith, refl, sym, ap, ◌∙◌, subst, ◌≡◌, ℕ, suc, ◌<◌, ◌^◌, Some}
 use Rattle.std.specs.Prelude.{bit_or}
 use Rattle.std.proofs.lemmas.Nat.{or_lt}
 use Rattle.turn_board.specs.Hands.{HandsView, put_back}
 use Rattle.std.specs.Int.{bit_not, w64}
 use Rattle.turn_board.specs.declared.view.Place.TheVariants.{Lies}
 use Rattle.turn_board.specs.Tied.{place}
-use Rattle.turn_board.specs.Steps.{given_view, noted}
+use Rattle.turn_board.specs.Maps.{overlay}
+use mathlib.Core.Option.{none}
+use Rattle.atomic_table.specs.Table.{step}
 use Rattle.turn_board.specs.Boards.{held}
-use Rattle.turn_board.proofs.Returns.{held-near, has-book}
+use Rattle.turn_board.proofs.Returns.{held-near, has-book, given-back, changed-now}
 use Rattle.turn_board.proofs.Fills.{waiting, all-lie, booked-all, all-sits}
 use Rattle.turn_board.proofs.board.Board.give_all.Goals as goal
 
@@ -31,8 +33,8 @@ lower_all-mask-requires-clause-held g c =
     let m = c.lower.new.seat.pass in
     waiting g.R.TieRule.content id c.args.self.now.few p c.requires.seat c.args.book xs c.requires.once c.requires.held m c.lower.ensures.2
 
-pub settle_all-requires-clause-lies : goal.settle_all-requires-clause-lies
-settle_all-requires-clause-lies g c = λ u near o.
+pub settle-requires-clause-lies : goal.settle-requires-clause-lies
+settle-requires-clause-lies g c = λ u near o.
     let id = c.args.self.now.table.shared.table_id in
     let p = c.args.seat.now.pass in
     let xs = c.args.hands.now.pairs in
@@ -50,10 +52,11 @@ returns-clause-seat g c =
     let m = c.lower.new.seat.pass in
     let s : ℕ = c.lower_all-mask.result in
     let q = c.lower_all-mask.new.seat.pass in
-    let r = c.settle_all.new.seat.pass in
-    let fits = or-fits s c.lower_all-mask.type_inv in
-    let r-is = subst (λ (v : g.row.V.Denot × HandsView g.row.V.Denot). r.me ≡ (given_view id.slots (bit_not w64 (bit_or s 1)) (put_back g.R.TieRule.content v.0 v.1.pairs) (noted (Some (g.R.TieRule.content v.0)) q.me.0.speaks) (q.me.0.given + 1) q.me.0, q.me.1)) (λ k. (c.of-copy.ensures k, c.of-list.ensures k)) c.settle_all.ensures.view in
-    all-sits g.R.TieRule.content id c.args.self.now.few p c.requires.seat c.args.book xs c.requires.once c.requires.held m c.lower.ensures.2 s q c.lower_all-mask.ensures.seat fits r r-is (c.settle_all.ensures.seat.0 ∙ c.lower_all-mask.ensures.seat.table ∙ c.lower.ensures.0 ∙ c.requires.seat.placed.of_table)
+    let r = c.settle.new.seat.pass in
+    let content = g.R.TieRule.content in
+    let x = given-back content id.slots q r c.of-copy.result.value c.args.book c.of-list.result.value c.args.hands.now c.of-copy.ensures c.of-list.ensures (bit_not w64 (bit_or s 1)) c.settle.ensures.booked in
+    all-sits content id c.args.self.now.few p c.requires.seat c.args.book xs c.requires.once c.requires.held m c.lower.ensures.2 s q c.lower_all-mask.ensures.seat (or-fits s c.lower_all-mask.type_inv) r (suc x.0, overlay (put_back content c.args.book xs) x.1) x.2
+    (c.settle.ensures.seat.0 ∙ c.lower_all-mask.ensures.seat.table ∙ c.lower.ensures.0 ∙ c.requires.seat.placed.of_table)
 
 pub returns-clause-booked : goal.returns-clause-booked
 returns-clause-booked g c =
@@ -63,7 +66,16 @@ returns-clause-booked g c =
     let m = c.lower.new.seat.pass in
     let s : ℕ = c.lower_all-mask.result in
     let q = c.lower_all-mask.new.seat.pass in
-    let r = c.settle_all.new.seat.pass in
-    let fits = or-fits s c.lower_all-mask.type_inv in
-    let r-is = subst (λ (v : g.row.V.Denot × HandsView g.row.V.Denot). r.me ≡ (given_view id.slots (bit_not w64 (bit_or s 1)) (put_back g.R.TieRule.content v.0 v.1.pairs) (noted (Some (g.R.TieRule.content v.0)) q.me.0.speaks) (q.me.0.given + 1) q.me.0, q.me.1)) (λ k. (c.of-copy.ensures k, c.of-list.ensures k)) c.settle_all.ensures.view in
-    booked-all g.R.TieRule.content id c.args.self.now.few p c.requires.seat c.args.book xs c.requires.once c.requires.held m c.lower.ensures.2 s q c.lower_all-mask.ensures.seat fits r r-is
+    let r = c.settle.new.seat.pass in
+    let content = g.R.TieRule.content in
+    let x = given-back content id.slots q r c.of-copy.result.value c.args.book c.of-list.result.value c.args.hands.now c.of-copy.ensures c.of-list.ensures (bit_not w64 (bit_or s 1)) c.settle.ensures.booked in
+    booked-all content id c.args.self.now.few p c.requires.seat c.args.book xs c.requires.once c.requires.held m c.lower.ensures.2 s q c.lower_all-mask.ensures.seat (or-fits s c.lower_all-mask.type_inv) r (suc x.0, overlay (put_back content c.args.book xs) x.1) x.2
+
+pub returns-clause-changed : goal.returns-clause-changed
+returns-clause-changed g c =
+    let q = c.lower_all-mask.new.seat.pass in
+    let r = c.settle.new.seat.pass in
+    let content = g.R.TieRule.content in
+    let f = c.lower_all-mask.ensures.seat in
+    let x = given-back content c.args.self.now.table.shared.table_id.slots q r c.of-copy.result.value c.args.book c.of-list.result.value c.args.hands.now c.of-copy.ensures c.of-list.ensures (bit_not w64 (bit_or c.lower_all-mask.result 1)) c.settle.ensures.booked in
+    changed-now c.args.seat.now.pass q r (put_back content c.args.book c.args.hands.now.pairs) (step c.args.self.now.table.shared.table_id.slots 7 (bit_not w64 (bit_or c.lower_all-mask.result 1)) 0 none) x (f.counts ∙ ap (λ y. y.0.counts) c.lower.ensures.2) (f.change ∙ ap (λ y. y.0.change) c.lower.ensures.2)

@@ -4,5 +4,5 @@ use Rattle.turn_board.proofs.board.Board.give_all.Given as goal
 abbrev pub ghosts-lower : goal.ghosts-lower
 ghosts-lower g a = record { turn = a.turn }
 
-abbrev pub ghosts-settle_all : goal.ghosts-settle_all
-ghosts-settle_all g a = record { new = put_back g.R.TieRule.content a.book.now.value a.list.now.value.pairs }
+abbrev pub ghosts-settle : goal.ghosts-settle
+ghosts-settle g a = record { new = put_back g.R.TieRule.content a.book.now.value a.hands.now.value.pairs }

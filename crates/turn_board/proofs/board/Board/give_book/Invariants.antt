@@ -5,4 +5,4 @@ abbrev pub ghosts-lower : goal.ghosts-lower
 ghosts-lower g a = record { turn = a.turn }
 
 abbrev pub ghosts-settle : goal.ghosts-settle
-ghosts-settle g a = record { new = put_back g.R.TieRule.content a.book.now.value a.hands.now.pairs }
+ghosts-settle g a = record { new = put_back g.R.TieRule.content a.book.now.value a.hands.now.value.pairs }

@@ -8,6 +8,6 @@ join_seat-requires g c = let o = subst (IdleFirst c.args.self.now.table.shared.t
   c.requires.seat.of_table,
   o.of_table,
   o.empty,
-  (let h = c.args.self.now.one in omega arith),
+  (let h = c.args.self.now.words in omega arith),
   merges g.R.TieRule.content g.R.TieRule.holds _ c.args.seat.now.pass.id c.into_pass.result.id c.args.seat.now.pass.me.0 c.into_pass.result.me.0 c.requires.seat.none_held o.none_held (ap (λ p. p.me.0.crew) c.into_pass.ensures ∙ c.requires.crew),
 )

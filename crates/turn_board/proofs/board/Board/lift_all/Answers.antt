@@ -14,7 +14,7 @@ pub loop-left-init : goal.loop-left-init
 loop-left-init g c = record {
   turn = 0;
   walk = walk-start c.args.set c.args.self.now.table.shared.table_id.slots;
-  emptied = record { table = refl; id = refl; none = refl; speaks = refl; counts = refl; lost = refl; given = refl; crew = refl; long = refl; out = λ u h. absurd (omega arith); later = λ u h. refl; others = λ u z. refl };
+  emptied = record { table = refl; id = refl; none = refl; speaks = refl; counts = refl; lost = refl; given = refl; crew = refl; asks = refl; givings = refl; change = refl; long = refl; out = λ u h. absurd (omega arith); later = λ u h. refl; others = λ u z. refl };
   lifted = lifted-start g.R.TieRule.content c.args.set (held c.args.seat.now.pass) c.args.hands.now.pairs;
   room = refl;
 }

@@ -9,7 +9,7 @@ use Rattle.atomic_table.specs.Table.{step, Allows}
 use Rattle.turn_board.specs.Tied.{Tied, counted}
 use Rattle.turn_board.specs.Steps.{asked}
 use Rattle.turn_board.proofs.Asks.{asks}
-use Rattle.turn_board.proofs.Takes.{found-free, found-taken, still-placed, same-voice, now-lies, gained, tells-now, sits-now, voice-now, now-missed, sits-still, not-alone}
+use Rattle.turn_board.proofs.Takes.{found-free, found-taken, still-placed, same-voice, tells-still, now-lies, gained, tells-now, sits-now, voice-now, now-missed, sits-still, not-alone}
 use Rattle.turn_board.proofs.Rows.{few-turns}
 use Rattle.turn_board.proofs.board.Board.try_take.Goals as goal
 
@@ -22,8 +22,8 @@ fetch_or-found-requires g c =
     let e = one_shl t 64 few in
     let p = c.args.seat.now.pass in (
       sits.of_table,
-      (let h = c.args.self.now.one in omega arith),
-      subst (λ (b : ℕ). Allows (Tied g.R.TieRule.content g.R.TieRule.holds c.args.self.now.table.shared.key.crew) slots p.id p.me 0 (λ n. bit_or n b) (asked g.R.TieRule.holds (step slots 0 b 0 none) p.me)) (sym e)
+      (let h = c.args.self.now.words in omega arith),
+      subst (λ (b : ℕ). Allows (Tied g.R.TieRule.content g.R.TieRule.holds c.args.self.now.table.shared.key.crew) slots p.id p.me 7 (λ n. bit_or n b) (asked g.R.TieRule.holds (step slots 7 b 0 none) p.me)) (sym e)
           (asks g.R.TieRule.content g.R.TieRule.holds c.args.self.now.table.shared.key.crew slots p.id p.me (2 ^ t) sits.one.0 sits.one.1 sits.one.2
           (λ u one. dite (ℕ_discrete u t) (λ same. ap (counted p.me.0) same ∙ c.requires.free) (λ ne. absurd (let z = bit_at-pow_other t u ne in omega arith)))),
     )
@@ -36,7 +36,7 @@ returns-then-found-bit-ne0-clause-seat g c =
     let q = c.fetch_or-found.new.seat in
     let id = c.args.self.now.table.shared.table_id in
     let r = c.fetch_or-found.result in
-    let a = subst (λ (b : ℕ). asked g.R.TieRule.holds (step id.slots 0 b 0 none) p.me r q.me) e c.fetch_or-found.ensures.2 in
+    let a = subst (λ (b : ℕ). asked g.R.TieRule.holds (step id.slots 7 b 0 none) p.me r q.me) e c.fetch_or-found.ensures.2 in
     let taken = found-taken r t (λ z. c.if-found-bit-ne0.true (ap (bit_and r) e ∙ z)) in
     let same = c.fetch_or-found.ensures in (
       sits-still g.R.TieRule.holds id p q t r c.requires.turn c.requires.seat.placed same.0 same.1 a taken c.requires.seat.vacant,
@@ -51,12 +51,13 @@ returns-then-found-bit-ne0-clause-answer g c =
     let q = c.fetch_or-found.new.seat in
     let id = c.args.self.now.table.shared.table_id in
     let r = c.fetch_or-found.result in
-    let a = subst (λ (b : ℕ). asked g.R.TieRule.holds (step id.slots 0 b 0 none) p.me r q.me) e c.fetch_or-found.ensures.2 in
+    let a = subst (λ (b : ℕ). asked g.R.TieRule.holds (step id.slots 7 b 0 none) p.me r q.me) e c.fetch_or-found.ensures.2 in
     let taken = found-taken r t (λ z. c.if-found-bit-ne0.true (ap (bit_and r) e ∙ z)) in
     let same = c.fetch_or-found.ensures in (
       refl,
-      now-missed g.R.TieRule.holds id p q t r c.requires.turn c.requires.seat.placed same.0 same.1 a taken,
+      now-missed g.R.TieRule.holds id p q t r c.requires.turn c.requires.seat.placed same.0 same.1 a taken c.requires.free,
       not-alone g.R.TieRule.holds id p q t r c.requires.turn c.requires.seat.placed same.0 same.1 a taken c.requires.free,
+      tells-still g.R.TieRule.holds id p q t r c.requires.turn c.requires.seat.placed same.0 same.1 a,
     )
 
 pub lift-requires-clause-seat : goal.lift-requires-clause-seat
@@ -67,7 +68,7 @@ lift-requires-clause-seat g c =
     let q = c.fetch_or-found.new.seat in
     let id = c.args.self.now.table.shared.table_id in
     let r = c.fetch_or-found.result in
-    let a = subst (λ (b : ℕ). asked g.R.TieRule.holds (step id.slots 0 b 0 none) p.me r q.me) e c.fetch_or-found.ensures.2 in
+    let a = subst (λ (b : ℕ). asked g.R.TieRule.holds (step id.slots 7 b 0 none) p.me r q.me) e c.fetch_or-found.ensures.2 in
     let same = c.fetch_or-found.ensures in
     still-placed g.R.TieRule.holds id p q t r c.requires.turn c.requires.seat.placed same.0 same.1 a
 
@@ -79,7 +80,7 @@ lift-requires-clause-lies g c =
     let q = c.fetch_or-found.new.seat in
     let id = c.args.self.now.table.shared.table_id in
     let r = c.fetch_or-found.result in
-    let a = subst (λ (b : ℕ). asked g.R.TieRule.holds (step id.slots 0 b 0 none) p.me r q.me) e c.fetch_or-found.ensures.2 in
+    let a = subst (λ (b : ℕ). asked g.R.TieRule.holds (step id.slots 7 b 0 none) p.me r q.me) e c.fetch_or-found.ensures.2 in
     let same = c.fetch_or-found.ensures in
     now-lies g.R.TieRule.holds id p q t r c.requires.turn c.requires.seat.placed same.0 same.1 a (found-free r t (ap (bit_and r) (sym e) ∙ c.if-found-bit-ne0.false))
 
@@ -91,7 +92,7 @@ returns-clause-seat g c =
     let q = c.fetch_or-found.new.seat in
     let id = c.args.self.now.table.shared.table_id in
     let r = c.fetch_or-found.result in
-    let a = subst (λ (b : ℕ). asked g.R.TieRule.holds (step id.slots 0 b 0 none) p.me r q.me) e c.fetch_or-found.ensures.2 in
+    let a = subst (λ (b : ℕ). asked g.R.TieRule.holds (step id.slots 7 b 0 none) p.me r q.me) e c.fetch_or-found.ensures.2 in
     let free = found-free r t (ap (bit_and r) (sym e) ∙ c.if-found-bit-ne0.false) in
     let same = c.fetch_or-found.ensures in
     let l = c.lift.ensures.seat in (
@@ -107,7 +108,7 @@ returns-clause-answer g c =
     let q = c.fetch_or-found.new.seat in
     let id = c.args.self.now.table.shared.table_id in
     let r = c.fetch_or-found.result in
-    let a = subst (λ (b : ℕ). asked g.R.TieRule.holds (step id.slots 0 b 0 none) p.me r q.me) e c.fetch_or-found.ensures.2 in
+    let a = subst (λ (b : ℕ). asked g.R.TieRule.holds (step id.slots 7 b 0 none) p.me r q.me) e c.fetch_or-found.ensures.2 in
     let free = found-free r t (ap (bit_and r) (sym e) ∙ c.if-found-bit-ne0.false) in
     let same = c.fetch_or-found.ensures in
     let l = c.lift.ensures.seat in (

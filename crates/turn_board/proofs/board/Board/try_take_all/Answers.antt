@@ -1,30 +1,73 @@
-use Rattle.std.proofs.Common.{arith, refl, sym, ap, ◌∙◌, ◌≡◌, ℕ, ◌<◌, None, min, get_or}
+use Rattle.std.proofs.Common.{arith, refl, sym, ap, ◌∙◌, ◌≡◌, ◌≢◌, ℕ, ◌<◌, ◌^◌, None, min, get_or}
 use Rattle.std.specs.Prelude.{bit_and}
 use Rattle.std.proofs.lemmas.Nat.{and_le_l}
 use Rattle.std.proofs.lemmas.Nat.Bits.{bit_at_and, bit_at-trailing_zeros, bit_at-lt}
 use Rattle.std.specs.Int.{bit_at, trailing_zeros, w64}
 use Rattle.turn_board.proofs.Asks.{asks}
 use Rattle.turn_board.proofs.Gives.{returns}
-use Rattle.turn_board.proofs.Sets.{none-taken, now-lie, set-placed, all-out, all-voice, all-others, all-lost, all-tells, untouched, back-sits, back-voice, missed-all, set-alone}
+use Rattle.turn_board.proofs.Sets.{none-taken, one-won, positive, now-lie, set-placed, set-tells, set-voice, all-out, all-voice, all-others, all-lost, all-asks, all-givings, all-tells, untouched, back-sits, back-voice, back-held, back-lost, back-asks, back-givings, back-tells, all-found, still-held, still-sits, missed-all, set-alone}
 use Rattle.turn_board.proofs.board.Board.try_take_all.Goals as goal
 
 pub fetch_or-found-requires : goal.fetch_or-found-requires
 fetch_or-found-requires g c = let sits = c.requires.seat.placed in (
   sits.of_table,
-  (let h = c.args.self.now.one in omega arith),
+  (let h = c.args.self.now.words in omega arith),
   asks g.R.TieRule.content g.R.TieRule.holds _ _ _ c.args.seat.now.pass.me c.args.turns sits.one.0 sits.one.1 sits.one.2 (λ u b. (c.requires.set u b).2),
 )
 
 pub fetch_and-requires : goal.fetch_and-requires
 fetch_and-requires g c = let e = c.fetch_or-found.ensures in (
   e.0 ∙ c.requires.seat.placed.of_table,
-  (let h = c.args.self.now.one in omega arith),
+  (let h = c.args.self.now.words in omega arith),
   returns g.R.TieRule.content g.R.TieRule.holds _ _ _ c.fetch_or-found.new.seat.me _
       (untouched g.R.TieRule.holds c.args.self.now.table.shared.table_id c.args.seat.now.pass c.fetch_or-found.new.seat c.args.turns c.fetch_or-found.result c.requires.seat e.0 e.1 e.2 c.args.self.now.few c.fetch_or-found.type_inv c.ranges.turns.fits),
 )
 
-pub returns-then-taken-ne0-clause-seat : goal.returns-then-taken-ne0-clause-seat
-returns-then-taken-ne0-clause-seat g c =
+both-one : (a b : ℕ) → a < 2 → b < 2 → min a b ≡ 1 → (a ≡ 1) × (b ≡ 1)
+both-one a b ha hb e = (omega arith, omega arith)
+
+-- the least bit that was asked for and found taken
+least : (f s : ℕ) → f < 2 ^ 64 → bit_and f s ≢ 0 → (bit_at s (trailing_zeros w64 (bit_and f s)) ≡ 1) × (bit_at f (trailing_zeros w64 (bit_and f s)) ≡ 1) × ((u : ℕ) → u < trailing_zeros w64 (bit_and f s) → min (bit_at f u) (bit_at s u) ≡ 0)
+least f s fits ne =
+    let low = bit_at-trailing_zeros w64 (bit_and f s) (positive (bit_and f s) ne) (let l = and_le_l f s in omega arith) in
+    let t : ℕ = trailing_zeros w64 (bit_and f s) in
+    let bits = both-one (bit_at f t) (bit_at s t) (bit_at-lt f t) (bit_at-lt s t) (sym (bit_at_and f s t) ∙ low.1) in
+    (bits.1, bits.0, λ u h. sym (bit_at_and f s u) ∙ low.2 u h)
+
+pub returns-then-won-eq0-clause-seat : goal.returns-then-won-eq0-clause-seat
+returns-then-won-eq0-clause-seat g c =
+    let e = c.fetch_or-found.ensures in
+    let id = c.args.self.now.table.shared.table_id in
+    let p = c.args.seat.now.pass in
+    let q = c.fetch_or-found.new.seat in
+    let f = c.fetch_or-found.result in (
+      still-sits g.R.TieRule.holds id p q c.args.turns f c.requires.seat e.0 e.1 e.2 c.args.self.now.few c.fetch_or-found.type_inv c.ranges.turns.fits (λ u b. (c.requires.set u b).1) c.if-won-eq0.true,
+      set-voice g.R.TieRule.holds id p q c.args.turns f c.requires.seat e.0 e.1 e.2,
+    )
+
+pub returns-then-won-eq0-clause-answer : goal.returns-then-won-eq0-clause-answer
+returns-then-won-eq0-clause-answer g c =
+    let holds = g.R.TieRule.holds in
+    let e = c.fetch_or-found.ensures in
+    let id = c.args.self.now.table.shared.table_id in
+    let p = c.args.seat.now.pass in
+    let q = c.fetch_or-found.new.seat in
+    let f = c.fetch_or-found.result in
+    let s = c.args.turns in
+    let near = λ (u : ℕ) (b : bit_at c.args.turns u ≡ 1). (c.requires.set u b).1 in
+    let free = λ (u : ℕ) (b : bit_at c.args.turns u ≡ 1). (c.requires.set u b).2 in
+    let l = least f s c.fetch_or-found.type_inv c.if-taken-eq0.false in
+    let t : ℕ = trailing_zeros w64 (bit_and f s) in
+    let none' = all-found holds id p q s f c.requires.seat e.0 e.1 e.2 c.args.self.now.few c.fetch_or-found.type_inv c.ranges.turns.fits near c.if-won-eq0.true in (
+      refl,
+      missed-all holds id p q s f c.requires.seat e.0 e.1 e.2 near free q (still-held holds id p q s f c.requires.seat e.0 e.1 e.2 c.args.self.now.few c.fetch_or-found.type_inv c.ranges.turns.fits near c.if-won-eq0.true) (λ u. refl)
+          t l.0 l.1 l.2 refl (λ u b z. absurd (let o = none' u b in omega arith)) (λ _. ap (λ m. m.0.givings) e.2.2),
+      set-alone holds id p q s f c.requires.seat e.0 e.1 e.2 t (near t l.0) l.1 (free t l.0),
+      set-tells holds id p q s f c.requires.seat e.0 e.1 e.2,
+    )
+
+pub returns-clause-seat : goal.returns-clause-seat
+returns-clause-seat g c =
     let e = c.fetch_or-found.ensures in
     let r = c.fetch_and.ensures in
     let id = c.args.self.now.table.shared.table_id in
@@ -36,14 +79,9 @@ returns-then-taken-ne0-clause-seat g c =
       back-voice g.R.TieRule.holds id p q c.args.turns f c.requires.seat e.0 e.1 e.2 c.args.self.now.few c.fetch_or-found.type_inv c.ranges.turns.fits free c.fetch_and.new.seat r.0 r.1 r.2,
     )
 
-positive : (n : ℕ) → (n ≡ 0 → ⊥) → 0 < n
-positive n ne = omega arith
-
-both-one : (a b : ℕ) → a < 2 → b < 2 → min a b ≡ 1 → (a ≡ 1) × (b ≡ 1)
-both-one a b ha hb e = (omega arith, omega arith)
-
-pub returns-then-taken-ne0-clause-answer : goal.returns-then-taken-ne0-clause-answer
-returns-then-taken-ne0-clause-answer g c =
+pub returns-clause-answer : goal.returns-clause-answer
+returns-clause-answer g c =
+    let holds = g.R.TieRule.holds in
     let e = c.fetch_or-found.ensures in
     let r = c.fetch_and.ensures in
     let id = c.args.self.now.table.shared.table_id in
@@ -51,15 +89,22 @@ returns-then-taken-ne0-clause-answer g c =
     let q = c.fetch_or-found.new.seat in
     let f = c.fetch_or-found.result in
     let fits = c.fetch_or-found.type_inv in
+    let few = c.args.self.now.few in
     let s = c.args.turns in
+    let near = λ (u : ℕ) (b : bit_at c.args.turns u ≡ 1). (c.requires.set u b).1 in
     let free = λ (u : ℕ) (b : bit_at c.args.turns u ≡ 1). (c.requires.set u b).2 in
-    let low = bit_at-trailing_zeros w64 (bit_and f s) (positive (bit_and f s) c.if-taken-ne0.true) (let l = and_le_l f s in omega arith) in
+    let l = least f s fits c.if-taken-eq0.false in
     let t : ℕ = trailing_zeros w64 (bit_and f s) in
-    let bits = both-one (bit_at f t) (bit_at s t) (bit_at-lt f t) (bit_at-lt s t) (sym (bit_at_and f s t) ∙ low.1) in
-    let near = (c.requires.set t bits.1).1 in (
+    let back = back-givings holds id p q s f c.requires.seat e.0 e.1 e.2 few fits c.ranges.turns.fits free c.fetch_and.new.seat r.0 r.1 r.2 in (
       refl,
-      missed-all g.R.TieRule.holds id p q s f c.requires.seat e.0 e.1 e.2 c.args.self.now.few fits c.ranges.turns.fits free c.fetch_and.new.seat r.0 r.1 r.2 (λ u o. (c.requires.set u o).1) t bits.1 bits.0 (λ u h. sym (bit_at_and f s u) ∙ low.2 u h),
-      set-alone g.R.TieRule.holds id p q s f c.requires.seat e.0 e.1 e.2 t near bits.0 (free t bits.1),
+      missed-all holds id p q s f c.requires.seat e.0 e.1 e.2 near free c.fetch_and.new.seat
+          (back-held holds id p q s f c.requires.seat e.0 e.1 e.2 few fits c.ranges.turns.fits free c.fetch_and.new.seat r.0 r.1 r.2)
+          (back-lost holds id p q s f c.requires.seat e.0 e.1 e.2 few fits c.ranges.turns.fits free c.fetch_and.new.seat r.0 r.1 r.2)
+          t l.0 l.1 l.2
+          (back-asks holds id p q s f c.requires.seat e.0 e.1 e.2 few fits c.ranges.turns.fits free c.fetch_and.new.seat r.0 r.1 r.2)
+          (λ _ _ _. back) (λ all'. absurd (one-won f s fits c.ranges.turns.fits c.if-won-eq0.false all')),
+      set-alone holds id p q s f c.requires.seat e.0 e.1 e.2 t (near t l.0) l.1 (free t l.0),
+      back-tells holds id p q s f c.requires.seat e.0 e.1 e.2 few fits c.ranges.turns.fits free c.fetch_and.new.seat r.0 r.1 r.2,
     )
 
 pub lift_all-requires-clause-seat : goal.lift_all-requires-clause-seat
@@ -69,17 +114,17 @@ lift_all-requires-clause-seat g c = let e = c.fetch_or-found.ensures in
 pub lift_all-requires-clause-lies : goal.lift_all-requires-clause-lies
 lift_all-requires-clause-lies g c = λ u b. let e = c.fetch_or-found.ensures in
     let x = now-lie g.R.TieRule.holds c.args.self.now.table.shared.table_id c.args.seat.now.pass c.fetch_or-found.new.seat c.args.turns c.fetch_or-found.result c.requires.seat e.0 e.1 e.2 u (c.requires.set u b).1 b
-    (none-taken c.fetch_or-found.result c.args.turns c.if-taken-ne0.false u b) in
+    (none-taken c.fetch_or-found.result c.args.turns c.if-taken-eq0.true u b) in
     (x.0, (c.requires.set u b).0, x.1, x.2)
 
-pub returns-clause-seat : goal.returns-clause-seat
-returns-clause-seat g c = let e = c.fetch_or-found.ensures in (
+pub returns-then-taken-eq0-clause-seat : goal.returns-then-taken-eq0-clause-seat
+returns-then-taken-eq0-clause-seat g c = let e = c.fetch_or-found.ensures in (
   all-out g.R.TieRule.holds c.args.self.now.table.shared.table_id c.args.seat.now.pass c.fetch_or-found.new.seat c.args.turns c.fetch_or-found.result c.requires.seat e.0 e.1 e.2 c.lift_all.new.seat.pass c.lift_all.ensures.seat,
   all-voice g.R.TieRule.holds c.args.self.now.table.shared.table_id c.args.seat.now.pass c.fetch_or-found.new.seat c.args.turns c.fetch_or-found.result c.requires.seat e.0 e.1 e.2 c.lift_all.new.seat.pass c.lift_all.ensures.seat,
 )
 
-pub returns-clause-answer : goal.returns-clause-answer
-returns-clause-answer g c =
+pub returns-then-taken-eq0-clause-answer : goal.returns-then-taken-eq0-clause-answer
+returns-then-taken-eq0-clause-answer g c =
     let e = c.fetch_or-found.ensures in
     let l = c.lift_all.ensures in
     let id = c.args.self.now.table.shared.table_id in
@@ -95,7 +140,9 @@ returns-clause-answer g c =
         once = l.pairs.once;
         here = λ u o. let x = l.pairs.here u (c.requires.set u o).1 o in (x.0, ap (λ y. get_or y u None) l.seat.counts ∙ x.1, x.2);
         others = λ u z. (all-others g.R.TieRule.holds id p q s f c.requires.seat e.0 e.1 e.2 r l.seat u z, l.pairs.others u z);
-        lost_is = all-lost g.R.TieRule.holds id p q s f c.requires.seat e.0 e.1 e.2 r l.seat (none-taken f s c.if-taken-ne0.false);
+        lost_is = all-lost g.R.TieRule.holds id p q s f c.requires.seat e.0 e.1 e.2 r l.seat (none-taken f s c.if-taken-eq0.true);
+        asks_is = all-asks g.R.TieRule.holds id p q s f c.requires.seat e.0 e.1 e.2 r l.seat;
+        givings_is = all-givings g.R.TieRule.holds id p q s f c.requires.seat e.0 e.1 e.2 r l.seat;
       },
       all-tells g.R.TieRule.holds id p q s f c.requires.seat e.0 e.1 e.2 r l.seat,
     )

@@ -1,4 +1,0 @@
-use Rattle.turn_board.proofs.tests.counters.work.Goals as goal
-
-pub loop-done-preserved : goal.loop-done-preserved
-loop-done-preserved g c = c.add.ensures c.loop-done.done c.loop-done.invariant
