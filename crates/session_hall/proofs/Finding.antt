@@ -73,6 +73,8 @@ module _ {S : Type 0} (meaning : S → Meaning) (script : S) (turns : ℕ) (p q 
           here = g.here ∙ ap (λ (s : S). Some (Register s b.book)) script_is;
           others = g.others;
           lost_still = g.lost_is;
+          asks_more = g.asks_is;
+          givings_still = g.givings_is;
           shares = λ j x room h. share_at j x room h ∙ ap (λ (d : Book). share (meaning script) turns d.journal j) book_is;
         }
 

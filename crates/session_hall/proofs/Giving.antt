@@ -12,7 +12,7 @@ use Rattle.admission_book.specs.Book.{Book, Serving, Lawful, record_of, with_rec
 use Rattle.admission_book.specs.Books.{BookView}
 use Rattle.admission_book.proofs.Foreknown.{foreknown, regrouped_lawful}
 use Rattle.turn_board.specs.Boards.{IsSeatOf, SameVoice, BookedAll, turn_count, held, note, caller, crew, given, lost}
-use Rattle.turn_board.specs.Hands.{Once, in_hands, put_back}
+use Rattle.turn_board.specs.Hands.{HandsView, Once, in_hands, put_back}
 use Rattle.hall_rule.specs.declared.held.Held.{Held}
 use Rattle.hall_rule.specs.declared.held.Held.TheVariants as value
 use Rattle.hall_rule.specs.Contents.{Content, Register, Shard, share, opening_tables}
@@ -131,6 +131,8 @@ module _ {S : Type 0} (meaning : S → Meaning) (h : Hall S) (c : Caller S) (k :
         noted = left_is;
         given_more = g.given_is ∙ ap (λ (n : ℕ). n + 1) v.given_is;
         lost_still = λ u. g.lost_is u ∙ f.lost_still u;
+        asks_more = g.asks_is ∙ f.asks_more;
+        givings_more = g.givings_is ∙ ap (λ (n : ℕ). n + 1) f.givings_still;
       }
 
       pub caller_after : 256 ≤ r.foresight.room → (st : Stage) → r.stage ≡ st → Stands (meaning (script_of h)) (turn_count h.board) st r.foresight.symbols left r.seat r.hands.pairs → IsCallerOf meaning h r
@@ -201,3 +203,11 @@ pub busy_caller : {S : Type 0} (meaning : S → Meaning) (h : Hall S) (c : Calle
 busy_caller meaning h c k q seat v same =
     caller_on meaning h c k (record { seat = q; number = c.number; stage = c.stage; foresight = c.foresight; hands = c.hands }) seat v refl k.room refl k.once
     (stands_still (meaning (script_of h)) (turn_count h.board) c.stage c.foresight.symbols (book_of c) c.seat q c.hands.pairs v.caller_is same k.stands)
+
+-- the same with its hands, to which nothing was added
+pub busy_on : {S : Type 0} (meaning : S → Meaning) (h : Hall S) (c : Caller S) (k : IsCallerOf meaning h c) (q : SeatOf S) → IsSeatOf h.board q → SameVoice c.seat q → ((u : ℕ) → held q u ≡ held c.seat u) → (hands : HandsView (Held S)) → hands.pairs ≡ c.hands.pairs → hands.room ≡ c.hands.room → IsCallerOf meaning h (record { seat = q; number = c.number; stage = c.stage; foresight = c.foresight; hands = hands })
+busy_on {S} meaning h c k q seat v same hands pairs reserved =
+    let O : List (ℕ × Held S) → Type 0 = λ l. Once content_of l in
+    let P : List (ℕ × Held S) → Type 0 = λ l. Stands (meaning (script_of h)) (turn_count h.board) c.stage c.foresight.symbols (book_of c) q l in
+    caller_on meaning h c k (record { seat = q; number = c.number; stage = c.stage; foresight = c.foresight; hands = hands }) seat v refl k.room reserved (subst O (sym pairs) k.once)
+    (subst P (sym pairs) (stands_still (meaning (script_of h)) (turn_count h.board) c.stage c.foresight.symbols (book_of c) c.seat q c.hands.pairs v.caller_is same k.stands))

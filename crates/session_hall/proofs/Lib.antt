@@ -6,3 +6,7 @@ pub mod Declares
 pub mod Admits
 pub mod Ends
 pub mod Entering
+pub mod TurnSets
+pub mod Counts
+pub mod Doing
+pub mod Trying

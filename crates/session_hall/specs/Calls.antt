@@ -10,7 +10,7 @@ use Rattle.session_journal.specs.Journal.{begun, ended, entries}
 use Rattle.session_journal.specs.Script.{Meaning, IsForesight}
 use Rattle.admission_book.specs.Book.{Book, IsFree, IsBlocker, now, after_begin, after_narrow, after_admit, after_delay, after_done, after_end}
 use Rattle.admission_book.specs.Books.{IsOldestOpen}
-use Rattle.turn_board.specs.Boards.{held, note, caller, crew, given, lost}
+use Rattle.turn_board.specs.Boards.{held, note, caller, crew, given, lost, asks, givings, last_change}
 use Rattle.turn_board.specs.Hands.{in_hands}
 use Rattle.hall_rule.specs.Shards.{content_of}
 use Rattle.hall_rule.specs.Turns.{IsTurnOf, WasDone}
@@ -58,18 +58,22 @@ abbrev pub MayFinish : {S : Type 0} → Meaning → Caller S → List Symbol →
 MayFinish m c next = MayFinishAt m c.stage c.foresight.symbols (book_of c) next
 
 module _ {S : Type 0} (m : Meaning) (p q : Caller S) where
-  -- the caller held the book in the call, found it so, and gave it back so: that is its note now
+  -- the caller took the book in one step of the call, found it so, and gave it back so in another one, with all that it held: that is its note now
   pub record GaveBack (found left : Book) : Type 0 where
     pub finds : Finds m (book_of p) found (caller p.seat) (crew p.seat)
     pub noted : book_of q ≡ left
     pub given_more : given q.seat ≡ given p.seat + 1
     pub lost_still : (u : ℕ) → lost q.seat u ≡ lost p.seat u
+    pub asks_more : asks q.seat ≡ asks p.seat + 1
+    pub givings_more : givings q.seat ≡ givings p.seat + 1
 
-  -- the call's own step found the turn taken by another caller, and the caller is as before
+  -- the call's own step found the turn taken by another caller; the caller is as before, and no step of the call changed a counted content
   pub record IsBusy (u : ℕ) : Type 0 where
     pub rose : lost q.seat u ≡ lost p.seat u + 1
     pub lost_grows : (w : ℕ) → lost p.seat w ≤ lost q.seat w
     pub several : crew p.seat ≢ 1
+    pub asks_more : asks q.seat ≡ asks p.seat + 1
+    pub change_still : last_change q.seat ≡ last_change p.seat
     pub stage_still : q.stage ≡ p.stage
     pub foresight_still : q.foresight ≡ p.foresight
     pub note_still : note q.seat ≡ note p.seat
@@ -135,14 +139,17 @@ module _ {S : Type 0} (m : Meaning) (p q : Caller S) where
   AdmittedAs op (admitting.Busy u) = (u ≡ 0) × IsBusy u
 
   -- ---- apply
-  -- the caller holds the operation's turns and no others, and v is its reply behind every journal whose shards these are
+  -- in one step the caller took the operation's turns, and holds no others; v is its reply behind every journal whose shards these are
   pub record AppliedAt (turns : ℕ) (v : Value) (t : ℕ) (op : Op) : Type 0 where
     pub done : WasDone m turns op v (held q.seat) (in_hands content_of q.hands.pairs)
     pub stage_is : q.stage ≡ Applied t op v
     pub foresight_still : q.foresight ≡ p.foresight
     pub note_still : note q.seat ≡ note p.seat
     pub given_still : given q.seat ≡ given p.seat
+    pub change_still : last_change q.seat ≡ last_change p.seat
     pub lost_still : (u : ℕ) → lost q.seat u ≡ lost p.seat u
+    pub asks_more : asks q.seat ≡ asks p.seat + 1
+    pub givings_still : givings q.seat ≡ givings p.seat
 
   -- one of the operation's turns was found taken
   pub record IsBusyAt (shards u t : ℕ) (op : Op) : Type 0 where

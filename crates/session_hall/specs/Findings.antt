@@ -4,7 +4,7 @@ use Rattle.session_values.specs.Tables.{Container}
 use Rattle.session_journal.specs.Script.{Meaning}
 use Rattle.admission_book.specs.Book.{Book, Lawful}
 use Rattle.admission_book.specs.Books.{BookView}
-use Rattle.turn_board.specs.Boards.{held, note, caller, crew, given, lost}
+use Rattle.turn_board.specs.Boards.{held, note, caller, crew, given, lost, asks, givings, last_change}
 use Rattle.hall_rule.specs.Contents.{Content, Register, Shard, IsSince, share}
 use Rattle.session_hall.specs.Callers.{book_in}
 use Rattle.session_hall.specs.Stages.{SeatOf}
@@ -24,6 +24,9 @@ module _ {S : Type 0} (p q : SeatOf S) where
     pub held_still : (u : ℕ) → held q u ≡ held p u
     pub note_still : note q ≡ note p
     pub given_still : given q ≡ given p
+    pub change_still : last_change q ≡ last_change p
+    pub asks_more : asks q ≡ asks p + 1
+    pub givings_still : givings q ≡ givings p
     pub several : crew p ≢ 1
 
   -- the book was taken, and each shard that is held is its part of the tables after the book's journal
@@ -34,6 +37,8 @@ module _ {S : Type 0} (p q : SeatOf S) where
     pub here : held q 0 ≡ Some (Register script b.book)
     pub others : (u : ℕ) → u ≢ 0 → held q u ≡ held p u
     pub lost_still : (u : ℕ) → lost q u ≡ lost p u
+    pub asks_more : asks q ≡ asks p + 1
+    pub givings_still : givings q ≡ givings p
     pub shares : (j : ℕ) (x : Container) (room : ℕ) → held q (suc j) ≡ Some (Shard x room) → x ≡ share (meaning script) turns b.book.journal j
 
   abbrev pub TookBook : (S → Meaning) → S → ℕ → Option (BookView S) → Type 0

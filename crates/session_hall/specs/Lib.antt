@@ -4,4 +4,5 @@ pub mod Callers
 pub mod Findings
 pub mod Calls
 pub mod Waits
+pub mod Working
 pub mod Closings

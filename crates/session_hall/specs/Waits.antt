@@ -6,7 +6,7 @@ use Rattle.session_values.specs.declared.value.Value.{Value}
 use Rattle.symbolic_ops.specs.declared.symbol.Symbol.{Symbol}
 use Rattle.session_journal.specs.Script.{Meaning}
 use Rattle.admission_book.specs.Books.{Grows}
-use Rattle.turn_board.specs.Boards.{note, given, lost}
+use Rattle.turn_board.specs.Boards.{note, given, lost, last_change}
 use Rattle.session_hall.specs.declared.answers.Applying.TheVariants as applying
 use Rattle.session_hall.specs.declared.caller.Caller.{Caller}
 use Rattle.session_hall.specs.declared.stage.Stage.{Stage}
@@ -16,13 +16,14 @@ use Rattle.session_hall.specs.Calls.{BeganTicket, FoundAllBegun, DeclaredAt, Adm
 use Rattle.session_hall.specs.Stages.{OnServing, OnFlight}
 
 module _ {S : Type 0} (p q : Caller S) where
-  -- tries that found a turn taken
+  -- tries that found a turn taken: no step of theirs changed a counted content
   pub record OnlyLost : Type 0 where
     pub number_still : q.number ≡ p.number
     pub stage_still : q.stage ≡ p.stage
     pub foresight_still : q.foresight ≡ p.foresight
     pub note_still : note q.seat ≡ note p.seat
     pub given_still : given q.seat ≡ given p.seat
+    pub change_still : last_change q.seat ≡ last_change p.seat
     pub lost_grows : (u : ℕ) → lost p.seat u ≤ lost q.seat u
 
   -- tries that found the book taken, or the operation delayed

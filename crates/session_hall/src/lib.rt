@@ -3,7 +3,7 @@
 #![tactic(auto)]
 
 mod answers;
-//mod applying;
+mod applying;
 mod caller;
 //mod closed;
 //mod closing;
@@ -13,7 +13,7 @@ mod hall;
 mod serving;
 mod stage;
 mod taking;
-//mod waiting;
+mod waiting;
 
 pub use answers::{Admitting, Applying, Began, Declared, Ending, Finishing};
 pub use caller::{Caller, Callers};
