@@ -9,7 +9,9 @@ use Rattle.session_journal.specs.declared.event.Event.{Event}
 use Rattle.session_journal.specs.declared.event.Event.TheVariants.{Delay}
 use Rattle.session_journal.specs.Journal.{begun}
 use Rattle.session_journal.specs.Script.{Meaning, IsScript, calls}
-use Rattle.admission_book.specs.Book.{Book, Serving, Lawful, IsFree, IsBlocker, IsOpen, record_of, is_delayed, with_event, after_admit, after_delay}
+use Rattle.admission_book.specs.Book.{Book, Serving, IsFree, IsBlocker, record_of, with_event, after_admit, after_delay}
+use Rattle.admission_book.specs.EventsInTurn.{IsOpen, is_delayed}
+use Rattle.admission_book.specs.Lawful.{Lawful}
 use Rattle.admission_book.specs.declared.caller_record.CallerRecord.{CallerRecord}
 use Rattle.admission_book.specs.declared.admission.Admission.TheVariants.{Admitted, Delayed}
 use Rattle.admission_book.specs.CallerRecord.{serving_of, servings, record_at, with_flight, with_delay}

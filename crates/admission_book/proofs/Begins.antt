@@ -8,7 +8,9 @@ use Rattle.session_journal.specs.declared.event.Event.{Event}
 use Rattle.session_journal.specs.declared.event.Event.TheVariants.{Begin}
 use Rattle.session_journal.specs.Journal.{begun}
 use Rattle.session_journal.specs.Script.{Meaning}
-use Rattle.admission_book.specs.Book.{Serving, Lawful, is_delayed, after_begin}
+use Rattle.admission_book.specs.Book.{Serving, after_begin}
+use Rattle.admission_book.specs.EventsInTurn.{is_delayed}
+use Rattle.admission_book.specs.Lawful.{Lawful}
 use Rattle.admission_book.specs.declared.caller_record.CallerRecord.{CallerRecord}
 use Rattle.admission_book.specs.CallerRecord.{serving_of, servings, record_at, with_ticket}
 use Rattle.admission_book.specs.Books.{MayBeginNext, Begins}

@@ -5,7 +5,8 @@ use Rattle.session_values.specs.declared.op.Op.{Op}
 use Rattle.symbolic_ops.specs.declared.symbol.Symbol.{Symbol}
 use Rattle.commute_tables.specs.Symbols.{CommutesWith}
 use Rattle.session_journal.specs.Script.{Meaning}
-use Rattle.admission_book.specs.Book.{Book, Serving, Lawful, IsFree, IsBlocker}
+use Rattle.admission_book.specs.Book.{Book, Serving, IsFree, IsBlocker}
+use Rattle.admission_book.specs.Lawful.{Lawful}
 use Rattle.admission_book.specs.Books.{IsOldestOpen}
 use Rattle.admission_book.proofs.Shown.{one}
 

@@ -13,7 +13,9 @@ use Rattle.session_journal.specs.declared.event.Event.{Event}
 use Rattle.session_journal.specs.declared.event.Event.TheVariants.{Done}
 use Rattle.session_journal.specs.Journal.{begun, entries, after}
 use Rattle.session_journal.specs.Script.{Meaning, IsForesight}
-use Rattle.admission_book.specs.Book.{Serving, Lawful, record_of, is_delayed, after_done}
+use Rattle.admission_book.specs.Book.{Serving, record_of, after_done}
+use Rattle.admission_book.specs.EventsInTurn.{is_delayed}
+use Rattle.admission_book.specs.Lawful.{Lawful}
 use Rattle.admission_book.specs.declared.caller_record.CallerRecord.{CallerRecord}
 use Rattle.admission_book.specs.CallerRecord.{serving_of, servings, record_at, after_flight}
 use Rattle.admission_book.specs.Books.{MayDo, DidIt}
@@ -47,7 +49,7 @@ module _ (m : Meaning) (J : List Event) (k : List (Option Reply)) (rs : List Cal
     done_lawful =
         let P : Serving → Type 0 = λ s. Covered f s.foresight in
         let Q : Op → Type 0 = λ o. IsForesight (rest (m.next t) (replies (entries J t ++ record { op = o; reply = r } ∷ []))) f in
-        keeps_done m (book_of J k rs) i (served t old) op r f L at is (may.reply_is ∙ ap (reply (after m.shape J)) op_is) (subst P same may.covered) (subst Q op_is may.covers)
+        keeps_done m (book_of J k rs) i (served t old) op r f L at is (may.reply_is ∙ ap (reply (after m.opening J)) op_is) (subst P same may.covered) (subst Q op_is may.covers)
 
     pub done_shown : (K : List Event) (new : CallerRecord) → K ≡ J ++ Done t op r ∷ [] → new ≡ after_flight old f → book_of K k (set rs i new) ≡ after_done (book_of J k rs) i (served t old) op r f
     done_shown K new grown e =

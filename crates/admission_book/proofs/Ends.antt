@@ -6,7 +6,8 @@ use Rattle.session_journal.specs.declared.event.Event.{Event}
 use Rattle.session_journal.specs.declared.event.Event.TheVariants.{End}
 use Rattle.session_journal.specs.Journal.{begun}
 use Rattle.session_journal.specs.Script.{Meaning}
-use Rattle.admission_book.specs.Book.{Serving, Lawful, record_of, after_end}
+use Rattle.admission_book.specs.Book.{Serving, record_of, after_end}
+use Rattle.admission_book.specs.Lawful.{Lawful}
 use Rattle.admission_book.specs.declared.caller_record.CallerRecord.{CallerRecord}
 use Rattle.admission_book.specs.CallerRecord.{serving_of, servings, record_at, after_ticket}
 use Rattle.admission_book.specs.Books.{MayEnd, HasEnded}

@@ -13,7 +13,7 @@ use Rattle.session_values.specs.Dialogue.{Entry}
 use Rattle.session_journal.specs.Journal.{Deed, entry_of, deeds, of_ticket, in_order, InversionsCommute, entries, begun, first, end_of, caller_of, ended, owner}
 use Rattle.session_values.specs.Dialogue.{Calls, Dialogue, rest, replies, Follows}
 use Rattle.session_journal.specs.Script.{Meaning}
-use Rattle.admission_book.specs.Book.{MayCome, ComeInTurn}
+use Rattle.admission_book.specs.EventsInTurn.{MayCome, ComeInTurn}
 
 pub deeds-append : (J K : List Event) → deeds (J ++ K) ≡ deeds J ++ deeds K
 deeds-append [] K = refl

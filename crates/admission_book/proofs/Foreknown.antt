@@ -7,7 +7,6 @@ use Rattle.session_values.specs.declared.op.Op.{Op}
 use Rattle.session_values.specs.declared.value.Value.{Value}
 use Rattle.session_values.specs.declared.reply.Reply.{Reply}
 use Rattle.symbolic_ops.specs.declared.symbol.Symbol.{Symbol}
-use Rattle.session_values.specs.Tables.{start}
 use Rattle.session_values.specs.Commuting.{Commute, Swaps}
 use Rattle.symbolic_ops.specs.Symbols.{Matches}
 use Rattle.commute_tables.specs.Symbols.{CommutesWithAll}
@@ -16,16 +15,20 @@ use Rattle.session_journal.specs.Journal.{Deed, entry_of, deeds, of_ticket, in_o
 use Rattle.session_values.specs.Dialogue.{Answers, Dialogue, rest, replies, Follows}
 use Rattle.session_journal.specs.Script.{Covers, Meaning, IsScript, session_of}
 use Rattle.session_values.specs.Serial.{tables_before}
-use Rattle.admission_book.specs.Book.{Serving, Book, record_of, Holds, Lawful, opened}
+use Rattle.admission_book.specs.Book.{Serving, Book, record_of, Holds, opened}
+use Rattle.admission_book.specs.Lawful.{Lawful}
 use Rattle.session_journal.specs.Foreknown.{Foreknown}
 use Rattle.session_journal.proofs.Replay.{Instead}
 use Rattle.session_journal.proofs.Regroup.{regrouped_replays}
+use Rattle.session_journal.proofs.Serving.{serial_values}
+use Rattle.session_journal.proofs.Values.{AreReplies}
+use Rattle.admission_book.proofs.Room.{few_begun}
 use Rattle.session_journal.proofs.Serial.{matched, Settled, Known, all_known, final, differ}
 use Rattle.admission_book.proofs.Events.{only_begun}
 
 -- a book's journal regrouped by ticket replays and gives the same tables
-pub regrouped_lawful : (m : Meaning) (b : Book) → Lawful m b → Instead (start m.shape) (in_order (deeds b.journal)) (regrouped b.journal)
-regrouped_lawful m b L = regrouped_replays (begun b.journal) (start m.shape) (deeds b.journal) (only_begun m (length b.records) b.journal L.turns).deeds L.inversions L.replays
+pub regrouped_lawful : (m : Meaning) (b : Book) → Lawful m b → Instead (m.opening) (in_order (deeds b.journal)) (regrouped b.journal)
+regrouped_lawful m b L = regrouped_replays (begun b.journal) (m.opening) (deeds b.journal) (only_begun m (length b.records) b.journal L.turns).deeds L.inversions L.replays
 
 Commute-sym : (a b : Op) → Commute a b → Commute b a
 Commute-sym a b c = record { at = λ ts. let s : Swaps ts a b = c.at ts in record { tables = sym s.tables; first = sym s.second; second = sym s.first } }
@@ -54,28 +57,29 @@ settled : (m : Meaning) (b : Book) → IsScript m → Lawful m b → (t : ℕ) �
 settled m b S L t l = record {
   ends = S.ends t;
   follows = L.follows t;
-  free = λ w younger back follows. by_end w younger back follows (ended b.journal t) refl;
+  values = serial_values m S t (omega (arith, l, few_begun m (length b.records) b.journal L.turns));
+  free = λ w younger back v follows. by_end w younger back v follows (ended b.journal t) refl;
 }
   where
     ds : List Deed
     ds = deeds b.journal
 
-    open_free : (w : ℕ) → t < w → (back : List Entry) → Follows (rest (m.next t) (replies (entries b.journal t))) back → ended b.journal t ≡ None → AllByRecursion (λ x. AllByRecursion (λ (y : Entry). Commute x.op y.op) (entries b.journal w)) back
-    open_free w younger back follows e =
+    open_free : (w : ℕ) → t < w → (back : List Entry) → AreReplies back → Follows (rest (m.next t) (replies (entries b.journal t))) back → ended b.journal t ≡ None → AllByRecursion (λ x. AllByRecursion (λ (y : Entry). Commute x.op y.op) (entries b.journal w)) back
+    open_free w younger back v follows e =
         let p : (c : ℕ) × (s : Serving) × (record_of b c ≡ Some s) × (s.ticket ≡ t) = L.placed t (record { begun = l; not_ended = e }) in
         let s : Serving = p.1 in
         let here : Holds m b p.0 s = L.records p.0 s p.2 in
         let C : ℕ → Type 0 = λ j. Covers (rest (m.next j) (replies (entries b.journal j))) s.foresight in
         let D : ℕ → Type 0 = λ j. AllByRecursion (λ d. j < d.ticket → CommutesWithAll d.op s.foresight) (deeds b.journal) in
-        each s.foresight (subst D p.3 here.done) back (matched (rest (m.next t) (replies (entries b.journal t))) s.foresight back (subst C p.3 here.foresight.covers) follows)
+        each s.foresight (subst D p.3 here.done) back (matched (rest (m.next t) (replies (entries b.journal t))) s.foresight back (subst C p.3 here.foresight.covers) v follows)
       where
         each : (f : List Symbol) → AllByRecursion (λ d. t < d.ticket → CommutesWithAll d.op f) (deeds b.journal) → (xs : List Entry) → AllByRecursion (λ x. Matches f x.op) xs → AllByRecursion (λ x. AllByRecursion (λ (y : Entry). Commute x.op y.op) (entries b.journal w)) xs
         each f h [] k = tt
         each f h (x ∷ xs) k = (all_free f t w younger (deeds b.journal) h x.op k.0, each f h xs k.1)
 
-    by_end : (w : ℕ) → t < w → (back : List Entry) → Follows (rest (m.next t) (replies (entries b.journal t))) back → (r : Option Reply) → ended b.journal t ≡ r → AllByRecursion (λ x. AllByRecursion (λ (y : Entry). Commute x.op y.op) (entries b.journal w)) back
-    by_end w younger back follows None e = open_free w younger back follows e
-    by_end w younger back follows (Some r) e =
+    by_end : (w : ℕ) → t < w → (back : List Entry) → AreReplies back → Follows (rest (m.next t) (replies (entries b.journal t))) back → (r : Option Reply) → ended b.journal t ≡ r → AllByRecursion (λ x. AllByRecursion (λ (y : Entry). Commute x.op y.op) (entries b.journal w)) back
+    by_end w younger back v follows None e = open_free w younger back v follows e
+    by_end w younger back v follows (Some r) e =
         let says : rest (m.next t) (replies (entries b.journal t)) [] ≡ Answers r = ap (m.next t) (append_nil (replies (entries b.journal t))) ∙ L.answered t r e in
         let P : List Entry → Type 0 = λ es. AllByRecursion (λ x. AllByRecursion (λ (y : Entry). Commute x.op y.op) (entries b.journal w)) es in
         subst P (sym (no_more (rest (m.next t) (replies (entries b.journal t))) r back says follows)) tt
@@ -108,6 +112,6 @@ opened_lawful m callers = record {
     nothing {X} (suc n) (suc i) = nothing {X = X} n i
 
 -- where all begun tickets have ended, the tables are those of serving them one at a time
-pub all_ended : (m : Meaning) (b : Book) → IsScript m → Lawful m b → ((t : ℕ) → t < begun b.journal → (r : Reply) × (ended b.journal t ≡ Some r)) → after m.shape b.journal ≡ tables_before (session_of m) (begun b.journal)
+pub all_ended : (m : Meaning) (b : Book) → IsScript m → Lawful m b → ((t : ℕ) → t < begun b.journal → (r : Reply) × (ended b.journal t ≡ Some r)) → after m.opening b.journal ≡ tables_before (session_of m) (begun b.journal)
 all_ended m b S L e =
     sym (regrouped_lawful m b L).same ∙ final m (deeds b.journal) (begun b.journal) (settled m b S L) (λ t l. let p : (r : Reply) × (ended b.journal t ≡ Some r) = e t l in (p.0, L.answered t p.0 p.1)) (regrouped_lawful m b L).replays

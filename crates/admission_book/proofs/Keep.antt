@@ -11,14 +11,16 @@ use Rattle.session_values.specs.declared.reply.Reply.{Reply}
 use Rattle.symbolic_ops.specs.declared.symbol.Symbol.{Symbol}
 use Rattle.session_journal.specs.declared.event.Event.{Event}
 use Rattle.session_journal.specs.declared.event.Event.TheVariants.{Begin, Done, Delay, End}
-use Rattle.session_values.specs.Tables.{start, reply}
+use Rattle.session_values.specs.Tables.{reply}
 use Rattle.symbolic_ops.specs.Symbols.{Matches, Covered}
 use Rattle.commute_tables.specs.Symbols.{CommutesWith, CommutesWithAll}
 use Rattle.session_values.specs.Dialogue.{Entry}
 use Rattle.session_journal.specs.Journal.{Deed, entry_of, deeds, Replays, of_ticket, in_order, InversionsCommute, entries, begun, end_of, caller_of, ended, owner, after}
 use Rattle.session_values.specs.Dialogue.{Calls, Answers, rest, replies, Follows}
 use Rattle.session_journal.specs.Script.{IsForesight, Meaning}
-use Rattle.admission_book.specs.Book.{Serving, Book, record_of, kept_for, IsOpen, now, is_delayed, ComeInTurn, Holds, Lawful, IsFree, with_event, after_begin, after_narrow, after_admit, after_delay, after_done, after_end}
+use Rattle.admission_book.specs.Book.{Serving, Book, record_of, kept_for, Holds, IsFree, with_event, after_begin, after_narrow, after_admit, after_delay, after_done, after_end}
+use Rattle.admission_book.specs.EventsInTurn.{IsOpen, now, is_delayed, ComeInTurn}
+use Rattle.admission_book.specs.Lawful.{Lawful}
 use Rattle.session_journal.proofs.Replay.{Replays-append}
 use Rattle.admission_book.proofs.Events.{deeds-append, in_order-append, deeds_stay, begun_stays, begun_more, first_same, owner_other, owner_new, ended_other, ended_new, entries_other, entries_more, Follows-push, All-push, All-weaker, InversionsCommute-push, ComeInTurn-push, OnlyBegun, only_begun}
 use Rattle.admission_book.proofs.Records.{within, at_set, set_other, CommutesWithAll-narrow, CommutesWithAll-each}
@@ -159,7 +161,7 @@ keeps_delay m b t op older y L opened calls less against =
         let b2 : Book = with_event b v in
         let same : deeds (J ++ v ∷ []) ≡ deeds J = deeds_stay J v refl in
         let count : begun (J ++ v ∷ []) ≡ begun J = begun_stays J v refl in
-        let P : List Deed → Type 0 = λ ds. Replays (start m.shape) (in_order ds) in
+        let P : List Deed → Type 0 = λ ds. Replays (m.opening) (in_order ds) in
         record {
           replays = subst P (sym same) L.replays;
           follows = λ u. let F : List Deed → Type 0 = λ ds. Follows (m.next u) (of_ticket u ds) in subst F (sym same) (L.follows u);
@@ -182,7 +184,7 @@ keeps_begin m b c f L left caller empty fore =
     let known : OnlyBegun J = only_begun m (length b.records) J L.turns in
     let same : deeds (J ++ v ∷ []) ≡ deeds J = deeds_stay J v refl in
     let count : begun (J ++ v ∷ []) ≡ suc n = begun_more J n c in
-    let P : List Deed → Type 0 = λ ds. Replays (start m.shape) (in_order ds) in
+    let P : List Deed → Type 0 = λ ds. Replays (m.opening) (in_order ds) in
     let no_flight : (t : ℕ) (g : List Symbol) (z : Serving) (op : Op) → ◌≡◌ {A = Option Serving} (Some x) (Some z) → t < z.ticket → z.flight ≡ Some op → CommutesWithAll op g = λ t g z op e l fl. absurd (none_some op (ap (λ (y : Serving). y.flight) (inside x z e) ∙ fl)) in
     record {
       replays = subst P (sym same) L.replays;
@@ -239,7 +241,7 @@ keeps_begin m b c f L left caller empty fore =
 
 -- ---- done
 -- the operation in flight is done, with its reply after the journal, and its ticket narrows
-pub keeps_done : (m : Meaning) (b : Book) (c : ℕ) (s : Serving) (op : Op) (r : Value) (f : List Symbol) → Lawful m b → record_of b c ≡ Some s → s.flight ≡ Some op → r ≡ reply (after m.shape b.journal) op → Covered f s.foresight → IsForesight (rest (m.next s.ticket) (replies (entries b.journal s.ticket ++ record { op = op; reply = r } ∷ []))) f → Lawful m (after_done b c s op r f)
+pub keeps_done : (m : Meaning) (b : Book) (c : ℕ) (s : Serving) (op : Op) (r : Value) (f : List Symbol) → Lawful m b → record_of b c ≡ Some s → s.flight ≡ Some op → r ≡ reply (after m.opening b.journal) op → Covered f s.foresight → IsForesight (rest (m.next s.ticket) (replies (entries b.journal s.ticket ++ record { op = op; reply = r } ∷ []))) f → Lawful m (after_done b c s op r f)
 keeps_done m b c s op r f L at flying is cov fore =
     let J : List Event = b.journal in
     let t : ℕ = s.ticket in
@@ -251,12 +253,12 @@ keeps_done m b c s op r f L at flying is cov fore =
     let calls : now m J t ≡ Calls op = here.flight op flying in
     let ds : deeds (J ++ v ∷ []) ≡ deeds J ++ new ∷ [] = deeds-append J (v ∷ []) in
     let count : begun (J ++ v ∷ []) ≡ begun J = begun_stays J v refl in
-    let matches : Matches s.foresight op = here.foresight.covers.each [] op (to_rest t (entries J t) op calls) in
+    let matches : Matches s.foresight op = here.foresight.covers.each [] op tt (to_rest t (entries J t) op calls) in
     let no_flight : (u : ℕ) (g : List Symbol) (z : Serving) (o : Op) → ◌≡◌ {A = Option Serving} (Some x) (Some z) → u < z.ticket → z.flight ≡ Some o → CommutesWithAll o g = λ u g z o e l fl. absurd (none_some o (ap (λ (y : Serving). y.flight) (inside x z e) ∙ fl)) in
     record {
-      replays = let P : List Deed → Type 0 = λ es. Replays (start m.shape) (in_order es) in
-          let Q : List Entry → Type 0 = λ es. Replays (start m.shape) es in
-          subst P (sym ds) (subst Q (sym (in_order-append (deeds J) (new ∷ []))) (Replays-append (start m.shape) (in_order (deeds J)) (record { op = op; reply = r } ∷ []) L.replays (sym is, tt)));
+      replays = let P : List Deed → Type 0 = λ es. Replays (m.opening) (in_order es) in
+          let Q : List Entry → Type 0 = λ es. Replays (m.opening) es in
+          subst P (sym ds) (subst Q (sym (in_order-append (deeds J) (new ∷ []))) (Replays-append (m.opening) (in_order (deeds J)) (record { op = op; reply = r } ∷ []) L.replays (sym is, tt)));
       follows = λ u. elim (same_or u t) [
         | inl e ↦ let P : ℕ → Type 0 = λ j. Follows (m.next j) (entries (J ++ v ∷ []) j) in let Q : List Entry → Type 0 = λ es. Follows (m.next t) es in
             subst P (sym e) (subst Q (sym (entries_more J t op r)) (Follows-push (m.next t) (entries J t) (record { op = op; reply = r }) (L.follows t) calls))
@@ -320,7 +322,7 @@ keeps_end m b c s r L at idle says room =
     let here : Holds m b c s = L.records c s at in
     let same : deeds (J ++ v ∷ []) ≡ deeds J = deeds_stay J v refl in
     let count : begun (J ++ v ∷ []) ≡ begun J = begun_stays J v refl in
-    let P : List Deed → Type 0 = λ ds. Replays (start m.shape) (in_order ds) in
+    let P : List Deed → Type 0 = λ ds. Replays (m.opening) (in_order ds) in
     let no_record : (u : ℕ) (g : List Symbol) (z : Serving) (o : Op) → ◌≡◌ {A = Option Serving} None (Some z) → u < z.ticket → z.flight ≡ Some o → CommutesWithAll o g = λ u g z o e l fl. absurd (none_some z e) in
     record {
       replays = subst P (sym same) L.replays;

@@ -13,7 +13,7 @@ pub mod Oldest
 pub mod Records
 pub mod Replies
 pub mod Room
-pub mod Rows
 pub mod Scans
 pub mod Shown
+pub mod Stays
 pub mod Stories

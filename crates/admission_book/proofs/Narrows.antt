@@ -6,7 +6,8 @@ use Rattle.symbolic_ops.specs.declared.symbol.Symbol.{Symbol}
 use Rattle.symbolic_ops.specs.Symbols.{Covered}
 use Rattle.session_journal.specs.declared.event.Event.{Event}
 use Rattle.session_journal.specs.Script.{Meaning}
-use Rattle.admission_book.specs.Book.{Serving, Lawful, record_of, after_narrow}
+use Rattle.admission_book.specs.Book.{Serving, record_of, after_narrow}
+use Rattle.admission_book.specs.Lawful.{Lawful}
 use Rattle.admission_book.specs.declared.caller_record.CallerRecord.{CallerRecord}
 use Rattle.admission_book.specs.CallerRecord.{serving_of, record_at, with_symbols}
 use Rattle.admission_book.specs.Books.{MayNarrow, Narrowed}

@@ -5,12 +5,10 @@ use Rattle.std.proofs.lemmas.List.{get_or-set_same, get_or-set_other, get_or_pas
 use Rattle.std.proofs.lemmas.Bool.Decides.{nat_tests}
 use Rattle.std.specs.List.{AllByRecursion}
 use Rattle.session_values.specs.declared.op.Op.{Op}
-use Rattle.session_values.specs.declared.value.Value.{Value}
-use Rattle.symbolic_ops.specs.declared.arg.Arg.{Arg}
-use Rattle.symbolic_ops.specs.declared.arg.Arg.TheVariants.{Known, Var, Any}
 use Rattle.symbolic_ops.specs.declared.symbol.Symbol.{Symbol}
 use Rattle.session_values.specs.Commuting.{Commute}
-use Rattle.symbolic_ops.specs.Symbols.{Agrees, ArgBelow, Below, IsBelowSome, Covered, StandsFor, Matches}
+use Rattle.symbolic_ops.proofs.Above.{covered_matches}
+use Rattle.symbolic_ops.specs.Symbols.{Covered, Matches}
 use Rattle.commute_tables.specs.Symbols.{CommutesWith, CommutesWithAll}
 
 -- a place that has something is within the list
@@ -49,30 +47,8 @@ pub set_other : {X : Type 0} (l : List (Option X)) (c d : ℕ) (x : Option X) (s
 set_other l c d x s apart h = get_or-set_other l c d x None apart ∙ h
 
 -- ---- narrower foresights stand for fewer operations
-agrees : (a b : Arg) (v : Value) → ArgBelow a b → Agrees a v → Agrees b v
-agrees a Any v h k = tt
-agrees (Known u) (Known w) v h k = sym h ∙ k
-agrees (Var x) (Known w) v h k = absurd h
-agrees Any (Known w) v h k = absurd h
-agrees (Known u) (Var y) v h k = absurd h
-agrees (Var x) (Var y) v h k = absurd h
-agrees Any (Var y) v h k = absurd h
-
-stands : (g s : Symbol) (op : Op) → Below g s → StandsFor g op → StandsFor s op
-stands g s op b h = record { kind = sym b.kind ∙ h.kind; table = sym b.table ∙ h.table; key = agrees g.key s.key op.key b.key h.key; value = agrees g.value s.value op.value b.value h.value }
-
-matches_some : (g : Symbol) (f : List Symbol) (op : Op) → IsBelowSome g f → StandsFor g op → Matches f op
-matches_some g [] op b h = b
-matches_some g (s ∷ f) op (inl b) h = inl (stands g s op b h)
-matches_some g (s ∷ f) op (inr b) h = inr (matches_some g f op b h)
-
-pub Covered-Matches : (g f : List Symbol) (op : Op) → Covered g f → Matches g op → Matches f op
-Covered-Matches [] f op c h = absurd h
-Covered-Matches (s ∷ g) f op c (inl h) = matches_some s f op c.0 h
-Covered-Matches (s ∷ g) f op c (inr h) = Covered-Matches g f op c.1 h
-
 pub CommutesWithAll-narrow : (a : Op) (g f : List Symbol) → Covered g f → CommutesWithAll a f → CommutesWithAll a g
-CommutesWithAll-narrow a g f c h = record { each = λ b k. h.each b (Covered-Matches g f b c k) }
+CommutesWithAll-narrow a g f c h = record { each = λ b k. h.each b (covered_matches g f b c k) }
 
 pub CommutesWithAll-each : (a : Op) (f : List Symbol) → AllByRecursion (λ s. CommutesWith a s) f → CommutesWithAll a f
 CommutesWithAll-each a f h = record { each = λ b k. go f h b k }

@@ -9,7 +9,8 @@ use Rattle.session_values.specs.declared.reply.Reply.{Reply}
 use Rattle.session_values.specs.Serial.{answered, serial, serial_replies, tables_before}
 use Rattle.session_journal.specs.Journal.{begun, ended, after}
 use Rattle.session_journal.specs.Script.{Meaning, IsScript, session_of}
-use Rattle.admission_book.specs.Book.{Book, Serving, Lawful}
+use Rattle.admission_book.specs.Book.{Book, Serving}
+use Rattle.admission_book.specs.Lawful.{Lawful}
 use Rattle.admission_book.specs.CallerRecord.{servings, idle_record}
 use Rattle.admission_book.proofs.Events.{only_begun}
 use Rattle.admission_book.proofs.Foreknown.{foreknown, all_ended}
@@ -61,7 +62,7 @@ module _ (m : Meaning) (b : Book) (S : IsScript m) (L : Lawful m b) (done : (t :
     | inr l ↦ omega (arith, few_begun m (length b.records) b.journal L.turns)
   ]
 
-  pub tables_serial : after m.shape b.journal ≡ tables_before (session_of m) m.requests
+  pub tables_serial : after m.opening b.journal ≡ tables_before (session_of m) m.requests
   tables_serial = all_ended m b S L (λ t l. some_is (ended b.journal t) (done t (omega (arith, l, all_begun)))) ∙ ap (tables_before (session_of m)) all_begun
 
   -- the first n replies

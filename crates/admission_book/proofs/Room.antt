@@ -10,9 +10,13 @@ use Rattle.session_journal.specs.declared.event.Event.TheVariants.{Begin, Done, 
 use Rattle.session_values.specs.Dialogue.{Entry}
 use Rattle.session_journal.specs.Journal.{Deed, of_ticket, entries, begun, end_of, ended}
 use Rattle.session_values.specs.Dialogue.{Next, Calls, Answers, Dialogue, rest, replies, Follows, EndsBy}
-use Rattle.session_journal.specs.Script.{Meaning, IsScript, sum_below, calls}
-use Rattle.admission_book.specs.Book.{Book, IsOpen, now, delayed_after, is_delayed_from, is_delayed, MayCome, ComeInTurn, Lawful}
+use Rattle.session_values.specs.Sums.{sum_below}
+use Rattle.session_journal.specs.Script.{Meaning, IsScript, calls}
+use Rattle.admission_book.specs.Book.{Book}
+use Rattle.admission_book.specs.EventsInTurn.{IsOpen, now, delayed_after, is_delayed_from, is_delayed, MayCome, ComeInTurn}
+use Rattle.admission_book.specs.Lawful.{Lawful}
 use Rattle.admission_book.proofs.Events.{deeds_stay, begun_stays, begun_more, first_same, ended_other, ended_new, entries_other, entries_more, through_turns}
+use Rattle.session_values.proofs.Sums.{sum_below_le, sum_below_zero}
 use Rattle.session_journal.proofs.Serial.{not_ended, EndsBy-rest}
 
 abbrev ticket_of : Event → ℕ
@@ -239,17 +243,9 @@ mine_few m b S L t =
         omega (arith, k.few, i, ended_small (ended b.journal t), follows_few (m.length t) (m.next t) (entries b.journal t) (S.ends t) (L.follows t))
 
 -- ---- all tickets together
-pub sum_below_le : (n : ℕ) (f g : ℕ → ℕ) → ((t : ℕ) → f t ≤ g t) → sum_below n f ≤ sum_below n g
-sum_below_le zero f g h = omega arith
-sum_below_le (suc n) f g h = omega (arith, sum_below_le n f g h, h n)
-
 sum_of_bounds : (n : ℕ) (f : ℕ → ℕ) → sum_below n (λ t. 2 + 2 * f t) ≡ 2 * n + 2 * sum_below n f
 sum_of_bounds zero f = omega arith
 sum_of_bounds (suc n) f = omega (arith, sum_of_bounds n f)
-
-pub sum_below_zero : (n : ℕ) → sum_below n (λ t. 0) ≡ 0
-sum_below_zero zero = refl
-sum_below_zero (suc n) = omega (arith, sum_below_zero n)
 
 sum_below_none : (n u : ℕ) → n ≤ u → (f : ℕ → ℕ) → sum_below n (λ t. cond (eqb u t) 1 0 + f t) ≡ sum_below n f
 sum_below_none zero u h f = refl

@@ -8,7 +8,9 @@ use Rattle.session_journal.specs.declared.event.Event.{Event}
 use Rattle.session_journal.specs.declared.event.Event.TheVariants.{Begin, Done, Delay, End}
 use Rattle.session_journal.specs.Journal.{JournalView, begun, ticket_of}
 use Rattle.session_journal.specs.Script.{Meaning, IsScript, calls}
-use Rattle.admission_book.specs.Book.{Book, Serving, Lawful, record_of, delayed_after, is_delayed, is_delayed_from}
+use Rattle.admission_book.specs.Book.{Book, Serving, record_of}
+use Rattle.admission_book.specs.EventsInTurn.{delayed_after, is_delayed, is_delayed_from}
+use Rattle.admission_book.specs.Lawful.{Lawful}
 use Rattle.admission_book.specs.declared.caller_record.CallerRecord.{CallerRecord}
 use Rattle.admission_book.specs.CallerRecord.{serving_at, serving_of, servings, record_at, idle_record}
 use Rattle.admission_book.specs.Books.{BookView}

@@ -11,7 +11,7 @@ use Rattle.commute_tables.specs.Symbols.{CommutesWith}
 use Rattle.session_journal.specs.Journal.{entries, begun, ended}
 use Rattle.session_values.specs.Dialogue.{Calls, Answers, Dialogue, rest, replies}
 use Rattle.session_journal.specs.Script.{Meaning}
-use Rattle.admission_book.specs.Book.{IsOpen, now, is_delayed_from, is_delayed, MayCome, ComeInTurn, events_of, TellsOn, TellsAll}
+use Rattle.admission_book.specs.EventsInTurn.{IsOpen, now, is_delayed_from, is_delayed, MayCome, ComeInTurn, events_of, TellsOn, TellsAll}
 use Rattle.session_journal.specs.Journal.{ticket_of}
 use Rattle.admission_book.proofs.Events.{through_turns, begun_more, begun_stays}
 

@@ -1,5 +1,5 @@
--- Books, and when one is lawful.
-use Rattle.std.specs.Prelude.{◌≡◌, ℕ, ◌<◌, ◌==◌, List, [], ◌∷◌, ◌++◌, Option, Some, None, IsSome, Bool, true, false, cond, length, slice_index_or, slice_set, replicate}
+-- Books: what is kept beside a script, who delays an operation, and what the methods leave.
+use Rattle.std.specs.Prelude.{◌≡◌, ℕ, ◌<◌, List, [], ◌∷◌, ◌++◌, Option, Some, None, cond, slice_index_or, slice_set, replicate}
 use Rattle.std.specs.List.{AllByRecursion}
 use Rattle.session_values.specs.declared.value.Value.{Value}
 use Rattle.session_values.specs.declared.op.Op.{Op}
@@ -7,11 +7,11 @@ use Rattle.session_values.specs.declared.reply.Reply.{Reply}
 use Rattle.symbolic_ops.specs.declared.symbol.Symbol.{Symbol}
 use Rattle.session_journal.specs.declared.event.Event.{Event}
 use Rattle.session_journal.specs.declared.event.Event.TheVariants.{Begin, Done, Delay, End}
-use Rattle.session_values.specs.Tables.{start}
 use Rattle.commute_tables.specs.Symbols.{CommutesWith, CommutesWithAll}
-use Rattle.session_journal.specs.Journal.{deeds, in_order, entries, begun, ended, owner, Replays, InversionsCommute, ticket_of}
-use Rattle.session_values.specs.Dialogue.{Next, Calls, Answers, Dialogue, rest, replies, Follows}
+use Rattle.session_journal.specs.Journal.{deeds, entries, begun, owner}
+use Rattle.session_values.specs.Dialogue.{Calls, rest, replies}
 use Rattle.session_journal.specs.Script.{IsForesight, Meaning}
+use Rattle.admission_book.specs.EventsInTurn.{IsOpen, now, is_delayed}
 
 -- a caller's record while it serves a ticket
 pub record Serving : Type 0 where
@@ -33,66 +33,6 @@ record_of b c = slice_index_or b.records c None
 abbrev pub kept_for : Book → ℕ → Option Reply
 kept_for b t = slice_index_or b.kept t None
 
--- a ticket is open: it is begun and not ended
-pub record IsOpen (J : List Event) (t : ℕ) : Type 0 where
-  pub begun : t < begun J
-  pub not_ended : ended J t ≡ None
-
--- what the ticket does after its entries
-abbrev pub now : Meaning → List Event → ℕ → Next
-now m J t = m.next t (replies (entries J t))
-
--- the last event of the ticket is a Delay
-abbrev pub delayed_after : ℕ → Event → Bool → Bool
-delayed_after t (Begin u c) b = cond (u == t) false b
-delayed_after t (Done u op r) b = cond (u == t) false b
-delayed_after t (Delay u op older s) b = cond (u == t) true b
-delayed_after t (End u r) b = cond (u == t) false b
-
-abbrev pub is_delayed_from : Bool → List Event → ℕ → Bool
-is_delayed_from b [] t = b
-is_delayed_from b (e ∷ J) t = is_delayed_from (delayed_after t e b) J t
-
-abbrev pub is_delayed : List Event → ℕ → Bool
-is_delayed J t = is_delayed_from false J t
-
--- a ticket begins: it is the next one, of a caller of the book whose earlier tickets have ended
-pub record MayBegin (m : Meaning) (callers : ℕ) (J : List Event) (t c : ℕ) : Type 0 where
-  pub next : t ≡ begun J
-  pub left : t < m.requests
-  pub caller : c < callers
-  pub others : (u : ℕ) → owner J u ≡ Some c → IsSome (ended J u)
-
--- an operation is done: the one that its open ticket calls
-pub record MayBeDone (m : Meaning) (J : List Event) (t : ℕ) (op : Op) : Type 0 where
-  pub is_open : IsOpen J t
-  pub calls : now m J t ≡ Calls op
-
--- an operation is delayed: the one that its open ticket calls, by an older ticket and a symbol with which it doesn't commute, and once
-pub record MayBeDelayed (m : Meaning) (J : List Event) (t : ℕ) (op : Op) (older : ℕ) (s : Symbol) : Type 0 where
-  pub is_open : IsOpen J t
-  pub calls : now m J t ≡ Calls op
-  pub is_older : older < t
-  pub symbol : CommutesWith op s → ⊥
-  pub once : is_delayed J t ≡ false
-
--- a ticket ends: with what it answers
-pub record MayEnd (m : Meaning) (J : List Event) (t : ℕ) (r : Reply) : Type 0 where
-  pub is_open : IsOpen J t
-  pub answers : now m J t ≡ Answers r
-
--- the event may come after the events J
-abbrev pub MayCome : Meaning → ℕ → List Event → Event → Type 0
-MayCome m callers J (Begin t c) = MayBegin m callers J t c
-MayCome m callers J (Done t op r) = MayBeDone m J t op
-MayCome m callers J (Delay t op older s) = MayBeDelayed m J t op older s
-MayCome m callers J (End t r) = MayEnd m J t r
-
--- each event may come after those before it
-abbrev pub ComeInTurn : Meaning → ℕ → List Event → List Event → Type 0
-ComeInTurn m callers front [] = Unit {0}
-ComeInTurn m callers front (e ∷ J) = MayCome m callers front e × ComeInTurn m callers (front ++ e ∷ []) J
-
 -- what is true of each record that isn't empty
 pub record Holds (m : Meaning) (b : Book) (c : ℕ) (s : Serving) : Type 0 where
   -- its ticket is open, and belongs to its caller
@@ -105,22 +45,6 @@ pub record Holds (m : Meaning) (b : Book) (c : ℕ) (s : Serving) : Type 0 where
   -- what younger tickets have done, or have in flight, commutes with all that it may still do
   pub done : AllByRecursion (λ d. s.ticket < d.ticket → CommutesWithAll d.op s.foresight) (deeds b.journal)
   pub in_flight : (d : ℕ) (z : Serving) (op : Op) → record_of b d ≡ Some z → s.ticket < z.ticket → z.flight ≡ Some op → CommutesWithAll op s.foresight
-
--- a book that the methods of a book can lead to
-pub record Lawful (m : Meaning) (b : Book) : Type 0 where
-  -- the journal replays
-  pub replays : Replays (start m.shape) (in_order (deeds b.journal))
-  -- each ticket's entries are what it calls, and its Reply, which is kept, what it answers
-  pub follows : (t : ℕ) → Follows (m.next t) (entries b.journal t)
-  pub answered : (t : ℕ) (r : Reply) → ended b.journal t ≡ Some r → now m b.journal t ≡ Answers r
-  pub kept : (t : ℕ) → kept_for b t ≡ ended b.journal t
-  -- of two deeds where the younger ticket's stands first, the operations commute
-  pub inversions : InversionsCommute (deeds b.journal)
-  -- each record that isn't empty holds an open ticket, and each open ticket has one
-  pub records : (c : ℕ) (s : Serving) → record_of b c ≡ Some s → Holds m b c s
-  pub placed : (t : ℕ) → IsOpen b.journal t → (c : ℕ) × (s : Serving) × (record_of b c ≡ Some s) × (s.ticket ≡ t)
-  -- events come in turn
-  pub turns : ComeInTurn m (length b.records) [] b.journal
 
 -- ---- who delays an operation
 -- no older open ticket has a symbol with which the operation doesn't commute
@@ -179,23 +103,3 @@ after_end b c s r = record { journal = b.journal ++ End s.ticket r ∷ []; kept 
 -- a book with these many callers and room for these many Replies, before any ticket is begun
 abbrev pub opened : ℕ → ℕ → Book
 opened requests callers = record { journal = []; kept = replicate requests None; records = replicate callers None }
-
--- ---- the events of one ticket
-abbrev pub events_of : ℕ → List Event → List Event
-events_of t [] = []
-events_of t (e ∷ J) = cond (ticket_of e == t) (e ∷ events_of t J) (events_of t J)
-
--- after its Begin: for each call at most one Delay and then its Done; then at most one Delay of the next call; last its End.
--- f is the dialogue from here on, and `noted` says whether the present call has its Delay
-abbrev pub TellsOn : Dialogue → Bool → List Event → Type 0
-TellsOn f noted [] = Unit {0}
-TellsOn f noted (Done t op r ∷ K) = (f [] ≡ Calls op) × TellsOn (rest f (r ∷ [])) false K
-TellsOn f noted (Delay t op older y ∷ K) = (noted ≡ false) × (f [] ≡ Calls op) × (older < t) × (CommutesWith op y → ⊥) × TellsOn f true K
-TellsOn f noted (End t r ∷ K) = (f [] ≡ Answers r) × (K ≡ [])
-TellsOn f noted (Begin t c ∷ K) = ⊥
-
--- a ticket's events: none yet, or its Begin and what comes after it
-abbrev pub TellsAll : Dialogue → List Event → Type 0
-TellsAll f [] = Unit {0}
-TellsAll f (Begin t c ∷ K) = TellsOn f false K
-TellsAll f (_ ∷ K) = ⊥

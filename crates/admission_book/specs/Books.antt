@@ -8,9 +8,12 @@ use Rattle.session_values.specs.Dialogue.{Calls, Answers, rest, replies}
 use Rattle.symbolic_ops.specs.declared.symbol.Symbol.{Symbol}
 use Rattle.symbolic_ops.specs.Symbols.{Matches, Covered}
 use Rattle.session_journal.specs.declared.event.Event.{Event}
+use Rattle.session_journal.specs.Foreknown.{Foreknown}
 use Rattle.session_journal.specs.Journal.{begun, entries, after}
 use Rattle.session_journal.specs.Script.{Meaning, IsForesight}
-use Rattle.admission_book.specs.Book.{Book, Serving, record_of, now, IsOpen, IsFree, IsBlocker, after_begin, after_narrow, after_admit, after_delay, after_done, after_end}
+use Rattle.admission_book.specs.Book.{Book, Serving, record_of, IsFree, IsBlocker, after_begin, after_narrow, after_admit, after_delay, after_done, after_end}
+use Rattle.admission_book.specs.EventsInTurn.{now, IsOpen}
+use Rattle.admission_book.specs.Lawful.{Lawful}
 use Rattle.admission_book.specs.declared.admission.Admission.{Admission}
 use Rattle.admission_book.specs.declared.admission.Admission.TheVariants.{Admitted, Delayed}
 
@@ -23,6 +26,15 @@ pub record BookView (S : Type 0) : Type 0 where
 pub record Grows (J K : List Event) : Type 0 where
   pub more : List Event
   pub is : K ≡ J ++ more
+
+-- what each method of a book keeps, whatever else it changes: the script, that the book is lawful, that
+-- what every begun ticket has done so far is what it does in the serial run, and the journal before as
+-- the front of the journal after
+pub record StaysLawful (S : Type 0) (meaning : S → Meaning) (v w : BookView S) : Type 0 where
+  pub script : w.script ≡ v.script
+  pub lawful : Lawful (meaning w.script) w.book
+  pub foreknown : (t : ℕ) → t < begun w.book.journal → Foreknown (meaning w.script) w.book.journal t
+  pub grows : Grows v.book.journal w.book.journal
 
 -- the next of n tickets, where one is left to begin
 abbrev pub IfNext : Option ℕ → ℕ → List Event → Type 0
@@ -78,7 +90,7 @@ pub record MayDo (m : Meaning) (b : Book) (t : ℕ) (r : Value) (f : List Symbol
   pub is : record_of b caller ≡ Some serving
   pub ticket : serving.ticket ≡ t
   pub flight : serving.flight ≡ Some op
-  pub reply_is : r ≡ reply (after m.shape b.journal) op
+  pub reply_is : r ≡ reply (after m.opening b.journal) op
   pub covered : Covered f serving.foresight
   pub covers : IsForesight (rest (m.next t) (replies (entries b.journal t ++ record { op = op; reply = r } ∷ []))) f
 

@@ -16,14 +16,17 @@ use symbolic_ops::Symbol;
 /// An older open ticket, and its first symbol with which an operation doesn't commute.
 #[derive(Clone, Copy)]
 pub(crate) struct Blocker {
+    /// The ticket.
     pub(crate) older: u32,
+    /// The symbol of its foresight.
     pub(crate) symbol: Symbol,
 }
 
 /// The first symbol with which the operation doesn't commute.
 fn first_against(op: &Op, symbols: &[Symbol]) -> Option<Symbol>
     requires { AllByRecursion HasNoVar symbols.now }
-    ensures { MatchOption result (AllByRecursion (λ y. CommutesWith op.now y) symbols.now) (λ y. IsFirstAgainst op.now symbols.now y) }
+    ensures { MatchOption result (AllByRecursion (λ y. CommutesWith op.now y) symbols.now)
+        (λ y. IsFirstAgainst op.now symbols.now y) }
 {
     for s in symbols {
         if !commute_symbol(op, s) {

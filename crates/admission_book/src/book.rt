@@ -2,11 +2,11 @@
 
 ghost use Rattle.std.specs.Prelude.{◌≡◌, ℕ, ◌+◌, ◌*◌, ◌<◌, ◌≤◌, Some, IsSome, IfOk, IfSome, length, map};
 ghost use Rattle.session_values.specs.Serial.{serial, serial_replies, tables_before};
-ghost use Rattle.session_journal.specs.Foreknown.{Foreknown};
-ghost use Rattle.session_journal.specs.Journal.{after, begun, ended};
-ghost use Rattle.session_journal.specs.Script.{calls, session_of};
-ghost use Rattle.admission_book.specs.Book.{Lawful, kept_for, opened};
-ghost use Rattle.admission_book.specs.Books.{Admits, Begins, DidIt, Grows, HasEnded, IfNext, IsOldestOpen, MayAdmit, MayBeginNext, MayDo, MayEnd, MayNarrow, Narrowed};
+ghost use Rattle.session_journal.specs.Journal.{after, ended};
+ghost use Rattle.session_journal.specs.Script.{IsScript, calls, session_of};
+ghost use Rattle.admission_book.specs.Book.{kept_for, opened};
+ghost use Rattle.admission_book.specs.Lawful.{Lawful};
+ghost use Rattle.admission_book.specs.Books.{Admits, Begins, DidIt, HasEnded, IfNext, IsOldestOpen, MayAdmit, MayBeginNext, MayDo, MayEnd, MayNarrow, Narrowed, StaysLawful};
 
 use crate::admission::Admission;
 use crate::blocker::least_against;
@@ -25,12 +25,17 @@ pub type Replies = Listed<Reply>;
 /// for each caller the ticket that it serves.
 #[derive(Drop)]
 pub struct Book<S: Script + Drop> {
+    /// What the tickets call, answer and declare. No call changes it.
     script: S,
+    /// How many tickets are begun, so the next one's number.
     begun: u32,
+    /// What was done, in room for all events that the script allows.
     journal: Journal,
+    /// For each ticket of the script the reply with which it ended, or None until then.
     kept: Vec<Option<Reply>>,
     /// Empty, with room for the replies that `close` gives.
     listed: Vec<Reply>,
+    /// For each caller, by its number, the ticket that it serves.
     records: Vec<CallerRecord>,
 }
 
@@ -41,9 +46,14 @@ impl<S: Script + Drop> Model for Book<S> {
 
     ghost Value = { BookView S };
 
-    ghost view = { λ b. record { script = b.script; book = book_of b.journal.events b.kept.items b.records.items } };
+    ghost view = { λ b. record {
+      script = b.script;
+      book = book_of b.journal.events b.kept.items b.records.items;
+    } };
 
-    ghost invariant = { λ b. Keeps (S.meaning b.script) b.begun b.journal b.kept.items b.listed.items (vec_capacity b.listed) b.records.items };
+    ghost invariant = { λ b. Keeps
+        (S.meaning b.script) b.begun b.journal b.kept.items b.listed.items
+        (vec_capacity b.listed) b.records.items };
 }
 
 impl<S: Script + Drop> Book<S> {
@@ -71,8 +81,10 @@ impl<S: Script + Drop> Book<S> {
         })
     }
 
+    /// The script, which is lawful.
     pub fn script(&self) -> &S
-        ensures { result.now ≡ self.now.script }
+        ensures script { result.now ≡ self.now.script }
+        ensures lawful { IsScript (S.meaning self.now.script) }
     {
         &self.script
     }
@@ -91,12 +103,11 @@ impl<S: Script + Drop> Book<S> {
     /// Begins the next ticket for a caller, or None where all are begun.
     pub fn begin(&mut self, caller: u32, entry: &Foresight) -> Option<u32>
         requires lawful { Lawful (S.meaning self.old.script) self.old.book }
-        requires may { MayBeginNext (S.meaning self.old.script) self.old.book caller entry.now.symbols }
-        ensures script { self.new.script ≡ self.old.script }
-        ensures begins { Begins (S.meaning self.old.script) self.old.book caller entry.now.symbols result self.new.book }
-        ensures lawful { Lawful (S.meaning self.new.script) self.new.book }
-        ensures foreknown { (u : ℕ) → u < begun self.new.book.journal → Foreknown (S.meaning self.new.script) self.new.book.journal u }
-        ensures grows { Grows self.old.book.journal self.new.book.journal }
+        requires may { MayBeginNext
+            (S.meaning self.old.script) self.old.book caller entry.now.symbols }
+        ensures begins { Begins (S.meaning self.old.script) self.old.book
+            caller entry.now.symbols result self.new.book }
+        ensures stays { StaysLawful S S.meaning self.old self.new }
     {
         if self.begun >= self.script.requests() {
             return None;
@@ -113,11 +124,8 @@ impl<S: Script + Drop> Book<S> {
     pub fn narrow(&mut self, t: u32, f: &Foresight)
         requires lawful { Lawful (S.meaning self.old.script) self.old.book }
         requires may { MayNarrow (S.meaning self.old.script) self.old.book t f.now.symbols }
-        ensures script { self.new.script ≡ self.old.script }
         ensures narrowed { Narrowed self.old.book t f.now.symbols self.new.book }
-        ensures lawful { Lawful (S.meaning self.new.script) self.new.book }
-        ensures foreknown { (u : ℕ) → u < begun self.new.book.journal → Foreknown (S.meaning self.new.script) self.new.book.journal u }
-        ensures grows { Grows self.old.book.journal self.new.book.journal }
+        ensures stays { StaysLawful S S.meaning self.old self.new }
     {
         let caller = place_of(self.records.as_slice(), t);
         self.records[caller].narrow(f);
@@ -128,12 +136,9 @@ impl<S: Script + Drop> Book<S> {
     pub fn admit(&mut self, t: u32, op: Op) -> Admission
         requires lawful { Lawful (S.meaning self.old.script) self.old.book }
         requires may { MayAdmit (S.meaning self.old.script) self.old.book t op }
-        ensures script { self.new.script ≡ self.old.script }
         ensures admits { Admits self.old.book t op result self.new.book }
         ensures oldest { IsOldestOpen (Some t) self.old.book.journal → result ≡ Admission.Admitted }
-        ensures lawful { Lawful (S.meaning self.new.script) self.new.book }
-        ensures foreknown { (u : ℕ) → u < begun self.new.book.journal → Foreknown (S.meaning self.new.script) self.new.book.journal u }
-        ensures grows { Grows self.old.book.journal self.new.book.journal }
+        ensures stays { StaysLawful S S.meaning self.old self.new }
     {
         let caller = place_of(self.records.as_slice(), t);
         let Some(b) = least_against(self.records.as_slice(), t, &op) else {
@@ -157,11 +162,8 @@ impl<S: Script + Drop> Book<S> {
     pub fn done(&mut self, t: u32, reply: Value, next: &Foresight)
         requires lawful { Lawful (S.meaning self.old.script) self.old.book }
         requires may { MayDo (S.meaning self.old.script) self.old.book t reply next.now.symbols }
-        ensures script { self.new.script ≡ self.old.script }
         ensures did { DidIt self.old.book t reply next.now.symbols self.new.book }
-        ensures lawful { Lawful (S.meaning self.new.script) self.new.book }
-        ensures foreknown { (u : ℕ) → u < begun self.new.book.journal → Foreknown (S.meaning self.new.script) self.new.book.journal u }
-        ensures grows { Grows self.old.book.journal self.new.book.journal }
+        ensures stays { StaysLawful S S.meaning self.old self.new }
     {
         let caller = place_of(self.records.as_slice(), t);
         let op = self.records[caller].finish(next);
@@ -177,11 +179,8 @@ impl<S: Script + Drop> Book<S> {
     pub fn end(&mut self, t: u32, reply: Reply)
         requires lawful { Lawful (S.meaning self.old.script) self.old.book }
         requires may { MayEnd (S.meaning self.old.script) self.old.book t reply }
-        ensures script { self.new.script ≡ self.old.script }
         ensures ended { HasEnded self.old.book t reply self.new.book }
-        ensures lawful { Lawful (S.meaning self.new.script) self.new.book }
-        ensures foreknown { (u : ℕ) → u < begun self.new.book.journal → Foreknown (S.meaning self.new.script) self.new.book.journal u }
-        ensures grows { Grows self.old.book.journal self.new.book.journal }
+        ensures stays { StaysLawful S S.meaning self.old self.new }
     {
         let caller = place_of(self.records.as_slice(), t);
         self.records[caller].end();
@@ -201,31 +200,40 @@ impl<S: Script + Drop> Book<S> {
     pub fn journal(&self) -> &Journal
         requires lawful { Lawful (S.meaning self.now.script) self.now.book }
         ensures events { result.now.events ≡ self.now.book.journal }
-        ensures few { length self.now.book.journal ≤ 2 * (S.meaning self.now.script).requests + 2 * calls (S.meaning self.now.script) }
-        ensures room { 2 * (S.meaning self.now.script).requests + 2 * calls (S.meaning self.now.script) ≤ result.now.room }
+        ensures few { length self.now.book.journal
+            ≤ 2 * (S.meaning self.now.script).requests + 2 * calls (S.meaning self.now.script) }
+        ensures room { 2 * (S.meaning self.now.script).requests
+            + 2 * calls (S.meaning self.now.script) ≤ result.now.room }
     {
         &self.journal
     }
 
-    /// The reply of a ticket, or None where it hasn't ended.
+    /// The reply of a ticket, or None where it hasn't ended or isn't one of the script's.
     pub fn reply(&self, t: u32) -> Option<Reply>
-        requires lawful { Lawful (S.meaning self.now.script) self.now.book }
-        requires ticket { t < (S.meaning self.now.script).requests }
         ensures kept { result ≡ kept_for self.now.book t }
-        ensures ended { result ≡ ended self.now.book.journal t }
-        ensures serial { IfSome result (λ r. (serial (session_of (S.meaning self.now.script)) t).answer ≡ Some r) }
+        ensures ended { Lawful (S.meaning self.now.script) self.now.book →
+            result ≡ ended self.now.book.journal t }
+        ensures serial { Lawful (S.meaning self.now.script) self.now.book →
+            IfSome result (λ r.
+            (serial (session_of (S.meaning self.now.script)) t).answer ≡ Some r) }
     {
-        self.kept[t as usize]
+        match self.kept.get(t as usize) {
+            Some(reply) => *reply,
+            None => None,
+        }
     }
 
     /// What was done of all tickets, and their replies.
     pub fn close(self) -> (Journal, Replies)
         requires lawful { Lawful (S.meaning self.script) self.book }
-        requires ended { (t : ℕ) → t < (S.meaning self.script).requests → IsSome (ended self.book.journal t) }
+        requires ended { (t : ℕ) → t < (S.meaning self.script).requests →
+            IsSome (ended self.book.journal t) }
         ensures events { result.0.events ≡ self.book.journal }
         ensures kept { map (λ r. Some r) result.1 ≡ self.book.kept }
-        ensures tables { after (S.meaning self.script).shape result.0.events ≡ tables_before (session_of (S.meaning self.script)) (S.meaning self.script).requests }
-        ensures serial { result.1 ≡ serial_replies (session_of (S.meaning self.script)) (S.meaning self.script).requests }
+        ensures tables { after (S.meaning self.script).opening result.0.events
+            ≡ tables_before (session_of (S.meaning self.script)) (S.meaning self.script).requests }
+        ensures serial { result.1
+            ≡ serial_replies (session_of (S.meaning self.script)) (S.meaning self.script).requests }
     {
         let Book {
             script: _,

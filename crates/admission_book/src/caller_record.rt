@@ -11,10 +11,13 @@ use symbolic_ops::Foresight;
 /// The ticket that a caller serves, if any, with its foresight and the operation in flight.
 #[derive(Drop)]
 pub(crate) struct CallerRecord {
+    /// The open ticket, or None while the caller serves none.
     pub(crate) ticket: Option<u32>,
+    /// What the ticket may still call, in room for 256 symbols. Without a ticket it says nothing.
     pub(crate) foresight: Foresight,
+    /// The operation that was admitted and isn't done yet.
     pub(crate) flight: Option<Op>,
-    /// Whether the last event of the ticket is a Delay.
+    /// Whether the last event of the ticket is a Delay, so that a delay is noted once.
     pub(crate) delayed: bool,
 }
 
@@ -42,6 +45,7 @@ impl CallerRecord {
         }
     }
 
+    /// Takes over a ticket with what it declares at its beginning.
     pub(crate) fn begin(&mut self, t: u32, entry: &Foresight)
         requires { length entry.now.symbols ≤ self.old.foresight.room }
         ensures { self.new ≡ with_ticket self.old t entry.now.symbols }
@@ -52,6 +56,7 @@ impl CallerRecord {
         self.foresight.replace(entry);
     }
 
+    /// Makes a list the ticket's foresight.
     pub(crate) fn narrow(&mut self, f: &Foresight)
         requires { length f.now.symbols ≤ self.old.foresight.room }
         ensures { self.new ≡ with_symbols self.old f.now.symbols }
@@ -59,6 +64,7 @@ impl CallerRecord {
         self.foresight.replace(f);
     }
 
+    /// Puts an operation in flight.
     pub(crate) fn launch(&mut self, op: Op)
         ensures { self.new ≡ with_flight self.old op }
     {
@@ -79,6 +85,7 @@ impl CallerRecord {
         op
     }
 
+    /// Gives the ticket up.
     pub(crate) fn end(&mut self)
         ensures { self.new ≡ after_ticket self.old }
     {

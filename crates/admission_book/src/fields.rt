@@ -71,7 +71,11 @@ pub(crate) fn least_ticket(records: &[CallerRecord]) -> Option<u32>
 /// Notes a delay, where the last event of the record's ticket is none.
 pub(crate) fn note_delay(journal: &mut Journal, r: &mut CallerRecord, delay: Event)
     requires { r.old.delayed ≡ false → length journal.old.events < journal.old.room }
-    ensures journal { journal.new ≡ record { events = cond r.old.delayed journal.old.events (journal.old.events ++ delay ∷ []); room = journal.old.room } }
+    ensures journal { journal.new ≡ record {
+      events = cond r.old.delayed journal.old.events
+          (journal.old.events ++ delay ∷ []);
+      room = journal.old.room;
+    } }
     ensures noted { r.new ≡ with_delay r.old }
 {
     if r.delayed {

@@ -7,8 +7,6 @@ mod book;
 mod caller_record;
 mod fields;
 pub mod laws;
-#[cfg(test)]
-mod tests;
 
 pub use admission::Admission;
 pub use book::{Book, Replies};

@@ -1,8 +1,8 @@
 -- Reads and writes one after another.
 use Rattle.std.proofs.Common.{◌≡◌, ℕ, ◌+◌, ◌<◌, ◌≤◌, List, [], ◌++◌, take, drop, length, Option, Some, None, IfSome, sym, ap, ◌∙◌, subst, append_assoc, arith, append-nil, length-append}
 use Rattle.std.proofs.lemmas.List.{take-append-le, take_all}
-use Rattle.std.proofs.Math.Seq.{take-add, take-append_seam, drop-append_seam}
-use Rattle.byte_ends.specs.Ends.{Rose, Grew, GrewByFront}
+use Rattle.std.proofs.Math.Seq.{take-add, take-append_seam, drop-append_seam, drop-append-add}
+use Rattle.byte_ends.specs.Ends.{Rose, Gave, LostFirst, LostAtMost, Grew, GrewByFront}
 
 -- these bytes were taken from the front of what was there, and the rest is there still
 abbrev pub Taken : Option (List ℕ) → Option (List ℕ) → List ℕ → Type 0
@@ -65,3 +65,20 @@ rose_still before mid now rose later = omega (arith, rose, later)
 pub long_taken : (old now : Option (List ℕ)) (bytes : List ℕ) (n : ℕ) → Taken old now bytes → n < length bytes → IfSome old (λ all. n < length all)
 long_taken None now bytes n taken long = taken
 long_taken (Some all) now bytes n taken long = omega (arith, long, ap length taken.1, length-append bytes taken.0)
+
+-- just these bytes are gone
+pub exact_taken : (old now : Option (List ℕ)) (bytes : List ℕ) (n : ℕ) → Taken old now bytes → length bytes ≡ n → LostFirst old now n
+exact_taken None now bytes n taken e = taken
+exact_taken (Some all) now bytes n taken e =
+    taken.2 ∙ ap Some (sym (ap (λ k. drop k all) (sym e) ∙ ap (drop (length bytes)) taken.1 ∙ drop-append_seam bytes taken.0))
+
+-- these bytes are gone, and those of one read more
+pub lost_more : (old mid new : Option (List ℕ)) (bytes : List ℕ) (n : ℕ) (buf : List ℕ) (most : ℕ) → Taken old mid bytes → IfSome mid (λ xs. Gave xs new n buf) → length bytes + n ≤ most → LostAtMost old new most
+lost_more None mid new bytes n buf most taken gave few = taken
+lost_more (Some all) mid new bytes n buf most taken gave few =
+    let g : Gave taken.0 new n buf = subst (λ o. IfSome o (λ xs. Gave xs new n buf)) taken.2 gave in (
+      length bytes + n,
+      few,
+      omega (arith, g.within, ap length taken.1, length-append bytes taken.0),
+      g.rest ∙ ap Some (sym (ap (drop (length bytes + n)) taken.1 ∙ drop-append-add bytes taken.0 n)),
+    )

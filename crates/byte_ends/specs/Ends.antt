@@ -13,6 +13,10 @@ raised count = min (count + 1) (2 ^ 64 - 1)
 abbrev pub Rose : ℕ → ℕ → Type 0
 Rose before now = raised before ≤ now
 
+-- what is told stands as it was
+abbrev pub Stays : Option (List ℕ) → Option (List ℕ) → Type 0
+Stays old new = IfSome old (λ bytes. new ≡ Some bytes)
+
 -- the next n of the old bytes stand at the front of the buffer, and the others are left
 pub record Gave (old : List ℕ) (new : Option (List ℕ)) (n : ℕ) (buf : List ℕ) : Type 0 where
   pub within : n ≤ length old
@@ -22,13 +26,25 @@ pub record Gave (old : List ℕ) (new : Option (List ℕ)) (n : ℕ) (buf : List
 -- what a read gave, where old and new are what was left before and is left now
 abbrev pub ReadGives : Option (List ℕ) → Option (List ℕ) → List ℕ → Got → Type 0
 ReadGives old new buf (got.Bytes n) = (0 < n) × (n ≤ length buf) × IfSome old (λ bytes. Gave bytes new n buf)
-ReadGives old new buf got.End = (new ≡ old) × IfSome old (λ bytes. bytes ≡ [])
-ReadGives old new buf got.Failed = new ≡ old
+ReadGives old new buf got.End = Stays old new × IfSome old (λ bytes. bytes ≡ [])
+ReadGives old new buf got.Failed = Stays old new
 
 -- what a write took, where old and new are what was held before and is held now
 abbrev pub WriteTakes : Option (List ℕ) → Option (List ℕ) → List ℕ → Put → Type 0
 WriteTakes old new bytes (put.Took n) = (0 < n) × (n ≤ length bytes) × IfSome old (λ held. new ≡ Some (held ++ take n bytes))
-WriteTakes old new bytes put.Failed = new ≡ old
+WriteTakes old new bytes put.Failed = Stays old new
+
+-- all that was left is gone, where it is told
+abbrev pub IsAtEnd : Option (List ℕ) → Option (List ℕ) → Type 0
+IsAtEnd old new = IfSome old (λ _. new ≡ Some [])
+
+-- the first n of the bytes that were left are gone, and no others, where they are told
+abbrev pub LostFirst : Option (List ℕ) → Option (List ℕ) → ℕ → Type 0
+LostFirst old new n = IfSome old (λ bytes. new ≡ Some (drop n bytes))
+
+-- so many of the first bytes at most are gone, and no others, where they are told
+abbrev pub LostAtMost : Option (List ℕ) → Option (List ℕ) → ℕ → Type 0
+LostAtMost old new most = IfSome old (λ bytes. (n : ℕ) × (n ≤ most) × (n ≤ length bytes) × (new ≡ Some (drop n bytes)))
 
 -- what is held grew by these bytes, where it is told
 abbrev pub Grew : Option (List ℕ) → Option (List ℕ) → List ℕ → Type 0

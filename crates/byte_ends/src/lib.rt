@@ -20,6 +20,3 @@ pub use source::{Got, Source};
 pub use sure_sink::SureSink;
 pub use sure_source::SureSource;
 pub use writing::write_all;
-
-#[cfg(test)]
-mod tests;

@@ -1,7 +1,7 @@
 // All bytes of a source.
 
-ghost use Rattle.std.specs.Prelude.{◌≡◌, ◌<◌, ◌≤◌, [], length, vec_len, Some, IfOk, OnOk, IfSome, IsErrOf};
-ghost use Rattle.byte_ends.specs.Ends.{Rose};
+ghost use Rattle.std.specs.Prelude.{◌≡◌, ◌<◌, ◌≤◌, length, vec_len, IfOk, OnOk, IfSome, IsErrOf};
+ghost use Rattle.byte_ends.specs.Ends.{Rose, IsAtEnd, LostFirst, LostAtMost};
 
 use crate::source::{Got, Source};
 use std::alloc::Global;
@@ -23,19 +23,32 @@ pub enum Unread {
     NoMemory,
 }
 
-/// All that the source has, up to its end.
+/// All that the source has, up to its end. It asks for no byte behind the first one that is too
+/// many.
 pub fn read_all<I: Source>(alloc: Global, source: &mut I) -> Result<Vec<u8>, Unread>
+    // These are all the bytes that were left, and the source is at its end.
     ensures read { IfOk result (λ bytes. IfSome (I.left source.old) (λ all. bytes.items ≡ all)) }
     ensures bound { IfOk result (λ bytes. vec_len bytes ≤ 4194304) }
-    ensures end { OnOk result (IfSome (I.left source.old) (λ _. I.left source.new ≡ Some [])) }
-    ensures large { IsErrOf result Unread.TooLarge → IfSome (I.left source.old) (λ all. 4194304 < length all) }
-    ensures failed { IsErrOf result Unread.Failed → Rose (I.faults source.old) (I.faults source.new) }
+    ensures end { OnOk result (IsAtEnd (I.left source.old) (I.left source.new)) }
+    // There are more than the bound. The first ones up to the bound and one more are gone.
+    ensures large { IsErrOf result Unread.TooLarge
+        → IfSome (I.left source.old) (λ all. 4194304 < length all) }
+    ensures gone { IsErrOf result Unread.TooLarge
+        → LostFirst (I.left source.old) (I.left source.new) 4194305 }
+    ensures failed { IsErrOf result Unread.Failed
+        → Rose (I.faults source.old) (I.faults source.new) }
+    // What was read is gone, and no more: at a fault no more than the bound, and never more than
+    // one byte above it.
+    ensures broken { IsErrOf result Unread.Failed
+        → LostAtMost (I.left source.old) (I.left source.new) 4194304 }
+    ensures lost { LostAtMost (I.left source.old) (I.left source.new) 4194305 }
     ensures later { I.faults source.old ≤ I.faults source.new }
 {
     let mut bytes = Vec::new(alloc);
     let mut buf = [0u8; 16384];
     'pieces: while bytes.len() <= MAX_INPUT {
-        match source.read(&mut buf) {
+        let most = (MAX_INPUT + 1 - bytes.len()).min(buf.len());
+        match source.read(&mut buf[..most]) {
             Got::Failed => return Err(Unread::Failed),
             Got::End => return Ok(bytes),
             Got::Bytes(n) => {

@@ -8,16 +8,19 @@ use Rattle.session_values.specs.declared.value.Value.{Value}
 use Rattle.symbolic_ops.specs.declared.arg.Arg.{Arg}
 use Rattle.symbolic_ops.specs.declared.arg.Arg.TheVariants.{Known, Var, Any}
 use Rattle.symbolic_ops.specs.declared.symbol.Symbol.{Symbol}
-use Rattle.session_values.specs.Values.{value_eq}
-use Rattle.commute_tables.specs.Relation.{same_bool, is_keyed, is_plain, kind_place, is_on_map, commutes}
-use Rattle.session_values.specs.Tables.{is_read}
+use Rattle.session_values.specs.declared.value.Value.TheVariants.{Nil}
+use Rattle.session_values.specs.Op.{IsHeld}
+use Rattle.session_values.specs.Values.{value_eq, IsValue}
+use Rattle.symbolic_ops.specs.Symbol.{IsHeldArg, IsHeldSymbol}
+use Rattle.session_values.specs.Kinds.{is_keyed, is_plain, kind_place, is_on_map, is_read}
+use Rattle.commute_tables.specs.Relation.{same_bool, commutes}
 use Rattle.symbolic_ops.specs.Symbols.{Agrees, IsNoVar, HasNoVar, StandsFor}
 use Rattle.commute_tables.specs.Symbols.{CommutesWith, DiffersFromSome}
 use Rattle.commute_tables.specs.Relation.{is_apart, is_same, commutes_symbol}
 use Rattle.commute_tables.proofs.Apart.{same_value, value_eq-self}
 use Rattle.commute_tables.proofs.Commutes.{and_both, not_true, same_kind, commutes-Commute}
 use Rattle.commute_tables.proofs.Telling.{or_false, not_false, commutes-Differ, not_commute}
-use Rattle.commute_tables.proofs.TellingPairs.{other, other_differs}
+use Rattle.commute_tables.proofs.TellingPairs.{other, other_differs, other_held}
 
 plain_keyed : (kind : Kind) → is_plain kind ≡ true → is_keyed kind ≡ true
 plain_keyed Get h = refl
@@ -132,9 +135,38 @@ value_agrees v (Known w) h = refl
 value_agrees v (Var x) h = absurd h
 value_agrees v Any h = tt
 
-near_stands : (a : Op) (s : Symbol) → HasNoVar s → StandsFor s (near a s)
+-- it is one that a program can hold
+held_key : (k : Value) (arg : Arg) → IsValue k → IsHeldArg arg → IsValue (near_key k arg)
+held_key k (Known w) h g = g
+held_key k (Var x) h g = h
+held_key k Any h g = h
+
+held_value : (v : Value) (arg : Arg) → IsHeldArg arg → IsValue (other_value v arg)
+held_value v (Known w) g = g
+held_value v (Var x) g = other_held v
+held_value v Any g = other_held v
+
+nil_key : (k : Value) (arg : Arg) → arg ≡ Known Nil → near_key k arg ≡ Nil
+nil_key k (Known w) e = cc
+nil_key k (Var x) e = cc
+nil_key k Any e = cc
+
+nil_value : (v : Value) (arg : Arg) → arg ≡ Known Nil → other_value v arg ≡ Nil
+nil_value v (Known w) e = cc
+nil_value v (Var x) e = cc
+nil_value v Any e = cc
+
+near_held : (a : Op) (s : Symbol) → IsHeld a → IsHeldSymbol s → IsHeld (near a s)
 unfolding near
-near_stands a s h = record { kind = refl; table = refl; key = key_agrees a.key s.key h.0; value = value_agrees a.value s.value h.1 }
+near_held a s h g = record {
+  key = held_key a.key s.key h.key g.key;
+  value = held_value a.value s.value g.value;
+  unused = (λ l. nil_key a.key s.key (g.unused.0 l), λ l. nil_value a.value s.value (g.unused.1 l));
+}
+
+near_stands : (a : Op) (s : Symbol) → HasNoVar s → IsHeld a → IsHeldSymbol s → StandsFor s (near a s)
+unfolding near
+near_stands a s h b g = record { held = near_held a s b g; kind = refl; table = refl; key = key_agrees a.key s.key h.0; value = value_agrees a.value s.value h.1 }
 
 near_apart : (k : Value) (arg : Arg) → is_apart k arg ≡ false → value_eq k (near_key k arg) ≡ true
 near_apart k (Known w) h = not_false _ h
@@ -183,18 +215,16 @@ near_differs a s h = or_false_too (not (eqb a.table s.table) || not (same_bool (
             and_none true y e = e
             and_none false y e = refl
 
-pub symbol_differs : (a : Op) (s : Symbol) → HasNoVar s → commutes_symbol a s ≡ false → DiffersFromSome a s
-symbol_differs a s v h = record { op = near a s; stands = near_stands a s v; differ = commutes-Differ a (near a s) (near_differs a s h) }
+pub symbol_differs : (a : Op) (s : Symbol) → HasNoVar s → IsHeld a → IsHeldSymbol s → commutes_symbol a s ≡ false → DiffersFromSome a s
+symbol_differs a s v b g h = record { op = near a s; stands = near_stands a s v b g; differ = commutes-Differ a (near a s) (near_differs a s h) }
 
-pub symbol_decided : (a : Op) (s : Symbol) (r : Bool) → HasNoVar s → r ≡ commutes_symbol a s → MatchBool r (CommutesWith a s) (DiffersFromSome a s)
-symbol_decided a s true v e = symbol_commutes a s (sym e)
-symbol_decided a s false v e = symbol_differs a s v (sym e)
+pub symbol_decided : (a : Op) (s : Symbol) (r : Bool) → HasNoVar s → IsHeld a → IsHeldSymbol s → r ≡ commutes_symbol a s → MatchBool r (CommutesWith a s) (DiffersFromSome a s)
+symbol_decided a s true v b g e = symbol_commutes a s (sym e)
+symbol_decided a s false v b g e = symbol_differs a s v b g (sym e)
 
-pub Decides-commute_symbol : (a : Op) (s : Symbol) (r : Bool) → HasNoVar s → r ≡ commutes_symbol a s → Decides r (CommutesWith a s)
-Decides-commute_symbol a s r v e = (λ h. symbol_commutes a s (sym e ∙ h), λ k. e ∙ go (commutes_symbol a s) refl k)
+pub Decides-commute_symbol : (a : Op) (s : Symbol) (r : Bool) → HasNoVar s → IsHeld a → IsHeldSymbol s → r ≡ commutes_symbol a s → Decides r (CommutesWith a s)
+Decides-commute_symbol a s r v b g e = (λ h. symbol_commutes a s (sym e ∙ h), λ k. e ∙ go (commutes_symbol a s) refl k)
   where
     go : (c : Bool) → commutes_symbol a s ≡ c → CommutesWith a s → commutes_symbol a s ≡ true
     go true f k = f
-    go false f k = absurd (not_commute a (near a s) (near_differs a s f) (k.each (near a s) (near_stands a s v)))
-
-pub ruleset symbol_exactly = (Decides-commute_symbol)
+    go false f k = absurd (not_commute a (near a s) (near_differs a s f) (k.each (near a s) (near_stands a s v b g)))

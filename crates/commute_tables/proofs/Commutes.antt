@@ -12,8 +12,8 @@ use Rattle.session_values.specs.declared.value.Value.TheVariants.{Nil, Num}
 use Rattle.session_values.specs.Values.{value_cmp, value_eq}
 use Rattle.session_values.specs.Tables.{Container, Bindings, Members, map_reply, map_after, set_reply, set_after, reply_on, after_on, bit}
 use Rattle.session_values.specs.Commuting.{Commute}
-use Rattle.commute_tables.specs.Relation.{same_bool, is_keyed, is_plain, kind_place, is_on_map, commutes}
-use Rattle.session_values.specs.Tables.{is_read}
+use Rattle.session_values.specs.Kinds.{is_keyed, is_plain, kind_place, is_on_map, is_read}
+use Rattle.commute_tables.specs.Relation.{same_bool, commutes}
 use Rattle.commute_tables.proofs.Apart.{same_value, not_same, get_apart, act_apart, MapAct, Keep, Bind, Unbind, act_on_map, bound_by, get-act_on_map, same_map, SetAct, Stay, Join, Leave, act_on_set, member_by, contains-act_on_set, same_set}
 use Rattle.commute_tables.proofs.OneTable.{SwapsOn, commute_on, commute_apart}
 

@@ -5,8 +5,7 @@ use Rattle.session_values.specs.declared.kind.Kind.{Kind}
 use Rattle.session_values.specs.declared.kind.Kind.TheVariants.{Get, Put, Swap, Del, Size, Has, Add, Mark, Drop, Count}
 use Rattle.session_values.specs.declared.kind.TableKind.{TableKind}
 use Rattle.session_values.specs.declared.kind.TableKind.TheVariants.{Map, Set}
-use Rattle.session_values.specs.Tables.{home}
-use Rattle.commute_tables.specs.Relation.{is_on_map}
+use Rattle.session_values.specs.Kinds.{home, is_on_map}
 
 no_map : (r : Bool) → (r ≡ true → Set ≡ Map) → r ≡ false
 no_map true h = let e : ◌≡◌ {A = TableKind} Set Map = h refl in cc

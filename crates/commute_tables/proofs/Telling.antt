@@ -1,28 +1,29 @@
 -- The states that tell apart the orders of operations that don't commute.
 use Rattle.std.proofs.Common.{◌≡◌, ℕ, zero, suc, ◌<◌, List, [], ◌∷◌, length, Option, Some, None, Bool, true, false, not, ◌&&◌, ◌||◌, eqb, refl, sym, ◌∙◌, ap, subst, arith}
 use Rattle.std.specs.Prelude.{slice_get}
-use mathlib.Core.List.{map as list_map}
 use Rattle.std.proofs.Math.ListN.{set as put_at, replicate}
 use Rattle.std.proofs.lemmas.List.{get_or-set_same, length-set, map-set}
 use Rattle.std.proofs.lemmas.Bool.Decides.{nat_tests}
 use Rattle.session_values.specs.declared.kind.Kind.{Kind}
 use Rattle.session_values.specs.declared.kind.Kind.TheVariants.{Get, Put, Swap, Del, Size, Has, Add, Mark, Drop, Count}
 use Rattle.session_values.specs.declared.kind.TableKind.{TableKind}
-use Rattle.session_values.specs.declared.kind.TableKind.TheVariants.{Map, Set}
+use Rattle.session_values.specs.declared.kind.TableKind.TheVariants.{Map}
 use Rattle.session_values.specs.declared.op.Op.{Op}
 use Rattle.session_values.specs.declared.value.Value.{Value}
 use Rattle.session_values.specs.Values.{value_eq, IsValue}
-use Rattle.session_values.specs.Tables.{Tables, Container, empty_of, start, table, reply_on, after_on, home, Fits, AreValues}
+use Rattle.session_values.specs.Kinds.{home, is_keyed, is_plain, kind_place, is_on_map, is_read}
+use Rattle.session_values.specs.Tables.{Tables, Container, empty_of, start, table, reply_on, after_on, Fits, AreValues}
 use Rattle.session_values.specs.Commuting.{Commute}
-use Rattle.commute_tables.specs.Relation.{same_bool, is_keyed, is_plain, kind_place, is_on_map, commutes}
-use Rattle.session_values.specs.Tables.{is_read, kind_of}
+use Rattle.commute_tables.specs.Relation.{same_bool, commutes}
+use Rattle.session_values.specs.Tables.{kind_of}
+use Rattle.session_values.proofs.Starts.{kinds_of_start, start_length, values_of_start}
 use Rattle.commute_tables.specs.ToldApart.{ToldApart, Differ, CommuteAt}
 use Rattle.commute_tables.proofs.Apart.{same_value, value_eq-self}
 use Rattle.std.specs.List.{AllByRecursion}
 use Rattle.std.specs.Bool.{MatchBool, Decides}
 use Rattle.commute_tables.proofs.Commutes.{commutes-Commute}
 use Rattle.commute_tables.proofs.OneTable.{SwapsOn, SwapsAt, swaps_to, table_after, twice_after}
-use Rattle.commute_tables.proofs.TellingPairs.{op, Tells, turn, values_none, members_none, sees, binds, see_bind, see_del, put_put, bind_del, bind_size, del_size, joins, has_join, has_drop, add_join, join_drop, join_count, drop_count}
+use Rattle.commute_tables.proofs.TellingPairs.{op, Tells, turn, sees, binds, see_bind, see_del, put_put, bind_del, bind_size, del_size, joins, has_join, has_drop, add_join, join_drop, join_count, drop_count}
 
 -- ---- every pair that doesn't commute
 -- what the test says where it says that they don't commute
@@ -111,16 +112,6 @@ tells Count Count i j k l v w h = absurd (let e : true ≡ false = h.reads in cc
 tells x y i j k l v w h = absurd (let e : false ≡ true = h.homes in cc)
 
 -- ---- in tables that both fit
-kinds_of_start : (shape : List TableKind) → list_map kind_of (start shape) ≡ shape
-kinds_of_start [] = refl
-kinds_of_start (Map ∷ shape) = ap (λ (s : List TableKind). Map ∷ s) (kinds_of_start shape)
-kinds_of_start (Set ∷ shape) = ap (λ (s : List TableKind). Set ∷ s) (kinds_of_start shape)
-
-pub start_length : (shape : List TableKind) → length (start shape) ≡ length shape
-start_length [] = refl
-start_length (Map ∷ shape) = ap suc (start_length shape)
-start_length (Set ∷ shape) = ap suc (start_length shape)
-
 set_there : (shape : List TableKind) (i : ℕ) (kind : TableKind) → slice_get shape i ≡ Some kind → put_at shape i kind ≡ shape
 set_there [] i kind h = refl
 set_there (x ∷ shape) zero kind h = ap (λ (y : TableKind). y ∷ shape) (inside kind x (sym h))
@@ -143,11 +134,6 @@ on_one i ts a b l s = record {
   first = s.first ∙ ap (λ (c : Container). reply_on c a) (table_after i ts b l);
   second = ap (λ (c : Container). reply_on c b) (sym (table_after i ts a l)) ∙ s.second;
 }
-
-values_of_start : (shape : List TableKind) → AllByRecursion AreValues (start shape)
-values_of_start [] = tt
-values_of_start (Map ∷ shape) = (values_none, values_of_start shape)
-values_of_start (Set ∷ shape) = (members_none, values_of_start shape)
 
 all_set : (ts : Tables) (i : ℕ) (c : Container) → AreValues c → AllByRecursion AreValues ts → AllByRecursion AreValues (put_at ts i c)
 all_set [] i c h a = tt
@@ -227,5 +213,3 @@ Decides-commute a b r e = (λ h. commutes-Commute a b (sym e ∙ h), λ k. e ∙
     go : (c : Bool) → commutes a b ≡ c → Commute a b → commutes a b ≡ true
     go true f k = f
     go false f k = absurd (not_commute a b f k)
-
-pub ruleset commute_exactly = (Decides-commute)

@@ -11,9 +11,11 @@ use Rattle.session_values.specs.declared.op.Op.{Op}
 use Rattle.session_values.specs.declared.value.Value.{Value}
 use Rattle.session_values.specs.declared.value.Value.TheVariants.{Nil, Num}
 use Rattle.session_values.specs.Values.{value_cmp, value_eq, value_cmp_total, IsValue}
-use Rattle.session_values.specs.Tables.{Container, Bindings, Members, map_reply, map_after, set_after, bit, home, AreValues}
+use Rattle.session_values.specs.Kinds.{home}
+use Rattle.session_values.specs.Tables.{Container, Bindings, Members, map_reply, map_after, set_after, bit, AreValues}
 use Rattle.session_values.specs.Tables.{kind_of}
 use Rattle.commute_tables.proofs.Apart.{same_value, value_eq-self, not_same}
+use Rattle.session_values.proofs.Starts.{values_none, members_none}
 use Rattle.commute_tables.proofs.Commutes.{flip}
 use Rattle.commute_tables.proofs.OneTable.{SwapsOn}
 
@@ -80,12 +82,6 @@ pub count_one : (k : Value) → set.len (set.insert no_set k) ≡ 1
 count_one k = set.len-insert value_cmp_total no_set k ∙ ap (λ (b : Bool). cond b (set.len no_set) (set.len no_set + 1)) (absent k) ∙ ap (λ (n : ℕ). n + 1) (set.len-empty value_cmp)
 
 -- ---- values that a program can hold
-pub values_none : AreValues (Bindings no_map)
-values_none k v h = absurd (none_some (sym (map.get-empty value_cmp k) ∙ h))
-  where
-    none_some : ◌≡◌ {A = Option Value} None (Some v) → ⊥
-    none_some e = cc
-
 pub values_one : (k v : Value) → IsValue k → IsValue v → AreValues (Bindings (map.insert no_map k v))
 values_one k v p q l x h = by_key (value_eq l k) refl (sym (map.get-insert value_cmp_total no_map k v l) ∙ h)
   where
@@ -99,12 +95,6 @@ values_one k v p q l x h = by_key (value_eq l k) refl (sym (map.get-insert value
     by_key true e g = let P : Value → Type 0 = λ y. IsValue y in (subst P (sym (same_value l k e)) p, subst P (inside v x g) q)
     by_key false e g = absurd (none_some (sym (map.get-empty value_cmp l) ∙ g))
 
-pub members_none : AreValues (Members no_set)
-members_none k h = absurd (both_ways (set.contains no_set k) h (set.contains-empty value_cmp k))
-  where
-    both_ways : (b : Bool) → b ≡ true → b ≡ false → ⊥
-    both_ways b p q = cc
-
 pub members_one : (k : Value) → IsValue k → AreValues (Members (set.insert no_set k))
 members_one k p l h = by_key (value_eq l k) refl (sym (set.contains-insert value_cmp_total no_set k l) ∙ h)
   where
@@ -115,8 +105,8 @@ members_one k p l h = by_key (value_eq l k) refl (sym (set.contains-insert value
     by_key true e g = let P : Value → Type 0 = λ y. IsValue y in subst P (sym (same_value l k e)) p
     by_key false e g = absurd (both_ways (set.contains no_set l) g (set.contains-empty value_cmp l))
 
-pub other_value : (w : Value) → IsValue (other w)
-other_value w = go (value_eq w (Num (pos 0)))
+pub other_held : (w : Value) → IsValue (other w)
+other_held w = go (value_eq w (Num (pos 0)))
   where
     go : (b : Bool) → IsValue (cond b (Num (pos 1)) (Num (pos 0)))
     go true = lit< tt
@@ -185,7 +175,7 @@ see_bind x y i j k v w p q =
     record {
       container = Bindings m;
       kind = map_kind x (inl p);
-      values = λ p q. values_one k (other w) p (other_value w);
+      values = λ p q. values_one k (other w) p (other_held w);
       differ = λ s. other_differs w (sym (seen x no_map k (other w) p) ∙ s.first ∙ ap (λ (n : map.FinMap value_cmp Value). map_reply n x k) (bound y m k w q) ∙ seen x m k w p);
     }
 

@@ -3,10 +3,11 @@
 ghost use Rattle.std.specs.Prelude.{◌≡◌, ◌==◌, ◌&&◌, ◌||◌, not};
 ghost use Rattle.std.specs.Bool.{Decides, MatchBool};
 ghost use Rattle.symbolic_ops.specs.Symbols.{HasNoVar};
-ghost use Rattle.commute_tables.specs.Relation.{commutes_symbol, is_apart, is_keyed, is_plain, is_same, kind_place};
+ghost use Rattle.session_values.specs.Kinds.{is_keyed, is_plain, kind_place};
+ghost use Rattle.commute_tables.specs.Relation.{commutes_symbol, is_apart, is_same};
 ghost use Rattle.commute_tables.specs.Symbols.{CommutesWith, DiffersFromSome};
 
-use crate::kinds::{both_read, is_keyed, is_plain, one_home};
+use crate::kinds::{both_read, one_home};
 use session_values::{Kind, Op, Value};
 use symbolic_ops::{Arg, Symbol};
 
@@ -17,7 +18,7 @@ fn known_apart(v: Value, arg: Arg) -> bool
 {
     match arg {
         Arg::Known(w) => v != w,
-        _ => false,
+        Arg::Var(_) | Arg::Any => false,
     }
 }
 
@@ -37,7 +38,7 @@ fn known_same(v: Value, arg: Arg) -> bool
 fn keys_known_apart(a: &Op, s: &Symbol) -> bool
     ensures { result ≡ (is_keyed a.now.kind && is_keyed s.now.kind && is_apart a.now.key s.now.key) }
 {
-    is_keyed(a.kind) && is_keyed(s.kind) && known_apart(a.key, s.key)
+    a.kind.is_keyed() && s.kind.is_keyed() && known_apart(a.key, s.key)
 }
 
 /// They are one plain change, whatever the key.
@@ -45,7 +46,7 @@ fn keys_known_apart(a: &Op, s: &Symbol) -> bool
 fn known_change(a: &Op, s: &Symbol) -> bool
     ensures { result ≡ (is_plain a.now.kind && (kind_place a.now.kind == kind_place s.now.kind) && (not (kind_place a.now.kind == 1) || is_same a.now.value s.now.value)) }
 {
-    is_plain(a.kind) && a.kind == s.kind && (a.kind != Kind::Put || known_same(a.value, s.value))
+    a.kind.is_plain() && a.kind == s.kind && (a.kind != Kind::Put || known_same(a.value, s.value))
 }
 
 /// What the relation says.
@@ -70,12 +71,13 @@ fn test(a: &Op, s: &Symbol) -> bool
 
 /// Whether the operation commutes with each one that the symbol stands for.
 #[inline(always)]
-#[tactic(auto, using(crate::proofs::AgainstSymbols::symbol_decided, crate::proofs::AgainstSymbols::symbol_exactly))]
 pub fn commute_symbol(a: &Op, s: &Symbol) -> bool
     requires { HasNoVar s.now }
     ensures exact { Decides result (CommutesWith a.now s.now) }
     // Where it doesn't, the symbol stands for an operation with which it doesn't commute.
     ensures told { MatchBool result (CommutesWith a.now s.now) (DiffersFromSome a.now s.now) }
 {
+    a.bounds();
+    s.bounds();
     test(a, s)
 }

@@ -4,10 +4,11 @@ ghost use Rattle.std.specs.Prelude.{◌≡◌, ◌==◌, ◌&&◌, ◌||◌, not
 ghost use Rattle.std.specs.Bool.{Decides, MatchBool};
 ghost use Rattle.session_values.specs.Commuting.{Commute};
 ghost use Rattle.session_values.specs.Values.{value_eq};
-ghost use Rattle.commute_tables.specs.Relation.{commutes, is_keyed, is_plain, kind_place};
+ghost use Rattle.session_values.specs.Kinds.{is_keyed, is_plain, kind_place};
+ghost use Rattle.commute_tables.specs.Relation.{commutes};
 ghost use Rattle.commute_tables.specs.ToldApart.{Differ};
 
-use crate::kinds::{both_read, is_keyed, is_plain, one_home};
+use crate::kinds::{both_read, one_home};
 use session_values::{Kind, Op};
 
 /// They are about different keys.
@@ -15,7 +16,7 @@ use session_values::{Kind, Op};
 fn keys_apart(a: &Op, b: &Op) -> bool
     ensures { result ≡ (is_keyed a.now.kind && is_keyed b.now.kind && not (value_eq a.now.key b.now.key)) }
 {
-    is_keyed(a.kind) && is_keyed(b.kind) && a.key != b.key
+    a.kind.is_keyed() && b.kind.is_keyed() && a.key != b.key
 }
 
 /// They are one plain change.
@@ -23,7 +24,7 @@ fn keys_apart(a: &Op, b: &Op) -> bool
 fn same_change(a: &Op, b: &Op) -> bool
     ensures { result ≡ (is_plain a.now.kind && (kind_place a.now.kind == kind_place b.now.kind) && value_eq a.now.key b.now.key && (not (kind_place a.now.kind == 1) || value_eq a.now.value b.now.value)) }
 {
-    is_plain(a.kind)
+    a.kind.is_plain()
         && a.kind == b.kind
         && a.key == b.key
         && (a.kind != Kind::Put || a.value == b.value)
@@ -53,7 +54,6 @@ fn test(a: &Op, b: &Op) -> bool
 /// tables. Operations on containers of different kinds that name one table do, since no tables fit
 /// both.
 #[inline(always)]
-#[tactic(auto, using(crate::proofs::Telling::decided, crate::proofs::Telling::commute_exactly))]
 pub fn commute(a: &Op, b: &Op) -> bool
     ensures exact { Decides result (Commute a.now b.now) }
     // Where they don't, these tables tell, whatever kinds they have.

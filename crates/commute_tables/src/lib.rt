@@ -5,8 +5,6 @@ mod against_symbol;
 mod commuting;
 mod kinds;
 pub mod laws;
-#[cfg(test)]
-mod tests;
 
 pub use against_symbol::commute_symbol;
 pub use commuting::commute;

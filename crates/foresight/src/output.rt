@@ -1,14 +1,19 @@
-// Standard output and error as sinks.
+// A writer of std as a sink.
 
-ghost use Rattle.std.specs.Prelude.{None};
+ghost use Rattle.std.specs.Prelude.{◌≡◌};
+ghost use Rattle.std.specs.Io.{WritesAtMost};
+ghost use Rattle.std.specs.Io.KnownBytes.{WriteAppends};
 
+use crate::tries::TRIES;
 use serve_core::{Put, Sink};
-use std::io::Write;
+use std::io;
+use std::io::{ErrorKind, Write};
 
 /// The most bytes that one write hands over.
 const PIECE: usize = 65536;
 
-/// A stream as a sink, which doesn't tell its bytes.
+/// A writer as a sink. What it holds is what the writer tells, which is nothing for a stream of
+/// the program.
 #[derive(Drop)]
 pub(crate) struct Output<W> {
     inner: W,
@@ -16,19 +21,21 @@ pub(crate) struct Output<W> {
 }
 
 impl<W> Output<W> {
-    pub(crate) fn over(inner: W) -> Output<W> {
+    pub(crate) fn over(inner: W) -> Output<W>
+        ensures { result ≡ record { inner = inner; faults = 0 } }
+    {
         Output { inner, faults: 0 }
     }
 }
 
 impl<W: Write> Sink for Output<W> {
-    ghost held = { λ _. None };
+    ghost held = { λ s. W.contents s.inner };
 
     ghost faults = { λ s. s.faults };
 
     fn write(&mut self, bytes: &[u8]) -> Put {
         let most = bytes.len().min(PIECE);
-        match self.inner.write(&bytes[..most]) {
+        match write_again(&mut self.inner, &bytes[..most]) {
             Ok(n) if n > 0 => Put::Took(n as u32),
             _ => {
                 self.faults = self.faults.saturating_add(1);
@@ -36,4 +43,18 @@ impl<W: Write> Sink for Output<W> {
             }
         }
     }
+}
+
+/// One write, tried again where a signal interrupted it.
+fn write_again<W: Write>(writer: &mut W, bytes: &[u8]) -> io::Result<usize>
+    ensures bound { WritesAtMost result bytes.now }
+    ensures bytes { WriteAppends (W.contents writer.old) (W.contents writer.new) result bytes.now }
+{
+    for _ in 1..TRIES {
+        match writer.write(bytes) {
+            Err(e) if e.kind() == ErrorKind::Interrupted => {}
+            written => return written,
+        }
+    }
+    writer.write(bytes)
 }

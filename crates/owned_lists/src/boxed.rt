@@ -21,12 +21,14 @@ impl<T> Model for Boxed<T> {
 }
 
 impl<T> Boxed<T> {
+    /// The value in the box.
     pub fn get(&self) -> &T
         ensures { result.now ≡ self.now }
     {
         &self.inner
     }
 
+    /// The value, out of its box.
     pub fn into_inner(self) -> T
         ensures { result ≡ self }
     {
@@ -36,6 +38,7 @@ impl<T> Boxed<T> {
 }
 
 impl<T: Drop> Boxed<T> {
+    /// A box of this value.
     pub fn new(alloc: Global, value: T) -> Result<Boxed<T>, NoMemory>
         ensures { IfOk result (λ b. b ≡ value) }
     {

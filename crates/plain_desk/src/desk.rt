@@ -24,18 +24,23 @@ use symbolic_ops::Foresight;
 /// time, in order. While none is open it counts as ended.
 #[derive(Drop)]
 pub struct PlainDesk<S: Script + Drop> {
+    /// What the tickets call, answer and declare. No call changes it.
     script: S,
+    /// The tables after the entries of all tickets, and after the operation that waits.
     tables: PlainTables,
-    // The open ticket, or the last one; before the first one the number of all tickets.
+    /// The open ticket, or the last one; before the first one the number of all tickets.
     ticket: u32,
+    /// What the open ticket may still call, in room for 256 symbols.
     present: Foresight,
-    // The entries of all tickets, in order, and the place of the first one of the present ticket.
+    /// The entries of all tickets, in order.
     entries: Vec<DoneCall>,
+    /// The place of the first one of the present ticket.
     from: usize,
-    // Where an operation waits, there is room for its entry.
+    /// The operation that was done and isn't entered yet, with its reply; there is room for it.
     waiting: Option<DoneCall>,
+    /// Whether no ticket is open.
     is_ended: bool,
-    // The tickets that have ended, in room for all.
+    /// The tickets that have ended, by their number, in room for all.
     ended: Vec<EndedTicket>,
 }
 
@@ -47,9 +52,15 @@ impl<S: Script + Drop> Model for PlainDesk<S> {
 
     ghost use Rattle.plain_desk.specs.Keeping.{Keeps};
 
-    ghost view = { λ d. record { script = d.script; desk = desk_of d.ticket (drop d.from d.entries.items) d.present.symbols d.waiting d.is_ended } };
+    ghost view = { λ d. record {
+      script = d.script;
+      desk = desk_of d.ticket (drop d.from d.entries.items) d.present.symbols d.waiting d.is_ended;
+    } };
 
-    ghost invariant = { λ d. Keeps (S.meaning d.script) (desk_of d.ticket (drop d.from d.entries.items) d.present.symbols d.waiting d.is_ended) d.tables d.present.room d.entries.items (vec_capacity d.entries) d.from d.ended.items (vec_capacity d.ended) };
+    ghost invariant = { λ d. Keeps (S.meaning d.script)
+        (desk_of d.ticket (drop d.from d.entries.items) d.present.symbols d.waiting d.is_ended)
+        d.tables d.present.room d.entries.items (vec_capacity d.entries) d.from d.ended.items
+        (vec_capacity d.ended) };
 }
 
 impl<S: Script + Drop> PlainDesk<S> {
@@ -81,9 +92,13 @@ impl<S: Script + Drop> PlainDesk<S> {
     pub fn start(&mut self) -> Option<u32>
         requires { self.old.desk.ended ≡ true }
         ensures script { self.new.script ≡ self.old.script }
-        ensures none { IsNone result ↔ ((S.meaning self.old.script).requests ≤ ended_count (S.meaning self.old.script) self.old.desk) }
-        ensures next { IfSome result (λ t. t ≡ ended_count (S.meaning self.old.script) self.old.desk) }
-        ensures begins { IfSome result (λ t. self.new.desk ≡ at_beginning (S.meaning self.old.script) t) }
+        ensures none { IsNone result ↔
+            ((S.meaning self.old.script).requests
+            ≤ ended_count (S.meaning self.old.script) self.old.desk) }
+        ensures next { IfSome result (λ t.
+            t ≡ ended_count (S.meaning self.old.script) self.old.desk) }
+        ensures begins { IfSome result (λ t.
+            self.new.desk ≡ at_beginning (S.meaning self.old.script) t) }
         ensures stays { IfNone result (self.new.desk ≡ self.old.desk) }
     {
         let t = self.ended.len() as u32;
@@ -101,7 +116,8 @@ impl<S: Script + Drop> PlainDesk<S> {
     pub fn reply(&self, t: u32) -> Option<Reply>
         ensures none { IsNone result ↔ (ended_count (S.meaning self.now.script) self.now.desk ≤ t) }
         // It is the one that the ticket has in the serial run.
-        ensures serial { IfSome result (λ r. (serial (session_of (S.meaning self.now.script)) t).answer ≡ Some r) }
+        ensures serial { IfSome result (λ r.
+            (serial (session_of (S.meaning self.now.script)) t).answer ≡ Some r) }
     {
         let ticket = self.ended.get(t as usize)?;
         Some(ticket.reply)
@@ -111,13 +127,15 @@ impl<S: Script + Drop> PlainDesk<S> {
     pub fn entries(&self, t: u32) -> Option<&[DoneCall]>
         ensures none { IsNone result ↔ (ended_count (S.meaning self.now.script) self.now.desk ≤ t) }
         // They are those that the ticket has in the serial run.
-        ensures serial { IfSome result (λ es. (serial (session_of (S.meaning self.now.script)) t).entries ≡ es.now) }
+        ensures serial { IfSome result (λ es.
+            (serial (session_of (S.meaning self.now.script)) t).entries ≡ es.now) }
     {
         let place = self.ended.get(t as usize)?;
         Some(part(self.entries.as_slice(), place.from, place.until))
     }
 }
 
+/// The entries from one place to another.
 fn part(all: &[DoneCall], from: usize, until: usize) -> &[DoneCall]
     requires order { from ≤ until }
     requires within { until ≤ length all.now }
@@ -138,9 +156,12 @@ impl<S: Script + Drop> Desk for PlainDesk<S> {
         requires next { next_of (S.meaning self.old.script) self.old.desk ≡ Calls op }
         requires matches { Matches self.old.desk.present op }
         ensures script { self.new.script ≡ self.old.script }
-        ensures waits { MatchResult result (λ v. self.new.desk ≡ with_waiting self.old.desk op v) (λ _. (self.new.desk ≡ self.old.desk) × (self.old.desk.sure ≡ false)) }
+        ensures waits { MatchResult result
+            (λ v. self.new.desk ≡ with_waiting self.old.desk op v)
+            (λ _. (self.new.desk ≡ self.old.desk) × (self.old.desk.sure ≡ false)) }
         // What the trait leaves open: the reply is that of the operation alone at these tables.
-        ensures reply { IfOk result (λ v. v ≡ reply (tables_at (S.meaning self.old.script) self.old.desk) op) }
+        ensures reply { IfOk result (λ v.
+            v ≡ reply (tables_at (S.meaning self.old.script) self.old.desk) op) }
     {
         self.entries.reserve(1)?;
         let reply = self.tables.apply(op)?;

@@ -6,7 +6,9 @@ use std::marker::Model;
 /// An entry of a ticket: an operation that was done, and its reply.
 #[derive(Clone, Copy, Debug, PartialEq, Eq)]
 pub struct DoneCall {
+    /// The operation.
     pub op: Op,
+    /// The reply that it had.
     pub reply: Value,
 }
 

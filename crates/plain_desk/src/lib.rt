@@ -4,8 +4,6 @@
 mod desk;
 mod done_call;
 mod ended_ticket;
-#[cfg(test)]
-mod tests;
 
 pub use desk::PlainDesk;
 pub use done_call::DoneCall;

@@ -4,9 +4,9 @@ use Rattle.std.proofs.Math.ListN.{set}
 use Rattle.std.proofs.lemmas.List.{length-map, map-append, take_more}
 use Rattle.std.proofs.lemmas.Option.{slice_get_within}
 use Rattle.session_values.specs.declared.kind.TableKind.{TableKind}
-use Rattle.session_values.specs.declared.kind.TableKind.TheVariants.{Map, Set}
 use Rattle.session_values.specs.declared.op.Op.{Op}
-use Rattle.session_values.specs.Tables.{Container, Bindings, Members, Tables, start, empty_of, table, reply, reply_on, step, after_on, kind_of, home}
+use Rattle.session_values.specs.Kinds.{home}
+use Rattle.session_values.specs.Tables.{Container, Bindings, Members, Tables, start, empty_of, table, reply, reply_on, step, after_on, kind_of}
 use Rattle.plain_tables.specs.declared.table.Table.{Table}
 use Rattle.plain_tables.specs.Containers.{container_of, tables_of}
 
@@ -36,12 +36,6 @@ set-table : (all : Tables) (i : ℕ) → i < length all → set all i (table all
 set-table [] i h = refl
 set-table (c ∷ all) zero h = refl
 set-table (c ∷ all) (suc i) h = ap (λ cs. c ∷ cs) (set-table all i (omega (arith, h)))
-
--- empty tables have the kinds that were asked for
-pub kinds-start : (shape : List TableKind) → map kind_of (start shape) ≡ shape
-kinds-start [] = refl
-kinds-start (Map ∷ shape) = ap (λ kinds. Map ∷ kinds) (kinds-start shape)
-kinds-start (Set ∷ shape) = ap (λ kinds. Set ∷ kinds) (kinds-start shape)
 
 kind-after : (c : Container) (op : Op) → kind_of (after_on c op) ≡ kind_of c
 kind-after (Bindings m) op = refl

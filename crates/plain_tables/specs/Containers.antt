@@ -5,7 +5,6 @@ use Rattle.session_values.specs.Containers.{container_code}
 use Rattle.session_values.specs.Tables.{Container, Bindings, Members, Tables}
 use Rattle.plain_tables.specs.declared.table.Table.{Table}
 use Rattle.plain_tables.specs.declared.table.Table.TheVariants as kept
-use Rattle.plain_tables.specs.Views.{map_of, set_of}
 
 -- how tables are told from others
 abbrev pub tables_code : Coded Tables

@@ -3,8 +3,6 @@
 
 mod table;
 mod tables;
-#[cfg(test)]
-mod tests;
 mod value_map;
 mod value_set;
 

@@ -1,7 +1,8 @@
 // One table: a map or a set.
 
-ghost use Rattle.std.specs.Prelude.{◌≡◌, IfOk, OnOk, OnErr, IsOk, IsTrue};
-ghost use Rattle.session_values.specs.Tables.{empty_of, reply_on, after_on, is_read};
+ghost use Rattle.std.specs.Prelude.{◌≡◌, IfOk, OnOk, OnErr, IsOk, false};
+ghost use Rattle.session_values.specs.Kinds.{is_adding};
+ghost use Rattle.session_values.specs.Tables.{empty_of, reply_on, after_on};
 ghost use Rattle.plain_tables.specs.Containers.{container_of};
 
 use crate::value_map::ValueMap;
@@ -17,6 +18,7 @@ pub enum Table {
 }
 
 impl Table {
+    /// An empty container of this kind.
     pub fn new(alloc: Global, kind: TableKind) -> Table
         ensures { container_of result ≡ empty_of kind }
     {
@@ -31,7 +33,7 @@ impl Table {
         ensures reply { IfOk result (λ value. value ≡ reply_on (container_of self.old) op) }
         ensures after { OnOk result (container_of self.new ≡ after_on (container_of self.old) op) }
         ensures err { OnErr result (container_of self.new ≡ container_of self.old) }
-        ensures sure { IsTrue (is_read op.kind) → IsOk result }
+        ensures sure { is_adding op.kind ≡ false → IsOk result }
     {
         match self {
             Table::Map(map) => map.apply(op),

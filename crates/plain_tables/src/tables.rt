@@ -1,7 +1,8 @@
 // The tables of a session.
 
-ghost use Rattle.std.specs.Prelude.{◌≡◌, IfOk, OnOk, OnErr, IsOk, IsTrue, Some, map, slice_get};
-ghost use Rattle.session_values.specs.Tables.{start, reply, step, kind_of, home, is_read};
+ghost use Rattle.std.specs.Prelude.{◌≡◌, IfOk, OnOk, OnErr, IsOk, Some, false, map, slice_get};
+ghost use Rattle.session_values.specs.Kinds.{home, is_adding};
+ghost use Rattle.session_values.specs.Tables.{start, reply, step, kind_of};
 
 use crate::table::Table;
 use session_values::{NoMemory, Op, TableKind, Value};
@@ -45,7 +46,7 @@ impl PlainTables {
         ensures reply { IfOk result (λ value. value ≡ reply self.old op) }
         ensures tables { OnOk result (self.new ≡ step self.old op) }
         ensures err { OnErr result (self.new ≡ self.old) }
-        ensures sure { IsTrue (is_read op.kind) → IsOk result }
+        ensures sure { is_adding op.kind ≡ false → IsOk result }
         ensures kinds { map kind_of self.new ≡ map kind_of self.old }
     {
         self.tables[op.table as usize].apply(op)

@@ -1,8 +1,9 @@
 // One map from values to values.
 
-ghost use Rattle.std.specs.Prelude.{◌≡◌, IfOk, OnOk, OnErr, IsOk, IsTrue, pos, unwrap_or};
+ghost use Rattle.std.specs.Prelude.{◌≡◌, IfOk, OnOk, OnErr, IsOk, false, pos, unwrap_or};
 ghost use Rattle.std.specs.FinMap as map;
-ghost use Rattle.session_values.specs.Tables.{map_reply, map_after, is_read};
+ghost use Rattle.session_values.specs.Kinds.{is_adding};
+ghost use Rattle.session_values.specs.Tables.{map_reply, map_after};
 
 use session_values::{Kind, NoMemory, Op, Value};
 use std::alloc::Global;
@@ -26,6 +27,7 @@ impl Model for ValueMap {
 }
 
 impl ValueMap {
+    /// A map in which no key is bound.
     pub fn new(alloc: Global) -> ValueMap
         ensures { result ≡ map.empty }
     {
@@ -70,7 +72,7 @@ impl ValueMap {
         ensures reply { IfOk result (λ value. value ≡ map_reply self.old op.kind op.key) }
         ensures after { OnOk result (self.new ≡ map_after self.old op.kind op.key op.value) }
         ensures err { OnErr result (self.new ≡ self.old) }
-        ensures sure { IsTrue (is_read op.kind) → IsOk result }
+        ensures sure { is_adding op.kind ≡ false → IsOk result }
     {
         match op.kind {
             Kind::Get => Ok(self.get(op.key)),
@@ -84,7 +86,7 @@ impl ValueMap {
                 Ok(Value::Nil)
             }
             Kind::Size => Ok(Value::Num(self.size())),
-            _ => Ok(Value::Nil),
+            Kind::Has | Kind::Add | Kind::Mark | Kind::Drop | Kind::Count => Ok(Value::Nil),
         }
     }
 }

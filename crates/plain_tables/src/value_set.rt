@@ -1,8 +1,9 @@
 // One set of values.
 
-ghost use Rattle.std.specs.Prelude.{◌≡◌, IfOk, OnOk, OnErr, IsOk, IsTrue, pos, not};
+ghost use Rattle.std.specs.Prelude.{◌≡◌, IfOk, OnOk, OnErr, IsOk, false, pos, not};
 ghost use Rattle.std.specs.FinSet as set;
-ghost use Rattle.session_values.specs.Tables.{bit, set_reply, set_after, is_read};
+ghost use Rattle.session_values.specs.Kinds.{is_adding};
+ghost use Rattle.session_values.specs.Tables.{bit, set_reply, set_after};
 
 use session_values::{Kind, NoMemory, Op, Value};
 use std::alloc::Global;
@@ -26,6 +27,7 @@ impl Model for ValueSet {
 }
 
 impl ValueSet {
+    /// A set without members.
     pub fn new(alloc: Global) -> ValueSet
         ensures { result ≡ set.empty }
     {
@@ -34,6 +36,7 @@ impl ValueSet {
         }
     }
 
+    /// Whether the key is a member.
     pub fn has(&self, key: Value) -> bool
         ensures { result ≡ set.contains self.now key }
     {
@@ -68,7 +71,7 @@ impl ValueSet {
         ensures reply { IfOk result (λ value. value ≡ set_reply self.old op.kind op.key) }
         ensures after { OnOk result (self.new ≡ set_after self.old op.kind op.key) }
         ensures err { OnErr result (self.new ≡ self.old) }
-        ensures sure { IsTrue (is_read op.kind) → IsOk result }
+        ensures sure { is_adding op.kind ≡ false → IsOk result }
     {
         match op.kind {
             Kind::Has => Ok(bit_of(self.has(op.key))),
@@ -82,7 +85,7 @@ impl ValueSet {
                 Ok(Value::Nil)
             }
             Kind::Count => Ok(Value::Num(self.count())),
-            _ => Ok(Value::Nil),
+            Kind::Get | Kind::Put | Kind::Swap | Kind::Del | Kind::Size => Ok(Value::Nil),
         }
     }
 }

@@ -6,6 +6,3 @@ mod reply_line;
 
 pub use line_buf::LineBuf;
 pub use reply_line::line;
-
-#[cfg(test)]
-mod tests;

@@ -13,8 +13,6 @@ mod request_line;
 mod requests;
 mod scan;
 mod tally;
-#[cfg(test)]
-mod tests;
 mod word_value;
 
 pub use divided::{Divided, divide};

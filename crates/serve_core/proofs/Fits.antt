@@ -8,8 +8,7 @@ use Rattle.session_values.specs.declared.kind.Kind.{Kind}
 use Rattle.session_values.specs.declared.kind.Kind.TheVariants.{Get, Put}
 use Rattle.session_values.specs.declared.kind.TableKind.{TableKind}
 use Rattle.session_values.specs.declared.kind.TableKind.TheVariants.{Map, Set}
-use Rattle.session_values.specs.Op.{arguments}
-use Rattle.session_values.specs.Tables.{home}
+use Rattle.session_values.specs.Kinds.{arguments, home}
 use Rattle.handler_trees.specs.declared.expr.Atom.{Atom}
 use Rattle.handler_trees.specs.declared.expr.Atom.TheVariants as atom
 use Rattle.handler_trees.specs.declared.expr.Expr.{Expr}

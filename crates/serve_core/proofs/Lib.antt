@@ -7,6 +7,9 @@ pub mod Lists
 pub mod LoadingLemmas
 pub mod Printing
 pub mod Resolving
+pub mod RunLemmas
 pub mod SheetLemmas
+pub mod SomeAnswer
+pub mod Spelled
 pub mod TopLemmas
 pub mod Turns

@@ -15,6 +15,13 @@ use Rattle.serve_core.specs.Resolves.{Resolves}
 use Rattle.serve_core.proofs.Lists.{rest_at}
 use Rattle.serve_core.proofs.Bools.{both, none_of, none_else}
 
+-- a test in two parts that fails, each part before another test
+either_fails : (a b c d : Bool) → (a && b) ≡ false → ((a && c) && (b && d)) ≡ false
+either_fails true false true d e = refl
+either_fails true false false d e = refl
+either_fails true true c d e = absurd (cc)
+either_fails false b c d e = refl
+
 -- ---- a list of which each element is tested and changed by itself
 
 pub record Mapped {X Y : Type 0} (test : X → Bool) (value : X → Y) (xs : List X) (i : ℕ) (found : List Y) : Type 0 where
@@ -80,6 +87,17 @@ module _ (tables start : List ℕ) (body : List Stmt) where
             ∙ ap (λ z. found ++ z ∷ checked_block tables (variables ++ declares x) (drop (i + 1) body)) r.1 ∙ ap (λ ss. found ++ checked_block tables variables ss) (sym rest) ∙ g.checked;
         behind = ap (λ vs. variables_behind vs (drop (i + 1) body)) e ∙ sym (ap (variables_behind variables) rest) ∙ g.behind;
       }
+
+  -- one statement that doesn't pass, and the block doesn't
+  pub going_fails : (i : ℕ) (variables : List ℕ) (found : List CheckedStmt) (x : Stmt) → i < length body → get_or body i x ≡ x → Going tables start body i variables found
+      → stmt_passes tables variables x ≡ false → (list_all stmt_is_built body && block_keeps_rules tables start body) ≡ false
+  going_fails i variables found x h is g e =
+      let rest = rest_at body i x h is in
+      let all = sym g.built ∙ ap (list_all stmt_is_built) rest in
+      let keep = sym g.keeps ∙ ap (block_keeps_rules tables variables) rest in
+      ap (λ b. b && block_keeps_rules tables start body) all
+      ∙ ap (λ b. (stmt_is_built x && list_all stmt_is_built (drop (i + 1) body)) && b) keep
+      ∙ either_fails (stmt_is_built x) (stmt_is_declared tables variables x && are_new variables (declares x)) _ _ e
 
 -- ---- names that are new
 

@@ -1,13 +1,11 @@
--- An input has one answer at most, and a run that doesn't fail gives it.
-use Rattle.std.proofs.Common.{◌≡◌, ◌≢◌, ℕ, ◌<◌, ◌≤◌, ◌⊎◌, inl, inr, true, false, List, [], length, Option, Some, None, IfSome, refl, sym, ap, ◌∙◌, subst, arith}
+-- An input has one answer at most.
+use Rattle.std.proofs.Common.{◌≡◌, ℕ, ◌<◌, ◌≤◌, ◌⊎◌, inl, inr, true, false, List, [], length, Option, Some, None, refl, sym, ap, ◌∙◌, subst, arith}
 use Rattle.std.specs.Prelude.{IsUtf8}
 use Rattle.std.proofs.lemmas.Bool.{false≢true}
 use Rattle.serve_core.specs.declared.command.Command.{Command}
 use Rattle.serve_core.specs.declared.command.Command.TheVariants.{Check, Serve}
 use Rattle.serve_core.specs.declared.status.Fault.{Fault}
 use Rattle.serve_core.specs.declared.status.Fault.TheVariants.{TooLarge, NotText, NoRequests, HasRequests, Syntax, NotBuilt}
-use Rattle.serve_core.specs.declared.status.Status.{Status}
-use Rattle.serve_core.specs.declared.status.Status.TheVariants as status
 use Rattle.handler_tokens.specs.declared.word.Word.{Word}
 use Rattle.handler_tokens.specs.Words.{words_of, names_of}
 use Rattle.handler_trees.specs.declared.file.File.{File}
@@ -133,59 +131,6 @@ text_or_refused c bytes text f t r = go (input_refused bytes c f (input_of c byt
   go : (((d : SyntaxRefusal) × (f ≡ Syntax d) × (walk (handlers_of c bytes) ≡ Some d)) ⊎ ((f ≡ NotBuilt) × (c ≡ Serve) × HasNoSession (parts_of bytes))) → ⊥
   go (inl d) = let clash : None ≡ Some d.0 = sym (no_fault_of c bytes text t) ∙ d.2 in cc
   go (inr n) = has_session bytes text (subst (λ (k : Command). IsText k bytes text) n.1 t) n.2
-
--- ---- what a run answers, from what its parts say of each status
-
-module _ (c : Command) (A B : List ℕ → Type 0) (ReadFails WriteFails : Type 0) where
-  -- what carrying out the command says of a status, where the source tells its bytes
-  pub record Says (bytes : List ℕ) (s : Status) : Type 0 where
-    pub usage : s ≢ status.Usage
-    pub fine : s ≡ status.Fine → (text : List ℕ) × IsText c bytes text × A text
-    pub refused : (f : Fault) → s ≡ status.Refused f → IsRefused c bytes f
-    pub front : s ≡ status.WriteFault → (text : List ℕ) × IsText c bytes text × B text
-    pub read_fault : s ≡ status.ReadFault → ReadFails
-    pub write_fault : s ≡ status.WriteFault → WriteFails
-
-  refuses : (bytes : List ℕ) (s : Status) (f : Fault) → Says bytes s → IsRefused c bytes f → (ReadFails → ⊥) → (s ≡ status.Refused f) ⊎ (s ≡ status.NoMemory)
-  refuses bytes status.Fine f h r ok = let t = h.fine refl in absurd (text_or_refused c bytes t.0 f t.1 r)
-  refuses bytes (status.Refused g) f h r ok = inl (ap status.Refused (refused_once c bytes g f (h.refused g refl) r))
-  refuses bytes status.Usage f h r ok = absurd (h.usage refl)
-  refuses bytes status.NoMemory f h r ok = inr refl
-  refuses bytes status.ReadFault f h r ok = absurd (ok (h.read_fault refl))
-  refuses bytes status.WriteFault f h r ok = let t = h.front refl in absurd (text_or_refused c bytes t.0 f t.1 r)
-
-  completes : (bytes text : List ℕ) (s : Status) → Says bytes s → IsText c bytes text → (ReadFails → ⊥) → (WriteFails → ⊥) → (s ≡ status.Fine) ⊎ (s ≡ status.NoMemory)
-  completes bytes text status.Fine h r ok ok' = inl refl
-  completes bytes text (status.Refused g) h r ok ok' = absurd (text_or_refused c bytes text g r (h.refused g refl))
-  completes bytes text status.Usage h r ok ok' = absurd (h.usage refl)
-  completes bytes text status.NoMemory h r ok ok' = inr refl
-  completes bytes text status.ReadFault h r ok ok' = absurd (ok (h.read_fault refl))
-  completes bytes text status.WriteFault h r ok ok' = absurd (ok' (h.write_fault refl))
-
-  -- the same where the source may tell its bytes
-  pub record SaysOf (left : Option (List ℕ)) (s : Status) : Type 0 where
-    pub usage : s ≢ status.Usage
-    pub fine : s ≡ status.Fine → IfSome left (λ bytes. (text : List ℕ) × IsText c bytes text × A text)
-    pub refused : (f : Fault) → s ≡ status.Refused f → IfSome left (λ bytes. IsRefused c bytes f)
-    pub front : s ≡ status.WriteFault → IfSome left (λ bytes. (text : List ℕ) × IsText c bytes text × B text)
-    pub read_fault : s ≡ status.ReadFault → ReadFails
-    pub write_fault : s ≡ status.WriteFault → WriteFails
-
-  says : (bytes : List ℕ) (s : Status) → SaysOf (Some bytes) s → Says bytes s
-  says bytes s h = record { usage = h.usage; fine = h.fine; refused = h.refused; front = h.front; read_fault = h.read_fault; write_fault = h.write_fault }
-
-  pub refusing_of : (left : Option (List ℕ)) (s : Status) → SaysOf left s → IfSome left (λ bytes. (f : Fault) → IsRefused c bytes f → (ReadFails → ⊥) → (s ≡ status.Refused f) ⊎ (s ≡ status.NoMemory))
-  refusing_of None s h = tt
-  refusing_of (Some bytes) s h = λ f r ok. refuses bytes s f (says bytes s h) r ok
-
-  pub complete_of : (left : Option (List ℕ)) (s : Status) → SaysOf left s → IfSome left (λ bytes. (text : List ℕ) → IsText c bytes text → (ReadFails → ⊥) → (WriteFails → ⊥) → (s ≡ status.Fine) ⊎ (s ≡ status.NoMemory))
-  complete_of None s h = tt
-  complete_of (Some bytes) s h = λ text t ok ok'. completes bytes text s (says bytes s h) t ok ok'
-
--- what a command is refused for, its words are
-pub refused_by : (words : List (List ℕ)) (c : Command) (left : Option (List ℕ)) (s : Status) → command_of words ≡ Some c → ((f : Fault) → s ≡ status.Refused f → IfSome left (λ bytes. IsRefused c bytes f))
-    → (f : Fault) → s ≡ status.Refused f → IfSome left (λ bytes. IsAnswer words bytes (answers.Refused f))
-refused_by words c left s e h f is = subst (λ (o : Option Command). IfSome left (λ bytes. CommandAnswers o bytes (answers.Refused f))) (sym e) (h f is)
 
 -- ---- one answer at most
 

@@ -3,8 +3,7 @@ use Rattle.std.specs.Prelude.{◌≡◌, ℕ, ◌<◌, ◌≤◌, List, length, 
 use Rattle.std.specs.List.{AllByRecursion}
 use Rattle.session_values.specs.declared.value.Value.TheVariants.{Nil}
 use Rattle.session_values.specs.declared.kind.TableKind.{TableKind}
-use Rattle.session_values.specs.Op.{arguments}
-use Rattle.session_values.specs.Tables.{home}
+use Rattle.session_values.specs.Kinds.{arguments, home}
 use Rattle.serve_core.specs.declared.checked.CheckedAtom.{CheckedAtom}
 use Rattle.serve_core.specs.declared.checked.CheckedAtom.TheVariants.{Lit, Var}
 use Rattle.serve_core.specs.declared.checked.CheckedCall.{CheckedCall}

@@ -3,10 +3,12 @@ pub mod Built
 pub mod Checked
 pub mod Commands
 pub mod Dialogue
+pub mod ExitStatus
 pub mod Fit
 pub mod Loaded
 pub mod Message
 pub mod Names
 pub mod Printable
 pub mod Resolves
+pub mod Runs
 pub mod Session

@@ -16,14 +16,14 @@ ended text = text ++ 10 ∷ []
 abbrev pub placed : List ℕ → ℕ → List ℕ
 placed rule at = ended (rule ++ decimal at)
 
--- the rule of syntax that is broken, and where
+-- The rule of syntax that is broken, and where. Want of memory is no fault, and has no line here.
 abbrev pub syntax_line : SyntaxRefusal → List ℕ
 syntax_line (refusal.BadByte at) = placed (codes "refused S1 at ") at
 syntax_line (refusal.Unexpected at found) = placed (codes "refused S2 at ") at
 syntax_line (refusal.NumberTooLarge at) = placed (codes "refused S3 at ") at
 syntax_line (refusal.NameTooLong at) = placed (codes "refused S4 at ") at
 syntax_line (refusal.TooDeep at) = placed (codes "refused S5 at ") at
-syntax_line refusal.NoMemory = ended (codes "no memory")
+syntax_line refusal.NoMemory = []
 
 abbrev pub fault_line : Fault → List ℕ
 fault_line TooLarge = ended (codes "refused T1")

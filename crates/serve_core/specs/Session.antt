@@ -2,6 +2,7 @@
 use Rattle.std.specs.Prelude.{◌≡◌, ℕ, List, [], length, Some, None, slice_get, slice_index_or}
 use Rattle.session_values.specs.declared.kind.TableKind.{TableKind}
 use Rattle.session_values.specs.Serial.{Session}
+use Rattle.session_values.specs.Tables.{start}
 use Rattle.request_files.specs.declared.request.Request.{Request}
 use Rattle.serve_core.specs.declared.checked.CheckedStmt.{CheckedStmt}
 use Rattle.serve_core.specs.declared.checked.CheckedHandler.{CheckedHandler}
@@ -19,6 +20,7 @@ body_at handlers h = elim (slice_get handlers h) [ Some handler ↦ handler.body
 abbrev pub session_of : List TableKind → List CheckedHandler → List Request → Session
 session_of shape handlers requests = record {
   shape = shape;
+  opening = start shape;
   requests = length requests;
   next = λ t. run (body_at handlers (request_at requests t).handler) (env_of (request_at requests t).args);
   length = λ t. calls_bound (body_at handlers (request_at requests t).handler);

@@ -1,51 +1,46 @@
-// Answering: from the bytes of a session file to its replies.
+// Answering: from a command's input to what is written.
 
-ghost use Rattle.std.specs.Prelude.{◌≡◌, ◌≤◌, Err, length, vec_len, IfOk};
-ghost use Rattle.session_values.specs.ReplyText.{reply_text};
-ghost use Rattle.serve_core.specs.Answer.{IsServed, IsRefused};
-ghost use Rattle.serve_core.specs.declared.command.Command.{Command};
-ghost use Rattle.serve_core.specs.declared.command.Command.TheVariants.{Serve};
-ghost use Rattle.serve_core.specs.declared.status.Fault.{Fault};
-ghost use Rattle.serve_core.specs.Printable.{ArePrintableReplies};
+ghost use Rattle.std.specs.Prelude.{◌≡◌, ◌≢◌, ◌≤◌, length, Some};
+ghost use Rattle.serve_core.specs.Runs.{Runs, Answered, Written, change};
 
-use crate::loading::load;
-use crate::serving::serve_all;
-use crate::status::Fault;
-use crate::unserved::Unserved;
-use request_files::divide;
-use session_values::{Names, Reply};
+use crate::checking::write_canonical;
+use crate::command::Command;
+use crate::replies::write_replies;
+use crate::status::{Fault, Status};
+use byte_ends::{Sink, Source, Unread, read_all};
 use std::alloc::Global;
 
-/// The replies of a session file by their tickets, and the names that they are printed with.
-#[derive(Drop)]
-pub(crate) struct Replies {
-    pub names: Names,
-    pub replies: Vec<Reply>,
+/// Reads the command's input, and writes what is answered to it.
+pub(crate) fn answer<I: Source, O: Sink>(
+    alloc: Global,
+    command: Command,
+    source: &mut I,
+    out: &mut O,
+) -> Status
+    ensures { Runs (Some command)
+        (change I.left I.faults source.old source.new)
+        (change O.held O.faults out.old out.new) result }
+{
+    let bytes = match read_all(alloc, source) {
+        Ok(bytes) => bytes,
+        Err(Unread::TooLarge) => return Status::Refused(Fault::TooLarge),
+        Err(Unread::Failed) => return Status::ReadFault,
+        Err(Unread::NoMemory) => return Status::NoMemory,
+    };
+    write_answer(alloc, command, bytes.as_slice(), out)
 }
 
-/// The replies of serving the requests of a session file one at a time.
-pub(crate) fn answer(alloc: Global, bytes: &[u8]) -> Result<Replies, Unserved>
+/// Writes what the command answers to its input.
+fn write_answer<O: Sink>(alloc: Global, command: Command, bytes: &[u8], out: &mut O) -> Status
     requires { length bytes.now ≤ 4194304 }
-    ensures served { IfOk result (λ r. IsServed bytes.now (reply_text r.names 0 r.replies.items)) }
-    ensures printable { IfOk result (λ r. ArePrintableReplies r.names r.replies.items) }
-    ensures few { IfOk result (λ r. vec_len r.replies ≤ 20000) }
-    ensures refused { (fault : Fault) → result ≡ Err (Unserved.Refused fault) → IsRefused Serve bytes.now fault }
+    ensures usage { result ≢ Status.Usage }
+    ensures read_fault { result ≢ Status.ReadFault }
+    ensures answered { Answered (Some command) bytes.now
+        (change O.held O.faults out.old out.new) result }
+    ensures written { Written (change O.held O.faults out.old out.new) result }
 {
-    let Ok(text) = std::str::from_utf8(bytes) else {
-        return Err(Unserved::Refused(Fault::NotText));
-    };
-    let Some(parts) = divide(text) else {
-        return Err(Unserved::Refused(Fault::NoRequests));
-    };
-    let session = load(alloc, parts.handlers, parts.requests, parts.first)?;
-    let replies = serve_all(
-        alloc,
-        &session.shape,
-        session.handlers.as_slice(),
-        session.requests.as_slice(),
-    )?;
-    Ok(Replies {
-        names: session.names,
-        replies,
-    })
+    match command {
+        Command::Check => write_canonical(alloc, bytes, out),
+        Command::Serve => write_replies(alloc, bytes, out),
+    }
 }

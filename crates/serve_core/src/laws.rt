@@ -10,11 +10,18 @@ ghost use Rattle.serve_core.specs.declared.checked.CheckedHandler.{CheckedHandle
 
 /// A command line and an input have one answer at most.
 pub fn one_answer()
-    ensures { (words : List (List ℕ)) (bytes : List ℕ) (a b : Answer) → IsAnswer words bytes a → IsAnswer words bytes b → a ≡ b }
+    ensures { (words : List (List ℕ)) (bytes : List ℕ) (a b : Answer)
+        → IsAnswer words bytes a → IsAnswer words bytes b → a ≡ b }
+{}
+
+/// A command line and an input have some answer.
+pub fn some_answer()
+    ensures { (words : List (List ℕ)) (bytes : List ℕ) → (a : Answer) × IsAnswer words bytes a }
 {}
 
 /// Each ticket of a session has a reply.
 pub fn all_answered()
-    ensures { (shape : List TableKind) (handlers : List CheckedHandler) (requests : List Request) (n : ℕ)
+    ensures { (shape : List TableKind) (handlers : List CheckedHandler)
+        (requests : List Request) (n : ℕ)
         → length (serial_replies (session_of shape handlers requests) n) ≡ n }
 {}

@@ -10,19 +10,18 @@ mod laws;
 mod loading;
 mod machine;
 mod message;
+mod replies;
 mod resolve;
-mod responding;
 mod serving;
 mod status;
+mod syntax_fault;
 mod top;
 mod unserved;
 mod writing;
 
 pub use byte_ends::{Got, MemorySink, MemorySource, Put, Sink, Source, SureSink, SureSource};
 pub use handler_syntax::{SyntaxRefusal, TokenKind};
-pub use laws::{all_answered, one_answer};
+pub use laws::{all_answered, one_answer, some_answer};
 pub use status::{Fault, Status};
-pub use top::{describe, run};
-
-#[cfg(test)]
-mod tests;
+pub use syntax_fault::SyntaxFault;
+pub use top::{describe, run, tell};

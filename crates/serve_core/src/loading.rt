@@ -1,4 +1,4 @@
-// Loading: from the two parts of a session file to what can be served.
+// Reading a session: from the two parts of a session file to what can be served.
 
 ghost use Rattle.std.specs.Prelude.{◌≡◌, ◌≢◌, ◌⊎◌, ◌+◌, ◌<◌, ◌≤◌, ◌^◌, [], length, vec_len, IfOk, IfErr, OnOk, OnErr, MatchResult};
 ghost use Rattle.handler_tokens.specs.Words.{words_of, names_of};
@@ -11,6 +11,7 @@ ghost use Rattle.serve_core.specs.Loaded as spec;
 use crate::checked::CheckedHandler;
 use crate::resolve::resolve;
 use crate::status::Fault;
+use crate::syntax_fault::SyntaxFault;
 use crate::unserved::Unserved;
 use handler_syntax::{File, Handlers, SyntaxRefusal, parse};
 use handler_trees::File as Tree;
@@ -38,7 +39,7 @@ pub(crate) struct Loaded {
 }
 
 /// The session of a handlers' part and a requests' part, whose first line has the number `first`.
-pub(crate) fn load(
+pub(crate) fn read_session(
     alloc: Global,
     handlers: &str,
     requests: &str,
@@ -47,11 +48,13 @@ pub(crate) fn load(
     requires handlers { length handlers.now ≤ 4194304 }
     requires requests { length requests.now ≤ 4194304 }
     requires first { first ≤ 4194306 }
-    ensures loaded { IfOk result (λ l. spec.IsLoaded (record { handlers = handlers.now; requests = requests.now; first = first }) l) }
-    ensures refused { IfErr result (λ e. spec.IsReason (record { handlers = handlers.now; requests = requests.now; first = first }) e) }
+    ensures loaded { IfOk result (λ l. spec.IsLoaded
+        (record { handlers = handlers.now; requests = requests.now; first = first }) l) }
+    ensures refused { IfErr result (λ e. spec.IsReason
+        (record { handlers = handlers.now; requests = requests.now; first = first }) e) }
 {
     let mut names = Names::new(alloc)?;
-    let program = load_program(alloc, handlers, &mut names)?;
+    let program = read_program(alloc, handlers, &mut names)?;
     let found = read_requests(alloc, &program.heads, requests, first, &mut names);
     match found {
         Ok(requests) => Ok(Loaded {
@@ -66,7 +69,8 @@ pub(crate) fn load(
 
 /// Why nothing is served where requests are refused.
 fn refused_by(e: RequestRefusal) -> Unserved
-    ensures { (result ≡ Unserved.NoMemory) ⊎ ((result ≡ Unserved.Refused Fault.NotBuilt) × (e ≢ RequestRefusal.NoMemory)) }
+    ensures { (result ≡ Unserved.NoMemory)
+        ⊎ ((result ≡ Unserved.Refused Fault.NotBuilt) × (e ≢ RequestRefusal.NoMemory)) }
 {
     match e {
         RequestRefusal::NoMemory => Unserved::NoMemory,
@@ -87,11 +91,12 @@ pub(crate) fn read_file(alloc: Global, text: &str, names: &mut Names) -> Result<
     match parse(alloc, text, names) {
         Ok(file) => Ok(file),
         Err(SyntaxRefusal::NoMemory) => Err(Unserved::NoMemory),
-        Err(e) => Err(Unserved::Refused(Fault::Syntax(e))),
+        Err(e) => Err(Unserved::Refused(Fault::Syntax(SyntaxFault::new(e)))),
     }
 }
 
-fn load_program(alloc: Global, text: &str, names: &mut Names) -> Result<Program, Unserved>
+/// The handlers of a session file, by the text of them.
+fn read_program(alloc: Global, text: &str, names: &mut Names) -> Result<Program, Unserved>
     requires short { length text.now ≤ 4194304 }
     requires room { length names.old ≤ 4000000000 }
     ensures program { IfOk result (λ p. spec.IsProgram names.old text.now names.new p) }

@@ -1,6 +1,6 @@
 // The line on the error output.
 
-ghost use Rattle.std.specs.Prelude.{◌≡◌, ◌+◌, ◌≤◌, [], ◌++◌, length};
+ghost use Rattle.std.specs.Prelude.{◌≡◌, ◌≢◌, ◌+◌, ◌≤◌, [], ◌++◌, length};
 ghost use Rattle.serve_core.specs.Message as spec;
 
 use crate::status::{Fault, Status};
@@ -80,12 +80,13 @@ fn fault_line(fault: &Fault) -> Message
         Fault::NoRequests => Message::of(b"refused T2\n"),
         Fault::HasRequests => Message::of(b"refused T3\n"),
         Fault::NotText => Message::of(b"refused T4\n"),
-        Fault::Syntax(e) => syntax_line(e),
+        Fault::Syntax(e) => syntax_line(e.refusal()),
         Fault::NotBuilt => Message::of(b"refused U1\n"),
     }
 }
 
 fn syntax_line(e: &SyntaxRefusal) -> Message
+    requires { e.now ≢ SyntaxRefusal.NoMemory }
     ensures { result ≡ spec.syntax_line e.now }
 {
     match e {
@@ -94,7 +95,7 @@ fn syntax_line(e: &SyntaxRefusal) -> Message
         SyntaxRefusal::NumberTooLarge { at } => placed(b"refused S3 at ", *at),
         SyntaxRefusal::NameTooLong { at } => placed(b"refused S4 at ", *at),
         SyntaxRefusal::TooDeep { at } => placed(b"refused S5 at ", *at),
-        SyntaxRefusal::NoMemory => Message::of(b"no memory\n"),
+        SyntaxRefusal::NoMemory => unreachable!(),
     }
 }
 

@@ -1,6 +1,8 @@
 // How a run ends.
 
-use handler_syntax::SyntaxRefusal;
+ghost use Rattle.std.specs.Prelude.{◌≡◌};
+
+use crate::syntax_fault::SyntaxFault;
 
 /// Why an input is refused.
 #[derive(Debug, Drop)]
@@ -13,9 +15,8 @@ pub enum Fault {
     NoRequests,
     /// It has a dividing line, and is to be a file of handlers alone.
     HasRequests,
-    /// The text of the handlers is no file of the grammar within its limits. This is never want of
-    /// memory.
-    Syntax(SyntaxRefusal),
+    /// The text of the handlers is no file of the grammar within its limits.
+    Syntax(SyntaxFault),
     /// A part of it can't be served yet, or breaks a rule of names or of requests.
     NotBuilt,
 }
@@ -33,4 +34,23 @@ pub enum Status {
     ReadFault,
     /// The sink failed; what was written is a front of the text.
     WriteFault,
+}
+
+impl Status {
+    ghost use Rattle.serve_core.specs.ExitStatus.{exit_status};
+
+    /// The program's exit status: 0 fine, 1 refused, 2 usage, 3 no memory, 4 read fault, 5 write
+    /// fault.
+    pub fn number(&self) -> u8
+        ensures { result ≡ exit_status self.now }
+    {
+        match self {
+            Status::Fine => 0,
+            Status::Refused(_) => 1,
+            Status::Usage => 2,
+            Status::NoMemory => 3,
+            Status::ReadFault => 4,
+            Status::WriteFault => 5,
+        }
+    }
 }

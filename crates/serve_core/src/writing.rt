@@ -11,12 +11,14 @@ use session_values::{Names, Reply};
 
 /// Writes the replies, of which the first is ticket 0's, each line by as many writes as the sink
 /// needs. It answers `false` after a fault.
-pub(crate) fn write_replies<O: Sink>(out: &mut O, replies: &[Reply], names: &Names) -> bool
+pub(crate) fn write_lines<O: Sink>(out: &mut O, replies: &[Reply], names: &Names) -> bool
     requires few { length replies.now ≤ 20000 }
     requires printable { ArePrintableReplies names.now replies.now }
-    ensures all { result ≡ true → Grew (O.held out.old) (O.held out.new) (reply_text names.now 0 replies.now) }
+    ensures all { result ≡ true
+        → Grew (O.held out.old) (O.held out.new) (reply_text names.now 0 replies.now) }
     ensures fault { result ≡ false → Rose (O.faults out.old) (O.faults out.new) }
-    ensures front { result ≡ false → GrewByFront (O.held out.old) (O.held out.new) (reply_text names.now 0 replies.now) }
+    ensures front { result ≡ false
+        → GrewByFront (O.held out.old) (O.held out.new) (reply_text names.now 0 replies.now) }
     ensures later { O.faults out.old ≤ O.faults out.new }
 {
     let mut text = LineBuf::new();

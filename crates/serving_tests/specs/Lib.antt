@@ -1,2 +1,3 @@
-pub mod Counters
+pub mod BookRows
 pub mod CounterLaw
+pub mod Counters

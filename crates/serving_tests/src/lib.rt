@@ -1,6 +1,14 @@
-//! The tests of the crates that serve. They stand in a crate of their own, since a crate with tests
-//! is proved twice.
+//! Tests of the crates that serve requests: journal, desk, book and board. They stand above those
+//! crates, so that each is proved once.
 #![tactic(auto)]
 
 #[cfg(test)]
 mod board;
+#[cfg(test)]
+mod books;
+#[cfg(test)]
+mod desks;
+#[cfg(test)]
+mod journals;
+#[cfg(test)]
+mod map_ops;

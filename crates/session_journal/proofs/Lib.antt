@@ -1,7 +1,8 @@
 pub mod ListKeeps
 pub mod ListLawful
-mod OneMap
 pub mod Regroup
 pub mod Replay
 pub mod Rows
 pub mod Serial
+pub mod Serving
+pub mod Values

@@ -7,10 +7,13 @@ use Rattle.session_values.specs.declared.kind.TableKind.{TableKind}
 use Rattle.session_values.specs.declared.op.Op.{Op}
 use Rattle.session_values.specs.declared.reply.Reply.{Reply}
 use Rattle.session_values.specs.Dialogue.{Calls, Answers}
-use Rattle.session_values.specs.Tables.{Fits, is_adding}
+use Rattle.session_values.specs.Kinds.{is_adding}
+use Rattle.session_values.specs.Tables.{Fits}
 use Rattle.symbolic_ops.specs.declared.symbol.Symbol.{Symbol}
 use Rattle.symbolic_ops.specs.Symbols.{HasNoVar, Matches, exact_symbol}
 use Rattle.session_journal.specs.declared.list_script.Row.{Row}
+use Rattle.session_values.specs.Op.{IsHeld}
+use Rattle.symbolic_ops.proofs.Above.{exact_stands}
 use Rattle.session_journal.specs.Script.{HasValues, IsScript, calls, room}
 use Rattle.session_journal.specs.Lists.{Ticket, ListView, HasPlace, ticket_at, last_ticket, with_last, adding, IsTicket, list_meaning, answers_only, calls_more, allows_more}
 use Rattle.session_journal.specs.ListRows.{ticket_of_row, tickets_of, Follow, KeepsRows}
@@ -56,9 +59,9 @@ matches_more [] s op m = absurd m
 matches_more (x ∷ f) s op (inl m) = inl m
 matches_more (x ∷ f) s op (inr m) = inr (matches_more f s op m)
 
-pub matches_exact : (f : List Symbol) (op : Op) → Matches (f ++ exact_symbol op ∷ []) op
-matches_exact [] op = inl (record { kind = refl; table = refl; key = refl; value = refl })
-matches_exact (x ∷ f) op = inr (matches_exact f op)
+pub matches_exact : (f : List Symbol) (op : Op) → IsHeld op → Matches (f ++ exact_symbol op ∷ []) op
+matches_exact [] op h = inl (exact_stands op h)
+matches_exact (x ∷ f) op h = inr (matches_exact f op h)
 
 -- ---- a ticket with more
 called_ticket : (shape : List TableKind) (x : Ticket) (op : Op) → IsTicket shape x → Fits shape op → HasValues (Calls op) → length x.entry < 256 → IsTicket shape (calls_more x op)
@@ -68,7 +71,7 @@ called_ticket shape x op h f v l = record {
   answer = h.answer;
   few = omega (arith, length-append x.entry (exact_symbol op ∷ []), l);
   known = all_push HasNoVar x.entry (exact_symbol op) h.known (tt, tt);
-  matched = all_push (λ o. Matches (x.entry ++ exact_symbol op ∷ []) o) x.ops op (all_weaker (λ o. Matches x.entry o) (λ o. Matches (x.entry ++ exact_symbol op ∷ []) o) (λ o m. matches_more x.entry (exact_symbol op) o m) x.ops h.matched) (matches_exact x.entry op);
+  matched = all_push (λ o. Matches (x.entry ++ exact_symbol op ∷ []) o) x.ops op (all_weaker (λ o. Matches x.entry o) (λ o. Matches (x.entry ++ exact_symbol op ∷ []) o) (λ o m. matches_more x.entry (exact_symbol op) o m) x.ops h.matched) (matches_exact x.entry op v);
 }
 
 allowed_ticket : (shape : List TableKind) (x : Ticket) (s : Symbol) → IsTicket shape x → HasNoVar s → length x.entry < 256 → IsTicket shape (allows_more x s)

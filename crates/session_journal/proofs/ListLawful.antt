@@ -1,14 +1,18 @@
 -- A list of tickets is a script.
-use Rattle.std.proofs.Common.{◌≡◌, ℕ, zero, suc, ◌+◌, ◌≤◌, List, [], ◌∷◌, ◌++◌, length, cond, ◌&&◌, eqb, Bool, true, false, refl, ap, subst, arith}
+use Rattle.std.proofs.Common.{◌≡◌, ℕ, zero, suc, ◌+◌, ◌≤◌, List, [], ◌∷◌, ◌++◌, length, cond, ◌&&◌, eqb, Bool, true, false, refl, ap, subst, arith, lit<}
 use Rattle.std.specs.List.{AllByRecursion}
 use Rattle.session_values.specs.declared.value.Value.{Value}
+use Rattle.session_values.specs.declared.value.Value.TheVariants.{Nil}
+use Rattle.session_values.specs.Reply.{IsReply}
 use Rattle.session_values.specs.declared.kind.TableKind.{TableKind}
 use Rattle.session_values.specs.declared.op.Op.{Op}
 use Rattle.session_values.specs.declared.reply.Reply.{Reply}
 use Rattle.session_values.specs.Dialogue.{Calls, Answers, Entry, rest, Follows}
-use Rattle.session_values.specs.Tables.{Fits, is_adding}
+use Rattle.session_values.specs.Kinds.{is_adding}
+use Rattle.session_values.specs.Tables.{Fits}
 use Rattle.symbolic_ops.specs.Symbols.{Matches}
-use Rattle.session_journal.specs.Script.{HasValues, IsForesight, IsScript, adds_on, sum_below}
+use Rattle.session_values.specs.Sums.{sum_below}
+use Rattle.session_journal.specs.Script.{HasValues, IsForesight, IsScript, adds_on}
 use Rattle.session_journal.specs.Lists.{Ticket, ticket_at, says, adding, IsTicket, list_meaning}
 
 calls_it : (o p : Op) → Calls o ≡ Calls p → o ≡ p
@@ -41,8 +45,11 @@ few_adds i (o ∷ ops) r (e ∷ es) w =
     let same : cond {A = ℕ} (is_adding o.kind && eqb o.table i) 1 0 ≡ cond (is_adding e.op.kind && eqb e.op.table i) 1 0 = ap (λ (p : Op). cond {A = ℕ} (is_adding p.kind && eqb p.table i) 1 0) (calls_it o e.op w.0) in
     omega (arith, same, few_adds i ops r es w.1)
 
+no_reply : IsReply 1 Nil Nil Nil
+no_reply = (lit< tt, omega arith, λ l. refl, λ l. refl, λ l. refl)
+
 pub at_ticket : (shape : List TableKind) (xs : List Ticket) (t : ℕ) → AllByRecursion (IsTicket shape) xs → IsTicket shape (ticket_at xs t)
-at_ticket shape [] t a = record { fits = tt; values = tt; answer = (tt, tt, tt, tt); few = omega arith; known = tt; matched = tt }
+at_ticket shape [] t a = record { fits = tt; values = tt; answer = record { a = tt; b = tt; c = tt; d = tt; count = no_reply }; few = omega arith; known = tt; matched = tt }
 at_ticket shape (x ∷ xs) zero a = a.0
 at_ticket shape (x ∷ xs) (suc t) a = at_ticket shape xs t a.1
 
@@ -76,13 +83,14 @@ adding_le i (o ∷ ops) = let h : cond {A = ℕ} (is_adding o.kind && eqb o.tabl
 
 pub list_lawful : (shape : List TableKind) (xs : List Ticket) (ops : List Op) → AllByRecursion (IsTicket shape) xs → HasFew xs ops → IsScript (list_meaning shape xs)
 list_lawful shape xs ops a few = record {
+  opening = refl;
   fits = λ t replies op e. called (λ o. Fits shape o) (ticket_at xs t).ops (ticket_at xs t).reply replies op (at_ticket shape xs t a).fits e;
   values = λ t replies h. has_values (ticket_at xs t).ops (ticket_at xs t).reply replies (at_ticket shape xs t a).values (at_ticket shape xs t a).answer;
   ends = λ t. record { answers = λ replies h. ((ticket_at xs t).reply, ends (ticket_at xs t).ops (ticket_at xs t).reply replies h) };
   adds = λ t i es w. few_adds i (ticket_at xs t).ops (ticket_at xs t).reply es w;
   entry = λ t. foresight t [];
-  told = λ t replies. foresight t replies;
-  due = λ t replies. foresight t replies;
+  told = λ t replies h. foresight t replies;
+  due = λ t replies h. foresight t replies;
   few_requests = few.requests;
   few_calls = omega (arith, sum_tickets (λ x. length x.ops) xs, few.calls, few.few);
   few_adds = λ i. omega (arith, sum_tickets (λ x. adding i x.ops) xs, few.adds i, adding_le i ops, few.few);
@@ -92,5 +100,5 @@ list_lawful shape xs ops a few = record {
     foresight t replies = record {
       few = (at_ticket shape xs t a).few;
       known = (at_ticket shape xs t a).known;
-      covers = record { each = λ more op e. called (λ o. Matches (ticket_at xs t).entry o) (ticket_at xs t).ops (ticket_at xs t).reply (replies ++ more) op (at_ticket shape xs t a).matched e };
+      covers = record { each = λ more op h e. called (λ o. Matches (ticket_at xs t).entry o) (ticket_at xs t).ops (ticket_at xs t).reply (replies ++ more) op (at_ticket shape xs t a).matched e };
     }

@@ -14,6 +14,7 @@ use Rattle.session_values.specs.Dialogue.{Next, Calls, Answers, Dialogue, rest, 
 use Rattle.session_journal.specs.Script.{Covers, Meaning, session_of}
 use Rattle.session_values.specs.Serial.{Served, served_first, serve, tables_before, serial}
 use Rattle.session_journal.specs.Foreknown.{IsPrefixOf}
+use Rattle.session_journal.proofs.Values.{AreReplies}
 use Rattle.session_journal.proofs.Replay.{run-append, Replays-front, Replays-back}
 
 -- one operation done before a list with which it commutes leaves the list's replies as they are
@@ -41,13 +42,13 @@ not_ended zero f op e c = let a : (r : Reply) × (f [] ≡ Answers r) = e.answer
 not_ended (suc k) f op e c = (k, refl)
 
 -- what serving gives where the dialogue calls first
-serve-calls : (n : ℕ) (f : Dialogue) (ts : Tables) (op : Op) → f [] ≡ Calls op → serve (suc n) f ts ≡ served_first (record { op = op; reply = reply ts op }) (serve n (rest f (reply ts op ∷ [])) (step ts op))
+pub serve-calls : (n : ℕ) (f : Dialogue) (ts : Tables) (op : Op) → f [] ≡ Calls op → serve (suc n) f ts ≡ served_first (record { op = op; reply = reply ts op }) (serve n (rest f (reply ts op ∷ [])) (step ts op))
 serve-calls n f ts op e = ap (λ (x : Next). elim x as (λ _. Served) [
   | Calls o ↦ served_first (record { op = o; reply = reply ts o }) (serve n (rest f (reply ts o ∷ [])) (step ts o))
   | Answers r ↦ record { entries = []; answer = Some r; after = ts }
 ]) e
 
-serve-answers : (n : ℕ) (f : Dialogue) (ts : Tables) (r : Reply) → f [] ≡ Answers r → serve n f ts ≡ record { entries = []; answer = Some r; after = ts }
+pub serve-answers : (n : ℕ) (f : Dialogue) (ts : Tables) (r : Reply) → f [] ≡ Answers r → serve n f ts ≡ record { entries = []; answer = Some r; after = ts }
 serve-answers zero f ts r e = ap (λ (x : Next). elim x as (λ _. Served) [ Calls op ↦ record { entries = []; answer = None; after = ts } | Answers s ↦ record { entries = []; answer = Some s; after = ts } ]) e
 serve-answers (suc n) f ts r e = ap (λ (x : Next). elim x as (λ _. Served) [
   | Calls o ↦ served_first (record { op = o; reply = reply ts o }) (serve n (rest f (reply ts o ∷ [])) (step ts o))
@@ -124,9 +125,9 @@ goes_on n f ts (x ∷ es) e w h =
     subst Q (sym k.1) (goes_past k.0 f ts x es w.0 h.0 (goes_on k.0 (rest f (x.reply ∷ [])) (step ts x.op) es (EndsBy-rest k.0 f x.reply (subst P k.1 e)) w.1 h.1))
 
 -- what follows a covered dialogue is matched
-pub matched : (f : Dialogue) (foresight : List Symbol) (es : List Entry) → Covers f foresight → Follows f es → AllByRecursion (λ e. Matches foresight e.op) es
-matched f foresight [] c w = tt
-matched f foresight (e ∷ es) c w = (c.each [] e.op w.0, matched (rest f (e.reply ∷ [])) foresight es (record { each = λ more op h. c.each (e.reply ∷ more) op h }) w.1)
+pub matched : (f : Dialogue) (foresight : List Symbol) (es : List Entry) → Covers f foresight → AreReplies es → Follows f es → AllByRecursion (λ e. Matches foresight e.op) es
+matched f foresight [] c v w = tt
+matched f foresight (e ∷ es) c v w = (c.each [] e.op tt w.0, matched (rest f (e.reply ∷ [])) foresight es (record { each = λ more op h. c.each (e.reply ∷ more) op (v.0, h) }) v.1 w.1)
 
 -- ---- the tickets one after another
 -- the entries of ticket k, then those of the next one, and so on for m tickets
@@ -152,7 +153,8 @@ by_ticket-from (suc m) k ds = sym (append_assoc (by_ticket k ds) (of_ticket k ds
 pub record Settled (m : Meaning) (ds : List Deed) (t : ℕ) : Type 0 where
   pub ends : EndsBy (m.length t) (m.next t)
   pub follows : Follows (m.next t) (of_ticket t ds)
-  pub free : (w : ℕ) → t < w → (back : List Entry) → Follows (rest (m.next t) (replies (of_ticket t ds))) back → AllByRecursion (λ x. AllByRecursion (λ y. Commute x.op y.op) (of_ticket w ds)) back
+  pub values : AreReplies (serial (session_of m) t).entries
+  pub free : (w : ℕ) → t < w → (back : List Entry) → AreReplies back → Follows (rest (m.next t) (replies (of_ticket t ds))) back → AllByRecursion (λ x. AllByRecursion (λ y. Commute x.op y.op) (of_ticket w ds)) back
 
 -- what it gives
 pub record Known (m : Meaning) (ds : List Deed) (t : ℕ) : Type 0 where
@@ -163,14 +165,18 @@ All-append : (P : Entry → Type 0) (es fs : List Entry) → AllByRecursion P es
 All-append P [] fs a b = b
 All-append P (e ∷ es) fs a b = (a.0, All-append P es fs a.1 b)
 
+back_values : (es fs : List Entry) → AreReplies (es ++ fs) → AreReplies fs
+back_values [] fs v = v
+back_values (e ∷ es) fs v = back_values es fs v.1
+
 -- past all younger tickets' entries
-free_of_all : (m : Meaning) (ds : List Deed) (t : ℕ) → Settled m ds t → (back : List Entry) → Follows (rest (m.next t) (replies (of_ticket t ds))) back → (k c : ℕ) → t < k → AllByRecursion (λ x. AllByRecursion (λ y. Commute x.op y.op) (from_ticket k c ds)) back
-free_of_all m ds t s back w k zero h = nothing back
+free_of_all : (m : Meaning) (ds : List Deed) (t : ℕ) → Settled m ds t → (back : List Entry) → AreReplies back → Follows (rest (m.next t) (replies (of_ticket t ds))) back → (k c : ℕ) → t < k → AllByRecursion (λ x. AllByRecursion (λ y. Commute x.op y.op) (from_ticket k c ds)) back
+free_of_all m ds t s back v w k zero h = nothing back
   where
     nothing : (back : List Entry) → AllByRecursion (λ x. AllByRecursion (λ (y : Entry). Commute x.op y.op) []) back
     nothing [] = tt
     nothing (x ∷ xs) = (tt, nothing xs)
-free_of_all m ds t s back w k (suc c) h = joined back (s.free k h back w) (free_of_all m ds t s back w (suc k) c (omega arith))
+free_of_all m ds t s back v w k (suc c) h = joined back (s.free k h back v w) (free_of_all m ds t s back v w (suc k) c (omega arith))
   where
     joined : (xs : List Entry) → AllByRecursion (λ x. AllByRecursion (λ y. Commute x.op y.op) (of_ticket k ds)) xs → AllByRecursion (λ x. AllByRecursion (λ y. Commute x.op y.op) (from_ticket (suc k) c ds)) xs → AllByRecursion (λ x. AllByRecursion (λ y. Commute x.op y.op) (of_ticket k ds ++ from_ticket (suc k) c ds)) xs
     joined [] a b = tt
@@ -181,7 +187,7 @@ known_from m ds zero k s h t a b = absurd (omega arith)
 known_from m ds (suc c) k s h t a b =
     let here : Settled m ds k = s k (omega arith) in
     let g : GoesOn (m.length k) (m.next k) (tables_before (session_of m) k) (of_ticket k ds) = goes_on (m.length k) (m.next k) (tables_before (session_of m) k) (of_ticket k ds) here.ends here.follows (Replays-front _ (of_ticket k ds) (from_ticket (suc k) c ds) h) in
-    let moved : Replays (run (run (tables_before (session_of m) k) (of_ticket k ds)) g.back) (from_ticket (suc k) c ds) = beside (run (tables_before (session_of m) k) (of_ticket k ds)) g.back (from_ticket (suc k) c ds) (free_of_all m ds k here g.back g.follows (suc k) c (omega arith)) g.replays (Replays-back _ (of_ticket k ds) (from_ticket (suc k) c ds) h) in
+    let moved : Replays (run (run (tables_before (session_of m) k) (of_ticket k ds)) g.back) (from_ticket (suc k) c ds) = beside (run (tables_before (session_of m) k) (of_ticket k ds)) g.back (from_ticket (suc k) c ds) (free_of_all m ds k here g.back (back_values (of_ticket k ds) g.back (subst AreReplies g.entries here.values)) g.follows (suc k) c (omega arith)) g.replays (Replays-back _ (of_ticket k ds) (from_ticket (suc k) c ds) h) in
     let P : Tables → Type 0 = λ us. Replays us (from_ticket (suc k) c ds) in
     let onward : Replays (tables_before (session_of m) (suc k)) (from_ticket (suc k) c ds) = subst P (sym g.after) moved in
     elim (le_cases k t a) [
@@ -192,7 +198,7 @@ known_from m ds (suc c) k s h t a b =
     le_cases : (k t : ℕ) → k ≤ t → (k ≡ t) ⊎ (suc k ≤ t)
     le_cases k t a = grind arith
 
--- where the list regrouped by ticket replays from empty tables, each ticket's entries are the first ones of its serial serving
+-- where the list regrouped by ticket replays from the opening tables, each ticket's entries are the first ones of its serial serving
 pub all_known : (m : Meaning) (ds : List Deed) (n : ℕ) → ((t : ℕ) → t < n → Settled m ds t) → Replays (tables_before (session_of m) 0) (by_ticket n ds) → (t : ℕ) → t < n → Known m ds t
 all_known m ds n s h t l =
     let P : ℕ → Type 0 = λ j. Replays (tables_before (session_of m) 0) (by_ticket j ds) in

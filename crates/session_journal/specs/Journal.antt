@@ -2,12 +2,11 @@
 use Rattle.std.specs.Prelude.{◌≡◌, ℕ, zero, suc, ◌<◌, ◌==◌, List, [], ◌∷◌, ◌++◌, cond, Option, Some, None}
 use Rattle.std.specs.List.{AllByRecursion}
 use Rattle.session_values.specs.declared.value.Value.{Value}
-use Rattle.session_values.specs.declared.kind.TableKind.{TableKind}
 use Rattle.session_values.specs.declared.op.Op.{Op}
 use Rattle.session_values.specs.declared.reply.Reply.{Reply}
 use Rattle.session_values.specs.Commuting.{Commute}
 use Rattle.session_values.specs.Dialogue.{Entry}
-use Rattle.session_values.specs.Tables.{Tables, start, reply, step}
+use Rattle.session_values.specs.Tables.{Tables, reply, step}
 use Rattle.session_journal.specs.declared.event.Event.{Event}
 use Rattle.session_journal.specs.declared.event.Event.TheVariants.{Begin, Done, Delay, End}
 
@@ -97,9 +96,9 @@ ended J t = first (end_of t) J
 abbrev pub owner : List Event → ℕ → Option ℕ
 owner J t = first (caller_of t) J
 
--- the tables after the operations that were done
-abbrev pub after : List TableKind → List Event → Tables
-after shape J = run (start shape) (in_order (deeds J))
+-- the tables after the operations that were done, from the opening tables
+abbrev pub after : Tables → List Event → Tables
+after opening J = run opening (in_order (deeds J))
 
 -- the entries of ticket 0, then those of ticket 1, and so on through all begun tickets
 abbrev pub regrouped : List Event → List Entry

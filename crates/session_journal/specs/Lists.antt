@@ -6,7 +6,8 @@ use Rattle.session_values.specs.declared.kind.TableKind.{TableKind}
 use Rattle.session_values.specs.declared.op.Op.{Op}
 use Rattle.session_values.specs.declared.reply.Reply.{Reply}
 use Rattle.session_values.specs.Dialogue.{Calls, Answers, Dialogue}
-use Rattle.session_values.specs.Tables.{Fits, is_adding}
+use Rattle.session_values.specs.Kinds.{is_adding}
+use Rattle.session_values.specs.Tables.{Fits, start}
 use Rattle.symbolic_ops.specs.declared.symbol.Symbol.{Symbol}
 use Rattle.symbolic_ops.specs.Symbols.{Matches, HasNoVar, exact_symbol}
 use Rattle.session_journal.specs.Script.{Meaning, HasValues}
@@ -58,6 +59,7 @@ pub record IsTicket (shape : List TableKind) (x : Ticket) : Type 0 where
 abbrev pub list_meaning : List TableKind → List Ticket → Meaning
 list_meaning shape tickets = record {
   shape = shape;
+  opening = start shape;
   requests = length tickets;
   next = λ t. says (ticket_at tickets t).ops (ticket_at tickets t).reply;
   length = λ t. length (ticket_at tickets t).ops;

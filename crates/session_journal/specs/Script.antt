@@ -1,19 +1,23 @@
 -- What a script of tickets means.
-use Rattle.std.specs.Prelude.{◌≡◌, ℕ, zero, suc, ◌+◌, ◌≤◌, List, [], ◌∷◌, length, cond, ◌&&◌, ◌==◌}
+use Rattle.std.specs.Prelude.{◌≡◌, ℕ, ◌+◌, ◌≤◌, List, [], ◌∷◌, length, cond, ◌&&◌, ◌==◌}
 use Rattle.std.specs.List.{AllByRecursion}
 use Rattle.session_values.specs.declared.value.Value.{Value}
 use Rattle.session_values.specs.declared.kind.TableKind.{TableKind}
 use Rattle.session_values.specs.declared.op.Op.{Op}
 use Rattle.session_values.specs.Dialogue.{Next, Calls, Answers, Dialogue, Entry, rest, Follows, EndsBy}
 use Rattle.session_values.specs.Serial.{Session}
-use Rattle.session_values.specs.Tables.{Fits, is_adding}
+use Rattle.session_values.specs.Kinds.{is_adding}
+use Rattle.session_values.specs.Op.{IsHeld}
+use Rattle.session_values.specs.Reply.{IsHeldReply}
+use Rattle.session_values.specs.Sums.{sum_below}
+use Rattle.session_values.specs.Tables.{Tables, Fits, start}
 use Rattle.session_values.specs.Values.{IsValue}
 use Rattle.symbolic_ops.specs.declared.symbol.Symbol.{Symbol}
 use Rattle.symbolic_ops.specs.Symbols.{Matches, HasNoVar}
 
--- whatever replies come, some symbol of the list stands for each operation that the dialogue calls
+-- whatever replies come that a program can hold, some symbol of the list stands for each operation that the dialogue calls
 pub record Covers (f : Dialogue) (foresight : List Symbol) : Type 0 where
-  pub each : (more : List Value) (op : Op) → f more ≡ Calls op → Matches foresight op
+  pub each : (more : List Value) (op : Op) → AllByRecursion IsValue more → f more ≡ Calls op → Matches foresight op
 
 -- a list that a ticket may have as its foresight
 pub record IsForesight (f : Dialogue) (foresight : List Symbol) : Type 0 where
@@ -21,14 +25,15 @@ pub record IsForesight (f : Dialogue) (foresight : List Symbol) : Type 0 where
   pub known : AllByRecursion HasNoVar foresight
   pub covers : Covers f foresight
 
--- the values of what a dialogue gives are such that a program can hold
+-- a program can hold what a dialogue gives: the operation, or the reply
 abbrev pub HasValues : Next → Type 0
-HasValues (Calls op) = IsValue op.key × IsValue op.value
-HasValues (Answers r) = IsValue r.a × IsValue r.b × IsValue r.c × IsValue r.d
+HasValues (Calls op) = IsHeld op
+HasValues (Answers r) = IsHeldReply r
 
--- what a script means: the kinds of its tables, the number of its tickets, and for each ticket its dialogue, the most calls, the most adding calls on each table, and what it declares at its beginning, right after an operation, and last before it calls or answers
+-- what a script means: the kinds of its tables, the opening tables, the number of its tickets, and for each ticket its dialogue, the most calls, the most adding calls on each table, and what it declares at its beginning, right after an operation, and last before it calls or answers
 pub record Meaning : Type 0 where
   pub shape : List TableKind
+  pub opening : Tables
   pub requests : ℕ
   pub next : ℕ → Dialogue
   pub length : ℕ → ℕ
@@ -39,17 +44,12 @@ pub record Meaning : Type 0 where
 
 -- what the serial run is made of
 abbrev pub session_of : Meaning → Session
-session_of m = record { shape = m.shape; requests = m.requests; next = m.next; length = m.length }
+session_of m = record { shape = m.shape; opening = m.opening; requests = m.requests; next = m.next; length = m.length }
 
 -- how many of a list's operations are of the adding kinds on table i
 abbrev pub adds_on : ℕ → List Entry → ℕ
 adds_on i [] = 0
 adds_on i (e ∷ es) = cond (is_adding e.op.kind && (e.op.table == i)) 1 0 + adds_on i es
-
--- the sum of f over the numbers below n
-abbrev pub sum_below : ℕ → (ℕ → ℕ) → ℕ
-sum_below zero f = 0
-sum_below (suc n) f = sum_below n f + f n
 
 -- the most calls of all tickets together
 abbrev pub calls : Meaning → ℕ
@@ -61,16 +61,18 @@ room m i = sum_below m.requests (λ t. m.adds t i)
 
 -- what every script's meaning keeps
 pub record IsScript (m : Meaning) : Type 0 where
+  -- the opening tables are of its kinds, and all are empty
+  pub opening : m.opening ≡ start m.shape
   -- each operation fits the tables, and where the replies are values, so are the values that come
   pub fits : (t : ℕ) (replies : List Value) (op : Op) → m.next t replies ≡ Calls op → Fits m.shape op
   pub values : (t : ℕ) (replies : List Value) → AllByRecursion IsValue replies → HasValues (m.next t replies)
   -- the bounds on a ticket's calls
   pub ends : (t : ℕ) → EndsBy (m.length t) (m.next t)
   pub adds : (t i : ℕ) (es : List Entry) → Follows (m.next t) es → adds_on i es ≤ m.adds t i
-  -- what is declared covers what is still to come
+  -- what is declared covers what is still to come, where the replies so far are values
   pub entry : (t : ℕ) → IsForesight (m.next t) (m.entry t)
-  pub told : (t : ℕ) (replies : List Value) → IsForesight (rest (m.next t) replies) (m.told t replies)
-  pub due : (t : ℕ) (replies : List Value) → IsForesight (rest (m.next t) replies) (m.due t replies)
+  pub told : (t : ℕ) (replies : List Value) → AllByRecursion IsValue replies → IsForesight (rest (m.next t) replies) (m.told t replies)
+  pub due : (t : ℕ) (replies : List Value) → AllByRecursion IsValue replies → IsForesight (rest (m.next t) replies) (m.due t replies)
   -- the bounds on all tickets together
   pub few_requests : m.requests ≤ 20000
   pub few_calls : calls m ≤ 200000

@@ -26,23 +26,29 @@ pub trait Desk {
     fn call<R: Threads + Wait + Sync>(&mut self, rt: &R, op: Op) -> Result<Value, NoMemory>
         requires idle { (at self.old).waiting ≡ None }
         requires next { next_of (Self.Served.meaning (script self.old)) (at self.old) ≡ Calls op }
-        requires due { (at self.old).present ≡ due_of (Self.Served.meaning (script self.old)) (at self.old) }
+        requires due { (at self.old).present
+            ≡ due_of (Self.Served.meaning (script self.old)) (at self.old) }
         requires matches { Matches (at self.old).present op }
         ensures script { script self.new ≡ script self.old }
         // Want of memory leaves the desk as it was, and never comes from a sure one.
-        ensures waits { MatchResult result (λ v. at self.new ≡ with_waiting (at self.old) op v) (λ _. (at self.new ≡ at self.old) × ((at self.old).sure ≡ false)) };
+        ensures waits { MatchResult result
+            (λ v. at self.new ≡ with_waiting (at self.old) op v)
+            (λ _. (at self.new ≡ at self.old) × ((at self.old).sure ≡ false)) };
 
     /// Enters the operation that waits, and narrows to what the ticket declares after it.
     fn finish<R: Threads + Wait + Sync>(&mut self, rt: &R, next: &Foresight)
-        requires { MayFinish (Self.Served.meaning (script self.old)) (at self.old) (at self.old).waiting next.now.symbols }
+        requires { MayFinish (Self.Served.meaning (script self.old)) (at self.old)
+            (at self.old).waiting next.now.symbols }
         ensures script { script self.new ≡ script self.old }
-        ensures finished { at self.new ≡ finished (at self.old) (at self.old).waiting next.now.symbols };
+        ensures finished { at self.new
+            ≡ finished (at self.old) (at self.old).waiting next.now.symbols };
 
     /// Narrows to a declaration of the ticket.
     fn declare<R: Threads + Wait + Sync>(&mut self, rt: &R, f: &Foresight)
         requires idle { (at self.old).waiting ≡ None }
         requires going { (at self.old).ended ≡ false }
-        requires narrows { MayNarrow (Self.Served.meaning (script self.old)) (at self.old).ticket (at self.old).entries (at self.old).present f.now.symbols }
+        requires narrows { MayNarrow (Self.Served.meaning (script self.old)) (at self.old).ticket
+            (at self.old).entries (at self.old).present f.now.symbols }
         ensures script { script self.new ≡ script self.old }
         ensures narrowed { at self.new ≡ with_present (at self.old) f.now.symbols };
 
@@ -50,8 +56,10 @@ pub trait Desk {
     fn end<R: Threads + Wait + Sync>(&mut self, rt: &R, reply: Reply)
         requires idle { (at self.old).waiting ≡ None }
         requires going { (at self.old).ended ≡ false }
-        requires answers { next_of (Self.Served.meaning (script self.old)) (at self.old) ≡ Answers reply }
-        requires due { (at self.old).present ≡ due_of (Self.Served.meaning (script self.old)) (at self.old) }
+        requires answers { next_of (Self.Served.meaning (script self.old)) (at self.old)
+            ≡ Answers reply }
+        requires due { (at self.old).present
+            ≡ due_of (Self.Served.meaning (script self.old)) (at self.old) }
         ensures script { script self.new ≡ script self.old }
         ensures ended { at self.new ≡ with_end (at self.old) };
 }

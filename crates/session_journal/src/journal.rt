@@ -10,6 +10,7 @@ use std::marker::Model;
 /// Events in the order in which they came, in room that is reserved once.
 #[derive(Debug, Drop)]
 pub struct Journal {
+    /// The events, in room that no call changes.
     events: Vec<Event>,
 }
 
@@ -21,7 +22,8 @@ impl Model for Journal {
 
     ghost view = { λ j. record { events = j.events.items; room = vec_capacity j.events } };
 
-    ghost invariant = { λ j. (length j.events.items ≤ vec_capacity j.events) × (vec_capacity j.events < 2 ^ 32) };
+    ghost invariant = { λ j. (length j.events.items ≤ vec_capacity j.events)
+        × (vec_capacity j.events < 2 ^ 32) };
 }
 
 impl Journal {
@@ -33,6 +35,7 @@ impl Journal {
         Ok(Journal { events })
     }
 
+    /// Appends an event, in room that is left for it.
     pub fn push_reserved(&mut self, e: Event)
         requires { length self.old.events < self.old.room }
         ensures { self.new ≡ record { events = self.old.events ++ e ∷ []; room = self.old.room } }
@@ -40,6 +43,7 @@ impl Journal {
         self.events.push_reserved(e);
     }
 
+    /// The events, the earliest first.
     pub fn events(&self) -> &[Event]
         ensures { result.now ≡ self.now.events }
     {

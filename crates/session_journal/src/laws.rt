@@ -9,6 +9,9 @@ use crate::event::Event;
 /// What replays, and whose operations commute where a younger ticket's stands before an older
 /// one's, replays regrouped by ticket too, and gives the same tables.
 pub fn regrouping()
-    ensures replays { (ts : Tables) (J : List Event) → Replays ts (in_order (deeds J)) → InversionsCommute (deeds J) → AreBelow (begun J) (deeds J) → Replays ts (regrouped J) }
-    ensures tables { (ts : Tables) (J : List Event) → Replays ts (in_order (deeds J)) → InversionsCommute (deeds J) → AreBelow (begun J) (deeds J) → run ts (regrouped J) ≡ run ts (in_order (deeds J)) }
+    ensures replays { (ts : Tables) (J : List Event) → Replays ts (in_order (deeds J)) →
+        InversionsCommute (deeds J) → AreBelow (begun J) (deeds J) → Replays ts (regrouped J) }
+    ensures tables { (ts : Tables) (J : List Event) → Replays ts (in_order (deeds J)) →
+        InversionsCommute (deeds J) → AreBelow (begun J) (deeds J) →
+        run ts (regrouped J) ≡ run ts (in_order (deeds J)) }
 {}

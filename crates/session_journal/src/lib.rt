@@ -14,6 +14,3 @@ pub use event::Event;
 pub use journal::Journal;
 pub use list_script::ListScript;
 pub use script::Script;
-
-#[cfg(test)]
-mod tests;

@@ -2,15 +2,13 @@
 
 ghost use Rattle.std.specs.Prelude.{◌≡◌, ℕ, ◌<◌, ◌≤◌, ◌-◌, ◌++◌, ◌∷◌, ◌&&◌, ◌==◌, [], cond, length, IfOk};
 ghost use Rattle.std.specs.List.{AllByRecursion};
-ghost use Rattle.session_values.specs.Dialogue.{Answers};
-ghost use Rattle.session_values.specs.Tables.{Fits, is_adding};
-ghost use Rattle.session_journal.specs.Script.{HasValues};
-ghost use Rattle.session_values.specs.Values.{IsValue};
+ghost use Rattle.session_values.specs.Kinds.{is_adding};
+ghost use Rattle.session_values.specs.Tables.{Fits};
 ghost use Rattle.symbolic_ops.specs.Symbols.{HasNoVar};
 ghost use Rattle.session_journal.specs.Lists.{HasPlace, adding, answers_only, allows_more, calls_more, last_ticket, with_last};
 
 use crate::script::Script;
-use session_values::{NoMemory, Op, Reply, TableKind, Value};
+use session_values::{NoMemory, Op, Reply, TableKind};
 use std::alloc::Global;
 use std::marker::Model;
 use symbolic_ops::{Foresight, Symbol};
@@ -18,10 +16,15 @@ use symbolic_ops::{Foresight, Symbol};
 /// Where a ticket's operations and symbols lie, and its reply.
 #[derive(Clone, Copy, Debug)]
 pub(crate) struct Row {
+    /// What the ticket answers.
     pub(crate) reply: Reply,
+    /// The place of its first operation among those of all tickets.
     pub(crate) first_op: u32,
+    /// How many operations it calls.
     pub(crate) ops: u32,
+    /// The place of its first symbol among those of all tickets.
     pub(crate) first_symbol: u32,
+    /// How many symbols it declares.
     pub(crate) symbols: u32,
 }
 
@@ -30,9 +33,13 @@ pub(crate) struct Row {
 /// tickets declare.
 #[derive(Debug, Drop)]
 pub struct ListScript {
+    /// The kinds of the tables, by table number.
     shape: Vec<TableKind>,
+    /// A row for each ticket, by ticket number.
     rows: Vec<Row>,
+    /// The operations of all tickets, each ticket's behind those of the one before.
     ops: Vec<Op>,
+    /// What the tickets declare, each ticket's symbols behind those of the one before.
     symbols: Vec<Symbol>,
 }
 
@@ -43,20 +50,16 @@ impl Model for ListScript {
 
     ghost Value = { ListView };
 
-    ghost view = { λ s. record { shape = s.shape.items; tickets = tickets_of s.ops.items s.symbols.items s.rows.items; tickets_left = vec_capacity s.rows - length s.rows.items; calls_left = vec_capacity s.ops - length s.ops.items; symbols_left = vec_capacity s.symbols - length s.symbols.items } };
+    ghost view = { λ s. record {
+      shape = s.shape.items;
+      tickets = tickets_of s.ops.items s.symbols.items s.rows.items;
+      tickets_left = vec_capacity s.rows - length s.rows.items;
+      calls_left = vec_capacity s.ops - length s.ops.items;
+      symbols_left = vec_capacity s.symbols - length s.symbols.items;
+    } };
 
-    ghost invariant = { λ s. KeepsRows s.shape.items s.rows.items s.ops.items s.symbols.items (vec_capacity s.rows) (vec_capacity s.ops) (vec_capacity s.symbols) };
-}
-
-/// A value is one that a program can hold.
-fn see_value(v: Value)
-    ensures { IsValue v }
-{
-    match v {
-        Value::Nil => {}
-        Value::Num(_) => {}
-        Value::Sym(_) => {}
-    }
+    ghost invariant = { λ s. KeepsRows s.shape.items s.rows.items s.ops.items s.symbols.items
+        (vec_capacity s.rows) (vec_capacity s.ops) (vec_capacity s.symbols) };
 }
 
 impl ListScript {
@@ -72,7 +75,13 @@ impl ListScript {
         requires tickets { tickets ≤ 20000 }
         requires calls { calls ≤ 200000 }
         requires symbols { symbols ≤ 400000 }
-        ensures { IfOk result (λ s. s ≡ record { shape = shape.now; tickets = []; tickets_left = tickets; calls_left = calls; symbols_left = symbols }) }
+        ensures { IfOk result (λ s. s ≡ record {
+          shape = shape.now;
+          tickets = [];
+          tickets_left = tickets;
+          calls_left = calls;
+          symbols_left = symbols;
+        }) }
     {
         Ok(ListScript {
             shape: shape.to_vec(alloc)?,
@@ -85,9 +94,15 @@ impl ListScript {
     /// Adds a ticket without operations that answers this reply.
     pub fn ticket(&mut self, reply: Reply)
         requires { 0 < self.old.tickets_left }
-        ensures { self.new ≡ record { shape = self.old.shape; tickets = self.old.tickets ++ answers_only reply ∷ []; tickets_left = self.old.tickets_left - 1; calls_left = self.old.calls_left; symbols_left = self.old.symbols_left } }
+        ensures { self.new ≡ record {
+          shape = self.old.shape;
+          tickets = self.old.tickets ++ answers_only reply ∷ [];
+          tickets_left = self.old.tickets_left - 1;
+          calls_left = self.old.calls_left;
+          symbols_left = self.old.symbols_left;
+        } }
     {
-        see_reply(&reply);
+        reply.bounds();
         self.rows.push_reserved(Row {
             reply,
             first_op: self.ops.len() as u32,
@@ -103,10 +118,15 @@ impl ListScript {
         requires place { HasPlace self.old.tickets }
         requires calls { 0 < self.old.calls_left }
         requires symbols { 0 < self.old.symbols_left }
-        ensures { self.new ≡ record { shape = self.old.shape; tickets = with_last self.old.tickets (calls_more (last_ticket self.old.tickets) op); tickets_left = self.old.tickets_left; calls_left = self.old.calls_left - 1; symbols_left = self.old.symbols_left - 1 } }
+        ensures { self.new ≡ record {
+          shape = self.old.shape;
+          tickets = with_last self.old.tickets (calls_more (last_ticket self.old.tickets) op);
+          tickets_left = self.old.tickets_left;
+          calls_left = self.old.calls_left - 1;
+          symbols_left = self.old.symbols_left - 1;
+        } }
     {
-        see_value(op.key);
-        see_value(op.value);
+        op.bounds();
         let last = self.rows.len() - 1;
         self.ops.push_reserved(op);
         self.symbols.push_reserved(Symbol::exact(&op));
@@ -123,7 +143,13 @@ impl ListScript {
         requires known { HasNoVar s }
         requires place { HasPlace self.old.tickets }
         requires symbols { 0 < self.old.symbols_left }
-        ensures { self.new ≡ record { shape = self.old.shape; tickets = with_last self.old.tickets (allows_more (last_ticket self.old.tickets) s); tickets_left = self.old.tickets_left; calls_left = self.old.calls_left; symbols_left = self.old.symbols_left - 1 } }
+        ensures { self.new ≡ record {
+          shape = self.old.shape;
+          tickets = with_last self.old.tickets (allows_more (last_ticket self.old.tickets) s);
+          tickets_left = self.old.tickets_left;
+          calls_left = self.old.calls_left;
+          symbols_left = self.old.symbols_left - 1;
+        } }
     {
         let last = self.rows.len() - 1;
         self.symbols.push_reserved(s);
@@ -133,16 +159,6 @@ impl ListScript {
             ..row
         };
     }
-}
-
-/// The values of a reply are such that a program can hold.
-fn see_reply(reply: &Reply)
-    ensures { HasValues (Answers reply.now) }
-{
-    see_value(reply.a);
-    see_value(reply.b);
-    see_value(reply.c);
-    see_value(reply.d);
 }
 
 /// 1 where the operation may add a key to the table, else 0.
@@ -168,18 +184,6 @@ fn count_adding(ops: &[Op], table: u32) -> u32
     count
 }
 
-/// Replaces the content of `out` by these symbols.
-fn copy_symbols(symbols: &[Symbol], out: &mut Foresight)
-    requires known { AllByRecursion HasNoVar symbols.now }
-    requires room { length symbols.now ≤ out.old.room }
-    ensures { out.new ≡ record { symbols = symbols.now; room = out.old.room } }
-{
-    out.clear();
-    for s in symbols {
-        out.push(*s);
-    }
-}
-
 impl Script for ListScript {
     ghost use Rattle.session_journal.specs.Lists.{list_meaning};
 
@@ -192,7 +196,7 @@ impl Script for ListScript {
     fn entry(&self, t: u32, out: &mut Foresight) {
         let row = self.rows[t as usize];
         let first = row.first_symbol as usize;
-        copy_symbols(&self.symbols[first..first + row.symbols as usize], out);
+        out.copy_from(&self.symbols[first..first + row.symbols as usize]);
     }
 
     fn calls(&self) -> u32 {

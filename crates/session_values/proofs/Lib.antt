@@ -1,2 +1,5 @@
 pub mod Named
 pub mod NamesLemmas
+pub mod Sizes
+pub mod Starts
+pub mod Sums

@@ -2,12 +2,11 @@ pub mod Commuting
 pub mod Containers
 pub mod Dialogue
 pub mod Kinds
-pub mod Length
 pub mod Names
 pub mod Op
 pub mod Reply
 pub mod ReplyText
 pub mod Serial
+pub mod Sums
 pub mod Tables
 pub mod Values
-pub mod formers

@@ -3,15 +3,8 @@ use Rattle.std.specs.Prelude.{◌≡◌, ℕ, ◌<◌}
 use Rattle.session_values.specs.declared.value.Value.{Value}
 use Rattle.session_values.specs.declared.value.Value.TheVariants.{Nil}
 use Rattle.session_values.specs.declared.kind.Kind.{Kind}
-use Rattle.session_values.specs.declared.kind.Kind.TheVariants.{Put, Swap, Size, Count}
-
--- how many arguments an operation has after its table
-abbrev pub arguments : Kind → ℕ
-arguments Put = 2
-arguments Swap = 2
-arguments Size = 0
-arguments Count = 0
-arguments _ = 1
+use Rattle.session_values.specs.Kinds.{arguments}
+use Rattle.session_values.specs.Values.{IsValue}
 
 pub record OpView : Type 0 where
   pub kind : Kind
@@ -22,3 +15,9 @@ pub record OpView : Type 0 where
 -- its unused fields are nil
 abbrev pub IsOp : Kind → Value → Value → Type 0
 IsOp kind key value = (arguments kind < 1 → key ≡ Nil) × (arguments kind < 2 → value ≡ Nil)
+
+-- a program can hold it: its key and value are such values, and its unused fields are nil
+pub record IsHeld (op : OpView) : Type 0 where
+  pub key : IsValue op.key
+  pub value : IsValue op.value
+  pub unused : IsOp op.kind op.key op.value

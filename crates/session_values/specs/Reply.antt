@@ -2,6 +2,7 @@
 use Rattle.std.specs.Prelude.{◌≡◌, ℕ, ◌<◌, ◌≤◌, List, [], ◌∷◌, take}
 use Rattle.session_values.specs.declared.value.Value.{Value}
 use Rattle.session_values.specs.declared.value.Value.TheVariants.{Nil}
+use Rattle.session_values.specs.Values.{IsValue}
 
 pub record ReplyView : Type 0 where
   pub count : ℕ
@@ -13,6 +14,14 @@ pub record ReplyView : Type 0 where
 -- it has 1 to 4 values, and the others are nil
 abbrev pub IsReply : ℕ → Value → Value → Value → Type 0
 IsReply count b c d = (0 < count) × (count ≤ 4) × (count < 2 → b ≡ Nil) × (count < 3 → c ≡ Nil) × (count < 4 → d ≡ Nil)
+
+-- a program can hold it: its values are such values, and it has 1 to 4 of them
+pub record IsHeldReply (r : ReplyView) : Type 0 where
+  pub a : IsValue r.a
+  pub b : IsValue r.b
+  pub c : IsValue r.c
+  pub d : IsValue r.d
+  pub count : IsReply r.count r.b r.c r.d
 
 -- its values, in order
 abbrev pub values_of : ReplyView → List Value

@@ -2,12 +2,13 @@
 use Rattle.std.specs.Prelude.{ℕ, zero, suc, List, [], ◌∷◌, ◌++◌, Option, Some, None}
 use Rattle.session_values.specs.declared.kind.TableKind.{TableKind}
 use Rattle.session_values.specs.declared.reply.Reply.{Reply}
-use Rattle.session_values.specs.Tables.{Tables, start, reply, step}
+use Rattle.session_values.specs.Tables.{Tables, reply, step}
 use Rattle.session_values.specs.Dialogue.{Calls, Answers, Dialogue, rest, Entry}
 
--- what is to be served: the kinds of the tables, the number of tickets, and for each ticket its dialogue and the most calls that it makes
+-- what is to be served: the kinds of the tables, the opening tables, the number of tickets, and for each ticket its dialogue and the most calls that it makes
 pub record Session : Type 0 where
   pub shape : List TableKind
+  pub opening : Tables
   pub requests : ℕ
   pub next : ℕ → Dialogue
   pub length : ℕ → ℕ
@@ -30,9 +31,9 @@ serve (suc n) f ts = elim (f []) [
   | Answers r ↦ record { entries = []; answer = Some r; after = ts }
 ]
 
--- the tables when the tickets below t have been served one at a time, in order, from empty tables
+-- the tables when the tickets below t have been served one at a time, in order, from the opening tables
 abbrev pub tables_before : Session → ℕ → Tables
-tables_before s zero = start s.shape
+tables_before s zero = s.opening
 tables_before s (suc t) = (serve (s.length t) (s.next t) (tables_before s t)).after
 
 -- how ticket t is served when the tickets are served one at a time, in order

@@ -1,5 +1,5 @@
 -- Tables, and what one operation does to them.
-use Rattle.std.specs.Prelude.{◌≡◌, ℕ, pos, ◌<◌, List, [], ◌∷◌, Bool, true, false, Some, slice_get, slice_index_or, slice_set, if◌then◌else◌}
+use Rattle.std.specs.Prelude.{◌≡◌, ℕ, pos, ◌<◌, List, [], ◌∷◌, Bool, true, Some, slice_get, slice_index_or, slice_set, if◌then◌else◌}
 use Rattle.std.specs.Option.{unwrap_or}
 use Rattle.std.specs.FinMap as map
 use Rattle.std.specs.FinSet as set
@@ -10,7 +10,7 @@ use Rattle.session_values.specs.declared.kind.TableKind.TheVariants.{Map, Set}
 use Rattle.session_values.specs.declared.kind.Kind.{Kind}
 use Rattle.session_values.specs.declared.kind.Kind.TheVariants.{Get, Put, Swap, Del, Size, Has, Add, Mark, Drop, Count}
 use Rattle.session_values.specs.declared.op.Op.{Op}
-use Rattle.session_values.specs.Op.{arguments}
+use Rattle.session_values.specs.Kinds.{arguments, home}
 use Rattle.session_values.specs.Values.{value_cmp, IsValue}
 
 -- the container of one table: the bindings of a map, or the members of a set
@@ -36,33 +36,57 @@ start (kind ∷ shape) = empty_of kind ∷ start shape
 abbrev pub bit : Bool → Value
 bit b = if b then Num (pos 1) else Num (pos 0)
 
--- the reply of an operation on a map
+-- the reply of an operation on a map, which is nil for those on sets
 abbrev pub map_reply : map.FinMap value_cmp Value → Kind → Value → Value
 map_reply m Get k = unwrap_or (map.get m k) Nil
+map_reply m Put k = Nil
 map_reply m Swap k = unwrap_or (map.get m k) Nil
+map_reply m Del k = Nil
 map_reply m Size k = Num (pos (map.len m))
-map_reply m _ k = Nil
+map_reply m Has k = Nil
+map_reply m Add k = Nil
+map_reply m Mark k = Nil
+map_reply m Drop k = Nil
+map_reply m Count k = Nil
 
--- the map after an operation
+-- the map after an operation, which those on sets leave as it was
 abbrev pub map_after : map.FinMap value_cmp Value → Kind → Value → Value → map.FinMap value_cmp Value
+map_after m Get k v = m
 map_after m Put k v = map.insert m k v
 map_after m Swap k v = map.insert m k v
 map_after m Del k v = map.remove m k
-map_after m _ k v = m
+map_after m Size k v = m
+map_after m Has k v = m
+map_after m Add k v = m
+map_after m Mark k v = m
+map_after m Drop k v = m
+map_after m Count k v = m
 
--- the reply of an operation on a set
+-- the reply of an operation on a set, which is nil for those on maps
 abbrev pub set_reply : set.FinSet value_cmp → Kind → Value → Value
+set_reply s Get k = Nil
+set_reply s Put k = Nil
+set_reply s Swap k = Nil
+set_reply s Del k = Nil
+set_reply s Size k = Nil
 set_reply s Has k = bit (set.contains s k)
 set_reply s Add k = if set.contains s k then Num (pos 0) else Num (pos 1)
+set_reply s Mark k = Nil
+set_reply s Drop k = Nil
 set_reply s Count k = Num (pos (set.len s))
-set_reply s _ k = Nil
 
--- the set after an operation
+-- the set after an operation, which those on maps leave as it was
 abbrev pub set_after : set.FinSet value_cmp → Kind → Value → set.FinSet value_cmp
+set_after s Get k = s
+set_after s Put k = s
+set_after s Swap k = s
+set_after s Del k = s
+set_after s Size k = s
+set_after s Has k = s
 set_after s Add k = set.insert s k
 set_after s Mark k = set.insert s k
 set_after s Drop k = set.remove s k
-set_after s _ k = s
+set_after s Count k = s
 
 -- the reply of an operation on one container
 abbrev pub reply_on : Container → Op → Value
@@ -86,15 +110,6 @@ reply ts op = reply_on (table ts op.table) op
 unfoldable pub step : Tables → Op → Tables
 step ts op = slice_set ts op.table (after_on (table ts op.table) op)
 
--- the kind of container that an operation works on
-abbrev pub home : Kind → TableKind
-home Get = Map
-home Put = Map
-home Swap = Map
-home Del = Map
-home Size = Map
-home _ = Set
-
 -- the kind of a container
 abbrev pub kind_of : Container → TableKind
 kind_of (Bindings m) = Map
@@ -110,22 +125,6 @@ pub record Fits (shape : List TableKind) (op : Op) : Type 0 where
 abbrev pub size_of : Container → ℕ
 size_of (Bindings m) = map.len m
 size_of (Members s) = set.len s
-
--- the kinds that may add a key
-abbrev pub is_adding : Kind → Bool
-is_adding Put = true
-is_adding Swap = true
-is_adding Add = true
-is_adding Mark = true
-is_adding _ = false
-
--- the kinds that change nothing
-abbrev pub is_read : Kind → Bool
-is_read Get = true
-is_read Size = true
-is_read Has = true
-is_read Count = true
-is_read _ = false
 
 -- a program can hold all keys and values
 abbrev pub AreValues : Container → Type 0

@@ -3,9 +3,7 @@
 ghost use Rattle.std.specs.Prelude.{◌≡◌};
 ghost use Rattle.std.specs.Bool.{Decides};
 ghost use Rattle.session_values.specs.declared.kind.TableKind.TheVariants.{Map};
-ghost use Rattle.session_values.specs.Kinds.{word_of};
-ghost use Rattle.session_values.specs.Op.{arguments};
-ghost use Rattle.session_values.specs.Tables.{home, is_adding};
+ghost use Rattle.session_values.specs.Kinds.{arguments, home, is_adding, is_keyed, is_plain, is_read, word_of};
 
 /// What a table is.
 #[derive(Clone, Copy, Debug, PartialEq, Eq)]
@@ -64,25 +62,67 @@ impl Kind {
     {
         match self {
             Kind::Put | Kind::Swap => 2,
+            Kind::Get | Kind::Del | Kind::Has | Kind::Add | Kind::Mark | Kind::Drop => 1,
             Kind::Size | Kind::Count => 0,
-            _ => 1,
         }
     }
 
     /// Whether it works on maps.
+    #[inline(always)]
     pub fn on_map(self) -> bool
         ensures { Decides result (home self ≡ Map) }
     {
-        matches!(
-            self,
-            Kind::Get | Kind::Put | Kind::Swap | Kind::Del | Kind::Size
-        )
+        match self {
+            Kind::Get | Kind::Put | Kind::Swap | Kind::Del | Kind::Size => true,
+            Kind::Has | Kind::Add | Kind::Mark | Kind::Drop | Kind::Count => false,
+        }
+    }
+
+    /// Whether it is about one key.
+    #[inline(always)]
+    pub fn is_keyed(self) -> bool
+        ensures { result ≡ is_keyed self }
+    {
+        match self {
+            Kind::Get | Kind::Put | Kind::Swap | Kind::Del => true,
+            Kind::Has | Kind::Add | Kind::Mark | Kind::Drop => true,
+            Kind::Size | Kind::Count => false,
+        }
+    }
+
+    /// Whether it changes nothing.
+    #[inline(always)]
+    pub fn reads(self) -> bool
+        ensures { result ≡ is_read self }
+    {
+        match self {
+            Kind::Get | Kind::Size | Kind::Has | Kind::Count => true,
+            Kind::Put | Kind::Swap | Kind::Del => false,
+            Kind::Add | Kind::Mark | Kind::Drop => false,
+        }
     }
 
     /// Whether it may add a key.
     pub fn adds(self) -> bool
         ensures { result ≡ is_adding self }
     {
-        matches!(self, Kind::Put | Kind::Swap | Kind::Add | Kind::Mark)
+        match self {
+            Kind::Put | Kind::Swap | Kind::Add | Kind::Mark => true,
+            Kind::Get | Kind::Del | Kind::Size => false,
+            Kind::Has | Kind::Drop | Kind::Count => false,
+        }
+    }
+
+    /// Whether it is a plain change: done twice it leaves what it leaves once, and its reply tells
+    /// nothing.
+    #[inline(always)]
+    pub fn is_plain(self) -> bool
+        ensures { result ≡ is_plain self }
+    {
+        match self {
+            Kind::Put | Kind::Del | Kind::Mark | Kind::Drop => true,
+            Kind::Get | Kind::Swap | Kind::Size => false,
+            Kind::Has | Kind::Add | Kind::Count => false,
+        }
     }
 }

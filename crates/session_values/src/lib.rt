@@ -2,23 +2,17 @@
 //! definitions that every layer above speaks of.
 #![tactic(auto)]
 
-mod boxed;
 mod kind;
-mod listed;
+pub mod laws;
 mod names;
-mod no_memory;
 mod op;
 mod reply;
+mod seeded;
 mod value;
 
-pub use boxed::Boxed;
 pub use kind::{Kind, TableKind};
-pub use listed::Listed;
 pub use names::Names;
-pub use no_memory::NoMemory;
 pub use op::Op;
+pub use owned_lists::{Boxed, Listed, NoMemory};
 pub use reply::Reply;
 pub use value::Value;
-
-#[cfg(test)]
-mod tests;

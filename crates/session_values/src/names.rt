@@ -1,25 +1,25 @@
 // The list of names.
 
-ghost use Rattle.std.specs.Prelude.{◌≡◌, ◌+◌, ◌<◌, ◌≤◌, ◌↔◌, [], IfOk, IfSome, IfNone, IfErr, OnErr, length, Some, slice_get, Contains};
+ghost use Rattle.std.specs.Prelude.{◌≡◌, ◌<◌, [], IfOk, IfSome, IfNone, OnErr, length, Some, slice_get, Contains};
 ghost use Rattle.std.specs.List.{position};
 ghost use Rattle.std.specs.Str.{bytes_eq};
 ghost use Rattle.session_values.specs.Names.{with_text, place_of, AreDistinct};
 
-use crate::no_memory::NoMemory;
+use crate::seeded::Seeded;
 use indexmap::IndexSet;
+use owned_lists::NoMemory;
 use std::alloc::Global;
 use std::marker::Model;
 
 /// A list of different texts. A text's place in it stands for the text.
 #[derive(Drop)]
 pub struct Names {
-    texts: IndexSet<String>,
+    // In order of their places.
+    texts: IndexSet<String, Seeded>,
 }
 
 impl Model for Names {
     ghost use Rattle.std.specs.Prelude.{List, ℕ, length, map, string_bytes, ◌<◌, ◌^◌};
-    ghost use Rattle.std.specs.String.{string_eq};
-    ghost use Rattle.indexmap.specs.IndexSet.{IsUnique};
     ghost use Rattle.session_values.specs.Names.{AreDistinct};
 
     ghost Value = { List (List ℕ) };
@@ -30,11 +30,20 @@ impl Model for Names {
 }
 
 impl Names {
+    /// No names yet.
     pub fn new(alloc: Global) -> Result<Names, NoMemory>
         ensures { IfOk result (λ names. names ≡ []) }
     {
-        let texts = IndexSet::new(alloc);
-        Ok(Names { texts })
+        Ok(Names::with_seed(alloc, 0))
+    }
+
+    /// No names yet. Texts are looked up by hashes that begin from the seed: where that comes from
+    /// all of an input, nobody can choose names that collide without changing it.
+    pub fn with_seed(alloc: Global, seed: u64) -> Names
+        ensures { result ≡ [] }
+    {
+        let texts = IndexSet::with_hasher(alloc, Seeded::new(seed));
+        Names { texts }
     }
 
     /// The place of the text, which is appended where it is new.
@@ -76,6 +85,7 @@ impl Names {
         self.texts.as_slice()[place as usize].as_str()
     }
 
+    /// How many names there are.
     pub fn len(&self) -> u32
         ensures len { result ≡ length self.now }
         ensures distinct { AreDistinct self.now }

@@ -1,5 +1,7 @@
 // Operations.
 
+ghost use Rattle.session_values.specs.Op.{IsHeld};
+
 use crate::kind::Kind;
 use crate::value::Value;
 use std::marker::Model;
@@ -24,4 +26,16 @@ impl Model for Op {
     ghost invariant = { λ o. IsOp o.kind o.key o.value };
 
     ghost inverse = { λ o. record { kind = o.kind; table = o.table; key = o.key; value = o.value } };
+}
+
+impl Op {
+    /// The bounds of an operation that is at hand: those of its key and value, and that its unused
+    /// fields are nil.
+    #[inline(always)]
+    pub fn bounds(&self)
+        ensures { IsHeld self.now }
+    {
+        self.key.bounds();
+        self.value.bounds();
+    }
 }

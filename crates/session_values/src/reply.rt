@@ -1,5 +1,7 @@
 // Replies.
 
+ghost use Rattle.session_values.specs.Reply.{IsHeldReply};
+
 use crate::value::Value;
 use std::marker::Model;
 
@@ -24,4 +26,16 @@ impl Model for Reply {
     ghost invariant = { λ r. IsReply r.count r.b r.c r.d };
 
     ghost inverse = { λ r. record { count = r.count; a = r.a; b = r.b; c = r.c; d = r.d } };
+}
+
+impl Reply {
+    /// The bounds of a reply that is at hand: those of its values, and that it has 1 to 4 of them.
+    pub fn bounds(&self)
+        ensures { IsHeldReply self.now }
+    {
+        self.a.bounds();
+        self.b.bounds();
+        self.c.bounds();
+        self.d.bounds();
+    }
 }

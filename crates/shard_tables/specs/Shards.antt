@@ -1,24 +1,33 @@
 -- Shards as contracts see them: what one holds, and how many keys it has room for.
-use Rattle.std.specs.Prelude.{◌≡◌, ℕ, ◌-◌, ◌<◌, ◌≤◌, List, length, Bool, true, false, refl}
-use Rattle.std.specs.Coded.{Coded, code_by, coded×, coded_ℕ}
+use Rattle.std.specs.Prelude.{◌≡◌, ℕ, ◌-◌, ◌*◌, ◌<◌, ◌≤◌, List, length, map as map_list, Bool, true, false, refl}
+use Rattle.std.specs.Coded.{Coded, code_by, coded×, coded_ℕ, coded_list}
 use Rattle.std.specs.FinMap as map
 use Rattle.std.specs.FinSet as set
 use Rattle.session_values.specs.contracts.value.Value as value
 use Rattle.session_values.specs.declared.op.Op.{Op}
 use Rattle.session_values.specs.declared.value.Value.{Value}
 use Rattle.session_values.specs.Values.{value_cmp}
-use Rattle.session_values.specs.Tables.{Container, Bindings, Members, after_on, size_of, is_adding}
-use Rattle.shard_tables.specs.Keys.{AreDifferent}
+use Rattle.session_values.specs.Kinds.{is_adding}
+use Rattle.session_values.specs.Tables.{Container, Bindings, Members, after_on, size_of}
+use Rattle.place_index.specs.Keys.{AreDifferent}
+use Rattle.place_index.specs.Slots.{IndexView, slot_count, IsIndexOf}
 
--- a shard of a map: the bindings of its part
+-- a shard of a map: the pairs of its part, in the order in which they stand
 pub record MapView : Type 0 where
-  pub bindings : map.FinMap value_cmp Value
+  pub entries : List (Value × Value)
   pub room : ℕ
 
--- a shard of a set: the members of its part
+-- a shard of a set: the keys of its part, in the order in which they stand
 pub record SetView : Type 0 where
-  pub members : set.FinSet value_cmp
+  pub entries : List Value
   pub room : ℕ
+
+-- what a shard holds
+abbrev pub bindings : MapView → map.FinMap value_cmp Value
+bindings s = map.from_entries s.entries
+
+abbrev pub members : SetView → set.FinSet value_cmp
+members s = set.from_list s.entries
 
 -- a shard of either
 pub record ShardView : Type 0 where
@@ -26,10 +35,10 @@ pub record ShardView : Type 0 where
   pub room : ℕ
 
 abbrev pub map_shard : MapView → ShardView
-map_shard s = record { container = Bindings s.bindings; room = s.room }
+map_shard s = record { container = Bindings (bindings s); room = s.room }
 
 abbrev pub set_shard : SetView → ShardView
-set_shard s = record { container = Members s.members; room = s.room }
+set_shard s = record { container = Members (members s); room = s.room }
 
 -- for how many more keys there is room
 abbrev pub spare_of : ShardView → ℕ
@@ -42,7 +51,8 @@ has_key (Members s) k = set.contains s k
 
 -- where the operation adds a key that is absent, room is left
 abbrev pub HasRoomFor : Op → ShardView → Type 0
-HasRoomFor op s = is_adding op.kind ≡ true → has_key s.container op.key ≡ false → size_of s.container < s.room
+HasRoomFor op s =
+    is_adding op.kind ≡ true → has_key s.container op.key ≡ false → size_of s.container < s.room
 
 -- a shard after an operation: its room stays
 abbrev pub shard_after : ShardView → Op → ShardView
@@ -51,14 +61,22 @@ shard_after s op = record { container = after_on s.container op; room = s.room }
 -- how a map's shard is told from others, and a set's
 abbrev pub map_code : Coded MapView
 map_code =
-    code_by (map.FinMap value_cmp Value × ℕ) (coded× (map.code value.the_row.coded value.the_row.coded) coded_ℕ) (λ s. (s.bindings, s.room)) (λ p. record { bindings = p.0; room = p.1 }) (λ _. refl)
+    code_by (List (Value × Value) × ℕ)
+    (coded× (coded_list (coded× value.the_row.coded value.the_row.coded)) coded_ℕ)
+    (λ s. (s.entries, s.room)) (λ p. record { entries = p.0; room = p.1 }) (λ _. refl)
 
 abbrev pub set_code : Coded SetView
-set_code = code_by (set.FinSet value_cmp × ℕ) (coded× (set.code value.the_row.coded) coded_ℕ) (λ s. (s.members, s.room)) (λ p. record { members = p.0; room = p.1 }) (λ _. refl)
+set_code =
+    code_by (List Value × ℕ) (coded× (coded_list value.the_row.coded) coded_ℕ)
+    (λ s. (s.entries, s.room)) (λ p. record { entries = p.0; room = p.1 }) (λ _. refl)
 
--- the elements of a shard have different keys and are at most its room, for which the capacity is there
-pub record FitsRoom {X : Type 0} (key : X → Value) (items : List X) (capacity room : ℕ) : Type 0 where
+-- the elements of a shard have different keys, and their places are what the index holds; there are
+-- at most as many as the room, for which the capacity is there and half of the index's slots
+pub record FitsRoom {X : Type 0} (key : X → Value) (items : List X) (capacity room : ℕ)
+    (index : IndexView) : Type 0 where
   pub different : AreDifferent key items
+  pub indexed : IsIndexOf (map_list key items) index
   pub within : length items ≤ room
   pub reserved : room ≤ capacity
+  pub spread : 2 * room ≤ slot_count index
   pub few : room ≤ 1073741824

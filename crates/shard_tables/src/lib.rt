@@ -9,8 +9,6 @@ mod sharding;
 
 pub use laws::{parting, parts_of_whole};
 pub use map_shard::MapShard;
+pub use place_index::start_slot;
 pub use set_shard::SetShard;
 pub use sharding::shard_of;
-
-#[cfg(test)]
-mod tests;

@@ -1,35 +1,38 @@
 // One shard of a map.
 
-ghost use Rattle.std.specs.Prelude.{◌≡◌, ◌<◌, ◌≤◌, IfOk, false, pos, unwrap_or, position};
+ghost use Rattle.std.specs.Prelude.{◌≡◌, ◌<◌, ◌≤◌, ◌+◌, IfOk, false, pos, unwrap_or, length, slice_get};
 ghost use Rattle.std.specs.FinMap as map;
 ghost use Rattle.session_values.specs.declared.kind.TableKind.TheVariants.{Map};
-ghost use Rattle.session_values.specs.Tables.{reply_on, size_of, home, empty_of};
-ghost use Rattle.session_values.specs.Values.{value_eq};
-ghost use Rattle.shard_tables.specs.Shards.{map_shard, HasRoomFor, shard_after, spare_of};
+ghost use Rattle.session_values.specs.Kinds.{home};
+ghost use Rattle.session_values.specs.Tables.{Bindings, reply_on, size_of, empty_of};
+ghost use Rattle.place_index.specs.Keys.{AreDifferent};
+ghost use Rattle.shard_tables.specs.Shards.{bindings, map_shard, HasRoomFor, shard_after, spare_of};
 
+use place_index::PlaceIndex;
 use session_values::{Kind, NoMemory, Op, Value};
 use std::alloc::Global;
 use std::marker::Model;
 
-/// The bindings of a part of a map, in no order. After `with_room` it takes no memory.
+/// The bindings of a part of a map, in no order, each found by an index of places.
+/// After `with_room` it takes no memory.
 #[derive(Drop)]
 pub struct MapShard {
     pairs: Vec<(Value, Value)>,
+    index: PlaceIndex,
     room: u32,
 }
 
 impl Model for MapShard {
     ghost use Rattle.std.specs.Prelude.{vec_capacity};
-    ghost use Rattle.std.specs.FinMap as map;
     ghost use Rattle.shard_tables.specs.Shards.{MapView, FitsRoom, map_code};
 
     ghost Value = { MapView };
 
     ghost coded = { map_code };
 
-    ghost view = { λ s. record { bindings = map.from_entries s.pairs.items; room = s.room } };
+    ghost view = { λ s. record { entries = s.pairs.items; room = s.room } };
 
-    ghost invariant = { λ s. FitsRoom (λ p. p.0) s.pairs.items (vec_capacity s.pairs) s.room };
+    ghost invariant = { λ s. FitsRoom (λ p. p.0) s.pairs.items (vec_capacity s.pairs) s.room s.index };
 }
 
 impl MapShard {
@@ -39,7 +42,8 @@ impl MapShard {
         ensures { IfOk result (λ shard. map_shard shard ≡ record { container = empty_of Map; room = room }) }
     {
         let pairs = Vec::with_capacity(alloc, room as usize)?;
-        Ok(MapShard { pairs, room })
+        let index = PlaceIndex::with_room(alloc, room)?;
+        Ok(MapShard { pairs, index, room })
     }
 
     /// Does one operation on the part.
@@ -60,8 +64,8 @@ impl MapShard {
                 self.unbind(op.key);
                 Value::Nil
             }
-            Kind::Size => Value::Num(self.size()),
-            _ => Value::Nil,
+            Kind::Size => Value::Num(i64::from(self.len())),
+            Kind::Has | Kind::Add | Kind::Mark | Kind::Drop | Kind::Count => Value::Nil,
         }
     }
 
@@ -71,31 +75,57 @@ impl MapShard {
         ensures within { size_of (map_shard self.now).container ≤ self.now.room }
         ensures limit { self.now.room ≤ 1073741824 }
     {
-        self.room - self.pairs.len() as u32
+        self.room - self.len()
+    }
+
+    /// How many keys there are.
+    pub fn len(&self) -> u32
+        ensures len { result ≡ length self.now.entries }
+        ensures size { result ≡ size_of (map_shard self.now).container }
+        ensures different { AreDifferent (λ e. e.0) self.now.entries }
+    {
+        self.pairs.len() as u32
+    }
+
+    /// A key and what it is bound to.
+    pub fn entry(&self, i: u32) -> (Value, Value)
+        requires { i < length self.now.entries }
+        ensures entry { slice_get self.now.entries i ≡ Some result }
+        ensures bound { map.get (bindings self.now) result.0 ≡ Some result.1 }
+    {
+        self.pairs[i as usize]
+    }
+
+    /// How many slots a search for this key looks at: the measure of an operation on it, for tests
+    /// and benchmarks.
+    pub fn probes(&self, key: Value) -> u32
+        ensures some { 0 < result }
+        ensures few { result ≤ length self.now.entries + 1 }
+    {
+        self.index.probes(&self.pairs, key)
     }
 
     fn get(&self, key: Value) -> Value
-        ensures { result ≡ unwrap_or (map.get self.now.bindings key) Value.Nil }
+        ensures { result ≡ unwrap_or (map.get (bindings self.now) key) Value.Nil }
     {
-        match place_of(&self.pairs, key) {
+        match self.index.place_of(&self.pairs, key) {
             Some(place) => self.pairs[place].1,
             None => Value::Nil,
         }
     }
 
-    fn size(&self) -> i64
-        ensures { result ≡ pos (map.len self.now.bindings) }
-    {
-        self.pairs.len() as i64
-    }
-
     // Answers what the key was bound to before, or nil.
     fn bind(&mut self, key: Value, value: Value) -> Value
-        requires { map.contains_key self.old.bindings key ≡ false → map.len self.old.bindings < self.old.room }
-        ensures reply { result ≡ unwrap_or (map.get self.old.bindings key) Value.Nil }
-        ensures after { self.new ≡ record { bindings = map.insert self.old.bindings key value; room = self.old.room } }
+        requires { map.contains_key (bindings self.old) key ≡ false
+            → map.len (bindings self.old) < self.old.room }
+        ensures reply { result ≡ unwrap_or (map.get (bindings self.old) key) Value.Nil }
+        ensures after { map_shard self.new
+            ≡ record {
+              container = Bindings (map.insert (bindings self.old) key value);
+              room = self.old.room;
+            } }
     {
-        match place_of(&self.pairs, key) {
+        match self.index.enter(&self.pairs, key) {
             Some(place) => {
                 let old = self.pairs[place].1;
                 self.pairs[place] = (key, value);
@@ -109,17 +139,14 @@ impl MapShard {
     }
 
     fn unbind(&mut self, key: Value)
-        ensures { self.new ≡ record { bindings = map.remove self.old.bindings key; room = self.old.room } }
+        ensures { map_shard self.new
+            ≡ record {
+              container = Bindings (map.remove (bindings self.old) key);
+              room = self.old.room;
+            } }
     {
-        if let Some(place) = place_of(&self.pairs, key) {
+        if let Some(place) = self.index.remove(&self.pairs, key) {
             self.pairs.swap_remove(place);
         }
     }
-}
-
-// The place of the pair with this key.
-fn place_of(pairs: &[(Value, Value)], key: Value) -> Option<usize>
-    ensures { result ≡ position (λ pair. value_eq key pair.0) pairs.now }
-{
-    pairs.iter().position(|pair| pair.0 == key)
 }

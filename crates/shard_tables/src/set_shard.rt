@@ -1,35 +1,38 @@
 // One shard of a set.
 
-ghost use Rattle.std.specs.Prelude.{◌≡◌, ◌<◌, ◌≤◌, IfOk, false, pos, position, not, is_some};
+ghost use Rattle.std.specs.Prelude.{◌≡◌, ◌<◌, ◌≤◌, ◌+◌, IfOk, false, pos, not, length, slice_get, true};
 ghost use Rattle.std.specs.FinSet as set;
 ghost use Rattle.session_values.specs.declared.kind.TableKind.TheVariants.{Set};
-ghost use Rattle.session_values.specs.Tables.{reply_on, size_of, home, empty_of, bit};
-ghost use Rattle.session_values.specs.Values.{value_eq};
-ghost use Rattle.shard_tables.specs.Shards.{set_shard, HasRoomFor, shard_after, spare_of};
+ghost use Rattle.session_values.specs.Kinds.{home};
+ghost use Rattle.session_values.specs.Tables.{Members, reply_on, size_of, empty_of, bit};
+ghost use Rattle.place_index.specs.Keys.{AreDifferent};
+ghost use Rattle.shard_tables.specs.Shards.{members, set_shard, HasRoomFor, shard_after, spare_of};
 
+use place_index::PlaceIndex;
 use session_values::{Kind, NoMemory, Op, Value};
 use std::alloc::Global;
 use std::marker::Model;
 
-/// The members of a part of a set, in no order. After `with_room` it takes no memory.
+/// The members of a part of a set, in no order, each found by an index of places.
+/// After `with_room` it takes no memory.
 #[derive(Drop)]
 pub struct SetShard {
-    members: Vec<Value>,
+    keys: Vec<Value>,
+    index: PlaceIndex,
     room: u32,
 }
 
 impl Model for SetShard {
     ghost use Rattle.std.specs.Prelude.{vec_capacity};
-    ghost use Rattle.std.specs.FinSet as set;
     ghost use Rattle.shard_tables.specs.Shards.{SetView, FitsRoom, set_code};
 
     ghost Value = { SetView };
 
     ghost coded = { set_code };
 
-    ghost view = { λ s. record { members = set.from_list s.members.items; room = s.room } };
+    ghost view = { λ s. record { entries = s.keys.items; room = s.room } };
 
-    ghost invariant = { λ s. FitsRoom (λ k. k) s.members.items (vec_capacity s.members) s.room };
+    ghost invariant = { λ s. FitsRoom (λ k. k) s.keys.items (vec_capacity s.keys) s.room s.index };
 }
 
 impl SetShard {
@@ -38,8 +41,9 @@ impl SetShard {
         requires { room ≤ 1073741824 }
         ensures { IfOk result (λ shard. set_shard shard ≡ record { container = empty_of Set; room = room }) }
     {
-        let members = Vec::with_capacity(alloc, room as usize)?;
-        Ok(SetShard { members, room })
+        let keys = Vec::with_capacity(alloc, room as usize)?;
+        let index = PlaceIndex::with_room(alloc, room)?;
+        Ok(SetShard { keys, index, room })
     }
 
     /// Does one operation on the part.
@@ -60,8 +64,8 @@ impl SetShard {
                 self.remove(op.key);
                 Value::Nil
             }
-            Kind::Count => Value::Num(self.count()),
-            _ => Value::Nil,
+            Kind::Count => Value::Num(i64::from(self.len())),
+            Kind::Get | Kind::Put | Kind::Swap | Kind::Del | Kind::Size => Value::Nil,
         }
     }
 
@@ -71,50 +75,73 @@ impl SetShard {
         ensures within { size_of (set_shard self.now).container ≤ self.now.room }
         ensures limit { self.now.room ≤ 1073741824 }
     {
-        self.room - self.members.len() as u32
+        self.room - self.len()
+    }
+
+    /// How many members there are.
+    pub fn len(&self) -> u32
+        ensures len { result ≡ length self.now.entries }
+        ensures size { result ≡ size_of (set_shard self.now).container }
+        ensures different { AreDifferent (λ k. k) self.now.entries }
+    {
+        self.keys.len() as u32
+    }
+
+    /// A member.
+    pub fn entry(&self, i: u32) -> Value
+        requires { i < length self.now.entries }
+        ensures entry { slice_get self.now.entries i ≡ Some result }
+        ensures member { set.contains (members self.now) result ≡ true }
+    {
+        self.keys[i as usize]
+    }
+
+    /// How many slots a search for this key looks at: the measure of an operation on it, for tests
+    /// and benchmarks.
+    pub fn probes(&self, key: Value) -> u32
+        ensures some { 0 < result }
+        ensures few { result ≤ length self.now.entries + 1 }
+    {
+        self.index.probes(&self.keys, key)
     }
 
     fn has(&self, key: Value) -> bool
-        ensures { result ≡ set.contains self.now.members key }
+        ensures { result ≡ set.contains (members self.now) key }
     {
-        place_of(&self.members, key).is_some()
-    }
-
-    fn count(&self) -> i64
-        ensures { result ≡ pos (set.len self.now.members) }
-    {
-        self.members.len() as i64
+        self.index.place_of(&self.keys, key).is_some()
     }
 
     // Answers whether the key was none.
     fn add(&mut self, key: Value) -> bool
-        requires { set.contains self.old.members key ≡ false → set.len self.old.members < self.old.room }
-        ensures new { result ≡ not (set.contains self.old.members key) }
-        ensures after { self.new ≡ record { members = set.insert self.old.members key; room = self.old.room } }
+        requires { set.contains (members self.old) key ≡ false
+            → set.len (members self.old) < self.old.room }
+        ensures new { result ≡ not (set.contains (members self.old) key) }
+        ensures after { set_shard self.new
+            ≡ record {
+              container = Members (set.insert (members self.old) key);
+              room = self.old.room;
+            } }
     {
-        match place_of(&self.members, key) {
+        match self.index.enter(&self.keys, key) {
             Some(_) => false,
             None => {
-                self.members.push_reserved(key);
+                self.keys.push_reserved(key);
                 true
             }
         }
     }
 
     fn remove(&mut self, key: Value)
-        ensures { self.new ≡ record { members = set.remove self.old.members key; room = self.old.room } }
+        ensures { set_shard self.new
+            ≡ record {
+              container = Members (set.remove (members self.old) key);
+              room = self.old.room;
+            } }
     {
-        if let Some(place) = place_of(&self.members, key) {
-            self.members.swap_remove(place);
+        if let Some(place) = self.index.remove(&self.keys, key) {
+            self.keys.swap_remove(place);
         }
     }
-}
-
-// The place of this member.
-fn place_of(members: &[Value], key: Value) -> Option<usize>
-    ensures { result ≡ position (value_eq key) members.now }
-{
-    members.iter().position(|member| *member == key)
 }
 
 fn bit_of(holds: bool) -> Value

@@ -1,1 +1,4 @@
+pub mod Above
 pub mod BelowSome
+pub mod Orders
+pub mod PutValues

@@ -9,7 +9,8 @@ use Rattle.symbolic_ops.specs.declared.symbol.Symbol.{Symbol}
 -- a variable is one of so many
 abbrev pub ArgWithin : ℕ → Arg → Type 0
 ArgWithin variables (Var x) = x < variables
-ArgWithin variables _ = Unit {0}
+ArgWithin variables (Known v) = Unit {0}
+ArgWithin variables Any = Unit {0}
 
 abbrev pub IsWithin : ℕ → Symbol → Type 0
 IsWithin variables s = ArgWithin variables s.key × ArgWithin variables s.value

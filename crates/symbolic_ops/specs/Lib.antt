@@ -1,4 +1,5 @@
 pub mod Foresight
 pub mod Instantiate
+pub mod Order
 pub mod Symbol
 pub mod Symbols

@@ -3,6 +3,7 @@ use Rattle.std.specs.Prelude.{◌≡◌, List, [], ◌∷◌, ◌⊎◌}
 use Rattle.std.specs.List.{AllByRecursion}
 use Rattle.session_values.specs.declared.value.Value.{Value}
 use Rattle.session_values.specs.declared.op.Op.{Op}
+use Rattle.session_values.specs.Op.{IsHeld}
 use Rattle.symbolic_ops.specs.declared.arg.Arg.{Arg}
 use Rattle.symbolic_ops.specs.declared.arg.Arg.TheVariants.{Known, Var, Any}
 use Rattle.symbolic_ops.specs.declared.symbol.Symbol.{Symbol}
@@ -13,8 +14,9 @@ Agrees (Known w) v = w ≡ v
 Agrees (Var x) v = ⊥
 Agrees Any v = Unit {0}
 
--- the symbol stands for the operation
+-- the symbol stands for the operation, which is one that a program can hold
 pub record StandsFor (s : Symbol) (op : Op) : Type 0 where
+  pub held : IsHeld op
   pub kind : s.kind ≡ op.kind
   pub table : s.table ≡ op.table
   pub key : Agrees s.key op.key
@@ -23,7 +25,8 @@ pub record StandsFor (s : Symbol) (op : Op) : Type 0 where
 -- an argument is no variable
 abbrev pub IsNoVar : Arg → Type 0
 IsNoVar (Var x) = ⊥
-IsNoVar _ = Unit {0}
+IsNoVar (Known v) = Unit {0}
+IsNoVar Any = Unit {0}
 
 -- neither argument is a variable
 abbrev pub HasNoVar : Symbol → Type 0

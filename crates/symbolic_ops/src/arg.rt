@@ -1,13 +1,13 @@
 // Arguments of symbols.
 
-ghost use Rattle.std.specs.Prelude.{◌≡◌};
 ghost use Rattle.std.specs.Bool.{Decides};
+ghost use Rattle.symbolic_ops.specs.Symbol.{IsHeldArg};
 ghost use Rattle.symbolic_ops.specs.Symbols.{Agrees, ArgBelow, IsNoVar};
 
 use session_values::Value;
 
 /// What is known of an argument of an operation.
-#[derive(Clone, Copy, Debug, PartialEq, Eq)]
+#[derive(Clone, Copy, Debug, PartialEq, Eq, PartialOrd, Ord)]
 pub enum Arg {
     /// It is this value.
     Known(Value),
@@ -18,12 +18,27 @@ pub enum Arg {
 }
 
 impl Arg {
+    /// The bounds of the value that it knows.
+    #[inline(always)]
+    pub(crate) fn bounds(self)
+        ensures { IsHeldArg self }
+    {
+        match self {
+            Arg::Known(v) => v.bounds(),
+            Arg::Var(_) => {}
+            Arg::Any => {}
+        }
+    }
+
     /// Whether it is no variable.
     #[inline(always)]
     pub(crate) fn is_no_var(self) -> bool
         ensures { Decides result (IsNoVar self) }
     {
-        !matches!(self, Arg::Var(_))
+        match self {
+            Arg::Known(_) | Arg::Any => true,
+            Arg::Var(_) => false,
+        }
     }
 
     /// Whether it stands for this value. A variable stands for none.
@@ -46,7 +61,8 @@ impl Arg {
         match (self, other) {
             (_, Arg::Any) => true,
             (Arg::Known(v), Arg::Known(w)) => v == w,
-            _ => false,
+            (Arg::Var(_) | Arg::Any, Arg::Known(_)) => false,
+            (_, Arg::Var(_)) => false,
         }
     }
 }

@@ -1,6 +1,5 @@
 // Whether one foresight covers another.
 
-ghost use Rattle.std.specs.Prelude.{◌≡◌};
 ghost use Rattle.std.specs.Bool.{Decides};
 ghost use Rattle.symbolic_ops.specs.Symbols.{Covered, IsBelowSome};
 

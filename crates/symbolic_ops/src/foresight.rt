@@ -1,11 +1,13 @@
 // Foresights.
 
-ghost use Rattle.std.specs.Prelude.{◌≡◌, ◌≤◌, ◌<◌, ◌++◌, ◌∷◌, [], length, slice_get, Some, IfOk};
+ghost use Rattle.std.specs.Prelude.{◌≡◌, ◌≤◌, ◌<◌, ◌++◌, ◌∷◌, [], length, map, slice_get, Some, IfOk};
 ghost use Rattle.std.specs.List.{AllByRecursion};
+ghost use Rattle.symbolic_ops.specs.Instantiate.{IsWithin, symbol_in};
 ghost use Rattle.symbolic_ops.specs.Symbols.{HasNoVar};
 
+use crate::instantiating::put_values;
 use crate::symbol::Symbol;
-use session_values::NoMemory;
+use session_values::{NoMemory, Value};
 use std::alloc::Global;
 use std::marker::Model;
 
@@ -13,6 +15,8 @@ use std::marker::Model;
 #[derive(Debug, Drop)]
 pub struct Foresight {
     symbols: Vec<Symbol>,
+    // How many symbols it has room for, no more than the list has reserved.
+    room: u32,
 }
 
 impl Model for Foresight {
@@ -23,9 +27,9 @@ impl Model for Foresight {
 
     ghost Value = { ForesightView };
 
-    ghost view = { λ f. record { symbols = f.symbols.items; room = vec_capacity f.symbols } };
+    ghost view = { λ f. record { symbols = f.symbols.items; room = f.room } };
 
-    ghost invariant = { λ f. AllByRecursion HasNoVar f.symbols.items × (length f.symbols.items ≤ vec_capacity f.symbols) × (vec_capacity f.symbols < 2 ^ 32) };
+    ghost invariant = { λ f. AllByRecursion HasNoVar f.symbols.items × (length f.symbols.items ≤ f.room) × (f.room ≤ vec_capacity f.symbols) × (f.room < 2 ^ 32) };
 }
 
 impl Foresight {
@@ -34,9 +38,10 @@ impl Foresight {
         ensures { IfOk result (λ f. f ≡ record { symbols = []; room = room }) }
     {
         let symbols = Vec::with_capacity(alloc, room as usize)?;
-        Ok(Foresight { symbols })
+        Ok(Foresight { symbols, room })
     }
 
+    /// How many symbols it has.
     pub fn len(&self) -> u32
         ensures len { result ≡ length self.now.symbols }
         ensures room { result ≤ self.now.room }
@@ -44,6 +49,7 @@ impl Foresight {
         self.symbols.len() as u32
     }
 
+    /// The symbol at a place, from 0.
     pub fn symbol(&self, i: u32) -> Symbol
         requires { i < length self.now.symbols }
         ensures symbol { slice_get self.now.symbols i ≡ Some result }
@@ -67,6 +73,7 @@ impl Foresight {
         self.symbols.clear();
     }
 
+    /// Appends a symbol, in the room that it has.
     pub fn push(&mut self, s: Symbol)
         requires known { HasNoVar s }
         requires room { length self.old.symbols < self.old.room }
@@ -75,14 +82,33 @@ impl Foresight {
         self.symbols.push_reserved(s);
     }
 
+    /// Takes these symbols in place of its own, in the room that it has.
+    pub fn copy_from(&mut self, symbols: &[Symbol])
+        requires known { AllByRecursion HasNoVar symbols.now }
+        requires room { length symbols.now ≤ self.old.room }
+        ensures { self.new ≡ record { symbols = symbols.now; room = self.old.room } }
+    {
+        self.clear();
+        // It has the room, so this takes no memory.
+        let _copied = self.symbols.extend_from_slice(symbols);
+    }
+
     /// Takes the symbols of another one in place of its own, in the room that it has.
     pub fn replace(&mut self, other: &Foresight)
         requires { length other.now.symbols ≤ self.old.room }
         ensures { self.new ≡ record { symbols = other.now.symbols; room = self.old.room } }
     {
-        self.clear();
-        for s in other.symbols() {
-            self.push(*s);
-        }
+        self.copy_from(other.symbols());
+    }
+
+    /// Takes these symbols, each variable with its value, in place of its own.
+    pub(crate) fn copy_with_values(&mut self, symbols: &[Symbol], env: &[Value])
+        requires vars { AllByRecursion (λ s. IsWithin (length env.now) s) symbols.now }
+        requires room { length symbols.now ≤ self.old.room }
+        ensures { self.new ≡ record { symbols = map (symbol_in env.now) symbols.now; room = self.old.room } }
+    {
+        self.symbols.clear();
+        let _copied = self.symbols.extend_from_slice(symbols);
+        put_values(self.symbols.as_mut_slice(), env);
     }
 }

@@ -5,9 +5,8 @@ mod arg;
 mod covering;
 mod foresight;
 mod instantiating;
+pub mod laws;
 mod symbol;
-#[cfg(test)]
-mod tests;
 
 pub use arg::Arg;
 pub use covering::covered;

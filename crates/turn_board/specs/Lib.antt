@@ -1,6 +1,7 @@
 pub mod Maps
 pub mod Hands
 pub mod Tied
+pub mod Changes
 pub mod Steps
 pub mod Passes
 pub mod Moving

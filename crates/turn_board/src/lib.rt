@@ -5,6 +5,7 @@
 mod board;
 mod close;
 mod hands;
+mod laws;
 mod lists;
 mod one_turn;
 mod open;
@@ -19,6 +20,7 @@ mod view;
 
 pub use board::Board;
 pub use hands::Hands;
+pub use laws::changes_tell;
 pub use lists::{Seats, Values};
 pub use owned_lists::NoMemory;
 pub use seat::Seat;

@@ -1,8 +1,8 @@
 // Four callers that add to two counters, each 1,000 times, after one has found a turn taken that
 // another holds.
-ghost use Rattle.std.specs.Prelude.{◌≡◌, ◌≢◌, ℕ, ◌+◌, ◌<◌, List, [], ◌∷◌, Some, None, map, slice_index, vec_len};
+ghost use Rattle.std.specs.Prelude.{◌≡◌, ◌≢◌, ℕ, ◌+◌, ◌^◌, ◌<◌, cond, List, [], ◌∷◌, Some, None, map, slice_index, vec_len};
 ghost use Rattle.turn_board.specs.Boards.{IsSeatOf, turn_count, held, SameVoice, Tells, Begins, AllBegin};
-ghost use Rattle.serving_tests.specs.Counters.{Balanced, HasBoth, HasAdded, AllHaveAdded, EachHasAdded};
+ghost use Rattle.serving_tests.specs.Counters.{Balanced, one_more, HasBoth, HasAdded, AllHaveAdded, EachHasAdded};
 
 use std::alloc::Global;
 use std::process::Abort;
@@ -91,19 +91,33 @@ fn add_at_once<R: Wait + Abort>(rt: &R, board: &Board<[u64; 4], Sums>, job: &mut
     let (seat, hands) = job;
     let mut book = take(rt, board, seat, 0);
     take_both(rt, board, seat, hands);
-    let (Some((_, mut even)), Some((_, mut odd))) = (hands.take_first(), hands.take_first()) else {
+    let Some(first) = hands.take_first() else {
         unreachable!()
     };
+    let Some(second) = hands.take_first() else {
+        unreachable!()
+    };
+    let even = first.1;
+    let odd = second.1;
     assert!(rt; book[caller] < u64::MAX && even[0] < u64::MAX && odd[0] < u64::MAX);
     book[caller] += 1;
-    if caller % 2 == 0 {
-        even[0] += 1;
-    } else {
-        odd[0] += 1;
-    }
-    hands.push(1, even);
-    hands.push(2, odd);
+    let is_even = caller % 2 == 0;
+    hands.push(1, one_more_if(is_even, even));
+    hands.push(2, one_more_if(!is_even, odd));
     board.give_all(seat, book, hands);
+}
+
+// The counter, with one more where it is the caller's.
+fn one_more_if(is_mine: bool, counter: [u64; 4]) -> [u64; 4]
+    requires { slice_index counter 0 + 1 < 2 ^ 64 }
+    ensures { result ≡ cond is_mine (one_more counter 0) counter }
+{
+    let mut counter = counter;
+    if !is_mine {
+        return counter;
+    }
+    counter[0] += 1;
+    counter
 }
 
 // Adds one to the caller's counter, and to its number in the book.
@@ -204,11 +218,29 @@ fn meet<R: Wait>(
 {
     let (seat, _hands) = job;
     if caller == 0 {
-        hold_until_found(rt, board, meeting, seat);
+        return hold_until_found(rt, board, meeting, seat);
     }
     if caller == 1 {
-        find_taken(rt, board, meeting, seat);
+        return find_taken(rt, board, meeting, seat);
     }
+}
+
+// One addition, with a turn each or with all turns at once.
+fn add_so<R: Wait + Abort>(
+    rt: &R,
+    board: &Board<[u64; 4], Sums>,
+    is_at_once: bool,
+    job: &mut Job,
+    caller: usize,
+)
+    requires { (times : ℕ) × HasAdded board.now caller times job.old }
+    ensures { (times : ℕ) → HasAdded board.now caller times job.old
+        → HasAdded board.now caller (times + 1) job.new }
+{
+    if is_at_once {
+        return add_at_once(rt, board, job, caller);
+    }
+    add(rt, board, job, caller);
 }
 
 // A caller's part: the meeting, and 1,000 additions.
@@ -225,11 +257,7 @@ fn work<R: Wait + Abort>(
 {
     meet(rt, board, meeting, job, caller);
     for done in 0..1000u64 {
-        if is_at_once {
-            add_at_once(rt, board, job, caller);
-        } else {
-            add(rt, board, job, caller);
-        }
+        add_so(rt, board, is_at_once, job, caller);
     }
 }
 

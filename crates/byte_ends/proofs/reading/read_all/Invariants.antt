@@ -1,4 +1,4 @@
-use Rattle.std.proofs.Common.{◌≤◌, ◌-◌, ◌+◌, vec_len}
+use Rattle.std.proofs.Common.{◌≤◌, ◌-◌, vec_len}
 use Rattle.byte_ends.proofs.EndsLemmas.{Taken}
 use Rattle.byte_ends.proofs.reading.read_all.Given as goal
 
@@ -6,8 +6,8 @@ abbrev pub invariant-pieces : goal.invariant-pieces
 invariant-pieces g l = record {
   taken : Taken (g.I.Source.left l.initial.source) (g.I.Source.left l.source) l.bytes.items;
   later : g.I.Source.faults l.initial.source ≤ g.I.Source.faults l.source;
-  bound : vec_len l.bytes ≤ 4194304 + 16384;
+  bound : vec_len l.bytes ≤ 4194305;
 }
 
 abbrev pub decreases-pieces : goal.decreases-pieces
-decreases-pieces g l = 4194304 + 16384 - vec_len l.bytes
+decreases-pieces g l = 4194305 - vec_len l.bytes

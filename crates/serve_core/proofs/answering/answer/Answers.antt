@@ -1,29 +1,18 @@
-use Rattle.std.proofs.Common.{◌∙◌, List, length, arith, sym, ap, subst}
-use Rattle.session_values.specs.declared.reply.Reply.{Reply}
-use Rattle.session_values.specs.declared.kind.TableKind.{TableKind}
-use Rattle.session_values.specs.Serial.{serial_replies}
-use Rattle.request_files.specs.declared.request.Request.{Request}
-use Rattle.serve_core.specs.declared.checked.CheckedHandler.{CheckedHandler}
-use Rattle.serve_core.specs.Session.{session_of}
-use Rattle.serve_core.specs.Printable.{ArePrintableReplies}
-use Rattle.serve_core.proofs.AnswerLemmas.{first_few, replies_few}
-use Rattle.serve_core.proofs.Printing.{replies_print}
+use Rattle.std.proofs.Common.{◌≡◌, ℕ, List, Err, IfSome, refl, ◌∙◌, ap, subst, arith, sym}
+use Rattle.serve_core.specs.Runs.{change}
+use Rattle.serve_core.proofs.RunLemmas.{large_run, read_run}
 use Rattle.serve_core.proofs.answering.answer.Goals as goal
 
-pub load-requires-clause-first : goal.load-requires-clause-first
-load-requires-clause-first c = first_few c.in-Ok.text.now c.in-Some.parts.first c.in-Some.ensures.first_is (omega (arith, ap length c.in-Ok.ensures.cases.0, c.requires))
+pub returns-in-Err-TooLarge : goal.returns-in-Err-TooLarge
+returns-in-Err-TooLarge g c =
+    let r = c.read_all.ensures in
+    let err = c.in-Err-TooLarge.is ∙ ap Err c.in-Err-TooLarge.field-0-is in
+    large_run c.args.command (change g.I.Source.left g.I.Source.faults c.args.source.now c.read_all.new.source) (change g.O.Sink.held g.O.Sink.faults c.args.out.now c.args.out.now) refl (r.large err) (r.gone err) r.lost
 
-pub returns-clause-printable : goal.returns-clause-printable
-returns-clause-printable c =
-    let l = c.in_ok-session.session in
-    let h = c.in_ok-session.ensures.loaded in
-    let is = c.in_ok-replies.ensures
-    ∙ ap (λ (k : List TableKind). serial_replies (session_of k c.as_slice.result.now c.as_slice-2.result.now) (length c.as_slice-2.result.now)) c.deref.ensures.value
-    ∙ ap (λ (hs : List CheckedHandler). serial_replies (session_of l.shape.items hs c.as_slice-2.result.now) (length c.as_slice-2.result.now)) c.as_slice.ensures
-    ∙ ap (λ (rs : List Request). serial_replies (session_of l.shape.items l.handlers rs) (length rs)) c.as_slice-2.ensures in
-    subst (λ (rs : List Reply). ArePrintableReplies l.names rs) (sym is) (replies_print l.names l.shape.items l.handlers l.requests h.printable h.printed (length l.requests))
-
-pub returns-clause-few : goal.returns-clause-few
-returns-clause-few c =
-    let few = replies_few (session_of c.deref.result.now c.as_slice.result.now c.as_slice-2.result.now) (length c.as_slice-2.result.now) in
-    omega (arith, few, ap length c.in_ok-replies.ensures, c.in_ok-replies.replies.ok, ap length c.as_slice-2.ensures, c.in_ok-session.ensures.loaded.few)
+pub returns : goal.returns
+returns g c =
+    let r = c.in-Ok.ensures in
+    let w = c.write_answer.ensures in
+    read_run c.args.command (change g.I.Source.left g.I.Source.faults c.args.source.now c.read_all.new.source) (change g.O.Sink.held g.O.Sink.faults c.args.out.now c.write_answer.new.out)
+    c.write_answer.result c.as_slice.result.now (omega (arith, c.as_slice.ensures.len, r.bound)) w.usage w.read_fault w.answered w.written
+    (subst (λ (bytes : List ℕ). IfSome (g.I.Source.left c.args.source.now) (λ all. bytes ≡ all)) (sym c.as_slice.ensures.value) r.read) r.end r.lost

@@ -1,5 +1,5 @@
 use Rattle.std.proofs.Common.{◌≡◌, ℕ, suc, ◌+◌, take, ap, ◌∙◌, cond, ◌&&◌, eqb, arith}
-use Rattle.session_values.specs.Tables.{is_adding}
+use Rattle.session_values.specs.Kinds.{is_adding}
 use Rattle.session_journal.specs.Lists.{adding}
 use Rattle.session_journal.proofs.ListKeeps.{adding_step, adding_front}
 use Rattle.session_journal.proofs.ListLawful.{adding_le}

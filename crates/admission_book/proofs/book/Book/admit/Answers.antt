@@ -2,10 +2,11 @@ use Rattle.std.proofs.Common.{◌≡◌, Some, refl}
 use Rattle.session_journal.specs.Script.{Meaning}
 use Rattle.admission_book.specs.declared.admission.Admission.{Admission}
 use Rattle.admission_book.specs.declared.admission.Admission.TheVariants.{Admitted, Delayed}
-use Rattle.admission_book.specs.Book.{Book, Lawful}
+use Rattle.admission_book.specs.Book.{Book}
+use Rattle.admission_book.specs.Lawful.{Lawful}
 use Rattle.admission_book.specs.Books.{MayAdmit, Admits, IsOldestOpen}
 use Rattle.admission_book.proofs.Shown.{events_are, here, there, leaves, lawful_same, place, keeps_with}
-use Rattle.admission_book.proofs.Foreknown.{foreknown}
+use Rattle.admission_book.proofs.Stays.{grows_none, grows_unless, stays}
 use Rattle.admission_book.proofs.Admits.{free_here, blocker_here, never_oldest, admit_lawful, admitted, admit_shown, admit_keeps, blocker, delay_lawful, delay_room, delay_shown, delayed, delay_keeps, delay_count}
 use Rattle.admission_book.proofs.book.Book.admit.Goals as goal
 
@@ -24,16 +25,15 @@ returns-in_default-clause-admits g c =
     let free = free_here c.self.inside.journal.events c.self.inside.kept.items _ _ _ _ _ c.as_slice-2.ensures.value c.in_default.is c.least_against.ensures in
     leaves (λ (b d : Book). Admits b c.args.t c.args.op Admitted d) _ _ _ _ _ c.self.view_is (admit_shown _ _ _ _ _ _ _ _ L may p c.launch.new.self c.launch.ensures) (admitted _ _ _ _ _ _ _ _ L may p free)
 
-pub returns-in_default-clause-lawful : goal.returns-in_default-clause-lawful
-returns-in_default-clause-lawful g c =
+pub returns-in_default-clause-stays : goal.returns-in_default-clause-stays
+returns-in_default-clause-stays g c =
     let p = place _ _ _ _ _ c.as_slice.ensures.value c.place_of-caller.ensures.within c.place_of-caller.ensures.serves c.index_mut.ensures.value in
     let L = here Lawful g.S.Script.meaning _ _ _ c.self.view_is c.requires.lawful in
     let may = here (λ (m : Meaning) (b : Book). MayAdmit m b c.args.t c.args.op) g.S.Script.meaning _ _ _ c.self.view_is c.requires.may in
     let free = free_here c.self.inside.journal.events c.self.inside.kept.items _ _ _ _ _ c.as_slice-2.ensures.value c.in_default.is c.least_against.ensures in
-    lawful_same _ _ _ (admit_shown _ _ _ _ _ _ _ _ L may p c.launch.new.self c.launch.ensures) (admit_lawful _ _ _ _ _ _ _ _ L may p free)
-
-pub returns-in_default-clause-foreknown : goal.returns-in_default-clause-foreknown
-returns-in_default-clause-foreknown g c = foreknown _ _ c.self.invariant.script (returns-in_default-clause-lawful g c)
+    stays g.S.Script.meaning _ _ _ _ c.self.view_is c.self.invariant.script
+    (lawful_same _ _ _ (admit_shown _ _ _ _ _ _ _ _ L may p c.launch.new.self c.launch.ensures) (admit_lawful _ _ _ _ _ _ _ _ L may p free))
+    (grows_none _)
 
 pub note_delay-requires : goal.note_delay-requires
 note_delay-requires g c =
@@ -71,14 +71,13 @@ returns-clause-oldest g c =
     there (λ (m : Meaning) (b : Book). IsOldestOpen (Some c.args.t) b.journal → ◌≡◌ {A = Admission} (Delayed c.in-Some.b.older c.in-Some.b.symbol) Admitted) g.S.Script.meaning _ _ _ c.self.view_is
     (never_oldest _ _ c.args.t c.args.op _ _ L (blocker _ _ _ _ _ _ _ _ L may p c.in-Some.b.older c.in-Some.b.symbol found c.self.invariant.each))
 
-pub returns-clause-lawful : goal.returns-clause-lawful
-returns-clause-lawful g c =
+pub returns-clause-stays : goal.returns-clause-stays
+returns-clause-stays g c =
     let p = place _ _ _ _ _ c.as_slice.ensures.value c.place_of-caller.ensures.within c.place_of-caller.ensures.serves c.index_mut-2.ensures.value in
     let L = here Lawful g.S.Script.meaning _ _ _ c.self.view_is c.requires.lawful in
     let may = here (λ (m : Meaning) (b : Book). MayAdmit m b c.args.t c.args.op) g.S.Script.meaning _ _ _ c.self.view_is c.requires.may in
     let found = blocker_here _ _ _ _ _ c.in-Some.b c.as_slice-2.ensures.value c.in-Some.is c.least_against.ensures in
     let grown = events_are _ _ _ c.note_delay.ensures.journal in
-    lawful_same _ _ _ (delay_shown _ _ _ _ _ _ _ _ L may p c.in-Some.b.older c.in-Some.b.symbol found c.self.invariant.each c.note_delay.new.journal.events c.note_delay.new.r grown c.note_delay.ensures.noted) (delay_lawful _ _ _ _ _ _ _ _ L may p c.in-Some.b.older c.in-Some.b.symbol found c.self.invariant.each)
-
-pub returns-clause-foreknown : goal.returns-clause-foreknown
-returns-clause-foreknown g c = foreknown _ _ c.self.invariant.script (returns-clause-lawful g c)
+    stays g.S.Script.meaning _ _ _ _ c.self.view_is c.self.invariant.script
+    (lawful_same _ _ _ (delay_shown _ _ _ _ _ _ _ _ L may p c.in-Some.b.older c.in-Some.b.symbol found c.self.invariant.each c.note_delay.new.journal.events c.note_delay.new.r grown c.note_delay.ensures.noted) (delay_lawful _ _ _ _ _ _ _ _ L may p c.in-Some.b.older c.in-Some.b.symbol found c.self.invariant.each))
+    (grows_unless _ _ _ _ grown)

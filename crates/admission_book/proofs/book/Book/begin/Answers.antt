@@ -1,19 +1,17 @@
-use Rattle.std.proofs.Common.{ℕ, ◌<◌, Some, refl, ap, arith}
-use Rattle.session_journal.specs.Foreknown.{Foreknown}
+use Rattle.std.proofs.Common.{◌<◌, Some, refl, ap, arith}
 use Rattle.session_journal.specs.Journal.{begun}
 use Rattle.session_journal.specs.Script.{Meaning}
-use Rattle.admission_book.specs.Book.{Book, Lawful}
+use Rattle.admission_book.specs.Book.{Book}
+use Rattle.admission_book.specs.Lawful.{Lawful}
 use Rattle.admission_book.specs.declared.caller_record.CallerRecord.{CallerRecord}
 use Rattle.admission_book.specs.Books.{MayBeginNext, Begins}
-use Rattle.admission_book.proofs.Shown.{events_are, here, there, leaves_of, lawful_same, record_here, keeps_with, room_for}
-use Rattle.admission_book.proofs.Foreknown.{foreknown}
+use Rattle.admission_book.proofs.Shown.{events_are, here, leaves_of, lawful_same, record_here, keeps_with, room_for}
+use Rattle.admission_book.proofs.Stays.{grows_by, stays, stays_same}
 use Rattle.admission_book.proofs.Begins.{begin_lawful, begin_shown, begin_keeps, begin_count, begins, within}
 use Rattle.admission_book.proofs.book.Book.begin.Goals as goal
 
-pub returns-then-self-requests-clause-foreknown : goal.returns-then-self-requests-clause-foreknown
-returns-then-self-requests-clause-foreknown g c =
-    let L = here Lawful g.S.Script.meaning _ _ _ c.self.view_is c.requires.lawful in
-    there (λ (m : Meaning) (b : Book). (u : ℕ) → u < begun b.journal → Foreknown m b.journal u) g.S.Script.meaning _ _ _ c.self.view_is (foreknown _ _ c.self.invariant.script L)
+pub returns-then-self-requests-clause-stays : goal.returns-then-self-requests-clause-stays
+returns-then-self-requests-clause-stays g c = stays_same g.S.Script.meaning _ _ _ c.self.view_is c.self.invariant.script c.requires.lawful
 
 pub push_reserved-requires : goal.push_reserved-requires
 push_reserved-requires g c =
@@ -49,13 +47,12 @@ returns-clause-begins g c =
     leaves_of (λ (m : Meaning) (b d : Book). Begins m b c.args.caller c.args.entry.now.symbols (Some c.self.inside.begun) d) g.S.Script.meaning _ _ _ _ _ c.self.view_is
     (begin_shown _ _ _ _ _ _ _ L may left c.self.invariant.counted c.push_reserved.new.self.events c.index_mut.result.now c.begin.new.self grown c.begin.ensures) (begins _ _ _ _ _ _ _ L may left c.self.invariant.counted)
 
-pub returns-clause-lawful : goal.returns-clause-lawful
-returns-clause-lawful g c =
+pub returns-clause-stays : goal.returns-clause-stays
+returns-clause-stays g c =
     let L = here Lawful g.S.Script.meaning _ _ _ c.self.view_is c.requires.lawful in
     let may = here (λ (m : Meaning) (b : Book). MayBeginNext m b c.args.caller c.args.entry.now.symbols) g.S.Script.meaning _ _ _ c.self.view_is c.requires.may in
     let left : c.self.inside.begun < (g.S.Script.meaning c.self.inside.script).requests = omega (arith, c.requests.ensures.requests, c.if-self-requests.false) in
     let grown = events_are _ _ _ c.push_reserved.ensures in
-    lawful_same _ _ _ (begin_shown _ _ _ _ _ _ _ L may left c.self.invariant.counted c.push_reserved.new.self.events c.index_mut.result.now c.begin.new.self grown c.begin.ensures) (begin_lawful _ _ _ _ _ _ _ L may left c.self.invariant.counted)
-
-pub returns-clause-foreknown : goal.returns-clause-foreknown
-returns-clause-foreknown g c = foreknown _ _ c.self.invariant.script (returns-clause-lawful g c)
+    stays g.S.Script.meaning _ _ _ _ c.self.view_is c.self.invariant.script
+    (lawful_same _ _ _ (begin_shown _ _ _ _ _ _ _ L may left c.self.invariant.counted c.push_reserved.new.self.events c.index_mut.result.now c.begin.new.self grown c.begin.ensures) (begin_lawful _ _ _ _ _ _ _ L may left c.self.invariant.counted))
+    (grows_by _ _ _ grown)

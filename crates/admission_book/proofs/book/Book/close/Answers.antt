@@ -3,7 +3,8 @@ use Rattle.std.specs.Option.{IsSome}
 use Rattle.session_values.specs.Serial.{serial_replies, tables_before}
 use Rattle.session_journal.specs.Journal.{after, ended}
 use Rattle.session_journal.specs.Script.{Meaning, session_of}
-use Rattle.admission_book.specs.Book.{Book, Lawful}
+use Rattle.admission_book.specs.Book.{Book}
+use Rattle.admission_book.specs.Lawful.{Lawful}
 use Rattle.admission_book.proofs.Shown.{here, there}
 use Rattle.admission_book.proofs.Replies.{kept_some, tables_serial, replies_serial}
 use Rattle.admission_book.proofs.book.Book.close.Goals as goal
@@ -18,7 +19,7 @@ pub returns-clause-tables : goal.returns-clause-tables
 returns-clause-tables g c =
     let L = here Lawful g.S.Script.meaning _ _ _ c.self.view_is c.requires.lawful in
     let done = here (λ (m : Meaning) (b : Book). (t : ℕ) → t < m.requests → IsSome (ended b.journal t)) g.S.Script.meaning _ _ _ c.self.view_is c.requires.ended in
-    there (λ (m : Meaning) (b : Book). after m.shape c.self.inside.journal.events ≡ tables_before (session_of m) m.requests) g.S.Script.meaning _ _ _ c.self.view_is (tables_serial _ _ c.self.invariant.script L done)
+    there (λ (m : Meaning) (b : Book). after m.opening c.self.inside.journal.events ≡ tables_before (session_of m) m.requests) g.S.Script.meaning _ _ _ c.self.view_is (tables_serial _ _ c.self.invariant.script L done)
 
 pub returns-clause-serial : goal.returns-clause-serial
 returns-clause-serial g c =

@@ -1,9 +1,10 @@
 use Rattle.std.proofs.Common.{refl}
 use Rattle.session_journal.specs.Script.{Meaning}
-use Rattle.admission_book.specs.Book.{Book, Lawful}
+use Rattle.admission_book.specs.Book.{Book}
+use Rattle.admission_book.specs.Lawful.{Lawful}
 use Rattle.admission_book.specs.Books.{MayDo, DidIt}
 use Rattle.admission_book.proofs.Shown.{events_are, here, leaves, lawful_same, place, keeps_with, room_for}
-use Rattle.admission_book.proofs.Foreknown.{foreknown}
+use Rattle.admission_book.proofs.Stays.{grows_by, stays}
 use Rattle.admission_book.proofs.Dones.{flies, done_lawful, done_shown, did, done_keeps, done_count}
 use Rattle.admission_book.proofs.book.Book.done.Goals as goal
 
@@ -40,14 +41,13 @@ returns-clause-did g c =
     (done_shown _ _ _ _ _ _ _ _ _ L may p c.finish-op.result c.finish-op.ensures.op c.push_reserved.new.self.events c.finish-op.new.self grown c.finish-op.ensures.finished)
     (did _ _ _ _ _ _ _ _ _ L may p c.finish-op.result c.finish-op.ensures.op)
 
-pub returns-clause-lawful : goal.returns-clause-lawful
-returns-clause-lawful g c =
+pub returns-clause-stays : goal.returns-clause-stays
+returns-clause-stays g c =
     let p = place _ _ _ _ _ c.as_slice.ensures.value c.place_of-caller.ensures.within c.place_of-caller.ensures.serves c.index_mut.ensures.value in
     let L = here Lawful g.S.Script.meaning _ _ _ c.self.view_is c.requires.lawful in
     let may = here (λ (m : Meaning) (b : Book). MayDo m b c.args.t c.args.reply c.args.next.now.symbols) g.S.Script.meaning _ _ _ c.self.view_is c.requires.may in
     let grown = events_are _ _ _ c.push_reserved.ensures in
-    lawful_same _ _ _ (done_shown _ _ _ _ _ _ _ _ _ L may p c.finish-op.result c.finish-op.ensures.op c.push_reserved.new.self.events c.finish-op.new.self grown c.finish-op.ensures.finished)
-    (done_lawful _ _ _ _ _ _ _ _ _ L may p c.finish-op.result c.finish-op.ensures.op)
-
-pub returns-clause-foreknown : goal.returns-clause-foreknown
-returns-clause-foreknown g c = foreknown _ _ c.self.invariant.script (returns-clause-lawful g c)
+    stays g.S.Script.meaning _ _ _ _ c.self.view_is c.self.invariant.script
+    (lawful_same _ _ _ (done_shown _ _ _ _ _ _ _ _ _ L may p c.finish-op.result c.finish-op.ensures.op c.push_reserved.new.self.events c.finish-op.new.self grown c.finish-op.ensures.finished)
+    (done_lawful _ _ _ _ _ _ _ _ _ L may p c.finish-op.result c.finish-op.ensures.op))
+    (grows_by _ _ _ grown)

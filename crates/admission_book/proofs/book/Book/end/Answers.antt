@@ -1,10 +1,11 @@
 use Rattle.std.proofs.Common.{◌<◌, length, arith}
 use Rattle.std.proofs.lemmas.List.{length-set}
 use Rattle.session_journal.specs.Script.{Meaning}
-use Rattle.admission_book.specs.Book.{Book, Lawful}
+use Rattle.admission_book.specs.Book.{Book}
+use Rattle.admission_book.specs.Lawful.{Lawful}
 use Rattle.admission_book.specs.Books.{MayEnd, HasEnded}
 use Rattle.admission_book.proofs.Shown.{events_are, here, leaves, lawful_same, place, keeps_with, room_for}
-use Rattle.admission_book.proofs.Foreknown.{foreknown}
+use Rattle.admission_book.proofs.Stays.{grows_by, stays}
 use Rattle.admission_book.proofs.Ends.{end_within, end_lawful, end_shown, ended_so, end_keeps, end_count}
 use Rattle.admission_book.proofs.book.Book.end.Goals as goal
 
@@ -42,14 +43,13 @@ returns-clause-ended g c =
     (end_shown _ _ _ _ _ _ _ _ L may p c.self.invariant.one_each c.push_reserved.new.self.events c.end.new.self grown c.end.ensures)
     (ended_so _ _ _ _ _ _ _ _ L may p c.self.invariant.one_each)
 
-pub returns-clause-lawful : goal.returns-clause-lawful
-returns-clause-lawful g c =
+pub returns-clause-stays : goal.returns-clause-stays
+returns-clause-stays g c =
     let p = place _ _ _ _ _ c.as_slice.ensures.value c.place_of-caller.ensures.within c.place_of-caller.ensures.serves c.index_mut.ensures.value in
     let L = here Lawful g.S.Script.meaning _ _ _ c.self.view_is c.requires.lawful in
     let may = here (λ (m : Meaning) (b : Book). MayEnd m b c.args.t c.args.reply) g.S.Script.meaning _ _ _ c.self.view_is c.requires.may in
     let grown = events_are _ _ _ c.push_reserved.ensures in
-    lawful_same _ _ _ (end_shown _ _ _ _ _ _ _ _ L may p c.self.invariant.one_each c.push_reserved.new.self.events c.end.new.self grown c.end.ensures)
-    (end_lawful _ _ _ _ _ _ _ _ L may p c.self.invariant.one_each)
-
-pub returns-clause-foreknown : goal.returns-clause-foreknown
-returns-clause-foreknown g c = foreknown _ _ c.self.invariant.script (returns-clause-lawful g c)
+    stays g.S.Script.meaning _ _ _ _ c.self.view_is c.self.invariant.script
+    (lawful_same _ _ _ (end_shown _ _ _ _ _ _ _ _ L may p c.self.invariant.one_each c.push_reserved.new.self.events c.end.new.self grown c.end.ensures)
+    (end_lawful _ _ _ _ _ _ _ _ L may p c.self.invariant.one_each))
+    (grows_by _ _ _ grown)

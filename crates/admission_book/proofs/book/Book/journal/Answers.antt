@@ -1,6 +1,7 @@
 use Rattle.std.proofs.Common.{◌≤◌, ◌+◌, ◌*◌, length}
 use Rattle.session_journal.specs.Script.{Meaning, calls}
-use Rattle.admission_book.specs.Book.{Book, Lawful}
+use Rattle.admission_book.specs.Book.{Book}
+use Rattle.admission_book.specs.Lawful.{Lawful}
 use Rattle.admission_book.proofs.Room.{few_events}
 use Rattle.admission_book.proofs.Shown.{here, there}
 use Rattle.admission_book.proofs.book.Book.journal.Goals as goal

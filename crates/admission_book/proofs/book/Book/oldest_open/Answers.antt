@@ -1,5 +1,6 @@
 use Rattle.session_journal.specs.Script.{Meaning}
-use Rattle.admission_book.specs.Book.{Book, Lawful}
+use Rattle.admission_book.specs.Book.{Book}
+use Rattle.admission_book.specs.Lawful.{Lawful}
 use Rattle.admission_book.specs.Books.{IsOldestOpen}
 use Rattle.admission_book.proofs.Shown.{here, there}
 use Rattle.admission_book.proofs.Oldest.{oldest}

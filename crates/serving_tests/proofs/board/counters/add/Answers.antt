@@ -21,5 +21,5 @@ returns g c = λ times h.
       free = freed _ _ _ _ _ c.in-Some.pair booked pushed e.gave;
       noted = (_, e.seat.1.note_is ∙ booked.noted, get_or-set_same c.take-book.result k (get_or c.take-book.result k 0 + 1) 0 (let n = h.near in let l = c.take-book.type_inv in omega arith) ∙ ap (λ (n : ℕ). n + 1) count);
       empty = one.1;
-      room = subst (λ (n : ℕ). 0 < n) (sym (c.in-Some.ensures.room ∙ c.push.ensures.room)) h.room;
+      room = subst (λ (n : ℕ). 1 < n) (sym (c.in-Some.ensures.room ∙ c.push.ensures.room)) h.room;
     }

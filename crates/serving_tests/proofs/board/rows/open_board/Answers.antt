@@ -1,21 +1,19 @@
-use Rattle.std.proofs.Common.{◌≡◌, ℕ, Some, sym, ap, ◌∙◌, subst, arith, map}
-use Rattle.std.specs.Prelude.{slice_get, IfOk}
-use Rattle.turn_board.specs.Boards.{Begins}
+use Rattle.std.proofs.Common.{◌≡◌, ℕ, Some, sym, ap, ◌∙◌, arith, map}
+use Rattle.std.specs.Prelude.{slice_get}
 use Rattle.turn_board.proofs.Rows.{get-within, map-get}
 use Rattle.serving_tests.proofs.board.rows.open_board.Goals as goal
 
 pub open-requires-clause-rule : goal.open-requires-clause-rule
-open-requires-clause-rule g c =
+open-requires-clause-rule c =
     let long = c.args.values.ok.0 in
     let some' = c.requires.values.0 in
     let x = get-within c.args.values.items 0 (omega arith) in
     (x.0, map-get (λ (v : ℕ). v) c.args.values.items 0 x.0 x.1, tt)
 
 pub returns-clause-each : goal.returns-clause-each
-returns-clause-each g c = λ i s e.
+returns-clause-each c = λ i s e.
     let long = c.args.values.ok.0 in
     let some' = c.requires.values.0 in
     let x = get-within c.args.values.items 0 (omega arith) in
-    let each = subst (λ r. IfOk r (λ y. (b : ℕ) → slice_get (map (λ (v : ℕ). v) c.args.values.items) 0 ≡ Some b → (j : ℕ) (t : _) → slice_get y.1 j ≡ Some t → Begins y.0 c.args.callers b j t)) c.expect-board.ensures c.open.ensures.each in
-    let h = each x.0 (map-get (λ (v : ℕ). v) c.args.values.items 0 x.0 x.1) i s (ap (λ l. slice_get l i) (sym c.into_vec.ensures) ∙ e) in
+    let h = c.in_ok-board.ensures.each x.0 (map-get (λ (v : ℕ). v) c.args.values.items 0 x.0 x.1) i s (ap (λ l. slice_get l i) (sym c.into_vec.ensures) ∙ e) in
     record { seat = h.seat; caller_is = h.caller_is; crew_is = h.crew_is; free = h.free }

@@ -11,7 +11,7 @@ in_set zero e = absurd (omega arith)
 in_set (suc u) e = (omega arith, dite (dec_lt (suc u) 5) (λ h. h) (λ h. absurd (let z = bit_at_above 30 5 (suc u) (omega arith) (omega arith) in omega arith)))
 
 pub try_take_all-requires-clause-set : goal.try_take_all-requires-clause-set
-try_take_all-requires-clause-set g c = λ u e. let h = in_set u e in (h.0, (let t = c.requires.turns in let n = h.1 in omega arith), c.requires.second.free u)
+try_take_all-requires-clause-set c = λ u e. let h = in_set u e in (h.0, (let t = c.requires.turns in let n = h.1 in omega arith), c.requires.second.free u)
 
 pub try_take_all-requires-2-clause-set : goal.try_take_all-requires-2-clause-set
-try_take_all-requires-2-clause-set g c = λ u e. let h = in_set u e in (h.0, (let t = c.requires.turns in let n = h.1 in omega arith), c.in-Busy.ensures.answer.1.held_is u ∙ c.requires.second.free u)
+try_take_all-requires-2-clause-set c = λ u e. let h = in_set u e in (h.0, (let t = c.requires.turns in let n = h.1 in omega arith), c.in-Busy.ensures.answer.1.held_is u ∙ c.requires.second.free u)

@@ -1,7 +1,5 @@
-use Rattle.std.proofs.Common.{◌+◌, ◌^◌, ◌<◌, ◌++◌, ◌∷◌, [], length, ap, ◌∙◌, subst, arith}
-use Rattle.session_values.specs.declared.op.Op.{Op}
+use Rattle.std.proofs.Common.{◌+◌, ◌^◌, ◌<◌, ◌++◌, ◌∷◌, [], length, ap, ◌∙◌, arith}
 use Rattle.session_values.specs.Dialogue.{Calls}
-use Rattle.session_values.specs.Values.{IsValue}
 use Rattle.symbolic_ops.specs.declared.symbol.Symbol.{Symbol}
 use Rattle.session_journal.specs.Script.{HasValues}
 use Rattle.session_journal.proofs.ListKeeps.{some_rows, counts_fit, call_keeps, call_gives}
@@ -22,7 +20,7 @@ overflow_add-row-2 c =
 pub invariant_of-self : goal.invariant_of-self
 invariant_of-self c =
     let some : 0 < length c.self.inside.rows.items = some_rows c.self.inside.shape.items c.self.inside.rows.items c.self.inside.ops.items c.self.inside.symbols.items _ _ _ c.self.invariant c.args.self.now c.self.view_is c.requires.place in
-    let values : HasValues (Calls c.args.op) = (let P : Op → Type 0 = λ o. IsValue o.key in subst P c.op.view_is c.see_value.ensures, let P : Op → Type 0 = λ o. IsValue o.value in subst P c.op.view_is c.see_value-2.ensures) in
+    let values : HasValues (Calls c.args.op) = c.bounds.ensures in
     call_keeps c.self.inside.shape.items c.self.inside.rows.items c.self.inside.ops.items c.self.inside.symbols.items _ _ _ c.self.invariant c.args.self.now c.self.view_is _ c.index-row.result.now (omega (arith, some, c.len-last.ensures, c.self.inside.rows.ok)) c.index-row.ensures c.args.op c.push_reserved.new.self.items c.push_reserved-2.new.self.items _ _ c.push_reserved.ensures.capacity c.push_reserved-2.ensures.capacity c.requires.fits values c.requires.place c.requires.calls c.requires.symbols c.push_reserved.ensures.items (c.push_reserved-2.ensures.items ∙ ap (λ (s : Symbol). c.self.inside.symbols.items ++ s ∷ []) c.exact.ensures)
 
 pub returns : goal.returns

@@ -16,34 +16,6 @@ use Rattle.turn_board.proofs.board.Board.give_all.Goals as goal
 or-fits : (s : ℕ) → s < 2 ^ 64 → bit_or s 1 < 2 ^ 64
 or-fits s h = or_lt 64 s 1 h (omega arith)
 
-pub lower-requires-clause-held : goal.lower-requires-clause-held
-lower-requires-clause-held g c =
-    has-book (held c.args.seat.now) (put_back g.R.TieRule.content c.args.book c.args.hands.now.pairs) (g.R.TieRule.content c.args.book) c.requires.held refl
-
-pub lower-requires-clause-turn : goal.lower-requires-clause-turn
-lower-requires-clause-turn g c =
-    let h = has-book (held c.args.seat.now) (put_back g.R.TieRule.content c.args.book c.args.hands.now.pairs) (g.R.TieRule.content c.args.book) c.requires.held refl in
-    held-near c.args.seat.now.pass.me.0 _ 0 h.0 c.requires.seat.placed.counts h.1
-
-pub lower_all-mask-requires-clause-held : goal.lower_all-mask-requires-clause-held
-lower_all-mask-requires-clause-held g c =
-    let id = c.args.self.now.table.shared.table_id in
-    let p = c.args.seat.now.pass in
-    let xs = c.args.hands.now.pairs in
-    let m = c.lower.new.seat.pass in
-    waiting g.R.TieRule.content id c.args.self.now.few p c.requires.seat c.args.book xs c.requires.once c.requires.held m c.lower.ensures.2
-
-pub settle-requires-clause-lies : goal.settle-requires-clause-lies
-settle-requires-clause-lies g c = λ u near o.
-    let id = c.args.self.now.table.shared.table_id in
-    let p = c.args.seat.now.pass in
-    let xs = c.args.hands.now.pairs in
-    let m = c.lower.new.seat.pass in
-    let s : ℕ = c.lower_all-mask.result in
-    let q = c.lower_all-mask.new.seat.pass in
-    subst (λ (v : g.row.V.Denot × HandsView g.row.V.Denot). (x : g.row.R-Content.Denot) × (put_back g.R.TieRule.content v.0 v.1.pairs u ≡ Some x) × (place q.me.0 u ≡ Lies x)) (λ k. (sym c.of-copy.ensures k, sym c.of-list.ensures k))
-    (all-lie g.R.TieRule.content id c.args.self.now.few p c.requires.seat c.args.book xs c.requires.once c.requires.held m c.lower.ensures.2 s q c.lower_all-mask.ensures.seat u o)
-
 pub returns-clause-seat : goal.returns-clause-seat
 returns-clause-seat g c =
     let id = c.args.self.now.table.shared.table_id in
@@ -79,3 +51,31 @@ returns-clause-changed g c =
     let f = c.lower_all-mask.ensures.seat in
     let x = given-back content c.args.self.now.table.shared.table_id.slots q r c.of-copy.result.value c.args.book c.of-list.result.value c.args.hands.now c.of-copy.ensures c.of-list.ensures (bit_not w64 (bit_or c.lower_all-mask.result 1)) c.settle.ensures.booked in
     changed-now c.args.seat.now.pass q r (put_back content c.args.book c.args.hands.now.pairs) (step c.args.self.now.table.shared.table_id.slots 7 (bit_not w64 (bit_or c.lower_all-mask.result 1)) 0 none) x (f.counts ∙ ap (λ y. y.0.counts) c.lower.ensures.2) (f.change ∙ ap (λ y. y.0.change) c.lower.ensures.2)
+
+pub lower-requires-clause-held : goal.lower-requires-clause-held
+lower-requires-clause-held g c =
+    has-book (held c.args.seat.now) (put_back g.R.TieRule.content c.args.book c.args.hands.now.pairs) (g.R.TieRule.content c.args.book) c.requires.held refl
+
+pub lower-requires-clause-turn : goal.lower-requires-clause-turn
+lower-requires-clause-turn g c =
+    let h = has-book (held c.args.seat.now) (put_back g.R.TieRule.content c.args.book c.args.hands.now.pairs) (g.R.TieRule.content c.args.book) c.requires.held refl in
+    held-near c.args.seat.now.pass.me.0 _ 0 h.0 c.requires.seat.placed.counts h.1
+
+pub lower_all-mask-requires-clause-held : goal.lower_all-mask-requires-clause-held
+lower_all-mask-requires-clause-held g c =
+    let id = c.args.self.now.table.shared.table_id in
+    let p = c.args.seat.now.pass in
+    let xs = c.args.hands.now.pairs in
+    let m = c.lower.new.seat.pass in
+    waiting g.R.TieRule.content id c.args.self.now.few p c.requires.seat c.args.book xs c.requires.once c.requires.held m c.lower.ensures.2
+
+pub settle-requires-clause-lies : goal.settle-requires-clause-lies
+settle-requires-clause-lies g c = λ u near o.
+    let id = c.args.self.now.table.shared.table_id in
+    let p = c.args.seat.now.pass in
+    let xs = c.args.hands.now.pairs in
+    let m = c.lower.new.seat.pass in
+    let s : ℕ = c.lower_all-mask.result in
+    let q = c.lower_all-mask.new.seat.pass in
+    subst (λ (v : g.row.V.Denot × HandsView g.row.V.Denot). (x : g.row.R-Content.Denot) × (put_back g.R.TieRule.content v.0 v.1.pairs u ≡ Some x) × (place q.me.0 u ≡ Lies x)) (λ k. (sym c.of-copy.ensures k, sym c.of-list.ensures k))
+    (all-lie g.R.TieRule.content id c.args.self.now.few p c.requires.seat c.args.book xs c.requires.once c.requires.held m c.lower.ensures.2 s q c.lower_all-mask.ensures.seat u o)

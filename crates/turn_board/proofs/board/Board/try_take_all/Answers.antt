@@ -8,21 +8,6 @@ use Rattle.turn_board.proofs.Gives.{returns}
 use Rattle.turn_board.proofs.Sets.{none-taken, one-won, positive, now-lie, set-placed, set-tells, set-voice, all-out, all-voice, all-others, all-lost, all-asks, all-givings, all-tells, untouched, back-sits, back-voice, back-held, back-lost, back-asks, back-givings, back-tells, all-found, still-held, still-sits, missed-all, set-alone}
 use Rattle.turn_board.proofs.board.Board.try_take_all.Goals as goal
 
-pub fetch_or-found-requires : goal.fetch_or-found-requires
-fetch_or-found-requires g c = let sits = c.requires.seat.placed in (
-  sits.of_table,
-  (let h = c.args.self.now.words in omega arith),
-  asks g.R.TieRule.content g.R.TieRule.holds _ _ _ c.args.seat.now.pass.me c.args.turns sits.one.0 sits.one.1 sits.one.2 (λ u b. (c.requires.set u b).2),
-)
-
-pub fetch_and-requires : goal.fetch_and-requires
-fetch_and-requires g c = let e = c.fetch_or-found.ensures in (
-  e.0 ∙ c.requires.seat.placed.of_table,
-  (let h = c.args.self.now.words in omega arith),
-  returns g.R.TieRule.content g.R.TieRule.holds _ _ _ c.fetch_or-found.new.seat.me _
-      (untouched g.R.TieRule.holds c.args.self.now.table.shared.table_id c.args.seat.now.pass c.fetch_or-found.new.seat c.args.turns c.fetch_or-found.result c.requires.seat e.0 e.1 e.2 c.args.self.now.few c.fetch_or-found.type_inv c.ranges.turns.fits),
-)
-
 both-one : (a b : ℕ) → a < 2 → b < 2 → min a b ≡ 1 → (a ≡ 1) × (b ≡ 1)
 both-one a b ha hb e = (omega arith, omega arith)
 
@@ -107,16 +92,6 @@ returns-clause-answer g c =
       back-tells holds id p q s f c.requires.seat e.0 e.1 e.2 few fits c.ranges.turns.fits free c.fetch_and.new.seat r.0 r.1 r.2,
     )
 
-pub lift_all-requires-clause-seat : goal.lift_all-requires-clause-seat
-lift_all-requires-clause-seat g c = let e = c.fetch_or-found.ensures in
-    set-placed g.R.TieRule.holds c.args.self.now.table.shared.table_id c.args.seat.now.pass c.fetch_or-found.new.seat c.args.turns c.fetch_or-found.result c.requires.seat e.0 e.1 e.2
-
-pub lift_all-requires-clause-lies : goal.lift_all-requires-clause-lies
-lift_all-requires-clause-lies g c = λ u b. let e = c.fetch_or-found.ensures in
-    let x = now-lie g.R.TieRule.holds c.args.self.now.table.shared.table_id c.args.seat.now.pass c.fetch_or-found.new.seat c.args.turns c.fetch_or-found.result c.requires.seat e.0 e.1 e.2 u (c.requires.set u b).1 b
-    (none-taken c.fetch_or-found.result c.args.turns c.if-taken-eq0.true u b) in
-    (x.0, (c.requires.set u b).0, x.1, x.2)
-
 pub returns-then-taken-eq0-clause-seat : goal.returns-then-taken-eq0-clause-seat
 returns-then-taken-eq0-clause-seat g c = let e = c.fetch_or-found.ensures in (
   all-out g.R.TieRule.holds c.args.self.now.table.shared.table_id c.args.seat.now.pass c.fetch_or-found.new.seat c.args.turns c.fetch_or-found.result c.requires.seat e.0 e.1 e.2 c.lift_all.new.seat.pass c.lift_all.ensures.seat,
@@ -146,3 +121,28 @@ returns-then-taken-eq0-clause-answer g c =
       },
       all-tells g.R.TieRule.holds id p q s f c.requires.seat e.0 e.1 e.2 r l.seat,
     )
+
+pub fetch_or-found-requires : goal.fetch_or-found-requires
+fetch_or-found-requires g c = let sits = c.requires.seat.placed in (
+  sits.of_table,
+  (let h = c.args.self.now.words in omega arith),
+  asks g.R.TieRule.content g.R.TieRule.holds _ _ _ c.args.seat.now.pass.me c.args.turns sits.one.0 sits.one.1 sits.one.2 (λ u b. (c.requires.set u b).2),
+)
+
+pub fetch_and-requires : goal.fetch_and-requires
+fetch_and-requires g c = let e = c.fetch_or-found.ensures in (
+  e.0 ∙ c.requires.seat.placed.of_table,
+  (let h = c.args.self.now.words in omega arith),
+  returns g.R.TieRule.content g.R.TieRule.holds _ _ _ c.fetch_or-found.new.seat.me _
+      (untouched g.R.TieRule.holds c.args.self.now.table.shared.table_id c.args.seat.now.pass c.fetch_or-found.new.seat c.args.turns c.fetch_or-found.result c.requires.seat e.0 e.1 e.2 c.args.self.now.few c.fetch_or-found.type_inv c.ranges.turns.fits),
+)
+
+pub lift_all-requires-clause-seat : goal.lift_all-requires-clause-seat
+lift_all-requires-clause-seat g c = let e = c.fetch_or-found.ensures in
+    set-placed g.R.TieRule.holds c.args.self.now.table.shared.table_id c.args.seat.now.pass c.fetch_or-found.new.seat c.args.turns c.fetch_or-found.result c.requires.seat e.0 e.1 e.2
+
+pub lift_all-requires-clause-lies : goal.lift_all-requires-clause-lies
+lift_all-requires-clause-lies g c = λ u b. let e = c.fetch_or-found.ensures in
+    let x = now-lie g.R.TieRule.holds c.args.self.now.table.shared.table_id c.args.seat.now.pass c.fetch_or-found.new.seat c.args.turns c.fetch_or-found.result c.requires.seat e.0 e.1 e.2 u (c.requires.set u b).1 b
+    (none-taken c.fetch_or-found.result c.args.turns c.if-taken-eq0.true u b) in
+    (x.0, (c.requires.set u b).0, x.1, x.2)

@@ -1,0 +1,11 @@
+pub mod Values
+pub mod Places
+pub mod Different
+pub mod Distances
+pub mod Masks
+pub mod Changes
+pub mod Positions
+pub mod Searches
+pub mod Entries
+pub mod Freeing
+pub mod Lists

@@ -1,0 +1,79 @@
+-- Where the keys of a list stand in a table of slots.
+use Rattle.std.specs.Prelude.{◌≡◌, ◌≢◌, ℕ, pos, negsuc, ◌+◌, ◌-◌, ◌*◌, ◌/◌, ◌%◌, ◌^◌, ◌<◌, ◌≤◌, ◌==◌, min, List, length, slice_index, slice_index_or, sum_by, nat_le, if◌then◌else◌, Option, Some, None}
+use Rattle.session_values.specs.declared.value.Value.{Value}
+use Rattle.session_values.specs.declared.value.Value.TheVariants.{Nil, Num, Sym}
+
+-- the number that a key is spread by
+abbrev pub number_of : Value → ℕ
+number_of Nil = 0
+number_of (Num (pos n)) = n % 2 ^ 64
+number_of (Num (negsuc n)) = 2 ^ 64 - 1 - n % 2 ^ 64
+number_of (Sym place) = place + 2 ^ 63
+
+-- the slot among 2 ^ bits at which the search for a key begins
+unfoldable pub start_of : Value → ℕ → ℕ
+start_of key bits = (number_of key * 11400714819323198485) % 2 ^ 64 / 2 ^ (64 - bits)
+
+-- how far slot s is past slot h, where the first of m slots follows the last
+unfoldable pub distance : ℕ → ℕ → ℕ → ℕ
+distance m h s = if nat_le h s then s - h else s + m - h
+
+-- the slot after s
+unfoldable pub after : ℕ → ℕ → ℕ
+after m s = if s + 1 == m then 0 else s + 1
+
+-- the place that a slot holds: what stands in the slot is one more, or 0 where it is free
+abbrev pub place_in : ℕ → Option ℕ
+place_in x = if x == 0 then None else Some (x - 1)
+
+-- where the search begins for the key whose place, and one more, is x
+abbrev pub start_in : ℕ → List Value → ℕ → ℕ
+start_in bits keys x = start_of (slice_index_or keys (x - 1) Nil) bits
+
+-- each slot is free or holds one of the places below n, and each of these stands in one slot
+pub record HoldsPlaces (m n : ℕ) (slots : List ℕ) : Type 0 where
+  pub long : length slots ≡ m
+  pub taken : sum_by (λ x. min x 1) slots ≡ n
+  pub few : (s : ℕ) → slice_index slots s ≤ n
+  pub once : (s t : ℕ) → 0 < slice_index slots s → slice_index slots s ≡ slice_index slots t → s ≡ t
+  pub there : (p : ℕ) → p < n → (s : ℕ) × (slice_index slots s ≡ p + 1)
+
+-- a search that begins at slot h comes to slot s before it comes to a free slot
+abbrev pub IsReached : (m h : ℕ) → List ℕ → ℕ → Type 0
+IsReached m h slots s =
+    (t : ℕ) → t < m → distance m h t < distance m h s → 0 < slice_index slots t
+
+-- the slots hold the places of these keys, and the search for each key comes to its slot
+pub record IsIndex (bits : ℕ) (keys : List Value) (slots : List ℕ) : Type 0 where
+  pub places : HoldsPlaces (2 ^ bits) (length keys) slots
+  pub reached : (s : ℕ) → 0 < slice_index slots s
+      → IsReached (2 ^ bits) (start_in bits keys (slice_index slots s)) slots s
+
+-- the same but for one slot: it holds the place past the last key's, and no more is asked of it
+pub record IsIndexBut (bits : ℕ) (keys : List Value) (slots : List ℕ) (hole : ℕ) : Type 0 where
+  pub places : HoldsPlaces (2 ^ bits) (length keys + 1) slots
+  pub last : slice_index slots hole ≡ length keys + 1
+  pub reached : (s : ℕ) → s ≢ hole → 0 < slice_index slots s
+      → IsReached (2 ^ bits) (start_in bits keys (slice_index slots s)) slots s
+
+-- an index as contracts see it: 2 ^ bits slots, each 0 where it is free, else a place and one more
+pub record IndexView : Type 0 where
+  pub bits : ℕ
+  pub slots : List ℕ
+
+abbrev pub slot_count : IndexView → ℕ
+slot_count index = 2 ^ index.bits
+
+-- the places of these keys, in their order, are what the index holds
+abbrev pub IsIndexOf : List Value → IndexView → Type 0
+IsIndexOf keys index = IsIndex index.bits keys index.slots
+
+-- the search for a key looks at n slots: each but the last is taken, and the last holds this place
+-- or, where there is none, is free
+pub record IsSearch (index : IndexView) (key : Value) (place : Option ℕ) (n : ℕ) : Type 0 where
+  pub path : (s : ℕ) → s < slot_count index
+      → distance (slot_count index) (start_of key index.bits) s + 1 < n
+      → 0 < slice_index index.slots s
+  pub end : (s : ℕ) → s < slot_count index
+      → distance (slot_count index) (start_of key index.bits) s + 1 ≡ n
+      → place_in (slice_index index.slots s) ≡ place

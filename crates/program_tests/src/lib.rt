@@ -1,0 +1,14 @@
+//! Tests of what the program reads, serves and writes, through public calls: sources and sinks,
+//! request lines, reply lines, and whole runs over memory.
+#![tactic(auto)]
+
+#[cfg(test)]
+mod ends;
+#[cfg(test)]
+mod reply_lines;
+#[cfg(test)]
+mod runs;
+#[cfg(test)]
+mod session_text;
+#[cfg(test)]
+mod top_call;

@@ -1,0 +1,5 @@
+use Rattle.std.proofs.Common.{rules}
+use Rattle.session_values.proofs.laws.order_of_values.Goals as goal
+
+pub returns-clause-written : goal.returns-clause-written
+returns-clause-written c = search rules

@@ -1,0 +1,16 @@
+//! Tests of the crates of values and tables. They stand above those crates, so that each is proved
+//! once.
+#![tactic(auto)]
+
+#[cfg(test)]
+mod commuting;
+#[cfg(test)]
+mod kinds;
+#[cfg(test)]
+mod operations;
+#[cfg(test)]
+mod shards;
+#[cfg(test)]
+mod symbols;
+#[cfg(test)]
+mod values;
