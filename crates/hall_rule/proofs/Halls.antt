@@ -7,7 +7,9 @@ use Rattle.session_values.specs.Tables.{Container, Tables, table}
 use Rattle.session_journal.specs.Journal.{begun, ended}
 use Rattle.session_journal.specs.Script.{Meaning, IsScript, session_of}
 use Rattle.shard_tables.specs.Parts.{part}
-use Rattle.admission_book.specs.Book.{Book, Serving, Lawful, IsOpen, opened, record_of}
+use Rattle.admission_book.specs.Book.{Book, Serving, opened, record_of}
+use Rattle.admission_book.specs.Lawful.{Lawful}
+use Rattle.admission_book.specs.EventsInTurn.{IsOpen}
 use Rattle.admission_book.proofs.Events.{begun-append}
 use Rattle.admission_book.proofs.Foreknown.{opened_lawful}
 use Rattle.admission_book.proofs.Foreknown as book

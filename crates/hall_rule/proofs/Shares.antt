@@ -12,7 +12,7 @@ use Rattle.session_values.specs.declared.kind.TableKind.TheVariants.{Map, Set}
 use Rattle.session_values.specs.declared.op.Op.{Op}
 use Rattle.session_values.specs.declared.value.Value.{Value}
 use Rattle.session_values.specs.Dialogue.{Entry}
-use Rattle.session_values.specs.Op.{arguments}
+use Rattle.session_values.specs.Kinds.{arguments}
 use Rattle.session_values.specs.Tables.{Container, Bindings, Members, Tables, empty_of, start, table, reply, step, reply_on, after_on, map_after, set_after, kind_of}
 use Rattle.session_values.specs.Values.{value_cmp}
 use Rattle.session_journal.specs.declared.event.Event.{Event}

@@ -1,7 +1,7 @@
 -- What counts of the values behind a hall's turns, and what each shard holds after a journal.
-use Rattle.std.specs.Prelude.{◌≡◌, ◌≢◌, ℕ, ◌-◌, ◌/◌, ◌%◌, ◌≤◌, List, ◌++◌, Some, length}
+use Rattle.std.specs.Prelude.{◌≡◌, ◌≢◌, ℕ, ◌+◌, ◌-◌, ◌/◌, ◌%◌, ◌≤◌, List, [], ◌++◌, Some, length}
 use Rattle.std.specs.List.{AllByRecursion}
-use Rattle.session_values.specs.Tables.{Container, Tables, start, table}
+use Rattle.session_values.specs.Tables.{Container, Tables, size_of, table}
 use Rattle.session_journal.specs.declared.event.Event.{Event}
 use Rattle.session_journal.specs.Journal.{after, owner, ticket_of}
 use Rattle.session_journal.specs.Script.{Meaning, room}
@@ -23,19 +23,19 @@ shards_in m turns = shards_of turns (length m.shape)
 
 -- the tables before any ticket is begun
 abbrev pub opening_tables : Meaning → Tables
-opening_tables m = start m.shape
+opening_tables m = m.opening
 
 -- the tables after the operations that were done
 abbrev pub tables_after : Meaning → List Event → Tables
-tables_after m J = after m.shape J
+tables_after m J = after m.opening J
 
 -- what the shard behind turn j + 1 holds after the journal: its part of its table
 abbrev pub share : Meaning → ℕ → List Event → ℕ → Container
 share m turns J j = part (shards_in m turns) (j % shards_in m turns) (table (tables_after m J) (j / shards_in m turns))
 
--- for how many keys the shard behind turn j + 1 needs room
+-- for how many keys the shard behind turn j + 1 needs room: those that it opens with, and those that the script may add to its table
 abbrev pub needed : Meaning → ℕ → ℕ → ℕ
-needed m turns j = room m (j / shards_in m turns)
+needed m turns j = size_of (share m turns [] j) + room m (j / shards_in m turns)
 
 -- the content of turn j + 1 after the journal
 pub record IsShard {S : Type 0} (m : Meaning) (turns : ℕ) (J : List Event) (j : ℕ) (x : Content S) : Type 0 where

@@ -6,7 +6,8 @@ use Rattle.session_values.specs.Tables.{table}
 use Rattle.session_journal.specs.Journal.{begun, ended}
 use Rattle.session_journal.specs.Script.{Meaning, session_of}
 use Rattle.shard_tables.specs.Parts.{part}
-use Rattle.admission_book.specs.Book.{Book, Lawful, opened, record_of}
+use Rattle.admission_book.specs.Book.{Book, opened, record_of}
+use Rattle.admission_book.specs.Lawful.{Lawful}
 use Rattle.hall_rule.specs.Contents.{Content, Register, Shard, shards_in, share, needed}
 
 -- ---- opening

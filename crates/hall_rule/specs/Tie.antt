@@ -5,7 +5,8 @@ use Rattle.session_values.specs.Tables.{Container}
 use Rattle.session_journal.specs.declared.event.Event.{Event}
 use Rattle.session_journal.specs.Journal.{owner, ticket_of}
 use Rattle.session_journal.specs.Script.{Meaning}
-use Rattle.admission_book.specs.Book.{Book, Lawful, record_of}
+use Rattle.admission_book.specs.Book.{Book, record_of}
+use Rattle.admission_book.specs.Lawful.{Lawful}
 use Rattle.hall_rule.specs.Contents.{Content, Register, Shard, IsShard, IsNote, share}
 
 -- the rule, over the counted contents of all turns and the notes of all callers: the book is lawful and has a record for each caller, every shard is its part of the tables after the book's journal with room for all that may come, and each caller's note is the book as it was, but for what other callers did since

@@ -1,7 +1,8 @@
 // Shards of either kind.
 
 ghost use Rattle.std.specs.Prelude.{◌≡◌};
-ghost use Rattle.session_values.specs.Tables.{home, kind_of, reply_on};
+ghost use Rattle.session_values.specs.Tables.{kind_of, reply_on};
+ghost use Rattle.session_values.specs.Kinds.{home};
 ghost use Rattle.shard_tables.specs.Shards.{HasRoomFor, shard_after};
 ghost use Rattle.hall_rule.specs.Shards.{shard_view};
 

@@ -8,8 +8,9 @@ use Rattle.session_values.specs.declared.kind.TableKind.TheVariants.{Map, Set}
 use Rattle.session_values.specs.declared.op.Op.{Op}
 use Rattle.session_values.specs.declared.value.Value.{Value}
 use Rattle.session_values.specs.declared.value.Value.TheVariants.{Num}
-use Rattle.session_values.specs.Op.{arguments}
-use Rattle.session_values.specs.Tables.{Container, Bindings, Members, after_on, home, kind_of, reply_on, map_reply, set_reply, size_of}
+use Rattle.session_values.specs.Kinds.{arguments}
+use Rattle.session_values.specs.Tables.{Container, Bindings, Members, after_on, kind_of, reply_on, map_reply, set_reply, size_of}
+use Rattle.session_values.specs.Kinds.{home}
 use Rattle.shard_tables.specs.Parts.{sum_below}
 use Rattle.turn_board.specs.Hands.{in_hands, Once}
 use Rattle.hall_rule.specs.declared.held.Held.{Held}

@@ -12,7 +12,9 @@ use Rattle.session_journal.specs.declared.event.Event.{Event}
 use Rattle.session_journal.specs.declared.event.Event.TheVariants.{Begin, Delay, End}
 use Rattle.session_journal.specs.Journal.{Deed, deeds, of_ticket, entries, owner, begun, ended, caller_of, ticket_of}
 use Rattle.session_journal.specs.Script.{Meaning, IsForesight}
-use Rattle.admission_book.specs.Book.{Book, Serving, Lawful, Holds, IsOpen, IsFree, IsBlocker, now, is_delayed, record_of, with_record, with_event, after_begin, after_narrow, after_admit, after_delay, after_end}
+use Rattle.admission_book.specs.Book.{Book, Serving, Holds, IsFree, IsBlocker, record_of, with_record, with_event, after_begin, after_narrow, after_admit, after_delay, after_end}
+use Rattle.admission_book.specs.Lawful.{Lawful}
+use Rattle.admission_book.specs.EventsInTurn.{IsOpen, now, is_delayed}
 use Rattle.admission_book.specs.Books as books
 use Rattle.admission_book.specs.Books.{BookView, IsOldestOpen}
 use Rattle.admission_book.specs.declared.admission.Admission.{Admission}

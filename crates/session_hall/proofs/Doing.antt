@@ -9,8 +9,10 @@ use Rattle.session_values.specs.declared.op.Op.{Op}
 use Rattle.session_values.specs.declared.value.Value.{Value}
 use Rattle.session_values.specs.declared.value.Value.TheVariants.{Num}
 use Rattle.session_values.specs.Dialogue.{replies}
-use Rattle.session_values.specs.Op.{arguments}
-use Rattle.session_values.specs.Tables.{Container, Fits, Tables, after_on, home, is_adding, kind_of, reply, reply_on, size_of, table}
+use Rattle.session_values.specs.Kinds.{arguments}
+use Rattle.session_values.specs.Tables.{Container, Fits, Tables, after_on, kind_of, reply, reply_on, size_of, table}
+use Rattle.session_values.specs.Kinds.{home, is_adding}
+use Rattle.session_values.proofs.Starts.{start_none}
 use Rattle.symbolic_ops.specs.declared.symbol.Symbol.{Symbol}
 use Rattle.symbolic_ops.specs.Foresight.{ForesightView}
 use Rattle.session_journal.specs.declared.event.Event.{Event}
@@ -74,7 +76,7 @@ same a b e = grind (arith, nat_tests)
 differs : (a b : ℕ) → eqb a b ≡ false → a ≢ b
 differs a b e = grind (arith, nat_tests)
 
-shards_are : (turns tables n : ℕ) → turns ≡ 1 + tables * n → 0 < tables → shards_of turns tables ≡ n
+pub shards_are : (turns tables n : ℕ) → turns ≡ 1 + tables * n → 0 < tables → shards_of turns tables ≡ n
 shards_are turns tables n e l =
     let z : turns - 1 ≡ n * tables + 0 = omega (arith, e) in
     ap (λ (a : ℕ). a / tables) z ∙ div-mul-add n tables 0 l
@@ -220,10 +222,11 @@ module _ {S : Type 0} (meaning : S → Meaning) (h : Hall S) (c : Caller S) (k :
           let is_part : size_of s.container ≡ size_of (part sh (b.place_of % sh) (table (tables_after m J) (b.place_of / sh))) = ap size_of s.share_is in
           let part_of : size_of (part sh (b.place_of % sh) (table (tables_after m J) (b.place_of / sh))) ≤ size_of (table (tables_after m J) (b.place_of / sh)) = part_few sh (b.place_of % sh) (table (tables_after m J) (b.place_of / sh)) within in
           let whole : size_of (table (tables_after m J) (b.place_of / sh)) ≡ size_of (table (tables_after m J) op.table) = ap (λ (a : ℕ). size_of (table (tables_after m J) a)) at in
-          let need : needed m turns b.place_of ≡ room m op.table = ap (room m) at in
+          let need : room m (b.place_of / sh) ≡ room m op.table = ap (room m) at in
+          let open_none : size_of (table m.opening op.table) ≡ 0 = ap (λ (ts : Tables). size_of (table ts op.table)) (opens m k.script_kept) ∙ start_none m.shape op.table in
           subst P (sym s.is) (kind, λ adding.
-              let less : size_of (table (tables_after m J) op.table) < room m op.table = keys_fewer m told.tied.book k.script_kept finds.lawful t op flight_found.is_open (flight_found.flight op refl) adding in
-              omega (arith, is_part, part_of, whole, less, need, s.enough))
+              let less : size_of (table (tables_after m J) op.table) < size_of (table m.opening op.table) + room m op.table = keys_fewer m told.tied.book k.script_kept finds.lawful t op flight_found.is_open (flight_found.flight op refl) adding in
+              omega (arith, is_part, part_of, whole, less, need, open_none, s.enough))
 
       -- the keys of the shard behind a turn after a journal
       abbrev keys_at : List Event → ℕ → ℕ
@@ -275,9 +278,10 @@ module _ {S : Type 0} (meaning : S → Meaning) (h : Hall S) (c : Caller S) (k :
         omega (arith, as_many, some_span n op k.some_shards),
         λ none.
             let e : all_keys (contents xs) ≡ size_of (table (tables_after m J) op.table) = total none J share_now in
-            let less : size_of (table (tables_after m J) op.table) ≤ room m op.table = keys_few m told.tied.book k.script_kept finds.lawful op.table in
+            let open_none : size_of (table m.opening op.table) ≡ 0 = ap (λ (ts : Tables). size_of (table ts op.table)) (opens m k.script_kept) ∙ start_none m.shape op.table in
+            let less : size_of (table (tables_after m J) op.table) ≤ size_of (table m.opening op.table) + room m op.table = keys_few m told.tied.book k.script_kept finds.lawful op.table in
             let small : room m op.table ≤ 200000 = k.script_kept.few_adds op.table in
-            omega (arith, e, less, small),
+            omega (arith, e, less, small, open_none),
       )
 
       -- ---- the operation was done

@@ -4,7 +4,8 @@ use Rattle.std.proofs.lemmas.List.{length-set, get_or-set_other}
 use Rattle.session_values.specs.declared.op.Op.{Op}
 use Rattle.session_values.specs.declared.value.Value.{Value}
 use Rattle.session_values.specs.Dialogue.{Entry, rest, replies}
-use Rattle.session_values.specs.Tables.{Container, Fits, after_on, home, reply}
+use Rattle.session_values.specs.Tables.{Container, Fits, after_on, reply}
+use Rattle.session_values.specs.Kinds.{home}
 use Rattle.symbolic_ops.specs.declared.symbol.Symbol.{Symbol}
 use Rattle.symbolic_ops.specs.Foresight.{ForesightView}
 use Rattle.symbolic_ops.specs.Symbols.{Covered}
@@ -12,7 +13,8 @@ use Rattle.session_journal.specs.declared.event.Event.{Event}
 use Rattle.session_journal.specs.declared.event.Event.TheVariants.{Done}
 use Rattle.session_journal.specs.Journal.{entries, caller_of}
 use Rattle.session_journal.specs.Script.{Meaning, IsForesight}
-use Rattle.admission_book.specs.Book.{Book, Serving, Lawful, Holds, record_of, after_done}
+use Rattle.admission_book.specs.Book.{Book, Serving, Holds, record_of, after_done}
+use Rattle.admission_book.specs.Lawful.{Lawful}
 use Rattle.admission_book.specs.Books.{BookView, MayDo, DidIt}
 use Rattle.admission_book.proofs.Events.{first_stays, entries_more}
 use Rattle.turn_board.specs.Boards.{IsSeatOf, SameVoice, BookedAll, turn_count, held, caller}

@@ -3,7 +3,8 @@ use Rattle.std.proofs.Common.{◌≡◌, ◌≢◌, ℕ, suc, ◌<◌, Option, S
 use Rattle.std.specs.Prelude.{slice_get}
 use Rattle.session_values.specs.Tables.{Container}
 use Rattle.session_journal.specs.Script.{Meaning}
-use Rattle.admission_book.specs.Book.{Book, Lawful}
+use Rattle.admission_book.specs.Book.{Book}
+use Rattle.admission_book.specs.Lawful.{Lawful}
 use Rattle.admission_book.specs.Books.{BookView}
 use Rattle.turn_board.specs.Boards.{SameVoice, Gained, Tells, held, note, caller, crew}
 use Rattle.hall_rule.specs.Contents.{Content, Register, Shard, IsShard, IsSince, IsNote, share}

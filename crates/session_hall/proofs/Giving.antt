@@ -8,7 +8,8 @@ use Rattle.session_journal.specs.declared.event.Event.{Event}
 use Rattle.session_journal.specs.declared.event.Event.TheVariants.{Begin}
 use Rattle.session_journal.specs.Journal.{deeds, owner, ticket_of, begun}
 use Rattle.session_journal.specs.Script.{Meaning, IsScript}
-use Rattle.admission_book.specs.Book.{Book, Serving, Lawful, record_of, with_record}
+use Rattle.admission_book.specs.Book.{Book, Serving, record_of, with_record}
+use Rattle.admission_book.specs.Lawful.{Lawful}
 use Rattle.admission_book.specs.Books.{BookView}
 use Rattle.admission_book.proofs.Foreknown.{foreknown, regrouped_lawful}
 use Rattle.turn_board.specs.Boards.{IsSeatOf, SameVoice, BookedAll, turn_count, held, note, caller, crew, given, lost}
@@ -33,7 +34,7 @@ use Rattle.session_hall.specs.Stages.{SeatOf, HoldsNone, Stands}
 
 -- ---- what a lawful book tells
 pub opens : (m : Meaning) → IsScript m → opening_tables m ≡ start m.shape
-opens m s = refl
+opens m s = s.opening
 
 pub is_told : (m : Meaning) (b : Book) → IsScript m → Lawful m b → IsTold m b
 is_told m b s l = record { replays = l.replays; regrouped = (regrouped_lawful m b l).replays; foreknown = λ t near. foreknown m b s l t near }

@@ -10,3 +10,6 @@ pub mod TurnSets
 pub mod Counts
 pub mod Doing
 pub mod Trying
+pub mod Moving
+pub mod Opened
+pub mod Left

@@ -5,7 +5,7 @@ use Rattle.std.proofs.lemmas.Bool.Decides.{nat_tests}
 use Rattle.std.proofs.lemmas.Nat.{div-mul-add, mod-mul-add}
 use Rattle.std.proofs.lemmas.Nat.Bits.{bit_at_mask_inside, bit_at_mask_below, bit_at_mask_above}
 use Rattle.session_values.specs.declared.op.Op.{Op}
-use Rattle.session_values.specs.Op.{arguments}
+use Rattle.session_values.specs.Kinds.{arguments}
 use Rattle.shard_tables.specs.Parts.{shard_of}
 use Rattle.shard_tables.proofs.PartSizes.{shard_below}
 use Rattle.turn_board.specs.Maps.{bits_of}

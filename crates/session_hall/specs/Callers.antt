@@ -1,15 +1,15 @@
 -- A caller of a hall between two calls.
 use Rattle.std.specs.Prelude.{◌≡◌, ℕ, ◌+◌, ◌*◌, ◌<◌, ◌≤◌, List, Option, Some, None, length}
 use Rattle.session_values.specs.Dialogue.{Entry}
-use Rattle.session_values.specs.Tables.{start}
 use Rattle.session_journal.specs.Foreknown.{Foreknown}
 use Rattle.session_journal.specs.Journal.{Replays, begun, deeds, entries, in_order, regrouped}
 use Rattle.session_journal.specs.Script.{Meaning, IsScript}
-use Rattle.admission_book.specs.Book.{Book, Lawful, opened}
+use Rattle.admission_book.specs.Book.{Book, opened}
+use Rattle.admission_book.specs.Lawful.{Lawful}
 use Rattle.turn_board.specs.Boards.{note, caller, crew}
 use Rattle.turn_board.specs.Hands.{Once}
 use Rattle.turn_board.specs.Passes.{Sitting}
-use Rattle.hall_rule.specs.Contents.{Content, Register, Shard}
+use Rattle.hall_rule.specs.Contents.{Content, Register, Shard, opening_tables}
 use Rattle.hall_rule.specs.Shards.{content_of}
 use Rattle.session_hall.specs.declared.caller.Caller.{Caller}
 use Rattle.session_hall.specs.declared.hall.Hall.{Hall}
@@ -32,8 +32,8 @@ entries_of c t = entries (book_of c).journal t
 
 -- what a note tells: its journal replays, and regrouped by ticket too, and of each begun ticket the entries are the first of its serial ones, and the Reply is its serial one
 pub record IsTold (m : Meaning) (b : Book) : Type 0 where
-  pub replays : Replays (start m.shape) (in_order (deeds b.journal))
-  pub regrouped : Replays (start m.shape) (regrouped b.journal)
+  pub replays : Replays (opening_tables m) (in_order (deeds b.journal))
+  pub regrouped : Replays (opening_tables m) (regrouped b.journal)
   pub foreknown : (t : ℕ) → t < begun b.journal → Foreknown m b.journal t
 
 -- its seat is of the hall's board, its note is a lawful book of the hall's script, and it holds what its stage says

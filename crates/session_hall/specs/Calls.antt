@@ -8,7 +8,8 @@ use Rattle.symbolic_ops.specs.declared.symbol.Symbol.{Symbol}
 use Rattle.symbolic_ops.specs.Symbols.{Covered, Matches}
 use Rattle.session_journal.specs.Journal.{begun, ended, entries}
 use Rattle.session_journal.specs.Script.{Meaning, IsForesight}
-use Rattle.admission_book.specs.Book.{Book, IsFree, IsBlocker, now, after_begin, after_narrow, after_admit, after_delay, after_done, after_end}
+use Rattle.admission_book.specs.Book.{Book, IsFree, IsBlocker, after_begin, after_narrow, after_admit, after_delay, after_done, after_end}
+use Rattle.admission_book.specs.EventsInTurn.{now}
 use Rattle.admission_book.specs.Books.{IsOldestOpen}
 use Rattle.turn_board.specs.Boards.{held, note, caller, crew, given, lost, asks, givings, last_change}
 use Rattle.turn_board.specs.Hands.{in_hands}

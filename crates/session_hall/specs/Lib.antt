@@ -5,4 +5,5 @@ pub mod Findings
 pub mod Calls
 pub mod Waits
 pub mod Working
+pub mod Openings
 pub mod Closings

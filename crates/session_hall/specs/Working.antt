@@ -4,8 +4,9 @@ use Rattle.std.specs.List.{AllByRecursion}
 use Rattle.session_values.specs.declared.op.Op.{Op}
 use Rattle.session_values.specs.declared.value.Value.{Value}
 use Rattle.session_values.specs.declared.value.Value.TheVariants.{Num}
-use Rattle.session_values.specs.Op.{arguments}
-use Rattle.session_values.specs.Tables.{after_on, home, is_adding, kind_of, reply_on, size_of}
+use Rattle.session_values.specs.Kinds.{arguments}
+use Rattle.session_values.specs.Tables.{after_on, kind_of, reply_on, size_of}
+use Rattle.session_values.specs.Kinds.{home, is_adding}
 use Rattle.hall_rule.specs.declared.held.Held.{Held}
 use Rattle.hall_rule.specs.Contents.{Content, Register, Shard}
 use Rattle.hall_rule.specs.Shards.{content_of}

@@ -1,7 +1,7 @@
 // Doing an operation on its shards.
 
 ghost use Rattle.std.specs.Prelude.{◌≡◌, ◌+◌, ◌*◌, ◌<◌, ◌≤◌, length};
-ghost use Rattle.session_values.specs.Op.{arguments};
+ghost use Rattle.session_values.specs.Kinds.{arguments};
 ghost use Rattle.turn_board.specs.Boards.{turn_count};
 ghost use Rattle.hall_rule.specs.Turns.{place, span, turn_set};
 ghost use Rattle.session_hall.specs.Callers.{IsCallerOf};

@@ -5,11 +5,11 @@
 mod answers;
 mod applying;
 mod caller;
-//mod closed;
-//mod closing;
+mod closed;
+mod closing;
 mod finishing;
 mod hall;
-//mod opening;
+mod opening;
 mod serving;
 mod stage;
 mod taking;
@@ -17,7 +17,7 @@ mod waiting;
 
 pub use answers::{Admitting, Applying, Began, Declared, Ending, Finishing};
 pub use caller::{Caller, Callers};
-//pub use closed::{Closed, Parts};
+pub use closed::{Closed, Parts};
 pub use hall::Hall;
 pub use hall_rule::{Held, Part};
 pub use stage::Stage;
