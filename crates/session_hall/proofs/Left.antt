@@ -1,5 +1,5 @@
 -- A hall whose callers are all out.
-use Rattle.std.proofs.Common.{◌≡◌, ℕ, zero, suc, ◌+◌, ◌*◌, ◌/◌, ◌%◌, ◌<◌, ◌≤◌, List, [], ◌∷◌, ◌++◌, length, map, Option, Some, None, IsSome, refl, sym, ◌∙◌, ap, subst, arith}
+use Rattle.std.proofs.Common.{◌≡◌, ℕ, zero, suc, ◌+◌, ◌*◌, ◌/◌, ◌%◌, ◌<◌, ◌≤◌, List, [], ◌∷◌, ◌++◌, length, map, drop, get_or, append_assoc, append-nil, Option, Some, None, IsSome, is_some, refl, sym, ◌∙◌, ap, subst, arith}
 use Rattle.std.specs.Prelude.{slice_get}
 use Rattle.std.specs.List.{AllByRecursion}
 use Rattle.session_values.specs.declared.reply.Reply.{Reply}
@@ -32,7 +32,7 @@ use Rattle.session_hall.specs.Names.{script_of}
 use Rattle.session_hall.specs.Stages.{SeatOf, HoldsNone, Stands}
 use Rattle.session_hall.proofs.Doing.{shards_are}
 use Rattle.session_hall.proofs.Giving.{is_told}
-use Rattle.session_hall.proofs.Moving.{get_in, length-map, map-get, map-read}
+use Rattle.session_hall.proofs.Moving.{first_of, get_in, length-map, map-get, map-read}
 
 -- ---- the callers' seats
 module _ {S : Type 0} (meaning : S → Meaning) (h : Hall S) (i : ℕ) (c : Caller S) (l : Leaves meaning h i c) where
@@ -67,7 +67,7 @@ module _ {S : Type 0} (meaning : S → Meaning) (h : Hall S) (callers : List (Ca
   pub some_seats : 0 < length seats
   some_seats = omega (arith, as_many, some)
 
-  first : (c : Caller S) × (slice_get callers 0 ≡ Some c)
+  pub first : (c : Caller S) × (slice_get callers 0 ≡ Some c)
   first = get_in callers 0 (omega (arith, all, some))
 
   pub first_caller : IsCallerOf meaning h first.0
@@ -98,7 +98,7 @@ module _ {S : Type 0} (meaning : S → Meaning) (h : Hall S) (callers : List (Ca
 
 -- ---- the book, and the shards behind it
 some_is : {X : Type 0} (o : Option X) (x : X) → o ≡ Some x → IsSome o
-some_is o x e = let P : Option _ → Type 0 = λ z. IsSome z in subst P (sym e) tt
+some_is o x e = ap is_some e
 
 module _ {S : Type 0} (meaning : S → Meaning) (h : Hall S) (values rest : List (Held S)) (v : Held S) (is : values ≡ v ∷ rest) (l : HasLeft meaning h values) where
   abbrev m : Meaning
@@ -111,19 +111,17 @@ module _ {S : Type 0} (meaning : S → Meaning) (h : Hall S) (values rest : List
   no_table p e = apart_contents (script_of h) l.ended.book (shard_view p).container (shard_view p).room (sym register_at ∙ ap content_of e)
 
   pub all_tables : AllByRecursion IsTable rest
-  all_tables = go rest 0 (λ j x e. l.ended.parts j (content_of x) (ap (λ (xs : List (Held S)). slice_get (map content_of xs) (suc j)) is ∙ map-get content_of rest j x e))
+  all_tables = go rest (λ j x e.
+      let p = l.ended.parts j (content_of x) (ap (λ (xs : List (Held S)). slice_get (map content_of xs) (suc j)) is ∙ map-get content_of rest j x e) in
+      table_of x _ p.0 p.1)
     where
       table_of : (x : Held S) (d : Container) (r : ℕ) → content_of x ≡ Shard d r → IsTable x
       table_of (value.Table p) d r e = tt
       table_of (value.Register b) d r e = absurd (apart_contents b.script b.book d r e)
 
-      go : (xs : List (Held S)) (k : ℕ) → ((j : ℕ) (x : Held S) → slice_get xs j ≡ Some x → (r : ℕ) × (content_of x ≡ Shard (part (shards_in m (length values)) ((k + j) % shards_in m (length values)) (table (tables_before (session_of m) m.requests) ((k + j) / shards_in m (length values)))) r)) → AllByRecursion IsTable xs
-      go [] k f = tt
-      go (x ∷ xs) k f =
-          let t : (r : ℕ) × (content_of x ≡ Shard (part (shards_in m (length values)) ((k + 0) % shards_in m (length values)) (table (tables_before (session_of m) m.requests) ((k + 0) / shards_in m (length values)))) r) = f 0 x refl in
-          (table_of x _ t.0 t.1, go xs (suc k) (λ j y e. let z : k + suc j ≡ suc k + j = omega arith in
-              let P : ℕ → Type 0 = λ a. (r : ℕ) × (content_of y ≡ Shard (part (shards_in m (length values)) (a % shards_in m (length values)) (table (tables_before (session_of m) m.requests) (a / shards_in m (length values)))) r) in
-              subst P z (f (suc j) y e)))
+      go : (xs : List (Held S)) → ((j : ℕ) (x : Held S) → slice_get xs j ≡ Some x → IsTable x) → AllByRecursion IsTable xs
+      go [] f = tt
+      go (x ∷ xs) f = (f 0 x refl, go xs (λ j y e. f (suc j) y e))
 
   module _ (b : BookView S) (at : v ≡ value.Register b) where
     same_here : ◌≡◌ {A = Content S} (Register b.script b.book) (Register (script_of h) l.ended.book)
@@ -191,3 +189,29 @@ module _ {S : Type 0} (meaning : S → Meaning) (h : Hall S) (values rest : List
         parts_are = parts_many;
         parts = part_is;
       }
+
+-- ---- the shards are moved out
+map-end : {A B : Type 0} (f : A → B) (xs : List A) (a : A) → map f (xs ++ a ∷ []) ≡ map f xs ++ f a ∷ []
+map-end f [] a = refl
+map-end {A} {B} f (x ∷ xs) a = ap (λ (l : List B). f x ∷ l) (map-end f xs a)
+
+module _ {S : Type 0} where
+  pub parts_next : (xs ys : List (Held S)) (a : Held S) (p : Part) (parts later : List Part) (all : List (Held S)) → 0 < length xs → a ≡ get_or xs 0 a → ys ≡ drop 1 xs → a ≡ value.Table p → later ≡ parts ++ p ∷ [] → map value.Table parts ++ xs ≡ all → map value.Table later ++ ys ≡ all
+  parts_next xs ys a p parts later all h e rest at is m =
+      (λ i. map value.Table (is i) ++ rest i)
+      ∙ ap (λ (l : List (Held S)). l ++ drop 1 xs) (map-end value.Table parts p)
+      ∙ append_assoc (map value.Table parts) (value.Table p ∷ []) (drop 1 xs)
+      ∙ ap (λ (l : List (Held S)). map value.Table parts ++ l) (ap (λ (z : Held S). z ∷ drop 1 xs) (sym at) ∙ sym (first_of xs a h e))
+      ∙ m
+
+  pub parts_all : (xs : List (Held S)) (parts : List Part) (all : List (Held S)) → length xs ≤ 0 → map value.Table parts ++ xs ≡ all → map value.Table parts ≡ all
+  parts_all [] parts all h m = sym (append-nil (map value.Table parts)) ∙ m
+  parts_all (x ∷ xs) parts all h m = absurd (omega (arith, h))
+
+  pub tables_next : (xs ys : List (Held S)) → ys ≡ drop 1 xs → AllByRecursion IsTable xs → AllByRecursion IsTable ys
+  tables_next [] ys e t = let P : List (Held S) → Type 0 = λ l. AllByRecursion IsTable l in subst P (sym e) tt
+  tables_next (x ∷ xs) ys e t = let P : List (Held S) → Type 0 = λ l. AllByRecursion IsTable l in subst P (sym e) t.1
+
+  pub no_book : (xs : List (Held S)) (a : Held S) (b : BookView S) → 0 < length xs → a ≡ get_or xs 0 a → a ≡ value.Register b → AllByRecursion IsTable xs → ⊥
+  no_book [] a b h e at t = absurd (omega (arith, h))
+  no_book (x ∷ xs) a b h e at t = let P : Held S → Type 0 = λ z. IsTable z in subst P (sym e ∙ at) t.0

@@ -1,5 +1,5 @@
 -- Lists whose first elements are moved to another list.
-use Rattle.std.proofs.Common.{◌≡◌, ℕ, zero, suc, ◌+◌, ◌<◌, List, [], ◌∷◌, ◌++◌, length, map, drop, get_or, append_assoc, refl, sym, ap, ◌∙◌, subst, arith}
+use Rattle.std.proofs.Common.{◌≡◌, ℕ, zero, suc, ◌+◌, ◌<◌, ◌≤◌, List, [], ◌∷◌, ◌++◌, length, map, drop, get_or, append_assoc, append-nil, refl, sym, ap, ◌∙◌, subst, arith}
 use Rattle.std.specs.Prelude.{Some, slice_get}
 use Rattle.std.specs.List.{AllByRecursion}
 use Rattle.hall_rule.specs.Law.{none_some, inside}
@@ -44,3 +44,15 @@ pub map-get : {A B : Type 0} (f : A → B) (xs : List A) (i : ℕ) (a : A) → s
 map-get {A} {B} f [] i a e = absurd (none_some a e)
 map-get {A} {B} f (x ∷ xs) zero a e = ap (λ (y : A). Some (f y)) (inside x a e)
 map-get f (x ∷ xs) (suc i) a e = map-get f xs i a e
+
+-- ---- one of a list is moved to the end of another
+module _ {A B : Type 0} (f : A → B) where
+  pub moved_start : (xs : List A) (front : List B) → front ≡ [] → front ++ map f xs ≡ map f xs
+  moved_start xs front e = ap (λ (l : List B). l ++ map f xs) e
+
+  pub moved_next : (xs ys : List A) (a : A) (front later all : List B) → 0 < length xs → a ≡ get_or xs 0 a → ys ≡ drop 1 xs → later ≡ front ++ f a ∷ [] → front ++ map f xs ≡ all → later ++ map f ys ≡ all
+  moved_next xs ys a front later all h e rest is m = (λ i. is i ++ map f (rest i)) ∙ moved_on f xs a front all h e m
+
+  pub moved_all : (xs : List A) (front all : List B) → length xs ≤ 0 → front ++ map f xs ≡ all → front ≡ all
+  moved_all [] front all h m = sym (append-nil front) ∙ m
+  moved_all (x ∷ xs) front all h m = absurd (omega (arith, h))
