@@ -35,6 +35,9 @@ use Rattle.session_hall.proofs.Giving.{is_told}
 use Rattle.session_hall.proofs.Moving.{first_of, get_in, length-map, map-get, map-read}
 
 -- ---- the callers' seats
+pub same_seats : {S : Type 0} (xs ys : List (Caller S)) → xs ≡ ys → map (λ (c : Caller S). c.seat) xs ≡ map (λ (c : Caller S). c.seat) ys
+same_seats xs ys e = ap (map (λ c. c.seat)) e
+
 module _ {S : Type 0} (meaning : S → Meaning) (h : Hall S) (i : ℕ) (c : Caller S) (l : Leaves meaning h i c) where
   stands_out : Stands (meaning (script_of h)) (turn_count h.board) Out c.foresight.symbols (book_of c) c.seat c.hands.pairs
   stands_out = let P : Stage → Type 0 = λ s. Stands (meaning (script_of h)) (turn_count h.board) s c.foresight.symbols (book_of c) c.seat c.hands.pairs in subst P l.out l.caller.stands
@@ -93,10 +96,14 @@ module _ {S : Type 0} (meaning : S → Meaning) (h : Hall S) (callers : List (Ca
         record {
           script_kept = first_caller.script_kept;
           long = turns_are;
+          few = omega (arith, turns, first_caller.few_turns);
           ended = subst P (length-map content_of values) (all_ended meaning (script_of h) (map content_of values) notes first_caller.script_kept tied (omega (arith, notes_many, some_seats)) notes_out);
         }
 
 -- ---- the book, and the shards behind it
+pub split_values : {S : Type 0} (meaning : S → Meaning) (h : Hall S) (values rest : List (Held S)) (v : Held S) → HasLeft meaning h values → v ≡ get_or values 0 v → rest ≡ drop 1 values → values ≡ v ∷ rest
+split_values {S} meaning h values rest v l e is = first_of values v (omega (arith, l.long)) e ∙ ap (λ (xs : List (Held S)). v ∷ xs) (sym is)
+
 some_is : {X : Type 0} (o : Option X) (x : X) → o ≡ Some x → IsSome o
 some_is o x e = ap is_some e
 

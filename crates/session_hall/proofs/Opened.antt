@@ -1,5 +1,5 @@
 -- A hall as it is opened.
-use Rattle.std.proofs.Common.{◌≡◌, ℕ, zero, suc, ◌+◌, ◌*◌, ◌-◌, ◌/◌, ◌%◌, ◌<◌, ◌≤◌, ◌⊎◌, inl, inr, List, [], ◌∷◌, ◌++◌, length, length-append, map, replicate, Option, Some, None, get_or, append_assoc, append-nil, refl, sym, ◌∙◌, ap, subst, div-lt_iff_lt-mul, arith}
+use Rattle.std.proofs.Common.{◌≡◌, ℕ, zero, suc, ◌+◌, ◌*◌, ◌-◌, ◌/◌, ◌%◌, ◌<◌, ◌≤◌, ◌⊎◌, inl, inr, List, [], ◌∷◌, ◌++◌, length, length-append, map, replicate, Option, Some, None, get_or, drop, mul-le-mul, append_assoc, append-nil, refl, sym, ◌∙◌, ap, subst, div-lt_iff_lt-mul, arith}
 use Rattle.std.specs.Prelude.{slice_get}
 use Rattle.std.proofs.lemmas.Nat.{div-mul-add}
 use Rattle.session_values.specs.declared.kind.TableKind.{TableKind}
@@ -36,7 +36,7 @@ use Rattle.session_hall.specs.Names.{script_of}
 use Rattle.session_hall.specs.Openings.{AllNew, FirstValues, IsNew, IsNewPart, NewParts, Rooms}
 use Rattle.session_hall.specs.Stages.{SeatOf, Stands}
 use Rattle.session_hall.proofs.Giving.{is_told, opens}
-use Rattle.session_hall.proofs.Moving.{get_in, length-map, map-read}
+use Rattle.session_hall.proofs.Moving.{first_at, length-map, map-read, shifted}
 
 -- ---- rooms
 pub rooms_more : (m : Meaning) (n r : ℕ) (rooms : List ℕ) → Rooms m n rooms → r ≡ room m n → Rooms m (n + 1) (rooms ++ r ∷ [])
@@ -77,6 +77,31 @@ parts_more {S} shape rooms shards n before after later p k new is = record {
     | inr h ↦ (let P : Part → Type 0 = λ y. IsNewPart shape rooms shards j y in let Q : ℕ → Type 0 = λ i. IsNewPart shape rooms shards i p in subst P h.1 (subst Q (sym (h.0 ∙ k.long)) new))
   ];
 }
+
+as_get : {A : Type 0} (xs : List A) (i : ℕ) (d : A) → i < length xs → slice_get xs i ≡ Some (get_or xs i d)
+as_get [] i d h = absurd (omega (arith, h))
+as_get (x ∷ xs) zero d h = refl
+as_get (x ∷ xs) (suc i) d h = as_get xs i d (omega (arith, h))
+
+pub part_new : (shape : List TableKind) (rooms : List ℕ) (shards j : ℕ) (p : Part) (k : TableKind) (r : ℕ) → 0 < shards → j < length shape * shards → length rooms ≡ length shape → shard_view p ≡ record { container = empty_of (get_or shape (j / shards) k); room = get_or rooms (j / shards) r } → IsNewPart shape rooms shards j p
+part_new shape rooms shards j p k r some l same is =
+    let low : j / shards < length shape = part_place j (length shape) shards some l in
+    record {
+      kind = get_or shape (j / shards) k;
+      space = get_or rooms (j / shards) r;
+      kind_is = as_get shape (j / shards) k low;
+      space_is = as_get rooms (j / shards) r (omega (arith, low, same));
+      is = is;
+    }
+
+pub values_here : {S : Type 0} (shape : List TableKind) (slice rooms : List ℕ) (shards k : ℕ) (b : BookView S) (front before after : List (Held S)) → slice ≡ rooms → before ≡ front ++ value.Register b ∷ [] → front ≡ [] → NewParts shape slice shards k before after → NewParts shape rooms shards k (value.Register b ∷ []) after
+values_here {S} shape slice rooms shards k b front before after same is none n =
+    let P : List ℕ → Type 0 = λ l. NewParts shape l shards k before after in
+    let Q : List (Held S) → Type 0 = λ l. NewParts shape rooms shards k l after in
+    subst Q (is ∙ ap (λ (l : List (Held S)). l ++ value.Register b ∷ []) none) (subst P same n)
+
+pub few_turns : (a b n : ℕ) → a ≤ 7 → b ≤ 8 → n ≡ 1 + a * b → n ≤ 57
+few_turns a b n h k e = let p : a * b ≤ 7 * 8 = mul-le-mul h k in omega (arith, p, e)
 
 -- ---- the values of the turns
 start_at : (shape : List TableKind) (i : ℕ) (k : TableKind) → slice_get shape i ≡ Some k → table (start shape) i ≡ empty_of k
@@ -138,6 +163,13 @@ module _ {S : Type 0} (meaning : S → Meaning) (script : S) (shards callers : �
       one_more a = omega arith
 
 -- ---- callers
+module _ {A : Type 0} (all left : List A) (n : ℕ) (left_are : (i : ℕ) (a : A) → slice_get left i ≡ Some a → slice_get all (n + i) ≡ Some a) where
+  pub here_left : (a : A) → 0 < length left → a ≡ get_or left 0 a → slice_get all n ≡ Some a
+  here_left a some e = let z : n + 0 ≡ n = omega arith in let P : ℕ → Type 0 = λ k. slice_get all k ≡ Some a in subst P z (left_are 0 a (first_at left a some e))
+
+  pub next_left : (rest : List A) → rest ≡ drop 1 left → (i : ℕ) (a : A) → slice_get rest i ≡ Some a → slice_get all (n + 1 + i) ≡ Some a
+  next_left rest is i a e = let z : n + suc i ≡ n + 1 + i = omega arith in let P : ℕ → Type 0 = λ k. slice_get all k ≡ Some a in subst P z (left_are (suc i) a (shifted left i a (ap (λ (l : List A). slice_get l i) (sym is) ∙ e)))
+
 pub new_more : {S : Type 0} (seats : List (SeatOf S)) (n : ℕ) (callers later : List (Caller S)) (c : Caller S) (s : SeatOf S) → AllNew seats n callers → slice_get seats n ≡ Some s → IsNew s n c → later ≡ callers ++ c ∷ [] → AllNew seats (n + 1) later
 new_more {S} seats n callers later c s k at new is = record {
   long = ap length is ∙ length-append callers (c ∷ []) ∙ (let l : length callers ≡ n = k.long in omega (arith, l));
@@ -184,3 +216,11 @@ opened_caller {S} meaning h i c s b n kept tables some few turns few_turns =
       number_is = n.number_is;
       idle = n.idle;
     }
+
+-- the same with the script as it was given
+pub opened_here : {S : Type 0} (meaning : S → Meaning) (h : Hall S) (script : S) → script_of h ≡ script → (i : ℕ) (c : Caller S) (s : SeatOf S) → Begins h.board h.sizes.callers (first_content meaning script h.sizes.callers) i s → IsNew s i c → IsScript (meaning script) → length (meaning script).shape ≡ h.sizes.tables → 0 < h.sizes.shards → h.sizes.shards ≤ 8 → turn_count h.board ≡ 1 + h.sizes.tables * h.sizes.shards → turn_count h.board ≤ 57 → Opens meaning h i c
+opened_here {S} meaning h script same i c s b n kept tables some few turns few_turns =
+    let P : S → Type 0 = λ z. Begins h.board h.sizes.callers (first_content meaning z h.sizes.callers) i s in
+    let Q : S → Type 0 = λ z. IsScript (meaning z) in
+    let R : S → Type 0 = λ z. length (meaning z).shape ≡ h.sizes.tables in
+    opened_caller meaning h i c s (subst P (sym same) b) n (subst Q (sym same) kept) (subst R (sym same) tables) some few turns few_turns

@@ -66,4 +66,5 @@ IsTable (Register b) = ⊥
 pub record HasLeft {S : Type 0} (meaning : S → Meaning) (h : Hall S) (values : List (Held S)) : Type 0 where
   pub script_kept : IsScript (meaning (script_of h))
   pub long : length values ≡ 1 + length (meaning (script_of h)).shape * h.sizes.shards
+  pub few : length values ≤ 57
   pub ended : AllEnded (meaning (script_of h)) (script_of h) (map content_of values) (length values)
