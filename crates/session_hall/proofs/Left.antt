@@ -203,6 +203,9 @@ map-end f [] a = refl
 map-end {A} {B} f (x ∷ xs) a = ap (λ (l : List B). f x ∷ l) (map-end f xs a)
 
 module _ {S : Type 0} where
+  pub parts_long : (parts : List Part) (rest : List (Held S)) → map value.Table parts ≡ rest → length parts ≡ length rest
+  parts_long parts rest e = sym (length-map {B = Held S} value.Table parts) ∙ ap length e
+
   pub parts_next : (xs ys : List (Held S)) (a : Held S) (p : Part) (parts later : List Part) (all : List (Held S)) → 0 < length xs → a ≡ get_or xs 0 a → ys ≡ drop 1 xs → a ≡ value.Table p → later ≡ parts ++ p ∷ [] → map value.Table parts ++ xs ≡ all → map value.Table later ++ ys ≡ all
   parts_next xs ys a p parts later all h e rest at is m =
       (λ i. map value.Table (is i) ++ rest i)

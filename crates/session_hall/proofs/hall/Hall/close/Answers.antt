@@ -1,8 +1,7 @@
 use Rattle.std.proofs.Common.{◌≡◌, ℕ, ◌<◌, ◌∷◌, ◌∙◌, length, map, ap, arith}
 use Rattle.hall_rule.specs.declared.held.Held.TheVariants.{Table}
 use Rattle.session_hall.specs.Names.{script_of}
-use Rattle.session_hall.proofs.Left.{all_tables, ended_here, is_done, split_values}
-use Rattle.session_hall.proofs.Moving.{length-map}
+use Rattle.session_hall.proofs.Left.{all_tables, ended_here, is_done, parts_long, split_values}
 use Rattle.session_hall.proofs.hall.Hall.close.Goals as goal
 
 pub close-requires-clause-ended : goal.close-requires-clause-ended
@@ -20,10 +19,9 @@ pub from_vec-parts-requires : goal.from_vec-parts-requires
 from_vec-parts-requires g c =
     let few = c.values_of-values.ensures.values.few in
     let all = ap length (split_values g.S.Script.meaning c.args.self c.values_of-values.result.0.items c.remove.new.self.items c.remove.result c.values_of-values.ensures.values c.remove.ensures.value c.remove.ensures.items) in
-    let moved = ap length c.parts_of.ensures in
-    let same = length-map Table c.parts_of.result.items in
+    let moved = parts_long c.parts_of.result.items c.remove.new.self.items c.parts_of.ensures in
     let long = c.parts_of.result.ok in
-    omega (arith, few, all, moved, same, long)
+    omega (arith, few, all, moved, long)
 
 pub invariant_of-result : goal.invariant_of-result
 invariant_of-result g c = (g.S.Script.meaning (script_of c.args.self),
