@@ -1,5 +1,5 @@
 -- What an operation that is done changes of the shares.
-use Rattle.std.proofs.Common.{◌≡◌, ◌≢◌, ℕ, zero, suc, ◌/◌, ◌%◌, ◌<◌, ◌≤◌, List, [], ◌∷◌, ◌++◌, length, Option, Some, None, Bool, true, false, cond, eqb, refl, sym, ◌∙◌, ap, subst, append-nil, arith}
+use Rattle.std.proofs.Common.{◌≡◌, ◌≢◌, ℕ, zero, suc, ◌/◌, ◌%◌, ◌<◌, List, [], ◌∷◌, ◌++◌, length, Some, Bool, true, false, eqb, refl, sym, ◌∙◌, ap, subst, append-nil, arith}
 use Rattle.std.specs.Prelude.{slice_get}
 use Rattle.std.specs.FinMap as map
 use Rattle.std.specs.FinSet as set
@@ -17,7 +17,7 @@ use Rattle.session_values.specs.Tables.{Container, Bindings, Members, Tables, em
 use Rattle.session_values.specs.Values.{value_cmp}
 use Rattle.session_journal.specs.declared.event.Event.{Event}
 use Rattle.session_journal.specs.declared.event.Event.TheVariants.{Done}
-use Rattle.session_journal.specs.Journal.{Deed, deeds, in_order, run, after}
+use Rattle.session_journal.specs.Journal.{Deed, deeds, in_order, run}
 use Rattle.session_journal.specs.Script.{Meaning}
 use Rattle.session_journal.proofs.Replay.{run-append}
 use Rattle.shard_tables.specs.Parts.{part, shard_of}

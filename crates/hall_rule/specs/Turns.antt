@@ -1,5 +1,5 @@
 -- Which turns an operation takes, and when it was done on their shards.
-use Rattle.std.specs.Prelude.{◌≡◌, ℕ, zero, suc, ◌+◌, ◌*◌, ◌-◌, ◌/◌, ◌%◌, ◌^◌, ◌<◌, ◌==◌, cond, List, Option, Some, None}
+use Rattle.std.specs.Prelude.{◌≡◌, ℕ, suc, ◌+◌, ◌*◌, ◌-◌, ◌/◌, ◌%◌, ◌^◌, ◌<◌, ◌==◌, cond, List, Option, Some, None}
 use Rattle.session_values.specs.declared.op.Op.{Op}
 use Rattle.session_values.specs.declared.value.Value.{Value}
 use Rattle.session_values.specs.Kinds.{arguments}
@@ -7,7 +7,7 @@ use Rattle.session_values.specs.Tables.{Container, after_on, reply}
 use Rattle.session_journal.specs.declared.event.Event.{Event}
 use Rattle.session_journal.specs.Script.{Meaning}
 use Rattle.shard_tables.specs.Parts.{shard_of}
-use Rattle.hall_rule.specs.Contents.{Content, Register, Shard, shards_in, share, tables_after}
+use Rattle.hall_rule.specs.Contents.{Content, Shard, shards_in, share, tables_after}
 
 -- the operation takes turn j + 1: one of its table, and with a key the one of its key
 pub record IsTurnOf (shards : ℕ) (op : Op) (j : ℕ) : Type 0 where

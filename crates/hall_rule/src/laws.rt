@@ -12,7 +12,7 @@ pub fn opening<S>()
         → ((j : ℕ) (x : Content S) → slice_get shards j ≡ Some x
         → IsFresh (meaning script) (suc (length shards)) j x)
         → Tied meaning (first_content meaning script callers ∷ shards)
-            (replicate callers (first_content meaning script callers)) }
+        (replicate callers (first_content meaning script callers)) }
 {}
 
 /// Where the rule holds and every caller is out, all tickets have ended, and the shards are the

@@ -1,45 +1,30 @@
 -- A caller that serves no ticket begins one.
-use Rattle.std.proofs.Common.{◌≡◌, ◌≢◌, ℕ, zero, suc, ◌+◌, ◌<◌, ◌≤◌, List, [], ◌∷◌, ◌++◌, length, Option, Some, None, Bool, true, false, cond, eqb, refl, sym, ◌∙◌, ap, subst, append-nil, arith}
+use Rattle.std.proofs.Common.{◌≡◌, ◌≢◌, ℕ, ◌<◌, ◌≤◌, List, [], ◌∷◌, length, Option, Some, None, Bool, false, cond, eqb, refl, sym, ◌∙◌, ap, subst, append-nil, arith}
 use Rattle.std.specs.List.{AllByRecursion}
 use Rattle.std.proofs.lemmas.Bool.Decides.{nat_tests}
-use Rattle.session_values.specs.declared.op.Op.{Op}
-use Rattle.session_values.specs.declared.reply.Reply.{Reply}
-use Rattle.session_values.specs.Dialogue.{Calls, Answers, Entry, rest, replies}
 use Rattle.symbolic_ops.specs.declared.symbol.Symbol.{Symbol}
 use Rattle.symbolic_ops.specs.Foresight.{ForesightView}
-use Rattle.symbolic_ops.specs.Symbols.{Covered, Matches}
-use Rattle.session_journal.specs.declared.event.Event.{Event}
-use Rattle.session_journal.specs.declared.event.Event.TheVariants.{Begin, Delay, End}
-use Rattle.session_journal.specs.Journal.{Deed, deeds, of_ticket, entries, owner, begun, ended, caller_of, ticket_of}
+use Rattle.session_journal.specs.declared.event.Event.TheVariants.{Begin}
+use Rattle.session_journal.specs.Journal.{Deed, deeds, of_ticket, entries, begun}
 use Rattle.session_journal.specs.Script.{Meaning, IsForesight}
-use Rattle.admission_book.specs.Book.{Book, Serving, Holds, IsFree, IsBlocker, record_of, with_record, with_event, after_begin, after_narrow, after_admit, after_delay, after_end}
+use Rattle.admission_book.specs.Book.{Book, Serving, record_of, after_begin}
 use Rattle.admission_book.specs.Lawful.{Lawful}
-use Rattle.admission_book.specs.EventsInTurn.{IsOpen, now, is_delayed}
 use Rattle.admission_book.specs.Books as books
 use Rattle.admission_book.specs.Books.{BookView, IsOldestOpen}
-use Rattle.admission_book.specs.declared.admission.Admission.{Admission}
-use Rattle.admission_book.specs.declared.admission.Admission.TheVariants as admission
-use Rattle.admission_book.proofs.Events.{OnlyBegun, only_begun, owner_new, first_stays, deeds_stay, begun_stays, ended_new}
-use Rattle.admission_book.proofs.Records.{within}
-use Rattle.turn_board.specs.Boards.{IsSeatOf, SameVoice, BookedAll, turn_count, held, caller, crew}
-use Rattle.turn_board.specs.Hands.{put_back}
+use Rattle.admission_book.proofs.Events.{OnlyBegun, only_begun, owner_new, deeds_stay}
+use Rattle.turn_board.specs.Boards.{IsSeatOf, SameVoice, BookedAll, turn_count, caller}
 use Rattle.hall_rule.specs.declared.held.Held.{Held}
-use Rattle.hall_rule.specs.declared.held.Held.TheVariants as value
 use Rattle.hall_rule.specs.Contents.{Register}
-use Rattle.hall_rule.specs.Shards.{content_of}
-use Rattle.hall_rule.specs.Tie.{Moves}
-use Rattle.hall_rule.specs.Law.{inside}
-use Rattle.hall_rule.proofs.Entries.{entries_since}
 use Rattle.session_hall.specs.declared.caller.Caller.{Caller}
 use Rattle.session_hall.specs.declared.hall.Hall.{Hall}
 use Rattle.session_hall.specs.declared.stage.Stage.{Stage}
 use Rattle.session_hall.specs.declared.stage.Stage.TheVariants.{Idle, Serving as Serves, InFlight, Applied, Out}
-use Rattle.session_hall.specs.Callers.{IsCallerOf, book_of, entries_of}
-use Rattle.session_hall.specs.Calls.{ByNote, MayDeclare, MayCall, MayAnswer, BeganTicket, FoundAllBegun, DeclaredAt, AdmittedAt, DelayedAt, EndedAt}
+use Rattle.session_hall.specs.Callers.{IsCallerOf, book_of}
+use Rattle.session_hall.specs.Calls.{BeganTicket, FoundAllBegun}
 use Rattle.session_hall.specs.Findings.{HasBook}
 use Rattle.session_hall.specs.Names.{script_of}
-use Rattle.session_hall.specs.Stages.{SeatOf, HoldsNone, Stands, IsBetween, OnServing, waiting, flying}
-use Rattle.session_hall.proofs.Giving.{Changes, one_record, same_records, at_script, near, own_set, lawful_left, quiet_moves, left_is, who, holds_none, gave_back, caller_after}
+use Rattle.session_hall.specs.Stages.{SeatOf, HoldsNone, Stands, IsBetween, waiting}
+use Rattle.session_hall.proofs.Giving.{Changes, one_record, same_records, at_script, near, own_set, left_is, who, holds_none, gave_back, caller_after}
 
 other_test : (a b : ℕ) → a ≢ b → eqb a b ≡ false
 other_test a b e = grind (arith, nat_tests)

@@ -1,5 +1,5 @@
 -- The contents of what is in the hands.
-use Rattle.std.proofs.Common.{◌≡◌, ◌≢◌, ℕ, zero, suc, ◌+◌, ◌<◌, ◌≤◌, List, [], ◌∷◌, ◌++◌, length, length-append, map, append_assoc, append-nil, Option, Some, None, Bool, cond, eqb, ℤ, pos, true, refl, sym, ◌∙◌, ap, subst, arith}
+use Rattle.std.proofs.Common.{◌≡◌, ℕ, zero, suc, ◌+◌, ◌<◌, ◌≤◌, List, [], ◌∷◌, ◌++◌, length, length-append, map, append_assoc, append-nil, Option, Some, None, Bool, cond, eqb, ℤ, pos, refl, sym, ◌∙◌, ap, subst, arith}
 use Rattle.std.specs.List.{AllByRecursion}
 use Rattle.session_values.specs.declared.kind.Kind.{Kind}
 use Rattle.session_values.specs.declared.kind.Kind.TheVariants.{Get, Put, Swap, Del, Size, Has, Add, Mark, Drop, Count}
@@ -9,7 +9,7 @@ use Rattle.session_values.specs.declared.op.Op.{Op}
 use Rattle.session_values.specs.declared.value.Value.{Value}
 use Rattle.session_values.specs.declared.value.Value.TheVariants.{Num}
 use Rattle.session_values.specs.Kinds.{arguments}
-use Rattle.session_values.specs.Tables.{Container, Bindings, Members, after_on, kind_of, reply_on, map_reply, set_reply, size_of}
+use Rattle.session_values.specs.Tables.{Container, Bindings, Members, kind_of, reply_on, map_reply, set_reply, size_of}
 use Rattle.session_values.specs.Kinds.{home}
 use Rattle.shard_tables.specs.Parts.{sum_below}
 use Rattle.turn_board.specs.Hands.{in_hands, Once}
@@ -112,9 +112,10 @@ module _ {S : Type 0} where
   -- what holds of all that stands under a turn holds of each
   pub each_of : (P : ℕ → Content S → Type 0) (zs : List (ℕ × Content S)) → once_in zs → ((u : ℕ) (x : Content S) → find_in zs u ≡ Some x → P u x) → AllByRecursion (λ z. P z.0 z.1) zs
   each_of P [] o f = tt
-  each_of P (z ∷ zs) o f =
-      (f z.0 z.1 (ap (λ (b : Bool). cond b (Some z.1) (find_in zs z.0)) (same_test z.0 z.0 refl)),
-       each_of P zs o.2 (λ u x e. f u x (ap (λ (b : Bool). cond b (Some z.1) (find_in zs u)) (other_test z.0 u (λ h. none_some x (sym o.1 ∙ ap (find_in zs) h ∙ e))) ∙ e)))
+  each_of P (z ∷ zs) o f = (
+    f z.0 z.1 (ap (λ (b : Bool). cond b (Some z.1) (find_in zs z.0)) (same_test z.0 z.0 refl)),
+    each_of P zs o.2 (λ u x e. f u x (ap (λ (b : Bool). cond b (Some z.1) (find_in zs u)) (other_test z.0 u (λ h. none_some x (sym o.1 ∙ ap (find_in zs) h ∙ e))) ∙ e)),
+  )
 
   -- ---- the number of keys
   pub keys_within : (x : ℕ × Content S) (xs ys : List (ℕ × Content S)) → keys_in x.1 ≤ all_keys (xs ++ x ∷ ys)

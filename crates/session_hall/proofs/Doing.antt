@@ -1,7 +1,6 @@
 -- An operation is done on its shards.
-use Rattle.std.proofs.Common.{◌≡◌, ◌≢◌, ℕ, zero, suc, ◌+◌, ◌*◌, ◌-◌, ◌/◌, ◌%◌, ◌<◌, ◌≤◌, ◌⊎◌, inl, inr, List, [], ◌∷◌, ◌++◌, length, map, Option, Some, None, Bool, true, false, cond, eqb, pos, refl, sym, ◌∙◌, ap, subst, mod-lt, arith}
+use Rattle.std.proofs.Common.{◌≡◌, ◌≢◌, ℕ, suc, ◌+◌, ◌*◌, ◌-◌, ◌/◌, ◌%◌, ◌<◌, ◌≤◌, ◌⊎◌, inl, inr, List, [], ◌∷◌, ◌++◌, length, map, Option, Some, None, Bool, true, false, cond, eqb, pos, refl, sym, ◌∙◌, ap, subst, mod-lt, arith}
 use Rattle.std.specs.Int.{bit_at}
-use Rattle.std.specs.List.{AllByRecursion}
 use Rattle.std.proofs.lemmas.Bool.Decides.{nat_tests}
 use Rattle.std.proofs.lemmas.Nat.{div-mul-add, mod-mul-add}
 use Rattle.std.proofs.lemmas.Nat.Bits.{bit_at-lt, bit_at_mask_below}
@@ -11,23 +10,21 @@ use Rattle.session_values.specs.declared.value.Value.TheVariants.{Num}
 use Rattle.session_values.specs.Dialogue.{replies}
 use Rattle.session_values.specs.Kinds.{arguments}
 use Rattle.session_values.specs.Tables.{Container, Fits, Tables, after_on, kind_of, reply, reply_on, size_of, table}
-use Rattle.session_values.specs.Kinds.{home, is_adding}
+use Rattle.session_values.specs.Kinds.{home}
 use Rattle.session_values.proofs.Starts.{start_none}
-use Rattle.symbolic_ops.specs.declared.symbol.Symbol.{Symbol}
-use Rattle.symbolic_ops.specs.Foresight.{ForesightView}
 use Rattle.session_journal.specs.declared.event.Event.{Event}
 use Rattle.session_journal.specs.Script.{Meaning, room}
 use Rattle.shard_tables.specs.Parts.{part, shard_of, sum_below}
 use Rattle.shard_tables.proofs.PartSizes.{part_few, part_sizes}
-use Rattle.admission_book.specs.Book.{Book, Holds, record_of}
+use Rattle.admission_book.specs.Book.{Holds, record_of}
 use Rattle.admission_book.proofs.Keys.{keys_few, keys_fewer}
-use Rattle.turn_board.specs.Boards.{IsSeatOf, SameVoice, Tells, GainedAll, MissedAll, turn_count, held, note, caller, crew, lost}
+use Rattle.turn_board.specs.Boards.{IsSeatOf, SameVoice, Tells, GainedAll, MissedAll, turn_count, held, caller, crew, lost}
 use Rattle.turn_board.specs.Hands.{HandsView, in_hands, Once}
 use Rattle.turn_board.specs.Maps.{bits_of}
 use Rattle.turn_board.proofs.Rows.{two}
 use Rattle.hall_rule.specs.declared.held.Held.{Held}
-use Rattle.hall_rule.specs.Contents.{Content, Register, Shard, IsShard, needed, share, shards_in, shards_of, tables_after}
-use Rattle.hall_rule.specs.Law.{none_some, inside, lies_within, same_container}
+use Rattle.hall_rule.specs.Contents.{Content, Register, Shard, IsShard, share, shards_in, shards_of, tables_after}
+use Rattle.hall_rule.specs.Law.{none_some, lies_within, same_container}
 use Rattle.hall_rule.specs.Shards.{content_of}
 use Rattle.hall_rule.specs.Tie.{Tied}
 use Rattle.hall_rule.specs.Turns.{ChangedBy, IsTurnOf, WasDone, place, span, turn_set}
@@ -36,13 +33,13 @@ use Rattle.session_hall.specs.declared.caller.Caller.{Caller}
 use Rattle.session_hall.specs.declared.hall.Hall.{Hall}
 use Rattle.session_hall.specs.declared.stage.Stage.{Stage}
 use Rattle.session_hall.specs.declared.stage.Stage.TheVariants.{InFlight, Applied}
-use Rattle.session_hall.specs.Callers.{IsCallerOf, book_in, book_of, entries_of}
+use Rattle.session_hall.specs.Callers.{IsCallerOf, book_of, entries_of}
 use Rattle.session_hall.specs.Calls.{AppliedAt, IsBusyAt}
 use Rattle.session_hall.specs.Findings.{Finds}
 use Rattle.session_hall.specs.Names.{script_of}
 use Rattle.session_hall.specs.Stages.{SeatOf, HoldsNone, Stands, OnFlight, flying}
 use Rattle.session_hall.specs.Working.{CanDo, CanWork, HasWorked, WorkedFirst, WorkedTo, all_keys, contents, keys_in}
-use Rattle.session_hall.proofs.Counts.{each_of, find_in, found_once, in_find, keyless_reply, keys_sum, length-contents, once_found, once_in, sum_over, sum_same, sum_up, turns_of}
+use Rattle.session_hall.proofs.Counts.{each_of, find_in, found_once, in_find, keyless_reply, keys_sum, once_found, once_in, sum_over, sum_same, sum_up, turns_of}
 use Rattle.session_hall.proofs.Finding.{finds_book, shard_at}
 use Rattle.session_hall.proofs.Giving.{opens, caller_on}
 use Rattle.session_hall.proofs.TurnSets.{bit_inside, bits_row, few_span, in_row, length-up, lower, other_test, row_low, same_test, some_span, some_turns, turn_in, turn_out, up, up_one}
@@ -179,8 +176,8 @@ module _ {S : Type 0} (meaning : S → Meaning) (h : Hall S) (c : Caller S) (k :
       hold u =
           let P : List (ℕ × Held S) → Type 0 = λ l. in_hands (content_of {S = S}) l u ≡ held q u in
           subst P (sym only) (two (bit_at set u) (λ x. in_hands (content_of {S = S}) g.new u ≡ held q u) (bit_at-lt set u)
-              (λ z. (g.others u z).1 ∙ sym ((g.others u z).0 ∙ nothing.free u))
-              (λ z. (g.here u z).2 ∙ sym (g.here u z).1))
+          (λ z. (g.others u z).1 ∙ sym ((g.others u z).0 ∙ nothing.free u))
+          (λ z. (g.here u z).2 ∙ sym (g.here u z).1))
 
       pub found_in : (u : ℕ) → find_in (contents xs) u ≡ held q u
       found_in u = sym (in_find xs u) ∙ hold u
@@ -224,9 +221,12 @@ module _ {S : Type 0} (meaning : S → Meaning) (h : Hall S) (c : Caller S) (k :
           let whole : size_of (table (tables_after m J) (b.place_of / sh)) ≡ size_of (table (tables_after m J) op.table) = ap (λ (a : ℕ). size_of (table (tables_after m J) a)) at in
           let need : room m (b.place_of / sh) ≡ room m op.table = ap (room m) at in
           let open_none : size_of (table m.opening op.table) ≡ 0 = ap (λ (ts : Tables). size_of (table ts op.table)) (opens m k.script_kept) ∙ start_none m.shape op.table in
-          subst P (sym s.is) (kind, λ adding.
-              let less : size_of (table (tables_after m J) op.table) < size_of (table m.opening op.table) + room m op.table = keys_fewer m told.tied.book k.script_kept finds.lawful t op flight_found.is_open (flight_found.flight op refl) adding in
-              omega (arith, is_part, part_of, whole, less, need, open_none, s.enough))
+          subst P (sym s.is) (
+            kind,
+            λ adding.
+                let less : size_of (table (tables_after m J) op.table) < size_of (table m.opening op.table) + room m op.table = keys_fewer m told.tied.book k.script_kept finds.lawful t op flight_found.is_open (flight_found.flight op refl) adding in
+                omega (arith, is_part, part_of, whole, less, need, open_none, s.enough),
+          )
 
       -- the keys of the shard behind a turn after a journal
       abbrev keys_at : List Event → ℕ → ℕ
@@ -314,10 +314,10 @@ module _ {S : Type 0} (meaning : S → Meaning) (h : Hall S) (c : Caller S) (k :
         once_worked = by_key (Once (content_of {S = S}) ys)
             (λ none. let P : List (ℕ × Content S) → Type 0 = λ l. once_in l in found_once ys (subst P (sym (w.0 none).0) (once_found xs once_taken)))
             (λ keyed.
-                let o : IsKeyed = one_shard keyed in
-                let P : List (ℕ × Held S) → Type 0 = λ l. Once (content_of {S = S}) l in
-                let low : 0 < o.x.0 = omega (arith, o.turn_is) in
-                subst P (sym o.after) (low, refl, tt))
+            let o : IsKeyed = one_shard keyed in
+            let P : List (ℕ × Held S) → Type 0 = λ l. Once (content_of {S = S}) l in
+            let low : 0 < o.x.0 = omega (arith, o.turn_is) in
+            subst P (sym o.after) (low, refl, tt))
 
         each_turn : (j : ℕ) → ChangedBy op (held q (suc j)) (in_hands (content_of {S = S}) ys (suc j))
         each_turn j = by_key (ChangedBy op (held q (suc j)) (in_hands (content_of {S = S}) ys (suc j))) keyless keyed

@@ -1,5 +1,5 @@
 -- An operation that was done on its shards is entered in the book.
-use Rattle.std.proofs.Common.{◌≡◌, ◌≢◌, ℕ, zero, suc, ◌+◌, ◌<◌, ◌≤◌, List, [], ◌∷◌, ◌++◌, length, Option, Some, None, refl, sym, ◌∙◌, ap, subst, arith}
+use Rattle.std.proofs.Common.{◌≡◌, ℕ, zero, suc, ◌<◌, ◌≤◌, List, [], ◌∷◌, ◌++◌, length, Option, Some, None, refl, sym, ◌∙◌, ap, subst, arith}
 use Rattle.std.proofs.lemmas.List.{length-set, get_or-set_other}
 use Rattle.session_values.specs.declared.op.Op.{Op}
 use Rattle.session_values.specs.declared.value.Value.{Value}
@@ -8,21 +8,18 @@ use Rattle.session_values.specs.Tables.{Container, Fits, after_on, reply}
 use Rattle.session_values.specs.Kinds.{home}
 use Rattle.symbolic_ops.specs.declared.symbol.Symbol.{Symbol}
 use Rattle.symbolic_ops.specs.Foresight.{ForesightView}
-use Rattle.symbolic_ops.specs.Symbols.{Covered}
-use Rattle.session_journal.specs.declared.event.Event.{Event}
 use Rattle.session_journal.specs.declared.event.Event.TheVariants.{Done}
 use Rattle.session_journal.specs.Journal.{entries, caller_of}
 use Rattle.session_journal.specs.Script.{Meaning, IsForesight}
-use Rattle.admission_book.specs.Book.{Book, Serving, Holds, record_of, after_done}
+use Rattle.admission_book.specs.Book.{Book, Holds, record_of, after_done}
 use Rattle.admission_book.specs.Lawful.{Lawful}
 use Rattle.admission_book.specs.Books.{BookView, MayDo, DidIt}
 use Rattle.admission_book.proofs.Events.{first_stays, entries_more}
 use Rattle.turn_board.specs.Boards.{IsSeatOf, SameVoice, BookedAll, turn_count, held, caller}
 use Rattle.turn_board.specs.Hands.{in_hands, put_back}
 use Rattle.turn_board.specs.Maps.{SameTurns}
-use Rattle.hall_rule.specs.declared.held.Held.{Held}
 use Rattle.hall_rule.specs.declared.held.Held.TheVariants as value
-use Rattle.hall_rule.specs.Contents.{Content, Register, Shard, tables_after, opening_tables}
+use Rattle.hall_rule.specs.Contents.{Content, Register, Shard, tables_after}
 use Rattle.hall_rule.specs.Law.{none_some, inside, lies_within}
 use Rattle.hall_rule.specs.Shards.{content_of}
 use Rattle.hall_rule.specs.Tie.{Moves}
@@ -32,9 +29,9 @@ use Rattle.hall_rule.proofs.Shares.{share_worked, share_still}
 use Rattle.session_hall.specs.declared.caller.Caller.{Caller}
 use Rattle.session_hall.specs.declared.hall.Hall.{Hall}
 use Rattle.session_hall.specs.declared.stage.Stage.{Stage}
-use Rattle.session_hall.specs.declared.stage.Stage.TheVariants.{Idle, Serving as Serves, InFlight, Applied, Out}
+use Rattle.session_hall.specs.declared.stage.Stage.TheVariants.{Serving as Serves, Applied}
 use Rattle.session_hall.specs.Callers.{IsCallerOf, book_of, entries_of}
-use Rattle.session_hall.specs.Calls.{MayFinish, MayFinishAt, FinishedAt, FinishedFrom}
+use Rattle.session_hall.specs.Calls.{MayFinish, MayFinishAt, FinishedFrom}
 use Rattle.session_hall.specs.Findings.{HasBook}
 use Rattle.session_hall.specs.Names.{script_of}
 use Rattle.session_hall.specs.Stages.{SeatOf, Stands, waiting, flying}
@@ -139,10 +136,13 @@ module _ {S : Type 0} (meaning : S → Meaning) (h : Hall S) (c : Caller S) (k :
       own = (first_stays (caller_of t) b.book.journal (Done t op answer ∷ []) (caller c.seat) holds.owner, tt);
       held = λ j x e.
           let w : (y : Container) × (room : ℕ) × (held c.seat (suc j) ≡ Some (Shard y room)) × (x ≡ Shard (after_on y op) room) = worked_held op _ _ x (worked.each j) e in
-          let here : held q (suc j) ≡ Some (Shard w.0 w.1) = shard_held j ∙ w.2 in
-          (w.0, w.1, here,
-           w.3 ∙ ap (λ (y : Container). Shard y w.1) (ap (λ (y : Container). after_on y op) (f.shares j w.0 w.1 here)
-           ∙ sym (share_worked m (opens m k.script_kept) (turn_count h.board) b.book.journal t op answer in_table j (worked.mine j (Shard w.0 w.1) w.2))));
+          let here : held q (suc j) ≡ Some (Shard w.0 w.1) = shard_held j ∙ w.2 in (
+            w.0,
+            w.1,
+            here,
+            w.3 ∙ ap (λ (y : Container). Shard y w.1) (ap (λ (y : Container). after_on y op) (f.shares j w.0 w.1 here)
+                ∙ sym (share_worked m (opens m k.script_kept) (turn_count h.board) b.book.journal t op answer in_table j (worked.mine j (Shard w.0 w.1) w.2))),
+          );
       free = λ j e. sym (share_still m (opens m k.script_kept) (turn_count h.board) b.book.journal t op answer in_table j (worked.all j (worked_free op _ _ (worked.each j) e)));
     }
 

@@ -1,22 +1,21 @@
 -- A caller gives the book back.
-use Rattle.std.proofs.Common.{◌≡◌, ◌≢◌, ℕ, zero, suc, ◌+◌, ◌<◌, ◌≤◌, List, [], ◌∷◌, ◌++◌, length, Option, Some, None, refl, sym, ◌∙◌, ap, subst, append-nil, arith}
+use Rattle.std.proofs.Common.{◌≡◌, ◌≢◌, ℕ, ◌+◌, ◌<◌, ◌≤◌, List, [], ◌++◌, length, Option, Some, None, refl, sym, ◌∙◌, ap, subst, arith}
 use Rattle.std.specs.List.{AllByRecursion}
 use Rattle.std.proofs.lemmas.List.{length-set, get_or-set_other, get_or-set_same}
 use Rattle.session_values.specs.Tables.{start}
 use Rattle.symbolic_ops.specs.declared.symbol.Symbol.{Symbol}
 use Rattle.session_journal.specs.declared.event.Event.{Event}
-use Rattle.session_journal.specs.declared.event.Event.TheVariants.{Begin}
-use Rattle.session_journal.specs.Journal.{deeds, owner, ticket_of, begun}
+use Rattle.session_journal.specs.Journal.{deeds, owner, ticket_of}
 use Rattle.session_journal.specs.Script.{Meaning, IsScript}
 use Rattle.admission_book.specs.Book.{Book, Serving, record_of, with_record}
 use Rattle.admission_book.specs.Lawful.{Lawful}
 use Rattle.admission_book.specs.Books.{BookView}
 use Rattle.admission_book.proofs.Foreknown.{foreknown, regrouped_lawful}
-use Rattle.turn_board.specs.Boards.{IsSeatOf, SameVoice, BookedAll, turn_count, held, note, caller, crew, given, lost}
+use Rattle.turn_board.specs.Boards.{IsSeatOf, SameVoice, BookedAll, turn_count, held, note, caller}
 use Rattle.turn_board.specs.Hands.{HandsView, Once, in_hands, put_back}
 use Rattle.hall_rule.specs.declared.held.Held.{Held}
 use Rattle.hall_rule.specs.declared.held.Held.TheVariants as value
-use Rattle.hall_rule.specs.Contents.{Content, Register, Shard, share, opening_tables}
+use Rattle.hall_rule.specs.Contents.{Content, Register, share, opening_tables}
 use Rattle.hall_rule.specs.Law.{none_some}
 use Rattle.hall_rule.specs.Shards.{content_of}
 use Rattle.hall_rule.specs.Tie.{Moves}

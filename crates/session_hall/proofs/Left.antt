@@ -1,22 +1,22 @@
 -- A hall whose callers are all out.
-use Rattle.std.proofs.Common.{◌≡◌, ℕ, zero, suc, ◌+◌, ◌*◌, ◌/◌, ◌%◌, ◌<◌, ◌≤◌, List, [], ◌∷◌, ◌++◌, length, map, drop, get_or, append_assoc, append-nil, Option, Some, None, IsSome, is_some, refl, sym, ◌∙◌, ap, subst, arith}
+use Rattle.std.proofs.Common.{◌≡◌, ℕ, zero, suc, ◌+◌, ◌*◌, ◌/◌, ◌%◌, ◌<◌, ◌≤◌, List, [], ◌∷◌, ◌++◌, length, map, drop, get_or, append_assoc, append-nil, Option, Some, IsSome, is_some, refl, sym, ◌∙◌, ap, subst, arith}
 use Rattle.std.specs.Prelude.{slice_get}
 use Rattle.std.specs.List.{AllByRecursion}
 use Rattle.session_values.specs.declared.reply.Reply.{Reply}
 use Rattle.session_values.specs.Serial.{serial_replies, tables_before}
-use Rattle.session_values.specs.Tables.{Container, Tables, table}
+use Rattle.session_values.specs.Tables.{Container, table}
 use Rattle.session_journal.specs.declared.event.Event.{Event}
 use Rattle.session_journal.specs.Journal.{begun, ended, after}
-use Rattle.session_journal.specs.Script.{Meaning, IsScript, session_of}
+use Rattle.session_journal.specs.Script.{Meaning, session_of}
 use Rattle.shard_tables.specs.Parts.{part}
 use Rattle.admission_book.specs.Book.{Book, record_of}
 use Rattle.admission_book.specs.Books.{BookView}
 use Rattle.admission_book.specs.Lawful.{Lawful}
-use Rattle.turn_board.specs.Boards.{AllEnd, Ends, caller, crew, held, note, turn_count}
+use Rattle.turn_board.specs.Boards.{AllEnd, Ends, note, turn_count}
 use Rattle.hall_rule.specs.declared.held.Held.{Held}
 use Rattle.hall_rule.specs.declared.held.Held.TheVariants as value
 use Rattle.hall_rule.specs.declared.part.Part.{Part}
-use Rattle.hall_rule.specs.Contents.{Content, Register, Shard, shards_in, shards_of, tables_after}
+use Rattle.hall_rule.specs.Contents.{Content, Register, Shard, shards_in}
 use Rattle.hall_rule.specs.Halls.{AllEnded, IsOut}
 use Rattle.hall_rule.specs.Law.{none_some, inside, same_script, same_book, same_container, apart_contents}
 use Rattle.hall_rule.specs.Shards.{content_of, shard_view}
@@ -26,10 +26,10 @@ use Rattle.session_hall.specs.declared.caller.Caller.{Caller}
 use Rattle.session_hall.specs.declared.hall.Hall.{Hall}
 use Rattle.session_hall.specs.declared.stage.Stage.{Stage}
 use Rattle.session_hall.specs.declared.stage.Stage.TheVariants.{Out}
-use Rattle.session_hall.specs.Callers.{IsCallerOf, book_in, book_of}
-use Rattle.session_hall.specs.Closings.{ClosedView, HasLeft, IsDone, IsTable, Leaves}
+use Rattle.session_hall.specs.Callers.{IsCallerOf, book_of}
+use Rattle.session_hall.specs.Closings.{HasLeft, IsDone, IsTable, Leaves}
 use Rattle.session_hall.specs.Names.{script_of}
-use Rattle.session_hall.specs.Stages.{SeatOf, HoldsNone, Stands}
+use Rattle.session_hall.specs.Stages.{SeatOf, Stands}
 use Rattle.session_hall.proofs.Doing.{shards_are}
 use Rattle.session_hall.proofs.Giving.{is_told}
 use Rattle.session_hall.proofs.Moving.{first_of, get_in, length-map, map-get, map-read}

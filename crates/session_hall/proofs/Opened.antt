@@ -1,9 +1,8 @@
 -- A hall as it is opened.
-use Rattle.std.proofs.Common.{◌≡◌, ℕ, zero, suc, ◌+◌, ◌*◌, ◌-◌, ◌/◌, ◌%◌, ◌<◌, ◌≤◌, ◌⊎◌, inl, inr, List, [], ◌∷◌, ◌++◌, length, length-append, map, replicate, Option, Some, None, get_or, drop, mul-le-mul, append_assoc, append-nil, refl, sym, ◌∙◌, ap, subst, div-lt_iff_lt-mul, arith}
+use Rattle.std.proofs.Common.{◌≡◌, ℕ, zero, suc, ◌+◌, ◌*◌, ◌-◌, ◌/◌, ◌%◌, ◌<◌, ◌≤◌, inl, inr, List, [], ◌∷◌, ◌++◌, length, length-append, map, replicate, Option, Some, None, get_or, drop, mul-le-mul, append_assoc, append-nil, refl, sym, ◌∙◌, ap, subst, div-lt_iff_lt-mul, arith}
 use Rattle.std.specs.Prelude.{slice_get}
 use Rattle.std.proofs.lemmas.Nat.{div-mul-add}
 use Rattle.session_values.specs.declared.kind.TableKind.{TableKind}
-use Rattle.session_values.specs.declared.kind.TableKind.TheVariants.{Map}
 use Rattle.session_values.specs.Tables.{Container, Tables, empty_of, start, table, size_of}
 use Rattle.session_journal.specs.Script.{Meaning, IsScript, room}
 use Rattle.shard_tables.specs.Parts.{part}
@@ -13,13 +12,13 @@ use Rattle.admission_book.specs.Book.{Book, Serving, opened, record_of}
 use Rattle.admission_book.specs.Books.{BookView}
 use Rattle.admission_book.specs.Lawful.{Lawful}
 use Rattle.admission_book.proofs.Foreknown.{opened_lawful}
-use Rattle.turn_board.specs.Boards.{Begins, IsSeatOf, caller, crew, note, turn_count}
+use Rattle.turn_board.specs.Boards.{Begins, caller, turn_count}
 use Rattle.turn_board.specs.Hands.{Once}
 use Rattle.turn_board.proofs.Rows.{get-snoc}
 use Rattle.hall_rule.specs.declared.held.Held.{Held}
 use Rattle.hall_rule.specs.declared.held.Held.TheVariants as value
 use Rattle.hall_rule.specs.declared.part.Part.{Part}
-use Rattle.hall_rule.specs.Contents.{Content, Register, Shard, needed, shards_in, shards_of, share}
+use Rattle.hall_rule.specs.Contents.{Content, Register, Shard, shards_in, shards_of, share}
 use Rattle.hall_rule.specs.Halls.{IsFresh, first_content}
 use Rattle.hall_rule.specs.Law.{none_some, inside, lies_within}
 use Rattle.hall_rule.specs.Shards.{content_of, shard_view}
@@ -29,8 +28,7 @@ use Rattle.session_values.proofs.Starts.{start_none}
 use Rattle.session_hall.specs.declared.caller.Caller.{Caller}
 use Rattle.session_hall.specs.declared.hall.Hall.{Hall}
 use Rattle.session_hall.specs.declared.stage.Stage.{Stage}
-use Rattle.session_hall.specs.declared.stage.Stage.TheVariants.{Idle}
-use Rattle.session_hall.specs.Callers.{IsCallerOf, IsTold, book_in, book_of}
+use Rattle.session_hall.specs.Callers.{book_in, book_of}
 use Rattle.session_hall.specs.Closings.{Opens}
 use Rattle.session_hall.specs.Names.{script_of}
 use Rattle.session_hall.specs.Openings.{AllNew, FirstValues, IsNew, IsNewPart, NewParts, Rooms}

@@ -1,29 +1,23 @@
 -- A caller whose operation was delayed tries again.
-use Rattle.std.proofs.Common.{◌≡◌, ℕ, ◌+◌, ◌≤◌, List, [], ◌∷◌, ◌++◌, Option, Some, None, Bool, true, false, cond, refl, sym, ◌∙◌, ap, subst, append_assoc, append-nil, arith}
+use Rattle.std.proofs.Common.{◌≡◌, ℕ, List, [], ◌∷◌, ◌++◌, Bool, true, false, cond, refl, sym, ◌∙◌, ap, subst, append_assoc, append-nil, arith}
 use Rattle.session_values.specs.declared.op.Op.{Op}
-use Rattle.session_values.specs.declared.reply.Reply.{Reply}
-use Rattle.session_values.specs.declared.value.Value.{Value}
 use Rattle.session_values.specs.Dialogue.{Calls, Entry, replies}
 use Rattle.symbolic_ops.specs.declared.symbol.Symbol.{Symbol}
 use Rattle.symbolic_ops.specs.Foresight.{ForesightView}
 use Rattle.symbolic_ops.specs.Symbols.{Matches}
 use Rattle.session_journal.specs.declared.event.Event.{Event}
 use Rattle.session_journal.specs.declared.event.Event.TheVariants.{Delay}
-use Rattle.session_journal.specs.Journal.{entries}
 use Rattle.session_journal.specs.Script.{Meaning}
 use Rattle.admission_book.specs.Book.{Book, after_delay, with_event}
 use Rattle.admission_book.specs.EventsInTurn.{is_delayed}
 use Rattle.admission_book.specs.Books.{Grows}
-use Rattle.turn_board.specs.Boards.{note, given, lost}
-use Rattle.hall_rule.specs.Contents.{Content}
-use Rattle.session_hall.specs.declared.answers.Admitting.TheVariants as admitting
 use Rattle.session_hall.specs.declared.caller.Caller.{Caller}
 use Rattle.session_hall.specs.declared.stage.Stage.{Stage}
 use Rattle.session_hall.specs.declared.stage.Stage.TheVariants.{Idle, Serving as Serves, InFlight, Applied, Out}
-use Rattle.session_hall.specs.Callers.{book_in, book_of, entries_of}
-use Rattle.session_hall.specs.Calls.{ByNote, MayCall, MayDeclare, MayAnswer, MayFinish, MayFinishAt, IsBusy, IsBusyAt, GaveBack, AdmittedAt, AppliedAt, DeclaredAt, DelayedAt, EndedAt, FinishedAt, FinishedFrom}
-use Rattle.session_hall.specs.Stages.{IsInFlight, OnFlight, OnServing}
-use Rattle.session_hall.specs.Waits.{OnlyLost, OnlyDelayed, DeclaredAfter, AdmittedAfter, AppliedAfter, FinishedAfter, FinishedAfterFrom, EndedAfter}
+use Rattle.session_hall.specs.Callers.{book_of}
+use Rattle.session_hall.specs.Calls.{ByNote, MayCall, DelayedAt}
+use Rattle.session_hall.specs.Stages.{OnServing}
+use Rattle.session_hall.specs.Waits.{OnlyDelayed}
 
 delay_grows : (b : Book) (t : ℕ) (op : Op) (older : ℕ) (y : Symbol) → Grows b.journal (after_delay b t op older y).journal
 delay_grows b t op older y = go (is_delayed b.journal t)

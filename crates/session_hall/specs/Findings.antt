@@ -6,7 +6,7 @@ use Rattle.admission_book.specs.Book.{Book}
 use Rattle.admission_book.specs.Lawful.{Lawful}
 use Rattle.admission_book.specs.Books.{BookView}
 use Rattle.turn_board.specs.Boards.{held, note, caller, crew, given, lost, asks, givings, last_change}
-use Rattle.hall_rule.specs.Contents.{Content, Register, Shard, IsSince, share}
+use Rattle.hall_rule.specs.Contents.{Register, Shard, IsSince, share}
 use Rattle.session_hall.specs.Callers.{book_in}
 use Rattle.session_hall.specs.Stages.{SeatOf}
 

@@ -6,7 +6,6 @@ use Rattle.session_journal.specs.Script.{Meaning, IsScript, room}
 use Rattle.hall_rule.specs.declared.held.Held.{Held}
 use Rattle.hall_rule.specs.declared.held.Held.TheVariants.{Table}
 use Rattle.hall_rule.specs.declared.part.Part.{Part}
-use Rattle.hall_rule.specs.Contents.{Content}
 use Rattle.hall_rule.specs.Halls.{first_content}
 use Rattle.hall_rule.specs.Shards.{content_of, shard_view}
 use Rattle.hall_rule.specs.Tie.{Tied}

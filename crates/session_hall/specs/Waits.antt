@@ -1,5 +1,5 @@
 -- What the waiting calls leave: what the last try leaves, from a caller that differs from the first one by tries in vain.
-use Rattle.std.specs.Prelude.{◌≡◌, ℕ, ◌+◌, ◌≤◌, List, [], ◌∷◌, ◌++◌, Option, Some, None}
+use Rattle.std.specs.Prelude.{◌≡◌, ℕ, ◌≤◌, List, [], ◌∷◌, ◌++◌, Option, Some, None}
 use Rattle.session_values.specs.declared.op.Op.{Op}
 use Rattle.session_values.specs.declared.reply.Reply.{Reply}
 use Rattle.session_values.specs.declared.value.Value.{Value}
@@ -7,10 +7,9 @@ use Rattle.symbolic_ops.specs.declared.symbol.Symbol.{Symbol}
 use Rattle.session_journal.specs.Script.{Meaning}
 use Rattle.admission_book.specs.Books.{Grows}
 use Rattle.turn_board.specs.Boards.{note, given, lost, last_change}
-use Rattle.session_hall.specs.declared.answers.Applying.TheVariants as applying
 use Rattle.session_hall.specs.declared.caller.Caller.{Caller}
 use Rattle.session_hall.specs.declared.stage.Stage.{Stage}
-use Rattle.session_hall.specs.declared.stage.Stage.TheVariants.{Serving as Serves, Applied}
+use Rattle.session_hall.specs.declared.stage.Stage.TheVariants.{Applied}
 use Rattle.session_hall.specs.Callers.{book_of, entries_of}
 use Rattle.session_hall.specs.Calls.{BeganTicket, FoundAllBegun, DeclaredAt, AdmittedAt, AppliedAt, FinishedAt, EndedAt}
 use Rattle.session_hall.specs.Stages.{OnServing, OnFlight}

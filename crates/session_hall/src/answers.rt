@@ -9,9 +9,7 @@ pub enum Began {
     Ticket(u32),
     /// All tickets are begun.
     AllBegun,
-    Busy {
-        turn: u32,
-    },
+    Busy { turn: u32 },
 }
 
 /// Whether a list became the ticket's foresight.

@@ -27,11 +27,19 @@ impl Model for Closed {
 
     ghost Value = { ClosedView };
 
-    ghost view = { λ c. record { journal = c.journal.events; replies = c.replies;
-        parts = c.parts; shards = c.shards } };
+    ghost view = { λ c. record {
+      journal = c.journal.events;
+      replies = c.replies;
+      parts = c.parts;
+      shards = c.shards;
+    } };
 
-    ghost invariant = { λ c. IsClosed (record { journal = c.journal.events; replies = c.replies;
-        parts = c.parts; shards = c.shards }) };
+    ghost invariant = { λ c. IsClosed (record {
+      journal = c.journal.events;
+      replies = c.replies;
+      parts = c.parts;
+      shards = c.shards;
+    }) };
 }
 
 impl Closed {

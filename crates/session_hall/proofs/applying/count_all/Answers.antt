@@ -1,4 +1,4 @@
-use Rattle.std.proofs.Common.{◌≡◌, ℕ, ◌+◌, ◌<◌, ◌≤◌, length, ◌∙◌, arith}
+use Rattle.std.proofs.Common.{◌+◌, ◌∙◌, arith}
 use Rattle.session_hall.proofs.Counts.{count_can, count_next, count_few, counted_length}
 use Rattle.session_hall.proofs.applying.count_all.Goals as goal
 
@@ -15,4 +15,5 @@ pub loop-done-preserved : goal.loop-done-preserved
 loop-done-preserved g c = record {
   so_far = count_next c.args.op c.args.hands.now.pairs c.loop-done.hands.pairs c.count_first-count.new.hands.pairs c.loop-done.done c.loop-done.count c.count_first-count.result c.loop-done.invariant.so_far (omega (arith, c.loop-done-test.true, c.len-done-end.ensures)) c.count_first-count.ensures.counted;
   as_many = counted_length c.loop-done.hands.pairs c.count_first-count.new.hands.pairs c.count_first-count.result c.count_first-count.ensures.counted ∙ c.loop-done.invariant.as_many;
-  room = c.count_first-count.ensures.room ∙ c.loop-done.invariant.room }
+  room = c.count_first-count.ensures.room ∙ c.loop-done.invariant.room;
+}

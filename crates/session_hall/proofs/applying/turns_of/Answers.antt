@@ -1,4 +1,4 @@
-use Rattle.std.proofs.Common.{◌≡◌, ℕ, ◌+◌, ◌*◌, ◌%◌, ◌^◌, ◌<◌, ◌≤◌, sym, subst, pow_mono, arith}
+use Rattle.std.proofs.Common.{ℕ, ◌+◌, ◌*◌, ◌%◌, ◌^◌, ◌<◌, ◌≤◌, sym, subst, pow_mono, arith}
 use Rattle.std.proofs.lemmas.Nat.{one_shl}
 use Rattle.hall_rule.specs.Turns.{place, span}
 use Rattle.session_hall.proofs.applying.turns_of.Goals as goal

@@ -1,4 +1,4 @@
-use Rattle.std.proofs.Common.{◌≡◌, ℕ, ◌+◌, ◌<◌, ◌≤◌, ◌∷◌, [], length, length-append, ap, ◌∙◌, arith}
+use Rattle.std.proofs.Common.{◌<◌, ◌∷◌, [], length, length-append, ap, ◌∙◌, arith}
 use Rattle.session_hall.proofs.Left.{parts_next, tables_next, no_book}
 use Rattle.session_hall.proofs.closing.parts_of.Goals as goal
 
@@ -25,4 +25,5 @@ loop-done-preserved g c =
       tables = tables_next c.loop-done.left.items _ r.items inv.tables;
       many = omega arith;
       count = ap length c.push_reserved.ensures.items ∙ length-append c.loop-done.parts.items (c.in-Table.part ∷ []) ∙ (omega arith);
-      room = omega (arith, inv.room, c.push_reserved.ensures.capacity) }
+      room = omega (arith, inv.room, c.push_reserved.ensures.capacity);
+    }

@@ -10,4 +10,5 @@ invariant-loop-done g l = record {
   tables : AllByRecursion IsTable l.left.items;
   many : l.done + vec_len l.left ≡ vec_len l.fn.values;
   count : length l.parts.items ≡ l.done;
-  room : vec_len l.fn.values ≤ vec_capacity l.parts }
+  room : vec_len l.fn.values ≤ vec_capacity l.parts;
+}

@@ -1,4 +1,4 @@
-use Rattle.std.proofs.Common.{◌≡◌, ℕ, ◌+◌, ◌<◌, ◌≤◌, ◌∷◌, [], length, length-append, ap, ◌∙◌, arith}
+use Rattle.std.proofs.Common.{◌<◌, ◌∷◌, [], length, length-append, ap, ◌∙◌, arith}
 use Rattle.session_hall.proofs.Moving.{moved_next}
 use Rattle.session_hall.proofs.closing.seats_of.Goals as goal
 
@@ -16,4 +16,5 @@ loop-done-preserved g c =
       moved = moved_next _ c.loop-done.left.items _ one c.loop-done.seats.items _ _ some-left r.value r.items c.push_reserved.ensures.items inv.moved;
       many = omega arith;
       count = ap length c.push_reserved.ensures.items ∙ length-append c.loop-done.seats.items (one.seat ∷ []) ∙ (omega arith);
-      room = omega (arith, inv.room, c.push_reserved.ensures.capacity) }
+      room = omega (arith, inv.room, c.push_reserved.ensures.capacity);
+    }

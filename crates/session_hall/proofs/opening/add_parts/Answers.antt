@@ -1,4 +1,4 @@
-use Rattle.std.proofs.Common.{◌≡◌, ℕ, ◌+◌, ◌≤◌, arith}
+use Rattle.std.proofs.Common.{arith}
 use Rattle.session_hall.proofs.Opened.{parts_more, part_new}
 use Rattle.session_hall.proofs.opening.add_parts.Goals as goal
 
@@ -9,4 +9,5 @@ loop-j-preserved g c =
     record {
       parts = parts_more c.args.shape.now c.args.rooms.now c.args.shards c.loop-j.j c.args.values.now.items c.loop-j.values.items c.push_reserved.new.self.items c.in_ok-part.part inv.parts new c.push_reserved.ensures.items;
       long = omega (arith, inv.long, c.push_reserved.ensures.len);
-      room = omega (arith, inv.room, c.push_reserved.ensures.capacity) }
+      room = omega (arith, inv.room, c.push_reserved.ensures.capacity);
+    }

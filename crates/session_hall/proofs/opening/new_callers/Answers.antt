@@ -1,4 +1,4 @@
-use Rattle.std.proofs.Common.{◌≡◌, ℕ, ◌+◌, ◌<◌, ◌≤◌, length, arith}
+use Rattle.std.proofs.Common.{◌<◌, length, arith}
 use Rattle.session_hall.proofs.Opened.{new_more, here_left, next_left}
 use Rattle.session_hall.proofs.opening.new_callers.Goals as goal
 
@@ -15,4 +15,5 @@ loop-number-preserved g c =
       new = new_more c.args.seats.items c.loop-number.number c.loop-number.callers.items c.push_reserved.new.self.items c.in_ok-new_caller.field-0 c.remove.result inv.new at c.in_ok-new_caller.ensures c.push_reserved.ensures.items;
       left = next_left c.args.seats.items c.loop-number.left.items c.loop-number.number inv.left c.remove.new.self.items r.items;
       many = omega arith;
-      room = omega (arith, inv.room, c.push_reserved.ensures.capacity) }
+      room = omega (arith, inv.room, c.push_reserved.ensures.capacity);
+    }

@@ -8,4 +8,5 @@ invariant-loop-number g l = record {
   new : AllNew l.fn.seats.items l.number l.callers.items;
   left : (i : ℕ) (s : _) → slice_get l.left.items i ≡ Some s → slice_get l.fn.seats.items (l.number + i) ≡ Some s;
   many : l.number + vec_len l.left ≡ vec_len l.fn.seats;
-  room : 32 ≤ vec_capacity l.callers }
+  room : 32 ≤ vec_capacity l.callers;
+}

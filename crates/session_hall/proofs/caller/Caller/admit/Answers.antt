@@ -11,4 +11,5 @@ loop-preserved-in-Delayed g c =
       caller = c.in-Delayed.ensures.caller;
       may = delay_may m c.args.self.now c.loop.self c.try_admit.new.self c.args.op inv.since c.in-Delayed.older c.in-Delayed.symbol c.in-Delayed.ensures.admitted inv.may;
       number_still = c.in-Delayed.ensures.same ∙ inv.number_still;
-      since = delay_more m c.args.self.now c.loop.self c.try_admit.new.self c.args.op inv.since c.in-Delayed.older c.in-Delayed.symbol c.in-Delayed.ensures.admitted c.in-Delayed.ensures.same }
+      since = delay_more m c.args.self.now c.loop.self c.try_admit.new.self c.args.op inv.since c.in-Delayed.older c.in-Delayed.symbol c.in-Delayed.ensures.admitted c.in-Delayed.ensures.same;
+    }

@@ -11,4 +11,5 @@ invariant-loop g l = record {
   caller : IsCallerOf g.S.Script.meaning l.hall l.self;
   may : ByNote (g.S.Script.meaning (script_of l.hall)) l.self (MayCall l.self.foresight.symbols l.op);
   number_still : l.self.number ≡ l.fn.self.number;
-  since : OnServing l.fn.self.stage (OnlyDelayed l.fn.self l.self) }
+  since : OnServing l.fn.self.stage (OnlyDelayed l.fn.self l.self);
+}

@@ -7,4 +7,5 @@ abbrev pub invariant-loop : goal.invariant-loop
 invariant-loop g l = record {
   caller : IsCallerOf g.S.Script.meaning l.hall l.self;
   stage : IsBetween l.self.stage;
-  since : OnlyLost l.fn.self l.self }
+  since : OnlyLost l.fn.self l.self;
+}

@@ -8,4 +8,5 @@ abbrev pub invariant-loop : goal.invariant-loop
 invariant-loop g l = record {
   caller : IsCallerOf g.S.Script.meaning l.hall l.self;
   may : ByNote (g.S.Script.meaning (script_of l.hall)) l.self (MayAnswer l.reply);
-  since : OnlyLost l.fn.self l.self }
+  since : OnlyLost l.fn.self l.self;
+}

@@ -1,4 +1,4 @@
-use Rattle.std.proofs.Common.{refl, sym, ◌∙◌}
+use Rattle.std.proofs.Common.{refl}
 use Rattle.session_hall.proofs.Admits.{admit_moves, admitted_caller, admitted_at, delay_moves, delayed_caller, delayed_at, not_both}
 use Rattle.session_hall.proofs.Tickets.{may_admit}
 use Rattle.session_hall.proofs.caller.Caller.try_admit.Goals as goal

@@ -1,4 +1,4 @@
-use Rattle.std.proofs.Common.{◌≡◌, ℕ, ◌≤◌, refl, ◌∙◌, length, arith}
+use Rattle.std.proofs.Common.{refl, ◌∙◌, arith}
 use Rattle.session_hall.proofs.Doing.{few, can_ask, asks_some, ask_room, busy_at, can_work, hands_fit, applied_caller, applied_at}
 use Rattle.session_hall.proofs.Giving.{busy_on}
 use Rattle.session_hall.proofs.caller.Caller.try_apply.Goals as goal

@@ -1,8 +1,7 @@
-use Rattle.std.proofs.Common.{◌≡◌, ℕ, ◌≤◌, [], refl, sym, ap, ◌∙◌, arith}
+use Rattle.std.proofs.Common.{◌≤◌, [], refl, ap, ◌∙◌, arith}
 use Rattle.symbolic_ops.specs.Foresight.{ForesightView}
-use Rattle.session_hall.specs.Names.{script_of}
 use Rattle.session_hall.proofs.Giving.{quiet_moves}
-use Rattle.session_hall.proofs.Between.{no_pairs, nothing_changes, out_caller, found_all_begun, may_begin, book_begun, begin_changes, begun_caller, began_ticket}
+use Rattle.session_hall.proofs.Between.{no_pairs, nothing_changes, out_caller, may_begin, book_begun, begin_changes, begun_caller, began_ticket}
 use Rattle.session_hall.proofs.caller.Caller.try_begin.Goals as goal
 
 pub give_all-requires-clause-moves : goal.give_all-requires-clause-moves
