@@ -1,0 +1,3 @@
+pub mod Shares
+pub mod Entries
+pub mod Halls

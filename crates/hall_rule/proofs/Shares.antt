@@ -1,0 +1,212 @@
+-- What an operation that is done changes of the shares.
+use Rattle.std.proofs.Common.{◌≡◌, ◌≢◌, ℕ, zero, suc, ◌/◌, ◌%◌, ◌<◌, List, [], ◌∷◌, ◌++◌, length, Some, Bool, true, false, eqb, refl, sym, ◌∙◌, ap, subst, append-nil, arith}
+use Rattle.std.specs.Prelude.{slice_get}
+use Rattle.std.specs.FinMap as map
+use Rattle.std.specs.FinSet as set
+use Rattle.std.proofs.lemmas.List.{get_or-set_same, get_or-set_other, length-set}
+use Rattle.std.proofs.lemmas.Bool.Decides.{nat_tests}
+use Rattle.session_values.specs.declared.kind.Kind.{Kind}
+use Rattle.session_values.specs.declared.kind.Kind.TheVariants.{Get, Put, Swap, Del, Size, Has, Add, Mark, Drop, Count}
+use Rattle.session_values.specs.declared.kind.TableKind.{TableKind}
+use Rattle.session_values.specs.declared.kind.TableKind.TheVariants.{Map, Set}
+use Rattle.session_values.specs.declared.op.Op.{Op}
+use Rattle.session_values.specs.declared.value.Value.{Value}
+use Rattle.session_values.specs.Dialogue.{Entry}
+use Rattle.session_values.specs.Kinds.{arguments}
+use Rattle.session_values.specs.Tables.{Container, Bindings, Members, Tables, empty_of, start, table, reply, step, reply_on, after_on, map_after, set_after, kind_of}
+use Rattle.session_values.specs.Values.{value_cmp}
+use Rattle.session_journal.specs.declared.event.Event.{Event}
+use Rattle.session_journal.specs.declared.event.Event.TheVariants.{Done}
+use Rattle.session_journal.specs.Journal.{Deed, deeds, in_order, run}
+use Rattle.session_journal.specs.Script.{Meaning}
+use Rattle.session_journal.proofs.Replay.{run-append}
+use Rattle.shard_tables.specs.Parts.{part, shard_of}
+use Rattle.shard_tables.proofs.PartSteps.{part_after, part_stays, part_reply, part_kind}
+use Rattle.admission_book.proofs.Events.{deeds-append, in_order-append}
+use Rattle.hall_rule.specs.Contents.{shards_in, share, opening_tables, tables_after}
+use Rattle.hall_rule.specs.Turns.{IsTurnOf}
+use Rattle.hall_rule.specs.Law.{none_some, inside, lies_within}
+
+same_test : (a b : ℕ) → a ≡ b → eqb a b ≡ true
+same_test a b e = grind (arith, nat_tests)
+
+other_test : (a b : ℕ) → a ≢ b → eqb a b ≡ false
+other_test a b e = grind (arith, nat_tests)
+
+pub same : (a b : ℕ) → eqb a b ≡ true → a ≡ b
+same a b e = grind (arith, nat_tests)
+
+pub differs : (a b : ℕ) → eqb a b ≡ false → a ≢ b
+differs a b e = grind (arith, nat_tests)
+
+zero_one : ◌≡◌ {A = ℕ} 1 0 → ⊥
+zero_one e = omega arith
+
+zero_two : ◌≡◌ {A = ℕ} 2 0 → ⊥
+zero_two e = omega arith
+
+-- ---- an operation without a key changes nothing
+map_stays : (m : map.FinMap value_cmp Value) (k : Kind) (key value : Value) → arguments k ≡ 0 → map_after m k key value ≡ m
+map_stays m Get key value h = refl
+map_stays m Put key value h = absurd (zero_two h)
+map_stays m Swap key value h = absurd (zero_two h)
+map_stays m Del key value h = absurd (zero_one h)
+map_stays m Size key value h = refl
+map_stays m Has key value h = refl
+map_stays m Add key value h = refl
+map_stays m Mark key value h = refl
+map_stays m Drop key value h = refl
+map_stays m Count key value h = refl
+
+set_stays : (s : set.FinSet value_cmp) (k : Kind) (key : Value) → arguments k ≡ 0 → set_after s k key ≡ s
+set_stays s Get key h = refl
+set_stays s Put key h = refl
+set_stays s Swap key h = refl
+set_stays s Del key h = refl
+set_stays s Size key h = refl
+set_stays s Has key h = refl
+set_stays s Add key h = absurd (zero_one h)
+set_stays s Mark key h = absurd (zero_one h)
+set_stays s Drop key h = absurd (zero_one h)
+set_stays s Count key h = refl
+
+pub keyless_stays : (c : Container) (op : Op) → arguments op.kind ≡ 0 → after_on c op ≡ c
+keyless_stays (Bindings m) op h = ap Bindings (map_stays m op.kind op.key op.value h)
+keyless_stays (Members s) op h = ap Members (set_stays s op.kind op.key h)
+
+-- ---- the tables after the operation
+pub after-done : (m : Meaning) (J : List Event) (t : ℕ) (op : Op) (r : Value) → tables_after m (J ++ Done t op r ∷ []) ≡ step (tables_after m J) op
+after-done m J t op r =
+    ap (λ (ds : List Deed). run (opening_tables m) (in_order ds)) (deeds-append J (Done t op r ∷ []))
+    ∙ ap (run (opening_tables m)) (in_order-append (deeds J) (record { ticket = t; op = op; reply = r } ∷ []))
+    ∙ run-append (opening_tables m) (in_order (deeds J)) (record { op = op; reply = r } ∷ [])
+
+after-quiet : (m : Meaning) (J more : List Event) → deeds more ≡ [] → tables_after m (J ++ more) ≡ tables_after m J
+after-quiet m J more e = ap (λ (ds : List Deed). run (opening_tables m) (in_order ds)) (deeds-append J more ∙ ap (λ (ds : List Deed). deeds J ++ ds) e ∙ append-nil (deeds J))
+
+length-step : (ts : Tables) (op : Op) → length (step ts op) ≡ length ts
+unfolding step
+length-step ts op = length-set ts op.table (after_on (table ts op.table) op)
+
+length-run : (ts : Tables) (es : List Entry) → length (run ts es) ≡ length ts
+length-run ts [] = refl
+length-run ts (e ∷ es) = length-run (step ts e.op) es ∙ length-step ts e.op
+
+length-start : (shape : List TableKind) → length (start shape) ≡ length shape
+length-start [] = refl
+length-start (kind ∷ shape) = ap suc (length-start shape)
+
+pub length-opening : (m : Meaning) → opening_tables m ≡ start m.shape → length (opening_tables m) ≡ length m.shape
+length-opening m o = ap length o ∙ length-start m.shape
+
+pub length-after : (m : Meaning) → opening_tables m ≡ start m.shape → (J : List Event) → length (tables_after m J) ≡ length m.shape
+length-after m o J = length-run (opening_tables m) (in_order (deeds J)) ∙ length-opening m o
+
+table-step : (ts : Tables) (op : Op) → op.table < length ts → table (step ts op) op.table ≡ after_on (table ts op.table) op
+unfolding step
+table-step ts op l = get_or-set_same ts op.table (after_on (table ts op.table) op) (empty_of Map) l
+
+table-step_other : (ts : Tables) (op : Op) (i : ℕ) → i ≢ op.table → table (step ts op) i ≡ table ts i
+unfolding step
+table-step_other ts op i n = get_or-set_other ts op.table i (after_on (table ts op.table) op) (empty_of Map) n
+
+pub reply-is : (ts : Tables) (op : Op) → reply ts op ≡ reply_on (table ts op.table) op
+unfolding reply
+reply-is ts op = refl
+
+-- ---- the kind of a share is its table's
+kind_after : (c : Container) (op : Op) → kind_of (after_on c op) ≡ kind_of c
+kind_after (Bindings m) op = refl
+kind_after (Members s) op = refl
+
+kind_step : (ts : Tables) (op : Op) (i : ℕ) → i < length ts → kind_of (table (step ts op) i) ≡ kind_of (table ts i)
+kind_step ts op i l = go (eqb i op.table) refl
+  where
+    go : (b : Bool) → eqb i op.table ≡ b → kind_of (table (step ts op) i) ≡ kind_of (table ts i)
+    go true e =
+        let z : i ≡ op.table = same i op.table e in
+        ap (λ (a : ℕ). kind_of (table (step ts op) a)) z ∙ ap kind_of (table-step ts op (omega (arith, z, l))) ∙ kind_after (table ts op.table) op ∙ ap (λ (a : ℕ). kind_of (table ts a)) (sym z)
+    go false e = ap kind_of (table-step_other ts op i (differs i op.table e))
+
+kind_run : (ts : Tables) (es : List Entry) (i : ℕ) → i < length ts → kind_of (table (run ts es) i) ≡ kind_of (table ts i)
+kind_run ts [] i l = refl
+kind_run ts (e ∷ es) i l = kind_run (step ts e.op) es i (omega (arith, l, length-step ts e.op)) ∙ kind_step ts e.op i l
+
+kind_empty : (k : TableKind) → kind_of (empty_of k) ≡ k
+kind_empty Map = refl
+kind_empty Set = refl
+
+pub kind_start : (shape : List TableKind) (i : ℕ) (k : TableKind) → slice_get shape i ≡ Some k → kind_of (table (start shape) i) ≡ k
+kind_start [] i k e = absurd (none_some k e)
+kind_start (x ∷ shape) zero k e = kind_empty x ∙ inside x k e
+kind_start (x ∷ shape) (suc i) k e = kind_start shape i k e
+
+pub kind_table : (m : Meaning) → opening_tables m ≡ start m.shape → (J : List Event) (i : ℕ) (k : TableKind) → slice_get m.shape i ≡ Some k → kind_of (table (tables_after m J) i) ≡ k
+kind_table m o J i k e =
+    let l : i < length (opening_tables m) = omega (arith, lies_within m.shape i k e, length-opening m o) in
+    kind_run (opening_tables m) (in_order (deeds J)) i l ∙ ap (λ (ts : Tables). kind_of (table ts i)) o ∙ kind_start m.shape i k e
+
+pub kind_share : (m : Meaning) → opening_tables m ≡ start m.shape → (turns : ℕ) (J : List Event) (j i : ℕ) (k : TableKind) → j / shards_in m turns ≡ i → slice_get m.shape i ≡ Some k → kind_of (share m turns J j) ≡ k
+kind_share m o turns J j i k at e =
+    part_kind (shards_in m turns) (j % shards_in m turns) (table (tables_after m J) (j / shards_in m turns))
+    ∙ ap (λ (a : ℕ). kind_of (table (tables_after m J) a)) at
+    ∙ kind_table m o J i k e
+
+-- ---- the shares after the operation
+pub share_quiet : (m : Meaning) (turns : ℕ) (J more : List Event) (j : ℕ) → deeds more ≡ [] → share m turns J j ≡ share m turns (J ++ more) j
+share_quiet m turns J more j e = ap (λ (ts : Tables). part (shards_in m turns) (j % shards_in m turns) (table ts (j / shards_in m turns))) (sym (after-quiet m J more e))
+
+module _ (m : Meaning) (o : opening_tables m ≡ start m.shape) (turns : ℕ) (J : List Event) (t : ℕ) (op : Op) (r : Value) (l : op.table < length m.shape) where
+  abbrev n : ℕ
+  n = shards_in m turns
+
+  abbrev K : List Event
+  K = J ++ Done t op r ∷ []
+
+  low : op.table < length (tables_after m J)
+  low = omega (arith, l, length-after m o J)
+
+  -- where the part of the operation's table goes over into what the operation makes of it
+  at_table : (j : ℕ) (f : Container → Container) → j / n ≡ op.table → part n (j % n) (after_on (table (tables_after m J) op.table) op) ≡ f (part n (j % n) (table (tables_after m J) op.table)) → share m turns K j ≡ f (share m turns J j)
+  at_table j f at h =
+      let P : ℕ → Type 0 = λ i. part n (j % n) (table (tables_after m K) i) ≡ f (part n (j % n) (table (tables_after m J) i)) in
+      subst P (sym at) (ap (λ (ts : Tables). part n (j % n) (table ts op.table)) (after-done m J t op r) ∙ ap (part n (j % n)) (table-step (tables_after m J) op low) ∙ h)
+
+  share_elsewhere : (j : ℕ) → j / n ≢ op.table → share m turns K j ≡ share m turns J j
+  share_elsewhere j apart = ap (λ (ts : Tables). part n (j % n) (table ts (j / n))) (after-done m J t op r) ∙ ap (part n (j % n)) (table-step_other (tables_after m J) op (j / n) apart)
+
+  share_keyless : (j : ℕ) → j / n ≡ op.table → arguments op.kind ≡ 0 → share m turns K j ≡ share m turns J j
+  share_keyless j at none = at_table j (λ c. c) at (ap (part n (j % n)) (keyless_stays (table (tables_after m J) op.table) op none))
+
+  -- a turn of the operation
+  pub share_worked : (j : ℕ) → IsTurnOf n op j → share m turns K j ≡ after_on (share m turns J j) op
+  share_worked j at = go (eqb (arguments op.kind) 0) refl
+    where
+      go : (b : Bool) → eqb (arguments op.kind) 0 ≡ b → share m turns K j ≡ after_on (share m turns J j) op
+      go true e = let z : arguments op.kind ≡ 0 = same (arguments op.kind) 0 e in share_keyless j at.table z ∙ sym (keyless_stays (share m turns J j) op z)
+      go false e =
+          let z : arguments op.kind ≢ 0 = differs (arguments op.kind) 0 e in
+          at_table j (λ c. after_on c op) at.table (part_after (λ k. eqb (shard_of n k) (j % n)) (table (tables_after m J) op.table) op (same_test _ _ (at.shard (omega (arith, z)))))
+
+  -- any other turn
+  pub share_still : (j : ℕ) → (IsTurnOf n op j → ⊥) → share m turns K j ≡ share m turns J j
+  share_still j apart = by_table (eqb (j / n) op.table) refl
+    where
+      by_shard : j / n ≡ op.table → (b : Bool) → eqb (shard_of n op.key) (j % n) ≡ b → share m turns K j ≡ share m turns J j
+      by_shard at true e = absurd (apart (record { table = at; shard = λ k. same _ _ e }))
+      by_shard at false e = at_table j (λ c. c) at (part_stays (λ k. eqb (shard_of n k) (j % n)) (table (tables_after m J) op.table) op e)
+
+      by_key : j / n ≡ op.table → (b : Bool) → eqb (arguments op.kind) 0 ≡ b → share m turns K j ≡ share m turns J j
+      by_key at true e = let z : arguments op.kind ≡ 0 = same (arguments op.kind) 0 e in absurd (apart (record { table = at; shard = λ k. absurd (omega (arith, k, z)) }))
+      by_key at false e = by_shard at (eqb (shard_of n op.key) (j % n)) refl
+
+      by_table : (b : Bool) → eqb (j / n) op.table ≡ b → share m turns K j ≡ share m turns J j
+      by_table true e = by_key (same _ _ e) (eqb (arguments op.kind) 0) refl
+      by_table false e = share_elsewhere j (differs _ _ e)
+
+-- the reply of an operation with a key is the one that it has on its share
+pub share_reply : (m : Meaning) (turns : ℕ) (J : List Event) (j : ℕ) (op : Op) → IsTurnOf (shards_in m turns) op j → 0 < arguments op.kind → reply (tables_after m J) op ≡ reply_on (share m turns J j) op
+share_reply m turns J j op at keyed =
+    let n : ℕ = shards_in m turns in
+    let P : ℕ → Type 0 = λ i. reply_on (table (tables_after m J) op.table) op ≡ reply_on (part n (j % n) (table (tables_after m J) i)) op in
+    reply-is (tables_after m J) op ∙ subst P (sym at.table) (sym (part_reply (λ k. eqb (shard_of n k) (j % n)) (table (tables_after m J) op.table) op keyed (same_test _ _ (at.shard keyed))))

@@ -1,0 +1,6 @@
+pub mod Contents
+pub mod Tie
+pub mod Shards
+pub mod Turns
+pub mod Halls
+pub mod Law

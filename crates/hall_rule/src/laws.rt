@@ -1,0 +1,25 @@
+//! Laws of the rule: each is the contract of a function with an empty body.
+
+ghost use Rattle.std.specs.Prelude.{◌≡◌, ℕ, suc, ◌<◌, List, ◌∷◌, Some, length, slice_get, replicate};
+ghost use Rattle.session_journal.specs.Script.{Meaning, IsScript};
+ghost use Rattle.hall_rule.specs.Contents.{Content};
+ghost use Rattle.hall_rule.specs.Halls.{AllEnded, IsFresh, IsOut, first_content};
+ghost use Rattle.hall_rule.specs.Tie.{Tied};
+
+/// The rule holds of an opened book and of shards as they are before any ticket is begun.
+pub fn opening<S>()
+    ensures { (meaning : S → Meaning) (script : S) (callers : ℕ) (shards : List (Content S))
+        → ((j : ℕ) (x : Content S) → slice_get shards j ≡ Some x
+        → IsFresh (meaning script) (suc (length shards)) j x)
+        → Tied meaning (first_content meaning script callers ∷ shards)
+        (replicate callers (first_content meaning script callers)) }
+{}
+
+/// Where the rule holds and every caller is out, all tickets have ended, and the shards are the
+/// parts of the tables after serving them one at a time.
+pub fn closing<S>()
+    ensures { (meaning : S → Meaning) (script : S) (contents notes : List (Content S))
+        → IsScript (meaning script) → Tied meaning contents notes → 0 < length notes
+        → ((c : ℕ) (x : Content S) → slice_get notes c ≡ Some x → IsOut (meaning script) script c x)
+        → AllEnded (meaning script) script contents (length contents) }
+{}

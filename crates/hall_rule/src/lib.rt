@@ -1,0 +1,12 @@
+//! The rule of a hall: what its turns hold, and how the book, the shards and the callers' notes are
+//! tied to one another between any two atomic steps.
+#![tactic(auto)]
+
+mod hall_rule;
+mod held;
+pub mod laws;
+mod part;
+
+pub use hall_rule::HallRule;
+pub use held::{Counted, Held};
+pub use part::Part;

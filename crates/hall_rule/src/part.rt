@@ -1,0 +1,32 @@
+// Shards of either kind.
+
+ghost use Rattle.std.specs.Prelude.{◌≡◌};
+ghost use Rattle.session_values.specs.Tables.{kind_of, reply_on};
+ghost use Rattle.session_values.specs.Kinds.{home};
+ghost use Rattle.shard_tables.specs.Shards.{HasRoomFor, shard_after};
+ghost use Rattle.hall_rule.specs.Shards.{shard_view};
+
+use session_values::{Op, Value};
+use shard_tables::{MapShard, SetShard};
+
+/// The part of a table that one turn holds.
+#[derive(Drop)]
+pub enum Part {
+    Bindings(MapShard),
+    Members(SetShard),
+}
+
+impl Part {
+    /// Does one operation on the part.
+    pub fn apply(&mut self, op: Op) -> Value
+        requires kind { kind_of (shard_view self.old).container ≡ home op.kind }
+        requires room { HasRoomFor op (shard_view self.old) }
+        ensures reply { result ≡ reply_on (shard_view self.old).container op }
+        ensures after { shard_view self.new ≡ shard_after (shard_view self.old) op }
+    {
+        match self {
+            Part::Bindings(shard) => shard.apply(op),
+            Part::Members(shard) => shard.apply(op),
+        }
+    }
+}

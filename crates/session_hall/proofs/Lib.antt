@@ -1,0 +1,15 @@
+pub mod Finding
+pub mod Giving
+pub mod Between
+pub mod Tickets
+pub mod Declares
+pub mod Admits
+pub mod Ends
+pub mod Entering
+pub mod TurnSets
+pub mod Counts
+pub mod Doing
+pub mod Trying
+pub mod Moving
+pub mod Opened
+pub mod Left

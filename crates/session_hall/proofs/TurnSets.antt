@@ -1,0 +1,161 @@
+-- The turns of an operation, as a set.
+use Rattle.std.proofs.Common.{◌≡◌, ◌≢◌, ℕ, zero, suc, ◌+◌, ◌*◌, ◌-◌, ◌%◌, ◌^◌, ◌<◌, ◌≤◌, ◌⊎◌, inl, inr, List, [], ◌∷◌, ◌++◌, length, length-append, Bool, true, false, cond, eqb, refl, sym, ◌∙◌, ap, subst, mod-lt, div-add-mod', arith}
+use Rattle.std.specs.Int.{bit_at}
+use Rattle.std.proofs.lemmas.Bool.Decides.{nat_tests}
+use Rattle.std.proofs.lemmas.Nat.{div-mul-add, mod-mul-add}
+use Rattle.std.proofs.lemmas.Nat.Bits.{bit_at_mask_inside, bit_at_mask_below, bit_at_mask_above}
+use Rattle.session_values.specs.declared.op.Op.{Op}
+use Rattle.session_values.specs.Kinds.{arguments}
+use Rattle.shard_tables.specs.Parts.{shard_of}
+use Rattle.shard_tables.proofs.PartSizes.{shard_below}
+use Rattle.turn_board.specs.Maps.{bits_of}
+use Rattle.hall_rule.specs.Turns.{IsTurnOf, place, span, turn_set}
+
+pub same_test : (a b : ℕ) → a ≡ b → eqb a b ≡ true
+same_test a b e = grind (arith, nat_tests)
+
+pub other_test : (a b : ℕ) → a ≢ b → eqb a b ≡ false
+other_test a b e = grind (arith, nat_tests)
+
+same : (a b : ℕ) → eqb a b ≡ true → a ≡ b
+same a b e = grind (arith, nat_tests)
+
+differs : (a b : ℕ) → eqb a b ≡ false → a ≢ b
+differs a b e = grind (arith, nat_tests)
+
+pub lower : (a b : ℕ) → (a < b) ⊎ (b ≤ a)
+lower a zero = inr (omega arith)
+lower zero (suc b) = inl (omega arith)
+lower (suc a) (suc b) = elim (lower a b) [ inl p ↦ inl (omega (arith, p)) | inr p ↦ inr (omega (arith, p)) ]
+
+one_zero : ◌≡◌ {A = ℕ} 1 0 → ⊥
+one_zero e = omega arith
+
+-- the n numbers from lo on
+abbrev pub up : ℕ → ℕ → List ℕ
+up lo zero = []
+up lo (suc n) = up lo n ++ (lo + n) ∷ []
+
+pub length-up : (lo n : ℕ) → length (up lo n) ≡ n
+length-up lo zero = refl
+length-up lo (suc n) = length-append (up lo n) ((lo + n) ∷ []) ∙ (let e : length (up lo n) ≡ n = length-up lo n in omega (arith, e))
+
+pub up_one : (lo : ℕ) → up lo 1 ≡ lo ∷ []
+up_one lo = let e : lo + 0 ≡ lo = omega arith in ap (λ (a : ℕ). a ∷ []) e
+
+pub up_more : (lo n : ℕ) → up lo (suc n) ≡ up lo n ++ (lo + n) ∷ []
+up_more lo n = refl
+
+pub up_none : (lo : ℕ) → up lo 0 ≡ []
+up_none lo = refl
+
+-- ---- the bits of a row of turns
+module _ (lo n : ℕ) where
+  abbrev row_set : ℕ
+  row_set = 2 ^ (lo + n) - 2 ^ lo
+
+  pub bit_inside : (u : ℕ) → lo ≤ u → u < lo + n → bit_at (2 ^ (lo + n) - 2 ^ lo) u ≡ 1
+  bit_inside u from below = bit_at_mask_inside lo (lo + n) u from below
+
+  pub in_row : (u : ℕ) → bit_at (2 ^ (lo + n) - 2 ^ lo) u ≡ 1 → (lo ≤ u) × (u < lo + n)
+  in_row u e = elim (lower u lo) [
+    | inl p ↦ absurd (one_zero (sym e ∙ bit_at_mask_below lo (lo + n) u p))
+    | inr p ↦ elim (lower u (lo + n)) [
+      | inl z ↦ (p, z)
+      | inr z ↦ absurd (one_zero (sym e ∙ bit_at_mask_above lo (lo + n) u z))
+    ]
+  ]
+
+  with_one : (t : ℕ) → bit_at row_set t ≡ 1 → bits_of row_set (suc t) ≡ bits_of row_set t ++ t ∷ []
+  with_one t e = ap (λ (b : Bool). cond b (bits_of row_set t ++ t ∷ []) (bits_of row_set t)) (same_test (bit_at row_set t) 1 e)
+
+  with_none : (t : ℕ) → bit_at row_set t ≡ 0 → bits_of row_set (suc t) ≡ bits_of row_set t
+  with_none t e = ap (λ (b : Bool). cond b (bits_of row_set t ++ t ∷ []) (bits_of row_set t)) (other_test (bit_at row_set t) 1 (λ h. one_zero (sym h ∙ e)))
+
+  bits_below : (t : ℕ) → t ≤ lo → bits_of row_set t ≡ []
+  bits_below zero l = refl
+  bits_below (suc t) l = with_none t (bit_at_mask_below lo (lo + n) t (omega (arith, l))) ∙ bits_below t (omega (arith, l))
+
+  bits_inside : (i t : ℕ) → t ≡ lo + i → i ≤ n → bits_of row_set t ≡ up lo i
+  bits_inside zero t e l = bits_below t (omega (arith, e)) ∙ sym (up_none lo)
+  bits_inside (suc i) zero e l = absurd (omega (arith, e))
+  bits_inside (suc i) (suc t) e l =
+      let at : t ≡ lo + i = omega (arith, e) in
+      with_one t (bit_at_mask_inside lo (lo + n) t (omega (arith, at)) (omega (arith, at, l))) ∙ ap (λ (us : List ℕ). us ++ t ∷ []) (bits_inside i t at (omega (arith, l))) ∙ ap (λ (a : ℕ). up lo i ++ a ∷ []) at ∙ sym (up_more lo i)
+
+  pub bits_row : (i t : ℕ) → t ≡ lo + n + i → bits_of (2 ^ (lo + n) - 2 ^ lo) t ≡ up lo n
+  bits_row zero t e = bits_inside n t (omega (arith, e)) (omega arith)
+  bits_row (suc i) zero e = absurd (omega (arith, e))
+  bits_row (suc i) (suc t) e = with_none t (bit_at_mask_above lo (lo + n) t (omega (arith, e))) ∙ bits_row i t (omega (arith, e))
+
+-- ---- the row of an operation
+more_rows : (a b n : ℕ) → a < b → a * n + n ≤ b * n
+more_rows a b n l = grind arith
+
+module _ (n : ℕ) (op : Op) (some : 0 < n) where
+  abbrev key_place : Bool → ℕ
+  key_place b = op.table * n + cond b 0 (shard_of n op.key)
+
+  abbrev key_span : Bool → ℕ
+  key_span b = cond b n 1
+
+  pub some_span : 0 < span n op
+  some_span = go (eqb (arguments op.kind) 0)
+    where
+      go : (b : Bool) → 0 < key_span b
+      go true = some
+      go false = omega arith
+
+  pub few_span : n ≤ 8 → span n op ≤ 8
+  few_span few = go (eqb (arguments op.kind) 0)
+    where
+      go : (b : Bool) → key_span b ≤ 8
+      go true = few
+      go false = omega arith
+
+  pub row_low : (tables : ℕ) → op.table < tables → place n op + span n op ≤ tables * n
+  row_low tables l = go (eqb (arguments op.kind) 0)
+    where
+      go : (b : Bool) → key_place b + key_span b ≤ tables * n
+      go true = omega (arith, more_rows op.table tables n l)
+      go false = omega (arith, more_rows op.table tables n l, shard_below n some op.key)
+
+  -- the turns of the row are those of the operation
+  pub turn_in : (j : ℕ) → place n op ≤ j → j < place n op + span n op → IsTurnOf n op j
+  turn_in = go (eqb (arguments op.kind) 0) refl
+    where
+      at : (r : ℕ) → r < n → (0 < arguments op.kind → shard_of n op.key ≡ r) → IsTurnOf n op (op.table * n + r)
+      at r l k = record { table = div-mul-add op.table n r l; shard = λ z. k z ∙ sym (mod-mul-add op.table n r l) }
+
+      go : (b : Bool) → eqb (arguments op.kind) 0 ≡ b → (j : ℕ) → key_place b ≤ j → j < key_place b + key_span b → IsTurnOf n op j
+      go true e j from below =
+          let none : arguments op.kind ≡ 0 = same (arguments op.kind) 0 e in
+          let is : op.table * n + (j - op.table * n) ≡ j = omega (arith, from) in
+          subst (IsTurnOf n op) is (at (j - op.table * n) (omega (arith, from, below)) (λ z. absurd (omega (arith, z, none))))
+      go false e j from below =
+          let is : op.table * n + shard_of n op.key ≡ j = omega (arith, from, below) in
+          subst (IsTurnOf n op) is (at (shard_of n op.key) (shard_below n some op.key) (λ z. refl))
+
+  pub turn_out : (j : ℕ) → IsTurnOf n op j → (place n op ≤ j) × (j < place n op + span n op)
+  turn_out j at = go (eqb (arguments op.kind) 0) refl
+    where
+      is : op.table * n + j % n ≡ j
+      is = ap (λ (a : ℕ). a * n + j % n) (sym at.table) ∙ div-add-mod' j n
+
+      go : (b : Bool) → eqb (arguments op.kind) 0 ≡ b → (key_place b ≤ j) × (j < key_place b + key_span b)
+      go true e = let l : j % n < n = mod-lt j some in (omega (arith, is, l), omega (arith, is, l))
+      go false e =
+          let none : arguments op.kind ≢ 0 = differs (arguments op.kind) 0 e in
+          let k : shard_of n op.key ≡ j % n = at.shard (omega (arith, none)) in
+          (omega (arith, is, k), omega (arith, is, k))
+
+-- the set isn't empty
+pub some_turns : (n : ℕ) (op : Op) → 0 < n → 0 < turn_set n op
+some_turns n op some = go (turn_set n op) refl
+  where
+    zero_bit : (u : ℕ) → bit_at 0 u ≡ 1 → ⊥
+    zero_bit u e = one_zero (sym e ∙ bit_at_mask_above 0 0 u (omega arith))
+
+    go : (x : ℕ) → turn_set n op ≡ x → 0 < turn_set n op
+    go zero e = absurd (zero_bit (suc (place n op)) (ap (λ (x : ℕ). bit_at x (suc (place n op))) (sym e) ∙ bit_inside (suc (place n op)) (span n op) (suc (place n op)) (omega arith) (omega (arith, some_span n op some))))
+    go (suc x) e = omega (arith, e)

@@ -1,0 +1,15 @@
+use Rattle.std.proofs.Common.{◌≡◌}
+use Rattle.session_hall.specs.Callers.{IsCallerOf}
+use Rattle.session_hall.specs.Calls.{ByNote, MayCall}
+use Rattle.session_hall.specs.Names.{script_of}
+use Rattle.session_hall.specs.Waits.{OnlyDelayed}
+use Rattle.session_hall.specs.Stages.{OnServing}
+use Rattle.session_hall.proofs.caller.Caller.admit.Given as goal
+
+abbrev pub invariant-loop : goal.invariant-loop
+invariant-loop g l = record {
+  caller : IsCallerOf g.S.Script.meaning l.hall l.self;
+  may : ByNote (g.S.Script.meaning (script_of l.hall)) l.self (MayCall l.self.foresight.symbols l.op);
+  number_still : l.self.number ≡ l.fn.self.number;
+  since : OnServing l.fn.self.stage (OnlyDelayed l.fn.self l.self);
+}

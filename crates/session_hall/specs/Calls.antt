@@ -1,0 +1,194 @@
+-- What the try calls ask and what they leave, over a caller's note.
+use Rattle.std.specs.Prelude.{◌≡◌, ◌≢◌, ℕ, suc, ◌+◌, ◌<◌, ◌≤◌, List, [], ◌∷◌, ◌++◌, Some}
+use Rattle.session_values.specs.declared.op.Op.{Op}
+use Rattle.session_values.specs.declared.reply.Reply.{Reply}
+use Rattle.session_values.specs.declared.value.Value.{Value}
+use Rattle.session_values.specs.Dialogue.{Calls, Answers, rest, replies}
+use Rattle.symbolic_ops.specs.declared.symbol.Symbol.{Symbol}
+use Rattle.symbolic_ops.specs.Symbols.{Covered, Matches}
+use Rattle.session_journal.specs.Journal.{begun, ended, entries}
+use Rattle.session_journal.specs.Script.{Meaning, IsForesight}
+use Rattle.admission_book.specs.Book.{Book, IsFree, IsBlocker, after_begin, after_narrow, after_admit, after_delay, after_done, after_end}
+use Rattle.admission_book.specs.EventsInTurn.{now}
+use Rattle.admission_book.specs.Books.{IsOldestOpen}
+use Rattle.turn_board.specs.Boards.{held, note, caller, crew, given, lost, asks, givings, last_change}
+use Rattle.turn_board.specs.Hands.{in_hands}
+use Rattle.hall_rule.specs.Shards.{content_of}
+use Rattle.hall_rule.specs.Turns.{IsTurnOf, WasDone}
+use Rattle.session_hall.specs.declared.answers.Admitting.{Admitting}
+use Rattle.session_hall.specs.declared.answers.Admitting.TheVariants as admitting
+use Rattle.session_hall.specs.declared.answers.Applying.{Applying}
+use Rattle.session_hall.specs.declared.answers.Applying.TheVariants as applying
+use Rattle.session_hall.specs.declared.answers.Began.{Began}
+use Rattle.session_hall.specs.declared.answers.Began.TheVariants as began
+use Rattle.session_hall.specs.declared.answers.Declared.{Declared}
+use Rattle.session_hall.specs.declared.answers.Declared.TheVariants as declared
+use Rattle.session_hall.specs.declared.answers.Ending.{Ending}
+use Rattle.session_hall.specs.declared.answers.Ending.TheVariants as ending
+use Rattle.session_hall.specs.declared.answers.Finishing.{Finishing}
+use Rattle.session_hall.specs.declared.answers.Finishing.TheVariants as finishing
+use Rattle.session_hall.specs.declared.caller.Caller.{Caller}
+use Rattle.session_hall.specs.declared.stage.Stage.{Stage}
+use Rattle.session_hall.specs.declared.stage.Stage.TheVariants.{Idle, Serving as Serves, InFlight, Applied, Out}
+use Rattle.session_hall.specs.Callers.{book_of, entries_of}
+use Rattle.session_hall.specs.Findings.{Finds}
+use Rattle.session_hall.specs.Stages.{OnServing, OnFlight, waiting, flying}
+
+-- ---- what is asked, of the ticket that is served, by the book of the note
+abbrev pub ByNote : {S : Type 0} → Meaning → Caller S → (Meaning → Book → ℕ → Type 0) → Type 0
+ByNote m c P = OnServing c.stage (λ t. P m (book_of c) t)
+
+-- the list g may take the place of the foresight f
+abbrev pub MayDeclare : List Symbol → List Symbol → Meaning → Book → ℕ → Type 0
+MayDeclare f g m b t = Covered g f × IsForesight (rest (m.next t) (replies (entries b.journal t))) g
+
+-- the operation is the one that is called, and the foresight matches it
+abbrev pub MayCall : List Symbol → Op → Meaning → Book → ℕ → Type 0
+MayCall f op m b t = (now m b.journal t ≡ Calls op) × Matches f op
+
+-- the reply is the one that is answered
+abbrev pub MayAnswer : Reply → Meaning → Book → ℕ → Type 0
+MayAnswer r m b t = now m b.journal t ≡ Answers r
+
+-- an operation was done on its shards, and the list may take the place of the foresight once it is entered
+abbrev pub MayFinishAt : Meaning → Stage → List Symbol → Book → List Symbol → Type 0
+MayFinishAt m (Applied t op v) f b next = Covered next f × IsForesight (rest (m.next t) (replies (entries b.journal t ++ record { op = op; reply = v } ∷ []))) next
+MayFinishAt m _ f b next = ⊥
+
+abbrev pub MayFinish : {S : Type 0} → Meaning → Caller S → List Symbol → Type 0
+MayFinish m c next = MayFinishAt m c.stage c.foresight.symbols (book_of c) next
+
+module _ {S : Type 0} (m : Meaning) (p q : Caller S) where
+  -- the caller took the book in one step of the call, found it so, and gave it back so in another one, with all that it held: that is its note now
+  pub record GaveBack (found left : Book) : Type 0 where
+    pub finds : Finds m (book_of p) found (caller p.seat) (crew p.seat)
+    pub noted : book_of q ≡ left
+    pub given_more : given q.seat ≡ given p.seat + 1
+    pub lost_still : (u : ℕ) → lost q.seat u ≡ lost p.seat u
+    pub asks_more : asks q.seat ≡ asks p.seat + 1
+    pub givings_more : givings q.seat ≡ givings p.seat + 1
+
+  -- the call's own step found the turn taken by another caller; the caller is as before, and no step of the call changed a counted content
+  pub record IsBusy (u : ℕ) : Type 0 where
+    pub rose : lost q.seat u ≡ lost p.seat u + 1
+    pub lost_grows : (w : ℕ) → lost p.seat w ≤ lost q.seat w
+    pub several : crew p.seat ≢ 1
+    pub asks_more : asks q.seat ≡ asks p.seat + 1
+    pub change_still : last_change q.seat ≡ last_change p.seat
+    pub stage_still : q.stage ≡ p.stage
+    pub foresight_still : q.foresight ≡ p.foresight
+    pub note_still : note q.seat ≡ note p.seat
+    pub given_still : given q.seat ≡ given p.seat
+    pub held_still : (w : ℕ) → held q.seat w ≡ held p.seat w
+    pub hands_still : q.hands.pairs ≡ p.hands.pairs
+
+  -- ---- begin
+  pub record BeganTicket (t : ℕ) : Type 0 where
+    pub found : Book
+    pub gave : GaveBack found (after_begin found (caller p.seat) (m.entry t))
+    pub next : t ≡ begun found.journal
+    pub within : t < m.requests
+    pub stage_is : q.stage ≡ Serves t
+    pub foresight_is : q.foresight.symbols ≡ m.entry t
+    pub no_entries : entries_of q t ≡ []
+
+  pub record FoundAllBegun : Type 0 where
+    pub found : Book
+    pub gave : GaveBack found found
+    pub all : m.requests ≤ begun found.journal
+    pub stage_is : q.stage ≡ Out
+
+  abbrev pub BeganAs : Began → Type 0
+  BeganAs (began.Ticket t) = BeganTicket t
+  BeganAs began.AllBegun = FoundAllBegun
+  BeganAs (began.Busy u) = (u ≡ 0) × IsBusy u
+
+  -- ---- declare
+  pub record DeclaredAt (f : List Symbol) (t : ℕ) : Type 0 where
+    pub found : Book
+    pub gave : GaveBack found (after_narrow found (caller p.seat) (waiting t p.foresight.symbols) f)
+    pub stage_is : q.stage ≡ Serves t
+    pub foresight_is : q.foresight.symbols ≡ f
+    pub entries_still : entries_of q t ≡ entries_of p t
+
+  abbrev pub DeclaredAs : List Symbol → Declared → Type 0
+  DeclaredAs f declared.Yes = OnServing p.stage (DeclaredAt f)
+  DeclaredAs f (declared.Busy u) = (u ≡ 0) × IsBusy u
+
+  -- ---- admit
+  pub record AdmittedAt (op : Op) (t : ℕ) : Type 0 where
+    pub found : Book
+    pub gave : GaveBack found (after_admit found (caller p.seat) (waiting t p.foresight.symbols) op)
+    pub free : IsFree found t op
+    pub stage_is : q.stage ≡ InFlight t op
+    pub foresight_still : q.foresight ≡ p.foresight
+    pub entries_still : entries_of q t ≡ entries_of p t
+
+  pub record DelayedAt (op : Op) (older : ℕ) (y : Symbol) (t : ℕ) : Type 0 where
+    pub found : Book
+    pub gave : GaveBack found (after_delay found t op older y)
+    pub blocker : IsBlocker found t op older y
+    pub not_oldest : IsOldestOpen (Some t) found.journal → ⊥
+    pub several : crew p.seat ≢ 1
+    pub stage_is : q.stage ≡ Serves t
+    pub foresight_still : q.foresight ≡ p.foresight
+    pub entries_still : entries_of q t ≡ entries_of p t
+
+  abbrev pub AdmittedAs : Op → Admitting → Type 0
+  AdmittedAs op admitting.Admitted = OnServing p.stage (AdmittedAt op)
+  AdmittedAs op (admitting.Delayed older y) = OnServing p.stage (DelayedAt op older y)
+  AdmittedAs op (admitting.Busy u) = (u ≡ 0) × IsBusy u
+
+  -- ---- apply
+  -- in one step the caller took the operation's turns, and holds no others; v is its reply behind every journal whose shards these are
+  pub record AppliedAt (turns : ℕ) (v : Value) (t : ℕ) (op : Op) : Type 0 where
+    pub done : WasDone m turns op v (held q.seat) (in_hands content_of q.hands.pairs)
+    pub stage_is : q.stage ≡ Applied t op v
+    pub foresight_still : q.foresight ≡ p.foresight
+    pub note_still : note q.seat ≡ note p.seat
+    pub given_still : given q.seat ≡ given p.seat
+    pub change_still : last_change q.seat ≡ last_change p.seat
+    pub lost_still : (u : ℕ) → lost q.seat u ≡ lost p.seat u
+    pub asks_more : asks q.seat ≡ asks p.seat + 1
+    pub givings_still : givings q.seat ≡ givings p.seat
+
+  -- one of the operation's turns was found taken
+  pub record IsBusyAt (shards u t : ℕ) (op : Op) : Type 0 where
+    pub busy : IsBusy u
+    pub place : ℕ
+    pub turn_is : u ≡ suc place
+    pub of_operation : IsTurnOf shards op place
+
+  abbrev pub AppliedAs : ℕ → ℕ → Applying → Type 0
+  AppliedAs shards turns (applying.Applied v) = OnFlight p.stage (AppliedAt turns v)
+  AppliedAs shards turns (applying.Busy u) = OnFlight p.stage (IsBusyAt shards u)
+
+  -- ---- finish
+  pub record FinishedAt (next : List Symbol) (t : ℕ) (op : Op) (v : Value) : Type 0 where
+    pub found : Book
+    pub gave : GaveBack found (after_done found (caller p.seat) (flying t p.foresight.symbols op) op v next)
+    pub stage_is : q.stage ≡ Serves t
+    pub foresight_is : q.foresight.symbols ≡ next
+    pub entries_more : entries_of q t ≡ entries_of p t ++ record { op = op; reply = v } ∷ []
+
+  abbrev pub FinishedFrom : List Symbol → Stage → Type 0
+  FinishedFrom next (Applied t op v) = FinishedAt next t op v
+  FinishedFrom next _ = ⊥
+
+  abbrev pub FinishedAs : List Symbol → Finishing → Type 0
+  FinishedAs next finishing.Done = FinishedFrom next p.stage
+  FinishedAs next (finishing.Busy u) = (u ≡ 0) × IsBusy u
+
+  -- ---- end
+  pub record EndedAt (r : Reply) (t : ℕ) : Type 0 where
+    pub found : Book
+    pub gave : GaveBack found (after_end found (caller p.seat) (waiting t p.foresight.symbols) r)
+    pub stage_is : q.stage ≡ Idle
+    pub foresight_still : q.foresight ≡ p.foresight
+    pub entries_still : entries_of q t ≡ entries_of p t
+    pub is_begun : t < begun (book_of q).journal
+    pub is_ended : ended (book_of q).journal t ≡ Some r
+
+  abbrev pub EndedAs : Reply → Ending → Type 0
+  EndedAs r ending.Ended = OnServing p.stage (EndedAt r)
+  EndedAs r (ending.Busy u) = (u ≡ 0) × IsBusy u

@@ -1,0 +1,82 @@
+-- An operation on the shards in a caller's hands.
+use Rattle.std.specs.Prelude.{◌≡◌, ℕ, ◌+◌, ◌<◌, ◌≤◌, pos, true, List, [], ◌∷◌, ◌++◌, length, map}
+use Rattle.std.specs.List.{AllByRecursion}
+use Rattle.session_values.specs.declared.op.Op.{Op}
+use Rattle.session_values.specs.declared.value.Value.{Value}
+use Rattle.session_values.specs.declared.value.Value.TheVariants.{Num}
+use Rattle.session_values.specs.Kinds.{arguments}
+use Rattle.session_values.specs.Tables.{after_on, kind_of, reply_on, size_of}
+use Rattle.session_values.specs.Kinds.{home, is_adding}
+use Rattle.hall_rule.specs.declared.held.Held.{Held}
+use Rattle.hall_rule.specs.Contents.{Content, Register, Shard}
+use Rattle.hall_rule.specs.Shards.{content_of}
+
+module _ {S : Type 0} where
+  -- what counts of the values in the hands, by turn
+  abbrev pub contents : List (ℕ × Held S) → List (ℕ × Content S)
+  contents pairs = map (λ (x : ℕ × Held S). (x.0, content_of x.1)) pairs
+
+  -- how many keys a shard has
+  abbrev pub keys_in : Content S → ℕ
+  keys_in (Shard c room) = size_of c
+  keys_in (Register s b) = 0
+
+  abbrev pub all_keys : List (ℕ × Content S) → ℕ
+  all_keys [] = 0
+  all_keys (x ∷ xs) = keys_in x.1 + all_keys xs
+
+  -- it is a shard of the operation's kind, with room for one key more where the operation may add one
+  abbrev pub CanDo : Op → Content S → Type 0
+  CanDo op (Shard c room) = (kind_of c ≡ home op.kind) × (is_adding op.kind ≡ true → size_of c < room)
+  CanDo op (Register s b) = ⊥
+
+  -- the shard after the operation, and the operation's reply there
+  abbrev pub WorkedTo : Op → Content S → Content S → Value → Type 0
+  WorkedTo op (Shard c room) y v = (y ≡ Shard (after_on c op) room) × (v ≡ reply_on c op)
+  WorkedTo op (Register s b) y v = ⊥
+
+  -- ---- the first shard
+  abbrev pub FirstCan : Op → List (ℕ × Held S) → Type 0
+  FirstCan op [] = ⊥
+  FirstCan op (x ∷ xs) = CanDo op (content_of x.1)
+
+  abbrev pub WorkedFirst : Op → List (ℕ × Held S) → List (ℕ × Held S) → Value → Type 0
+  WorkedFirst op [] ys v = ⊥
+  WorkedFirst op (x ∷ xs) ys v = (y : Held S) × (ys ≡ xs ++ (x.0, y) ∷ []) × WorkedTo op (content_of x.1) (content_of y) v
+
+  abbrev pub FirstCounts : Op → List (ℕ × Held S) → Type 0
+  FirstCounts op [] = ⊥
+  FirstCounts op (x ∷ xs) = CanDo op (content_of x.1) × (keys_in (content_of x.1) ≤ 200000)
+
+  abbrev pub CountedFirst : List (ℕ × Held S) → List (ℕ × Held S) → ℕ → Type 0
+  CountedFirst [] ys n = ⊥
+  CountedFirst (x ∷ xs) ys n = (y : Held S) × (ys ≡ xs ++ (x.0, y) ∷ []) × (content_of y ≡ content_of x.1) × (n ≡ keys_in (content_of x.1))
+
+  -- ---- all shards
+  abbrev pub AllCan : Op → List (ℕ × Content S) → Type 0
+  AllCan op xs = AllByRecursion (λ x. CanDo op x.1) xs
+
+  abbrev pub CanCount : Op → List (ℕ × Held S) → Type 0
+  CanCount op xs = AllCan op (contents xs) × (all_keys (contents xs) ≤ 200000)
+
+  -- nothing that counts has changed, and n is the number of keys
+  abbrev pub HasCounted : List (ℕ × Held S) → List (ℕ × Held S) → ℕ → Type 0
+  HasCounted xs ys n = (contents ys ≡ contents xs) × (n ≡ all_keys (contents xs))
+
+  -- with a key one shard is in the hands; else their keys are counted
+  abbrev pub CanWork : Op → List (ℕ × Held S) → Type 0
+  CanWork op xs = AllCan op (contents xs) × (0 < length xs) × (arguments op.kind ≡ 0 → all_keys (contents xs) ≤ 200000)
+
+  abbrev pub HasWorked : Op → List (ℕ × Held S) → List (ℕ × Held S) → Value → Type 0
+  HasWorked op xs ys v = (arguments op.kind ≡ 0 → (contents ys ≡ contents xs) × (v ≡ Num (pos (all_keys (contents xs))))) × (0 < arguments op.kind → WorkedFirst op xs ys v)
+
+  -- so many shards have been counted: their contents stand behind the others
+  pub record Counting (op : Op) (first now : List (ℕ × Held S)) (done count : ℕ) : Type 0 where
+    pub front : List (ℕ × Content S)
+    pub back : List (ℕ × Content S)
+    pub whole : contents first ≡ front ++ back
+    pub turned : contents now ≡ back ++ front
+    pub long : length front ≡ done
+    pub counted : count ≡ all_keys front
+    pub can : AllCan op back
+    pub few : all_keys (contents first) ≤ 200000

@@ -1,0 +1,137 @@
+// Doing an operation on its shards.
+
+ghost use Rattle.std.specs.Prelude.{◌≡◌, ◌+◌, ◌*◌, ◌<◌, ◌≤◌, length};
+ghost use Rattle.session_values.specs.Kinds.{arguments};
+ghost use Rattle.turn_board.specs.Boards.{turn_count};
+ghost use Rattle.hall_rule.specs.Turns.{place, span, turn_set};
+ghost use Rattle.session_hall.specs.Callers.{IsCallerOf};
+ghost use Rattle.session_hall.specs.Calls.{AppliedAs};
+ghost use Rattle.session_hall.specs.Names.{script_of};
+ghost use Rattle.session_hall.specs.Stages.{IsInFlight};
+ghost use Rattle.session_hall.specs.Working.{CanCount, CanWork, CountedFirst, HasCounted, HasWorked, FirstCan, FirstCounts, WorkedFirst};
+
+use crate::answers::Applying;
+use crate::caller::Caller;
+use crate::hall::Hall;
+use crate::stage::{Stage, in_flight};
+use hall_rule::Held;
+use session_journal::Script;
+use session_values::{Op, Value};
+use shard_tables::shard_of;
+use turn_board::{Hands, TookAll};
+
+// The first turn of an operation, less one.
+fn place_of(op: Op, shards: u32) -> u32
+    requires some { 0 < shards }
+    requires few { (shards ≤ 8) × (op.table ≤ 57) }
+    ensures { result ≡ place shards op }
+{
+    let within = if op.kind.arguments() == 0 {
+        0
+    } else {
+        shard_of(op.key, shards)
+    };
+    op.table * shards + within
+}
+
+// How many turns an operation takes.
+fn span_of(op: Op, shards: u32) -> u32
+    ensures { result ≡ span shards op }
+{
+    if op.kind.arguments() == 0 { shards } else { 1 }
+}
+
+// The turns of an operation, as a set.
+fn turns_of(op: Op, shards: u32) -> u64
+    requires some { 0 < shards }
+    requires few { (shards ≤ 8) × (op.table ≤ 57) × (place shards op + span shards op ≤ 57) }
+    ensures { result ≡ turn_set shards op }
+{
+    let first = 1 + place_of(op, shards);
+    (1u64 << (first + span_of(op, shards))) - (1u64 << first)
+}
+
+// Does the operation on the first shard in the hands, and puts that behind the others.
+fn work_first<S: Script + Drop>(hands: &mut Hands<Held<S>>, op: Op) -> Value
+    requires can { FirstCan op hands.old.pairs }
+    requires room { length hands.old.pairs ≤ hands.old.room }
+    ensures worked { WorkedFirst op hands.old.pairs hands.new.pairs result }
+    ensures room { hands.new.room ≡ hands.old.room }
+{
+    match hands.take_first() {
+        Some((turn, Held::Table(mut part))) => {
+            let reply = part.apply(op);
+            hands.push(turn, Held::Table(part));
+            reply
+        }
+        _ => unreachable!(),
+    }
+}
+
+// The number of keys of the first shard in the hands, which is put behind the others.
+fn count_first<S: Script + Drop>(hands: &mut Hands<Held<S>>, op: Op) -> u32
+    requires keyless { arguments op.kind ≡ 0 }
+    requires can { FirstCounts op hands.old.pairs }
+    requires room { length hands.old.pairs ≤ hands.old.room }
+    ensures counted { CountedFirst hands.old.pairs hands.new.pairs result }
+    ensures room { hands.new.room ≡ hands.old.room }
+{
+    match work_first(hands, op) {
+        Value::Num(n) => n as u32,
+        _ => unreachable!(),
+    }
+}
+
+// The number of keys of all shards in the hands.
+fn count_all<S: Script + Drop>(hands: &mut Hands<Held<S>>, op: Op) -> u32
+    requires keyless { arguments op.kind ≡ 0 }
+    requires can { CanCount op hands.old.pairs }
+    requires room { length hands.old.pairs ≤ hands.old.room }
+    ensures counted { HasCounted hands.old.pairs hands.new.pairs result }
+    ensures room { hands.new.room ≡ hands.old.room }
+{
+    let mut count = 0;
+    for done in 0..hands.len() {
+        count += count_first(hands, op);
+    }
+    count
+}
+
+// Does the operation on the shards in the hands.
+fn work<S: Script + Drop>(hands: &mut Hands<Held<S>>, op: Op) -> Value
+    requires can { CanWork op hands.old.pairs }
+    requires room { length hands.old.pairs ≤ hands.old.room }
+    ensures worked { HasWorked op hands.old.pairs hands.new.pairs result }
+    ensures room { hands.new.room ≡ hands.old.room }
+{
+    if op.kind.arguments() == 0 {
+        Value::Num(count_all(hands, op) as i64)
+    } else {
+        work_first(hands, op)
+    }
+}
+
+impl<S: Script + Drop> Caller<S> {
+    /// Takes the operation's shards, all in one step or none, does it there, and keeps them.
+    pub fn try_apply(&mut self, hall: &Hall<S>) -> Applying
+        requires caller { IsCallerOf S.meaning hall.now self.old }
+        requires stage { IsInFlight self.old.stage }
+        ensures caller { IsCallerOf S.meaning hall.now self.new }
+        ensures same { self.new.number ≡ self.old.number }
+        ensures applied { AppliedAs (S.meaning (script_of hall.now)) self.old self.new
+            hall.now.sizes.shards (turn_count hall.now.board) result }
+    {
+        let (t, op) = in_flight(self.stage);
+        let turns = turns_of(op, hall.sizes.shards);
+        match hall
+            .board
+            .try_take_all(&mut self.seat, turns, &mut self.hands)
+        {
+            TookAll::Busy { turn } => return Applying::Busy { turn },
+            TookAll::Here => {}
+        }
+        let reply = work(&mut self.hands, op);
+        self.stage = Stage::Applied(t, op, reply);
+        Applying::Applied(reply)
+    }
+}

@@ -1,0 +1,42 @@
+// Entering in the book what was done on its shards.
+
+ghost use Rattle.std.specs.Prelude.{◌≡◌};
+ghost use Rattle.session_hall.specs.Callers.{IsCallerOf};
+ghost use Rattle.session_hall.specs.Calls.{MayFinish, FinishedAs};
+ghost use Rattle.session_hall.specs.Names.{script_of};
+
+use crate::answers::Finishing;
+use crate::caller::Caller;
+use crate::hall::Hall;
+use crate::stage::Stage;
+use hall_rule::Held;
+use session_journal::Script;
+use symbolic_ops::Foresight;
+
+impl<S: Script + Drop> Caller<S> {
+    /// Enters the operation that was done on its shards, with its reply, makes `next` the ticket's
+    /// foresight, and gives the shards back with the book.
+    pub fn try_finish(&mut self, hall: &Hall<S>, next: &Foresight) -> Finishing
+        requires caller { IsCallerOf S.meaning hall.now self.old }
+        requires may { MayFinish (S.meaning (script_of hall.now)) self.old next.now.symbols }
+        ensures caller { IsCallerOf S.meaning hall.now self.new }
+        ensures same { self.new.number ≡ self.old.number }
+        ensures finished { FinishedAs (S.meaning (script_of hall.now)) self.old self.new
+            next.now.symbols result }
+    {
+        let (t, reply) = match self.stage {
+            Stage::Applied(t, _, reply) => (t, reply),
+            _ => unreachable!(),
+        };
+        let mut book = match hall.take_book(&mut self.seat) {
+            Some(book) => book,
+            None => return Finishing::Busy { turn: 0 },
+        };
+        book.done(t, reply, next);
+        self.foresight.replace(next);
+        hall.board
+            .give_all(&mut self.seat, Held::Register(book), &mut self.hands);
+        self.stage = Stage::Serving(t);
+        Finishing::Done
+    }
+}

@@ -1,0 +1,43 @@
+// Halls.
+
+ghost use Rattle.std.specs.Prelude.{◌≡◌, ◌<◌, ◌≤◌, [], vec_capacity};
+
+use hall_rule::{HallRule, Held, Part};
+use session_journal::Script;
+use std::snapshot::Snapshot;
+use std::sync::Mutex;
+use turn_board::{Board, Seat};
+
+/// Empty lists with room for the seats and the shards of a hall.
+#[derive(Drop)]
+pub(crate) struct Spare<A, B> {
+    pub(crate) seats: Vec<A>,
+    pub(crate) parts: Vec<B>,
+    ghost no_seats: { seats.items ≡ [] },
+    ghost no_parts: { parts.items ≡ [] },
+    ghost seats_room: { 32 ≤ vec_capacity seats },
+    ghost parts_room: { 57 ≤ vec_capacity parts },
+}
+
+/// How many tables, shards of each table, and callers a hall has.
+#[derive(Clone, Copy)]
+pub(crate) struct Sizes {
+    pub(crate) tables: u32,
+    pub(crate) shards: u32,
+    pub(crate) callers: u32,
+    ghost some_callers: { 0 < callers },
+    ghost few_callers: { callers ≤ 32 },
+}
+
+/// The tables of a script in shards, and the book of what was done on them, each behind a turn of
+/// one board. Turn 0 is the book's, and turn `1 + table * shards + shard` a shard's.
+#[derive(Drop)]
+pub struct Hall<S: Script + Drop> {
+    pub(crate) board: Board<Held<S>, HallRule<S>>,
+    /// The script as it was when the hall was opened. It has no bytes.
+    pub(crate) script: Snapshot<S>,
+    pub(crate) sizes: Sizes,
+    // What `close` fills. A lock lets threads share the hall where S is only Send; no thread takes
+    // it.
+    pub(crate) kept: Mutex<Spare<Seat<Held<S>, HallRule<S>>, Part>>,
+}

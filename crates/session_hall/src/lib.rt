@@ -1,0 +1,23 @@
+//! Callers on shared tables. Each serves one ticket at a time: it admits an operation, does it on
+//! its shards, and enters it in the book, while one rule ties book, shards and callers.
+#![tactic(auto)]
+
+mod answers;
+mod applying;
+mod caller;
+mod closed;
+mod closing;
+mod finishing;
+mod hall;
+mod opening;
+mod serving;
+mod stage;
+mod taking;
+mod waiting;
+
+pub use answers::{Admitting, Applying, Began, Declared, Ending, Finishing};
+pub use caller::{Caller, Callers};
+pub use closed::{Closed, Parts};
+pub use hall::Hall;
+pub use hall_rule::{Held, Part};
+pub use stage::Stage;

@@ -1,0 +1,128 @@
+// The try calls that take the book alone: begin, declare, admit and end.
+
+ghost use Rattle.std.specs.Prelude.{◌≡◌};
+ghost use Rattle.session_hall.specs.Callers.{IsCallerOf};
+ghost use Rattle.session_hall.specs.Calls.{ByNote, MayDeclare, MayCall, MayAnswer, BeganAs, DeclaredAs, AdmittedAs, EndedAs};
+ghost use Rattle.session_hall.specs.Names.{script_of};
+ghost use Rattle.session_hall.specs.Stages.{IsBetween};
+
+use crate::answers::{Admitting, Began, Declared, Ending};
+use crate::caller::Caller;
+use crate::hall::Hall;
+use crate::stage::Stage;
+use admission_book::Admission;
+use hall_rule::Held;
+use session_journal::Script;
+use session_values::{Op, Reply};
+use symbolic_ops::Foresight;
+
+impl<S: Script + Drop> Caller<S> {
+    /// Begins the next ticket, or tells that all are begun.
+    pub fn try_begin(&mut self, hall: &Hall<S>) -> Began
+        requires caller { IsCallerOf S.meaning hall.now self.old }
+        requires stage { IsBetween self.old.stage }
+        ensures caller { IsCallerOf S.meaning hall.now self.new }
+        ensures same { self.new.number ≡ self.old.number }
+        ensures began { BeganAs (S.meaning (script_of hall.now)) self.old self.new result }
+    {
+        let mut book = match hall.take_book(&mut self.seat) {
+            Some(book) => book,
+            None => return Began::Busy { turn: 0 },
+        };
+        let t = match book.next_ticket() {
+            Some(t) => t,
+            None => {
+                hall.board
+                    .give_all(&mut self.seat, Held::Register(book), &mut self.hands);
+                self.stage = Stage::Out;
+                return Began::AllBegun;
+            }
+        };
+        book.script().entry(t, &mut self.foresight);
+        book.begin(self.number, &self.foresight);
+        hall.board
+            .give_all(&mut self.seat, Held::Register(book), &mut self.hands);
+        self.stage = Stage::Serving(t);
+        Began::Ticket(t)
+    }
+
+    /// Makes a list that the ticket's foresight covers its foresight.
+    pub fn try_declare(&mut self, hall: &Hall<S>, f: &Foresight) -> Declared
+        requires caller { IsCallerOf S.meaning hall.now self.old }
+        requires may { ByNote (S.meaning (script_of hall.now)) self.old
+            (MayDeclare self.old.foresight.symbols f.now.symbols) }
+        ensures caller { IsCallerOf S.meaning hall.now self.new }
+        ensures same { self.new.number ≡ self.old.number }
+        ensures declared { DeclaredAs (S.meaning (script_of hall.now)) self.old self.new
+            f.now.symbols result }
+    {
+        let t = match self.stage {
+            Stage::Serving(t) => t,
+            _ => unreachable!(),
+        };
+        let mut book = match hall.take_book(&mut self.seat) {
+            Some(book) => book,
+            None => return Declared::Busy { turn: 0 },
+        };
+        book.narrow(t, f);
+        self.foresight.replace(f);
+        hall.board
+            .give_all(&mut self.seat, Held::Register(book), &mut self.hands);
+        Declared::Yes
+    }
+
+    /// Puts an operation in flight, or tells what delays it.
+    pub fn try_admit(&mut self, hall: &Hall<S>, op: Op) -> Admitting
+        requires caller { IsCallerOf S.meaning hall.now self.old }
+        requires may { ByNote (S.meaning (script_of hall.now)) self.old
+            (MayCall self.old.foresight.symbols op) }
+        ensures caller { IsCallerOf S.meaning hall.now self.new }
+        ensures same { self.new.number ≡ self.old.number }
+        ensures admitted { AdmittedAs (S.meaning (script_of hall.now)) self.old self.new op result }
+    {
+        let t = match self.stage {
+            Stage::Serving(t) => t,
+            _ => unreachable!(),
+        };
+        let mut book = match hall.take_book(&mut self.seat) {
+            Some(book) => book,
+            None => return Admitting::Busy { turn: 0 },
+        };
+        match book.admit(t, op) {
+            Admission::Admitted => {
+                hall.board
+                    .give_all(&mut self.seat, Held::Register(book), &mut self.hands);
+                self.stage = Stage::InFlight(t, op);
+                Admitting::Admitted
+            }
+            Admission::Delayed { older, symbol } => {
+                hall.board
+                    .give_all(&mut self.seat, Held::Register(book), &mut self.hands);
+                Admitting::Delayed { older, symbol }
+            }
+        }
+    }
+
+    /// Ends the ticket with its reply.
+    pub fn try_end(&mut self, hall: &Hall<S>, reply: Reply) -> Ending
+        requires caller { IsCallerOf S.meaning hall.now self.old }
+        requires may { ByNote (S.meaning (script_of hall.now)) self.old (MayAnswer reply) }
+        ensures caller { IsCallerOf S.meaning hall.now self.new }
+        ensures same { self.new.number ≡ self.old.number }
+        ensures ended { EndedAs (S.meaning (script_of hall.now)) self.old self.new reply result }
+    {
+        let t = match self.stage {
+            Stage::Serving(t) => t,
+            _ => unreachable!(),
+        };
+        let mut book = match hall.take_book(&mut self.seat) {
+            Some(book) => book,
+            None => return Ending::Busy { turn: 0 },
+        };
+        book.end(t, reply);
+        hall.board
+            .give_all(&mut self.seat, Held::Register(book), &mut self.hands);
+        self.stage = Stage::Idle;
+        Ending::Ended
+    }
+}

@@ -1,0 +1,33 @@
+// What a caller is at.
+
+ghost use Rattle.std.specs.Prelude.{◌≡◌};
+ghost use Rattle.session_hall.specs.Stages.{IsInFlight};
+ghost use Rattle.session_hall.specs.declared.stage.Stage.TheVariants.{InFlight};
+
+use session_values::{Op, Value};
+
+/// What a caller is at.
+#[derive(Clone, Copy, Debug, PartialEq, Eq)]
+pub enum Stage {
+    /// It serves no ticket.
+    Idle,
+    /// It serves this ticket, which has no operation in flight.
+    Serving(u32),
+    /// The ticket's operation is admitted.
+    InFlight(u32, Op),
+    /// The operation was done on its shards, which the caller holds, with this reply.
+    Applied(u32, Op, Value),
+    /// It serves no ticket, and all are begun.
+    Out,
+}
+
+// The ticket and its operation in flight.
+pub(crate) fn in_flight(stage: Stage) -> (u32, Op)
+    requires { IsInFlight stage }
+    ensures { stage ≡ InFlight result.0 result.1 }
+{
+    match stage {
+        Stage::InFlight(t, op) => (t, op),
+        _ => unreachable!(),
+    }
+}

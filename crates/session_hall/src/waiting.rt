@@ -1,0 +1,132 @@
+// The waiting calls: each repeats its try call, and yields the thread between tries.
+
+ghost use Rattle.std.specs.Prelude.{◌≡◌};
+ghost use Rattle.turn_board.specs.Boards.{turn_count};
+ghost use Rattle.session_hall.specs.Callers.{IsCallerOf};
+ghost use Rattle.session_hall.specs.Calls.{ByNote, MayDeclare, MayCall, MayAnswer, MayFinish};
+ghost use Rattle.session_hall.specs.Names.{script_of};
+ghost use Rattle.session_hall.specs.Stages.{IsBetween, IsInFlight};
+ghost use Rattle.session_hall.specs.Waits.{BegunAfter, DeclaredAfter, AdmittedAfter, AppliedAfter, FinishedAfter, EndedAfter};
+
+use crate::answers::{Admitting, Applying, Began, Declared, Ending, Finishing};
+use crate::caller::Caller;
+use crate::hall::Hall;
+use session_journal::Script;
+use session_values::{Op, Reply, Value};
+use std::sync::Wait;
+use std::thread;
+use symbolic_ops::Foresight;
+
+impl<S: Script + Drop> Caller<S> {
+    /// Begins the next ticket, however often the book is taken, or tells that all are begun.
+    pub fn begin<R: Wait>(&mut self, rt: &R, hall: &Hall<S>) -> Option<u32>
+        requires caller { IsCallerOf S.meaning hall.now self.old }
+        requires stage { IsBetween self.old.stage }
+        ensures caller { IsCallerOf S.meaning hall.now self.new }
+        ensures same { self.new.number ≡ self.old.number }
+        ensures begun { BegunAfter (S.meaning (script_of hall.now)) self.old self.new result }
+    {
+        for _ in rt.forever() {
+            match self.try_begin(hall) {
+                Began::Ticket(t) => return Some(t),
+                Began::AllBegun => return None,
+                Began::Busy { turn: _ } => thread::yield_now(),
+            }
+        }
+        unreachable!()
+    }
+
+    /// Makes a list that the ticket's foresight covers its foresight, however often the book is
+    /// taken.
+    pub fn declare<R: Wait>(&mut self, rt: &R, hall: &Hall<S>, f: &Foresight)
+        requires caller { IsCallerOf S.meaning hall.now self.old }
+        requires may { ByNote (S.meaning (script_of hall.now)) self.old
+            (MayDeclare self.old.foresight.symbols f.now.symbols) }
+        ensures caller { IsCallerOf S.meaning hall.now self.new }
+        ensures same { self.new.number ≡ self.old.number }
+        ensures declared { DeclaredAfter (S.meaning (script_of hall.now)) self.old self.new f.now.symbols }
+    {
+        for _ in rt.forever() {
+            match self.try_declare(hall, f) {
+                Declared::Yes => return,
+                Declared::Busy { turn: _ } => thread::yield_now(),
+            }
+        }
+        unreachable!()
+    }
+
+    /// Puts an operation in flight, however often the book is taken or the operation delayed.
+    pub fn admit<R: Wait>(&mut self, rt: &R, hall: &Hall<S>, op: Op)
+        requires caller { IsCallerOf S.meaning hall.now self.old }
+        requires may { ByNote (S.meaning (script_of hall.now)) self.old
+            (MayCall self.old.foresight.symbols op) }
+        ensures caller { IsCallerOf S.meaning hall.now self.new }
+        ensures same { self.new.number ≡ self.old.number }
+        ensures admitted { AdmittedAfter (S.meaning (script_of hall.now)) self.old self.new op }
+    {
+        for _ in rt.forever() {
+            match self.try_admit(hall, op) {
+                Admitting::Admitted => return,
+                Admitting::Delayed {
+                    older: _,
+                    symbol: _,
+                } => thread::yield_now(),
+                Admitting::Busy { turn: _ } => thread::yield_now(),
+            }
+        }
+        unreachable!()
+    }
+
+    /// Does the operation in flight on its shards, however often one of them is taken.
+    pub fn apply<R: Wait>(&mut self, rt: &R, hall: &Hall<S>) -> Value
+        requires caller { IsCallerOf S.meaning hall.now self.old }
+        requires stage { IsInFlight self.old.stage }
+        ensures caller { IsCallerOf S.meaning hall.now self.new }
+        ensures same { self.new.number ≡ self.old.number }
+        ensures applied { AppliedAfter (S.meaning (script_of hall.now)) self.old self.new
+            (turn_count hall.now.board) result }
+    {
+        for _ in rt.forever() {
+            match self.try_apply(hall) {
+                Applying::Applied(v) => return v,
+                Applying::Busy { turn: _ } => thread::yield_now(),
+            }
+        }
+        unreachable!()
+    }
+
+    /// Enters the operation that was done on its shards, however often the book is taken.
+    pub fn finish<R: Wait>(&mut self, rt: &R, hall: &Hall<S>, next: &Foresight)
+        requires caller { IsCallerOf S.meaning hall.now self.old }
+        requires may { MayFinish (S.meaning (script_of hall.now)) self.old next.now.symbols }
+        ensures caller { IsCallerOf S.meaning hall.now self.new }
+        ensures same { self.new.number ≡ self.old.number }
+        ensures finished { FinishedAfter (S.meaning (script_of hall.now)) self.old self.new
+            next.now.symbols }
+    {
+        for _ in rt.forever() {
+            match self.try_finish(hall, next) {
+                Finishing::Done => return,
+                Finishing::Busy { turn: _ } => thread::yield_now(),
+            }
+        }
+        unreachable!()
+    }
+
+    /// Ends the ticket with its reply, however often the book is taken.
+    pub fn end<R: Wait>(&mut self, rt: &R, hall: &Hall<S>, reply: Reply)
+        requires caller { IsCallerOf S.meaning hall.now self.old }
+        requires may { ByNote (S.meaning (script_of hall.now)) self.old (MayAnswer reply) }
+        ensures caller { IsCallerOf S.meaning hall.now self.new }
+        ensures same { self.new.number ≡ self.old.number }
+        ensures ended { EndedAfter (S.meaning (script_of hall.now)) self.old self.new reply }
+    {
+        for _ in rt.forever() {
+            match self.try_end(hall, reply) {
+                Ending::Ended => return,
+                Ending::Busy { turn: _ } => thread::yield_now(),
+            }
+        }
+        unreachable!()
+    }
+}
