@@ -19,7 +19,8 @@ copy() {
 
 mkdir "$work/crates"
 cp HANDLES "$work"
-cp -r bench/shard_bench "$work/crates"
+mkdir -p "$work/crates/shard_bench/src"
+cp bench/shard_bench.rattle "$work/crates/shard_bench/src/main.rt"
 echo "shard_bench: session_values shard_tables" > "$work/crates.txt"
 copy shard_tables
 (cd "$work/crates/shard_bench" && rt run > "$work/first")
