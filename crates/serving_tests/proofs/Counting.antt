@@ -183,6 +183,7 @@ module _ (old : ℕ → Option (List ℕ)) (book even odd : List ℕ) (has-book 
         there (suc zero) e = absurd (none-some even (sym e ∙ has-even))
         there (suc (suc zero)) e = absurd (none-some odd (sym e ∙ has-odd))
         there (suc (suc (suc u))) e = past u
+
         back : (t : ℕ) → put_back self book' ((1, even') ∷ (2, odd') ∷ []) t ≡ None → old t ≡ None
         back zero e = absurd (none-some book' (sym e))
         back (suc zero) e = absurd (none-some even' (sym e))

@@ -184,9 +184,7 @@ fn list_numbers(alloc: Global) -> Result<(u32, u32, u32), NoMemory> {
 }
 
 /// What the tickets of such a list declare.
-fn list_entries(
-    alloc: Global,
-) -> Result<((u32, Option<Symbol>), (u32, Option<Symbol>)), NoMemory> {
+fn list_entries(alloc: Global) -> Result<((u32, Option<Symbol>), (u32, Option<Symbol>)), NoMemory> {
     let script = two_tickets(alloc)?;
     let mut out = Foresight::with_room(alloc, 256)?;
     let first = declared(&script, 0, &mut out);
