@@ -1,3 +1,4 @@
 pub mod BookRows
 pub mod CounterLaw
 pub mod Counters
+pub mod HallRows

@@ -9,6 +9,8 @@ mod books;
 #[cfg(test)]
 mod desks;
 #[cfg(test)]
+mod halls;
+#[cfg(test)]
 mod journals;
 #[cfg(test)]
 mod map_ops;
