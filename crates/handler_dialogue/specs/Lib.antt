@@ -1,0 +1,5 @@
+pub mod Ahead
+pub mod Bounds
+pub mod Code
+pub mod Dialogue
+pub mod Within
