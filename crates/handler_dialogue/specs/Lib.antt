@@ -3,3 +3,4 @@ pub mod Bounds
 pub mod Code
 pub mod Dialogue
 pub mod Within
+pub mod Keeps

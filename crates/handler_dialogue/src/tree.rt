@@ -51,7 +51,10 @@ pub struct CheckedCond {
 #[derive(Debug, Drop)]
 pub enum CheckedStmt {
     /// Gives a variable a value.
-    Store { var: u32, right: CheckedExpr },
+    Store {
+        var: u32,
+        right: CheckedExpr,
+    },
     /// Does an operation, and keeps its reply in the variable, if one is named. The point stands
     /// behind it.
     Perform {
@@ -79,7 +82,9 @@ pub enum CheckedStmt {
         body: CheckedBlock,
     },
     /// Ends the handler with 1 to 4 values.
-    Answer { values: CheckedExprs },
+    Answer {
+        values: CheckedExprs,
+    },
 }
 
 /// A handler. Its parameters are its first variables.
