@@ -1,0 +1,6 @@
+pub mod Cases
+pub mod Meaning
+pub mod Numbers
+pub mod Scans
+pub mod Sizes
+pub mod Walks

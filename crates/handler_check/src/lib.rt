@@ -1,0 +1,8 @@
+//! The checker of the handler language.
+#![tactic(auto)]
+
+mod faults;
+pub mod laws;
+
+pub use faults::find_fault;
+pub use handler_rules::CheckRefusal;
