@@ -3,6 +3,7 @@
 
 mod faults;
 pub mod laws;
+mod resolve;
 
 pub use faults::find_fault;
 pub use handler_rules::CheckRefusal;

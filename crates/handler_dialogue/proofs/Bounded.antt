@@ -1,16 +1,16 @@
 -- Runs stay within the bounds of their text.
-use Rattle.std.proofs.Common.{◌≡◌, ℕ, zero, suc, ◌+◌, ◌*◌, ◌≤◌, max, Bool, true, false, if◌then◌else◌, List, [], ◌∷◌, length, refl, sym, ap, ◌∙◌, subst, arith}
+use Rattle.std.proofs.Common.{◌≡◌, ℕ, zero, suc, ◌+◌, ◌*◌, ◌≤◌, Bool, true, false, if◌then◌else◌, List, [], ◌∷◌, length, refl, sym, ap, ◌∙◌, subst, arith}
 use Rattle.std.specs.Prelude.{pos}
 use Rattle.session_values.specs.declared.value.Value.{Value}
 use Rattle.session_values.specs.declared.value.Value.TheVariants.{Num}
 use Rattle.session_values.specs.declared.op.Op.{Op}
 use Rattle.session_values.specs.declared.reply.Reply.{Reply}
-use Rattle.session_values.specs.Dialogue.{Next, Calls as NextCalls, Answers as NextAnswers, Dialogue, Entry, Follows, rest, EndsBy}
+use Rattle.session_values.specs.Dialogue.{Calls as NextCalls, Answers as NextAnswers, Dialogue, Entry, Follows, rest, EndsBy}
 use Rattle.session_values.specs.Reply.{reply_of}
 use Rattle.handler_dialogue.specs.Code.{Code, Finish, Move, Ask, Fork, Loop, Quit}
-use Rattle.handler_dialogue.specs.Dialogue.{Env, with_value, value_of, holds, op_of, Outcome, with_reply, ended, next}
+use Rattle.handler_dialogue.specs.Dialogue.{Env, with_value, value_of, holds, op_of, with_reply, ended, next}
 use Rattle.handler_dialogue.specs.Ahead.{Ahead, asked, passing, answering, goes, turns_then, run_then}
-use Rattle.handler_dialogue.specs.Bounds.{Weight, bound, every, adding, calls_bound, adds_bound, weight_of}
+use Rattle.handler_dialogue.specs.Bounds.{Weight, bound, every, calls_bound, weight_of}
 use Rattle.handler_dialogue.specs.Keeps.{CountsAtMost}
 use Rattle.handler_dialogue.proofs.Runs.{next_whole, ended_passing}
 

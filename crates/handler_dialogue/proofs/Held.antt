@@ -1,14 +1,13 @@
 -- What comes next fits the tables, and a program can hold it.
-use Rattle.std.proofs.Common.{◌≡◌, ℕ, zero, suc, ◌+◌, ◌<◌, ◌≤◌, ◌^◌, Bool, true, false, if◌then◌else◌, ◌&&◌, List, [], ◌∷◌, length, map, Option, Some, None, refl, sym, ap, ◌∙◌, subst, arith}
-use Rattle.std.specs.Prelude.{ℤ, pos, negsuc, ◌+ℤ◌, ◌-ℤ◌, ◌*ℤ◌, int_le, nat_eq, ◌==◌}
+use Rattle.std.proofs.Common.{◌≡◌, ℕ, zero, suc, ◌+◌, ◌<◌, ◌≤◌, ◌^◌, Bool, true, false, if◌then◌else◌, ◌&&◌, List, [], ◌∷◌, length, map, Option, Some, None, refl, sym, ap, subst, arith}
+use Rattle.std.specs.Prelude.{ℤ, pos, negsuc, ◌+ℤ◌, ◌-ℤ◌, ◌*ℤ◌, int_le, ◌==◌}
 use Rattle.std.specs.List.{AllByRecursion}
 use Rattle.std.proofs.lemmas.Int.{ints}
 use Rattle.session_values.specs.declared.value.Value.{Value}
 use Rattle.session_values.specs.declared.value.Value.TheVariants.{Nil, Num, Sym}
 use Rattle.session_values.specs.declared.kind.TableKind.{TableKind}
 use Rattle.session_values.specs.declared.op.Op.{Op}
-use Rattle.session_values.specs.Dialogue.{Next, Calls as NextCalls, Answers as NextAnswers}
-use Rattle.session_values.specs.Kinds.{arguments}
+use Rattle.session_values.specs.Dialogue.{Calls as NextCalls}
 use Rattle.session_values.specs.Reply.{reply_of, IsHeldReply}
 use Rattle.session_values.specs.Tables.{Fits}
 use Rattle.session_values.specs.Values.{IsValue}
@@ -17,10 +16,10 @@ use Rattle.handler_trees.specs.declared.expr.Calc.TheVariants.{Plus, Minus, Time
 use Rattle.handler_dialogue.specs.declared.tree.CheckedAtom.{CheckedAtom}
 use Rattle.handler_dialogue.specs.declared.tree.CheckedAtom.TheVariants.{Lit, Var}
 use Rattle.handler_dialogue.specs.declared.tree.CheckedCall.{CheckedCall}
-use Rattle.handler_dialogue.specs.Code.{Term, Atom, Calculate, Test, Code, Finish, Move, Ask, Fork, Loop, Quit}
+use Rattle.handler_dialogue.specs.Code.{Term, Atom, Calculate, Code, Finish, Move, Ask, Fork, Loop, Quit}
 use Rattle.handler_dialogue.specs.Dialogue.{Env, env_of, with_value, in_range, calculated, atom_value, value_of, holds, op_of, Place, Outcome, Calls, Answers, Goes, after, then_do, pass, with_reply, turns, run, ended, next}
 use Rattle.handler_dialogue.specs.Keeps.{CallsFit, IsHeldNext, KeepsValues}
-use Rattle.handler_dialogue.specs.Within.{AtomWithin, TermWithin, CallWithin, VarWithin, CodeWithin}
+use Rattle.handler_dialogue.specs.Within.{AtomWithin, TermWithin, CallWithin, CodeWithin}
 
 -- ---- numbers
 picked : (b : Bool) (v : Value) → (b ≡ true → IsValue v) → IsValue (if b then v else Nil)

@@ -1,5 +1,5 @@
 -- Bounds on what a handler does, by its text alone.
-use Rattle.std.specs.Prelude.{ℕ, ◌+◌, ◌*◌, ◌==◌, max, Bool, ◌&&◌, if◌then◌else◌, List, [], ◌∷◌}
+use Rattle.std.specs.Prelude.{ℕ, ◌+◌, ◌*◌, ◌==◌, max, ◌&&◌, if◌then◌else◌, List, [], ◌∷◌}
 use Rattle.session_values.specs.declared.kind.Kind.{Kind}
 use Rattle.session_values.specs.Kinds.{is_adding}
 use Rattle.session_values.specs.Dialogue.{Entry}

@@ -1,10 +1,10 @@
 -- What a dialogue keeps, whatever is replied.
-use Rattle.std.specs.Prelude.{◌≡◌, ℕ, ◌≤◌, List, [], ◌∷◌}
+use Rattle.std.specs.Prelude.{◌≡◌, ℕ, ◌≤◌, List}
 use Rattle.std.specs.List.{AllByRecursion}
 use Rattle.session_values.specs.declared.value.Value.{Value}
 use Rattle.session_values.specs.declared.kind.TableKind.{TableKind}
 use Rattle.session_values.specs.declared.op.Op.{Op}
-use Rattle.session_values.specs.Dialogue.{Next, Calls, Answers, Dialogue, Entry, Follows, replies}
+use Rattle.session_values.specs.Dialogue.{Next, Calls, Answers, Dialogue, Entry, Follows}
 use Rattle.session_values.specs.Op.{IsHeld}
 use Rattle.session_values.specs.Reply.{IsHeldReply}
 use Rattle.session_values.specs.Tables.{Fits}

@@ -2,14 +2,13 @@
 use Rattle.std.specs.Prelude.{◌≡◌, ℕ, ◌<◌, ◌≤◌, List, length, Option, Some, None, slice_get}
 use Rattle.std.specs.List.{AllByRecursion}
 use Rattle.session_values.specs.declared.value.Value.TheVariants.{Nil}
-use Rattle.session_values.specs.declared.value.Value.{Value}
 use Rattle.session_values.specs.declared.kind.TableKind.{TableKind}
 use Rattle.session_values.specs.Kinds.{arguments, home}
 use Rattle.session_values.specs.Values.{IsValue}
 use Rattle.handler_dialogue.specs.declared.tree.CheckedAtom.{CheckedAtom}
 use Rattle.handler_dialogue.specs.declared.tree.CheckedAtom.TheVariants.{Lit, Var}
 use Rattle.handler_dialogue.specs.declared.tree.CheckedCall.{CheckedCall}
-use Rattle.handler_dialogue.specs.Code.{Term, Atom, Calculate, Test, Code, Finish, Move, Ask, Fork, Loop, Quit}
+use Rattle.handler_dialogue.specs.Code.{Term, Atom, Calculate, Code, Finish, Move, Ask, Fork, Loop, Quit}
 
 -- a literal that a program can hold, or a variable below n
 abbrev pub AtomWithin : ℕ → CheckedAtom → Type 0

@@ -1,7 +1,7 @@
 -- What a walk finds: the first of some faults.
-use Rattle.std.proofs.Common.{◌≡◌, ℕ, suc, zero, ◌+◌, ◌<◌, ◌≤◌, ◌==◌, Bool, true, false, ◌||◌, nat_lt, ◌⊎◌, inl, inr, if◌then◌else◌, List, [], ◌∷◌, ◌++◌, length, map, slice_index_or, Option, Some, None, refl, sym, ap, ◌∙◌, subst, arith}
+use Rattle.std.proofs.Common.{◌≡◌, ℕ, suc, zero, ◌<◌, ◌≤◌, ◌==◌, Bool, true, false, ◌||◌, nat_lt, ◌⊎◌, inl, inr, if◌then◌else◌, List, [], ◌∷◌, ◌++◌, length, map, slice_index_or, Option, Some, None, refl, sym, ap, ◌∙◌, subst, arith}
 use Rattle.std.proofs.lemmas.Bool.Decides.{nat_tests}
-use Rattle.std.specs.List.{Contains, list_any, AllByRecursion}
+use Rattle.std.specs.List.{Contains, AllByRecursion}
 use Rattle.session_values.specs.declared.kind.Kind.{Kind}
 use Rattle.session_values.specs.declared.kind.TableKind.{TableKind}
 use Rattle.session_values.specs.declared.kind.TableKind.TheVariants.{Map, Set}
@@ -12,7 +12,7 @@ use Rattle.handler_rules.specs.declared.refusal.CheckRefusal.TheVariants.{Twice,
 use Rattle.handler_rules.specs.Marks.{Mark, Declared, Mentioned, Operation, OnTable, Turns, mark_at, declared, sees}
 use Rattle.handler_rules.specs.Rules.{kind_of}
 use Rattle.handler_rules.specs.FirstFault.{place, number, IsNoLater, IsFirst, AreRising}
-use Rattle.handler_rules.specs.Scan.{Fault, or_else, fault_if, is_among, declared_fault, unseen_fault, count_fault, is_same_kind, found_fault, table_fault, turns_fault, Limit, mark_fault, scan}
+use Rattle.handler_rules.specs.Scan.{Fault, or_else, fault_if, is_among, is_same_kind, found_fault, Limit, mark_fault, scan}
 
 abbrev pub Faults : Type 1
 Faults = CheckRefusal → Type 0

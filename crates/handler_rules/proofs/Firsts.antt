@@ -2,7 +2,7 @@
 use Rattle.std.proofs.Common.{◌≡◌, ℕ, ◌<◌, ◌≤◌, ◌==◌, ◌⊎◌, inl, inr, if◌then◌else◌, refl, sym, ap, ◌∙◌, arith}
 use Rattle.handler_rules.specs.declared.refusal.CheckRefusal.{CheckRefusal}
 use Rattle.handler_rules.specs.declared.refusal.CheckRefusal.TheVariants.{Twice, Unknown, Arity, WrongTable, RepeatBound, TooManyTables, TooManyHandlers, TooManyVariables, TooManyCalls, TooMuchWork, NoMemory}
-use Rattle.handler_rules.specs.FirstFault.{place, number, IsNoLater, IsFirst}
+use Rattle.handler_rules.specs.FirstFault.{place, number, IsFirst}
 
 -- the refusal of this number at this place
 abbrev refusal_of : ℕ → ℕ → CheckRefusal

@@ -1,14 +1,10 @@
 -- The faults of a text, mark by mark, and the rules that are broken in it.
-use Rattle.std.proofs.Common.{◌≡◌, ℕ, suc, zero, ◌+◌, ◌<◌, ◌≤◌, ◌⊎◌, inl, inr, List, [], ◌∷◌, ◌++◌, append-nil, append_assoc, length, map, Option, Some, None, refl, sym, ap, ◌∙◌, subst, arith}
-use Rattle.std.specs.List.{Contains}
-use Rattle.session_values.specs.declared.kind.Kind.{Kind}
-use Rattle.session_values.specs.declared.kind.TableKind.{TableKind}
-use Rattle.session_values.specs.Kinds.{arguments, home}
+use Rattle.std.proofs.Common.{◌≡◌, ℕ, ◌⊎◌, inl, inr, List, [], ◌∷◌, ◌++◌, append-nil, append_assoc, refl, sym, ap, ◌∙◌, subst}
 use Rattle.handler_trees.specs.declared.file.TableDecl.{TableDecl}
 use Rattle.handler_rules.specs.declared.refusal.CheckRefusal.{CheckRefusal}
 use Rattle.handler_rules.specs.declared.refusal.CheckRefusal.TheVariants.{Twice, Unknown, Arity, WrongTable, RepeatBound, TooManyTables, TooManyHandlers, TooManyVariables, TooManyCalls, TooMuchWork, NoMemory}
-use Rattle.handler_rules.specs.Marks.{Mark, Declared, Mentioned, Operation, OnTable, Turns, mark_at, declared}
-use Rattle.handler_rules.specs.Rules.{Stands, kind_of, IsTwice, IsPast, IsUnseen, IsTableless, IsMiscounted, IsMisplaced, IsUnbounded}
+use Rattle.handler_rules.specs.Marks.{Mark, Declared, Mentioned, Operation, OnTable, Turns, declared}
+use Rattle.handler_rules.specs.Rules.{Stands, IsTwice, IsPast, IsUnseen, IsTableless, IsMiscounted, IsMisplaced, IsUnbounded}
 use Rattle.handler_rules.specs.Scan.{Limit}
 use Rattle.handler_rules.proofs.Finds.{Faults, Breaks, BrokenFrom}
 

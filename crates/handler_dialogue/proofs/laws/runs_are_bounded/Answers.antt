@@ -1,4 +1,4 @@
-use Rattle.std.proofs.Common.{◌≡◌, ℕ, ◌≤◌, length, subst}
+use Rattle.std.proofs.Common.{ℕ, ◌≤◌, subst}
 use Rattle.handler_dialogue.specs.Bounds.{adding, calls_bound, every}
 use Rattle.handler_dialogue.proofs.Bounded.{counted, weight_every, ends_by}
 use Rattle.handler_dialogue.proofs.laws.runs_are_bounded.Goals as goal
