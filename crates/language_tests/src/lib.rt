@@ -1,0 +1,5 @@
+//! Tests of the handler language, through the calls that other crates make.
+#![tactic(auto)]
+
+#[cfg(test)]
+mod checking;
