@@ -1,5 +1,5 @@
 -- Inductions over expressions, cases of statements, and the equations of what is defined over them.
-use Rattle.std.proofs.Common.{◌≡◌, ℕ, List, [], ◌∷◌, ◌++◌, map, refl, sym, ap, ◌∙◌, subst, rules}
+use Rattle.std.proofs.Common.{◌≡◌, ℕ, List, ◌++◌, subst, rules}
 use Rattle.handler_trees.specs.declared.expr.Atom.{Atom}
 use Rattle.handler_trees.specs.declared.expr.Calc.{Calc}
 use Rattle.handler_trees.specs.declared.expr.Expr.{Expr, roll-Expr, map-Expr, the_lemmas}
@@ -13,7 +13,7 @@ use Rattle.handler_trees.specs.declared.stmt.Stmt.{Stmt, roll-Stmt, map-Stmt, th
 use Rattle.handler_trees.specs.declared.stmt.Stmt.TheFolds.{ind-Stmt}
 use Rattle.handler_trees.specs.declared.stmt.Stmt.TheOpen.{Stmt-F}
 use Rattle.handler_trees.specs.declared.stmt.Stmt.TheVariants as stmt
-use Rattle.handler_rules.specs.Marks.{Mark, atom_marks, expr_marks}
+use Rattle.handler_rules.specs.Marks.{atom_marks, expr_marks}
 use Rattle.handler_rules.specs.Source.{Source, Let, Assign, Do, Choose, Repeat, Answer, stmt_source, block_source}
 
 module _ (P : Expr → Type 0) (leaf : (a : Atom) → P (expr.Leaf a)) (binary : (c : Calc) (l r : Expr) → P l → P r → P (expr.Binary c l r)) where

@@ -1,5 +1,5 @@
 -- Where no rule is broken, each name stands for the declaration that is visible there.
-use Rattle.std.proofs.Common.{◌≡◌, ℕ, suc, zero, ◌+◌, ◌<◌, ◌≤◌, ◌==◌, Bool, true, false, ◌⊎◌, inl, inr, if◌then◌else◌, List, [], ◌∷◌, ◌++◌, append-nil, append_assoc, length, map, slice_index_or, slice_get, Option, Some, None, refl, sym, ap, ◌∙◌, subst, arith}
+use Rattle.std.proofs.Common.{◌≡◌, ℕ, suc, zero, ◌<◌, ◌==◌, Bool, true, false, inl, inr, if◌then◌else◌, List, [], ◌∷◌, ◌++◌, append-nil, append_assoc, length, slice_index_or, slice_get, Some, refl, sym, ap, ◌∙◌, subst, arith}
 use Rattle.std.proofs.lemmas.Bool.Decides.{nat_tests}
 use Rattle.std.proofs.lemmas.List.Elements.{Contains-append_left, Contains-append_right, Contains-append_cases, Contains-push}
 use Rattle.std.specs.List.{Contains, flat_map}
@@ -15,8 +15,8 @@ use Rattle.handler_trees.specs.declared.file.Handler.{Handler}
 use Rattle.handler_trees.specs.declared.file.Param.{Param}
 use Rattle.handler_rules.specs.declared.refusal.CheckRefusal.TheVariants.{Twice, Unknown}
 use Rattle.handler_rules.specs.FirstFault.{KeepsRules}
-use Rattle.handler_rules.specs.Marks.{Mark, Declared, Mentioned, Operation, OnTable, Turns, declared, sees, seeing, atom_marks, expr_marks, call_marks, right_marks, cond_marks, marks, param_marks, param_names, handler_marks}
-use Rattle.handler_rules.specs.Rules.{Stands, IsTwice, IsUnseen}
+use Rattle.handler_rules.specs.Marks.{Mark, Declared, Mentioned, Operation, OnTable, Turns, declared, seeing, atom_marks, expr_marks, call_marks, right_marks, cond_marks, marks, param_marks, param_names, handler_marks}
+use Rattle.handler_rules.specs.Rules.{Stands, IsTwice}
 use Rattle.handler_rules.specs.Scan.{is_among}
 use Rattle.handler_rules.specs.Source.{Source, Finish, Let, Assign, Do, Choose, Repeat, Answer, block_source}
 use Rattle.handler_rules.proofs.Finds.{among_in, in_among}

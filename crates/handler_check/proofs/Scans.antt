@@ -1,12 +1,9 @@
 -- Scans of texts, part by part.
-use Rattle.std.proofs.Common.{◌≡◌, ◌≢◌, ℕ, suc, zero, ◌+◌, ◌<◌, ◌≤◌, List, [], ◌∷◌, ◌++◌, append-nil, append_assoc, length, map, get_or, drop, take, Option, Some, None, Result, Ok, Err, refl, sym, ap, ◌∙◌, subst, arith}
-use Rattle.std.proofs.lemmas.List.{drop_more, drop_all}
+use Rattle.std.proofs.Common.{◌≡◌, ◌≢◌, ℕ, List, [], ◌∷◌, ◌++◌, append-nil, append_assoc, Some, None, Result, Err, refl, sym, ap, ◌∙◌, subst}
 use Rattle.std.specs.List.{flat_map}
 use Rattle.handler_trees.specs.declared.expr.Atom.{Atom}
 use Rattle.handler_trees.specs.declared.expr.Atom.TheVariants as atom
-use Rattle.handler_trees.specs.declared.expr.Calc.{Calc}
 use Rattle.handler_trees.specs.declared.expr.Expr.{Expr}
-use Rattle.handler_trees.specs.declared.expr.Expr.TheVariants as expr
 use Rattle.handler_trees.specs.declared.stmt.Call.{Call}
 use Rattle.handler_trees.specs.declared.stmt.Cond.{Cond}
 use Rattle.handler_trees.specs.declared.stmt.Right.{Right}
@@ -23,7 +20,7 @@ use Rattle.handler_rules.specs.Source.{Source, Finish, Let, Assign, Do, Choose, 
 use Rattle.handler_rules.proofs.Finds.{sees_none}
 use Rattle.handler_rules.proofs.Texts.{declared_append}
 use Rattle.handler_check.specs.Shown.{first_shown, shown}
-use Rattle.handler_check.proofs.Cases.{expr_induction, EachKind, stmt_cases, marks_leaf, marks_binary, source_let, source_assign, source_call, source_choose, source_repeat, source_reply}
+use Rattle.handler_check.proofs.Cases.{expr_induction, stmt_cases, marks_leaf, marks_binary, source_let, source_assign, source_call, source_choose, source_repeat, source_reply}
 
 -- ---- faults
 pub or_none : (w : Fault) → or_else w None ≡ w

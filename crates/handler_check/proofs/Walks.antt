@@ -1,9 +1,7 @@
 -- One turn of each loop of a walk, and the parts of each statement.
-use Rattle.std.proofs.Common.{◌≡◌, ◌≢◌, ℕ, suc, zero, ◌+◌, ◌<◌, ◌≤◌, ◌==◌, List, [], ◌∷◌, ◌++◌, append-nil, append_assoc, length, map, get_or, drop, take, Option, Some, None, Result, Ok, Err, OnOk, if◌then◌else◌, refl, sym, ap, ◌∙◌, subst, arith}
+use Rattle.std.proofs.Common.{◌≡◌, ℕ, ◌+◌, ◌<◌, ◌≤◌, ◌==◌, List, [], ◌∷◌, ◌++◌, append-nil, append_assoc, length, map, get_or, drop, Some, None, Result, Ok, Err, OnOk, if◌then◌else◌, sym, ap, ◌∙◌}
 use Rattle.std.proofs.lemmas.List.{drop_more, drop_all}
 use Rattle.std.specs.List.{flat_map}
-use Rattle.session_values.specs.declared.kind.TableKind.{TableKind}
-use Rattle.handler_trees.specs.declared.expr.Atom.{Atom}
 use Rattle.handler_trees.specs.declared.expr.Calc.{Calc}
 use Rattle.handler_trees.specs.declared.expr.Expr.{Expr}
 use Rattle.handler_trees.specs.declared.expr.Expr.TheVariants as expr
@@ -15,15 +13,14 @@ use Rattle.handler_trees.specs.declared.stmt.Stmt.TheVariants as stmt
 use Rattle.handler_trees.specs.declared.file.Handler.{Handler}
 use Rattle.handler_trees.specs.declared.file.Param.{Param}
 use Rattle.handler_trees.specs.declared.file.TableDecl.{TableDecl}
-use Rattle.handler_rules.specs.declared.refusal.CheckRefusal.{CheckRefusal}
-use Rattle.handler_rules.specs.Marks.{Mark, Declared, Mentioned, Turns, declared, seeing, atom_marks, expr_marks, call_marks, right_marks, cond_marks, marks, handler_marks, param_marks, param_names}
+use Rattle.handler_rules.specs.Marks.{Mark, Declared, Mentioned, Turns, declared, seeing, expr_marks, call_marks, right_marks, cond_marks, marks, handler_marks, param_marks, param_names}
 use Rattle.handler_rules.specs.Rules.{kind_of}
-use Rattle.handler_rules.specs.Scan.{Fault, or_else, declared_fault, unseen_fault, turns_fault, Limit, of_handlers, of_variables, scan, scan_handlers}
-use Rattle.handler_rules.specs.Source.{Source, Finish, Let, Assign, Do, Choose, Repeat, Answer, stmt_source, block_source}
+use Rattle.handler_rules.specs.Scan.{Fault, or_else, declared_fault, turns_fault, Limit, of_handlers, of_variables, scan, scan_handlers}
+use Rattle.handler_rules.specs.Source.{Finish, stmt_source, block_source}
 use Rattle.handler_rules.proofs.Texts.{declared_append}
 use Rattle.handler_check.specs.Shown.{first_shown, shown}
 use Rattle.handler_check.proofs.Cases.{marks_binary, source_let, source_assign, source_call, source_choose, source_repeat, source_reply}
-use Rattle.handler_check.proofs.Scans.{or_none, scan_append, scan_seeing, declared_seeing, expr_declares, right_declares, call_declares, cond_declares, all_declare, params_declared, scan_stmt, declared_stmt}
+use Rattle.handler_check.proofs.Scans.{scan_append, scan_seeing, declared_seeing, expr_declares, right_declares, call_declares, cond_declares, all_declare, params_declared, scan_stmt, declared_stmt}
 
 -- what is left of a list begins with its next element
 next : {X : Type 0} (xs : List X) (i : ℕ) (x d : X) → i < length xs → x ≡ get_or xs i d → drop i xs ≡ x ∷ drop (i + 1) xs
@@ -101,6 +98,13 @@ handler_parts tables h ps body names seen p b n s =
     ∙ ap (λ (x : List ℕ). or_else (scan of_variables tables [] [] (param_marks h.params)) (scan of_variables tables names x (marks (block_source h.body)))) (sym (s ∙ here))
     ∙ ap (λ (x : List Param). or_else (scan of_variables tables [] [] (param_marks x)) (scan of_variables tables names seen (marks (block_source h.body)))) (sym p)
     ∙ ap (λ (x : List Stmt). or_else (scan of_variables tables [] [] (param_marks ps)) (scan of_variables tables names seen (marks (block_source x)))) (sym b)
+
+pub handler_names : (h : Handler) (ps : List Param) (body : List Stmt) (names new : List ℕ) → ps ≡ h.params → body ≡ h.body → names ≡ param_names ps → new ≡ names ++ declared (marks (block_source body)) → new ≡ declared (handler_marks h)
+handler_names h ps body names new p b n e =
+    e ∙ ap (λ (x : List ℕ). x ++ declared (marks (block_source body))) (n ∙ ap param_names p ∙ sym (params_declared h.params))
+    ∙ ap (λ (x : List Stmt). declared (param_marks h.params) ++ declared (marks (block_source x))) b
+    ∙ ap (λ (x : List ℕ). declared (param_marks h.params) ++ x) (sym (declared_seeing of_variables [] (param_names h.params) (marks (block_source h.body))))
+    ∙ sym (declared_append (param_marks h.params) (seeing (param_names h.params) (marks (block_source h.body))))
 
 -- ---- blocks
 module _ (tables : List TableDecl) where

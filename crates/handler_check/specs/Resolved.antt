@@ -1,5 +1,5 @@
 -- The resolved handlers of a file: each name is the number of its declaration, and points are counted in the order of the text.
-use Rattle.std.specs.Prelude.{◌≡◌, ℕ, suc, ◌+◌, ◌<◌, ◌==◌, if◌then◌else◌, List, [], ◌∷◌, length, map, slice_get, Option, Some, None}
+use Rattle.std.specs.Prelude.{◌≡◌, ℕ, suc, ◌+◌, ◌<◌, ◌==◌, if◌then◌else◌, List, [], ◌∷◌, length, map, slice_get, Some, None}
 use Rattle.std.specs.List.{Contains}
 use Rattle.session_values.specs.declared.value.Value.TheVariants.{Nil}
 use Rattle.session_values.specs.declared.kind.TableKind.{TableKind}
@@ -19,6 +19,7 @@ use Rattle.handler_rules.specs.Source.{Source, Finish, Let, Assign, Do, Choose, 
 use Rattle.handler_dialogue.specs.declared.tree.CheckedAtom.{CheckedAtom}
 use Rattle.handler_dialogue.specs.declared.tree.CheckedAtom.TheVariants.{Lit, Var}
 use Rattle.handler_dialogue.specs.declared.tree.CheckedCall.{CheckedCall}
+use Rattle.handler_dialogue.specs.declared.tree.CheckedHandler.{CheckedHandler}
 use Rattle.handler_dialogue.specs.Code as code
 
 -- the number of a name's first declaration, or the number of declarations where there is none
@@ -113,3 +114,14 @@ pub record StandsFor (h : Handler) (before : List Mark) (seen : List ℕ) (name 
   pub only : (y : ℕ) → slice_get (variables_of h) y ≡ Some name → y ≡ x
   pub earlier : x < length (declared before)
   pub visible : Contains seen name
+
+-- ---- resolved handlers
+
+-- a handler as the program holds it, where the tables have these names
+pub record IsResolved (tables : List ℕ) (h : Handler) (c : CheckedHandler) : Type 0 where
+  pub name : c.name ≡ h.name
+  pub at : c.at ≡ h.at
+  pub params : c.params ≡ length h.params
+  pub points : c.points ≡ 1 + points_of (block_source h.body)
+  pub variables : c.variables ≡ variables_of h
+  pub body : code.block_code c.body ≡ code_of tables (variables_of h) (block_source h.body) 1

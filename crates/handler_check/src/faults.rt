@@ -6,6 +6,7 @@ mod stmt;
 
 ghost use Rattle.std.specs.Prelude.{◌≡◌, ◌≢◌, ℕ, List, [], IfOk, MatchResult};
 ghost use Rattle.handler_trees.specs.declared.file.TableDecl.{TableDecl};
+ghost use Rattle.handler_check.specs.Resolved.{variables_of};
 ghost use Rattle.handler_rules.specs.declared.refusal.CheckRefusal.TheVariants as refusal;
 ghost use Rattle.handler_rules.specs.FirstFault.{IsFirstFault, KeepsRules, PlacesRise};
 ghost use Rattle.handler_rules.specs.Marks.{handler_marks, param_marks, param_names, table_marks};
@@ -63,18 +64,21 @@ fn find_in_handlers(
     Ok(())
 }
 
-fn find_in_handler(
+/// Finds the first fault of a handler; where there is none, the names of its variables.
+pub(crate) fn find_in_handler(
     alloc: Global,
     tables: &[TableDecl],
     handler: &Handler,
-) -> Result<(), CheckRefusal>
-    ensures { Found (scan of_variables tables.now [] [] (handler_marks handler.now)) result }
+) -> Result<Vec<u32>, CheckRefusal>
+    ensures found { Found (scan of_variables tables.now [] [] (handler_marks handler.now)) result }
+    ensures names { IfOk result (λ names. names.items ≡ variables_of handler.now) }
 {
     let params = handler.params.as_slice();
     let mut names = find_in_params(alloc, params)?;
     let mut visible = copied(alloc, names.as_slice())?;
     let body = handler.body.as_slice();
-    find_in_block(tables, &mut names, &mut visible, body)
+    find_in_block(tables, &mut names, &mut visible, body)?;
+    Ok(names)
 }
 
 fn copied(alloc: Global, names: &[u32]) -> Result<Vec<u32>, NoMemory>

@@ -1,15 +1,15 @@
 -- The faults of a file, text by text, and the rules that are broken in it.
-use Rattle.std.proofs.Common.{◌≡◌, ℕ, suc, zero, ◌<◌, ◌⊎◌, inl, inr, List, [], ◌∷◌, ◌++◌, length, map, slice_index_or, refl, sym, ap, subst, arith}
+use Rattle.std.proofs.Common.{◌≡◌, ℕ, suc, zero, ◌+◌, ◌<◌, ◌≤◌, ◌⊎◌, inl, inr, List, [], ◌∷◌, ◌++◌, append-nil, append_assoc, length, map, slice_index_or, Option, Some, None, refl, sym, ap, ◌∙◌, subst, arith}
 use Rattle.std.specs.List.{Contains, AllByRecursion, flat_map}
 use Rattle.handler_trees.specs.declared.file.File.{File}
 use Rattle.handler_trees.specs.declared.file.Handler.{Handler}
 use Rattle.handler_trees.specs.declared.file.TableDecl.{TableDecl}
 use Rattle.handler_rules.specs.declared.refusal.CheckRefusal.{CheckRefusal}
 use Rattle.handler_rules.specs.declared.refusal.CheckRefusal.TheVariants.{Twice, Unknown, Arity, WrongTable, RepeatBound, TooManyTables, TooManyHandlers, TooManyVariables, TooManyCalls, TooMuchWork, NoMemory}
-use Rattle.handler_rules.specs.Marks.{Mark, Declared, mark_at, handler_marks, table_marks, name_marks}
+use Rattle.handler_rules.specs.Marks.{Mark, Declared, mark_at, declared, handler_marks, table_marks, name_marks}
 use Rattle.handler_rules.specs.Rules.{IsBroken, InHandler, IsPast}
-use Rattle.handler_rules.specs.FirstFault.{place, AreRising, PlacesRise}
-use Rattle.handler_rules.specs.Scan.{or_else, declared_fault, Limit, of_tables, of_handlers, of_variables, scan, scan_handlers, file_fault}
+use Rattle.handler_rules.specs.FirstFault.{place, IsFirstFault, KeepsRules, AreRising, PlacesRise}
+use Rattle.handler_rules.specs.Scan.{Fault, or_else, declared_fault, Limit, of_tables, of_handlers, of_variables, scan, scan_handlers, file_fault}
 use Rattle.handler_rules.proofs.Finds.{Faults, Finds, finds_same, finds_both, Breaks, BrokenFrom, IsFair, above_all, finds_scan, finds_mark, stands_at}
 use Rattle.handler_rules.proofs.Texts.{Rule, rule_from, from_rule}
 
@@ -23,22 +23,22 @@ fair_variables : IsFair of_variables
 fair_variables = record { here = λ at. refl; behind = λ at. omega arith }
 
 -- ---- rising places
-all_first : (P : ℕ → Type 0) (xs ys : List ℕ) → AllByRecursion P (xs ++ ys) → AllByRecursion P xs × AllByRecursion P ys
+pub all_first : (P : ℕ → Type 0) (xs ys : List ℕ) → AllByRecursion P (xs ++ ys) → AllByRecursion P xs × AllByRecursion P ys
 all_first P [] ys h = (tt, h)
 all_first P (x ∷ xs) ys h = (let k = all_first P xs ys h.1 in ((h.0, k.0), k.1))
 
 -- each is below a bound that is below all of the second list
-abbrev BelowAll : List ℕ → ℕ → Type 0
+abbrev pub BelowAll : List ℕ → ℕ → Type 0
 BelowAll ys x = AllByRecursion (λ (y : ℕ). x < y) ys
 
-rising_parts : (xs ys : List ℕ) → AreRising (xs ++ ys) → AreRising xs × AllByRecursion (BelowAll ys) xs × AreRising ys
+pub rising_parts : (xs ys : List ℕ) → AreRising (xs ++ ys) → AreRising xs × AllByRecursion (BelowAll ys) xs × AreRising ys
 rising_parts [] ys h = (tt, tt, h)
 rising_parts (x ∷ xs) ys h =
     let k = rising_parts xs ys h.1 in
     let p = all_first (λ (m : ℕ). x < m) xs ys h.0 in
     ((p.0, k.0), (p.1, k.1), k.2)
 
-map_append : {X Y : Type 0} (f : X → Y) (xs ys : List X) → map f (xs ++ ys) ≡ map f xs ++ map f ys
+pub map_append : {X Y : Type 0} (f : X → Y) (xs ys : List X) → map f (xs ++ ys) ≡ map f xs ++ map f ys
 map_append f [] ys = refl
 map_append f (x ∷ xs) ys = ap (λ zs. f x ∷ zs) (map_append f xs ys)
 

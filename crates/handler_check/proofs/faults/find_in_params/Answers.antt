@@ -1,4 +1,4 @@
-use Rattle.std.proofs.Common.{[], get_or, refl, ◌∙◌}
+use Rattle.std.proofs.Common.{get_or, refl, ◌∙◌}
 use Rattle.std.proofs.lemmas.Result.{err_from_is_err_and}
 use Rattle.handler_trees.specs.declared.file.Param.{Param}
 use Rattle.handler_rules.specs.Scan.{of_variables}

@@ -1,4 +1,4 @@
-use Rattle.std.proofs.Common.{◌≡◌, ◌+◌, ◌++◌, ℕ, List, length, drop}
+use Rattle.std.proofs.Common.{◌≡◌, ◌+◌, ◌++◌, ℕ, List, drop}
 use Rattle.handler_rules.specs.Marks.{declared, marks}
 use Rattle.handler_rules.specs.Scan.{of_variables, scan}
 use Rattle.handler_rules.specs.Source.{block_source}

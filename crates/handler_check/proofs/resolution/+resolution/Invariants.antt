@@ -3,7 +3,7 @@ use Rattle.handler_check.specs.Resolved.{code_of, points_of}
 use Rattle.handler_check.proofs.Resolving.{onto}
 use Rattle.handler_check.proofs.Sizes.{stmt_size, block_size}
 use Rattle.handler_rules.specs.Source.{block_source}
-use Rattle.handler_check.proofs.resolve.+resolution.Given as goal
+use Rattle.handler_check.proofs.resolution.+resolution.Given as goal
 
 abbrev pub decreases-resolve_stmt : goal.decreases-resolve_stmt
 decreases-resolve_stmt l = stmt_size l.s.now

@@ -1,10 +1,7 @@
-use Rattle.std.proofs.Common.{◌≡◌, List, sym, subst, rules}
-use Rattle.handler_dialogue.specs.declared.tree.CheckedStmt.{CheckedStmt}
-use Rattle.handler_rules.specs.Source.{block_source}
-use Rattle.handler_check.specs.Resolved.{code_of}
-use Rattle.handler_check.proofs.Resolving.{onto, block_turn, block_end, points_turn, listed_code}
+use Rattle.std.proofs.Common.{rules}
+use Rattle.handler_check.proofs.Resolving.{block_turn, block_end, points_turn, listed_code}
 use Rattle.handler_check.proofs.Sizes.{member_smaller}
-use Rattle.handler_check.proofs.resolve.+resolution.Goals as goal
+use Rattle.handler_check.proofs.resolution.+resolution.Goals as goal
 
 pub resolve_block-resolve_stmt-requires : goal.resolve_block-resolve_stmt-requires
 resolve_block-resolve_stmt-requires t c =

@@ -1,14 +1,21 @@
 // Resolution: the names of tables and variables become numbers, and points are counted.
 
-ghost use Rattle.std.specs.Prelude.{◌≡◌, ◌+◌, ◌<◌, ◌^◌, ℕ, Option, IfOk, OnOk, length, map};
+ghost use Rattle.std.specs.Prelude.{◌≡◌, ◌≢◌, ◌+◌, ◌<◌, ◌^◌, ℕ, Option, IfOk, MatchResult, OnOk, length, map};
+ghost use Rattle.std.specs.List.{AllZip};
+ghost use Rattle.handler_trees.specs.declared.file.TableDecl.{TableDecl};
 ghost use Rattle.handler_check.specs.Resolved as spec;
 ghost use Rattle.handler_dialogue.specs.Code.{Code, Ask, block_code, cond_test, expr_term, stmt_code};
+ghost use Rattle.handler_rules.specs.declared.refusal.CheckRefusal.TheVariants as refusal;
+ghost use Rattle.handler_rules.specs.FirstFault.{IsFirstFault, KeepsRules, PlacesRise};
 ghost use Rattle.handler_rules.specs.Source.{Source, block_source, stmt_source};
 
+use crate::faults::{find_fault, find_in_handler};
 use handler_dialogue::{
-    CheckedAtom, CheckedBlock, CheckedCall, CheckedCond, CheckedExpr, CheckedExprs, CheckedStmt,
+    CheckedAtom, CheckedBlock, CheckedCall, CheckedCond, CheckedExpr, CheckedExprs, CheckedHandler,
+    CheckedStmt,
 };
-use handler_trees::{Atom, Call, Cond, Expr, Right, Stmt};
+use handler_rules::CheckRefusal;
+use handler_trees::{Atom, Call, Cond, Expr, File, Handler, Right, Stmt, TableDecl};
 use session_values::{Boxed, Listed, NoMemory, Value};
 use std::alloc::Global;
 
@@ -282,4 +289,66 @@ fn resolve_block(
         found.push(one)?;
     }
     listed(found)
+}
+
+/// A handler that breaks no rule on names, arguments or numbers. (One that does has no resolved
+/// form; it is refused before.)
+fn resolve_handler(
+    alloc: Global,
+    declared: &[TableDecl],
+    tables: &[u32],
+    handler: &Handler,
+) -> Result<CheckedHandler, NoMemory>
+    requires { length tables.now < 2 ^ 32 }
+    ensures { IfOk result (spec.IsResolved tables.now handler.now) }
+{
+    let Ok(names) = find_in_handler(alloc, declared, handler) else {
+        return Err(NoMemory);
+    };
+    let variables = listed(names)?;
+    let mut points: u32 = 1;
+    let source = handler.body.as_slice();
+    let body = resolve_block(alloc, tables, variables.as_slice(), source, &mut points)?;
+    Ok(CheckedHandler {
+        name: handler.name,
+        at: handler.at,
+        params: handler.params.len(),
+        points,
+        variables,
+        body,
+    })
+}
+
+fn table_names(alloc: Global, tables: &[TableDecl]) -> Result<Vec<u32>, NoMemory>
+    ensures { IfOk result (λ found. found.items ≡ map (λ (t : TableDecl). t.name) tables.now) }
+{
+    Ok(tables.iter().map(|t| t.name).collect(alloc)?)
+}
+
+/// The handlers of a file that breaks no rule on names, arguments or numbers.
+fn resolve_handlers(alloc: Global, file: &File) -> Result<Listed<CheckedHandler>, NoMemory>
+    ensures { IfOk result (AllZip (spec.IsResolved (spec.table_names file.now)) file.now.handlers) }
+{
+    let declared = file.tables.as_slice();
+    let listed_names = table_names(alloc, declared)?;
+    let tables = listed(listed_names)?;
+    let names = tables.as_slice();
+    let handlers = file.handlers.as_slice();
+    let mut found = Vec::with_capacity(alloc, handlers.len())?;
+    for handler in handlers {
+        let one = resolve_handler(alloc, declared, names, handler)?;
+        found.push(one)?;
+    }
+    listed(found)
+}
+
+/// The resolved handlers of a file, in its order, or the first place where it breaks a rule on
+/// names, arguments or numbers, if its places rise in the order of the text.
+pub fn resolve(alloc: Global, file: &File) -> Result<Listed<CheckedHandler>, CheckRefusal>
+    ensures rules { PlacesRise file.now
+        → MatchResult result (λ _. KeepsRules file.now) (λ e. e ≢ refusal.NoMemory → IsFirstFault file.now e) }
+    ensures handlers { IfOk result (AllZip (spec.IsResolved (spec.table_names file.now)) file.now.handlers) }
+{
+    find_fault(alloc, file)?;
+    Ok(resolve_handlers(alloc, file)?)
 }
