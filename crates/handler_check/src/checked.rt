@@ -48,7 +48,8 @@ impl Model for Checked {
 pub fn check(alloc: Global, file: File) -> Result<Checked, CheckRefusal>
     requires { PlacesRise file }
     ensures file { IfOk result (λ checked. checked ≡ file) }
-    ensures rules { MatchResult result (λ _. IsAccepted file) (λ e. e ≢ refusal.NoMemory → IsRefusal file e) }
+    ensures rules { MatchResult result (λ _. IsAccepted file) (λ e. e ≢ refusal.NoMemory
+        → IsRefusal file e) }
 {
     let handlers = resolve(alloc, &file)?;
     find_excess(handlers.as_slice())?;
@@ -73,7 +74,8 @@ impl Checked {
     /// The resolved handler of this number.
     pub fn handler(&self, h: u32) -> &CheckedHandler
         requires { h < length self.now.handlers }
-        ensures resolved { (source : Handler) → slice_get self.now.handlers h ≡ Some source → IsResolved (table_names self.now) source result.now }
+        ensures resolved { (source : Handler) → slice_get self.now.handlers h ≡ Some source
+            → IsResolved (table_names self.now) source result.now }
         ensures accepted { IsAccepted self.now }
     {
         self.handlers.get(h)
@@ -81,8 +83,10 @@ impl Checked {
 
     /// The number of the handler with this name, if there is one.
     pub fn find(&self, name: u32) -> Option<u32>
-        ensures found { IfSome result (λ h. (source : Handler) × (slice_get self.now.handlers h ≡ Some source) × (source.name ≡ name)) }
-        ensures none { IfNone result ((h : ℕ) (source : Handler) → slice_get self.now.handlers h ≡ Some source → source.name ≡ name → ⊥) }
+        ensures found { IfSome result (λ h. (source : Handler) × (slice_get self.now.handlers h
+            ≡ Some source) × (source.name ≡ name)) }
+        ensures none { IfNone result ((h : ℕ) (source : Handler) → slice_get self.now.handlers h
+            ≡ Some source → source.name ≡ name → ⊥) }
     {
         let handlers = &self.file.handlers;
         for h in 0..handlers.len() {
@@ -97,7 +101,8 @@ impl Checked {
     /// The bound on the calls of a handler.
     pub fn calls_bound(&self, h: u32) -> u32
         requires { h < length self.now.handlers }
-        ensures { (source : Handler) → slice_get self.now.handlers h ≡ Some source → result ≡ spec.calls_bound (handler_code self.now source) }
+        ensures { (source : Handler) → slice_get self.now.handlers h ≡ Some source → result
+            ≡ spec.calls_bound (handler_code self.now source) }
     {
         let handler = self.handler(h);
         count_calls(Counted::Every, handler.body.as_slice())
@@ -106,7 +111,8 @@ impl Checked {
     /// The bound on the work of a handler.
     pub fn work_bound(&self, h: u32) -> u32
         requires { h < length self.now.handlers }
-        ensures { (source : Handler) → slice_get self.now.handlers h ≡ Some source → result ≡ spec.work_bound (handler_code self.now source) }
+        ensures { (source : Handler) → slice_get self.now.handlers h ≡ Some source → result
+            ≡ spec.work_bound (handler_code self.now source) }
     {
         let handler = self.handler(h);
         count_work(handler.body.as_slice())
@@ -115,7 +121,8 @@ impl Checked {
     /// The bound on the calls of a handler that may add a key to a table.
     pub fn adds_bound(&self, h: u32, table: u32) -> u32
         requires { h < length self.now.handlers }
-        ensures { (source : Handler) → slice_get self.now.handlers h ≡ Some source → result ≡ spec.adds_bound table (handler_code self.now source) }
+        ensures { (source : Handler) → slice_get self.now.handlers h ≡ Some source → result
+            ≡ spec.adds_bound table (handler_code self.now source) }
     {
         let handler = self.handler(h);
         count_calls(Counted::Adding(table), handler.body.as_slice())

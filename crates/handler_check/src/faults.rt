@@ -24,7 +24,8 @@ use std::alloc::Global;
 /// rise in the order of the text.
 pub fn find_fault(alloc: Global, file: &File) -> Result<(), CheckRefusal>
     ensures { PlacesRise file.now
-        → MatchResult result (λ _. KeepsRules file.now) (λ e. e ≢ refusal.NoMemory → IsFirstFault file.now e) }
+        → MatchResult result (λ _. KeepsRules file.now) (λ e. e ≢ refusal.NoMemory
+        → IsFirstFault file.now e) }
 {
     walk_finds_first();
     find_in_file(alloc, file)
@@ -89,7 +90,8 @@ fn copied(alloc: Global, names: &[u32]) -> Result<Vec<u32>, NoMemory>
 
 /// The names of parameters.
 fn find_in_params(alloc: Global, params: &[Param]) -> Result<Vec<u32>, CheckRefusal>
-    ensures found { (tables : List TableDecl) (visible : List ℕ) → Found (scan of_variables tables [] visible (param_marks params.now)) result }
+    ensures found { (tables : List TableDecl) (visible : List ℕ)
+        → Found (scan of_variables tables [] visible (param_marks params.now)) result }
     ensures names { IfOk result (λ names. names.items ≡ param_names params.now) }
 {
     let mut names = Vec::new(alloc);

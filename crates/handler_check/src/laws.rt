@@ -16,14 +16,16 @@ ghost use Rattle.handler_rules.specs.Source.{block_source};
 /// The points of a resolved handler are numbered in the order of its text, from 1 behind its entry.
 pub fn points_are_numbered()
     ensures numbered { (f : File) (h : Handler) → IsNumbered (handler_code f h) 1 }
-    ensures count { (f : File) (h : Handler) → points (handler_code f h) ≡ points_of (block_source h.body) }
+    ensures count { (f : File) (h : Handler) → points (handler_code f h)
+        ≡ points_of (block_source h.body) }
 {}
 
 /// Where a file breaks no rule, each variable that is read or assigned has the number of the one
 /// variable of its name, which is declared before, and is visible there.
 pub fn names_stand_for_declarations()
     ensures { (f : File) (h : Handler) → KeepsRules f → Contains f.handlers h
-        → (before : List Mark) (name at : ℕ) (visible : List ℕ) → Stands (handler_marks h) before (Mentioned name at visible)
+        → (before : List Mark) (name at : ℕ) (visible : List ℕ)
+        → Stands (handler_marks h) before (Mentioned name at visible)
         → StandsFor h before visible name (number_in (variables_of h) name) }
 {}
 

@@ -73,7 +73,8 @@ fn resolve_values(
     values: &[Expr],
 ) -> Result<CheckedExprs, NoMemory>
     requires { length variables.now < 2 ^ 32 }
-    ensures { IfOk result (λ found. map expr_term found ≡ map (spec.term_of variables.now) values.now) }
+    ensures { IfOk result (λ found. map expr_term found
+        ≡ map (spec.term_of variables.now) values.now) }
 {
     let mut found = Vec::with_capacity(alloc, values.len())?;
     for value in values {
@@ -166,7 +167,8 @@ fn resolve_perform(
 ) -> Result<CheckedStmt, NoMemory>
     requires tables { length tables.now < 2 ^ 32 }
     requires variables { length variables.now < 2 ^ 32 }
-    ensures code { IfOk result (λ found. (rest : Code) → stmt_code found rest ≡ Ask call.now.at points.old var (spec.call_of tables.now variables.now call.now) rest) }
+    ensures code { IfOk result (λ found. (rest : Code) → stmt_code found rest
+        ≡ Ask call.now.at points.old var (spec.call_of tables.now variables.now call.now) rest) }
     ensures points { OnOk result (points.new ≡ points.old + 1) }
 {
     let point = next_point(points)?;
@@ -189,7 +191,8 @@ fn resolve_store(
 ) -> Result<CheckedStmt, NoMemory>
     requires tables { length tables.now < 2 ^ 32 }
     requires variables { length variables.now < 2 ^ 32 }
-    ensures code { IfOk result (λ found. (rest : Code) → stmt_code found rest ≡ spec.stored tables.now variables.now name right.now points.old rest) }
+    ensures code { IfOk result (λ found. (rest : Code) → stmt_code found rest
+        ≡ spec.stored tables.now variables.now name right.now points.old rest) }
     ensures points { OnOk result (points.new ≡ points.old + spec.right_points right.now) }
 {
     let var = number_in(variables, name);
@@ -215,7 +218,8 @@ fn resolve_stmt(
     ensures code { IfOk result (λ found. (rest : Source)
         → stmt_code found (spec.code_of tables.now variables.now rest points.new)
         ≡ spec.code_of tables.now variables.now (stmt_source s.now rest) points.old) }
-    ensures points { OnOk result ((rest : Source) → points.new + spec.points_of rest ≡ points.old + spec.points_of (stmt_source s.now rest)) }
+    ensures points { OnOk result ((rest : Source) → points.new + spec.points_of rest
+        ≡ points.old + spec.points_of (stmt_source s.now rest)) }
 {
     match s {
         Stmt::Let { name, right, .. } => {
@@ -280,8 +284,10 @@ fn resolve_block(
 ) -> Result<CheckedBlock, NoMemory>
     requires tables { length tables.now < 2 ^ 32 }
     requires variables { length variables.now < 2 ^ 32 }
-    ensures code { IfOk result (λ found. block_code found ≡ spec.code_of tables.now variables.now (block_source block.now) points.old) }
-    ensures points { OnOk result (points.new ≡ points.old + spec.points_of (block_source block.now)) }
+    ensures code { IfOk result (λ found. block_code found
+        ≡ spec.code_of tables.now variables.now (block_source block.now) points.old) }
+    ensures points { OnOk result (points.new
+        ≡ points.old + spec.points_of (block_source block.now)) }
 {
     let mut found = Vec::with_capacity(alloc, block.len())?;
     for s in block {
@@ -346,8 +352,10 @@ fn resolve_handlers(alloc: Global, file: &File) -> Result<Listed<CheckedHandler>
 /// names, arguments or numbers, if its places rise in the order of the text.
 pub fn resolve(alloc: Global, file: &File) -> Result<Listed<CheckedHandler>, CheckRefusal>
     ensures rules { PlacesRise file.now
-        → MatchResult result (λ _. KeepsRules file.now) (λ e. e ≢ refusal.NoMemory → IsFirstFault file.now e) }
-    ensures handlers { IfOk result (AllZip (spec.IsResolved (spec.table_names file.now)) file.now.handlers) }
+        → MatchResult result (λ _. KeepsRules file.now) (λ e. e ≢ refusal.NoMemory
+        → IsFirstFault file.now e) }
+    ensures handlers { IfOk result (AllZip (spec.IsResolved
+        (spec.table_names file.now)) file.now.handlers) }
 {
     find_fault(alloc, file)?;
     Ok(resolve_handlers(alloc, file)?)

@@ -16,16 +16,21 @@ ghost use Rattle.handler_dialogue.specs.Within.{CodeWithin};
 /// A run makes at most as many calls as the bound by the text says, and at most as many adding ones
 /// on a table; after as many replies it has answered.
 pub fn runs_are_bounded()
-    ensures calls { (code : Code) (env : Env) (entries : List Entry) → Follows (next code env) entries → length entries ≤ calls_bound code }
-    ensures adds { (table : ℕ) (code : Code) (env : Env) → CountsAtMost (adding table) (adds_bound table code) (next code env) }
+    ensures calls { (code : Code) (env : Env) (entries : List Entry)
+        → Follows (next code env) entries → length entries ≤ calls_bound code }
+    ensures adds { (table : ℕ) (code : Code) (env : Env)
+        → CountsAtMost (adding table) (adds_bound table code) (next code env) }
     ensures ends { (code : Code) (env : Env) → EndsBy (calls_bound code) (next code env) }
 {}
 
 /// The next operation fits the tables, and where a program can hold the arguments and the replies,
 /// it can hold what comes next.
 pub fn next_is_held()
-    ensures fits { (shape : List TableKind) (n : ℕ) (code : Code) (env : Env) → CodeWithin shape n code → CallsFit shape (next code env) }
-    ensures values { (shape : List TableKind) (n : ℕ) (code : Code) (args : List Value) → CodeWithin shape n code → AllByRecursion IsValue args → KeepsValues (next code (env_of args)) }
+    ensures fits { (shape : List TableKind) (n : ℕ) (code : Code) (env : Env)
+        → CodeWithin shape n code → CallsFit shape (next code env) }
+    ensures values { (shape : List TableKind) (n : ℕ) (code : Code) (args : List Value)
+        → CodeWithin shape n code → AllByRecursion IsValue args
+        → KeepsValues (next code (env_of args)) }
 {}
 
 /// A block run with what comes after it is the block's run.

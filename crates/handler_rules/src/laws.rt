@@ -15,6 +15,7 @@ pub fn one_is_first()
 /// Where the places of a file rise in the order of its text, a walk over the text finds the first
 /// fault.
 pub fn walk_finds_first()
-    ensures some { (f : File) (e : CheckRefusal) → PlacesRise f → file_fault f ≡ Some e → IsFirstFault f e }
+    ensures some { (f : File) (e : CheckRefusal) → PlacesRise f → file_fault f ≡ Some e
+        → IsFirstFault f e }
     ensures none { (f : File) → PlacesRise f → file_fault f ≡ None → KeepsRules f }
 {}

@@ -1,6 +1,6 @@
 // The first place where a file breaks a rule of the checker.
 
-use handler_check::find_fault;
+use handler_check::{Counted, count_calls, count_work, find_fault, resolve};
 use handler_syntax::parse;
 use session_values::Names;
 use std::alloc::Global;
@@ -130,6 +130,60 @@ fn finds_the_first_fault(rt: HostRuntime) -> Result<(), Fail> {
     ] {
         let found = refusal(rt.alloc(), source)?;
         assert_eq!(rt; found.as_str(), want, "{source}");
+    }
+    Ok(())
+}
+
+/// The bounds of a source's first handler, on its calls and its work.
+fn bounds(alloc: Global, source: &str) -> Result<(u32, u32), Fail> {
+    if source.len() > 4_194_304 {
+        return Err(Fail::from("too long"));
+    }
+    let mut names = Names::new(alloc)?;
+    let Ok(file) = parse(alloc, source, &mut names) else {
+        return Err(Fail::from("no file"));
+    };
+    let Ok(handlers) = resolve(alloc, file.tree()) else {
+        return Err(Fail::from("refused"));
+    };
+    if handlers.len() == 0 {
+        return Err(Fail::from("no handler"));
+    }
+    let body = handlers.get(0).body.as_slice();
+    Ok((count_calls(Counted::Every, body), count_work(body)))
+}
+
+#[test]
+fn bounds_the_text(rt: HostRuntime) -> Result<(), Fail> {
+    for (source, want) in [
+        ("handler nop() { }", (0u32, 0u32)),
+        (
+            "map m; handler f() { repeat 1000 as i { repeat 11 as j { get(m, j); } } }",
+            (11_000, 24_001),
+        ),
+        (
+            "map m; handler f() { repeat 1000 as i { repeat 10 as j { get(m, j); } } }",
+            (10_000, 22_001),
+        ),
+        (
+            "handler spin() { repeat 1000 as i { repeat 49 as j { let x = j; } } }",
+            (0, 100_001),
+        ),
+        (
+            "handler spin() { repeat 1000 as i { repeat 48 as j { let x = j; } } }",
+            (0, 98_001),
+        ),
+        (
+            "map m; handler f(a) { if a == 1 { put(m, a, 1); del(m, a); } else { get(m, a); } reply a; get(m, a); }",
+            (3, 5),
+        ),
+        (
+            "map m; handler f() { repeat 1000 as i { repeat 1000 as j { repeat 1000 as k { repeat 1000 as l { get(m, l); } } } } }",
+            (4_294_967_295, 4_294_967_295),
+        ),
+    ] {
+        let found = bounds(rt.alloc(), source)?;
+        assert_eq!(rt; found, want, "{source}");
     }
     Ok(())
 }

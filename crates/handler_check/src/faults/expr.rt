@@ -11,7 +11,8 @@ use handler_rules::CheckRefusal;
 use handler_trees::{Atom, Call, Cond, Expr, Right, TableDecl};
 
 fn find_in_atom(visible: &[u32], atom: Atom) -> Result<(), CheckRefusal>
-    ensures { (tables : List TableDecl) (earlier : List ℕ) → Found (scan of_variables tables earlier visible.now (atom_marks atom)) result }
+    ensures { (tables : List TableDecl) (earlier : List ℕ)
+        → Found (scan of_variables tables earlier visible.now (atom_marks atom)) result }
 {
     match atom {
         Atom::Lit(_) => Ok(()),
@@ -20,7 +21,8 @@ fn find_in_atom(visible: &[u32], atom: Atom) -> Result<(), CheckRefusal>
 }
 
 fn find_in_expr(visible: &[u32], e: &Expr) -> Result<(), CheckRefusal>
-    ensures { (tables : List TableDecl) (earlier : List ℕ) → Found (scan of_variables tables earlier visible.now (expr_marks e.now)) result }
+    ensures { (tables : List TableDecl) (earlier : List ℕ)
+        → Found (scan of_variables tables earlier visible.now (expr_marks e.now)) result }
 {
     match e {
         Expr::Leaf(atom) => find_in_atom(visible, *atom),
@@ -32,7 +34,9 @@ fn find_in_expr(visible: &[u32], e: &Expr) -> Result<(), CheckRefusal>
 }
 
 pub(super) fn find_in_values(visible: &[u32], values: &[Expr]) -> Result<(), CheckRefusal>
-    ensures { (tables : List TableDecl) (earlier : List ℕ) → Found (scan of_variables tables earlier visible.now (flat_map expr_marks values.now)) result }
+    ensures { (tables : List TableDecl) (earlier : List ℕ)
+        → Found (scan of_variables tables earlier visible.now
+        (flat_map expr_marks values.now)) result }
 {
     for value in values {
         find_in_expr(visible, value)?;
@@ -41,7 +45,9 @@ pub(super) fn find_in_values(visible: &[u32], values: &[Expr]) -> Result<(), Che
 }
 
 fn find_in_arguments(visible: &[u32], args: &[Atom]) -> Result<(), CheckRefusal>
-    ensures { (tables : List TableDecl) (earlier : List ℕ) → Found (scan of_variables tables earlier visible.now (flat_map atom_marks args.now)) result }
+    ensures { (tables : List TableDecl) (earlier : List ℕ)
+        → Found (scan of_variables tables earlier visible.now
+        (flat_map atom_marks args.now)) result }
 {
     for atom in args {
         find_in_atom(visible, *atom)?;
@@ -50,7 +56,8 @@ fn find_in_arguments(visible: &[u32], args: &[Atom]) -> Result<(), CheckRefusal>
 }
 
 pub(super) fn find_in_cond(visible: &[u32], cond: &Cond) -> Result<(), CheckRefusal>
-    ensures { (tables : List TableDecl) (earlier : List ℕ) → Found (scan of_variables tables earlier visible.now (cond_marks cond.now)) result }
+    ensures { (tables : List TableDecl) (earlier : List ℕ)
+        → Found (scan of_variables tables earlier visible.now (cond_marks cond.now)) result }
 {
     find_in_expr(visible, &cond.left)?;
     find_in_expr(visible, &cond.right)
@@ -61,7 +68,8 @@ pub(super) fn find_in_call(
     visible: &[u32],
     call: &Call,
 ) -> Result<(), CheckRefusal>
-    ensures { (earlier : List ℕ) → Found (scan of_variables tables.now earlier visible.now (call_marks call.now)) result }
+    ensures { (earlier : List ℕ) → Found (scan of_variables tables.now earlier visible.now
+        (call_marks call.now)) result }
 {
     count_arguments(call.kind, call.args.len(), call.at)?;
     find_table(tables, call.kind, call.table, call.table_at)?;
@@ -73,7 +81,8 @@ pub(super) fn find_in_right(
     visible: &[u32],
     right: &Right,
 ) -> Result<(), CheckRefusal>
-    ensures { (earlier : List ℕ) → Found (scan of_variables tables.now earlier visible.now (right_marks right.now)) result }
+    ensures { (earlier : List ℕ) → Found (scan of_variables tables.now earlier visible.now
+        (right_marks right.now)) result }
 {
     match right {
         Right::Plain(e) => find_in_expr(visible, e),

@@ -18,7 +18,8 @@ pub(super) fn declare(
     name: u32,
     at: u32,
 ) -> Result<(), CheckRefusal>
-    ensures found { Found (or_else (fault_if (is_among earlier.old.items name) (refusal.Twice at)) (fault_if (length earlier.old.items == limit) past)) result }
+    ensures found { Found (or_else (fault_if (is_among earlier.old.items name)
+        (refusal.Twice at)) (fault_if (length earlier.old.items == limit) past)) result }
     ensures names { OnOk result (earlier.new.items ≡ earlier.old.items ++ name ∷ []) }
 {
     if earlier.as_slice().contains(&name) {
@@ -37,7 +38,8 @@ pub(super) fn declare_variable(
     name: u32,
     at: u32,
 ) -> Result<(), CheckRefusal>
-    ensures found { Found (declared_fault of_variables.limit of_variables.past earlier.old.items name at) result }
+    ensures found { Found
+        (declared_fault of_variables.limit of_variables.past earlier.old.items name at) result }
     ensures names { OnOk result (earlier.new.items ≡ earlier.old.items ++ name ∷ []) }
 {
     declare(earlier, 32, CheckRefusal::TooManyVariables { at }, name, at)

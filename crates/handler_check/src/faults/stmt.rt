@@ -18,8 +18,10 @@ fn find_in_stmt(
     visible: &mut Vec<u32>,
     s: &Stmt,
 ) -> Result<(), CheckRefusal>
-    ensures found { Found (scan of_variables tables.now names.old.items visible.old.items (marks (stmt_source s.now Finish))) result }
-    ensures names { OnOk result (names.new.items ≡ names.old.items ++ declared (marks (stmt_source s.now Finish))) }
+    ensures found { Found (scan of_variables tables.now names.old.items visible.old.items (marks
+        (stmt_source s.now Finish))) result }
+    ensures names { OnOk result (names.new.items
+        ≡ names.old.items ++ declared (marks (stmt_source s.now Finish))) }
     ensures visible { OnOk result (visible.new.items ≡ visible.old.items ++ shown s.now) }
 {
     match s {
@@ -64,8 +66,10 @@ fn find_in_body(
     name: u32,
     body: &[Stmt],
 ) -> Result<(), CheckRefusal>
-    ensures found { Found (scan of_variables tables.now names.old.items (visible.old.items ++ name ∷ []) (marks (block_source body.now))) result }
-    ensures names { OnOk result (names.new.items ≡ names.old.items ++ declared (marks (block_source body.now))) }
+    ensures found { Found (scan of_variables tables.now names.old.items
+        (visible.old.items ++ name ∷ []) (marks (block_source body.now))) result }
+    ensures names { OnOk result (names.new.items
+        ≡ names.old.items ++ declared (marks (block_source body.now))) }
     ensures visible { OnOk result (visible.new.items ≡ visible.old.items) }
 {
     let before = visible.len();
@@ -83,8 +87,10 @@ pub(super) fn find_in_block(
     visible: &mut Vec<u32>,
     block: &[Stmt],
 ) -> Result<(), CheckRefusal>
-    ensures found { Found (scan of_variables tables.now names.old.items visible.old.items (marks (block_source block.now))) result }
-    ensures names { OnOk result (names.new.items ≡ names.old.items ++ declared (marks (block_source block.now))) }
+    ensures found { Found (scan of_variables tables.now names.old.items visible.old.items (marks
+        (block_source block.now))) result }
+    ensures names { OnOk result (names.new.items
+        ≡ names.old.items ++ declared (marks (block_source block.now))) }
     ensures visible { OnOk result (visible.new.items ≡ visible.old.items) }
 {
     let before = visible.len();
