@@ -1,0 +1,144 @@
+-- The first handler that may do too much is the first fault of what handlers may do.
+use Rattle.std.proofs.Common.{◌≡◌, ℕ, suc, zero, ◌+◌, ◌<◌, true, nat_lt, ◌⊎◌, inl, inr, List, [], ◌∷◌, ◌++◌, length, map, get_or, drop, slice_index_or, Some, None, refl, sym, ap, ◌∙◌, subst, arith}
+use Rattle.std.proofs.lemmas.Bool.Decides.{nat_tests}
+use Rattle.std.proofs.lemmas.List.{drop_more}
+use Rattle.std.specs.List.{AllZip, AllByRecursion, Contains, flat_map}
+use Rattle.handler_trees.specs.declared.file.File.{File}
+use Rattle.handler_trees.specs.declared.file.Handler.{Handler}
+use Rattle.handler_dialogue.specs.declared.tree.CheckedHandler.{CheckedHandler}
+use Rattle.handler_dialogue.specs.Bounds.{calls_bound, work_bound}
+use Rattle.handler_dialogue.specs.Code.{Code}
+use Rattle.handler_rules.specs.declared.refusal.CheckRefusal.{CheckRefusal}
+use Rattle.handler_rules.specs.declared.refusal.CheckRefusal.TheVariants.{Twice, Unknown, Arity, WrongTable, RepeatBound, TooManyTables, TooManyHandlers, TooManyVariables, TooManyCalls, TooMuchWork, NoMemory}
+use Rattle.handler_rules.specs.FirstFault.{place, number, IsNoLater, AreRising, KeepsRules, PlacesRise}
+use Rattle.handler_rules.specs.Marks.{Mark, Declared, mark_at, handler_marks, table_marks}
+use Rattle.handler_rules.specs.Scan.{Fault, or_else, fault_if}
+use Rattle.handler_rules.proofs.Finds.{Faults, Finds, finds_same, finds_both, finds_if}
+use Rattle.handler_rules.proofs.Files.{all_first, rising_parts, map_append}
+use Rattle.handler_check.specs.Checking.{IsAccepted, IsBeyond, IsRefusal}
+use Rattle.handler_check.specs.Excess.{code_excess, own_excess, excess}
+use Rattle.handler_check.specs.Resolved.{IsResolved, table_names, handler_code}
+
+is_more : (n b : ℕ) → nat_lt n b ≡ true → n < b
+is_more n b e = grind (arith, nat_tests)
+
+more_is : (n b : ℕ) → n < b → nat_lt n b ≡ true
+more_is n b e = grind (arith, nat_tests)
+
+abbrev OwnBeyond : Code → ℕ → Faults
+OwnBeyond code at g = ((10000 < calls_bound code) × (g ≡ TooManyCalls at)) ⊎ ((100000 < work_bound code) × (g ≡ TooMuchWork at))
+
+in_order : (at : ℕ) (g k : CheckRefusal) → g ≡ TooManyCalls at → k ≡ TooMuchWork at → IsNoLater g k
+in_order at g k e f =
+    let a : place g ≡ at = ap place e in
+    let b : place k ≡ at = ap place f in
+    let c : number g ≡ 9 = ap number e in
+    let d : number k ≡ 10 = ap number f in
+    inr (a ∙ sym b, omega arith)
+
+finds_own : (code : Code) (at : ℕ) → Finds (code_excess code at) (OwnBeyond code at)
+finds_own code at =
+    finds_both (fault_if (nat_lt 10000 (calls_bound code)) (TooManyCalls at)) (fault_if (nat_lt 100000 (work_bound code)) (TooMuchWork at)) (λ g. (10000 < calls_bound code) × (g ≡ TooManyCalls at)) (λ g. (100000 < work_bound code) × (g ≡ TooMuchWork at))
+    (λ g k b c. in_order at g k b.1 c.1)
+    (finds_if (nat_lt 10000 (calls_bound code)) (10000 < calls_bound code) (TooManyCalls at) (is_more 10000 (calls_bound code)) (more_is 10000 (calls_bound code)))
+    (finds_if (nat_lt 100000 (work_bound code)) (100000 < work_bound code) (TooMuchWork at) (is_more 100000 (work_bound code)) (more_is 100000 (work_bound code)))
+
+own_place : (code : Code) (at : ℕ) (g : CheckRefusal) → OwnBeyond code at g → place g ≡ at
+own_place code at g b = elim b [ inl h ↦ ap place h.1 | inr h ↦ ap place h.1 ]
+
+module _ (f : File) where
+  abbrev BeyondFrom : List Handler → Faults
+  BeyondFrom [] g = ⊥
+  BeyondFrom (h ∷ hs) g = OwnBeyond (handler_code f h) h.at g ⊎ BeyondFrom hs g
+
+  abbrev places_of : List Handler → List ℕ
+  places_of hs = map (λ (h : Handler). h.at) hs
+
+  beyond_above : (P : ℕ → Type 0) (hs : List Handler) (g : CheckRefusal) → AllByRecursion P (places_of hs) → BeyondFrom hs g → P (place g)
+  beyond_above P [] g a b = absurd b
+  beyond_above P (h ∷ hs) g a b = elim b [ inl c ↦ subst P (sym (own_place (handler_code f h) h.at g c)) a.0 | inr c ↦ beyond_above P hs g a.1 c ]
+
+  same_excess : (h : Handler) (c : CheckedHandler) → IsResolved (table_names f) h c → own_excess c ≡ code_excess (handler_code f h) h.at
+  same_excess h c r = ap (λ (x : Code). code_excess x c.at) r.body ∙ ap (code_excess (handler_code f h)) r.at
+
+  finds_excess : (hs : List Handler) (cs : List CheckedHandler) → AllZip (IsResolved (table_names f)) hs cs → AreRising (places_of hs) → Finds (excess cs) (BeyondFrom hs)
+  finds_excess [] [] z r = λ g b. b
+  finds_excess [] (c ∷ cs) z r = absurd z
+  finds_excess (h ∷ hs) [] z r = absurd z
+  finds_excess (h ∷ hs) (c ∷ cs) z r =
+      finds_both (own_excess c) (excess cs) (OwnBeyond (handler_code f h) h.at) (BeyondFrom hs)
+      (λ g k b d. inl (subst (λ (n : ℕ). n < place k) (sym (own_place (handler_code f h) h.at g b)) (beyond_above (λ (m : ℕ). h.at < m) hs k r.0 d)))
+      (subst (λ (w : Fault). Finds w (OwnBeyond (handler_code f h) h.at)) (sym (same_excess h c z.0)) (finds_own (handler_code f h) h.at))
+      (finds_excess hs cs z.1 r.1)
+
+  -- ---- as conditions on the file
+  abbrev Some_of : List Handler → Faults
+  Some_of hs g = (h : Handler) × Contains hs h × OwnBeyond (handler_code f h) h.at g
+
+  some_from : (hs : List Handler) (g : CheckRefusal) → BeyondFrom hs g → Some_of hs g
+  some_from [] g b = absurd b
+  some_from (x ∷ hs) g b = elim b [
+    | inl c ↦ (x, (0, omega arith, refl), c)
+    | inr c ↦ (let d = some_from hs g c in (d.0, (suc d.1.0, (let l = d.1.1 in omega arith), d.1.2), d.2))
+  ]
+
+  from_some : (hs : List Handler) (g : CheckRefusal) (h : Handler) (k : ℕ) → k < length hs → slice_index_or hs k h ≡ h → OwnBeyond (handler_code f h) h.at g → BeyondFrom hs g
+  from_some [] g h k l e b = absurd (omega arith)
+  from_some (x ∷ hs) g h zero l e b = inl (subst (λ (z : Handler). OwnBeyond (handler_code f z) z.at g) (sym e) b)
+  from_some (x ∷ hs) g h (suc k) l e b = inr (from_some hs g h k (omega arith) e b)
+
+  to_beyond : (g : CheckRefusal) → BeyondFrom f.handlers g → IsBeyond f g
+  to_beyond g b =
+      let d = some_from f.handlers g b in
+      elim d.2 [ inl c ↦ subst (IsBeyond f) (sym c.1) (d.0, d.1, refl, c.0) | inr c ↦ subst (IsBeyond f) (sym c.1) (d.0, d.1, refl, c.0) ]
+
+  from_beyond : (g : CheckRefusal) → IsBeyond f g → BeyondFrom f.handlers g
+  from_beyond (TooManyCalls at) b = from_some f.handlers (TooManyCalls at) b.0 b.1.0 b.1.1 b.1.2 (inl (b.3, ap (λ (p : ℕ). TooManyCalls p) (sym b.2)))
+  from_beyond (TooMuchWork at) b = from_some f.handlers (TooMuchWork at) b.0 b.1.0 b.1.1 b.1.2 (inr (b.3, ap (λ (p : ℕ). TooMuchWork p) (sym b.2)))
+  from_beyond (Twice at) b = absurd b
+  from_beyond (Unknown at) b = absurd b
+  from_beyond (Arity at) b = absurd b
+  from_beyond (WrongTable at) b = absurd b
+  from_beyond (RepeatBound at) b = absurd b
+  from_beyond (TooManyTables at) b = absurd b
+  from_beyond (TooManyHandlers at) b = absurd b
+  from_beyond (TooManyVariables at) b = absurd b
+  from_beyond NoMemory b = absurd b
+
+-- ---- the names of handlers rise
+abbrev marks_of : List Handler → List Mark
+marks_of hs = flat_map (λ (h : Handler). Declared h.name h.at ∷ handler_marks h) hs
+
+all_names : (P : ℕ → Type 0) (hs : List Handler) → AllByRecursion P (map mark_at (marks_of hs)) → AllByRecursion P (map (λ (h : Handler). h.at) hs)
+all_names P [] a = tt
+all_names P (h ∷ hs) a = (a.0, all_names P hs (all_first P (map mark_at (handler_marks h)) (map mark_at (marks_of hs)) (subst (AllByRecursion P) (map_append mark_at (handler_marks h) (marks_of hs)) a.1)).1)
+
+names_rise : (hs : List Handler) → AreRising (map mark_at (marks_of hs)) → AreRising (map (λ (h : Handler). h.at) hs)
+names_rise [] r = tt
+names_rise (h ∷ hs) r =
+    let inner : List ℕ = map mark_at (handler_marks h) in
+    let outer : List ℕ = map mark_at (marks_of hs) in
+    let both : map mark_at (handler_marks h ++ marks_of hs) ≡ inner ++ outer = map_append mark_at (handler_marks h) (marks_of hs) in
+    (all_names (λ (m : ℕ). h.at < m) hs (all_first (λ (m : ℕ). h.at < m) inner outer (subst (AllByRecursion (λ (m : ℕ). h.at < m)) both r.0)).1, names_rise hs (rising_parts inner outer (subst AreRising both r.1)).2)
+
+pub finds_beyond : (f : File) (cs : List CheckedHandler) → PlacesRise f → AllZip (IsResolved (table_names f)) f.handlers cs → Finds (excess cs) (IsBeyond f)
+finds_beyond f cs rise z =
+    let tables : List ℕ = map mark_at (table_marks f.tables) in
+    let outer : List ℕ = map mark_at (marks_of f.handlers) in
+    let parts = rising_parts tables outer (subst AreRising (map_append mark_at (table_marks f.tables) (marks_of f.handlers)) rise) in
+    finds_same (excess cs) (BeyondFrom f f.handlers) (IsBeyond f) (to_beyond f) (from_beyond f) (finds_excess f f.handlers cs z (names_rise f.handlers parts.2))
+
+-- ---- one turn of the walk
+pub excess_turn : (cs : List CheckedHandler) (i : ℕ) (c d : CheckedHandler) → i < length cs → c ≡ get_or cs i d → excess (drop i cs) ≡ or_else (own_excess c) (excess (drop (i + 1) cs))
+excess_turn cs i c d h is = ap excess (drop_more cs i d h) ∙ ap (λ (x : CheckedHandler). or_else (own_excess x) (excess (drop (i + 1) cs))) (sym is)
+
+-- ---- what the walk's answer means
+pub refused_by : (f : File) (cs seen : List CheckedHandler) (e : CheckRefusal) → PlacesRise f → AllZip (IsResolved (table_names f)) f.handlers cs → seen ≡ cs → KeepsRules f → excess seen ≡ Some e → IsRefusal f e
+refused_by f cs seen e rise z same keeps found =
+    inr (keeps, subst (λ (w : Fault). Finds w (IsBeyond f)) (sym (ap excess same) ∙ found) (finds_beyond f cs rise z))
+
+pub accepted_by : (f : File) (cs seen : List CheckedHandler) → PlacesRise f → AllZip (IsResolved (table_names f)) f.handlers cs → seen ≡ cs → KeepsRules f → excess seen ≡ None → IsAccepted f
+accepted_by f cs seen rise z same keeps found = record {
+  keeps = keeps;
+  within = subst (λ (w : Fault). Finds w (IsBeyond f)) (sym (ap excess same) ∙ found) (finds_beyond f cs rise z);
+}

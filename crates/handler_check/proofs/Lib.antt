@@ -1,0 +1,10 @@
+pub mod Cases
+pub mod Counting
+pub mod Meaning
+pub mod Numbers
+pub mod Resolving
+pub mod Scans
+pub mod Sizes
+pub mod Walks
+pub mod ExcessLemmas
+pub mod Within

@@ -1,0 +1,8 @@
+-- Which operations a bound counts.
+use Rattle.handler_dialogue.specs.Bounds.{Weight, every, adding}
+use Rattle.handler_check.specs.declared.bounds.Counted.{Counted}
+use Rattle.handler_check.specs.declared.bounds.Counted.TheVariants.{Every, Adding}
+
+abbrev pub weight_of : Counted → Weight
+weight_of Every = every
+weight_of (Adding t) = adding t

@@ -1,0 +1,16 @@
+-- The variable that a statement makes visible behind it.
+use Rattle.std.specs.Prelude.{ℕ, List, [], ◌∷◌}
+use Rattle.handler_rules.specs.Source.{Source, Finish, Let, Assign, Do, Choose, Repeat, Answer, stmt_source}
+use Rattle.handler_trees.specs.declared.stmt.Stmt.{Stmt}
+
+abbrev pub first_shown : Source → List ℕ
+first_shown Finish = []
+first_shown (Let n at r rest) = n ∷ []
+first_shown (Assign n at r rest) = []
+first_shown (Do c rest) = []
+first_shown (Choose at c a b rest) = []
+first_shown (Repeat at n n_at name name_at body rest) = []
+first_shown (Answer es rest) = []
+
+abbrev pub shown : Stmt → List ℕ
+shown s = first_shown (stmt_source s Finish)

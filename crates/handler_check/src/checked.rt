@@ -1,0 +1,130 @@
+// Checked files.
+
+ghost use Rattle.std.specs.Prelude.{◌≡◌, ◌≢◌, ◌<◌, ℕ, IfNone, IfOk, IfSome, MatchResult, Some, length, slice_get};
+ghost use Rattle.handler_trees.specs.declared.file.Handler.{Handler};
+ghost use Rattle.handler_check.specs.Checking.{IsAccepted, IsRefusal};
+ghost use Rattle.handler_check.specs.Resolved.{IsResolved, handler_code, table_names};
+ghost use Rattle.handler_dialogue.specs.Bounds as spec;
+ghost use Rattle.handler_rules.specs.declared.refusal.CheckRefusal.TheVariants as refusal;
+ghost use Rattle.handler_rules.specs.FirstFault.{PlacesRise};
+
+use crate::bounds::{Counted, count_calls};
+use crate::excess::find_excess;
+use crate::resolution::resolve;
+use crate::work::count_work;
+use handler_dialogue::CheckedHandler;
+use handler_rules::CheckRefusal;
+use handler_trees::File;
+use session_values::Listed;
+use std::alloc::Global;
+use std::marker::Model;
+
+/// A file of handlers that breaks no rule, beside its resolved handlers. Contracts see it as the
+/// file.
+#[derive(Drop)]
+pub struct Checked {
+    file: File,
+    // One for each handler of the file, in its order.
+    handlers: Listed<CheckedHandler>,
+}
+
+impl Model for Checked {
+    ghost use Rattle.std.specs.Coded.{codes};
+    ghost use Rattle.handler_trees.specs.contracts.stmt.Stmt as stmt;
+    ghost use Rattle.handler_trees.specs.declared.file.File.{File as Tree};
+    ghost use Rattle.handler_check.specs.Checked.{IsChecked};
+
+    ghost Value = { Tree };
+
+    ghost coded = { Prim.hlevel (codes, stmt.the_row.coded) };
+
+    ghost view = { λ c. c.file };
+
+    ghost invariant = { λ c. IsChecked c.file c.handlers };
+}
+
+/// Checks a file whose places rise in the order of its text. The file is consumed, also by a
+/// refusal.
+pub fn check(alloc: Global, file: File) -> Result<Checked, CheckRefusal>
+    requires { PlacesRise file }
+    ensures file { IfOk result (λ checked. checked ≡ file) }
+    ensures rules { MatchResult result (λ _. IsAccepted file) (λ e. e ≢ refusal.NoMemory
+        → IsRefusal file e) }
+{
+    let handlers = resolve(alloc, &file)?;
+    find_excess(handlers.as_slice())?;
+    Ok(Checked { file, handlers })
+}
+
+impl Checked {
+    pub fn file(&self) -> &File
+        ensures file { result.now ≡ self.now }
+        ensures accepted { IsAccepted self.now }
+    {
+        &self.file
+    }
+
+    /// How many handlers it has.
+    pub fn handlers(&self) -> u32
+        ensures { result ≡ length self.now.handlers }
+    {
+        self.file.handlers.len()
+    }
+
+    /// The resolved handler of this number.
+    pub fn handler(&self, h: u32) -> &CheckedHandler
+        requires { h < length self.now.handlers }
+        ensures resolved { (source : Handler) → slice_get self.now.handlers h ≡ Some source
+            → IsResolved (table_names self.now) source result.now }
+        ensures accepted { IsAccepted self.now }
+    {
+        self.handlers.get(h)
+    }
+
+    /// The number of the handler with this name, if there is one.
+    pub fn find(&self, name: u32) -> Option<u32>
+        ensures found { IfSome result (λ h. (source : Handler) × (slice_get self.now.handlers h
+            ≡ Some source) × (source.name ≡ name)) }
+        ensures none { IfNone result ((h : ℕ) (source : Handler) → slice_get self.now.handlers h
+            ≡ Some source → source.name ≡ name → ⊥) }
+    {
+        let handlers = &self.file.handlers;
+        for h in 0..handlers.len() {
+            let handler = handlers.get(h);
+            if handler.name == name {
+                return Some(h);
+            }
+        }
+        None
+    }
+
+    /// The bound on the calls of a handler.
+    pub fn calls_bound(&self, h: u32) -> u32
+        requires { h < length self.now.handlers }
+        ensures { (source : Handler) → slice_get self.now.handlers h ≡ Some source → result
+            ≡ spec.calls_bound (handler_code self.now source) }
+    {
+        let handler = self.handler(h);
+        count_calls(Counted::Every, handler.body.as_slice())
+    }
+
+    /// The bound on the work of a handler.
+    pub fn work_bound(&self, h: u32) -> u32
+        requires { h < length self.now.handlers }
+        ensures { (source : Handler) → slice_get self.now.handlers h ≡ Some source → result
+            ≡ spec.work_bound (handler_code self.now source) }
+    {
+        let handler = self.handler(h);
+        count_work(handler.body.as_slice())
+    }
+
+    /// The bound on the calls of a handler that may add a key to a table.
+    pub fn adds_bound(&self, h: u32, table: u32) -> u32
+        requires { h < length self.now.handlers }
+        ensures { (source : Handler) → slice_get self.now.handlers h ≡ Some source → result
+            ≡ spec.adds_bound table (handler_code self.now source) }
+    {
+        let handler = self.handler(h);
+        count_calls(Counted::Adding(table), handler.body.as_slice())
+    }
+}

@@ -1,0 +1,5 @@
+pub mod FirstFault
+pub mod Marks
+pub mod Rules
+pub mod Scan
+pub mod Source
