@@ -11,7 +11,7 @@ use Rattle.session_values.specs.declared.value.Value.TheVariants.{Num}
 use Rattle.session_values.specs.Kinds.{arguments}
 use Rattle.session_values.specs.Tables.{Container, Bindings, Members, kind_of, reply_on, map_reply, set_reply, size_of}
 use Rattle.session_values.specs.Kinds.{home}
-use Rattle.shard_tables.specs.Parts.{sum_below}
+use Rattle.session_values.specs.Sums.{sum_below}
 use Rattle.turn_board.specs.Hands.{in_hands, Once}
 use Rattle.hall_rule.specs.declared.held.Held.{Held}
 use Rattle.hall_rule.specs.Contents.{Content, Register, Shard}

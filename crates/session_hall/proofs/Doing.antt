@@ -14,7 +14,8 @@ use Rattle.session_values.specs.Kinds.{home}
 use Rattle.session_values.proofs.Starts.{start_none}
 use Rattle.session_journal.specs.declared.event.Event.{Event}
 use Rattle.session_journal.specs.Script.{Meaning, room}
-use Rattle.shard_tables.specs.Parts.{part, shard_of, sum_below}
+use Rattle.session_values.specs.Sums.{sum_below}
+use Rattle.shard_tables.specs.Parts.{part, shard_of}
 use Rattle.shard_tables.proofs.PartSizes.{part_few, part_sizes}
 use Rattle.admission_book.specs.Book.{Holds, record_of}
 use Rattle.admission_book.proofs.Keys.{keys_few, keys_fewer}
