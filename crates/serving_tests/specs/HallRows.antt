@@ -1,12 +1,20 @@
--- The session of a hall's test.
-use Rattle.std.specs.Prelude.{◌≡◌, ℕ, ◌<◌, List, [], ◌∷◌, length, pos}
+-- The sessions of the hall's tests, and what their callers are at.
+use Rattle.std.specs.Prelude.{◌≡◌, ℕ, ◌<◌, List, [], ◌∷◌, ◌++◌, length, pos}
 use Rattle.session_values.specs.declared.kind.Kind.TheVariants.{Put}
 use Rattle.session_values.specs.declared.kind.TableKind.TheVariants.{Map}
 use Rattle.session_values.specs.declared.op.Op.{Op}
 use Rattle.session_values.specs.declared.reply.Reply.{Reply}
+use Rattle.session_values.specs.declared.value.Value.{Value}
 use Rattle.session_values.specs.declared.value.Value.TheVariants.{Nil, Num}
+use Rattle.session_values.specs.Dialogue.{Entry}
+use Rattle.symbolic_ops.specs.declared.symbol.Symbol.{Symbol}
 use Rattle.session_journal.specs.Lists.{ListView, Ticket, answers_only, calls_more, list_meaning, ticket_at}
 use Rattle.session_journal.specs.Script.{Meaning}
+use Rattle.session_hall.specs.declared.caller.Caller.{Caller}
+use Rattle.session_hall.specs.declared.hall.Hall.{Hall}
+use Rattle.session_hall.specs.declared.stage.Stage.TheVariants.{Serving}
+use Rattle.session_hall.specs.Callers.{IsCallerOf, entries_of}
+use Rattle.serving_tests.specs.BookRows.{put_of}
 
 abbrev pub no_value : Reply
 no_value = record { count = 1; a = Nil; b = Nil; c = Nil; d = Nil }
@@ -27,3 +35,24 @@ meaning_of s = list_meaning s.shape s.tickets
 -- each ticket does this operation
 abbrev pub AllDo : Op → ListView → Type 0
 AllDo op s = (t : ℕ) → t < length s.tickets → ticket_at s.tickets t ≡ one_op op
+
+-- what a ticket declares at its beginning
+abbrev pub entry_of : ListView → ℕ → List Symbol
+entry_of s t = (ticket_at s.tickets t).entry
+
+-- a caller that serves this ticket, with this foresight and these entries
+pub record IsServing (h : Hall ListView) (c : Caller ListView) (t : ℕ) (f : List Symbol) (es : List Entry) : Type 0 where
+  pub caller : IsCallerOf meaning_of h c
+  pub stage : c.stage ≡ Serving t
+  pub foresight : c.foresight.symbols ≡ f
+  pub entries : entries_of c t ≡ es
+
+-- the ticket of the caller did the operation, and then has this foresight
+pub record Did (p q : Caller ListView) (t : ℕ) (op : Op) (f : List Symbol) (v : Value) : Type 0 where
+  pub stage : q.stage ≡ Serving t
+  pub foresight : q.foresight.symbols ≡ f
+  pub entries : entries_of q t ≡ entries_of p t ++ record { op = op; reply = v } ∷ []
+
+-- the entry of a put
+abbrev pub put_entry : ℕ → Value → Entry
+put_entry k v = record { op = put_of k 7; reply = v }
