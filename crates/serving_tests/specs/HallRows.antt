@@ -12,9 +12,11 @@ use Rattle.session_journal.specs.Lists.{ListView, Ticket, answers_only, calls_mo
 use Rattle.session_journal.specs.Script.{Meaning}
 use Rattle.session_hall.specs.declared.caller.Caller.{Caller}
 use Rattle.session_hall.specs.declared.hall.Hall.{Hall}
+use Rattle.session_hall.specs.declared.stage.Stage.{Stage}
 use Rattle.session_hall.specs.declared.stage.Stage.TheVariants.{Serving}
 use Rattle.session_hall.specs.Callers.{IsCallerOf, entries_of}
-use Rattle.serving_tests.specs.BookRows.{put_of}
+use Rattle.session_hall.specs.Names.{script_of}
+use Rattle.serving_tests.specs.BookRows.{get_of, put_of}
 
 abbrev pub no_value : Reply
 no_value = record { count = 1; a = Nil; b = Nil; c = Nil; d = Nil }
@@ -56,3 +58,18 @@ pub record Did (p q : Caller ListView) (t : ℕ) (op : Op) (f : List Symbol) (v 
 -- the entry of a put
 abbrev pub put_entry : ℕ → Value → Entry
 put_entry k v = record { op = put_of k 7; reply = v }
+
+-- ---- two tickets that get the same key
+abbrev pub two_gets : ListView
+two_gets = record { shape = Map ∷ []; tickets = one_op (get_of 1) ∷ one_op (get_of 1) ∷ []; tickets_left = 0; calls_left = 0; symbols_left = 0 }
+
+abbrev pub get_entry : Value → Entry
+get_entry v = record { op = get_of 1; reply = v }
+
+-- a caller at this stage, whose ticket gets a key, with this foresight and these entries
+pub record IsReading (h : Hall ListView) (c : Caller ListView) (t : ℕ) (st : Stage) (f : List Symbol) (es : List Entry) : Type 0 where
+  pub caller : IsCallerOf meaning_of h c
+  pub ticket : ticket_at (script_of h).tickets t ≡ one_op (get_of 1)
+  pub stage : c.stage ≡ st
+  pub foresight : c.foresight.symbols ≡ f
+  pub entries : entries_of c t ≡ es

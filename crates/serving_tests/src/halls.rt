@@ -9,6 +9,7 @@ ghost use Rattle.session_hall.specs.Stages.{IsBetween};
 ghost use Rattle.session_hall.specs.declared.stage.Stage.TheVariants.{Idle, Serving, Out};
 ghost use Rattle.serving_tests.specs.HallRows.{AllDo, meaning_of, one_op, two_puts};
 
+mod busy_callers;
 mod calls;
 mod two_callers;
 

@@ -6,7 +6,7 @@ ghost use Rattle.turn_board.specs.Boards.{turn_count};
 ghost use Rattle.session_values.specs.declared.value.Value.{Value as ValueOf};
 ghost use Rattle.session_hall.specs.declared.stage.Stage.TheVariants.{Applied, Idle, InFlight, Out, Serving};
 ghost use Rattle.session_hall.specs.Callers.{IsCallerOf, book_of, entries_of};
-ghost use Rattle.session_hall.specs.Calls.{AdmittedAt, AppliedAt, DeclaredAt, DelayedAt, FinishedAt, MayAnswer, MayCall, MayDeclare, MayFinish, MayFinishAt};
+ghost use Rattle.session_hall.specs.Calls.{AdmittedAt, AppliedAt, DeclaredAt, DelayedAt, FinishedAt, IsBusy, MayAnswer, MayCall, MayDeclare, MayFinish, MayFinishAt};
 ghost use Rattle.session_hall.specs.Names.{script_of};
 ghost use Rattle.session_hall.specs.Stages.{IsBetween};
 ghost use Rattle.serving_tests.specs.HallRows.{Did, IsServing, entry_of, meaning_of};
@@ -135,6 +135,26 @@ pub(crate) fn apply(
         return Err("a shard was taken")?;
     };
     Ok(v)
+}
+
+/// A shard of the operation is taken: the turn.
+pub(crate) fn busy(
+    hall: &Hall<ListScript>,
+    caller: &mut Caller<ListScript>,
+    t: u32,
+    op: Op,
+) -> Result<u32, Fail>
+    requires caller { IsCallerOf meaning_of hall.now caller.old }
+    requires stage { caller.old.stage ≡ InFlight t op }
+    ensures caller { IsCallerOf meaning_of hall.now caller.new }
+    ensures same { caller.new.number ≡ caller.old.number }
+    ensures busy { IfOk result (λ u. IsBusy (meaning_of (script_of hall.now)) caller.old
+        caller.new u) }
+{
+    let Applying::Busy { turn } = caller.try_apply(hall) else {
+        return Err("no shard was taken")?;
+    };
+    Ok(turn)
 }
 
 /// What was done on the shards is entered.
