@@ -1,5 +1,5 @@
 -- The sessions of the hall's tests, and what their callers are at.
-use Rattle.std.specs.Prelude.{◌≡◌, ℕ, ◌<◌, List, [], ◌∷◌, ◌++◌, length, pos}
+use Rattle.std.specs.Prelude.{◌≡◌, ℕ, ◌<◌, ◌≤◌, List, [], ◌∷◌, ◌++◌, Some, length, pos, slice_get}
 use Rattle.session_values.specs.declared.kind.Kind.TheVariants.{Put}
 use Rattle.session_values.specs.declared.kind.TableKind.TheVariants.{Map}
 use Rattle.session_values.specs.declared.op.Op.{Op}
@@ -15,6 +15,7 @@ use Rattle.session_hall.specs.declared.hall.Hall.{Hall}
 use Rattle.session_hall.specs.declared.stage.Stage.{Stage}
 use Rattle.session_hall.specs.declared.stage.Stage.TheVariants.{Serving}
 use Rattle.session_hall.specs.Callers.{IsCallerOf, entries_of}
+use Rattle.session_hall.specs.Closings.{Leaves, Opens}
 use Rattle.session_hall.specs.Names.{script_of}
 use Rattle.serving_tests.specs.BookRows.{get_of, put_of}
 
@@ -73,3 +74,15 @@ pub record IsReading (h : Hall ListView) (c : Caller ListView) (t : ℕ) (st : S
   pub stage : c.stage ≡ st
   pub foresight : c.foresight.symbols ≡ f
   pub entries : entries_of c t ≡ es
+
+-- ---- the callers of a hall
+abbrev pub AllOpen : Hall ListView → List (Caller ListView) → Type 0
+AllOpen h cs = (i : ℕ) (c : Caller ListView) → slice_get cs i ≡ Some c → Opens meaning_of h i c
+
+abbrev pub AllLeave : Hall ListView → List (Caller ListView) → Type 0
+AllLeave h cs = (i : ℕ) (c : Caller ListView) → slice_get cs i ≡ Some c → Leaves meaning_of h i c
+
+-- the first n are out
+pub record HaveLeft (h : Hall ListView) (n : ℕ) (cs : List (Caller ListView)) : Type 0 where
+  pub out : (i : ℕ) (c : Caller ListView) → i < n → slice_get cs i ≡ Some c → Leaves meaning_of h i c
+  pub idle : (i : ℕ) (c : Caller ListView) → n ≤ i → slice_get cs i ≡ Some c → Opens meaning_of h i c

@@ -11,6 +11,7 @@ ghost use Rattle.serving_tests.specs.HallRows.{AllDo, meaning_of, one_op, two_pu
 
 mod busy_callers;
 mod calls;
+mod largest_hall;
 mod two_callers;
 
 use session_hall::{Caller, Closed, Hall};
