@@ -1,5 +1,5 @@
 -- What the calls of two callers ask, where a note says which entries the ticket has.
-use Rattle.std.proofs.Common.{◌≡◌, ℕ, zero, suc, ◌<◌, List, [], ◌∷◌, ◌++◌, length, drop, get_or, Some, inl, inr, refl, sym, ◌∙◌, ap, subst, arith}
+use Rattle.std.proofs.Common.{◌≡◌, ℕ, zero, suc, List, [], ◌∷◌, ◌++◌, length, drop, get_or, Some, inl, inr, refl, sym, ◌∙◌, ap, subst, arith}
 use Rattle.std.specs.Prelude.{slice_get}
 use Rattle.session_values.specs.declared.op.Op.{Op}
 use Rattle.session_values.specs.declared.value.Value.{Value}
@@ -9,11 +9,9 @@ use Rattle.symbolic_ops.specs.Symbols.{Covered, Matches, exact_symbol}
 use Rattle.session_journal.specs.Journal.{entries}
 use Rattle.session_journal.specs.Lists.{ListView}
 use Rattle.session_journal.specs.Script.{IsForesight, Meaning}
-use Rattle.admission_book.specs.Book.{Book}
 use Rattle.session_hall.specs.declared.caller.Caller.{Caller}
 use Rattle.session_hall.specs.declared.hall.Hall.{Hall}
-use Rattle.session_hall.specs.declared.stage.Stage.{Stage}
-use Rattle.session_hall.specs.declared.stage.Stage.TheVariants.{Applied, Out}
+use Rattle.session_hall.specs.declared.stage.Stage.TheVariants.{Applied}
 use Rattle.session_hall.specs.Callers.{IsCallerOf, book_in, book_of, entries_of}
 use Rattle.session_hall.specs.Calls.{AdmittedAt, AppliedAt, DeclaredAt, DelayedAt, MayAnswer, MayCall, MayDeclare, MayFinishAt}
 use Rattle.session_hall.specs.Closings.{Leaves}

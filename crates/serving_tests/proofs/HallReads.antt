@@ -1,12 +1,7 @@
 -- What the calls of two callers ask that get one key, and what they leave.
-use Rattle.std.proofs.Common.{◌≡◌, ℕ, zero, suc, ◌<◌, ◌^◌, List, [], ◌∷◌, ◌++◌, inl, inr, refl, sym, ◌∙◌, ap, subst, arith}
-use Rattle.session_values.specs.declared.op.Op.{Op}
-use Rattle.session_values.specs.declared.reply.Reply.{Reply}
+use Rattle.std.proofs.Common.{◌≡◌, ℕ, zero, suc, ◌<◌, List, [], ◌∷◌, ◌++◌, inl, refl, sym, ◌∙◌, ap, subst, arith}
 use Rattle.session_values.specs.declared.value.Value.{Value}
 use Rattle.session_values.specs.Dialogue.{Calls, Answers, Dialogue, Entry, replies, rest}
-use Rattle.session_values.specs.Op.{IsHeld}
-use Rattle.session_values.specs.Values.{IsValue}
-use Rattle.std.specs.List.{AllByRecursion}
 use Rattle.symbolic_ops.specs.declared.symbol.Symbol.{Symbol}
 use Rattle.symbolic_ops.specs.Symbols.{Covered, Matches, exact_symbol}
 use Rattle.symbolic_ops.proofs.Above.{exact_stands}
