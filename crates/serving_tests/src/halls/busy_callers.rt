@@ -112,7 +112,8 @@ fn read_both(
     requires none { none.now.symbols ≡ [] }
     ensures numbers { (first.new.number ≡ first.old.number)
         × (second.new.number ≡ second.old.number) }
-    ensures first { OnOk result (IsCallerOf meaning_of hall.now first.new × (first.new.stage ≡ Out)) }
+    ensures first { OnOk result (IsCallerOf meaning_of hall.now first.new
+        × (first.new.stage ≡ Out)) }
     ensures second { OnOk result (IsCallerOf meaning_of hall.now second.new
         × (second.new.stage ≡ Out)) }
 {

@@ -1,12 +1,12 @@
 // Calls of a hall over a list of tickets that end a test where they answer something else than the
 // test's story says.
 
-ghost use Rattle.std.specs.Prelude.{◌≡◌, ℕ, [], IfOk, OnOk};
+ghost use Rattle.std.specs.Prelude.{◌≡◌, [], IfOk, OnOk};
 ghost use Rattle.turn_board.specs.Boards.{turn_count};
 ghost use Rattle.session_values.specs.declared.value.Value.{Value as ValueOf};
 ghost use Rattle.session_hall.specs.declared.stage.Stage.TheVariants.{Applied, Idle, InFlight, Out, Serving};
-ghost use Rattle.session_hall.specs.Callers.{IsCallerOf, book_of, entries_of};
-ghost use Rattle.session_hall.specs.Calls.{AdmittedAt, AppliedAt, DeclaredAt, DelayedAt, FinishedAt, IsBusy, MayAnswer, MayCall, MayDeclare, MayFinish, MayFinishAt};
+ghost use Rattle.session_hall.specs.Callers.{IsCallerOf, book_of};
+ghost use Rattle.session_hall.specs.Calls.{AdmittedAt, AppliedAt, DeclaredAt, DelayedAt, FinishedAt, IsBusy, MayAnswer, MayCall, MayDeclare, MayFinishAt};
 ghost use Rattle.session_hall.specs.Names.{script_of};
 ghost use Rattle.session_hall.specs.Stages.{IsBetween};
 ghost use Rattle.serving_tests.specs.HallRows.{Did, IsServing, entry_of, meaning_of};
@@ -26,7 +26,8 @@ pub(crate) fn begin(
     requires caller { IsCallerOf meaning_of hall.now caller.old }
     requires stage { IsBetween caller.old.stage }
     ensures same { caller.new.number ≡ caller.old.number }
-    ensures begun { OnOk result (IsServing hall.now caller.new t (entry_of (script_of hall.now) t) []) }
+    ensures begun { OnOk result (IsServing hall.now caller.new t
+        (entry_of (script_of hall.now) t) []) }
 {
     let Began::Ticket(u) = caller.try_begin(hall) else {
         return Err("no ticket")?;

@@ -75,7 +75,8 @@ fn serve_both(
     requires room { 256 ≤ scratch.old.room }
     ensures numbers { (older.new.number ≡ older.old.number)
         × (younger.new.number ≡ younger.old.number) }
-    ensures older { OnOk result (IsCallerOf meaning_of hall.now older.new × (older.new.stage ≡ Out)) }
+    ensures older { OnOk result (IsCallerOf meaning_of hall.now older.new
+        × (older.new.stage ≡ Out)) }
     ensures younger { OnOk result (IsCallerOf meaning_of hall.now younger.new
         × (younger.new.stage ≡ Out)) }
 {
