@@ -33,17 +33,17 @@ at_here P s b w d e h p =
 held_put : (k v : ℕ) → k < 2 ^ 63 → v < 2 ^ 63 → IsHeld (put_of k v)
 held_put k v l m = record { key = l; value = m; unused = (λ h. absurd (omega (arith, h)), λ h. absurd (omega (arith, h))) }
 
-put_stands : (k v : ℕ) → k < 2 ^ 63 → v < 2 ^ 63 → StandsFor (exact_symbol (put_of k v)) (put_of k v)
+pub put_stands : (k v : ℕ) → k < 2 ^ 63 → v < 2 ^ 63 → StandsFor (exact_symbol (put_of k v)) (put_of k v)
 put_stands k v l m = exact_stands (put_of k v) (held_put k v l m)
 
 -- ---- what is still called is declared
-no_calls : (more : List Value) (op : Op) → AllByRecursion IsValue more → says [] nil_reply more ≡ Calls op → Matches [] op
+pub no_calls : (more : List Value) (op : Op) → AllByRecursion IsValue more → says [] nil_reply more ≡ Calls op → Matches [] op
 no_calls more op values e = impossible nil_reply op e
   where
     impossible : (r : Reply) (op : Op) → Answers r ≡ Calls op → ⊥
     impossible r op e = cc
 
-calls_put : (more : List Value) (op : Op) → AllByRecursion IsValue more → says (put_of 1 7 ∷ []) nil_reply more ≡ Calls op → Matches (exact_symbol (put_of 1 7) ∷ []) op
+pub calls_put : (more : List Value) (op : Op) → AllByRecursion IsValue more → says (put_of 1 7 ∷ []) nil_reply more ≡ Calls op → Matches (exact_symbol (put_of 1 7) ∷ []) op
 calls_put [] op values e = let P : Op → Type 0 = λ o. StandsFor (exact_symbol (put_of 1 7)) o in inl (subst P (inside (put_of 1 7) op e) (put_stands 1 7 (omega arith) (omega arith)))
   where
     inside : (a b : Op) → Calls a ≡ Calls b → a ≡ b

@@ -1,5 +1,5 @@
 -- A caller serves a ticket that does one operation.
-use Rattle.std.proofs.Common.{◌≡◌, ℕ, zero, suc, ◌<◌, ◌≤◌, List, [], ◌∷◌, ◌++◌, length, drop, Option, Some, None, refl, sym, ◌∙◌, ap, subst, arith}
+use Rattle.std.proofs.Common.{◌≡◌, ℕ, zero, suc, List, [], ◌∷◌, ◌++◌, length, drop, Option, Some, None, refl, sym, ◌∙◌, ap, subst, arith}
 use Rattle.std.specs.Prelude.{slice_get}
 use Rattle.std.proofs.Common.{inl}
 use Rattle.session_values.specs.declared.op.Op.{Op}
@@ -12,7 +12,7 @@ use Rattle.symbolic_ops.specs.Symbols.{Matches, exact_symbol}
 use Rattle.session_journal.specs.Journal.{entries}
 use Rattle.admission_book.specs.Book.{Book}
 use Rattle.session_journal.specs.Lists.{ListView, Ticket, says, ticket_at}
-use Rattle.session_journal.specs.Script.{HasValues, IsForesight, Meaning}
+use Rattle.session_journal.specs.Script.{HasValues, Meaning}
 use Rattle.session_hall.specs.declared.caller.Caller.{Caller}
 use Rattle.session_hall.specs.declared.hall.Hall.{Hall}
 use Rattle.session_hall.specs.declared.stage.Stage.{Stage}

@@ -14,7 +14,7 @@ use std::alloc::Global;
 use std::test::Fail;
 use symbolic_ops::{Foresight, Symbol};
 
-const NIL: Reply = Reply {
+pub(crate) const NIL: Reply = Reply {
     count: 1,
     a: Value::Nil,
     b: Value::Nil,
@@ -22,21 +22,21 @@ const NIL: Reply = Reply {
     d: Value::Nil,
 };
 
-const PUT_1: Op = Op {
+pub(crate) const PUT_1: Op = Op {
     kind: Kind::Put,
     table: 0,
     key: Value::Num(1),
     value: Value::Num(7),
 };
 
-const PUT_2: Op = Op {
+pub(crate) const PUT_2: Op = Op {
     kind: Kind::Put,
     table: 0,
     key: Value::Num(2),
     value: Value::Num(7),
 };
 
-const GET_1: Op = Op {
+pub(crate) const GET_1: Op = Op {
     kind: Kind::Get,
     table: 0,
     key: Value::Num(1),
@@ -51,7 +51,7 @@ const GET_2: Op = Op {
 };
 
 /// A ticket that may get, and one that puts twice.
-fn two_tickets(alloc: Global) -> Result<ListScript, NoMemory>
+pub(crate) fn two_tickets(alloc: Global) -> Result<ListScript, NoMemory>
     ensures { IfOk result (λ s. s ≡ get_or_puts) }
 {
     let mut script = ListScript::with_room(alloc, &[TableKind::Map], 2, 2, 3)?;

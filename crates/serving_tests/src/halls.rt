@@ -9,6 +9,11 @@ ghost use Rattle.session_hall.specs.Stages.{IsBetween};
 ghost use Rattle.session_hall.specs.declared.stage.Stage.TheVariants.{Idle, Serving, Out};
 ghost use Rattle.serving_tests.specs.HallRows.{AllDo, meaning_of, one_op, two_puts};
 
+mod busy_callers;
+mod calls;
+mod largest_hall;
+mod two_callers;
+
 use session_hall::{Caller, Closed, Hall};
 use session_journal::ListScript;
 use session_values::{Kind, Listed, NoMemory, Op, Reply, TableKind, Value};
