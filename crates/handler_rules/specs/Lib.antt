@@ -1,3 +1,4 @@
+pub mod Bounds
 pub mod FirstFault
 pub mod Marks
 pub mod Rules

@@ -15,7 +15,7 @@ use Rattle.handler_grammar.specs.Phrase.{MoreAtoms, no_atom, more_atom, atom_cou
 use Rattle.handler_grammar.specs.Tree.{atoms_trees, call_tree, right_tree, cond_tree, more_trees, values_trees, stmt_tree, else_trees, stmts_trees, block_trees, handlers_trees, file_tree}
 use Rattle.handler_grammar.specs.Limits.{StmtFits, ElseFits, StmtsFit, BlockFits, HandlersFit, FileFits, IsFileWithin}
 use Rattle.handler_grammar.proofs.Said.{IsSaid, file_read, unasked}
-use Rattle.handler_syntax.specs.Bounds.{Form, a_call, a_reply, a_nest, right_forms, forms_at, stmt_forms, block_forms, handler_forms, file_forms, IsBoundedForm, IsBoundedNumber, KeepsBounds}
+use Rattle.handler_rules.specs.Bounds.{Form, a_call, a_reply, a_nest, right_forms, forms_at, stmt_forms, block_forms, handler_forms, file_forms, IsBoundedForm, IsBoundedNumber, KeepsBounds}
 
 abbrev Bounded : List Form → Type 0
 Bounded fs = AllByRecursion IsBoundedForm fs

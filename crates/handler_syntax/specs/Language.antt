@@ -26,4 +26,4 @@ pub use Rattle.handler_grammar.specs.declared.refusal.SyntaxRefusal.TheVariants 
 pub use Rattle.handler_printing.specs.Canonical.{canonical_text}
 pub use Rattle.handler_syntax.specs.Keeps.{KeepsLimits, IsReadAs, Printed}
 pub use Rattle.handler_syntax.specs.SameTree.{SameTree}
-pub use Rattle.handler_syntax.specs.Bounds.{Form, a_call, a_reply, a_nest, file_forms, IsBoundedForm, IsBoundedNumber, KeepsBounds}
+pub use Rattle.handler_rules.specs.Bounds.{Form, a_call, a_reply, a_nest, file_forms, IsBoundedForm, IsBoundedNumber, KeepsBounds}

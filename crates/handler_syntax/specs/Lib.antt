@@ -1,4 +1,3 @@
-pub mod Bounds
 pub mod Keeps
 pub mod Language
 pub mod Parentheses

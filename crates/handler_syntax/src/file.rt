@@ -1,7 +1,7 @@
 // Files of handlers.
 
 ghost use Rattle.std.specs.Prelude.{◌≡◌};
-ghost use Rattle.handler_syntax.specs.Bounds.{KeepsBounds};
+ghost use Rattle.handler_rules.specs.Bounds.{KeepsBounds};
 
 use handler_trees::File as Tree;
 use std::marker::Model;
