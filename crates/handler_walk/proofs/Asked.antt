@@ -17,11 +17,11 @@ pub match_map : {X E : Type 0} (r : Result X E) (P Q : X → Type 0) (A B : E �
 match_map (Ok x) P Q A B f h m = f x m
 match_map (Err e) P Q A B f h m = h e m
 
-replies_more : (es : List Entry) (e : Entry) (more : List Value) → replies (es ++ e ∷ []) ++ more ≡ replies es ++ (e.reply ∷ more)
+pub replies_more : (es : List Entry) (e : Entry) (more : List Value) → replies (es ++ e ∷ []) ++ more ≡ replies es ++ (e.reply ∷ more)
 replies_more [] e more = refl
 replies_more (x ∷ es) e more = ap (λ (vs : List Value). x.reply ∷ vs) (replies_more es e more)
 
-follows_more : (f : Dialogue) (es : List Entry) (e : Entry) → Follows f es → f (replies es) ≡ Calls e.op → Follows f (es ++ e ∷ [])
+pub follows_more : (f : Dialogue) (es : List Entry) (e : Entry) → Follows f es → f (replies es) ≡ Calls e.op → Follows f (es ++ e ∷ [])
 follows_more f [] e h c = (c, tt)
 follows_more f (x ∷ es) e h c = (h.0, follows_more (rest f (x.reply ∷ [])) es e h.1 c)
 

@@ -1,0 +1,55 @@
+// A walk at a desk, which is told of each declaration that is passed.
+
+ghost use Rattle.std.specs.Prelude.{◌≡◌, ◌≤◌, ◌<◌, [], length, slice_index_or};
+ghost use Rattle.handler_dialogue.specs.Ahead.{Ahead};
+ghost use Rattle.handler_dialogue.specs.Dialogue.{env_of};
+ghost use Rattle.handler_machine.specs.Declarations.{declared_at, list_at, points_at};
+ghost use Rattle.handler_machine.specs.Serving.{Course, Halted, IsAwaiting, IsServing};
+
+use crate::declaring::declare_at;
+use crate::program::Program;
+use handler_walk::Guide;
+use session_journal::Desk;
+use session_values::{NoMemory, Op, Value};
+use std::sync::Wait;
+use std::thread::Threads;
+use symbolic_ops::Foresight;
+
+/// Leads a walk over a handler of a program at a desk: at each point it narrows to the declaration
+/// there.
+#[derive(Drop)]
+pub(crate) struct Narrowing<'a, R> {
+    pub(crate) rt: &'a R,
+    pub(crate) program: &'a Program,
+    pub(crate) handler: u32,
+    /// The declaration of the last point, in room for 256 symbols.
+    pub(crate) next: Foresight,
+    ghost exists: { handler < length program.now.lists },
+}
+
+impl<'a, R: Threads + Wait + Sync, D: Desk> Guide<D> for Narrowing<'a, R> {
+    ghost Serves = { λ n whole start now ahead. (D.script now ≡ D.script start)
+        × IsServing (record { meaning = D.Served.meaning (D.script start); start = D.at start; points = points_at n.program.now.lists n.handler; declared = declared_at n.program.now.lists n.handler; whole = whole }) (D.at now) n.next.room ahead };
+
+    ghost Waits = { λ n whole start now ahead. (D.script now ≡ D.script start)
+        × IsAwaiting (record { meaning = D.Served.meaning (D.script start); start = D.at start; points = points_at n.program.now.lists n.handler; declared = declared_at n.program.now.lists n.handler; whole = whole }) (D.at now) n.next.room ahead };
+
+    ghost Stops = { λ n whole start now. (D.script now ≡ D.script start)
+        × Halted (record { meaning = D.Served.meaning (D.script start); start = D.at start; points = points_at n.program.now.lists n.handler; declared = declared_at n.program.now.lists n.handler; whole = whole }) (D.at now) n.next.room };
+
+    fn call(&mut self, host: &mut D, op: Op) -> Result<Value, NoMemory> {
+        let reply = host.call(self.rt, op)?;
+        reply.bounds();
+        Ok(reply)
+    }
+
+    fn replied(&mut self, host: &mut D, point: u32, env: &[Value]) {
+        declare_at(self.program.declaration(self.handler, point), env, &mut self.next);
+        host.finish(self.rt, &self.next);
+    }
+
+    fn passed(&mut self, host: &mut D, point: u32, env: &[Value]) {
+        declare_at(self.program.declaration(self.handler, point), env, &mut self.next);
+        host.declare(self.rt, &self.next);
+    }
+}
