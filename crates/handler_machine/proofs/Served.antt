@@ -15,7 +15,7 @@ use Rattle.ticket_serving.specs.Served.{IsServed}
 use Rattle.handler_dialogue.specs.Ahead.{Ahead, asked, passing}
 use Rattle.handler_dialogue.specs.Dialogue.{Env, Place, Outcome, Calls, after, ended, last_place, last_replied, pass, passed_by}
 use Rattle.handler_walk.proofs.Asked.{follows_more, replies_more}
-use Rattle.handler_machine.specs.Declarations.{Declarations, IsCoveredChain, list_at, symbol_at}
+use Rattle.declaration_insertion.specs.Declarations.{Declarations, IsCoveredChain, list_at, symbol_at}
 use Rattle.handler_machine.specs.Serving.{Course, Gives, Halted, IsAwaiting, IsServing, Promises, Serving, replied_count}
 use Rattle.handler_machine.proofs.Places.{after_none, after_snoc, count_append, ended_after, last_append, length_replies, none_replied, passed_after, replied_append}
 

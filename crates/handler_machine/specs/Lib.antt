@@ -1,2 +1,2 @@
-pub mod Declarations
+pub mod Scripts
 pub mod Serving

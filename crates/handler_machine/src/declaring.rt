@@ -3,7 +3,7 @@
 ghost use Rattle.std.specs.Prelude.{◌≡◌, ◌≤◌, [], length, map};
 ghost use Rattle.symbolic_ops.specs.Symbols.{HasNoVar, IsNoVar};
 ghost use Rattle.handler_dialogue.specs.Dialogue.{env_of};
-ghost use Rattle.handler_machine.specs.Declarations as spec;
+ghost use Rattle.declaration_insertion.specs.Declarations as spec;
 
 use session_values::Value;
 use symbolic_ops::{Arg, Foresight, Symbol};

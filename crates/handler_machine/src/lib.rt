@@ -3,5 +3,13 @@
 
 mod declaring;
 mod narrowing;
-mod program;
+mod on_tables;
+mod running;
+mod scripts;
 mod serving;
+mod sums;
+
+pub use on_tables::TablesAnswerer;
+pub use running::run_handler;
+pub use scripts::Scripts;
+pub use serving::serve_one;

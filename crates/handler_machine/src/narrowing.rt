@@ -1,13 +1,15 @@
 // A walk at a desk, which is told of each declaration that is passed.
 
-ghost use Rattle.std.specs.Prelude.{◌≡◌, ◌≤◌, ◌<◌, [], length, slice_index_or};
+ghost use Rattle.std.specs.Prelude.{◌≡◌, ◌+◌, ◌<◌, length};
 ghost use Rattle.handler_dialogue.specs.Ahead.{Ahead};
 ghost use Rattle.handler_dialogue.specs.Dialogue.{env_of};
-ghost use Rattle.handler_machine.specs.Declarations.{declared_at, list_at, points_at};
+ghost use Rattle.handler_dialogue.specs.Code.{points};
+ghost use Rattle.handler_check.specs.Resolved.{code_at};
+ghost use Rattle.declaration_insertion.specs.Program.{declared_at};
 ghost use Rattle.handler_machine.specs.Serving.{Course, Halted, IsAwaiting, IsServing};
 
 use crate::declaring::declare_at;
-use crate::program::Program;
+use declaration_insertion::Program;
 use handler_walk::Guide;
 use session_journal::Desk;
 use session_values::{NoMemory, Op, Value};
@@ -24,18 +26,18 @@ pub(crate) struct Narrowing<'a, R> {
     pub(crate) handler: u32,
     /// The declaration of the last point, in room for 256 symbols.
     pub(crate) next: Foresight,
-    ghost exists: { handler < length program.now.lists },
+    ghost exists: { handler < length program.now.file.handlers },
 }
 
 impl<'a, R: Threads + Wait + Sync, D: Desk> Guide<D> for Narrowing<'a, R> {
     ghost Serves = { λ n whole start now ahead. (D.script now ≡ D.script start)
-        × IsServing (record { meaning = D.Served.meaning (D.script start); start = D.at start; points = points_at n.program.now.lists n.handler; declared = declared_at n.program.now.lists n.handler; whole = whole }) (D.at now) n.next.room ahead };
+        × IsServing (record { meaning = D.Served.meaning (D.script start); start = D.at start; points = 1 + points (code_at n.program.now.file n.handler); declared = declared_at n.program.now n.handler; whole = whole }) (D.at now) n.next.room ahead };
 
     ghost Waits = { λ n whole start now ahead. (D.script now ≡ D.script start)
-        × IsAwaiting (record { meaning = D.Served.meaning (D.script start); start = D.at start; points = points_at n.program.now.lists n.handler; declared = declared_at n.program.now.lists n.handler; whole = whole }) (D.at now) n.next.room ahead };
+        × IsAwaiting (record { meaning = D.Served.meaning (D.script start); start = D.at start; points = 1 + points (code_at n.program.now.file n.handler); declared = declared_at n.program.now n.handler; whole = whole }) (D.at now) n.next.room ahead };
 
     ghost Stops = { λ n whole start now. (D.script now ≡ D.script start)
-        × Halted (record { meaning = D.Served.meaning (D.script start); start = D.at start; points = points_at n.program.now.lists n.handler; declared = declared_at n.program.now.lists n.handler; whole = whole }) (D.at now) n.next.room };
+        × Halted (record { meaning = D.Served.meaning (D.script start); start = D.at start; points = 1 + points (code_at n.program.now.file n.handler); declared = declared_at n.program.now n.handler; whole = whole }) (D.at now) n.next.room };
 
     fn call(&mut self, host: &mut D, op: Op) -> Result<Value, NoMemory> {
         let reply = host.call(self.rt, op)?;

@@ -1,6 +1,6 @@
 use Rattle.std.proofs.Common.{◌≡◌, map, take}
 use Rattle.handler_dialogue.specs.Dialogue.{env_of}
-use Rattle.handler_machine.specs.Declarations.{symbol_at}
+use Rattle.declaration_insertion.specs.Declarations.{symbol_at}
 use Rattle.handler_machine.proofs.declaring.declare_at.Given as goal
 
 abbrev pub invariant-loop-symbol : goal.invariant-loop-symbol

@@ -1,10 +1,13 @@
-use Rattle.std.proofs.Common.{◌≡◌, ◌∙◌, List, false, true, length, sym, ap, subst, MatchResult, Result, Ok, Err, IsErr}
+use Rattle.std.proofs.Common.{◌≡◌, ◌+◌, ◌∙◌, List, false, true, length, sym, ap, subst, MatchResult, Result, Ok, Err, IsErr}
 use Rattle.session_values.specs.Dialogue.{Calls}
 use Rattle.symbolic_ops.specs.declared.symbol.Symbol.{Symbol}
 use Rattle.session_journal.specs.Desks.{MayFinish, MayNarrow, due_of, next_of}
 use Rattle.handler_dialogue.specs.Ahead.{Ahead}
 use Rattle.handler_dialogue.specs.Dialogue.{Env, env_of}
-use Rattle.handler_machine.specs.Declarations.{declared_at, points_at, symbol_at}
+use Rattle.declaration_insertion.specs.Declarations.{symbol_at}
+use Rattle.declaration_insertion.specs.Program.{declared_at}
+use Rattle.handler_check.specs.Resolved.{code_at}
+use Rattle.handler_dialogue.specs.Code.{points}
 use Rattle.handler_machine.specs.Serving.{Course, IsServing, IsAwaiting}
 use Rattle.handler_machine.proofs.Places.{match_err}
 use Rattle.handler_machine.proofs.Served.{point_within, list_fits, call_next, call_due, call_matches, call_waits, call_halts, declare_may, declare_serves, finish_may, finish_serves}
@@ -16,7 +19,7 @@ call-requires-clause-next g c =
     let at = g.D.Desk.at in
     let now = at c.args.host.now in
     let n = c.args.self.now in
-    let course : Course = record { meaning = g.D.Served.Script.meaning (g.D.Desk.script (s.1)); start = at (s.1); points = points_at n.program.now.lists n.handler; declared = declared_at n.program.now.lists n.handler; whole = s.0 } in
+    let course : Course = record { meaning = g.D.Served.Script.meaning (g.D.Desk.script (s.1)); start = at (s.1); points = 1 + points (code_at n.program.now.file n.handler); declared = declared_at n.program.now n.handler; whole = s.0 } in
     subst (λ z. next_of (g.D.Served.Script.meaning z) now ≡ Calls c.args.op) (sym s.3.0) (call_next course now n.next.room c.args.op s.2 s.3.1)
 
 pub call-requires-clause-due : goal.call-requires-clause-due
@@ -25,7 +28,7 @@ call-requires-clause-due g c =
     let at = g.D.Desk.at in
     let now = at c.args.host.now in
     let n = c.args.self.now in
-    let course : Course = record { meaning = g.D.Served.Script.meaning (g.D.Desk.script (s.1)); start = at (s.1); points = points_at n.program.now.lists n.handler; declared = declared_at n.program.now.lists n.handler; whole = s.0 } in
+    let course : Course = record { meaning = g.D.Served.Script.meaning (g.D.Desk.script (s.1)); start = at (s.1); points = 1 + points (code_at n.program.now.file n.handler); declared = declared_at n.program.now n.handler; whole = s.0 } in
     subst (λ z. now.present ≡ due_of (g.D.Served.Script.meaning z) now) (sym s.3.0) (call_due course now n.next.room c.args.op s.2 s.3.1)
 
 pub call-requires-clause-matches : goal.call-requires-clause-matches
@@ -34,7 +37,7 @@ call-requires-clause-matches g c =
     let at = g.D.Desk.at in
     let now = at c.args.host.now in
     let n = c.args.self.now in
-    let course : Course = record { meaning = g.D.Served.Script.meaning (g.D.Desk.script (s.1)); start = at (s.1); points = points_at n.program.now.lists n.handler; declared = declared_at n.program.now.lists n.handler; whole = s.0 } in
+    let course : Course = record { meaning = g.D.Served.Script.meaning (g.D.Desk.script (s.1)); start = at (s.1); points = 1 + points (code_at n.program.now.file n.handler); declared = declared_at n.program.now n.handler; whole = s.0 } in
     call_matches course now n.next.room c.args.op s.2 s.3.1
 
 pub returns-in_err-reply : goal.returns-in_err-reply
@@ -42,7 +45,7 @@ returns-in_err-reply g c whole start next so_far =
     let at = g.D.Desk.at in
     let now = at c.args.host.now in
     let n = c.args.self.now in
-    let course : Course = record { meaning = g.D.Served.Script.meaning (g.D.Desk.script (start)); start = at (start); points = points_at n.program.now.lists n.handler; declared = declared_at n.program.now.lists n.handler; whole = whole } in
+    let course : Course = record { meaning = g.D.Served.Script.meaning (g.D.Desk.script (start)); start = at (start); points = 1 + points (code_at n.program.now.file n.handler); declared = declared_at n.program.now n.handler; whole = whole } in
     match_err c.from_residual.result _ _ c.from_residual.ensures.0
     (c.call.ensures.script ∙ so_far.0, call_halts course now n.next.room c.args.op next so_far.1 (at c.call.new.self) c.in_err-reply.ensures.waits.0 c.in_err-reply.ensures.waits.1)
 
@@ -51,5 +54,5 @@ returns g c whole start next so_far =
     let at = g.D.Desk.at in
     let now = at c.args.host.now in
     let n = c.args.self.now in
-    let course : Course = record { meaning = g.D.Served.Script.meaning (g.D.Desk.script (start)); start = at (start); points = points_at n.program.now.lists n.handler; declared = declared_at n.program.now.lists n.handler; whole = whole } in
+    let course : Course = record { meaning = g.D.Served.Script.meaning (g.D.Desk.script (start)); start = at (start); points = 1 + points (code_at n.program.now.file n.handler); declared = declared_at n.program.now n.handler; whole = whole } in
     (c.call.ensures.script ∙ so_far.0, call_waits course now n.next.room c.args.op next so_far.1 (at c.call.new.self) c.in_ok-reply.reply c.bounds.ensures c.in_ok-reply.ensures.waits)
