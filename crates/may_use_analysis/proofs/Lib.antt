@@ -1,0 +1,12 @@
+pub mod FlowLemmas
+pub mod KeptLemmas
+pub mod Literal
+pub mod LoopLemmas
+pub mod Members
+pub mod Numbers
+pub mod PointLemmas
+pub mod Records
+pub mod Sets
+pub mod Sorting
+pub mod Unique
+pub mod WalkSteps
