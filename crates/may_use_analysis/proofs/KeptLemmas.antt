@@ -1,12 +1,11 @@
 -- Entries of a list of lists.
-use Rattle.std.proofs.Common.{◌≡◌, ℕ, zero, suc, ◌+◌, ◌-◌, ◌<◌, ◌≤◌, List, [], ◌∷◌, ◌++◌, length, take, get_or, map, refl, sym, ap, ◌∙◌, subst, inl, inr, ◌⊎◌, arith, length-append}
+use Rattle.std.proofs.Common.{◌≡◌, ℕ, zero, suc, ◌+◌, ◌<◌, ◌≤◌, List, [], ◌∷◌, ◌++◌, length, take, get_or, map, refl, sym, ap, ◌∙◌, subst, inl, inr, ◌⊎◌, arith, length-append}
 use Rattle.std.proofs.Math.Seq.{get_or-append_seam}
 use Rattle.std.proofs.lemmas.Bool.{cases_lt}
 use Rattle.std.proofs.lemmas.List.{get_or-take, length-take}
-use Rattle.symbolic_ops.specs.declared.symbol.Symbol.{Symbol}
 use Rattle.may_use_analysis.specs.declared.kept.Kept.{Kept}
 use Rattle.may_use_analysis.specs.declared.kept.Kept.TheVariants.{Own, Same, Count}
-use Rattle.may_use_analysis.specs.Stored.{Stored, Listed, Counted, IsStoredOf, own_list, kept_list, stored_by, all_stored, RefersBack, AllReferBack}
+use Rattle.may_use_analysis.specs.Stored.{Stored, Listed, own_list, stored_by, all_stored, RefersBack, AllReferBack}
 
 -- two lists of entries that agree below n
 abbrev AgreeBelow : List Kept → List Kept → ℕ → Type 0

@@ -1,20 +1,10 @@
 -- Carrying back, as the text says it: an operation's arguments go back over the steps before it, last step first.
-use Rattle.std.proofs.Common.{◌≡◌, List, [], ◌∷◌, ◌++◌, refl, sym, ap, ◌∙◌, subst, inl, inr, ◌⊎◌, ◌↔◌}
+use Rattle.std.proofs.Common.{List, [], ◌∷◌, ◌++◌, refl, sym, ap, ◌∙◌, subst, inl, inr, ◌↔◌}
 use Rattle.handler_dialogue.specs.declared.tree.CheckedCall.{CheckedCall}
 use Rattle.symbolic_ops.specs.declared.symbol.Symbol.{Symbol}
 use Rattle.may_use_analysis.specs.Steps.{symbol_of}
 use Rattle.may_use_analysis.specs.Steps.{Step, Copy, Constant, Other, Call, End, back}
-use Rattle.may_use_analysis.specs.Trails.{Back, IsOwn, Shows}
-
--- a symbol carried back over these steps
-abbrev pub carried_back : List Step → Symbol → Symbol
-carried_back [] s = s
-carried_back (step ∷ before) s = back step (carried_back before s)
-
--- an operation on the trail has this symbol, carried back to the trail's start
-abbrev pub ShowsSomewhere : List Step → Symbol → Type 0
-ShowsSomewhere t s =
-    (before : List Step) × (c : CheckedCall) × (rest : List Step) × (t ≡ before ++ Call c ∷ rest) × (s ≡ carried_back before (symbol_of c))
+use Rattle.may_use_analysis.specs.Trails.{IsOwn, Shows, carried_back, ShowsSomewhere}
 
 own_somewhere : (step : Step) (rest : List Step) (s : Symbol) → IsOwn step s → ShowsSomewhere (step ∷ rest) s
 own_somewhere (Copy x y) rest s own = absurd own
@@ -37,3 +27,6 @@ shows_at (step ∷ before) c rest = inr (carried_back before (symbol_of c), show
 pub somewhere_shows : (t : List Step) (s : Symbol) → ShowsSomewhere t s → Shows t s
 somewhere_shows t s w =
     subst (λ z. Shows z s) (sym w.3) (subst (Shows (w.0 ++ Call w.1 ∷ w.2)) (sym w.4) (shows_at w.0 w.1 w.2))
+
+pub literally : (t : List Step) (s : Symbol) → Shows t s ↔ ShowsSomewhere t s
+literally t s = (shows_somewhere t s, somewhere_shows t s)

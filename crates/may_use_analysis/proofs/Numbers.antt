@@ -1,5 +1,5 @@
 -- Each point of a numbered block has a number of its own.
-use Rattle.std.proofs.Common.{◌≡◌, ℕ, ◌+◌, ◌<◌, ◌≤◌, refl, sym, ap, ◌∙◌, subst, inl, inr, ◌⊎◌, ◌↔◌, arith}
+use Rattle.std.proofs.Common.{◌≡◌, ℕ, ◌+◌, ◌<◌, ◌≤◌, refl, sym, subst, inl, inr, ◌⊎◌, arith}
 use Rattle.std.specs.Prelude.{Option}
 use Rattle.std.proofs.lemmas.Bool.{cases_lt, cases_order}
 use Rattle.symbolic_ops.specs.declared.symbol.Symbol.{Symbol}
@@ -153,22 +153,25 @@ module _ (P : ℕ → Symbols → Type 0) where
     fits_numbered Finish low A n h = tt
     fits_numbered (Move x e rest) low A n h = fits_numbered rest low A n h
     fits_numbered (Ask at p x c rest) low A n h =
-        let e = n.0 in
-        (respects p _ _ (ask_here at p x c rest low p A n refl) (h p (omega arith) (omega arith)),
-         fits_numbered rest (low + 1) A n.1 (λ i ge lt. respects i _ _ (ask_past at p x c rest low i A n ge) (h i (omega arith) (omega arith))))
+        let e = n.0 in (
+          respects p _ _ (ask_here at p x c rest low p A n refl) (h p (omega arith) (omega arith)),
+          fits_numbered rest (low + 1) A n.1 (λ i ge lt. respects i _ _ (ask_past at p x c rest low i A n ge) (h i (omega arith) (omega arith))),
+        )
     fits_numbered (Fork at p q test a b rest) low A n h =
         let e = n.0 in
-        let f = n.2 in
-        (respects p _ _ (fork_first at p q test a b rest low p A n refl) (h p (omega arith) (omega arith)),
-         respects q _ _ (fork_second at p q test a b rest low q A n refl) (h q (omega arith) (omega arith)),
-         fits_numbered a (low + 1) (Flow rest A) n.1 (λ i ge lt. respects i _ _ (fork_in_a at p q test a b rest low i A n ge lt) (h i (omega arith) (omega arith))),
-         fits_numbered b (low + 2 + points a) (Flow rest A) n.3 (λ i ge lt. respects i _ _ (fork_in_b at p q test a b rest low i A n ge lt) (h i (omega arith) (omega arith))),
-         fits_numbered rest (low + 2 + points a + points b) A n.4 (λ i ge lt. respects i _ _ (fork_past at p q test a b rest low i A n ge) (h i (omega arith) (omega arith))))
+        let f = n.2 in (
+          respects p _ _ (fork_first at p q test a b rest low p A n refl) (h p (omega arith) (omega arith)),
+          respects q _ _ (fork_second at p q test a b rest low q A n refl) (h q (omega arith) (omega arith)),
+          fits_numbered a (low + 1) (Flow rest A) n.1 (λ i ge lt. respects i _ _ (fork_in_a at p q test a b rest low i A n ge lt) (h i (omega arith) (omega arith))),
+          fits_numbered b (low + 2 + points a) (Flow rest A) n.3 (λ i ge lt. respects i _ _ (fork_in_b at p q test a b rest low i A n ge lt) (h i (omega arith) (omega arith))),
+          fits_numbered rest (low + 2 + points a + points b) A n.4 (λ i ge lt. respects i _ _ (fork_past at p q test a b rest low i A n ge) (h i (omega arith) (omega arith))),
+        )
     fits_numbered (Loop at p n x body rest) low A k h =
-        let e = k.1 in
-        (respects p _ _ (loop_here at p n x body rest low p A k refl) (h p (omega arith) (omega arith)),
-         fits_numbered body low (Head x body (Flow rest A)) k.0 (λ i ge lt. respects i _ _ (loop_in at p n x body rest low i A k lt) (h i (omega arith) (omega arith))),
-         fits_numbered rest (low + points body + 1) A k.2 (λ i ge lt. respects i _ _ (loop_past at p n x body rest low i A k ge) (h i (omega arith) (omega arith))))
+        let e = k.1 in (
+          respects p _ _ (loop_here at p n x body rest low p A k refl) (h p (omega arith) (omega arith)),
+          fits_numbered body low (Head x body (Flow rest A)) k.0 (λ i ge lt. respects i _ _ (loop_in at p n x body rest low i A k lt) (h i (omega arith) (omega arith))),
+          fits_numbered rest (low + points body + 1) A k.2 (λ i ge lt. respects i _ _ (loop_past at p n x body rest low i A k ge) (h i (omega arith) (omega arith))),
+        )
     fits_numbered (Quit es rest) low A n h = fits_numbered rest low A n h
 
     -- and back

@@ -1,9 +1,9 @@
 -- The symbols at a point are those of the trails from it.
-use Rattle.std.proofs.Common.{◌≡◌, ℕ, zero, suc, List, [], ◌∷◌, refl, subst, inl, inr, ◌⊎◌, ◌↔◌}
+use Rattle.std.proofs.Common.{◌≡◌, ℕ, List, [], refl, subst, inl, inr, ◌⊎◌, ◌↔◌}
 use Rattle.symbolic_ops.specs.declared.symbol.Symbol.{Symbol}
-use Rattle.handler_dialogue.specs.Code.{Code, Finish, Move, Ask, Fork, Loop, Quit, Term, Atom, Calculate}
+use Rattle.handler_dialogue.specs.Code.{Code, Finish, Move, Ask, Fork, Loop, Quit}
 use Rattle.may_use_analysis.specs.Steps.{Step}
-use Rattle.may_use_analysis.specs.Trails.{Trails, AnyTurns, From, FromPoint, NoStep, FromHandler, Symbols, Shows, Shown, LaterAt}
+use Rattle.may_use_analysis.specs.Trails.{Trails, AnyTurns, From, FromPoint, NoStep, Symbols, Shows, Shown, LaterAt}
 use Rattle.may_use_analysis.specs.Flow.{Flow, Head, FlowPoint, FlowHandler}
 use Rattle.may_use_analysis.proofs.FlowLemmas.{Within, flow_within, turned_within, HasTrail, from_some, from_flow, flow_from}
 

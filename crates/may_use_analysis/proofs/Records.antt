@@ -1,11 +1,9 @@
 -- What a walk keeps of lists.
-use Rattle.std.proofs.Common.{◌≡◌, ℕ, ◌+◌, ◌-◌, ◌<◌, ◌≤◌, List, [], ◌∷◌, ◌++◌, length, take, get_or, map, refl, sym, ap, ◌∙◌, subst, ◌↔◌, Contains, append_assoc, append-nil, length-append, arith}
+use Rattle.std.proofs.Common.{◌≡◌, ℕ, ◌+◌, ◌-◌, List, [], ◌∷◌, ◌++◌, length, take, get_or, map, refl, sym, ap, ◌∙◌, subst, Contains, append_assoc, append-nil, length-append, arith}
 use Rattle.std.specs.Prelude.{Option, Result, Ok, Err, OnOk}
 use Rattle.std.proofs.Math.Seq.{take-append_seam, get_or-append_seam}
 use Rattle.symbolic_ops.specs.declared.symbol.Symbol.{Symbol}
 use Rattle.handler_dialogue.specs.declared.tree.CheckedCall.{CheckedCall}
-use Rattle.handler_dialogue.specs.declared.tree.CheckedCond.{CheckedCond}
-use Rattle.handler_dialogue.specs.declared.tree.CheckedExpr.{CheckedExpr}
 use Rattle.handler_dialogue.specs.declared.tree.CheckedStmt.{CheckedStmt}
 use Rattle.handler_dialogue.specs.declared.tree.CheckedStmt.TheVariants as stmt
 use Rattle.handler_dialogue.specs.Code.{Code, Finish, Move, Ask, Fork, Loop, Quit, expr_term, cond_test, stmt_code, block_code, points, IsNumbered}
@@ -159,13 +157,12 @@ fits_recorded (Fork at p q test a b rest) low t A old new all n r x e =
     let up3 = extends_trans r.2 new all (r.4 ∷ [], r.10) x in
     let up2' = extends_trans (r.1 ++ r.3 ∷ []) r.2 all (recorded_extends a R (r.1 ++ r.3 ∷ []) r.2 r.8) up3 in
     let up2 = extends_trans r.1 (r.1 ++ r.3 ∷ []) all (r.3 ∷ [], refl) up2' in
-    let up1 = extends_trans r.0 r.1 all (recorded_extends b R r.0 r.1 r.6) up2 in
-    (
+    let up1 = extends_trans r.0 r.1 all (recorded_extends b R r.0 r.1 r.6) up2 in (
       at_pushed r.2 new all r.4 (t - (p + 1)) (Flow a R) r.10 x (omega arith) r.9,
       at_pushed r.1 (r.1 ++ r.3 ∷ []) all r.3 (t - (q + 1)) (Flow b R) refl up2' (omega arith) r.7,
       fits_recorded a (low + 1) t R (r.1 ++ r.3 ∷ []) r.2 all n.1 r.8 up3 (omega arith),
       fits_recorded b (low + 2 + points a) t R r.0 r.1 all n.3 r.6 up2 (omega arith),
-      fits_recorded rest (low + 2 + points a + points b) t A old r.0 all n.4 r.5 up1 (omega arith)
+      fits_recorded rest (low + 2 + points a + points b) t A old r.0 all n.4 r.5 up1 (omega arith),
     )
 fits_recorded (Loop at p m y body rest) low t A old new all n r x e =
     let R = Flow rest A in
@@ -175,10 +172,9 @@ fits_recorded (Loop at p m y body rest) low t A old new all n r x e =
     let len3 = recorded_length body H (r.0 ++ r.1 ∷ []) new r.4 in
     let f = n.1 in
     let up2 = extends_trans (r.0 ++ r.1 ∷ []) new all (recorded_extends body H (r.0 ++ r.1 ∷ []) new r.4) x in
-    let up1 = extends_trans r.0 (r.0 ++ r.1 ∷ []) all (r.1 ∷ [], refl) up2 in
-    (
+    let up1 = extends_trans r.0 (r.0 ++ r.1 ∷ []) all (r.1 ∷ [], refl) up2 in (
       at_pushed r.0 (r.0 ++ r.1 ∷ []) all r.1 (t - (p + 1)) R refl up2 (omega arith) r.3,
       fits_recorded body low t H (r.0 ++ r.1 ∷ []) new all n.0 r.4 x (omega arith),
-      fits_recorded rest (low + points body + 1) t A old r.0 all n.2 r.2 up1 (omega arith)
+      fits_recorded rest (low + points body + 1) t A old r.0 all n.2 r.2 up1 (omega arith),
     )
 fits_recorded (Quit es rest) low t A old new all n r x e = fits_recorded rest low t A old new all n r x e

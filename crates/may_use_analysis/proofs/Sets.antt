@@ -1,5 +1,5 @@
 -- Sets of the same symbols.
-use Rattle.std.proofs.Common.{◌≡◌, ℕ, ◌≤◌, List, length, ◌↔◌, Contains, sym, subst}
+use Rattle.std.proofs.Common.{◌≡◌, ℕ, ◌≤◌, List, length, ◌↔◌, sym, subst}
 use Rattle.std.specs.List.Sorted.{IsStrictlySortedBy}
 use Rattle.symbolic_ops.specs.Order.{symbol_cmp}
 use Rattle.symbolic_ops.specs.declared.symbol.Symbol.{Symbol}

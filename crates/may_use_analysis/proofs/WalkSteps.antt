@@ -1,16 +1,16 @@
 -- What each step of the walk does to its list.
-use Rattle.std.proofs.Common.{◌≡◌, ℕ, suc, ◌+◌, ◌-◌, ◌<◌, ◌≤◌, arith, drop-cons, List, [], ◌∷◌, length, get_or, drop, Option, Some, None, refl, sym, ap, ◌∙◌, subst, inl, inr, ◌⊎◌, ◌↔◌, Contains}
+use Rattle.std.proofs.Common.{◌≡◌, ℕ, suc, ◌-◌, ◌<◌, ◌≤◌, arith, drop-cons, List, length, get_or, drop, Option, sym, ap, ◌∙◌, subst, inl, inr, ◌⊎◌, ◌↔◌, Contains}
 use Rattle.std.proofs.lemmas.List.{drop_all}
 use Rattle.symbolic_ops.specs.declared.symbol.Symbol.{Symbol}
 use Rattle.handler_dialogue.specs.declared.tree.CheckedCall.{CheckedCall}
 use Rattle.handler_dialogue.specs.declared.tree.CheckedStmt.{CheckedStmt}
 use Rattle.handler_dialogue.specs.Code.{Code, Finish, stmt_code, block_code}
-use Rattle.may_use_analysis.specs.Steps.{Step, Other, symbol_of}
+use Rattle.may_use_analysis.specs.Steps.{Other, symbol_of}
 use Rattle.may_use_analysis.specs.Trails.{Symbols, Back}
 use Rattle.may_use_analysis.specs.Flow.{RepliedBack, Flow, Head, AskFlow, StmtFlow}
 use Rattle.may_use_analysis.specs.Ordered.{Are}
 use Rattle.may_use_analysis.proofs.FlowLemmas.{Within, flow_within, back_within}
-use Rattle.may_use_analysis.proofs.LoopLemmas.{head_least, head_start, head_turn}
+use Rattle.may_use_analysis.proofs.LoopLemmas.{head_least, head_turn}
 use Rattle.may_use_analysis.proofs.Records.{stmt_rest}
 use Rattle.may_use_analysis.proofs.Sets.{are_same}
 

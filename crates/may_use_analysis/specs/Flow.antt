@@ -1,6 +1,5 @@
 -- The same sets of symbols, made from the end of a block to its start.
 use Rattle.std.specs.Prelude.{◌≡◌, ℕ, zero, suc, Option, Some, None, ◌⊎◌}
-use Rattle.symbolic_ops.specs.declared.symbol.Symbol.{Symbol}
 use Rattle.handler_dialogue.specs.declared.tree.CheckedCall.{CheckedCall}
 use Rattle.handler_dialogue.specs.declared.tree.CheckedStmt.{CheckedStmt}
 use Rattle.handler_dialogue.specs.Code.{Code, Finish, Move, Ask, Fork, Loop, Quit, stmt_code}

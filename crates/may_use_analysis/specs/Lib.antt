@@ -1,5 +1,6 @@
 pub mod Flow
 pub mod Later
+pub mod Numbered
 pub mod Ordered
 pub mod Places
 pub mod Recorded

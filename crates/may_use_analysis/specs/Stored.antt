@@ -1,5 +1,5 @@
 -- What is kept of the list of a point.
-use Rattle.std.specs.Prelude.{◌≡◌, ℕ, ◌<◌, ◌≤◌, List, [], ◌∷◌, length, map, slice_index_or}
+use Rattle.std.specs.Prelude.{◌≡◌, ℕ, ◌<◌, ◌≤◌, List, [], length, map, Option, Some, None, slice_index_or}
 use Rattle.symbolic_ops.specs.declared.symbol.Symbol.{Symbol}
 use Rattle.may_use_analysis.specs.declared.kept.Kept.{Kept}
 use Rattle.may_use_analysis.specs.declared.kept.Kept.TheVariants.{Own, Same, Count}
@@ -21,6 +21,15 @@ abbrev pub IsStoredOf : List Symbol → Stored → Type 0
 IsStoredOf list (Listed kept) = (kept ≡ list) × (length list ≤ 256)
 IsStoredOf list (Counted count) = (count ≡ length list) × (256 < count)
 
+-- the list that is kept, and the count that is kept in its place
+abbrev pub list_in : Stored → List Symbol
+list_in (Listed list) = list
+list_in (Counted count) = []
+
+abbrev pub count_in : Stored → Option ℕ
+count_in (Listed list) = None
+count_in (Counted count) = Some count
+
 -- ---- how it is held: equal lists of neighbours are held once
 
 -- the list that an entry holds itself
@@ -29,16 +38,10 @@ own_list (Own list) = list
 own_list (Same k) = []
 own_list (Count n) = []
 
--- the list of an entry: its own, or that of an earlier one
-abbrev pub kept_list : List Kept → Kept → List Symbol
-kept_list entries (Own list) = list
-kept_list entries (Same k) = own_list (slice_index_or entries k (Count 0))
-kept_list entries (Count n) = []
-
--- what an entry stands for
+-- what an entry stands for: its own list, or that of an earlier one
 abbrev pub stored_by : List Kept → Kept → Stored
 stored_by entries (Own list) = Listed list
-stored_by entries (Same k) = Listed (kept_list entries (Same k))
+stored_by entries (Same k) = Listed (own_list (slice_index_or entries k (Count 0)))
 stored_by entries (Count n) = Counted n
 
 abbrev pub all_stored : List Kept → List Stored

@@ -1,6 +1,7 @@
 -- Trails: the ways through a handler, whatever its conditions say, and the symbols of the operations on them.
-use Rattle.std.specs.Prelude.{◌≡◌, ℕ, zero, suc, List, [], ◌∷◌, Option, Some, None, ◌⊎◌}
+use Rattle.std.specs.Prelude.{◌≡◌, ℕ, zero, suc, List, [], ◌∷◌, ◌++◌, Option, Some, None, ◌⊎◌}
 use Rattle.symbolic_ops.specs.declared.symbol.Symbol.{Symbol}
+use Rattle.handler_dialogue.specs.declared.tree.CheckedCall.{CheckedCall}
 use Rattle.handler_dialogue.specs.Code.{Code, Finish, Move, Ask, Fork, Loop, Quit}
 use Rattle.may_use_analysis.specs.Steps.{Step, Copy, Constant, Other, Call, End, store_step, symbol_of, back}
 
@@ -84,3 +85,15 @@ Shown trails s = (t : List Step) × trails t × Shows t s
 -- the symbols of all operations on all trails from a point
 abbrev pub LaterAt : Code → ℕ → Symbols
 LaterAt code i = Shown (FromHandler code i)
+
+-- ---- the same, step by step
+
+-- a symbol carried back over these steps, the last one first
+abbrev pub carried_back : List Step → Symbol → Symbol
+carried_back [] s = s
+carried_back (step ∷ before) s = back step (carried_back before s)
+
+-- an operation stands on the trail that has this symbol, carried back over the steps before it
+abbrev pub ShowsSomewhere : List Step → Symbol → Type 0
+ShowsSomewhere t s =
+    (before : List Step) × (c : CheckedCall) × (rest : List Step) × (t ≡ before ++ Call c ∷ rest) × (s ≡ carried_back before (symbol_of c))

@@ -1,8 +1,8 @@
 // What is kept of the lists of points.
 
-ghost use Rattle.std.specs.Prelude.{◌≡◌, ◌<◌, ◌++◌, ◌∷◌, [], length, slice_get, take, IfOk, IfSome, OnOk, Some};
+ghost use Rattle.std.specs.Prelude.{◌≡◌, ◌<◌, ◌++◌, ◌∷◌, [], length, slice_get, slice_index_or, take, IfOk, IfSome, OnOk, Some};
 ghost use Rattle.std.specs.Bool.{OnTrue};
-ghost use Rattle.may_use_analysis.specs.Stored.{AllReferBack, IsStoredOf, RefersBack, Stored, own_list, stored_by};
+ghost use Rattle.may_use_analysis.specs.Stored.{AllReferBack, Counted, IsStoredOf, RefersBack, Stored, count_in, list_in, own_list, stored_by};
 
 use crate::ordered::is_same;
 use session_values::{Listed, NoMemory};
@@ -44,6 +44,20 @@ fn own_list(entries: &[Kept], k: usize) -> &[Symbol]
     match &entries[k] {
         Kept::Own(list) => list.as_slice(),
         Kept::Same(_) => &[],
+        Kept::Count(_) => &[],
+    }
+}
+
+/// The list of the entry at a place.
+fn kept_list(entries: &[Kept], i: usize) -> &[Symbol]
+    requires at { i < length entries.now }
+    requires back { AllReferBack entries.now }
+    ensures { (e : Kept) → slice_get entries.now i ≡ Some e
+        → result.now ≡ list_in (stored_by entries.now e) }
+{
+    match &entries[i] {
+        Kept::Own(list) => list.as_slice(),
+        Kept::Same(k) => own_list(entries, *k),
         Kept::Count(_) => &[],
     }
 }
@@ -125,5 +139,25 @@ impl PointLists {
         let entry = entry_of(alloc, self.entries.as_slice(), list)?;
         self.entries.push(entry)?;
         Ok(())
+    }
+
+    /// The list at a place, from 0; an empty one where its length alone is kept.
+    pub(crate) fn list(&self, i: usize) -> &[Symbol]
+        requires { i < length self.now }
+        ensures { result.now ≡ list_in (slice_index_or self.now i (Counted 0)) }
+    {
+        kept_list(self.entries.as_slice(), i)
+    }
+
+    /// The length of the list at a place, where that alone is kept.
+    pub(crate) fn count(&self, i: usize) -> Option<u64>
+        requires { i < length self.now }
+        ensures { result ≡ count_in (slice_index_or self.now i (Counted 0)) }
+    {
+        match &self.entries[i] {
+            Kept::Own(_) => None,
+            Kept::Same(_) => None,
+            Kept::Count(n) => Some(*n),
+        }
     }
 }

@@ -12,17 +12,9 @@ use symbolic_ops::{Arg, Symbol};
 /// What becomes of a variable at a store: a copy of another one, a constant, or something else.
 #[derive(Clone, Copy)]
 pub(crate) enum Store {
-    Copy {
-        x: u32,
-        y: u32,
-    },
-    Constant {
-        x: u32,
-        value: Value,
-    },
-    Other {
-        x: u32,
-    },
+    Copy { x: u32, y: u32 },
+    Constant { x: u32, value: Value },
+    Other { x: u32 },
 }
 
 /// What a store of this right side is.

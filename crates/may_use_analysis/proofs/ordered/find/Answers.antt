@@ -1,4 +1,4 @@
-use Rattle.std.proofs.Common.{rules, refl}
+use Rattle.std.proofs.Common.{rules}
 use Rattle.std.proofs.lemmas.Fn.{always_returns_same}
 use Rattle.symbolic_ops.specs.Order.{symbol_cmp}
 use Rattle.may_use_analysis.proofs.Sorting.{searched}

@@ -1,4 +1,4 @@
-use Rattle.std.proofs.Common.{◌≡◌, sym, ◌∙◌, subst, Contains, Bool}
+use Rattle.std.proofs.Common.{sym, subst, Contains, Bool}
 use Rattle.std.specs.Bool.{Decides}
 use Rattle.may_use_analysis.proofs.Sorting.{is_searched}
 use Rattle.may_use_analysis.proofs.ordered.has.Goals as goal

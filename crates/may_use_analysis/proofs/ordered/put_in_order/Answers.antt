@@ -2,7 +2,6 @@ use Rattle.std.proofs.Common.{◌≡◌, ap, rules}
 use Rattle.std.specs.Ordering.{is_lt, eq_by_cmp}
 use Rattle.std.proofs.lemmas.Fn.{dedup_same}
 use Rattle.std.proofs.lemmas.List.Sorted.{IsPermutation-sym, answers_always}
-use Rattle.symbolic_ops.specs.declared.symbol.Symbol.{Symbol}
 use Rattle.symbolic_ops.specs.Order.{symbol_cmp}
 use Rattle.may_use_analysis.proofs.Sorting.{symbol_order, in_order, same_members}
 use Rattle.may_use_analysis.proofs.ordered.put_in_order.Goals as goal

@@ -1,18 +1,16 @@
-use Rattle.std.proofs.Common.{◌≡◌, ◌*◌, ◌-◌, ◌<◌, ◌≤◌, ◌∷◌, [], ◌++◌, arith, rules, length, drop, List, refl, sym, ap, ◌∙◌, subst, Contains, ◌⊎◌, ◌↔◌}
-use Rattle.std.specs.Prelude.{IfOk, OnOk}
+use Rattle.std.proofs.Common.{◌*◌, ◌-◌, ◌<◌, ◌∷◌, [], ◌++◌, arith, rules, length, drop, List, refl, sym, ap, ◌∙◌, subst, Contains}
+use Rattle.std.specs.Prelude.{IfOk}
 use Rattle.symbolic_ops.specs.declared.symbol.Symbol.{Symbol}
 use Rattle.handler_dialogue.specs.declared.tree.CheckedStmt.{CheckedStmt}
 use Rattle.handler_dialogue.specs.Code.{Code, Finish, stmt_code, block_code}
 use Rattle.handler_check.proofs.Counting.{checked_size, checked_sizes, member_smaller, code_store, code_choose, code_repeat}
-use Rattle.may_use_analysis.specs.Steps.{Other}
-use Rattle.may_use_analysis.specs.Trails.{Back}
-use Rattle.may_use_analysis.specs.Flow.{Flow, Head, StmtFlow}
+use Rattle.may_use_analysis.specs.Flow.{Flow, Head}
 use Rattle.may_use_analysis.specs.Ordered.{Are}
 use Rattle.may_use_analysis.specs.Recorded.{Recorded}
 use Rattle.may_use_analysis.specs.Stored.{Stored}
 use Rattle.may_use_analysis.proofs.Records.{recorded_same, recorded_stmt, recorded_extends, head_lists, kept_lists}
 use Rattle.may_use_analysis.proofs.Sets.{stored_lent}
-use Rattle.may_use_analysis.proofs.WalkSteps.{block_step, fork_step, turn_sound, turn_start, turn_least, turn_done, drop_code, all_code}
+use Rattle.may_use_analysis.proofs.WalkSteps.{block_step, fork_step, turn_sound, turn_start, turn_least, turn_done, drop_code}
 use Rattle.may_use_analysis.proofs.walk.+walk.Goals as goal
 
 pub before_block-before_stmt-requires : goal.before_block-before_stmt-requires
@@ -34,7 +32,7 @@ before_block-loop-i-preserved t c =
     let lists = recorded_stmt rest after c.args.out.now c.loop-i.out c.before_stmt.new.out c.loop-i.invariant.lists x (recorded_same (stmt_code x Finish) (Contains c.loop-i.set) (Flow rest after) c.loop-i.out c.before_stmt.new.out c.loop-i.invariant.set c.in_ok-set.ensures.lists) in
     record {
       set = subst (λ (z : Code). Are c.in_ok-set.set (Flow z after)) (sym code) step;
-      lists = subst (λ (z : Code). Recorded z after c.args.out.now c.before_stmt.new.out) (sym code) lists
+      lists = subst (λ (z : Code). Recorded z after c.args.out.now c.before_stmt.new.out) (sym code) lists;
     }
 
 pub before_loop-returns-then-not-branch : goal.before_loop-returns-then-not-branch
@@ -52,7 +50,7 @@ before_loop-returns-then-not-branch t c =
     let least = turn_least x body after head start turn c.join.new.self is_start c.carry.ensures none c.loop.invariant.start in
     record {
       set = turn_done x body after head start turn c.join.new.self is_start c.carry.ensures c.in_ok-join.ensures.union none c.loop.invariant.sound c.loop.invariant.start;
-      lists = head_lists x body after head c.args.out.now c.truncate.new.self c.before_block.new.out cut lists c.loop.invariant.sound least
+      lists = head_lists x body after head c.args.out.now c.truncate.new.self c.before_block.new.out cut lists c.loop.invariant.sound least;
     }
 
 pub before_loop-loop-preserved : goal.before_loop-loop-preserved
@@ -69,7 +67,7 @@ before_loop-loop-preserved t c =
     record {
       sound = turn_sound x body after head start turn c.join.new.self is_start c.carry.ensures c.in_ok-join.ensures.union c.loop.invariant.sound;
       start = turn_start x body after head start turn c.join.new.self c.in_ok-join.ensures.union c.loop.invariant.start;
-      kept = (more.0, more.1 ∙ ap (λ (z : List Stored). z ++ more.0) cut)
+      kept = (more.0, more.1 ∙ ap (λ (z : List Stored). z ++ more.0) cut);
     }
 
 pub before_stmt-returns-in-Store-clause-set : goal.before_stmt-returns-in-Store-clause-set

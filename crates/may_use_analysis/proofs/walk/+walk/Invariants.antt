@@ -20,12 +20,12 @@ decreases-before_loop l = 2 * checked_sizes l.body.now + 1
 abbrev pub invariant-before_block-loop-i : goal.invariant-before_block-loop-i
 invariant-before_block-loop-i l = record {
   set : Are l.set (Flow (block_code (drop l.i l.block)) (Contains l.fn.after));
-  lists : Recorded (block_code (drop l.i l.block)) (Contains l.fn.after) l.fn.out l.out
+  lists : Recorded (block_code (drop l.i l.block)) (Contains l.fn.after) l.fn.out l.out;
 }
 
 abbrev pub invariant-before_loop-loop : goal.invariant-before_loop-loop
 invariant-before_loop-loop l = record {
   sound : Within (Contains l.head) (Head l.var (block_code l.body) (Contains l.fn.after));
   start : Within (Contains l.fn.after) (Contains l.head);
-  kept : (more : List Stored) × (l.out ≡ l.fn.out ++ more)
+  kept : (more : List Stored) × (l.out ≡ l.fn.out ++ more);
 }

@@ -1,6 +1,5 @@
-use Rattle.std.proofs.Common.{◌≡◌, List, Contains, length, map, subst, ap, ◌∙◌}
+use Rattle.std.proofs.Common.{◌≡◌, length, map, ap, ◌∙◌}
 use Rattle.std.proofs.lemmas.List.{length-map}
-use Rattle.symbolic_ops.specs.declared.symbol.Symbol.{Symbol}
 use Rattle.may_use_analysis.specs.Steps.{back}
 use Rattle.may_use_analysis.specs.Stores.{step_of}
 use Rattle.may_use_analysis.proofs.Members.{carried_members, written_back}

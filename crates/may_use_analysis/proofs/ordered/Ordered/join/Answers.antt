@@ -1,4 +1,4 @@
-use Rattle.std.proofs.Common.{◌≡◌, ◌↔◌, ◌⊎◌, List, Contains, sym, subst, ◌++◌, ap, ◌∙◌}
+use Rattle.std.proofs.Common.{List, Contains, subst, ◌++◌, ap, ◌∙◌}
 use Rattle.symbolic_ops.specs.declared.symbol.Symbol.{Symbol}
 use Rattle.may_use_analysis.proofs.Members.{join_same, join_both}
 use Rattle.may_use_analysis.proofs.ordered.Ordered.join.Goals as goal
