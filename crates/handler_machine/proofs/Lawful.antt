@@ -1,18 +1,19 @@
 -- The script of a program's requests is lawful.
-use Rattle.std.proofs.Common.{◌≡◌, ℕ, zero, suc, ◌+◌, ◌*◌, ◌<◌, ◌≤◌, ◌==◌, arith, Bool, true, false, ◌&&◌, if◌then◌else◌, cond, List, [], ◌∷◌, ◌++◌, length, get_or, refl, sym, ap, ◌∙◌, subst}
+use Rattle.std.proofs.Common.{◌≡◌, ℕ, zero, suc, ◌+◌, ◌<◌, ◌≤◌, ◌==◌, arith, Bool, true, false, ◌&&◌, if◌then◌else◌, cond, List, [], ◌∷◌, length, nat_lt, Option, None, slice_get, refl, sym, ap, ◌∙◌, subst}
 use Rattle.std.specs.Prelude.{slice_index_or}
 use Rattle.std.specs.List.{AllByRecursion, sum_by}
 use Rattle.std.proofs.Math.Nat.{mul-le-mul_left}
-use Rattle.std.proofs.lemmas.List.{length-map}
+use Rattle.std.proofs.lemmas.Bool.Decides.{nat_tests}
+use Rattle.std.proofs.lemmas.List.{get_or_past}
 use Rattle.std.proofs.lemmas.List.Sums.{sum_by-cons}
+use Rattle.std.proofs.lemmas.Option.{slice_get_past}
 use Rattle.session_values.specs.declared.value.Value.{Value}
-use Rattle.session_values.specs.declared.value.Value.TheVariants.{Nil}
-use Rattle.session_values.specs.Dialogue.{Next, Calls, Answers, Dialogue, Entry, rest}
+use Rattle.session_values.specs.Dialogue.{Next, Calls, Answers, Entry, rest}
 use Rattle.session_values.specs.Kinds.{is_adding}
 use Rattle.session_values.specs.Sums.{sum_below}
 use Rattle.session_values.specs.Values.{IsValue}
 use Rattle.symbolic_ops.specs.declared.symbol.Symbol.{Symbol}
-use Rattle.session_journal.specs.Script.{Covers, HasValues, IsForesight, IsScript, Meaning, adds_on, calls, room}
+use Rattle.session_journal.specs.Script.{HasValues, IsForesight, IsScript, adds_on, calls, room}
 use Rattle.handler_dialogue.specs.Bounds.{adding, adds_bound, calls_bound, weight_of}
 use Rattle.handler_dialogue.specs.Code.{Code, Finish, Move, Ask, Fork, Loop, Quit}
 use Rattle.handler_dialogue.specs.Dialogue.{Env, Place, entry, env_of, next, run, told_place, due_place}
@@ -20,14 +21,16 @@ use Rattle.handler_dialogue.specs.Keeps.{IsHeldNext}
 use Rattle.handler_dialogue.proofs.Bounded.{counted, ends_by}
 use Rattle.handler_dialogue.proofs.Held.{calls_fit, keeps_values}
 use Rattle.handler_check.specs.Checked.{HandlerWithin}
-use Rattle.handler_check.specs.Resolved.{code_at, shape_of}
+use Rattle.handler_check.specs.Resolved.{code_at, code_in, shape_of}
 use Rattle.handler_check.proofs.Codes.{all_within}
 use Rattle.handler_trees.specs.declared.file.File.{File}
+use Rattle.handler_trees.specs.declared.file.Handler.{Handler}
 use Rattle.request_files.specs.declared.request.Request.{Request}
-use Rattle.request_files.specs.Servable.{IsRequestOf, IsServable, calls_in_all}
+use Rattle.request_files.specs.Servable.{IsRequestOf}
 use Rattle.request_files.specs.Session.{request_at}
-use Rattle.declaration_insertion.specs.Declarations.{ArePromised, CoversRest, list_at, symbol_at}
+use Rattle.declaration_insertion.specs.Promises.{ArePromised, CoversRest, listed, list_at}
 use Rattle.declaration_insertion.specs.Program.{IsProgram, ProgramView, declared_at}
+use Rattle.declaration_insertion.proofs.Programs.{program_promised}
 use Rattle.handler_machine.specs.Scripts.{KeepsScripts, ScriptsView, meaning}
 use Rattle.handler_machine.specs.Serving.{Gives}
 
@@ -83,13 +86,45 @@ held_next : (n : Next) → IsHeldNext n → HasValues n
 held_next (Calls op) h = h
 held_next (Answers r) h = h
 
+-- ---- declarations, also of numbers that are no handler's
+nothing_promised : (env : Env) → ArePromised Finish (listed []) env
+nothing_promised env = record {
+  few = λ at. omega arith;
+  known = λ at. tt;
+  covered = λ rs. tt;
+  matched = λ rs ps op held is. cc;
+  covers = λ rs front past held is more op k h. cc;
+  opening = λ more op k h. cc;
+  told = λ rs held more op k h. cc;
+  due = λ rs held more op k h. cc;
+}
+
+every_handler : (p : ProgramView) → IsProgram p → (h : ℕ) (args : List Value) → AllByRecursion IsValue args → ArePromised (code_at p.file h) (declared_at p h) (env_of args)
+every_handler p is h args held = go (nat_lt h (length p.file.handlers)) refl
+  where
+    lower : nat_lt h (length p.file.handlers) ≡ true → h < length p.file.handlers
+    lower e = grind (arith, nat_tests)
+
+    past : nat_lt h (length p.file.handlers) ≡ false → length p.file.handlers ≤ h
+    past e = grind (arith, nat_tests)
+
+    go : (b : Bool) → nat_lt h (length p.file.handlers) ≡ b → ArePromised (code_at p.file h) (declared_at p h) (env_of args)
+    go true e = program_promised p is h (lower e) args held
+    go false e =
+        let far : length p.file.handlers ≤ h = past e in
+        let same : length p.lists ≡ length p.file.handlers = is.later.count in
+        let none : slice_get p.file.handlers h ≡ None = slice_get_past p.file.handlers h far in
+        let lists : slice_index_or p.lists h [] ≡ [] = get_or_past p.lists h [] (omega arith) in
+        subst (λ (o : Option Handler). ArePromised (code_in p.file o) (declared_at p h) (env_of args)) (sym none)
+        (subst (λ (l : List (List Symbol)). ArePromised Finish (listed l) (env_of args)) (sym lists) (nothing_promised (env_of args)))
+
 -- ---- the script
 module _ (s : ScriptsView) (k : KeepsScripts s.program s.requests) where
   abbrev file : File
   file = s.program.file
 
   within : (h : ℕ) → HandlerWithin file h
-  within = all_within file k.program.accepted k.program.bounded
+  within = all_within file k.program.accepted k.program.bounds
 
   abbrev code : ℕ → Code
   code t = code_at file (request_at s.requests t).handler
@@ -101,7 +136,7 @@ module _ (s : ScriptsView) (k : KeepsScripts s.program s.requests) where
   declared t = declared_at s.program (request_at s.requests t).handler
 
   promised : (t : ℕ) → ArePromised (code t) (declared t) (env t)
-  promised t = k.program.promised (request_at s.requests t).handler (env t)
+  promised t = every_handler s.program k.program (request_at s.requests t).handler (request_at s.requests t).args (values_at file s.requests t k.servable.each)
 
   foresight : (t : ℕ) (replies : List Value) (at : Place) → CoversRest (code t) (env t) replies (list_at (declared t) at) → IsForesight (rest (next (code t) (env t)) replies) (list_at (declared t) at)
   foresight t replies at h = record {
@@ -136,14 +171,6 @@ module _ (s : ScriptsView) (k : KeepsScripts s.program s.requests) where
   }
 
 -- ---- one ticket
-pub entry_fits : (p : ProgramView) → IsProgram p → (h : ℕ) (list : List Symbol) → list ≡ declared_at p h 0 → length list ≤ 256
-entry_fits p k h list is =
-    let env : Env = λ x. Nil in
-    let few : length (list_at (declared_at p h) (entry env)) ≤ 256 = (k.promised h env).few (entry env) in
-    let same : length (list_at (declared_at p h) (entry env)) ≡ length (declared_at p h 0) = length-map (declared_at p h 0) (symbol_at env) in
-    let here : length list ≡ length (declared_at p h 0) = ap length is in
-    omega arith
-
 -- the script gives its ticket the request's handler
 pub gives_ticket : (s : ScriptsView) (t : ℕ) → Gives (meaning s) t (declared_at s.program (request_at s.requests t).handler) (entry (env_of (request_at s.requests t).args)) (run (code_at s.program.file (request_at s.requests t).handler) (env_of (request_at s.requests t).args))
 gives_ticket s t = record { next = λ rs. refl; told = λ rs. refl; due = λ rs. refl }

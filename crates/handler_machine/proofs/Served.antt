@@ -1,21 +1,22 @@
 -- A handler's run at a desk meets what the desk asks.
-use Rattle.std.proofs.Common.{◌≡◌, ℕ, ◌+◌, ◌<◌, ◌≤◌, arith, Bool, true, false, List, [], ◌∷◌, ◌++◌, length, Option, Some, None, append-nil, append_assoc, length-append, refl, sym, ap, ◌∙◌, subst}
-use Rattle.std.proofs.lemmas.List.{length-map}
+use Rattle.std.proofs.Common.{◌≡◌, ℕ, ◌+◌, ◌<◌, ◌≤◌, arith, Bool, true, false, List, [], ◌∷◌, ◌++◌, length, Option, None, append-nil, append_assoc, length-append, refl, sym, ap, ◌∙◌, subst}
 use Rattle.std.specs.List.{AllByRecursion}
 use Rattle.session_values.specs.declared.op.Op.{Op}
 use Rattle.session_values.specs.declared.reply.Reply.{Reply}
 use Rattle.session_values.specs.declared.value.Value.{Value}
-use Rattle.session_values.specs.Dialogue.{Next, Calls as NextCalls, Answers as NextAnswers, Dialogue, Entry, Follows, replies, rest}
+use Rattle.session_values.specs.Dialogue.{Calls as NextCalls, Answers as NextAnswers, Dialogue, Entry, Follows, replies}
 use Rattle.session_values.specs.Values.{IsValue}
+use Rattle.symbolic_ops.specs.declared.arg.Arg.{Arg}
+use Rattle.symbolic_ops.specs.declared.arg.Arg.TheVariants.{Known, Var, Any}
 use Rattle.symbolic_ops.specs.declared.symbol.Symbol.{Symbol}
+use Rattle.symbolic_ops.specs.Instantiate.{ArgWithin, IsWithin}
 use Rattle.symbolic_ops.specs.Symbols.{Covered, Matches}
 use Rattle.session_journal.specs.Desks.{DeskView, MayFinish, MayNarrow, due_of, finished, next_of, with_end, with_entry, with_present, with_waiting}
-use Rattle.session_journal.specs.Script.{Meaning}
 use Rattle.ticket_serving.specs.Served.{IsServed}
 use Rattle.handler_dialogue.specs.Ahead.{Ahead, asked, passing}
 use Rattle.handler_dialogue.specs.Dialogue.{Env, Place, Outcome, Calls, after, ended, last_place, last_replied, pass, passed_by}
 use Rattle.handler_walk.proofs.Asked.{follows_more, replies_more}
-use Rattle.declaration_insertion.specs.Declarations.{Declarations, IsCoveredChain, list_at, symbol_at}
+use Rattle.declaration_insertion.specs.Promises.{Declarations, IsCoveredChain, list_at}
 use Rattle.handler_machine.specs.Serving.{Course, Gives, Halted, IsAwaiting, IsServing, Promises, Serving, replied_count}
 use Rattle.handler_machine.proofs.Places.{after_none, after_snoc, count_append, ended_after, last_append, length_replies, none_replied, passed_after, replied_append}
 
@@ -49,9 +50,11 @@ module _ (c : Course) (first : Place) (g : Gives c.meaning c.start.ticket c.decl
         foresight = record {
           few = p.few at;
           known = p.known at;
-          covers = record { each = λ more op held h.
-            subst (λ (z : Place). Matches (list_at c.declared z) op) last
-            (p.covers rs (passed ++ at ∷ []) qs values (places ∙ sym (append_assoc passed (at ∷ []) qs)) more op held (sym (g.next (rs ++ more)) ∙ h)) };
+          covers = record {
+            each = λ more op held h.
+                subst (λ (z : Place). Matches (list_at c.declared z) op) last
+                (p.covers rs (passed ++ at ∷ []) qs values (places ∙ sym (append_assoc passed (at ∷ []) qs)) more op held (sym (g.next (rs ++ more)) ∙ h));
+          };
         };
       }
 
@@ -67,6 +70,15 @@ module _ (c : Course) (first : Place) (g : Gives c.meaning c.start.ticket c.decl
       sym (g.told rs ∙ ap (λ (zs : List Place). list_at c.declared (last_replied first zs)) e ∙ ap (list_at c.declared) last)
 
 -- ---- a point that is passed
+more_arg : (a : Arg) (n m : ℕ) → n ≤ m → ArgWithin n a → ArgWithin m a
+more_arg (Known v) n m l h = tt
+more_arg (Var x) n m l h = omega arith
+more_arg Any n m l h = tt
+
+pub vars_more : (list : List Symbol) (n m : ℕ) → n ≤ m → AllByRecursion (λ s. IsWithin n s) list → AllByRecursion (λ s. IsWithin m s) list
+vars_more [] n m l h = tt
+vars_more (s ∷ list) n m l h = ((more_arg s.key n m l h.0.0, more_arg s.value n m l h.0.1), vars_more list n m l h.1)
+
 middle : (P : Place → Type 0) (ps qs : List Place) (at : Place) → AllByRecursion P (ps ++ (at ∷ qs)) → P at
 middle P [] qs at h = h.0
 middle P (p ∷ ps) qs at h = middle P ps qs at h.1
@@ -78,15 +90,6 @@ module _ (c : Course) (now : DeskView) (room : ℕ) (es : List Entry) (w : Optio
       let qs = passed_by (next []) in
       let places : passed_by (c.whole (replies es)) ≡ s.passed ++ (at ∷ qs) = places_of c s.first s.gives s.promises (replies es) s.passed at next s.is_ahead in
       middle (λ (p : Place). p.point < c.points) s.passed qs at (subst (AllByRecursion (λ (p : Place). p.point < c.points)) places (s.promises.within (replies es)))
-
-  pub list_fits : (list : List Symbol) → list ≡ c.declared point → length list ≤ room
-  list_fits list is =
-      let at : Place = record { point = point; env = env; replied = replied } in
-      let few : length (list_at c.declared at) ≤ 256 = s.promises.few at in
-      let same : length (list_at c.declared at) ≡ length (c.declared point) = length-map (c.declared point) (symbol_at env) in
-      let here : length list ≡ length (c.declared point) = ap length is in
-      let roomy : 256 ≤ room = s.roomy in
-      omega arith
 
 -- ---- the calls
 module _ (c : Course) (now : DeskView) (room : ℕ) where
@@ -106,23 +109,26 @@ module _ (c : Course) (now : DeskView) (room : ℕ) where
     pub call_waits : (new : DeskView) (v : Value) → IsValue v → new ≡ with_waiting now op v → IsAwaiting c new room (next v)
     call_waits new v held is =
         let e : Entry = record { op = op; reply = v } in
-        subst (λ (d : DeskView). IsAwaiting c d room (next v)) (sym is) (e, record {
-          first = s.first;
-          gives = s.gives;
-          promises = s.promises;
-          passed = s.passed;
-          is_ahead = λ more. ap c.whole (replies_more now.entries e more) ∙ s.is_ahead (v ∷ more);
-          follows = follows_more (λ rs. ended (c.whole rs)) now.entries e s.follows (ap ended whole_calls);
-          values = values_more now.entries e s.values held;
-          counts = s.counts;
-          present = s.present;
-          waits = refl;
-          going = s.going;
-          ticket = s.ticket;
-          home = s.home;
-          sure = s.sure;
-          roomy = s.roomy;
-        })
+        subst (λ (d : DeskView). IsAwaiting c d room (next v)) (sym is) (
+          e,
+          record {
+            first = s.first;
+            gives = s.gives;
+            promises = s.promises;
+            passed = s.passed;
+            is_ahead = λ more. ap c.whole (replies_more now.entries e more) ∙ s.is_ahead (v ∷ more);
+            follows = follows_more (λ rs. ended (c.whole rs)) now.entries e s.follows (ap ended whole_calls);
+            values = values_more now.entries e s.values held;
+            counts = s.counts;
+            present = s.present;
+            waits = refl;
+            going = s.going;
+            ticket = s.ticket;
+            home = s.home;
+            sure = s.sure;
+            roomy = s.roomy;
+          },
+        )
 
     pub call_halts : (new : DeskView) → new ≡ now → now.sure ≡ false → Halted c new room
     call_halts new is unsure = subst (λ (d : DeskView). Halted c d room) (sym is) (record { follows = s.follows; unsure = sym s.sure ∙ unsure; roomy = s.roomy })

@@ -1,6 +1,5 @@
 -- What the requests of a program mean, as the script of a session.
-use Rattle.std.specs.Prelude.{◌≡◌, ℕ, List, length}
-use Rattle.session_values.specs.declared.value.Value.{Value}
+use Rattle.std.specs.Prelude.{List, length}
 use Rattle.session_values.specs.Tables.{start}
 use Rattle.symbolic_ops.specs.declared.symbol.Symbol.{Symbol}
 use Rattle.session_journal.specs.Script.{Meaning}
@@ -10,7 +9,7 @@ use Rattle.handler_check.specs.Resolved.{code_at, shape_of}
 use Rattle.request_files.specs.declared.request.Request.{Request}
 use Rattle.request_files.specs.Servable.{IsServable}
 use Rattle.request_files.specs.Session.{dialogue_of, request_at}
-use Rattle.declaration_insertion.specs.Declarations.{list_at}
+use Rattle.declaration_insertion.specs.Promises.{list_at}
 use Rattle.declaration_insertion.specs.Program.{IsProgram, ProgramView, declared_at}
 
 -- a program and its requests

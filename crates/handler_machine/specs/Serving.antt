@@ -1,5 +1,5 @@
 -- A handler's run at a desk.
-use Rattle.std.specs.Prelude.{◌≡◌, ℕ, ◌+◌, ◌<◌, ◌≤◌, ◌++◌, List, [], ◌∷◌, Option, Some, None, Bool, true, false, if◌then◌else◌, length}
+use Rattle.std.specs.Prelude.{◌≡◌, ℕ, ◌+◌, ◌<◌, ◌≤◌, ◌++◌, List, [], ◌∷◌, Option, Some, None, false, if◌then◌else◌, length}
 use Rattle.std.specs.List.{AllByRecursion}
 use Rattle.session_values.specs.declared.op.Op.{Op}
 use Rattle.session_values.specs.declared.value.Value.{Value}
@@ -10,7 +10,7 @@ use Rattle.session_journal.specs.Desks.{DeskView}
 use Rattle.session_journal.specs.Script.{Meaning}
 use Rattle.handler_dialogue.specs.Ahead.{Ahead}
 use Rattle.handler_dialogue.specs.Dialogue.{Place, Calls, after, ended, last_place, last_replied, passed_by}
-use Rattle.declaration_insertion.specs.Declarations.{Declarations, IsCoveredChain, list_at}
+use Rattle.declaration_insertion.specs.Promises.{Declarations, IsCoveredChain, list_at}
 
 -- how many of these places a reply led to
 abbrev pub replied_count : List Place → ℕ

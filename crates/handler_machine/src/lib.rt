@@ -1,7 +1,7 @@
 //! Handlers run on what answers their operations, and served at desks.
 #![tactic(auto)]
 
-mod declaring;
+pub mod laws;
 mod narrowing;
 mod on_tables;
 mod running;

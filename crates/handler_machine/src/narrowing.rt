@@ -8,14 +8,13 @@ ghost use Rattle.handler_check.specs.Resolved.{code_at};
 ghost use Rattle.declaration_insertion.specs.Program.{declared_at};
 ghost use Rattle.handler_machine.specs.Serving.{Course, Halted, IsAwaiting, IsServing};
 
-use crate::declaring::declare_at;
 use declaration_insertion::Program;
 use handler_walk::Guide;
 use session_journal::Desk;
 use session_values::{NoMemory, Op, Value};
 use std::sync::Wait;
 use std::thread::Threads;
-use symbolic_ops::Foresight;
+use symbolic_ops::{Foresight, instantiate};
 
 /// Leads a walk over a handler of a program at a desk: at each point it narrows to the declaration
 /// there.
@@ -30,6 +29,8 @@ pub(crate) struct Narrowing<'a, R> {
 }
 
 impl<'a, R: Threads + Wait + Sync, D: Desk> Guide<D> for Narrowing<'a, R> {
+    ghost variables = { 32 };
+
     ghost Serves = { λ n whole start now ahead. (D.script now ≡ D.script start)
         × IsServing (record { meaning = D.Served.meaning (D.script start); start = D.at start; points = 1 + points (code_at n.program.now.file n.handler); declared = declared_at n.program.now n.handler; whole = whole }) (D.at now) n.next.room ahead };
 
@@ -46,12 +47,20 @@ impl<'a, R: Threads + Wait + Sync, D: Desk> Guide<D> for Narrowing<'a, R> {
     }
 
     fn replied(&mut self, host: &mut D, point: u32, env: &[Value]) {
-        declare_at(self.program.declaration(self.handler, point), env, &mut self.next);
+        instantiate(
+            self.program.declaration(self.handler, point),
+            env,
+            &mut self.next,
+        );
         host.finish(self.rt, &self.next);
     }
 
     fn passed(&mut self, host: &mut D, point: u32, env: &[Value]) {
-        declare_at(self.program.declaration(self.handler, point), env, &mut self.next);
+        instantiate(
+            self.program.declaration(self.handler, point),
+            env,
+            &mut self.next,
+        );
         host.declare(self.rt, &self.next);
     }
 }

@@ -3,18 +3,18 @@
 ghost use Rattle.std.specs.Prelude.{◌≡◌};
 ghost use Rattle.request_files.specs.Servable.{IsServable};
 
-use crate::declaring::declare_at;
 use crate::serving::serve_one;
 use crate::sums::{args_of, count_adds, count_calls, handler_of};
 use declaration_insertion::Program;
 use handler_check::Checked;
+use handler_walk::set_up;
 use request_files::Requests;
 use session_journal::{Desk, Script};
-use session_values::NoMemory;
+use session_values::{NoMemory, Value};
 use std::marker::Model;
 use std::sync::Wait;
 use std::thread::Threads;
-use symbolic_ops::Foresight;
+use symbolic_ops::{Foresight, instantiate};
 use ticket_serving::{Scratch, Serves};
 
 /// A program and the requests that were read for it: each request is a ticket.
@@ -68,7 +68,9 @@ impl<'a> Script for Scripts<'a> {
 
     fn entry(&self, t: u32, out: &mut Foresight) {
         let list = self.program.entry(handler_of(self.requests, t));
-        declare_at(list, args_of(self.requests, t), out);
+        let mut env = [Value::Nil; 32];
+        set_up(&mut env, args_of(self.requests, t));
+        instantiate(list, &env, out);
     }
 
     fn calls(&self) -> u32 {
@@ -89,6 +91,13 @@ impl<'a> Serves for Scripts<'a> {
         desk: &mut D,
     ) -> Result<(), NoMemory> {
         let h = handler_of(self.requests, ticket);
-        serve_one(rt, self.program, h, args_of(self.requests, ticket), scratch, desk)
+        serve_one(
+            rt,
+            self.program,
+            h,
+            args_of(self.requests, ticket),
+            scratch,
+            desk,
+        )
     }
 }

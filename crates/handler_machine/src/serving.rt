@@ -1,12 +1,14 @@
 // Serving a handler at a desk.
 
 ghost use Rattle.std.specs.Prelude.{◌≡◌, ◌+◌, ◌≤◌, ◌<◌, [], None, true, false, length, IfOk, OnErr};
+ghost use Rattle.std.specs.List.{AllByRecursion};
+ghost use Rattle.session_values.specs.Values.{IsValue};
 ghost use Rattle.handler_dialogue.specs.Code.{block_code, points};
 ghost use Rattle.handler_dialogue.specs.Dialogue.{entry, env_of, run};
 ghost use Rattle.handler_walk.specs.Runnable.{IsRunnable};
 ghost use Rattle.ticket_serving.specs.Served.{IsServed};
 ghost use Rattle.handler_check.specs.Resolved.{code_at, params_at};
-ghost use Rattle.declaration_insertion.specs.Declarations.{list_at};
+ghost use Rattle.declaration_insertion.specs.Promises.{list_at};
 ghost use Rattle.declaration_insertion.specs.Program.{declared_at};
 ghost use Rattle.handler_machine.specs.Serving.{Gives, Promises};
 
@@ -27,6 +29,7 @@ fn serve_body<R: Threads + Wait + Sync, D: Desk>(
     env: &mut [Value],
     body: &CheckedBlock,
 ) -> Result<(), NoMemory>
+    requires variables { 32 ≤ length env.old }
     requires within { IsRunnable (length env.old) (block_code body.now) }
     requires fresh { (D.at desk.old).entries ≡ [] }
     requires idle { (D.at desk.old).waiting ≡ None }
@@ -73,7 +76,8 @@ fn serve_handler<R: Threads + Wait + Sync, D: Desk>(
     requires gives { Gives (D.Served.meaning (D.script desk.old)) (D.at desk.old).ticket
         (declared_at program.now h) (entry (env_of args.now))
         (run (block_code body.now) (env_of args.now)) }
-    requires promises { Promises (1 + points (code_at program.now.file h)) (declared_at program.now h)
+    requires promises { AllByRecursion IsValue args.now → Promises
+        (1 + points (code_at program.now.file h)) (declared_at program.now h)
         (entry (env_of args.now)) (run (block_code body.now) (env_of args.now)) }
     ensures ready { scratch.new.ready ≡ true }
     ensures script { D.script desk.new ≡ D.script desk.old }
@@ -92,7 +96,12 @@ fn serve_handler<R: Threads + Wait + Sync, D: Desk>(
     let env = values.as_mut_slice();
     set_up(env, args);
     let result = serve_body(&mut guide, desk, env, body);
-    let Narrowing { rt: _, program: _, handler: _, next } = guide;
+    let Narrowing {
+        rt: _,
+        program: _,
+        handler: _,
+        next,
+    } = guide;
     scratch.put(Room {
         values,
         foresight: next,

@@ -6,6 +6,7 @@ use Rattle.session_values.specs.declared.reply.Reply.{Reply}
 use Rattle.session_values.specs.declared.value.Value.{Value}
 use Rattle.session_values.specs.declared.value.Value.TheVariants.{Nil}
 use Rattle.session_values.specs.Reply.{IsReply, reply_of}
+use Rattle.session_values.specs.Values.{IsValue}
 
 module _ {X Y : Type 0} (v : X → Y) where
   pub all_at : (P : Y → Type 0) (xs : List X) (i : ℕ) (d : X) → i < length xs → AllByRecursion P (map v xs) → P (v (get_or xs i d))
@@ -57,3 +58,9 @@ made_is vs count a b c d en ea eb ec ed h l = (λ i. record { count = en i; a = 
 pub made_keeps : (vs : List Value) (count : ℕ) (b c d : Value) → count ≡ length vs → b ≡ slice_index_or vs 1 Nil → c ≡ slice_index_or vs 2 Nil → d ≡ slice_index_or vs 3 Nil
     → 0 < length vs → length vs ≤ 4 → IsReply count b c d
 made_keeps vs count b c d en eb ec ed h l = rw (en, eb, ec, ed) (reply_keeps vs h l)
+
+-- where each of the first n is a value that a program can hold, so is each
+pub all_held : (xs : List Value) (n : ℕ) → length xs ≤ n → ((k : ℕ) → k < n → IsValue (get_or xs k Nil)) → AllByRecursion IsValue xs
+all_held [] n l h = tt
+all_held (x ∷ xs) zero l h = absurd (omega arith)
+all_held (x ∷ xs) (suc n) l h = (h 0 (omega arith), all_held xs n (omega arith) (λ k lt. h (suc k) (omega arith)))

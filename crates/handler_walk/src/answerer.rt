@@ -42,6 +42,8 @@ pub trait Answerer {
 struct Asking;
 
 impl<A: Answerer> Guide<A> for Asking {
+    ghost variables = { 0 };
+
     ghost Serves = { λ _ whole start now ahead. Asked A.Step A.shape A.sure whole start now ahead };
 
     ghost Waits = { λ _ whole start now ahead. Asked A.Step A.shape A.sure whole start now ahead };

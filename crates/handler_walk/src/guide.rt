@@ -1,6 +1,6 @@
 // What a walk tells of.
 
-ghost use Rattle.std.specs.Prelude.{true, false, MatchResult};
+ghost use Rattle.std.specs.Prelude.{◌≤◌, ℕ, true, false, length, MatchResult};
 ghost use Rattle.session_values.specs.declared.value.Value.{Value};
 ghost use Rattle.handler_dialogue.specs.Ahead.{Ahead, asked, passing};
 ghost use Rattle.handler_dialogue.specs.Dialogue.{env_of};
@@ -12,6 +12,9 @@ use session_values::{NoMemory, Op, Value};
 /// The conditions name a whole run, the host at its beginning, and what is ahead of the run; each
 /// call has them for some of these, and says what it leaves for all.
 pub trait Guide<H> {
+    /// How many variables it asks for at a point.
+    ghost variables: { ℕ };
+
     /// This whole run is served, began at the first host and has come to the second, and this is
     /// ahead of it.
     ghost Serves: { Self → Ahead → H → H → Ahead → Type 0 };
@@ -33,7 +36,8 @@ pub trait Guide<H> {
 
     /// Passes the point behind an operation.
     fn replied(&mut self, host: &mut H, point: u32, env: &[Value])
-        requires { (whole : Ahead) × (start : H) × (next : Ahead)
+        requires variables { variables ≤ length env.now }
+        requires waits { (whole : Ahead) × (start : H) × (next : Ahead)
             × Waits self.old whole start host.old (passing point (env_of env.now) true next) }
         ensures { (whole : Ahead) (start : H) (next : Ahead)
             → Waits self.old whole start host.old (passing point (env_of env.now) true next)
@@ -41,7 +45,8 @@ pub trait Guide<H> {
 
     /// Passes a point at the start of a branch, or behind a loop.
     fn passed(&mut self, host: &mut H, point: u32, env: &[Value])
-        requires { (whole : Ahead) × (start : H) × (next : Ahead)
+        requires variables { variables ≤ length env.now }
+        requires serves { (whole : Ahead) × (start : H) × (next : Ahead)
             × Serves self.old whole start host.old (passing point (env_of env.now) false next) }
         ensures { (whole : Ahead) (start : H) (next : Ahead)
             → Serves self.old whole start host.old (passing point (env_of env.now) false next)

@@ -1,19 +1,34 @@
 // The values of a handler's variables, by their numbers.
 
-ghost use Rattle.std.specs.Prelude.{◌≡◌, ◌<◌, ◌≤◌, length, pos};
+ghost use Rattle.std.specs.Prelude.{◌≡◌, ◌<◌, ◌≤◌, length, pos, slice_index_or};
+ghost use Rattle.std.specs.List.{AllByRecursion};
 ghost use Rattle.session_values.specs.declared.value.Value.{Value};
+ghost use Rattle.session_values.specs.declared.value.Value.TheVariants.{Nil};
+ghost use Rattle.session_values.specs.Values.{IsValue};
 ghost use Rattle.handler_dialogue.specs.Dialogue.{env_of, with_reply, with_value};
 ghost use Rattle.handler_dialogue.specs.Within.{VarWithin};
 
 use session_values::Value;
 
+/// The argument of a number, and nil behind the last.
+fn argument(args: &[Value], i: usize) -> Value
+    ensures value { result ≡ slice_index_or args.now i Nil }
+    ensures held { IsValue result }
+{
+    let value = if i < args.len() { args[i] } else { Value::Nil };
+    value.bounds();
+    value
+}
+
 /// Puts the arguments first, and nil behind them.
 pub fn set_up(env: &mut [Value], args: &[Value])
     requires { length args.now ≤ length env.old }
-    ensures { env_of env.new ≡ env_of args.now }
+    ensures values { env_of env.new ≡ env_of args.now }
+    // A program holds them.
+    ensures held { AllByRecursion IsValue args.now }
 {
     for i in 0..env.len() {
-        env[i] = if i < args.len() { args[i] } else { Value::Nil };
+        env[i] = argument(args, i);
     }
 }
 

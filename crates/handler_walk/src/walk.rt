@@ -1,6 +1,6 @@
 // The walk over the statements of a handler.
 
-ghost use Rattle.std.specs.Prelude.{◌<◌, length};
+ghost use Rattle.std.specs.Prelude.{◌<◌, ◌≤◌, length};
 ghost use Rattle.handler_dialogue.specs.Ahead.{Ahead, run_then, turns_then};
 ghost use Rattle.handler_dialogue.specs.Code.{Finish, block_code, stmt_code};
 ghost use Rattle.handler_dialogue.specs.Dialogue.{Env, env_of, run};
@@ -29,6 +29,7 @@ pub fn walk_body<H, G: Guide<H>>(
     env: &mut [Value],
     body: &CheckedBlock,
 ) -> Result<Reply, NoMemory>
+    requires variables { G.variables ≤ length env.old }
     requires within { IsRunnable (length env.old) (block_code body.now) }
     requires serves { (whole : Ahead) × (start : H)
         × G.Serves guide.old whole start host.old (run (block_code body.now) (env_of env.old)) }
@@ -51,6 +52,7 @@ fn walk_block<H, G: Guide<H>>(
     env: &mut [Value],
     block: &CheckedBlock,
 ) -> Result<Flow, NoMemory>
+    requires variables { G.variables ≤ length env.old }
     requires within { IsRunnable (length env.old) (block_code block.now) }
     requires serves { (whole : Ahead) × (start : H) × (k : Env → Ahead)
         × G.Serves guide.old whole start host.old
@@ -78,6 +80,7 @@ fn walk_stmt<H, G: Guide<H>>(
     env: &mut [Value],
     stmt: &CheckedStmt,
 ) -> Result<Flow, NoMemory>
+    requires variables { G.variables ≤ length env.old }
     requires within { IsRunnable (length env.old) (stmt_code stmt.now Finish) }
     requires serves { (whole : Ahead) × (start : H) × (k : Env → Ahead)
         × G.Serves guide.old whole start host.old
@@ -152,6 +155,7 @@ fn walk_turns<H, G: Guide<H>>(
     body: &CheckedBlock,
 ) -> Result<Flow, NoMemory>
     requires var { var < length env.old }
+    requires variables { G.variables ≤ length env.old }
     requires within { IsRunnable (length env.old) (block_code body.now) }
     requires serves { (whole : Ahead) × (start : H) × (k : Env → Ahead)
         × G.Serves guide.old whole start host.old

@@ -1,4 +1,4 @@
-use Rattle.std.proofs.Common.{◌≡◌, ◌+◌, ◌≤◌, ◌∙◌, [], refl, sym, subst}
+use Rattle.std.proofs.Common.{◌≡◌, ◌+◌, ◌∙◌, refl, sym, subst}
 use Rattle.session_values.specs.Dialogue.{Answers}
 use Rattle.session_journal.specs.Desks.{due_of, next_of}
 use Rattle.handler_dialogue.specs.Code.{block_code, points}

@@ -21,7 +21,7 @@ walk_block-walk_stmt-requires g t c κs within =
     let w : IsRunnable (length c.loop-s.env) (stmt_code s rest) = subst (IsRunnable (length c.loop-s.env)) (code_at ss i s s at.0 at.1) (subst (λ (n : ℕ). IsRunnable n (block_code (drop i ss))) (sym c.loop-s.auto.env) c.loop-s.invariant.within) in
     let r = c.requires.serves in
     let h = c.loop-s.invariant.serves r.0 r.1 r.2 r.3 in
-    (omega (arith, c.decreases, size_at ss i s s at.0 at.1), (search rules, (search rules, ((within_stmt (length c.loop-s.env) s rest w).0, (r.0, r.1, run_then rest r.2, block_ahead (g.G.Guide.Serves c.loop-s.guide r.0 r.1 c.loop-s.host) r.2 ss i s s (env_of c.loop-s.env) at.0 at.1 (h))))))
+    (omega (arith, c.decreases, size_at ss i s s at.0 at.1), (search rules, (search rules, (subst (λ (n : ℕ). g.G.Guide.variables ≤ n) (sym c.loop-s.auto.env) c.requires.variables, ((within_stmt (length c.loop-s.env) s rest w).0, (r.0, r.1, run_then rest r.2, block_ahead (g.G.Guide.Serves c.loop-s.guide r.0 r.1 c.loop-s.host) r.2 ss i s s (env_of c.loop-s.env) at.0 at.1 (h)))))))
 
 pub walk_block-returns-in_err-walk_stmt : goal.walk_block-returns-in_err-walk_stmt
 walk_block-returns-in_err-walk_stmt g t c whole start k now =
@@ -74,8 +74,8 @@ walk_stmt-returns-in_err-reply-in-Perform g t c whole start k now =
     leads_err (g.G.Guide.Serves c.call.new.self whole start c.call.new.host) (g.G.Guide.Stops c.call.new.self whole start c.call.new.host) k E c.from_residual.result c.from_residual.ensures.0
     (call_stopped c.call.result _ (λ v. g.G.Guide.Waits c.call.new.self whole start c.call.new.host (next v)) (g.G.Guide.Stops c.call.new.self whole start c.call.new.host) c.in_err-reply-in-Perform.was led)
 
-pub walk_stmt-replied-requires : goal.walk_stmt-replied-requires
-walk_stmt-replied-requires g t c =
+pub walk_stmt-replied-requires-clause-waits : goal.walk_stmt-replied-requires-clause-waits
+walk_stmt-replied-requires-clause-waits g t c =
     let r = c.requires.serves in
     let E = env_of c.args.env.now in
     let p = c.in-Perform in
@@ -101,7 +101,7 @@ walk_stmt-walk_turns-requires g t c κs within =
     let p = c.in-Repeat in
     let w = within_repeat (length c.args.env.now) c.args.stmt.now p.at p.point p.turns p.var p.body p.is c.requires.within in
     let h = loop_ahead (g.G.Guide.Serves c.args.guide.now r.0 r.1 c.args.host.now) r.2 c.args.stmt.now p.at p.point p.turns p.var p.body E p.is r.3 in
-    (omega (arith, c.decreases, size_repeat c.args.stmt.now p.at p.point p.turns p.var p.body p.is), (search rules, (search rules, (w.0, (w.1, (r.0, r.1, (λ e. passing p.point e false (r.2 e)), h))))))
+    (omega (arith, c.decreases, size_repeat c.args.stmt.now p.at p.point p.turns p.var p.body p.is), (search rules, (search rules, (w.0, (c.requires.variables, (w.1, (r.0, r.1, (λ e. passing p.point e false (r.2 e)), h)))))))
 
 pub walk_stmt-returns-in_err-walk_turns-in-Repeat : goal.walk_stmt-returns-in_err-walk_turns-in-Repeat
 walk_stmt-returns-in_err-walk_turns-in-Repeat g t c whole start k now =
@@ -111,8 +111,8 @@ walk_stmt-returns-in_err-walk_turns-in-Repeat g t c whole start k now =
     let led = c.walk_turns.ensures whole start to (loop_ahead (g.G.Guide.Serves c.args.guide.now whole start c.args.host.now) k c.args.stmt.now p.at p.point p.turns p.var p.body E p.is now) in
     leads_err (g.G.Guide.Serves c.walk_turns.new.guide whole start c.walk_turns.new.host) (g.G.Guide.Stops c.walk_turns.new.guide whole start c.walk_turns.new.host) k (env_of c.walk_turns.new.env) c.from_residual-in_err-walk_turns-in-Repeat.result c.from_residual-in_err-walk_turns-in-Repeat.ensures.0 (leads_stopped (g.G.Guide.Serves c.walk_turns.new.guide whole start c.walk_turns.new.host) (g.G.Guide.Stops c.walk_turns.new.guide whole start c.walk_turns.new.host) to (env_of c.walk_turns.new.env) c.walk_turns.result _ c.in_err-walk_turns-in-Repeat.was led)
 
-pub walk_stmt-passed-requires-in-On : goal.walk_stmt-passed-requires-in-On
-walk_stmt-passed-requires-in-On g t c =
+pub walk_stmt-passed-requires-in-On-clause-serves : goal.walk_stmt-passed-requires-in-On-clause-serves
+walk_stmt-passed-requires-in-On-clause-serves g t c =
     let r = c.requires.serves in
     let E = env_of c.args.env.now in
     let p = c.in-Repeat in
@@ -155,7 +155,7 @@ walk_turns-walk_block-requires g t c κs within =
     let to = turns_then body c.args.var (c.args.turns - (c.loop-turn.turn + 1)) (c.loop-turn.turn + 1) r.2 in
     let put : env_of c.put.new.env ≡ with_value (env_of c.loop-turn.env) c.args.var (Num (pos c.loop-turn.turn)) = c.put.ensures ∙ ap (λ (v : Value). with_value (env_of c.loop-turn.env) c.args.var v) c.turn_number.ensures in
     let h = turn_ahead (g.G.Guide.Serves c.loop-turn.guide r.0 r.1 c.loop-turn.host) r.2 body c.args.var c.args.turns c.loop-turn.turn (env_of c.loop-turn.env) c.loop-turn-test.true (c.loop-turn.invariant r.0 r.1 r.2 r.3) in
-    (omega (arith, c.decreases), (search rules, (search rules, (subst (λ (n : ℕ). IsRunnable n (block_code c.args.body.now)) (sym (c.put.auto.env ∙ c.loop-turn.auto.env)) c.requires.within, (r.0, r.1, to, subst (λ (e : Env). g.G.Guide.Serves c.loop-turn.guide r.0 r.1 c.loop-turn.host (body to e)) (sym put) h)))))
+    (omega (arith, c.decreases), (search rules, (search rules, (subst (λ (n : ℕ). g.G.Guide.variables ≤ n) (sym (c.put.auto.env ∙ c.loop-turn.auto.env)) c.requires.variables, (subst (λ (n : ℕ). IsRunnable n (block_code c.args.body.now)) (sym (c.put.auto.env ∙ c.loop-turn.auto.env)) c.requires.within, (r.0, r.1, to, subst (λ (e : Env). g.G.Guide.Serves c.loop-turn.guide r.0 r.1 c.loop-turn.host (body to e)) (sym put) h))))))
 
 pub walk_turns-returns-in_err-walk_block : goal.walk_turns-returns-in_err-walk_block
 walk_turns-returns-in_err-walk_block g t c whole start k now =

@@ -1,16 +1,12 @@
-use Rattle.std.proofs.Common.{◌≡◌, ◌+◌, ◌∙◌, List, false, true, length, sym, ap, subst, MatchResult, Result, Ok, Err, IsErr}
+use Rattle.std.proofs.Common.{◌≡◌, ◌+◌, ◌∙◌, sym, subst}
 use Rattle.session_values.specs.Dialogue.{Calls}
-use Rattle.symbolic_ops.specs.declared.symbol.Symbol.{Symbol}
-use Rattle.session_journal.specs.Desks.{MayFinish, MayNarrow, due_of, next_of}
-use Rattle.handler_dialogue.specs.Ahead.{Ahead}
-use Rattle.handler_dialogue.specs.Dialogue.{Env, env_of}
-use Rattle.declaration_insertion.specs.Declarations.{symbol_at}
+use Rattle.session_journal.specs.Desks.{due_of, next_of}
 use Rattle.declaration_insertion.specs.Program.{declared_at}
 use Rattle.handler_check.specs.Resolved.{code_at}
 use Rattle.handler_dialogue.specs.Code.{points}
-use Rattle.handler_machine.specs.Serving.{Course, IsServing, IsAwaiting}
+use Rattle.handler_machine.specs.Serving.{Course}
 use Rattle.handler_machine.proofs.Places.{match_err}
-use Rattle.handler_machine.proofs.Served.{point_within, list_fits, call_next, call_due, call_matches, call_waits, call_halts, declare_may, declare_serves, finish_may, finish_serves}
+use Rattle.handler_machine.proofs.Served.{call_next, call_due, call_matches, call_waits, call_halts}
 use Rattle.handler_machine.proofs.narrowing.NarrowingGuide.call.Goals as goal
 
 pub call-requires-clause-next : goal.call-requires-clause-next

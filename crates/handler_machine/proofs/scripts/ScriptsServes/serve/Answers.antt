@@ -1,12 +1,11 @@
-use Rattle.std.proofs.Common.{◌≡◌, ◌<◌, ℕ, List, length, arith, sym, ap, ◌∙◌, subst}
+use Rattle.std.proofs.Common.{◌≡◌, ◌<◌, ℕ, List, length, sym, ap, ◌∙◌, subst}
 use denote.Param.Send.{given_sync, param_sync}
 use Rattle.session_values.specs.declared.value.Value.{Value}
-use Rattle.symbolic_ops.specs.declared.symbol.Symbol.{Symbol}
 use Rattle.handler_dialogue.specs.Dialogue.{entry, env_of, run}
 use Rattle.handler_check.specs.Resolved.{code_at, params_at}
 use Rattle.request_files.specs.Servable.{IsRequestOf}
 use Rattle.request_files.specs.Session.{request_at}
-use Rattle.declaration_insertion.specs.Declarations.{list_at}
+use Rattle.declaration_insertion.specs.Promises.{list_at}
 use Rattle.declaration_insertion.specs.Program.{declared_at}
 use Rattle.handler_machine.specs.Scripts.{ScriptsView, meaning}
 use Rattle.handler_machine.specs.Serving.{Gives}
@@ -29,7 +28,7 @@ serve_one-requires-clause-present g c κs within =
     let s : ScriptsView = record { program = c.self.inside.program.now; requests = c.self.inside.requests.now } in
     let r = request_at s.requests c.args.ticket in
     let here : (g.D.Desk.at c.args.desk.now).present ≡ list_at (declared_at s.program r.handler) (entry (env_of r.args)) =
-        subst (λ (z : ScriptsView). (g.D.Desk.at c.args.desk.now).present ≡ (meaning z).entry c.args.ticket) (sym c.self.view_is) c.requires.present in
+    subst (λ (z : ScriptsView). (g.D.Desk.at c.args.desk.now).present ≡ (meaning z).entry c.args.ticket) (sym c.self.view_is) c.requires.present in
     here ∙ ap (λ (h : ℕ). list_at (declared_at s.program h) (entry (env_of r.args))) (sym c.handler_of-h.ensures)
     ∙ ap (λ (vs : List Value). list_at (declared_at s.program c.handler_of-h.result) (entry (env_of vs))) (sym c.args_of.ensures)
 
@@ -39,8 +38,8 @@ serve_one-requires-clause-gives g c κs within =
     let r = request_at s.requests c.args.ticket in
     let p = s.program in
     let one : Gives (meaning s) c.args.ticket (declared_at p c.handler_of-h.result) (entry (env_of r.args)) (run (code_at p.file c.handler_of-h.result) (env_of r.args)) =
-        subst (λ (h : ℕ). Gives (meaning s) c.args.ticket (declared_at p h) (entry (env_of r.args)) (run (code_at p.file h) (env_of r.args))) (sym c.handler_of-h.ensures) (gives_ticket s c.args.ticket) in
+    subst (λ (h : ℕ). Gives (meaning s) c.args.ticket (declared_at p h) (entry (env_of r.args)) (run (code_at p.file h) (env_of r.args))) (sym c.handler_of-h.ensures) (gives_ticket s c.args.ticket) in
     let two : Gives (meaning s) c.args.ticket (declared_at p c.handler_of-h.result) (entry (env_of c.args_of.result.now)) (run (code_at p.file c.handler_of-h.result) (env_of c.args_of.result.now)) =
-        subst (λ (vs : List Value). Gives (meaning s) c.args.ticket (declared_at p c.handler_of-h.result) (entry (env_of vs)) (run (code_at p.file c.handler_of-h.result) (env_of vs))) (sym c.args_of.ensures) one in
+    subst (λ (vs : List Value). Gives (meaning s) c.args.ticket (declared_at p c.handler_of-h.result) (entry (env_of vs)) (run (code_at p.file c.handler_of-h.result) (env_of vs))) (sym c.args_of.ensures) one in
     subst (λ (t : ℕ). Gives (meaning (g.D.Desk.script c.args.desk.now)) t (declared_at p c.handler_of-h.result) (entry (env_of c.args_of.result.now)) (run (code_at p.file c.handler_of-h.result) (env_of c.args_of.result.now))) (sym c.requires.ticket)
     (subst (λ (z : ScriptsView). Gives (meaning z) c.args.ticket (declared_at p c.handler_of-h.result) (entry (env_of c.args_of.result.now)) (run (code_at p.file c.handler_of-h.result) (env_of c.args_of.result.now))) (c.self.view_is ∙ sym c.requires.plan) two)
