@@ -9,7 +9,10 @@ use Rattle.symbolic_ops.specs.Symbols.{HasNoVar, Matches}
 use Rattle.session_journal.specs.Desks.{DeskView}
 use Rattle.session_journal.specs.Script.{Meaning}
 use Rattle.handler_dialogue.specs.Ahead.{Ahead}
+use Rattle.handler_dialogue.specs.Code.{points}
+use Rattle.handler_check.specs.Resolved.{code_at}
 use Rattle.handler_dialogue.specs.Dialogue.{Place, Calls, after, ended, last_place, last_replied, passed_by}
+use Rattle.declaration_insertion.specs.Program.{ProgramView, declared_at}
 use Rattle.declaration_insertion.specs.Promises.{Declarations, IsCoveredChain, list_at}
 
 -- how many of these places a reply led to
@@ -41,6 +44,10 @@ pub record Course : Type 0 where
   pub points : ℕ
   pub declared : Declarations
   pub whole : Ahead
+
+-- that of a program's handler
+abbrev pub course_of : Meaning → DeskView → ProgramView → ℕ → Ahead → Course
+course_of m start p h whole = record { meaning = m; start = start; points = 1 + points (code_at p.file h); declared = declared_at p h; whole = whole }
 
 -- a desk that has come so far, after these entries, and what is ahead of it
 pub record Serving (c : Course) (now : DeskView) (room : ℕ) (entries : List Entry) (waiting : Option Entry) (ahead : Ahead) : Type 0 where

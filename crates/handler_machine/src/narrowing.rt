@@ -1,12 +1,7 @@
 // A walk at a desk, which is told of each declaration that is passed.
 
-ghost use Rattle.std.specs.Prelude.{◌≡◌, ◌+◌, ◌<◌, length};
-ghost use Rattle.handler_dialogue.specs.Ahead.{Ahead};
-ghost use Rattle.handler_dialogue.specs.Dialogue.{env_of};
-ghost use Rattle.handler_dialogue.specs.Code.{points};
-ghost use Rattle.handler_check.specs.Resolved.{code_at};
-ghost use Rattle.declaration_insertion.specs.Program.{declared_at};
-ghost use Rattle.handler_machine.specs.Serving.{Course, Halted, IsAwaiting, IsServing};
+ghost use Rattle.std.specs.Prelude.{◌≡◌, ◌<◌, length};
+ghost use Rattle.handler_machine.specs.Serving.{Halted, IsAwaiting, IsServing, course_of};
 
 use declaration_insertion::Program;
 use handler_walk::Guide;
@@ -32,13 +27,16 @@ impl<'a, R: Threads + Wait + Sync, D: Desk> Guide<D> for Narrowing<'a, R> {
     ghost variables = { 32 };
 
     ghost Serves = { λ n whole start now ahead. (D.script now ≡ D.script start)
-        × IsServing (record { meaning = D.Served.meaning (D.script start); start = D.at start; points = 1 + points (code_at n.program.now.file n.handler); declared = declared_at n.program.now n.handler; whole = whole }) (D.at now) n.next.room ahead };
+        × IsServing (course_of (D.Served.meaning (D.script start)) (D.at start)
+            n.program.now n.handler whole) (D.at now) n.next.room ahead };
 
     ghost Waits = { λ n whole start now ahead. (D.script now ≡ D.script start)
-        × IsAwaiting (record { meaning = D.Served.meaning (D.script start); start = D.at start; points = 1 + points (code_at n.program.now.file n.handler); declared = declared_at n.program.now n.handler; whole = whole }) (D.at now) n.next.room ahead };
+        × IsAwaiting (course_of (D.Served.meaning (D.script start)) (D.at start)
+            n.program.now n.handler whole) (D.at now) n.next.room ahead };
 
     ghost Stops = { λ n whole start now. (D.script now ≡ D.script start)
-        × Halted (record { meaning = D.Served.meaning (D.script start); start = D.at start; points = 1 + points (code_at n.program.now.file n.handler); declared = declared_at n.program.now n.handler; whole = whole }) (D.at now) n.next.room };
+        × Halted (course_of (D.Served.meaning (D.script start)) (D.at start)
+            n.program.now n.handler whole) (D.at now) n.next.room };
 
     fn call(&mut self, host: &mut D, op: Op) -> Result<Value, NoMemory> {
         let reply = host.call(self.rt, op)?;

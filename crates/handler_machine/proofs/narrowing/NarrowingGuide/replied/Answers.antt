@@ -6,7 +6,7 @@ use Rattle.declaration_insertion.specs.Program.{declared_at}
 use Rattle.handler_check.specs.Resolved.{code_at}
 use Rattle.handler_dialogue.specs.Code.{points}
 use Rattle.declaration_insertion.proofs.Vars.{instantiated}
-use Rattle.handler_machine.specs.Serving.{Course, IsServing}
+use Rattle.handler_machine.specs.Serving.{Course, course_of, IsServing}
 use Rattle.handler_machine.proofs.Served.{vars_more, point_within, finish_may, finish_serves}
 use Rattle.handler_machine.proofs.narrowing.NarrowingGuide.replied.Goals as goal
 
@@ -19,7 +19,7 @@ declaration-requires-clause-point g c =
     let at = g.D.Desk.at in
     let now = at c.args.host.now in
     let n = c.args.self.now in
-    let course : Course = record { meaning = g.D.Served.Script.meaning (g.D.Desk.script (s.1)); start = at (s.1); points = 1 + points (code_at n.program.now.file n.handler); declared = declared_at n.program.now n.handler; whole = s.0 } in
+    let course : Course = course_of (g.D.Served.Script.meaning (g.D.Desk.script (s.1))) (at (s.1)) n.program.now n.handler (s.0) in
     point_within course now n.next.room (now.entries ++ s.3.1.0 ∷ []) (Some s.3.1.0) c.args.point (env_of c.args.env.now) true s.2 s.3.1.1
 
 pub instantiate-requires-clause-vars : goal.instantiate-requires-clause-vars
@@ -38,7 +38,7 @@ finish-requires g c =
     let at = g.D.Desk.at in
     let now = at c.args.host.now in
     let n = c.args.self.now in
-    let course : Course = record { meaning = g.D.Served.Script.meaning (g.D.Desk.script (s.1)); start = at (s.1); points = 1 + points (code_at n.program.now.file n.handler); declared = declared_at n.program.now n.handler; whole = s.0 } in
+    let course : Course = course_of (g.D.Served.Script.meaning (g.D.Desk.script (s.1))) (at (s.1)) n.program.now n.handler (s.0) in
     let f = c.instantiate.new.out.symbols in
     let is_list : f ≡ map (symbol_at (env_of c.args.env.now)) (declared_at n.program.now n.handler c.args.point) =
     (λ i. (c.instantiate.ensures i).symbols) ∙ instantiated c.args.env.now c.declaration.result.now ∙ ap (map (symbol_at (env_of c.args.env.now))) c.declaration.ensures.list in
@@ -49,7 +49,7 @@ returns g c whole start next so_far =
     let at = g.D.Desk.at in
     let now = at c.args.host.now in
     let n = c.args.self.now in
-    let course : Course = record { meaning = g.D.Served.Script.meaning (g.D.Desk.script (start)); start = at (start); points = 1 + points (code_at n.program.now.file n.handler); declared = declared_at n.program.now n.handler; whole = whole } in
+    let course : Course = course_of (g.D.Served.Script.meaning (g.D.Desk.script (start))) (at (start)) n.program.now n.handler (whole) in
     let f = c.instantiate.new.out.symbols in
     let is_list : f ≡ map (symbol_at (env_of c.args.env.now)) (declared_at n.program.now n.handler c.args.point) =
     (λ i. (c.instantiate.ensures i).symbols) ∙ instantiated c.args.env.now c.declaration.result.now ∙ ap (map (symbol_at (env_of c.args.env.now))) c.declaration.ensures.list in
