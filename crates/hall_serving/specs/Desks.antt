@@ -12,6 +12,15 @@ use Rattle.session_hall.specs.declared.stage.Stage.TheVariants.{Idle, Serving, A
 use Rattle.session_hall.specs.Callers.{IsCallerOf, book_of, entries_of}
 use Rattle.session_hall.specs.Names.{hall_name}
 
+-- the caller serves a ticket that has no operation in flight, and which
+abbrev pub IsServing : Stage → Type 0
+IsServing (Serving t) = Unit {0}
+IsServing _ = ⊥
+
+abbrev pub ticket_of : Stage → ℕ
+ticket_of (Serving t) = t
+ticket_of _ = 0
+
 -- the operation that was done on its shards and isn't entered yet, with its reply
 abbrev pub waiting_of : Stage → Option Entry
 waiting_of (Applied t op v) = Some (record { op = op; reply = v })

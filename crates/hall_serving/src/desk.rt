@@ -1,12 +1,11 @@
 // Desks over a caller of a hall.
 
-ghost use Rattle.std.specs.Prelude.{◌≡◌, None, false};
+ghost use Rattle.std.specs.Prelude.{◌≡◌, ◌↔◌, None, false};
 ghost use Rattle.session_hall.specs.Callers.{IsCallerOf};
 ghost use Rattle.session_hall.specs.Names.{script_of};
-ghost use Rattle.session_hall.specs.declared.stage.Stage.TheVariants.{Serving};
-ghost use Rattle.hall_serving.specs.Desks.{desk_at};
+ghost use Rattle.hall_serving.specs.Desks.{IsServing, desk_at, ticket_of};
 
-use session_hall::{Caller, Hall};
+use session_hall::{Caller, Hall, Stage};
 use session_journal::{Desk, Script};
 use session_values::{NoMemory, Op, Reply, Value};
 use std::marker::Model;
@@ -45,19 +44,18 @@ impl<'a, S: Script + Drop, G: Gate> Model for HallDesk<'a, S, G> {
 }
 
 impl<'a, S: Script + Drop, G: Gate> HallDesk<'a, S, G> {
-    /// The desk of a caller that has begun this ticket.
-    pub fn over(
-        hall: &'a Hall<S>,
-        caller: &'a mut Caller<S>,
-        gate: &'a G,
-        ticket: u32,
-    ) -> HallDesk<'a, S, G>
+    /// The desk of a caller that serves a ticket.
+    pub fn over(hall: &'a Hall<S>, caller: &'a mut Caller<S>, gate: &'a G) -> HallDesk<'a, S, G>
         requires caller { IsCallerOf S.meaning hall.now caller.old }
-        requires stage { caller.old.stage ≡ Serving ticket }
+        requires stage { IsServing caller.old.stage }
         ensures script { result.script ≡ script_of hall.now }
-        ensures desk { result.desk ≡ desk_at hall.now caller.old ticket caller.entry.ghost_name }
+        ensures desk { result.desk ≡ desk_at hall.now caller.old (ticket_of caller.old.stage)
+            caller.entry.ghost_name }
         ensures reply { result.reply ≡ None }
     {
+        let Stage::Serving(ticket) = caller.stage() else {
+            unreachable!();
+        };
         HallDesk {
             hall,
             caller,
@@ -71,7 +69,7 @@ impl<'a, S: Script + Drop, G: Gate> HallDesk<'a, S, G> {
     /// The Reply with which the ticket was ended.
     pub fn reply(&self) -> Option<Reply>
         ensures is { result ≡ self.now.reply }
-        ensures none { result ≡ None → self.now.desk.ended ≡ false }
+        ensures none { (result ≡ None) ↔ (self.now.desk.ended ≡ false) }
     {
         self.reply
     }

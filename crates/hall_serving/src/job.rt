@@ -47,7 +47,7 @@ fn serve_ticket<R: Threads + Wait + Sync, S: Serves + Drop, G: Gate>(
     ensures known { (ticket < begun (book_of caller.new).journal)
         × (ended (book_of caller.new).journal ticket ≡ Some result) }
 {
-    let mut desk = HallDesk::over(hall, caller, gate, ticket);
+    let mut desk = HallDesk::over(hall, caller, gate);
     match plan.serve(rt, ticket, scratch, &mut desk) {
         Ok(()) => {}
         Err(_) => unreachable!(),
