@@ -4,6 +4,8 @@
 #[cfg(test)]
 mod checking;
 #[cfg(test)]
+mod declaring;
+#[cfg(test)]
 mod helpers;
 #[cfg(test)]
 mod parsing;
