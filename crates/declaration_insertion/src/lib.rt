@@ -2,6 +2,8 @@
 #![tactic(auto)]
 
 pub mod laws;
+mod printing;
 mod program;
 
+pub use printing::show;
 pub use program::{Program, insert};
