@@ -1,4 +1,4 @@
-//! Tests of the handler language, through the calls that other crates make.
+//! Tests of the handler language and of request files, through the calls that other crates make.
 #![tactic(auto)]
 
 #[cfg(test)]
@@ -11,5 +11,7 @@ mod helpers;
 mod parsing;
 #[cfg(test)]
 mod printing;
+#[cfg(test)]
+mod requests;
 #[cfg(test)]
 mod tokens;
