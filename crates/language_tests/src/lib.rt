@@ -10,4 +10,6 @@ mod parsing;
 #[cfg(test)]
 mod printing;
 #[cfg(test)]
+mod showing;
+#[cfg(test)]
 mod tokens;
