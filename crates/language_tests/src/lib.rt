@@ -14,4 +14,6 @@ mod printing;
 #[cfg(test)]
 mod requests;
 #[cfg(test)]
+mod showing;
+#[cfg(test)]
 mod tokens;
