@@ -1,8 +1,6 @@
-//! Tests of the handler language and of request files, through the calls that other crates make.
+//! Tests of the handler language, through the calls that other crates make.
 #![tactic(auto)]
 
-#[cfg(test)]
-mod checking;
 #[cfg(test)]
 mod declaring;
 #[cfg(test)]
@@ -11,9 +9,5 @@ mod helpers;
 mod parsing;
 #[cfg(test)]
 mod printing;
-#[cfg(test)]
-mod requests;
-#[cfg(test)]
-mod showing;
 #[cfg(test)]
 mod tokens;
