@@ -5,8 +5,10 @@
 #[cfg(test)]
 mod ends;
 #[cfg(test)]
+mod refusing;
+#[cfg(test)]
 mod reply_lines;
 #[cfg(test)]
 mod runs;
 #[cfg(test)]
-mod top_call;
+mod serving;
