@@ -10,7 +10,8 @@ use session_values::NoMemory;
 use std::alloc::Global;
 
 /// The handlers of a made session.
-const HANDLERS: &str = "map seats;\nset online;\nhandler login(u, now) {\n  let old = swap(seats, u, now);\n  mark(online, u);\n  reply old;\n}\nhandler logout(u) {\n  del(seats, u);\n  drop(online, u);\n}\nhandler seen(u) {\n  let at = get(seats, u);\n  let on = has(online, u);\n  reply at, on;\n}\nhandler crowd() {\n  let n = count(online);\n  reply n;\n}\n";
+const HANDLERS: &str =
+    "map seats;\nset online;\nhandler login(u, now) {\n  let old = swap(seats, u, now);\n  mark(online, u);\n  reply old;\n}\nhandler logout(u) {\n  del(seats, u);\n  drop(online, u);\n}\nhandler seen(u) {\n  let at = get(seats, u);\n  let on = has(online, u);\n  reply at, on;\n}\nhandler crowd() {\n  let n = count(online);\n  reply n;\n}\n";
 
 /// The text of a session of so many requests, whose draws begin from `start`.
 pub fn session_text(alloc: Global, requests: u32, start: u32) -> Result<String, NoMemory>
@@ -32,7 +33,7 @@ fn push_request(draws: &mut Draws, text: &mut String) -> Result<(), NoMemory>
     ensures state { draws.new.state ≡ next_state (next_state (next_state draws.old.state)) }
     ensures text { OnOk result (string_bytes text.new ≡ string_bytes text.old
         ++ spec.request_line (drawn (next_state draws.old.state))
-            (drawn (next_state (next_state draws.old.state))) (drawn draws.new.state)) }
+        (drawn (next_state (next_state draws.old.state))) (drawn draws.new.state)) }
     ensures len { string_len text.new ≤ string_len text.old + 40 }
 {
     let kind = draws.draw() % 4;

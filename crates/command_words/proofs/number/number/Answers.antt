@@ -1,4 +1,4 @@
-use Rattle.std.proofs.Common.{refl, sym, ◌∙◌, arith}
+use Rattle.std.proofs.Common.{sym, ◌∙◌, arith}
 use Rattle.command_words.proofs.NumberLemmas.{parsed, number_plus, number_zero}
 use Rattle.command_words.proofs.number.number.Goals as goal
 use Rattle.command_words.proofs.number.number.Goals.{else-first-eq48-via-then-first-eq48+else-word-gt1, else-first-eq48-via-else-first-eq48}
