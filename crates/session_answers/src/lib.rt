@@ -1,0 +1,11 @@
+//! What the program answers to a command line and an input: how a run may end, the line that tells
+//! it, and what a whole run promises.
+#![tactic(auto)]
+
+mod certain;
+mod message;
+mod status;
+
+pub use certain::{Certain, Refusal};
+pub use message::message_of;
+pub use status::{Fault, Status};
