@@ -1,2 +1,6 @@
+pub mod Answer
 pub mod ExitStatus
+pub mod Input
 pub mod Message
+pub mod Runs
+pub mod Session
