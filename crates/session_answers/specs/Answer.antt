@@ -5,7 +5,6 @@ use Rattle.handler_syntax.specs.Language.syntax_refusal
 use Rattle.handler_rules.specs.declared.refusal.CheckRefusal.{CheckRefusal}
 use Rattle.handler_check.specs.Checking.{IsRefusal}
 use Rattle.request_files.specs.declared.refusal.RequestRefusal.{RequestRefusal}
-use Rattle.request_files.specs.Requests.{first_fault, no_requests}
 use Rattle.command_words.specs.declared.command.Command.{Command}
 use Rattle.command_words.specs.declared.command.Command.TheVariants.{Check, Show, Serve, Work}
 use Rattle.command_words.specs.Commands.{command_of}
@@ -13,7 +12,7 @@ use Rattle.work_session.specs.Summary.{summary}
 use Rattle.session_answers.specs.declared.status.Fault.{Fault}
 use Rattle.session_answers.specs.declared.status.Fault.TheVariants as fault
 use Rattle.session_answers.specs.Input.{Parts, parts_of, is_divided, input_of, has_requests, handlers_of, max_input, IsInput}
-use Rattle.session_answers.specs.Session.{IsProgram, IsSession, handler_names_of, rows_of, session_of_parts, replies_text, serial_calls}
+use Rattle.session_answers.specs.Session.{IsProgram, IsSession, request_fault, session_of_parts, replies_text, serial_calls}
 
 -- ---- faults
 
@@ -32,7 +31,7 @@ pub record HasCheckFault (text : List ℕ) (e : CheckRefusal) : Type 0 where
 pub record HasRequestFault (parts : Parts) (e : RequestRefusal) : Type 0 where
   pub file : File
   pub program : IsProgram parts.handlers file
-  pub first : first_fault (handler_names_of parts) file no_requests (rows_of parts) ≡ Some e
+  pub first : request_fault parts file ≡ Some e
 
 -- the first broken rule of an input, in the order too large, no text, no requests or requests, syntax, check, requests
 abbrev pub IsRefused : Command → List ℕ → Fault → Type 0
