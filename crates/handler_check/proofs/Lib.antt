@@ -1,5 +1,9 @@
 pub mod Cases
+pub mod Codes
 pub mod Counting
+pub mod Fine
+pub mod Held
+pub mod Inductions
 pub mod Meaning
 pub mod Numbers
 pub mod Resolving

@@ -26,13 +26,13 @@ use Rattle.handler_check.proofs.Cases.{expr_induction, marks_leaf, marks_binary}
 use Rattle.handler_check.proofs.Scans.{params_declared, expr_declares, right_declares, call_declares, cond_declares, all_declare}
 
 -- ---- numbers of names
-is_eq : (a b : ℕ) → (a == b) ≡ true → a ≡ b
+pub is_eq : (a b : ℕ) → (a == b) ≡ true → a ≡ b
 is_eq a b e = grind (arith, nat_tests)
 
-eq_is : (a b : ℕ) → (a == b) ≡ false → a ≡ b → ⊥
+pub eq_is : (a b : ℕ) → (a == b) ≡ false → a ≡ b → ⊥
 eq_is a b f e = grind (arith, nat_tests)
 
-named_at : (ns : List ℕ) (name k : ℕ) → k < length ns → slice_index_or ns k name ≡ name → slice_get ns (number_in ns name) ≡ Some name
+pub named_at : (ns : List ℕ) (name k : ℕ) → k < length ns → slice_index_or ns k name ≡ name → slice_get ns (number_in ns name) ≡ Some name
 named_at [] name k l e = absurd (omega arith)
 named_at (n ∷ ns) name k l e = go (n == name) refl k l e (λ j l e. named_at ns name j l e)
   where
@@ -53,20 +53,20 @@ below_at (n ∷ ns) ms name k l e = go (n == name) refl k l e (λ j l e. below_a
     go false t (suc k) l e more = (let h = more k (omega arith) e in omega arith)
 
 -- ---- declarations of one name
-abbrev Fresh : List ℕ → List ℕ → Type 0
+abbrev pub Fresh : List ℕ → List ℕ → Type 0
 Fresh earlier [] = Unit {0}
 Fresh earlier (n ∷ ns) = (Contains earlier n → ⊥) × Fresh (earlier ++ n ∷ []) ns
 
 abbrev NeverTwice : List Mark → Type 0
 NeverTwice text = (at : ℕ) → IsTwice text at → ⊥
 
-moved : (text pre ms : List Mark) (m : Mark) → text ≡ pre ++ m ∷ ms → text ≡ (pre ++ m ∷ []) ++ ms
+pub moved : (text pre ms : List Mark) (m : Mark) → text ≡ pre ++ m ∷ ms → text ≡ (pre ++ m ∷ []) ++ ms
 moved text pre ms m e = e ∙ sym (append_assoc pre (m ∷ []) ms)
 
-same_names : (pre : List Mark) (m : Mark) → declared (m ∷ []) ≡ [] → declared (pre ++ m ∷ []) ≡ declared pre
+pub same_names : (pre : List Mark) (m : Mark) → declared (m ∷ []) ≡ [] → declared (pre ++ m ∷ []) ≡ declared pre
 same_names pre m e = declared_append pre (m ∷ []) ∙ ap (λ (x : List ℕ). declared pre ++ x) e ∙ append-nil (declared pre)
 
-fresh_text : (text pre ms : List Mark) → text ≡ pre ++ ms → NeverTwice text → Fresh (declared pre) (declared ms)
+pub fresh_text : (text pre ms : List Mark) → text ≡ pre ++ ms → NeverTwice text → Fresh (declared pre) (declared ms)
 fresh_text text pre [] e h = tt
 fresh_text text pre (Declared name at ∷ ms) e h = (
   λ c. h at (pre, name, record { after = ms; is = e }, c),
@@ -86,7 +86,7 @@ fresh_get [] earlier i n f e c = cc
 fresh_get (m ∷ ns) earlier zero n f e c = (let is : m ≡ n = cc in f.0 (subst (Contains earlier) (sym is) c))
 fresh_get (m ∷ ns) earlier (suc i) n f e c = fresh_get ns (earlier ++ m ∷ []) i n f.1 e (Contains-append_left earlier (m ∷ []) n c)
 
-one_number : (ns earlier : List ℕ) (i j n : ℕ) → Fresh earlier ns → slice_get ns i ≡ Some n → slice_get ns j ≡ Some n → i ≡ j
+pub one_number : (ns earlier : List ℕ) (i j n : ℕ) → Fresh earlier ns → slice_get ns i ≡ Some n → slice_get ns j ≡ Some n → i ≡ j
 one_number [] earlier i j n f e g = cc
 one_number (m ∷ ns) earlier zero zero n f e g = refl
 one_number (m ∷ ns) earlier zero (suc j) n f e g = absurd (let is : m ≡ n = cc in fresh_get ns (earlier ++ m ∷ []) j n f.1 g (subst (Contains (earlier ++ m ∷ [])) is (Contains-push earlier m)))

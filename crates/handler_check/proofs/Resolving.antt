@@ -1,5 +1,5 @@
 -- The parts of resolution.
-use Rattle.std.proofs.Common.{◌≡◌, ℕ, suc, zero, ◌+◌, ◌<◌, ◌≤◌, List, [], ◌∷◌, ◌++◌, length, get_or, drop, take, slice_get, Some, Result, Ok, Err, IfOk, refl, sym, ap, ◌∙◌, subst, arith}
+use Rattle.std.proofs.Common.{◌≡◌, ℕ, suc, zero, ◌+◌, ◌<◌, ◌≤◌, List, [], ◌∷◌, ◌++◌, length, get_or, drop, take, slice_get, Option, Some, Result, Ok, Err, IfOk, refl, sym, ap, ◌∙◌, subst, arith}
 use Rattle.std.proofs.lemmas.List.{drop_more, drop_all, take_all, take_more}
 use Rattle.std.specs.List.{AllZip}
 use Rattle.handler_trees.specs.declared.file.File.{File}
@@ -7,9 +7,13 @@ use Rattle.handler_trees.specs.declared.file.Handler.{Handler}
 use Rattle.handler_dialogue.specs.declared.tree.CheckedHandler.{CheckedHandler}
 use Rattle.handler_trees.specs.declared.stmt.Stmt.{Stmt}
 use Rattle.handler_dialogue.specs.declared.tree.CheckedStmt.{CheckedStmt}
-use Rattle.handler_dialogue.specs.Code.{Code, Finish, stmt_code, block_code}
+use Rattle.handler_dialogue.specs.Bounds.{calls_bound, work_bound}
+use Rattle.handler_dialogue.specs.Code.{Code, Finish, stmt_code, block_code, points}
 use Rattle.handler_rules.specs.Source.{Source, stmt_source, block_source}
-use Rattle.handler_check.specs.Resolved.{IsResolved, points_of, code_of, table_names}
+use Rattle.handler_check.specs.declared.bounds.HandlerBounds.{HandlerBounds}
+use Rattle.handler_check.specs.Checked.{AreBoundsOf}
+use Rattle.handler_check.specs.Resolved.{IsResolved, points_of, code_of, table_names, variables_of, code_in, code_at, params_in, params_at}
+use Rattle.handler_check.proofs.Numbers.{counted}
 
 next : {X : Type 0} (xs : List X) (i : ℕ) (d : X) → i < length xs → drop i xs ≡ get_or xs i d ∷ drop (i + 1) xs
 next xs i d h = drop_more xs i d h
@@ -55,37 +59,66 @@ pub listed_code : {E : Type 0} (r : Result (List CheckedStmt) E) (items : List C
 listed_code (Ok x) items whole h e = ap block_code h ∙ e
 listed_code (Err e) items whole h k = tt
 
--- ---- handlers
-zip_push : (R : Handler → CheckedHandler → Type 0) (xs : List Handler) (ys : List CheckedHandler) (x : Handler) (y : CheckedHandler) → AllZip R xs ys → R x y → AllZip R (xs ++ x ∷ []) (ys ++ y ∷ [])
+-- ---- two lists that go together
+pub zip_push : {A B : Type 0} (R : A → B → Type 0) (xs : List A) (ys : List B) (x : A) (y : B) → AllZip R xs ys → R x y → AllZip R (xs ++ x ∷ []) (ys ++ y ∷ [])
 zip_push R [] [] x y h r = (r, tt)
 zip_push R [] (z ∷ ys) x y h r = absurd h
 zip_push R (w ∷ xs) [] x y h r = absurd h
 zip_push R (w ∷ xs) (z ∷ ys) x y h r = (h.0, zip_push R xs ys x y h.1 r)
 
-pub resolved_turn : (ts us : List ℕ) (hs : List Handler) (found : List CheckedHandler) (i : ℕ) (h d : Handler) (c : CheckedHandler) → i < length hs → h ≡ get_or hs i d → us ≡ ts
-    → AllZip (IsResolved ts) (take i hs) found → IsResolved us h c → AllZip (IsResolved ts) (take (i + 1) hs) (found ++ c ∷ [])
-resolved_turn ts us hs found i h d c l is same so_far one =
-    let more : take (i + 1) hs ≡ take i hs ++ h ∷ [] = take_more hs i d l ∙ ap (λ (x : Handler). take i hs ++ x ∷ []) (sym is) in
-    subst (λ (x : List Handler). AllZip (IsResolved ts) x (found ++ c ∷ [])) (sym more) (zip_push (IsResolved ts) (take i hs) found h c so_far (subst (λ (x : List ℕ). IsResolved x h c) same one))
+-- the first ones go with those that were found, and so does the next
+pub zip_turn : {A B : Type 0} (R : A → B → Type 0) (xs : List A) (ys : List B) (i : ℕ) (x d : A) (y : B) → i < length xs → x ≡ get_or xs i d → AllZip R (take i xs) ys → R x y → AllZip R (take (i + 1) xs) (ys ++ y ∷ [])
+zip_turn {A} {B} R xs ys i x d y l is so_far one =
+    let more : take (i + 1) xs ≡ take i xs ++ x ∷ [] = take_more xs i d l ∙ ap (λ (z : A). take i xs ++ z ∷ []) (sym is) in
+    subst (λ (zs : List A). AllZip R zs (ys ++ y ∷ [])) (sym more) (zip_push R (take i xs) ys x y so_far one)
 
-pub resolved_end : (ts : List ℕ) (hs : List Handler) (found : List CheckedHandler) (i : ℕ) → length hs ≤ i → AllZip (IsResolved ts) (take i hs) found → AllZip (IsResolved ts) hs found
-resolved_end ts hs found i l so_far = subst (λ (x : List Handler). AllZip (IsResolved ts) x found) (take_all i hs l) so_far
+pub zip_end : {A B : Type 0} (R : A → B → Type 0) (xs : List A) (ys : List B) (i : ℕ) → length xs ≤ i → AllZip R (take i xs) ys → AllZip R xs ys
+zip_end {A} R xs ys i l so_far = subst (λ (zs : List A). AllZip R zs ys) (take_all i xs l) so_far
 
--- ---- two lists that go together
-pub zip_length : (R : Handler → CheckedHandler → Type 0) (xs : List Handler) (ys : List CheckedHandler) → AllZip R xs ys → length ys ≡ length xs
+pub zip_length : {A B : Type 0} (R : A → B → Type 0) (xs : List A) (ys : List B) → AllZip R xs ys → length ys ≡ length xs
 zip_length R [] [] z = refl
 zip_length R [] (y ∷ ys) z = absurd z
 zip_length R (x ∷ xs) [] z = absurd z
 zip_length R (x ∷ xs) (y ∷ ys) z = ap suc (zip_length R xs ys z.1)
 
-pub zip_get : (R : Handler → CheckedHandler → Type 0) (xs : List Handler) (ys : List CheckedHandler) (i : ℕ) (x : Handler) (y : CheckedHandler) → AllZip R xs ys → slice_get xs i ≡ Some x → slice_get ys i ≡ Some y → R x y
-zip_get R [] ys i x y z e f = cc
-zip_get R (a ∷ xs) [] i x y z e f = cc
-zip_get R (a ∷ xs) (b ∷ ys) zero x y z e f = (let p : a ≡ x = cc in let q : b ≡ y = cc in subst (λ (w : Handler). R w y) p (subst (λ (w : CheckedHandler). R a w) q z.0))
-zip_get R (a ∷ xs) (b ∷ ys) (suc i) x y z e f = zip_get R xs ys i x y z.1 e f
+pub zip_at : {A B : Type 0} (R : A → B → Type 0) (xs : List A) (ys : List B) (i : ℕ) (y : B) → AllZip R xs ys → slice_get ys i ≡ Some y → (x : A) × (slice_get xs i ≡ Some x) × R x y
+zip_at R [] [] i y z e = cc
+zip_at R [] (b ∷ ys) i y z e = absurd z
+zip_at R (a ∷ xs) [] i y z e = absurd z
+zip_at {A} {B} R (a ∷ xs) (b ∷ ys) zero y z e = (let q : b ≡ y = cc in (a, refl, subst (R a) q z.0))
+zip_at R (a ∷ xs) (b ∷ ys) (suc i) y z e = zip_at R xs ys i y z.1 e
 
--- the resolved handler of a number
-pub resolved_at : (f g : File) (cs : List CheckedHandler) (i : ℕ) (h : Handler) (c : CheckedHandler) → f ≡ g → AllZip (IsResolved (table_names f)) f.handlers cs → slice_get g.handlers i ≡ Some h → slice_get cs i ≡ Some c → IsResolved (table_names g) h c
-resolved_at f g cs i h c same z is at =
-    let all = subst (λ (x : File). AllZip (IsResolved (table_names x)) x.handlers cs) same z in
-    zip_get (IsResolved (table_names g)) g.handlers cs i h c all is at
+pub zip_get : {A B : Type 0} (R : A → B → Type 0) (xs : List A) (ys : List B) (i : ℕ) (x : A) (y : B) → AllZip R xs ys → slice_get xs i ≡ Some x → slice_get ys i ≡ Some y → R x y
+zip_get {A} {B} R xs ys i x y z e f =
+    let at = zip_at R xs ys i y z f in
+    let same : at.0 ≡ x = cc in
+    subst (λ (w : A). R w y) same at.2
+
+-- ---- handlers
+
+-- what is known of the resolved handler of a number
+pub record IsHandlerAt (f : File) (i : ℕ) (c : CheckedHandler) : Type 0 where
+  pub body : block_code c.body ≡ code_at f i
+  pub points : c.points ≡ 1 + points (code_at f i)
+  pub params : c.params ≡ params_at f i
+
+pub handler_at : (f : File) (cs : List CheckedHandler) (i : ℕ) (c : CheckedHandler) → AllZip (IsResolved (table_names f)) f.handlers cs → slice_get cs i ≡ Some c → IsHandlerAt f i c
+handler_at f cs i c z e =
+    let at = zip_at (IsResolved (table_names f)) f.handlers cs i c z e in
+    let h : Handler = at.0 in
+    let there : slice_get f.handlers i ≡ Some h = at.1 in
+    let r : IsResolved (table_names f) h c = at.2 in
+    record {
+      body = r.body ∙ sym (ap (code_in f) there);
+      points = r.points ∙ ap (λ (n : ℕ). 1 + n) (sym (counted (table_names f) (variables_of h) (block_source h.body) 1)) ∙ ap (λ (o : Option Handler). 1 + points (code_in f o)) (sym there);
+      params = r.params ∙ sym (ap params_in there);
+    }
+
+-- the bounds of the handler of a number
+pub bounds_at : (f : File) (cs : List CheckedHandler) (bs : List HandlerBounds) (i : ℕ) (b : HandlerBounds) → AllZip (IsResolved (table_names f)) f.handlers cs → AllZip AreBoundsOf cs bs → slice_get bs i ≡ Some b
+    → (b.calls ≡ calls_bound (code_at f i)) × (b.work ≡ work_bound (code_at f i))
+bounds_at f cs bs i b z y e =
+    let at = zip_at AreBoundsOf cs bs i b y e in
+    let is = handler_at f cs i at.0 z at.1 in
+    let own : AreBoundsOf at.0 b = at.2 in
+    (own.calls ∙ ap calls_bound is.body, own.work ∙ ap work_bound is.body)

@@ -1,5 +1,5 @@
 -- Accepted handlers stay within the bounds.
-use Rattle.std.proofs.Common.{◌≡◌, ℕ, ◌<◌, ◌≤◌, ◌==◌, min, nat_lt, Bool, true, false, ◌&&◌, if◌then◌else◌, List, slice_get, Some, refl, ap, arith}
+use Rattle.std.proofs.Common.{◌≡◌, ℕ, ◌<◌, ◌≤◌, ◌==◌, min, nat_lt, Bool, true, false, ◌&&◌, if◌then◌else◌, List, slice_get, Some, refl, arith}
 use Rattle.std.proofs.lemmas.Bool.Decides.{nat_tests}
 use Rattle.std.proofs.lemmas.Option.{slice_get_within, get_or_from_slice_get}
 use Rattle.std.proofs.Math.Nat.{mul-le-mul_left}
@@ -7,12 +7,11 @@ use Rattle.std.specs.List.{Contains}
 use Rattle.session_values.specs.Kinds.{is_adding}
 use Rattle.handler_trees.specs.declared.file.File.{File}
 use Rattle.handler_trees.specs.declared.file.Handler.{Handler}
-use Rattle.handler_dialogue.specs.declared.tree.CheckedHandler.{CheckedHandler}
-use Rattle.handler_dialogue.specs.Bounds.{bound, every, adding, calls_bound, adds_bound, work_bound}
-use Rattle.handler_dialogue.specs.Code.{Code, Finish, Move, Ask, Fork, Loop, Quit, block_code}
+use Rattle.handler_dialogue.specs.Bounds.{bound, adding, calls_bound, adds_bound, work_bound}
+use Rattle.handler_dialogue.specs.Code.{Code, Finish, Move, Ask, Fork, Loop, Quit}
 use Rattle.handler_rules.specs.declared.refusal.CheckRefusal.TheVariants.{TooManyCalls, TooMuchWork}
 use Rattle.handler_check.specs.Checking.{IsAccepted}
-use Rattle.handler_check.specs.Resolved.{IsResolved, table_names, handler_code}
+use Rattle.handler_check.specs.Resolved.{handler_code}
 
 no_more : (limit n : ℕ) → (limit < n → ⊥) → n ≤ limit
 no_more limit n never = go (nat_lt limit n) refl
@@ -27,13 +26,13 @@ no_more limit n never = go (nat_lt limit n) refl
     go true e = absurd (never (larger limit n e))
     go false e = smaller limit n e
 
-in_file : (hs : List Handler) (i : ℕ) (h : Handler) → slice_get hs i ≡ Some h → Contains hs h
+pub in_file : (hs : List Handler) (i : ℕ) (h : Handler) → slice_get hs i ≡ Some h → Contains hs h
 in_file hs i h e = (i, slice_get_within hs i h e, get_or_from_slice_get hs i h h e)
 
-few_calls : (f : File) (i : ℕ) (h : Handler) → IsAccepted f → slice_get f.handlers i ≡ Some h → calls_bound (handler_code f h) ≤ 10000
+pub few_calls : (f : File) (i : ℕ) (h : Handler) → IsAccepted f → slice_get f.handlers i ≡ Some h → calls_bound (handler_code f h) ≤ 10000
 few_calls f i h a e = no_more 10000 (calls_bound (handler_code f h)) (λ l. a.within (TooManyCalls h.at) (h, in_file f.handlers i h e, refl, l))
 
-little_work : (f : File) (i : ℕ) (h : Handler) → IsAccepted f → slice_get f.handlers i ≡ Some h → work_bound (handler_code f h) ≤ 100000
+pub little_work : (f : File) (i : ℕ) (h : Handler) → IsAccepted f → slice_get f.handlers i ≡ Some h → work_bound (handler_code f h) ≤ 100000
 little_work f i h a e = no_more 100000 (work_bound (handler_code f h)) (λ l. a.within (TooMuchWork h.at) (h, in_file f.handlers i h e, refl, l))
 
 one_at_most : (b : Bool) → (if b then 1 else 0) ≤ 1
@@ -48,21 +47,10 @@ adds_fewer t (Fork at p q test a b rest) = (let x = adds_fewer t a in let y = ad
 adds_fewer t (Loop at p n x body rest) = (let y = mul-le-mul_left n (adds_fewer t body) in let z = adds_fewer t rest in omega arith)
 adds_fewer t (Quit es rest) = adds_fewer t rest
 
-pub calls_exact : (f : File) (i : ℕ) (h : Handler) (c : CheckedHandler) (r : ℕ) → IsAccepted f → slice_get f.handlers i ≡ Some h → IsResolved (table_names f) h c → r ≡ min (bound every (block_code c.body)) 4294967295 → r ≡ calls_bound (handler_code f h)
-calls_exact f i h c r a e is same =
-    let few = few_calls f i h a e in
-    let own : bound every (block_code c.body) ≡ calls_bound (handler_code f h) = ap calls_bound is.body in
-    omega arith
+-- the count of a handler's adding calls is no more than its bound on all calls, and so isn't cut
+pub adds_exact : (t : ℕ) (c : Code) (r : ℕ) → calls_bound c ≤ 10000 → r ≡ min (bound (adding t) c) 4294967295 → (r ≡ adds_bound t c) × (r ≤ 10000)
+adds_exact t c r few same = (let fewer = adds_fewer t c in (omega (arith, few, same, fewer), omega (arith, few, same, fewer)))
 
-pub adds_exact : (f : File) (i t : ℕ) (h : Handler) (c : CheckedHandler) (r : ℕ) → IsAccepted f → slice_get f.handlers i ≡ Some h → IsResolved (table_names f) h c → r ≡ min (bound (adding t) (block_code c.body)) 4294967295 → r ≡ adds_bound t (handler_code f h)
-adds_exact f i t h c r a e is same =
-    let few = few_calls f i h a e in
-    let fewer = adds_fewer t (handler_code f h) in
-    let own : bound (adding t) (block_code c.body) ≡ adds_bound t (handler_code f h) = ap (adds_bound t) is.body in
-    omega arith
-
-pub work_exact : (f : File) (i : ℕ) (h : Handler) (c : CheckedHandler) (r : ℕ) → IsAccepted f → slice_get f.handlers i ≡ Some h → IsResolved (table_names f) h c → r ≡ min (work_bound (block_code c.body)) 4294967295 → r ≡ work_bound (handler_code f h)
-work_exact f i h c r a e is same =
-    let few = little_work f i h a e in
-    let own : work_bound (block_code c.body) ≡ work_bound (handler_code f h) = ap work_bound is.body in
-    omega arith
+-- a count that is no more than a bound isn't cut
+pub count_exact : (n r limit : ℕ) → r ≡ min n 4294967295 → r ≤ limit → limit < 4294967295 → r ≡ n
+count_exact n r limit same few small = omega arith

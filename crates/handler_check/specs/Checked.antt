@@ -1,12 +1,33 @@
 -- Checked files.
-use Rattle.std.specs.Prelude.{List}
+use Rattle.std.specs.Prelude.{◌≡◌, ℕ, ◌≤◌, List}
 use Rattle.std.specs.List.{AllZip}
 use Rattle.handler_trees.specs.declared.file.File.{File}
 use Rattle.handler_dialogue.specs.declared.tree.CheckedHandler.{CheckedHandler}
+use Rattle.handler_dialogue.specs.Bounds.{calls_bound, work_bound}
+use Rattle.handler_dialogue.specs.Code.{IsNumbered, block_code}
+use Rattle.handler_dialogue.specs.Within.{CodeWithin}
+use Rattle.handler_rules.specs.Bounds.{KeepsBounds}
+use Rattle.handler_check.specs.declared.bounds.HandlerBounds.{HandlerBounds}
 use Rattle.handler_check.specs.Checking.{IsAccepted}
-use Rattle.handler_check.specs.Resolved.{IsResolved, table_names}
+use Rattle.handler_check.specs.Resolved.{IsResolved, code_at, params_at, shape_of, table_names}
 
--- the file breaks no rule, and these are its handlers
-pub record IsChecked (f : File) (handlers : List CheckedHandler) : Type 0 where
+-- what holds of the handler of each number, in a file that is accepted and keeps its bounds
+pub record HandlerWithin (f : File) (h : ℕ) : Type 0 where
+  -- the parameters are among the 32 variables that a handler may have
+  pub params : params_at f h ≤ 32
+  pub within : CodeWithin (shape_of f) 32 (code_at f h)
+  pub numbered : IsNumbered (code_at f h) 1
+  pub calls : calls_bound (code_at f h) ≤ 10000
+  pub work : work_bound (code_at f h) ≤ 100000
+
+-- the bounds of a resolved handler
+pub record AreBoundsOf (c : CheckedHandler) (b : HandlerBounds) : Type 0 where
+  pub calls : b.calls ≡ calls_bound (block_code c.body)
+  pub work : b.work ≡ work_bound (block_code c.body)
+
+-- the file breaks no rule and keeps its bounds, and these are its handlers and their bounds
+pub record IsChecked (f : File) (handlers : List CheckedHandler) (bounds : List HandlerBounds) : Type 0 where
   pub accepted : IsAccepted f
+  pub bounded : KeepsBounds f
   pub resolved : AllZip (IsResolved (table_names f)) f.handlers handlers
+  pub counted : AllZip AreBoundsOf handlers bounds

@@ -1,8 +1,10 @@
 -- The resolved handlers of a file: each name is the number of its declaration, and points are counted in the order of the text.
-use Rattle.std.specs.Prelude.{◌≡◌, ℕ, suc, ◌+◌, ◌<◌, ◌==◌, if◌then◌else◌, List, [], ◌∷◌, length, map, slice_get, Some, None}
+use Rattle.std.specs.Prelude.{◌≡◌, ℕ, suc, ◌+◌, ◌<◌, ◌==◌, if◌then◌else◌, List, [], ◌∷◌, length, map, slice_get, Option, Some, None}
 use Rattle.std.specs.List.{Contains}
 use Rattle.session_values.specs.declared.value.Value.TheVariants.{Nil}
+use Rattle.session_values.specs.declared.kind.Kind.{Kind}
 use Rattle.session_values.specs.declared.kind.TableKind.{TableKind}
+use Rattle.session_values.specs.Kinds.{home}
 use Rattle.handler_trees.specs.declared.expr.Atom.{Atom as Named}
 use Rattle.handler_trees.specs.declared.expr.Atom.TheVariants as named
 use Rattle.handler_trees.specs.declared.expr.Expr.{Expr, fold-Expr}
@@ -106,6 +108,23 @@ variables_of h = declared (handler_marks h)
 abbrev pub handler_code : File → Handler → code.Code
 handler_code f h = code_of (table_names f) (variables_of h) (block_source h.body) 1
 
+-- the code of a handler, and an empty block where there is none
+abbrev pub code_in : File → Option Handler → code.Code
+code_in f None = code.Finish
+code_in f (Some h) = handler_code f h
+
+-- the code of the handler of this number
+abbrev pub code_at : File → ℕ → code.Code
+code_at f h = code_in f (slice_get f.handlers h)
+
+abbrev pub params_in : Option Handler → ℕ
+params_in None = 0
+params_in (Some h) = length h.params
+
+-- how many parameters the handler of this number has
+abbrev pub params_at : File → ℕ → ℕ
+params_at f h = params_in (slice_get f.handlers h)
+
 -- ---- what a name stands for
 
 -- x is the number of the one variable of this name, which is declared among the marks before, and visible
@@ -114,6 +133,12 @@ pub record StandsFor (h : Handler) (before : List Mark) (seen : List ℕ) (name 
   pub only : (y : ℕ) → slice_get (variables_of h) y ≡ Some name → y ≡ x
   pub earlier : x < length (declared before)
   pub visible : Contains seen name
+
+-- x is the number of the one table of this name, which is of the operation's kind
+pub record StandsForTable (f : File) (kind : Kind) (name x : ℕ) : Type 0 where
+  pub named : slice_get (table_names f) x ≡ Some name
+  pub only : (y : ℕ) → slice_get (table_names f) y ≡ Some name → y ≡ x
+  pub fit : slice_get (shape_of f) x ≡ Some (home kind)
 
 -- ---- resolved handlers
 

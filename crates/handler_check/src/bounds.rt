@@ -16,6 +16,13 @@ pub enum Counted {
     Adding(u32),
 }
 
+/// The bounds on the calls and the work of a handler.
+#[derive(Clone, Copy, Debug)]
+pub(crate) struct HandlerBounds {
+    pub calls: u32,
+    pub work: u32,
+}
+
 fn weight(counted: Counted, kind: Kind, table: u32) -> u32
     ensures { result ≡ weight_of counted kind table }
 {

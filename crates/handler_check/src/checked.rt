@@ -1,17 +1,19 @@
 // Checked files.
 
-ghost use Rattle.std.specs.Prelude.{◌≡◌, ◌≢◌, ◌<◌, ℕ, IfNone, IfOk, IfSome, MatchResult, Some, length, slice_get};
+ghost use Rattle.std.specs.Prelude.{◌≡◌, ◌≢◌, ◌+◌, ◌<◌, ◌≤◌, ℕ, IfNone, IfOk, IfSome, MatchResult, Some, length, slice_get};
 ghost use Rattle.handler_trees.specs.declared.file.Handler.{Handler};
+ghost use Rattle.handler_check.specs.Checked.{HandlerWithin};
 ghost use Rattle.handler_check.specs.Checking.{IsAccepted, IsRefusal};
-ghost use Rattle.handler_check.specs.Resolved.{IsResolved, handler_code, table_names};
+ghost use Rattle.handler_check.specs.Resolved.{IsResolved, code_at, params_at, table_names};
 ghost use Rattle.handler_dialogue.specs.Bounds as spec;
+ghost use Rattle.handler_dialogue.specs.Code.{block_code, points};
+ghost use Rattle.handler_rules.specs.Bounds.{KeepsBounds};
 ghost use Rattle.handler_rules.specs.declared.refusal.CheckRefusal.TheVariants as refusal;
 ghost use Rattle.handler_rules.specs.FirstFault.{PlacesRise};
 
-use crate::bounds::{Counted, count_calls};
-use crate::excess::find_excess;
+use crate::bounds::{Counted, HandlerBounds, count_calls};
+use crate::excess::bound_all;
 use crate::resolution::resolve;
-use crate::work::count_work;
 use handler_dialogue::CheckedHandler;
 use handler_rules::CheckRefusal;
 use handler_trees::File;
@@ -26,6 +28,8 @@ pub struct Checked {
     file: File,
     // One for each handler of the file, in its order.
     handlers: Listed<CheckedHandler>,
+    // Those of each handler.
+    bounds: Listed<HandlerBounds>,
 }
 
 impl Model for Checked {
@@ -40,33 +44,40 @@ impl Model for Checked {
 
     ghost view = { λ c. c.file };
 
-    ghost invariant = { λ c. IsChecked c.file c.handlers };
+    ghost invariant = { λ c. IsChecked c.file c.handlers c.bounds };
 }
 
-/// Checks a file whose places rise in the order of its text. The file is consumed, also by a
-/// refusal.
+/// Checks a file whose places rise in the order of its text, and which keeps the bounds of the
+/// language. The file is consumed, also by a refusal.
 pub fn check(alloc: Global, file: File) -> Result<Checked, CheckRefusal>
-    requires { PlacesRise file }
+    requires rise { PlacesRise file }
+    requires bounds { KeepsBounds file }
     ensures file { IfOk result (λ checked. checked ≡ file) }
     ensures rules { MatchResult result (λ _. IsAccepted file) (λ e. e ≢ refusal.NoMemory
         → IsRefusal file e) }
 {
     let handlers = resolve(alloc, &file)?;
-    find_excess(handlers.as_slice())?;
-    Ok(Checked { file, handlers })
+    let bounds = bound_all(alloc, handlers.as_slice())?;
+    Ok(Checked {
+        file,
+        handlers,
+        bounds,
+    })
 }
 
 impl Checked {
     pub fn file(&self) -> &File
         ensures file { result.now ≡ self.now }
         ensures accepted { IsAccepted self.now }
+        ensures bounds { KeepsBounds self.now }
     {
         &self.file
     }
 
     /// How many handlers it has.
     pub fn handlers(&self) -> u32
-        ensures { result ≡ length self.now.handlers }
+        ensures count { result ≡ length self.now.handlers }
+        ensures few { result ≤ 64 }
     {
         self.file.handlers.len()
     }
@@ -76,7 +87,10 @@ impl Checked {
         requires { h < length self.now.handlers }
         ensures resolved { (source : Handler) → slice_get self.now.handlers h ≡ Some source
             → IsResolved (table_names self.now) source result.now }
-        ensures accepted { IsAccepted self.now }
+        ensures body { block_code result.now.body ≡ code_at self.now h }
+        ensures points { result.now.points ≡ 1 + points (code_at self.now h) }
+        ensures params { result.now.params ≡ params_at self.now h }
+        ensures within { HandlerWithin self.now h }
     {
         self.handlers.get(h)
     }
@@ -101,28 +115,27 @@ impl Checked {
     /// The bound on the calls of a handler.
     pub fn calls_bound(&self, h: u32) -> u32
         requires { h < length self.now.handlers }
-        ensures { (source : Handler) → slice_get self.now.handlers h ≡ Some source → result
-            ≡ spec.calls_bound (handler_code self.now source) }
+        ensures bound { result ≡ spec.calls_bound (code_at self.now h) }
+        ensures few { result ≤ 10000 }
     {
-        let handler = self.handler(h);
-        count_calls(Counted::Every, handler.body.as_slice())
+        self.bounds.get(h).calls
     }
 
     /// The bound on the work of a handler.
     pub fn work_bound(&self, h: u32) -> u32
         requires { h < length self.now.handlers }
-        ensures { (source : Handler) → slice_get self.now.handlers h ≡ Some source → result
-            ≡ spec.work_bound (handler_code self.now source) }
+        ensures bound { result ≡ spec.work_bound (code_at self.now h) }
+        ensures few { result ≤ 100000 }
     {
-        let handler = self.handler(h);
-        count_work(handler.body.as_slice())
+        self.bounds.get(h).work
     }
 
-    /// The bound on the calls of a handler that may add a key to a table.
+    /// The bound on the calls of a handler that may add a key to a table. It is counted anew by
+    /// each call, in a walk over the handler.
     pub fn adds_bound(&self, h: u32, table: u32) -> u32
         requires { h < length self.now.handlers }
-        ensures { (source : Handler) → slice_get self.now.handlers h ≡ Some source → result
-            ≡ spec.adds_bound table (handler_code self.now source) }
+        ensures bound { result ≡ spec.adds_bound table (code_at self.now h) }
+        ensures few { result ≤ 10000 }
     {
         let handler = self.handler(h);
         count_calls(Counted::Adding(table), handler.body.as_slice())

@@ -1,32 +1,48 @@
 // Handlers that may do too much.
 
+ghost use Rattle.std.specs.Prelude.{IfOk};
+ghost use Rattle.std.specs.List.{AllZip};
+ghost use Rattle.handler_check.specs.Checked.{AreBoundsOf};
 ghost use Rattle.handler_check.specs.Excess.{excess, own_excess};
 ghost use Rattle.handler_rules.specs.Scan.{Found};
 
-use crate::bounds::{Counted, count_calls};
+use crate::bounds::{Counted, HandlerBounds, count_calls};
+use crate::resolution::listed;
 use crate::work::count_work;
 use handler_dialogue::CheckedHandler;
 use handler_rules::CheckRefusal;
+use session_values::Listed;
+use std::alloc::Global;
 
-/// The first handler, in their order, that may make more than 10,000 calls, or whose work may be
-/// above 100,000.
-pub(crate) fn find_excess(handlers: &[CheckedHandler]) -> Result<(), CheckRefusal>
-    ensures { Found (excess handlers.now) result }
+/// The bounds of handlers, or the first handler, in their order, that may make more than 10,000
+/// calls, or whose work may be above 100,000.
+pub(crate) fn bound_all(
+    alloc: Global,
+    handlers: &[CheckedHandler],
+) -> Result<Listed<HandlerBounds>, CheckRefusal>
+    ensures found { Found (excess handlers.now) result }
+    ensures bounds { IfOk result (AllZip AreBoundsOf handlers.now) }
 {
+    let mut found = Vec::new(alloc);
     for handler in handlers {
-        find_own_excess(handler)?;
+        let one = bound_handler(handler)?;
+        found.push(one)?;
     }
-    Ok(())
+    Ok(listed(found)?)
 }
 
-fn find_own_excess(handler: &CheckedHandler) -> Result<(), CheckRefusal>
-    ensures { Found (own_excess handler.now) result }
+fn bound_handler(handler: &CheckedHandler) -> Result<HandlerBounds, CheckRefusal>
+    ensures found { Found (own_excess handler.now) result }
+    ensures bounds { IfOk result (AreBoundsOf handler.now) }
 {
-    if count_calls(Counted::Every, handler.body.as_slice()) > 10_000 {
+    let body = handler.body.as_slice();
+    let calls = count_calls(Counted::Every, body);
+    if calls > 10_000 {
         return Err(CheckRefusal::TooManyCalls { at: handler.at });
     }
-    if count_work(handler.body.as_slice()) > 100_000 {
+    let work = count_work(body);
+    if work > 100_000 {
         return Err(CheckRefusal::TooMuchWork { at: handler.at });
     }
-    Ok(())
+    Ok(HandlerBounds { calls, work })
 }

@@ -1,68 +1,36 @@
-// The first fault of a file.
+// The first fault among the names of tables, and that of a handler. At most 7 tables, 64 handlers
+// and 32 variables are ever searched for a name, since one more is a fault.
 
 mod expr;
 mod names;
 mod stmt;
 
-ghost use Rattle.std.specs.Prelude.{◌≡◌, ◌≢◌, ℕ, List, [], IfOk, MatchResult};
+ghost use Rattle.std.specs.Prelude.{◌≡◌, ℕ, List, [], IfOk, map};
 ghost use Rattle.handler_trees.specs.declared.file.TableDecl.{TableDecl};
 ghost use Rattle.handler_check.specs.Resolved.{variables_of};
-ghost use Rattle.handler_rules.specs.declared.refusal.CheckRefusal.TheVariants as refusal;
-ghost use Rattle.handler_rules.specs.FirstFault.{IsFirstFault, KeepsRules, PlacesRise};
 ghost use Rattle.handler_rules.specs.Marks.{handler_marks, param_marks, param_names, table_marks};
-ghost use Rattle.handler_rules.specs.Scan.{Found, file_fault, of_tables, of_variables, scan, scan_handlers};
+ghost use Rattle.handler_rules.specs.Scan.{Found, of_tables, of_variables, scan};
 
-use self::names::{declare, declare_variable};
+pub(crate) use self::names::declare;
+use self::names::declare_variable;
 use self::stmt::find_in_block;
 use handler_rules::CheckRefusal;
-use handler_rules::laws::walk_finds_first;
-use handler_trees::{File, Handler, Param, TableDecl};
+use handler_trees::{Handler, Param, TableDecl};
 use session_values::NoMemory;
 use std::alloc::Global;
 
-/// Finds the first place where a file breaks a rule on names, arguments or numbers, if its places
-/// rise in the order of the text.
-pub fn find_fault(alloc: Global, file: &File) -> Result<(), CheckRefusal>
-    ensures { PlacesRise file.now
-        → MatchResult result (λ _. KeepsRules file.now) (λ e. e ≢ refusal.NoMemory
-        → IsFirstFault file.now e) }
-{
-    walk_finds_first();
-    find_in_file(alloc, file)
-}
-
-fn find_in_file(alloc: Global, file: &File) -> Result<(), CheckRefusal>
-    ensures { Found (file_fault file.now) result }
-{
-    find_in_tables(alloc, file.tables.as_slice())?;
-    find_in_handlers(alloc, file.tables.as_slice(), file.handlers.as_slice())
-}
-
-fn find_in_tables(alloc: Global, tables: &[TableDecl]) -> Result<(), CheckRefusal>
-    ensures { Found (scan of_tables [] [] [] (table_marks tables.now)) result }
+/// Finds the first fault among the names of tables; where there is none, the names.
+pub(crate) fn find_in_tables(alloc: Global, tables: &[TableDecl]) -> Result<Vec<u32>, CheckRefusal>
+    ensures found { Found (scan of_tables [] [] [] (table_marks tables.now)) result }
+    ensures names { IfOk result (λ names. names.items
+        ≡ map (λ (t : TableDecl). t.name) tables.now) }
 {
     let mut earlier = Vec::new(alloc);
     for table in tables {
         let past = CheckRefusal::TooManyTables { at: table.at };
         declare(&mut earlier, 7, past, table.name, table.at)?;
     }
-    Ok(())
-}
-
-fn find_in_handlers(
-    alloc: Global,
-    tables: &[TableDecl],
-    handlers: &[Handler],
-) -> Result<(), CheckRefusal>
-    ensures { Found (scan_handlers tables.now [] handlers.now) result }
-{
-    let mut earlier = Vec::new(alloc);
-    for handler in handlers {
-        let past = CheckRefusal::TooManyHandlers { at: handler.at };
-        declare(&mut earlier, 64, past, handler.name, handler.at)?;
-        find_in_handler(alloc, tables, handler)?;
-    }
-    Ok(())
+    Ok(earlier)
 }
 
 /// Finds the first fault of a handler; where there is none, the names of its variables.

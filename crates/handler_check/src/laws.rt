@@ -1,15 +1,18 @@
 //! Laws on resolved handlers.
 
-ghost use Rattle.std.specs.Prelude.{◌≡◌, ℕ, List};
+ghost use Rattle.std.specs.Prelude.{◌≡◌, ◌≤◌, ℕ, List, length};
 ghost use Rattle.std.specs.List.{Contains};
 ghost use Rattle.handler_trees.specs.declared.file.File.{File};
 ghost use Rattle.handler_trees.specs.declared.file.Handler.{Handler};
+ghost use Rattle.session_values.specs.declared.kind.Kind.{Kind};
+ghost use Rattle.handler_check.specs.Checked.{HandlerWithin};
 ghost use Rattle.handler_check.specs.Checking.{IsAccepted, IsRefusal};
-ghost use Rattle.handler_check.specs.Resolved.{StandsFor, handler_code, number_in, points_of, variables_of};
+ghost use Rattle.handler_check.specs.Resolved.{StandsFor, StandsForTable, handler_code, number_in, points_of, table_names, variables_of};
 ghost use Rattle.handler_dialogue.specs.Code.{IsNumbered, points};
+ghost use Rattle.handler_rules.specs.Bounds.{KeepsBounds};
 ghost use Rattle.handler_rules.specs.declared.refusal.CheckRefusal.{CheckRefusal};
 ghost use Rattle.handler_rules.specs.FirstFault.{KeepsRules};
-ghost use Rattle.handler_rules.specs.Marks.{Mark, Mentioned, handler_marks};
+ghost use Rattle.handler_rules.specs.Marks.{Mark, Mentioned, OnTable, handler_marks};
 ghost use Rattle.handler_rules.specs.Rules.{Stands};
 ghost use Rattle.handler_rules.specs.Source.{block_source};
 
@@ -21,12 +24,25 @@ pub fn points_are_numbered()
 {}
 
 /// Where a file breaks no rule, each variable that is read or assigned has the number of the one
-/// variable of its name, which is declared before, and is visible there.
+/// variable of its name, which is declared before, and is visible there; and each table of an
+/// operation has the number of the one table of its name, which is of the operation's kind.
 pub fn names_stand_for_declarations()
-    ensures { (f : File) (h : Handler) → KeepsRules f → Contains f.handlers h
+    ensures variables { (f : File) (h : Handler) → KeepsRules f → Contains f.handlers h
         → (before : List Mark) (name at : ℕ) (visible : List ℕ)
         → Stands (handler_marks h) before (Mentioned name at visible)
         → StandsFor h before visible name (number_in (variables_of h) name) }
+    ensures tables { (f : File) (h : Handler) → KeepsRules f → Contains f.handlers h
+        → (before : List Mark) (kind : Kind) (name at : ℕ)
+        → Stands (handler_marks h) before (OnTable kind name at)
+        → StandsForTable f kind name (number_in (table_names f) name) }
+{}
+
+/// What holds of each handler of a file that is accepted and keeps its bounds, and how many tables
+/// and handlers there are.
+pub fn accepted_files_are_within()
+    ensures handler { (f : File) → IsAccepted f → KeepsBounds f → (h : ℕ) → HandlerWithin f h }
+    ensures handlers { (f : File) → IsAccepted f → length f.handlers ≤ 64 }
+    ensures tables { (f : File) → IsAccepted f → length f.tables ≤ 7 }
 {}
 
 /// At most one fault is the first, and a file that is accepted has none.

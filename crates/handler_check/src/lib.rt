@@ -11,7 +11,6 @@ mod work;
 
 pub use bounds::{Counted, count_calls};
 pub use checked::{Checked, check};
-pub use faults::find_fault;
 pub use handler_rules::CheckRefusal;
 pub use resolution::resolve;
 pub use work::count_work;

@@ -1,147 +1,26 @@
 // Resolution: the names of tables and variables become numbers, and points are counted.
 
-ghost use Rattle.std.specs.Prelude.{◌≡◌, ◌≢◌, ◌+◌, ◌<◌, ◌^◌, ℕ, Option, IfOk, MatchResult, OnOk, length, map};
+mod expr;
+
+ghost use Rattle.std.specs.Prelude.{◌≡◌, ◌≢◌, ◌+◌, ◌<◌, ◌^◌, [], IfOk, MatchResult, OnOk, length};
 ghost use Rattle.std.specs.List.{AllZip};
-ghost use Rattle.handler_trees.specs.declared.file.TableDecl.{TableDecl};
 ghost use Rattle.handler_check.specs.Resolved as spec;
-ghost use Rattle.handler_dialogue.specs.Code.{Code, Ask, block_code, cond_test, expr_term, stmt_code};
+ghost use Rattle.handler_dialogue.specs.Code.{Code, Ask, block_code, stmt_code};
 ghost use Rattle.handler_rules.specs.declared.refusal.CheckRefusal.TheVariants as refusal;
 ghost use Rattle.handler_rules.specs.FirstFault.{IsFirstFault, KeepsRules, PlacesRise};
+ghost use Rattle.handler_rules.specs.Marks.{handler_marks};
+ghost use Rattle.handler_rules.specs.Scan.{Found, file_fault, of_variables, scan, scan_handlers};
 ghost use Rattle.handler_rules.specs.Source.{Source, block_source, stmt_source};
 
-use crate::faults::{find_fault, find_in_handler};
-use handler_dialogue::{
-    CheckedAtom, CheckedBlock, CheckedCall, CheckedCond, CheckedExpr, CheckedExprs, CheckedHandler,
-    CheckedStmt,
-};
+pub(crate) use self::expr::listed;
+use self::expr::{number_in, resolve_call, resolve_cond, resolve_expr, resolve_values};
+use crate::faults::{declare, find_in_handler, find_in_tables};
+use handler_dialogue::{CheckedBlock, CheckedHandler, CheckedStmt};
 use handler_rules::CheckRefusal;
-use handler_trees::{Atom, Call, Cond, Expr, File, Handler, Right, Stmt, TableDecl};
-use session_values::{Boxed, Listed, NoMemory, Value};
+use handler_rules::laws::walk_finds_first;
+use handler_trees::{Call, File, Handler, Right, Stmt, TableDecl};
+use session_values::{Listed, NoMemory};
 use std::alloc::Global;
-
-/// What stands in the place of an argument that an operation doesn't have.
-const NIL: CheckedAtom = CheckedAtom::Lit(Value::Nil);
-
-/// The number of a name's first declaration, or how many there are where it is none of them.
-fn number_in(names: &[u32], name: u32) -> u32
-    requires { length names.now < 2 ^ 32 }
-    ensures { result ≡ spec.number_in names.now name }
-{
-    let mut number: u32 = 0;
-    for n in names {
-        if *n == name {
-            return number;
-        }
-        number += 1;
-    }
-    number
-}
-
-fn resolve_atom(variables: &[u32], atom: Atom) -> CheckedAtom
-    requires { length variables.now < 2 ^ 32 }
-    ensures { result ≡ spec.atom_of variables.now atom }
-{
-    match atom {
-        Atom::Lit(value) => CheckedAtom::Lit(value),
-        Atom::Name { name, .. } => CheckedAtom::Var(number_in(variables, name)),
-    }
-}
-
-fn resolve_expr(alloc: Global, variables: &[u32], e: &Expr) -> Result<CheckedExpr, NoMemory>
-    requires { length variables.now < 2 ^ 32 }
-    ensures { IfOk result (λ found. expr_term found ≡ spec.term_of variables.now e.now) }
-{
-    match e {
-        Expr::Leaf(atom) => Ok(CheckedExpr::Leaf(resolve_atom(variables, *atom))),
-        Expr::Binary { calc, left, right } => {
-            let left = resolve_expr(alloc, variables, left.get())?;
-            let right = resolve_expr(alloc, variables, right.get())?;
-            let left = Boxed::new(alloc, left)?;
-            let right = Boxed::new(alloc, right)?;
-            Ok(CheckedExpr::Binary {
-                calc: *calc,
-                left,
-                right,
-            })
-        }
-    }
-}
-
-fn resolve_values(
-    alloc: Global,
-    variables: &[u32],
-    values: &[Expr],
-) -> Result<CheckedExprs, NoMemory>
-    requires { length variables.now < 2 ^ 32 }
-    ensures { IfOk result (λ found. map expr_term found
-        ≡ map (spec.term_of variables.now) values.now) }
-{
-    let mut found = Vec::with_capacity(alloc, values.len())?;
-    for value in values {
-        let one = resolve_expr(alloc, variables, value)?;
-        found.push(one)?;
-    }
-    listed(found)
-}
-
-/// The list, if it is short enough for one: else memory is wanting.
-fn listed<T: Drop>(items: Vec<T>) -> Result<Listed<T>, NoMemory>
-    ensures { IfOk result (λ found. found ≡ items.items) }
-{
-    if items.len() <= u32::MAX as usize {
-        Ok(Listed::from_vec(items))
-    } else {
-        Err(NoMemory)
-    }
-}
-
-fn resolve_cond(alloc: Global, variables: &[u32], cond: &Cond) -> Result<CheckedCond, NoMemory>
-    requires { length variables.now < 2 ^ 32 }
-    ensures { IfOk result (λ found. cond_test found ≡ spec.test_of variables.now cond.now) }
-{
-    let left = resolve_expr(alloc, variables, &cond.left)?;
-    let right = resolve_expr(alloc, variables, &cond.right)?;
-    Ok(CheckedCond {
-        compare: cond.compare,
-        left,
-        right,
-    })
-}
-
-fn resolve_key(variables: &[u32], args: &[Atom]) -> CheckedAtom
-    requires { length variables.now < 2 ^ 32 }
-    ensures { result ≡ spec.key_of variables.now args.now }
-{
-    if args.len() < 1 {
-        NIL
-    } else {
-        resolve_atom(variables, args[0])
-    }
-}
-
-fn resolve_value(variables: &[u32], args: &[Atom]) -> CheckedAtom
-    requires { length variables.now < 2 ^ 32 }
-    ensures { result ≡ spec.value_of variables.now args.now }
-{
-    if args.len() < 2 {
-        NIL
-    } else {
-        resolve_atom(variables, args[1])
-    }
-}
-
-fn resolve_call(tables: &[u32], variables: &[u32], call: &Call) -> CheckedCall
-    requires tables { length tables.now < 2 ^ 32 }
-    requires variables { length variables.now < 2 ^ 32 }
-    ensures { result ≡ spec.call_of tables.now variables.now call.now }
-{
-    CheckedCall {
-        kind: call.kind,
-        table: number_in(tables, call.table),
-        key: resolve_key(variables, call.args.as_slice()),
-        value: resolve_value(variables, call.args.as_slice()),
-    }
-}
 
 /// Takes the number of the next point.
 fn next_point(points: &mut u32) -> Result<u32, NoMemory>
@@ -205,6 +84,17 @@ fn resolve_store(
     }
 }
 
+/// A number of turns that a rule allows.
+fn counted(turns: u64) -> Result<u32, NoMemory>
+    ensures { IfOk result (λ count. count ≡ turns) }
+{
+    // Where it is larger the file has been refused.
+    if turns > u32::MAX as u64 {
+        return Err(NoMemory);
+    }
+    Ok(turns as u32)
+}
+
 #[cycle(resolution)]
 fn resolve_stmt(
     alloc: Global,
@@ -251,11 +141,7 @@ fn resolve_stmt(
             body,
             ..
         } => {
-            // More turns than a rule allows aren't counted here.
-            if *turns > u32::MAX as u64 {
-                return Err(NoMemory);
-            }
-            let turns = *turns as u32;
+            let turns = counted(*turns)?;
             let var = number_in(variables, *name);
             let body = resolve_block(alloc, tables, variables, body.as_slice(), points)?;
             let point = next_point(points)?;
@@ -297,20 +183,18 @@ fn resolve_block(
     listed(found)
 }
 
-/// A handler that breaks no rule on names, arguments or numbers. (One that does has no resolved
-/// form; it is refused before.)
+/// A handler, or its first fault.
 fn resolve_handler(
     alloc: Global,
     declared: &[TableDecl],
     tables: &[u32],
     handler: &Handler,
-) -> Result<CheckedHandler, NoMemory>
+) -> Result<CheckedHandler, CheckRefusal>
     requires { length tables.now < 2 ^ 32 }
-    ensures { IfOk result (spec.IsResolved tables.now handler.now) }
+    ensures found { Found (scan of_variables declared.now [] [] (handler_marks handler.now)) result }
+    ensures handler { IfOk result (spec.IsResolved tables.now handler.now) }
 {
-    let Ok(names) = find_in_handler(alloc, declared, handler) else {
-        return Err(NoMemory);
-    };
+    let names = find_in_handler(alloc, declared, handler)?;
     let variables = listed(names)?;
     let mut points: u32 = 1;
     let source = handler.body.as_slice();
@@ -325,27 +209,37 @@ fn resolve_handler(
     })
 }
 
-fn table_names(alloc: Global, tables: &[TableDecl]) -> Result<Vec<u32>, NoMemory>
-    ensures { IfOk result (λ found. found.items ≡ map (λ (t : TableDecl). t.name) tables.now) }
+/// All handlers, or the first fault among them.
+fn resolve_handlers(
+    alloc: Global,
+    declared: &[TableDecl],
+    tables: &[u32],
+    handlers: &[Handler],
+) -> Result<Listed<CheckedHandler>, CheckRefusal>
+    requires { length tables.now < 2 ^ 32 }
+    ensures found { Found (scan_handlers declared.now [] handlers.now) result }
+    ensures handlers { IfOk result (AllZip (spec.IsResolved tables.now) handlers.now) }
 {
-    Ok(tables.iter().map(|t| t.name).collect(alloc)?)
-}
-
-/// The handlers of a file that breaks no rule on names, arguments or numbers.
-fn resolve_handlers(alloc: Global, file: &File) -> Result<Listed<CheckedHandler>, NoMemory>
-    ensures { IfOk result (AllZip (spec.IsResolved (spec.table_names file.now)) file.now.handlers) }
-{
-    let declared = file.tables.as_slice();
-    let listed_names = table_names(alloc, declared)?;
-    let tables = listed(listed_names)?;
-    let names = tables.as_slice();
-    let handlers = file.handlers.as_slice();
-    let mut found = Vec::with_capacity(alloc, handlers.len())?;
+    let mut earlier = Vec::new(alloc);
+    let mut found = Vec::new(alloc);
     for handler in handlers {
-        let one = resolve_handler(alloc, declared, names, handler)?;
+        let past = CheckRefusal::TooManyHandlers { at: handler.at };
+        declare(&mut earlier, 64, past, handler.name, handler.at)?;
+        let one = resolve_handler(alloc, declared, tables, handler)?;
         found.push(one)?;
     }
-    listed(found)
+    Ok(listed(found)?)
+}
+
+fn resolve_file(alloc: Global, file: &File) -> Result<Listed<CheckedHandler>, CheckRefusal>
+    ensures found { Found (file_fault file.now) result }
+    ensures handlers { IfOk result (AllZip (spec.IsResolved
+        (spec.table_names file.now)) file.now.handlers) }
+{
+    let declared = file.tables.as_slice();
+    let names = find_in_tables(alloc, declared)?;
+    let tables = listed(names)?;
+    resolve_handlers(alloc, declared, tables.as_slice(), file.handlers.as_slice())
 }
 
 /// The resolved handlers of a file, in its order, or the first place where it breaks a rule on
@@ -357,6 +251,6 @@ pub fn resolve(alloc: Global, file: &File) -> Result<Listed<CheckedHandler>, Che
     ensures handlers { IfOk result (AllZip (spec.IsResolved
         (spec.table_names file.now)) file.now.handlers) }
 {
-    find_fault(alloc, file)?;
-    Ok(resolve_handlers(alloc, file)?)
+    walk_finds_first();
+    resolve_file(alloc, file)
 }

@@ -1,6 +1,6 @@
 -- What a reader of a file's tree may rely on: how many arguments operations have and how many values replies, how deep
--- blocks nest, and how large numbers are.
-use Rattle.std.specs.Prelude.{ℕ, ◌+◌, ◌<◌, ◌≤◌, List, [], ◌∷◌, ◌++◌, length, map}
+-- blocks nest, and how large numbers and places of names are.
+use Rattle.std.specs.Prelude.{ℕ, ◌+◌, ◌<◌, ◌≤◌, ◌^◌, List, [], ◌∷◌, ◌++◌, length, map}
 use Rattle.std.specs.List.{AllByRecursion, flat_map}
 use Rattle.session_values.specs.declared.value.Value.TheVariants.{Num}
 use Rattle.session_values.specs.Values.{IsValue}
@@ -10,7 +10,7 @@ use Rattle.handler_trees.specs.declared.stmt.Stmt.{Stmt, fold-Stmt}
 use Rattle.handler_trees.specs.declared.stmt.Stmt.TheOpen.{Stmt-F}
 use Rattle.handler_trees.specs.declared.file.Handler.{Handler}
 use Rattle.handler_trees.specs.declared.file.File.{File}
-use Rattle.handler_trees.specs.Mentions.{Mention, a_name, a_symbol, a_number, file_mentions}
+use Rattle.handler_trees.specs.Mentions.{Mention, a_name, a_symbol, a_number, AreBelow, file_mentions}
 
 -- an operation with so many arguments behind its table; a reply with so many values; a statement with blocks of its own inside so many blocks
 pub data Form : Type 0 where
@@ -64,3 +64,5 @@ IsBoundedNumber (a_number z) = IsValue (Num z)
 pub record KeepsBounds (f : File) : Type 0 where
   pub forms : AllByRecursion IsBoundedForm (file_forms f)
   pub numbers : AllByRecursion IsBoundedNumber (file_mentions f)
+  -- the place of each name and each symbol is a number of 32 bits
+  pub places : AreBelow (2 ^ 32) (file_mentions f)

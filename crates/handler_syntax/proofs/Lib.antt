@@ -8,6 +8,7 @@ pub mod Files
 pub mod Longer
 pub mod Parentheses
 pub mod ReadAgain
+pub mod Rising
 pub mod SameText
 pub mod Sources
 pub mod Stmts

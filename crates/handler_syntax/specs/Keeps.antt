@@ -7,12 +7,19 @@ use Rattle.handler_trees.specs.declared.file.File.{File}
 use Rattle.handler_grammar.specs.Limits.{IsFileWithin}
 use Rattle.handler_grammar.specs.Parsed.{IsSourceOf}
 use Rattle.handler_printing.specs.Canonical.{canonical_text}
+use Rattle.handler_rules.specs.FirstFault.{PlacesRise}
 use Rattle.handler_syntax.specs.SameTree.{SameTree}
 
 -- Some words within the limits have this tree. So its canonical text is within the limits too: operations have at most
 -- two arguments, replies 1 to 4 values, and numbers, blocks, parentheses and operator signs are within theirs.
 abbrev pub KeepsLimits : File → Type 0
 KeepsLimits tree = (ws : List Word) × IsFileWithin ws tree
+
+-- what a file of handlers keeps
+pub record IsKept (tree : File) : Type 0 where
+  pub limits : KeepsLimits tree
+  -- The places of its parts rise in the order of its text.
+  pub rise : PlacesRise tree
 
 -- the text is read as the same tree, places aside, and brings no new name
 abbrev pub IsReadAs : List (List ℕ) → File → List ℕ → Type 0

@@ -24,6 +24,7 @@ pub use Rattle.handler_grammar.specs.Parsed.{Parsed, IsSourceOf, HasFault}
 pub use Rattle.handler_grammar.specs.declared.refusal.SyntaxRefusal.{SyntaxRefusal}
 pub use Rattle.handler_grammar.specs.declared.refusal.SyntaxRefusal.TheVariants as syntax_refusal
 pub use Rattle.handler_printing.specs.Canonical.{canonical_text}
-pub use Rattle.handler_syntax.specs.Keeps.{KeepsLimits, IsReadAs, Printed}
+pub use Rattle.handler_syntax.specs.Keeps.{KeepsLimits, IsKept, IsReadAs, Printed}
 pub use Rattle.handler_syntax.specs.SameTree.{SameTree}
 pub use Rattle.handler_rules.specs.Bounds.{Form, a_call, a_reply, a_nest, file_forms, IsBoundedForm, IsBoundedNumber, KeepsBounds}
+pub use Rattle.handler_rules.specs.FirstFault.{PlacesRise}

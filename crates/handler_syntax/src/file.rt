@@ -2,6 +2,7 @@
 
 ghost use Rattle.std.specs.Prelude.{◌≡◌};
 ghost use Rattle.handler_rules.specs.Bounds.{KeepsBounds};
+ghost use Rattle.handler_rules.specs.FirstFault.{PlacesRise};
 
 use handler_trees::File as Tree;
 use std::marker::Model;
@@ -17,7 +18,7 @@ impl Model for File {
     ghost use Rattle.std.specs.Coded.{codes};
     ghost use Rattle.handler_trees.specs.contracts.stmt.Stmt as stmt;
     ghost use Rattle.handler_trees.specs.declared.file.File.{File as Tree};
-    ghost use Rattle.handler_syntax.specs.Keeps.{KeepsLimits};
+    ghost use Rattle.handler_syntax.specs.Keeps.{IsKept};
 
     ghost Value = { Tree };
 
@@ -25,7 +26,7 @@ impl Model for File {
 
     ghost view = { λ f. f.tree };
 
-    ghost invariant = { λ f. KeepsLimits f.tree };
+    ghost invariant = { λ f. IsKept f.tree };
 }
 
 impl File {
@@ -33,12 +34,16 @@ impl File {
     pub fn tree(&self) -> &Tree
         ensures tree { result.now ≡ self.now }
         ensures bounds { KeepsBounds self.now }
+        ensures rise { PlacesRise self.now }
     {
         &self.tree
     }
 
+    /// The same, where the file is given up.
     pub fn into_tree(self) -> Tree
-        ensures { result ≡ self }
+        ensures tree { result ≡ self }
+        ensures bounds { KeepsBounds result }
+        ensures rise { PlacesRise result }
     {
         let File { tree } = self;
         tree

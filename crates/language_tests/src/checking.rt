@@ -1,6 +1,6 @@
 // The first place where a file breaks a rule of the checker.
 
-use handler_check::{Counted, count_calls, count_work, find_fault, resolve};
+use handler_check::{Counted, count_calls, count_work, resolve};
 use handler_syntax::parse;
 use session_values::Names;
 use std::alloc::Global;
@@ -13,8 +13,8 @@ fn refusal(alloc: Global, source: &str) -> Result<String, Fail> {
     }
     let mut names = Names::new(alloc)?;
     match parse(alloc, source, &mut names) {
-        Ok(file) => match find_fault(alloc, file.tree()) {
-            Ok(()) => Ok(String::new(alloc)),
+        Ok(file) => match resolve(alloc, file.tree()) {
+            Ok(_) => Ok(String::new(alloc)),
             Err(e) => Ok(format!(in alloc; "{e:?}")?),
         },
         Err(e) => Ok(format!(in alloc; "{e:?}")?),

@@ -11,7 +11,7 @@ use handler_trees::TableDecl;
 use session_values::{Kind, TableKind};
 
 /// Declares a name behind the earlier ones, unless it is one of them, or there are too many.
-pub(super) fn declare(
+pub(crate) fn declare(
     earlier: &mut Vec<u32>,
     limit: usize,
     past: CheckRefusal,

@@ -1,6 +1,6 @@
 use Rattle.std.proofs.Common.{◌≡◌, sym, ◌∙◌, ap, subst, string_bytes}
 use Rattle.handler_printing.specs.Canonical.{canonical_text}
-use Rattle.handler_syntax.specs.Keeps.{KeepsLimits, IsReadAs}
+use Rattle.handler_syntax.specs.Keeps.{IsKept, IsReadAs}
 use Rattle.handler_syntax.proofs.Files.{text_again}
 use Rattle.handler_syntax.proofs.printing.print.Goals as goal
 
@@ -8,7 +8,8 @@ pub returns-in-Ok : goal.returns-in-Ok
 returns-in-Ok c =
     let names = c.args.names.now in
     let file = c.args.file.now in
-    let within : KeepsLimits file = subst KeepsLimits c.file.view_is c.file.invariant in
+    let kept : IsKept file = subst IsKept c.file.view_is c.file.invariant in
+    let within = kept.limits in
     let text : string_bytes c.in-Ok.text ≡ canonical_text names file = c.in-Ok.ensures.text ∙ ap (canonical_text names) c.file.view_is in
     record {
       text = text;

@@ -1,11 +1,15 @@
-use Rattle.std.proofs.Common.{◌∙◌, List, ap, min}
+use Rattle.std.proofs.Common.{◌≡◌, ◌∙◌, List, min, ap}
 use Rattle.handler_dialogue.specs.declared.tree.CheckedStmt.{CheckedStmt}
 use Rattle.handler_dialogue.specs.Bounds.{bound, adding}
-use Rattle.handler_dialogue.specs.Code.{block_code}
+use Rattle.handler_dialogue.specs.Code.{Code, block_code}
+use Rattle.handler_check.specs.Resolved.{code_at}
 use Rattle.handler_check.proofs.Within.{adds_exact}
 use Rattle.handler_check.proofs.checked.Checked.adds_bound.Goals as goal
 
 pub returns : goal.returns
-returns c = λ source is.
-    adds_exact c.args.self.now c.args.h c.args.table source c.handler-handler.result.now _ c.handler-handler.ensures.accepted is (c.handler-handler.ensures.resolved source is)
-    (c.count_calls.ensures ∙ ap (λ (x : List CheckedStmt). min (bound (adding c.args.table) (block_code x)) 4294967295) c.as_slice.ensures)
+returns c =
+    let known = c.handler-handler.ensures in
+    let code : Code = code_at c.args.self.now c.args.h in
+    let is : block_code c.as_slice.result.now ≡ code = ap (λ (x : List CheckedStmt). block_code x) c.as_slice.ensures ∙ known.body in
+    let exact = adds_exact c.args.table code c.count_calls.result known.within.calls (c.count_calls.ensures ∙ ap (λ (x : Code). min (bound (adding c.args.table) x) 4294967295) is) in
+    record { bound = exact.0; few = exact.1 }

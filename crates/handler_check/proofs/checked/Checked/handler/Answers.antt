@@ -1,7 +1,11 @@
-use Rattle.std.proofs.Common.{◌≡◌, length, ap, arith}
+use Rattle.std.proofs.Common.{◌≡◌, length, slice_get, Some, ap, subst, arith}
 use Rattle.handler_trees.specs.declared.file.File.{File}
+use Rattle.handler_trees.specs.declared.file.Handler.{Handler}
+use Rattle.handler_rules.specs.Bounds.{KeepsBounds}
+use Rattle.handler_check.specs.Checking.{IsAccepted}
 use Rattle.handler_check.specs.Resolved.{IsResolved, table_names}
-use Rattle.handler_check.proofs.Resolving.{resolved_at, zip_length}
+use Rattle.handler_check.proofs.Codes.{all_within}
+use Rattle.handler_check.proofs.Resolving.{IsHandlerAt, handler_at, zip_get, zip_length}
 use Rattle.handler_check.proofs.checked.Checked.handler.Goals as goal
 
 pub get-requires : goal.get-requires
@@ -12,8 +16,16 @@ get-requires c =
     let long : length f.handlers ≡ length (c.args.self.now).handlers = ap (λ (x : File). length x.handlers) view in
     omega arith
 
-pub returns-clause-resolved : goal.returns-clause-resolved
-returns-clause-resolved c = λ source is.
+pub returns : goal.returns
+returns c =
     let f = c.self.inside.file in
     let view : f ≡ c.args.self.now = c.self.view_is in
-    resolved_at f c.args.self.now c.self.inside.handlers c.args.h source c.get.result.now view c.self.invariant.resolved is c.get.ensures
+    let at = subst (λ (x : File). IsHandlerAt x c.args.h c.get.result.now) view (handler_at f c.self.inside.handlers c.args.h c.get.result.now c.self.invariant.resolved c.get.ensures) in
+    record {
+      resolved = λ source is. subst (λ (x : File). (source : Handler) → slice_get x.handlers c.args.h ≡ Some source → IsResolved (table_names x) source c.get.result.now) view
+          (λ source is. zip_get (IsResolved (table_names f)) f.handlers c.self.inside.handlers c.args.h source c.get.result.now c.self.invariant.resolved is c.get.ensures) source is;
+      body = at.body;
+      points = at.points;
+      params = at.params;
+      within = all_within c.args.self.now (subst IsAccepted view c.self.invariant.accepted) (subst KeepsBounds view c.self.invariant.bounded) c.args.h;
+    }

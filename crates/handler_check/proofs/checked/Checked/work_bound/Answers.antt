@@ -1,11 +1,29 @@
-use Rattle.std.proofs.Common.{◌∙◌, List, ap, min}
-use Rattle.handler_dialogue.specs.declared.tree.CheckedStmt.{CheckedStmt}
+use Rattle.std.proofs.Common.{◌≡◌, ◌∙◌, length, ap, subst, arith}
+use Rattle.handler_trees.specs.declared.file.File.{File}
 use Rattle.handler_dialogue.specs.Bounds.{work_bound}
-use Rattle.handler_dialogue.specs.Code.{block_code}
-use Rattle.handler_check.proofs.Within.{work_exact}
+use Rattle.handler_rules.specs.Bounds.{KeepsBounds}
+use Rattle.handler_check.specs.Checked.{AreBoundsOf}
+use Rattle.handler_check.specs.Checking.{IsAccepted}
+use Rattle.handler_check.specs.Resolved.{IsResolved, code_at, table_names}
+use Rattle.handler_check.proofs.Codes.{all_within}
+use Rattle.handler_check.proofs.Resolving.{bounds_at, zip_length}
 use Rattle.handler_check.proofs.checked.Checked.work_bound.Goals as goal
 
+pub get-requires : goal.get-requires
+get-requires c =
+    let f = c.self.inside.file in
+    let first = zip_length (IsResolved (table_names f)) f.handlers c.self.inside.handlers c.self.invariant.resolved in
+    let second = zip_length AreBoundsOf c.self.inside.handlers c.self.inside.bounds c.self.invariant.counted in
+    let view : f ≡ c.args.self.now = c.self.view_is in
+    let long : length f.handlers ≡ length (c.args.self.now).handlers = ap (λ (x : File). length x.handlers) view in
+    omega arith
+
 pub returns : goal.returns
-returns c = λ source is.
-    work_exact c.args.self.now c.args.h source c.handler-handler.result.now _ c.handler-handler.ensures.accepted is (c.handler-handler.ensures.resolved source is)
-    (c.count_work.ensures ∙ ap (λ (x : List CheckedStmt). min (work_bound (block_code x)) 4294967295) c.as_slice.ensures)
+returns c =
+    let f = c.self.inside.file in
+    let view : f ≡ c.args.self.now = c.self.view_is in
+    let at = bounds_at f c.self.inside.handlers c.self.inside.bounds c.args.h c.get.result.now c.self.invariant.resolved c.self.invariant.counted c.get.ensures in
+    let is : (c.get.result.now).work ≡ work_bound (code_at c.args.self.now c.args.h) = at.1 ∙ ap (λ (x : File). work_bound (code_at x c.args.h)) view in
+    let held = all_within c.args.self.now (subst IsAccepted view c.self.invariant.accepted) (subst KeepsBounds view c.self.invariant.bounded) c.args.h in
+    let few = held.work in
+    record { bound = is; few = omega (arith, is, few) }

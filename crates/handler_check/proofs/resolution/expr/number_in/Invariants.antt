@@ -1,6 +1,6 @@
 use Rattle.std.proofs.Common.{◌≡◌, ◌+◌, drop}
 use Rattle.handler_check.specs.Resolved.{number_in}
-use Rattle.handler_check.proofs.resolution.number_in.Given as goal
+use Rattle.handler_check.proofs.resolution.expr.number_in.Given as goal
 
 abbrev pub invariant-loop-n : goal.invariant-loop-n
 invariant-loop-n l = record {

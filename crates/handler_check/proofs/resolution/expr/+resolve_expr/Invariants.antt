@@ -1,5 +1,5 @@
 use Rattle.handler_check.proofs.Sizes.{expr_size}
-use Rattle.handler_check.proofs.resolution.+resolve_expr.Given as goal
+use Rattle.handler_check.proofs.resolution.expr.+resolve_expr.Given as goal
 
 abbrev pub decreases-resolve_expr : goal.decreases-resolve_expr
 decreases-resolve_expr l = expr_size l.e.now
