@@ -51,17 +51,25 @@ pub record IsChecked (input text : List ℕ) : Type 0 where
   pub program : IsProgram input file
   pub text_is : text ≡ canonical_text (names_of [] input) file
 
+-- the replies of the serial run, as text
+abbrev pub served_text : List ℕ → File → List ℕ
+served_text input file = replies_text (parts_of input) file
+
 -- the text of the replies
 pub record IsServed (input text : List ℕ) : Type 0 where
   pub file : File
   pub is_session : IsSession (parts_of input) file
-  pub text_is : text ≡ replies_text (parts_of input) file
+  pub text_is : text ≡ served_text input file
 
--- the summary of a session of so many requests
+-- the summary of a session of so many requests: how many operations the serial run makes, and how many bytes its replies take
+abbrev pub summary_of : ℕ → List ℕ → File → List ℕ
+summary_of requests input file =
+    summary requests (serial_calls (session_of_parts (parts_of input) file) (session_of_parts (parts_of input) file).requests) (length (replies_text (parts_of input) file))
+
 pub record IsSummary (requests : ℕ) (input text : List ℕ) : Type 0 where
   pub file : File
   pub is_session : IsSession (parts_of input) file
-  pub text_is : text ≡ summary requests (serial_calls (session_of_parts (parts_of input) file) (session_of_parts (parts_of input) file).requests) (length (replies_text (parts_of input) file))
+  pub text_is : text ≡ summary_of requests input file
 
 -- the text that a command writes
 abbrev pub IsTextOf : Command → List ℕ → List ℕ → Type 0

@@ -3,9 +3,11 @@
 #![tactic(auto)]
 
 mod certain;
+mod laws;
 mod message;
 mod status;
 
 pub use certain::{Certain, Refusal};
+pub use laws::{one_answer, replies_are_printable};
 pub use message::message_of;
 pub use status::{Fault, Status};
