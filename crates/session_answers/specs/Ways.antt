@@ -1,8 +1,9 @@
 -- What the parts of a run promise, of which the whole run's promises are made.
-use Rattle.std.specs.Prelude.{◌≡◌, ◌≢◌, ℕ, ◌+◌, ◌<◌, ◌≤◌, is_some, List, length, Option, Some, IfSome}
+use Rattle.std.specs.Prelude.{◌≡◌, ◌≢◌, ℕ, ◌+◌, ◌<◌, ◌≤◌, Bool, if◌then◌else◌, is_some, List, length, Option, Some, IfSome}
 use Rattle.byte_ends.specs.Ends.{IsAtEnd, LostFirst, LostAtMost}
 use Rattle.session_hall.specs.Closings.{ClosedView}
 use Rattle.command_words.specs.declared.command.Command.{Command}
+use Rattle.command_words.specs.declared.command.Command.TheVariants.{Check, Show}
 use Rattle.session_answers.specs.declared.status.Fault.TheVariants.{TooLarge}
 use Rattle.session_answers.specs.declared.status.Status.{Status}
 use Rattle.session_answers.specs.declared.status.Status.TheVariants as status
@@ -38,3 +39,7 @@ pub record AnswersTo {O : Type 0} (command : Command) (bytes : List ℕ) (out : 
   pub written : Written out s
   pub served : is_some closed ≡ has_served (Some command) s
   pub hall : Holds (Some command) bytes closed
+
+-- the command that writes a file of handlers again, with its declarations or without
+abbrev pub describing : Bool → Command
+describing shown = if shown then Show else Check
