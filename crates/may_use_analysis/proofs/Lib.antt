@@ -1,0 +1,14 @@
+pub mod FlowLemmas
+pub mod KeptLemmas
+pub mod Literal
+pub mod LoopLemmas
+pub mod Members
+pub mod Numbers
+pub mod PlaceLemmas
+pub mod PointLemmas
+pub mod Records
+pub mod Sets
+pub mod Sorting
+pub mod TopLemmas
+pub mod Unique
+pub mod WalkSteps

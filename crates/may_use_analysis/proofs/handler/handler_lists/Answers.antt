@@ -1,0 +1,25 @@
+use Rattle.std.proofs.Common.{[], List, Contains, subst}
+use Rattle.symbolic_ops.specs.declared.symbol.Symbol.{Symbol}
+use Rattle.handler_dialogue.specs.declared.tree.CheckedStmt.{CheckedStmt}
+use Rattle.handler_dialogue.specs.Code.{block_code}
+use Rattle.may_use_analysis.specs.Flow.{Flow}
+use Rattle.may_use_analysis.specs.Ordered.{Are}
+use Rattle.may_use_analysis.specs.Recorded.{Recorded}
+use Rattle.may_use_analysis.specs.Stored.{Stored}
+use Rattle.may_use_analysis.proofs.Sets.{stored_lent}
+use Rattle.may_use_analysis.proofs.TopLemmas.{handler_stored}
+use Rattle.may_use_analysis.proofs.handler.handler_lists.Goals as goal
+
+pub returns : goal.returns
+returns c =
+    let body = block_code c.args.handler.now.body in
+    let entry = c.in_ok-entry.entry in
+    let nothing = c.new-nothing.result in
+    let out = c.before_block.new.out in
+    let k = c.in_ok-keep.ensures in
+    let set' = subst (λ (z : List CheckedStmt). Are entry (Flow (block_code z) (Contains nothing))) c.as_slice.ensures c.in_ok-entry.ensures.set in
+    let set = subst (λ (z : List Symbol). Are entry (Flow body (Contains z))) c.new-nothing.ensures set' in
+    let lists' = subst (λ (z : List CheckedStmt). Recorded (block_code z) (Contains nothing) c.new-lists.result out) c.as_slice.ensures c.in_ok-entry.ensures.lists in
+    let lists'' = subst (λ (z : List Symbol). Recorded body (Contains z) c.new-lists.result out) c.new-nothing.ensures lists' in
+    let lists = subst (λ (z : List Stored). Recorded body (Contains []) z out) c.new-lists.ensures lists'' in
+    handler_stored body c.requires k.0 out c.keep.new.self (stored_lent c.as_slice-2.result.now entry k.0 (Flow body (Contains [])) c.as_slice-2.ensures.symbols k.1 c.as_slice-2.ensures.order set) lists k.2

@@ -1,0 +1,6 @@
+use Rattle.symbolic_ops.specs.Order.{symbol_cmp}
+use Rattle.may_use_analysis.proofs.Sorting.{sorted_nil}
+use Rattle.may_use_analysis.proofs.ordered.Ordered.new.Goals as goal
+
+pub invariant_of-result : goal.invariant_of-result
+invariant_of-result c = sorted_nil symbol_cmp _ c.new.ensures.items

@@ -1,0 +1,10 @@
+pub mod Flow
+pub mod Later
+pub mod Numbered
+pub mod Ordered
+pub mod Places
+pub mod Recorded
+pub mod Steps
+pub mod Stored
+pub mod Stores
+pub mod Trails

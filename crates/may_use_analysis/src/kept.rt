@@ -1,0 +1,163 @@
+// What is kept of the lists of points.
+
+ghost use Rattle.std.specs.Prelude.{◌≡◌, ◌<◌, ◌++◌, ◌∷◌, [], length, slice_get, slice_index_or, take, IfOk, IfSome, OnOk, Some};
+ghost use Rattle.std.specs.Bool.{OnTrue};
+ghost use Rattle.may_use_analysis.specs.Stored.{AllReferBack, Counted, IsStoredOf, RefersBack, Stored, count_in, list_in, own_list, stored_by};
+
+use crate::ordered::is_same;
+use session_values::{Listed, NoMemory};
+use std::alloc::Global;
+use std::marker::Model;
+use symbolic_ops::Symbol;
+
+/// How many symbols a declaration may have.
+const LIMIT: usize = 256;
+
+/// What is kept of a list: it, where its point is the first one with it; the place of that point's
+/// entry; or its length, where it is too long.
+#[derive(Drop)]
+pub(crate) enum Kept {
+    Own(Listed<Symbol>),
+    Same(usize),
+    Count(u64),
+}
+
+fn are_same(a: &[Symbol], b: &[Symbol]) -> bool
+    ensures { OnTrue result (a.now ≡ b.now) }
+{
+    if a.len() != b.len() {
+        return false;
+    }
+    for i in 0..a.len() {
+        if !is_same(&a[i], &b[i]) {
+            return false;
+        }
+    }
+    true
+}
+
+/// The list that the entry at a place holds itself.
+fn own_list(entries: &[Kept], k: usize) -> &[Symbol]
+    requires { k < length entries.now }
+    ensures { (e : Kept) → slice_get entries.now k ≡ Some e → result.now ≡ own_list e }
+{
+    match &entries[k] {
+        Kept::Own(list) => list.as_slice(),
+        Kept::Same(_) => &[],
+        Kept::Count(_) => &[],
+    }
+}
+
+/// The list of the entry at a place.
+fn kept_list(entries: &[Kept], i: usize) -> &[Symbol]
+    requires at { i < length entries.now }
+    requires back { AllReferBack entries.now }
+    ensures { (e : Kept) → slice_get entries.now i ≡ Some e
+        → result.now ≡ list_in (stored_by entries.now e) }
+{
+    match &entries[i] {
+        Kept::Own(list) => list.as_slice(),
+        Kept::Same(k) => own_list(entries, *k),
+        Kept::Count(_) => &[],
+    }
+}
+
+/// The place of the entry that holds the list of the last one.
+fn last_owner(entries: &[Kept]) -> Option<usize>
+    requires { AllReferBack entries.now }
+    ensures { IfSome result (λ k. k < length entries.now) }
+{
+    let last = entries.len().checked_sub(1)?;
+    match &entries[last] {
+        Kept::Own(_) => Some(last),
+        Kept::Same(k) => Some(*k),
+        Kept::Count(_) => None,
+    }
+}
+
+/// The entry of a list that comes behind these.
+fn entry_of(alloc: Global, entries: &[Kept], list: &[Symbol]) -> Result<Kept, NoMemory>
+    requires { AllReferBack entries.now }
+    ensures back { IfOk result (RefersBack (length entries.now)) }
+    ensures stored { IfOk result (λ e. IsStoredOf list.now (stored_by entries.now e)) }
+{
+    if list.len() > LIMIT {
+        return Ok(Kept::Count(list.len() as u64));
+    }
+    if let Some(k) = last_owner(entries) {
+        if are_same(own_list(entries, k), list) {
+            return Ok(Kept::Same(k));
+        }
+    }
+    let copy = Vec::from_slice(alloc, list)?;
+    Ok(Kept::Own(Listed::from_vec(copy)))
+}
+
+/// The lists of points, one after another.
+#[derive(Drop)]
+pub(crate) struct PointLists {
+    entries: Vec<Kept>,
+}
+
+impl Model for PointLists {
+    ghost use Rattle.std.specs.Prelude.{List};
+    ghost use Rattle.may_use_analysis.specs.Stored.{AllReferBack, Stored, all_stored};
+
+    ghost Value = { List Stored };
+
+    ghost view = { λ l. all_stored l.entries.items };
+
+    ghost invariant = { λ l. AllReferBack l.entries.items };
+}
+
+impl PointLists {
+    pub(crate) fn new(alloc: Global) -> PointLists
+        ensures { result ≡ [] }
+    {
+        PointLists {
+            entries: Vec::new(alloc),
+        }
+    }
+
+    pub(crate) fn len(&self) -> usize
+        ensures { result ≡ length self.now }
+    {
+        self.entries.len()
+    }
+
+    pub(crate) fn truncate(&mut self, n: usize)
+        ensures { self.new ≡ take n self.old }
+    {
+        self.entries.truncate(n);
+    }
+
+    /// Keeps a list, or its length where it is too long, behind the others.
+    pub(crate) fn keep(&mut self, alloc: Global, list: &[Symbol]) -> Result<(), NoMemory>
+        ensures { OnOk result ((stored : Stored) × IsStoredOf list.now stored
+            × (self.new ≡ self.old ++ stored ∷ [])) }
+    {
+        let entry = entry_of(alloc, self.entries.as_slice(), list)?;
+        self.entries.push(entry)?;
+        Ok(())
+    }
+
+    /// The list at a place, from 0; an empty one where its length alone is kept.
+    pub(crate) fn list(&self, i: usize) -> &[Symbol]
+        requires { i < length self.now }
+        ensures { result.now ≡ list_in (slice_index_or self.now i (Counted 0)) }
+    {
+        kept_list(self.entries.as_slice(), i)
+    }
+
+    /// The length of the list at a place, where that alone is kept.
+    pub(crate) fn count(&self, i: usize) -> Option<u64>
+        requires { i < length self.now }
+        ensures { result ≡ count_in (slice_index_or self.now i (Counted 0)) }
+    {
+        match &self.entries[i] {
+            Kept::Own(_) => None,
+            Kept::Same(_) => None,
+            Kept::Count(n) => Some(*n),
+        }
+    }
+}

@@ -1,0 +1,15 @@
+//! The operations that may still come at each point of a handler.
+#![tactic(auto)]
+
+mod handler;
+mod kept;
+mod later;
+pub mod laws;
+mod ordered;
+mod places;
+mod refusal;
+mod stores;
+mod walk;
+
+pub use later::{Later, later_sets};
+pub use refusal::AnalysisRefusal;
