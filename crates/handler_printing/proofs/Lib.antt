@@ -2,7 +2,9 @@ pub mod Chunks
 pub mod Inductions
 pub mod Lexing
 pub mod Loops
+pub mod Own
 pub mod Parts
 pub mod ReadBack
 pub mod Sizes
 pub mod Tokens
+pub mod Written

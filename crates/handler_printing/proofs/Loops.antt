@@ -3,7 +3,7 @@ use Rattle.std.proofs.Common.{◌≡◌, ℕ, zero, suc, ◌+◌, ◌-◌, ◌<�
 use Rattle.std.proofs.lemmas.List.{drop_more, drop_all, take_all}
 use Rattle.std.specs.Prelude.{codes}
 use Rattle.std.specs.List.{flat_map}
-use Rattle.handler_printing.specs.Canonical.{each, further, listed, indent, lines_at}
+use Rattle.handler_printing.specs.Canonical.{each, further, listed, indent}
 use Rattle.handler_trees.specs.Mentions.{Mention, AreNamed}
 use Rattle.handler_trees.proofs.Mentions.{all_first}
 use Rattle.handler_printing.specs.Writing.{Text, Adds}
@@ -57,17 +57,6 @@ module _ {X : Type 0} (f : X → Text) where
   listed_turn {was} {now} {next} (y ∷ ys) x d h is a b =
       let more = subst (λ zs. Adds (further (map f zs)) now next) (behind_first (y ∷ ys)) b in
       adds_both (subst (λ z. Adds (f z) was now) is a) more
-
--- the lines of a block, at a depth
-lines_each : {X : Type 0} (f : X → ℕ → Text) (xs : List X) (depth : ℕ) (rest : List ℕ) → lines_at depth (map f xs) rest ≡ each (map (λ x. f x depth) xs) rest
-lines_each f [] depth rest = refl
-lines_each f (x ∷ xs) depth rest = ap (f x depth) (lines_each f xs depth rest)
-
-pub lines_end : {X : Type 0} (f : X → ℕ → Text) (xs : List X) (depth inner i : ℕ) {was now : List ℕ} → inner ≡ depth → length xs ≤ i
-    → Owes (each (map (λ x. f x inner) xs)) (each (map (λ x. f x inner) (drop i xs))) was now → Adds (lines_at depth (map f xs)) was now
-lines_end f xs depth inner i {was} {now} e h o =
-    let done = each_end (λ x. f x inner) xs i h o in
-    record { before = λ rest. done.before rest ∙ ap (λ r. was ++ r) (sym (lines_each f xs inner rest)) ∙ ap (λ n. was ++ lines_at n (map f xs) rest) e }
 
 -- ---- mentions
 

@@ -1,5 +1,5 @@
 -- Places of a tree that are below a count, part by part.
-use Rattle.std.proofs.Common.{◌≡◌, ℕ, ◌<◌, List, ◌∷◌, ◌++◌, length, refl, sym, ap, ◌∙◌, subst}
+use Rattle.std.proofs.Common.{◌≡◌, ℕ, ◌<◌, List, ◌++◌, length, refl, sym, ap, ◌∙◌, subst}
 use Rattle.std.specs.List.{flat_map}
 use Rattle.handler_trees.specs.declared.expr.Calc.{Calc}
 use Rattle.handler_trees.specs.declared.expr.Expr.{Expr}

@@ -1,5 +1,5 @@
 -- The canonical text reads as the canonical words.
-use Rattle.std.proofs.Common.{◌≡◌, ℕ, zero, suc, ◌+◌, pos, negsuc, List, [], ◌∷◌, ◌++◌, map, refl, sym, ap, ◌∙◌, subst, arith, append-nil}
+use Rattle.std.proofs.Common.{◌≡◌, ℕ, zero, suc, ◌+◌, pos, negsuc, List, [], ◌∷◌, ◌++◌, map, refl, sym, ap, ◌∙◌, subst, arith}
 use Rattle.std.specs.Prelude.{codes}
 use Rattle.std.specs.Fmt.{decimal}
 use Rattle.std.specs.List.{AllByRecursion, flat_map}
@@ -34,7 +34,7 @@ use Rattle.handler_printing.specs.CanonicalWords
 use Rattle.handler_trees.specs.Mentions.{Mention, value_mentions, atom_mentions, expr_mentions, call_mentions, right_mentions, cond_mentions, stmt_mentions, table_mentions, param_mentions, handler_mentions, file_mentions}
 use Rattle.handler_tokens.specs.Texts.{AreReadable, IsNameText, text_at}
 use Rattle.handler_printing.specs.Readable.{ReadsBack}
-use Rattle.handler_printing.specs.Writing.{Text, Adds}
+use Rattle.handler_printing.specs.Writing.{Text}
 use Rattle.handler_printing.proofs.Chunks.{one, left_paren, right_paren, assign, negative, operator, comparison, let_word, if_word, repeat_word, reply_word, handler_word, table, operation_word, semicolon_line, left_brace_line, right_brace_line, else_line, params_end, comma_space, as_between}
 use Rattle.handler_printing.proofs.Inductions as trees
 use Rattle.handler_printing.proofs.Lexing.{Reading, reading, behind, blank, nothing}
@@ -338,12 +338,3 @@ unfolding reading words_of names_of
 reads_back names file text distinct is h =
     let r = ap (reading names) is ∙ file_reads names distinct file h in
     record { same_words = ap (λ (x : Reading). x.0) r; same_names = ap (λ (x : Reading). x.1) r }
-
--- tables and handlers are all that was written
-pub written : (names : List (List ℕ)) (file : File) (ts : List TableDecl) (hs : List Handler) {start middle end : List ℕ} → start ≡ [] → ts ≡ file.tables → hs ≡ file.handlers → Adds (Canonical.each (map (Canonical.table_text names) ts)) start middle
-    → Adds (Canonical.each (map (Canonical.handler_text names) hs)) middle end → end ≡ Canonical.canonical_text names file
-written names file ts hs {start} {middle} {end} e f g a b =
-    let tables = Canonical.each (map (Canonical.table_text names) ts) in
-    let handlers = Canonical.each (map (Canonical.handler_text names) hs) [] in
-    sym (append-nil end) ∙ b.before [] ∙ a.before handlers ∙ ap (λ s. s ++ tables handlers) e
-    ∙ (λ i. Canonical.each (map (Canonical.table_text names) (f i)) (Canonical.each (map (Canonical.handler_text names) (g i)) []))

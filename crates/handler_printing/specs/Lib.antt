@@ -1,4 +1,7 @@
 pub mod Canonical
 pub mod CanonicalWords
+pub mod Points
+pub mod Lines
+pub mod Put
 pub mod Readable
 pub mod Writing

@@ -4,13 +4,18 @@ ghost use Rattle.std.specs.Prelude.{◌≡◌, IfOk, OnOk, map, string_bytes};
 ghost use Rattle.std.specs.List.{flat_map};
 ghost use Rattle.handler_printing.specs.Canonical as spec;
 ghost use Rattle.handler_printing.specs.Canonical.{canonical_text};
+ghost use Rattle.handler_printing.specs.Lines.{head_text, shown_text};
+ghost use Rattle.handler_printing.specs.Put.{put_handler_text, put_handlers_text};
 ghost use Rattle.handler_trees.specs.Mentions.{AreNamed, table_mentions, param_mentions, handler_mentions, file_mentions};
 ghost use Rattle.handler_tokens.specs.Texts.{AreReadable};
 ghost use Rattle.handler_printing.specs.Readable.{ReadsBack};
 ghost use Rattle.handler_printing.specs.Writing.{Adds};
 
+use crate::declarations::{Declarations, Undeclared};
+use crate::line::put_close;
 use crate::piece::{put, put_name};
-use crate::stmt::put_block;
+use crate::spot::Spot;
+use crate::stmt::put_branch;
 use handler_trees::{File, Handler, Param, TableDecl};
 use session_values::{Names, NoMemory, TableKind};
 use std::alloc::Global;
@@ -24,9 +29,24 @@ pub fn print(alloc: Global, file: &File, names: &Names) -> Result<String, NoMemo
 {
     // That the texts of the list are different is what `len` says of it.
     let _count = names.len();
+    let text = print_with_declarations(alloc, file, &Undeclared, names)?;
+    Ok(text)
+}
+
+/// The text of a file with a line at each point of its handlers, if these are shown; else its
+/// canonical text. A place that a list doesn't have gives no text.
+pub fn print_with_declarations<D: Declarations>(
+    alloc: Global,
+    file: &File,
+    at: &D,
+    names: &Names,
+) -> Result<String, NoMemory>
+    requires { AreNamed names.now (file_mentions file.now) }
+    ensures { IfOk result (λ text. string_bytes text ≡ shown_text names.now (D.at_points at.now) file.now) }
+{
     let mut out = String::new(alloc);
     put_tables(file.tables.as_slice(), names, &mut out)?;
-    put_handlers(file.handlers.as_slice(), names, &mut out)?;
+    put_handlers(file.handlers.as_slice(), at, names, &mut out)?;
     Ok(out)
 }
 
@@ -53,28 +73,51 @@ fn put_tables(tables: &[TableDecl], names: &Names, out: &mut String) -> Result<(
 }
 
 /// Appends the lines of each handler.
-fn put_handlers(handlers: &[Handler], names: &Names, out: &mut String) -> Result<(), NoMemory>
+fn put_handlers<D: Declarations>(
+    handlers: &[Handler],
+    at: &D,
+    names: &Names,
+    out: &mut String,
+) -> Result<(), NoMemory>
     requires { AreNamed names.now (flat_map handler_mentions handlers.now) }
-    ensures { OnOk result (Adds (spec.each (map (spec.handler_text names.now) handlers.now)) (string_bytes out.old) (string_bytes out.new)) }
+    ensures { OnOk result (Adds (put_handlers_text names.now (D.at_points at.now) 0 handlers.now) (string_bytes out.old) (string_bytes out.new)) }
 {
+    let mut spot = Spot::first();
     for handler in handlers {
-        put_handler(handler, names, out)?;
+        put_handler(handler, spot, at, names, out)?;
+        spot = spot.next_handler()?;
     }
     Ok(())
 }
 
 /// Appends the lines of a handler.
-fn put_handler(handler: &Handler, names: &Names, out: &mut String) -> Result<(), NoMemory>
+fn put_handler<D: Declarations>(
+    handler: &Handler,
+    spot: Spot,
+    at: &D,
+    names: &Names,
+    out: &mut String,
+) -> Result<(), NoMemory>
+    requires start { (spot.depth ≡ 0) × (spot.point ≡ 0) }
+    requires named { AreNamed names.now (handler_mentions handler.now) }
+    ensures { OnOk result (Adds (put_handler_text names.now (D.at_points at.now) spot.handler handler.now) (string_bytes out.old) (string_bytes out.new)) }
+{
+    put_head(handler, names, out)?;
+    put_branch(handler.body.as_slice(), spot, at, names, out)?;
+    put_close(0, out)?;
+    Ok(())
+}
+
+/// Appends the line that opens a handler.
+fn put_head(handler: &Handler, names: &Names, out: &mut String) -> Result<(), NoMemory>
     requires { AreNamed names.now (handler_mentions handler.now) }
-    ensures { OnOk result (Adds (spec.handler_text names.now handler.now) (string_bytes out.old) (string_bytes out.new)) }
+    ensures { OnOk result (Adds (head_text names.now handler.now) (string_bytes out.old) (string_bytes out.new)) }
 {
     put("handler ", out)?;
     put_name(handler.name, names, out)?;
     put("(", out)?;
     put_params(handler.params.as_slice(), names, out)?;
-    put(") {\n", out)?;
-    put_block(handler.body.as_slice(), 0, names, out)?;
-    put("}\n", out)
+    put(") {\n", out)
 }
 
 /// Appends parameters, with a comma and a space between them.

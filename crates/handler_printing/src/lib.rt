@@ -1,9 +1,14 @@
 //! The canonical text of a file of handlers.
 #![tactic(auto)]
 
+mod declarations;
 mod expr;
 mod file;
+mod line;
 mod piece;
+mod point;
+mod spot;
 mod stmt;
 
-pub use file::print;
+pub use declarations::Declarations;
+pub use file::{print, print_with_declarations};

@@ -3,7 +3,8 @@
 ghost use Rattle.std.specs.Prelude.{◌<◌, ◌++◌, OnOk, length, map, string_bytes};
 ghost use Rattle.std.specs.List.{flat_map};
 ghost use Rattle.handler_printing.specs.Canonical.{name_text, literal_text, atom_text, call_text, further, indent};
-ghost use Rattle.handler_trees.specs.Mentions.{AreNamed, value_mentions, atom_mentions, call_mentions};
+ghost use Rattle.handler_trees.specs.Mentions.{AreNamed, atom_mentions, call_mentions};
+ghost use Rattle.handler_printing.specs.Points.{named_text};
 ghost use Rattle.handler_printing.specs.Writing.{Adds};
 
 use handler_trees::{Atom, Call};
@@ -36,9 +37,29 @@ pub(crate) fn put_name(place: u32, names: &Names, out: &mut String) -> Result<()
     put(names.text(place), out)
 }
 
+/// Appends the text at a place, if the list has the place.
+fn put_place(place: u32, names: &Names, out: &mut String) -> Result<(), NoMemory>
+    ensures { OnOk result (Adds (name_text names.now place) (string_bytes out.old) (string_bytes out.new)) }
+{
+    if place < names.len() {
+        put_name(place, names, out)
+    } else {
+        Ok(())
+    }
+}
+
+/// Appends a name, if there is one.
+pub(crate) fn put_named(place: Option<u32>, names: &Names, out: &mut String) -> Result<(), NoMemory>
+    ensures { OnOk result (Adds (named_text names.now place) (string_bytes out.old) (string_bytes out.new)) }
+{
+    match place {
+        Some(place) => put_place(place, names, out),
+        None => Ok(()),
+    }
+}
+
 /// Appends a literal.
-fn put_literal(value: Value, names: &Names, out: &mut String) -> Result<(), NoMemory>
-    requires { AreNamed names.now (value_mentions value) }
+pub(crate) fn put_literal(value: Value, names: &Names, out: &mut String) -> Result<(), NoMemory>
     ensures { OnOk result (Adds (literal_text names.now value) (string_bytes out.old) (string_bytes out.new)) }
 {
     match value {
@@ -49,7 +70,7 @@ fn put_literal(value: Value, names: &Names, out: &mut String) -> Result<(), NoMe
         }
         Value::Sym(place) => {
             put("'", out)?;
-            put_name(place, names, out)
+            put_place(place, names, out)
         }
     }
 }

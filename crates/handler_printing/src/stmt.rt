@@ -1,174 +1,164 @@
-// Statements.
+// Statements and blocks.
 
-ghost use Rattle.std.specs.Prelude.{◌≡◌, ◌+◌, ◌<◌, OnOk, length, map, string_bytes};
+ghost use Rattle.std.specs.Prelude.{◌≡◌, ◌+◌, ◌<◌, IfOk, OnOk, length, string_bytes};
 ghost use Rattle.std.specs.List.{flat_map};
-ghost use Rattle.handler_printing.specs.Canonical as spec;
-ghost use Rattle.handler_trees.specs.Mentions.{AreNamed, right_mentions, cond_mentions, stmt_mentions};
+ghost use Rattle.handler_printing.specs.Lines.{block_points, else_line, line_text};
+ghost use Rattle.handler_printing.specs.Put.{choice_at, part_at, parts_of, put_block_text, put_branch_text, put_part_text, repeat_at};
+ghost use Rattle.handler_trees.specs.Mentions.{AreNamed, cond_mentions, stmt_mentions};
 ghost use Rattle.handler_printing.specs.Writing.{Adds};
 
-use crate::expr::{Level, put_expr, put_values};
-use crate::piece::{put, put_call, put_indent, put_name};
-use handler_trees::{Compare, Cond, Right, Stmt};
-use itoa::Buffer;
+use crate::declarations::Declarations;
+use crate::line::{
+    put_assign, put_call_line, put_close, put_else, put_if, put_let, put_repeat_head, put_reply,
+};
+use crate::point::{put_point, put_right_point};
+use crate::spot::Spot;
+use handler_trees::{Cond, Stmt};
 use session_values::{Names, NoMemory};
 
-fn comparison(compare: Compare) -> &'static str
-    ensures { result.now ≡ spec.compare_text compare }
-{
-    match compare {
-        Compare::Same => " == ",
-        Compare::Differ => " != ",
-        Compare::Less => " < ",
-        Compare::LessOrSame => " <= ",
-    }
-}
-
-/// Appends a comparison.
-fn put_cond(cond: &Cond, names: &Names, out: &mut String) -> Result<(), NoMemory>
-    requires { AreNamed names.now (cond_mentions cond.now) }
-    ensures { OnOk result (Adds (spec.cond_text names.now cond.now) (string_bytes out.old) (string_bytes out.new)) }
-{
-    put_expr(&cond.left, Level::Whole, names, out)?;
-    put(comparison(cond.compare), out)?;
-    put_expr(&cond.right, Level::Whole, names, out)
-}
-
-/// Appends a right side.
-fn put_right(right: &Right, names: &Names, out: &mut String) -> Result<(), NoMemory>
-    requires { AreNamed names.now (right_mentions right.now) }
-    ensures { OnOk result (Adds (spec.right_text names.now right.now) (string_bytes out.old) (string_bytes out.new)) }
-{
-    match right {
-        Right::Plain(e) => put_expr(e, Level::Whole, names, out),
-        Right::Result(call) => put_call(call, names, out),
-    }
-}
-
-/// Appends a name, its right side, and the line's end.
-fn put_assignment(name: u32, right: &Right, names: &Names, out: &mut String) -> Result<(), NoMemory>
-    requires name { name < length names.now }
-    requires right { AreNamed names.now (right_mentions right.now) }
-    ensures { OnOk result (Adds (spec.assignment_text names.now name right.now) (string_bytes out.old) (string_bytes out.new)) }
-{
-    put_name(name, names, out)?;
-    put(" = ", out)?;
-    put_right(right, names, out)?;
-    put(";\n", out)
-}
-
-/// Appends the lines of a statement.
+/// Appends the lines of a statement, and gives the number of the point behind its own.
 #[cycle(statement)]
-fn put_statement(s: &Stmt, depth: u32, names: &Names, out: &mut String) -> Result<(), NoMemory>
+fn put_statement<D: Declarations>(
+    s: &Stmt,
+    spot: Spot,
+    at: &D,
+    names: &Names,
+    out: &mut String,
+) -> Result<u32, NoMemory>
     requires { AreNamed names.now (stmt_mentions s.now) }
-    ensures { OnOk result (Adds (spec.stmt_text names.now s.now depth) (string_bytes out.old) (string_bytes out.new)) }
+    ensures text { OnOk result (Adds (put_part_text (D.at_points at.now) spot (part_at names.now (D.at_points at.now) spot s.now)) (string_bytes out.old) (string_bytes out.new)) }
+    ensures next { IfOk result (λ next. next ≡ spot.point + (part_at names.now (D.at_points at.now) spot s.now).points) }
 {
-    put_indent(depth, out)?;
     match s {
         Stmt::Let { name, right, .. } => {
-            put("let ", out)?;
-            put_assignment(*name, right, names, out)
+            put_let(*name, right, spot.depth, names, out)?;
+            put_right_point(right, spot, at, names, out)
         }
-        Stmt::Assign { name, right, .. } => put_assignment(*name, right, names, out),
+        Stmt::Assign { name, right, .. } => {
+            put_assign(*name, right, spot.depth, names, out)?;
+            put_right_point(right, spot, at, names, out)
+        }
         Stmt::Perform { call } => {
-            put_call(call, names, out)?;
-            put(";\n", out)
+            put_call_line(call, spot.depth, names, out)?;
+            put_point(spot, at, names, out)
         }
         Stmt::Choose { cond, yes, no, .. } => {
-            put_choice(cond, yes.as_slice(), no.as_slice(), depth, names, out)
+            put_choice(cond, yes.as_slice(), no.as_slice(), spot, at, names, out)
         }
         Stmt::Repeat {
             turns,
             name,
             body,
             ..
-        } => { put_repeat(*turns, *name, body.as_slice(), depth, names, out) }
+        } => { put_repeat(*turns, *name, body.as_slice(), spot, at, names, out) }
         Stmt::Answer { values, .. } => {
-            put("reply ", out)?;
-            put_values(values.as_slice(), names, out)?;
-            put(";\n", out)
+            put_reply(values.as_slice(), spot.depth, names, out)?;
+            Ok(spot.point)
         }
     }
 }
 
-/// Appends an `if`, from its word on.
+/// Appends the line between the blocks of an `if`. Where the second one is empty, it stands only
+/// where points have lines.
+fn put_middle<D: Declarations>(
+    no: &[Stmt],
+    spot: Spot,
+    at: &D,
+    names: &Names,
+    out: &mut String,
+) -> Result<(), NoMemory>
+    ensures { OnOk result (Adds (line_text (D.at_points at.now).shown (else_line (parts_of names.now (D.at_points at.now) spot no.now) spot.depth)) (string_bytes out.old) (string_bytes out.new)) }
+{
+    if no.is_empty() && !at.is_shown() {
+        return Ok(());
+    }
+    put_else(spot.depth, out)
+}
+
+/// Appends an `if`.
 #[cycle(statement)]
-fn put_choice(
+fn put_choice<D: Declarations>(
     cond: &Cond,
     yes: &[Stmt],
     no: &[Stmt],
-    depth: u32,
+    spot: Spot,
+    at: &D,
     names: &Names,
     out: &mut String,
-) -> Result<(), NoMemory>
+) -> Result<u32, NoMemory>
     requires cond { AreNamed names.now (cond_mentions cond.now) }
     requires first { AreNamed names.now (flat_map stmt_mentions yes.now) }
     requires second { AreNamed names.now (flat_map stmt_mentions no.now) }
-    ensures { OnOk result (Adds (spec.choice_text names.now cond.now (map (spec.stmt_text names.now) yes.now) (map (spec.stmt_text names.now) no.now) depth) (string_bytes out.old) (string_bytes out.new)) }
+    ensures text { OnOk result (Adds (put_part_text (D.at_points at.now) spot (choice_at names.now (D.at_points at.now) spot cond.now yes.now no.now)) (string_bytes out.old) (string_bytes out.new)) }
+    ensures next { IfOk result (λ next. next ≡ spot.point + (choice_at names.now (D.at_points at.now) spot cond.now yes.now no.now).points) }
 {
-    put("if ", out)?;
-    put_cond(cond, names, out)?;
-    put(" {\n", out)?;
-    put_block(yes, depth, names, out)?;
-    put_else(no, depth, names, out)?;
-    put_indent(depth, out)?;
-    put("}\n", out)
+    put_if(cond, spot.depth, names, out)?;
+    let middle = put_branch(yes, spot, at, names, out)?;
+    put_middle(no, spot, at, names, out)?;
+    let next = put_branch(no, spot.before(middle), at, names, out)?;
+    put_close(spot.depth, out)?;
+    Ok(next)
 }
 
-/// Appends the second block of an `if`, which isn't there where it is empty.
+/// Appends a `repeat`.
 #[cycle(statement)]
-fn put_else(no: &[Stmt], depth: u32, names: &Names, out: &mut String) -> Result<(), NoMemory>
-    requires { AreNamed names.now (flat_map stmt_mentions no.now) }
-    ensures { OnOk result (Adds (spec.else_lines depth (map (spec.stmt_text names.now) no.now)) (string_bytes out.old) (string_bytes out.new)) }
-{
-    if no.is_empty() {
-        return Ok(());
-    }
-    put_indent(depth, out)?;
-    put("} else {\n", out)?;
-    put_block(no, depth, names, out)
-}
-
-/// Appends a `repeat`, from its word on.
-#[cycle(statement)]
-fn put_repeat(
+fn put_repeat<D: Declarations>(
     turns: u64,
     name: u32,
     body: &[Stmt],
-    depth: u32,
+    spot: Spot,
+    at: &D,
     names: &Names,
     out: &mut String,
-) -> Result<(), NoMemory>
+) -> Result<u32, NoMemory>
     requires name { name < length names.now }
     requires body { AreNamed names.now (flat_map stmt_mentions body.now) }
-    ensures { OnOk result (Adds (spec.repeat_text names.now turns name (map (spec.stmt_text names.now) body.now) depth) (string_bytes out.old) (string_bytes out.new)) }
+    ensures text { OnOk result (Adds (put_part_text (D.at_points at.now) spot (repeat_at names.now (D.at_points at.now) spot turns name body.now)) (string_bytes out.old) (string_bytes out.new)) }
+    ensures next { IfOk result (λ next. next ≡ spot.point + (repeat_at names.now (D.at_points at.now) spot turns name body.now).points) }
 {
-    let mut buffer = Buffer::new();
-    put("repeat ", out)?;
-    put(buffer.format(turns), out)?;
-    put(" as ", out)?;
-    put_name(name, names, out)?;
-    put(" {\n", out)?;
-    put_block(body, depth, names, out)?;
-    put_indent(depth, out)?;
-    put("}\n", out)
+    put_repeat_head(turns, name, spot.depth, names, out)?;
+    let inner = spot.inside()?;
+    let last = put_block(body, inner, at, names, out)?;
+    put_close(spot.depth, out)?;
+    let next = put_point(spot.before(last), at, names, out)?;
+    Ok(next)
 }
 
-/// Appends the lines of a block inside a line of this depth. A depth of 2^32 has no room.
+/// Appends a block of a statement or a handler: what stands at its start, and its statements.
 #[cycle(statement)]
-pub(crate) fn put_block(
+pub(crate) fn put_branch<D: Declarations>(
     block: &[Stmt],
-    depth: u32,
+    spot: Spot,
+    at: &D,
     names: &Names,
     out: &mut String,
-) -> Result<(), NoMemory>
+) -> Result<u32, NoMemory>
     requires { AreNamed names.now (flat_map stmt_mentions block.now) }
-    ensures { OnOk result (Adds (spec.block_text names.now block.now (depth + 1)) (string_bytes out.old) (string_bytes out.new)) }
+    ensures text { OnOk result (Adds (put_branch_text names.now (D.at_points at.now) spot block.now) (string_bytes out.old) (string_bytes out.new)) }
+    ensures next { IfOk result (λ next. next ≡ spot.point + (1 + block_points (parts_of names.now (D.at_points at.now) spot block.now))) }
 {
-    let Some(inner) = depth.checked_add(1) else {
-        return Err(NoMemory);
-    };
+    let inner = spot.inside()?;
+    let first = put_point(inner, at, names, out)?;
+    let next = put_block(block, inner.before(first), at, names, out)?;
+    Ok(next)
+}
+
+/// Appends the statements of a block.
+#[cycle(statement)]
+fn put_block<D: Declarations>(
+    block: &[Stmt],
+    spot: Spot,
+    at: &D,
+    names: &Names,
+    out: &mut String,
+) -> Result<u32, NoMemory>
+    requires { AreNamed names.now (flat_map stmt_mentions block.now) }
+    ensures text { OnOk result (Adds (put_block_text names.now (D.at_points at.now) spot block.now) (string_bytes out.old) (string_bytes out.new)) }
+    ensures next { IfOk result (λ next. next ≡ spot.point + block_points (parts_of names.now (D.at_points at.now) spot block.now)) }
+{
+    let mut next = spot.point;
     for s in block {
-        put_statement(s, inner, names, out)?;
+        next = put_statement(s, spot.before(next), at, names, out)?;
     }
-    Ok(())
+    Ok(next)
 }

@@ -24,6 +24,8 @@ pub use Rattle.handler_grammar.specs.Parsed.{Parsed, IsSourceOf, HasFault}
 pub use Rattle.handler_grammar.specs.declared.refusal.SyntaxRefusal.{SyntaxRefusal}
 pub use Rattle.handler_grammar.specs.declared.refusal.SyntaxRefusal.TheVariants as syntax_refusal
 pub use Rattle.handler_printing.specs.Canonical.{canonical_text}
+pub use Rattle.handler_printing.specs.Lines.{Line, of_file, of_else, of_point, file_lines, shown_text, written}
+pub use Rattle.handler_printing.specs.Points.{AtPoints}
 pub use Rattle.handler_syntax.specs.Keeps.{KeepsLimits, IsKept, IsReadAs, Printed}
 pub use Rattle.handler_syntax.specs.SameTree.{SameTree}
 pub use Rattle.handler_rules.specs.Bounds.{Form, a_call, a_reply, a_nest, file_forms, IsBoundedForm, IsBoundedNumber, KeepsBounds}

@@ -1,6 +1,6 @@
 //! Laws of canonical text: each is the contract of a function with an empty body.
 
-ghost use Rattle.std.specs.Prelude.{◌≡◌, ◌≢◌, ◌⊎◌, ℕ, List, [], ◌∷◌, length, map, take};
+ghost use Rattle.std.specs.Prelude.{◌≡◌, ◌≢◌, ◌⊎◌, ℕ, List, [], ◌∷◌, false, length, map, take};
 ghost use Rattle.session_values.specs.Names.{AreDistinct, Begins};
 ghost use Rattle.handler_tokens.specs.declared.word.Word.{Word};
 ghost use Rattle.handler_tokens.specs.Words.{kind_of, words_of, names_of};
@@ -23,6 +23,8 @@ ghost use Rattle.handler_grammar.specs.declared.refusal.SyntaxRefusal.{SyntaxRef
 ghost use Rattle.handler_grammar.specs.declared.refusal.SyntaxRefusal.TheVariants as syntax_refusal;
 ghost use Rattle.handler_printing.specs.Canonical.{canonical_text, whole_text};
 ghost use Rattle.handler_printing.specs.CanonicalWords.{canonical_words};
+ghost use Rattle.handler_printing.specs.Lines.{file_lines, shown_text, written};
+ghost use Rattle.handler_printing.specs.Points.{AtPoints};
 ghost use Rattle.handler_trees.specs.Mentions.{AreNamed, file_mentions};
 ghost use Rattle.handler_tokens.specs.Texts.{IsNamedFile};
 ghost use Rattle.handler_syntax.specs.Parentheses.{operands_text};
@@ -110,6 +112,16 @@ pub fn parentheses_stand_where_they_are_needed()
 pub fn same_trees_have_the_same_text()
     ensures { (names : List (List ℕ)) (f g : File)
         → SameTree f g → canonical_text names f ≡ canonical_text names g }
+{}
+
+/// The text with declarations, without their lines and with an `if` of an empty second block
+/// printed short, is the canonical text, whatever the declarations are; and where none are shown
+/// it is the canonical text itself.
+pub fn declarations_stand_between_the_lines()
+    ensures without { (names : List (List ℕ)) (at : AtPoints) (file : File)
+        → written false (file_lines names at file) [] ≡ canonical_text names file }
+    ensures none { (names : List (List ℕ)) (at : AtPoints) (file : File)
+        → at.shown ≡ false → shown_text names at file ≡ canonical_text names file }
 {}
 
 /// What is read of a canonical text is printed as that text again.

@@ -1,12 +1,16 @@
-use Rattle.std.proofs.Common.{map, drop, string_bytes}
+use Rattle.std.proofs.Common.{◌≡◌, drop, string_bytes}
 use Rattle.std.specs.List.{flat_map}
-use Rattle.handler_printing.specs.Canonical.{handler_text, each}
+use Rattle.handler_printing.specs.Put.{put_handlers_text}
 use Rattle.handler_trees.specs.Mentions.{AreNamed, handler_mentions}
 use Rattle.handler_printing.proofs.Loops.{Owes}
 use Rattle.handler_printing.proofs.file.put_handlers.Given as goal
 
 abbrev pub invariant-loop-handler : goal.invariant-loop-handler
-invariant-loop-handler l = record {
-  text : Owes (each (map (handler_text l.names) l.handlers)) (each (map (handler_text l.names) (drop l.handler-index l.handlers))) (string_bytes l.fn.out) (string_bytes l.out);
-  named : AreNamed l.names (flat_map handler_mentions (drop l.handler-index l.handlers));
-}
+invariant-loop-handler g l =
+    let a = g.D.Declarations.at_points l.at in
+    record {
+      text : Owes (put_handlers_text l.names a 0 l.handlers) (put_handlers_text l.names a l.spot.handler (drop l.handler-index l.handlers)) (string_bytes l.fn.out) (string_bytes l.out);
+      depth : l.spot.depth ≡ 0;
+      point : l.spot.point ≡ 0;
+      named : AreNamed l.names (flat_map handler_mentions (drop l.handler-index l.handlers));
+    }
