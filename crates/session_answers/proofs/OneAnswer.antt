@@ -8,6 +8,10 @@ use Rattle.handler_rules.specs.declared.refusal.CheckRefusal.{CheckRefusal}
 use Rattle.handler_rules.specs.Rules.{IsBroken}
 use Rattle.handler_rules.proofs.Firsts.{one_first}
 use Rattle.handler_check.specs.Checking.{IsAccepted, IsBeyond, IsRefusal}
+use Rattle.symbolic_ops.specs.declared.symbol.Symbol.{Symbol}
+use Rattle.may_use_analysis.specs.declared.refusal.AnalysisRefusal.{AnalysisRefusal}
+use Rattle.may_use_analysis.specs.Later.{AreLater, IsTooMany}
+use Rattle.may_use_analysis.proofs.TopLemmas.{same_later, one_refusal, apart}
 use Rattle.request_files.specs.declared.refusal.RequestRefusal.{RequestRefusal}
 use Rattle.command_words.specs.declared.command.Command.{Command}
 use Rattle.command_words.specs.declared.command.Command.TheVariants.{Check, Show, Serve, Work}
@@ -16,7 +20,7 @@ use Rattle.session_answers.specs.declared.status.Fault.{Fault}
 use Rattle.session_answers.specs.declared.status.Fault.TheVariants as fault
 use Rattle.session_answers.specs.Input.{parts_of, is_divided, input_of, has_requests, handlers_of, max_input, IsInput}
 use Rattle.session_answers.specs.Session.{IsProgram, request_fault}
-use Rattle.session_answers.specs.Answer.{HasSyntaxFault, HasCheckFault, HasRequestFault, IsRefused, IsTextOf, Answer, Answers, CommandAnswers, IsAnswer}
+use Rattle.session_answers.specs.Answer.{HasSyntaxFault, HasCheckFault, HasAnalysisFault, HasRequestFault, IsRefused, IsTextOf, Answer, Answers, CommandAnswers, IsAnswer}
 use Rattle.session_answers.specs.Answer as answer
 
 -- ---- handlers
@@ -40,6 +44,15 @@ module _ (text : List ℕ) where
   no_check : (e : CheckRefusal) (f : File) → HasCheckFault text e → IsProgram text f → ⊥
   no_check e f h k = not_both f e (subst (λ (g : File). IsRefusal g e) (one_tree [] text h.file f h.form k.form) h.first) k.accepted
 
+  no_check_form : (d : CheckRefusal) (h : HasCheckFault text d) (f : File) → IsSourceOf [] text f → IsAccepted f → ⊥
+  no_check_form d h f k a = not_both f d (subst (λ (g : File). IsRefusal g d) (one_tree [] text h.file f h.form k) h.first) a
+
+  same_analysis : (d e : AnalysisRefusal) → HasAnalysisFault text d → HasAnalysisFault text e → d ≡ e
+  same_analysis d e h k = one_refusal k.file d e (subst (λ (f : File). IsTooMany f d) (one_tree [] text h.file k.file h.form k.form) h.first) k.first
+
+  no_analysis : (e : AnalysisRefusal) (f : File) → HasAnalysisFault text e → IsProgram text f → ⊥
+  no_analysis e f h k = apart f k.lists e k.later (subst (λ (g : File). IsTooMany g e) (one_tree [] text h.file f h.form k.form) h.first)
+
 -- ---- inputs
 module _ (c : Command) (input : List ℕ) where
   abbrev text : List ℕ
@@ -49,7 +62,8 @@ module _ (c : Command) (input : List ℕ) where
   abbrev Inner : Fault → Type 0
   Inner g = ((e : SyntaxRefusal) × (g ≡ fault.Syntax e) × HasSyntaxFault text e)
       ⊎ (((e : CheckRefusal) × (g ≡ fault.Check e) × HasCheckFault text e)
-      ⊎ ((e : RequestRefusal) × (g ≡ fault.Request e) × (has_requests c ≡ true) × HasRequestFault (parts_of input) e))
+      ⊎ (((e : AnalysisRefusal) × (g ≡ fault.Analysis e) × HasAnalysisFault text e)
+      ⊎ ((e : RequestRefusal) × (g ≡ fault.Request e) × (has_requests c ≡ true) × HasRequestFault (parts_of input) e)))
 
   inner : (g : Fault) → IsInput c input → IsRefused c input g → Inner g
   inner fault.TooLarge i r = absurd (omega (arith, i.short, r))
@@ -58,7 +72,8 @@ module _ (c : Command) (input : List ℕ) where
   inner fault.HasRequests i r = absurd (false≢true (sym r.2 ∙ sym i.parts ∙ r.3))
   inner (fault.Syntax e) i r = inl (e, refl, r.1)
   inner (fault.Check e) i r = inr (inl (e, refl, r.1))
-  inner (fault.Request e) i r = inr (inr (e, refl, r.1, r.2))
+  inner (fault.Analysis e) i r = inr (inr (inl (e, refl, r.1)))
+  inner (fault.Request e) i r = inr (inr (inr (e, refl, r.1, r.2)))
 
   -- the handlers of a request's fault
   program_of : (e : RequestRefusal) → has_requests c ≡ true → (h : HasRequestFault (parts_of input) e) → IsProgram text h.file
@@ -78,13 +93,20 @@ module _ (c : Command) (input : List ℕ) where
   one_inner : (f g : Fault) → Inner f → Inner g → f ≡ g
   one_inner f g (inl a) (inl b) = a.1 ∙ ap fault.Syntax (one_fault [] text a.0 b.0 a.2.first b.2.first) ∙ sym b.1
   one_inner f g (inl a) (inr (inl b)) = absurd (no_syntax text a.0 b.2.file a.2 b.2.form)
-  one_inner f g (inl a) (inr (inr b)) = absurd (no_syntax text a.0 b.3.file a.2 (program_of b.0 b.2 b.3).form)
+  one_inner f g (inl a) (inr (inr (inl b))) = absurd (no_syntax text a.0 b.2.file a.2 b.2.form)
+  one_inner f g (inl a) (inr (inr (inr b))) = absurd (no_syntax text a.0 b.3.file a.2 (program_of b.0 b.2 b.3).form)
   one_inner f g (inr (inl a)) (inl b) = absurd (no_syntax text b.0 a.2.file b.2 a.2.form)
   one_inner f g (inr (inl a)) (inr (inl b)) = a.1 ∙ ap fault.Check (same_check text a.0 b.0 a.2 b.2) ∙ sym b.1
-  one_inner f g (inr (inl a)) (inr (inr b)) = absurd (no_check text a.0 b.3.file a.2 (program_of b.0 b.2 b.3))
-  one_inner f g (inr (inr a)) (inl b) = absurd (no_syntax text b.0 a.3.file b.2 (program_of a.0 a.2 a.3).form)
-  one_inner f g (inr (inr a)) (inr (inl b)) = absurd (no_check text b.0 a.3.file b.2 (program_of a.0 a.2 a.3))
-  one_inner f g (inr (inr a)) (inr (inr b)) = a.1 ∙ ap fault.Request (same_request a.0 b.0 a.3 b.3) ∙ sym b.1
+  one_inner f g (inr (inl a)) (inr (inr (inl b))) = absurd (no_check_form text a.0 a.2 b.2.file b.2.form b.2.accepted)
+  one_inner f g (inr (inl a)) (inr (inr (inr b))) = absurd (no_check text a.0 b.3.file a.2 (program_of b.0 b.2 b.3))
+  one_inner f g (inr (inr (inl a))) (inl b) = absurd (no_syntax text b.0 a.2.file b.2 a.2.form)
+  one_inner f g (inr (inr (inl a))) (inr (inl b)) = absurd (no_check_form text b.0 b.2 a.2.file a.2.form a.2.accepted)
+  one_inner f g (inr (inr (inl a))) (inr (inr (inl b))) = a.1 ∙ ap fault.Analysis (same_analysis text a.0 b.0 a.2 b.2) ∙ sym b.1
+  one_inner f g (inr (inr (inl a))) (inr (inr (inr b))) = absurd (no_analysis text a.0 b.3.file a.2 (program_of b.0 b.2 b.3))
+  one_inner f g (inr (inr (inr a))) (inl b) = absurd (no_syntax text b.0 a.3.file b.2 (program_of a.0 a.2 a.3).form)
+  one_inner f g (inr (inr (inr a))) (inr (inl b)) = absurd (no_check text b.0 a.3.file b.2 (program_of a.0 a.2 a.3))
+  one_inner f g (inr (inr (inr a))) (inr (inr (inl b))) = absurd (no_analysis text b.0 a.3.file b.2 (program_of a.0 a.2 a.3))
+  one_inner f g (inr (inr (inr a))) (inr (inr (inr b))) = a.1 ∙ ap fault.Request (same_request a.0 b.0 a.3 b.3) ∙ sym b.1
 
   -- ---- no two faults are the first one
   large : (g : Fault) → IsRefused c input g → max_input < length input → g ≡ fault.TooLarge
@@ -94,6 +116,7 @@ module _ (c : Command) (input : List ℕ) where
   large fault.HasRequests r h = absurd (omega (arith, h, r.0))
   large (fault.Syntax e) r h = absurd (omega (arith, h, r.0.short))
   large (fault.Check e) r h = absurd (omega (arith, h, r.0.short))
+  large (fault.Analysis e) r h = absurd (omega (arith, h, r.0.short))
   large (fault.Request e) r h = absurd (omega (arith, h, r.0.short))
 
   no_text : (g : Fault) → IsRefused c input g → length input ≤ max_input → (IsUtf8 input → ⊥) → g ≡ fault.NotText
@@ -103,6 +126,7 @@ module _ (c : Command) (input : List ℕ) where
   no_text fault.HasRequests r h k = absurd (k r.1)
   no_text (fault.Syntax e) r h k = absurd (k r.0.utf8)
   no_text (fault.Check e) r h k = absurd (k r.0.utf8)
+  no_text (fault.Analysis e) r h k = absurd (k r.0.utf8)
   no_text (fault.Request e) r h k = absurd (k r.0.utf8)
 
   no_requests : (g : Fault) → IsRefused c input g → length input ≤ max_input → IsUtf8 input → has_requests c ≡ true → is_divided input ≡ false → g ≡ fault.NoRequests
@@ -112,6 +136,7 @@ module _ (c : Command) (input : List ℕ) where
   no_requests fault.HasRequests r h u has d = absurd (false≢true (sym r.2 ∙ has))
   no_requests (fault.Syntax e) r h u has d = absurd (false≢true (sym d ∙ r.0.parts ∙ has))
   no_requests (fault.Check e) r h u has d = absurd (false≢true (sym d ∙ r.0.parts ∙ has))
+  no_requests (fault.Analysis e) r h u has d = absurd (false≢true (sym d ∙ r.0.parts ∙ has))
   no_requests (fault.Request e) r h u has d = absurd (false≢true (sym d ∙ r.0.parts ∙ has))
 
   requests_too : (g : Fault) → IsRefused c input g → length input ≤ max_input → IsUtf8 input → has_requests c ≡ false → is_divided input ≡ true → g ≡ fault.HasRequests
@@ -121,6 +146,7 @@ module _ (c : Command) (input : List ℕ) where
   requests_too fault.HasRequests r h u has d = refl
   requests_too (fault.Syntax e) r h u has d = absurd (false≢true (sym has ∙ sym r.0.parts ∙ d))
   requests_too (fault.Check e) r h u has d = absurd (false≢true (sym has ∙ sym r.0.parts ∙ d))
+  requests_too (fault.Analysis e) r h u has d = absurd (false≢true (sym has ∙ sym r.0.parts ∙ d))
   requests_too (fault.Request e) r h u has d = absurd (false≢true (sym has ∙ sym r.0.parts ∙ d))
 
   pub refused_once : (f g : Fault) → IsRefused c input f → IsRefused c input g → f ≡ g
@@ -130,6 +156,7 @@ module _ (c : Command) (input : List ℕ) where
   refused_once fault.HasRequests g r s = sym (requests_too g s r.0 r.1 r.2 r.3)
   refused_once (fault.Syntax e) g r s = one_inner (fault.Syntax e) g (inner (fault.Syntax e) r.0 r) (inner g r.0 s)
   refused_once (fault.Check e) g r s = one_inner (fault.Check e) g (inner (fault.Check e) r.0 r) (inner g r.0 s)
+  refused_once (fault.Analysis e) g r s = one_inner (fault.Analysis e) g (inner (fault.Analysis e) r.0 r) (inner g r.0 s)
   refused_once (fault.Request e) g r s = one_inner (fault.Request e) g (inner (fault.Request e) r.0 r) (inner g r.0 s)
 
 -- ---- what has a text isn't refused
@@ -158,12 +185,16 @@ text_or_refused c input t f i h r = by (inner c input f i r) where
   by : Inner c input f → ⊥
   by (inl a) = no_syntax (handlers_of c input) a.0 (program_in c input t h).0 a.2 (program_in c input t h).1.form
   by (inr (inl a)) = no_check (handlers_of c input) a.0 (program_in c input t h).0 a.2 (program_in c input t h).1
-  by (inr (inr a)) = no_request c input t a.0 h a.2 a.3
+  by (inr (inr (inl a))) = no_analysis (handlers_of c input) a.0 (program_in c input t h).0 a.2 (program_in c input t h).1
+  by (inr (inr (inr a))) = no_request c input t a.0 h a.2 a.3
 
 -- ---- one answer at most
 same_text : (c : Command) (input s t : List ℕ) → IsTextOf c input s → IsTextOf c input t → s ≡ t
 same_text Check input s t h k = h.text_is ∙ ap (canonical_text (names_of [] input)) (one_tree [] input h.file k.file h.program.form k.program.form) ∙ sym k.text_is
-same_text Show input s t h k = h.text_is ∙ ap (canonical_text (names_of [] input)) (one_tree [] input h.file k.file h.program.form k.program.form) ∙ sym k.text_is
+same_text Show input s t h k =
+    let tree = one_tree [] input h.file k.file h.program.form k.program.form in
+    let lists = same_later k.file h.program.lists k.program.lists (subst (λ (f : File). AreLater f h.program.lists) tree h.program.later) k.program.later in
+    h.text_is ∙ ap (λ (f : File). answer.shown_of input f h.program.lists) tree ∙ ap (λ (ls : List (List (List Symbol))). answer.shown_of input k.file ls) lists ∙ sym k.text_is
 same_text (Serve callers shards) input s t h k =
     h.text_is ∙ ap (λ (f : File). answer.served_text input f) (one_tree [] (parts_of input).handlers h.file k.file h.is_session.program.form k.is_session.program.form) ∙ sym k.text_is
 same_text (Work requests start) input s t h k =

@@ -1,9 +1,12 @@
 -- What is answered to a command line and an input.
 use Rattle.std.specs.Prelude.{◌≡◌, ◌≢◌, ℕ, ◌<◌, ◌≤◌, true, false, IsUtf8, List, [], length, Option, Some, None}
-use Rattle.handler_syntax.specs.Language.{names_of, File, HasFault, IsSourceOf, SyntaxRefusal, canonical_text}
+use Rattle.symbolic_ops.specs.declared.symbol.Symbol.{Symbol}
+use Rattle.handler_syntax.specs.Language.{names_of, File, HasFault, IsSourceOf, SyntaxRefusal, canonical_text, shown_text}
 use Rattle.handler_syntax.specs.Language.syntax_refusal
 use Rattle.handler_rules.specs.declared.refusal.CheckRefusal.{CheckRefusal}
-use Rattle.handler_check.specs.Checking.{IsRefusal}
+use Rattle.handler_check.specs.Checking.{IsAccepted, IsRefusal}
+use Rattle.may_use_analysis.specs.declared.refusal.AnalysisRefusal.{AnalysisRefusal}
+use Rattle.may_use_analysis.specs.Later.{IsTooMany}
 use Rattle.request_files.specs.declared.refusal.RequestRefusal.{RequestRefusal}
 use Rattle.command_words.specs.declared.command.Command.{Command}
 use Rattle.command_words.specs.declared.command.Command.TheVariants.{Check, Show, Serve, Work}
@@ -12,7 +15,7 @@ use Rattle.work_session.specs.Summary.{summary}
 use Rattle.session_answers.specs.declared.status.Fault.{Fault}
 use Rattle.session_answers.specs.declared.status.Fault.TheVariants as fault
 use Rattle.session_answers.specs.Input.{Parts, parts_of, is_divided, input_of, has_requests, handlers_of, max_input, IsInput}
-use Rattle.session_answers.specs.Session.{IsProgram, IsSession, request_fault, session_of_parts, replies_text, serial_calls}
+use Rattle.session_answers.specs.Session.{IsProgram, IsSession, points_of_lists, request_fault, session_of_parts, replies_text, serial_calls}
 
 -- ---- faults
 
@@ -27,13 +30,20 @@ pub record HasCheckFault (text : List ℕ) (e : CheckRefusal) : Type 0 where
   pub form : IsSourceOf [] text file
   pub first : IsRefusal file e
 
+-- the handlers' text has a tree, which breaks no rule, and this is the first point at which too many operations may still come
+pub record HasAnalysisFault (text : List ℕ) (e : AnalysisRefusal) : Type 0 where
+  pub file : File
+  pub form : IsSourceOf [] text file
+  pub accepted : IsAccepted file
+  pub first : IsTooMany file e
+
 -- the handlers break no rule, and this is the first fault of the requests
 pub record HasRequestFault (parts : Parts) (e : RequestRefusal) : Type 0 where
   pub file : File
   pub program : IsProgram parts.handlers file
   pub first : request_fault parts file ≡ Some e
 
--- the first broken rule of an input, in the order too large, no text, no requests or requests, syntax, check, requests
+-- the first broken rule of an input, in the order too large, no text, no requests or requests, syntax, check, analysis, requests
 abbrev pub IsRefused : Command → List ℕ → Fault → Type 0
 IsRefused command input fault.TooLarge = max_input < length input
 IsRefused command input fault.NotText = (length input ≤ max_input) × (IsUtf8 input → ⊥)
@@ -41,6 +51,7 @@ IsRefused command input fault.NoRequests = (length input ≤ max_input) × IsUtf
 IsRefused command input fault.HasRequests = (length input ≤ max_input) × IsUtf8 input × (has_requests command ≡ false) × (is_divided input ≡ true)
 IsRefused command input (fault.Syntax e) = IsInput command input × HasSyntaxFault (handlers_of command input) e
 IsRefused command input (fault.Check e) = IsInput command input × HasCheckFault (handlers_of command input) e
+IsRefused command input (fault.Analysis e) = IsInput command input × HasAnalysisFault (handlers_of command input) e
 IsRefused command input (fault.Request e) = IsInput command input × (has_requests command ≡ true) × HasRequestFault (parts_of input) e
 
 -- ---- texts
@@ -50,6 +61,15 @@ pub record IsChecked (input text : List ℕ) : Type 0 where
   pub file : File
   pub program : IsProgram input file
   pub text_is : text ≡ canonical_text (names_of [] input) file
+
+abbrev pub shown_of : List ℕ → File → List (List (List Symbol)) → List ℕ
+shown_of input file lists = shown_text (names_of [] input) (points_of_lists file lists) file
+
+-- the text with what is declared at each point, which is the list of the operations that may still come there
+pub record IsShown (input text : List ℕ) : Type 0 where
+  pub file : File
+  pub program : IsProgram input file
+  pub text_is : text ≡ shown_of input file program.lists
 
 -- the replies of the serial run, as text
 abbrev pub served_text : List ℕ → File → List ℕ
@@ -74,7 +94,7 @@ pub record IsSummary (requests : ℕ) (input text : List ℕ) : Type 0 where
 -- the text that a command writes
 abbrev pub IsTextOf : Command → List ℕ → List ℕ → Type 0
 IsTextOf Check input text = IsChecked input text
-IsTextOf Show input text = IsChecked input text
+IsTextOf Show input text = IsShown input text
 IsTextOf (Serve callers shards) input text = IsServed input text
 IsTextOf (Work requests start) input text = IsSummary requests input text
 

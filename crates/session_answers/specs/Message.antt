@@ -6,10 +6,12 @@ use Rattle.handler_grammar.specs.declared.refusal.SyntaxRefusal.{SyntaxRefusal}
 use Rattle.handler_grammar.specs.declared.refusal.SyntaxRefusal.TheVariants as syntax
 use Rattle.handler_rules.specs.declared.refusal.CheckRefusal.{CheckRefusal}
 use Rattle.handler_rules.specs.declared.refusal.CheckRefusal.TheVariants as check
+use Rattle.may_use_analysis.specs.declared.refusal.AnalysisRefusal.{AnalysisRefusal}
+use Rattle.may_use_analysis.specs.declared.refusal.AnalysisRefusal.TheVariants as analysis
 use Rattle.request_files.specs.declared.refusal.RequestRefusal.{RequestRefusal}
 use Rattle.request_files.specs.declared.refusal.RequestRefusal.TheVariants as request
 use Rattle.session_answers.specs.declared.status.Fault.{Fault}
-use Rattle.session_answers.specs.declared.status.Fault.TheVariants.{TooLarge, NoRequests, HasRequests, NotText, Syntax, Check, Request}
+use Rattle.session_answers.specs.declared.status.Fault.TheVariants.{TooLarge, NoRequests, HasRequests, NotText, Syntax, Check, Analysis, Request}
 use Rattle.session_answers.specs.declared.status.Status.{Status}
 use Rattle.session_answers.specs.declared.status.Status.TheVariants.{Fine, Refused, Usage, NoMemory, ReadFault, WriteFault}
 
@@ -43,11 +45,17 @@ check_line (check.TooManyCalls at) = numbered (codes "refused K9 at ") at
 check_line (check.TooMuchWork at) = numbered (codes "refused K10 at ") at
 check_line check.NoMemory = []
 
+abbrev pub analysis_line : AnalysisRefusal → List ℕ
+analysis_line (analysis.TooManySymbols at count) = ended (codes "refused A1 at " ++ decimal at ++ codes " count " ++ decimal count)
+analysis_line analysis.NoMemory = []
+
 abbrev pub request_line : RequestRefusal → List ℕ
 request_line (request.UnknownHandler line) = numbered (codes "refused Q1 line ") line
 request_line (request.Arity line) = numbered (codes "refused Q2 line ") line
 request_line (request.BadWord line) = numbered (codes "refused Q3 line ") line
 request_line (request.TooManyRequests line) = numbered (codes "refused Q4 line ") line
+request_line (request.TooManyCalls line) = numbered (codes "refused Q5 line ") line
+request_line (request.TooMuchWork line) = numbered (codes "refused Q6 line ") line
 request_line request.NoMemory = []
 
 abbrev pub fault_line : Fault → List ℕ
@@ -57,6 +65,7 @@ fault_line HasRequests = ended (codes "refused T3")
 fault_line NotText = ended (codes "refused T4")
 fault_line (Syntax e) = syntax_line e
 fault_line (Check e) = check_line e
+fault_line (Analysis e) = analysis_line e
 fault_line (Request e) = request_line e
 
 -- a fine run has none

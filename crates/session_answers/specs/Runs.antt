@@ -99,14 +99,15 @@ shards_of (Serve callers shards) = shards
 shards_of command = 4
 
 -- The session of the input was served through this hall to its end: the journal is that of a lawful book in which all
--- tickets have ended, the replies are those of the serial run, and the shards are the parts of its final tables, as many
--- as the command's words say.
+-- tickets have ended, the replies are those of the serial run, and the shards are the parts of its final tables. There
+-- were as many callers and shards as the command's words say.
 pub record IsServedThrough (command : Command) (input : List ℕ) (closed : ClosedView) : Type 0 where
   pub file : File
   pub is_session : IsSession (parts_of input) file
   pub script : Meaning
   pub session_is : session_of script ≡ session_of_parts (parts_of input) file
   pub done : IsDone script closed
+  pub callers_are : closed.callers ≡ callers_of command
   pub shards_are : closed.shards ≡ shards_of command
 
 -- whether a command that ended so has served through a hall

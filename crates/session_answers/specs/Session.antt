@@ -1,44 +1,40 @@
 -- The session of a session file: what is served.
-use Rattle.std.specs.Prelude.{◌≡◌, ℕ, zero, suc, ◌+◌, List, [], length, map, slice_index_or, Option, None}
+use Rattle.std.specs.Prelude.{◌≡◌, ℕ, zero, suc, ◌+◌, true, List, [], length, map, slice_get, slice_index_or, Option, Some, None}
 use Rattle.session_values.specs.ReplyText.{reply_text}
 use Rattle.session_values.specs.Serial.{Session, serial, serial_replies}
-use Rattle.session_values.specs.Tables.{start}
-use Rattle.handler_syntax.specs.Language.{names_of, Handler, File, IsSourceOf}
-use Rattle.handler_check.specs.Resolved.{code_at, shape_of}
-use Rattle.handler_dialogue.specs.Bounds.{calls_bound}
-use Rattle.handler_dialogue.specs.Dialogue.{env_of, next}
+use Rattle.symbolic_ops.specs.declared.symbol.Symbol.{Symbol}
+use Rattle.handler_syntax.specs.Language.{names_of, Handler, File, IsSourceOf, AtPoints}
 use Rattle.handler_check.specs.Checking.{IsAccepted}
-use Rattle.request_files.specs.declared.head.Head.{Head}
+use Rattle.handler_check.specs.Resolved.{table_names, variables_of}
+use Rattle.may_use_analysis.specs.Later.{AreLater}
 use Rattle.request_files.specs.declared.refusal.RequestRefusal.{RequestRefusal}
 use Rattle.request_files.specs.declared.request.Request.{Request}
 use Rattle.request_files.specs.Text.{lines}
 use Rattle.request_files.specs.Requests.{Row, rows, first_fault, no_requests, request_of, names_behind}
+use Rattle.request_files.specs.Session.{session}
 use Rattle.session_answers.specs.Input.{Parts}
 
--- the text of handlers has this tree, which breaks no rule
+-- the text of handlers has this tree, which breaks no rule, and at no point too many operations may still come
 pub record IsProgram (text : List ℕ) (file : File) : Type 0 where
   pub form : IsSourceOf [] text file
   pub accepted : IsAccepted file
+  pub lists : List (List (List Symbol))
+  pub later : AreLater file lists
+
+-- what stands at the points of a file with these lists: the list of each point, and the names of tables and variables
+abbrev pub variables_in : Option Handler → List ℕ
+variables_in None = []
+variables_in (Some h) = variables_of h
+
+abbrev pub points_of_lists : File → List (List (List Symbol)) → AtPoints
+points_of_lists file lists = record {
+  shown = true;
+  symbols = λ h p. slice_index_or (slice_index_or lists h []) p [];
+  tables = table_names file;
+  variables = λ h. variables_in (slice_get file.handlers h);
+}
 
 -- ---- requests
-
--- each handler's name, and how many parameters it has
-abbrev pub heads_of : List Handler → List Head
-heads_of handlers = map (λ (h : Handler). record { name = h.name; params = length h.params }) handlers
-
--- the request with this ticket
-abbrev pub request_at : List Request → ℕ → Request
-request_at requests t = slice_index_or requests t (record { handler = 0; args = [] })
-
--- each ticket runs its request's handler from its arguments
-abbrev pub session : File → List Request → Session
-session file requests = record {
-  shape = shape_of file;
-  opening = start (shape_of file);
-  requests = length requests;
-  next = λ t. next (code_at file (request_at requests t).handler) (env_of (request_at requests t).args);
-  length = λ t. calls_bound (code_at file (request_at requests t).handler);
-}
 
 -- the names of the handlers' part
 abbrev pub handler_names_of : Parts → List (List ℕ)
@@ -53,11 +49,11 @@ abbrev pub all_names_of : Parts → List (List ℕ)
 all_names_of parts = names_behind (handler_names_of parts) (rows_of parts)
 
 abbrev pub requests_of : Parts → File → List Request
-requests_of parts file = map (request_of (handler_names_of parts) (all_names_of parts) (heads_of file.handlers)) (rows_of parts)
+requests_of parts file = map (request_of (handler_names_of parts) (all_names_of parts) file) (rows_of parts)
 
 -- the first fault of the requests, if there is one
 abbrev pub request_fault : Parts → File → Option RequestRefusal
-request_fault parts file = first_fault (handler_names_of parts) (heads_of file.handlers) no_requests (rows_of parts)
+request_fault parts file = first_fault (handler_names_of parts) file no_requests (rows_of parts)
 
 -- ---- sessions
 

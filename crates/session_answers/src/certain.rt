@@ -3,10 +3,12 @@
 ghost use Rattle.std.specs.Prelude.{◌≡◌, ◌≢◌};
 ghost use Rattle.handler_grammar.specs.declared.refusal.SyntaxRefusal.TheVariants as syntax;
 ghost use Rattle.handler_rules.specs.declared.refusal.CheckRefusal.TheVariants as check;
+ghost use Rattle.may_use_analysis.specs.declared.refusal.AnalysisRefusal.TheVariants as analysis;
 ghost use Rattle.request_files.specs.declared.refusal.RequestRefusal.TheVariants as request;
 
 use handler_grammar::SyntaxRefusal;
 use handler_rules::CheckRefusal;
+use may_use_analysis::AnalysisRefusal;
 use request_files::RequestRefusal;
 use std::marker::Model;
 
@@ -22,6 +24,10 @@ impl Refusal for SyntaxRefusal {
 
 impl Refusal for CheckRefusal {
     ghost is_certain = { λ e. e ≢ check.NoMemory };
+}
+
+impl Refusal for AnalysisRefusal {
+    ghost is_certain = { λ e. e ≢ analysis.NoMemory };
 }
 
 impl Refusal for RequestRefusal {

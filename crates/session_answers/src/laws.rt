@@ -5,9 +5,9 @@ ghost use Rattle.session_values.specs.Serial.{serial_replies};
 ghost use Rattle.handler_syntax.specs.Language.{File, IsNamedFile};
 ghost use Rattle.request_files.specs.declared.request.Request.{Request};
 ghost use Rattle.request_files.specs.Requests.{ArePrintable};
+ghost use Rattle.request_files.specs.Session.{session};
 ghost use Rattle.session_answers.specs.Answer.{Answer, IsAnswer};
 ghost use Rattle.session_answers.specs.Printable.{ArePrintableReplies};
-ghost use Rattle.session_answers.specs.Session.{session};
 
 /// A command line and an input have one answer at most.
 pub fn one_answer()

@@ -7,6 +7,7 @@ use crate::status::{Fault, Status};
 use command_words::usage_line;
 use handler_grammar::SyntaxRefusal;
 use handler_rules::CheckRefusal;
+use may_use_analysis::AnalysisRefusal;
 use request_files::RequestRefusal;
 use short_text::ShortText;
 
@@ -34,6 +35,7 @@ fn fault_line(fault: &Fault) -> ShortText
         Fault::NotText => ShortText::of(b"refused T4\n"),
         Fault::Syntax(e) => syntax_line(e.refusal()),
         Fault::Check(e) => check_line(e.refusal()),
+        Fault::Analysis(e) => analysis_line(e.refusal()),
         Fault::Request(e) => request_line(e.refusal()),
     }
 }
@@ -77,9 +79,26 @@ fn numbered(rule: &[u8], number: u32) -> ShortText
     ensures { result ≡ spec.numbered rule.now number }
 {
     let mut text = ShortText::of(rule);
-    text.push_number(number);
+    text.push_number(u64::from(number));
     text.push(b"\n");
     text
+}
+
+fn analysis_line(e: &AnalysisRefusal) -> ShortText
+    requires { e.now ≢ AnalysisRefusal.NoMemory }
+    ensures { result ≡ spec.analysis_line e.now }
+{
+    match e {
+        AnalysisRefusal::TooManySymbols { at, count } => {
+            let mut text = ShortText::of(b"refused A1 at ");
+            text.push_number(u64::from(*at));
+            text.push(b" count ");
+            text.push_number(*count);
+            text.push(b"\n");
+            text
+        }
+        AnalysisRefusal::NoMemory => unreachable!(),
+    }
 }
 
 fn request_line(e: &RequestRefusal) -> ShortText
@@ -91,6 +110,8 @@ fn request_line(e: &RequestRefusal) -> ShortText
         RequestRefusal::Arity { line } => numbered(b"refused Q2 line ", *line),
         RequestRefusal::BadWord { line } => numbered(b"refused Q3 line ", *line),
         RequestRefusal::TooManyRequests { line } => numbered(b"refused Q4 line ", *line),
+        RequestRefusal::TooManyCalls { line } => numbered(b"refused Q5 line ", *line),
+        RequestRefusal::TooMuchWork { line } => numbered(b"refused Q6 line ", *line),
         RequestRefusal::NoMemory => unreachable!(),
     }
 }

@@ -5,6 +5,7 @@ ghost use Rattle.std.specs.Prelude.{◌≡◌};
 use crate::certain::Certain;
 use handler_grammar::SyntaxRefusal;
 use handler_rules::CheckRefusal;
+use may_use_analysis::AnalysisRefusal;
 use request_files::RequestRefusal;
 
 /// Why an input is refused. It is never want of memory.
@@ -22,6 +23,8 @@ pub enum Fault {
     Syntax(Certain<SyntaxRefusal>),
     /// The handlers break a rule of the checker.
     Check(Certain<CheckRefusal>),
+    /// Too many operations may still come at a point of the handlers.
+    Analysis(Certain<AnalysisRefusal>),
     /// A request breaks a rule.
     Request(Certain<RequestRefusal>),
 }

@@ -57,10 +57,10 @@ impl ShortText {
     }
 
     /// Appends a number in decimal.
-    pub fn push_number(&mut self, n: u32)
-        requires { length self.old + 10 ≤ 96 }
+    pub fn push_number(&mut self, n: u64)
+        requires { length self.old + 20 ≤ 96 }
         ensures text { self.new ≡ self.old ++ decimal n }
-        ensures len { length self.new ≤ length self.old + 10 }
+        ensures len { length self.new ≤ length self.old + 20 }
     {
         let mut buffer = Buffer::new();
         self.push(buffer.format(n).as_bytes());

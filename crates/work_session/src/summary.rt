@@ -11,11 +11,11 @@ pub fn summary_text(requests: u32, calls: u32, bytes: u32) -> ShortText
     ensures { result ≡ spec.summary requests calls bytes }
 {
     let mut text = ShortText::of(b"requests ");
-    text.push_number(requests);
+    text.push_number(u64::from(requests));
     text.push(b"\ncalls ");
-    text.push_number(calls);
+    text.push_number(u64::from(calls));
     text.push(b"\nbytes ");
-    text.push_number(bytes);
+    text.push_number(u64::from(bytes));
     text.push(b"\n");
     text
 }
