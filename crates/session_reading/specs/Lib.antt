@@ -1,1 +1,3 @@
+pub mod Analyses
 pub mod Reasons
+pub mod Sessions

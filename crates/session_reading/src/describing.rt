@@ -29,6 +29,6 @@ pub fn described_text(alloc: Global, shown: bool, bytes: &[u8]) -> Result<String
         return Err(Unserved::Refused(Fault::HasRequests));
     }
     let mut names = names_of_input(alloc, text, "");
-    let checked = read_program(alloc, text, &mut names)?;
-    Ok(print(alloc, checked.file(), &names)?)
+    let program = read_program(alloc, text, &mut names)?;
+    Ok(print(alloc, program.checked.file(), &names)?)
 }

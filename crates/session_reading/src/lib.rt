@@ -5,8 +5,11 @@ mod describing;
 mod naming;
 mod program;
 mod reading;
+mod session;
 mod unserved;
 
 pub use describing::described_text;
+pub use program::{Analysed, read_program};
 pub use reading::read_input;
+pub use session::{Loaded, read_session};
 pub use unserved::Unserved;
