@@ -1,0 +1,5 @@
+use Rattle.declaration_insertion.proofs.Vars.{instantiated}
+use Rattle.declaration_insertion.proofs.laws.declarations_with_values.Goals as goal
+
+pub returns : goal.returns
+returns c = instantiated

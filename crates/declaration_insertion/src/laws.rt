@@ -1,0 +1,42 @@
+//! Laws on declarations.
+
+ghost use Rattle.std.specs.Prelude.{◌≡◌, ℕ, ◌<◌, List, length, map};
+ghost use Rattle.std.specs.List.{AllByRecursion};
+ghost use Rattle.session_values.specs.declared.kind.TableKind.{TableKind};
+ghost use Rattle.session_values.specs.declared.value.Value.{Value};
+ghost use Rattle.session_values.specs.Values.{IsValue};
+ghost use Rattle.symbolic_ops.specs.declared.symbol.Symbol.{Symbol};
+ghost use Rattle.symbolic_ops.specs.Instantiate.{IsWithin, symbol_in};
+ghost use Rattle.handler_dialogue.specs.Code.{Code, IsNumbered};
+ghost use Rattle.handler_dialogue.specs.Dialogue.{env_of};
+ghost use Rattle.handler_dialogue.specs.Within.{CodeWithin};
+ghost use Rattle.handler_check.specs.Resolved.{code_at};
+ghost use Rattle.may_use_analysis.specs.Later.{HasLists};
+ghost use Rattle.declaration_insertion.specs.Promises.{ArePromised, listed, symbol_at};
+ghost use Rattle.declaration_insertion.specs.Program.{IsProgram, ProgramView, declared_at};
+
+/// In each handler, for all values of its parameters and whatever is replied, each declaration is
+/// covered by the one passed before it and covers the rest of the run, and the operation that is
+/// called next is matched by the last one.
+pub fn declarations_cover()
+    ensures { (code : Code) (lists : List (List Symbol)) (shape : List TableKind) (variables : ℕ)
+        (args : List Value) → HasLists code lists → IsNumbered code 1
+        → CodeWithin shape variables code → AllByRecursion IsValue args
+        → ArePromised code (listed lists) (env_of args) }
+{}
+
+/// The same of each handler of a program. Its declarations name its own variables alone, of which
+/// there are at most 32.
+pub fn programs_declare()
+    ensures promised { (p : ProgramView) → IsProgram p → (h : ℕ) → h < length p.file.handlers
+        → (args : List Value) → AllByRecursion IsValue args
+        → ArePromised (code_at p.file h) (declared_at p h) (env_of args) }
+    ensures vars { (p : ProgramView) → IsProgram p → (h : ℕ) → h < length p.file.handlers
+        → (point : ℕ) → AllByRecursion (λ s. IsWithin 32 s) (declared_at p h point) }
+{}
+
+/// A declaration with the values of its variables, as they are put into it.
+pub fn declarations_with_values()
+    ensures { (values : List Value) (list : List Symbol)
+        → map (symbol_in values) list ≡ map (symbol_at (env_of values)) list }
+{}

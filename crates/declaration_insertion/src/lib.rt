@@ -1,0 +1,9 @@
+//! Handlers with a declaration at each point: what they may still call.
+#![tactic(auto)]
+
+pub mod laws;
+mod printing;
+mod program;
+
+pub use printing::show;
+pub use program::{Program, insert};
