@@ -5,6 +5,7 @@ use Rattle.handler_syntax.specs.Language.{names_of, File, HasFault, IsSourceOf, 
 use Rattle.handler_syntax.specs.Language.syntax_refusal
 use Rattle.handler_rules.specs.declared.refusal.CheckRefusal.{CheckRefusal}
 use Rattle.handler_check.specs.Checking.{IsAccepted, IsRefusal}
+use Rattle.declaration_insertion.specs.Shown.{shown_of as points_shown}
 use Rattle.may_use_analysis.specs.declared.refusal.AnalysisRefusal.{AnalysisRefusal}
 use Rattle.may_use_analysis.specs.Later.{IsTooMany}
 use Rattle.request_files.specs.declared.refusal.RequestRefusal.{RequestRefusal}
@@ -15,7 +16,7 @@ use Rattle.work_session.specs.Summary.{summary}
 use Rattle.session_answers.specs.declared.status.Fault.{Fault}
 use Rattle.session_answers.specs.declared.status.Fault.TheVariants as fault
 use Rattle.session_answers.specs.Input.{Parts, parts_of, is_divided, input_of, has_requests, handlers_of, max_input, IsInput}
-use Rattle.session_answers.specs.Session.{IsProgram, IsSession, points_of_lists, request_fault, session_of_parts, replies_text, serial_calls}
+use Rattle.session_answers.specs.Session.{IsProgram, IsSession, request_fault, session_of_parts, replies_text, serial_calls}
 
 -- ---- faults
 
@@ -63,7 +64,7 @@ pub record IsChecked (input text : List ℕ) : Type 0 where
   pub text_is : text ≡ canonical_text (names_of [] input) file
 
 abbrev pub shown_of : List ℕ → File → List (List (List Symbol)) → List ℕ
-shown_of input file lists = shown_text (names_of [] input) (points_of_lists file lists) file
+shown_of input file lists = shown_text (names_of [] input) (points_shown (record { file = file; lists = lists })) file
 
 -- the text with what is declared at each point, which is the list of the operations that may still come there
 pub record IsShown (input text : List ℕ) : Type 0 where

@@ -1,11 +1,10 @@
 -- The session of a session file: what is served.
-use Rattle.std.specs.Prelude.{◌≡◌, ℕ, zero, suc, ◌+◌, true, List, [], length, map, slice_get, slice_index_or, Option, Some, None}
+use Rattle.std.specs.Prelude.{◌≡◌, ℕ, zero, suc, ◌+◌, List, [], length, map, Option, None}
 use Rattle.session_values.specs.ReplyText.{reply_text}
 use Rattle.session_values.specs.Serial.{Session, serial, serial_replies}
 use Rattle.symbolic_ops.specs.declared.symbol.Symbol.{Symbol}
-use Rattle.handler_syntax.specs.Language.{names_of, Handler, File, IsSourceOf, AtPoints}
+use Rattle.handler_syntax.specs.Language.{names_of, File, IsSourceOf}
 use Rattle.handler_check.specs.Checking.{IsAccepted}
-use Rattle.handler_check.specs.Resolved.{table_names, variables_of}
 use Rattle.may_use_analysis.specs.Later.{AreLater}
 use Rattle.request_files.specs.declared.refusal.RequestRefusal.{RequestRefusal}
 use Rattle.request_files.specs.declared.request.Request.{Request}
@@ -20,19 +19,6 @@ pub record IsProgram (text : List ℕ) (file : File) : Type 0 where
   pub accepted : IsAccepted file
   pub lists : List (List (List Symbol))
   pub later : AreLater file lists
-
--- what stands at the points of a file with these lists: the list of each point, and the names of tables and variables
-abbrev pub variables_in : Option Handler → List ℕ
-variables_in None = []
-variables_in (Some h) = variables_of h
-
-abbrev pub points_of_lists : File → List (List (List Symbol)) → AtPoints
-points_of_lists file lists = record {
-  shown = true;
-  symbols = λ h p. slice_index_or (slice_index_or lists h []) p [];
-  tables = table_names file;
-  variables = λ h. variables_in (slice_get file.handlers h);
-}
 
 -- ---- requests
 

@@ -1,3 +1,3 @@
-pub mod Analyses
+pub mod Programs
 pub mod Reasons
 pub mod Sessions

@@ -6,14 +6,14 @@ use Rattle.request_files.specs.Servable.{IsServable}
 use Rattle.session_answers.specs.Input.{Parts}
 use Rattle.session_answers.specs.Session.{all_names_of, requests_of, request_fault}
 use Rattle.session_reading.specs.declared.session.Loaded.{Loaded}
-use Rattle.session_reading.specs.Analyses.{IsAnalysed}
+use Rattle.session_reading.specs.Programs.{IsProgramOf}
 
 -- what is loaded is the parts' session, and it can be served and printed
 pub record IsLoaded (parts : Parts) (l : Loaded) : Type 0 where
-  pub analysed : IsAnalysed parts.handlers l.handlers
-  pub fine : request_fault parts l.handlers.checked ≡ None
+  pub program_of : IsProgramOf parts.handlers l.program
+  pub fine : request_fault parts l.program.file ≡ None
   pub names_are : l.names ≡ all_names_of parts
-  pub requests_are : l.requests ≡ requests_of parts l.handlers.checked
-  pub servable : IsServable l.handlers.checked l.requests
-  pub named : IsNamedFile l.names l.handlers.checked
+  pub requests_are : l.requests ≡ requests_of parts l.program.file
+  pub servable : IsServable l.program.file l.requests
+  pub named : IsNamedFile l.names l.program.file
   pub printable : ArePrintable l.names l.requests

@@ -9,7 +9,7 @@ mod session;
 mod unserved;
 
 pub use describing::described_text;
-pub use program::{Analysed, read_program};
+pub use program::read_program;
 pub use reading::read_input;
 pub use session::{Loaded, read_session};
 pub use unserved::Unserved;

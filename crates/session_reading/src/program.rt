@@ -1,41 +1,35 @@
-// Handlers of a text, checked and analysed.
+// Handlers of a text, with their declarations.
 
 ghost use Rattle.std.specs.Prelude.{◌≡◌, ◌≤◌, [], length, IfOk, IfErr, OnOk};
 ghost use Rattle.handler_check.specs.Checking.{IsAccepted};
-ghost use Rattle.may_use_analysis.specs.Later.{AreLater};
 ghost use Rattle.handler_syntax.specs.Language.{names_of, file_mentions, AreNamed, IsSourceOf, IsNamedFile};
-ghost use Rattle.session_reading.specs.Analyses.{IsAnalysed};
+ghost use Rattle.may_use_analysis.specs.Later.{AreLater};
+ghost use Rattle.session_reading.specs.Programs.{IsProgramOf};
 ghost use Rattle.session_reading.specs.Reasons.{IsSyntaxReason, IsCheckReason, IsAnalysisReason, IsProgramReason};
 
 use crate::unserved::Unserved;
+use declaration_insertion::{Program, insert};
 use handler_check::{CheckRefusal, Checked, check};
 use handler_syntax::{File, SyntaxRefusal, parse};
-use may_use_analysis::{AnalysisRefusal, Later, later_sets};
+use may_use_analysis::{AnalysisRefusal, later_sets};
 use session_answers::{Certain, Fault};
 use session_values::Names;
 use std::alloc::Global;
 
-/// Handlers that break no rule, with the operations that may still come at each of their points.
-#[derive(Drop)]
-pub struct Analysed {
-    pub checked: Checked,
-    pub later: Later,
-}
-
-/// The handlers that a text is, where they break no rule.
-pub fn read_program(alloc: Global, text: &str, names: &mut Names) -> Result<Analysed, Unserved>
+/// The handlers that a text is, where they break no rule, with their declarations.
+pub fn read_program(alloc: Global, text: &str, names: &mut Names) -> Result<Program, Unserved>
     requires short { length text.now ≤ 4194304 }
     requires fresh { names.old ≡ [] }
-    ensures analysed { IfOk result (IsAnalysed text.now) }
+    ensures program { IfOk result (IsProgramOf text.now) }
     ensures names { OnOk result (names.new ≡ names_of [] text.now) }
-    ensures named { IfOk result (λ a. IsNamedFile names.new a.checked) }
-    ensures printable { IfOk result (λ a. AreNamed names.new (file_mentions a.checked)) }
+    ensures named { IfOk result (λ p. IsNamedFile names.new p.file) }
+    ensures printable { IfOk result (λ p. AreNamed names.new (file_mentions p.file)) }
     ensures few { OnOk result (length names.new ≤ length text.now) }
     ensures refused { IfErr result (IsProgramReason text.now) }
 {
     let file = read_file(alloc, text, names)?;
     let checked = checked_file(alloc, file)?;
-    analyse(alloc, checked)
+    with_declarations(alloc, checked)
 }
 
 // The file that a text is.
@@ -69,14 +63,17 @@ fn checked_file(alloc: Global, file: File) -> Result<Checked, Unserved>
     }
 }
 
-// A file with the operations that may still come at each point, where these are not too many.
-fn analyse(alloc: Global, checked: Checked) -> Result<Analysed, Unserved>
-    ensures same { IfOk result (λ a. a.checked ≡ checked) }
-    ensures later { IfOk result (λ a. AreLater a.checked a.later) }
+// A file with its declarations, where at no point too many operations may still come.
+fn with_declarations(alloc: Global, checked: Checked) -> Result<Program, Unserved>
+    ensures file { IfOk result (λ p. p.file ≡ checked) }
+    ensures later { IfOk result (λ p. AreLater p.file p.lists) }
     ensures refused { IfErr result (IsAnalysisReason checked) }
 {
     match later_sets(alloc, &checked) {
-        Ok(later) => Ok(Analysed { checked, later }),
+        Ok(later) => match insert(alloc, checked, later) {
+            Ok(program) => Ok(program),
+            Err(_) => Err(Unserved::NoMemory),
+        },
         Err(AnalysisRefusal::NoMemory) => Err(Unserved::NoMemory),
         Err(e) => Err(Unserved::Refused(Fault::Analysis(Certain::new(e)))),
     }

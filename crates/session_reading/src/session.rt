@@ -5,8 +5,9 @@ ghost use Rattle.session_reading.specs.Sessions.{IsLoaded};
 ghost use Rattle.session_reading.specs.Reasons.{IsSessionReason};
 
 use crate::naming::names_of_input;
-use crate::program::{Analysed, read_program};
+use crate::program::read_program;
 use crate::unserved::Unserved;
+use declaration_insertion::Program;
 use request_files::{RequestRefusal, Requests, read_requests};
 use session_answers::{Certain, Fault};
 use session_values::Names;
@@ -16,7 +17,7 @@ use std::alloc::Global;
 #[derive(Drop)]
 pub struct Loaded {
     pub names: Names,
-    pub handlers: Analysed,
+    pub program: Program,
     pub requests: Requests,
 }
 
@@ -37,10 +38,10 @@ pub fn read_session(
 {
     let mut names = names_of_input(alloc, handlers, requests);
     let program = read_program(alloc, handlers, &mut names)?;
-    match read_requests(alloc, &program.checked, requests, first, &mut names) {
+    match read_requests(alloc, program.checked(), requests, first, &mut names) {
         Ok(requests) => Ok(Loaded {
             names,
-            handlers: program,
+            program,
             requests,
         }),
         Err(RequestRefusal::NoMemory) => Err(Unserved::NoMemory),
