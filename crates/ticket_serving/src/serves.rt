@@ -1,7 +1,7 @@
 // Scripts whose tickets can be served.
 
 ghost use Rattle.std.specs.Prelude.{◌≡◌, ◌<◌, [], None, true, false, IfOk, OnErr};
-ghost use Rattle.std.specs.Thread.{IsSync};
+ghost use denote.Param.Send.{IsSync};
 ghost use Rattle.ticket_serving.specs.Served.{IsServed};
 
 use crate::scratch::Scratch;
@@ -21,8 +21,8 @@ pub trait Serves: Script {
         scratch: &mut Scratch,
         desk: &mut D,
     ) -> Result<(), NoMemory>
-        // Within the method the bound alone doesn't say so.
-        requires sync { IsSync R.row }
+        // In an impl the bound alone isn't known.
+        requires shared { IsSync R.row }
         requires ready { scratch.old.ready ≡ true }
         requires plan { D.script desk.old ≡ self.now }
         requires ticket { (D.at desk.old).ticket ≡ ticket }
