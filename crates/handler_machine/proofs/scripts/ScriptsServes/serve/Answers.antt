@@ -13,7 +13,7 @@ use Rattle.handler_machine.proofs.Lawful.{gives_ticket, request_is}
 use Rattle.handler_machine.proofs.scripts.ScriptsServes.serve.Goals as goal
 
 pub serve_one-requires-sync-R : goal.serve_one-requires-sync-R
-serve_one-requires-sync-R g c κs within = param_sync 0 g.row.R (given_sync 1 g.row.R c.requires.sync)
+serve_one-requires-sync-R g c κs within = param_sync 0 g.row.R (given_sync 1 g.row.R c.requires.shared)
 
 pub serve_one-requires-clause-args : goal.serve_one-requires-clause-args
 serve_one-requires-clause-args g c κs within =
