@@ -90,7 +90,7 @@ module _ {I O : Type 0} (c : Command) (source : Change I) (out : Change O) (clos
   abbrev rest : Option (List ℕ)
   rest = source.bytes source.new
 
-  runs_of : (s : Status) → Ends s → (is_reading (Some c) ≡ false → IsUntouched source × (s ≢ status.ReadFault)) → Told (Some c) source (λ bytes. Answered (Some c) bytes out s)
+  pub runs_of : (s : Status) → Ends s → (is_reading (Some c) ≡ false → IsUntouched source × (s ≢ status.ReadFault)) → Told (Some c) source (λ bytes. Answered (Some c) bytes out s)
       → (is_reading (Some c) ≡ true → has_read_all s ≡ true → IsAtEnd left rest) → (is_reading (Some c) ≡ true → s ≡ status.Refused TooLarge → LostFirst left rest (max_input + 1)) → LostAtMost left rest (max_input + 1)
       → is_some closed ≡ has_served (Some c) s → Told (Some c) source (λ bytes. Holds (Some c) bytes closed)
       → Runs (Some c) source out s closed
@@ -136,7 +136,7 @@ nothing_held Show s = untold (s.bytes s.old)
 nothing_held (Serve callers shards) s = untold (s.bytes s.old)
 nothing_held (Work requests start) s = λ bytes. tt
 
-not_served : (c : Command) (s : Status) → s ≢ status.Fine → s ≢ status.WriteFault → false ≡ has_served (Some c) s
+pub not_served : (c : Command) (s : Status) → s ≢ status.Fine → s ≢ status.WriteFault → false ≡ has_served (Some c) s
 not_served c status.Fine f w = absurd (f refl)
 not_served c status.WriteFault f w = absurd (w refl)
 not_served Check (status.Refused e) f w = refl
