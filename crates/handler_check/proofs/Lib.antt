@@ -2,6 +2,7 @@ pub mod Cases
 pub mod Codes
 pub mod Counting
 pub mod Fine
+pub mod Finding
 pub mod Held
 pub mod Inductions
 pub mod Meaning

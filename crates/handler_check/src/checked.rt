@@ -1,6 +1,7 @@
 // Checked files.
 
-ghost use Rattle.std.specs.Prelude.{◌≡◌, ◌≢◌, ◌+◌, ◌<◌, ◌≤◌, ℕ, IfNone, IfOk, IfSome, MatchResult, Some, length, slice_get};
+ghost use Rattle.std.specs.Prelude.{◌≡◌, ◌≢◌, ◌+◌, ◌<◌, ◌≤◌, ◌==◌, ℕ, IfNone, IfOk, IfSome, MatchResult, Some, length, slice_get};
+ghost use Rattle.std.specs.List.{position};
 ghost use Rattle.handler_trees.specs.declared.file.Handler.{Handler};
 ghost use Rattle.handler_check.specs.Checked.{HandlerWithin};
 ghost use Rattle.handler_check.specs.Checking.{IsAccepted, IsRefusal};
@@ -101,6 +102,7 @@ impl Checked {
             ≡ Some source) × (source.name ≡ name)) }
         ensures none { IfNone result ((h : ℕ) (source : Handler) → slice_get self.now.handlers h
             ≡ Some source → source.name ≡ name → ⊥) }
+        ensures index { result ≡ position (λ (source : Handler). source.name == name) self.now.handlers }
     {
         let handlers = &self.file.handlers;
         for h in 0..handlers.len() {

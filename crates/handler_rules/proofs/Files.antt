@@ -1,15 +1,15 @@
 -- The faults of a file, text by text, and the rules that are broken in it.
-use Rattle.std.proofs.Common.{◌≡◌, ℕ, suc, zero, ◌+◌, ◌<◌, ◌≤◌, ◌⊎◌, inl, inr, List, [], ◌∷◌, ◌++◌, append-nil, append_assoc, length, map, slice_index_or, Option, Some, None, refl, sym, ap, ◌∙◌, subst, arith}
+use Rattle.std.proofs.Common.{◌≡◌, ℕ, suc, zero, ◌<◌, ◌⊎◌, inl, inr, List, [], ◌∷◌, ◌++◌, length, map, slice_index_or, refl, sym, ap, subst, arith}
 use Rattle.std.specs.List.{Contains, AllByRecursion, flat_map}
 use Rattle.handler_trees.specs.declared.file.File.{File}
 use Rattle.handler_trees.specs.declared.file.Handler.{Handler}
 use Rattle.handler_trees.specs.declared.file.TableDecl.{TableDecl}
 use Rattle.handler_rules.specs.declared.refusal.CheckRefusal.{CheckRefusal}
 use Rattle.handler_rules.specs.declared.refusal.CheckRefusal.TheVariants.{Twice, Unknown, Arity, WrongTable, RepeatBound, TooManyTables, TooManyHandlers, TooManyVariables, TooManyCalls, TooMuchWork, NoMemory}
-use Rattle.handler_rules.specs.Marks.{Mark, Declared, mark_at, declared, handler_marks, table_marks, name_marks}
+use Rattle.handler_rules.specs.Marks.{Mark, Declared, mark_at, handler_marks, table_marks, name_marks}
 use Rattle.handler_rules.specs.Rules.{IsBroken, InHandler, IsPast}
-use Rattle.handler_rules.specs.FirstFault.{place, IsFirstFault, KeepsRules, AreRising, PlacesRise}
-use Rattle.handler_rules.specs.Scan.{Fault, or_else, declared_fault, Limit, of_tables, of_handlers, of_variables, scan, scan_handlers, file_fault}
+use Rattle.handler_rules.specs.FirstFault.{place, AreRising, PlacesRise}
+use Rattle.handler_rules.specs.Scan.{or_else, declared_fault, Limit, of_tables, of_handlers, of_variables, scan, scan_handlers, file_fault}
 use Rattle.handler_rules.proofs.Finds.{Faults, Finds, finds_same, finds_both, Breaks, BrokenFrom, IsFair, above_all, finds_scan, finds_mark, stands_at}
 use Rattle.handler_rules.proofs.Texts.{Rule, rule_from, from_rule}
 

@@ -1,5 +1,5 @@
 -- A file within the limits keeps its bounds.
-use Rattle.std.proofs.Common.{◌≡◌, ℕ, suc, ◌+◌, List, [], ◌∷◌, ◌++◌, length, refl, sym, ap, subst, arith, rules}
+use Rattle.std.proofs.Common.{◌≡◌, ℕ, suc, ◌+◌, ◌≤◌, ◌^◌, List, [], ◌∷◌, ◌++◌, length, refl, sym, ap, subst, arith, rules}
 use Rattle.std.specs.List.{AllByRecursion, flat_map}
 use Rattle.handler_tokens.specs.declared.word.Word.{Word}
 use Rattle.handler_trees.specs.declared.expr.Expr.{Expr}
@@ -9,7 +9,7 @@ use Rattle.handler_trees.specs.declared.stmt.Right.{Right}
 use Rattle.handler_trees.specs.declared.stmt.Stmt.{Stmt, the_lemmas}
 use Rattle.handler_trees.specs.declared.stmt.Stmt.TheVariants as stmt
 use Rattle.handler_trees.specs.declared.file.File.{File}
-use Rattle.handler_trees.specs.Mentions.{Mention, a_name, a_symbol, a_number, file_mentions}
+use Rattle.handler_trees.specs.Mentions.{Mention, a_name, a_symbol, a_number, IsBelow, AreBelow, file_mentions}
 use Rattle.handler_trees.proofs.Mentions.{all_join}
 use Rattle.handler_grammar.specs.Phrase.{MoreAtoms, no_atom, more_atom, atom_count, operands, CallPhrase, a_call as call_phrase, RightPhrase, result_right, plain_right, a_turns, MoreValues, no_value, more_value, value_count, StmtPhrase, let_stmt, assign_stmt, call_stmt, if_stmt, repeat_stmt, reply_stmt, ElsePhrase, no_else, an_else, StmtsPhrase, no_stmt, more_stmts, block, HandlersPhrase, no_handler, more_handlers, a_handler, FilePhrase, a_file, file_words}
 use Rattle.handler_grammar.specs.Tree.{atoms_trees, call_tree, right_tree, cond_tree, more_trees, values_trees, stmt_tree, else_trees, stmts_trees, handlers_trees, file_tree}
@@ -103,8 +103,20 @@ numbers_bounded : (ms : List Mention) → AllByRecursion (IsSaid Any Any) ms →
 numbers_bounded [] h = tt
 numbers_bounded (m ∷ ms) h = (number_bounded m h.0, numbers_bounded ms h.1)
 
-pub keeps_bounds : (ws : List Word) (file : File) → IsFileWithin ws file → KeepsBounds file
-keeps_bounds ws file within = subst KeepsBounds (sym within.2) (record {
-  forms = file_bounded within.0 within.3;
-  numbers = numbers_bounded (file_mentions (file_tree within.0)) (file_read Any Any within.0 within.3 (unasked (file_words within.0 [])));
-})
+-- ---- places
+
+below : (n k : ℕ) (m : Mention) → n ≤ k → IsBelow n m → IsBelow k m
+below n k (a_name place) l h = omega arith
+below n k (a_symbol place) l h = omega arith
+below n k (a_number z) l h = tt
+
+pub all_below : (n k : ℕ) (ms : List Mention) → n ≤ k → AreBelow n ms → AreBelow k ms
+all_below n k [] l h = tt
+all_below n k (m ∷ ms) l h = (below n k m l h.0, all_below n k ms l h.1)
+
+pub keeps_bounds : (ws : List Word) (file : File) → IsFileWithin ws file → AreBelow (2 ^ 32) (file_mentions file) → KeepsBounds file
+keeps_bounds ws file within places = record {
+  forms = subst (λ (f : File). Bounded (file_forms f)) (sym within.2) (file_bounded within.0 within.3);
+  numbers = subst (λ (f : File). AllByRecursion IsBoundedNumber (file_mentions f)) (sym within.2) (numbers_bounded (file_mentions (file_tree within.0)) (file_read Any Any within.0 within.3 (unasked (file_words within.0 []))));
+  places = places;
+}

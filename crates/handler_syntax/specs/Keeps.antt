@@ -1,9 +1,10 @@
 -- What a file of handlers keeps, and what its text is.
-use Rattle.std.specs.Prelude.{◌≡◌, ℕ, List}
+use Rattle.std.specs.Prelude.{◌≡◌, ℕ, ◌^◌, List}
 use Rattle.handler_tokens.specs.declared.word.Word.{Word}
 use Rattle.handler_tokens.specs.Texts.{IsNamedFile}
 use Rattle.handler_tokens.specs.Words.{names_of}
 use Rattle.handler_trees.specs.declared.file.File.{File}
+use Rattle.handler_trees.specs.Mentions.{AreBelow, file_mentions}
 use Rattle.handler_grammar.specs.Limits.{IsFileWithin}
 use Rattle.handler_grammar.specs.Parsed.{IsSourceOf}
 use Rattle.handler_printing.specs.Canonical.{canonical_text}
@@ -20,6 +21,8 @@ pub record IsKept (tree : File) : Type 0 where
   pub limits : KeepsLimits tree
   -- The places of its parts rise in the order of its text.
   pub rise : PlacesRise tree
+  -- The places of its names and symbols are numbers of 32 bits.
+  pub places : AreBelow (2 ^ 32) (file_mentions tree)
 
 -- the text is read as the same tree, places aside, and brings no new name
 abbrev pub IsReadAs : List (List ℕ) → File → List ℕ → Type 0

@@ -2,14 +2,12 @@
 #![tactic(auto)]
 
 #[cfg(test)]
-mod checking;
+mod declaring;
 #[cfg(test)]
 mod helpers;
 #[cfg(test)]
 mod parsing;
 #[cfg(test)]
 mod printing;
-#[cfg(test)]
-mod showing;
 #[cfg(test)]
 mod tokens;

@@ -1,5 +1,7 @@
 pub mod Divide
 pub mod Requests
+pub mod Servable
+pub mod Session
 pub mod Steps
 pub mod Text
 pub mod Values

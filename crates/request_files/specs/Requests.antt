@@ -1,15 +1,19 @@
 -- The requests of the lines of a text, and the first fault among them.
-use Rattle.std.specs.Prelude.{◌≡◌, ℕ, ◌+◌, ◌<◌, ◌≤◌, true, false, not, ◌==◌, nat_le, if◌then◌else◌, List, [], ◌∷◌, length, map, slice_get, Option, Some, None, MatchOption}
+use Rattle.std.specs.Prelude.{◌≡◌, ℕ, ◌+◌, ◌<◌, ◌≤◌, true, false, not, ◌==◌, nat_le, nat_lt, if◌then◌else◌, List, [], ◌∷◌, length, map, Option, Some, None, MatchOption}
 use Rattle.std.specs.List.{list_all, position_or_len, AllByRecursion}
 use Rattle.std.specs.Option.{option_or}
 use Rattle.session_values.specs.Names.{place_of}
 use Rattle.session_values.specs.ReplyText.{IsPrintable}
 use Rattle.session_values.specs.declared.value.Value.{Value}
-use Rattle.request_files.specs.declared.head.Head.{Head}
+use Rattle.handler_trees.specs.declared.file.File.{File}
+use Rattle.handler_trees.specs.declared.file.Handler.{Handler}
+use Rattle.handler_dialogue.specs.Bounds.{calls_bound, work_bound}
+use Rattle.handler_check.specs.Resolved.{code_at, params_at}
 use Rattle.request_files.specs.declared.request.Request.{Request}
 use Rattle.request_files.specs.declared.tally.Tally.{Tally}
 use Rattle.request_files.specs.declared.refusal.RequestRefusal.{RequestRefusal}
-use Rattle.request_files.specs.declared.refusal.RequestRefusal.TheVariants.{TooManyRequests, UnknownHandler, Arity, BadWord}
+use Rattle.request_files.specs.declared.refusal.RequestRefusal.TheVariants.{TooManyRequests, UnknownHandler, Arity, BadWord, TooManyCalls, TooMuchWork}
+use Rattle.request_files.specs.Servable.{IsRequestOf}
 use Rattle.request_files.specs.Text.{Text, words}
 use Rattle.request_files.specs.Values.{is_value, values_of, placed_all}
 
@@ -37,54 +41,54 @@ rows n (l ∷ ls) = row_before n (words l) (rows (n + 1) ls)
 -- ---- handlers
 
 -- each handler's name is in the list
-abbrev pub AreKnown : List Text → List Head → Type 0
-AreKnown names heads = AllByRecursion (λ h. h.name < length names) heads
+abbrev pub AreKnown : List Text → File → Type 0
+AreKnown names f = AllByRecursion (λ (h : Handler). h.name < length names) f.handlers
 
 -- the number of the first handler with this name, or how many there are where none has it
-unfoldable pub handler_of : List Text → List Head → Text → ℕ
-handler_of names heads name = position_or_len (λ h. h.name == place_of names name) heads
-
--- that handler
-unfoldable pub head_of : List Text → List Head → Text → Option Head
-head_of names heads name = slice_get heads (handler_of names heads name)
+unfoldable pub handler_of : List Text → File → Text → ℕ
+handler_of names f name = position_or_len (λ (h : Handler). h.name == place_of names name) f.handlers
 
 -- what a search for the name answers
-abbrev pub IsHandler : List Text → List Head → Text → Option ℕ → Type 0
-IsHandler names heads name o = MatchOption o (head_of names heads name ≡ None) (λ i. (i ≡ handler_of names heads name) × (i < length heads))
+abbrev pub IsHandler : List Text → File → Text → Option ℕ → Type 0
+IsHandler names f name o = MatchOption o (length f.handlers ≤ handler_of names f name) (λ i. (i ≡ handler_of names f name) × (i < length f.handlers))
+
+-- ---- the sums over requests
+
+abbrev pub no_requests : Tally
+no_requests = record { requests = 0; calls = 0; work = 0 }
+
+-- the sums with one request more, of the handler of this number
+abbrev pub with_request : File → ℕ → Tally → Tally
+with_request f i t = record { requests = t.requests + 1; calls = t.calls + calls_bound (code_at f i); work = t.work + work_bound (code_at f i) }
 
 -- ---- the fault of a row, in the order in which faults are tried
 
--- its fault with this handler, if it has one
-abbrev pub head_fault : Row → Option Head → Option RequestRefusal
-head_fault r None = Some (UnknownHandler r.line)
-head_fault r (Some h) =
-    if not (h.params == length r.args) then Some (Arity r.line)
-    else (if not (list_all is_value r.args) then Some (BadWord r.line) else None)
+-- its fault where the sums behind it are these, if it has one
+abbrev pub sum_fault : Tally → ℕ → Option RequestRefusal
+sum_fault t line = if nat_lt 200000 t.calls then Some (TooManyCalls line) else (if nat_lt 10000000 t.work then Some (TooMuchWork line) else None)
 
--- its fault behind these requests, if it has one
-unfoldable pub fault_of : List Text → List Head → Tally → Row → Option RequestRefusal
-fault_of names heads t r =
-    if nat_le 20000 t.requests then Some (TooManyRequests r.line) else head_fault r (head_of names heads r.name)
+-- its fault where its handler has this number, if it has one
+abbrev pub handler_fault : File → Tally → Row → ℕ → Option RequestRefusal
+handler_fault f t r i =
+    if nat_le (length f.handlers) i then Some (UnknownHandler r.line)
+    else (if not (params_at f i == length r.args) then Some (Arity r.line)
+    else (if not (list_all is_value r.args) then Some (BadWord r.line) else sum_fault (with_request f i t) r.line))
 
--- ---- the first fault of some rows
+-- its fault behind requests with these sums, if it has one
+unfoldable pub fault_of : List Text → File → Tally → Row → Option RequestRefusal
+fault_of names f t r =
+    if nat_le 20000 t.requests then Some (TooManyRequests r.line) else handler_fault f t r (handler_of names f r.name)
 
-abbrev pub no_requests : Tally
-no_requests = record { requests = 0 }
-
--- the sums with one request more
-abbrev pub with_request : Tally → Tally
-with_request t = record { requests = t.requests + 1 }
-
--- the first fault of the rows behind these requests, if there is one
-unfoldable pub first_fault : List Text → List Head → Tally → List Row → Option RequestRefusal
-first_fault names heads t [] = None
-first_fault names heads t (r ∷ rs) = option_or (fault_of names heads t r) (first_fault names heads (with_request t) rs)
+-- the first fault of the rows behind requests with these sums, if there is one
+unfoldable pub first_fault : List Text → File → Tally → List Row → Option RequestRefusal
+first_fault names f t [] = None
+first_fault names f t (r ∷ rs) = option_or (fault_of names f t r) (first_fault names f (with_request f (handler_of names f r.name) t) rs)
 
 -- ---- requests
 
 -- a row's request: handlers go by the names before all rows, symbols by those behind them
-unfoldable pub request_of : List Text → List Text → List Head → Row → Request
-request_of old new heads r = record { handler = handler_of old heads r.name; args = values_of new r.args }
+unfoldable pub request_of : List Text → List Text → File → Row → Request
+request_of old new f r = record { handler = handler_of old f r.name; args = values_of new r.args }
 
 -- the names behind all rows
 unfoldable pub names_behind : List Text → List Row → List Text
@@ -98,21 +102,24 @@ abbrev pub AreValues : List Text → List Text → Option (List Value) → Type 
 AreValues names ws o = MatchOption o (list_all is_value ws ≡ false) (λ vs. (list_all is_value ws ≡ true) × (vs ≡ values_of names ws))
 
 -- the sums are within their limits
-abbrev pub IsWithin : Tally → Type 0
-IsWithin t = t.requests ≤ 20000
+pub record IsWithin (t : Tally) : Type 0 where
+  pub requests : t.requests ≤ 20000
+  pub calls : t.calls ≤ 200000
+  pub work : t.work ≤ 10000000
 
 -- the row has no fault, and this is its request, with the sums and the names behind it
-pub record Accepted (old new : List Text) (heads : List Head) (t : Tally) (r : Row) (request : Request) (next : Tally) : Type 0 where
-  pub fine : fault_of old heads t r ≡ None
-  pub made : request ≡ request_of old new heads r
-  pub sums : next ≡ with_request t
+pub record Accepted (old new : List Text) (f : File) (t : Tally) (r : Row) (request : Request) (next : Tally) : Type 0 where
+  pub fine : fault_of old f t r ≡ None
+  pub made : request ≡ request_of old new f r
+  pub sums : next ≡ with_request f request.handler t
   pub names : new ≡ placed_all old r.args
   pub within : IsWithin next
+  pub asked : IsRequestOf f request
 
 -- no row has a fault, and these are their requests, with the names behind them
-pub record AreRequests (old new : List Text) (heads : List Head) (rs : List Row) (found : List Request) : Type 0 where
-  pub fine : first_fault old heads no_requests rs ≡ None
-  pub requests : found ≡ map (request_of old new heads) rs
+pub record AreRequests (old new : List Text) (f : File) (rs : List Row) (found : List Request) : Type 0 where
+  pub fine : first_fault old f no_requests rs ≡ None
+  pub requests : found ≡ map (request_of old new f) rs
   pub names : new ≡ names_behind old rs
 
 -- each symbol among the arguments has a text, of at most 64 bytes

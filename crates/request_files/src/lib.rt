@@ -4,9 +4,9 @@
 
 mod arguments;
 mod divided;
-mod head;
 mod line;
 mod lines;
+mod reading;
 mod refusal;
 mod request;
 mod request_line;
@@ -16,9 +16,9 @@ mod tally;
 mod word_value;
 
 pub use divided::{Divided, divide};
-pub use head::Head;
 pub use line::Line;
 pub use lines::Lines;
+pub use reading::read_requests;
 pub use refusal::RequestRefusal;
 pub use request::Request;
-pub use requests::read_requests;
+pub use requests::Requests;

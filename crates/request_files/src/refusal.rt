@@ -17,6 +17,12 @@ pub enum RequestRefusal {
     /// One of its other words is no value.
     #[error("a word that is no value at line {line}")]
     BadWord { line: u32 },
+    /// The bounds on the calls of all requests so far pass 200,000.
+    #[error("too many calls, at line {line}")]
+    TooManyCalls { line: u32 },
+    /// The bounds on the work of all requests so far pass 10,000,000.
+    #[error("too much work, at line {line}")]
+    TooMuchWork { line: u32 },
     /// Memory ran out.
     #[error("no memory")]
     NoMemory,

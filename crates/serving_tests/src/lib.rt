@@ -14,3 +14,5 @@ mod halls;
 mod journals;
 #[cfg(test)]
 mod map_ops;
+#[cfg(test)]
+mod programs;

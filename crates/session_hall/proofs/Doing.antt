@@ -19,7 +19,7 @@ use Rattle.shard_tables.specs.Parts.{part, shard_of}
 use Rattle.shard_tables.proofs.PartSizes.{part_few, part_sizes}
 use Rattle.admission_book.specs.Book.{Holds, record_of}
 use Rattle.admission_book.proofs.Keys.{keys_few, keys_fewer}
-use Rattle.turn_board.specs.Boards.{IsSeatOf, SameVoice, Tells, GainedAll, MissedAll, turn_count, held, caller, crew, lost}
+use Rattle.turn_board.specs.Boards.{IsSeatOf, SameVoice, Tells, GainedAll, MissedAll, turn_count, held, caller, crew, lost, givings}
 use Rattle.turn_board.specs.Hands.{HandsView, in_hands, Once}
 use Rattle.turn_board.specs.Maps.{bits_of}
 use Rattle.turn_board.proofs.Rows.{two}
@@ -426,13 +426,26 @@ module _ {S : Type 0} (meaning : S → Meaning) (h : Hall S) (c : Caller S) (k :
           more (inl e) = omega (arith, e)
           more (inr e) = omega (arith, e.1)
 
+      bit_of : (j : ℕ) → IsTurnOf n op j → bit_at set (suc j) ≡ 1
+      bit_of j at =
+          let r : (place n op ≤ j) × (j < place n op + span n op) = turn_out n op k.some_shards j at in
+          ap (λ (x : ℕ). bit_at x (suc j)) is ∙ bit_inside lo (span n op) (suc j) (omega (arith, r.0)) (omega (arith, r.1))
+
+      all_lost : ((j : ℕ) → IsTurnOf n op j → lost q (suc j) ≡ lost c.seat (suc j) + 1) → (w : ℕ) → bit_at set w ≡ 1 → lost q w ≡ lost c.seat w + 1
+      all_lost each w b =
+          let t : (j : ℕ) × (w ≡ suc j) × IsTurnOf n op j = busy_turn w b in
+          let Q : ℕ → Type 0 = λ a. lost q a ≡ lost c.seat a + 1 in
+          subst Q (sym t.1) (each t.0 t.2)
+
       pub busy_at : OnFlight c.stage (IsBusyAt (meaning (script_of h)) c (record { seat = q; number = c.number; stage = c.stage; foresight = c.foresight; hands = hands }) h.sizes.shards u)
       busy_at =
           let later : Caller S = record { seat = q; number = c.number; stage = c.stage; foresight = c.foresight; hands = hands } in
           let P : Stage → Type 0 = λ s. OnFlight s (IsBusyAt m c later n u) in
           let b : (j : ℕ) × (u ≡ suc j) × IsTurnOf n op j = busy_turn u g.asked in
           subst P (sym st) (record {
+            after = givings q;
             busy = record {
+              givings_is = refl;
               rose = g.here;
               lost_grows = missed_lost;
               several = several;
@@ -448,4 +461,6 @@ module _ {S : Type 0} (meaning : S → Meaning) (h : Hall S) (c : Caller S) (k :
             place = b.0;
             turn_is = b.1;
             of_operation = b.2;
+            some_won = λ j at e. g.some_won (suc j) (bit_of j at) e;
+            none_won = λ each. g.none_won (all_lost each);
           })

@@ -90,14 +90,22 @@ module _ {S : Type 0} (meaning : S → Meaning) (h : Hall S) (callers : List (Ca
     turns_are : length values ≡ 1 + length (meaning (script_of h)).shape * h.sizes.shards
     turns_are = turns ∙ first_caller.turns_are ∙ ap (λ (a : ℕ). 1 + a * h.sizes.shards) (sym first_caller.tables_are)
 
+    -- there is a record for each caller
+    as_many_records : (a : ℕ) (e : AllEnded (meaning (script_of h)) (script_of h) (map content_of values) a) → length e.book.records ≡ h.sizes.callers
+    as_many_records a e =
+        let same : tied.book ≡ e.book = same_book tied.script (script_of h) tied.book e.book (inside _ _ (sym tied.register ∙ e.register)) in
+        ap (λ (b : Book). length b.records) (sym same) ∙ tied.callers ∙ notes_many ∙ as_many
+
     pub has_left : HasLeft meaning h values
     has_left =
         let P : ℕ → Type 0 = λ a. AllEnded (meaning (script_of h)) (script_of h) (map content_of values) a in
+        let all : AllEnded (meaning (script_of h)) (script_of h) (map content_of values) (length values) = subst P (length-map content_of values) (all_ended meaning (script_of h) (map content_of values) notes first_caller.script_kept tied (omega (arith, notes_many, some_seats)) notes_out) in
         record {
           script_kept = first_caller.script_kept;
           long = turns_are;
           few = omega (arith, turns, first_caller.few_turns);
-          ended = subst P (length-map content_of values) (all_ended meaning (script_of h) (map content_of values) notes first_caller.script_kept tied (omega (arith, notes_many, some_seats)) notes_out);
+          ended = all;
+          callers = as_many_records (length values) all;
         }
 
 -- ---- the book, and the shards behind it
@@ -183,10 +191,11 @@ module _ {S : Type 0} (meaning : S → Meaning) (h : Hall S) (values rest : List
               some_tables zero n p = absurd (omega (arith, p))
               some_tables (suc a) n p = omega arith
 
-      pub is_done : IsDone m (record { journal = J; replies = replies; parts = parts; shards = h.sizes.shards })
+      pub is_done : IsDone m (record { journal = J; replies = replies; parts = parts; shards = h.sizes.shards; callers = h.sizes.callers })
       is_done = record {
         book = l.ended.book;
         journal_is = J_is;
+        callers_are = l.callers;
         lawful = l.ended.lawful;
         told = is_told m l.ended.book l.script_kept l.ended.lawful;
         all_begun = ap begun J_is ∙ l.ended.all_begun;

@@ -68,12 +68,13 @@ module _ {S : Type 0} (m : Meaning) (p q : Caller S) where
     pub asks_more : asks q.seat ≡ asks p.seat + 1
     pub givings_more : givings q.seat ≡ givings p.seat + 1
 
-  -- the call's own step found the turn taken by another caller; the caller is as before, and no step of the call changed a counted content
-  pub record IsBusy (u : ℕ) : Type 0 where
+  -- the call's own step found the turn taken by another caller; the caller is as before, its steps that gave turns back are counted by its seat, and no step of the call changed a counted content
+  pub record IsBusy (u after : ℕ) : Type 0 where
     pub rose : lost q.seat u ≡ lost p.seat u + 1
     pub lost_grows : (w : ℕ) → lost p.seat w ≤ lost q.seat w
     pub several : crew p.seat ≢ 1
     pub asks_more : asks q.seat ≡ asks p.seat + 1
+    pub givings_is : givings q.seat ≡ after
     pub change_still : last_change q.seat ≡ last_change p.seat
     pub stage_still : q.stage ≡ p.stage
     pub foresight_still : q.foresight ≡ p.foresight
@@ -101,7 +102,7 @@ module _ {S : Type 0} (m : Meaning) (p q : Caller S) where
   abbrev pub BeganAs : Began → Type 0
   BeganAs (began.Ticket t) = BeganTicket t
   BeganAs began.AllBegun = FoundAllBegun
-  BeganAs (began.Busy u) = (u ≡ 0) × IsBusy u
+  BeganAs (began.Busy u) = (u ≡ 0) × IsBusy u (givings p.seat)
 
   -- ---- declare
   pub record DeclaredAt (f : List Symbol) (t : ℕ) : Type 0 where
@@ -113,7 +114,7 @@ module _ {S : Type 0} (m : Meaning) (p q : Caller S) where
 
   abbrev pub DeclaredAs : List Symbol → Declared → Type 0
   DeclaredAs f declared.Yes = OnServing p.stage (DeclaredAt f)
-  DeclaredAs f (declared.Busy u) = (u ≡ 0) × IsBusy u
+  DeclaredAs f (declared.Busy u) = (u ≡ 0) × IsBusy u (givings p.seat)
 
   -- ---- admit
   pub record AdmittedAt (op : Op) (t : ℕ) : Type 0 where
@@ -137,7 +138,7 @@ module _ {S : Type 0} (m : Meaning) (p q : Caller S) where
   abbrev pub AdmittedAs : Op → Admitting → Type 0
   AdmittedAs op admitting.Admitted = OnServing p.stage (AdmittedAt op)
   AdmittedAs op (admitting.Delayed older y) = OnServing p.stage (DelayedAt op older y)
-  AdmittedAs op (admitting.Busy u) = (u ≡ 0) × IsBusy u
+  AdmittedAs op (admitting.Busy u) = (u ≡ 0) × IsBusy u (givings p.seat)
 
   -- ---- apply
   -- in one step the caller took the operation's turns, and holds no others; v is its reply behind every journal whose shards these are
@@ -152,12 +153,15 @@ module _ {S : Type 0} (m : Meaning) (p q : Caller S) where
     pub asks_more : asks q.seat ≡ asks p.seat + 1
     pub givings_still : givings q.seat ≡ givings p.seat
 
-  -- one of the operation's turns was found taken
+  -- One of the operation's turns was found taken. What was won of the others was given back in one step, and no step was made where nothing was.
   pub record IsBusyAt (shards u t : ℕ) (op : Op) : Type 0 where
-    pub busy : IsBusy u
+    pub after : ℕ
+    pub busy : IsBusy u after
     pub place : ℕ
     pub turn_is : u ≡ suc place
     pub of_operation : IsTurnOf shards op place
+    pub some_won : (j : ℕ) → IsTurnOf shards op j → lost q.seat (suc j) ≡ lost p.seat (suc j) → after ≡ givings p.seat + 1
+    pub none_won : ((j : ℕ) → IsTurnOf shards op j → lost q.seat (suc j) ≡ lost p.seat (suc j) + 1) → after ≡ givings p.seat
 
   abbrev pub AppliedAs : ℕ → ℕ → Applying → Type 0
   AppliedAs shards turns (applying.Applied v) = OnFlight p.stage (AppliedAt turns v)
@@ -177,7 +181,7 @@ module _ {S : Type 0} (m : Meaning) (p q : Caller S) where
 
   abbrev pub FinishedAs : List Symbol → Finishing → Type 0
   FinishedAs next finishing.Done = FinishedFrom next p.stage
-  FinishedAs next (finishing.Busy u) = (u ≡ 0) × IsBusy u
+  FinishedAs next (finishing.Busy u) = (u ≡ 0) × IsBusy u (givings p.seat)
 
   -- ---- end
   pub record EndedAt (r : Reply) (t : ℕ) : Type 0 where
@@ -191,4 +195,4 @@ module _ {S : Type 0} (m : Meaning) (p q : Caller S) where
 
   abbrev pub EndedAs : Reply → Ending → Type 0
   EndedAs r ending.Ended = OnServing p.stage (EndedAt r)
-  EndedAs r (ending.Busy u) = (u ≡ 0) × IsBusy u
+  EndedAs r (ending.Busy u) = (u ≡ 0) × IsBusy u (givings p.seat)

@@ -33,17 +33,19 @@ pub record Leaves {S : Type 0} (meaning : S → Meaning) (h : Hall S) (i : ℕ) 
   pub number_is : c.number ≡ i
   pub out : c.stage ≡ Out
 
--- what contracts see of a closed hall: its journal, the replies by ticket, the shards by turn, and how many each table has
+-- what contracts see of a closed hall: its journal, the replies by ticket, the shards by turn, how many each table has, and how many callers served
 pub record ClosedView : Type 0 where
   pub journal : List Event
   pub replies : List Reply
   pub parts : List Part
   pub shards : ℕ
+  pub callers : ℕ
 
--- the journal is that of a lawful book, in which all tickets have ended; the replies are those of serving the tickets one at a time, and the shards are the parts of the tables after that
+-- the journal is that of a lawful book with a record for each caller, in which all tickets have ended; the replies are those of serving the tickets one at a time, and the shards are the parts of the tables after that
 pub record IsDone (m : Meaning) (d : ClosedView) : Type 0 where
   pub book : Book
   pub journal_is : d.journal ≡ book.journal
+  pub callers_are : length book.records ≡ d.callers
   pub lawful : Lawful m book
   pub told : IsTold m book
   pub all_begun : begun d.journal ≡ m.requests
@@ -68,3 +70,4 @@ pub record HasLeft {S : Type 0} (meaning : S → Meaning) (h : Hall S) (values :
   pub long : length values ≡ 1 + length (meaning (script_of h)).shape * h.sizes.shards
   pub few : length values ≤ 57
   pub ended : AllEnded (meaning (script_of h)) (script_of h) (map content_of values) (length values)
+  pub callers : length ended.book.records ≡ h.sizes.callers

@@ -20,6 +20,8 @@ pub struct Closed {
     pub(crate) parts: Parts,
     /// How many shards each table has.
     pub(crate) shards: u32,
+    /// How many callers served.
+    pub(crate) callers: u32,
 }
 
 impl Model for Closed {
@@ -32,6 +34,7 @@ impl Model for Closed {
       replies = c.replies;
       parts = c.parts;
       shards = c.shards;
+      callers = c.callers;
     } };
 
     ghost invariant = { λ c. IsClosed (record {
@@ -39,6 +42,7 @@ impl Model for Closed {
       replies = c.replies;
       parts = c.parts;
       shards = c.shards;
+      callers = c.callers;
     }) };
 }
 
@@ -70,5 +74,12 @@ impl Closed {
         ensures { result ≡ self.now.shards }
     {
         self.shards
+    }
+
+    /// How many callers served.
+    pub fn callers(&self) -> u32
+        ensures { result ≡ self.now.callers }
+    {
+        self.callers
     }
 }

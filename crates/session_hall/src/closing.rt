@@ -82,8 +82,10 @@ impl<S: Script + Drop> Hall<S> {
         requires callers { (i : ℕ) (c : CallerOf S) → slice_get callers i ≡ Some c → Leaves S.meaning self i c }
         ensures done { IsDone (S.meaning (script_of self)) result }
         ensures shards { result.shards ≡ self.sizes.shards }
+        ensures callers { result.callers ≡ self.sizes.callers }
     {
         let shards = self.sizes.shards;
+        let crew = self.sizes.callers;
         let (mut values, list) = values_of(self, callers);
         let (journal, replies) = match values.remove(0) {
             Held::Register(book) => book.close(),
@@ -95,6 +97,7 @@ impl<S: Script + Drop> Hall<S> {
             replies,
             parts,
             shards,
+            callers: crew,
         }
     }
 }

@@ -1,0 +1,68 @@
+-- What contracts see of a desk over a caller of a hall.
+use Rattle.std.specs.Prelude.{◌≡◌, ℕ, ◌<◌, ◌∷◌, Option, Some, None, Bool, true, false}
+use Rattle.session_values.specs.declared.reply.Reply.{Reply}
+use Rattle.session_values.specs.Dialogue.{Entry}
+use Rattle.session_journal.specs.Desks.{DeskView}
+use Rattle.session_journal.specs.Journal.{begun, ended}
+use Rattle.session_journal.specs.Script.{Meaning}
+use Rattle.session_hall.specs.declared.hall.Hall.{Hall}
+use Rattle.session_hall.specs.declared.caller.Caller.{Caller}
+use Rattle.session_hall.specs.declared.stage.Stage.{Stage}
+use Rattle.session_hall.specs.declared.stage.Stage.TheVariants.{Idle, Serving, Applied}
+use Rattle.session_hall.specs.Callers.{IsCallerOf, book_of, entries_of}
+use Rattle.session_hall.specs.Names.{hall_name}
+
+-- the caller serves a ticket that has no operation in flight, and which
+abbrev pub IsServing : Stage → Type 0
+IsServing (Serving t) = Unit {0}
+IsServing _ = ⊥
+
+abbrev pub ticket_of : Stage → ℕ
+ticket_of (Serving t) = t
+ticket_of _ = 0
+
+-- the operation that was done on its shards and isn't entered yet, with its reply
+abbrev pub waiting_of : Stage → Option Entry
+waiting_of (Applied t op v) = Some (record { op = op; reply = v })
+waiting_of _ = None
+
+-- whether the caller serves no ticket any more
+abbrev pub has_ended : Stage → Bool
+has_ended Idle = true
+has_ended _ = false
+
+-- what a desk over the caller is at, while the caller is behind the reference of that name
+abbrev pub desk_at : {S : Type 0} → Hall S → Caller S → ℕ → ℕ → DeskView
+desk_at h c t name = record {
+  ticket = t;
+  entries = entries_of c t;
+  present = c.foresight.symbols;
+  waiting = waiting_of c.stage;
+  ended = has_ended c.stage;
+  home = name ∷ c.number ∷ hall_name h;
+  sure = true;
+}
+
+-- the script of its hall, what the desk is at, and the Reply with which its ticket was ended
+pub record HallView (S : Type 0) : Type 0 where
+  pub script : S
+  pub desk : DeskView
+  pub reply : Option Reply
+
+-- the stage of the desk's caller
+abbrev pub AtTicket : Stage → ℕ → Option Reply → Type 0
+AtTicket Idle t r = (x : Reply) × (r ≡ Some x)
+AtTicket (Serving u) t r = (u ≡ t) × (r ≡ None)
+AtTicket (Applied u op v) t r = (u ≡ t) × (r ≡ None)
+AtTicket _ t r = ⊥
+
+-- the Reply is the one with which the ticket has ended in the caller's note
+abbrev pub KnowsReply : {S : Type 0} → Caller S → ℕ → Option Reply → Type 0
+KnowsReply c t None = has_ended c.stage ≡ false
+KnowsReply c t (Some r) = (t < begun (book_of c).journal) × (ended (book_of c).journal t ≡ Some r)
+
+-- its caller is one of the hall's, and serves the ticket, or has ended it with the Reply
+pub record DeskStands {S : Type 0} (meaning : S → Meaning) (h : Hall S) (c : Caller S) (t : ℕ) (r : Option Reply) : Type 0 where
+  pub caller : IsCallerOf meaning h c
+  pub at : AtTicket c.stage t r
+  pub known : KnowsReply c t r

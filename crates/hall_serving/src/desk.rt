@@ -1,0 +1,109 @@
+// Desks over a caller of a hall.
+
+ghost use Rattle.std.specs.Prelude.{◌≡◌, ◌↔◌, None, false};
+ghost use Rattle.session_hall.specs.Callers.{IsCallerOf};
+ghost use Rattle.session_hall.specs.Names.{script_of};
+ghost use Rattle.hall_serving.specs.Desks.{IsServing, desk_at, ticket_of};
+
+use session_hall::{Caller, Hall, Stage};
+use session_journal::{Desk, Script};
+use session_values::{NoMemory, Op, Reply, Value};
+use std::marker::Model;
+use std::sync::Wait;
+use std::thread::Threads;
+use symbolic_ops::Foresight;
+use worker_gate::{Gate, Place};
+
+/// A desk at which a caller of a hall serves its ticket. It never wants memory.
+#[derive(Drop)]
+pub struct HallDesk<'a, S: Script + Drop, G: Gate> {
+    pub(crate) hall: &'a Hall<S>,
+    pub(crate) caller: &'a mut Caller<S>,
+    pub(crate) gate: &'a G,
+    /// The ticket that the caller serves, or served.
+    pub(crate) ticket: u32,
+    /// How many operations were entered at this desk.
+    pub(crate) done: u32,
+    /// What the ticket was ended with.
+    pub(crate) reply: Option<Reply>,
+}
+
+impl<'a, S: Script + Drop, G: Gate> Model for HallDesk<'a, S, G> {
+    ghost use Rattle.session_hall.specs.Names.{script_of};
+    ghost use Rattle.hall_serving.specs.Desks.{HallView, DeskStands, desk_at};
+
+    ghost Value = { HallView S };
+
+    ghost view = { λ d. record {
+      script = script_of d.hall.now;
+      desk = desk_at d.hall.now d.caller.now d.ticket d.caller.ghost_name;
+      reply = d.reply;
+    } };
+
+    ghost invariant = { λ d. DeskStands S.meaning d.hall.now d.caller.now d.ticket d.reply };
+}
+
+impl<'a, S: Script + Drop, G: Gate> HallDesk<'a, S, G> {
+    /// The desk of a caller that serves a ticket.
+    pub fn over(hall: &'a Hall<S>, caller: &'a mut Caller<S>, gate: &'a G) -> HallDesk<'a, S, G>
+        requires caller { IsCallerOf S.meaning hall.now caller.old }
+        requires stage { IsServing caller.old.stage }
+        ensures script { result.script ≡ script_of hall.now }
+        ensures desk { result.desk ≡ desk_at hall.now caller.old (ticket_of caller.old.stage)
+            caller.entry.ghost_name }
+        ensures reply { result.reply ≡ None }
+    {
+        let Stage::Serving(ticket) = caller.stage() else {
+            unreachable!();
+        };
+        HallDesk {
+            hall,
+            caller,
+            gate,
+            ticket,
+            done: 0,
+            reply: None,
+        }
+    }
+
+    /// The Reply with which the ticket was ended.
+    pub fn reply(&self) -> Option<Reply>
+        ensures is { result ≡ self.now.reply }
+        ensures none { (result ≡ None) ↔ (self.now.desk.ended ≡ false) }
+    {
+        self.reply
+    }
+}
+
+impl<'a, S: Script + Drop, G: Gate> Desk for HallDesk<'a, S, G> {
+    type Served = S;
+
+    ghost script = { λ d. d.script };
+
+    ghost at = { λ d. d.desk };
+
+    fn call<R: Threads + Wait + Sync>(&mut self, rt: &R, op: Op) -> Result<Value, NoMemory> {
+        self.caller.admit(rt, self.hall, op);
+        self.gate.pass(rt, Place::Admitted(self.ticket));
+        let reply = self.caller.apply(rt, self.hall);
+        self.gate.pass(rt, Place::Applied(self.ticket));
+        Ok(reply)
+    }
+
+    fn finish<R: Threads + Wait + Sync>(&mut self, rt: &R, next: &Foresight) {
+        self.caller.finish(rt, self.hall, next);
+        self.done = self.done.wrapping_add(1);
+        self.gate.pass(rt, Place::Done(self.ticket, self.done));
+    }
+
+    fn declare<R: Threads + Wait + Sync>(&mut self, rt: &R, f: &Foresight) {
+        self.caller.declare(rt, self.hall, f);
+    }
+
+    fn end<R: Threads + Wait + Sync>(&mut self, rt: &R, reply: Reply) {
+        self.gate.pass(rt, Place::Ending(self.ticket));
+        self.caller.end(rt, self.hall, reply);
+        self.reply = Some(reply);
+        self.gate.pass(rt, Place::Ended(self.ticket));
+    }
+}

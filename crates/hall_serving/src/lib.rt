@@ -1,0 +1,10 @@
+//! Serving the tickets of a script by several callers of a hall.
+#![tactic(auto)]
+
+mod desk;
+mod job;
+mod jobs;
+mod session;
+
+pub use desk::HallDesk;
+pub use session::serve_session;

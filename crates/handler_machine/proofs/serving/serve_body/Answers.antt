@@ -1,0 +1,163 @@
+use Rattle.std.proofs.Common.{◌≡◌, ◌+◌, ◌∙◌, refl, sym, subst}
+use Rattle.session_values.specs.Dialogue.{Answers}
+use Rattle.session_journal.specs.Desks.{due_of, next_of}
+use Rattle.handler_dialogue.specs.Code.{block_code, points}
+use Rattle.handler_dialogue.specs.Dialogue.{entry, env_of, run}
+use Rattle.declaration_insertion.specs.Program.{declared_at}
+use Rattle.handler_check.specs.Resolved.{code_at}
+use Rattle.handler_machine.specs.Serving.{Course, course_of}
+use Rattle.handler_machine.proofs.Places.{on_err}
+use Rattle.handler_machine.proofs.Served.{serving_first, end_answers, end_due, end_served}
+use Rattle.handler_machine.proofs.serving.serve_body.Goals as goal
+
+pub walk_body-requires-clause-serves : goal.walk_body-requires-clause-serves
+walk_body-requires-clause-serves g c =
+    let at = g.D.Desk.at in
+    let r = c.requires in
+    let start = c.args.desk.now in
+    let n = c.args.guide.now in
+    let E = env_of c.args.env.now in
+    let course : Course = course_of (g.D.Served.Script.meaning (g.D.Desk.script start)) (at start) n.program.now n.handler (run (block_code c.args.body.now) E) in
+    let s = serving_first course n.next.room (entry E) r.gives r.promises r.fresh r.idle r.going r.present r.room in
+    (course.whole, start, (refl, s))
+
+pub returns-in_err-reply-clause-script : goal.returns-in_err-reply-clause-script
+returns-in_err-reply-clause-script g c =
+    let at = g.D.Desk.at in
+    let r = c.requires in
+    let start = c.args.desk.now in
+    let n = c.args.guide.now in
+    let E = env_of c.args.env.now in
+    let course : Course = course_of (g.D.Served.Script.meaning (g.D.Desk.script start)) (at start) n.program.now n.handler (run (block_code c.args.body.now) E) in
+    let s = serving_first course n.next.room (entry E) r.gives r.promises r.fresh r.idle r.going r.present r.room in
+    let h = c.in_err-reply.ensures course.whole start (refl, s) in
+    h.0
+
+pub returns-in_err-reply-clause-unsure : goal.returns-in_err-reply-clause-unsure
+returns-in_err-reply-clause-unsure g c =
+    let at = g.D.Desk.at in
+    let r = c.requires in
+    let start = c.args.desk.now in
+    let n = c.args.guide.now in
+    let E = env_of c.args.env.now in
+    let course : Course = course_of (g.D.Served.Script.meaning (g.D.Desk.script start)) (at start) n.program.now n.handler (run (block_code c.args.body.now) E) in
+    let s = serving_first course n.next.room (entry E) r.gives r.promises r.fresh r.idle r.going r.present r.room in
+    let h = c.in_err-reply.ensures course.whole start (refl, s) in
+    on_err c.from_residual.result _ h.1.unsure
+
+pub returns-in_err-reply-clause-room : goal.returns-in_err-reply-clause-room
+returns-in_err-reply-clause-room g c =
+    let at = g.D.Desk.at in
+    let r = c.requires in
+    let start = c.args.desk.now in
+    let n = c.args.guide.now in
+    let E = env_of c.args.env.now in
+    let course : Course = course_of (g.D.Served.Script.meaning (g.D.Desk.script start)) (at start) n.program.now n.handler (run (block_code c.args.body.now) E) in
+    let s = serving_first course n.next.room (entry E) r.gives r.promises r.fresh r.idle r.going r.present r.room in
+    let h = c.in_err-reply.ensures course.whole start (refl, s) in
+    h.1.roomy
+
+pub end-requires-clause-idle : goal.end-requires-clause-idle
+end-requires-clause-idle g c =
+    let at = g.D.Desk.at in
+    let r = c.requires in
+    let start = c.args.desk.now in
+    let n = c.args.guide.now in
+    let E = env_of c.args.env.now in
+    let course : Course = course_of (g.D.Served.Script.meaning (g.D.Desk.script start)) (at start) n.program.now n.handler (run (block_code c.args.body.now) E) in
+    let s = serving_first course n.next.room (entry E) r.gives r.promises r.fresh r.idle r.going r.present r.room in
+    let h = c.in_ok-reply.ensures course.whole start (refl, s) in
+    let m = c.walk_body.new.guide in
+    let now = at c.walk_body.new.host in
+    let late : Course = course_of course.meaning course.start m.program.now m.handler course.whole in
+    h.1.1.waits
+
+pub end-requires-clause-going : goal.end-requires-clause-going
+end-requires-clause-going g c =
+    let at = g.D.Desk.at in
+    let r = c.requires in
+    let start = c.args.desk.now in
+    let n = c.args.guide.now in
+    let E = env_of c.args.env.now in
+    let course : Course = course_of (g.D.Served.Script.meaning (g.D.Desk.script start)) (at start) n.program.now n.handler (run (block_code c.args.body.now) E) in
+    let s = serving_first course n.next.room (entry E) r.gives r.promises r.fresh r.idle r.going r.present r.room in
+    let h = c.in_ok-reply.ensures course.whole start (refl, s) in
+    let m = c.walk_body.new.guide in
+    let now = at c.walk_body.new.host in
+    let late : Course = course_of course.meaning course.start m.program.now m.handler course.whole in
+    h.1.1.going
+
+pub end-requires-clause-answers : goal.end-requires-clause-answers
+end-requires-clause-answers g c =
+    let at = g.D.Desk.at in
+    let r = c.requires in
+    let start = c.args.desk.now in
+    let n = c.args.guide.now in
+    let E = env_of c.args.env.now in
+    let course : Course = course_of (g.D.Served.Script.meaning (g.D.Desk.script start)) (at start) n.program.now n.handler (run (block_code c.args.body.now) E) in
+    let s = serving_first course n.next.room (entry E) r.gives r.promises r.fresh r.idle r.going r.present r.room in
+    let h = c.in_ok-reply.ensures course.whole start (refl, s) in
+    let m = c.walk_body.new.guide in
+    let now = at c.walk_body.new.host in
+    let late : Course = course_of course.meaning course.start m.program.now m.handler course.whole in
+    subst (λ z. next_of (g.D.Served.Script.meaning z) now ≡ Answers c.in_ok-reply.reply) (sym h.1.0) (end_answers late now m.next.room h.0 c.in_ok-reply.reply h.1.1 h.2.answers)
+
+pub end-requires-clause-due : goal.end-requires-clause-due
+end-requires-clause-due g c =
+    let at = g.D.Desk.at in
+    let r = c.requires in
+    let start = c.args.desk.now in
+    let n = c.args.guide.now in
+    let E = env_of c.args.env.now in
+    let course : Course = course_of (g.D.Served.Script.meaning (g.D.Desk.script start)) (at start) n.program.now n.handler (run (block_code c.args.body.now) E) in
+    let s = serving_first course n.next.room (entry E) r.gives r.promises r.fresh r.idle r.going r.present r.room in
+    let h = c.in_ok-reply.ensures course.whole start (refl, s) in
+    let m = c.walk_body.new.guide in
+    let now = at c.walk_body.new.host in
+    let late : Course = course_of course.meaning course.start m.program.now m.handler course.whole in
+    subst (λ z. now.present ≡ due_of (g.D.Served.Script.meaning z) now) (sym h.1.0) (end_due late now m.next.room h.0 c.in_ok-reply.reply h.1.1 h.2.answers h.2.passes)
+
+pub returns-clause-script : goal.returns-clause-script
+returns-clause-script g c =
+    let at = g.D.Desk.at in
+    let r = c.requires in
+    let start = c.args.desk.now in
+    let n = c.args.guide.now in
+    let E = env_of c.args.env.now in
+    let course : Course = course_of (g.D.Served.Script.meaning (g.D.Desk.script start)) (at start) n.program.now n.handler (run (block_code c.args.body.now) E) in
+    let s = serving_first course n.next.room (entry E) r.gives r.promises r.fresh r.idle r.going r.present r.room in
+    let h = c.in_ok-reply.ensures course.whole start (refl, s) in
+    let m = c.walk_body.new.guide in
+    let now = at c.walk_body.new.host in
+    let late : Course = course_of course.meaning course.start m.program.now m.handler course.whole in
+    c.end.ensures.script ∙ h.1.0
+
+pub returns-clause-served : goal.returns-clause-served
+returns-clause-served g c =
+    let at = g.D.Desk.at in
+    let r = c.requires in
+    let start = c.args.desk.now in
+    let n = c.args.guide.now in
+    let E = env_of c.args.env.now in
+    let course : Course = course_of (g.D.Served.Script.meaning (g.D.Desk.script start)) (at start) n.program.now n.handler (run (block_code c.args.body.now) E) in
+    let s = serving_first course n.next.room (entry E) r.gives r.promises r.fresh r.idle r.going r.present r.room in
+    let h = c.in_ok-reply.ensures course.whole start (refl, s) in
+    let m = c.walk_body.new.guide in
+    let now = at c.walk_body.new.host in
+    let late : Course = course_of course.meaning course.start m.program.now m.handler course.whole in
+    end_served late now m.next.room h.0 c.in_ok-reply.reply h.1.1 h.2.answers (at c.end.new.self) c.end.ensures.ended
+
+pub returns-clause-room : goal.returns-clause-room
+returns-clause-room g c =
+    let at = g.D.Desk.at in
+    let r = c.requires in
+    let start = c.args.desk.now in
+    let n = c.args.guide.now in
+    let E = env_of c.args.env.now in
+    let course : Course = course_of (g.D.Served.Script.meaning (g.D.Desk.script start)) (at start) n.program.now n.handler (run (block_code c.args.body.now) E) in
+    let s = serving_first course n.next.room (entry E) r.gives r.promises r.fresh r.idle r.going r.present r.room in
+    let h = c.in_ok-reply.ensures course.whole start (refl, s) in
+    let m = c.walk_body.new.guide in
+    let now = at c.walk_body.new.host in
+    let late : Course = course_of course.meaning course.start m.program.now m.handler course.whole in
+    h.1.1.roomy

@@ -1,0 +1,41 @@
+-- What the requests of a program mean, as the script of a session.
+use Rattle.std.specs.Prelude.{List, length}
+use Rattle.session_values.specs.Tables.{start}
+use Rattle.symbolic_ops.specs.declared.symbol.Symbol.{Symbol}
+use Rattle.session_journal.specs.Script.{Meaning}
+use Rattle.handler_dialogue.specs.Bounds.{adds_bound, calls_bound}
+use Rattle.handler_dialogue.specs.Dialogue.{Place, due_place, entry, env_of, told_place}
+use Rattle.handler_check.specs.Resolved.{code_at, shape_of}
+use Rattle.request_files.specs.declared.request.Request.{Request}
+use Rattle.request_files.specs.Servable.{IsServable}
+use Rattle.request_files.specs.Session.{dialogue_of, request_at}
+use Rattle.declaration_insertion.specs.Promises.{list_at}
+use Rattle.declaration_insertion.specs.Program.{IsProgram, ProgramView, declared_at}
+
+-- a program and its requests
+pub record ScriptsView : Type 0 where
+  pub program : ProgramView
+  pub requests : List Request
+
+-- what is declared at a place of a request's handler
+abbrev pub declared_by : ProgramView → Request → Place → List Symbol
+declared_by p r at = list_at (declared_at p r.handler) at
+
+-- Each request is a ticket. What it declares is what stands at its entry, at the point that its last reply led to, and at the last point that it passed.
+abbrev pub meaning : ScriptsView → Meaning
+meaning s = record {
+  shape = shape_of s.program.file;
+  opening = start (shape_of s.program.file);
+  requests = length s.requests;
+  next = λ t. dialogue_of s.program.file (request_at s.requests t);
+  length = λ t. calls_bound (code_at s.program.file (request_at s.requests t).handler);
+  adds = λ t table. adds_bound table (code_at s.program.file (request_at s.requests t).handler);
+  entry = λ t. declared_by s.program (request_at s.requests t) (entry (env_of (request_at s.requests t).args));
+  told = λ t replies. declared_by s.program (request_at s.requests t) (told_place (code_at s.program.file (request_at s.requests t).handler) (env_of (request_at s.requests t).args) replies);
+  due = λ t replies. declared_by s.program (request_at s.requests t) (due_place (code_at s.program.file (request_at s.requests t).handler) (env_of (request_at s.requests t).args) replies);
+}
+
+-- the program is one, and it can serve the requests
+pub record KeepsScripts (p : ProgramView) (requests : List Request) : Type 0 where
+  pub program : IsProgram p
+  pub servable : IsServable p.file requests

@@ -1,0 +1,82 @@
+-- A handler's run at a desk.
+use Rattle.std.specs.Prelude.{◌≡◌, ℕ, ◌+◌, ◌<◌, ◌≤◌, ◌++◌, List, [], ◌∷◌, Option, Some, None, false, if◌then◌else◌, length}
+use Rattle.std.specs.List.{AllByRecursion}
+use Rattle.session_values.specs.declared.op.Op.{Op}
+use Rattle.session_values.specs.declared.value.Value.{Value}
+use Rattle.session_values.specs.Dialogue.{Calls as NextCalls, Entry, Follows, replies}
+use Rattle.session_values.specs.Values.{IsValue}
+use Rattle.symbolic_ops.specs.Symbols.{HasNoVar, Matches}
+use Rattle.session_journal.specs.Desks.{DeskView}
+use Rattle.session_journal.specs.Script.{Meaning}
+use Rattle.handler_dialogue.specs.Ahead.{Ahead}
+use Rattle.handler_dialogue.specs.Code.{points}
+use Rattle.handler_check.specs.Resolved.{code_at}
+use Rattle.handler_dialogue.specs.Dialogue.{Place, Calls, after, ended, last_place, last_replied, passed_by}
+use Rattle.declaration_insertion.specs.Program.{ProgramView, declared_at}
+use Rattle.declaration_insertion.specs.Promises.{Declarations, IsCoveredChain, list_at}
+
+-- how many of these places a reply led to
+abbrev pub replied_count : List Place → ℕ
+replied_count [] = 0
+replied_count (p ∷ ps) = (if p.replied then 1 else 0) + replied_count ps
+
+-- The ticket's dialogue is this run, and its foresights are the declarations that the run passes.
+pub record Gives (m : Meaning) (t : ℕ) (declared : Declarations) (first : Place) (whole : Ahead) : Type 0 where
+  pub next : (rs : List Value) → m.next t rs ≡ ended (whole rs)
+  pub told : (rs : List Value) → m.told t rs ≡ list_at declared (last_replied first (passed_by (whole rs)))
+  pub due : (rs : List Value) → m.due t rs ≡ list_at declared (last_place first (passed_by (whole rs)))
+
+-- What makes the declarations of a run lawful at each desk.
+pub record Promises (points : ℕ) (declared : Declarations) (first : Place) (whole : Ahead) : Type 0 where
+  pub within : (rs : List Value) → AllByRecursion (λ (p : Place). p.point < points) (passed_by (whole rs))
+  pub few : (at : Place) → length (list_at declared at) ≤ 256
+  pub known : (at : Place) → AllByRecursion HasNoVar (list_at declared at)
+  pub covered : (rs : List Value) → IsCoveredChain declared first (passed_by (whole rs))
+  pub matched : (rs : List Value) (ps : List Place) (op : Op) → AllByRecursion IsValue rs → whole rs ≡ Calls ps op → Matches (list_at declared (last_place first ps)) op
+  pub covers : (rs : List Value) (front past : List Place) → AllByRecursion IsValue rs → passed_by (whole rs) ≡ front ++ past
+      → (more : List Value) (op : Op) → AllByRecursion IsValue more → ended (whole (rs ++ more)) ≡ NextCalls op → Matches (list_at declared (last_place first front)) op
+  pub counted : (rs : List Value) → replied_count (passed_by (whole rs)) ≤ length rs
+
+-- what a walk is about: the script's meaning, the desk at the ticket's beginning, the points of the handler, their declarations, and the whole run
+pub record Course : Type 0 where
+  pub meaning : Meaning
+  pub start : DeskView
+  pub points : ℕ
+  pub declared : Declarations
+  pub whole : Ahead
+
+-- that of a program's handler
+abbrev pub course_of : Meaning → DeskView → ProgramView → ℕ → Ahead → Course
+course_of m start p h whole = record { meaning = m; start = start; points = 1 + points (code_at p.file h); declared = declared_at p h; whole = whole }
+
+-- a desk that has come so far, after these entries, and what is ahead of it
+pub record Serving (c : Course) (now : DeskView) (room : ℕ) (entries : List Entry) (waiting : Option Entry) (ahead : Ahead) : Type 0 where
+  pub first : Place
+  pub gives : Gives c.meaning c.start.ticket c.declared first c.whole
+  pub promises : Promises c.points c.declared first c.whole
+  pub passed : List Place
+  pub is_ahead : (more : List Value) → c.whole (replies entries ++ more) ≡ after passed (ahead more)
+  pub follows : Follows (λ rs. ended (c.whole rs)) entries
+  pub values : AllByRecursion IsValue (replies entries)
+  pub counts : replied_count passed ≡ length now.entries
+  pub present : now.present ≡ list_at c.declared (last_place first passed)
+  pub waits : now.waiting ≡ waiting
+  pub going : now.ended ≡ false
+  pub ticket : now.ticket ≡ c.start.ticket
+  pub home : now.home ≡ c.start.home
+  pub sure : now.sure ≡ c.start.sure
+  pub roomy : 256 ≤ room
+
+-- no operation waits
+abbrev pub IsServing : Course → DeskView → ℕ → Ahead → Type 0
+IsServing c now room ahead = Serving c now room now.entries None ahead
+
+-- an operation waits with its reply
+abbrev pub IsAwaiting : Course → DeskView → ℕ → Ahead → Type 0
+IsAwaiting c now room ahead = (e : Entry) × Serving c now room (now.entries ++ e ∷ []) (Some e) ahead
+
+-- a desk that was stopped: it isn't sure, and it follows the run so far
+pub record Halted (c : Course) (now : DeskView) (room : ℕ) : Type 0 where
+  pub follows : Follows (λ rs. ended (c.whole rs)) now.entries
+  pub unsure : c.start.sure ≡ false
+  pub roomy : 256 ≤ room

@@ -1,0 +1,103 @@
+// The requests of a program as a script.
+
+ghost use Rattle.std.specs.Prelude.{◌≡◌};
+ghost use Rattle.request_files.specs.Servable.{IsServable};
+
+use crate::serving::serve_one;
+use crate::sums::{args_of, count_adds, count_calls, handler_of};
+use declaration_insertion::Program;
+use handler_check::Checked;
+use handler_walk::set_up;
+use request_files::Requests;
+use session_journal::{Desk, Script};
+use session_values::{NoMemory, Value};
+use std::marker::Model;
+use std::sync::Wait;
+use std::thread::Threads;
+use symbolic_ops::{Foresight, instantiate};
+use ticket_serving::{Scratch, Serves};
+
+/// A program and the requests that were read for it: each request is a ticket.
+#[derive(Drop)]
+pub struct Scripts<'a> {
+    program: &'a Program,
+    // The program without its declarations.
+    checked: &'a Checked,
+    requests: &'a Requests,
+}
+
+impl<'a> Model for Scripts<'a> {
+    ghost use Rattle.std.specs.Prelude.{◌≡◌};
+    ghost use Rattle.std.specs.Coded.{codes};
+    ghost use Rattle.handler_trees.specs.contracts.stmt.Stmt as stmt;
+    ghost use Rattle.handler_machine.specs.Scripts.{KeepsScripts, ScriptsView};
+
+    ghost Value = { ScriptsView };
+
+    ghost coded = { Prim.hlevel (codes, stmt.the_row.coded) };
+
+    ghost view = { λ s. record { program = s.program.now; requests = s.requests.now } };
+
+    ghost invariant = { λ s. KeepsScripts s.program.now s.requests.now
+        × (s.checked.now ≡ s.program.now.file) };
+}
+
+impl<'a> Scripts<'a> {
+    /// The script of requests that were read for this program.
+    pub fn over(program: &'a Program, requests: &'a Requests) -> Scripts<'a>
+        requires { IsServable program.now.file requests.now }
+        ensures { result ≡ record { program = program.now; requests = requests.now } }
+    {
+        let checked = program.checked();
+        Scripts {
+            program,
+            checked,
+            requests,
+        }
+    }
+}
+
+impl<'a> Script for Scripts<'a> {
+    ghost use Rattle.handler_machine.specs.Scripts.{meaning as meaning_of};
+
+    ghost meaning = { meaning_of };
+
+    fn requests(&self) -> u32 {
+        self.requests.len()
+    }
+
+    fn entry(&self, t: u32, out: &mut Foresight) {
+        let list = self.program.entry(handler_of(self.requests, t));
+        let mut env = [Value::Nil; 32];
+        set_up(&mut env, args_of(self.requests, t));
+        instantiate(list, &env, out);
+    }
+
+    fn calls(&self) -> u32 {
+        count_calls(self.checked, self.requests)
+    }
+
+    fn room(&self, table: u32) -> u32 {
+        count_adds(self.checked, self.requests, table)
+    }
+}
+
+impl<'a> Serves for Scripts<'a> {
+    fn serve<R: Threads + Wait + Sync, D: Desk<Served = Self>>(
+        &self,
+        rt: &R,
+        ticket: u32,
+        scratch: &mut Scratch,
+        desk: &mut D,
+    ) -> Result<(), NoMemory> {
+        let h = handler_of(self.requests, ticket);
+        serve_one(
+            rt,
+            self.program,
+            h,
+            args_of(self.requests, ticket),
+            scratch,
+            desk,
+        )
+    }
+}

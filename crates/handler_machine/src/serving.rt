@@ -1,0 +1,143 @@
+// Serving a handler at a desk.
+
+ghost use Rattle.std.specs.Prelude.{◌≡◌, ◌+◌, ◌≤◌, ◌<◌, [], None, true, false, length, IfOk, OnErr};
+ghost use Rattle.std.specs.List.{AllByRecursion};
+ghost use Rattle.session_values.specs.Values.{IsValue};
+ghost use Rattle.handler_dialogue.specs.Code.{block_code, points};
+ghost use Rattle.handler_dialogue.specs.Dialogue.{entry, env_of, run};
+ghost use Rattle.handler_walk.specs.Runnable.{IsRunnable};
+ghost use Rattle.ticket_serving.specs.Served.{IsServed};
+ghost use Rattle.handler_check.specs.Resolved.{code_at, params_at};
+ghost use Rattle.declaration_insertion.specs.Promises.{list_at};
+ghost use Rattle.declaration_insertion.specs.Program.{declared_at};
+ghost use Rattle.handler_machine.specs.Serving.{Gives, Promises};
+
+use crate::narrowing::Narrowing;
+use declaration_insertion::Program;
+use handler_dialogue::CheckedBlock;
+use handler_walk::{set_up, walk_body};
+use session_journal::{Desk, Script};
+use session_values::{NoMemory, Value};
+use std::sync::Wait;
+use std::thread::Threads;
+use ticket_serving::{Room, Scratch};
+
+/// Serves the body of a handler at a desk, with these values of its variables, to its end.
+fn serve_body<R: Threads + Wait + Sync, D: Desk>(
+    guide: &mut Narrowing<'_, R>,
+    desk: &mut D,
+    env: &mut [Value],
+    body: &CheckedBlock,
+) -> Result<(), NoMemory>
+    requires variables { 32 ≤ length env.old }
+    requires within { IsRunnable (length env.old) (block_code body.now) }
+    requires fresh { (D.at desk.old).entries ≡ [] }
+    requires idle { (D.at desk.old).waiting ≡ None }
+    requires going { (D.at desk.old).ended ≡ false }
+    requires present { (D.at desk.old).present ≡ list_at
+        (declared_at guide.old.program.now guide.old.handler) (entry (env_of env.old)) }
+    requires gives { Gives (D.Served.meaning (D.script desk.old)) (D.at desk.old).ticket
+        (declared_at guide.old.program.now guide.old.handler) (entry (env_of env.old))
+        (run (block_code body.now) (env_of env.old)) }
+    requires promises { Promises (1 + points (code_at guide.old.program.now.file guide.old.handler))
+        (declared_at guide.old.program.now guide.old.handler) (entry (env_of env.old))
+        (run (block_code body.now) (env_of env.old)) }
+    requires room { 256 ≤ guide.old.next.room }
+    ensures script { D.script desk.new ≡ D.script desk.old }
+    ensures served { IfOk result (λ _. IsServed (D.Served.meaning (D.script desk.old))
+        (D.at desk.old) (D.at desk.new)) }
+    ensures unsure { OnErr result ((D.at desk.old).sure ≡ false) }
+    ensures room { 256 ≤ guide.new.next.room }
+{
+    let reply = walk_body(guide, desk, env, body)?;
+    desk.end(guide.rt, reply);
+    Ok(())
+}
+
+/// Serves a handler with these arguments at a desk, from its entry to its end.
+fn serve_handler<R: Threads + Wait + Sync, D: Desk>(
+    rt: &R,
+    program: &Program,
+    h: u32,
+    body: &CheckedBlock,
+    args: &[Value],
+    scratch: &mut Scratch,
+    desk: &mut D,
+) -> Result<(), NoMemory>
+    requires handler { h < length program.now.file.handlers }
+    requires args { length args.now ≤ 32 }
+    requires ready { scratch.old.ready ≡ true }
+    requires within { IsRunnable 32 (block_code body.now) }
+    requires fresh { (D.at desk.old).entries ≡ [] }
+    requires idle { (D.at desk.old).waiting ≡ None }
+    requires going { (D.at desk.old).ended ≡ false }
+    requires present { (D.at desk.old).present ≡ list_at (declared_at program.now h)
+        (entry (env_of args.now)) }
+    requires gives { Gives (D.Served.meaning (D.script desk.old)) (D.at desk.old).ticket
+        (declared_at program.now h) (entry (env_of args.now))
+        (run (block_code body.now) (env_of args.now)) }
+    requires promises { AllByRecursion IsValue args.now → Promises
+        (1 + points (code_at program.now.file h)) (declared_at program.now h)
+        (entry (env_of args.now)) (run (block_code body.now) (env_of args.now)) }
+    ensures ready { scratch.new.ready ≡ true }
+    ensures script { D.script desk.new ≡ D.script desk.old }
+    ensures served { IfOk result (λ _. IsServed (D.Served.meaning (D.script desk.old))
+        (D.at desk.old) (D.at desk.new)) }
+    ensures unsure { OnErr result ((D.at desk.old).sure ≡ false) }
+{
+    let Room { values, foresight } = scratch.take();
+    let mut values = values;
+    let mut guide = Narrowing {
+        rt,
+        program,
+        handler: h,
+        next: foresight,
+    };
+    let env = values.as_mut_slice();
+    set_up(env, args);
+    let result = serve_body(&mut guide, desk, env, body);
+    let Narrowing {
+        rt: _,
+        program: _,
+        handler: _,
+        next,
+    } = guide;
+    scratch.put(Room {
+        values,
+        foresight: next,
+    });
+    result
+}
+
+/// Serves a handler of a program with these arguments at a desk, from its entry to its end. At each
+/// point it narrows to the declaration there, so it meets what the desk's calls ask without a test.
+/// Want of memory comes only where the desk isn't sure.
+pub fn serve_one<R: Threads + Wait + Sync, D: Desk>(
+    rt: &R,
+    program: &Program,
+    h: u32,
+    args: &[Value],
+    scratch: &mut Scratch,
+    desk: &mut D,
+) -> Result<(), NoMemory>
+    requires handler { h < length program.now.file.handlers }
+    requires args { length args.now ≡ params_at program.now.file h }
+    requires ready { scratch.old.ready ≡ true }
+    requires fresh { (D.at desk.old).entries ≡ [] }
+    requires idle { (D.at desk.old).waiting ≡ None }
+    requires going { (D.at desk.old).ended ≡ false }
+    requires present { (D.at desk.old).present ≡ list_at (declared_at program.now h)
+        (entry (env_of args.now)) }
+    // The desk's script gives its ticket this handler with these arguments.
+    requires gives { Gives (D.Served.meaning (D.script desk.old)) (D.at desk.old).ticket
+        (declared_at program.now h) (entry (env_of args.now))
+        (run (code_at program.now.file h) (env_of args.now)) }
+    ensures ready { scratch.new.ready ≡ true }
+    ensures script { D.script desk.new ≡ D.script desk.old }
+    ensures served { IfOk result (λ _. IsServed (D.Served.meaning (D.script desk.old))
+        (D.at desk.old) (D.at desk.new)) }
+    ensures unsure { OnErr result ((D.at desk.old).sure ≡ false) }
+{
+    let body = &program.checked().handler(h).body;
+    serve_handler(rt, program, h, body, args, scratch, desk)
+}

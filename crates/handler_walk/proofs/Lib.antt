@@ -1,0 +1,5 @@
+pub mod Answering
+pub mod Asked
+pub mod Codes
+pub mod Steps
+pub mod Wholes

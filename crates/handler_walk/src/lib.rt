@@ -1,0 +1,15 @@
+//! The walk over a handler whose names are resolved: it does a handler's statements, and tells a
+//! guide of each operation and of each point that it passes.
+#![tactic(auto)]
+
+mod answerer;
+mod exprs;
+mod guide;
+mod replies;
+mod variables;
+mod walk;
+
+pub use answerer::{Answerer, run_body};
+pub use guide::Guide;
+pub use variables::set_up;
+pub use walk::walk_body;

@@ -1,0 +1,56 @@
+// A list of tickets that repeat an operation, as a script.
+
+use crate::list::RepeatedCalls;
+use crate::serving::call_all;
+use session_journal::{Desk, Script};
+use session_values::NoMemory;
+use std::sync::Wait;
+use std::thread::Threads;
+use symbolic_ops::Foresight;
+use ticket_serving::{Scratch, Serves};
+
+/// The script of such a list, which it borrows.
+#[derive(Drop)]
+pub struct RepeatedScript<'a> {
+    pub list: &'a RepeatedCalls,
+}
+
+impl<'a> Script for RepeatedScript<'a> {
+    ghost use Rattle.session_journal.specs.Lists.{list_meaning};
+
+    ghost meaning = { λ s. list_meaning s.list.now.list.shape s.list.now.list.tickets };
+
+    fn requests(&self) -> u32 {
+        self.list.script().requests()
+    }
+
+    fn entry(&self, t: u32, out: &mut Foresight) {
+        self.list.script().entry(t, out);
+    }
+
+    fn calls(&self) -> u32 {
+        self.list.script().calls()
+    }
+
+    fn room(&self, table: u32) -> u32 {
+        self.list.script().room(table)
+    }
+}
+
+impl<'a> Serves for RepeatedScript<'a> {
+    fn serve<R: Threads + Wait + Sync, D: Desk<Served = Self>>(
+        &self,
+        rt: &R,
+        ticket: u32,
+        scratch: &mut Scratch,
+        desk: &mut D,
+    ) -> Result<(), NoMemory> {
+        let op = self.list.op_of(ticket);
+        let times = self.list.times();
+        let mut room = scratch.take();
+        self.list.script().entry(ticket, &mut room.foresight);
+        let called = call_all(rt, op, times, &room.foresight, desk);
+        scratch.put(room);
+        called
+    }
+}

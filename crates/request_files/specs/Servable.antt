@@ -1,0 +1,27 @@
+-- Requests that a checked file can serve, within the limits on all of them together.
+use Rattle.std.specs.Prelude.{◌≡◌, ℕ, ◌<◌, ◌≤◌, List, length}
+use Rattle.std.specs.List.{AllByRecursion, sum_by}
+use Rattle.session_values.specs.Values.{IsValue}
+use Rattle.handler_trees.specs.declared.file.File.{File}
+use Rattle.handler_dialogue.specs.Bounds.{calls_bound, work_bound}
+use Rattle.handler_check.specs.Resolved.{code_at, params_at}
+use Rattle.request_files.specs.declared.request.Request.{Request}
+
+-- its handler exists, its arguments are as many as the handler's parameters, and a program can hold each
+pub record IsRequestOf (f : File) (r : Request) : Type 0 where
+  pub handler : r.handler < length f.handlers
+  pub args : length r.args ≡ params_at f r.handler
+  pub values : AllByRecursion IsValue r.args
+
+-- the bounds on the calls and on the work of some requests' handlers, added up
+abbrev pub calls_in_all : File → List Request → ℕ
+calls_in_all f requests = sum_by (λ (r : Request). calls_bound (code_at f r.handler)) requests
+
+abbrev pub work_in_all : File → List Request → ℕ
+work_in_all f requests = sum_by (λ (r : Request). work_bound (code_at f r.handler)) requests
+
+pub record IsServable (f : File) (requests : List Request) : Type 0 where
+  pub few : length requests ≤ 20000
+  pub each : AllByRecursion (IsRequestOf f) requests
+  pub calls : calls_in_all f requests ≤ 200000
+  pub work : work_in_all f requests ≤ 10000000

@@ -1,0 +1,71 @@
+// The room that serving takes.
+
+ghost use Rattle.std.specs.Prelude.{◌≡◌, ◌≤◌, true, false, vec_len, IfOk};
+
+use session_values::{NoMemory, Value};
+use std::alloc::Global;
+use std::marker::Model;
+use symbolic_ops::Foresight;
+
+/// Room for the variables of a handler and for a declaration with their values.
+#[derive(Drop)]
+pub struct Room {
+    /// The variables, 32 of them.
+    pub values: Vec<Value>,
+    /// Room for 256 symbols.
+    pub foresight: Foresight,
+    ghost variables: { vec_len values ≡ 32 },
+    ghost symbols: { 256 ≤ foresight.room },
+}
+
+/// Where a job keeps its room between tickets. Serving takes the room out and puts it back, so that
+/// no ticket takes memory.
+#[derive(Drop)]
+pub struct Scratch {
+    /// None while a ticket is served.
+    room: Option<Room>,
+}
+
+impl Model for Scratch {
+    ghost use Rattle.std.specs.Prelude.{is_some};
+    ghost use Rattle.ticket_serving.specs.Scratches.{ScratchView};
+
+    ghost Value = { ScratchView };
+
+    ghost view = { λ s. record { ready = is_some s.room } };
+}
+
+impl Scratch {
+    /// One with its room.
+    pub fn new(alloc: Global) -> Result<Scratch, NoMemory>
+        ensures { IfOk result (λ s. s.ready ≡ true) }
+    {
+        let room = new_room(alloc)?;
+        Ok(Scratch { room: Some(room) })
+    }
+
+    /// Takes the room out.
+    pub fn take(&mut self) -> Room
+        requires { self.old.ready ≡ true }
+        ensures { self.new.ready ≡ false }
+    {
+        match self.room.take() {
+            Some(room) => room,
+            None => unreachable!(),
+        }
+    }
+
+    /// Puts a room back.
+    pub fn put(&mut self, room: Room)
+        ensures { self.new.ready ≡ true }
+    {
+        self.room = Some(room);
+    }
+}
+
+// Room for 32 variables, which are nil, and 256 symbols.
+fn new_room(alloc: Global) -> Result<Room, NoMemory> {
+    let foresight = Foresight::with_room(alloc, 256)?;
+    let values = vec![in alloc; Value::Nil; 32]?;
+    Ok(Room { values, foresight })
+}

@@ -1,0 +1,39 @@
+// Scripts whose tickets can be served.
+
+ghost use Rattle.std.specs.Prelude.{◌≡◌, ◌<◌, [], None, true, false, IfOk, OnErr};
+ghost use denote.Param.Send.{IsSync};
+ghost use Rattle.ticket_serving.specs.Served.{IsServed};
+
+use crate::scratch::Scratch;
+use session_journal::{Desk, Script};
+use session_values::NoMemory;
+use std::sync::Wait;
+use std::thread::Threads;
+
+/// A script whose tickets can be served, each at a desk.
+pub trait Serves: Script {
+    /// Serves the desk's ticket, which has just begun, to its end. Want of memory comes only where
+    /// the desk isn't sure.
+    fn serve<R: Threads + Wait + Sync, D: Desk<Served = Self>>(
+        &self,
+        rt: &R,
+        ticket: u32,
+        scratch: &mut Scratch,
+        desk: &mut D,
+    ) -> Result<(), NoMemory>
+        // In an impl the bound alone isn't known.
+        requires shared { IsSync R.row }
+        requires ready { scratch.old.ready ≡ true }
+        requires plan { D.script desk.old ≡ self.now }
+        requires ticket { (D.at desk.old).ticket ≡ ticket }
+        requires within { ticket < (Self.meaning self.now).requests }
+        requires fresh { (D.at desk.old).entries ≡ [] }
+        requires idle { (D.at desk.old).waiting ≡ None }
+        requires going { (D.at desk.old).ended ≡ false }
+        requires present { (D.at desk.old).present ≡ (Self.meaning self.now).entry ticket }
+        ensures ready { scratch.new.ready ≡ true }
+        ensures script { D.script desk.new ≡ D.script desk.old }
+        ensures served { IfOk result
+            (λ _. IsServed (Self.meaning self.now) (D.at desk.old) (D.at desk.new)) }
+        ensures unsure { OnErr result ((D.at desk.old).sure ≡ false) };
+}
