@@ -44,6 +44,7 @@ pub fn serve_session<R: Threads + Wait + Sync, S: Serves + Drop + Send + Sync, G
     requires shards { (1 ≤ shards) × (shards ≤ 8) }
     requires callers { (1 ≤ callers) × (callers ≤ 32) }
     ensures done { IfOk result (IsDone (S.meaning script)) }
+    ensures callers { IfOk result (λ d. d.callers ≡ callers) }
     ensures shards { IfOk result (λ d. d.shards ≡ shards) }
 {
     let mut scratches = make_scratches(alloc, callers)?;

@@ -1,140 +1,67 @@
--- An input has one answer at most.
-use Rattle.std.proofs.Common.{◌≡◌, ℕ, ◌<◌, ◌≤◌, ◌⊎◌, inl, inr, true, false, List, [], length, Option, Some, None, refl, sym, ap, ◌∙◌, subst, arith}
-use Rattle.std.specs.Prelude.{IsUtf8}
-use Rattle.std.proofs.lemmas.Bool.{false≢true}
-use Rattle.serve_core.specs.declared.command.Command.{Command}
-use Rattle.serve_core.specs.declared.command.Command.TheVariants.{Check, Serve}
-use Rattle.serve_core.specs.declared.status.Fault.{Fault}
-use Rattle.serve_core.specs.declared.status.Fault.TheVariants.{TooLarge, NotText, NoRequests, HasRequests, Syntax, NotBuilt}
-use Rattle.handler_syntax.specs.Language.{names_of, File, HasFault, IsSourceOf, SyntaxRefusal, canonical_text}
-use Rattle.handler_syntax.proofs.Facts.{one_tree, one_fault, no_fault}
-use Rattle.serve_core.specs.Answer.{Answer, IsInput, IsText, IsChecked, IsServed, IsRefused, HasNoSession, CommandAnswers, IsAnswer, is_divided, reads_requests, handlers_of, max_input, parts_of, text_of}
-use Rattle.serve_core.specs.Commands.{command_of}
-use Rattle.serve_core.specs.Answer as answers
+-- Whole runs, from what their parts say.
+use Rattle.std.proofs.Common.{◌≡◌, ◌≢◌, ℕ, zero, ◌+◌, ◌≤◌, Bool, true, false, is_some, List, [], ap, length, drop, Option, Some, None, IfSome, refl, arith}
+use Rattle.byte_ends.specs.Ends.{LostAtMost}
+use Rattle.session_hall.specs.Closings.{ClosedView}
+use Rattle.command_words.specs.declared.command.Command.{Command}
+use Rattle.command_words.specs.declared.command.Command.TheVariants.{Serve, Work}
+use Rattle.session_answers.specs.declared.status.Status.{Status}
+use Rattle.session_answers.specs.declared.status.Status.TheVariants as status
+use Rattle.session_answers.specs.Input.{is_reading, max_input}
+use Rattle.session_answers.specs.Runs.{Change, IsUntouched, Runs}
+use Rattle.session_answers.specs.Ways.{AnswersTo, HasRead, StoppedAs, describing}
+use Rattle.session_answers.proofs.RunLemmas.{runs_of, read_run, stopped_run}
 
--- ---- trees
+-- a source that isn't touched has lost nothing
+nothing_lost : (o p : Option (List ℕ)) → p ≡ o → LostAtMost o p (max_input + 1)
+nothing_lost None p e = tt
+nothing_lost (Some bytes) p e = (0, omega arith, omega arith, e)
 
-has_no_fault : (text : List ℕ) (file : File) (e : SyntaxRefusal) → IsSourceOf [] text file → HasFault [] text e → ⊥
-has_no_fault text file e f h = no_fault [] text file e f h
+module _ {I O : Type 0} (source : Change I) (out : Change O) where
+  abbrev same_bytes : IsUntouched source → source.bytes source.new ≡ source.bytes source.old
+  same_bytes e = (let f : I → Option (List ℕ) = source.bytes in ap f e)
 
--- ---- no two faults are the first one
+  -- the words are no command line
+  pub usage_run : IsUntouched source → IsUntouched out → Runs None source out status.Usage None
+  usage_run still same = record {
+    usage = (λ e. refl, λ e. refl);
+    unread = λ e. (still, λ x. cc);
+    answered = λ bytes. record { fine = λ e. absurd (cc); refused = λ f e. absurd (cc); front = λ e. absurd (cc) };
+    refusing = λ bytes f h ok. absurd h;
+    complete = λ e. absurd (cc);
+    read_fault = λ e. absurd (cc);
+    written = record { write_fault = λ e. absurd (cc); unwritten = λ _ _. same };
+    end = λ e. absurd (cc);
+    gone = λ e. absurd (cc);
+    lost = nothing_lost (source.bytes source.old) (source.bytes source.new) (same_bytes still);
+    served = refl;
+    hall = λ bytes. tt;
+  }
 
-module _ (bytes : List ℕ) where
-  large : (c : Command) (g : Fault) → IsRefused c bytes g → max_input < length bytes → g ≡ TooLarge
-  large c TooLarge r h = refl
-  large c NotText r h = absurd (omega (arith, h, r.0))
-  large Serve NoRequests r h = absurd (omega (arith, h, r.0))
-  large Check NoRequests r h = absurd r
-  large Check HasRequests r h = absurd (omega (arith, h, r.0))
-  large Serve HasRequests r h = absurd r
-  large c (Syntax e) r h = absurd (omega (arith, h, r.0.short))
-  large Serve NotBuilt r h = absurd (omega (arith, h, r.0.short))
-  large Check NotBuilt r h = absurd r
+  -- a made session
+  pub work_run : (requests start : ℕ) (s : Status) (closed : Option ClosedView) → IsUntouched source → ((bytes : List ℕ) → AnswersTo (Work requests start) bytes out s closed) → Runs (Some (Work requests start)) source out s closed
+  work_run requests start s closed still a =
+      let one = a [] in
+      runs_of (Work requests start) source out closed s (record { usage = one.usage; read_fault = λ e. absurd (one.read_fault e); written = one.written })
+      (λ e. (still, one.read_fault))
+      (λ bytes. (a bytes).answered)
+      (λ e. absurd (cc))
+      (λ e. absurd (cc))
+      (nothing_lost (source.bytes source.old) (source.bytes source.new) (same_bytes still))
+      one.served
+      (λ bytes. (a bytes).hall)
 
-  no_text : (c : Command) (g : Fault) → IsRefused c bytes g → length bytes ≤ max_input → (IsUtf8 bytes → ⊥) → g ≡ NotText
-  no_text c TooLarge r h k = absurd (omega (arith, h, r))
-  no_text c NotText r h k = refl
-  no_text Serve NoRequests r h k = absurd (k r.1)
-  no_text Check NoRequests r h k = absurd r
-  no_text Check HasRequests r h k = absurd (k r.1)
-  no_text Serve HasRequests r h k = absurd r
-  no_text c (Syntax e) r h k = absurd (k r.0.utf8)
-  no_text Serve NotBuilt r h k = absurd (k r.0.utf8)
-  no_text Check NotBuilt r h k = absurd r
+  describing_reads : (shown : Bool) → is_reading (Some (describing shown)) ≡ true
+  describing_reads true = refl
+  describing_reads false = refl
 
-  -- with its wrong parts, serving is refused for that
-  no_requests : (g : Fault) → IsRefused Serve bytes g → length bytes ≤ max_input → IsUtf8 bytes → is_divided bytes ≡ false → g ≡ NoRequests
-  no_requests TooLarge r h u d = absurd (omega (arith, h, r))
-  no_requests NotText r h u d = absurd (r.1 u)
-  no_requests NoRequests r h u d = refl
-  no_requests HasRequests r h u d = absurd r
-  no_requests (Syntax e) r h u d = absurd (false≢true (sym d ∙ r.0.parts))
-  no_requests NotBuilt r h u d = absurd (false≢true (sym d ∙ r.0.parts))
+  pub described_run : (shown : Bool) (bytes : List ℕ) (s : Status) → HasRead source bytes → AnswersTo (describing shown) bytes out s None → Runs (Some (describing shown)) source out s None
+  described_run shown bytes s h a = read_run (describing shown) (describing_reads shown) source out bytes s None h a
 
-  has_requests : (g : Fault) → IsRefused Check bytes g → length bytes ≤ max_input → IsUtf8 bytes → is_divided bytes ≡ true → g ≡ HasRequests
-  has_requests TooLarge r h u d = absurd (omega (arith, h, r))
-  has_requests NotText r h u d = absurd (r.1 u)
-  has_requests NoRequests r h u d = absurd r
-  has_requests HasRequests r h u d = refl
-  has_requests (Syntax e) r h u d = absurd (false≢true (sym r.0.parts ∙ d))
-  has_requests NotBuilt r h u d = absurd r
+  pub undescribed_run : (shown : Bool) (s : Status) → StoppedAs source s → IsUntouched out → Runs (Some (describing shown)) source out s None
+  undescribed_run shown s h same = stopped_run (describing shown) (describing_reads shown) source out s h same
 
-  -- with the right parts, there is a fault of syntax, or none and no session
-  input_refused : (c : Command) (g : Fault) → IsInput c bytes → IsRefused c bytes g
-      → ((e : SyntaxRefusal) × (g ≡ Syntax e) × HasFault [] (handlers_of c bytes) e) ⊎ ((g ≡ NotBuilt) × (c ≡ Serve) × HasNoSession (parts_of bytes))
-  input_refused c TooLarge i r = absurd (omega (arith, i.short, r))
-  input_refused c NotText i r = absurd (r.1 i.utf8)
-  input_refused Serve NoRequests i r = absurd (false≢true (sym r.2 ∙ i.parts))
-  input_refused Check NoRequests i r = absurd r
-  input_refused Check HasRequests i r = absurd (false≢true (sym i.parts ∙ r.2))
-  input_refused Serve HasRequests i r = absurd r
-  input_refused c (Syntax e) i r = inl (e, refl, r.1.first)
-  input_refused Serve NotBuilt i r = inr (refl, refl, r.1)
-  input_refused Check NotBuilt i r = absurd r
+  pub served_run : (callers shards : ℕ) (bytes : List ℕ) (s : Status) (closed : Option ClosedView) → HasRead source bytes → AnswersTo (Serve callers shards) bytes out s closed → Runs (Some (Serve callers shards)) source out s closed
+  served_run callers shards bytes s closed h a = read_run (Serve callers shards) refl source out bytes s closed h a
 
-  syntax_once : (c : Command) (e : SyntaxRefusal) (g : Fault) → IsInput c bytes → HasFault [] (handlers_of c bytes) e → IsRefused c bytes g → Syntax e ≡ g
-  syntax_once c e g i w r = go (input_refused c g i r) where
-    go : (((d : SyntaxRefusal) × (g ≡ Syntax d) × HasFault [] (handlers_of c bytes) d) ⊎ ((g ≡ NotBuilt) × (c ≡ Serve) × HasNoSession (parts_of bytes))) → Syntax e ≡ g
-    go (inl d) = ap Syntax (one_fault [] (handlers_of c bytes) e d.0 w d.2) ∙ sym d.1
-    go (inr n) =
-        absurd (has_no_fault (parts_of bytes).handlers n.2.file e n.2.form (subst (λ (k : Command). HasFault [] (handlers_of k bytes) e) n.1 w))
-
-  unbuilt_once : (g : Fault) → IsInput Serve bytes → HasNoSession (parts_of bytes) → IsRefused Serve bytes g → NotBuilt ≡ g
-  unbuilt_once g i n r = go (input_refused Serve g i r) where
-    go : (((d : SyntaxRefusal) × (g ≡ Syntax d) × HasFault [] (parts_of bytes).handlers d) ⊎ ((g ≡ NotBuilt) × (Serve ≡ Serve) × HasNoSession (parts_of bytes))) → NotBuilt ≡ g
-    go (inl d) = absurd (has_no_fault (parts_of bytes).handlers n.file d.0 n.form d.2)
-    go (inr m) = sym m.0
-
-pub refused_once : (c : Command) (bytes : List ℕ) (f g : Fault) → IsRefused c bytes f → IsRefused c bytes g → f ≡ g
-refused_once c bytes TooLarge g r s = sym (large bytes c g s r)
-refused_once c bytes NotText g r s = sym (no_text bytes c g s r.0 r.1)
-refused_once Serve bytes NoRequests g r s = sym (no_requests bytes g s r.0 r.1 r.2)
-refused_once Check bytes NoRequests g r s = absurd r
-refused_once Check bytes HasRequests g r s = sym (has_requests bytes g s r.0 r.1 r.2)
-refused_once Serve bytes HasRequests g r s = absurd r
-refused_once c bytes (Syntax e) g r s = syntax_once bytes c e g r.0 r.1.first s
-refused_once Serve bytes NotBuilt g r s = unbuilt_once bytes g r.0 r.1 s
-refused_once Check bytes NotBuilt g r s = absurd r
-
--- ---- what has a text isn't refused
-
-input_of : (c : Command) (bytes text : List ℕ) → IsText c bytes text → IsInput c bytes
-input_of Check bytes text t = t.input
-input_of Serve bytes text t = t.input
-
-no_fault_of : (c : Command) (bytes text : List ℕ) (e : SyntaxRefusal) → IsText c bytes text → HasFault [] (handlers_of c bytes) e → ⊥
-no_fault_of Check bytes text e t f = has_no_fault bytes t.file e t.form f
-no_fault_of Serve bytes text e t f = has_no_fault (parts_of bytes).handlers t.file e t.is_session.form f
-
-has_session : (bytes text : List ℕ) → IsServed bytes text → HasNoSession (parts_of bytes) → ⊥
-has_session bytes text t n =
-    n.unserved (subst (λ (f : File). answers.IsSession (parts_of bytes) f) (one_tree [] (parts_of bytes).handlers t.file n.file t.is_session.form n.form) t.is_session)
-
-pub text_or_refused : (c : Command) (bytes text : List ℕ) (f : Fault) → IsText c bytes text → IsRefused c bytes f → ⊥
-text_or_refused c bytes text f t r = go (input_refused bytes c f (input_of c bytes text t) r) where
-  go : (((d : SyntaxRefusal) × (f ≡ Syntax d) × HasFault [] (handlers_of c bytes) d) ⊎ ((f ≡ NotBuilt) × (c ≡ Serve) × HasNoSession (parts_of bytes))) → ⊥
-  go (inl d) = no_fault_of c bytes text d.0 t d.2
-  go (inr n) = has_session bytes text (subst (λ (k : Command). IsText k bytes text) n.1 t) n.2
-
--- ---- one answer at most
-
-same_text : (c : Command) (bytes s t : List ℕ) → IsText c bytes s → IsText c bytes t → s ≡ t
-same_text Check bytes s t h k = h.text_is ∙ ap (canonical_text (names_of [] bytes)) (one_tree [] bytes h.file k.file h.form k.form) ∙ sym k.text_is
-same_text Serve bytes s t h k = h.text_is ∙ ap (text_of (parts_of bytes)) (one_tree [] (parts_of bytes).handlers h.file k.file h.is_session.form k.is_session.form) ∙ sym k.text_is
-
-same_answers : (o : Option Command) (bytes : List ℕ) (a b : Answer) → CommandAnswers o bytes a → CommandAnswers o bytes b → a ≡ b
-same_answers None bytes answers.Usage answers.Usage h k = refl
-same_answers None bytes answers.Usage (answers.Refused g) h k = absurd k
-same_answers None bytes answers.Usage (answers.Text t) h k = absurd k
-same_answers None bytes (answers.Refused f) b h k = absurd h
-same_answers None bytes (answers.Text s) b h k = absurd h
-same_answers (Some c) bytes answers.Usage b h k = absurd h
-same_answers (Some c) bytes (answers.Refused f) answers.Usage h k = absurd k
-same_answers (Some c) bytes (answers.Refused f) (answers.Refused g) h k = ap answers.Refused (refused_once c bytes f g h k)
-same_answers (Some c) bytes (answers.Refused f) (answers.Text t) h k = absurd (text_or_refused c bytes t f k h)
-same_answers (Some c) bytes (answers.Text s) answers.Usage h k = absurd k
-same_answers (Some c) bytes (answers.Text s) (answers.Refused g) h k = absurd (text_or_refused c bytes s g h k)
-same_answers (Some c) bytes (answers.Text s) (answers.Text t) h k = ap answers.Text (same_text c bytes s t h k)
-
-pub same_answer : (words : List (List ℕ)) (bytes : List ℕ) (a b : Answer) → IsAnswer words bytes a → IsAnswer words bytes b → a ≡ b
-same_answer words bytes a b h k = same_answers (command_of words) bytes a b h k
+  pub unserved_run : (callers shards : ℕ) (s : Status) → StoppedAs source s → IsUntouched out → Runs (Some (Serve callers shards)) source out s None
+  unserved_run callers shards s h same = stopped_run (Serve callers shards) refl source out s h same

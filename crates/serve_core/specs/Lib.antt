@@ -1,14 +1,2 @@
-pub mod Answer
-pub mod Built
-pub mod Checked
-pub mod Commands
-pub mod Dialogue
-pub mod ExitStatus
-pub mod Fit
-pub mod Loaded
-pub mod Message
-pub mod Names
-pub mod Printable
-pub mod Resolves
-pub mod Runs
-pub mod Session
+pub mod Gathering
+pub mod Serving

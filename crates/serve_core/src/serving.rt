@@ -1,79 +1,106 @@
-// Serving: all requests, one at a time in their order, on plain tables.
+// Serving: from a source to the lines of the replies.
 
-ghost use Rattle.std.specs.Prelude.{◌≡◌, ◌≤◌, length, map, IfOk, OnOk, Some};
-ghost use Rattle.std.specs.List.{AllByRecursion};
-ghost use Rattle.session_values.specs.Tables.{kind_of};
-ghost use Rattle.session_values.specs.Serial.{serve, serial_replies};
-ghost use Rattle.serve_core.specs.Dialogue.{env_of, run, calls_bound};
-ghost use Rattle.serve_core.specs.Fit.{IsFitHandler};
-ghost use Rattle.serve_core.specs.Session.{session_of, body_at, IsAsked};
+ghost use Rattle.std.specs.Prelude.{◌≡◌, ◌≤◌, [], length, vec_capacity, Some};
+ghost use Rattle.session_answers.specs.Printable.{ArePrintableReplies};
+ghost use Rattle.session_answers.specs.Runs.{Runs, change};
+ghost use Rattle.session_answers.specs.Ways.{AnswersTo};
+ghost use Rattle.session_values.specs.ReplyText.{reply_text};
+ghost use Rattle.command_words.specs.declared.command.Command.TheVariants.{Serve};
+ghost use Rattle.serve_core.specs.Serving.{EndsBy, status_of};
 
-use crate::checked::CheckedHandler;
-use crate::machine::run_handler;
-use plain_tables::PlainTables;
-use request_files::Request;
-use session_values::{NoMemory, Reply, TableKind, Value};
+use crate::outcome::Outcome;
+use crate::sessions::{Served, serve_file};
+use crate::writing::write_lines;
+use byte_ends::{Sink, Source};
+use session_answers::Status;
+use session_reading::{Unserved, read_input};
 use std::alloc::Global;
+use std::sync::Wait;
+use std::thread::Threads;
+use worker_gate::Gate;
 
-/// The replies of all requests, by their tickets.
-pub(crate) fn serve_all(
+/// Reads a session file, serves its requests, and writes their replies.
+pub(crate) fn serve_source<R: Threads + Wait + Sync, I: Source, O: Sink, G: Gate + Sync>(
+    rt: &R,
     alloc: Global,
-    shape: &[TableKind],
-    handlers: &[CheckedHandler],
-    requests: &[Request],
-) -> Result<Vec<Reply>, NoMemory>
-    requires fits { AllByRecursion (IsFitHandler shape.now) handlers.now }
-    requires asked { AllByRecursion (IsAsked handlers.now) requests.now }
-    ensures { IfOk result (λ replies. replies.items ≡ serial_replies (session_of shape.now handlers.now requests.now) (length requests.now)) }
+    callers: u32,
+    shards: u32,
+    source: &mut I,
+    out: &mut O,
+    gate: &G,
+) -> Outcome
+    requires callers { (1 ≤ callers) × (callers ≤ 32) }
+    requires shards { (1 ≤ shards) × (shards ≤ 8) }
+    ensures { Runs (Some (Serve callers shards))
+        (change I.left I.faults source.old source.new)
+        (change O.held O.faults out.old out.new) result.status result.closed }
 {
-    let mut tables = PlainTables::new(alloc, shape)?;
-    let mut env = vec![in alloc; Value::Nil; most_variables(handlers) as usize]?;
-    let mut replies = Vec::with_capacity(alloc, requests.len())?;
-    for request in requests {
-        replies.push(serve_request(handlers, request, &mut env, &mut tables)?)?;
+    match read_input(alloc, source) {
+        Ok(bytes) => serve_input(rt, alloc, callers, shards, bytes.as_slice(), out, gate),
+        Err(status) => Outcome {
+            status,
+            closed: None,
+        },
     }
-    Ok(replies)
 }
 
-/// The most variables of a handler.
-fn most_variables(handlers: &[CheckedHandler]) -> u32
-    ensures { AllByRecursion (λ h. h.variables ≤ result) handlers.now }
+// Serves the requests of a session file, and writes their replies.
+fn serve_input<R: Threads + Wait + Sync, O: Sink, G: Gate + Sync>(
+    rt: &R,
+    alloc: Global,
+    callers: u32,
+    shards: u32,
+    bytes: &[u8],
+    out: &mut O,
+    gate: &G,
+) -> Outcome
+    requires short { length bytes.now ≤ 4194304 }
+    requires callers { (1 ≤ callers) × (callers ≤ 32) }
+    requires shards { (1 ≤ shards) × (shards ≤ 8) }
+    ensures { AnswersTo (Serve callers shards) bytes.now
+        (change O.held O.faults out.old out.new) result.status result.closed }
 {
-    let mut most = 0;
-    for handler in handlers {
-        most = most.max(handler.variables);
+    match serve_file(rt, alloc, callers, shards, bytes, gate) {
+        Ok(served) => write_replies(served, out),
+        Err(e) => Outcome {
+            status: ended(e),
+            closed: None,
+        },
     }
-    most
 }
 
-/// The reply of one request. What stood in `env` before doesn't matter.
-fn serve_request(
-    handlers: &[CheckedHandler],
-    request: &Request,
-    env: &mut [Value],
-    tables: &mut PlainTables,
-) -> Result<Reply, NoMemory>
-    requires fits { AllByRecursion (IsFitHandler (map kind_of tables.old)) handlers.now }
-    requires asked { IsAsked handlers.now request.now }
-    requires room { AllByRecursion (λ h. h.variables ≤ length env.old) handlers.now }
-    ensures answer { IfOk result (λ reply.
-        (serve (calls_bound (body_at handlers.now request.now.handler)) (run (body_at handlers.now request.now.handler) (env_of request.now.args)) tables.old).answer ≡ Some reply) }
-    ensures after { OnOk result (tables.new ≡
-        (serve (calls_bound (body_at handlers.now request.now.handler)) (run (body_at handlers.now request.now.handler) (env_of request.now.args)) tables.old).after) }
-    ensures kinds { OnOk result (map kind_of tables.new ≡ map kind_of tables.old) }
+/// How a run ends that serves nothing.
+pub(crate) fn ended(e: Unserved) -> Status
+    ensures { result ≡ status_of e }
 {
-    let handler = &handlers[request.handler as usize];
-    let variables = &mut env[..handler.variables as usize];
-    set_up(variables, request.args.as_slice());
-    run_handler(handler.body.as_slice(), variables, tables)
+    match e {
+        Unserved::Refused(fault) => Status::Refused(fault),
+        Unserved::NoMemory => Status::NoMemory,
+    }
 }
 
-/// Puts the arguments first and nil behind them.
-fn set_up(env: &mut [Value], args: &[Value])
-    requires { length args.now ≤ length env.old }
-    ensures { env_of env.new ≡ env_of args.now }
+// Writes the replies of what was served.
+fn write_replies<O: Sink>(served: Served, out: &mut O) -> Outcome
+    requires few { length served.closed.replies ≤ 20000 }
+    requires printable { ArePrintableReplies served.names served.closed.replies }
+    requires empty { served.block.items ≡ [] }
+    requires room { 65536 ≤ vec_capacity served.block }
+    ensures closed { result.closed ≡ Some served.closed }
+    ensures ends { EndsBy (reply_text served.names 0 served.closed.replies)
+        (change O.held O.faults out.old out.new) result.status }
 {
-    for i in 0..env.len() {
-        env[i] = if i < args.len() { args[i] } else { Value::Nil };
+    let Served {
+        names,
+        closed,
+        mut block,
+    } = served;
+    let status = if write_lines(out, closed.replies().as_slice(), &names, &mut block) {
+        Status::Fine
+    } else {
+        Status::WriteFault
+    };
+    Outcome {
+        status,
+        closed: Some(closed),
     }
 }

@@ -1,47 +1,85 @@
 // The top call.
 
-ghost use Rattle.std.specs.Prelude.{◌≡◌, map, string_bytes, false, Some};
-ghost use Rattle.serve_core.specs.Commands as commands;
-ghost use Rattle.serve_core.specs.Runs.{Runs, Tells, change};
-ghost use Rattle.serve_core.specs.declared.command.Command.TheVariants.{Check};
+ghost use Rattle.std.specs.Prelude.{◌≡◌, map, string_bytes, Some, None, IfSome};
+ghost use Rattle.command_words.specs.Commands as commands;
+ghost use Rattle.session_answers.specs.Runs.{Runs, Tells, change};
+ghost use Rattle.session_answers.specs.Ways.{describing};
 
-use crate::answering::answer;
-use crate::command::{Command, command_of};
-use crate::message::message_of;
-use crate::status::Status;
+use crate::describing::describe_source;
+use crate::outcome::Outcome;
+use crate::serving::serve_source;
+use crate::working::work;
 use byte_ends::{Sink, Source, write_all};
+use command_words::{Command, command_of};
+use session_answers::{Status, message_of};
 use std::alloc::Global;
+use std::sync::Wait;
+use std::thread::Threads;
+use worker_gate::Gate;
 
 /// All that the program does: `words` are those after the program's name. It reads an input from
-/// `source`, writes the command's text to `out` and, where it doesn't end well, one line to `err`.
-/// Its promises stand by name in `specs/Runs.antt`: usage and unread; fine, refused and front;
-/// refusing and complete; read_fault, write_fault and unwritten; end, gone and lost; and, of the
-/// line, line and line_front.
-pub fn run<I: Source, O: Sink, E: Sink>(
+/// `source`, writes the command's text to `out` and, where it doesn't end well, one line to `err`;
+/// callers that serve pass the gate at each of its places. Its promises stand by name in
+/// `session_answers`, in `specs/Runs.antt`: usage and unread; fine, refused and front; refusing
+/// and complete; read_fault, write_fault and unwritten; end, gone and lost; served and hall; and,
+/// of the line, line and line_front.
+pub fn run<R: Threads + Wait + Sync, I: Source, O: Sink, E: Sink, G: Gate + Sync>(
+    rt: &R,
     alloc: Global,
     words: &Vec<String>,
     source: &mut I,
     out: &mut O,
     err: &mut E,
-) -> Status
+    gate: &G,
+) -> Outcome
     ensures runs { Runs (commands.command_of (map string_bytes words.now.items))
         (change I.left I.faults source.old source.new)
-        (change O.held O.faults out.old out.new) result }
-    ensures tells { Tells (change E.held E.faults err.old err.new) result }
+        (change O.held O.faults out.old out.new) result.status result.closed }
+    ensures tells { Tells (change E.held E.faults err.old err.new) result.status }
 {
-    match command_of(words) {
-        Some(Command::Check) => describe(alloc, false, source, out, err),
-        Some(Command::Serve) => run_command(alloc, Command::Serve, source, out, err),
-        None => {
-            tell(&Status::Usage, err);
-            Status::Usage
+    let outcome = answer(rt, alloc, command_of(words.as_slice()), source, out, gate);
+    tell(&outcome.status, err);
+    outcome
+}
+
+// What a command answers, if there is one.
+fn answer<R: Threads + Wait + Sync, I: Source, O: Sink, G: Gate + Sync>(
+    rt: &R,
+    alloc: Global,
+    command: Option<Command>,
+    source: &mut I,
+    out: &mut O,
+    gate: &G,
+) -> Outcome
+    requires { IfSome command commands.IsWithinBounds }
+    ensures { Runs command
+        (change I.left I.faults source.old source.new)
+        (change O.held O.faults out.old out.new) result.status result.closed }
+{
+    match command {
+        Some(Command::Check) => unserved(describe_source(alloc, false, source, out)),
+        Some(Command::Show) => unserved(describe_source(alloc, true, source, out)),
+        Some(Command::Serve { callers, shards }) => {
+            serve_source(rt, alloc, callers, shards, source, out, gate)
         }
+        Some(Command::Work { requests, start }) => { work(rt, alloc, requests, start, out, gate) }
+        None => unserved(Status::Usage),
+    }
+}
+
+// The end of a run that serves nothing.
+fn unserved(status: Status) -> Outcome
+    ensures { result ≡ record { status = status; closed = None } }
+{
+    Outcome {
+        status,
+        closed: None,
     }
 }
 
 /// Reads a file of handlers from `source`, writes its canonical text to `out` and, where it doesn't
-/// end well, one line to `err`, as `run` does for `check`. With `shown`, the text is to have
-/// declarations, which aren't built yet.
+/// end well, one line to `err`, as `run` does for `check`. With `shown`, the text has the
+/// declarations, as `run` writes it for `show`.
 pub fn describe<I: Source, O: Sink, E: Sink>(
     alloc: Global,
     shown: bool,
@@ -49,29 +87,12 @@ pub fn describe<I: Source, O: Sink, E: Sink>(
     out: &mut O,
     err: &mut E,
 ) -> Status
-    requires { shown ≡ false }
-    ensures runs { Runs (Some Check)
+    ensures runs { Runs (Some (describing shown))
         (change I.left I.faults source.old source.new)
-        (change O.held O.faults out.old out.new) result }
+        (change O.held O.faults out.old out.new) result None }
     ensures tells { Tells (change E.held E.faults err.old err.new) result }
 {
-    run_command(alloc, Command::Check, source, out, err)
-}
-
-/// One command, from its input to its text, and the line on `err`.
-fn run_command<I: Source, O: Sink, E: Sink>(
-    alloc: Global,
-    command: Command,
-    source: &mut I,
-    out: &mut O,
-    err: &mut E,
-) -> Status
-    ensures runs { Runs (Some command)
-        (change I.left I.faults source.old source.new)
-        (change O.held O.faults out.old out.new) result }
-    ensures tells { Tells (change E.held E.faults err.old err.new) result }
-{
-    let status = answer(alloc, command, source, out);
+    let status = describe_source(alloc, shown, source, out);
     tell(&status, err);
     status
 }

@@ -1,19 +1,27 @@
 // Writing: the replies, line by line.
 
-ghost use Rattle.std.specs.Prelude.{◌≡◌, ◌≤◌, length, true, false};
+ghost use Rattle.std.specs.Prelude.{◌≡◌, ◌≤◌, [], length, vec_capacity, true, false};
 ghost use Rattle.byte_ends.specs.Ends.{Rose, Grew, GrewByFront};
 ghost use Rattle.session_values.specs.ReplyText.{reply_text};
-ghost use Rattle.serve_core.specs.Printable.{ArePrintableReplies};
+ghost use Rattle.session_answers.specs.Printable.{ArePrintableReplies};
 
-use byte_ends::{Sink, write_all};
+use crate::gathering::{flush, gather};
+use byte_ends::Sink;
 use reply_sheet::{LineBuf, line};
 use session_values::{Names, Reply};
 
-/// Writes the replies, of which the first is ticket 0's, each line by as many writes as the sink
-/// needs. It answers `false` after a fault.
-pub(crate) fn write_lines<O: Sink>(out: &mut O, replies: &[Reply], names: &Names) -> bool
+/// Writes the replies, of which the first is ticket 0's. Whole lines are gathered in the block, and
+/// written when it is full or no line is left. It answers `false` after a fault.
+pub(crate) fn write_lines<O: Sink>(
+    out: &mut O,
+    replies: &[Reply],
+    names: &Names,
+    block: &mut Vec<u8>,
+) -> bool
     requires few { length replies.now ≤ 20000 }
     requires printable { ArePrintableReplies names.now replies.now }
+    requires empty { block.old.items ≡ [] }
+    requires room { 65536 ≤ vec_capacity block.old }
     ensures all { result ≡ true
         → Grew (O.held out.old) (O.held out.new) (reply_text names.now 0 replies.now) }
     ensures fault { result ≡ false → Rose (O.faults out.old) (O.faults out.new) }
@@ -24,9 +32,9 @@ pub(crate) fn write_lines<O: Sink>(out: &mut O, replies: &[Reply], names: &Names
     let mut text = LineBuf::new();
     for (ticket, reply) in replies.iter().enumerate() {
         line(ticket as u32, reply, names, &mut text);
-        if !write_all(out, text.bytes()) {
+        if !gather(out, block, text.bytes()) {
             return false;
         }
     }
-    true
+    flush(out, block)
 }

@@ -1,0 +1,15 @@
+// What the program is asked to do.
+
+/// What the program is asked to do.
+#[derive(Clone, Copy, Debug, PartialEq, Eq)]
+pub enum Command {
+    /// Write the canonical text of a file of handlers.
+    Check,
+    /// Write that text with the declarations.
+    Show,
+    /// Serve a session file, by 1 to 32 callers over 1 to 8 shards a table, and write the replies.
+    Serve { callers: u32, shards: u32 },
+    /// Serve a made session of 1 to 20,000 requests, whose draws begin from `start`, and write its
+    /// summary.
+    Work { requests: u32, start: u32 },
+}

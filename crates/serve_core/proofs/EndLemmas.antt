@@ -1,0 +1,197 @@
+-- What a command answers to its input, from what its parts say.
+use Rattle.std.proofs.Common.{◌≡◌, ◌≢◌, ℕ, ◌≤◌, Bool, true, false, is_some, List, length, Option, Some, None, refl, sym, ap, ◌∙◌, subst}
+use Rattle.std.specs.Prelude.{IsUtf8}
+use Rattle.session_values.specs.declared.reply.Reply.{Reply}
+use Rattle.session_values.specs.Serial.{Session, serial_replies}
+use Rattle.session_values.specs.ReplyText.{reply_text}
+use Rattle.session_journal.specs.Script.{Meaning, session_of}
+use Rattle.session_journal.specs.Journal.{deeds}
+use Rattle.session_hall.specs.Closings.{ClosedView, IsDone}
+use Rattle.command_words.specs.declared.command.Command.{Command}
+use Rattle.command_words.specs.declared.command.Command.TheVariants.{Check, Show, Serve, Work}
+use Rattle.work_session.specs.Summary.{summary}
+use Rattle.session_answers.specs.declared.status.Fault.{Fault}
+use Rattle.session_answers.specs.declared.status.Fault.TheVariants as fault
+use Rattle.session_answers.specs.declared.status.Status.{Status}
+use Rattle.session_answers.specs.declared.status.Status.TheVariants as status
+use Rattle.session_answers.specs.Input.{Parts, parts_of, input_of, has_requests, handlers_of, is_divided, max_input, IsInput}
+use Rattle.session_answers.specs.Session.{session_of_parts, all_names_of, replies_text, serial_calls}
+use Rattle.session_answers.specs.Answer.{IsRefused, IsTextOf}
+use Rattle.session_answers.specs.Runs.{Change, IsUntouched, Answered, Written, has_served, Holds, IsServedThrough, callers_of, shards_of}
+use Rattle.session_answers.specs.Ways.{AnswersTo, describing}
+use Rattle.session_answers.proofs.RunLemmas.{refused_answer, no_answer, fine_answer, front_answer, not_served}
+use Rattle.session_reading.specs.declared.unserved.Unserved.{Unserved}
+use Rattle.session_reading.specs.declared.unserved.Unserved.TheVariants.{Refused, NoMemory}
+use Rattle.session_reading.specs.Reasons.{IsReason, IsSessionReason}
+use Rattle.serve_core.specs.declared.sessions.Served.{Served}
+use Rattle.serve_core.specs.Serving.{IsSessionInput, HasServed, IsInputReason, status_of, EndsBy}
+use Rattle.serve_core.proofs.CallLemmas.{calls_done}
+
+-- ---- a command that refuses, or wants memory
+module _ {O : Type 0} (c : Command) (bytes : List ℕ) (out : Change O) (same : IsUntouched out) where
+  pub refused_to : (f : Fault) → IsRefused c (input_of c bytes) f → AnswersTo c bytes out (status.Refused f) None
+  refused_to f r = record {
+    usage = λ e. cc;
+    read_fault = λ e. cc;
+    answered = refused_answer c bytes out f r;
+    written = record { write_fault = λ e. absurd (cc); unwritten = λ _ _. same };
+    served = not_served c (status.Refused f) (λ e. cc) (λ e. cc);
+    hall = tt;
+  }
+
+  pub memory_to : AnswersTo c bytes out status.NoMemory None
+  memory_to = record {
+    usage = λ e. cc;
+    read_fault = λ e. cc;
+    answered = no_answer c bytes out status.NoMemory (λ e. cc) (λ f e. cc) (λ e. cc);
+    written = record { write_fault = λ e. absurd (cc); unwritten = λ _ _. same };
+    served = not_served c status.NoMemory (λ e. cc) (λ e. cc);
+    hall = tt;
+  }
+
+  pub reason_to : (e : Unserved) → IsReason c (input_of c bytes) e → AnswersTo c bytes out (status_of e) None
+  reason_to NoMemory h = memory_to
+  reason_to (Refused f) h = refused_to f h
+
+-- ---- a command that writes its text
+module _ {O : Type 0} (c : Command) (bytes : List ℕ) (out : Change O) (text : List ℕ) (i : IsInput c (input_of c bytes)) (is : IsTextOf c (input_of c bytes) text) where
+  pub ends_to : (s : Status) (closed : Option ClosedView) → EndsBy text out s → is_some closed ≡ has_served (Some c) s → Holds (Some c) bytes closed → AnswersTo c bytes out s closed
+  ends_to status.Fine closed e served hall = record {
+    usage = λ x. cc;
+    read_fault = λ x. cc;
+    answered = fine_answer c bytes out text i is e;
+    written = record { write_fault = λ x. absurd (cc); unwritten = λ f _. absurd (f refl) };
+    served = served;
+    hall = hall;
+  }
+  ends_to status.WriteFault closed e served hall = record {
+    usage = λ x. cc;
+    read_fault = λ x. cc;
+    answered = front_answer c bytes out text i is e.1;
+    written = record { write_fault = λ x. e.0; unwritten = λ _ f. absurd (f refl) };
+    served = served;
+    hall = hall;
+  }
+  ends_to (status.Refused f) closed e served hall = absurd e
+  ends_to status.Usage closed e served hall = absurd e
+  ends_to status.NoMemory closed e served hall = absurd e
+  ends_to status.ReadFault closed e served hall = absurd e
+
+-- ---- describing
+pub describing_served : (shown : Bool) (s : Status) → false ≡ has_served (Some (describing shown)) s
+describing_served true status.Fine = refl
+describing_served true (status.Refused f) = refl
+describing_served true status.Usage = refl
+describing_served true status.NoMemory = refl
+describing_served true status.ReadFault = refl
+describing_served true status.WriteFault = refl
+describing_served false status.Fine = refl
+describing_served false (status.Refused f) = refl
+describing_served false status.Usage = refl
+describing_served false status.NoMemory = refl
+describing_served false status.ReadFault = refl
+describing_served false status.WriteFault = refl
+
+describing_own : (shown : Bool) (bytes : List ℕ) → bytes ≡ input_of (describing shown) bytes
+describing_own true bytes = refl
+describing_own false bytes = refl
+
+module _ {O : Type 0} (shown : Bool) (bytes : List ℕ) (out : Change O) where
+  pub described_to : (text : List ℕ) (s : Status) → IsInput (describing shown) bytes → IsTextOf (describing shown) bytes text → EndsBy text out s → AnswersTo (describing shown) bytes out s None
+  described_to text s i is e =
+      ends_to (describing shown) bytes out text (subst (IsInput (describing shown)) (describing_own shown bytes) i) (subst (λ (b : List ℕ). IsTextOf (describing shown) b text) (describing_own shown bytes) is) s None e (describing_served shown s) tt
+
+  pub undescribed_to : (e : Unserved) → IsUntouched out → IsReason (describing shown) bytes e → AnswersTo (describing shown) bytes out (status_of e) None
+  undescribed_to e same r = reason_to (describing shown) bytes out same e (subst (λ (b : List ℕ). IsReason (describing shown) b e) (describing_own shown bytes) r)
+
+-- ---- serving
+handlers_same : (c : Command) (input : List ℕ) → has_requests c ≡ true → handlers_of c input ≡ (parts_of input).handlers
+handlers_same Check input e = absurd (cc)
+handlers_same Show input e = absurd (cc)
+handlers_same (Serve callers shards) input e = refl
+handlers_same (Work requests start) input e = refl
+
+session_input : (c : Command) (input : List ℕ) → has_requests c ≡ true → IsSessionInput input → IsInput c input
+session_input c input has i = record { short = i.short; utf8 = i.utf8; parts = i.divided ∙ sym has }
+
+input_reason : (c : Command) (input : List ℕ) (e : Unserved) → has_requests c ≡ true → IsInputReason input e → IsReason c input e
+input_reason c input NoMemory has h = tt
+input_reason c input (Refused fault.TooLarge) has h = absurd h
+input_reason c input (Refused fault.NotText) has h = h
+input_reason c input (Refused fault.NoRequests) has h = (h.0, h.1, has, h.2)
+input_reason c input (Refused fault.HasRequests) has h = absurd h
+input_reason c input (Refused (fault.Syntax e)) has h =
+    (session_input c input has h.0, subst (λ (t : List ℕ). IsSessionReason (record { handlers = t; requests = (parts_of input).requests; first = (parts_of input).first }) (Refused (fault.Syntax e))) (sym (handlers_same c input has)) h.1)
+input_reason c input (Refused (fault.Check e)) has h =
+    (session_input c input has h.0, subst (λ (t : List ℕ). IsSessionReason (record { handlers = t; requests = (parts_of input).requests; first = (parts_of input).first }) (Refused (fault.Check e))) (sym (handlers_same c input has)) h.1)
+input_reason c input (Refused (fault.Analysis e)) has h =
+    (session_input c input has h.0, subst (λ (t : List ℕ). IsSessionReason (record { handlers = t; requests = (parts_of input).requests; first = (parts_of input).first }) (Refused (fault.Analysis e))) (sym (handlers_same c input has)) h.1)
+input_reason c input (Refused (fault.Request e)) has h = (session_input c input has h.0, has, h.1)
+
+-- the text of the replies of what was served
+served_text_is : (parts : Parts) (callers shards : ℕ) (s : Served) (h : HasServed parts callers shards s) → reply_text s.names 0 s.closed.replies ≡ replies_text parts h.file
+served_text_is parts callers shards s h =
+    ap (λ (ns : List (List ℕ)). reply_text ns 0 s.closed.replies) h.names_are
+    ∙ ap (λ (rs : List Reply). reply_text (all_names_of parts) 0 rs) h.done.replies
+    ∙ ap (λ (z : Session). reply_text (all_names_of parts) 0 (serial_replies z z.requests)) h.session_is
+
+served_through : (c : Command) (input : List ℕ) (callers shards : ℕ) (s : Served) (h : HasServed (parts_of input) callers shards s) → s.closed.callers ≡ callers_of c → s.closed.shards ≡ shards_of c → IsServedThrough c input s.closed
+served_through c input callers shards s h a b = record {
+  file = h.file;
+  is_session = h.is_session;
+  script = h.script;
+  session_is = h.session_is;
+  done = h.done;
+  callers_are = a;
+  shards_are = b;
+}
+
+holds_some : (c : Command) (bytes : List ℕ) (d : ClosedView) (closed : Option ClosedView) → closed ≡ Some d → IsServedThrough c (input_of c bytes) d → Holds (Some c) bytes closed
+holds_some c bytes d closed e h = subst (Holds (Some c) bytes) (sym e) h
+
+module _ {O : Type 0} (callers shards : ℕ) (bytes : List ℕ) (out : Change O) where
+  ends_served : (s : Status) (text : List ℕ) → EndsBy text out s → true ≡ has_served (Some (Serve callers shards)) s
+  ends_served status.Fine text e = refl
+  ends_served status.WriteFault text e = refl
+  ends_served (status.Refused f) text e = absurd e
+  ends_served status.Usage text e = absurd e
+  ends_served status.NoMemory text e = absurd e
+  ends_served status.ReadFault text e = absurd e
+
+  pub served_to : (v : Served) (s : Status) (closed : Option ClosedView) → IsSessionInput bytes → HasServed (parts_of bytes) callers shards v → closed ≡ Some v.closed → EndsBy (reply_text v.names 0 v.closed.replies) out s
+      → AnswersTo (Serve callers shards) bytes out s closed
+  served_to v s closed i h is e =
+      let text = reply_text v.names 0 v.closed.replies in
+      ends_to (Serve callers shards) bytes out text (session_input (Serve callers shards) bytes refl i) (record { file = h.file; is_session = h.is_session; text_is = served_text_is (parts_of bytes) callers shards v h }) s closed e
+      (ap (λ (o : Option ClosedView). is_some o) is ∙ ends_served s text e)
+      (holds_some (Serve callers shards) bytes v.closed closed is (served_through (Serve callers shards) bytes callers shards v h h.callers_are h.shards_are))
+
+  pub unserved_to : (e : Unserved) → IsUntouched out → IsInputReason bytes e → AnswersTo (Serve callers shards) bytes out (status_of e) None
+  unserved_to e same r = reason_to (Serve callers shards) bytes out same e (input_reason (Serve callers shards) bytes e refl r)
+
+-- ---- working
+module _ {O : Type 0} (requests start : ℕ) (bytes : List ℕ) (out : Change O) where
+  abbrev made : List ℕ
+  made = input_of (Work requests start) bytes
+
+  ends_worked : (s : Status) (text : List ℕ) → EndsBy text out s → true ≡ has_served (Some (Work requests start)) s
+  ends_worked status.Fine text e = refl
+  ends_worked status.WriteFault text e = refl
+  ends_worked (status.Refused f) text e = absurd e
+  ends_worked status.Usage text e = absurd e
+  ends_worked status.NoMemory text e = absurd e
+  ends_worked status.ReadFault text e = absurd e
+
+  pub worked_to : (v : Served) (s : Status) (closed : Option ClosedView) → IsSessionInput made → HasServed (parts_of made) 4 4 v → closed ≡ Some v.closed
+      → EndsBy (summary requests (length (deeds v.closed.journal)) (length (reply_text v.names 0 v.closed.replies))) out s → AnswersTo (Work requests start) bytes out s closed
+  worked_to v s closed i h is e =
+      let text = summary requests (length (deeds v.closed.journal)) (length (reply_text v.names 0 v.closed.replies)) in
+      let calls = calls_done h.script v.closed h.done ∙ ap (λ (z : Session). serial_calls z z.requests) h.session_is in
+      let text_is = ap (λ (n : ℕ). summary requests n (length (reply_text v.names 0 v.closed.replies))) calls
+      ∙ ap (λ (t : List ℕ). summary requests (serial_calls (session_of_parts (parts_of made) h.file) (session_of_parts (parts_of made) h.file).requests) (length t)) (served_text_is (parts_of made) 4 4 v h) in
+      ends_to (Work requests start) bytes out text (session_input (Work requests start) made refl i) (record { file = h.file; is_session = h.is_session; text_is = text_is }) s closed e
+      (ap (λ (o : Option ClosedView). is_some o) is ∙ ends_worked s text e)
+      (holds_some (Work requests start) bytes v.closed closed is (served_through (Work requests start) made 4 4 v h h.callers_are h.shards_are))
+
+  pub unworked_to : (e : Unserved) → IsUntouched out → IsInputReason made e → AnswersTo (Work requests start) bytes out (status_of e) None
+  unworked_to e same r = reason_to (Work requests start) bytes out same e (input_reason (Work requests start) made e refl r)

@@ -1,6 +1,0 @@
-use Rattle.std.proofs.Common.{◌≡◌, ◌<◌, ℕ, get_or}
-use Rattle.session_values.specs.declared.value.Value.TheVariants.{Nil}
-use Rattle.serve_core.proofs.serving.set_up.Given as goal
-
-abbrev pub invariant-loop-i : goal.invariant-loop-i
-invariant-loop-i l = (k : ℕ) → k < l.i → get_or l.env k Nil ≡ get_or l.args k Nil

@@ -1,0 +1,38 @@
+// Counting: how many operations a session made, and how many bytes its reply lines have.
+
+ghost use Rattle.std.specs.Prelude.{◌≡◌, ◌≤◌, length};
+ghost use Rattle.session_journal.specs.Journal.{deeds};
+ghost use Rattle.session_values.specs.ReplyText.{reply_text};
+ghost use Rattle.session_answers.specs.Printable.{ArePrintableReplies};
+
+use reply_sheet::{LineBuf, line};
+use session_journal::Event;
+use session_values::{Names, Reply};
+
+/// How many operations were done.
+pub(crate) fn count_calls(events: &[Event]) -> u64
+    ensures { result ≡ length (deeds events.now) }
+{
+    let mut calls = 0;
+    for event in events {
+        if let Event::Done { .. } = event {
+            calls += 1;
+        }
+    }
+    calls
+}
+
+/// How many bytes the reply lines have.
+pub(crate) fn count_bytes(replies: &[Reply], names: &Names) -> u64
+    requires few { length replies.now ≤ 20000 }
+    requires printable { ArePrintableReplies names.now replies.now }
+    ensures { result ≡ length (reply_text names.now 0 replies.now) }
+{
+    let mut text = LineBuf::new();
+    let mut bytes = 0;
+    for (ticket, reply) in replies.iter().enumerate() {
+        line(ticket as u32, reply, names, &mut text);
+        bytes += text.bytes().len() as u64;
+    }
+    bytes
+}

@@ -1,0 +1,46 @@
+// Describing: from a source to the text of its handlers.
+
+ghost use Rattle.std.specs.Prelude.{◌≤◌, length, Some, None};
+ghost use Rattle.session_answers.specs.Runs.{Runs, change};
+ghost use Rattle.session_answers.specs.Ways.{AnswersTo, describing};
+
+use byte_ends::{Sink, Source, write_all};
+use session_answers::Status;
+use session_reading::{Unserved, described_text, read_input};
+use std::alloc::Global;
+
+/// Reads a file of handlers, and writes its text.
+pub(crate) fn describe_source<I: Source, O: Sink>(
+    alloc: Global,
+    shown: bool,
+    source: &mut I,
+    out: &mut O,
+) -> Status
+    ensures { Runs (Some (describing shown))
+        (change I.left I.faults source.old source.new)
+        (change O.held O.faults out.old out.new) result None }
+{
+    match read_input(alloc, source) {
+        Ok(bytes) => describe_input(alloc, shown, bytes.as_slice(), out),
+        Err(status) => status,
+    }
+}
+
+// Writes the text of a file of handlers.
+fn describe_input<O: Sink>(alloc: Global, shown: bool, bytes: &[u8], out: &mut O) -> Status
+    requires { length bytes.now ≤ 4194304 }
+    ensures { AnswersTo (describing shown) bytes.now
+        (change O.held O.faults out.old out.new) result None }
+{
+    match described_text(alloc, shown, bytes) {
+        Ok(text) => {
+            if write_all(out, text.as_bytes()) {
+                Status::Fine
+            } else {
+                Status::WriteFault
+            }
+        }
+        Err(Unserved::Refused(fault)) => Status::Refused(fault),
+        Err(Unserved::NoMemory) => Status::NoMemory,
+    }
+}

@@ -1,0 +1,93 @@
+// Sessions: from the bytes of a session file to the hall through which it was served.
+
+ghost use Rattle.std.specs.Prelude.{◌≡◌, ◌≤◌, [], length, vec_capacity, IfOk, IfErr};
+ghost use Rattle.session_hall.specs.Closings.{IsDone};
+ghost use Rattle.handler_machine.specs.Scripts.{meaning};
+ghost use Rattle.request_files.specs.Servable.{IsServable};
+ghost use Rattle.session_answers.specs.Input.{parts_of};
+ghost use Rattle.serve_core.specs.Serving.{IsSessionInput, IsInputReason, HasServed, script_of_loaded};
+
+use crate::gathering::new_block;
+use crate::served::serve_program;
+use request_files::divide;
+use session_answers::Fault;
+use session_hall::Closed;
+use session_reading::{Loaded, Unserved, read_session};
+use session_values::{Names, NoMemory};
+use std::alloc::Global;
+use std::sync::Wait;
+use std::thread::Threads;
+use worker_gate::Gate;
+
+/// What is left of a session that was served, and room for its lines.
+#[derive(Drop)]
+pub(crate) struct Served {
+    pub names: Names,
+    pub closed: Closed,
+    /// Empty, with room for 65,536 bytes.
+    pub block: Vec<u8>,
+}
+
+/// Reads a session file, and serves its requests.
+pub(crate) fn serve_file<R: Threads + Wait + Sync, G: Gate + Sync>(
+    rt: &R,
+    alloc: Global,
+    callers: u32,
+    shards: u32,
+    bytes: &[u8],
+    gate: &G,
+) -> Result<Served, Unserved>
+    requires short { length bytes.now ≤ 4194304 }
+    requires callers { (1 ≤ callers) × (callers ≤ 32) }
+    requires shards { (1 ≤ shards) × (shards ≤ 8) }
+    ensures input { IfOk result (λ _. IsSessionInput bytes.now) }
+    ensures served { IfOk result (HasServed (parts_of bytes.now) callers shards) }
+    ensures refused { IfErr result (IsInputReason bytes.now) }
+{
+    let Ok(text) = std::str::from_utf8(bytes) else {
+        return Err(Unserved::Refused(Fault::NotText));
+    };
+    let Some(parts) = divide(text) else {
+        return Err(Unserved::Refused(Fault::NoRequests));
+    };
+    match read_session(alloc, parts.handlers, parts.requests, parts.first) {
+        Ok(loaded) => match serve_loaded(rt, alloc, callers, shards, loaded, gate) {
+            Ok(served) => Ok(served),
+            Err(_) => Err(Unserved::NoMemory),
+        },
+        Err(e) => Err(e),
+    }
+}
+
+// Serves what was loaded. Memory is taken before the hall is open.
+fn serve_loaded<R: Threads + Wait + Sync, G: Gate + Sync>(
+    rt: &R,
+    alloc: Global,
+    callers: u32,
+    shards: u32,
+    loaded: Loaded,
+    gate: &G,
+) -> Result<Served, NoMemory>
+    requires servable { IsServable loaded.program.file loaded.requests }
+    requires callers { (1 ≤ callers) × (callers ≤ 32) }
+    requires shards { (1 ≤ shards) × (shards ≤ 8) }
+    ensures names { IfOk result (λ s. s.names ≡ loaded.names) }
+    ensures done { IfOk result (λ s. IsDone (meaning (script_of_loaded loaded)) s.closed) }
+    ensures callers { IfOk result (λ s. s.closed.callers ≡ callers) }
+    ensures shards { IfOk result (λ s. s.closed.shards ≡ shards) }
+    ensures empty { IfOk result (λ s. s.block.items ≡ []) }
+    ensures room { IfOk result (λ s. 65536 ≤ vec_capacity s.block) }
+{
+    let block = new_block(alloc)?;
+    let Loaded {
+        names,
+        program,
+        requests,
+    } = loaded;
+    let closed = serve_program(rt, alloc, callers, shards, &program, &requests, gate)?;
+    Ok(Served {
+        names,
+        closed,
+        block,
+    })
+}

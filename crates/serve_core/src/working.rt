@@ -1,0 +1,95 @@
+// Working: a made session, and its summary.
+
+ghost use Rattle.std.specs.Prelude.{◌≡◌, ◌+◌, ◌≤◌, ℕ, List, length, Some, IfOk, IfErr};
+ghost use Rattle.session_journal.specs.Journal.{deeds};
+ghost use Rattle.session_values.specs.ReplyText.{reply_text};
+ghost use Rattle.command_words.specs.declared.command.Command.TheVariants.{Work};
+ghost use Rattle.work_session.specs.Session.{session_text as text_of_session};
+ghost use Rattle.work_session.specs.Summary.{summary};
+ghost use Rattle.session_answers.specs.Input.{parts_of};
+ghost use Rattle.session_answers.specs.Printable.{ArePrintableReplies};
+ghost use Rattle.session_answers.specs.Runs.{change};
+ghost use Rattle.session_answers.specs.Ways.{AnswersTo};
+ghost use Rattle.serve_core.specs.Serving.{IsSessionInput, IsInputReason, HasServed, EndsBy};
+
+use crate::counting::{count_bytes, count_calls};
+use crate::outcome::Outcome;
+use crate::serving::ended;
+use crate::sessions::{Served, serve_file};
+use byte_ends::{Sink, write_all};
+use session_answers::Status;
+use session_reading::Unserved;
+use std::alloc::Global;
+use std::sync::Wait;
+use std::thread::Threads;
+use work_session::{session_text, summary_text};
+use worker_gate::Gate;
+
+/// Serves a made session, and writes its summary.
+pub(crate) fn work<R: Threads + Wait + Sync, O: Sink, G: Gate + Sync>(
+    rt: &R,
+    alloc: Global,
+    requests: u32,
+    start: u32,
+    out: &mut O,
+    gate: &G,
+) -> Outcome
+    requires { requests ≤ 20000 }
+    ensures { (bytes : List ℕ) → AnswersTo (Work requests start) bytes
+        (change O.held O.faults out.old out.new) result.status result.closed }
+{
+    match serve_made(rt, alloc, requests, start, gate) {
+        Ok(served) => write_summary(requests, served, out),
+        Err(e) => Outcome {
+            status: ended(e),
+            closed: None,
+        },
+    }
+}
+
+// Makes a session, and serves it.
+fn serve_made<R: Threads + Wait + Sync, G: Gate + Sync>(
+    rt: &R,
+    alloc: Global,
+    requests: u32,
+    start: u32,
+    gate: &G,
+) -> Result<Served, Unserved>
+    requires { requests ≤ 20000 }
+    ensures input { IfOk result (λ _. IsSessionInput (text_of_session requests start)) }
+    ensures served { IfOk result (HasServed (parts_of (text_of_session requests start)) 4 4) }
+    ensures refused { IfErr result (IsInputReason (text_of_session requests start)) }
+{
+    match session_text(alloc, requests, start) {
+        Ok(text) => serve_file(rt, alloc, 4, 4, text.as_bytes(), gate),
+        Err(_) => Err(Unserved::NoMemory),
+    }
+}
+
+// Writes the summary of what was served.
+fn write_summary<O: Sink>(requests: u32, served: Served, out: &mut O) -> Outcome
+    requires few { length served.closed.replies ≤ 20000 }
+    requires printable { ArePrintableReplies served.names served.closed.replies }
+    ensures closed { result.closed ≡ Some served.closed }
+    ensures ends { EndsBy (summary requests (length (deeds served.closed.journal))
+        (length (reply_text served.names 0 served.closed.replies)))
+        (change O.held O.faults out.old out.new) result.status }
+{
+    let Served {
+        names,
+        closed,
+        block: _,
+    } = served;
+    let calls = count_calls(closed.journal().events());
+    let bytes = count_bytes(closed.replies().as_slice(), &names);
+    let text = summary_text(requests, calls, bytes);
+    let status = if write_all(out, text.bytes()) {
+        Status::Fine
+    } else {
+        Status::WriteFault
+    };
+    Outcome {
+        status,
+        closed: Some(closed),
+    }
+}

@@ -1,0 +1,5 @@
+pub mod OneAnswer
+pub mod PrintableCode
+pub mod PrintableRuns
+pub mod PrintableTables
+pub mod RunLemmas

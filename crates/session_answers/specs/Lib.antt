@@ -1,0 +1,8 @@
+pub mod Answer
+pub mod ExitStatus
+pub mod Input
+pub mod Message
+pub mod Printable
+pub mod Runs
+pub mod Session
+pub mod Ways

@@ -1,0 +1,13 @@
+//! What the program answers to a command line and an input: how a run may end, the line that tells
+//! it, and what a whole run promises.
+#![tactic(auto)]
+
+mod certain;
+mod laws;
+mod message;
+mod status;
+
+pub use certain::{Certain, Refusal};
+pub use laws::{one_answer, replies_are_printable};
+pub use message::message_of;
+pub use status::{Fault, Status};

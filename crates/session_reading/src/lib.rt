@@ -1,0 +1,15 @@
+//! Reading: from a source to its bytes, and from these to checked handlers and their text.
+#![tactic(auto)]
+
+mod describing;
+mod naming;
+mod program;
+mod reading;
+mod session;
+mod unserved;
+
+pub use describing::described_text;
+pub use program::read_program;
+pub use reading::read_input;
+pub use session::{Loaded, read_session};
+pub use unserved::Unserved;
