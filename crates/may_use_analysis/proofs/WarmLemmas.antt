@@ -45,19 +45,17 @@ warm_inside : (H K : List (List Symbol)) (code : Code) (low : ℕ) (A : Symbols)
 warm_inside H K Finish low A n same w = w
 warm_inside H K (Move x e rest) low A n same w = warm_inside H K rest low A n same w
 warm_inside H K (Ask at p x c rest) low A n same w = warm_inside H K rest (low + 1) A n.1 (λ i g l. same i (omega arith) (omega arith)) w
-warm_inside H K (Fork at p q test a b rest) low A n same w =
-    (
-      warm_inside H K a (low + 1) (Flow rest A) n.1 (λ i g l. same i (omega arith) (omega arith)) w.0,
-      warm_inside H K b (low + 2 + points a) (Flow rest A) n.3 (λ i g l. same i (omega arith) (omega arith)) w.1,
-      warm_inside H K rest (low + 2 + points a + points b) A n.4 (λ i g l. same i (omega arith) (omega arith)) w.2
-    )
+warm_inside H K (Fork at p q test a b rest) low A n same w = (
+  warm_inside H K a (low + 1) (Flow rest A) n.1 (λ i g l. same i (omega arith) (omega arith)) w.0,
+  warm_inside H K b (low + 2 + points a) (Flow rest A) n.3 (λ i g l. same i (omega arith) (omega arith)) w.1,
+  warm_inside H K rest (low + 2 + points a + points b) A n.4 (λ i g l. same i (omega arith) (omega arith)) w.2,
+)
 warm_inside H K (Loop at p m x body rest) low A k same w =
     let e = k.1 in
-    let at_p = same p (omega arith) (omega arith) in
-    (
+    let at_p = same p (omega arith) (omega arith) in (
       λ s c. w.0 s (subst (λ (l : List Symbol). Contains l s) at_p c),
       subst (λ (l : List Symbol). AreWarm K body (Contains l)) (sym at_p) (warm_inside H K body low (HeadAt H p) k.0 (λ i g l. same i (omega arith) (omega arith)) w.1),
-      warm_inside H K rest (low + points body + 1) A k.2 (λ i g l. same i (omega arith) (omega arith)) w.2
+      warm_inside H K rest (low + points body + 1) A k.2 (λ i g l. same i (omega arith) (omega arith)) w.2,
     )
 warm_inside H K (Quit es rest) low A n same w = warm_inside H K rest low A n same w
 
@@ -166,9 +164,10 @@ warm_again H K (s ∷ ss) (suc i) d low A lt n same here w =
     let old = (warm_parts (block_code ss) H A s).0 w in
     let next = low + points (stmt_code s Finish) in
     let above = start_above ss i next in
-    (warm_parts (block_code ss) K A s).1
-    (warm_below H K (stmt_code s Finish) low (start_of ss i next) (start_of ss i next + points (stmt_code (get_or ss i d) Finish)) (Flow (block_code ss) A) numbers.0 same (omega arith) old.0,
-     warm_again H K ss i d next A (omega arith) numbers.1 same here old.1)
+    (warm_parts (block_code ss) K A s).1 (
+      warm_below H K (stmt_code s Finish) low (start_of ss i next) (start_of ss i next + points (stmt_code (get_or ss i d) Finish)) (Flow (block_code ss) A) numbers.0 same (omega arith) old.0,
+      warm_again H K ss i d next A (omega arith) numbers.1 same here old.1,
+    )
 
 -- and nothing outside its block has changed
 pub outside_block : (H K : List (List Symbol)) (ss : List CheckedStmt) (i : ℕ) (d : CheckedStmt) (low : ℕ) → i < length ss → SameOutside H K (start_of ss i low) (start_of ss i low + points (stmt_code (get_or ss i d) Finish)) → SameOutside H K low (low + points (block_code ss))

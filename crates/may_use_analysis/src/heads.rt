@@ -71,7 +71,9 @@ impl Heads {
             ≡ (if i == point then head.now else slice_index_or self.old i [])) }
     {
         extend_to(alloc, &mut self.lists, point)?;
-        let room = self.room.saturating_add(self.lists[point as usize].as_slice().len());
+        let room = self
+            .room
+            .saturating_add(self.lists[point as usize].as_slice().len());
         let size = head.as_slice().len();
         if size > room {
             return Err(NoMemory);

@@ -78,7 +78,10 @@ fn before_stmt(
             Ok(first)
         }
         CheckedStmt::Repeat {
-            point, var, body, ..
+            point,
+            var,
+            body,
+            ..
         } => {
             out.keep(alloc, after.as_slice())?;
             before_loop(alloc, *point, *var, body.as_slice(), after, heads, out)

@@ -14,5 +14,3 @@ mod halls;
 mod journals;
 #[cfg(test)]
 mod map_ops;
-#[cfg(test)]
-mod programs;

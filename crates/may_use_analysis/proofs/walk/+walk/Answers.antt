@@ -52,7 +52,7 @@ before_block-loop-i-preserved t c =
       set = subst (λ (z : Code). Are c.in_ok-set.set (Flow z after)) (sym code) step;
       lists = subst (λ (z : Code). Recorded z after c.args.out.now c.before_stmt.new.out) (sym code) lists;
       warm = warm_after items i x some le is c.loop-i.heads c.before_stmt.new.heads c.in_ok-set.ensures.others after c.loop-i.set n.0 n.1 c.loop-i.invariant.set c.in_ok-set.ensures.warm c.loop-i.invariant.warm;
-      others = others_after items i x some le is c.loop-i.heads c.before_stmt.new.heads c.in_ok-set.ensures.others c.args.heads.now c.loop-i.invariant.others
+      others = others_after items i x some le is c.loop-i.heads c.before_stmt.new.heads c.in_ok-set.ensures.others c.args.heads.now c.loop-i.invariant.others;
     }
 
 pub before_loop-loop-init : goal.before_loop-loop-init
@@ -68,7 +68,7 @@ before_loop-loop-init t c =
       start = λ s m. (union s).1 (inl m);
       kept = ([], sym (append-nil c.args.out.now));
       warm = warm_larger heads body (HeadAt heads c.args.point) (Contains head) (λ s m. (union s).1 (inr m)) c.requires.warm.1;
-      others = λ low n i h. refl
+      others = λ low n i h. refl;
     }
 
 pub before_loop-returns-then-not-branch-clause-set : goal.before_loop-returns-then-not-branch-clause-set
@@ -126,7 +126,7 @@ before_loop-loop-preserved t c =
       start = turn_start x body after head start turn new c.in_ok-join.ensures.union c.loop.invariant.start;
       kept = (more.0, more.1 ∙ ap (λ (z : List Stored). z ++ more.0) cut);
       warm = warm_larger heads body (Contains head) (Contains new) (λ s m. (c.in_ok-join.ensures.union s).1 (inl m)) was;
-      others = λ low n. outside_trans c.args.heads.now c.loop.heads heads low (low + points body) (c.loop.invariant.others low n) (c.in_ok-turn.ensures.others low n)
+      others = λ low n. outside_trans c.args.heads.now c.loop.heads heads low (low + points body) (c.loop.invariant.others low n) (c.in_ok-turn.ensures.others low n);
     }
 
 pub before_stmt-before_block-requires : goal.before_stmt-before_block-requires

@@ -23,7 +23,7 @@ invariant-before_block-loop-i l = record {
   set : Are l.set (Flow (block_code (drop l.i l.block)) (Contains l.fn.after));
   lists : Recorded (block_code (drop l.i l.block)) (Contains l.fn.after) l.fn.out l.out;
   warm : AreWarm l.heads (block_code l.block) (Contains l.fn.after);
-  others : (low : ℕ) → IsNumbered (block_code l.block) low → SameOutside l.fn.heads l.heads low (low + points (block_code l.block))
+  others : (low : ℕ) → IsNumbered (block_code l.block) low → SameOutside l.fn.heads l.heads low (low + points (block_code l.block));
 }
 
 abbrev pub invariant-before_loop-loop : goal.invariant-before_loop-loop
@@ -32,5 +32,5 @@ invariant-before_loop-loop l = record {
   start : Within (Contains l.fn.after) (Contains l.head);
   kept : (more : List Stored) × (l.out ≡ l.fn.out ++ more);
   warm : AreWarm l.heads (block_code l.body) (Contains l.head);
-  others : (low : ℕ) → IsNumbered (block_code l.body) low → SameOutside l.fn.heads l.heads low (low + points (block_code l.body))
+  others : (low : ℕ) → IsNumbered (block_code l.body) low → SameOutside l.fn.heads l.heads low (low + points (block_code l.body));
 }
