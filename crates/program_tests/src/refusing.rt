@@ -31,14 +31,50 @@ fn inputs_that_are_refused(rt: HostRuntime) -> Result<(), Fail> {
         ("show", FILE, "%%\n", 1, "refused T3\n"),
         ("check", "map m;\nhandler f(", "", 0, "refused S2 at 17\n"),
         ("check", "map m$;", "", 0, "refused S1 at 5\n"),
-        ("check", "handler f() { reply 9223372036854775808; }", "", 0, "refused S3 at 20\n"),
+        (
+            "check",
+            "handler f() { reply 9223372036854775808; }",
+            "",
+            0,
+            "refused S3 at 20\n",
+        ),
         ("check", "map ", "a", 65, "refused S4 at 4\n"),
-        ("check", "handler f() { reply ", "(", 17, "refused S5 at 36\n"),
+        (
+            "check",
+            "handler f() { reply ",
+            "(",
+            17,
+            "refused S5 at 36\n",
+        ),
         ("check", "map m; set m;", "", 0, "refused K1 at 11\n"),
-        ("show", "handler f() { reply x; }", "", 0, "refused K2 at 20\n"),
-        ("check", "map m; handler f() { put(m, 1); }", "", 0, "refused K3 at 21\n"),
-        ("check", "map m; handler f() { mark(m, 1); }", "", 0, "refused K4 at 26\n"),
-        ("check", "handler f() { repeat 0 as i { } }", "", 0, "refused K5 at 21\n"),
+        (
+            "show",
+            "handler f() { reply x; }",
+            "",
+            0,
+            "refused K2 at 20\n",
+        ),
+        (
+            "check",
+            "map m; handler f() { put(m, 1); }",
+            "",
+            0,
+            "refused K3 at 21\n",
+        ),
+        (
+            "check",
+            "map m; handler f() { mark(m, 1); }",
+            "",
+            0,
+            "refused K4 at 26\n",
+        ),
+        (
+            "check",
+            "handler f() { repeat 0 as i { } }",
+            "",
+            0,
+            "refused K5 at 21\n",
+        ),
         (
             "check",
             "map m; handler f() { repeat 1000 as i { repeat 11 as j { get(m, j); } } }",
@@ -46,10 +82,22 @@ fn inputs_that_are_refused(rt: HostRuntime) -> Result<(), Fail> {
             0,
             "refused K9 at 15\n",
         ),
-        ("serve", "handler nop() { }\n%%\n", "nop\n", 20_001, "refused Q4 line 20003\n"),
+        (
+            "serve",
+            "handler nop() { }\n%%\n",
+            "nop\n",
+            20_001,
+            "refused Q4 line 20003\n",
+        ),
         ("serve", FILE, "%%\nenter alice", 1, "refused Q1 line 13\n"),
         ("serve", FILE, "%%\nlogin alice", 1, "refused Q2 line 13\n"),
-        ("serve", FILE, "%%\nlogin alice 5x", 1, "refused Q3 line 13\n"),
+        (
+            "serve",
+            FILE,
+            "%%\nlogin alice 5x",
+            1,
+            "refused Q3 line 13\n",
+        ),
     ] {
         let input = repeated(rt.alloc(), first, again, times)?;
         let is_refused = ends_so(&rt, rt.alloc(), command, input, 1, b"", line)?;
@@ -63,7 +111,13 @@ fn inputs_that_are_answered(rt: HostRuntime) -> Result<(), Fail> {
     for (command, first, again, times, text) in [
         ("check", FILE, "", 0, FILE),
         ("check", "", "#", 4_194_304, ""),
-        ("show", "handler quiet() { }", "", 0, "handler quiet() {\n  mayuse nothing;\n}\n"),
+        (
+            "show",
+            "handler quiet() { }",
+            "",
+            0,
+            "handler quiet() {\n  mayuse nothing;\n}\n",
+        ),
     ] {
         let input = repeated(rt.alloc(), first, again, times)?;
         let is_answered = ends_so(&rt, rt.alloc(), command, input, 0, text.as_bytes(), "")?;
@@ -98,11 +152,7 @@ fn other_words(rt: HostRuntime) -> Result<(), Fail> {
 
 // A run that is given 64 bytes at a time, of which the second read fails, or whose output is taken
 // 4 bytes at a time and fails at the second.
-fn failing<R: Threads + Wait + Sync>(
-    rt: &R,
-    alloc: Global,
-    reading: bool,
-) -> Result<Ran, Fail> {
+fn failing<R: Threads + Wait + Sync>(rt: &R, alloc: Global, reading: bool) -> Result<Ran, Fail> {
     let input = session(alloc, FILE, "login alice 5\nlogin alice 9\n")?;
     let words = words_of(alloc, "serve")?;
     let (reads, writes) = if reading {
@@ -118,7 +168,9 @@ fn failing<R: Threads + Wait + Sync>(
 #[test]
 fn an_input_that_fails(rt: HostRuntime) -> Result<(), Fail> {
     let ran = failing(&rt, rt.alloc(), true)?;
-    assert!(rt; ran.status == 4 && ran.out.is_empty() && ran.err.as_slice() == b"read fault\n".as_slice());
+    assert!(rt;
+        ran.status == 4 && ran.out.is_empty() && ran.err.as_slice() == b"read fault\n".as_slice()
+    );
     Ok(())
 }
 

@@ -5,7 +5,7 @@ use std::alloc::Global;
 use std::sync::Wait;
 use std::test::Fail;
 use std::thread::Threads;
-use worker_gate::{HoldGate, Place};
+use worker_gate::{HoldGate, OpenGate, Place};
 
 const SIGN_INS: &str = "map seats;\n\
     set online;\n\
@@ -27,8 +27,18 @@ const WRITE: &str = "map a; handler w(k, v) { put(a, k, v); reply v; }\n";
 fn replies_of_sessions(rt: HostRuntime) -> Result<(), Fail> {
     for (command, handlers, requests, replies) in [
         ("serve", SIGN_INS, LOGINS, "0 nil\n1 5\n2 nil\n"),
-        ("serve --callers 1 --shards 1", SIGN_INS, LOGINS, "0 nil\n1 5\n2 nil\n"),
-        ("serve --callers 32 --shards 8", SIGN_INS, LOGINS, "0 nil\n1 5\n2 nil\n"),
+        (
+            "serve --callers 1 --shards 1",
+            SIGN_INS,
+            LOGINS,
+            "0 nil\n1 5\n2 nil\n",
+        ),
+        (
+            "serve --callers 32 --shards 8",
+            SIGN_INS,
+            LOGINS,
+            "0 nil\n1 5\n2 nil\n",
+        ),
         ("serve --shards 8", SIGN_INS, "", ""),
         (
             "serve",
@@ -89,11 +99,7 @@ fn passes<R: Threads + Wait + Sync>(
 ) -> Result<bool, Fail> {
     let input = session(alloc, WRITE, requests)?;
     let ran = run_on(rt, alloc, command, input, gate)?;
-    Ok(
-        ran.status == 0
-            && ran.out.as_slice() == replies.as_bytes()
-            && gate.broken() == is_broken,
-    )
+    Ok(ran.status == 0 && ran.out.as_slice() == replies.as_bytes() && gate.broken() == is_broken)
 }
 
 // A ticket is held at its beginning until a younger one has ended: that takes two callers.
@@ -147,8 +153,8 @@ fn sessions_that_are_made(rt: HostRuntime) -> Result<(), Fail> {
         b"requests 2\ncalls 3\nbytes 12\n",
         "",
     )?;
-    let first = run_on(&rt, alloc, "work 20000 1", Vec::new(alloc), &worker_gate::OpenGate)?;
-    let again = run_on(&rt, alloc, "work 20000 1", Vec::new(alloc), &worker_gate::OpenGate)?;
+    let first = run_on(&rt, alloc, "work 500 1", Vec::new(alloc), &OpenGate)?;
+    let again = run_on(&rt, alloc, "work 500 1", Vec::new(alloc), &OpenGate)?;
     assert!(rt; two && first.status == 0 && first.out.as_slice() == again.out.as_slice());
     Ok(())
 }
@@ -159,8 +165,8 @@ fn a_long_handler_beside_small_ones(rt: HostRuntime) -> Result<(), Fail> {
     let alloc = rt.alloc();
     let head = "map m; handler long() { repeat 1000 as i { repeat 10 as j { put(m, i, j); } } }\n\
                 handler one(k) { put(m, k, 1); }\n%%\nlong\n";
-    let input = repeated(alloc, head, "one x\n", 5_000)?;
-    let ran = run_on(&rt, alloc, "serve --callers 8", input, &worker_gate::OpenGate)?;
+    let input = repeated(alloc, head, "one x\n", 1_000)?;
+    let ran = run_on(&rt, alloc, "serve --callers 8", input, &OpenGate)?;
     assert!(rt; ran.status == 0 && ran.is_closed);
     Ok(())
 }
