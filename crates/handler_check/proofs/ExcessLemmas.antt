@@ -12,9 +12,11 @@ use Rattle.handler_rules.specs.declared.refusal.CheckRefusal.{CheckRefusal}
 use Rattle.handler_rules.specs.declared.refusal.CheckRefusal.TheVariants.{Twice, Unknown, Arity, WrongTable, RepeatBound, TooManyTables, TooManyHandlers, TooManyVariables, TooManyCalls, TooMuchWork, NoMemory}
 use Rattle.handler_rules.specs.FirstFault.{place, number, IsNoLater, AreRising, KeepsRules, PlacesRise}
 use Rattle.handler_rules.specs.Marks.{Mark, Declared, mark_at, handler_marks, table_marks}
-use Rattle.handler_rules.specs.Scan.{Fault, or_else, fault_if}
+use Rattle.handler_rules.specs.Rules.{IsBroken}
+use Rattle.handler_rules.specs.Scan.{Fault, or_else, fault_if, file_fault}
 use Rattle.handler_rules.proofs.Finds.{Faults, Finds, finds_same, finds_both, finds_if}
-use Rattle.handler_rules.proofs.Files.{all_first, rising_parts, map_append}
+use Rattle.handler_rules.proofs.Files.{all_first, rising_parts, map_append, finds_file}
+use Rattle.handler_rules.proofs.Firsts.{one_first}
 use Rattle.handler_check.specs.Checking.{IsAccepted, IsBeyond, IsRefusal}
 use Rattle.handler_check.specs.Excess.{code_excess, own_excess, excess}
 use Rattle.handler_check.specs.Resolved.{IsResolved, table_names, handler_code}
@@ -58,18 +60,27 @@ module _ (f : File) where
   beyond_above P [] g a b = absurd b
   beyond_above P (h ∷ hs) g a b = elim b [ inl c ↦ subst P (sym (own_place (handler_code f h) h.at g c)) a.0 | inr c ↦ beyond_above P hs g a.1 c ]
 
-  same_excess : (h : Handler) (c : CheckedHandler) → IsResolved (table_names f) h c → own_excess c ≡ code_excess (handler_code f h) h.at
-  same_excess h c r = ap (λ (x : Code). code_excess x c.at) r.body ∙ ap (code_excess (handler_code f h)) r.at
+  -- the first handler that may do too much
+  abbrev handlers_excess : List Handler → Fault
+  handlers_excess [] = None
+  handlers_excess (h ∷ hs) = or_else (code_excess (handler_code f h) h.at) (handlers_excess hs)
 
-  finds_excess : (hs : List Handler) (cs : List CheckedHandler) → AllZip (IsResolved (table_names f)) hs cs → AreRising (places_of hs) → Finds (excess cs) (BeyondFrom hs)
-  finds_excess [] [] z r = λ g b. b
-  finds_excess [] (c ∷ cs) z r = absurd z
-  finds_excess (h ∷ hs) [] z r = absurd z
-  finds_excess (h ∷ hs) (c ∷ cs) z r =
-      finds_both (own_excess c) (excess cs) (OwnBeyond (handler_code f h) h.at) (BeyondFrom hs)
+  finds_excess : (hs : List Handler) → AreRising (places_of hs) → Finds (handlers_excess hs) (BeyondFrom hs)
+  finds_excess [] r = λ g b. b
+  finds_excess (h ∷ hs) r =
+      finds_both (code_excess (handler_code f h) h.at) (handlers_excess hs) (OwnBeyond (handler_code f h) h.at) (BeyondFrom hs)
       (λ g k b d. inl (subst (λ (n : ℕ). n < place k) (sym (own_place (handler_code f h) h.at g b)) (beyond_above (λ (m : ℕ). h.at < m) hs k r.0 d)))
-      (subst (λ (w : Fault). Finds w (OwnBeyond (handler_code f h) h.at)) (sym (same_excess h c z.0)) (finds_own (handler_code f h) h.at))
-      (finds_excess hs cs z.1 r.1)
+      (finds_own (handler_code f h) h.at)
+      (finds_excess hs r.1)
+
+  same_own : (h : Handler) (c : CheckedHandler) → IsResolved (table_names f) h c → own_excess c ≡ code_excess (handler_code f h) h.at
+  same_own h c r = ap (λ (x : Code). code_excess x c.at) r.body ∙ ap (code_excess (handler_code f h)) r.at
+
+  same_excess : (hs : List Handler) (cs : List CheckedHandler) → AllZip (IsResolved (table_names f)) hs cs → excess cs ≡ handlers_excess hs
+  same_excess [] [] z = refl
+  same_excess [] (c ∷ cs) z = absurd z
+  same_excess (h ∷ hs) [] z = absurd z
+  same_excess (h ∷ hs) (c ∷ cs) z = ap (λ (w : Fault). or_else w (excess cs)) (same_own h c z.0) ∙ ap (or_else (code_excess (handler_code f h) h.at)) (same_excess hs cs z.1)
 
   -- ---- as conditions on the file
   abbrev Some_of : List Handler → Faults
@@ -121,12 +132,40 @@ names_rise (h ∷ hs) r =
     let both : map mark_at (handler_marks h ++ marks_of hs) ≡ inner ++ outer = map_append mark_at (handler_marks h) (marks_of hs) in
     (all_names (λ (m : ℕ). h.at < m) hs (all_first (λ (m : ℕ). h.at < m) inner outer (subst (AllByRecursion (λ (m : ℕ). h.at < m)) both r.0)).1, names_rise hs (rising_parts inner outer (subst AreRising both r.1)).2)
 
-pub finds_beyond : (f : File) (cs : List CheckedHandler) → PlacesRise f → AllZip (IsResolved (table_names f)) f.handlers cs → Finds (excess cs) (IsBeyond f)
-finds_beyond f cs rise z =
+finds_first : (f : File) → PlacesRise f → Finds (handlers_excess f f.handlers) (IsBeyond f)
+finds_first f rise =
     let tables : List ℕ = map mark_at (table_marks f.tables) in
     let outer : List ℕ = map mark_at (marks_of f.handlers) in
     let parts = rising_parts tables outer (subst AreRising (map_append mark_at (table_marks f.tables) (marks_of f.handlers)) rise) in
-    finds_same (excess cs) (BeyondFrom f f.handlers) (IsBeyond f) (to_beyond f) (from_beyond f) (finds_excess f f.handlers cs z (names_rise f.handlers parts.2))
+    finds_same (handlers_excess f f.handlers) (BeyondFrom f f.handlers) (IsBeyond f) (to_beyond f) (from_beyond f) (finds_excess f f.handlers (names_rise f.handlers parts.2))
+
+finds_beyond : (f : File) (cs : List CheckedHandler) → PlacesRise f → AllZip (IsResolved (table_names f)) f.handlers cs → Finds (excess cs) (IsBeyond f)
+finds_beyond f cs rise z = subst (λ (w : Fault). Finds w (IsBeyond f)) (sym (same_excess f f.handlers cs z)) (finds_first f rise)
+
+-- ---- an answer for each file
+pub some_answer : (f : File) → PlacesRise f → IsAccepted f ⊎ ((e : CheckRefusal) × IsRefusal f e)
+some_answer f rise = rules (file_fault f) (finds_file f rise)
+  where
+    excesses : KeepsRules f → (w : Fault) → Finds w (IsBeyond f) → IsAccepted f ⊎ ((e : CheckRefusal) × IsRefusal f e)
+    excesses keeps None h = inl (record { keeps = keeps; within = h })
+    excesses keeps (Some e) h = inr (e, inr (keeps, h))
+
+    rules : (w : Fault) → Finds w (IsBroken f) → IsAccepted f ⊎ ((e : CheckRefusal) × IsRefusal f e)
+    rules None h = excesses h (handlers_excess f f.handlers) (finds_first f rise)
+    rules (Some e) h = inr (e, inl h)
+
+-- want of memory is no refusal
+pub never_memory : (f : File) → IsRefusal f NoMemory → ⊥
+never_memory f h = elim h [ inl a ↦ a.is_broken | inr b ↦ (let first = b.1 in first.is_broken) ]
+
+pub one_answer : (f : File) (e g : CheckRefusal) → IsRefusal f e → IsRefusal f g → e ≡ g
+one_answer f e g h k = elim h [
+  | inl a ↦ elim k [ inl b ↦ one_first (IsBroken f) e g a b | inr b ↦ absurd (b.0 e a.is_broken) ]
+  | inr a ↦ elim k [ inl b ↦ absurd (a.0 g b.is_broken) | inr b ↦ one_first (IsBeyond f) e g a.1 b.1 ]
+]
+
+pub not_both : (f : File) (e : CheckRefusal) → IsRefusal f e → IsAccepted f → ⊥
+not_both f e h k = elim h [ inl a ↦ k.keeps e a.is_broken | inr a ↦ (let first = a.1 in k.within e first.is_broken) ]
 
 -- ---- one turn of the walk
 pub excess_turn : (cs : List CheckedHandler) (i : ℕ) (c d : CheckedHandler) → i < length cs → c ≡ get_or cs i d → excess (drop i cs) ≡ or_else (own_excess c) (excess (drop (i + 1) cs))

@@ -1,6 +1,6 @@
 //! Laws on resolved handlers.
 
-ghost use Rattle.std.specs.Prelude.{◌≡◌, ◌≤◌, ℕ, List, length};
+ghost use Rattle.std.specs.Prelude.{◌≡◌, ◌≤◌, ◌⊎◌, ℕ, List, length};
 ghost use Rattle.std.specs.List.{Contains};
 ghost use Rattle.handler_trees.specs.declared.file.File.{File};
 ghost use Rattle.handler_trees.specs.declared.file.Handler.{Handler};
@@ -11,7 +11,8 @@ ghost use Rattle.handler_check.specs.Resolved.{StandsFor, StandsForTable, handle
 ghost use Rattle.handler_dialogue.specs.Code.{IsNumbered, points};
 ghost use Rattle.handler_rules.specs.Bounds.{KeepsBounds};
 ghost use Rattle.handler_rules.specs.declared.refusal.CheckRefusal.{CheckRefusal};
-ghost use Rattle.handler_rules.specs.FirstFault.{KeepsRules};
+ghost use Rattle.handler_rules.specs.declared.refusal.CheckRefusal.TheVariants as refusal;
+ghost use Rattle.handler_rules.specs.FirstFault.{KeepsRules, PlacesRise};
 ghost use Rattle.handler_rules.specs.Marks.{Mark, Mentioned, OnTable, handler_marks};
 ghost use Rattle.handler_rules.specs.Rules.{Stands};
 ghost use Rattle.handler_rules.specs.Source.{block_source};
@@ -45,8 +46,12 @@ pub fn accepted_files_are_within()
     ensures tables { (f : File) → IsAccepted f → length f.tables ≤ 7 }
 {}
 
-/// At most one fault is the first, and a file that is accepted has none.
-pub fn one_refusal()
+/// A file whose places rise in the order of its text is accepted or has a first fault, one at most
+/// and not both; and that is never want of memory.
+pub fn one_answer()
+    ensures some { (f : File) → PlacesRise f
+        → IsAccepted f ⊎ ((e : CheckRefusal) × IsRefusal f e) }
     ensures one { (f : File) (e g : CheckRefusal) → IsRefusal f e → IsRefusal f g → e ≡ g }
-    ensures none { (f : File) (e : CheckRefusal) → IsRefusal f e → IsAccepted f → ⊥ }
+    ensures either { (f : File) (e : CheckRefusal) → IsRefusal f e → IsAccepted f → ⊥ }
+    ensures certain { (f : File) → IsRefusal f refusal.NoMemory → ⊥ }
 {}

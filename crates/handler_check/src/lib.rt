@@ -9,8 +9,5 @@ pub mod laws;
 mod resolution;
 mod work;
 
-pub use bounds::{Counted, count_calls};
 pub use checked::{Checked, check};
 pub use handler_rules::CheckRefusal;
-pub use resolution::resolve;
-pub use work::count_work;

@@ -28,15 +28,15 @@ impl<'a, R: Threads + Wait + Sync, D: Desk> Guide<D> for Narrowing<'a, R> {
 
     ghost Serves = { λ n whole start now ahead. (D.script now ≡ D.script start)
         × IsServing (course_of (D.Served.meaning (D.script start)) (D.at start)
-            n.program.now n.handler whole) (D.at now) n.next.room ahead };
+        n.program.now n.handler whole) (D.at now) n.next.room ahead };
 
     ghost Waits = { λ n whole start now ahead. (D.script now ≡ D.script start)
         × IsAwaiting (course_of (D.Served.meaning (D.script start)) (D.at start)
-            n.program.now n.handler whole) (D.at now) n.next.room ahead };
+        n.program.now n.handler whole) (D.at now) n.next.room ahead };
 
     ghost Stops = { λ n whole start now. (D.script now ≡ D.script start)
         × Halted (course_of (D.Served.meaning (D.script start)) (D.at start)
-            n.program.now n.handler whole) (D.at now) n.next.room };
+        n.program.now n.handler whole) (D.at now) n.next.room };
 
     fn call(&mut self, host: &mut D, op: Op) -> Result<Value, NoMemory> {
         let reply = host.call(self.rt, op)?;

@@ -4,6 +4,7 @@ pub mod Lexing
 pub mod Loops
 pub mod Own
 pub mod Parts
+pub mod Points
 pub mod ReadBack
 pub mod Sizes
 pub mod Tokens

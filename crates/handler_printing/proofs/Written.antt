@@ -14,7 +14,7 @@ use Rattle.handler_trees.specs.declared.file.TableDecl.{TableDecl}
 use Rattle.handler_printing.specs.Canonical.{each, table_text}
 use Rattle.handler_printing.specs.Points.{AtPoints, point_text}
 use Rattle.handler_printing.specs.Put.{put_handler_text, put_handlers_text}
-use Rattle.handler_printing.specs.Lines.{At, Line, of_file, of_point, Part, block_lines, block_parts, block_points, branch_lines, choice_part, close_line, close_text, else_line, handler_lines, handlers_lines, head_text, if_text, indented, line_text, repeat_head_text, repeat_part, shown_text, stmt_part, stmt_step, written}
+use Rattle.handler_printing.specs.Lines.{At, Line, of_file, Part, block_lines, block_parts, block_points, branch_lines, choice_part, close_line, close_text, else_line, handler_lines, handlers_lines, head_text, if_text, indented, line_text, point_line, repeat_head_text, repeat_part, shown_text, stmt_part, stmt_step, written}
 use Rattle.handler_printing.specs.Writing.{Adds}
 use Rattle.handler_printing.proofs.Loops.{Owes, adds_both, owes_less, owes_none}
 
@@ -61,11 +61,11 @@ module _ (names : List (List ℕ)) (at : At) (shown : Bool) where
       adds_both a (adds_lines shown (branch_lines at first depth point) (else_line second depth ∷ (behind ++ (close_line depth ∷ []))) b (adds_both c (adds_lines shown behind (close_line depth ∷ []) d1 f)))
 
   pub repeat_adds : (turns n : ℕ) (body : List Part) (depth point last : ℕ) {b0 b1 b2 b3 b4 : List ℕ} → last ≡ point + block_points body → Adds (indented depth (repeat_head_text names turns n)) b0 b1
-      → Adds (written shown (block_lines body (depth + 1) point)) b1 b2 → Adds (indented depth close_text) b2 b3 → Adds (line_text shown (of_point (at depth last))) b3 b4
+      → Adds (written shown (block_lines body (depth + 1) point)) b1 b2 → Adds (indented depth close_text) b2 b3 → Adds (line_text shown (point_line at depth last)) b3 b4
       → Adds (written shown ((repeat_part names at turns n body).lines depth point)) b0 b4
   repeat_adds turns n body depth point last {b0} {b1} {b2} {b3} {b4} e a b c d =
-      let d1 = subst (λ m. Adds (line_text shown (of_point (at depth m))) b3 b4) e d in
-      adds_both a (adds_lines shown (block_lines body (depth + 1) point) (close_line depth ∷ of_point (at depth (point + block_points body)) ∷ []) b (adds_both c d1))
+      let d1 = subst (λ m. Adds (line_text shown (point_line at depth m)) b3 b4) e d in
+      adds_both a (adds_lines shown (block_lines body (depth + 1) point) (close_line depth ∷ point_line at depth (point + block_points body) ∷ []) b (adds_both c d1))
 
   pub handler_adds : (h : Handler) (block : List Stmt) (depth point : ℕ) {b0 b1 b2 b3 : List ℕ} → block ≡ h.body → depth ≡ 0 → point ≡ 0 → Adds (head_text names h) b0 b1
       → Adds (written shown (branch_lines at (block_parts names at block) depth point)) b1 b2 → Adds (indented 0 close_text) b2 b3 → Adds (written shown (handler_lines names at h)) b0 b3

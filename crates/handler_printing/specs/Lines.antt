@@ -1,5 +1,5 @@
 -- The lines of a file's text, with those that stand at the points of its handlers. Points are counted in the order of the text.
-use Rattle.std.specs.Prelude.{ℕ, ◌+◌, Bool, true, false, List, [], ◌∷◌, ◌++◌, map, codes}
+use Rattle.std.specs.Prelude.{ℕ, zero, suc, ◌+◌, Bool, true, false, List, [], ◌∷◌, ◌++◌, map, codes}
 use Rattle.std.specs.Fmt.{decimal}
 use Rattle.handler_trees.specs.declared.expr.Expr.{Expr}
 use Rattle.handler_trees.specs.declared.stmt.Call.{Call}
@@ -15,19 +15,19 @@ use Rattle.handler_printing.specs.Canonical.{assignment_text, call_text, cond_te
 use Rattle.handler_printing.specs.Points.{AtPoints, point_text}
 use Rattle.handler_printing.specs.Writing.{Text}
 
--- Whose line it is: the file's own, which its canonical text has too; the else part's of an `if` whose second block is empty; a point's.
+-- Whose line it is: the file's own, which its canonical text has too; the else part's of an `if` whose second block is empty; that of the point of this number.
 pub data Line : Type 0 where
   of_file : Text → Line
   of_else : Text → Line
-  of_point : Text → Line
+  of_point : (point : ℕ) → Text → Line
 
 -- A line is written. Where points have no lines, that of an empty else part isn't either.
 abbrev pub line_text : Bool → Line → Text
 line_text shown (of_file t) rest = t rest
 line_text true (of_else t) rest = t rest
 line_text false (of_else t) rest = rest
-line_text true (of_point t) rest = t rest
-line_text false (of_point t) rest = rest
+line_text true (of_point n t) rest = t rest
+line_text false (of_point n t) rest = rest
 
 abbrev pub written : Bool → List Line → Text
 written shown lines rest = each (map (line_text shown) lines) rest
@@ -45,6 +45,9 @@ own_line depth t = of_file (indented depth t)
 abbrev pub At : Type 0
 At = (depth point : ℕ) → Text
 
+abbrev pub point_line : At → (depth point : ℕ) → Line
+point_line at depth point = of_point point (at depth point)
+
 -- a statement: how many points it has, and its lines inside so many blocks, where its first point has this number
 pub record Part : Type 0 where
   pub points : ℕ
@@ -60,7 +63,7 @@ block_lines (p ∷ ps) depth point = p.lines depth point ++ block_lines ps depth
 
 -- a block of a statement inside so many blocks, with the point at its start
 abbrev pub branch_lines : At → List Part → (depth point : ℕ) → List Line
-branch_lines at block depth point = of_point (at (depth + 1) point) ∷ block_lines block (depth + 1) (point + 1)
+branch_lines at block depth point = point_line at (depth + 1) point ∷ block_lines block (depth + 1) (point + 1)
 
 abbrev pub close_text : Text
 close_text rest = codes "}\n" ++ rest
@@ -75,7 +78,7 @@ right_points (right.Result call) = 1
 
 abbrev pub right_lines : At → Right → (depth point : ℕ) → List Line
 right_lines at (right.Plain e) depth point = []
-right_lines at (right.Result call) depth point = of_point (at depth point) ∷ []
+right_lines at (right.Result call) depth point = point_line at depth point ∷ []
 
 abbrev pub let_text : List (List ℕ) → ℕ → Right → Text
 let_text names n r rest = codes "let " ++ assignment_text names n r rest
@@ -114,7 +117,7 @@ repeat_part names at turns n body = record {
   points = block_points body + 1;
   lines = λ depth point.
       own_line depth (repeat_head_text names turns n)
-      ∷ (block_lines body (depth + 1) point ++ (close_line depth ∷ of_point (at depth (point + block_points body)) ∷ []));
+      ∷ (block_lines body (depth + 1) point ++ (close_line depth ∷ point_line at depth (point + block_points body) ∷ []));
 }
 
 -- a statement, where the statements inside are given
@@ -129,7 +132,7 @@ stmt_step names at (Stmt-F.Assign n p r) = record {
 }
 stmt_step names at (Stmt-F.Perform call) = record {
   points = 1;
-  lines = λ depth point. own_line depth (call_line_text names call) ∷ of_point (at depth point) ∷ [];
+  lines = λ depth point. own_line depth (call_line_text names call) ∷ point_line at depth point ∷ [];
 }
 stmt_step names at (Stmt-F.Choose p cond first second) = choice_part names at cond first second
 stmt_step names at (Stmt-F.Repeat p turns q n r body) = repeat_part names at turns n body
@@ -164,3 +167,17 @@ file_lines names a file = map (λ (t : TableDecl). of_file (table_text names t))
 -- the text of a file with what stands at its points
 abbrev pub shown_text : List (List ℕ) → AtPoints → File → List ℕ
 shown_text names a file = written a.shown (file_lines names a file) []
+
+-- ---- points
+
+-- the points of lines, in their order
+abbrev pub line_points : List Line → List ℕ
+line_points [] = []
+line_points (of_file t ∷ lines) = line_points lines
+line_points (of_else t ∷ lines) = line_points lines
+line_points (of_point n t ∷ lines) = n ∷ line_points lines
+
+-- so many numbers, from this one on
+abbrev pub count_on : (from count : ℕ) → List ℕ
+count_on n zero = []
+count_on n (suc k) = n ∷ count_on (n + 1) k

@@ -6,7 +6,7 @@ use Rattle.handler_trees.specs.declared.stmt.Stmt.{Stmt}
 use Rattle.handler_trees.specs.declared.file.Handler.{Handler}
 use Rattle.handler_printing.specs.declared.spot.Spot.{Spot}
 use Rattle.handler_printing.specs.Points.{AtPoints, point_text}
-use Rattle.handler_printing.specs.Lines.{At, Part, of_point, line_text, written, block_lines, block_parts, branch_lines, choice_part, handler_lines, handlers_lines, repeat_part, right_lines, stmt_part}
+use Rattle.handler_printing.specs.Lines.{At, Part, line_text, written, block_lines, block_parts, branch_lines, choice_part, handler_lines, handlers_lines, point_line, repeat_part, right_lines, stmt_part}
 use Rattle.handler_printing.specs.Writing.{Text}
 
 abbrev pub at_of : List (List ℕ) → AtPoints → Spot → At
@@ -17,7 +17,7 @@ abbrev pub parts_of : List (List ℕ) → AtPoints → Spot → List Stmt → Li
 parts_of names a spot block = block_parts names (at_of names a spot) block
 
 abbrev pub put_point_text : List (List ℕ) → AtPoints → Spot → Text
-put_point_text names a spot = line_text a.shown (of_point (at_of names a spot spot.depth spot.point))
+put_point_text names a spot = line_text a.shown (point_line (at_of names a spot) spot.depth spot.point)
 
 abbrev pub put_right_text : List (List ℕ) → AtPoints → Spot → Right → Text
 put_right_text names a spot r = written a.shown (right_lines (at_of names a spot) r spot.depth spot.point)

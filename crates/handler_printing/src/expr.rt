@@ -82,7 +82,9 @@ pub(crate) fn put_expr(
     out: &mut String,
 ) -> Result<(), NoMemory>
     requires { AreNamed names.now (expr_mentions e.now) }
-    ensures { OnOk result (Adds (spec.expr_text names.now e.now level) (string_bytes out.old) (string_bytes out.new)) }
+    ensures { OnOk result (Adds
+        (spec.expr_text names.now e.now level)
+        (string_bytes out.old) (string_bytes out.new)) }
 {
     match e {
         Expr::Leaf(atom) => put_atom(*atom, names, out),
@@ -99,7 +101,9 @@ pub(crate) fn put_expr(
 /// Appends expressions that stand alone, with a comma and a space between them.
 pub(crate) fn put_values(values: &[Expr], names: &Names, out: &mut String) -> Result<(), NoMemory>
     requires { AreNamed names.now (flat_map expr_mentions values.now) }
-    ensures { OnOk result (Adds (spec.listed (map (spec.whole_text names.now) values.now)) (string_bytes out.old) (string_bytes out.new)) }
+    ensures { OnOk result (Adds
+        (spec.listed (map (spec.whole_text names.now) values.now))
+        (string_bytes out.old) (string_bytes out.new)) }
 {
     match values {
         [] => Ok(()),
@@ -113,7 +117,9 @@ pub(crate) fn put_values(values: &[Expr], names: &Names, out: &mut String) -> Re
 /// Appends a comma, a space and the expression, for each expression.
 fn put_more_values(values: &[Expr], names: &Names, out: &mut String) -> Result<(), NoMemory>
     requires { AreNamed names.now (flat_map expr_mentions values.now) }
-    ensures { OnOk result (Adds (spec.further (map (spec.whole_text names.now) values.now)) (string_bytes out.old) (string_bytes out.new)) }
+    ensures { OnOk result (Adds
+        (spec.further (map (spec.whole_text names.now) values.now))
+        (string_bytes out.old) (string_bytes out.new)) }
 {
     for value in values {
         put(", ", out)?;

@@ -25,7 +25,9 @@ pub fn print(alloc: Global, file: &File, names: &Names) -> Result<String, NoMemo
     requires { AreNamed names.now (file_mentions file.now) }
     ensures text { IfOk result (λ text. string_bytes text ≡ canonical_text names.now file.now) }
     // Where names, symbols and numbers can be read, the text gives the words of the file again.
-    ensures words { IfOk result (λ text. AreReadable names.now (file_mentions file.now) → ReadsBack names.now file.now (string_bytes text)) }
+    ensures words { IfOk result (λ text.
+        AreReadable names.now (file_mentions file.now)
+        → ReadsBack names.now file.now (string_bytes text)) }
 {
     // That the texts of the list are different is what `len` says of it.
     let _count = names.len();
@@ -42,7 +44,8 @@ pub fn print_with_declarations<D: Declarations>(
     names: &Names,
 ) -> Result<String, NoMemory>
     requires { AreNamed names.now (file_mentions file.now) }
-    ensures { IfOk result (λ text. string_bytes text ≡ shown_text names.now (D.at_points at.now) file.now) }
+    ensures { IfOk result (λ text.
+        string_bytes text ≡ shown_text names.now (D.at_points at.now) file.now) }
 {
     let mut out = String::new(alloc);
     put_tables(file.tables.as_slice(), names, &mut out)?;
@@ -62,7 +65,9 @@ fn table_word(kind: TableKind) -> &'static str
 /// Appends a line for each table.
 fn put_tables(tables: &[TableDecl], names: &Names, out: &mut String) -> Result<(), NoMemory>
     requires { AreNamed names.now (flat_map table_mentions tables.now) }
-    ensures { OnOk result (Adds (spec.each (map (spec.table_text names.now) tables.now)) (string_bytes out.old) (string_bytes out.new)) }
+    ensures { OnOk result (Adds
+        (spec.each (map (spec.table_text names.now) tables.now))
+        (string_bytes out.old) (string_bytes out.new)) }
 {
     for table in tables {
         put(table_word(table.kind), out)?;
@@ -80,7 +85,9 @@ fn put_handlers<D: Declarations>(
     out: &mut String,
 ) -> Result<(), NoMemory>
     requires { AreNamed names.now (flat_map handler_mentions handlers.now) }
-    ensures { OnOk result (Adds (put_handlers_text names.now (D.at_points at.now) 0 handlers.now) (string_bytes out.old) (string_bytes out.new)) }
+    ensures { OnOk result (Adds
+        (put_handlers_text names.now (D.at_points at.now) 0 handlers.now)
+        (string_bytes out.old) (string_bytes out.new)) }
 {
     let mut spot = Spot::first();
     for handler in handlers {
@@ -100,7 +107,9 @@ fn put_handler<D: Declarations>(
 ) -> Result<(), NoMemory>
     requires start { (spot.depth ≡ 0) × (spot.point ≡ 0) }
     requires named { AreNamed names.now (handler_mentions handler.now) }
-    ensures { OnOk result (Adds (put_handler_text names.now (D.at_points at.now) spot.handler handler.now) (string_bytes out.old) (string_bytes out.new)) }
+    ensures { OnOk result (Adds
+        (put_handler_text names.now (D.at_points at.now) spot.handler handler.now)
+        (string_bytes out.old) (string_bytes out.new)) }
 {
     put_head(handler, names, out)?;
     put_branch(handler.body.as_slice(), spot, at, names, out)?;
@@ -111,7 +120,9 @@ fn put_handler<D: Declarations>(
 /// Appends the line that opens a handler.
 fn put_head(handler: &Handler, names: &Names, out: &mut String) -> Result<(), NoMemory>
     requires { AreNamed names.now (handler_mentions handler.now) }
-    ensures { OnOk result (Adds (head_text names.now handler.now) (string_bytes out.old) (string_bytes out.new)) }
+    ensures { OnOk result (Adds
+        (head_text names.now handler.now)
+        (string_bytes out.old) (string_bytes out.new)) }
 {
     put("handler ", out)?;
     put_name(handler.name, names, out)?;
@@ -123,7 +134,9 @@ fn put_head(handler: &Handler, names: &Names, out: &mut String) -> Result<(), No
 /// Appends parameters, with a comma and a space between them.
 fn put_params(params: &[Param], names: &Names, out: &mut String) -> Result<(), NoMemory>
     requires { AreNamed names.now (flat_map param_mentions params.now) }
-    ensures { OnOk result (Adds (spec.listed (map (spec.param_text names.now) params.now)) (string_bytes out.old) (string_bytes out.new)) }
+    ensures { OnOk result (Adds
+        (spec.listed (map (spec.param_text names.now) params.now))
+        (string_bytes out.old) (string_bytes out.new)) }
 {
     match params {
         [] => Ok(()),
@@ -137,7 +150,9 @@ fn put_params(params: &[Param], names: &Names, out: &mut String) -> Result<(), N
 /// Appends a comma, a space and the parameter, for each parameter.
 fn put_more_params(params: &[Param], names: &Names, out: &mut String) -> Result<(), NoMemory>
     requires { AreNamed names.now (flat_map param_mentions params.now) }
-    ensures { OnOk result (Adds (spec.further (map (spec.param_text names.now) params.now)) (string_bytes out.old) (string_bytes out.new)) }
+    ensures { OnOk result (Adds
+        (spec.further (map (spec.param_text names.now) params.now))
+        (string_bytes out.old) (string_bytes out.new)) }
 {
     for param in params {
         put(", ", out)?;

@@ -27,7 +27,9 @@ fn comparison(compare: Compare) -> &'static str
 /// Appends a comparison.
 fn put_cond(cond: &Cond, names: &Names, out: &mut String) -> Result<(), NoMemory>
     requires { AreNamed names.now (cond_mentions cond.now) }
-    ensures { OnOk result (Adds (spec.cond_text names.now cond.now) (string_bytes out.old) (string_bytes out.new)) }
+    ensures { OnOk result (Adds
+        (spec.cond_text names.now cond.now)
+        (string_bytes out.old) (string_bytes out.new)) }
 {
     put_expr(&cond.left, Level::Whole, names, out)?;
     put(comparison(cond.compare), out)?;
@@ -37,7 +39,9 @@ fn put_cond(cond: &Cond, names: &Names, out: &mut String) -> Result<(), NoMemory
 /// Appends a right side.
 fn put_right(right: &Right, names: &Names, out: &mut String) -> Result<(), NoMemory>
     requires { AreNamed names.now (right_mentions right.now) }
-    ensures { OnOk result (Adds (spec.right_text names.now right.now) (string_bytes out.old) (string_bytes out.new)) }
+    ensures { OnOk result (Adds
+        (spec.right_text names.now right.now)
+        (string_bytes out.old) (string_bytes out.new)) }
 {
     match right {
         Right::Plain(e) => put_expr(e, Level::Whole, names, out),
@@ -49,7 +53,9 @@ fn put_right(right: &Right, names: &Names, out: &mut String) -> Result<(), NoMem
 fn put_assignment(name: u32, right: &Right, names: &Names, out: &mut String) -> Result<(), NoMemory>
     requires name { name < length names.now }
     requires right { AreNamed names.now (right_mentions right.now) }
-    ensures { OnOk result (Adds (spec.assignment_text names.now name right.now) (string_bytes out.old) (string_bytes out.new)) }
+    ensures { OnOk result (Adds
+        (spec.assignment_text names.now name right.now)
+        (string_bytes out.old) (string_bytes out.new)) }
 {
     put_name(name, names, out)?;
     put(" = ", out)?;
@@ -67,7 +73,9 @@ pub(crate) fn put_assign(
 ) -> Result<(), NoMemory>
     requires name { name < length names.now }
     requires right { AreNamed names.now (right_mentions right.now) }
-    ensures { OnOk result (Adds (indented depth (spec.assignment_text names.now name right.now)) (string_bytes out.old) (string_bytes out.new)) }
+    ensures { OnOk result (Adds
+        (indented depth (spec.assignment_text names.now name right.now))
+        (string_bytes out.old) (string_bytes out.new)) }
 {
     put_indent(depth, out)?;
     put_assignment(name, right, names, out)
@@ -83,7 +91,9 @@ pub(crate) fn put_let(
 ) -> Result<(), NoMemory>
     requires name { name < length names.now }
     requires right { AreNamed names.now (right_mentions right.now) }
-    ensures { OnOk result (Adds (indented depth (let_text names.now name right.now)) (string_bytes out.old) (string_bytes out.new)) }
+    ensures { OnOk result (Adds
+        (indented depth (let_text names.now name right.now))
+        (string_bytes out.old) (string_bytes out.new)) }
 {
     put_indent(depth, out)?;
     put("let ", out)?;
@@ -98,7 +108,9 @@ pub(crate) fn put_call_line(
     out: &mut String,
 ) -> Result<(), NoMemory>
     requires { AreNamed names.now (call_mentions call.now) }
-    ensures { OnOk result (Adds (indented depth (call_line_text names.now call.now)) (string_bytes out.old) (string_bytes out.new)) }
+    ensures { OnOk result (Adds
+        (indented depth (call_line_text names.now call.now))
+        (string_bytes out.old) (string_bytes out.new)) }
 {
     put_indent(depth, out)?;
     put_call(call, names, out)?;
@@ -113,7 +125,9 @@ pub(crate) fn put_reply(
     out: &mut String,
 ) -> Result<(), NoMemory>
     requires { AreNamed names.now (flat_map expr_mentions values.now) }
-    ensures { OnOk result (Adds (indented depth (reply_text names.now values.now)) (string_bytes out.old) (string_bytes out.new)) }
+    ensures { OnOk result (Adds
+        (indented depth (reply_text names.now values.now))
+        (string_bytes out.old) (string_bytes out.new)) }
 {
     put_indent(depth, out)?;
     put("reply ", out)?;
@@ -129,7 +143,9 @@ pub(crate) fn put_if(
     out: &mut String,
 ) -> Result<(), NoMemory>
     requires { AreNamed names.now (cond_mentions cond.now) }
-    ensures { OnOk result (Adds (indented depth (if_text names.now cond.now)) (string_bytes out.old) (string_bytes out.new)) }
+    ensures { OnOk result (Adds
+        (indented depth (if_text names.now cond.now))
+        (string_bytes out.old) (string_bytes out.new)) }
 {
     put_indent(depth, out)?;
     put("if ", out)?;
@@ -139,7 +155,9 @@ pub(crate) fn put_if(
 
 /// Appends the line between the blocks of an `if`.
 pub(crate) fn put_else(depth: u32, out: &mut String) -> Result<(), NoMemory>
-    ensures { OnOk result (Adds (indented depth else_text) (string_bytes out.old) (string_bytes out.new)) }
+    ensures { OnOk result (Adds
+        (indented depth else_text)
+        (string_bytes out.old) (string_bytes out.new)) }
 {
     put_indent(depth, out)?;
     put("} else {\n", out)
@@ -154,7 +172,9 @@ pub(crate) fn put_repeat_head(
     out: &mut String,
 ) -> Result<(), NoMemory>
     requires { name < length names.now }
-    ensures { OnOk result (Adds (indented depth (repeat_head_text names.now turns name)) (string_bytes out.old) (string_bytes out.new)) }
+    ensures { OnOk result (Adds
+        (indented depth (repeat_head_text names.now turns name))
+        (string_bytes out.old) (string_bytes out.new)) }
 {
     let mut buffer = Buffer::new();
     put_indent(depth, out)?;
@@ -167,7 +187,9 @@ pub(crate) fn put_repeat_head(
 
 /// Appends the line that closes a block.
 pub(crate) fn put_close(depth: u32, out: &mut String) -> Result<(), NoMemory>
-    ensures { OnOk result (Adds (indented depth close_text) (string_bytes out.old) (string_bytes out.new)) }
+    ensures { OnOk result (Adds
+        (indented depth close_text)
+        (string_bytes out.old) (string_bytes out.new)) }
 {
     put_indent(depth, out)?;
     put("}\n", out)

@@ -13,7 +13,9 @@ use session_values::{Names, NoMemory, Value};
 
 /// Appends a text.
 pub(crate) fn put(text: &str, out: &mut String) -> Result<(), NoMemory>
-    ensures { OnOk result (Adds (λ rest. text.now ++ rest) (string_bytes out.old) (string_bytes out.new)) }
+    ensures { OnOk result (Adds
+        (λ rest. text.now ++ rest)
+        (string_bytes out.old) (string_bytes out.new)) }
 {
     out.push_str(text)?;
     Ok(())
@@ -32,14 +34,18 @@ pub(crate) fn put_indent(depth: u32, out: &mut String) -> Result<(), NoMemory>
 /// Appends the text at a place.
 pub(crate) fn put_name(place: u32, names: &Names, out: &mut String) -> Result<(), NoMemory>
     requires { place < length names.now }
-    ensures { OnOk result (Adds (name_text names.now place) (string_bytes out.old) (string_bytes out.new)) }
+    ensures { OnOk result (Adds
+        (name_text names.now place)
+        (string_bytes out.old) (string_bytes out.new)) }
 {
     put(names.text(place), out)
 }
 
 /// Appends the text at a place, if the list has the place.
 fn put_place(place: u32, names: &Names, out: &mut String) -> Result<(), NoMemory>
-    ensures { OnOk result (Adds (name_text names.now place) (string_bytes out.old) (string_bytes out.new)) }
+    ensures { OnOk result (Adds
+        (name_text names.now place)
+        (string_bytes out.old) (string_bytes out.new)) }
 {
     if place < names.len() {
         put_name(place, names, out)
@@ -50,7 +56,9 @@ fn put_place(place: u32, names: &Names, out: &mut String) -> Result<(), NoMemory
 
 /// Appends a name, if there is one.
 pub(crate) fn put_named(place: Option<u32>, names: &Names, out: &mut String) -> Result<(), NoMemory>
-    ensures { OnOk result (Adds (named_text names.now place) (string_bytes out.old) (string_bytes out.new)) }
+    ensures { OnOk result (Adds
+        (named_text names.now place)
+        (string_bytes out.old) (string_bytes out.new)) }
 {
     match place {
         Some(place) => put_place(place, names, out),
@@ -60,7 +68,9 @@ pub(crate) fn put_named(place: Option<u32>, names: &Names, out: &mut String) -> 
 
 /// Appends a literal.
 pub(crate) fn put_literal(value: Value, names: &Names, out: &mut String) -> Result<(), NoMemory>
-    ensures { OnOk result (Adds (literal_text names.now value) (string_bytes out.old) (string_bytes out.new)) }
+    ensures { OnOk result (Adds
+        (literal_text names.now value)
+        (string_bytes out.old) (string_bytes out.new)) }
 {
     match value {
         Value::Nil => put("nil", out),
@@ -78,7 +88,9 @@ pub(crate) fn put_literal(value: Value, names: &Names, out: &mut String) -> Resu
 /// Appends what stands alone in an expression.
 pub(crate) fn put_atom(atom: Atom, names: &Names, out: &mut String) -> Result<(), NoMemory>
     requires { AreNamed names.now (atom_mentions atom) }
-    ensures { OnOk result (Adds (atom_text names.now atom) (string_bytes out.old) (string_bytes out.new)) }
+    ensures { OnOk result (Adds
+        (atom_text names.now atom)
+        (string_bytes out.old) (string_bytes out.new)) }
 {
     match atom {
         Atom::Lit(value) => put_literal(value, names, out),
@@ -89,7 +101,9 @@ pub(crate) fn put_atom(atom: Atom, names: &Names, out: &mut String) -> Result<()
 /// Appends an operation with its table and arguments.
 pub(crate) fn put_call(call: &Call, names: &Names, out: &mut String) -> Result<(), NoMemory>
     requires { AreNamed names.now (call_mentions call.now) }
-    ensures { OnOk result (Adds (call_text names.now call.now) (string_bytes out.old) (string_bytes out.new)) }
+    ensures { OnOk result (Adds
+        (call_text names.now call.now)
+        (string_bytes out.old) (string_bytes out.new)) }
 {
     put(call.kind.word(), out)?;
     put("(", out)?;
@@ -101,7 +115,9 @@ pub(crate) fn put_call(call: &Call, names: &Names, out: &mut String) -> Result<(
 /// Appends a comma, a space and the argument, for each argument.
 fn put_arguments(args: &[Atom], names: &Names, out: &mut String) -> Result<(), NoMemory>
     requires { AreNamed names.now (flat_map atom_mentions args.now) }
-    ensures { OnOk result (Adds (further (map (atom_text names.now) args.now)) (string_bytes out.old) (string_bytes out.new)) }
+    ensures { OnOk result (Adds
+        (further (map (atom_text names.now) args.now))
+        (string_bytes out.old) (string_bytes out.new)) }
 {
     'args: for atom in args {
         put(", ", out)?;

@@ -22,7 +22,9 @@ fn put_arg<D: Declarations>(
     names: &Names,
     out: &mut String,
 ) -> Result<(), NoMemory>
-    ensures { OnOk result (Adds (arg_text names.now ((D.at_points at.now).variables handler) arg) (string_bytes out.old) (string_bytes out.new)) }
+    ensures { OnOk result (Adds
+        (arg_text names.now ((D.at_points at.now).variables handler) arg)
+        (string_bytes out.old) (string_bytes out.new)) }
 {
     match arg {
         Arg::Known(value) => put_literal(value, names, out),
@@ -39,7 +41,10 @@ fn put_args<D: Declarations>(
     names: &Names,
     out: &mut String,
 ) -> Result<(), NoMemory>
-    ensures { OnOk result (Adds (further (map (arg_text names.now ((D.at_points at.now).variables handler)) (args_of s.now))) (string_bytes out.old) (string_bytes out.new)) }
+    ensures { OnOk result (Adds
+        (further (map (arg_text names.now ((D.at_points at.now).variables handler))
+        (args_of s.now)))
+        (string_bytes out.old) (string_bytes out.new)) }
 {
     let count = s.kind.arguments();
     if count == 0 {
@@ -62,7 +67,10 @@ fn put_symbol<D: Declarations>(
     names: &Names,
     out: &mut String,
 ) -> Result<(), NoMemory>
-    ensures { OnOk result (Adds (symbol_text names.now (D.at_points at.now).tables ((D.at_points at.now).variables handler) s.now) (string_bytes out.old) (string_bytes out.new)) }
+    ensures { OnOk result (Adds
+        (symbol_text names.now (D.at_points at.now).tables
+        ((D.at_points at.now).variables handler) s.now)
+        (string_bytes out.old) (string_bytes out.new)) }
 {
     put(s.kind.word(), out)?;
     put("(", out)?;
@@ -79,7 +87,10 @@ fn put_more_symbols<D: Declarations>(
     names: &Names,
     out: &mut String,
 ) -> Result<(), NoMemory>
-    ensures { OnOk result (Adds (further (map (symbol_text names.now (D.at_points at.now).tables ((D.at_points at.now).variables handler)) symbols.now)) (string_bytes out.old) (string_bytes out.new)) }
+    ensures { OnOk result (Adds
+        (further (map (symbol_text names.now (D.at_points at.now).tables
+        ((D.at_points at.now).variables handler)) symbols.now))
+        (string_bytes out.old) (string_bytes out.new)) }
 {
     for symbol in symbols {
         put(", ", out)?;
@@ -96,7 +107,10 @@ fn put_symbols<D: Declarations>(
     names: &Names,
     out: &mut String,
 ) -> Result<(), NoMemory>
-    ensures { OnOk result (Adds (symbols_text names.now (D.at_points at.now).tables ((D.at_points at.now).variables handler) symbols.now) (string_bytes out.old) (string_bytes out.new)) }
+    ensures { OnOk result (Adds
+        (symbols_text names.now (D.at_points at.now).tables
+        ((D.at_points at.now).variables handler) symbols.now)
+        (string_bytes out.old) (string_bytes out.new)) }
 {
     match symbols {
         [] => put("nothing", out),
@@ -114,7 +128,9 @@ fn put_declaration<D: Declarations>(
     names: &Names,
     out: &mut String,
 ) -> Result<(), NoMemory>
-    ensures { OnOk result (Adds (point_text names.now (D.at_points at.now) spot.handler spot.depth spot.point) (string_bytes out.old) (string_bytes out.new)) }
+    ensures { OnOk result (Adds
+        (point_text names.now (D.at_points at.now) spot.handler spot.depth spot.point)
+        (string_bytes out.old) (string_bytes out.new)) }
 {
     put_indent(spot.depth, out)?;
     put("mayuse ", out)?;
@@ -135,7 +151,9 @@ fn put_line<D: Declarations>(
     names: &Names,
     out: &mut String,
 ) -> Result<(), NoMemory>
-    ensures { OnOk result (Adds (put_point_text names.now (D.at_points at.now) spot) (string_bytes out.old) (string_bytes out.new)) }
+    ensures { OnOk result (Adds
+        (put_point_text names.now (D.at_points at.now) spot)
+        (string_bytes out.old) (string_bytes out.new)) }
 {
     if at.is_shown() {
         put_declaration(spot, at, names, out)
@@ -151,7 +169,9 @@ pub(crate) fn put_point<D: Declarations>(
     names: &Names,
     out: &mut String,
 ) -> Result<u32, NoMemory>
-    ensures text { OnOk result (Adds (put_point_text names.now (D.at_points at.now) spot) (string_bytes out.old) (string_bytes out.new)) }
+    ensures text { OnOk result (Adds
+        (put_point_text names.now (D.at_points at.now) spot)
+        (string_bytes out.old) (string_bytes out.new)) }
     ensures next { IfOk result (λ next. next ≡ spot.point + 1) }
 {
     put_line(spot, at, names, out)?;
@@ -166,7 +186,9 @@ pub(crate) fn put_right_point<D: Declarations>(
     names: &Names,
     out: &mut String,
 ) -> Result<u32, NoMemory>
-    ensures text { OnOk result (Adds (put_right_text names.now (D.at_points at.now) spot right.now) (string_bytes out.old) (string_bytes out.new)) }
+    ensures text { OnOk result (Adds
+        (put_right_text names.now (D.at_points at.now) spot right.now)
+        (string_bytes out.old) (string_bytes out.new)) }
     ensures next { IfOk result (λ next. next ≡ spot.point + right_points right.now) }
 {
     match right {

@@ -27,7 +27,8 @@ impl Spot {
 
     /// The same in the next handler. For 2^32 of them there is no room.
     pub(crate) fn next_handler(self) -> Result<Spot, NoMemory>
-        ensures { IfOk result (λ spot. spot ≡ record { handler = self.handler + 1; depth = self.depth; point = self.point }) }
+        ensures { IfOk result (λ spot.
+            spot ≡ record { handler = self.handler + 1; depth = self.depth; point = self.point }) }
     {
         match self.handler.checked_add(1) {
             Some(handler) => Ok(Spot {
@@ -52,7 +53,8 @@ impl Spot {
 
     /// Inside one block more. For 2^32 of them there is no room.
     pub(crate) fn inside(self) -> Result<Spot, NoMemory>
-        ensures { IfOk result (λ spot. spot ≡ record { handler = self.handler; depth = self.depth + 1; point = self.point }) }
+        ensures { IfOk result (λ spot.
+            spot ≡ record { handler = self.handler; depth = self.depth + 1; point = self.point }) }
     {
         match self.depth.checked_add(1) {
             Some(depth) => Ok(Spot {

@@ -26,8 +26,12 @@ fn put_statement<D: Declarations>(
     out: &mut String,
 ) -> Result<u32, NoMemory>
     requires { AreNamed names.now (stmt_mentions s.now) }
-    ensures text { OnOk result (Adds (put_part_text (D.at_points at.now) spot (part_at names.now (D.at_points at.now) spot s.now)) (string_bytes out.old) (string_bytes out.new)) }
-    ensures next { IfOk result (λ next. next ≡ spot.point + (part_at names.now (D.at_points at.now) spot s.now).points) }
+    ensures text { OnOk result (Adds
+        (put_part_text (D.at_points at.now) spot
+        (part_at names.now (D.at_points at.now) spot s.now))
+        (string_bytes out.old) (string_bytes out.new)) }
+    ensures next { IfOk result (λ next.
+        next ≡ spot.point + (part_at names.now (D.at_points at.now) spot s.now).points) }
 {
     match s {
         Stmt::Let { name, right, .. } => {
@@ -67,7 +71,10 @@ fn put_middle<D: Declarations>(
     names: &Names,
     out: &mut String,
 ) -> Result<(), NoMemory>
-    ensures { OnOk result (Adds (line_text (D.at_points at.now).shown (else_line (parts_of names.now (D.at_points at.now) spot no.now) spot.depth)) (string_bytes out.old) (string_bytes out.new)) }
+    ensures { OnOk result (Adds
+        (line_text (D.at_points at.now).shown
+        (else_line (parts_of names.now (D.at_points at.now) spot no.now) spot.depth))
+        (string_bytes out.old) (string_bytes out.new)) }
 {
     if no.is_empty() && !at.is_shown() {
         return Ok(());
@@ -89,8 +96,13 @@ fn put_choice<D: Declarations>(
     requires cond { AreNamed names.now (cond_mentions cond.now) }
     requires first { AreNamed names.now (flat_map stmt_mentions yes.now) }
     requires second { AreNamed names.now (flat_map stmt_mentions no.now) }
-    ensures text { OnOk result (Adds (put_part_text (D.at_points at.now) spot (choice_at names.now (D.at_points at.now) spot cond.now yes.now no.now)) (string_bytes out.old) (string_bytes out.new)) }
-    ensures next { IfOk result (λ next. next ≡ spot.point + (choice_at names.now (D.at_points at.now) spot cond.now yes.now no.now).points) }
+    ensures text { OnOk result (Adds
+        (put_part_text (D.at_points at.now) spot
+        (choice_at names.now (D.at_points at.now) spot cond.now yes.now no.now))
+        (string_bytes out.old) (string_bytes out.new)) }
+    ensures next { IfOk result (λ next.
+        next ≡ spot.point
+        + (choice_at names.now (D.at_points at.now) spot cond.now yes.now no.now).points) }
 {
     put_if(cond, spot.depth, names, out)?;
     let middle = put_branch(yes, spot, at, names, out)?;
@@ -113,8 +125,13 @@ fn put_repeat<D: Declarations>(
 ) -> Result<u32, NoMemory>
     requires name { name < length names.now }
     requires body { AreNamed names.now (flat_map stmt_mentions body.now) }
-    ensures text { OnOk result (Adds (put_part_text (D.at_points at.now) spot (repeat_at names.now (D.at_points at.now) spot turns name body.now)) (string_bytes out.old) (string_bytes out.new)) }
-    ensures next { IfOk result (λ next. next ≡ spot.point + (repeat_at names.now (D.at_points at.now) spot turns name body.now).points) }
+    ensures text { OnOk result (Adds
+        (put_part_text (D.at_points at.now) spot
+        (repeat_at names.now (D.at_points at.now) spot turns name body.now))
+        (string_bytes out.old) (string_bytes out.new)) }
+    ensures next { IfOk result (λ next.
+        next ≡ spot.point
+        + (repeat_at names.now (D.at_points at.now) spot turns name body.now).points) }
 {
     put_repeat_head(turns, name, spot.depth, names, out)?;
     let inner = spot.inside()?;
@@ -134,8 +151,12 @@ pub(crate) fn put_branch<D: Declarations>(
     out: &mut String,
 ) -> Result<u32, NoMemory>
     requires { AreNamed names.now (flat_map stmt_mentions block.now) }
-    ensures text { OnOk result (Adds (put_branch_text names.now (D.at_points at.now) spot block.now) (string_bytes out.old) (string_bytes out.new)) }
-    ensures next { IfOk result (λ next. next ≡ spot.point + (1 + block_points (parts_of names.now (D.at_points at.now) spot block.now))) }
+    ensures text { OnOk result (Adds
+        (put_branch_text names.now (D.at_points at.now) spot block.now)
+        (string_bytes out.old) (string_bytes out.new)) }
+    ensures next { IfOk result (λ next.
+        next ≡ spot.point
+        + (1 + block_points (parts_of names.now (D.at_points at.now) spot block.now))) }
 {
     let inner = spot.inside()?;
     let first = put_point(inner, at, names, out)?;
@@ -153,8 +174,11 @@ fn put_block<D: Declarations>(
     out: &mut String,
 ) -> Result<u32, NoMemory>
     requires { AreNamed names.now (flat_map stmt_mentions block.now) }
-    ensures text { OnOk result (Adds (put_block_text names.now (D.at_points at.now) spot block.now) (string_bytes out.old) (string_bytes out.new)) }
-    ensures next { IfOk result (λ next. next ≡ spot.point + block_points (parts_of names.now (D.at_points at.now) spot block.now)) }
+    ensures text { OnOk result (Adds
+        (put_block_text names.now (D.at_points at.now) spot block.now)
+        (string_bytes out.old) (string_bytes out.new)) }
+    ensures next { IfOk result (λ next.
+        next ≡ spot.point + block_points (parts_of names.now (D.at_points at.now) spot block.now)) }
 {
     let mut next = spot.point;
     for s in block {

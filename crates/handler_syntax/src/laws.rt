@@ -1,10 +1,11 @@
 //! Laws of canonical text: each is the contract of a function with an empty body.
 
-ghost use Rattle.std.specs.Prelude.{◌≡◌, ◌≢◌, ◌⊎◌, ℕ, List, [], ◌∷◌, false, length, map, take};
+ghost use Rattle.std.specs.Prelude.{◌≡◌, ◌≢◌, ◌+◌, ◌⊎◌, ℕ, List, [], ◌∷◌, false, length, map, take};
 ghost use Rattle.session_values.specs.Names.{AreDistinct, Begins};
 ghost use Rattle.handler_tokens.specs.declared.word.Word.{Word};
 ghost use Rattle.handler_tokens.specs.Words.{kind_of, words_of, names_of};
 ghost use Rattle.handler_trees.specs.declared.file.File.{File};
+ghost use Rattle.handler_trees.specs.declared.file.Handler.{Handler};
 ghost use Rattle.handler_trees.specs.declared.expr.Calc.{Calc};
 ghost use Rattle.handler_trees.specs.declared.expr.Expr.{Expr};
 ghost use Rattle.handler_trees.specs.declared.expr.Expr.TheVariants as expr;
@@ -23,7 +24,7 @@ ghost use Rattle.handler_grammar.specs.declared.refusal.SyntaxRefusal.{SyntaxRef
 ghost use Rattle.handler_grammar.specs.declared.refusal.SyntaxRefusal.TheVariants as syntax_refusal;
 ghost use Rattle.handler_printing.specs.Canonical.{canonical_text, whole_text};
 ghost use Rattle.handler_printing.specs.CanonicalWords.{canonical_words};
-ghost use Rattle.handler_printing.specs.Lines.{file_lines, shown_text, written};
+ghost use Rattle.handler_printing.specs.Lines.{At, block_parts, block_points, count_on, file_lines, handler_lines, line_points, shown_text, written};
 ghost use Rattle.handler_printing.specs.Points.{AtPoints};
 ghost use Rattle.handler_trees.specs.Mentions.{AreNamed, file_mentions};
 ghost use Rattle.handler_tokens.specs.Texts.{IsNamedFile};
@@ -122,6 +123,14 @@ pub fn declarations_stand_between_the_lines()
         → written false (file_lines names at file) [] ≡ canonical_text names file }
     ensures none { (names : List (List ℕ)) (at : AtPoints) (file : File)
         → at.shown ≡ false → shown_text names at file ≡ canonical_text names file }
+{}
+
+/// Each point of a handler has one line, and the points are counted from 0 in the order of the
+/// lines.
+pub fn each_point_has_its_line()
+    ensures { (names : List (List ℕ)) (at : At) (h : Handler)
+        → line_points (handler_lines names at h)
+        ≡ count_on 0 (1 + block_points (block_parts names at h.body)) }
 {}
 
 /// What is read of a canonical text is printed as that text again.

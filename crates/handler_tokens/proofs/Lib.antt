@@ -6,6 +6,7 @@ pub mod NamesGrow
 pub mod NumberLemmas
 pub mod Pieces
 pub mod ReaderLemmas
+pub mod Reserved
 pub mod Spelled
 pub mod TextTokens
 pub mod TextWords

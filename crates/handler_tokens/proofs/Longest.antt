@@ -6,18 +6,17 @@ use Rattle.std.specs.List.{prefix_len, AllByRecursion}
 use Rattle.std.specs.Str.{bytes_eq}
 use Rattle.std.proofs.lemmas.Bool.Decides.{nat_tests}
 use Rattle.std.proofs.lemmas.Slice.Eq.{bytes_eq-Decides}
-use Rattle.handler_tokens.specs.declared.scan.Class.{Class}
 use Rattle.handler_tokens.specs.declared.scan.Class.TheVariants as class
 use Rattle.handler_tokens.specs.declared.token_kind.TokenKind.{TokenKind}
 use Rattle.handler_tokens.specs.declared.token_kind.TokenKind.TheVariants as kind
 use Rattle.handler_tokens.specs.declared.word.Sort.{Sort}
 use Rattle.handler_tokens.specs.Keyword.{sort_in, keyword_of, sign_of, operation_of, statement_word_of, operations, statement_words, signs, or_else}
 use Rattle.handler_tokens.specs.Longest.{IsDigits, IsLongRun, IsQuoted, IsShape, IsLongest, IsQuotedNil, IsFirstToken}
-use Rattle.handler_tokens.specs.Scan.{Scanned, begins_two, is_single, is_in, scan, scan_name, scan_bad, scan_symbol, scan_sign, char_length}
-use Rattle.handler_tokens.specs.Texts.{IsRun, IsNameText, IsSymbolText}
+use Rattle.handler_tokens.specs.Scan.{Scanned, begins_two, is_single, is_in, scan, scan_name, scan_bad, scan_symbol, scan_sign}
+use Rattle.handler_tokens.specs.Texts.{IsSymbolText}
 use Rattle.handler_tokens.specs.Tokens.{with_reserved}
 use Rattle.handler_tokens.proofs.Cut.{pick, prefix_le}
-use Rattle.handler_tokens.proofs.WordKinds.{one_sign, two_sign, told_two, and_first, and_second}
+use Rattle.handler_tokens.proofs.WordKinds.{one_sign, told_two, and_first, and_second}
 use Rattle.handler_tokens.proofs.TextTokens.{run_of, name_letter, symbol_letter, not_some, run_taken, run_begins}
 
 -- ---- runs

@@ -1,13 +1,12 @@
 -- The tokens of a source, with what stands between them, are the source.
 use Rattle.std.proofs.Common.{◌≡◌, ℕ, zero, suc, ◌+◌, ◌-◌, ◌<◌, ◌≤◌, false, List, [], ◌∷◌, ◌++◌, length, take, drop, refl, sym, ap, ◌∙◌, subst, arith, length-drop}
 use Rattle.handler_tokens.specs.declared.token.Token.{Token}
-use Rattle.handler_tokens.specs.declared.token_kind.TokenKind.TheVariants as kind
 use Rattle.handler_tokens.specs.declared.tokens.Tokens.{Tokens}
 use Rattle.handler_tokens.specs.Gap.{IsGap}
 use Rattle.handler_tokens.specs.Scan.{gap, scan}
-use Rattle.handler_tokens.specs.Spelled.{Spell, tokens_left, IsNext}
+use Rattle.handler_tokens.specs.Spelled.{Spell, IsNext}
 use Rattle.handler_tokens.specs.Steps.{Gives}
-use Rattle.handler_tokens.specs.Tokens.{Cuts, Piece, first_piece, behind_gap, pieces}
+use Rattle.handler_tokens.specs.Tokens.{Cuts, first_piece, behind_gap, pieces}
 use Rattle.handler_tokens.proofs.Cut.{scan_moves}
 use Rattle.handler_tokens.proofs.GapFills.{gap_fills}
 use Rattle.handler_tokens.proofs.Pieces.{behind, gap_again, pieces_skip, pieces_end}

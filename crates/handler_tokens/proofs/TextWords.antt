@@ -10,7 +10,6 @@ use Rattle.handler_tokens.specs.declared.token_kind.TokenKind.{TokenKind}
 use Rattle.handler_tokens.specs.declared.token_kind.TokenKind.TheVariants as kind
 use Rattle.handler_tokens.specs.declared.word.Sort.{Sort}
 use Rattle.handler_tokens.specs.declared.word.Sort.TheVariants as sort
-use Rattle.handler_tokens.specs.declared.word.Word.{Word}
 use Rattle.handler_tokens.specs.Keyword.{sort_in, keyword_of, sign_of, operation_of, statement_word_of, operations, statement_words, signs, or_else}
 use Rattle.handler_tokens.specs.Tokens.{Piece, pieces}
 use Rattle.handler_tokens.specs.Words.{unquoted, or_bad, names_by, sort_by, names_after, word_after, words, names_behind, words_of, names_of}

@@ -1,5 +1,5 @@
 -- A word has the kind of its token.
-use Rattle.std.proofs.Common.{◌≡◌, ℕ, zero, suc, ◌+◌, ◌-◌, Bool, true, false, List, [], ◌∷◌, map, get_or, take, drop, Option, Some, None, refl, sym, ap, ◌∙◌, subst, arith, nat_lt, nat_eq, rules}
+use Rattle.std.proofs.Common.{◌≡◌, ℕ, zero, suc, ◌+◌, ◌-◌, Bool, true, false, List, [], ◌∷◌, map, get_or, take, drop, Option, Some, None, refl, ap, ◌∙◌, subst, arith, nat_lt, nat_eq, rules}
 use Rattle.std.specs.Prelude.{◌||◌, ◌&&◌, codes, is_some}
 use Rattle.std.specs.Char.{is_ascii_digit, is_ascii_alphabetic}
 use Rattle.std.specs.List.{prefix_len, AllByRecursion}

@@ -1,5 +1,5 @@
 -- Reserved words and signs.
-use Rattle.std.specs.Prelude.{ℕ, if◌then◌else◌, List, [], ◌∷◌, map, Option, Some, None, codes}
+use Rattle.std.specs.Prelude.{ℕ, Bool, false, ◌||◌, ◌==◌, if◌then◌else◌, List, [], ◌∷◌, map, Option, Some, None, codes}
 use Rattle.std.specs.Str.{bytes_eq}
 use Rattle.session_values.specs.declared.kind.Kind.{Kind}
 use Rattle.session_values.specs.declared.kind.Kind.TheVariants as kind
@@ -59,3 +59,14 @@ signs =
 -- the sign that the text is
 unfoldable pub sign_of : List ℕ → Option Sort
 sign_of text = sort_in signs text
+
+-- a reserved word may have this first byte and this length
+abbrev pub may_begin : (first length : ℕ) → Bool
+may_begin c n =
+    if n == 2 then c == 97 || c == 105
+    else if n == 3 then c == 97 || c == 100 || c == 103 || c == 104 || c == 108 || c == 109 || c == 110 || c == 112 || c == 115
+    else if n == 4 then c == 100 || c == 101 || c == 109 || c == 115
+    else if n == 5 then c == 99 || c == 114
+    else if n == 6 then c == 109 || c == 114
+    else if n == 7 then c == 104 || c == 110
+    else false

@@ -1,5 +1,5 @@
 -- The token at the front of a text, told from what texts are tokens.
-use Rattle.std.specs.Prelude.{◌≡◌, ℕ, ◌+◌, ◌<◌, ◌≤◌, ◌⊎◌, true, List, ◌∷◌, length, take, drop, slice_index, is_some, codes}
+use Rattle.std.specs.Prelude.{◌≡◌, ℕ, ◌<◌, ◌≤◌, ◌⊎◌, true, List, ◌∷◌, length, take, drop, slice_index, is_some, codes}
 use Rattle.std.specs.Char.{is_ascii_alphabetic}
 use Rattle.std.specs.List.{prefix_len, AllByRecursion}
 use Rattle.handler_tokens.specs.declared.scan.Class.{Class}

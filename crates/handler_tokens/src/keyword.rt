@@ -3,6 +3,7 @@
 ghost use Rattle.std.specs.Prelude.{◌≡◌, map};
 ghost use Rattle.handler_tokens.specs.Keyword as spec;
 
+use crate::scan::byte_at;
 use crate::word::Sort;
 use handler_trees::Compare;
 use session_values::{Kind, TableKind};
@@ -20,11 +21,32 @@ const KINDS: [Kind; 10] = [
     Kind::Count,
 ];
 
-/// The reserved word that the text is.
+/// Whether a reserved word may have this first byte and this length.
+fn may_begin(first: u8, len: usize) -> bool
+    ensures { result ≡ spec.may_begin first len }
+{
+    match len {
+        2 => matches!(first, b'a' | b'i'),
+        3 => matches!(
+            first,
+            b'a' | b'd' | b'g' | b'h' | b'l' | b'm' | b'n' | b'p' | b's'
+        ),
+        4 => matches!(first, b'd' | b'e' | b'm' | b's'),
+        5 => matches!(first, b'c' | b'r'),
+        6 => matches!(first, b'm' | b'r'),
+        7 => matches!(first, b'h' | b'n'),
+        _ => false,
+    }
+}
+
+/// The reserved word that the text is. Length and first letter are compared first.
 #[tactic(auto, unfolding(crate::specs::Keyword::keyword_of))]
 pub(crate) fn keyword(text: &str) -> Option<Sort>
     ensures { result ≡ spec.keyword_of text.now }
 {
+    if !may_begin(byte_at(text.as_bytes(), 0), text.len()) {
+        return None;
+    }
     match statement_word(text) {
         Some(sort) => Some(sort),
         None => operation(text),

@@ -2,7 +2,7 @@
 #![tactic(auto)]
 
 #[cfg(test)]
-mod checking;
+mod declaring;
 #[cfg(test)]
 mod helpers;
 #[cfg(test)]

@@ -12,3 +12,4 @@ pub mod Sorting
 pub mod TopLemmas
 pub mod Unique
 pub mod WalkSteps
+pub mod WarmLemmas

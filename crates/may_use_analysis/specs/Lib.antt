@@ -8,3 +8,4 @@ pub mod Steps
 pub mod Stored
 pub mod Stores
 pub mod Trails
+pub mod Warm

@@ -4,6 +4,7 @@ ghost use Rattle.std.specs.Prelude.{IfOk};
 ghost use Rattle.handler_dialogue.specs.Code.{IsNumbered, block_code};
 ghost use Rattle.may_use_analysis.specs.Numbered.{AreStored, IsFirstExcess};
 
+use crate::heads::Heads;
 use crate::kept::PointLists;
 use crate::ordered::Ordered;
 use crate::walk::before_block;
@@ -17,8 +18,10 @@ pub(crate) fn handler_lists(alloc: Global, handler: &CheckedHandler) -> Result<P
     ensures { IfOk result (AreStored (block_code handler.now.body)) }
 {
     let mut lists = PointLists::new(alloc);
+    let mut heads = Heads::new(alloc);
     let nothing = Ordered::new(alloc);
-    let entry = before_block(alloc, handler.body.as_slice(), nothing, &mut lists)?;
+    let body = handler.body.as_slice();
+    let entry = before_block(alloc, body, nothing, &mut heads, &mut lists)?;
     lists.keep(alloc, entry.as_slice())?;
     Ok(lists)
 }

@@ -2,6 +2,7 @@
 #![tactic(auto)]
 
 mod handler;
+mod heads;
 mod kept;
 mod later;
 pub mod laws;

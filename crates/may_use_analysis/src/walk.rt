@@ -1,11 +1,13 @@
 // From the end of a block to its start.
 
-ghost use Rattle.std.specs.Prelude.{◌≡◌, Contains, IfOk, OnOk};
-ghost use Rattle.handler_dialogue.specs.Code.{block_code};
+ghost use Rattle.std.specs.Prelude.{◌≡◌, ◌+◌, ℕ, Contains, IfOk, OnOk};
+ghost use Rattle.handler_dialogue.specs.Code.{Finish, IsNumbered, Loop, block_code, points, stmt_code};
 ghost use Rattle.may_use_analysis.specs.Flow.{AskFlow, Flow, Head, StmtFlow};
 ghost use Rattle.may_use_analysis.specs.Ordered.{Are};
 ghost use Rattle.may_use_analysis.specs.Recorded.{Recorded, StmtRecorded};
+ghost use Rattle.may_use_analysis.specs.Warm.{AreWarm, SameOutside};
 
+use crate::heads::Heads;
 use crate::kept::PointLists;
 use crate::ordered::Ordered;
 use crate::stores::{Store, store_of, symbol_of};
@@ -14,20 +16,27 @@ use session_values::NoMemory;
 use std::alloc::Global;
 
 /// The symbols at the start of a block, from those behind its end. The lists of its points join
-/// `out`, the last first.
+/// `out`, the last first. The lists at the heads of its loops are kept in `heads`: a walk begins
+/// with those that an earlier one, from no more symbols, has kept.
 #[cycle(walk)]
 pub(crate) fn before_block(
     alloc: Global,
     block: &[CheckedStmt],
     after: Ordered,
+    heads: &mut Heads,
     out: &mut PointLists,
 ) -> Result<Ordered, NoMemory>
+    requires numbered { (low : ℕ) × IsNumbered (block_code block.now) low }
+    requires warm { AreWarm heads.old (block_code block.now) (Contains after) }
     ensures set { IfOk result (λ r. Are r (Flow (block_code block.now) (Contains after))) }
     ensures lists { OnOk result (Recorded (block_code block.now) (Contains after) out.old out.new) }
+    ensures warm { OnOk result (AreWarm heads.new (block_code block.now) (Contains after)) }
+    ensures others { OnOk result ((low : ℕ) → IsNumbered (block_code block.now) low
+        → SameOutside heads.old heads.new low (low + points (block_code block.now))) }
 {
     let mut set = after;
     for i in (0..block.len()).rev() {
-        set = before_stmt(alloc, &block[i], set, out)?;
+        set = before_stmt(alloc, &block[i], set, heads, out)?;
     }
     Ok(set)
 }
@@ -38,10 +47,16 @@ fn before_stmt(
     alloc: Global,
     stmt: &CheckedStmt,
     after: Ordered,
+    heads: &mut Heads,
     out: &mut PointLists,
 ) -> Result<Ordered, NoMemory>
+    requires numbered { (low : ℕ) × IsNumbered (stmt_code stmt.now Finish) low }
+    requires warm { AreWarm heads.old (stmt_code stmt.now Finish) (Contains after) }
     ensures set { IfOk result (λ r. Are r (StmtFlow stmt.now (Contains after))) }
     ensures lists { OnOk result (StmtRecorded stmt.now (Contains after) out.old out.new) }
+    ensures warm { OnOk result (AreWarm heads.new (stmt_code stmt.now Finish) (Contains after)) }
+    ensures others { OnOk result ((low : ℕ) → IsNumbered (stmt_code stmt.now Finish) low
+        → SameOutside heads.old heads.new low (low + points (stmt_code stmt.now Finish))) }
 {
     match stmt {
         CheckedStmt::Store { var, right } => {
@@ -54,16 +69,22 @@ fn before_stmt(
             before_call(*var, call, after)
         }
         CheckedStmt::Choose { yes, no, .. } => {
-            let second = before_block(alloc, no.as_slice(), after.copied(alloc)?, out)?;
+            let copy = after.copied(alloc)?;
+            let second = before_block(alloc, no.as_slice(), copy, heads, out)?;
             out.keep(alloc, second.as_slice())?;
-            let mut first = before_block(alloc, yes.as_slice(), after, out)?;
+            let mut first = before_block(alloc, yes.as_slice(), after, heads, out)?;
             out.keep(alloc, first.as_slice())?;
             first.join(&second)?;
             Ok(first)
         }
-        CheckedStmt::Repeat { var, body, .. } => {
+        CheckedStmt::Repeat {
+            point,
+            var,
+            body,
+            ..
+        } => {
             out.keep(alloc, after.as_slice())?;
-            before_loop(alloc, *var, body.as_slice(), after, out)
+            before_loop(alloc, *point, *var, body.as_slice(), after, heads, out)
         }
         CheckedStmt::Answer { .. } => Ok(Ordered::new(alloc)),
     }
@@ -73,21 +94,35 @@ fn before_stmt(
 #[cycle(walk)]
 fn before_loop(
     alloc: Global,
+    point: u32,
     var: u32,
     body: &[CheckedStmt],
     after: Ordered,
+    heads: &mut Heads,
     out: &mut PointLists,
 ) -> Result<Ordered, NoMemory>
+    requires numbered { (low : ℕ) × IsNumbered (Loop 0 point 0 var (block_code body.now) Finish) low }
+    requires warm { AreWarm heads.old (Loop 0 point 0 var (block_code body.now) Finish)
+        (Contains after) }
     ensures set { IfOk result (λ r. Are r (Head var (block_code body.now) (Contains after))) }
-    ensures lists { OnOk result (Recorded (block_code body.now) (Head var (block_code body.now) (Contains after)) out.old out.new) }
+    ensures lists { OnOk result (Recorded (block_code body.now)
+        (Head var (block_code body.now) (Contains after)) out.old out.new) }
+    ensures warm { OnOk result (AreWarm heads.new (Loop 0 point 0 var (block_code body.now) Finish)
+        (Contains after)) }
+    ensures others { OnOk result ((low : ℕ)
+        → IsNumbered (Loop 0 point 0 var (block_code body.now) Finish) low
+        → SameOutside heads.old heads.new low (low + points (block_code body.now) + 1)) }
 {
     let size = out.len();
     let mut head = after;
+    heads.add_to(point, &mut head)?;
     for _ in 0..u32::MAX {
         out.truncate(size);
-        let mut turn = before_block(alloc, body, head.copied(alloc)?, out)?;
+        let copy = head.copied(alloc)?;
+        let mut turn = before_block(alloc, body, copy, heads, out)?;
         turn.carry(Store::Other { x: var });
         if !head.join(&turn)? {
+            heads.keep(alloc, point, &head)?;
             return Ok(head);
         }
     }

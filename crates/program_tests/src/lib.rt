@@ -1,5 +1,5 @@
 //! Tests of what the program reads, serves and writes, through public calls: sources and sinks,
-//! request lines, reply lines, and whole runs over memory.
+//! reply lines, and whole runs over memory.
 #![tactic(auto)]
 
 #[cfg(test)]
@@ -8,7 +8,5 @@ mod ends;
 mod reply_lines;
 #[cfg(test)]
 mod runs;
-#[cfg(test)]
-mod session_text;
 #[cfg(test)]
 mod top_call;

@@ -1,4 +1,5 @@
-use Rattle.std.proofs.Common.{[], List, Contains, subst}
+use Rattle.std.proofs.Common.{[], List, Contains, subst, ap}
+use Rattle.std.specs.Prelude.{slice_index_or}
 use Rattle.symbolic_ops.specs.declared.symbol.Symbol.{Symbol}
 use Rattle.handler_dialogue.specs.declared.tree.CheckedStmt.{CheckedStmt}
 use Rattle.handler_dialogue.specs.Code.{block_code}
@@ -8,6 +9,7 @@ use Rattle.may_use_analysis.specs.Recorded.{Recorded}
 use Rattle.may_use_analysis.specs.Stored.{Stored}
 use Rattle.may_use_analysis.proofs.Sets.{stored_lent}
 use Rattle.may_use_analysis.proofs.TopLemmas.{handler_stored}
+use Rattle.may_use_analysis.proofs.WarmLemmas.{warm_none}
 use Rattle.may_use_analysis.proofs.handler.handler_lists.Goals as goal
 
 pub returns : goal.returns
@@ -17,9 +19,13 @@ returns c =
     let nothing = c.new-nothing.result in
     let out = c.before_block.new.out in
     let k = c.in_ok-keep.ensures in
-    let set' = subst (λ (z : List CheckedStmt). Are entry (Flow (block_code z) (Contains nothing))) c.as_slice.ensures c.in_ok-entry.ensures.set in
+    let set' = subst (λ (z : List CheckedStmt). Are entry (Flow (block_code z) (Contains nothing))) c.as_slice-body.ensures c.in_ok-entry.ensures.set in
     let set = subst (λ (z : List Symbol). Are entry (Flow body (Contains z))) c.new-nothing.ensures set' in
-    let lists' = subst (λ (z : List CheckedStmt). Recorded (block_code z) (Contains nothing) c.new-lists.result out) c.as_slice.ensures c.in_ok-entry.ensures.lists in
+    let lists' = subst (λ (z : List CheckedStmt). Recorded (block_code z) (Contains nothing) c.new-lists.result out) c.as_slice-body.ensures c.in_ok-entry.ensures.lists in
     let lists'' = subst (λ (z : List Symbol). Recorded body (Contains z) c.new-lists.result out) c.new-nothing.ensures lists' in
     let lists = subst (λ (z : List Stored). Recorded body (Contains []) z out) c.new-lists.ensures lists'' in
-    handler_stored body c.requires k.0 out c.keep.new.self (stored_lent c.as_slice-2.result.now entry k.0 (Flow body (Contains [])) c.as_slice-2.ensures.symbols k.1 c.as_slice-2.ensures.order set) lists k.2
+    handler_stored body c.requires k.0 out c.keep.new.self (stored_lent c.as_slice.result.now entry k.0 (Flow body (Contains [])) c.as_slice.ensures.symbols k.1 c.as_slice.ensures.order set) lists k.2
+
+pub before_block-requires-clause-warm : goal.before_block-requires-clause-warm
+before_block-requires-clause-warm c =
+    warm_none c.new-heads.result (block_code c.as_slice-body.result.now) (Contains c.new-nothing.result) (λ i. ap (λ (z : List (List Symbol)). slice_index_or z i []) c.new-heads.ensures)

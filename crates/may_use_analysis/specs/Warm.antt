@@ -1,0 +1,24 @@
+-- Lists at the heads of loops that are kept from an earlier walk, so that the next one begins with them.
+use Rattle.std.specs.Prelude.{◌≡◌, ℕ, ◌+◌, ◌<◌, ◌≤◌, ◌⊎◌, List, [], Contains, slice_index_or}
+use Rattle.symbolic_ops.specs.declared.symbol.Symbol.{Symbol}
+use Rattle.handler_dialogue.specs.Code.{Code, Finish, Move, Ask, Fork, Loop, Quit}
+use Rattle.may_use_analysis.specs.Flow.{Flow, Head}
+use Rattle.may_use_analysis.specs.Trails.{Symbols}
+
+-- the kept list of the loop whose point has this number
+abbrev pub HeadAt : List (List Symbol) → ℕ → Symbols
+HeadAt heads p = Contains (slice_index_or heads p [])
+
+-- the kept list of each loop lies within the set at its head, and those of the loops inside it are kept from a walk that began with it or with less
+abbrev pub AreWarm : List (List Symbol) → Code → Symbols → Type 0
+AreWarm heads Finish after = Unit {0}
+AreWarm heads (Move x e rest) after = AreWarm heads rest after
+AreWarm heads (Ask at p x c rest) after = AreWarm heads rest after
+AreWarm heads (Fork at p q test a b rest) after = AreWarm heads a (Flow rest after) × AreWarm heads b (Flow rest after) × AreWarm heads rest after
+AreWarm heads (Loop at p n x body rest) after =
+    ((s : Symbol) → HeadAt heads p s → Head x body (Flow rest after) s) × AreWarm heads body (HeadAt heads p) × AreWarm heads rest after
+AreWarm heads (Quit es rest) after = AreWarm heads rest after
+
+-- what is kept of loops with other numbers is as it was
+abbrev pub SameOutside : (old new : List (List Symbol)) → ℕ → ℕ → Type 0
+SameOutside old new low high = (i : ℕ) → (i < low) ⊎ (high ≤ i) → slice_index_or new i [] ≡ slice_index_or old i []
