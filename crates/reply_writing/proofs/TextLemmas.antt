@@ -1,10 +1,10 @@
 -- The text of replies, written in parts.
 use Rattle.std.proofs.Common.{◌≡◌, ℕ, ◌+◌, ◌<◌, List, [], ◌∷◌, ◌++◌, take, drop, length, get_or, refl, sym, ap, ◌∙◌, subst, arith, append_assoc, append-nil, Option}
-use Rattle.std.proofs.lemmas.List.{drop_more, take_more, take-append-drop, length-take}
+use Rattle.std.proofs.lemmas.List.{take_more, take-append-drop, length-take}
 use Rattle.session_values.specs.declared.reply.Reply.{Reply}
 use Rattle.session_values.specs.ReplyText.{line_text, reply_text}
 use Rattle.byte_ends.specs.Ends.{Grew, GrewByFront}
-use Rattle.byte_ends.proofs.EndsLemmas.{grew_nothing, grew_more, grew_front, grew_front_within}
+use Rattle.byte_ends.proofs.EndsLemmas.{grew_nothing, grew_more, grew_front_within}
 
 -- of a text some bytes were written, and the others wait
 pub record Waits (old now : Option (List ℕ)) (waiting text : List ℕ) : Type 0 where
@@ -35,10 +35,6 @@ waits_more old now waiting longer text more longest w e all = record {
   grew = w.grew;
   all = ap (λ b. w.written ++ b) e ∙ sym (append_assoc w.written waiting more) ∙ ap (λ b. b ++ more) w.all ∙ sym all;
 }
-
--- all was written
-pub all_written : (old mid new : Option (List ℕ)) (waiting text : List ℕ) → Waits old mid waiting text → Grew mid new waiting → Grew old new text
-all_written old mid new waiting text w more = subst (Grew old new) w.all (grew_more old mid new w.written waiting w.grew more)
 
 -- writing what waits broke off
 pub broke_off : (old mid new : Option (List ℕ)) (waiting text rest whole : List ℕ) → Waits old mid waiting text → GrewByFront mid new waiting → whole ≡ text ++ rest → GrewByFront old new whole

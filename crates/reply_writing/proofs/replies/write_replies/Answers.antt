@@ -1,7 +1,7 @@
-use Rattle.std.proofs.Common.{◌≤◌, [], refl, rules, sym, ap, ◌∙◌, subst, arith}
+use Rattle.std.proofs.Common.{[], refl, rules, sym, ap, ◌∙◌, subst, arith}
 use Rattle.session_values.specs.ReplyText.{reply_text}
 use Rattle.byte_ends.specs.Ends.{Grew, GrewByFront}
-use Rattle.reply_writing.proofs.TextLemmas.{waits_none, waits_same, waits_written, all_written, broke_off, no_text, text_at, line_waits}
+use Rattle.reply_writing.proofs.TextLemmas.{waits_none, waits_same, waits_written, broke_off, no_text, text_at, line_waits}
 use Rattle.reply_writing.proofs.replies.write_replies.Goals.{then-spare-len+else-not-write_all, else-spare-len}
 use Rattle.reply_writing.proofs.replies.write_replies.Goals as goal
 
