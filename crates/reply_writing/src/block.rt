@@ -7,7 +7,7 @@ use std::alloc::Global;
 use std::marker::Model;
 
 /// How many bytes a block has room for.
-pub const BLOCK: usize = 65536;
+const ROOM: usize = 65536;
 
 /// Lines that wait to be written, in room for 65,536 bytes that is taken once.
 #[derive(Drop)]
@@ -31,7 +31,7 @@ impl Block {
         ensures { IfOk result (λ block. block ≡ []) }
     {
         Ok(Block {
-            bytes: Vec::with_capacity(alloc, BLOCK)?,
+            bytes: Vec::with_capacity(alloc, ROOM)?,
         })
     }
 
@@ -46,7 +46,7 @@ impl Block {
     pub(crate) fn spare(&self) -> usize
         ensures { result + length self.now ≡ 65536 }
     {
-        BLOCK - self.bytes.len()
+        ROOM - self.bytes.len()
     }
 
     pub(crate) fn clear(&mut self)

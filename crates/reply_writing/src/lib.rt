@@ -4,5 +4,5 @@
 mod block;
 mod replies;
 
-pub use block::{BLOCK, Block};
+pub use block::Block;
 pub use replies::write_replies;
