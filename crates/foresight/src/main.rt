@@ -1,4 +1,4 @@
-//! The program: `check` and `serve`, from standard input to standard output.
+//! The program: from its words, standard input and output to the top call.
 #![tactic(auto)]
 
 mod input;
@@ -13,17 +13,30 @@ use output::Output;
 use serve_core::{Status, run, tell};
 use std::process::ExitCode;
 use words::words;
+use worker_gate::OpenGate;
 
 fn main(rt: HostRuntime) -> ExitCode {
     let mut source = Input::over(rt.stdin());
     let mut out = Output::over(rt.stdout());
     let mut err = Output::over(rt.stderr());
-    let status = match words(&rt) {
-        Ok(words) => run(rt.alloc(), &words, &mut source, &mut out, &mut err),
+    let gate = OpenGate;
+    let number = match words(&rt) {
+        Ok(words) => {
+            let outcome = run(
+                &rt,
+                rt.alloc(),
+                &words,
+                &mut source,
+                &mut out,
+                &mut err,
+                &gate,
+            );
+            outcome.status.number()
+        }
         Err(_) => {
             tell(&Status::NoMemory, &mut err);
-            Status::NoMemory
+            Status::NoMemory.number()
         }
     };
-    ExitCode::from(status.number())
+    ExitCode::from(number)
 }

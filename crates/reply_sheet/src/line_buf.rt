@@ -42,6 +42,14 @@ impl LineBuf {
         &self.room[..self.len]
     }
 
+    /// How many bytes the line has.
+    pub fn len(&self) -> usize
+        ensures len { result ≡ length self.now }
+        ensures bound { result ≤ 266 }
+    {
+        self.len
+    }
+
     pub(crate) fn clear(&mut self)
         ensures { self.new ≡ [] }
     {

@@ -1,0 +1,44 @@
+// Writing: the replies, line by line.
+
+ghost use Rattle.std.specs.Prelude.{◌≡◌, ◌≤◌, length, true, false};
+ghost use Rattle.byte_ends.specs.Ends.{Rose, Grew, GrewByFront};
+ghost use Rattle.session_values.specs.ReplyText.{reply_text};
+ghost use Rattle.reply_writing.specs.Printable.{ArePrintableReplies};
+
+use crate::block::Block;
+use byte_ends::{Sink, write_all};
+use reply_sheet::{LineBuf, line};
+use session_values::{Names, Reply};
+
+/// Writes the lines of the replies, of which the first is ticket 0's. Whole lines are gathered in
+/// the block, in place of what it held, and written when the next line has no room. It answers
+/// `false` after a fault.
+pub fn write_replies<O: Sink>(
+    out: &mut O,
+    replies: &[Reply],
+    names: &Names,
+    block: &mut Block,
+) -> bool
+    requires few { length replies.now ≤ 20000 }
+    requires printable { ArePrintableReplies names.now replies.now }
+    ensures all { result ≡ true
+        → Grew (O.held out.old) (O.held out.new) (reply_text names.now 0 replies.now) }
+    ensures fault { result ≡ false → Rose (O.faults out.old) (O.faults out.new) }
+    ensures front { result ≡ false
+        → GrewByFront (O.held out.old) (O.held out.new) (reply_text names.now 0 replies.now) }
+    ensures later { O.faults out.old ≤ O.faults out.new }
+{
+    block.clear();
+    let mut text = LineBuf::new();
+    for (ticket, reply) in replies.iter().enumerate() {
+        line(ticket as u32, reply, names, &mut text);
+        if block.spare() < text.len() {
+            if !write_all(out, block.bytes()) {
+                return false;
+            }
+            block.clear();
+        }
+        block.push(text.bytes());
+    }
+    write_all(out, block.bytes())
+}
