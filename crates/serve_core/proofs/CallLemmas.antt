@@ -77,7 +77,7 @@ not_below (suc n) d ds h =
 
 below : (n : ℕ) (d : Deed) (ds : List Deed) → d.ticket < n → length (by_ticket n (d ∷ ds)) ≡ suc (length (by_ticket n ds))
 below zero d ds h = absurd (omega arith)
-below (suc n) d ds h = by (d.ticket == n) refl
+below (suc n) d ds h = by (d.ticket == n) refl (below n d ds)
   where
     whole : length (by_ticket (suc n) (d ∷ ds)) ≡ length (by_ticket n (d ∷ ds)) + length (of_ticket n (d ∷ ds))
     whole = length-append (by_ticket n (d ∷ ds)) (of_ticket n (d ∷ ds))
@@ -85,16 +85,16 @@ below (suc n) d ds h = by (d.ticket == n) refl
     parts : length (by_ticket (suc n) ds) ≡ length (by_ticket n ds) + length (of_ticket n ds)
     parts = length-append (by_ticket n ds) (of_ticket n ds)
 
-    by : (b : Bool) → (d.ticket == n) ≡ b → length (by_ticket (suc n) (d ∷ ds)) ≡ suc (length (by_ticket (suc n) ds))
-    by true e =
+    by : (b : Bool) → (d.ticket == n) ≡ b → (d.ticket < n → length (by_ticket n (d ∷ ds)) ≡ suc (length (by_ticket n ds))) → length (by_ticket (suc n) (d ∷ ds)) ≡ suc (length (by_ticket (suc n) ds))
+    by true e rest =
         let same : d.ticket ≡ n = grind (arith, nat_tests) in
         let own = of_own n d ds same in
         let others = not_below n d ds (omega arith) in
         omega (arith, own, others, whole, parts)
-    by false e =
+    by false e rest =
         let other : d.ticket ≢ n = λ q. grind (arith, nat_tests) in
         let none = of_other n d ds other in
-        let more = below n d ds (omega arith) in
+        let more = rest (omega (arith, h, other)) in
         omega (arith, none, more, whole, parts)
 
 by_ticket_long : (n : ℕ) (ds : List Deed) → AllByRecursion (λ (d : Deed). d.ticket < n) ds → length (by_ticket n ds) ≡ length ds

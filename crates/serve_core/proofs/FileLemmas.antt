@@ -53,17 +53,15 @@ pub first_few : (bs : Text) (first : ℕ) → first ≡ position_or_len is_divid
 first_few bs first e h = let within : position_or_len is_dividing (lines bs) ≤ length (lines bs) = prefix_len-le-length (λ l. not (is_dividing l)) (lines bs) in omega (arith, e, h, within, lines_few bs)
 
 -- the parts of a text are those of its bytes
-pub parts_same : (text bytes head tail : List ℕ) (first : ℕ) → Divides text head tail first → text ≡ bytes → record { handlers = head; requests = tail; first = first } ≡ parts_of bytes
-parts_same text bytes head tail first d e =
-    let here : record { handlers = head; requests = tail; first = first } ≡ parts_of text = parts_with d.head_is d.tail_is d.first_is in
-    here ∙ ap parts_of e
-  where
-    parts_with : {a b c d : List ℕ} {m n : ℕ} → a ≡ b → c ≡ d → m ≡ n → record { handlers = a; requests = c; first = m } ≡ record { handlers = b; requests = d; first = n }
-    parts_with p q r = cc
+parts_with : (p q : Parts) → p.handlers ≡ q.handlers → p.requests ≡ q.requests → p.first ≡ q.first → p ≡ q
+parts_with p q a b c = cc
+
+pub parts_same : (text bytes head tail : List ℕ) (first : ℕ) → Divides text head tail first → text ≡ bytes → ◌≡◌ {A = Parts} (record { handlers = head; requests = tail; first = first }) (parts_of bytes)
+parts_same text bytes head tail first d e = parts_with (record { handlers = head; requests = tail; first = first }) (parts_of text) d.head_is d.tail_is d.first_is ∙ ap parts_of e
 
 -- ---- tables
 pub few_kinds : (f : File) (shape : List TableKind) → IsAccepted f → shape ≡ shape_of f → length shape ≤ 7
-few_kinds f shape a e = let few = few_tables f a.keeps in let long : length shape ≡ length f.tables = ap (λ (s : List TableKind). length s) e ∙ length-map (λ (t : TableDecl). t.kind) f.tables in omega (arith, few, long)
+few_kinds f shape a e = let few = few_tables f a.keeps in let long : length shape ≡ length f.tables = ap (λ (s : List TableKind). length s) e ∙ length-map f.tables (λ (t : TableDecl). t.kind) in omega (arith, few, long)
 
 -- ---- replies
 one_answer : (o : Option Reply) → length (answered o) ≤ 1
@@ -76,8 +74,8 @@ replies_few s zero = omega arith
 replies_few s (suc t) = omega (arith, replies_few s t, one_answer (serial s t).answer, length-append (serial_replies s t) (answered (serial s t).answer))
 
 pub has_served : (parts : Parts) (callers shards : ℕ) (l : Loaded) (s : Served) → IsLoaded parts l → s.names ≡ l.names → IsDone (meaning (script_of_loaded l)) s.closed → s.closed.callers ≡ callers
-    → s.closed.shards ≡ shards → s.block.items ≡ [] → 65536 ≤ vec_capacity s.block → HasServed parts callers shards s
-has_served parts callers shards l s h names done callers_are shards_are empty room =
+    → s.closed.shards ≡ shards → HasServed parts callers shards s
+has_served parts callers shards l s h names done callers_are shards_are =
     let m : Meaning = meaning (script_of_loaded l) in
     let few = replies_few (session_of m) m.requests in
     let printable = subst (λ (rs : List Reply). ArePrintableReplies l.names rs) (sym done.replies) (replies_said l.names l.program.file l.requests h.named h.printable m.requests) in
@@ -92,8 +90,6 @@ has_served parts callers shards l s h names done callers_are shards_are empty ro
       names_are = names ∙ h.names_are;
       printable = subst (λ (ns : List (List ℕ)). ArePrintableReplies ns s.closed.replies) (sym names) printable;
       few = (let requests = h.servable.few in omega (arith, few, requests, ap (λ (rs : List Reply). length rs) done.replies));
-      empty = empty;
-      room = room;
     }
 
 -- ---- reasons

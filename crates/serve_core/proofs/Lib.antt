@@ -2,6 +2,5 @@ pub mod CallLemmas
 pub mod CountLemmas
 pub mod EndLemmas
 pub mod FileLemmas
-pub mod GatherLemmas
 pub mod SheetLemmas
 pub mod TopLemmas

@@ -1,5 +1,5 @@
 -- What serving a session file promises.
-use Rattle.std.specs.Prelude.{◌≡◌, ℕ, ◌≤◌, true, false, IsUtf8, List, [], length, vec_capacity}
+use Rattle.std.specs.Prelude.{◌≡◌, ℕ, ◌≤◌, true, false, IsUtf8, List, length}
 use Rattle.session_journal.specs.Script.{Meaning, session_of}
 use Rattle.session_hall.specs.Closings.{IsDone}
 use Rattle.handler_syntax.specs.Language.{File}
@@ -27,8 +27,7 @@ pub record IsSessionInput (input : List ℕ) : Type 0 where
   pub utf8 : IsUtf8 input
   pub divided : is_divided input ≡ true
 
--- The parts' session was served through a hall by so many callers, over so many shards a table; its replies can be
--- printed, and there is room for their lines.
+-- The parts' session was served through a hall by so many callers, over so many shards a table, and its replies can be printed.
 pub record HasServed (parts : Parts) (callers shards : ℕ) (s : Served) : Type 0 where
   pub file : File
   pub is_session : IsSession parts file
@@ -40,8 +39,6 @@ pub record HasServed (parts : Parts) (callers shards : ℕ) (s : Served) : Type 
   pub names_are : s.names ≡ all_names_of parts
   pub printable : ArePrintableReplies s.names s.closed.replies
   pub few : length s.closed.replies ≤ 20000
-  pub empty : s.block.items ≡ []
-  pub room : 65536 ≤ vec_capacity s.block
 
 -- why a session file isn't served: memory ran out, or this is the first broken rule
 abbrev pub IsInputReason : List ℕ → Unserved → Type 0

@@ -1,6 +1,6 @@
 // Counting: how many operations a session made, and how many bytes its reply lines have.
 
-ghost use Rattle.std.specs.Prelude.{◌≡◌, ◌≤◌, length};
+ghost use Rattle.std.specs.Prelude.{◌≡◌, ◌≤◌, [], ◌∷◌, length};
 ghost use Rattle.session_journal.specs.Journal.{deeds};
 ghost use Rattle.session_values.specs.ReplyText.{reply_text};
 ghost use Rattle.session_answers.specs.Printable.{ArePrintableReplies};
@@ -15,11 +15,22 @@ pub(crate) fn count_calls(events: &[Event]) -> u64
 {
     let mut calls = 0;
     for event in events {
-        if let Event::Done { .. } = event {
-            calls += 1;
-        }
+        calls += count_done(event);
     }
     calls
+}
+
+// One where an operation was done, else none.
+fn count_done(event: &Event) -> u64
+    ensures calls { result ≡ length (deeds (event.now ∷ [])) }
+    ensures few { result ≤ 1 }
+{
+    match event {
+        Event::Begin { .. } => 0,
+        Event::Done { .. } => 1,
+        Event::Delay { .. } => 0,
+        Event::End { .. } => 0,
+    }
 }
 
 /// How many bytes the reply lines have.
@@ -32,7 +43,7 @@ pub(crate) fn count_bytes(replies: &[Reply], names: &Names) -> u64
     let mut bytes = 0;
     for (ticket, reply) in replies.iter().enumerate() {
         line(ticket as u32, reply, names, &mut text);
-        bytes += text.bytes().len() as u64;
+        bytes += text.len() as u64;
     }
     bytes
 }

@@ -4,14 +4,12 @@
 
 mod counting;
 mod describing;
-mod gathering;
 mod outcome;
 mod served;
 mod serving;
 mod sessions;
 mod top;
 mod working;
-mod writing;
 
 pub use byte_ends::{Got, MemorySink, MemorySource, Put, Sink, Source, SureSink, SureSource};
 pub use outcome::Outcome;

@@ -7,7 +7,7 @@ ghost use Rattle.handler_machine.specs.Scripts.{meaning};
 ghost use Rattle.request_files.specs.Servable.{IsServable};
 
 use declaration_insertion::Program;
-use hall_serving::serve_session;
+use hall_serving::serve_in_turn;
 use handler_machine::Scripts;
 use handler_trees::File;
 use request_files::Requests;
@@ -40,7 +40,7 @@ pub(crate) fn serve_program<R: Threads + Wait + Sync, G: Gate + Sync>(
     let shape = shape_of(alloc, program)?;
     let script = Scripts::over(program, requests);
     let plan = Scripts::over(program, requests);
-    serve_session(
+    serve_in_turn(
         rt,
         alloc,
         script,
@@ -57,7 +57,8 @@ fn shape_of(alloc: Global, program: &Program) -> Result<Vec<TableKind>, NoMemory
     ensures kinds { IfOk result (λ shape. shape.items ≡ shape_spec program.now.file) }
     ensures few { IfOk result (λ shape. length shape.items ≤ 7) }
 {
-    kinds_of(alloc, program.checked().file())
+    let shape = kinds_of(alloc, program.checked().file())?;
+    Ok(shape)
 }
 
 // The kinds of the tables of a file.

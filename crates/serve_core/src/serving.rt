@@ -1,6 +1,6 @@
 // Serving: from a source to the lines of the replies.
 
-ghost use Rattle.std.specs.Prelude.{◌≡◌, ◌≤◌, [], length, vec_capacity, Some};
+ghost use Rattle.std.specs.Prelude.{◌≡◌, ◌≤◌, length, Some};
 ghost use Rattle.session_answers.specs.Printable.{ArePrintableReplies};
 ghost use Rattle.session_answers.specs.Runs.{Runs, change};
 ghost use Rattle.session_answers.specs.Ways.{AnswersTo};
@@ -10,8 +10,8 @@ ghost use Rattle.serve_core.specs.Serving.{EndsBy, status_of};
 
 use crate::outcome::Outcome;
 use crate::sessions::{Served, serve_file};
-use crate::writing::write_lines;
 use byte_ends::{Sink, Source};
+use reply_writing::write_replies;
 use session_answers::Status;
 use session_reading::{Unserved, read_input};
 use std::alloc::Global;
@@ -61,7 +61,7 @@ fn serve_input<R: Threads + Wait + Sync, O: Sink, G: Gate + Sync>(
         (change O.held O.faults out.old out.new) result.status result.closed }
 {
     match serve_file(rt, alloc, callers, shards, bytes, gate) {
-        Ok(served) => write_replies(served, out),
+        Ok(served) => write_served(served, out),
         Err(e) => Outcome {
             status: ended(e),
             closed: None,
@@ -80,11 +80,9 @@ pub(crate) fn ended(e: Unserved) -> Status
 }
 
 // Writes the replies of what was served.
-fn write_replies<O: Sink>(served: Served, out: &mut O) -> Outcome
+fn write_served<O: Sink>(served: Served, out: &mut O) -> Outcome
     requires few { length served.closed.replies ≤ 20000 }
     requires printable { ArePrintableReplies served.names served.closed.replies }
-    requires empty { served.block.items ≡ [] }
-    requires room { 65536 ≤ vec_capacity served.block }
     ensures closed { result.closed ≡ Some served.closed }
     ensures ends { EndsBy (reply_text served.names 0 served.closed.replies)
         (change O.held O.faults out.old out.new) result.status }
@@ -94,7 +92,7 @@ fn write_replies<O: Sink>(served: Served, out: &mut O) -> Outcome
         closed,
         mut block,
     } = served;
-    let status = if write_lines(out, closed.replies().as_slice(), &names, &mut block) {
+    let status = if write_replies(out, closed.replies().as_slice(), &names, &mut block) {
         Status::Fine
     } else {
         Status::WriteFault

@@ -1,14 +1,14 @@
 // Sessions: from the bytes of a session file to the hall through which it was served.
 
-ghost use Rattle.std.specs.Prelude.{◌≡◌, ◌≤◌, [], length, vec_capacity, IfOk, IfErr};
+ghost use Rattle.std.specs.Prelude.{◌≡◌, ◌≤◌, length, IfOk, IfErr};
 ghost use Rattle.session_hall.specs.Closings.{IsDone};
 ghost use Rattle.handler_machine.specs.Scripts.{meaning};
 ghost use Rattle.request_files.specs.Servable.{IsServable};
 ghost use Rattle.session_answers.specs.Input.{parts_of};
 ghost use Rattle.serve_core.specs.Serving.{IsSessionInput, IsInputReason, HasServed, script_of_loaded};
 
-use crate::gathering::new_block;
 use crate::served::serve_program;
+use reply_writing::Block;
 use request_files::divide;
 use session_answers::Fault;
 use session_hall::Closed;
@@ -24,8 +24,8 @@ use worker_gate::Gate;
 pub(crate) struct Served {
     pub names: Names,
     pub closed: Closed,
-    /// Empty, with room for 65,536 bytes.
-    pub block: Vec<u8>,
+    /// Room for the lines of its replies.
+    pub block: Block,
 }
 
 /// Reads a session file, and serves its requests.
@@ -75,10 +75,8 @@ fn serve_loaded<R: Threads + Wait + Sync, G: Gate + Sync>(
     ensures done { IfOk result (λ s. IsDone (meaning (script_of_loaded loaded)) s.closed) }
     ensures callers { IfOk result (λ s. s.closed.callers ≡ callers) }
     ensures shards { IfOk result (λ s. s.closed.shards ≡ shards) }
-    ensures empty { IfOk result (λ s. s.block.items ≡ []) }
-    ensures room { IfOk result (λ s. 65536 ≤ vec_capacity s.block) }
 {
-    let block = new_block(alloc)?;
+    let block = Block::new(alloc)?;
     let Loaded {
         names,
         program,
