@@ -57,8 +57,9 @@ pub fn serve_session<R: Threads + Wait + Sync, S: Serves + Drop + Send + Sync, G
     Ok(hall.close(Listed::from_vec(list)))
 }
 
-/// The same with the callers one after another in this thread, for a script that threads can't
-/// share.
+/// Serves all tickets of a script in this thread, for a script that threads can't share, by so many
+/// callers of one hall, one after another: the first serves them all, and the others find none
+/// left. Want of memory comes only before the hall is open.
 pub fn serve_in_turn<R: Threads + Wait + Sync, S: Serves + Drop, G: Gate>(
     rt: &R,
     alloc: Global,

@@ -1,4 +1,4 @@
-use Rattle.std.proofs.Common.{ℕ, ◌<◌, set, length, get_or, sym, subst, ◌∙◌, length-set, get_or-set_same, get_or-set_other, below_more, arith}
+use Rattle.std.proofs.Common.{◌<◌, set, length, get_or, sym, subst, ◌∙◌, length-set, get_or-set_same, get_or-set_other, below_more, arith}
 use Rattle.std.proofs.lemmas.List.{get_or_default}
 use Rattle.hall_serving.specs.Jobs.{HasServed, JobOf}
 use Rattle.hall_serving.proofs.jobs.serve_each.Goals as goal
