@@ -54,7 +54,7 @@ first_few bs first e h = let within : position_or_len is_dividing (lines bs) ≤
 
 -- the parts of a text are those of its bytes
 parts_with : (p q : Parts) → p.handlers ≡ q.handlers → p.requests ≡ q.requests → p.first ≡ q.first → p ≡ q
-parts_with p q a b c = cc
+parts_with p q a b c = λ i. record { handlers = a i; requests = b i; first = c i }
 
 pub parts_same : (text bytes head tail : List ℕ) (first : ℕ) → Divides text head tail first → text ≡ bytes → ◌≡◌ {A = Parts} (record { handlers = head; requests = tail; first = first }) (parts_of bytes)
 parts_same text bytes head tail first d e = parts_with (record { handlers = head; requests = tail; first = first }) (parts_of text) d.head_is d.tail_is d.first_is ∙ ap parts_of e

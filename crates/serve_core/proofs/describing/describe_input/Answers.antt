@@ -1,8 +1,13 @@
-use Rattle.std.proofs.Common.{refl}
+use Rattle.std.proofs.Common.{refl, subst}
 use Rattle.session_answers.specs.Runs.{change}
+use Rattle.session_answers.specs.Ways.{describing}
+use Rattle.session_reading.specs.declared.unserved.Unserved.{Unserved}
 use Rattle.session_reading.specs.declared.unserved.Unserved.TheVariants.{Refused}
+use Rattle.session_reading.specs.Reasons.{IsReason}
 use Rattle.serve_core.proofs.EndLemmas.{undescribed_to}
 use Rattle.serve_core.proofs.describing.describe_input.Goals as goal
 
 pub returns-in-Err-Refused : goal.returns-in-Err-Refused
-returns-in-Err-Refused g c = undescribed_to c.args.shown c.args.bytes.now (change g.O.Sink.held g.O.Sink.faults c.args.out.now c.args.out.now) (Refused c.in-Err-Refused.fault) refl c.in-Err-Refused.ensures.refused
+returns-in-Err-Refused g c =
+    undescribed_to c.args.shown c.args.bytes.now (change g.O.Sink.held g.O.Sink.faults c.args.out.now c.args.out.now) (Refused c.in-Err-Refused.fault) refl
+    (subst (λ (e : Unserved). IsReason (describing c.args.shown) c.args.bytes.now e) c.in-Err-Refused.field-0-is c.in-Err-Refused.ensures.refused)
