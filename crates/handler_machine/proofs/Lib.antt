@@ -1,4 +1,5 @@
 pub mod Counts
+pub mod Crossing
 pub mod Lawful
 pub mod Places
 pub mod Promised
