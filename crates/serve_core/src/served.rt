@@ -7,7 +7,7 @@ ghost use Rattle.handler_machine.specs.Scripts.{meaning};
 ghost use Rattle.request_files.specs.Servable.{IsServable};
 
 use declaration_insertion::Program;
-use hall_serving::serve_in_turn;
+use hall_serving::serve_session;
 use handler_machine::Scripts;
 use handler_trees::File;
 use request_files::Requests;
@@ -40,7 +40,7 @@ pub(crate) fn serve_program<R: Threads + Wait + Sync, G: Gate + Sync>(
     let shape = shape_of(alloc, program)?;
     let script = Scripts::over(program, requests);
     let plan = Scripts::over(program, requests);
-    serve_in_turn(
+    serve_session(
         rt,
         alloc,
         script,
