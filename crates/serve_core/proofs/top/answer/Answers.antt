@@ -1,8 +1,14 @@
-use Rattle.std.proofs.Common.{refl}
-use Rattle.session_answers.specs.Runs.{change}
+use Rattle.std.proofs.Common.{◌≡◌, Option, Some, refl, rules, subst, sym}
+use Rattle.command_words.specs.declared.command.Command.{Command}
+use Rattle.command_words.specs.declared.command.Command.TheVariants.{Work}
+use Rattle.session_answers.specs.Runs.{Runs, change}
 use Rattle.serve_core.proofs.TopLemmas.{work_run}
 use Rattle.serve_core.proofs.top.answer.Goals as goal
 
 pub returns-in-Some-Work : goal.returns-in-Some-Work
-returns-in-Some-Work g c = work_run (change g.I.Source.left g.I.Source.faults c.args.source.now c.args.source.now) (change g.O.Sink.held g.O.Sink.faults c.args.out.now c.work.new.out) c.in-Some-Work.requests c.in-Some-Work.start
-    c.work.result.status c.work.result.closed refl c.work.ensures
+returns-in-Some-Work g c =
+    let source = change g.I.Source.left g.I.Source.faults c.args.source.now c.args.source.now in
+    let out = change g.O.Sink.held g.O.Sink.faults c.args.out.now c.work.new.out in
+    let is : c.args.command ≡ Some (Work c.in-Some-Work.requests c.in-Some-Work.start) = search rules in
+    subst (λ (o : Option Command). Runs o source out c.work.result.status c.work.result.closed) (sym is)
+    (work_run source out c.in-Some-Work.requests c.in-Some-Work.start c.work.result.status c.work.result.closed refl c.work.ensures)
