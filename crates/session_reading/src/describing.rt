@@ -53,12 +53,7 @@ fn text_of_handlers(alloc: Global, shown: bool, text: &str) -> Result<String, Un
 }
 
 // The text of a program.
-fn printed(
-    alloc: Global,
-    shown: bool,
-    program: &Program,
-    names: &Names,
-) -> Result<String, NoMemory>
+fn printed(alloc: Global, shown: bool, program: &Program, names: &Names) -> Result<String, NoMemory>
     requires { AreNamed names.now (file_mentions program.now.file) }
     ensures { IfOk result
         (λ text. string_bytes text ≡ described shown names.now program.now) }
