@@ -1,5 +1,6 @@
 -- What the calls of two callers ask that get one key, and what they leave.
 use Rattle.std.proofs.Common.{◌≡◌, ℕ, zero, suc, ◌<◌, List, [], ◌∷◌, ◌++◌, inl, refl, sym, ◌∙◌, ap, subst, arith}
+use Rattle.session_values.specs.declared.op.Op.{Op}
 use Rattle.session_values.specs.declared.value.Value.{Value}
 use Rattle.session_values.specs.Dialogue.{Calls, Answers, Dialogue, Entry, replies, rest}
 use Rattle.symbolic_ops.specs.declared.symbol.Symbol.{Symbol}
@@ -13,7 +14,7 @@ use Rattle.session_hall.specs.declared.hall.Hall.{Hall}
 use Rattle.session_hall.specs.declared.stage.Stage.{Stage}
 use Rattle.session_hall.specs.declared.stage.Stage.TheVariants.{Applied, InFlight, Serving}
 use Rattle.session_hall.specs.Callers.{IsCallerOf, book_in, book_of, entries_of}
-use Rattle.session_hall.specs.Calls.{AdmittedAt, AppliedAt, FinishedAt, IsBusy, MayAnswer, MayCall, MayFinishAt}
+use Rattle.session_hall.specs.Calls.{AdmittedAt, AppliedAt, FinishedAt, IsBusyAt, MayAnswer, MayCall, MayFinishAt}
 use Rattle.session_hall.specs.Names.{script_of}
 use Rattle.serving_tests.specs.BookRows.{get_of, nil_reply}
 use Rattle.serving_tests.specs.HallRows.{IsReading, IsServing, entry_of, get_entry, meaning_of, one_op, two_gets}
@@ -61,8 +62,8 @@ module _ (h : Hall ListView) (p q : Caller ListView) (t : ℕ) (k : IsCallerOf m
   pub reads_applied : (turns : ℕ) (v : Value) → IsReading h p t (InFlight t (get_of 1)) f es → AppliedAt m p q turns v t (get_of 1) → IsReading h q t (Applied t (get_of 1) v) f es
   reads_applied turns v s a = record { caller = k; ticket = s.ticket; stage = a.stage_is; foresight = ap (λ x. x.symbols) a.foresight_still ∙ s.foresight; entries = ap (λ n. entries (book_in n).journal t) a.note_still ∙ s.entries }
 
-  pub reads_busy : (u : ℕ) (st : Stage) → IsReading h p t st f es → IsBusy m p q u → IsReading h q t st f es
-  reads_busy u st s a = record { caller = k; ticket = s.ticket; stage = a.stage_still ∙ s.stage; foresight = ap (λ x. x.symbols) a.foresight_still ∙ s.foresight; entries = ap (λ n. entries (book_in n).journal t) a.note_still ∙ s.entries }
+  pub reads_busy : (shards u : ℕ) (op : Op) (st : Stage) → IsReading h p t st f es → IsBusyAt m p q shards u t op → IsReading h q t st f es
+  reads_busy shards u op st s a = record { caller = k; ticket = s.ticket; stage = a.busy.stage_still ∙ s.stage; foresight = ap (λ x. x.symbols) a.busy.foresight_still ∙ s.foresight; entries = ap (λ n. entries (book_in n).journal t) a.busy.note_still ∙ s.entries }
 
   pub reads_entered : (v : Value) (next : List Symbol) → next ≡ [] → IsReading h p t (Applied t (get_of 1) v) f es → FinishedAt m p q next t (get_of 1) v → IsReading h q t (Serving t) [] (es ++ get_entry v ∷ [])
   reads_entered v next e s a = record { caller = k; ticket = s.ticket; stage = a.stage_is; foresight = a.foresight_is ∙ e; entries = a.entries_more ∙ ap (λ l. l ++ get_entry v ∷ []) s.entries }

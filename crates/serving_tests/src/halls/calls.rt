@@ -6,7 +6,7 @@ ghost use Rattle.turn_board.specs.Boards.{turn_count};
 ghost use Rattle.session_values.specs.declared.value.Value.{Value as ValueOf};
 ghost use Rattle.session_hall.specs.declared.stage.Stage.TheVariants.{Applied, Idle, InFlight, Out, Serving};
 ghost use Rattle.session_hall.specs.Callers.{IsCallerOf, book_of};
-ghost use Rattle.session_hall.specs.Calls.{AdmittedAt, AppliedAt, DeclaredAt, DelayedAt, FinishedAt, IsBusy, MayAnswer, MayCall, MayDeclare, MayFinishAt};
+ghost use Rattle.session_hall.specs.Calls.{AdmittedAt, AppliedAt, DeclaredAt, DelayedAt, FinishedAt, IsBusyAt, MayAnswer, MayCall, MayDeclare, MayFinishAt};
 ghost use Rattle.session_hall.specs.Names.{script_of};
 ghost use Rattle.session_hall.specs.Stages.{IsBetween};
 ghost use Rattle.serving_tests.specs.HallRows.{Did, IsServing, entry_of, meaning_of};
@@ -149,8 +149,8 @@ pub(crate) fn busy(
     requires stage { caller.old.stage ≡ InFlight t op }
     ensures caller { IsCallerOf meaning_of hall.now caller.new }
     ensures same { caller.new.number ≡ caller.old.number }
-    ensures busy { IfOk result (λ u. IsBusy (meaning_of (script_of hall.now)) caller.old
-        caller.new u) }
+    ensures busy { IfOk result (λ u. IsBusyAt (meaning_of (script_of hall.now)) caller.old
+        caller.new hall.now.sizes.shards u t op) }
 {
     let Applying::Busy { turn } = caller.try_apply(hall) else {
         return Err("no shard was taken")?;
