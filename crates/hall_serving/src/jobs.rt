@@ -65,26 +65,6 @@ pub(crate) fn serve_all<R: Threads + Wait + Sync, S: Serves + Drop + Send + Sync
     );
 }
 
-// Serves all tickets, one job after another.
-pub(crate) fn serve_each<R: Threads + Wait + Sync, S: Serves + Drop, G: Gate>(
-    rt: &R,
-    plan: &S,
-    hall: &Hall<S>,
-    gate: &G,
-    jobs: &mut Vec<Job<S>>,
-)
-    requires jobs { AllByRecursion (IsJobOf S.meaning hall.now) jobs.old.items }
-    requires plan { script_of hall.now ≡ plan.now }
-    ensures len { length jobs.new.items ≡ length jobs.old.items }
-    ensures jobs { (i : ℕ) (d : JobOf S) → i < length jobs.old.items →
-        HasServed S.meaning hall.now (slice_index_or jobs.old.items i d)
-        (slice_index_or jobs.new.items i d) }
-{
-    for k in 0..jobs.len() {
-        serve_tickets(rt, plan, hall, gate, &mut jobs[k]);
-    }
-}
-
 // Takes each caller back.
 pub(crate) fn end_jobs<S: Script + Drop>(mut jobs: Vec<Job<S>>, callers: &mut Vec<Caller<S>>)
     requires empty { callers.old.items ≡ [] }

@@ -7,4 +7,4 @@ mod jobs;
 mod session;
 
 pub use desk::HallDesk;
-pub use session::{serve_in_turn, serve_session};
+pub use session::serve_session;

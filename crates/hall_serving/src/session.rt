@@ -4,7 +4,7 @@ ghost use Rattle.std.specs.Prelude.{◌≡◌, ◌<◌, ◌≤◌, IfOk, length,
 ghost use Rattle.session_hall.specs.Closings.{IsDone};
 ghost use Rattle.hall_serving.specs.Jobs.{AllReady};
 
-use crate::jobs::{begin_jobs, end_jobs, serve_all, serve_each};
+use crate::jobs::{begin_jobs, end_jobs, serve_all};
 use session_hall::{Closed, Hall};
 use session_values::{Listed, NoMemory, TableKind};
 use std::alloc::Global;
@@ -53,38 +53,6 @@ pub fn serve_session<R: Threads + Wait + Sync, S: Serves + Drop + Send + Sync, G
     let mut list = list.into_vec();
     begin_jobs(&mut list, &mut scratches, &mut jobs);
     serve_all(rt, plan, &hall, gate, &mut jobs);
-    end_jobs(jobs, &mut list);
-    Ok(hall.close(Listed::from_vec(list)))
-}
-
-/// Serves all tickets of a script in this thread, for a script that threads can't share, by so many
-/// callers of one hall, one after another: the first serves them all, and the others find none
-/// left. Want of memory comes only before the hall is open.
-pub fn serve_in_turn<R: Threads + Wait + Sync, S: Serves + Drop, G: Gate>(
-    rt: &R,
-    alloc: Global,
-    script: S,
-    plan: &S,
-    shape: &[TableKind],
-    shards: u32,
-    callers: u32,
-    gate: &G,
-) -> Result<Closed, NoMemory>
-    requires plan { plan.now ≡ script }
-    requires shape { shape.now ≡ (S.meaning script).shape }
-    requires tables { length shape.now ≤ 7 }
-    requires shards { (1 ≤ shards) × (shards ≤ 8) }
-    requires callers { (1 ≤ callers) × (callers ≤ 32) }
-    ensures done { IfOk result (IsDone (S.meaning script)) }
-    ensures callers { IfOk result (λ d. d.callers ≡ callers) }
-    ensures shards { IfOk result (λ d. d.shards ≡ shards) }
-{
-    let mut scratches = make_scratches(alloc, callers)?;
-    let mut jobs = Vec::with_capacity(alloc, callers as usize)?;
-    let (hall, list) = Hall::open(alloc, script, shape, shards, callers)?;
-    let mut list = list.into_vec();
-    begin_jobs(&mut list, &mut scratches, &mut jobs);
-    serve_each(rt, plan, &hall, gate, &mut jobs);
     end_jobs(jobs, &mut list);
     Ok(hall.close(Listed::from_vec(list)))
 }
