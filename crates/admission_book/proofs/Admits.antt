@@ -15,7 +15,7 @@ use Rattle.admission_book.specs.Lawful.{Lawful}
 use Rattle.admission_book.specs.declared.caller_record.CallerRecord.{CallerRecord}
 use Rattle.admission_book.specs.declared.admission.Admission.TheVariants.{Admitted, Delayed}
 use Rattle.admission_book.specs.CallerRecord.{serving_of, servings, record_at, with_flight, with_delay}
-use Rattle.admission_book.specs.Books.{MayAdmit, Admits, IsOldestOpen}
+use Rattle.admission_book.specs.Methods.{MayAdmit, Admits, IsOldestOpen}
 use Rattle.admission_book.specs.Found.{book_with, Found}
 use Rattle.admission_book.specs.declared.blocker.Blocker.{Blocker}
 use Rattle.admission_book.specs.Kept.{book_of, KeepsRecord}

@@ -13,7 +13,7 @@ use Rattle.admission_book.specs.EventsInTurn.{is_delayed}
 use Rattle.admission_book.specs.Lawful.{Lawful}
 use Rattle.admission_book.specs.declared.caller_record.CallerRecord.{CallerRecord}
 use Rattle.admission_book.specs.CallerRecord.{serving_of, servings, record_at, with_ticket}
-use Rattle.admission_book.specs.Books.{MayBeginNext, Begins}
+use Rattle.admission_book.specs.Methods.{MayBeginNext, Begins}
 use Rattle.admission_book.specs.Kept.{book_of, KeepsRecord}
 use Rattle.admission_book.proofs.Events.{begun_more}
 use Rattle.admission_book.proofs.Keep.{keeps_begin}

@@ -7,7 +7,7 @@ use Rattle.commute_tables.specs.Symbols.{CommutesWith}
 use Rattle.session_journal.specs.Script.{Meaning}
 use Rattle.admission_book.specs.Book.{Book, Serving, IsFree, IsBlocker}
 use Rattle.admission_book.specs.Lawful.{Lawful}
-use Rattle.admission_book.specs.Books.{IsOldestOpen}
+use Rattle.admission_book.specs.Methods.{IsOldestOpen}
 use Rattle.admission_book.proofs.Shown.{one}
 
 -- a list with a symbol against the operation isn't one without

@@ -8,7 +8,7 @@ use Rattle.session_values.specs.declared.reply.Reply.{Reply}
 use Rattle.session_values.specs.Tables.{reply}
 use Rattle.session_values.specs.Dialogue.{rest, replies}
 use Rattle.symbolic_ops.specs.declared.symbol.Symbol.{Symbol}
-use Rattle.symbolic_ops.specs.Symbols.{Covered}
+use Rattle.symbolic_ops.specs.Matching.{Covered}
 use Rattle.session_journal.specs.declared.event.Event.{Event}
 use Rattle.session_journal.specs.declared.event.Event.TheVariants.{Done}
 use Rattle.session_journal.specs.Journal.{begun, entries, after}
@@ -18,7 +18,7 @@ use Rattle.admission_book.specs.EventsInTurn.{is_delayed}
 use Rattle.admission_book.specs.Lawful.{Lawful}
 use Rattle.admission_book.specs.declared.caller_record.CallerRecord.{CallerRecord}
 use Rattle.admission_book.specs.CallerRecord.{serving_of, servings, record_at, after_flight}
-use Rattle.admission_book.specs.Books.{MayDo, DidIt}
+use Rattle.admission_book.specs.Methods.{MayDo, DidIt}
 use Rattle.admission_book.specs.Kept.{book_of, KeepsRecord}
 use Rattle.admission_book.proofs.Events.{begun_stays}
 use Rattle.admission_book.proofs.Keep.{keeps_done}

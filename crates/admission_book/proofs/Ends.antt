@@ -10,7 +10,7 @@ use Rattle.admission_book.specs.Book.{Serving, record_of, after_end}
 use Rattle.admission_book.specs.Lawful.{Lawful}
 use Rattle.admission_book.specs.declared.caller_record.CallerRecord.{CallerRecord}
 use Rattle.admission_book.specs.CallerRecord.{serving_of, servings, record_at, after_ticket}
-use Rattle.admission_book.specs.Books.{MayEnd, HasEnded}
+use Rattle.admission_book.specs.Methods.{MayEnd, HasEnded}
 use Rattle.admission_book.specs.Kept.{book_of, KeepsRecord}
 use Rattle.admission_book.proofs.Events.{begun_stays}
 use Rattle.admission_book.proofs.Keep.{keeps_end}

@@ -10,19 +10,19 @@ use Rattle.session_journal.specs.declared.event.Event.{Event}
 use Rattle.session_journal.specs.declared.event.Event.TheVariants.{Begin, Done, Delay, End}
 use Rattle.session_values.specs.Commuting.{Commute}
 use Rattle.session_values.specs.Dialogue.{Entry}
-use Rattle.session_journal.specs.Journal.{Deed, entry_of, deeds, of_ticket, in_order, InversionsCommute, entries, begun, first, end_of, caller_of, ended, owner}
+use Rattle.session_journal.specs.Journal.{DoneOperation, entry_of, done_operations, of_ticket, in_order, InversionsCommute, entries, begun, first, end_of, caller_of, ended, owner}
 use Rattle.session_values.specs.Dialogue.{Calls, Dialogue, rest, replies, Follows}
 use Rattle.session_journal.specs.Script.{Meaning}
 use Rattle.admission_book.specs.EventsInTurn.{MayCome, ComeInTurn}
 
-pub deeds-append : (J K : List Event) → deeds (J ++ K) ≡ deeds J ++ deeds K
-deeds-append [] K = refl
-deeds-append (Begin t c ∷ J) K = deeds-append J K
-deeds-append (Done t op r ∷ J) K = ap (λ (ds : List Deed). record { ticket = t; op = op; reply = r } ∷ ds) (deeds-append J K)
-deeds-append (Delay t op o s ∷ J) K = deeds-append J K
-deeds-append (End t r ∷ J) K = deeds-append J K
+pub done_operations-append : (J K : List Event) → done_operations (J ++ K) ≡ done_operations J ++ done_operations K
+done_operations-append [] K = refl
+done_operations-append (Begin t c ∷ J) K = done_operations-append J K
+done_operations-append (Done t op r ∷ J) K = ap (λ (ds : List DoneOperation). record { ticket = t; op = op; reply = r } ∷ ds) (done_operations-append J K)
+done_operations-append (Delay t op o s ∷ J) K = done_operations-append J K
+done_operations-append (End t r ∷ J) K = done_operations-append J K
 
-pub of_ticket-append : (t : ℕ) (ds es : List Deed) → of_ticket t (ds ++ es) ≡ of_ticket t ds ++ of_ticket t es
+pub of_ticket-append : (t : ℕ) (ds es : List DoneOperation) → of_ticket t (ds ++ es) ≡ of_ticket t ds ++ of_ticket t es
 of_ticket-append t [] es = refl
 of_ticket-append t (d ∷ ds) es =
     elim (eqb d.ticket t) as (λ b. cond b (entry_of d ∷ of_ticket t (ds ++ es)) (of_ticket t (ds ++ es)) ≡ cond b (entry_of d ∷ of_ticket t ds) (of_ticket t ds) ++ of_ticket t es) [
@@ -30,7 +30,7 @@ of_ticket-append t (d ∷ ds) es =
       | false ↦ of_ticket-append t ds es
     ]
 
-pub in_order-append : (ds es : List Deed) → in_order (ds ++ es) ≡ in_order ds ++ in_order es
+pub in_order-append : (ds es : List DoneOperation) → in_order (ds ++ es) ≡ in_order ds ++ in_order es
 in_order-append [] es = refl
 in_order-append (d ∷ ds) es = ap (λ (fs : List Entry). entry_of d ∷ fs) (in_order-append ds es)
 
@@ -68,17 +68,17 @@ pub Follows-push : (f : Dialogue) (es : List Entry) (e : Entry) → Follows f es
 Follows-push f [] e w c = (c, tt)
 Follows-push f (x ∷ es) e w c = (w.0, Follows-push (rest f (x.reply ∷ [])) es e w.1 c)
 
-pub All-push : (P : Deed → Type 0) (ds : List Deed) (d : Deed) → AllByRecursion P ds → P d → AllByRecursion P (ds ++ d ∷ [])
+pub All-push : (P : DoneOperation → Type 0) (ds : List DoneOperation) (d : DoneOperation) → AllByRecursion P ds → P d → AllByRecursion P (ds ++ d ∷ [])
 All-push P [] d a p = (p, tt)
 All-push P (x ∷ ds) d a p = (a.0, All-push P ds d a.1 p)
 
-pub All-weaker : (P Q : Deed → Type 0) → ((d : Deed) → P d → Q d) → (ds : List Deed) → AllByRecursion P ds → AllByRecursion Q ds
+pub All-weaker : (P Q : DoneOperation → Type 0) → ((d : DoneOperation) → P d → Q d) → (ds : List DoneOperation) → AllByRecursion P ds → AllByRecursion Q ds
 All-weaker P Q f [] a = tt
 All-weaker P Q f (d ∷ ds) a = (f d a.0, All-weaker P Q f ds a.1)
 
-pub InversionsCommute-push : (ds : List Deed) (d : Deed) → InversionsCommute ds → AllByRecursion (λ e. d.ticket < e.ticket → Commute e.op d.op) ds → InversionsCommute (ds ++ d ∷ [])
+pub InversionsCommute-push : (ds : List DoneOperation) (d : DoneOperation) → InversionsCommute ds → AllByRecursion (λ e. d.ticket < e.ticket → Commute e.op d.op) ds → InversionsCommute (ds ++ d ∷ [])
 InversionsCommute-push [] d c a = (tt, tt)
-InversionsCommute-push (x ∷ ds) d c a = (All-push (λ (e : Deed). e.ticket < x.ticket → Commute x.op e.op) ds d c.0 a.0, InversionsCommute-push ds d c.1 a.1)
+InversionsCommute-push (x ∷ ds) d c a = (All-push (λ (e : DoneOperation). e.ticket < x.ticket → Commute x.op e.op) ds d c.0 a.0, InversionsCommute-push ds d c.1 a.1)
 
 pub ComeInTurn-push : (m : Meaning) (callers : ℕ) (front J : List Event) (e : Event) → ComeInTurn m callers front J → MayCome m callers (front ++ J) e → ComeInTurn m callers front (J ++ e ∷ [])
 ComeInTurn-push m callers front [] e h k = let P : List Event → Type 0 = λ K. MayCome m callers K e in (subst P (append_nil front) k, tt)
@@ -101,18 +101,18 @@ through_turns m callers P keep front (e ∷ J) p h = subst P (append_assoc front
 
 -- only begun tickets have events
 pub record OnlyBegun (J : List Event) : Type 0 where
-  pub deeds : AllByRecursion (λ d. d.ticket < begun J) (deeds J)
+  pub done_operations : AllByRecursion (λ d. d.ticket < begun J) (done_operations J)
   pub ended : (t : ℕ) → begun J ≤ t → ended J t ≡ None
   pub owner : (t : ℕ) → begun J ≤ t → owner J t ≡ None
 
 -- ---- each kind of event at the end
-append_nil : (ds : List Deed) → ds ++ [] ≡ ds
+append_nil : (ds : List DoneOperation) → ds ++ [] ≡ ds
 append_nil [] = refl
-append_nil (d ∷ ds) = ap (λ (es : List Deed). d ∷ es) (append_nil ds)
+append_nil (d ∷ ds) = ap (λ (es : List DoneOperation). d ∷ es) (append_nil ds)
 
 -- an event that is no Done
-pub deeds_stay : (J : List Event) (e : Event) → deeds (e ∷ []) ≡ [] → deeds (J ++ e ∷ []) ≡ deeds J
-deeds_stay J e h = deeds-append J (e ∷ []) ∙ ap (λ (ds : List Deed). deeds J ++ ds) h ∙ append_nil (deeds J)
+pub done_operations_stay : (J : List Event) (e : Event) → done_operations (e ∷ []) ≡ [] → done_operations (J ++ e ∷ []) ≡ done_operations J
+done_operations_stay J e h = done_operations-append J (e ∷ []) ∙ ap (λ (ds : List DoneOperation). done_operations J ++ ds) h ∙ append_nil (done_operations J)
 
 pub begun_stays : (J : List Event) (e : Event) → begun (e ∷ []) ≡ 0 → begun (J ++ e ∷ []) ≡ begun J
 begun_stays J e h = omega (arith, begun-append J (e ∷ []), h)
@@ -140,7 +140,7 @@ ended_new J t r h = first_new (end_of t) J (End t r ∷ []) h ∙ ap (λ (v : Op
 
 pub entries_other : (J : List Event) (t : ℕ) (op : Op) (r : Value) (u : ℕ) → u ≢ t → entries (J ++ Done t op r ∷ []) u ≡ entries J u
 entries_other J t op r u h =
-    ap (of_ticket u) (deeds-append J (Done t op r ∷ [])) ∙ of_ticket-append u (deeds J) _
+    ap (of_ticket u) (done_operations-append J (Done t op r ∷ [])) ∙ of_ticket-append u (done_operations J) _
     ∙ (elim (eqb t u) as (λ b. eqb t u ≡ b → entries J u ++ cond b (record { op = op; reply = r } ∷ []) [] ≡ entries J u) [ true ↦ λ e. absurd (h (grind (arith, nat_tests))) | false ↦ λ e. append_nil_entries (entries J u) ] refl)
   where
     append_nil_entries : (es : List Entry) → es ++ [] ≡ es
@@ -149,48 +149,48 @@ entries_other J t op r u h =
 
 pub entries_more : (J : List Event) (t : ℕ) (op : Op) (r : Value) → entries (J ++ Done t op r ∷ []) t ≡ entries J t ++ record { op = op; reply = r } ∷ []
 entries_more J t op r =
-    ap (of_ticket t) (deeds-append J (Done t op r ∷ [])) ∙ of_ticket-append t (deeds J) _
+    ap (of_ticket t) (done_operations-append J (Done t op r ∷ [])) ∙ of_ticket-append t (done_operations J) _
     ∙ (elim (eqb t t) as (λ b. eqb t t ≡ b → entries J t ++ cond b (record { op = op; reply = r } ∷ []) [] ≡ entries J t ++ record { op = op; reply = r } ∷ []) [ true ↦ λ e. refl | false ↦ λ e. absurd (grind (arith, nat_tests)) ] refl)
 
 pub only_begun : (m : Meaning) (callers : ℕ) (J : List Event) → ComeInTurn m callers [] J → OnlyBegun J
-only_begun m callers J h = through_turns m callers OnlyBegun keep [] J (record { deeds = tt; ended = λ t _. refl; owner = λ t _. refl }) h
+only_begun m callers J h = through_turns m callers OnlyBegun keep [] J (record { done_operations = tt; ended = λ t _. refl; owner = λ t _. refl }) h
   where
     keep_begin : (J : List Event) (t c : ℕ) → OnlyBegun J → t ≡ begun J → OnlyBegun (J ++ Begin t c ∷ [])
     keep_begin J t c p k =
-        let P : List Deed → Type 0 = λ ds. AllByRecursion (λ d. d.ticket < begun (J ++ Begin t c ∷ [])) ds in
+        let P : List DoneOperation → Type 0 = λ ds. AllByRecursion (λ d. d.ticket < begun (J ++ Begin t c ∷ [])) ds in
         let more : begun (J ++ Begin t c ∷ []) ≡ suc (begun J) = begun_more J t c in
         record {
-          deeds = subst P (sym (deeds_stay J (Begin t c) refl)) (All-weaker _ _ (λ d l. omega arith) (deeds J) p.deeds);
+          done_operations = subst P (sym (done_operations_stay J (Begin t c) refl)) (All-weaker _ _ (λ d l. omega arith) (done_operations J) p.done_operations);
           ended = λ u l. first_same (end_of u) J (Begin t c) refl ∙ p.ended u (omega arith);
           owner = λ u l. owner_other J t c u (omega arith) ∙ p.owner u (omega arith);
         }
 
     keep_done : (J : List Event) (t : ℕ) (op : Op) (r : Value) → OnlyBegun J → t < begun J → OnlyBegun (J ++ Done t op r ∷ [])
     keep_done J t op r p k =
-        let P : List Deed → Type 0 = λ ds. AllByRecursion (λ d. d.ticket < begun (J ++ Done t op r ∷ [])) ds in
+        let P : List DoneOperation → Type 0 = λ ds. AllByRecursion (λ d. d.ticket < begun (J ++ Done t op r ∷ [])) ds in
         let same : begun (J ++ Done t op r ∷ []) ≡ begun J = begun_stays J (Done t op r) refl in
         record {
-          deeds = subst P (sym (deeds-append J (Done t op r ∷ []))) (All-push _ (deeds J) _ (All-weaker _ _ (λ d l. omega arith) (deeds J) p.deeds) (omega arith));
+          done_operations = subst P (sym (done_operations-append J (Done t op r ∷ []))) (All-push _ (done_operations J) _ (All-weaker _ _ (λ d l. omega arith) (done_operations J) p.done_operations) (omega arith));
           ended = λ u l. first_same (end_of u) J (Done t op r) refl ∙ p.ended u (omega arith);
           owner = λ u l. first_same (caller_of u) J (Done t op r) refl ∙ p.owner u (omega arith);
         }
 
     keep_delay : (J : List Event) (t : ℕ) (op : Op) (o : ℕ) (s : Symbol) → OnlyBegun J → OnlyBegun (J ++ Delay t op o s ∷ [])
     keep_delay J t op o s p =
-        let P : List Deed → Type 0 = λ ds. AllByRecursion (λ d. d.ticket < begun (J ++ Delay t op o s ∷ [])) ds in
+        let P : List DoneOperation → Type 0 = λ ds. AllByRecursion (λ d. d.ticket < begun (J ++ Delay t op o s ∷ [])) ds in
         let same : begun (J ++ Delay t op o s ∷ []) ≡ begun J = begun_stays J (Delay t op o s) refl in
         record {
-          deeds = subst P (sym (deeds_stay J (Delay t op o s) refl)) (All-weaker _ _ (λ d l. omega arith) (deeds J) p.deeds);
+          done_operations = subst P (sym (done_operations_stay J (Delay t op o s) refl)) (All-weaker _ _ (λ d l. omega arith) (done_operations J) p.done_operations);
           ended = λ u l. first_same (end_of u) J (Delay t op o s) refl ∙ p.ended u (omega arith);
           owner = λ u l. first_same (caller_of u) J (Delay t op o s) refl ∙ p.owner u (omega arith);
         }
 
     keep_end : (J : List Event) (t : ℕ) (r : Reply) → OnlyBegun J → t < begun J → OnlyBegun (J ++ End t r ∷ [])
     keep_end J t r p k =
-        let P : List Deed → Type 0 = λ ds. AllByRecursion (λ d. d.ticket < begun (J ++ End t r ∷ [])) ds in
+        let P : List DoneOperation → Type 0 = λ ds. AllByRecursion (λ d. d.ticket < begun (J ++ End t r ∷ [])) ds in
         let same : begun (J ++ End t r ∷ []) ≡ begun J = begun_stays J (End t r) refl in
         record {
-          deeds = subst P (sym (deeds_stay J (End t r) refl)) (All-weaker _ _ (λ d l. omega arith) (deeds J) p.deeds);
+          done_operations = subst P (sym (done_operations_stay J (End t r) refl)) (All-weaker _ _ (λ d l. omega arith) (done_operations J) p.done_operations);
           ended = λ u l. ended_other J t r u (omega arith) ∙ p.ended u (omega arith);
           owner = λ u l. first_same (caller_of u) J (End t r) refl ∙ p.owner u (omega arith);
         }

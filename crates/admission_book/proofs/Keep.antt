@@ -12,17 +12,17 @@ use Rattle.symbolic_ops.specs.declared.symbol.Symbol.{Symbol}
 use Rattle.session_journal.specs.declared.event.Event.{Event}
 use Rattle.session_journal.specs.declared.event.Event.TheVariants.{Begin, Done, Delay, End}
 use Rattle.session_values.specs.Tables.{reply}
-use Rattle.symbolic_ops.specs.Symbols.{Matches, Covered}
+use Rattle.symbolic_ops.specs.Matching.{Matches, Covered}
 use Rattle.commute_tables.specs.Symbols.{CommutesWith, CommutesWithAll}
 use Rattle.session_values.specs.Dialogue.{Entry}
-use Rattle.session_journal.specs.Journal.{Deed, entry_of, deeds, Replays, of_ticket, in_order, InversionsCommute, entries, begun, end_of, caller_of, ended, owner, after}
+use Rattle.session_journal.specs.Journal.{DoneOperation, entry_of, done_operations, Replays, of_ticket, in_order, InversionsCommute, entries, begun, end_of, caller_of, ended, owner, after}
 use Rattle.session_values.specs.Dialogue.{Calls, Answers, rest, replies, Follows}
 use Rattle.session_journal.specs.Script.{IsForesight, Meaning}
 use Rattle.admission_book.specs.Book.{Serving, Book, record_of, kept_for, Holds, IsFree, with_event, after_begin, after_narrow, after_admit, after_delay, after_done, after_end}
 use Rattle.admission_book.specs.EventsInTurn.{IsOpen, now, is_delayed, ComeInTurn}
 use Rattle.admission_book.specs.Lawful.{Lawful}
 use Rattle.session_journal.proofs.Replay.{Replays-append}
-use Rattle.admission_book.proofs.Events.{deeds-append, in_order-append, deeds_stay, begun_stays, begun_more, first_same, owner_other, owner_new, ended_other, ended_new, entries_other, entries_more, Follows-push, All-push, All-weaker, InversionsCommute-push, ComeInTurn-push, OnlyBegun, only_begun}
+use Rattle.admission_book.proofs.Events.{done_operations-append, in_order-append, done_operations_stay, begun_stays, begun_more, first_same, owner_other, owner_new, ended_other, ended_new, entries_other, entries_more, Follows-push, All-push, All-weaker, InversionsCommute-push, ComeInTurn-push, OnlyBegun, only_begun}
 use Rattle.admission_book.proofs.Records.{within, at_set, set_other, CommutesWithAll-narrow, CommutesWithAll-each}
 
 -- what younger tickets have in flight, after one record is replaced
@@ -37,16 +37,16 @@ in_flight_set b J k c x t f old new d z op at l fl =
     ]
 
 -- what holds of a record goes on to hold where its ticket's part of the journal stays
-holds_on : (m : Meaning) (b b2 : Book) (c : ℕ) (s : Serving) → Holds m b c s → deeds b2.journal ≡ deeds b.journal → begun b.journal ≤ begun b2.journal → ended b2.journal s.ticket ≡ ended b.journal s.ticket → owner b2.journal s.ticket ≡ owner b.journal s.ticket
+holds_on : (m : Meaning) (b b2 : Book) (c : ℕ) (s : Serving) → Holds m b c s → done_operations b2.journal ≡ done_operations b.journal → begun b.journal ≤ begun b2.journal → ended b2.journal s.ticket ≡ ended b.journal s.ticket → owner b2.journal s.ticket ≡ owner b.journal s.ticket
     → ((d : ℕ) (z : Serving) (op : Op) → record_of b2 d ≡ Some z → s.ticket < z.ticket → z.flight ≡ Some op → CommutesWithAll op s.foresight) → Holds m b2 c s
 holds_on m b b2 c s h same more e o fl =
-    let P : List Deed → Type 0 = λ ds. IsForesight (rest (m.next s.ticket) (replies (of_ticket s.ticket ds))) s.foresight in
-    let Q : List Deed → Type 0 = λ ds. AllByRecursion (λ d. s.ticket < d.ticket → CommutesWithAll d.op s.foresight) ds in
+    let P : List DoneOperation → Type 0 = λ ds. IsForesight (rest (m.next s.ticket) (replies (of_ticket s.ticket ds))) s.foresight in
+    let Q : List DoneOperation → Type 0 = λ ds. AllByRecursion (λ d. s.ticket < d.ticket → CommutesWithAll d.op s.foresight) ds in
     record {
       is_open = record { begun = omega (arith, h.is_open.begun); not_ended = e ∙ h.is_open.not_ended };
       owner = o ∙ h.owner;
       foresight = subst P (sym same) h.foresight;
-      flight = λ op k. ap (λ (ds : List Deed). m.next s.ticket (replies (of_ticket s.ticket ds))) same ∙ h.flight op k;
+      flight = λ op k. ap (λ (ds : List DoneOperation). m.next s.ticket (replies (of_ticket s.ticket ds))) same ∙ h.flight op k;
       done = subst Q (sym same) h.done;
       in_flight = fl;
     }
@@ -102,7 +102,7 @@ keeps_narrow m b c s f L at idle cov fore =
               owner = here.owner;
               foresight = fore;
               flight = here.flight;
-              done = All-weaker _ _ (λ d g l. CommutesWithAll-narrow d.op f s.foresight cov (g l)) (deeds b.journal) here.done;
+              done = All-weaker _ _ (λ d g l. CommutesWithAll-narrow d.op f s.foresight cov (g l)) (done_operations b.journal) here.done;
               in_flight = in_flight_set b b.journal b.kept c (Some x) s.ticket f (λ d z op p l fl. CommutesWithAll-narrow op f s.foresight cov (here.in_flight d z op p l fl)) (new_flight s.ticket f);
             }))
         | inr h ↦ holds_on m b b2 d z (L.records d z h.1) refl (omega arith) refl refl (in_flight_set b b.journal b.kept c (Some x) z.ticket z.foresight (L.records d z h.1).in_flight (new_flight z.ticket z.foresight))
@@ -159,13 +159,13 @@ keeps_delay m b t op older y L opened calls less against =
         let J : List Event = b.journal in
         let v : Event = Delay t op older y in
         let b2 : Book = with_event b v in
-        let same : deeds (J ++ v ∷ []) ≡ deeds J = deeds_stay J v refl in
+        let same : done_operations (J ++ v ∷ []) ≡ done_operations J = done_operations_stay J v refl in
         let count : begun (J ++ v ∷ []) ≡ begun J = begun_stays J v refl in
-        let P : List Deed → Type 0 = λ ds. Replays (m.opening) (in_order ds) in
+        let P : List DoneOperation → Type 0 = λ ds. Replays (m.opening) (in_order ds) in
         record {
           replays = subst P (sym same) L.replays;
-          follows = λ u. let F : List Deed → Type 0 = λ ds. Follows (m.next u) (of_ticket u ds) in subst F (sym same) (L.follows u);
-          answered = λ u r h. ap (λ (ds : List Deed). m.next u (replies (of_ticket u ds))) same ∙ L.answered u r (sym (first_same (end_of u) J v refl) ∙ h);
+          follows = λ u. let F : List DoneOperation → Type 0 = λ ds. Follows (m.next u) (of_ticket u ds) in subst F (sym same) (L.follows u);
+          answered = λ u r h. ap (λ (ds : List DoneOperation). m.next u (replies (of_ticket u ds))) same ∙ L.answered u r (sym (first_same (end_of u) J v refl) ∙ h);
           kept = λ u. L.kept u ∙ sym (first_same (end_of u) J v refl);
           inversions = subst InversionsCommute (sym same) L.inversions;
           records = λ d z h. holds_on m b b2 d z (L.records d z h) same (omega arith) (first_same (end_of z.ticket) J v refl) (first_same (caller_of z.ticket) J v refl) (L.records d z h).in_flight;
@@ -182,14 +182,14 @@ keeps_begin m b c f L left caller empty fore =
     let x : Serving = record { ticket = n; foresight = f; flight = None } in
     let b2 : Book = after_begin b c f in
     let known : OnlyBegun J = only_begun m (length b.records) J L.turns in
-    let same : deeds (J ++ v ∷ []) ≡ deeds J = deeds_stay J v refl in
+    let same : done_operations (J ++ v ∷ []) ≡ done_operations J = done_operations_stay J v refl in
     let count : begun (J ++ v ∷ []) ≡ suc n = begun_more J n c in
-    let P : List Deed → Type 0 = λ ds. Replays (m.opening) (in_order ds) in
+    let P : List DoneOperation → Type 0 = λ ds. Replays (m.opening) (in_order ds) in
     let no_flight : (t : ℕ) (g : List Symbol) (z : Serving) (op : Op) → ◌≡◌ {A = Option Serving} (Some x) (Some z) → t < z.ticket → z.flight ≡ Some op → CommutesWithAll op g = λ t g z op e l fl. absurd (none_some op (ap (λ (y : Serving). y.flight) (inside x z e) ∙ fl)) in
     record {
       replays = subst P (sym same) L.replays;
-      follows = λ u. let F : List Deed → Type 0 = λ ds. Follows (m.next u) (of_ticket u ds) in subst F (sym same) (L.follows u);
-      answered = λ u r h. ap (λ (ds : List Deed). m.next u (replies (of_ticket u ds))) same ∙ L.answered u r (sym (first_same (end_of u) J v refl) ∙ h);
+      follows = λ u. let F : List DoneOperation → Type 0 = λ ds. Follows (m.next u) (of_ticket u ds) in subst F (sym same) (L.follows u);
+      answered = λ u r h. ap (λ (ds : List DoneOperation). m.next u (replies (of_ticket u ds))) same ∙ L.answered u r (sym (first_same (end_of u) J v refl) ∙ h);
       kept = λ u. L.kept u ∙ sym (first_same (end_of u) J v refl);
       inversions = subst InversionsCommute (sym same) L.inversions;
       records = λ d z e. elim (at_set b.records c d (Some x) z e) [
@@ -197,9 +197,9 @@ keeps_begin m b c f L left caller empty fore =
             subst A (sym h.0) (subst B (inside x z h.1) (record {
               is_open = record { begun = omega arith; not_ended = first_same (end_of n) J v refl ∙ known.ended n (omega arith) };
               owner = owner_new J n c (known.owner n (omega arith));
-              foresight = let F : List Entry → Type 0 = λ es. IsForesight (rest (m.next n) (replies es)) f in subst F (sym (ap (of_ticket n) same ∙ none_of n (deeds J) known.deeds)) fore;
+              foresight = let F : List Entry → Type 0 = λ es. IsForesight (rest (m.next n) (replies es)) f in subst F (sym (ap (of_ticket n) same ∙ none_of n (done_operations J) known.done_operations)) fore;
               flight = λ op k. absurd (none_some op k);
-              done = let D : List Deed → Type 0 = λ ds. AllByRecursion (λ d. n < d.ticket → CommutesWithAll d.op f) ds in subst D (sym same) (All-weaker _ _ (λ d l k. absurd (omega arith)) (deeds J) known.deeds);
+              done = let D : List DoneOperation → Type 0 = λ ds. AllByRecursion (λ d. n < d.ticket → CommutesWithAll d.op f) ds in subst D (sym same) (All-weaker _ _ (λ d l k. absurd (omega arith)) (done_operations J) known.done_operations);
               in_flight = in_flight_set b (J ++ v ∷ []) b.kept c (Some x) n f (λ d z op p l fl. absurd (omega (arith, (L.records d z p).is_open.begun))) (no_flight n f);
             }))
         | inr h ↦ holds_on m b b2 d z (L.records d z h.1) same (omega arith) (first_same (end_of z.ticket) J v refl) (owner_other J n c z.ticket (apart z.ticket n (L.records d z h.1).is_open.begun)) (in_flight_set b (J ++ v ∷ []) b.kept c (Some x) z.ticket z.foresight (L.records d z h.1).in_flight (no_flight z.ticket z.foresight))
@@ -217,7 +217,7 @@ keeps_begin m b c f L left caller empty fore =
     latest : (t n : ℕ) → t < suc n → (t ≡ n) ⊎ (t < n)
     latest t n l = grind arith
 
-    none_of : (n : ℕ) (ds : List Deed) → AllByRecursion (λ d. d.ticket < n) ds → of_ticket n ds ≡ []
+    none_of : (n : ℕ) (ds : List DoneOperation) → AllByRecursion (λ d. d.ticket < n) ds → of_ticket n ds ≡ []
     none_of n [] a = refl
     none_of n (d ∷ ds) a = ap (λ (w : Bool). cond w (entry_of d ∷ of_ticket n ds) (of_ticket n ds)) (other d.ticket n a.0) ∙ none_of n ds a.1
       where
@@ -247,18 +247,18 @@ keeps_done m b c s op r f L at flying is cov fore =
     let t : ℕ = s.ticket in
     let v : Event = Done t op r in
     let x : Serving = record { ticket = t; foresight = f; flight = None } in
-    let new : Deed = record { ticket = t; op = op; reply = r } in
+    let new : DoneOperation = record { ticket = t; op = op; reply = r } in
     let b2 : Book = after_done b c s op r f in
     let here : Holds m b c s = L.records c s at in
     let calls : now m J t ≡ Calls op = here.flight op flying in
-    let ds : deeds (J ++ v ∷ []) ≡ deeds J ++ new ∷ [] = deeds-append J (v ∷ []) in
+    let ds : done_operations (J ++ v ∷ []) ≡ done_operations J ++ new ∷ [] = done_operations-append J (v ∷ []) in
     let count : begun (J ++ v ∷ []) ≡ begun J = begun_stays J v refl in
     let matches : Matches s.foresight op = here.foresight.covers.each [] op tt (to_rest t (entries J t) op calls) in
     let no_flight : (u : ℕ) (g : List Symbol) (z : Serving) (o : Op) → ◌≡◌ {A = Option Serving} (Some x) (Some z) → u < z.ticket → z.flight ≡ Some o → CommutesWithAll o g = λ u g z o e l fl. absurd (none_some o (ap (λ (y : Serving). y.flight) (inside x z e) ∙ fl)) in
     record {
-      replays = let P : List Deed → Type 0 = λ es. Replays (m.opening) (in_order es) in
+      replays = let P : List DoneOperation → Type 0 = λ es. Replays (m.opening) (in_order es) in
           let Q : List Entry → Type 0 = λ es. Replays (m.opening) es in
-          subst P (sym ds) (subst Q (sym (in_order-append (deeds J) (new ∷ []))) (Replays-append (m.opening) (in_order (deeds J)) (record { op = op; reply = r } ∷ []) L.replays (sym is, tt)));
+          subst P (sym ds) (subst Q (sym (in_order-append (done_operations J) (new ∷ []))) (Replays-append (m.opening) (in_order (done_operations J)) (record { op = op; reply = r } ∷ []) L.replays (sym is, tt)));
       follows = λ u. elim (same_or u t) [
         | inl e ↦ let P : ℕ → Type 0 = λ j. Follows (m.next j) (entries (J ++ v ∷ []) j) in let Q : List Entry → Type 0 = λ es. Follows (m.next t) es in
             subst P (sym e) (subst Q (sym (entries_more J t op r)) (Follows-push (m.next t) (entries J t) (record { op = op; reply = r }) (L.follows t) calls))
@@ -268,7 +268,7 @@ keeps_done m b c s op r f L at flying is cov fore =
           let n : u ≢ t = λ e. none_some a (sym here.is_open.not_ended ∙ ap (ended J) (sym e) ∙ k) in
           ap (λ (es : List Entry). m.next u (replies es)) (entries_other J t op r u n) ∙ L.answered u a k;
       kept = λ u. L.kept u ∙ sym (first_same (end_of u) J v refl);
-      inversions = subst InversionsCommute (sym ds) (InversionsCommute-push (deeds J) new L.inversions (All-weaker _ _ (λ d k l. (k l).each op matches) (deeds J) here.done));
+      inversions = subst InversionsCommute (sym ds) (InversionsCommute-push (done_operations J) new L.inversions (All-weaker _ _ (λ d k l. (k l).each op matches) (done_operations J) here.done));
       records = λ d z e. elim (at_set b.records c d (Some x) z e) [
         | inl h ↦ let A : ℕ → Type 0 = λ j. Holds m b2 j z in let B : Serving → Type 0 = λ y. Holds m b2 c y in
             subst A (sym h.0) (subst B (inside x z h.1) (record {
@@ -276,21 +276,21 @@ keeps_done m b c s op r f L at flying is cov fore =
               owner = first_same (caller_of t) J v refl ∙ here.owner;
               foresight = let F : List Entry → Type 0 = λ es. IsForesight (rest (m.next t) (replies es)) f in subst F (sym (entries_more J t op r)) fore;
               flight = λ o k. absurd (none_some o k);
-              done = let D : List Deed → Type 0 = λ es. AllByRecursion (λ d. t < d.ticket → CommutesWithAll d.op f) es in
-                  subst D (sym ds) (All-push _ (deeds J) new (All-weaker _ _ (λ d k l. CommutesWithAll-narrow d.op f s.foresight cov (k l)) (deeds J) here.done) (λ l. absurd (omega arith)));
+              done = let D : List DoneOperation → Type 0 = λ es. AllByRecursion (λ d. t < d.ticket → CommutesWithAll d.op f) es in
+                  subst D (sym ds) (All-push _ (done_operations J) new (All-weaker _ _ (λ d k l. CommutesWithAll-narrow d.op f s.foresight cov (k l)) (done_operations J) here.done) (λ l. absurd (omega arith)));
               in_flight = in_flight_set b (J ++ v ∷ []) b.kept c (Some x) t f (λ d z o p l fl. CommutesWithAll-narrow o f s.foresight cov (here.in_flight d z o p l fl)) (no_flight t f);
             }))
         | inr h ↦
             let old : Holds m b d z = L.records d z h.1 in
             let n : z.ticket ≢ t = λ e. h.0 (one_caller m b L d c z s h.1 at e) in
             let F : List Entry → Type 0 = λ es. IsForesight (rest (m.next z.ticket) (replies es)) z.foresight in
-            let D : List Deed → Type 0 = λ es. AllByRecursion (λ d. z.ticket < d.ticket → CommutesWithAll d.op z.foresight) es in
+            let D : List DoneOperation → Type 0 = λ es. AllByRecursion (λ d. z.ticket < d.ticket → CommutesWithAll d.op z.foresight) es in
             record {
               is_open = record { begun = omega (arith, old.is_open.begun, count); not_ended = first_same (end_of z.ticket) J v refl ∙ old.is_open.not_ended };
               owner = first_same (caller_of z.ticket) J v refl ∙ old.owner;
               foresight = subst F (sym (entries_other J t op r z.ticket n)) old.foresight;
               flight = λ o k. ap (λ (es : List Entry). m.next z.ticket (replies es)) (entries_other J t op r z.ticket n) ∙ old.flight o k;
-              done = subst D (sym ds) (All-push _ (deeds J) new old.done (λ l. old.in_flight c s op at l flying));
+              done = subst D (sym ds) (All-push _ (done_operations J) new old.done (λ l. old.in_flight c s op at l flying));
               in_flight = in_flight_set b (J ++ v ∷ []) b.kept c (Some x) z.ticket z.foresight old.in_flight (no_flight z.ticket z.foresight);
             }
       ];
@@ -320,14 +320,14 @@ keeps_end m b c s r L at idle says room =
     let v : Event = End t r in
     let b2 : Book = after_end b c s r in
     let here : Holds m b c s = L.records c s at in
-    let same : deeds (J ++ v ∷ []) ≡ deeds J = deeds_stay J v refl in
+    let same : done_operations (J ++ v ∷ []) ≡ done_operations J = done_operations_stay J v refl in
     let count : begun (J ++ v ∷ []) ≡ begun J = begun_stays J v refl in
-    let P : List Deed → Type 0 = λ ds. Replays (m.opening) (in_order ds) in
+    let P : List DoneOperation → Type 0 = λ ds. Replays (m.opening) (in_order ds) in
     let no_record : (u : ℕ) (g : List Symbol) (z : Serving) (o : Op) → ◌≡◌ {A = Option Serving} None (Some z) → u < z.ticket → z.flight ≡ Some o → CommutesWithAll o g = λ u g z o e l fl. absurd (none_some z e) in
     record {
       replays = subst P (sym same) L.replays;
-      follows = λ u. let F : List Deed → Type 0 = λ ds. Follows (m.next u) (of_ticket u ds) in subst F (sym same) (L.follows u);
-      answered = λ u a h. ap (λ (ds : List Deed). m.next u (replies (of_ticket u ds))) same ∙ (elim (same_or u t) [
+      follows = λ u. let F : List DoneOperation → Type 0 = λ ds. Follows (m.next u) (of_ticket u ds) in subst F (sym same) (L.follows u);
+      answered = λ u a h. ap (λ (ds : List DoneOperation). m.next u (replies (of_ticket u ds))) same ∙ (elim (same_or u t) [
         | inl e ↦ let A : ℕ → Type 0 = λ j. now m J j ≡ Answers a in
             let q : r ≡ a = inside r a (sym (ended_new J t r here.is_open.not_ended) ∙ ap (ended (J ++ v ∷ [])) (sym e) ∙ h) in
             subst A (sym e) (says ∙ ap (λ (w : Reply). Answers w) q)

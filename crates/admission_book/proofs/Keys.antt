@@ -9,7 +9,7 @@ use Rattle.session_values.proofs.Sizes.{one_if}
 use Rattle.session_values.proofs.Sums.{sum_below_le, sum_below_zero, sum_more, sum_same}
 use Rattle.session_journal.proofs.Values.{run_few}
 use Rattle.session_values.specs.Dialogue.{Entry}
-use Rattle.session_journal.specs.Journal.{Deed, entry_of, deeds, of_ticket, in_order, begun, after}
+use Rattle.session_journal.specs.Journal.{DoneOperation, entry_of, done_operations, of_ticket, in_order, begun, after}
 use Rattle.session_values.specs.Dialogue.{Calls}
 use Rattle.session_values.specs.Sums.{sum_below}
 use Rattle.session_journal.specs.Script.{Meaning, IsScript, adds_on, room}
@@ -20,7 +20,7 @@ use Rattle.admission_book.proofs.Events.{Follows-push, OnlyBegun, only_begun}
 use Rattle.admission_book.proofs.Room.{few_begun}
 
 -- ---- by ticket
-adds_by_ticket : (n i : ℕ) (ds : List Deed) → AllByRecursion (λ d. d.ticket < n) ds → adds_on i (in_order ds) ≡ sum_below n (λ t. adds_on i (of_ticket t ds))
+adds_by_ticket : (n i : ℕ) (ds : List DoneOperation) → AllByRecursion (λ d. d.ticket < n) ds → adds_on i (in_order ds) ≡ sum_below n (λ t. adds_on i (of_ticket t ds))
 adds_by_ticket n i [] a = sym (sum_below_zero n)
 adds_by_ticket n i (d ∷ ds) a =
     let x : ℕ = one_if (is_adding d.op.kind && eqb d.op.table i) in
@@ -52,23 +52,23 @@ adds_push i (x ∷ es) e = omega (arith, adds_push i es e)
 -- a table has no more keys than its room, and fewer while an adding call of an open ticket is still to come
 pub keys_few : (m : Meaning) (b : Book) → IsScript m → Lawful m b → (i : ℕ) → size_of (table (after m.opening b.journal) i) ≤ size_of (table m.opening i) + room m i
 keys_few m b S L i =
-    let ds : List Deed = deeds b.journal in
+    let ds : List DoneOperation = done_operations b.journal in
     let n : ℕ = m.requests in
     let o : OnlyBegun b.journal = only_begun m (length b.records) b.journal L.turns in
-    let all : AllByRecursion (λ d. d.ticket < n) ds = wider ds o.deeds in
+    let all : AllByRecursion (λ d. d.ticket < n) ds = wider ds o.done_operations in
     omega (arith, run_few m.opening (in_order ds) i, adds_by_ticket n i ds all, sum_below_le n (λ t. adds_on i (of_ticket t ds)) (λ t. m.adds t i) (λ t. S.adds t i (of_ticket t ds) (L.follows t)))
   where
-    wider : (ds : List Deed) → AllByRecursion (λ d. d.ticket < begun b.journal) ds → AllByRecursion (λ d. d.ticket < m.requests) ds
+    wider : (ds : List DoneOperation) → AllByRecursion (λ d. d.ticket < begun b.journal) ds → AllByRecursion (λ d. d.ticket < m.requests) ds
     wider [] a = tt
     wider (d ∷ ds) a = (omega (arith, a.0, few_begun m (length b.records) b.journal L.turns), wider ds a.1)
 
 pub keys_fewer : (m : Meaning) (b : Book) → IsScript m → Lawful m b → (t : ℕ) (op : Op) → IsOpen b.journal t → now m b.journal t ≡ Calls op → is_adding op.kind ≡ true → size_of (table (after m.opening b.journal) op.table) < size_of (table m.opening op.table) + room m op.table
 keys_fewer m b S L t op opened calls adding =
     let i : ℕ = op.table in
-    let ds : List Deed = deeds b.journal in
+    let ds : List DoneOperation = done_operations b.journal in
     let n : ℕ = m.requests in
     let o : OnlyBegun b.journal = only_begun m (length b.records) b.journal L.turns in
-    let all : AllByRecursion (λ d. d.ticket < n) ds = wider ds o.deeds in
+    let all : AllByRecursion (λ d. d.ticket < n) ds = wider ds o.done_operations in
     let e : Entry = record { op = op; reply = op.key } in
     let one : one_if (is_adding op.kind && eqb op.table i) ≡ 1 = ap (λ (b : Bool). one_if (b && eqb op.table i)) adding ∙ ap one_if (itself op.table) in
     let more : adds_on i (of_ticket t ds) < m.adds t i = omega (arith, adds_push i (of_ticket t ds) e, one, S.adds t i (of_ticket t ds ++ e ∷ []) (Follows-push (m.next t) (of_ticket t ds) e (L.follows t) calls)) in
@@ -78,6 +78,6 @@ keys_fewer m b S L t op opened calls adding =
     itself : (u : ℕ) → eqb u u ≡ true
     itself u = grind (arith, nat_tests)
 
-    wider : (ds : List Deed) → AllByRecursion (λ d. d.ticket < begun b.journal) ds → AllByRecursion (λ d. d.ticket < m.requests) ds
+    wider : (ds : List DoneOperation) → AllByRecursion (λ d. d.ticket < begun b.journal) ds → AllByRecursion (λ d. d.ticket < m.requests) ds
     wider [] a = tt
     wider (d ∷ ds) a = (omega (arith, a.0, few_begun m (length b.records) b.journal L.turns), wider ds a.1)

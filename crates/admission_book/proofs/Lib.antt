@@ -16,4 +16,4 @@ pub mod Room
 pub mod Scans
 pub mod Shown
 pub mod Stays
-pub mod Stories
+pub mod Histories

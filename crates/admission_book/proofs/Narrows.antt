@@ -3,14 +3,14 @@ use Rattle.std.proofs.Common.{◌≡◌, ℕ, List, Option, Some, sym, ◌∙◌
 use Rattle.std.proofs.Math.ListN.{set}
 use Rattle.session_values.specs.declared.reply.Reply.{Reply}
 use Rattle.symbolic_ops.specs.declared.symbol.Symbol.{Symbol}
-use Rattle.symbolic_ops.specs.Symbols.{Covered}
+use Rattle.symbolic_ops.specs.Matching.{Covered}
 use Rattle.session_journal.specs.declared.event.Event.{Event}
 use Rattle.session_journal.specs.Script.{Meaning}
 use Rattle.admission_book.specs.Book.{Serving, record_of, after_narrow}
 use Rattle.admission_book.specs.Lawful.{Lawful}
 use Rattle.admission_book.specs.declared.caller_record.CallerRecord.{CallerRecord}
 use Rattle.admission_book.specs.CallerRecord.{serving_of, record_at, with_symbols}
-use Rattle.admission_book.specs.Books.{MayNarrow, Narrowed}
+use Rattle.admission_book.specs.Methods.{MayNarrow, Narrowed}
 use Rattle.admission_book.specs.Kept.{book_of, KeepsRecord}
 use Rattle.admission_book.proofs.Keep.{keeps_narrow}
 use Rattle.admission_book.proofs.Shown.{served, serving_is, shown, keeps_has, keeps_set, one, Place, served_at}

@@ -9,7 +9,7 @@ use Rattle.admission_book.specs.EventsInTurn.{IsOpen}
 use Rattle.admission_book.specs.Lawful.{Lawful}
 use Rattle.admission_book.specs.declared.caller_record.CallerRecord.{CallerRecord}
 use Rattle.admission_book.specs.CallerRecord.{serving_of, servings, record_at}
-use Rattle.admission_book.specs.Books.{IsOldestOpen}
+use Rattle.admission_book.specs.Methods.{IsOldestOpen}
 use Rattle.admission_book.specs.Kept.{book_of, IsAtMost, IfServed, IsLeastTicket, IsLesser}
 use Rattle.admission_book.proofs.Records.{within}
 use Rattle.admission_book.proofs.Shown.{served, serving_is, servings_at, ticket_is, record_here}

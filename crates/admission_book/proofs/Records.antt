@@ -8,7 +8,7 @@ use Rattle.session_values.specs.declared.op.Op.{Op}
 use Rattle.symbolic_ops.specs.declared.symbol.Symbol.{Symbol}
 use Rattle.session_values.specs.Commuting.{Commute}
 use Rattle.symbolic_ops.proofs.Above.{covered_matches}
-use Rattle.symbolic_ops.specs.Symbols.{Covered, Matches}
+use Rattle.symbolic_ops.specs.Matching.{Covered, Matches}
 use Rattle.commute_tables.specs.Symbols.{CommutesWith, CommutesWithAll}
 
 -- a place that has something is within the list

@@ -8,14 +8,14 @@ use Rattle.symbolic_ops.specs.declared.symbol.Symbol.{Symbol}
 use Rattle.session_journal.specs.declared.event.Event.{Event}
 use Rattle.session_journal.specs.declared.event.Event.TheVariants.{Begin, Done, Delay, End}
 use Rattle.session_values.specs.Dialogue.{Entry}
-use Rattle.session_journal.specs.Journal.{Deed, of_ticket, entries, begun, end_of, ended}
+use Rattle.session_journal.specs.Journal.{DoneOperation, of_ticket, entries, begun, end_of, ended}
 use Rattle.session_values.specs.Dialogue.{Next, Calls, Answers, Dialogue, rest, replies, Follows, EndsBy}
 use Rattle.session_values.specs.Sums.{sum_below}
 use Rattle.session_journal.specs.Script.{Meaning, IsScript, calls}
 use Rattle.admission_book.specs.Book.{Book}
 use Rattle.admission_book.specs.EventsInTurn.{IsOpen, now, delayed_after, is_delayed_from, is_delayed, MayCome, ComeInTurn}
 use Rattle.admission_book.specs.Lawful.{Lawful}
-use Rattle.admission_book.proofs.Events.{deeds_stay, begun_stays, begun_more, first_same, ended_other, ended_new, entries_other, entries_more, through_turns}
+use Rattle.admission_book.proofs.Events.{done_operations_stay, begun_stays, begun_more, first_same, ended_other, ended_new, entries_other, entries_more, through_turns}
 use Rattle.session_values.proofs.Sums.{sum_below_le, sum_below_zero}
 use Rattle.session_journal.proofs.Serial.{not_ended, EndsBy-rest}
 
@@ -72,10 +72,10 @@ delayed_other (Delay u op o s) t b h = cond_other u t true b h
 delayed_other (End u r) t b h = cond_other u t false b h
 
 entries_apart : (J : List Event) (e : Event) (t : ℕ) → t ≢ ticket_of e → entries (J ++ e ∷ []) t ≡ entries J t
-entries_apart J (Begin u c) t h = ap (of_ticket t) (deeds_stay J (Begin u c) refl)
+entries_apart J (Begin u c) t h = ap (of_ticket t) (done_operations_stay J (Begin u c) refl)
 entries_apart J (Done u op r) t h = entries_other J u op r t h
-entries_apart J (Delay u op o s) t h = ap (of_ticket t) (deeds_stay J (Delay u op o s) refl)
-entries_apart J (End u r) t h = ap (of_ticket t) (deeds_stay J (End u r) refl)
+entries_apart J (Delay u op o s) t h = ap (of_ticket t) (done_operations_stay J (Delay u op o s) refl)
+entries_apart J (End u r) t h = ap (of_ticket t) (done_operations_stay J (End u r) refl)
 
 ended_apart : (J : List Event) (e : Event) (t : ℕ) → t ≢ ticket_of e → ended (J ++ e ∷ []) t ≡ ended J t
 ended_apart J (Begin u c) t h = first_same (end_of t) J (Begin u c) refl
@@ -153,12 +153,12 @@ counted_delay m J t op o s k h c n =
     let a : mine t (J ++ v ∷ []) ≡ mine t J + 1 = mine_own J v in
     let d : one_if (is_delayed (J ++ v ∷ []) t) ≡ 1 = ap one_if (is_delayed-append false J v t ∙ cond_own t true (is_delayed J t)) in
     let b : one_if (is_delayed J t) ≡ 0 = ap one_if n in
-    let l : length (entries (J ++ v ∷ []) t) ≡ length (entries J t) = ap (λ (ds : List Deed). length (of_ticket t ds)) (deeds_stay J v refl) in
+    let l : length (entries (J ++ v ∷ []) t) ≡ length (entries J t) = ap (λ (ds : List DoneOperation). length (of_ticket t ds)) (done_operations_stay J v refl) in
     let e : one_if_some (ended (J ++ v ∷ []) t) ≡ one_if_some (ended J t) = ap one_if_some (first_same (end_of t) J v refl) in
     record {
       none = λ g. absurd (omega (arith, begun_stays J v refl));
       few = omega (arith, a, k.few, b, d, l, e);
-      delayed = λ f. (op, ap (λ (ds : List Deed). m.next t (replies (of_ticket t ds))) (deeds_stay J v refl) ∙ c);
+      delayed = λ f. (op, ap (λ (ds : List DoneOperation). m.next t (replies (of_ticket t ds))) (done_operations_stay J v refl) ∙ c);
     }
 
 counted_end : (m : Meaning) (J : List Event) (t : ℕ) (r : Reply) → Counted m t J → IsOpen J t → now m J t ≡ Answers r → Counted m t (J ++ End t r ∷ [])
@@ -168,7 +168,7 @@ counted_end m J t r k h w =
     let d : is_delayed (J ++ v ∷ []) t ≡ false = is_delayed-append false J v t ∙ cond_own t false (is_delayed J t) in
     let b : is_delayed J t ≡ false = undelayed (is_delayed J t) refl in
     let b0 : one_if (is_delayed J t) ≡ 0 = ap one_if b in
-    let l : length (entries (J ++ v ∷ []) t) ≡ length (entries J t) = ap (λ (ds : List Deed). length (of_ticket t ds)) (deeds_stay J v refl) in
+    let l : length (entries (J ++ v ∷ []) t) ≡ length (entries J t) = ap (λ (ds : List DoneOperation). length (of_ticket t ds)) (done_operations_stay J v refl) in
     let e : one_if_some (ended (J ++ v ∷ []) t) ≡ 1 = ap one_if_some (ended_new J t r h.not_ended) in
     let e0 : one_if_some (ended J t) ≡ 0 = ap one_if_some h.not_ended in
     record {

@@ -13,7 +13,7 @@ use Rattle.admission_book.specs.EventsInTurn.{delayed_after, is_delayed, is_dela
 use Rattle.admission_book.specs.Lawful.{Lawful}
 use Rattle.admission_book.specs.declared.caller_record.CallerRecord.{CallerRecord}
 use Rattle.admission_book.specs.CallerRecord.{serving_at, serving_of, servings, record_at, idle_record}
-use Rattle.admission_book.specs.Books.{BookView}
+use Rattle.admission_book.specs.Methods.{BookView}
 use Rattle.admission_book.specs.Kept.{book_of, Keeps, KeepsRecord}
 use Rattle.admission_book.proofs.Keep.{one_caller}
 use Rattle.admission_book.proofs.Room.{few_events}

@@ -4,7 +4,7 @@ use Rattle.session_journal.specs.declared.event.Event.{Event}
 use Rattle.session_journal.specs.Script.{Meaning, IsScript}
 use Rattle.admission_book.specs.Book.{Book}
 use Rattle.admission_book.specs.Lawful.{Lawful}
-use Rattle.admission_book.specs.Books.{BookView, Grows, StaysLawful}
+use Rattle.admission_book.specs.Methods.{BookView, Grows, StaysLawful}
 use Rattle.admission_book.proofs.Foreknown.{foreknown}
 
 -- ---- how the journal goes on

@@ -8,7 +8,7 @@ use Rattle.symbolic_ops.specs.declared.symbol.Symbol.{Symbol}
 use Rattle.session_journal.specs.declared.event.Event.{Event}
 use Rattle.session_journal.specs.declared.event.Event.TheVariants.{Begin, Done, Delay, End}
 use Rattle.commute_tables.specs.Symbols.{CommutesWith, CommutesWithAll}
-use Rattle.session_journal.specs.Journal.{deeds, entries, begun, owner}
+use Rattle.session_journal.specs.Journal.{done_operations, entries, begun, owner}
 use Rattle.session_values.specs.Dialogue.{Calls, rest, replies}
 use Rattle.session_journal.specs.Script.{IsForesight, Meaning}
 use Rattle.admission_book.specs.EventsInTurn.{IsOpen, now, is_delayed}
@@ -43,7 +43,7 @@ pub record Holds (m : Meaning) (b : Book) (c : ℕ) (s : Serving) : Type 0 where
   -- its operation in flight is the one that the ticket calls
   pub flight : (op : Op) → s.flight ≡ Some op → now m b.journal s.ticket ≡ Calls op
   -- what younger tickets have done, or have in flight, commutes with all that it may still do
-  pub done : AllByRecursion (λ d. s.ticket < d.ticket → CommutesWithAll d.op s.foresight) (deeds b.journal)
+  pub done : AllByRecursion (λ d. s.ticket < d.ticket → CommutesWithAll d.op s.foresight) (done_operations b.journal)
   pub in_flight : (d : ℕ) (z : Serving) (op : Op) → record_of b d ≡ Some z → s.ticket < z.ticket → z.flight ≡ Some op → CommutesWithAll op s.foresight
 
 -- ---- who delays an operation

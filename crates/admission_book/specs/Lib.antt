@@ -1,5 +1,5 @@
 pub mod Book
-pub mod Books
+pub mod Methods
 pub mod CallerRecord
 pub mod EventsInTurn
 pub mod Found

@@ -2,7 +2,7 @@
 
 ghost use Rattle.std.specs.Prelude.{◌≡◌, ◌<◌, MatchOption};
 ghost use Rattle.std.specs.List.{AllByRecursion};
-ghost use Rattle.symbolic_ops.specs.Symbols.{HasNoVar};
+ghost use Rattle.symbolic_ops.specs.Matching.{HasNoVar};
 ghost use Rattle.commute_tables.specs.Symbols.{CommutesWith};
 ghost use Rattle.admission_book.specs.Book.{IsFirstAgainst};
 ghost use Rattle.admission_book.specs.CallerRecord.{serving_of, servings};
@@ -47,7 +47,7 @@ fn limit(found: &Option<Blocker>, t: u32) -> u32
 }
 
 /// The blocker of one record, where it is older than the one that was found before.
-fn nearer(found: Option<Blocker>, r: &CallerRecord, t: u32, op: &Op) -> Option<Blocker>
+fn older_blocker(found: Option<Blocker>, r: &CallerRecord, t: u32, op: &Op) -> Option<Blocker>
     ensures { NextFound t op.now found (serving_of r.now) result }
 {
     let Some(u) = r.ticket else {
@@ -68,7 +68,7 @@ pub(crate) fn least_against(records: &[CallerRecord], t: u32, op: &Op) -> Option
 {
     let mut found = None;
     for r in records {
-        found = nearer(found, r, t, op);
+        found = older_blocker(found, r, t, op);
     }
     found
 }

@@ -6,7 +6,7 @@ ghost use Rattle.session_journal.specs.Journal.{after, ended};
 ghost use Rattle.session_journal.specs.Script.{IsScript, calls, session_of};
 ghost use Rattle.admission_book.specs.Book.{kept_for, opened};
 ghost use Rattle.admission_book.specs.Lawful.{Lawful};
-ghost use Rattle.admission_book.specs.Books.{Admits, Begins, DidIt, HasEnded, IfNext, IsOldestOpen, MayAdmit, MayBeginNext, MayDo, MayEnd, MayNarrow, Narrowed, StaysLawful};
+ghost use Rattle.admission_book.specs.Methods.{Admits, Begins, DidIt, HasEnded, IfNext, IsOldestOpen, MayAdmit, MayBeginNext, MayDo, MayEnd, MayNarrow, Narrowed, StaysLawful};
 
 use crate::admission::Admission;
 use crate::blocker::least_against;
@@ -41,7 +41,7 @@ pub struct Book<S: Script + Drop> {
 
 impl<S: Script + Drop> Model for Book<S> {
     ghost use Rattle.std.specs.Prelude.{vec_capacity};
-    ghost use Rattle.admission_book.specs.Books.{BookView};
+    ghost use Rattle.admission_book.specs.Methods.{BookView};
     ghost use Rattle.admission_book.specs.Kept.{Keeps, book_of};
 
     ghost Value = { BookView S };

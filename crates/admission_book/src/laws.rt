@@ -5,7 +5,7 @@ ghost use Rattle.session_values.specs.Dialogue.{Calls, Answers, rest, replies};
 ghost use Rattle.session_values.specs.Serial.{serial, tables_before};
 ghost use Rattle.session_values.specs.Kinds.{is_adding};
 ghost use Rattle.session_values.specs.Tables.{reply, table, size_of};
-ghost use Rattle.symbolic_ops.specs.Symbols.{Covered};
+ghost use Rattle.symbolic_ops.specs.Matching.{Covered};
 ghost use Rattle.commute_tables.specs.Symbols.{CommutesWith};
 ghost use Rattle.session_journal.specs.Foreknown.{Foreknown};
 ghost use Rattle.session_journal.specs.Journal.{Replays, after, begun, ended, entries, regrouped, run};
@@ -13,7 +13,7 @@ ghost use Rattle.session_journal.specs.Script.{Meaning, IsScript, IsForesight, c
 ghost use Rattle.admission_book.specs.Book.{Book, Serving, IsFree, IsBlocker, record_of, opened, after_begin, after_narrow, after_admit, after_delay, after_done, after_end};
 ghost use Rattle.admission_book.specs.EventsInTurn.{IsOpen, TellsAll, now, events_of};
 ghost use Rattle.admission_book.specs.Lawful.{Lawful};
-ghost use Rattle.admission_book.specs.Books.{IsOldestOpen};
+ghost use Rattle.admission_book.specs.Methods.{IsOldestOpen};
 
 use session_values::{Op, Reply, Value};
 use symbolic_ops::Symbol;
@@ -88,7 +88,7 @@ pub fn bounds()
 
 /// The events of each ticket of a lawful book are its Begin; for each call at most one Delay and
 /// then its Done; at most one Delay of the next call; last its End.
-pub fn telling()
+pub fn histories()
     ensures { (m : Meaning) (b : Book) (t : ℕ) → Lawful m b →
         TellsAll (m.next t) (events_of t b.journal) }
 {}

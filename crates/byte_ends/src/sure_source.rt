@@ -25,6 +25,7 @@ impl Model for SureSource {
 }
 
 impl SureSource {
+    /// A source of these bytes.
     pub fn new(bytes: Vec<u8>) -> SureSource
         ensures { result ≡ bytes.items }
     {

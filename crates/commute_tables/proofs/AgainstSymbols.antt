@@ -14,13 +14,13 @@ use Rattle.session_values.specs.Values.{value_eq, IsValue}
 use Rattle.symbolic_ops.specs.Symbol.{IsHeldArg, IsHeldSymbol}
 use Rattle.session_values.specs.Kinds.{is_keyed, is_plain, kind_place, is_on_map, is_read}
 use Rattle.commute_tables.specs.Relation.{same_bool, commutes}
-use Rattle.symbolic_ops.specs.Symbols.{Agrees, IsNoVar, HasNoVar, StandsFor}
+use Rattle.symbolic_ops.specs.Matching.{Agrees, IsNoVar, HasNoVar, StandsFor}
 use Rattle.commute_tables.specs.Symbols.{CommutesWith, DiffersFromSome}
 use Rattle.commute_tables.specs.Relation.{is_apart, is_same, commutes_symbol}
 use Rattle.commute_tables.proofs.Apart.{same_value, value_eq-self}
 use Rattle.commute_tables.proofs.Commutes.{and_both, not_true, same_kind, commutes-Commute}
-use Rattle.commute_tables.proofs.Telling.{or_false, not_false, commutes-Differ, not_commute}
-use Rattle.commute_tables.proofs.TellingPairs.{other, other_differs, other_held}
+use Rattle.commute_tables.proofs.TellingApart.{or_false, not_false, commutes-Differ, not_commute}
+use Rattle.commute_tables.proofs.TellingApartPairs.{other, other_differs, other_held}
 
 plain_keyed : (kind : Kind) → is_plain kind ≡ true → is_keyed kind ≡ true
 plain_keyed Get h = refl

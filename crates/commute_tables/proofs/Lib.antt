@@ -1,7 +1,7 @@
 pub mod Apart
 pub mod Commutes
 pub mod OneTable
-pub mod Telling
-pub mod TellingPairs
+pub mod TellingApart
+pub mod TellingApartPairs
 pub mod AgainstSymbols
 pub mod OnMap

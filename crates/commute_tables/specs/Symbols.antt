@@ -3,7 +3,7 @@ use Rattle.std.specs.Prelude.{List}
 use Rattle.session_values.specs.declared.op.Op.{Op}
 use Rattle.session_values.specs.Commuting.{Commute}
 use Rattle.symbolic_ops.specs.declared.symbol.Symbol.{Symbol}
-use Rattle.symbolic_ops.specs.Symbols.{StandsFor, Matches}
+use Rattle.symbolic_ops.specs.Matching.{StandsFor, Matches}
 use Rattle.commute_tables.specs.ToldApart.{Differ}
 
 -- the operation commutes with every operation that the symbol stands for

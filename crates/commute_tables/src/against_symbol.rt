@@ -2,7 +2,7 @@
 
 ghost use Rattle.std.specs.Prelude.{◌≡◌, ◌==◌, ◌&&◌, ◌||◌, not};
 ghost use Rattle.std.specs.Bool.{Decides, MatchBool};
-ghost use Rattle.symbolic_ops.specs.Symbols.{HasNoVar};
+ghost use Rattle.symbolic_ops.specs.Matching.{HasNoVar};
 ghost use Rattle.session_values.specs.Kinds.{is_keyed, is_plain, kind_place};
 ghost use Rattle.commute_tables.specs.Relation.{commutes_symbol, is_apart, is_same};
 ghost use Rattle.commute_tables.specs.Symbols.{CommutesWith, DiffersFromSome};

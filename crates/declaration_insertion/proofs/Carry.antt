@@ -8,7 +8,7 @@ use Rattle.session_values.specs.Kinds.{arguments}
 use Rattle.symbolic_ops.specs.declared.arg.Arg.{Arg}
 use Rattle.symbolic_ops.specs.declared.arg.Arg.TheVariants.{Known, Var, Any}
 use Rattle.symbolic_ops.specs.declared.symbol.Symbol.{Symbol}
-use Rattle.symbolic_ops.specs.Symbols.{Agrees}
+use Rattle.symbolic_ops.specs.Matching.{Agrees}
 use Rattle.handler_dialogue.specs.declared.tree.CheckedAtom.{CheckedAtom}
 use Rattle.handler_dialogue.specs.declared.tree.CheckedAtom.TheVariants as atom
 use Rattle.handler_dialogue.specs.declared.tree.CheckedCall.{CheckedCall}

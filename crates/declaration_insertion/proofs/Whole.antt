@@ -13,7 +13,7 @@ use Rattle.session_values.specs.Values.{IsValue}
 use Rattle.symbolic_ops.specs.declared.arg.Arg.{Arg}
 use Rattle.symbolic_ops.specs.declared.arg.Arg.TheVariants.{Known, Var, Any}
 use Rattle.symbolic_ops.specs.declared.symbol.Symbol.{Symbol}
-use Rattle.symbolic_ops.specs.Symbols.{StandsFor, Matches, ArgBelow, Below, IsBelowSome, Covered, IsNoVar, HasNoVar}
+use Rattle.symbolic_ops.specs.Matching.{StandsFor, Matches, ArgBelow, Below, IsBelowSome, Covered, IsNoVar, HasNoVar}
 use Rattle.symbolic_ops.proofs.Above.{covered_matches}
 use Rattle.handler_dialogue.specs.Code.{Code, points, IsNumbered}
 use Rattle.handler_dialogue.specs.Dialogue.{Env, env_of, Place, Outcome, Calls, Answers, Goes, run, ended, next, entry, told_place, last_place, last_replied, passed_by}

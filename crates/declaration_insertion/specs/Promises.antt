@@ -8,7 +8,7 @@ use Rattle.session_values.specs.Values.{IsValue}
 use Rattle.symbolic_ops.specs.declared.arg.Arg.{Arg}
 use Rattle.symbolic_ops.specs.declared.arg.Arg.TheVariants.{Known, Var, Any}
 use Rattle.symbolic_ops.specs.declared.symbol.Symbol.{Symbol}
-use Rattle.symbolic_ops.specs.Symbols.{Covered, HasNoVar, Matches}
+use Rattle.symbolic_ops.specs.Matching.{Covered, HasNoVar, Matches}
 use Rattle.handler_dialogue.specs.Code.{Code}
 use Rattle.handler_dialogue.specs.Dialogue.{Env, Place, Calls, run, next, entry, last_place, due_place, told_place, passed_by}
 

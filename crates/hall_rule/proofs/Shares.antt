@@ -17,12 +17,12 @@ use Rattle.session_values.specs.Tables.{Container, Bindings, Members, Tables, em
 use Rattle.session_values.specs.Values.{value_cmp}
 use Rattle.session_journal.specs.declared.event.Event.{Event}
 use Rattle.session_journal.specs.declared.event.Event.TheVariants.{Done}
-use Rattle.session_journal.specs.Journal.{Deed, deeds, in_order, run}
+use Rattle.session_journal.specs.Journal.{DoneOperation, done_operations, in_order, run}
 use Rattle.session_journal.specs.Script.{Meaning}
 use Rattle.session_journal.proofs.Replay.{run-append}
 use Rattle.shard_tables.specs.Parts.{part, shard_of}
 use Rattle.shard_tables.proofs.PartSteps.{part_after, part_stays, part_reply, part_kind}
-use Rattle.admission_book.proofs.Events.{deeds-append, in_order-append}
+use Rattle.admission_book.proofs.Events.{done_operations-append, in_order-append}
 use Rattle.hall_rule.specs.Contents.{shards_in, share, opening_tables, tables_after}
 use Rattle.hall_rule.specs.Turns.{IsTurnOf}
 use Rattle.hall_rule.specs.Law.{none_some, inside, lies_within}
@@ -77,12 +77,12 @@ keyless_stays (Members s) op h = ap Members (set_stays s op.kind op.key h)
 -- ---- the tables after the operation
 pub after-done : (m : Meaning) (J : List Event) (t : ℕ) (op : Op) (r : Value) → tables_after m (J ++ Done t op r ∷ []) ≡ step (tables_after m J) op
 after-done m J t op r =
-    ap (λ (ds : List Deed). run (opening_tables m) (in_order ds)) (deeds-append J (Done t op r ∷ []))
-    ∙ ap (run (opening_tables m)) (in_order-append (deeds J) (record { ticket = t; op = op; reply = r } ∷ []))
-    ∙ run-append (opening_tables m) (in_order (deeds J)) (record { op = op; reply = r } ∷ [])
+    ap (λ (ds : List DoneOperation). run (opening_tables m) (in_order ds)) (done_operations-append J (Done t op r ∷ []))
+    ∙ ap (run (opening_tables m)) (in_order-append (done_operations J) (record { ticket = t; op = op; reply = r } ∷ []))
+    ∙ run-append (opening_tables m) (in_order (done_operations J)) (record { op = op; reply = r } ∷ [])
 
-after-quiet : (m : Meaning) (J more : List Event) → deeds more ≡ [] → tables_after m (J ++ more) ≡ tables_after m J
-after-quiet m J more e = ap (λ (ds : List Deed). run (opening_tables m) (in_order ds)) (deeds-append J more ∙ ap (λ (ds : List Deed). deeds J ++ ds) e ∙ append-nil (deeds J))
+after-quiet : (m : Meaning) (J more : List Event) → done_operations more ≡ [] → tables_after m (J ++ more) ≡ tables_after m J
+after-quiet m J more e = ap (λ (ds : List DoneOperation). run (opening_tables m) (in_order ds)) (done_operations-append J more ∙ ap (λ (ds : List DoneOperation). done_operations J ++ ds) e ∙ append-nil (done_operations J))
 
 length-step : (ts : Tables) (op : Op) → length (step ts op) ≡ length ts
 unfolding step
@@ -100,7 +100,7 @@ pub length-opening : (m : Meaning) → opening_tables m ≡ start m.shape → le
 length-opening m o = ap length o ∙ length-start m.shape
 
 pub length-after : (m : Meaning) → opening_tables m ≡ start m.shape → (J : List Event) → length (tables_after m J) ≡ length m.shape
-length-after m o J = length-run (opening_tables m) (in_order (deeds J)) ∙ length-opening m o
+length-after m o J = length-run (opening_tables m) (in_order (done_operations J)) ∙ length-opening m o
 
 table-step : (ts : Tables) (op : Op) → op.table < length ts → table (step ts op) op.table ≡ after_on (table ts op.table) op
 unfolding step
@@ -144,7 +144,7 @@ kind_start (x ∷ shape) (suc i) k e = kind_start shape i k e
 pub kind_table : (m : Meaning) → opening_tables m ≡ start m.shape → (J : List Event) (i : ℕ) (k : TableKind) → slice_get m.shape i ≡ Some k → kind_of (table (tables_after m J) i) ≡ k
 kind_table m o J i k e =
     let l : i < length (opening_tables m) = omega (arith, lies_within m.shape i k e, length-opening m o) in
-    kind_run (opening_tables m) (in_order (deeds J)) i l ∙ ap (λ (ts : Tables). kind_of (table ts i)) o ∙ kind_start m.shape i k e
+    kind_run (opening_tables m) (in_order (done_operations J)) i l ∙ ap (λ (ts : Tables). kind_of (table ts i)) o ∙ kind_start m.shape i k e
 
 pub kind_share : (m : Meaning) → opening_tables m ≡ start m.shape → (turns : ℕ) (J : List Event) (j i : ℕ) (k : TableKind) → j / shards_in m turns ≡ i → slice_get m.shape i ≡ Some k → kind_of (share m turns J j) ≡ k
 kind_share m o turns J j i k at e =
@@ -153,7 +153,7 @@ kind_share m o turns J j i k at e =
     ∙ kind_table m o J i k e
 
 -- ---- the shares after the operation
-pub share_quiet : (m : Meaning) (turns : ℕ) (J more : List Event) (j : ℕ) → deeds more ≡ [] → share m turns J j ≡ share m turns (J ++ more) j
+pub share_quiet : (m : Meaning) (turns : ℕ) (J more : List Event) (j : ℕ) → done_operations more ≡ [] → share m turns J j ≡ share m turns (J ++ more) j
 share_quiet m turns J more j e = ap (λ (ts : Tables). part (shards_in m turns) (j % shards_in m turns) (table ts (j / shards_in m turns))) (sym (after-quiet m J more e))
 
 module _ (m : Meaning) (o : opening_tables m ≡ start m.shape) (turns : ℕ) (J : List Event) (t : ℕ) (op : Op) (r : Value) (l : op.table < length m.shape) where

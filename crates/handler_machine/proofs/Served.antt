@@ -10,7 +10,7 @@ use Rattle.symbolic_ops.specs.declared.arg.Arg.{Arg}
 use Rattle.symbolic_ops.specs.declared.arg.Arg.TheVariants.{Known, Var, Any}
 use Rattle.symbolic_ops.specs.declared.symbol.Symbol.{Symbol}
 use Rattle.symbolic_ops.specs.Instantiate.{ArgWithin, IsWithin}
-use Rattle.symbolic_ops.specs.Symbols.{Covered, Matches}
+use Rattle.symbolic_ops.specs.Matching.{Covered, Matches}
 use Rattle.session_journal.specs.Desks.{DeskView, MayFinish, MayNarrow, due_of, finished, next_of, with_end, with_entry, with_present, with_waiting}
 use Rattle.ticket_serving.specs.Served.{IsServed}
 use Rattle.handler_dialogue.specs.Ahead.{Ahead, asked, passing}

@@ -5,7 +5,7 @@ use Rattle.session_values.specs.declared.op.Op.{Op}
 use Rattle.session_values.specs.declared.value.Value.{Value}
 use Rattle.session_values.specs.Dialogue.{Calls as NextCalls, Entry, Follows, replies}
 use Rattle.session_values.specs.Values.{IsValue}
-use Rattle.symbolic_ops.specs.Symbols.{HasNoVar, Matches}
+use Rattle.symbolic_ops.specs.Matching.{HasNoVar, Matches}
 use Rattle.session_journal.specs.Desks.{DeskView}
 use Rattle.session_journal.specs.Script.{Meaning}
 use Rattle.handler_dialogue.specs.Ahead.{Ahead}

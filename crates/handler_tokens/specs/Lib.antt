@@ -1,7 +1,7 @@
 pub mod Gap
 pub mod Keyword
 pub mod Longest
-pub mod Reader
+pub mod ReaderFields
 pub mod Reading
 pub mod Scan
 pub mod Spelled

@@ -28,7 +28,7 @@ impl<'a> Model for Reader<'a> {
 
     ghost Value = { Reading };
 
-    ghost use Rattle.handler_tokens.specs.Reader.{reading_of, HasRoom};
+    ghost use Rattle.handler_tokens.specs.ReaderFields.{reading_of, HasRoom};
 
     ghost view = { reading_of };
 

@@ -10,7 +10,7 @@ use Rattle.session_values.specs.Dialogue.{Calls, Answers, Dialogue, Entry, Follo
 use Rattle.session_values.specs.Serial.{Session, serial, tables_before}
 use Rattle.session_values.specs.Tables.{Tables, reply, step, kind_of}
 use Rattle.symbolic_ops.specs.declared.symbol.Symbol.{Symbol}
-use Rattle.symbolic_ops.specs.Symbols.{Matches}
+use Rattle.symbolic_ops.specs.Matching.{Matches}
 use Rattle.session_journal.specs.Desks.{next_of}
 use Rattle.session_journal.specs.Journal.{run, Replays}
 use Rattle.session_journal.specs.Script.{Meaning, IsScript, session_of}

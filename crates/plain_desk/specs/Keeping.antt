@@ -4,7 +4,7 @@ use Rattle.session_values.specs.declared.op.Op.{Op}
 use Rattle.session_values.specs.Dialogue.{Calls, Entry, Follows}
 use Rattle.session_values.specs.Serial.{Session, serial, tables_before}
 use Rattle.session_values.specs.Tables.{Tables, reply, step, kind_of}
-use Rattle.symbolic_ops.specs.Symbols.{Matches}
+use Rattle.symbolic_ops.specs.Matching.{Matches}
 use Rattle.session_journal.specs.Desks.{DeskView, next_of}
 use Rattle.session_journal.specs.Journal.{Replays}
 use Rattle.session_journal.specs.Script.{Meaning, IsScript, session_of}

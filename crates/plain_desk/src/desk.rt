@@ -4,7 +4,7 @@ ghost use Rattle.std.specs.Prelude.{◌≡◌, ◌≤◌, ◌<◌, ◌↔◌, tr
 ghost use Rattle.session_values.specs.Dialogue.{Calls};
 ghost use Rattle.session_values.specs.Serial.{serial};
 ghost use Rattle.session_values.specs.Tables.{reply};
-ghost use Rattle.symbolic_ops.specs.Symbols.{Matches};
+ghost use Rattle.symbolic_ops.specs.Matching.{Matches};
 ghost use Rattle.session_journal.specs.Desks.{next_of, with_waiting};
 ghost use Rattle.session_journal.specs.Script.{session_of};
 ghost use Rattle.plain_desk.specs.PlainDesks.{new_desk, at_beginning, ended_count, tables_at};

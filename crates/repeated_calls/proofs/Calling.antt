@@ -8,7 +8,7 @@ use Rattle.session_values.specs.Dialogue.{Calls, Answers, Dialogue, Entry, Follo
 use Rattle.symbolic_ops.specs.declared.symbol.Symbol.{Symbol}
 use Rattle.std.specs.List.{AllByRecursion}
 use Rattle.session_values.specs.Op.{IsHeld}
-use Rattle.symbolic_ops.specs.Symbols.{Covered, HasNoVar, Matches, exact_symbol}
+use Rattle.symbolic_ops.specs.Matching.{Covered, HasNoVar, Matches, exact_symbol}
 use Rattle.symbolic_ops.proofs.Above.{covered_itself, exact_stands}
 use Rattle.repeated_calls.proofs.Lasts.{long_replicate}
 use Rattle.session_journal.specs.Desks.{DeskView, MayFinish, finished, next_of, with_end, with_waiting}

@@ -2,7 +2,7 @@
 use Rattle.std.proofs.Common.{◌≡◌, ℕ, zero, suc, ◌+◌, ◌<◌, List, [], ◌∷◌, ◌++◌, ◌-◌, ◌*◌, length, map, refl, sym, ap, ◌∙◌, subst, arith}
 use Rattle.std.specs.Prelude.{replicate, slice_index_or}
 use Rattle.session_values.specs.declared.op.Op.{Op}
-use Rattle.symbolic_ops.specs.Symbols.{exact_symbol}
+use Rattle.symbolic_ops.specs.Matching.{exact_symbol}
 use Rattle.session_journal.specs.Lists.{HasPlace, ListView, Ticket, answers_only, calls_more, last_ticket, ticket_at, with_last}
 use Rattle.repeated_calls.specs.Repeated.{Keeps, RepeatedView, list_more, no_value, repeated, with_repeated}
 

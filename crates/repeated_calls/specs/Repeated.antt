@@ -8,7 +8,7 @@ use Rattle.session_values.specs.declared.value.Value.{Value}
 use Rattle.session_values.specs.declared.value.Value.TheVariants.{Nil}
 use Rattle.session_values.specs.Dialogue.{Follows}
 use Rattle.symbolic_ops.specs.declared.symbol.Symbol.{Symbol}
-use Rattle.symbolic_ops.specs.Symbols.{HasNoVar, Matches, exact_symbol}
+use Rattle.symbolic_ops.specs.Matching.{HasNoVar, Matches, exact_symbol}
 use Rattle.session_journal.specs.Desks.{DeskView}
 use Rattle.session_journal.specs.Lists.{ListView, Ticket, says}
 use Rattle.session_journal.specs.Script.{Meaning}

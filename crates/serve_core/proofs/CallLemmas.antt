@@ -11,7 +11,7 @@ use Rattle.session_values.specs.Serial.{Session, Served, serve, serial, served_f
 use Rattle.session_values.specs.Tables.{Tables, reply, step}
 use Rattle.session_journal.specs.declared.event.Event.{Event}
 use Rattle.session_journal.specs.Foreknown.{Foreknown}
-use Rattle.session_journal.specs.Journal.{Deed, entry_of, deeds, of_ticket, by_ticket, entries, ended, begun}
+use Rattle.session_journal.specs.Journal.{DoneOperation, entry_of, done_operations, of_ticket, by_ticket, entries, ended, begun}
 use Rattle.session_journal.specs.Script.{Meaning, session_of}
 use Rattle.session_journal.proofs.Serial.{serve-calls, serve-answers, differ}
 use Rattle.admission_book.proofs.Events.{only_begun}
@@ -54,28 +54,28 @@ nothing_behind f es back all r is h a =
     omega (arith, whole, short)
 
 -- ---- the operations of all tickets
-of_own : (n : ℕ) (d : Deed) (ds : List Deed) → d.ticket ≡ n → length (of_ticket n (d ∷ ds)) ≡ suc (length (of_ticket n ds))
+of_own : (n : ℕ) (d : DoneOperation) (ds : List DoneOperation) → d.ticket ≡ n → length (of_ticket n (d ∷ ds)) ≡ suc (length (of_ticket n ds))
 of_own n d ds e = pick (d.ticket == n) (grind (arith, nat_tests))
   where
     pick : (b : Bool) → b ≡ true → length (cond b (entry_of d ∷ of_ticket n ds) (of_ticket n ds)) ≡ suc (length (of_ticket n ds))
     pick true t = refl
     pick false t = absurd (cc)
 
-of_other : (n : ℕ) (d : Deed) (ds : List Deed) → d.ticket ≢ n → length (of_ticket n (d ∷ ds)) ≡ length (of_ticket n ds)
+of_other : (n : ℕ) (d : DoneOperation) (ds : List DoneOperation) → d.ticket ≢ n → length (of_ticket n (d ∷ ds)) ≡ length (of_ticket n ds)
 of_other n d ds e = pick (d.ticket == n) (grind (arith, nat_tests))
   where
     pick : (b : Bool) → b ≡ false → length (cond b (entry_of d ∷ of_ticket n ds) (of_ticket n ds)) ≡ length (of_ticket n ds)
     pick true t = absurd (cc)
     pick false t = refl
 
-not_below : (n : ℕ) (d : Deed) (ds : List Deed) → n ≤ d.ticket → length (by_ticket n (d ∷ ds)) ≡ length (by_ticket n ds)
+not_below : (n : ℕ) (d : DoneOperation) (ds : List DoneOperation) → n ≤ d.ticket → length (by_ticket n (d ∷ ds)) ≡ length (by_ticket n ds)
 not_below zero d ds h = refl
 not_below (suc n) d ds h =
     let rest_is = not_below n d ds (omega arith) in
     let one = of_other n d ds (λ e. omega arith) in
     omega (arith, rest_is, one, length-append (by_ticket n (d ∷ ds)) (of_ticket n (d ∷ ds)), length-append (by_ticket n ds) (of_ticket n ds))
 
-below : (n : ℕ) (d : Deed) (ds : List Deed) → d.ticket < n → length (by_ticket n (d ∷ ds)) ≡ suc (length (by_ticket n ds))
+below : (n : ℕ) (d : DoneOperation) (ds : List DoneOperation) → d.ticket < n → length (by_ticket n (d ∷ ds)) ≡ suc (length (by_ticket n ds))
 below zero d ds h = absurd (omega arith)
 below (suc n) d ds h = by (d.ticket == n) refl (below n d ds)
   where
@@ -97,7 +97,7 @@ below (suc n) d ds h = by (d.ticket == n) refl (below n d ds)
         let more = rest (omega (arith, h, other)) in
         omega (arith, none, more, whole, parts)
 
-by_ticket_long : (n : ℕ) (ds : List Deed) → AllByRecursion (λ (d : Deed). d.ticket < n) ds → length (by_ticket n ds) ≡ length ds
+by_ticket_long : (n : ℕ) (ds : List DoneOperation) → AllByRecursion (λ (d : DoneOperation). d.ticket < n) ds → length (by_ticket n ds) ≡ length ds
 by_ticket_long n [] h = nothing n
   where
     nothing : (k : ℕ) → length (by_ticket k []) ≡ 0
@@ -105,7 +105,7 @@ by_ticket_long n [] h = nothing n
     nothing (suc k) = omega (arith, nothing k, length-append (by_ticket k []) [])
 by_ticket_long n (d ∷ ds) h = omega (arith, below n d ds h.0, by_ticket_long n ds h.1)
 
-serial_long : (s : Session) (ds : List Deed) (n : ℕ) → ((t : ℕ) → t < n → length (of_ticket t ds) ≡ length (serial s t).entries) → length (by_ticket n ds) ≡ serial_calls s n
+serial_long : (s : Session) (ds : List DoneOperation) (n : ℕ) → ((t : ℕ) → t < n → length (of_ticket t ds) ≡ length (serial s t).entries) → length (by_ticket n ds) ≡ serial_calls s n
 unfolding serial_calls
 serial_long s ds zero h = refl
 serial_long s ds (suc n) h =
@@ -125,11 +125,11 @@ module _ (m : Meaning) (d : ClosedView) (done : IsDone m d) where
       nothing_behind (m.next t) (entries done.book.journal t) known.entries.back (serial (session_of m) t).entries end.0 known.entries.is (serve_follows (m.length t) (m.next t) (tables_before (session_of m) t)) (done.lawful.answered t end.0 ended_here) in
       ap (λ (J : List Event). length (entries J t)) done.journal_is ∙ here
 
-  all_below : AllByRecursion (λ (x : Deed). x.ticket < m.requests) (deeds d.journal)
+  all_below : AllByRecursion (λ (x : DoneOperation). x.ticket < m.requests) (done_operations d.journal)
   all_below =
-      let here : AllByRecursion (λ (x : Deed). x.ticket < begun done.book.journal) (deeds done.book.journal) = (only_begun m (length done.book.records) done.book.journal done.lawful.turns).deeds in
-      let there : AllByRecursion (λ (x : Deed). x.ticket < begun d.journal) (deeds d.journal) = subst (λ (J : List Event). AllByRecursion (λ (x : Deed). x.ticket < begun J) (deeds J)) (sym done.journal_is) here in
-      subst (λ (n : ℕ). AllByRecursion (λ (x : Deed). x.ticket < n) (deeds d.journal)) done.all_begun there
+      let here : AllByRecursion (λ (x : DoneOperation). x.ticket < begun done.book.journal) (done_operations done.book.journal) = (only_begun m (length done.book.records) done.book.journal done.lawful.turns).done_operations in
+      let there : AllByRecursion (λ (x : DoneOperation). x.ticket < begun d.journal) (done_operations d.journal) = subst (λ (J : List Event). AllByRecursion (λ (x : DoneOperation). x.ticket < begun J) (done_operations J)) (sym done.journal_is) here in
+      subst (λ (n : ℕ). AllByRecursion (λ (x : DoneOperation). x.ticket < n) (done_operations d.journal)) done.all_begun there
 
-  pub calls_done : length (deeds d.journal) ≡ serial_calls (session_of m) m.requests
-  calls_done = sym (by_ticket_long m.requests (deeds d.journal) all_below) ∙ serial_long (session_of m) (deeds d.journal) m.requests entries_long
+  pub calls_done : length (done_operations d.journal) ≡ serial_calls (session_of m) m.requests
+  calls_done = sym (by_ticket_long m.requests (done_operations d.journal) all_below) ∙ serial_long (session_of m) (done_operations d.journal) m.requests entries_long

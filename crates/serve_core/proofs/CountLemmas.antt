@@ -5,22 +5,22 @@ use Rattle.session_values.specs.declared.reply.Reply.{Reply}
 use Rattle.session_values.specs.ReplyText.{line_text, reply_text}
 use Rattle.session_journal.specs.declared.event.Event.{Event}
 use Rattle.session_journal.specs.declared.event.Event.TheVariants.{Begin, Done, Delay, End}
-use Rattle.session_journal.specs.Journal.{Deed, deeds}
+use Rattle.session_journal.specs.Journal.{DoneOperation, done_operations}
 use Rattle.serve_core.proofs.SheetLemmas.{text_more}
 
-pub deeds_cut : (J K : List Event) → deeds (J ++ K) ≡ deeds J ++ deeds K
-deeds_cut [] K = refl
-deeds_cut (Begin t c ∷ J) K = deeds_cut J K
-deeds_cut (Done t op r ∷ J) K = ap (λ ds. record { ticket = t; op = op; reply = r } ∷ ds) (deeds_cut J K)
-deeds_cut (Delay t op older y ∷ J) K = deeds_cut J K
-deeds_cut (End t r ∷ J) K = deeds_cut J K
+pub done_operations_cut : (J K : List Event) → done_operations (J ++ K) ≡ done_operations J ++ done_operations K
+done_operations_cut [] K = refl
+done_operations_cut (Begin t c ∷ J) K = done_operations_cut J K
+done_operations_cut (Done t op r ∷ J) K = ap (λ ds. record { ticket = t; op = op; reply = r } ∷ ds) (done_operations_cut J K)
+done_operations_cut (Delay t op older y ∷ J) K = done_operations_cut J K
+done_operations_cut (End t r ∷ J) K = done_operations_cut J K
 
 -- one event more
-pub deeds_more : (J : List Event) (i : ℕ) (e : Event) → i < length J → get_or J i e ≡ e → length (deeds (take (i + 1) J)) ≡ length (deeds (take i J)) + length (deeds (e ∷ []))
-deeds_more J i e h is =
-    ap (λ (K : List Event). length (deeds K)) (take_more J i e h ∙ ap (λ (x : Event). take i J ++ x ∷ []) is)
-    ∙ ap (λ (ds : List Deed). length ds) (deeds_cut (take i J) (e ∷ []))
-    ∙ length-append (deeds (take i J)) (deeds (e ∷ []))
+pub done_operations_more : (J : List Event) (i : ℕ) (e : Event) → i < length J → get_or J i e ≡ e → length (done_operations (take (i + 1) J)) ≡ length (done_operations (take i J)) + length (done_operations (e ∷ []))
+done_operations_more J i e h is =
+    ap (λ (K : List Event). length (done_operations K)) (take_more J i e h ∙ ap (λ (x : Event). take i J ++ x ∷ []) is)
+    ∙ ap (λ (ds : List DoneOperation). length ds) (done_operations_cut (take i J) (e ∷ []))
+    ∙ length-append (done_operations (take i J)) (done_operations (e ∷ []))
 
 -- one reply more
 pub bytes_more : (names : List (List ℕ)) (rs : List Reply) (i : ℕ) (r : Reply) → i < length rs → get_or rs i r ≡ r

@@ -5,7 +5,7 @@ use Rattle.session_values.specs.declared.reply.Reply.{Reply}
 use Rattle.session_values.specs.Serial.{Session, serial_replies}
 use Rattle.session_values.specs.ReplyText.{reply_text}
 use Rattle.session_journal.specs.Script.{Meaning, session_of}
-use Rattle.session_journal.specs.Journal.{deeds}
+use Rattle.session_journal.specs.Journal.{done_operations}
 use Rattle.session_hall.specs.Closings.{ClosedView, IsDone}
 use Rattle.command_words.specs.declared.command.Command.{Command}
 use Rattle.command_words.specs.declared.command.Command.TheVariants.{Check, Show, Serve, Work}
@@ -183,9 +183,9 @@ module _ {O : Type 0} (requests start : ℕ) (bytes : List ℕ) (out : Change O)
   ends_worked status.ReadFault text e = absurd e
 
   pub worked_to : (v : Served) (s : Status) (closed : Option ClosedView) → IsSessionInput made → HasServed (parts_of made) 4 4 v → closed ≡ Some v.closed
-      → EndsBy (summary requests (length (deeds v.closed.journal)) (length (reply_text v.names 0 v.closed.replies))) out s → AnswersTo (Work requests start) bytes out s closed
+      → EndsBy (summary requests (length (done_operations v.closed.journal)) (length (reply_text v.names 0 v.closed.replies))) out s → AnswersTo (Work requests start) bytes out s closed
   worked_to v s closed i h is e =
-      let text = summary requests (length (deeds v.closed.journal)) (length (reply_text v.names 0 v.closed.replies)) in
+      let text = summary requests (length (done_operations v.closed.journal)) (length (reply_text v.names 0 v.closed.replies)) in
       let calls = calls_done h.script v.closed h.done ∙ ap (λ (z : Session). serial_calls z z.requests) h.session_is in
       let text_is = ap (λ (n : ℕ). summary requests n (length (reply_text v.names 0 v.closed.replies))) calls
       ∙ ap (λ (t : List ℕ). summary requests (serial_calls (session_of_parts (parts_of made) h.file) (session_of_parts (parts_of made) h.file).requests) (length t)) (served_text_is (parts_of made) 4 4 v h) in

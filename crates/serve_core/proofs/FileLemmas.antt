@@ -22,7 +22,7 @@ use Rattle.request_files.specs.Text.{Text, is_line_byte, attach, lines}
 use Rattle.handler_machine.specs.Scripts.{meaning}
 use Rattle.session_answers.specs.declared.status.Fault.TheVariants as fault
 use Rattle.session_answers.specs.Input.{Parts, parts_of, is_divided, max_input}
-use Rattle.session_answers.specs.Printable.{ArePrintableReplies}
+use Rattle.reply_writing.specs.Printable.{ArePrintableReplies}
 use Rattle.session_answers.proofs.PrintableRuns.{replies_said}
 use Rattle.session_reading.specs.declared.session.Loaded.{Loaded}
 use Rattle.session_reading.specs.declared.unserved.Unserved.{Unserved}

@@ -8,7 +8,7 @@ use Rattle.session_answers.specs.declared.status.Fault.TheVariants as fault
 use Rattle.session_answers.specs.declared.status.Status.{Status}
 use Rattle.session_answers.specs.declared.status.Status.TheVariants as status
 use Rattle.session_answers.specs.Input.{Parts, parts_of, is_divided, max_input}
-use Rattle.session_answers.specs.Printable.{ArePrintableReplies}
+use Rattle.reply_writing.specs.Printable.{ArePrintableReplies}
 use Rattle.session_answers.specs.Runs.{Change, Failed, Took, TookFront}
 use Rattle.session_answers.specs.Session.{IsSession, all_names_of, session_of_parts}
 use Rattle.session_reading.specs.Reasons.{IsSessionReason}

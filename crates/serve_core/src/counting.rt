@@ -1,9 +1,9 @@
 // Counting: how many operations a session made, and how many bytes its reply lines have.
 
 ghost use Rattle.std.specs.Prelude.{◌≡◌, ◌≤◌, [], ◌∷◌, length};
-ghost use Rattle.session_journal.specs.Journal.{deeds};
+ghost use Rattle.session_journal.specs.Journal.{done_operations};
 ghost use Rattle.session_values.specs.ReplyText.{reply_text};
-ghost use Rattle.session_answers.specs.Printable.{ArePrintableReplies};
+ghost use Rattle.reply_writing.specs.Printable.{ArePrintableReplies};
 
 use reply_sheet::{LineBuf, line};
 use session_journal::Event;
@@ -11,7 +11,7 @@ use session_values::{Names, Reply};
 
 /// How many operations were done.
 pub(crate) fn count_calls(events: &[Event]) -> u64
-    ensures { result ≡ length (deeds events.now) }
+    ensures { result ≡ length (done_operations events.now) }
 {
     let mut calls = 0;
     for event in events {
@@ -22,7 +22,7 @@ pub(crate) fn count_calls(events: &[Event]) -> u64
 
 // One where an operation was done, else none.
 fn count_done(event: &Event) -> u64
-    ensures calls { result ≡ length (deeds (event.now ∷ [])) }
+    ensures calls { result ≡ length (done_operations (event.now ∷ [])) }
     ensures few { result ≤ 1 }
 {
     match event {

@@ -1,7 +1,7 @@
 // Serving: from a source to the lines of the replies.
 
 ghost use Rattle.std.specs.Prelude.{◌≡◌, ◌≤◌, length, Some};
-ghost use Rattle.session_answers.specs.Printable.{ArePrintableReplies};
+ghost use Rattle.reply_writing.specs.Printable.{ArePrintableReplies};
 ghost use Rattle.session_answers.specs.Runs.{Runs, change};
 ghost use Rattle.session_answers.specs.Ways.{AnswersTo};
 ghost use Rattle.session_values.specs.ReplyText.{reply_text};

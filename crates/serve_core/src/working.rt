@@ -1,13 +1,13 @@
 // Working: a made session, and its summary.
 
 ghost use Rattle.std.specs.Prelude.{◌≡◌, ◌+◌, ◌≤◌, ℕ, List, length, Some, IfOk, IfErr};
-ghost use Rattle.session_journal.specs.Journal.{deeds};
+ghost use Rattle.session_journal.specs.Journal.{done_operations};
 ghost use Rattle.session_values.specs.ReplyText.{reply_text};
 ghost use Rattle.command_words.specs.declared.command.Command.TheVariants.{Work};
 ghost use Rattle.work_session.specs.Session.{session_text as text_of_session};
 ghost use Rattle.work_session.specs.Summary.{summary};
 ghost use Rattle.session_answers.specs.Input.{parts_of};
-ghost use Rattle.session_answers.specs.Printable.{ArePrintableReplies};
+ghost use Rattle.reply_writing.specs.Printable.{ArePrintableReplies};
 ghost use Rattle.session_answers.specs.Runs.{change};
 ghost use Rattle.session_answers.specs.Ways.{AnswersTo};
 ghost use Rattle.serve_core.specs.Serving.{IsSessionInput, IsInputReason, HasServed, EndsBy};
@@ -71,7 +71,7 @@ fn write_summary<O: Sink>(requests: u32, served: Served, out: &mut O) -> Outcome
     requires few { length served.closed.replies ≤ 20000 }
     requires printable { ArePrintableReplies served.names served.closed.replies }
     ensures closed { result.closed ≡ Some served.closed }
-    ensures ends { EndsBy (summary requests (length (deeds served.closed.journal))
+    ensures ends { EndsBy (summary requests (length (done_operations served.closed.journal))
         (length (reply_text served.names 0 served.closed.replies)))
         (change O.held O.faults out.old out.new) result.status }
 {

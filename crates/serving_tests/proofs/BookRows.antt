@@ -8,7 +8,7 @@ use Rattle.session_values.specs.Dialogue.{Calls, Answers}
 use Rattle.session_values.specs.Tables.{Container, Bindings, Members, Tables, reply, reply_on, table}
 use Rattle.symbolic_ops.specs.declared.symbol.Symbol.{Symbol}
 use Rattle.symbolic_ops.specs.Foresight.{ForesightView}
-use Rattle.symbolic_ops.specs.Symbols.{Matches, StandsFor, exact_symbol}
+use Rattle.symbolic_ops.specs.Matching.{Matches, StandsFor, exact_symbol}
 use Rattle.session_values.specs.Op.{IsHeld}
 use Rattle.session_values.specs.Values.{IsValue}
 use Rattle.std.specs.List.{AllByRecursion}
@@ -19,7 +19,7 @@ use Rattle.session_journal.specs.Lists.{ListView, list_meaning, says}
 use Rattle.admission_book.specs.declared.admission.Admission.{Admission}
 use Rattle.admission_book.specs.declared.admission.Admission.TheVariants.{Admitted, Delayed}
 use Rattle.admission_book.specs.Book.{Book, Serving, after_admit, after_delay}
-use Rattle.admission_book.specs.Books.{BookView, MayAdmit, MayEnd, HasEnded, MayDo, MayNarrow, DidIt, Narrowed, Admits}
+use Rattle.admission_book.specs.Methods.{BookView, MayAdmit, MayEnd, HasEnded, MayDo, MayNarrow, DidIt, Narrowed, Admits}
 use Rattle.serving_tests.specs.BookRows.{IsAt, get_or_puts, gets_and_put, calls_nothing, both_begun, all_begun, one_begun, once_ended, put_once, narrowed_older, put_twice, put_of, get_of, nil_reply}
 
 -- a fact of the script and the book, where they are known

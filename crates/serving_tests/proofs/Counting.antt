@@ -11,7 +11,7 @@ use Rattle.turn_board.specs.Hands.{in_hands, put_back}
 use Rattle.turn_board.specs.declared.board.Board.{Board}
 use Rattle.turn_board.specs.Hands.{HandsView, Once}
 use Rattle.turn_board.specs.Maps.{SameTurns, bits_of}
-use Rattle.turn_board.specs.Boards.{IsSeatOf, held, note, caller, SameVoice, Tells, Gained, GainedAll, Booked, Released}
+use Rattle.turn_board.specs.Boards.{IsSeatOf, held, note, caller, SameNote, Tells, Gained, GainedAll, Booked, Released}
 use Rattle.serving_tests.specs.Counters.{Balanced, Adds, HasBoth, HasAdded, one_more, counter_of}
 use Rattle.turn_board.proofs.Rows.{by_bool, two, get-within, map-get}
 use Rattle.turn_board.proofs.Several.{else-in}
@@ -99,12 +99,12 @@ module _ {R : Type 0} (contents notes : List (List ℕ)) (bal : Balanced content
 
 -- a seat that took nothing and gave nothing of the book
 module _ {R : Type 0} where
-  pub still-added : (b : Board (List ℕ) R (List ℕ)) (k times : ℕ) (p q : Seat (List ℕ) R (List ℕ)) (h : HandsView (List ℕ)) → HasAdded b k times (p, h) → IsSeatOf b q × SameVoice p q → ((t : ℕ) → held q t ≡ None) → HasAdded b k times (q, h)
+  pub still-added : (b : Board (List ℕ) R (List ℕ)) (k times : ℕ) (p q : Seat (List ℕ) R (List ℕ)) (h : HandsView (List ℕ)) → HasAdded b k times (p, h) → IsSeatOf b q × SameNote p q → ((t : ℕ) → held q t ≡ None) → HasAdded b k times (q, h)
   still-added b k times p q h a s free' = record {
     seat = s.0;
     three = a.three;
     caller_is = s.1.caller_is ∙ a.caller_is;
-    crew_is = s.1.crew_is ∙ a.crew_is;
+    caller_count_is = s.1.caller_count_is ∙ a.caller_count_is;
     near = a.near;
     free = free';
     noted = (a.noted.0, s.1.note_is ∙ a.noted.1, a.noted.2);

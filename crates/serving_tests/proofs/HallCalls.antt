@@ -5,7 +5,7 @@ use Rattle.session_values.specs.declared.op.Op.{Op}
 use Rattle.session_values.specs.declared.value.Value.{Value}
 use Rattle.session_values.specs.Dialogue.{Calls, Answers, Entry, replies, rest}
 use Rattle.symbolic_ops.specs.declared.symbol.Symbol.{Symbol}
-use Rattle.symbolic_ops.specs.Symbols.{Covered, Matches, exact_symbol}
+use Rattle.symbolic_ops.specs.Matching.{Covered, Matches, exact_symbol}
 use Rattle.session_journal.specs.Journal.{entries}
 use Rattle.session_journal.specs.Lists.{ListView}
 use Rattle.session_journal.specs.Script.{IsForesight, Meaning}

@@ -4,7 +4,7 @@ use Rattle.session_values.specs.declared.op.Op.{Op}
 use Rattle.session_values.specs.declared.value.Value.{Value}
 use Rattle.session_values.specs.Dialogue.{Calls, Answers, Dialogue, Entry, replies, rest}
 use Rattle.symbolic_ops.specs.declared.symbol.Symbol.{Symbol}
-use Rattle.symbolic_ops.specs.Symbols.{Covered, Matches, exact_symbol}
+use Rattle.symbolic_ops.specs.Matching.{Covered, Matches, exact_symbol}
 use Rattle.symbolic_ops.proofs.Above.{exact_stands}
 use Rattle.session_journal.specs.Journal.{entries}
 use Rattle.session_journal.specs.Lists.{ListView, Ticket, says, ticket_at}

@@ -8,7 +8,7 @@ use Rattle.session_values.specs.declared.value.Value.{Value}
 use Rattle.session_values.specs.Dialogue.{Next, Calls, Answers, Entry, replies}
 use Rattle.session_values.specs.Op.{IsHeld}
 use Rattle.symbolic_ops.specs.declared.symbol.Symbol.{Symbol}
-use Rattle.symbolic_ops.specs.Symbols.{Matches, exact_symbol}
+use Rattle.symbolic_ops.specs.Matching.{Matches, exact_symbol}
 use Rattle.session_journal.specs.Journal.{entries}
 use Rattle.admission_book.specs.Book.{Book}
 use Rattle.session_journal.specs.Lists.{ListView, Ticket, says, ticket_at}

@@ -6,10 +6,10 @@ use Rattle.session_values.specs.declared.op.Op.{Op}
 use Rattle.session_values.specs.declared.reply.Reply.{Reply}
 use Rattle.session_values.specs.declared.value.Value.TheVariants.{Nil, Num}
 use Rattle.symbolic_ops.specs.declared.symbol.Symbol.{Symbol}
-use Rattle.symbolic_ops.specs.Symbols.{exact_symbol}
+use Rattle.symbolic_ops.specs.Matching.{exact_symbol}
 use Rattle.session_journal.specs.Lists.{ListView, Ticket, list_meaning}
 use Rattle.admission_book.specs.Book.{Book, opened, after_begin, after_narrow, after_admit, after_delay, after_done, after_end}
-use Rattle.admission_book.specs.Books.{BookView}
+use Rattle.admission_book.specs.Methods.{BookView}
 use Rattle.admission_book.specs.Lawful.{Lawful}
 
 abbrev pub put_of : ℕ → ℕ → Op

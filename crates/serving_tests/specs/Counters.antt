@@ -4,7 +4,7 @@ use Rattle.std.specs.Prelude.{◌≡◌, ◌≢◌, ℕ, ◌+◌, ◌%◌, ◌<�
 use Rattle.turn_board.specs.declared.board.Board.{Board}
 use Rattle.turn_board.specs.declared.seat.Seat.{Seat}
 use Rattle.turn_board.specs.Hands.{HandsView}
-use Rattle.turn_board.specs.Boards.{IsSeatOf, turn_count, held, note, caller, crew, Tells}
+use Rattle.turn_board.specs.Boards.{IsSeatOf, turn_count, held, note, caller, caller_count, Tells}
 
 -- each counter has the additions of its two callers, and each note has its caller's additions
 pub record Balanced (contents notes : List (List ℕ)) : Type 0 where
@@ -43,7 +43,7 @@ module _ {R : Type 0} (b : Board (List ℕ) R (List ℕ)) where
     pub seat : IsSeatOf b job.0
     pub three : turn_count b ≡ 3
     pub caller_is : caller job.0 ≡ k
-    pub crew_is : crew job.0 ≡ 4
+    pub caller_count_is : caller_count job.0 ≡ 4
     pub near : k < 4
     pub free : (t : ℕ) → held job.0 t ≡ None
     pub noted : (x : List ℕ) × (note job.0 ≡ Some x) × (slice_index x k ≡ times)

@@ -4,7 +4,7 @@ ghost use Rattle.std.specs.Prelude.{◌≡◌, ◌<◌, ◌≤◌, None, Some, O
 ghost use Rattle.session_journal.specs.Journal.{begun};
 ghost use Rattle.admission_book.specs.Book.{record_of};
 ghost use Rattle.admission_book.specs.Lawful.{Lawful};
-ghost use Rattle.admission_book.specs.Books.{Begins};
+ghost use Rattle.admission_book.specs.Methods.{Begins};
 ghost use Rattle.serving_tests.specs.BookRows.{IsAt, all_begun, both_begun, calls_nothing, get_or_puts, gets_and_put, once_ended, one_begun, put_once, put_twice};
 
 use admission_book::{Admission, Book};

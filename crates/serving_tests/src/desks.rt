@@ -3,7 +3,7 @@
 ghost use Rattle.std.specs.Prelude.{◌≡◌, ◌<◌, List, ◌∷◌, [], IfOk, true};
 ghost use Rattle.session_values.specs.Dialogue.{Calls, Answers};
 ghost use Rattle.session_values.specs.Tables.{Fits};
-ghost use Rattle.symbolic_ops.specs.Symbols.{Covered};
+ghost use Rattle.symbolic_ops.specs.Matching.{Covered};
 ghost use Rattle.session_journal.specs.Desks.{with_entry, with_end};
 ghost use Rattle.session_journal.specs.Lists.{answers_only, calls_more};
 ghost use Rattle.session_journal.specs.Script.{IsScript};

@@ -1,7 +1,7 @@
 // A hall over tickets that do one operation each, served to the end by one caller.
 
 ghost use Rattle.std.specs.Prelude.{◌≡◌, ◌∷◌, [], IfOk};
-ghost use Rattle.symbolic_ops.specs.Symbols.{exact_symbol};
+ghost use Rattle.symbolic_ops.specs.Matching.{exact_symbol};
 ghost use Rattle.session_journal.specs.Lists.{ticket_at};
 ghost use Rattle.session_hall.specs.Callers.{IsCallerOf, entries_of};
 ghost use Rattle.session_hall.specs.Names.{script_of};

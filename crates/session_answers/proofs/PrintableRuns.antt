@@ -24,7 +24,7 @@ use Rattle.handler_dialogue.specs.Dialogue.{Env, env_of, with_value, in_range, c
 use Rattle.handler_check.specs.Resolved.{code_at}
 use Rattle.request_files.specs.declared.request.Request.{Request}
 use Rattle.request_files.specs.Requests.{ArePrintable}
-use Rattle.session_answers.specs.Printable.{ArePrintableReplies}
+use Rattle.reply_writing.specs.Printable.{ArePrintableReplies}
 use Rattle.request_files.specs.Session.{session, request_at}
 use Rattle.session_answers.proofs.PrintableCode.{AtomPrints, TermPrints, CodePrints, file_prints}
 use Rattle.session_answers.proofs.PrintableTables.{Holds as TableHolds, start_holds, reply_printable, step_holds}

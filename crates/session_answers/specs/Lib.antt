@@ -2,7 +2,6 @@ pub mod Answer
 pub mod ExitStatus
 pub mod Input
 pub mod Message
-pub mod Printable
 pub mod Runs
 pub mod Session
 pub mod Ways

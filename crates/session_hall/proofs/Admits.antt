@@ -6,18 +6,18 @@ use Rattle.symbolic_ops.specs.declared.symbol.Symbol.{Symbol}
 use Rattle.symbolic_ops.specs.Foresight.{ForesightView}
 use Rattle.session_journal.specs.declared.event.Event.{Event}
 use Rattle.session_journal.specs.declared.event.Event.TheVariants.{Delay}
-use Rattle.session_journal.specs.Journal.{deeds, of_ticket, entries, owner, ticket_of}
+use Rattle.session_journal.specs.Journal.{done_operations, of_ticket, entries, owner, ticket_of}
 use Rattle.session_journal.specs.Script.{Meaning}
 use Rattle.admission_book.specs.Book.{Book, Serving, IsBlocker, record_of, with_event, after_admit, after_delay}
 use Rattle.admission_book.specs.Lawful.{Lawful}
 use Rattle.admission_book.specs.EventsInTurn.{is_delayed}
-use Rattle.admission_book.specs.Books as books
-use Rattle.admission_book.specs.Books.{BookView, IsOldestOpen}
+use Rattle.admission_book.specs.Methods as books
+use Rattle.admission_book.specs.Methods.{BookView, IsOldestOpen}
 use Rattle.admission_book.specs.declared.admission.Admission.{Admission}
 use Rattle.admission_book.specs.declared.admission.Admission.TheVariants as admission
-use Rattle.admission_book.proofs.Events.{deeds_stay}
+use Rattle.admission_book.proofs.Events.{done_operations_stay}
 use Rattle.admission_book.proofs.Records.{within}
-use Rattle.turn_board.specs.Boards.{IsSeatOf, SameVoice, BookedAll, turn_count, held, caller, crew}
+use Rattle.turn_board.specs.Boards.{IsSeatOf, SameNote, BookedAll, turn_count, held, caller, caller_count}
 use Rattle.turn_board.specs.Hands.{put_back}
 use Rattle.hall_rule.specs.declared.held.Held.TheVariants as value
 use Rattle.hall_rule.specs.Contents.{Register}
@@ -35,7 +35,7 @@ use Rattle.session_hall.specs.Stages.{SeatOf, OnServing, waiting, flying}
 use Rattle.session_hall.proofs.Giving.{one_record, same_records, own_set, quiet_moves, left_is, who, holds_none, gave_back, caller_after}
 use Rattle.session_hall.proofs.Tickets.{on_serving, own_record, still, empty_hands, owner_more}
 
-module _ {S : Type 0} (meaning : S → Meaning) (h : Hall S) (c : Caller S) (k : IsCallerOf meaning h c) (q : SeatOf S) (b : BookView S) (v : SameVoice c.seat q) (f : HasBook c.seat q meaning (script_of h) (turn_count h.board) b) (t : ℕ) (st : c.stage ≡ Serves t)
+module _ {S : Type 0} (meaning : S → Meaning) (h : Hall S) (c : Caller S) (k : IsCallerOf meaning h c) (q : SeatOf S) (b : BookView S) (v : SameNote c.seat q) (f : HasBook c.seat q meaning (script_of h) (turn_count h.board) b) (t : ℕ) (st : c.stage ≡ Serves t)
     (d : BookView S) (kept : d.script ≡ b.script) (lawful : Lawful (meaning d.script) d.book) (op : Op) where
   module _ (admits : books.Admits b.book t op admission.Admitted d.book) where
     abbrev after : Book
@@ -75,7 +75,7 @@ module _ {S : Type 0} (meaning : S → Meaning) (h : Hall S) (c : Caller S) (k :
       more : List Event
       grows : b.book.journal ++ more ≡ w.journal
       records : w.records ≡ b.book.records
-      quiet : deeds more ≡ []
+      quiet : done_operations more ≡ []
       own : AllByRecursion (λ e. owner w.journal (ticket_of e) ≡ Some (caller c.seat)) more
       entries_still : entries w.journal t ≡ entries b.book.journal t
 
@@ -84,14 +84,14 @@ module _ {S : Type 0} (meaning : S → Meaning) (h : Hall S) (c : Caller S) (k :
       where
         go : (x : Bool) → IsDelay (cond x b.book (with_event b.book (Delay t op older y)))
         go true = record { more = []; grows = append-nil b.book.journal; records = refl; quiet = refl; own = tt; entries_still = refl }
-        go false = record { more = Delay t op older y ∷ []; grows = refl; records = refl; quiet = refl; own = (owner_more meaning h c k q b v f t st (Delay t op older y), tt); entries_still = ap (of_ticket t) (deeds_stay b.book.journal (Delay t op older y) refl) }
+        go false = record { more = Delay t op older y ∷ []; grows = refl; records = refl; quiet = refl; own = (owner_more meaning h c k q b v f t st (Delay t op older y), tt); entries_still = ap (of_ticket t) (done_operations_stay b.book.journal (Delay t op older y) refl) }
 
     pub delay_moves : Moves meaning (turn_count h.board) (caller q) (held q) (put_back content_of (value.Register d) c.hands.pairs)
     delay_moves = quiet_moves meaning h c k q b v f d kept lawful later delays.1 delay.more delay.quiet
         (same_records (meaning (script_of h)) (caller c.seat) b.book later delay.more delay.records delay.grows delay.own) c.hands.pairs (empty_hands meaning h c k q b v f t st)
 
     -- with one caller no other ticket is open
-    several : crew c.seat ≢ 1
+    several : caller_count c.seat ≢ 1
     several one =
         let z : IsBlocker b.book t op older y = delays.0 in
         let near : z.caller < length b.book.records = within b.book.records z.caller z.serving z.is in

@@ -5,14 +5,14 @@ use Rattle.std.proofs.lemmas.Bool.Decides.{nat_tests}
 use Rattle.symbolic_ops.specs.declared.symbol.Symbol.{Symbol}
 use Rattle.symbolic_ops.specs.Foresight.{ForesightView}
 use Rattle.session_journal.specs.declared.event.Event.TheVariants.{Begin}
-use Rattle.session_journal.specs.Journal.{Deed, deeds, of_ticket, entries, begun}
+use Rattle.session_journal.specs.Journal.{DoneOperation, done_operations, of_ticket, entries, begun}
 use Rattle.session_journal.specs.Script.{Meaning, IsForesight}
 use Rattle.admission_book.specs.Book.{Book, Serving, record_of, after_begin}
 use Rattle.admission_book.specs.Lawful.{Lawful}
-use Rattle.admission_book.specs.Books as books
-use Rattle.admission_book.specs.Books.{BookView, IsOldestOpen}
-use Rattle.admission_book.proofs.Events.{OnlyBegun, only_begun, owner_new, deeds_stay}
-use Rattle.turn_board.specs.Boards.{IsSeatOf, SameVoice, BookedAll, turn_count, caller}
+use Rattle.admission_book.specs.Methods as books
+use Rattle.admission_book.specs.Methods.{BookView, IsOldestOpen}
+use Rattle.admission_book.proofs.Events.{OnlyBegun, only_begun, owner_new, done_operations_stay}
+use Rattle.turn_board.specs.Boards.{IsSeatOf, SameNote, BookedAll, turn_count, caller}
 use Rattle.hall_rule.specs.declared.held.Held.{Held}
 use Rattle.hall_rule.specs.Contents.{Register}
 use Rattle.session_hall.specs.declared.caller.Caller.{Caller}
@@ -29,7 +29,7 @@ use Rattle.session_hall.proofs.Giving.{Changes, one_record, same_records, at_scr
 other_test : (a b : ℕ) → a ≢ b → eqb a b ≡ false
 other_test a b e = grind (arith, nat_tests)
 
-none_yet : (t : ℕ) (ds : List Deed) → AllByRecursion (λ d. d.ticket < t) ds → of_ticket t ds ≡ []
+none_yet : (t : ℕ) (ds : List DoneOperation) → AllByRecursion (λ d. d.ticket < t) ds → of_ticket t ds ≡ []
 none_yet t [] a = refl
 none_yet t (d ∷ ds) a =
     ap (λ (x : Bool). cond x (record { op = d.op; reply = d.reply } ∷ of_ticket t ds) (of_ticket t ds)) (other_test d.ticket t (λ e. omega (arith, a.0, e)))
@@ -50,7 +50,7 @@ module _ {S : Type 0} (meaning : S → Meaning) (h : Hall S) (c : Caller S) (k :
   pub no_pairs : c.hands.pairs ≡ []
   no_pairs = stands_between.1.no_pairs
 
-  module _ (q : SeatOf S) (b : BookView S) (v : SameVoice c.seat q) (f : HasBook c.seat q meaning (script_of h) (turn_count h.board) b) where
+  module _ (q : SeatOf S) (b : BookView S) (v : SameNote c.seat q) (f : HasBook c.seat q meaning (script_of h) (turn_count h.board) b) where
     pub no_record : record_of b.book (caller c.seat) ≡ None
     no_record = sym f.finds.since.own ∙ stands_between.0
 
@@ -123,7 +123,7 @@ module _ {S : Type 0} (meaning : S → Meaning) (h : Hall S) (c : Caller S) (k :
           began_ticket =
               let l : book_of r ≡ after = left_is meaning h c k q b v f d kept lawful after book_begun r seat g pairs reserved number in
               let P : S → Type 0 = λ s. t < (meaning s).requests in
-              let Q : ℕ → Type 0 = λ u. AllByRecursion (λ (z : Deed). z.ticket < u) (deeds b.book.journal) in
+              let Q : ℕ → Type 0 = λ u. AllByRecursion (λ (z : DoneOperation). z.ticket < u) (done_operations b.book.journal) in
               record {
                 found = b.book;
                 gave = gave_back meaning h c k q b v f d kept lawful after book_begun r seat g pairs reserved number;
@@ -131,5 +131,5 @@ module _ {S : Type 0} (meaning : S → Meaning) (h : Hall S) (c : Caller S) (k :
                 within = subst P f.script_is left;
                 stage_is = stage;
                 foresight_is = symbols ∙ entry_here;
-                no_entries = ap (λ (w : Book). entries w.journal t) l ∙ ap (of_ticket t) (deeds_stay b.book.journal (Begin (begun b.book.journal) (caller c.seat)) refl) ∙ none_yet t (deeds b.book.journal) (subst Q (sym next) begun_only.deeds);
+                no_entries = ap (λ (w : Book). entries w.journal t) l ∙ ap (of_ticket t) (done_operations_stay b.book.journal (Begin (begun b.book.journal) (caller c.seat)) refl) ∙ none_yet t (done_operations b.book.journal) (subst Q (sym next) begun_only.done_operations);
               }

@@ -6,9 +6,9 @@ use Rattle.session_journal.specs.Journal.{entries}
 use Rattle.session_journal.specs.Script.{Meaning}
 use Rattle.admission_book.specs.Book.{Book, after_narrow}
 use Rattle.admission_book.specs.Lawful.{Lawful}
-use Rattle.admission_book.specs.Books as books
-use Rattle.admission_book.specs.Books.{BookView, IsOldestOpen}
-use Rattle.turn_board.specs.Boards.{IsSeatOf, SameVoice, BookedAll, turn_count, held, caller}
+use Rattle.admission_book.specs.Methods as books
+use Rattle.admission_book.specs.Methods.{BookView, IsOldestOpen}
+use Rattle.turn_board.specs.Boards.{IsSeatOf, SameNote, BookedAll, turn_count, held, caller}
 use Rattle.turn_board.specs.Hands.{put_back}
 use Rattle.hall_rule.specs.declared.held.Held.TheVariants as value
 use Rattle.hall_rule.specs.Contents.{Register}
@@ -25,7 +25,7 @@ use Rattle.session_hall.specs.Stages.{SeatOf, OnServing, waiting}
 use Rattle.session_hall.proofs.Giving.{one_record, own_set, quiet_moves, left_is, who, holds_none, gave_back, caller_after}
 use Rattle.session_hall.proofs.Tickets.{on_serving, own_record, still, empty_hands}
 
-module _ {S : Type 0} (meaning : S → Meaning) (h : Hall S) (c : Caller S) (k : IsCallerOf meaning h c) (q : SeatOf S) (b : BookView S) (v : SameVoice c.seat q) (f : HasBook c.seat q meaning (script_of h) (turn_count h.board) b) (t : ℕ) (st : c.stage ≡ Serves t) where
+module _ {S : Type 0} (meaning : S → Meaning) (h : Hall S) (c : Caller S) (k : IsCallerOf meaning h c) (q : SeatOf S) (b : BookView S) (v : SameNote c.seat q) (f : HasBook c.seat q meaning (script_of h) (turn_count h.board) b) (t : ℕ) (st : c.stage ≡ Serves t) where
   module _ (d : BookView S) (kept : d.script ≡ b.script) (lawful : Lawful (meaning d.script) d.book) where
     -- ---- declare
     module _ (g : List Symbol) (narrowed : books.Narrowed b.book t g d.book) where

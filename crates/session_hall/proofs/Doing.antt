@@ -19,7 +19,7 @@ use Rattle.shard_tables.specs.Parts.{part, shard_of}
 use Rattle.shard_tables.proofs.PartSizes.{part_few, part_sizes}
 use Rattle.admission_book.specs.Book.{Holds, record_of}
 use Rattle.admission_book.proofs.Keys.{keys_few, keys_fewer}
-use Rattle.turn_board.specs.Boards.{IsSeatOf, SameVoice, Tells, GainedAll, MissedAll, turn_count, held, caller, crew, lost, givings}
+use Rattle.turn_board.specs.Boards.{IsSeatOf, SameNote, Tells, GainedAll, MissedAll, turn_count, held, caller, caller_count, lost, givings}
 use Rattle.turn_board.specs.Hands.{HandsView, in_hands, Once}
 use Rattle.turn_board.specs.Maps.{bits_of}
 use Rattle.turn_board.proofs.Rows.{two}
@@ -149,7 +149,7 @@ module _ {S : Type 0} (meaning : S → Meaning) (h : Hall S) (c : Caller S) (k :
     busy_turn u e = let r : (lo ≤ u) × (u < lo + span n op) = row_of u e in of_row u r.0 r.1
 
     -- ---- the turns were taken
-    module _ (q : SeatOf S) (xs : List (ℕ × Held S)) (v : SameVoice c.seat q) (g : GainedAll c.seat q content_of (turn_count h.board) set c.hands.pairs xs) (told : Tells (Tied meaning) (turn_count h.board) q) where
+    module _ (q : SeatOf S) (xs : List (ℕ × Held S)) (v : SameNote c.seat q) (g : GainedAll c.seat q content_of (turn_count h.board) set c.hands.pairs xs) (told : Tells (Tied meaning) (turn_count h.board) q) where
       abbrev J : List Event
       J = told.tied.book.journal
 
@@ -201,7 +201,7 @@ module _ {S : Type 0} (meaning : S → Meaning) (h : Hall S) (c : Caller S) (k :
       at_table : (j : ℕ) → IsTurnOf h.sizes.shards op j → j / shards_in (meaning (script_of h)) (turn_count h.board) ≡ op.table
       at_table j i = ap (λ (a : ℕ). j / a) shards_known ∙ i.table
 
-      finds : Finds (meaning (script_of h)) (book_of c) told.tied.book (caller c.seat) (crew c.seat)
+      finds : Finds (meaning (script_of h)) (book_of c) told.tied.book (caller c.seat) (caller_count c.seat)
       finds = finds_book meaning (script_of h) turns c.seat q k.noted v told
 
       flight_found : Holds (meaning (script_of h)) told.tied.book (caller c.seat) (flying t c.foresight.symbols op)
@@ -412,7 +412,7 @@ module _ {S : Type 0} (meaning : S → Meaning) (h : Hall S) (c : Caller S) (k :
               })
 
     -- ---- a turn was found taken
-    module _ (q : SeatOf S) (v : SameVoice c.seat q) (u : ℕ) (g : MissedAll c.seat q set u) (several : crew c.seat ≢ 1) (hands : HandsView (Held S)) (pairs : hands.pairs ≡ c.hands.pairs) where
+    module _ (q : SeatOf S) (v : SameNote c.seat q) (u : ℕ) (g : MissedAll c.seat q set u) (several : caller_count c.seat ≢ 1) (hands : HandsView (Held S)) (pairs : hands.pairs ≡ c.hands.pairs) where
       missed_lost : (w : ℕ) → lost c.seat w ≤ lost q w
       missed_lost w = elim (lower w u) [
         | inl p ↦ (let e : lost q w ≡ lost c.seat w = g.below w p in omega (arith, e))

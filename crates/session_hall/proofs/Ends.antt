@@ -8,10 +8,10 @@ use Rattle.session_journal.specs.Script.{Meaning}
 use Rattle.admission_book.specs.Book.{Book, after_end}
 use Rattle.admission_book.specs.Lawful.{Lawful}
 use Rattle.admission_book.specs.EventsInTurn.{IsOpen}
-use Rattle.admission_book.specs.Books as books
-use Rattle.admission_book.specs.Books.{BookView, IsOldestOpen}
-use Rattle.admission_book.proofs.Events.{deeds_stay, begun_stays, ended_new}
-use Rattle.turn_board.specs.Boards.{IsSeatOf, SameVoice, BookedAll, turn_count, held, caller}
+use Rattle.admission_book.specs.Methods as books
+use Rattle.admission_book.specs.Methods.{BookView, IsOldestOpen}
+use Rattle.admission_book.proofs.Events.{done_operations_stay, begun_stays, ended_new}
+use Rattle.turn_board.specs.Boards.{IsSeatOf, SameNote, BookedAll, turn_count, held, caller}
 use Rattle.turn_board.specs.Hands.{put_back}
 use Rattle.hall_rule.specs.declared.held.Held.TheVariants as value
 use Rattle.hall_rule.specs.Contents.{Register}
@@ -28,7 +28,7 @@ use Rattle.session_hall.specs.Stages.{SeatOf, OnServing, waiting}
 use Rattle.session_hall.proofs.Giving.{one_record, own_set, quiet_moves, left_is, who, holds_none, gave_back, caller_after}
 use Rattle.session_hall.proofs.Tickets.{on_serving, own_record, holds, still, empty_hands, owner_more}
 
-module _ {S : Type 0} (meaning : S → Meaning) (h : Hall S) (c : Caller S) (k : IsCallerOf meaning h c) (q : SeatOf S) (b : BookView S) (v : SameVoice c.seat q) (f : HasBook c.seat q meaning (script_of h) (turn_count h.board) b) (t : ℕ) (st : c.stage ≡ Serves t)
+module _ {S : Type 0} (meaning : S → Meaning) (h : Hall S) (c : Caller S) (k : IsCallerOf meaning h c) (q : SeatOf S) (b : BookView S) (v : SameNote c.seat q) (f : HasBook c.seat q meaning (script_of h) (turn_count h.board) b) (t : ℕ) (st : c.stage ≡ Serves t)
     (d : BookView S) (kept : d.script ≡ b.script) (lawful : Lawful (meaning d.script) d.book) (a : Reply) (has_ended : books.HasEnded b.book t a d.book) where
   abbrev after : Book
   after = after_end b.book (caller c.seat) (waiting t c.foresight.symbols) a
@@ -58,7 +58,7 @@ module _ {S : Type 0} (meaning : S → Meaning) (h : Hall S) (c : Caller S) (k :
           gave = gave_back meaning h c k q b v f d kept lawful after is_ended r seat bk pairs reserved number;
           stage_is = stage;
           foresight_still = fores;
-          entries_still = ap (λ (w : Book). entries w.journal t) l ∙ ap (of_ticket t) (deeds_stay b.book.journal (End t a) refl) ∙ still meaning h c k q b v f t st;
+          entries_still = ap (λ (w : Book). entries w.journal t) l ∙ ap (of_ticket t) (done_operations_stay b.book.journal (End t a) refl) ∙ still meaning h c k q b v f t st;
           is_begun = let P : Book → Type 0 = λ w. t < begun w.journal in subst P (sym l) (omega (arith, open_ticket.begun, more));
           is_ended = ap (λ (w : Book). ended w.journal t) l ∙ ended_new b.book.journal t a open_ticket.not_ended;
         })

@@ -13,9 +13,9 @@ use Rattle.session_journal.specs.Journal.{entries, caller_of}
 use Rattle.session_journal.specs.Script.{Meaning, IsForesight}
 use Rattle.admission_book.specs.Book.{Book, Holds, record_of, after_done}
 use Rattle.admission_book.specs.Lawful.{Lawful}
-use Rattle.admission_book.specs.Books.{BookView, MayDo, DidIt}
+use Rattle.admission_book.specs.Methods.{BookView, MayDo, DidIt}
 use Rattle.admission_book.proofs.Events.{first_stays, entries_more}
-use Rattle.turn_board.specs.Boards.{IsSeatOf, SameVoice, BookedAll, turn_count, held, caller}
+use Rattle.turn_board.specs.Boards.{IsSeatOf, SameNote, BookedAll, turn_count, held, caller}
 use Rattle.turn_board.specs.Hands.{in_hands, put_back}
 use Rattle.turn_board.specs.Maps.{SameTurns}
 use Rattle.hall_rule.specs.declared.held.Held.TheVariants as value
@@ -54,7 +54,7 @@ free_worked op o None w e = refl
 free_worked op None (Some y) w e = absurd w
 free_worked op (Some z) (Some y) w e = absurd (none_some z (sym e))
 
-module _ {S : Type 0} (meaning : S → Meaning) (h : Hall S) (c : Caller S) (k : IsCallerOf meaning h c) (q : SeatOf S) (b : BookView S) (v : SameVoice c.seat q) (f : HasBook c.seat q meaning (script_of h) (turn_count h.board) b) (t : ℕ) (op : Op) (answer : Value) (st : c.stage ≡ Applied t op answer) where
+module _ {S : Type 0} (meaning : S → Meaning) (h : Hall S) (c : Caller S) (k : IsCallerOf meaning h c) (q : SeatOf S) (b : BookView S) (v : SameNote c.seat q) (f : HasBook c.seat q meaning (script_of h) (turn_count h.board) b) (t : ℕ) (op : Op) (answer : Value) (st : c.stage ≡ Applied t op answer) where
   abbrev m : Meaning
   m = meaning (script_of h)
 

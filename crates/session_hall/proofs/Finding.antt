@@ -5,8 +5,8 @@ use Rattle.session_values.specs.Tables.{Container}
 use Rattle.session_journal.specs.Script.{Meaning}
 use Rattle.admission_book.specs.Book.{Book}
 use Rattle.admission_book.specs.Lawful.{Lawful}
-use Rattle.admission_book.specs.Books.{BookView}
-use Rattle.turn_board.specs.Boards.{SameVoice, Gained, Tells, held, note, caller, crew}
+use Rattle.admission_book.specs.Methods.{BookView}
+use Rattle.turn_board.specs.Boards.{SameNote, Gained, Tells, held, note, caller, caller_count}
 use Rattle.hall_rule.specs.Contents.{Content, Register, Shard, IsShard, IsSince, IsNote, share}
 use Rattle.hall_rule.specs.Law.{inside, lies_within, same_script, same_book, same_container, apart_contents}
 use Rattle.hall_rule.specs.Tie.{Tied}
@@ -15,7 +15,7 @@ use Rattle.session_hall.specs.Findings.{Finds, HasBook}
 use Rattle.session_hall.specs.Stages.{SeatOf}
 
 -- what the rule tells a caller of its hall
-module _ {S : Type 0} (meaning : S → Meaning) (script : S) (turns : ℕ) (p q : SeatOf S) (noted : note p ≡ Some (Register script (book_in (note p)))) (v : SameVoice p q) (t : Tells (Tied meaning) turns q) where
+module _ {S : Type 0} (meaning : S → Meaning) (script : S) (turns : ℕ) (p q : SeatOf S) (noted : note p ≡ Some (Register script (book_in (note p)))) (v : SameNote p q) (t : Tells (Tied meaning) turns q) where
   note_at : slice_get t.notes (caller p) ≡ Some (Register script (book_in (note p)))
   note_at = ap (slice_get t.notes) (sym v.caller_is) ∙ t.noted ∙ v.note_is ∙ noted
 
@@ -25,13 +25,13 @@ module _ {S : Type 0} (meaning : S → Meaning) (script : S) (turns : ℕ) (p q 
   pub script_here : t.tied.script ≡ script
   script_here = sym (same_script script t.tied.script (book_in (note p)) my_note.noted my_note.is)
 
-  pub finds_book : Finds (meaning script) (book_in (note p)) t.tied.book (caller p) (crew p)
+  pub finds_book : Finds (meaning script) (book_in (note p)) t.tied.book (caller p) (caller_count p)
   finds_book =
       let P : S → Type 0 = λ s. Lawful (meaning s) t.tied.book in
       let Q : Book → Type 0 = λ d. IsSince d t.tied.book (caller p) in
       let near : caller p < length t.notes = lies_within t.notes (caller p) (Register script (book_in (note p))) note_at in
-      let e : length t.notes ≡ crew q = t.callers in
-      let r : crew q ≡ crew p = v.crew_is in
+      let e : length t.notes ≡ caller_count q = t.callers in
+      let r : caller_count q ≡ caller_count p = v.caller_count_is in
       record {
         lawful = subst P script_here t.tied.lawful;
         callers_are = t.tied.callers ∙ e ∙ r;
@@ -64,8 +64,8 @@ module _ {S : Type 0} (meaning : S → Meaning) (script : S) (turns : ℕ) (p q 
 
     pub has_book : HasBook p q meaning script turns b
     has_book =
-        let P : Book → Type 0 = λ d. Finds (meaning script) (book_in (note p)) d (caller p) (crew p) in
-        let f : Finds (meaning script) (book_in (note p)) b.book (caller p) (crew p) = subst P book_is finds_book in
+        let P : Book → Type 0 = λ d. Finds (meaning script) (book_in (note p)) d (caller p) (caller_count p) in
+        let f : Finds (meaning script) (book_in (note p)) b.book (caller p) (caller_count p) = subst P book_is finds_book in
         let Q : S → Type 0 = λ s. Lawful (meaning s) b.book in
         record {
           script_is = script_is;

@@ -5,13 +5,13 @@ use Rattle.std.proofs.lemmas.List.{length-set, get_or-set_other, get_or-set_same
 use Rattle.session_values.specs.Tables.{start}
 use Rattle.symbolic_ops.specs.declared.symbol.Symbol.{Symbol}
 use Rattle.session_journal.specs.declared.event.Event.{Event}
-use Rattle.session_journal.specs.Journal.{deeds, owner, ticket_of}
+use Rattle.session_journal.specs.Journal.{done_operations, owner, ticket_of}
 use Rattle.session_journal.specs.Script.{Meaning, IsScript}
 use Rattle.admission_book.specs.Book.{Book, Serving, record_of, with_record}
 use Rattle.admission_book.specs.Lawful.{Lawful}
-use Rattle.admission_book.specs.Books.{BookView}
+use Rattle.admission_book.specs.Methods.{BookView}
 use Rattle.admission_book.proofs.Foreknown.{foreknown, regrouped_lawful}
-use Rattle.turn_board.specs.Boards.{IsSeatOf, SameVoice, BookedAll, turn_count, held, note, caller}
+use Rattle.turn_board.specs.Boards.{IsSeatOf, SameNote, BookedAll, turn_count, held, note, caller}
 use Rattle.turn_board.specs.Hands.{HandsView, Once, in_hands, put_back}
 use Rattle.hall_rule.specs.declared.held.Held.{Held}
 use Rattle.hall_rule.specs.declared.held.Held.TheVariants as value
@@ -66,7 +66,7 @@ same_records m c b d more e grows own = record {
 }
 
 -- ---- a caller that has the book, and gives back what it made of it
-module _ {S : Type 0} (meaning : S → Meaning) (h : Hall S) (c : Caller S) (k : IsCallerOf meaning h c) (q : SeatOf S) (b : BookView S) (v : SameVoice c.seat q) (f : HasBook c.seat q meaning (script_of h) (turn_count h.board) b) where
+module _ {S : Type 0} (meaning : S → Meaning) (h : Hall S) (c : Caller S) (k : IsCallerOf meaning h c) (q : SeatOf S) (b : BookView S) (v : SameNote c.seat q) (f : HasBook c.seat q meaning (script_of h) (turn_count h.board) b) where
   abbrev m : Meaning
   m = meaning (script_of h)
 
@@ -91,7 +91,7 @@ module _ {S : Type 0} (meaning : S → Meaning) (h : Hall S) (c : Caller S) (k :
     register_is = λ i. Register ((kept ∙ f.script_is) i) (is i)
 
     -- a change without a Done event, while no shard is held
-    pub quiet_moves : (more : List Event) → deeds more ≡ [] → Changes (meaning (script_of h)) (caller c.seat) b.book left more → (xs : List (ℕ × Held S)) → xs ≡ [] → Moves meaning (turn_count h.board) (caller q) (held q) (put_back content_of (value.Register d) xs)
+    pub quiet_moves : (more : List Event) → done_operations more ≡ [] → Changes (meaning (script_of h)) (caller c.seat) b.book left more → (xs : List (ℕ × Held S)) → xs ≡ [] → Moves meaning (turn_count h.board) (caller q) (held q) (put_back content_of (value.Register d) xs)
     quiet_moves more quiet ch xs none =
         let P : List (ℕ × Held S) → Type 0 = λ l. Moves meaning (turn_count h.board) (caller q) (held q) (put_back content_of (value.Register d) l) in
         let Q : ℕ → Type 0 = λ u. Moves meaning (turn_count h.board) u (held q) (put_back content_of (value.Register d) []) in
@@ -145,7 +145,7 @@ module _ {S : Type 0} (meaning : S → Meaning) (h : Hall S) (c : Caller S) (k :
           record {
             seat = seat;
             number_is = who ∙ k.number_is ∙ sym number;
-            crew_is = g.crew_is ∙ v.crew_is ∙ k.crew_is;
+            caller_count_is = g.caller_count_is ∙ v.caller_count_is ∙ k.caller_count_is;
             noted = noted_is ∙ ap (λ (w : Book). Some (Register (script_of h) w)) (sym left_is);
             script_kept = k.script_kept;
             lawful = lawful_now;
@@ -162,7 +162,7 @@ module _ {S : Type 0} (meaning : S → Meaning) (h : Hall S) (c : Caller S) (k :
           }
 
 -- ---- a caller whose note stays
-pub caller_on : {S : Type 0} (meaning : S → Meaning) (h : Hall S) (c : Caller S) (k : IsCallerOf meaning h c) (d : Caller S) → IsSeatOf h.board d.seat → SameVoice c.seat d.seat → d.number ≡ c.number → 256 ≤ d.foresight.room → d.hands.room ≡ c.hands.room → Once content_of d.hands.pairs → Stands (meaning (script_of h)) (turn_count h.board) d.stage d.foresight.symbols (book_of c) d.seat d.hands.pairs → IsCallerOf meaning h d
+pub caller_on : {S : Type 0} (meaning : S → Meaning) (h : Hall S) (c : Caller S) (k : IsCallerOf meaning h c) (d : Caller S) → IsSeatOf h.board d.seat → SameNote c.seat d.seat → d.number ≡ c.number → 256 ≤ d.foresight.room → d.hands.room ≡ c.hands.room → Once content_of d.hands.pairs → Stands (meaning (script_of h)) (turn_count h.board) d.stage d.foresight.symbols (book_of c) d.seat d.hands.pairs → IsCallerOf meaning h d
 caller_on {S} meaning h c k d seat v number room reserved once stands =
     let e : book_of c ≡ book_of d = ap book_in (sym v.note_is) in
     let L : Book → Type 0 = λ w. Lawful (meaning (script_of h)) w in
@@ -171,7 +171,7 @@ caller_on {S} meaning h c k d seat v number room reserved once stands =
     record {
       seat = seat;
       number_is = v.caller_is ∙ k.number_is ∙ sym number;
-      crew_is = v.crew_is ∙ k.crew_is;
+      caller_count_is = v.caller_count_is ∙ k.caller_count_is;
       noted = v.note_is ∙ k.noted ∙ ap (λ (w : Book). Some (Register (script_of h) w)) e;
       script_kept = k.script_kept;
       lawful = subst L e k.lawful;
@@ -199,13 +199,13 @@ stands_still {S} m turns (Applied t op v) f b p q xs e h s =
     (ap (record_of b) e ∙ s.0, subst P (sym w) s.1)
 
 -- a caller that found a turn taken
-pub busy_caller : {S : Type 0} (meaning : S → Meaning) (h : Hall S) (c : Caller S) (k : IsCallerOf meaning h c) (q : SeatOf S) → IsSeatOf h.board q → SameVoice c.seat q → ((u : ℕ) → held q u ≡ held c.seat u) → IsCallerOf meaning h (record { seat = q; number = c.number; stage = c.stage; foresight = c.foresight; hands = c.hands })
+pub busy_caller : {S : Type 0} (meaning : S → Meaning) (h : Hall S) (c : Caller S) (k : IsCallerOf meaning h c) (q : SeatOf S) → IsSeatOf h.board q → SameNote c.seat q → ((u : ℕ) → held q u ≡ held c.seat u) → IsCallerOf meaning h (record { seat = q; number = c.number; stage = c.stage; foresight = c.foresight; hands = c.hands })
 busy_caller meaning h c k q seat v same =
     caller_on meaning h c k (record { seat = q; number = c.number; stage = c.stage; foresight = c.foresight; hands = c.hands }) seat v refl k.room refl k.once
     (stands_still (meaning (script_of h)) (turn_count h.board) c.stage c.foresight.symbols (book_of c) c.seat q c.hands.pairs v.caller_is same k.stands)
 
 -- the same with its hands, to which nothing was added
-pub busy_on : {S : Type 0} (meaning : S → Meaning) (h : Hall S) (c : Caller S) (k : IsCallerOf meaning h c) (q : SeatOf S) → IsSeatOf h.board q → SameVoice c.seat q → ((u : ℕ) → held q u ≡ held c.seat u) → (hands : HandsView (Held S)) → hands.pairs ≡ c.hands.pairs → hands.room ≡ c.hands.room → IsCallerOf meaning h (record { seat = q; number = c.number; stage = c.stage; foresight = c.foresight; hands = hands })
+pub busy_on : {S : Type 0} (meaning : S → Meaning) (h : Hall S) (c : Caller S) (k : IsCallerOf meaning h c) (q : SeatOf S) → IsSeatOf h.board q → SameNote c.seat q → ((u : ℕ) → held q u ≡ held c.seat u) → (hands : HandsView (Held S)) → hands.pairs ≡ c.hands.pairs → hands.room ≡ c.hands.room → IsCallerOf meaning h (record { seat = q; number = c.number; stage = c.stage; foresight = c.foresight; hands = hands })
 busy_on {S} meaning h c k q seat v same hands pairs reserved =
     let O : List (ℕ × Held S) → Type 0 = λ l. Once content_of l in
     let P : List (ℕ × Held S) → Type 0 = λ l. Stands (meaning (script_of h)) (turn_count h.board) c.stage c.foresight.symbols (book_of c) q l in

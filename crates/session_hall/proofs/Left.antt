@@ -10,7 +10,7 @@ use Rattle.session_journal.specs.Journal.{begun, ended, after}
 use Rattle.session_journal.specs.Script.{Meaning, session_of}
 use Rattle.shard_tables.specs.Parts.{part}
 use Rattle.admission_book.specs.Book.{Book, record_of}
-use Rattle.admission_book.specs.Books.{BookView}
+use Rattle.admission_book.specs.Methods.{BookView}
 use Rattle.admission_book.specs.Lawful.{Lawful}
 use Rattle.turn_board.specs.Boards.{AllEnd, Ends, note, turn_count}
 use Rattle.hall_rule.specs.declared.held.Held.{Held}
@@ -43,7 +43,7 @@ module _ {S : Type 0} (meaning : S → Meaning) (h : Hall S) (i : ℕ) (c : Call
   stands_out = let P : Stage → Type 0 = λ s. Stands (meaning (script_of h)) (turn_count h.board) s c.foresight.symbols (book_of c) c.seat c.hands.pairs in subst P l.out l.caller.stands
 
   ends_here : Ends h.board h.sizes.callers i c.seat
-  ends_here = record { seat = l.caller.seat; caller_is = l.caller.number_is ∙ l.number_is; crew_is = l.caller.crew_is; free = stands_out.2.free }
+  ends_here = record { seat = l.caller.seat; caller_is = l.caller.number_is ∙ l.number_is; caller_count_is = l.caller.caller_count_is; free = stands_out.2.free }
 
   out_here : (x : Content S) → note c.seat ≡ Some x → IsOut (meaning (script_of h)) (script_of h) i x
   out_here x e = record {

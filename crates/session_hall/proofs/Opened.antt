@@ -9,7 +9,7 @@ use Rattle.shard_tables.specs.Parts.{part}
 use Rattle.shard_tables.specs.Shards.{ShardView}
 use Rattle.shard_tables.proofs.PartSteps.{part_empty}
 use Rattle.admission_book.specs.Book.{Book, Serving, opened, record_of}
-use Rattle.admission_book.specs.Books.{BookView}
+use Rattle.admission_book.specs.Methods.{BookView}
 use Rattle.admission_book.specs.Lawful.{Lawful}
 use Rattle.admission_book.proofs.Foreknown.{opened_lawful}
 use Rattle.turn_board.specs.Boards.{Begins, caller, turn_count}
@@ -196,7 +196,7 @@ opened_caller {S} meaning h i c s b n kept tables some few turns few_turns =
       caller = record {
         seat = begins.seat;
         number_is = begins.caller_is ∙ sym n.number_is;
-        crew_is = begins.crew_is;
+        caller_count_is = begins.caller_count_is;
         noted = begins.note_is ∙ ap (λ (w : Book). Some (Register (script_of h) w)) (sym book_is);
         script_kept = kept;
         lawful = lawful;

@@ -4,15 +4,15 @@ use Rattle.session_values.specs.declared.op.Op.{Op}
 use Rattle.session_values.specs.declared.reply.Reply.{Reply}
 use Rattle.session_values.specs.Dialogue.{Calls, Answers, Entry, rest, replies}
 use Rattle.symbolic_ops.specs.declared.symbol.Symbol.{Symbol}
-use Rattle.symbolic_ops.specs.Symbols.{Covered, Matches}
+use Rattle.symbolic_ops.specs.Matching.{Covered, Matches}
 use Rattle.session_journal.specs.declared.event.Event.{Event}
 use Rattle.session_journal.specs.Journal.{entries, owner, caller_of}
 use Rattle.session_journal.specs.Script.{Meaning, IsForesight}
 use Rattle.admission_book.specs.Book.{Holds, record_of}
-use Rattle.admission_book.specs.Books as books
-use Rattle.admission_book.specs.Books.{BookView, IsOldestOpen}
+use Rattle.admission_book.specs.Methods as books
+use Rattle.admission_book.specs.Methods.{BookView, IsOldestOpen}
 use Rattle.admission_book.proofs.Events.{first_stays}
-use Rattle.turn_board.specs.Boards.{SameVoice, turn_count, caller}
+use Rattle.turn_board.specs.Boards.{SameNote, turn_count, caller}
 use Rattle.hall_rule.proofs.Entries.{entries_since}
 use Rattle.session_hall.specs.declared.caller.Caller.{Caller}
 use Rattle.session_hall.specs.declared.hall.Hall.{Hall}
@@ -32,7 +32,7 @@ pub of_serving : (st : Stage) (t : ℕ) (P : ℕ → Type 0) → st ≡ Serves t
 of_serving st t P e p = let Q : Stage → Type 0 = λ s. OnServing s P in subst Q e p
 
 -- ---- a caller that serves a ticket
-module _ {S : Type 0} (meaning : S → Meaning) (h : Hall S) (c : Caller S) (k : IsCallerOf meaning h c) (q : SeatOf S) (b : BookView S) (v : SameVoice c.seat q) (f : HasBook c.seat q meaning (script_of h) (turn_count h.board) b) (t : ℕ) (st : c.stage ≡ Serves t) where
+module _ {S : Type 0} (meaning : S → Meaning) (h : Hall S) (c : Caller S) (k : IsCallerOf meaning h c) (q : SeatOf S) (b : BookView S) (v : SameNote c.seat q) (f : HasBook c.seat q meaning (script_of h) (turn_count h.board) b) (t : ℕ) (st : c.stage ≡ Serves t) where
   stands_here : Stands (meaning (script_of h)) (turn_count h.board) (Serves t) c.foresight.symbols (book_of c) c.seat c.hands.pairs
   stands_here = let P : Stage → Type 0 = λ s. Stands (meaning (script_of h)) (turn_count h.board) s c.foresight.symbols (book_of c) c.seat c.hands.pairs in subst P st k.stands
 

@@ -4,13 +4,13 @@ use Rattle.session_values.specs.declared.op.Op.{Op}
 use Rattle.session_values.specs.Dialogue.{Calls, Entry, replies}
 use Rattle.symbolic_ops.specs.declared.symbol.Symbol.{Symbol}
 use Rattle.symbolic_ops.specs.Foresight.{ForesightView}
-use Rattle.symbolic_ops.specs.Symbols.{Matches}
+use Rattle.symbolic_ops.specs.Matching.{Matches}
 use Rattle.session_journal.specs.declared.event.Event.{Event}
 use Rattle.session_journal.specs.declared.event.Event.TheVariants.{Delay}
 use Rattle.session_journal.specs.Script.{Meaning}
 use Rattle.admission_book.specs.Book.{Book, after_delay, with_event}
 use Rattle.admission_book.specs.EventsInTurn.{is_delayed}
-use Rattle.admission_book.specs.Books.{Grows}
+use Rattle.admission_book.specs.Methods.{Grows}
 use Rattle.session_hall.specs.declared.caller.Caller.{Caller}
 use Rattle.session_hall.specs.declared.stage.Stage.{Stage}
 use Rattle.session_hall.specs.declared.stage.Stage.TheVariants.{Idle, Serving as Serves, InFlight, Applied, Out}

@@ -2,13 +2,13 @@
 use Rattle.std.specs.Prelude.{◌≡◌, ℕ, ◌+◌, ◌*◌, ◌<◌, ◌≤◌, List, Option, Some, None, length}
 use Rattle.session_values.specs.Dialogue.{Entry}
 use Rattle.session_journal.specs.Foreknown.{Foreknown}
-use Rattle.session_journal.specs.Journal.{Replays, begun, deeds, entries, in_order, regrouped}
+use Rattle.session_journal.specs.Journal.{Replays, begun, done_operations, entries, in_order, regrouped}
 use Rattle.session_journal.specs.Script.{Meaning, IsScript}
 use Rattle.admission_book.specs.Book.{Book, opened}
 use Rattle.admission_book.specs.Lawful.{Lawful}
-use Rattle.turn_board.specs.Boards.{note, caller, crew}
+use Rattle.turn_board.specs.Boards.{note, caller, caller_count}
 use Rattle.turn_board.specs.Hands.{Once}
-use Rattle.turn_board.specs.Passes.{Sitting}
+use Rattle.turn_board.specs.Passes.{IsSeated}
 use Rattle.hall_rule.specs.Contents.{Content, Register, Shard, opening_tables}
 use Rattle.hall_rule.specs.Shards.{content_of}
 use Rattle.session_hall.specs.declared.caller.Caller.{Caller}
@@ -32,15 +32,15 @@ entries_of c t = entries (book_of c).journal t
 
 -- what a note tells: its journal replays, and regrouped by ticket too, and of each begun ticket the entries are the first of its serial ones, and the Reply is its serial one
 pub record IsTold (m : Meaning) (b : Book) : Type 0 where
-  pub replays : Replays (opening_tables m) (in_order (deeds b.journal))
+  pub replays : Replays (opening_tables m) (in_order (done_operations b.journal))
   pub regrouped : Replays (opening_tables m) (regrouped b.journal)
   pub foreknown : (t : ℕ) → t < begun b.journal → Foreknown m b.journal t
 
 -- its seat is of the hall's board, its note is a lawful book of the hall's script, and it holds what its stage says
 pub record IsCallerIn {S : Type 0} (meaning : S → Meaning) (p : HallId) (script : S) (c : Caller S) : Type 0 where
-  pub seat : Sitting p.board c.seat.pass
+  pub seat : IsSeated p.board c.seat.pass
   pub number_is : caller c.seat ≡ c.number
-  pub crew_is : crew c.seat ≡ p.callers
+  pub caller_count_is : caller_count c.seat ≡ p.callers
   pub noted : note c.seat ≡ Some (Register script (book_of c))
   pub script_kept : IsScript (meaning script)
   pub lawful : Lawful (meaning script) (book_of c)

@@ -5,13 +5,13 @@ use Rattle.session_values.specs.declared.reply.Reply.{Reply}
 use Rattle.session_values.specs.declared.value.Value.{Value}
 use Rattle.session_values.specs.Dialogue.{Calls, Answers, rest, replies}
 use Rattle.symbolic_ops.specs.declared.symbol.Symbol.{Symbol}
-use Rattle.symbolic_ops.specs.Symbols.{Covered, Matches}
+use Rattle.symbolic_ops.specs.Matching.{Covered, Matches}
 use Rattle.session_journal.specs.Journal.{begun, ended, entries}
 use Rattle.session_journal.specs.Script.{Meaning, IsForesight}
 use Rattle.admission_book.specs.Book.{Book, IsFree, IsBlocker, after_begin, after_narrow, after_admit, after_delay, after_done, after_end}
 use Rattle.admission_book.specs.EventsInTurn.{now}
-use Rattle.admission_book.specs.Books.{IsOldestOpen}
-use Rattle.turn_board.specs.Boards.{held, note, caller, crew, given, lost, asks, givings, last_change}
+use Rattle.admission_book.specs.Methods.{IsOldestOpen}
+use Rattle.turn_board.specs.Boards.{held, note, caller, caller_count, given, lost, asks, givings, last_change}
 use Rattle.turn_board.specs.Hands.{in_hands}
 use Rattle.hall_rule.specs.Shards.{content_of}
 use Rattle.hall_rule.specs.Turns.{IsTurnOf, WasDone}
@@ -61,7 +61,7 @@ MayFinish m c next = MayFinishAt m c.stage c.foresight.symbols (book_of c) next
 module _ {S : Type 0} (m : Meaning) (p q : Caller S) where
   -- the caller took the book in one step of the call, found it so, and gave it back so in another one, with all that it held: that is its note now
   pub record GaveBack (found left : Book) : Type 0 where
-    pub finds : Finds m (book_of p) found (caller p.seat) (crew p.seat)
+    pub finds : Finds m (book_of p) found (caller p.seat) (caller_count p.seat)
     pub noted : book_of q ≡ left
     pub given_more : given q.seat ≡ given p.seat + 1
     pub lost_still : (u : ℕ) → lost q.seat u ≡ lost p.seat u
@@ -72,7 +72,7 @@ module _ {S : Type 0} (m : Meaning) (p q : Caller S) where
   pub record IsBusy (u after : ℕ) : Type 0 where
     pub rose : lost q.seat u ≡ lost p.seat u + 1
     pub lost_grows : (w : ℕ) → lost p.seat w ≤ lost q.seat w
-    pub several : crew p.seat ≢ 1
+    pub several : caller_count p.seat ≢ 1
     pub asks_more : asks q.seat ≡ asks p.seat + 1
     pub givings_is : givings q.seat ≡ after
     pub change_still : last_change q.seat ≡ last_change p.seat
@@ -130,7 +130,7 @@ module _ {S : Type 0} (m : Meaning) (p q : Caller S) where
     pub gave : GaveBack found (after_delay found t op older y)
     pub blocker : IsBlocker found t op older y
     pub not_oldest : IsOldestOpen (Some t) found.journal → ⊥
-    pub several : crew p.seat ≢ 1
+    pub several : caller_count p.seat ≢ 1
     pub stage_is : q.stage ≡ Serves t
     pub foresight_still : q.foresight ≡ p.foresight
     pub entries_still : entries_of q t ≡ entries_of p t

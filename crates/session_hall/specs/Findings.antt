@@ -4,8 +4,8 @@ use Rattle.session_values.specs.Tables.{Container}
 use Rattle.session_journal.specs.Script.{Meaning}
 use Rattle.admission_book.specs.Book.{Book}
 use Rattle.admission_book.specs.Lawful.{Lawful}
-use Rattle.admission_book.specs.Books.{BookView}
-use Rattle.turn_board.specs.Boards.{held, note, caller, crew, given, lost, asks, givings, last_change}
+use Rattle.admission_book.specs.Methods.{BookView}
+use Rattle.turn_board.specs.Boards.{held, note, caller, caller_count, given, lost, asks, givings, last_change}
 use Rattle.hall_rule.specs.Contents.{Register, Shard, IsSince, share}
 use Rattle.session_hall.specs.Callers.{book_in}
 use Rattle.session_hall.specs.Stages.{SeatOf}
@@ -28,13 +28,13 @@ module _ {S : Type 0} (p q : SeatOf S) where
     pub change_still : last_change q ≡ last_change p
     pub asks_more : asks q ≡ asks p + 1
     pub givings_still : givings q ≡ givings p
-    pub several : crew p ≢ 1
+    pub several : caller_count p ≢ 1
 
   -- the book was taken, and each shard that is held is its part of the tables after the book's journal
   pub record HasBook (meaning : S → Meaning) (script : S) (turns : ℕ) (b : BookView S) : Type 0 where
     pub script_is : b.script ≡ script
     pub lawful : Lawful (meaning b.script) b.book
-    pub finds : Finds (meaning script) (book_in (note p)) b.book (caller p) (crew p)
+    pub finds : Finds (meaning script) (book_in (note p)) b.book (caller p) (caller_count p)
     pub here : held q 0 ≡ Some (Register script b.book)
     pub others : (u : ℕ) → u ≢ 0 → held q u ≡ held p u
     pub lost_still : (u : ℕ) → lost q u ≡ lost p u

@@ -5,7 +5,7 @@ use Rattle.session_values.specs.declared.reply.Reply.{Reply}
 use Rattle.session_values.specs.declared.value.Value.{Value}
 use Rattle.symbolic_ops.specs.declared.symbol.Symbol.{Symbol}
 use Rattle.session_journal.specs.Script.{Meaning}
-use Rattle.admission_book.specs.Books.{Grows}
+use Rattle.admission_book.specs.Methods.{Grows}
 use Rattle.turn_board.specs.Boards.{note, given, lost, last_change}
 use Rattle.session_hall.specs.declared.caller.Caller.{Caller}
 use Rattle.session_hall.specs.declared.stage.Stage.{Stage}

@@ -85,7 +85,7 @@ impl<S: Script + Drop> Hall<S> {
         ensures callers { result.callers ≡ self.sizes.callers }
     {
         let shards = self.sizes.shards;
-        let crew = self.sizes.callers;
+        let caller_count = self.sizes.callers;
         let (mut values, list) = values_of(self, callers);
         let (journal, replies) = match values.remove(0) {
             Held::Register(book) => book.close(),
@@ -97,7 +97,7 @@ impl<S: Script + Drop> Hall<S> {
             replies,
             parts,
             shards,
-            callers: crew,
+            callers: caller_count,
         }
     }
 }

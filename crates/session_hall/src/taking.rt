@@ -1,7 +1,7 @@
 // Taking the book.
 
 ghost use Rattle.std.specs.Prelude.{◌≡◌, ◌<◌, Some, None};
-ghost use Rattle.turn_board.specs.Boards.{IsSeatOf, SameVoice, held, note, turn_count};
+ghost use Rattle.turn_board.specs.Boards.{IsSeatOf, SameNote, held, note, turn_count};
 ghost use Rattle.hall_rule.specs.Contents.{Register};
 ghost use Rattle.session_hall.specs.Callers.{book_in};
 ghost use Rattle.session_hall.specs.Findings.{TookBook};
@@ -20,7 +20,7 @@ impl<S: Script + Drop> Hall<S> {
         requires turns { 0 < turn_count self.now.board }
         requires free { held seat.old 0 ≡ None }
         requires noted { note seat.old ≡ Some (Register (script_of self.now) (book_in (note seat.old))) }
-        ensures seat { IsSeatOf self.now.board seat.new × SameVoice seat.old seat.new }
+        ensures seat { IsSeatOf self.now.board seat.new × SameNote seat.old seat.new }
         ensures took { TookBook seat.old seat.new S.meaning (script_of self.now)
             (turn_count self.now.board) result }
     {

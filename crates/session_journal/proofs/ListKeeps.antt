@@ -10,7 +10,7 @@ use Rattle.session_values.specs.Dialogue.{Calls, Answers}
 use Rattle.session_values.specs.Kinds.{is_adding}
 use Rattle.session_values.specs.Tables.{Fits}
 use Rattle.symbolic_ops.specs.declared.symbol.Symbol.{Symbol}
-use Rattle.symbolic_ops.specs.Symbols.{HasNoVar, Matches, exact_symbol}
+use Rattle.symbolic_ops.specs.Matching.{HasNoVar, Matches, exact_symbol}
 use Rattle.session_journal.specs.declared.list_script.Row.{Row}
 use Rattle.session_values.specs.Op.{IsHeld}
 use Rattle.symbolic_ops.proofs.Above.{exact_stands}

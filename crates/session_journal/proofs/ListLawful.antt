@@ -10,7 +10,7 @@ use Rattle.session_values.specs.declared.reply.Reply.{Reply}
 use Rattle.session_values.specs.Dialogue.{Calls, Answers, Entry, rest, Follows}
 use Rattle.session_values.specs.Kinds.{is_adding}
 use Rattle.session_values.specs.Tables.{Fits}
-use Rattle.symbolic_ops.specs.Symbols.{Matches}
+use Rattle.symbolic_ops.specs.Matching.{Matches}
 use Rattle.session_values.specs.Sums.{sum_below}
 use Rattle.session_journal.specs.Script.{HasValues, IsForesight, IsScript, adds_on}
 use Rattle.session_journal.specs.Lists.{Ticket, ticket_at, says, adding, IsTicket, list_meaning}

@@ -7,9 +7,9 @@ use Rattle.session_values.specs.declared.reply.Reply.{Reply}
 use Rattle.symbolic_ops.specs.declared.symbol.Symbol.{Symbol}
 use Rattle.session_values.specs.Tables.{Tables, reply, step}
 use Rattle.session_values.specs.Commuting.{Commute, Swaps}
-use Rattle.symbolic_ops.specs.Symbols.{Matches}
+use Rattle.symbolic_ops.specs.Matching.{Matches}
 use Rattle.session_values.specs.Dialogue.{Entry}
-use Rattle.session_journal.specs.Journal.{Deed, run, Replays, of_ticket, by_ticket}
+use Rattle.session_journal.specs.Journal.{DoneOperation, run, Replays, of_ticket, by_ticket}
 use Rattle.session_values.specs.Dialogue.{Next, Calls, Answers, Dialogue, rest, replies, Follows, EndsBy}
 use Rattle.session_journal.specs.Script.{Covers, Meaning, session_of}
 use Rattle.session_values.specs.Serial.{Served, served_first, serve, tables_before, serial}
@@ -131,7 +131,7 @@ matched f foresight (e ∷ es) c v w = (c.each [] e.op tt w.0, matched (rest f (
 
 -- ---- the tickets one after another
 -- the entries of ticket k, then those of the next one, and so on for m tickets
-abbrev from_ticket : ℕ → ℕ → List Deed → List Entry
+abbrev from_ticket : ℕ → ℕ → List DoneOperation → List Entry
 from_ticket k zero ds = []
 from_ticket k (suc m) ds = of_ticket k ds ++ from_ticket (suc k) m ds
 
@@ -139,7 +139,7 @@ append_nil : (es : List Entry) → es ++ [] ≡ es
 append_nil [] = refl
 append_nil (e ∷ es) = ap (λ (fs : List Entry). e ∷ fs) (append_nil es)
 
-by_ticket-from : (m k : ℕ) (ds : List Deed) → by_ticket k ds ++ from_ticket k m ds ≡ by_ticket (m + k) ds
+by_ticket-from : (m k : ℕ) (ds : List DoneOperation) → by_ticket k ds ++ from_ticket k m ds ≡ by_ticket (m + k) ds
 by_ticket-from zero k ds = append_nil (by_ticket k ds) ∙ ap (λ (n : ℕ). by_ticket n ds) (the k)
   where
     the : (k : ℕ) → k ≡ 0 + k
@@ -150,14 +150,14 @@ by_ticket-from (suc m) k ds = sym (append_assoc (by_ticket k ds) (of_ticket k ds
     the m k = omega arith
 
 -- what the induction takes of ticket t: its entries follow its dialogue, and what may still come commutes with the entries of younger tickets
-pub record Settled (m : Meaning) (ds : List Deed) (t : ℕ) : Type 0 where
+pub record Settled (m : Meaning) (ds : List DoneOperation) (t : ℕ) : Type 0 where
   pub ends : EndsBy (m.length t) (m.next t)
   pub follows : Follows (m.next t) (of_ticket t ds)
   pub values : AreReplies (serial (session_of m) t).entries
   pub free : (w : ℕ) → t < w → (back : List Entry) → AreReplies back → Follows (rest (m.next t) (replies (of_ticket t ds))) back → AllByRecursion (λ x. AllByRecursion (λ y. Commute x.op y.op) (of_ticket w ds)) back
 
 -- what it gives
-pub record Known (m : Meaning) (ds : List Deed) (t : ℕ) : Type 0 where
+pub record Known (m : Meaning) (ds : List DoneOperation) (t : ℕ) : Type 0 where
   pub entries : IsPrefixOf (of_ticket t ds) (serial (session_of m) t).entries
   pub answer : (r : Reply) → m.next t (replies (of_ticket t ds)) ≡ Answers r → (serial (session_of m) t).answer ≡ Some r
 
@@ -170,7 +170,7 @@ back_values [] fs v = v
 back_values (e ∷ es) fs v = back_values es fs v.1
 
 -- past all younger tickets' entries
-free_of_all : (m : Meaning) (ds : List Deed) (t : ℕ) → Settled m ds t → (back : List Entry) → AreReplies back → Follows (rest (m.next t) (replies (of_ticket t ds))) back → (k c : ℕ) → t < k → AllByRecursion (λ x. AllByRecursion (λ y. Commute x.op y.op) (from_ticket k c ds)) back
+free_of_all : (m : Meaning) (ds : List DoneOperation) (t : ℕ) → Settled m ds t → (back : List Entry) → AreReplies back → Follows (rest (m.next t) (replies (of_ticket t ds))) back → (k c : ℕ) → t < k → AllByRecursion (λ x. AllByRecursion (λ y. Commute x.op y.op) (from_ticket k c ds)) back
 free_of_all m ds t s back v w k zero h = nothing back
   where
     nothing : (back : List Entry) → AllByRecursion (λ x. AllByRecursion (λ (y : Entry). Commute x.op y.op) []) back
@@ -182,7 +182,7 @@ free_of_all m ds t s back v w k (suc c) h = joined back (s.free k h back v w) (f
     joined [] a b = tt
     joined (x ∷ xs) a b = (All-append (λ y. Commute x.op y.op) (of_ticket k ds) (from_ticket (suc k) c ds) a.0 b.0, joined xs a.1 b.1)
 
-known_from : (m : Meaning) (ds : List Deed) (c k : ℕ) → ((t : ℕ) → t < c + k → Settled m ds t) → Replays (tables_before (session_of m) k) (from_ticket k c ds) → (t : ℕ) → k ≤ t → t < c + k → Known m ds t
+known_from : (m : Meaning) (ds : List DoneOperation) (c k : ℕ) → ((t : ℕ) → t < c + k → Settled m ds t) → Replays (tables_before (session_of m) k) (from_ticket k c ds) → (t : ℕ) → k ≤ t → t < c + k → Known m ds t
 known_from m ds zero k s h t a b = absurd (omega arith)
 known_from m ds (suc c) k s h t a b =
     let here : Settled m ds k = s k (omega arith) in
@@ -199,7 +199,7 @@ known_from m ds (suc c) k s h t a b =
     le_cases k t a = grind arith
 
 -- where the list regrouped by ticket replays from the opening tables, each ticket's entries are the first ones of its serial serving
-pub all_known : (m : Meaning) (ds : List Deed) (n : ℕ) → ((t : ℕ) → t < n → Settled m ds t) → Replays (tables_before (session_of m) 0) (by_ticket n ds) → (t : ℕ) → t < n → Known m ds t
+pub all_known : (m : Meaning) (ds : List DoneOperation) (n : ℕ) → ((t : ℕ) → t < n → Settled m ds t) → Replays (tables_before (session_of m) 0) (by_ticket n ds) → (t : ℕ) → t < n → Known m ds t
 all_known m ds n s h t l =
     let P : ℕ → Type 0 = λ j. Replays (tables_before (session_of m) 0) (by_ticket j ds) in
     let Q : List Entry → Type 0 = λ es. Replays (tables_before (session_of m) 0) es in
@@ -207,10 +207,10 @@ all_known m ds n s h t l =
     known_from m ds n 0 (λ j k. s j (omega arith)) (subst Q (sym (by_ticket-from n 0 ds)) (subst P e h)) t (omega arith) (omega arith)
 
 -- ---- where all have answered
-whole : (m : Meaning) (ds : List Deed) (t : ℕ) (r : Reply) (g : GoesOn (m.length t) (m.next t) (tables_before (session_of m) t) (of_ticket t ds)) → m.next t (replies (of_ticket t ds)) ≡ Answers r → tables_before (session_of m) (suc t) ≡ run (tables_before (session_of m) t) (of_ticket t ds)
+whole : (m : Meaning) (ds : List DoneOperation) (t : ℕ) (r : Reply) (g : GoesOn (m.length t) (m.next t) (tables_before (session_of m) t) (of_ticket t ds)) → m.next t (replies (of_ticket t ds)) ≡ Answers r → tables_before (session_of m) (suc t) ≡ run (tables_before (session_of m) t) (of_ticket t ds)
 whole m ds t r g a = g.after ∙ ap (run (run (tables_before (session_of m) t) (of_ticket t ds))) (g.answered r a).0
 
-pub final_from : (m : Meaning) (ds : List Deed) (c k : ℕ) → ((t : ℕ) → t < c + k → Settled m ds t) → ((t : ℕ) → t < c + k → (r : Reply) × (m.next t (replies (of_ticket t ds)) ≡ Answers r)) → Replays (tables_before (session_of m) k) (from_ticket k c ds) → run (tables_before (session_of m) k) (from_ticket k c ds) ≡ tables_before (session_of m) (c + k)
+pub final_from : (m : Meaning) (ds : List DoneOperation) (c k : ℕ) → ((t : ℕ) → t < c + k → Settled m ds t) → ((t : ℕ) → t < c + k → (r : Reply) × (m.next t (replies (of_ticket t ds)) ≡ Answers r)) → Replays (tables_before (session_of m) k) (from_ticket k c ds) → run (tables_before (session_of m) k) (from_ticket k c ds) ≡ tables_before (session_of m) (c + k)
 final_from m ds zero k s a h = let e : k ≡ 0 + k = omega arith in ap (tables_before (session_of m)) e
 final_from m ds (suc c) k s a h =
     let here : Settled m ds k = s k (omega arith) in
@@ -223,7 +223,7 @@ final_from m ds (suc c) k s a h =
     ∙ final_from m ds c (suc k) (λ j l. s j (omega arith)) (λ j l. a j (omega arith)) (subst P (sym w) (Replays-back _ (of_ticket k ds) (from_ticket (suc k) c ds) h))
     ∙ ap (tables_before (session_of m)) e
 
-pub final : (m : Meaning) (ds : List Deed) (n : ℕ) → ((t : ℕ) → t < n → Settled m ds t) → ((t : ℕ) → t < n → (r : Reply) × (m.next t (replies (of_ticket t ds)) ≡ Answers r)) → Replays (tables_before (session_of m) 0) (by_ticket n ds) → run (tables_before (session_of m) 0) (by_ticket n ds) ≡ tables_before (session_of m) n
+pub final : (m : Meaning) (ds : List DoneOperation) (n : ℕ) → ((t : ℕ) → t < n → Settled m ds t) → ((t : ℕ) → t < n → (r : Reply) × (m.next t (replies (of_ticket t ds)) ≡ Answers r)) → Replays (tables_before (session_of m) 0) (by_ticket n ds) → run (tables_before (session_of m) 0) (by_ticket n ds) ≡ tables_before (session_of m) n
 final m ds n s a h =
     let e : n ≡ n + 0 = omega arith in
     let same : by_ticket n ds ≡ from_ticket 0 n ds = ap (λ (j : ℕ). by_ticket j ds) e ∙ sym (by_ticket-from n 0 ds) in

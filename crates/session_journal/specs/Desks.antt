@@ -4,7 +4,7 @@ use Rattle.session_values.specs.declared.op.Op.{Op}
 use Rattle.session_values.specs.declared.value.Value.{Value}
 use Rattle.session_values.specs.Dialogue.{Next, Entry, rest, replies}
 use Rattle.symbolic_ops.specs.declared.symbol.Symbol.{Symbol}
-use Rattle.symbolic_ops.specs.Symbols.{Covered}
+use Rattle.symbolic_ops.specs.Matching.{Covered}
 use Rattle.session_journal.specs.Script.{Meaning, IsForesight}
 
 -- what a desk is at: its ticket, the entries so far, the present foresight, the operation and reply that wait, whether it has ended, data that names what it stands over, and whether it never wants memory

@@ -16,32 +16,32 @@ pub record JournalView : Type 0 where
   pub room : ℕ
 
 -- an entry with the ticket that it is of
-pub record Deed : Type 0 where
+pub record DoneOperation : Type 0 where
   pub ticket : ℕ
   pub op : Op
   pub reply : Value
 
-abbrev pub entry_of : Deed → Entry
+abbrev pub entry_of : DoneOperation → Entry
 entry_of d = record { op = d.op; reply = d.reply }
 
 -- the Done events of a journal, in order
-abbrev pub deeds : List Event → List Deed
-deeds [] = []
-deeds (Done t op r ∷ J) = record { ticket = t; op = op; reply = r } ∷ deeds J
-deeds (_ ∷ J) = deeds J
+abbrev pub done_operations : List Event → List DoneOperation
+done_operations [] = []
+done_operations (Done t op r ∷ J) = record { ticket = t; op = op; reply = r } ∷ done_operations J
+done_operations (_ ∷ J) = done_operations J
 
 -- those of one ticket, as entries
-abbrev pub of_ticket : ℕ → List Deed → List Entry
+abbrev pub of_ticket : ℕ → List DoneOperation → List Entry
 of_ticket t [] = []
 of_ticket t (d ∷ ds) = cond (d.ticket == t) (entry_of d ∷ of_ticket t ds) (of_ticket t ds)
 
 -- all, as entries
-abbrev pub in_order : List Deed → List Entry
+abbrev pub in_order : List DoneOperation → List Entry
 in_order [] = []
 in_order (d ∷ ds) = entry_of d ∷ in_order ds
 
 -- those of ticket 0, then those of ticket 1, and so on below n
-abbrev pub by_ticket : ℕ → List Deed → List Entry
+abbrev pub by_ticket : ℕ → List DoneOperation → List Entry
 by_ticket zero ds = []
 by_ticket (suc n) ds = by_ticket n ds ++ of_ticket n ds
 
@@ -55,19 +55,19 @@ abbrev pub Replays : Tables → List Entry → Type 0
 Replays ts [] = Unit {0}
 Replays ts (e ∷ es) = (reply ts e.op ≡ e.reply) × Replays (step ts e.op) es
 
--- of two deeds where the younger ticket's stands first, the operations commute
-abbrev pub InversionsCommute : List Deed → Type 0
+-- of two done_operations where the younger ticket's stands first, the operations commute
+abbrev pub InversionsCommute : List DoneOperation → Type 0
 InversionsCommute [] = Unit {0}
 InversionsCommute (d ∷ ds) = AllByRecursion (λ e. e.ticket < d.ticket → Commute d.op e.op) ds × InversionsCommute ds
 
--- each deed is of a ticket below n
-abbrev pub AreBelow : ℕ → List Deed → Type 0
+-- each done operation is of a ticket below n
+abbrev pub AreBelow : ℕ → List DoneOperation → Type 0
 AreBelow n ds = AllByRecursion (λ d. d.ticket < n) ds
 
 -- ---- of a journal
 -- the entries of a ticket, in order
 abbrev pub entries : List Event → ℕ → List Entry
-entries J t = of_ticket t (deeds J)
+entries J t = of_ticket t (done_operations J)
 
 -- how many tickets are begun
 abbrev pub begun : List Event → ℕ
@@ -98,11 +98,11 @@ owner J t = first (caller_of t) J
 
 -- the tables after the operations that were done, from the opening tables
 abbrev pub after : Tables → List Event → Tables
-after opening J = run opening (in_order (deeds J))
+after opening J = run opening (in_order (done_operations J))
 
 -- the entries of ticket 0, then those of ticket 1, and so on through all begun tickets
 abbrev pub regrouped : List Event → List Entry
-regrouped J = by_ticket (begun J) (deeds J)
+regrouped J = by_ticket (begun J) (done_operations J)
 
 -- the ticket of an event
 abbrev pub ticket_of : Event → ℕ

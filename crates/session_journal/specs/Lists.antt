@@ -9,7 +9,7 @@ use Rattle.session_values.specs.Dialogue.{Calls, Answers, Dialogue}
 use Rattle.session_values.specs.Kinds.{is_adding}
 use Rattle.session_values.specs.Tables.{Fits, start}
 use Rattle.symbolic_ops.specs.declared.symbol.Symbol.{Symbol}
-use Rattle.symbolic_ops.specs.Symbols.{Matches, HasNoVar, exact_symbol}
+use Rattle.symbolic_ops.specs.Matching.{Matches, HasNoVar, exact_symbol}
 use Rattle.session_journal.specs.Script.{Meaning, HasValues}
 
 -- one ticket: its operations, its reply, and what it declares at its beginning

@@ -13,7 +13,7 @@ use Rattle.session_values.specs.Sums.{sum_below}
 use Rattle.session_values.specs.Tables.{Tables, Fits, start}
 use Rattle.session_values.specs.Values.{IsValue}
 use Rattle.symbolic_ops.specs.declared.symbol.Symbol.{Symbol}
-use Rattle.symbolic_ops.specs.Symbols.{Matches, HasNoVar}
+use Rattle.symbolic_ops.specs.Matching.{Matches, HasNoVar}
 
 -- whatever replies come that a program can hold, some symbol of the list stands for each operation that the dialogue calls
 pub record Covers (f : Dialogue) (foresight : List Symbol) : Type 0 where

@@ -2,7 +2,7 @@
 
 ghost use Rattle.std.specs.Prelude.{◌≡◌, None, false, MatchResult};
 ghost use Rattle.session_values.specs.Dialogue.{Calls, Answers, replies};
-ghost use Rattle.symbolic_ops.specs.Symbols.{Matches};
+ghost use Rattle.symbolic_ops.specs.Matching.{Matches};
 ghost use Rattle.session_journal.specs.Desks.{DeskView, next_of, due_of, MayNarrow, MayFinish, finished, with_waiting, with_present, with_end};
 
 use crate::script::Script;

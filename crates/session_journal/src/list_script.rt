@@ -4,7 +4,7 @@ ghost use Rattle.std.specs.Prelude.{◌≡◌, ℕ, ◌<◌, ◌≤◌, ◌-◌,
 ghost use Rattle.std.specs.List.{AllByRecursion};
 ghost use Rattle.session_values.specs.Kinds.{is_adding};
 ghost use Rattle.session_values.specs.Tables.{Fits};
-ghost use Rattle.symbolic_ops.specs.Symbols.{HasNoVar};
+ghost use Rattle.symbolic_ops.specs.Matching.{HasNoVar};
 ghost use Rattle.session_journal.specs.Lists.{HasPlace, adding, answers_only, allows_more, calls_more, last_ticket, with_last};
 
 use crate::script::Script;

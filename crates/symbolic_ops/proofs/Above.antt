@@ -7,7 +7,7 @@ use Rattle.session_values.specs.declared.value.Value.{Value}
 use Rattle.symbolic_ops.specs.declared.arg.Arg.{Arg}
 use Rattle.symbolic_ops.specs.declared.arg.Arg.TheVariants.{Known, Var, Any}
 use Rattle.symbolic_ops.specs.declared.symbol.Symbol.{Symbol}
-use Rattle.symbolic_ops.specs.Symbols.{Agrees, ArgBelow, Below, Covered, HasNoVar, IsBelowSome, IsNoVar, Matches, StandsFor, exact_symbol}
+use Rattle.symbolic_ops.specs.Matching.{Agrees, ArgBelow, Below, Covered, HasNoVar, IsBelowSome, IsNoVar, Matches, StandsFor, exact_symbol}
 
 arg_below : (a : Arg) → IsNoVar a → ArgBelow a a
 arg_below (Known v) h = refl

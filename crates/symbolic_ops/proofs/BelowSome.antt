@@ -1,7 +1,7 @@
 -- The search for a symbol above another one.
 use Rattle.std.proofs.Common.{◌≡◌, ℕ, zero, suc, ◌<◌, List, [], ◌∷◌, length, take, get_or, inl, inr, subst, arith}
 use Rattle.symbolic_ops.specs.declared.symbol.Symbol.{Symbol}
-use Rattle.symbolic_ops.specs.Symbols.{Below, IsBelowSome}
+use Rattle.symbolic_ops.specs.Matching.{Below, IsBelowSome}
 
 -- a symbol of the list that is above
 pub below_at : (s : Symbol) (list : List Symbol) (i : ℕ) (x : Symbol) → i < length list → x ≡ get_or list i x → Below s x → IsBelowSome s list

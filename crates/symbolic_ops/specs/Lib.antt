@@ -2,4 +2,4 @@ pub mod Foresight
 pub mod Instantiate
 pub mod Order
 pub mod Symbol
-pub mod Symbols
+pub mod Matching

@@ -2,7 +2,7 @@
 
 ghost use Rattle.std.specs.Bool.{Decides};
 ghost use Rattle.symbolic_ops.specs.Symbol.{IsHeldArg};
-ghost use Rattle.symbolic_ops.specs.Symbols.{Agrees, ArgBelow, IsNoVar};
+ghost use Rattle.symbolic_ops.specs.Matching.{Agrees, ArgBelow, IsNoVar};
 
 use session_values::Value;
 

@@ -1,7 +1,7 @@
 // Whether one foresight covers another.
 
 ghost use Rattle.std.specs.Bool.{Decides};
-ghost use Rattle.symbolic_ops.specs.Symbols.{Covered, IsBelowSome};
+ghost use Rattle.symbolic_ops.specs.Matching.{Covered, IsBelowSome};
 
 use crate::foresight::Foresight;
 use crate::symbol::Symbol;

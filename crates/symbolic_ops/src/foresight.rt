@@ -3,7 +3,7 @@
 ghost use Rattle.std.specs.Prelude.{◌≡◌, ◌≤◌, ◌<◌, ◌++◌, ◌∷◌, [], length, map, slice_get, Some, IfOk};
 ghost use Rattle.std.specs.List.{AllByRecursion};
 ghost use Rattle.symbolic_ops.specs.Instantiate.{IsWithin, symbol_in};
-ghost use Rattle.symbolic_ops.specs.Symbols.{HasNoVar};
+ghost use Rattle.symbolic_ops.specs.Matching.{HasNoVar};
 
 use crate::instantiating::put_values;
 use crate::symbol::Symbol;
@@ -22,7 +22,7 @@ pub struct Foresight {
 impl Model for Foresight {
     ghost use Rattle.std.specs.Prelude.{length, vec_capacity, ◌<◌, ◌≤◌, ◌^◌};
     ghost use Rattle.std.specs.List.{AllByRecursion};
-    ghost use Rattle.symbolic_ops.specs.Symbols.{HasNoVar};
+    ghost use Rattle.symbolic_ops.specs.Matching.{HasNoVar};
     ghost use Rattle.symbolic_ops.specs.Foresight.{ForesightView};
 
     ghost Value = { ForesightView };

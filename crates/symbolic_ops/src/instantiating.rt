@@ -3,7 +3,7 @@
 ghost use Rattle.std.specs.Prelude.{◌≡◌, ◌≤◌, length, map};
 ghost use Rattle.std.specs.List.{AllByRecursion};
 ghost use Rattle.symbolic_ops.specs.Instantiate.{ArgWithin, IsWithin, arg_in, symbol_in};
-ghost use Rattle.symbolic_ops.specs.Symbols.{HasNoVar, IsNoVar};
+ghost use Rattle.symbolic_ops.specs.Matching.{HasNoVar, IsNoVar};
 
 use crate::arg::Arg;
 use crate::foresight::Foresight;

@@ -6,7 +6,7 @@ ghost use Rattle.std.specs.Cmp.{IsTotalOrder};
 ghost use Rattle.std.specs.FinMap.{IsAntisymmetric};
 ghost use Rattle.session_values.specs.Op.{IsHeld};
 ghost use Rattle.symbolic_ops.specs.Order.{arg_cmp, symbol_cmp};
-ghost use Rattle.symbolic_ops.specs.Symbols.{Covered, HasNoVar, Matches, StandsFor, exact_symbol};
+ghost use Rattle.symbolic_ops.specs.Matching.{Covered, HasNoVar, Matches, StandsFor, exact_symbol};
 
 use crate::arg::Arg;
 use crate::symbol::Symbol;

@@ -4,7 +4,7 @@ ghost use Rattle.std.specs.Prelude.{◌≡◌};
 ghost use Rattle.std.specs.Bool.{Decides};
 ghost use Rattle.symbolic_ops.specs.Order.{symbol_cmp};
 ghost use Rattle.symbolic_ops.specs.Symbol.{IsHeldSymbol};
-ghost use Rattle.symbolic_ops.specs.Symbols.{Below, HasNoVar, StandsFor, exact_symbol};
+ghost use Rattle.symbolic_ops.specs.Matching.{Below, HasNoVar, StandsFor, exact_symbol};
 
 use crate::arg::Arg;
 use crate::laws::order_of_args;

@@ -26,9 +26,9 @@ won-true a b ha hb = two a (λ x. won x b ≡ true → (x ≡ 1) × (b ≡ 0)) h
 pub won-false : (a b : ℕ) → a < 2 → b < 2 → won a b ≡ false → max b a ≡ b
 won-false a b ha hb = two a (λ x. won x b ≡ false → max b x ≡ b) ha (λ _ e. omega arith) (λ _. two b (λ y. won 1 y ≡ false → max y 1 ≡ y) hb (λ _ e. absurd (cc)) (λ _ e. refl))
 
-module _ {V C : Type 0} (content : V → C) (holds : List C → List C → Type 0) (crew : ℕ) where
+module _ {V C : Type 0} (content : V → C) (holds : List C → List C → Type 0) (caller_count : ℕ) where
   -- what the rule tells a seat
-  pub tells : (s : State (Option V) (View C)) (r : Tied content holds crew s) (id slots : ℕ) (v : View C) → length s.homes ≡ slots → get_elem? s.views id ≡ some v → Told holds slots v
+  pub tells : (s : State (Option V) (View C)) (r : Tied content holds caller_count s) (id slots : ℕ) (v : View C) → length s.homes ≡ slots → get_elem? s.views id ≡ some v → Told holds slots v
   tells s r id slots v wide at = let h = r.each_view id v at in record {
     contents = r.contents;
     notes = r.notes;
@@ -38,7 +38,7 @@ module _ {V C : Type 0} (content : V → C) (holds : List C → List C → Type 
     spoken = λ i k c e. let g = h.spoken i k c e in (r.callers ∙ sym g.0, g.3);
   }
 
-  module _ (s : State (Option V) (View C)) (r : Tied content holds crew s) (id : ℕ) (v : View C) (set' slots k0 : ℕ) (c0 : C) (wide : length s.homes ≡ slots) (at : get_elem? s.views id ≡ some v) (one : v.speaks ≡ (k0, c0) ∷ []) (free : (t : ℕ) → bit_at set' t ≡ 1 → counted v t ≡ None) where
+  module _ (s : State (Option V) (View C)) (r : Tied content holds caller_count s) (id : ℕ) (v : View C) (set' slots k0 : ℕ) (c0 : C) (wide : length s.homes ≡ slots) (at : get_elem? s.views id ≡ some v) (one : v.speaks ≡ (k0, c0) ∷ []) (free : (t : ℕ) → bit_at set' t ≡ 1 → counted v t ≡ None) where
     word : ℕ
     word = get_or s.words 7 0
 
@@ -51,8 +51,8 @@ module _ {V C : Type 0} (content : V → C) (holds : List C → List C → Type 
     abbrev owner' : ℕ → ℕ
     owner' t = cond (got t) (suc k0) (r.owner t)
 
-    voice : (v.crew ≡ crew) × (k0 < crew) × (r.seat_of k0 ≡ id) × (slice_get r.notes k0 ≡ Some c0)
-    voice = (r.each_view id v at).spoken 0 k0 c0 (ap (λ (l : List (ℕ × C)). get_elem? l 0) one)
+    spoken : (v.caller_count ≡ caller_count) × (k0 < caller_count) × (r.seat_of k0 ≡ id) × (slice_get r.notes k0 ≡ Some c0)
+    spoken = (r.each_view id v at).spoken 0 k0 c0 (ap (λ (l : List (ℕ × C)). get_elem? l 0) one)
 
     count-at : (t : ℕ) → t < slots → counted w t ≡ cond (got t) (slice_get r.contents t) (counted v t)
     count-at t h = row-here slots (λ u. cond (got u) (slice_get r.contents u) (counted v u)) None t h
@@ -60,7 +60,7 @@ module _ {V C : Type 0} (content : V → C) (holds : List C → List C → Type 
     place-at : (t : ℕ) → t < slots → place w t ≡ cond (got t) (lies (slice_get r.contents t)) (place v t)
     place-at t h = row-here slots (λ u. cond (got u) (lies (slice_get r.contents u)) (place v u)) Vacant t h
 
-    free-turn : (t : ℕ) → t < length s.homes → bit_at (get_or s.words 7 0) t ≡ 0 → (o : ℕ) → r.owner t ≡ o → TurnOk content crew r.owner r.seat_of r.contents r.notes s t o → (o ≡ 0) × ((c : C) × (slice_get r.contents t ≡ Some c) × Lying content s.homes t c)
+    free-turn : (t : ℕ) → t < length s.homes → bit_at (get_or s.words 7 0) t ≡ 0 → (o : ℕ) → r.owner t ≡ o → TurnOk content caller_count r.owner r.seat_of r.contents r.notes s t o → (o ≡ 0) × ((c : C) × (slice_get r.contents t ≡ Some c) × Lying content s.homes t c)
     free-turn t h z zero e k = (refl, k.1)
     free-turn t h z (suc o) e k = absurd (let a : bit_at (get_or s.words 7 0) t ≡ 1 = k.0 in omega arith)
 
@@ -68,10 +68,10 @@ module _ {V C : Type 0} (content : V → C) (holds : List C → List C → Type 
     new-bit t = bit_at_or (get_or s.words 7 0) set' t
 
     abbrev SameAt : ℕ → Type 0
-    SameAt = Same content holds crew s r id v w (bit_or (get_or s.words 7 0) set') s.homes r.contents r.notes owner'
+    SameAt = Same content holds caller_count s r id v w (bit_or (get_or s.words 7 0) set') s.homes r.contents r.notes owner'
 
     abbrev MineAt : ℕ → Type 0
-    MineAt = Mine content holds crew s r id v w (bit_or (get_or s.words 7 0) set') s.homes r.contents r.notes owner'
+    MineAt = Mine content holds caller_count s r id v w (bit_or (get_or s.words 7 0) set') s.homes r.contents r.notes owner'
 
     stays : (t : ℕ) → t < slots → got t ≡ false → SameAt t
     stays t h e = record {
@@ -95,8 +95,8 @@ module _ {V C : Type 0} (content : V → C) (holds : List C → List C → Type 
         let set-bit : bit_at (bit_or (get_or s.words 7 0) set') t ≡ 1 = new-bit t ∙ ap₂ max bits.1 bits.0 in
         record {
           ours = λ k g. absurd (suc-ne-zero k (sym g ∙ f.0));
-          owns = subst (λ (o : ℕ). Owns content holds crew s r id v w (bit_or (get_or s.words 7 0) set') s.homes r.contents r.notes owner' t o) (sym own) (set-bit, voice.1, voice.2, (c, is));
-          held = λ d g. (f.1.1 ∙ sym is ∙ g, subst (InPlace content s.homes t) (sym put) f.1.2, (k0, own, voice.2));
+          owns = subst (λ (o : ℕ). Owns content holds caller_count s r id v w (bit_or (get_or s.words 7 0) set') s.homes r.contents r.notes owner' t o) (sym own) (set-bit, spoken.1, spoken.2, (c, is));
+          held = λ d g. (f.1.1 ∙ sym is ∙ g, subst (InPlace content s.homes t) (sym put) f.1.2, (k0, own, spoken.2));
         }
 
     each : (t : ℕ) → t < length s.homes → SameAt t ⊎ MineAt t
@@ -106,22 +106,22 @@ module _ {V C : Type 0} (content : V → C) (holds : List C → List C → Type 
     within t c e = dite (dec_lt t slots) (λ h. (let g : t < length s.homes = omega arith in g))
         (λ h. absurd (none-some c (sym (row-past 0 slots (λ u. cond (got u) (slice_get r.contents u) (counted v u)) None t (let g : slots ≤ t = omega arith in g)) ∙ e)))
 
-    voices : (i k : ℕ) (c : C) → get_elem? v.speaks i ≡ some (k, c) → (v.crew ≡ crew) × (k < crew) × (r.seat_of k ≡ id) × (slice_get r.notes k ≡ Some c)
-    voices = (r.each_view id v at).spoken
+    spoken_notes : (i k : ℕ) (c : C) → get_elem? v.speaks i ≡ some (k, c) → (v.caller_count ≡ caller_count) × (k < caller_count) × (r.seat_of k ≡ id) × (slice_get r.notes k ≡ Some c)
+    spoken_notes = (r.each_view id v at).spoken
 
-    pub asked-tied : Tied content holds crew record { words = set s.words 7 (bit_or (get_or s.words 7 0) set'); homes = s.homes; views = set s.views id w }
-    asked-tied = moved content holds crew s r id v w (bit_or (get_or s.words 7 0) set') s.homes r.contents r.notes owner' at refl each within voices (λ k ne. refl) r.now (no-change r.now r.contents v w r.opened (r.changes id v at) refl refl) r.turns r.callers r.tied
+    pub asked-tied : Tied content holds caller_count record { words = set s.words 7 (bit_or (get_or s.words 7 0) set'); homes = s.homes; views = set s.views id w }
+    asked-tied = moved content holds caller_count s r id v w (bit_or (get_or s.words 7 0) set') s.homes r.contents r.notes owner' at refl each within spoken_notes (λ k ne. refl) r.now (no-change r.now r.contents v w r.opened (r.changes id v at) refl refl) r.turns r.callers r.tied
 
     -- a board of one caller has no other seat that could hold a turn
-    alone : v.crew ≡ 1 → (t : ℕ) → t < length s.homes → bit_at (get_or s.words 7 0) t ≡ 1 → (o : ℕ) → TurnOk content crew r.owner r.seat_of r.contents r.notes s t o → (c : C) × (counted v t ≡ Some c)
+    alone : v.caller_count ≡ 1 → (t : ℕ) → t < length s.homes → bit_at (get_or s.words 7 0) t ≡ 1 → (o : ℕ) → TurnOk content caller_count r.owner r.seat_of r.contents r.notes s t o → (c : C) × (counted v t ≡ Some c)
     alone sole t h bit zero k = absurd (let a : bit_at (get_or s.words 7 0) t ≡ 0 = k.0 in omega arith)
     alone sole t h bit (suc o) k =
-        let crew-is : v.crew ≡ crew = voice.0 in let mine : k0 < crew = voice.1 in let its : o < crew = k.1 in let same : o ≡ k0 = omega arith in
-        let sits : get_elem? s.views id ≡ some k.2.0 = ap (get_elem? s.views) (sym (ap r.seat_of same ∙ voice.2)) ∙ k.2.2 in
+        let caller_count-is : v.caller_count ≡ caller_count = spoken.0 in let mine : k0 < caller_count = spoken.1 in let its : o < caller_count = k.1 in let same : o ≡ k0 = omega arith in
+        let sits : get_elem? s.views id ≡ some k.2.0 = ap (get_elem? s.views) (sym (ap r.seat_of same ∙ spoken.2)) ∙ k.2.2 in
         (k.2.1, ap (λ (x : View C). counted x t) (some-injective v k.2.0 (sym at ∙ sits)) ∙ k.2.3)
 
   pub asks : (slots id : ℕ) (me : Sits V C) (set' k0 : ℕ) (c0 : C) → me.0.speaks ≡ (k0, c0) ∷ [] → ((t : ℕ) → bit_at set' t ≡ 1 → counted me.0 t ≡ None)
-      → Allows (Tied content holds crew) slots id me 7 (λ n. bit_or n set') (asked holds (step slots 7 set' 0 none) me)
+      → Allows (Tied content holds caller_count) slots id me 7 (λ n. bit_or n set') (asked holds (step slots 7 set' 0 none) me)
   asks slots id me set' k0 c0 one free s r wide at small =
       let v : View C = me.0 in
       let w : View C = asked_view slots set' (get_or s.words 7 0) r.contents v in

@@ -10,44 +10,44 @@ use Rattle.turn_board.specs.declared.seat.Seat.{Seat}
 use Rattle.turn_board.specs.Tied.{Tied, TurnOk, Lying, counted}
 use Rattle.atomic_table.specs.Seated.{TableId}
 use Rattle.turn_board.specs.Steps.{note_of, caller_of}
-use Rattle.turn_board.specs.Passes.{Pass, Sitting}
+use Rattle.turn_board.specs.Passes.{Pass, IsSeated}
 use Rattle.turn_board.specs.Openings.{IdleFirst}
 use Rattle.turn_board.specs.declared.board.Board.{Board}
 use Rattle.turn_board.specs.Boards.{Ends}
-use Rattle.turn_board.specs.Closings.{all_voices}
+use Rattle.turn_board.specs.Closings.{all_notes}
 use Rattle.turn_board.proofs.Rows.{length-map, map-get, get-within, same-lists}
 
 module _ {V R C : Type 0} where
-  pub voices-snoc : (xs : List (Seat V R C)) (s : Seat V R C) (ys : List (ℕ × C)) → all_voices (xs ++ s ∷ []) ++ ys ≡ all_voices xs ++ (s.pass.me.0.speaks ++ ys)
-  voices-snoc [] s ys = append_assoc s.pass.me.0.speaks [] ys
-  voices-snoc (x ∷ xs) s ys = append_assoc x.pass.me.0.speaks (all_voices (xs ++ s ∷ [])) ys ∙ ap (λ (l : List (ℕ × C)). x.pass.me.0.speaks ++ l) (voices-snoc xs s ys) ∙ sym (append_assoc x.pass.me.0.speaks (all_voices xs) (s.pass.me.0.speaks ++ ys))
+  pub spoken_notes-snoc : (xs : List (Seat V R C)) (s : Seat V R C) (ys : List (ℕ × C)) → all_notes (xs ++ s ∷ []) ++ ys ≡ all_notes xs ++ (s.pass.me.0.speaks ++ ys)
+  spoken_notes-snoc [] s ys = append_assoc s.pass.me.0.speaks [] ys
+  spoken_notes-snoc (x ∷ xs) s ys = append_assoc x.pass.me.0.speaks (all_notes (xs ++ s ∷ [])) ys ∙ ap (λ (l : List (ℕ × C)). x.pass.me.0.speaks ++ l) (spoken_notes-snoc xs s ys) ∙ sym (append_assoc x.pass.me.0.speaks (all_notes xs) (s.pass.me.0.speaks ++ ys))
 
   -- the k-th of the seats speaks for the caller k
   pub Ordered : ℕ → List (Seat V R C) → Type 0
   Ordered from xs = (i : ℕ) (s : Seat V R C) → slice_get xs i ≡ Some s → (c : C) × (s.pass.me.0.speaks ≡ (from + i, c) ∷ [])
 
-  pub voice-at : (xs : List (Seat V R C)) (from k : ℕ) (s : Seat V R C) (c : C) → Ordered from xs → slice_get xs k ≡ Some s → note_of s.pass.me.0.speaks ≡ Some c → get_elem? (all_voices xs) k ≡ some (from + k, c)
+  pub spoken-at : (xs : List (Seat V R C)) (from k : ℕ) (s : Seat V R C) (c : C) → Ordered from xs → slice_get xs k ≡ Some s → note_of s.pass.me.0.speaks ≡ Some c → get_elem? (all_notes xs) k ≡ some (from + k, c)
   unfolding Ordered
-  voice-at [] from k s c o at n = absurd (none-some s at)
-  voice-at (x ∷ xs) from zero s c o at n =
+  spoken-at [] from k s c o at n = absurd (none-some s at)
+  spoken-at (x ∷ xs) from zero s c o at n =
       let h = o 0 x refl in let same : x ≡ s = same_Some x s at in
       let note : h.0 ≡ c = same_Some h.0 c (sym (ap note_of h.1) ∙ ap (λ (y : Seat V R C). note_of y.pass.me.0.speaks) same ∙ n) in
-      ap (λ (l : List (ℕ × C)). get_elem? (l ++ all_voices xs) 0) h.1 ∙ ap (λ (d : C). some (from + 0, d)) note
-  voice-at (x ∷ xs) from (suc k) s c o at n =
+      ap (λ (l : List (ℕ × C)). get_elem? (l ++ all_notes xs) 0) h.1 ∙ ap (λ (d : C). some (from + 0, d)) note
+  spoken-at (x ∷ xs) from (suc k) s c o at n =
       let h = o 0 x refl in
       let o' : Ordered (suc from) xs = λ i y e. let q = o (suc i) y e in (q.0, q.1 ∙ ap (λ (m : ℕ). (m, q.0) ∷ []) (omega arith)) in
-      ap (λ (l : List (ℕ × C)). get_elem? (l ++ all_voices xs) (suc k)) h.1 ∙ voice-at xs (suc from) k s c o' at n ∙ ap (λ (m : ℕ). some (m, c)) (omega arith)
+      ap (λ (l : List (ℕ × C)). get_elem? (l ++ all_notes xs) (suc k)) h.1 ∙ spoken-at xs (suc from) k s c o' at n ∙ ap (λ (m : ℕ). some (m, c)) (omega arith)
 
-module _ {V C : Type 0} (content : V → C) (holds : List C → List C → Type 0) (crew : ℕ) (s : State (Option V) (View C)) (r : Tied content holds crew s) (id : ℕ) (v : View C) (at : get_elem? s.views id ≡ some v)
-    (none' : (t : ℕ) → counted v t ≡ None) (n : ℕ) (v-crew : v.crew ≡ n) (pos : 0 < n) (voices : (k : ℕ) → k < n → (c : C) × (get_elem? v.speaks k ≡ some (k, c))) where
-  crew-is : n ≡ crew
-  crew-is = let h = voices 0 pos in sym v-crew ∙ ((r.each_view id v at).spoken 0 0 h.0 h.1).0
+module _ {V C : Type 0} (content : V → C) (holds : List C → List C → Type 0) (caller_count : ℕ) (s : State (Option V) (View C)) (r : Tied content holds caller_count s) (id : ℕ) (v : View C) (at : get_elem? s.views id ≡ some v)
+    (none' : (t : ℕ) → counted v t ≡ None) (n : ℕ) (v-caller_count : v.caller_count ≡ n) (pos : 0 < n) (spoken_notes : (k : ℕ) → k < n → (c : C) × (get_elem? v.speaks k ≡ some (k, c))) where
+  caller_count-is : n ≡ caller_count
+  caller_count-is = let h = spoken_notes 0 pos in sym v-caller_count ∙ ((r.each_view id v at).spoken 0 0 h.0 h.1).0
 
   -- no turn is taken
-  free : (t o : ℕ) → TurnOk content crew r.owner r.seat_of r.contents r.notes s t o → (c : C) × (slice_get r.contents t ≡ Some c) × Lying content s.homes t c
+  free : (t o : ℕ) → TurnOk content caller_count r.owner r.seat_of r.contents r.notes s t o → (c : C) × (slice_get r.contents t ≡ Some c) × Lying content s.homes t c
   free t zero b = b.1
   free t (suc k) b = absurd (
-      let q = crew-is in let near : k < crew = b.1 in let h = voices k (omega arith) in
+      let q = caller_count-is in let near : k < caller_count = b.1 in let h = spoken_notes k (omega arith) in
       let sits = ((r.each_view id v at).spoken k k h.0 h.1).2 in
       let same : b.2.0 ≡ v = some-injective b.2.0 v (sym b.2.2 ∙ ap (get_elem? s.views) sits ∙ at) in
       none-some b.2.1 (sym (none' t) ∙ ap (λ (x : View C). counted x t) (sym same) ∙ b.2.3))
@@ -63,24 +63,24 @@ module _ {V C : Type 0} (content : V → C) (holds : List C → List C → Type 
         map-get content ys t b.0 b.2 ∙ ap (λ (x : V). Some (content x)) same ∙ sym a.2)
 
   pub final-notes : (notes' : List (Option C)) → length notes' ≡ n → ((k : ℕ) → k < n → (c : C) → get_elem? v.speaks k ≡ some (k, c) → slice_get notes' k ≡ Some (Some c)) → map Some r.notes ≡ notes'
-  final-notes notes' long' got = same-lists (map Some r.notes) notes' (length-map Some r.notes ∙ r.callers ∙ sym crew-is ∙ sym long')
-      (λ k h. let near : k < n = (let l = length-map Some r.notes in let a = r.callers in let q = crew-is in omega arith) in let c = voices k near in
+  final-notes notes' long' got = same-lists (map Some r.notes) notes' (length-map Some r.notes ∙ r.callers ∙ sym caller_count-is ∙ sym long')
+      (λ k h. let near : k < n = (let l = length-map Some r.notes in let a = r.callers in let q = caller_count-is in omega arith) in let c = spoken_notes k near in
       map-get Some r.notes k c.0 ((r.each_view id v at).spoken k k c.0 c.1).3 ∙ sym (got k near c.0 c.1))
 
-pub all-here : {V R C : Type 0} (b : Board V R C) (l : List (Seat V R C)) → ((i : ℕ) (s : Seat V R C) → slice_get l i ≡ Some s → Ends b (length l) i s) → (i : ℕ) (s : Seat V R C) → slice_get l i ≡ Some s → Sitting b.table.shared.table_id s.pass × (caller_of s.pass.me.0.speaks ≡ i) × (s.pass.me.0.crew ≡ length l) × ((t : ℕ) → counted s.pass.me.0 t ≡ None)
-all-here b l h i s e = let x = h i s e in (x.seat, x.caller_is, x.crew_is, x.free)
+pub all-here : {V R C : Type 0} (b : Board V R C) (l : List (Seat V R C)) → ((i : ℕ) (s : Seat V R C) → slice_get l i ≡ Some s → Ends b (length l) i s) → (i : ℕ) (s : Seat V R C) → slice_get l i ≡ Some s → IsSeated b.table.shared.table_id s.pass × (caller_of s.pass.me.0.speaks ≡ i) × (s.pass.me.0.caller_count ≡ length l) × ((t : ℕ) → counted s.pass.me.0 t ≡ None)
+all-here b l h i s e = let x = h i s e in (x.seat, x.caller_is, x.caller_count_is, x.free)
 
 append-nil : {A : Type 0} (l : List A) → l ++ [] ≡ l
 append-nil [] = refl
 append-nil (x ∷ xs) = ap (λ l. x ∷ l) (append-nil xs)
 
-pub idle-of : {V C : Type 0} (id : TableId) (p : Pass V C) → Sitting id p → ((t : ℕ) → counted p.me.0 t ≡ None) → IdleFirst id p
+pub idle-of : {V C : Type 0} (id : TableId) (p : Pass V C) → IsSeated id p → ((t : ℕ) → counted p.me.0 t ≡ None) → IdleFirst id p
 idle-of id p s n = record { of_table = s.placed.of_table; empty = s.placed.empty; counts = s.placed.counts; places = s.placed.places; losses = s.placed.losses; vacant = s.vacant; none_held = n }
 
 module _ {V R C : Type 0} (id : TableId) where
   -- all seats of a board, in their order, which hold no turn
   abbrev pub AllHere : List (Seat V R C) → Type 0
-  AllHere l = (i : ℕ) (s : Seat V R C) → slice_get l i ≡ Some s → Sitting id s.pass × (caller_of s.pass.me.0.speaks ≡ i) × (s.pass.me.0.crew ≡ length l) × ((t : ℕ) → counted s.pass.me.0 t ≡ None)
+  AllHere l = (i : ℕ) (s : Seat V R C) → slice_get l i ≡ Some s → IsSeated id s.pass × (caller_of s.pass.me.0.speaks ≡ i) × (s.pass.me.0.caller_count ≡ length l) × ((t : ℕ) → counted s.pass.me.0 t ≡ None)
 
   module _ (l : List (Seat V R C)) (all : AllHere l) where
     pub in-order : Ordered 0 l
@@ -90,16 +90,16 @@ module _ {V R C : Type 0} (id : TableId) where
     pub some-note : (k : ℕ) (s : Seat V R C) → slice_get l k ≡ Some s → (c : C) × (note_of s.pass.me.0.speaks ≡ Some c)
     some-note k s e = let o = (all k s e).0.placed.one in (o.1, ap note_of o.2)
 
-    pub voice-of : (k : ℕ) (s : Seat V R C) (c : C) → slice_get l k ≡ Some s → note_of s.pass.me.0.speaks ≡ Some c → get_elem? (all_voices l) k ≡ some (k, c)
-    voice-of k s c e n = voice-at l 0 k s c in-order e n ∙ ap (λ (m : ℕ). some (m, c)) (let g : 0 + k ≡ k = omega arith in g)
+    pub spoken-of : (k : ℕ) (s : Seat V R C) (c : C) → slice_get l k ≡ Some s → note_of s.pass.me.0.speaks ≡ Some c → get_elem? (all_notes l) k ≡ some (k, c)
+    spoken-of k s c e n = spoken-at l 0 k s c in-order e n ∙ ap (λ (m : ℕ). some (m, c)) (let g : 0 + k ≡ k = omega arith in g)
 
-    pub voices-in : (k : ℕ) → k < length l → (c : C) × (get_elem? (all_voices l) k ≡ some (k, c))
-    voices-in k h = let s = get-within l k h in let c = some-note k s.0 s.1 in (c.0, voice-of k s.0 c.0 s.1 c.1)
+    pub spoken_notes-in : (k : ℕ) → k < length l → (c : C) × (get_elem? (all_notes l) k ≡ some (k, c))
+    spoken_notes-in k h = let s = get-within l k h in let c = some-note k s.0 s.1 in (c.0, spoken-of k s.0 c.0 s.1 c.1)
 
-    pub notes-in : (k : ℕ) → k < length l → (c : C) → get_elem? (all_voices l) k ≡ some (k, c) → slice_get (map (λ (s : Seat V R C). note_of s.pass.me.0.speaks) l) k ≡ Some (Some c)
+    pub notes-in : (k : ℕ) → k < length l → (c : C) → get_elem? (all_notes l) k ≡ some (k, c) → slice_get (map (λ (s : Seat V R C). note_of s.pass.me.0.speaks) l) k ≡ Some (Some c)
     notes-in k h c e = let s = get-within l k h in let d = some-note k s.0 s.1 in
-        let same : d.0 ≡ c = ap (λ (x : ℕ × C). x.1) (some-injective {A = ℕ × C} (k, d.0) (k, c) (sym (voice-of k s.0 d.0 s.1 d.1) ∙ e)) in
+        let same : d.0 ≡ c = ap (λ (x : ℕ × C). x.1) (some-injective {A = ℕ × C} (k, d.0) (k, c) (sym (spoken-of k s.0 d.0 s.1 d.1) ∙ e)) in
         map-get (λ (y : Seat V R C). note_of y.pass.me.0.speaks) l k s.0 s.1 ∙ ap Some (d.1 ∙ ap Some same)
 
-  pub gathered : (l xs : List (Seat V R C)) (s : Seat V R C) → l ≡ xs ++ s ∷ [] → all_voices xs ++ s.pass.me.0.speaks ≡ all_voices l
-  gathered l xs s e = ap (λ (y : List (ℕ × C)). all_voices xs ++ y) (sym (append-nil s.pass.me.0.speaks)) ∙ sym (voices-snoc xs s []) ∙ append-nil (all_voices (xs ++ s ∷ [])) ∙ ap all_voices (sym e)
+  pub gathered : (l xs : List (Seat V R C)) (s : Seat V R C) → l ≡ xs ++ s ∷ [] → all_notes xs ++ s.pass.me.0.speaks ≡ all_notes l
+  gathered l xs s e = ap (λ (y : List (ℕ × C)). all_notes xs ++ y) (sym (append-nil s.pass.me.0.speaks)) ∙ sym (spoken_notes-snoc xs s []) ∙ append-nil (all_notes (xs ++ s ∷ [])) ∙ ap all_notes (sym e)

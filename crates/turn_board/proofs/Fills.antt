@@ -12,7 +12,7 @@ use Rattle.turn_board.specs.declared.view.Place.TheVariants.{Vacant, Lies}
 use Rattle.turn_board.specs.Tied.{counted, place}
 use Rattle.turn_board.specs.Maps.{SameTurns}
 use Rattle.turn_board.specs.Steps.{put_place, given_view, noted, lost_at, note_of, caller_of}
-use Rattle.turn_board.specs.Passes.{Pass, Placed, Sitting, held}
+use Rattle.turn_board.specs.Passes.{Pass, Placed, IsSeated, held}
 use Rattle.turn_board.specs.Hands.{in_hands, put_back, Once}
 use Rattle.turn_board.specs.Moving.{Filled}
 use Rattle.turn_board.specs.Boards.{BookedAll}
@@ -31,7 +31,7 @@ pub record Filling {V C : Type 0} (content : V → C) (xs rest : List (ℕ × V)
   pub counts : q.me.0.counts ≡ p.me.0.counts
   pub lost : q.me.0.lost ≡ p.me.0.lost
   pub given : q.me.0.given ≡ p.me.0.given
-  pub crew : q.me.0.crew ≡ p.me.0.crew
+  pub caller_count : q.me.0.caller_count ≡ p.me.0.caller_count
   pub asks : q.me.0.asks ≡ p.me.0.asks
   pub givings : q.me.0.givings ≡ p.me.0.givings
   pub change : q.me.0.change ≡ p.me.0.change
@@ -53,7 +53,7 @@ module _ {V C : Type 0} (content : V → C) where
     counts = refl;
     lost = refl;
     given = refl;
-    crew = refl;
+    caller_count = refl;
     asks = refl;
     givings = refl;
     change = refl;
@@ -72,7 +72,7 @@ module _ {V C : Type 0} (content : V → C) where
     counts = f.counts;
     lost = f.lost;
     given = f.given;
-    crew = f.crew;
+    caller_count = f.caller_count;
     asks = f.asks;
     givings = f.givings;
     change = f.change;
@@ -110,7 +110,7 @@ module _ {V C : Type 0} (content : V → C) where
       counts = ap (λ m. m.0.counts) r-is ∙ f.counts;
       lost = ap (λ m. m.0.lost) r-is ∙ f.lost;
       given = ap (λ m. m.0.given) r-is ∙ f.given;
-      crew = ap (λ m. m.0.crew) r-is ∙ f.crew;
+      caller_count = ap (λ m. m.0.caller_count) r-is ∙ f.caller_count;
       asks = ap (λ m. m.0.asks) r-is ∙ f.asks;
       givings = ap (λ m. m.0.givings) r-is ∙ f.givings;
       change = ap (λ m. m.0.change) r-is ∙ f.change;
@@ -142,26 +142,26 @@ after-zero content book xs (suc u) h = refl
 pub from-mask : (mask u : ℕ) → mask < 2 ^ 64 → u < 64 → bit_at (bit_not w64 mask) u ≡ 0 → bit_at mask u ≡ 1
 from-mask mask u fits near e = let m = bit_at_not w64 mask u fits near in let b = bit_at-lt mask u in omega arith
 
-module _ {V C : Type 0} (content : V → C) (id : TableId) (few : id.slots ≤ 57) (p : Pass V C) (sitting : Sitting id p) (book : V) (xs : List (ℕ × V)) (once : Once content xs) (same : SameTurns (held p) (put_back content book xs))
+module _ {V C : Type 0} (content : V → C) (id : TableId) (few : id.slots ≤ 57) (p : Pass V C) (seated : IsSeated id p) (book : V) (xs : List (ℕ × V)) (once : Once content xs) (same : SameTurns (held p) (put_back content book xs))
     (m : Pass V C) (m-is : m.me ≡ (put_place 0 (Lies (content book)) p.me.0, [])) where
   pub book-held : (c : C) × (held p 0 ≡ Some c)
   book-held = has-book (held p) (put_back content book xs) (content book) same refl
 
   near-zero : 0 < id.slots
-  near-zero = held-near p.me.0 id.slots 0 book-held.0 sitting.placed.counts book-held.1
+  near-zero = held-near p.me.0 id.slots 0 book-held.0 seated.placed.counts book-held.1
 
   pub waiting : (u : ℕ) (c : C) → in_hands content xs u ≡ Some c → ((d : C) × (held m u ≡ Some d)) × (place m.me.0 u ≡ Vacant)
   waiting u c e =
       let pos = once-positive content xs once u c e in
       let h = cases (held p u) ((d : C) × (held p u ≡ Some d)) (λ n. absurd (none-some c (sym (same.0 u n) ∙ after-zero content book xs u pos ∙ e))) (λ d g. (d, g)) in
-      ((h.0, ap (λ y. counted y.0 u) m-is ∙ h.1), ap (λ y. place y.0 u) m-is ∙ get_or-set_other p.me.0.places 0 u (Lies (content book)) Vacant (λ s. omega arith) ∙ sitting.vacant u)
+      ((h.0, ap (λ y. counted y.0 u) m-is ∙ h.1), ap (λ y. place y.0 u) m-is ∙ get_or-set_other p.me.0.places 0 u (Lies (content book)) Vacant (λ s. omega arith) ∙ seated.vacant u)
 
   module _ (set : ℕ) (q : Pass V C) (f : Filled content xs set m q) where
     zero-unset : bit_at set 0 ≡ 0
     zero-unset = two (bit_at set 0) (λ x. x ≡ 0) (bit_at-lt set 0) (λ _. refl) (λ o. absurd (let h = f.there 0 o in let k = once-positive content xs once 0 h.0 h.1 in omega arith))
 
     zero-place : place q.me.0 0 ≡ Lies (content book)
-    zero-place = (f.others 0 zero-unset).1 ∙ ap (λ y. place y.0 0) m-is ∙ get_or-set_same p.me.0.places 0 (Lies (content book)) Vacant (let l = sitting.placed.places in let n = near-zero in omega arith)
+    zero-place = (f.others 0 zero-unset).1 ∙ ap (λ y. place y.0 0) m-is ∙ get_or-set_same p.me.0.places 0 (Lies (content book)) Vacant (let l = seated.placed.places in let n = near-zero in omega arith)
 
     with-one : (u : ℕ) → u ≢ 0 → bit_at (bit_or set 1) u ≡ bit_at set u
     with-one u ne = bit_at_or set 1 u ∙ ap (max (bit_at set u)) (bit_at-pow_other 0 u ne) ∙ (omega arith)
@@ -201,20 +201,20 @@ module _ {V C : Type 0} (content : V → C) (id : TableId) (few : id.slots ≤ 5
       all-vacant u = ap (λ (x : View C). place x u) r-view ∙ dite (dec_lt u id.slots)
           (λ h. row-here id.slots (λ y. cond (bit_at M y == 0) Vacant (place q.me.0 y)) Vacant u h
           ∙ two (bit_at M u) (λ x. cond (x == 0) Vacant (place q.me.0 u) ≡ Vacant) (bit_at-lt M u) (λ z. refl)
-          (λ o. let k = kept-bit u h o in (f.others u k.1).1 ∙ ap (λ y. place y.0 u) m-is ∙ get_or-set_other p.me.0.places 0 u (Lies (content book)) Vacant k.0 ∙ sitting.vacant u))
+          (λ o. let k = kept-bit u h o in (f.others u k.1).1 ∙ ap (λ y. place y.0 u) m-is ∙ get_or-set_other p.me.0.places 0 u (Lies (content book)) Vacant k.0 ∙ seated.vacant u))
           (λ h. let k : id.slots ≤ u = omega arith in row-past 0 id.slots (λ y. cond (bit_at M y == 0) Vacant (place q.me.0 y)) Vacant u k)
 
-      speaks-now : r.me.0.speaks ≡ (sitting.placed.one.0, content book) ∷ []
-      speaks-now = ap (λ (x : View C). x.speaks) r-view ∙ ap (noted (Some (content book))) (f.speaks ∙ ap (λ y. y.0.speaks) m-is ∙ sitting.placed.one.2)
+      speaks-now : r.me.0.speaks ≡ (seated.placed.one.0, content book) ∷ []
+      speaks-now = ap (λ (x : View C). x.speaks) r-view ∙ ap (noted (Some (content book))) (f.speaks ∙ ap (λ y. y.0.speaks) m-is ∙ seated.placed.one.2)
 
       all-noted : note_of r.me.0.speaks ≡ Some (content book)
       all-noted = ap note_of speaks-now
 
       all-caller : caller_of r.me.0.speaks ≡ caller_of p.me.0.speaks
-      all-caller = ap caller_of speaks-now ∙ sym (ap caller_of sitting.placed.one.2)
+      all-caller = ap caller_of speaks-now ∙ sym (ap caller_of seated.placed.one.2)
 
-      all-crew : r.me.0.crew ≡ p.me.0.crew
-      all-crew = ap (λ (x : View C). x.crew) r-view ∙ f.crew ∙ ap (λ y. y.0.crew) m-is
+      all-caller_count : r.me.0.caller_count ≡ p.me.0.caller_count
+      all-caller_count = ap (λ (x : View C). x.caller_count) r-view ∙ f.caller_count ∙ ap (λ y. y.0.caller_count) m-is
 
       all-given : r.me.0.given ≡ p.me.0.given + 1
       all-given = ap (λ (x : View C). x.given) r-view ∙ ap (λ (n : ℕ). n + 1) (f.given ∙ ap (λ y. y.0.given) m-is)
@@ -232,17 +232,17 @@ module _ {V C : Type 0} (content : V → C) (id : TableId) (few : id.slots ≤ 5
       all-change = ap (λ (x : View C). x.change) r-view
 
       pub booked-all : {R : Type 0} → BookedAll (at R p) (at R r) (content book)
-      booked-all = record { nothing = all-gone; noted = all-noted; caller_is = all-caller; crew_is = all-crew; given_is = all-given; lost_is = all-losses; asks_is = all-asks; givings_is = all-givings }
+      booked-all = record { nothing = all-gone; noted = all-noted; caller_is = all-caller; caller_count_is = all-caller_count; given_is = all-given; lost_is = all-losses; asks_is = all-asks; givings_is = all-givings }
 
-      pub all-sits : r.table_id ≡ id → Sitting id r
+      pub all-sits : r.table_id ≡ id → IsSeated id r
       all-sits table = record {
         placed = record {
           of_table = table;
           empty = ap (λ y. y.1) r-is ∙ f.none ∙ ap (λ y. y.1) m-is;
           counts = ap (λ (x : View C). length x.counts) r-view ∙ row-length 0 id.slots (λ y. cond (bit_at M y == 0) None (put_back content book xs y));
           places = ap (λ (x : View C). length x.places) r-view ∙ row-length 0 id.slots (λ y. cond (bit_at M y == 0) Vacant (place q.me.0 y));
-          losses = ap (λ (x : View C). length x.lost) r-view ∙ ap length f.lost ∙ ap (λ y. length y.0.lost) m-is ∙ sitting.placed.losses;
-          one = (sitting.placed.one.0, content book, speaks-now);
+          losses = ap (λ (x : View C). length x.lost) r-view ∙ ap length f.lost ∙ ap (λ y. length y.0.lost) m-is ∙ seated.placed.losses;
+          one = (seated.placed.one.0, content book, speaks-now);
         };
         vacant = all-vacant;
       }

@@ -25,8 +25,8 @@ only : {C : Type 0} (k0 : ℕ) (b : C) (i k : ℕ) (c : C) → get_elem? {A = �
 only {C} k0 b zero k c e = let g = some-injective {A = ℕ × C} (k0, b) (k, c) e in (ap (λ (x : ℕ × C). x.0) g, ap (λ (x : ℕ × C). x.1) g)
 only {C} k0 b (suc i) k c e = absurd (some-ne-none {A = ℕ × C} (k, c) (sym e))
 
-module _ {V C : Type 0} (content : V → C) (holds : List C → List C → Type 0) (crew : ℕ) where
-  module _ (s : State (Option V) (View C)) (r : Tied content holds crew s) (id slots mask : ℕ) (v : View C) (new : ℕ → Option C) (speaks : List (ℕ × C)) (given : ℕ) (change : ℕ × List C) (contents notes : List C)
+module _ {V C : Type 0} (content : V → C) (holds : List C → List C → Type 0) (caller_count : ℕ) where
+  module _ (s : State (Option V) (View C)) (r : Tied content holds caller_count s) (id slots mask : ℕ) (v : View C) (new : ℕ → Option C) (speaks : List (ℕ × C)) (given : ℕ) (change : ℕ × List C) (contents notes : List C)
       (at : get_elem? s.views id ≡ some v) (wide : length s.homes ≡ slots)
       (changed : (t : ℕ) (d : C) → t < slots → new t ≡ Some d → slice_get contents t ≡ Some d)
       (unchanged : (t : ℕ) → new t ≡ None → slice_get contents t ≡ slice_get r.contents t)
@@ -42,13 +42,13 @@ module _ {V C : Type 0} (content : V → C) (holds : List C → List C → Type 
     owner' t = cond (bit_at mask t == 0) 0 (r.owner t)
 
     abbrev SameAt : ℕ → Type 0
-    SameAt = Same content holds crew s r id v w word s.homes contents notes owner'
+    SameAt = Same content holds caller_count s r id v w word s.homes contents notes owner'
 
     abbrev MineAt : ℕ → Type 0
-    MineAt = Mine content holds crew s r id v w word s.homes contents notes owner'
+    MineAt = Mine content holds caller_count s r id v w word s.homes contents notes owner'
 
     abbrev OwnsAt : ℕ → ℕ → Type 0
-    OwnsAt = Owns content holds crew s r id v w word s.homes contents notes owner'
+    OwnsAt = Owns content holds caller_count s r id v w word s.homes contents notes owner'
 
     count-at : (t : ℕ) → t < slots → counted w t ≡ cond (bit_at mask t == 0) None (new t)
     count-at t h = row-here slots (λ u. cond (bit_at mask u == 0) None (new u)) None t h
@@ -68,9 +68,9 @@ module _ {V C : Type 0} (content : V → C) (holds : List C → List C → Type 
     was : (t : ℕ) (d : C) → new t ≡ Some d → (c : C) × (counted v t ≡ Some c)
     was t d e = cases (counted v t) ((c : C) × (counted v t ≡ Some c)) (λ n. absurd (none-some d (sym (same.0 t n) ∙ e))) (λ c g. (c, g))
 
-    held-bit : (t k : ℕ) (o : ℕ) → o ≡ suc k → TurnOk content crew r.owner r.seat_of r.contents r.notes s t o → (bit_at (get_or s.words 7 0) t ≡ 1) × (k < crew)
+    held-bit : (t k : ℕ) (o : ℕ) → o ≡ suc k → TurnOk content caller_count r.owner r.seat_of r.contents r.notes s t o → (bit_at (get_or s.words 7 0) t ≡ 1) × (k < caller_count)
     held-bit t k zero e q = absurd (omega arith)
-    held-bit t k (suc o) e q = (q.0, (let g : o < crew = q.1 in omega arith))
+    held-bit t k (suc o) e q = (q.0, (let g : o < caller_count = q.1 in omega arith))
 
     ours : (t : ℕ) (c : C) → counted v t ≡ Some c → (k : ℕ) → r.owner t ≡ suc k → r.seat_of k ≡ id
     ours t c is j e = let x = (r.each_view id v at).held t c is in let k : ℕ = x.3.0 in
@@ -128,13 +128,13 @@ module _ {V C : Type 0} (content : V → C) (holds : List C → List C → Type 
     within t c e = dite (dec_lt t slots) (λ h. (let g : t < length s.homes = omega arith in g))
         (λ h. absurd (none-some c (sym (row-past 0 slots (λ u. cond (bit_at mask u == 0) None (new u)) None t (let g : slots ≤ t = omega arith in g)) ∙ e)))
 
-    pub given-tied : ((i k : ℕ) (c : C) → get_elem? speaks i ≡ some (k, c) → (v.crew ≡ crew) × (k < crew) × (r.seat_of k ≡ id) × (slice_get notes k ≡ Some c))
-        → ((k : ℕ) → r.seat_of k ≢ id → slice_get notes k ≡ slice_get r.notes k) → (now : ℕ) → Follows r.now r.contents v now contents w → length contents ≡ length s.homes → length notes ≡ crew → holds contents notes
-        → Tied content holds crew record { words = set s.words 7 word; homes = s.homes; views = set s.views id w }
-    given-tied voices others now follows full all ok = moved content holds crew s r id v w word s.homes contents notes owner' at refl each within voices others now follows full all ok
+    pub given-tied : ((i k : ℕ) (c : C) → get_elem? speaks i ≡ some (k, c) → (v.caller_count ≡ caller_count) × (k < caller_count) × (r.seat_of k ≡ id) × (slice_get notes k ≡ Some c))
+        → ((k : ℕ) → r.seat_of k ≢ id → slice_get notes k ≡ slice_get r.notes k) → (now : ℕ) → Follows r.now r.contents v now contents w → length contents ≡ length s.homes → length notes ≡ caller_count → holds contents notes
+        → Tied content holds caller_count record { words = set s.words 7 word; homes = s.homes; views = set s.views id w }
+    given-tied spoken_notes others now follows full all ok = moved content holds caller_count s r id v w word s.homes contents notes owner' at refl each within spoken_notes others now follows full all ok
 
   pub returns : (slots id : ℕ) (me : Sits V C) (mask : ℕ) → ((t : ℕ) → t < slots → bit_at mask t ≡ 0 → (d : C) × (counted me.0 t ≡ Some d) × (place me.0 t ≡ Lies d))
-      → Allows (Tied content holds crew) slots id me 7 (λ n. bit_and n mask) (λ _ m. returned (step slots 7 mask 0 none) me m)
+      → Allows (Tied content holds caller_count) slots id me 7 (λ n. bit_and n mask) (λ _ m. returned (step slots 7 mask 0 none) me m)
   returns slots id me mask freed s r wide at small =
       let v : View C = me.0 in (
         given_view slots mask (counted v) v.speaks v.given v.change v,
@@ -146,7 +146,7 @@ module _ {V C : Type 0} (content : V → C) (holds : List C → List C → Type 
       )
 
   -- the view after the book was given back has the newest change
-  new-follows : (s : State (Option V) (View C)) (r : Tied content holds crew s) (id slots mask : ℕ) (v : View C) (k0 : ℕ) (c0 : C) (new : ℕ → Option C) (book : C) → v.speaks ≡ (k0, c0) ∷ [] → noted (new 0) v.speaks ≡ (k0, book) ∷ [] → get_elem? s.views id ≡ some v
+  new-follows : (s : State (Option V) (View C)) (r : Tied content holds caller_count s) (id slots mask : ℕ) (v : View C) (k0 : ℕ) (c0 : C) (new : ℕ → Option C) (book : C) → v.speaks ≡ (k0, c0) ∷ [] → noted (new 0) v.speaks ≡ (k0, book) ∷ [] → get_elem? s.views id ≡ some v
       → Follows r.now r.contents v (suc r.now) (overlay new r.contents) (given_view slots mask new (noted (new 0) v.speaks) (v.given + 1) (suc r.now, overlay new r.contents) v)
   new-follows s r id slots mask v k0 c0 new book one is at = record {
     heard = λ i k c e. let x = only k0 c0 i k c (sym (ap (λ (l : List (ℕ × C)). get_elem? l i) one) ∙ e) in
@@ -161,14 +161,14 @@ module _ {V C : Type 0} (content : V → C) (holds : List C → List C → Type 
       (kept : (contents notes : List C) (caller : ℕ) (old new : ℕ → Option C) (book : C) → holds contents notes → FitsTurns contents old → SameTurns old new → new 0 ≡ Some book → caller < length notes → moves (length contents) caller old new → holds (overlay new contents) (set notes caller book)) where
     pub books : (slots id : ℕ) (me : Sits V C) (mask k0 : ℕ) (c0 : C) (new : ℕ → Option C) (book : C) → me.0.speaks ≡ (k0, c0) ∷ [] → new 0 ≡ Some book → SameTurns (counted me.0) new → moves slots k0 (counted me.0) new
         → ((t : ℕ) → t < slots → bit_at mask t ≡ 0 → (d : C) × (new t ≡ Some d) × (place me.0 t ≡ Lies d))
-        → Allows (Tied content holds crew) slots id me 7 (λ n. bit_and n mask) (λ _ m. booked new (step slots 7 mask 0 none) me m)
+        → Allows (Tied content holds caller_count) slots id me 7 (λ n. bit_and n mask) (λ _ m. booked new (step slots 7 mask 0 none) me m)
     books slots id me mask k0 c0 new book one has same may freed s r wide at small =
         let v : View C = me.0 in
-        let voice = (r.each_view id v at).spoken 0 k0 c0 (ap (λ (l : List (ℕ × C)). get_elem? l 0) one) in
+        let spoken = (r.each_view id v at).spoken 0 k0 c0 (ap (λ (l : List (ℕ × C)). get_elem? l 0) one) in
         let is : noted (new 0) v.speaks ≡ (k0, book) ∷ [] = ap₂ noted has one in
-        let crew-is : length r.notes ≡ crew = r.callers in
+        let caller_count-is : length r.notes ≡ caller_count = r.callers in
         let fits : FitsTurns r.contents (counted v) = λ t c e. ((r.each_view id v at).held t c e).1 in
-        let near : k0 < length r.notes = (let g : k0 < crew = voice.1 in omega arith) in (
+        let near : k0 < length r.notes = (let g : k0 < caller_count = spoken.1 in omega arith) in (
           given_view slots mask new (noted (new 0) v.speaks) (v.given + 1) (suc r.now, overlay new r.contents) v,
           keeps,
           tt,
@@ -177,8 +177,8 @@ module _ {V C : Type 0} (content : V → C) (holds : List C → List C → Type 
               (λ t e. overlay-none 0 new r.contents t (ap new (omega arith) ∙ e))
               same freed
               (λ i k c e. let x = only k0 book i k c (sym (ap (λ (l : List (ℕ × C)). get_elem? l i) is) ∙ e) in
-              (voice.0, subst (λ (j : ℕ). j < crew) x.0 voice.1, ap r.seat_of (sym x.0) ∙ voice.2, ap (slice_get (set r.notes k0 book)) (sym x.0) ∙ get-set_same r.notes k0 book near ∙ ap Some x.1))
-              (λ k ne. get-set_other r.notes k0 k book (λ e. ne (ap r.seat_of e ∙ voice.2)))
+              (spoken.0, subst (λ (j : ℕ). j < caller_count) x.0 spoken.1, ap r.seat_of (sym x.0) ∙ spoken.2, ap (slice_get (set r.notes k0 book)) (sym x.0) ∙ get-set_same r.notes k0 book near ∙ ap Some x.1))
+              (λ k ne. get-set_other r.notes k0 k book (λ e. ne (ap r.seat_of e ∙ spoken.2)))
               (suc r.now) (new-follows s r id slots mask v k0 c0 new book one is at)
               (overlay-length 0 new r.contents ∙ r.turns) (length-set r.notes k0 book ∙ r.callers)
               (kept r.contents r.notes k0 (counted v) new book r.tied fits same has near (subst (λ (n : ℕ). moves n k0 (counted v) new) (sym (r.turns ∙ wide)) may)),

@@ -7,7 +7,7 @@ pub mod Gives
 pub mod Takes
 pub mod Returns
 pub mod Several
-pub mod Crews
+pub mod CallerCounts
 pub mod Opened
 pub mod Closes
 pub mod Sets

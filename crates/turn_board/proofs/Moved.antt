@@ -36,11 +36,11 @@ no-change {C} now contents v w pos left same change = record {
   newest = inr (refl, ap (λ (x : ℕ × List C). x.0) change);
 }
 
-module _ {V C : Type 0} (content : V → C) (holds : List C → List C → Type 0) (crew : ℕ) where
+module _ {V C : Type 0} (content : V → C) (holds : List C → List C → Type 0) (caller_count : ℕ) where
   abbrev pub St : Type 0
   St = State (Option V) (View C)
 
-  module _ (s : St) (r : Tied content holds crew s) (id : ℕ) (v w : View C) (word : ℕ) (homes : List (maybe.Option (Option V))) (contents notes : List C) (owner : ℕ → ℕ) where
+  module _ (s : St) (r : Tied content holds caller_count s) (id : ℕ) (v w : View C) (word : ℕ) (homes : List (maybe.Option (Option V))) (contents notes : List C) (owner : ℕ → ℕ) where
     abbrev pub after : St
     after = record { words = set s.words 7 word; homes = homes; views = set s.views id w }
 
@@ -54,7 +54,7 @@ module _ {V C : Type 0} (content : V → C) (holds : List C → List C → Type 
 
     abbrev pub Owns : ℕ → ℕ → Type 0
     Owns t zero = (bit_at word t ≡ 0) × ((c : C) × (slice_get contents t ≡ Some c) × Lying content homes t c)
-    Owns t (suc k) = (bit_at word t ≡ 1) × (k < crew) × (r.seat_of k ≡ id) × ((c : C) × (counted w t ≡ Some c))
+    Owns t (suc k) = (bit_at word t ≡ 1) × (k < caller_count) × (r.seat_of k ≡ id) × ((c : C) × (counted w t ≡ Some c))
 
     pub record Mine (t : ℕ) : Type 0 where
       pub ours : (k : ℕ) → r.owner t ≡ suc k → r.seat_of k ≡ id
@@ -63,10 +63,10 @@ module _ {V C : Type 0} (content : V → C) (holds : List C → List C → Type 
 
     module _ (at : get_elem? s.views id ≡ some v) (as_long : length homes ≡ length s.homes) where
       abbrev Was : ℕ → ℕ → Type 0
-      Was t o = TurnOk content crew r.owner r.seat_of r.contents r.notes s t o
+      Was t o = TurnOk content caller_count r.owner r.seat_of r.contents r.notes s t o
 
       abbrev Is : ℕ → ℕ → Type 0
-      Is t o = TurnOk content crew owner r.seat_of contents notes after t o
+      Is t o = TurnOk content caller_count owner r.seat_of contents notes after t o
 
       shown : get_or (set s.words 7 word) 7 0 ≡ word
       shown = get_or-set_same s.words 7 word 0 (let h : length s.words ≡ 15 = r.words in omega arith)
@@ -99,7 +99,7 @@ module _ {V C : Type 0} (content : V → C) (holds : List C → List C → Type 
 
       module _ (each : (t : ℕ) → t < length s.homes → Same t ⊎ Mine t)
           (within : (t : ℕ) (c : C) → counted w t ≡ Some c → t < length s.homes)
-          (voices : (i k : ℕ) (c : C) → get_elem? w.speaks i ≡ some (k, c) → (w.crew ≡ crew) × (k < crew) × (r.seat_of k ≡ id) × (slice_get notes k ≡ Some c))
+          (spoken_notes : (i k : ℕ) (c : C) → get_elem? w.speaks i ≡ some (k, c) → (w.caller_count ≡ caller_count) × (k < caller_count) × (r.seat_of k ≡ id) × (slice_get notes k ≡ Some c))
           (others : (k : ℕ) → r.seat_of k ≢ id → slice_get notes k ≡ slice_get r.notes k) where
         each_turn : (t : ℕ) → t < length homes → Is t (owner t)
         each_turn t h = let near : t < length s.homes = omega arith in
@@ -124,25 +124,25 @@ module _ {V C : Type 0} (content : V → C) (holds : List C → List C → Type 
             (λ (a : Same t). held_same j t c (place u t) a h.1 h.2 h.3)
             (λ (m : Mine t). absurd (ne (sym h.3.2 ∙ m.ours h.3.0 h.3.1))) (each t h.0)
 
-        mine_view : ViewOk content crew owner r.seat_of contents notes after id w
-        mine_view = record { spoken = voices; held = λ t c e. let near = within t c e in let h = held_mine t c e near in (near' t near, h.0, h.1, h.2) }
+        mine_view : ViewOk content caller_count owner r.seat_of contents notes after id w
+        mine_view = record { spoken = spoken_notes; held = λ t c e. let near = within t c e in let h = held_mine t c e near in (near' t near, h.0, h.1, h.2) }
 
-        other_view : (j : ℕ) (u : View C) → j ≢ id → get_elem? s.views j ≡ some u → ViewOk content crew owner r.seat_of contents notes after j u
+        other_view : (j : ℕ) (u : View C) → j ≢ id → get_elem? s.views j ≡ some u → ViewOk content caller_count owner r.seat_of contents notes after j u
         other_view j u ne e = let old = r.each_view j u e in record {
           spoken = λ i k c f. let h = old.spoken i k c f in (h.0, h.1, h.2, others k (λ g. ne (sym h.2 ∙ g)) ∙ h.3);
           held = λ t c f. let h = held_other j u ne e t c f in (near' t (old.held t c f).0, h.0, h.1, h.2);
         }
 
-        each_view : (j : ℕ) (u : View C) → get_elem? (set s.views id w) j ≡ some u → ViewOk content crew owner r.seat_of contents notes after j u
+        each_view : (j : ℕ) (u : View C) → get_elem? (set s.views id w) j ≡ some u → ViewOk content caller_count owner r.seat_of contents notes after j u
         each_view j u e = ⊎_elim
-            (λ (h : (j ≡ id) × (w ≡ u)). subst (λ (x : ℕ × View C). ViewOk content crew owner r.seat_of contents notes after x.0 x.1) (λ i. (sym h.0 i, h.1 i)) mine_view)
+            (λ (h : (j ≡ id) × (w ≡ u)). subst (λ (x : ℕ × View C). ViewOk content caller_count owner r.seat_of contents notes after x.0 x.1) (λ i. (sym h.0 i, h.1 i)) mine_view)
             (λ (h : (j ≢ id) × (get_elem? s.views j ≡ some u)). other_view j u h.0 h.1) (at_set s.views id j w u e)
 
         module _ (now : ℕ) (follows : Follows r.now r.contents v now contents w) where
           own-view : get_elem? (set s.views id w) id ≡ some w
           own-view = set_here s.views id w (there s.views id v at)
 
-          each_caller : (k : ℕ) → k < crew → Heard r.seat_of (set s.views id w) k
+          each_caller : (k : ℕ) → k < caller_count → Heard r.seat_of (set s.views id w) k
           each_caller k near = let h = r.each_caller k near in dite (ℕ_discrete (r.seat_of k) id)
               (λ e. let same : h.0 ≡ v = some-injective h.0 v (sym h.3 ∙ ap (get_elem? s.views) e ∙ at) in
               let x = follows.heard h.1 k h.2 (ap (λ (y : View C). get_elem? y.speaks h.1) (sym same) ∙ h.4) in
@@ -162,7 +162,7 @@ module _ {V C : Type 0} (content : V → C) (holds : List C → List C → Type 
               (λ n. (l.0, l.1, set_else s.views id l.0 w n ∙ l.2, l.3 ∙ sym h.0)))
               follows.newest
 
-        pub moved : (now : ℕ) → Follows r.now r.contents v now contents w → length contents ≡ length s.homes → length notes ≡ crew → holds contents notes → Tied content holds crew after
+        pub moved : (now : ℕ) → Follows r.now r.contents v now contents w → length contents ≡ length s.homes → length notes ≡ caller_count → holds contents notes → Tied content holds caller_count after
         moved now follows full all keeps = record {
           owner = owner;
           seat_of = r.seat_of;

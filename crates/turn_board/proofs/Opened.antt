@@ -17,7 +17,7 @@ use Rattle.turn_board.specs.Steps.{lost_at, note_of, caller_of}
 use Rattle.turn_board.specs.Passes.{Pass}
 use Rattle.turn_board.specs.Openings.{IdleFirst, Unlost, Fresh}
 use Rattle.turn_board.proofs.Rows.{length-map, row-length}
-use Rattle.turn_board.proofs.Crews.{none-at}
+use Rattle.turn_board.proofs.CallerCounts.{none-at}
 
 same-note : {C : Type 0} (n k : ℕ) (c : C) → k < n → slice_get (replicate n c) k ≡ Some c
 same-note zero k c h = absurd (omega arith)
@@ -44,52 +44,52 @@ module _ {V C : Type 0} (content : V → C) where
   lies-in (v ∷ vs) zero h = (content v, refl, (v, refl, refl))
   lies-in (v ∷ vs) (suc t) h = lies-in vs t (omega arith)
 
-  module _ (holds : List C → List C → Type 0) (values : List V) (crew : ℕ) (note : C) where
+  module _ (holds : List C → List C → Type 0) (values : List V) (caller_count : ℕ) (note : C) where
     abbrev start : State (Option V) (View C)
-    start = opening (replicate 15 0) (map Some values) (first_view (length values) crew note (map content values))
+    start = opening (replicate 15 0) (map Some values) (first_view (length values) caller_count note (map content values))
 
     abbrev Ok : ℕ → View C → Type 0
-    Ok = ViewOk content crew (λ _. 0) (λ _. 0) (map content values) (replicate crew note) start
+    Ok = ViewOk content caller_count (λ _. 0) (λ _. 0) (map content values) (replicate caller_count note) start
 
-    first-ok : Ok 0 (first_view (length values) crew note (map content values))
+    first-ok : Ok 0 (first_view (length values) caller_count note (map content values))
     first-ok = record {
-      spoken = λ i k c e. let h = spoken-in note crew 0 i k c e in let near : k < crew = (let b : k < 0 + crew = h.0 in omega arith) in (refl, near, refl, same-note crew k note near ∙ ap Some h.1);
+      spoken = λ i k c e. let h = spoken-in note caller_count 0 i k c e in let near : k < caller_count = (let b : k < 0 + caller_count = h.0 in omega arith) in (refl, near, refl, same-note caller_count k note near ∙ ap Some h.1);
       held = λ t c e. absurd (none-some c (sym (none-at t (length values) None) ∙ e));
     }
 
-    each-ok : (j : ℕ) (v : View C) → get_elem? (first_view (length values) crew note (map content values) ∷ []) j ≡ some v → Ok j v
-    each-ok zero v e = subst (Ok 0) (some-injective (first_view (length values) crew note (map content values)) v e) first-ok
+    each-ok : (j : ℕ) (v : View C) → get_elem? (first_view (length values) caller_count note (map content values) ∷ []) j ≡ some v → Ok j v
+    each-ok zero v e = subst (Ok 0) (some-injective (first_view (length values) caller_count note (map content values)) v e) first-ok
     each-ok (suc j) v e = absurd (some-ne-none v (sym e))
 
-    each-left : (j : ℕ) (v : View C) → get_elem? (first_view (length values) crew note (map content values) ∷ []) j ≡ some v → Left 1 (map content values) v
-    each-left zero v e = subst (Left 1 (map content values)) (some-injective (first_view (length values) crew note (map content values)) v e) (omega arith, λ _. refl)
+    each-left : (j : ℕ) (v : View C) → get_elem? (first_view (length values) caller_count note (map content values) ∷ []) j ≡ some v → Left 1 (map content values) v
+    each-left zero v e = subst (Left 1 (map content values)) (some-injective (first_view (length values) caller_count note (map content values)) v e) (omega arith, λ _. refl)
     each-left (suc j) v e = absurd (some-ne-none v (sym e))
 
     homes-long : length (map some (map Some values)) ≡ length values
     homes-long = length-map some (map Some values) ∙ length-map Some values
 
-    pub opened : length values ≤ 57 → holds (map content values) (replicate crew note) → Tied content holds crew start
+    pub opened : length values ≤ 57 → holds (map content values) (replicate caller_count note) → Tied content holds caller_count start
     opened few ok = record {
       owner = λ _. 0;
       seat_of = λ _. 0;
       contents = map content values;
-      notes = replicate crew note;
+      notes = replicate caller_count note;
       now = 1;
       words = refl;
       turns = length-map content values ∙ sym homes-long;
       small = (let h = homes-long in omega arith);
-      callers = length-notes crew note;
+      callers = length-notes caller_count note;
       tied = ok;
       each_turn = λ t h. (bit_at-zero t, lies-in values t (let q = homes-long in omega arith));
       each_view = each-ok;
-      each_caller = λ k h. (first_view (length values) crew note (map content values), k, note, refl, speaks-at note crew 0 k h ∙ ap (λ (m : ℕ). some (m, note)) (let g : 0 + k ≡ k = omega arith in g));
+      each_caller = λ k h. (first_view (length values) caller_count note (map content values), k, note, refl, speaks-at note caller_count 0 k h ∙ ap (λ (m : ℕ). some (m, note)) (let g : 0 + k ≡ k = omega arith in g));
       opened = omega arith;
       changes = each-left;
-      latest = (0, first_view (length values) crew note (map content values), refl, refl);
+      latest = (0, first_view (length values) caller_count note (map content values), refl, refl);
     }
 
 -- the first seat
-module _ {V C : Type 0} (id : TableId) (p : Pass V C) (turns crew : ℕ) (note : C) (contents : List C) (of-table : p.table_id ≡ id) (is : p.me ≡ (first_view turns crew note contents, [])) (slots : id.slots ≡ turns) where
+module _ {V C : Type 0} (id : TableId) (p : Pass V C) (turns caller_count : ℕ) (note : C) (contents : List C) (of-table : p.table_id ≡ id) (is : p.me ≡ (first_view turns caller_count note contents, [])) (slots : id.slots ≡ turns) where
   pub first-idle : IdleFirst id p
   first-idle = record {
     of_table = of-table;
@@ -104,10 +104,10 @@ module _ {V C : Type 0} (id : TableId) (p : Pass V C) (turns crew : ℕ) (note :
   pub first-unlost : Unlost p
   first-unlost = record { lost = λ t. ap (λ m. lost_at m.0 t) is ∙ none-at t turns 0; given = ap (λ m. m.0.given) is; asks = ap (λ m. m.0.asks) is; givings = ap (λ m. m.0.givings) is }
 
-  pub first-crew : p.me.0.crew ≡ crew
-  first-crew = ap (λ m. m.0.crew) is
+  pub first-caller_count : p.me.0.caller_count ≡ caller_count
+  first-caller_count = ap (λ m. m.0.caller_count) is
 
-  pub first-speaks : p.me.0.speaks ≡ all_speak 0 crew note
+  pub first-speaks : p.me.0.speaks ≡ all_speak 0 caller_count note
   first-speaks = ap (λ m. m.0.speaks) is
 
 pub first-content : {V C : Type 0} (content : V → C) (values : List V) (x : V) (b : C) → x ≡ get_or values 0 x → slice_get (map content values) 0 ≡ Some b → content x ≡ b
@@ -123,7 +123,7 @@ begins b n note change k s f = record {
   };
   caller_is = ap caller_of f.speaks;
   note_is = ap note_of f.speaks;
-  crew_is = f.crew_is;
+  caller_count_is = f.caller_count_is;
   free = f.idle.none_held;
   unlost = f.unlost.lost;
   ungiven = f.unlost.given;

@@ -14,9 +14,9 @@ use Rattle.turn_board.specs.declared.view.View.{View}
 use Rattle.turn_board.specs.declared.view.Place.TheVariants.{Vacant, Lies}
 use Rattle.turn_board.specs.Tied.{counted, place}
 use Rattle.turn_board.specs.Steps.{Sits, booked, given_view, put_place, lost_at, note_of, caller_of, noted}
-use Rattle.turn_board.specs.Passes.{Pass, Sitting, held, lost}
+use Rattle.turn_board.specs.Passes.{Pass, IsSeated, held, lost}
 use Rattle.turn_board.specs.Hands.{HandsView, put_back}
-use Rattle.turn_board.specs.Boards.{SameVoice, Released, Booked, Changed}
+use Rattle.turn_board.specs.Boards.{SameNote, Released, Booked, Changed}
 use Rattle.turn_board.proofs.AtSeat.{at}
 use Rattle.turn_board.specs.Maps.{SameTurns}
 use Rattle.turn_board.proofs.Rows.{row-length, row-here, row-past, past-end}
@@ -64,7 +64,7 @@ module _ {V C : Type 0} (id : TableId) (v : View C) (t mask : ℕ) (new : ℕ �
       (λ ne. ap (λ (b : Bool). cond b Vacant (place v u)) (gone-else u h ne) ∙ rest' ne))
       (λ h. row-past 0 id.slots (λ y. cond (bit_at mask y == 0) Vacant (place v y)) Vacant u (let k : id.slots ≤ u = omega arith in k))
 
-  pub sits : q.table_id ≡ id → length v.lost ≡ id.slots → ((k : ℕ) × (c : C) × (speaks ≡ (k, c) ∷ [])) → ((u : ℕ) → u ≢ t → place v u ≡ Vacant) → Sitting id q
+  pub sits : q.table_id ≡ id → length v.lost ≡ id.slots → ((k : ℕ) × (c : C) × (speaks ≡ (k, c) ∷ [])) → ((u : ℕ) → u ≢ t → place v u ≡ Vacant) → IsSeated id q
   sits same long one rest' = record {
     placed = record {
       of_table = same;
@@ -82,9 +82,9 @@ pub held-near : {C : Type 0} (v : View C) (n t : ℕ) (c : C) → length v.count
 held-near v n t c long e = dite (dec_lt t n) (λ h. h) (λ h. absurd (none-some c (sym (past-end v.counts t None (let k : length v.counts ≤ t = omega arith in k)) ∙ e)))
 
 -- one turn is given back as it was: p before, m after its value was laid into the slot, q after the step
-module _ {V C : Type 0} (id : TableId) (few : id.slots ≤ 57) (p : Pass V C) (sitting : Sitting id p) (t : ℕ) (x : C) (is : held p t ≡ Some x) (m : Pass V C) (m-is : m.me ≡ (put_place t (Lies x) p.me.0, [])) where
+module _ {V C : Type 0} (id : TableId) (few : id.slots ≤ 57) (p : Pass V C) (seated : IsSeated id p) (t : ℕ) (x : C) (is : held p t ≡ Some x) (m : Pass V C) (m-is : m.me ≡ (put_place t (Lies x) p.me.0, [])) where
   below : t < id.slots
-  below = held-near p.me.0 id.slots t x sitting.placed.counts is
+  below = held-near p.me.0 id.slots t x seated.placed.counts is
 
   mid : View C
   mid = put_place t (Lies x) p.me.0
@@ -94,7 +94,7 @@ module _ {V C : Type 0} (id : TableId) (few : id.slots ≤ 57) (p : Pass V C) (s
 
   pub freed : (u : ℕ) → u < id.slots → bit_at (bit_not w64 (2 ^ t)) u ≡ 0 → (d : C) × (counted m.me.0 u ≡ Some d) × (place m.me.0 u ≡ Lies d)
   freed u h e = dite (ℕ_discrete u t)
-      (λ s. (x, ap₂ counted m-view s ∙ is, ap₂ place m-view s ∙ get_or-set_same p.me.0.places t (Lies x) Vacant (let l : length p.me.0.places ≡ id.slots = sitting.placed.places in let b : t < id.slots = below in omega arith)))
+      (λ s. (x, ap₂ counted m-view s ∙ is, ap₂ place m-view s ∙ get_or-set_same p.me.0.places t (Lies x) Vacant (let l : length p.me.0.places ≡ id.slots = seated.placed.places in let b : t < id.slots = below in omega arith)))
       (λ ne. absurd (let b : t < id.slots = below in let o = cleared-else t u (omega arith) (omega arith) ne in omega arith))
 
   module _ (q : Pass V C) (same-table : q.table_id ≡ p.table_id) (same-id : q.id ≡ p.id) (q-is : q.me ≡ (given_view id.slots (bit_not w64 (2 ^ t)) (counted m.me.0) m.me.0.speaks m.me.0.given m.me.0.change m.me.0, m.me.1)) where
@@ -113,29 +113,29 @@ module _ {V C : Type 0} (id : TableId) (few : id.slots ≤ 57) (p : Pass V C) (s
       others = λ u ne. dite (dec_lt u id.slots)
           (λ h. held-else id (put_place t (Lies x) p.me.0) t (bit_not w64 (2 ^ t)) (counted p.me.0) p.me.0.speaks p.me.0.given p.me.0.change q q-now zero-bit one-bits below u h ne)
           (λ h. let k : id.slots ≤ u = omega arith in held-past id (put_place t (Lies x) p.me.0) t (bit_not w64 (2 ^ t)) (counted p.me.0) p.me.0.speaks p.me.0.given p.me.0.change q q-now zero-bit one-bits below u k
-          ∙ sym (past-end p.me.0.counts u None (let l : length p.me.0.counts ≡ id.slots = sitting.placed.counts in omega arith)));
+          ∙ sym (past-end p.me.0.counts u None (let l : length p.me.0.counts ≡ id.slots = seated.placed.counts in omega arith)));
       lost_is = λ u. lost-same id (put_place t (Lies x) p.me.0) t (bit_not w64 (2 ^ t)) (counted p.me.0) p.me.0.speaks p.me.0.given p.me.0.change q q-now zero-bit one-bits below u;
       asks_is = ap (λ y. y.0.asks) q-now;
       givings_is = ap (λ y. y.0.givings) q-now;
     }
 
-    pub sits-again : Sitting id q
-    sits-again = sits id (put_place t (Lies x) p.me.0) t (bit_not w64 (2 ^ t)) (counted p.me.0) p.me.0.speaks p.me.0.given p.me.0.change q q-now zero-bit one-bits below (same-table ∙ sitting.placed.of_table) sitting.placed.losses sitting.placed.one
-        (λ u ne. get_or-set_other p.me.0.places t u (Lies x) Vacant ne ∙ sitting.vacant u)
+    pub sits-again : IsSeated id q
+    sits-again = sits id (put_place t (Lies x) p.me.0) t (bit_not w64 (2 ^ t)) (counted p.me.0) p.me.0.speaks p.me.0.given p.me.0.change q q-now zero-bit one-bits below (same-table ∙ seated.placed.of_table) seated.placed.losses seated.placed.one
+        (λ u ne. get_or-set_other p.me.0.places t u (Lies x) Vacant ne ∙ seated.vacant u)
 
-    pub voice-again : {R : Type 0} → SameVoice (at R p) (at R q)
-    voice-again = record { caller_is = ap (λ y. caller_of y.0.speaks) q-now; note_is = ap (λ y. note_of y.0.speaks) q-now; crew_is = ap (λ y. y.0.crew) q-now; given_is = ap (λ y. y.0.given) q-now; change_is = ap (λ y. y.0.change) q-now }
+    pub spoken-again : {R : Type 0} → SameNote (at R p) (at R q)
+    spoken-again = record { caller_is = ap (λ y. caller_of y.0.speaks) q-now; note_is = ap (λ y. note_of y.0.speaks) q-now; caller_count_is = ap (λ y. y.0.caller_count) q-now; given_is = ap (λ y. y.0.given) q-now; change_is = ap (λ y. y.0.change) q-now }
 
 -- who is to give the book back holds turn 0
 pub has-book : {C : Type 0} (old new : ℕ → Option C) (b : C) → SameTurns old new → new 0 ≡ Some b → (c : C) × (old 0 ≡ Some c)
 has-book {C} old new b same e = cases (old 0) ((c : C) × (old 0 ≡ Some c)) (λ n. absurd (none-some b (sym (same.0 0 n) ∙ e))) (λ c f. (c, f))
 
 -- the book is given back: p before, m after its value was laid into the slot, q after the step
-module _ {V C : Type 0} (id : TableId) (few : id.slots ≤ 57) (p : Pass V C) (sitting : Sitting id p) (new : ℕ → Option C) (b : C) (has : new 0 ≡ Some b) (same : SameTurns (held p) new) (mask : ℕ) (zero-bit : bit_at mask 0 ≡ 0) (ones : (u : ℕ) → 0 < u → u < id.slots → bit_at mask u ≡ 1)
+module _ {V C : Type 0} (id : TableId) (few : id.slots ≤ 57) (p : Pass V C) (seated : IsSeated id p) (new : ℕ → Option C) (b : C) (has : new 0 ≡ Some b) (same : SameTurns (held p) new) (mask : ℕ) (zero-bit : bit_at mask 0 ≡ 0) (ones : (u : ℕ) → 0 < u → u < id.slots → bit_at mask u ≡ 1)
     (m : Pass V C) (m-is : m.me ≡ (put_place 0 (Lies b) p.me.0, [])) (q : Pass V C) (change : ℕ × List C)
     (q-is : q.me ≡ (given_view id.slots mask new (noted (Some b) m.me.0.speaks) (m.me.0.given + 1) change m.me.0, m.me.1)) where
   private-below : 0 < id.slots
-  private-below = let h = has-book (held p) new b same has in held-near p.me.0 id.slots 0 h.0 sitting.placed.counts h.1
+  private-below = let h = has-book (held p) new b same has in held-near p.me.0 id.slots 0 h.0 seated.placed.counts h.1
 
   book-now : q.me ≡ (given_view id.slots mask new (noted (Some b) p.me.0.speaks) (p.me.0.given + 1) change (put_place 0 (Lies b) p.me.0), [])
   book-now = q-is ∙ ap (λ y. (given_view id.slots mask new (noted (Some b) y.0.speaks) (y.0.given + 1) change y.0, y.1)) m-is
@@ -143,8 +143,8 @@ module _ {V C : Type 0} (id : TableId) (few : id.slots ≤ 57) (p : Pass V C) (s
   one-else : (u : ℕ) → u < id.slots → u ≢ 0 → bit_at mask u ≡ 1
   one-else u h ne = ones u (omega arith) h
 
-  speaks-now : noted (Some b) p.me.0.speaks ≡ (sitting.placed.one.0, b) ∷ []
-  speaks-now = ap (noted (Some b)) sitting.placed.one.2
+  speaks-now : noted (Some b) p.me.0.speaks ≡ (seated.placed.one.0, b) ∷ []
+  speaks-now = ap (noted (Some b)) seated.placed.one.2
 
   book-gone : held q 0 ≡ None
   book-gone = held-here id (put_place 0 (Lies b) p.me.0) 0 mask new (noted (Some b) p.me.0.speaks) (p.me.0.given + 1) change q book-now zero-bit one-else private-below
@@ -153,16 +153,16 @@ module _ {V C : Type 0} (id : TableId) (few : id.slots ≤ 57) (p : Pass V C) (s
   others-new u pos = dite (dec_lt u id.slots)
       (λ h. held-else id (put_place 0 (Lies b) p.me.0) 0 mask new (noted (Some b) p.me.0.speaks) (p.me.0.given + 1) change q book-now zero-bit one-else private-below u h (λ e. omega arith))
       (λ h. let k : id.slots ≤ u = omega arith in held-past id (put_place 0 (Lies b) p.me.0) 0 mask new (noted (Some b) p.me.0.speaks) (p.me.0.given + 1) change q book-now zero-bit one-else private-below u k
-      ∙ sym (same.0 u (past-end p.me.0.counts u None (let l : length p.me.0.counts ≡ id.slots = sitting.placed.counts in omega arith))))
+      ∙ sym (same.0 u (past-end p.me.0.counts u None (let l : length p.me.0.counts ≡ id.slots = seated.placed.counts in omega arith))))
 
   book-noted : note_of q.me.0.speaks ≡ new 0
   book-noted = ap (λ y. note_of y.0.speaks) book-now ∙ ap note_of speaks-now ∙ sym has
 
   book-caller : caller_of q.me.0.speaks ≡ caller_of p.me.0.speaks
-  book-caller = ap (λ y. caller_of y.0.speaks) book-now ∙ ap caller_of speaks-now ∙ sym (ap caller_of sitting.placed.one.2)
+  book-caller = ap (λ y. caller_of y.0.speaks) book-now ∙ ap caller_of speaks-now ∙ sym (ap caller_of seated.placed.one.2)
 
-  book-crew : q.me.0.crew ≡ p.me.0.crew
-  book-crew = ap (λ y. y.0.crew) book-now
+  book-caller_count : q.me.0.caller_count ≡ p.me.0.caller_count
+  book-caller_count = ap (λ y. y.0.caller_count) book-now
 
   book-given : q.me.0.given ≡ p.me.0.given + 1
   book-given = ap (λ y. y.0.given) book-now
@@ -180,11 +180,11 @@ module _ {V C : Type 0} (id : TableId) (few : id.slots ≤ 57) (p : Pass V C) (s
   book-change = ap (λ y. y.0.change) book-now
 
   pub booked-now : {R : Type 0} → Booked (at R p) (at R q) new
-  booked-now = record { book = book-gone; others = others-new; noted = book-noted; caller_is = book-caller; crew_is = book-crew; given_is = book-given; lost_is = book-lost; asks_is = book-asks; givings_is = book-givings }
+  booked-now = record { book = book-gone; others = others-new; noted = book-noted; caller_is = book-caller; caller_count_is = book-caller_count; given_is = book-given; lost_is = book-lost; asks_is = book-asks; givings_is = book-givings }
 
-  pub book-sits : q.table_id ≡ p.table_id → Sitting id q
-  book-sits same-table = sits id (put_place 0 (Lies b) p.me.0) 0 mask new (noted (Some b) p.me.0.speaks) (p.me.0.given + 1) change q book-now zero-bit one-else private-below (same-table ∙ sitting.placed.of_table) sitting.placed.losses (sitting.placed.one.0, b, speaks-now)
-      (λ u ne. get_or-set_other p.me.0.places 0 u (Lies b) Vacant ne ∙ sitting.vacant u)
+  pub book-sits : q.table_id ≡ p.table_id → IsSeated id q
+  book-sits same-table = sits id (put_place 0 (Lies b) p.me.0) 0 mask new (noted (Some b) p.me.0.speaks) (p.me.0.given + 1) change q book-now zero-bit one-else private-below (same-table ∙ seated.placed.of_table) seated.placed.losses (seated.placed.one.0, b, speaks-now)
+      (λ u ne. get_or-set_other p.me.0.places 0 u (Lies b) Vacant ne ∙ seated.vacant u)
 
 -- all bits of the complement of 1 but the first one
 pub kept-ones : (slots : ℕ) → slots ≤ 57 → (u : ℕ) → 0 < u → u < slots → bit_at (bit_not w64 1) u ≡ 1

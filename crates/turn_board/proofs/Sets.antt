@@ -14,9 +14,9 @@ use Rattle.turn_board.specs.declared.view.View.{View}
 use Rattle.turn_board.specs.declared.view.Place.TheVariants.{Vacant, Lies}
 use Rattle.turn_board.specs.Tied.{counted, place}
 use Rattle.turn_board.specs.Steps.{asked, asked_view, given_view, lies, lost_at, one_more_lost, note_of, caller_of}
-use Rattle.turn_board.specs.Passes.{Pass, Placed, Sitting, held, lost}
+use Rattle.turn_board.specs.Passes.{Pass, Placed, IsSeated, held, lost}
 use Rattle.turn_board.specs.Moving.{Emptied}
-use Rattle.turn_board.specs.Boards.{SameVoice, Tells, MissedAll}
+use Rattle.turn_board.specs.Boards.{SameNote, Tells, MissedAll}
 use Rattle.turn_board.proofs.AtSeat.{at, told}
 use Rattle.turn_board.proofs.Rows.{two, row-length, row-here, row-past, changed-here, changed-else, get-within, past-end}
 
@@ -58,7 +58,7 @@ module _ (found set : ℕ) (f-fits : found < 2 ^ 64) (s-fits : set < 2 ^ 64) whe
       let m = sym (bit_at_and set (bit_not w64 found) u) ∙ low.1 in let n = bit_at_not w64 found u f-fits near in
       let a = bit_at-lt set u in let b = bit_at-lt found u in let f = all' u (omega arith) in omega arith
 
-module _ {V C : Type 0} (holds : List C → List C → Type 0) (id : TableId) (p q : Pass V C) (set found : ℕ) (sitting : Sitting id p) (same-table : q.table_id ≡ p.table_id) (same-id : q.id ≡ p.id)
+module _ {V C : Type 0} (holds : List C → List C → Type 0) (id : TableId) (p q : Pass V C) (set found : ℕ) (seated : IsSeated id p) (same-table : q.table_id ≡ p.table_id) (same-id : q.id ≡ p.id)
     (a : asked holds (step id.slots 7 set 0 none) p.me found q.me) where
   abbrev v : View C
   v = p.me.0
@@ -91,13 +91,13 @@ module _ {V C : Type 0} (holds : List C → List C → Type 0) (id : TableId) (p
   keep-found u e = two (bit_at set u) (λ x. ((x == 1) && (bit_at found u == 1)) ≡ false) (bit_at-lt set u) (λ _. refl) (λ _. ap (λ (b : ℕ). b == 1) e)
 
   pub held-else : (u : ℕ) → won' u ≡ false → held q u ≡ held p u
-  held-else u e = ap (λ (x : View C). counted x u) view-is ∙ changed-else id.slots v.counts None won' (slice_get a.0) u sitting.placed.counts e
+  held-else u e = ap (λ (x : View C). counted x u) view-is ∙ changed-else id.slots v.counts None won' (slice_get a.0) u seated.placed.counts e
 
   pub place-else : (u : ℕ) → won' u ≡ false → place q.me.0 u ≡ place v u
-  place-else u e = ap (λ (x : View C). place x u) view-is ∙ changed-else id.slots v.places Vacant won' (λ y. lies (slice_get a.0 y)) u sitting.placed.places e
+  place-else u e = ap (λ (x : View C). place x u) view-is ∙ changed-else id.slots v.places Vacant won' (λ y. lies (slice_get a.0 y)) u seated.placed.places e
 
   lost-else : (u : ℕ) → missed' u ≡ false → lost q u ≡ lost p u
-  lost-else u e = ap (λ (x : View C). lost_at x u) view-is ∙ changed-else id.slots v.lost 0 missed' (λ y. one_more_lost (counted v y) (lost_at v y)) u sitting.placed.losses e
+  lost-else u e = ap (λ (x : View C). lost_at x u) view-is ∙ changed-else id.slots v.lost 0 missed' (λ y. one_more_lost (counted v y) (lost_at v y)) u seated.placed.losses e
 
   pub now-lie : (u : ℕ) → u < id.slots → bit_at set u ≡ 1 → bit_at found u ≡ 0 → (c : C) × (held q u ≡ Some c) × (place q.me.0 u ≡ Lies c)
   now-lie u near s f = let g = get-within a.0 u (let h : length a.0 ≡ id.slots = a.1 in omega arith) in let e : won' u ≡ true = both u 1 0 (λ x y. (x == 1) && (y == 0)) s f in (
@@ -114,22 +114,22 @@ module _ {V C : Type 0} (holds : List C → List C → Type 0) (id : TableId) (p
 
   pub set-placed : Placed id q
   set-placed = record {
-    of_table = same-table ∙ sitting.placed.of_table;
-    empty = ap (λ m. m.1) a.2 ∙ sitting.placed.empty;
+    of_table = same-table ∙ seated.placed.of_table;
+    empty = ap (λ m. m.1) a.2 ∙ seated.placed.empty;
     counts = ap (λ (x : View C). length x.counts) view-is ∙ row-length 0 id.slots (λ u. cond (won' u) (slice_get a.0 u) (counted v u));
     places = ap (λ (x : View C). length x.places) view-is ∙ row-length 0 id.slots (λ u. cond (won' u) (lies (slice_get a.0 u)) (place v u));
     losses = ap (λ (x : View C). length x.lost) view-is ∙ row-length 0 id.slots (λ u. cond (missed' u) (one_more_lost (counted v u) (lost_at v u)) (lost_at v u));
-    one = (sitting.placed.one.0, sitting.placed.one.1, ap (λ (x : View C). x.speaks) view-is ∙ sitting.placed.one.2);
+    one = (seated.placed.one.0, seated.placed.one.1, ap (λ (x : View C). x.speaks) view-is ∙ seated.placed.one.2);
   }
 
   pub set-tells : {R : Type 0} → Tells holds id.slots (at R q)
-  set-tells {R} = told R holds id.slots q sitting.placed.one.0 sitting.placed.one.1 (ap (λ (x : View C). x.speaks) view-is ∙ sitting.placed.one.2) a.3
+  set-tells {R} = told R holds id.slots q seated.placed.one.0 seated.placed.one.1 (ap (λ (x : View C). x.speaks) view-is ∙ seated.placed.one.2) a.3
 
-  pub set-voice : {R : Type 0} → SameVoice (at R p) (at R q)
-  set-voice = record {
+  pub set-spoken : {R : Type 0} → SameNote (at R p) (at R q)
+  set-spoken = record {
     caller_is = ap (λ (x : View C). caller_of x.speaks) view-is;
     note_is = ap (λ (x : View C). note_of x.speaks) view-is;
-    crew_is = ap (λ (x : View C). x.crew) view-is;
+    caller_count_is = ap (λ (x : View C). x.caller_count) view-is;
     given_is = ap (λ (x : View C). x.given) view-is;
     change_is = ap (λ (x : View C). x.change) view-is;
   }
@@ -139,7 +139,7 @@ module _ {V C : Type 0} (holds : List C → List C → Type 0) (id : TableId) (p
 
   -- the values were moved out
   module _ (r : Pass V C) (e : Emptied set id.slots q r) where
-    pub all-out : Sitting id r
+    pub all-out : IsSeated id r
     all-out = record {
       placed = record {
         of_table = e.table ∙ set-placed.of_table;
@@ -150,15 +150,15 @@ module _ {V C : Type 0} (holds : List C → List C → Type 0) (id : TableId) (p
         one = (set-placed.one.0, set-placed.one.1, e.speaks ∙ set-placed.one.2);
       };
       vacant = λ u. dite (dec_lt u id.slots)
-          (λ h. two (bit_at set u) (λ _. place r.me.0 u ≡ Vacant) (bit_at-lt set u) (λ z. e.others u z ∙ place-else u (lose-set u z) ∙ sitting.vacant u) (λ o. e.out u h o))
+          (λ h. two (bit_at set u) (λ _. place r.me.0 u ≡ Vacant) (bit_at-lt set u) (λ z. e.others u z ∙ place-else u (lose-set u z) ∙ seated.vacant u) (λ o. e.out u h o))
           (λ h. let k : id.slots ≤ u = omega arith in e.later u k ∙ places-past u k);
     }
 
-    pub all-voice : {R : Type 0} → SameVoice (at R p) (at R r)
-    all-voice = record {
+    pub all-spoken : {R : Type 0} → SameNote (at R p) (at R r)
+    all-spoken = record {
       caller_is = ap caller_of e.speaks ∙ ap (λ (x : View C). caller_of x.speaks) view-is;
       note_is = ap note_of e.speaks ∙ ap (λ (x : View C). note_of x.speaks) view-is;
-      crew_is = e.crew ∙ ap (λ (x : View C). x.crew) view-is;
+      caller_count_is = e.caller_count ∙ ap (λ (x : View C). x.caller_count) view-is;
       given_is = e.given ∙ ap (λ (x : View C). x.given) view-is;
       change_is = e.change ∙ ap (λ (x : View C). x.change) view-is;
     }
@@ -181,7 +181,7 @@ module _ {V C : Type 0} (holds : List C → List C → Type 0) (id : TableId) (p
       notes = o.notes;
       tied = o.tied;
       turns_is = o.turns_is;
-      callers = o.callers ∙ sym e.crew;
+      callers = o.callers ∙ sym e.caller_count;
       own = λ u c h. o.own u c (sym (ap (λ l. get_or l u None) e.counts) ∙ h);
       noted = ap (λ l. slice_get o.notes (caller_of l)) e.speaks ∙ o.noted ∙ sym (ap note_of e.speaks);
     }
@@ -208,16 +208,16 @@ module _ {V C : Type 0} (holds : List C → List C → Type 0) (id : TableId) (p
           (λ h. row-here id.slots (λ y. cond (gone y) None (counted q.me.0 y)) None u h ∙ two (bit_at (bit_not w64 (bit_and set (bit_not w64 found))) u) (λ x. cond (x == 0) None (counted q.me.0 u) ≡ held p u) (bit_at-lt (bit_not w64 (bit_and set (bit_not w64 found))) u)
           (λ z. sym (free u (cleared found set f-fits s-fits u (omega arith) z).0))
           (λ o. held-else u (lost-bits u h o)))
-          (λ h. let k : id.slots ≤ u = omega arith in row-past 0 id.slots (λ y. cond (gone y) None (counted q.me.0 y)) None u k ∙ sym (past-end v.counts u None (let l = sitting.placed.counts in omega arith)))
+          (λ h. let k : id.slots ≤ u = omega arith in row-past 0 id.slots (λ y. cond (gone y) None (counted q.me.0 y)) None u k ∙ sym (past-end v.counts u None (let l = seated.placed.counts in omega arith)))
 
       back-place : (u : ℕ) → place r.me.0 u ≡ Vacant
       back-place u = ap (λ (x : View C). place x u) r-view ∙ dite (dec_lt u id.slots)
           (λ h. row-here id.slots (λ y. cond (gone y) Vacant (place q.me.0 y)) Vacant u h ∙ two (bit_at (bit_not w64 (bit_and set (bit_not w64 found))) u) (λ x. cond (x == 0) Vacant (place q.me.0 u) ≡ Vacant) (bit_at-lt (bit_not w64 (bit_and set (bit_not w64 found))) u)
           (λ z. refl)
-          (λ o. place-else u (lost-bits u h o) ∙ sitting.vacant u))
+          (λ o. place-else u (lost-bits u h o) ∙ seated.vacant u))
           (λ h. let k : id.slots ≤ u = omega arith in row-past 0 id.slots (λ y. cond (gone y) Vacant (place q.me.0 y)) Vacant u k)
 
-      pub back-sits : Sitting id r
+      pub back-sits : IsSeated id r
       back-sits = record {
         placed = record {
           of_table = r-table ∙ set-placed.of_table;
@@ -230,11 +230,11 @@ module _ {V C : Type 0} (holds : List C → List C → Type 0) (id : TableId) (p
         vacant = back-place;
       }
 
-      pub back-voice : {R : Type 0} → SameVoice (at R p) (at R r)
-      back-voice = record {
+      pub back-spoken : {R : Type 0} → SameNote (at R p) (at R r)
+      back-spoken = record {
         caller_is = ap (λ (x : View C). caller_of x.speaks) r-view ∙ ap (λ (x : View C). caller_of x.speaks) view-is;
         note_is = ap (λ (x : View C). note_of x.speaks) r-view ∙ ap (λ (x : View C). note_of x.speaks) view-is;
-        crew_is = ap (λ (x : View C). x.crew) r-view ∙ ap (λ (x : View C). x.crew) view-is;
+        caller_count_is = ap (λ (x : View C). x.caller_count) r-view ∙ ap (λ (x : View C). x.caller_count) view-is;
         given_is = ap (λ (x : View C). x.given) r-view ∙ ap (λ (x : View C). x.given) view-is;
         change_is = ap (λ (x : View C). x.change) r-view ∙ ap (λ (x : View C). x.change) view-is;
       }
@@ -254,7 +254,7 @@ module _ {V C : Type 0} (holds : List C → List C → Type 0) (id : TableId) (p
         notes = o.notes;
         tied = o.tied;
         turns_is = o.turns_is;
-        callers = o.callers ∙ ap (λ (x : View C). x.crew) (sym r-view);
+        callers = o.callers ∙ ap (λ (x : View C). x.caller_count) (sym r-view);
         own = λ u c e. two (bit_at set u) (λ _. slice_get o.contents u ≡ Some c) (bit_at-lt set u)
             (λ z. o.own u c (held-else u (lose-set u z) ∙ sym (back-held u) ∙ e))
             (λ s. absurd (none-some c (sym (free u s) ∙ sym (back-held u) ∙ e)));
@@ -272,8 +272,8 @@ module _ {V C : Type 0} (holds : List C → List C → Type 0) (id : TableId) (p
       pub still-held : (u : ℕ) → held q u ≡ held p u
       still-held u = held-else u (none-got u)
 
-      pub still-sits : Sitting id q
-      still-sits = record { placed = set-placed; vacant = λ u. place-else u (none-got u) ∙ sitting.vacant u }
+      pub still-sits : IsSeated id q
+      still-sits = record { placed = set-placed; vacant = λ u. place-else u (none-got u) ∙ seated.vacant u }
 
   -- some turn of the set was found taken: p before the call, q after the asking, r at its end
   module _ (within : (u : ℕ) → bit_at set u ≡ 1 → u < id.slots) (free : (u : ℕ) → bit_at set u ≡ 1 → held p u ≡ None) (r : Pass V C) (r-held : (u : ℕ) → held r u ≡ held p u) (r-lost : (u : ℕ) → lost r u ≡ lost q u) where
@@ -314,5 +314,5 @@ module _ {V C : Type 0} (holds : List C → List C → Type 0) (id : TableId) (p
         none_won = λ h. no-back (λ u s. is-taken u s (h u s));
       }
 
-  pub set-alone : (t : ℕ) → t < id.slots → bit_at found t ≡ 1 → held p t ≡ None → p.me.0.crew ≢ 1
-  set-alone t near taken none' sole = let c = a.4 sole ((sitting.placed.one.0, sitting.placed.one.1), [], sitting.placed.one.2) t near taken in none-some c.0 (sym none' ∙ c.1)
+  pub set-alone : (t : ℕ) → t < id.slots → bit_at found t ≡ 1 → held p t ≡ None → p.me.0.caller_count ≢ 1
+  set-alone t near taken none' sole = let c = a.4 sole ((seated.placed.one.0, seated.placed.one.1), [], seated.placed.one.2) t near taken in none-some c.0 (sym none' ∙ c.1)

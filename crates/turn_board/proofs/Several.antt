@@ -13,7 +13,7 @@ use Rattle.turn_board.specs.Tied.{place}
 use Rattle.turn_board.specs.Steps.{put_place}
 use Rattle.turn_board.specs.Passes.{Pass}
 use Rattle.turn_board.specs.Hands.{in_hands, Once}
-use Rattle.turn_board.specs.Moving.{Emptied, Lifted}
+use Rattle.turn_board.specs.Moving.{Emptied, TakenOut}
 use Rattle.turn_board.proofs.Returns.{cleared-here, cleared-else}
 
 pub with-bit : (set t : ℕ) → bit_at set t ≡ 1 → bits_of set (t + 1) ≡ bits_of set t ++ t ∷ []
@@ -111,7 +111,7 @@ module _ {V C : Type 0} (set t : ℕ) (p q : Pass V C) (e : Emptied set t p q) w
     counts = e.counts;
     lost = e.lost;
     given = e.given;
-    crew = e.crew;
+    caller_count = e.caller_count;
     asks = e.asks;
     givings = e.givings;
     change = e.change;
@@ -130,7 +130,7 @@ module _ {V C : Type 0} (set t : ℕ) (p q : Pass V C) (e : Emptied set t p q) w
     counts = ap (λ m. m.0.counts) is ∙ e.counts;
     lost = ap (λ m. m.0.lost) is ∙ e.lost;
     given = ap (λ m. m.0.given) is ∙ e.given;
-    crew = ap (λ m. m.0.crew) is ∙ e.crew;
+    caller_count = ap (λ m. m.0.caller_count) is ∙ e.caller_count;
     asks = ap (λ m. m.0.asks) is ∙ e.asks;
     givings = ap (λ m. m.0.givings) is ∙ e.givings;
     change = ap (λ m. m.0.change) is ∙ e.change;
@@ -173,12 +173,12 @@ module _ {V C : Type 0} (content : V → C) where
       (λ ne. (o.0, in-end xs ((t, v) ∷ []) x.0 o.1 ∙ else-in t x.0 v [] (λ s. ne (sym s)), once-end xs t v o.2 h (sym (else-in x.0 t x.1 xs ne) ∙ e)))
 
 module _ {V C : Type 0} (content : V → C) (set : ℕ) (counts : ℕ → Option C) (before : List (ℕ × V)) where
-  pub lifted-start : Lifted content set 0 counts before before
-  lifted-start = record { new = []; added = sym (append-nil before); rising = refl; once = tt; here = λ u h. absurd (omega arith); others = λ u z. refl; later = λ u h. refl }
+  pub taken_out-start : TakenOut content set 0 counts before before
+  taken_out-start = record { new = []; added = sym (append-nil before); rising = refl; once = tt; here = λ u h. absurd (omega arith); others = λ u z. refl; later = λ u h. refl }
 
-  module _ (t : ℕ) (after : List (ℕ × V)) (l : Lifted content set t counts before after) where
-    pub lifted-to : (n : ℕ) → t ≤ n → ((u : ℕ) → t ≤ u → u < n → bit_at set u ≡ 0) → Lifted content set n counts before after
-    lifted-to n h gap = record {
+  module _ (t : ℕ) (after : List (ℕ × V)) (l : TakenOut content set t counts before after) where
+    pub taken_out-to : (n : ℕ) → t ≤ n → ((u : ℕ) → t ≤ u → u < n → bit_at set u ≡ 0) → TakenOut content set n counts before after
+    taken_out-to n h gap = record {
       new = l.new;
       added = l.added;
       rising = l.rising ∙ sym (ap (bits_of set) (let g : n ≡ n - t + t = omega arith in g) ∙ bits-gap set t (n - t) (λ u a b. gap u a (omega arith)));
@@ -188,8 +188,8 @@ module _ {V C : Type 0} (content : V → C) (set : ℕ) (counts : ℕ → Option
       later = λ u k. l.later u (omega arith);
     }
 
-    pub lifted-one : (v : V) → bit_at set t ≡ 1 → 0 < t → counts t ≡ Some (content v) → Lifted content set (t + 1) counts before (after ++ (t, v) ∷ [])
-    lifted-one v bit pos is = record {
+    pub taken_out-one : (v : V) → bit_at set t ≡ 1 → 0 < t → counts t ≡ Some (content v) → TakenOut content set (t + 1) counts before (after ++ (t, v) ∷ [])
+    taken_out-one v bit pos is = record {
       new = l.new ++ (t, v) ∷ [];
       added = ap (λ (y : List (ℕ × V)). y ++ (t, v) ∷ []) l.added ∙ append_assoc before l.new ((t, v) ∷ []);
       rising = map-snoc (λ (x : ℕ × V). x.0) l.new (t, v) ∙ ap (λ (y : List ℕ). y ++ t ∷ []) l.rising ∙ sym (with-bit set t bit);

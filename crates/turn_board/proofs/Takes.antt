@@ -14,8 +14,8 @@ use Rattle.turn_board.specs.declared.view.View.{View}
 use Rattle.turn_board.specs.declared.view.Place.TheVariants.{Vacant, Lies}
 use Rattle.turn_board.specs.Tied.{counted, place}
 use Rattle.turn_board.specs.Steps.{asked, asked_view, lies, lost_at, one_more_lost, put_place, note_of, caller_of}
-use Rattle.turn_board.specs.Passes.{Pass, Placed, Sitting, held, lost}
-use Rattle.turn_board.specs.Boards.{SameVoice, Gained, Missed, Tells}
+use Rattle.turn_board.specs.Passes.{Pass, Placed, IsSeated, held, lost}
+use Rattle.turn_board.specs.Boards.{SameNote, Gained, Missed, Tells}
 use Rattle.turn_board.proofs.AtSeat.{at, told}
 use Rattle.turn_board.proofs.Rows.{row-length, changed-here, changed-else, get-within}
 
@@ -78,8 +78,8 @@ module _ {V C : Type 0} (holds : List C → List C → Type 0) (id : TableId) (p
     one = (sits.one.0, sits.one.1, ap (λ (x : View C). x.speaks) view-is ∙ sits.one.2);
   }
 
-  pub same-voice : {R : Type 0} → SameVoice (at R p) (at R q)
-  same-voice = record { caller_is = ap (λ (x : View C). caller_of x.speaks) view-is; note_is = ap (λ (x : View C). note_of x.speaks) view-is; crew_is = ap (λ (x : View C). x.crew) view-is; given_is = ap (λ (x : View C). x.given) view-is; change_is = ap (λ (x : View C). x.change) view-is }
+  pub same-spoken : {R : Type 0} → SameNote (at R p) (at R q)
+  same-spoken = record { caller_is = ap (λ (x : View C). caller_of x.speaks) view-is; note_is = ap (λ (x : View C). note_of x.speaks) view-is; caller_count_is = ap (λ (x : View C). x.caller_count) view-is; given_is = ap (λ (x : View C). x.given) view-is; change_is = ap (λ (x : View C). x.change) view-is }
 
   pub tells-still : {R : Type 0} → Tells holds id.slots (at R q)
   tells-still {R} = told R holds id.slots q sits.one.0 sits.one.1 (ap (λ (x : View C). x.speaks) view-is ∙ sits.one.2) a.3
@@ -119,12 +119,12 @@ module _ {V C : Type 0} (holds : List C → List C → Type 0) (id : TableId) (p
         notes = o.notes;
         tied = o.tied;
         turns_is = o.turns_is;
-        callers = o.callers ∙ ap (λ (x : View C). x.crew) (sym r-view);
+        callers = o.callers ∙ ap (λ (x : View C). x.caller_count) (sym r-view);
         own = λ u c e. o.own u c (sym (ap (λ (x : View C). counted x u) r-view) ∙ e);
         noted = ap (λ (x : View C). slice_get o.notes (caller_of x.speaks)) r-view ∙ o.noted ∙ sym (ap (λ (x : View C). note_of x.speaks) r-view);
       }
 
-      pub sits-now : ((u : ℕ) → place v u ≡ Vacant) → Sitting id r
+      pub sits-now : ((u : ℕ) → place v u ≡ Vacant) → IsSeated id r
       sits-now vacant = record {
         placed = record {
           of_table = r-table ∙ still-placed.of_table;
@@ -140,11 +140,11 @@ module _ {V C : Type 0} (holds : List C → List C → Type 0) (id : TableId) (p
             (λ ne. get_or-set_other q.me.0.places t u Vacant Vacant ne ∙ place-else u (won-else u ne) ∙ vacant u);
       }
 
-      pub voice-now : {R : Type 0} → SameVoice (at R p) (at R r)
-      voice-now = record {
+      pub spoken-now : {R : Type 0} → SameNote (at R p) (at R r)
+      spoken-now = record {
         caller_is = ap (λ (x : View C). caller_of x.speaks) r-view ∙ ap (λ (x : View C). caller_of x.speaks) view-is;
         note_is = ap (λ (x : View C). note_of x.speaks) r-view ∙ ap (λ (x : View C). note_of x.speaks) view-is;
-        crew_is = ap (λ (x : View C). x.crew) r-view ∙ ap (λ (x : View C). x.crew) view-is;
+        caller_count_is = ap (λ (x : View C). x.caller_count) r-view ∙ ap (λ (x : View C). x.caller_count) view-is;
         given_is = ap (λ (x : View C). x.given) r-view ∙ ap (λ (x : View C). x.given) view-is;
         change_is = ap (λ (x : View C). x.change) r-view ∙ ap (λ (x : View C). x.change) view-is;
       }
@@ -163,8 +163,8 @@ module _ {V C : Type 0} (holds : List C → List C → Type 0) (id : TableId) (p
       givings_is = ap (λ (x : View C). x.givings) view-is;
     }
 
-    pub sits-still : ((u : ℕ) → place v u ≡ Vacant) → Sitting id q
+    pub sits-still : ((u : ℕ) → place v u ≡ Vacant) → IsSeated id q
     sits-still vacant = record { placed = still-placed; vacant = λ u. place-else u (won-none u) ∙ vacant u }
 
-    pub not-alone : held p t ≡ None → p.me.0.crew ≢ 1
+    pub not-alone : held p t ≡ None → p.me.0.caller_count ≢ 1
     not-alone none' sole = let c = a.4 sole ((sits.one.0, sits.one.1), [], sits.one.2) t near taken in none-some c.0 (sym none' ∙ c.1)

@@ -9,7 +9,7 @@ use Rattle.turn_board.specs.declared.taken.TookAll.{TookAll}
 use Rattle.turn_board.specs.declared.taken.TookAll.TheVariants as all
 use Rattle.turn_board.specs.Maps.{bits_of, overlay, FitsTurns}
 use Rattle.turn_board.specs.Hands.{in_hands, Once}
-use Rattle.turn_board.specs.Passes.{Sitting}
+use Rattle.turn_board.specs.Passes.{IsSeated}
 use Rattle.turn_board.specs.Passes as passes
 
 -- the rule holds of these values, where each caller's note is the content of the first
@@ -23,7 +23,7 @@ module _ {V R C : Type 0} where
 
   -- it is a seat of this board, for one caller
   abbrev pub IsSeatOf : Board V R C → Seat V R C → Type 0
-  IsSeatOf b s = Sitting b.table.shared.table_id s.pass
+  IsSeatOf b s = IsSeated b.table.shared.table_id s.pass
 
   -- the counted contents of the turns that the seat holds
   abbrev pub held : Seat V R C → ℕ → Option C
@@ -46,8 +46,8 @@ module _ {V R C : Type 0} where
   given s = s.pass.me.0.given
 
   -- the number of callers of the board
-  abbrev pub crew : Seat V R C → ℕ
-  crew s = s.pass.me.0.crew
+  abbrev pub caller_count : Seat V R C → ℕ
+  caller_count s = s.pass.me.0.caller_count
 
   -- how often this seat asked for turns: a set that one step asks for is asked for once
   abbrev pub asks : Seat V R C → ℕ
@@ -68,7 +68,7 @@ module _ {V R C : Type 0} where
     pub seat : IsSeatOf b s
     pub caller_is : caller s ≡ k
     pub note_is : note s ≡ Some opening
-    pub crew_is : crew s ≡ n
+    pub caller_count_is : caller_count s ≡ n
     pub free : (t : ℕ) → held s t ≡ None
     pub unlost : (t : ℕ) → lost s t ≡ 0
     pub ungiven : given s ≡ 0
@@ -79,7 +79,7 @@ module _ {V R C : Type 0} where
   pub record Ends (b : Board V R C) (n k : ℕ) (s : Seat V R C) : Type 0 where
     pub seat : IsSeatOf b s
     pub caller_is : caller s ≡ k
-    pub crew_is : crew s ≡ n
+    pub caller_count_is : caller_count s ≡ n
     pub free : (t : ℕ) → held s t ≡ None
 
   -- the board's seats, in the order of its n callers, as it is opened
@@ -105,17 +105,17 @@ module _ {V R C : Type 0} where
     pub notes : List C
     pub tied : holds contents notes
     pub turns_is : length contents ≡ turns
-    pub callers : length notes ≡ crew s
+    pub callers : length notes ≡ caller_count s
     pub own : (t : ℕ) (c : C) → held s t ≡ Some c → slice_get contents t ≡ Some c
     pub noted : slice_get notes (caller s) ≡ note s
 
   module _ (p q : Seat V R C) where
     -- the seat speaks for the same caller with the same note, gave the book back as often, and no
     -- step of it changed a counted content
-    pub record SameVoice : Type 0 where
+    pub record SameNote : Type 0 where
       pub caller_is : caller q ≡ caller p
       pub note_is : note q ≡ note p
-      pub crew_is : crew q ≡ crew p
+      pub caller_count_is : caller_count q ≡ caller_count p
       pub given_is : given q ≡ given p
       pub change_is : last_change q ≡ last_change p
 
@@ -149,7 +149,7 @@ module _ {V R C : Type 0} where
       pub others : (t : ℕ) → 0 < t → held q t ≡ new t
       pub noted : note q ≡ new 0
       pub caller_is : caller q ≡ caller p
-      pub crew_is : crew q ≡ crew p
+      pub caller_count_is : caller_count q ≡ caller_count p
       pub given_is : given q ≡ given p + 1
       pub lost_is : (t : ℕ) → lost q t ≡ lost p t
       pub asks_is : asks q ≡ asks p
@@ -169,7 +169,7 @@ module _ {V R C : Type 0} where
       pub nothing : (t : ℕ) → held q t ≡ None
       pub noted : note q ≡ Some book
       pub caller_is : caller q ≡ caller p
-      pub crew_is : crew q ≡ crew p
+      pub caller_count_is : caller_count q ≡ caller_count p
       pub given_is : given q ≡ given p + 1
       pub lost_is : (t : ℕ) → lost q t ≡ lost p t
       pub asks_is : asks q ≡ asks p
@@ -205,8 +205,8 @@ module _ {V R C : Type 0} where
     -- each answer tells the rule. Busy never comes where the board has one caller
     abbrev pub Answered : ℕ → Taken V → Type 0
     Answered t (Here v) = Gained p q t (content v) × Tells holds turns q
-    Answered t (Busy u) = (u ≡ t) × Missed p q t × (crew p ≢ 1) × Tells holds turns q
+    Answered t (Busy u) = (u ≡ t) × Missed p q t × (caller_count p ≢ 1) × Tells holds turns q
 
     abbrev pub AnsweredAll : ℕ → List (ℕ × V) → List (ℕ × V) → TookAll → Type 0
     AnsweredAll set before after all.Here = GainedAll p q content turns set before after × Tells holds turns q
-    AnsweredAll set before after (all.Busy t) = (after ≡ before) × MissedAll p q set t × (crew p ≢ 1) × Tells holds turns q
+    AnsweredAll set before after (all.Busy t) = (after ≡ before) × MissedAll p q set t × (caller_count p ≢ 1) × Tells holds turns q

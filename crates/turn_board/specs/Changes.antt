@@ -13,4 +13,4 @@ KeepsChanges {V} {C} s t = (j : ℕ) (v : View C) → get_elem? s.views j ≡ so
 -- two states in which each seat has the same last change count the same contents
 abbrev pub ChangesTell : {V C : Type 0} → (V → C) → (List C → List C → Type 0) → Type 0
 ChangesTell {V} {C} content holds =
-    (crew : ℕ) (s t : State (Option V) (View C)) (r : Tied content holds crew s) (q : Tied content holds crew t) → KeepsChanges s t → KeepsChanges t s → r.contents ≡ q.contents
+    (caller_count : ℕ) (s t : State (Option V) (View C)) (r : Tied content holds caller_count s) (q : Tied content holds caller_count t) → KeepsChanges s t → KeepsChanges t s → r.contents ≡ q.contents

@@ -9,6 +9,6 @@ abbrev pub AllSome : {V : Type 0} → List (Option V) → Type 0
 AllSome {V} xs = (t : ℕ) → t < length xs → (x : V) × (get_elem? xs t ≡ some (Some x))
 
 -- the callers of these seats, with their notes
-abbrev pub all_voices : {V R C : Type 0} → List (Seat V R C) → List (ℕ × C)
-all_voices [] = []
-all_voices (s ∷ ss) = s.pass.me.0.speaks ++ all_voices ss
+abbrev pub all_notes : {V R C : Type 0} → List (Seat V R C) → List (ℕ × C)
+all_notes [] = []
+all_notes (s ∷ ss) = s.pass.me.0.speaks ++ all_notes ss

@@ -16,7 +16,7 @@ pub record Emptied {V C : Type 0} (set n : ℕ) (p q : Pass V C) : Type 0 where
   pub counts : q.me.0.counts ≡ p.me.0.counts
   pub lost : q.me.0.lost ≡ p.me.0.lost
   pub given : q.me.0.given ≡ p.me.0.given
-  pub crew : q.me.0.crew ≡ p.me.0.crew
+  pub caller_count : q.me.0.caller_count ≡ p.me.0.caller_count
   pub asks : q.me.0.asks ≡ p.me.0.asks
   pub givings : q.me.0.givings ≡ p.me.0.givings
   pub change : q.me.0.change ≡ p.me.0.change
@@ -26,7 +26,7 @@ pub record Emptied {V C : Type 0} (set n : ℕ) (p q : Pass V C) : Type 0 where
   pub others : (u : ℕ) → bit_at set u ≡ 0 → place q.me.0 u ≡ place p.me.0 u
 
 -- the values of the turns of a set below n were added, in rising order, with the contents that count
-pub record Lifted {V C : Type 0} (content : V → C) (set n : ℕ) (counts : ℕ → Option C) (before after : List (ℕ × V)) : Type 0 where
+pub record TakenOut {V C : Type 0} (content : V → C) (set n : ℕ) (counts : ℕ → Option C) (before after : List (ℕ × V)) : Type 0 where
   pub new : List (ℕ × V)
   pub added : after ≡ before ++ new
   pub rising : map (λ (x : ℕ × V). x.0) new ≡ bits_of set n
@@ -44,7 +44,7 @@ pub record Filled {V C : Type 0} (content : V → C) (xs : List (ℕ × V)) (set
   pub counts : q.me.0.counts ≡ p.me.0.counts
   pub lost : q.me.0.lost ≡ p.me.0.lost
   pub given : q.me.0.given ≡ p.me.0.given
-  pub crew : q.me.0.crew ≡ p.me.0.crew
+  pub caller_count : q.me.0.caller_count ≡ p.me.0.caller_count
   pub asks : q.me.0.asks ≡ p.me.0.asks
   pub givings : q.me.0.givings ≡ p.me.0.givings
   pub change : q.me.0.change ≡ p.me.0.change

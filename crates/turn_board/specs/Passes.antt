@@ -20,7 +20,7 @@ pub record Placed {V C : Type 0} (id : TableId) (p : Pass V C) : Type 0 where
   pub one : (k : ℕ) × (c : C) × (p.me.0.speaks ≡ (k, c) ∷ [])
 
 -- the same between two calls: each value that the seat holds is out
-pub record Sitting {V C : Type 0} (id : TableId) (p : Pass V C) : Type 0 where
+pub record IsSeated {V C : Type 0} (id : TableId) (p : Pass V C) : Type 0 where
   pub placed : Placed id p
   pub vacant : (t : ℕ) → place p.me.0 t ≡ Vacant
 

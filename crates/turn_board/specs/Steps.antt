@@ -31,7 +31,7 @@ module _ {C : Type 0} where
     places = row 0 turns (λ t. cond ((bit_at set t == 1) && (bit_at found t == 0)) (lies (slice_get contents t)) (place v t));
     lost = row 0 turns (λ t. cond ((bit_at set t == 1) && (bit_at found t == 1)) (one_more_lost (counted v t) (lost_at v t)) (lost_at v t));
     given = v.given;
-    crew = v.crew;
+    caller_count = v.caller_count;
     asks = v.asks + 1;
     givings = v.givings;
     change = v.change;
@@ -45,14 +45,14 @@ module _ {C : Type 0} where
     places = row 0 turns (λ t. cond (bit_at mask t == 0) Vacant (place v t));
     lost = v.lost;
     given = given;
-    crew = v.crew;
+    caller_count = v.caller_count;
     asks = v.asks;
     givings = v.givings + 1;
     change = change;
   }
 
   abbrev pub put_place : ℕ → Place C → View C → View C
-  put_place t p v = record { speaks = v.speaks; counts = v.counts; places = slice_set v.places t p; lost = v.lost; given = v.given; crew = v.crew; asks = v.asks; givings = v.givings; change = v.change }
+  put_place t p v = record { speaks = v.speaks; counts = v.counts; places = slice_set v.places t p; lost = v.lost; given = v.given; caller_count = v.caller_count; asks = v.asks; givings = v.givings; change = v.change }
 
   abbrev pub note_of : List (ℕ × C) → Option C
   note_of [] = None
@@ -78,10 +78,10 @@ module _ {C : Type 0} where
 
   -- a seat loses its first caller, and a new seat has it
   abbrev pub left_view : View C → View C
-  left_view v = record { speaks = tail v.speaks; counts = v.counts; places = v.places; lost = v.lost; given = v.given; crew = v.crew; asks = v.asks; givings = v.givings; change = v.change }
+  left_view v = record { speaks = tail v.speaks; counts = v.counts; places = v.places; lost = v.lost; given = v.given; caller_count = v.caller_count; asks = v.asks; givings = v.givings; change = v.change }
 
   abbrev pub right_view : View C → View C
-  right_view v = idle (length v.counts) v.crew v.change (head v.speaks)
+  right_view v = idle (length v.counts) v.caller_count v.change (head v.speaks)
 
   -- of two changes the later one
   abbrev pub later : ℕ × List C → ℕ × List C → ℕ × List C
@@ -89,7 +89,7 @@ module _ {C : Type 0} where
 
   -- a seat has the callers of another one too
   abbrev pub both_views : View C → View C → View C
-  both_views v w = record { speaks = w.speaks ++ v.speaks; counts = v.counts; places = v.places; lost = v.lost; given = v.given; crew = v.crew; asks = v.asks; givings = v.givings; change = later v.change w.change }
+  both_views v w = record { speaks = w.speaks ++ v.speaks; counts = v.counts; places = v.places; lost = v.lost; given = v.given; caller_count = v.caller_count; asks = v.asks; givings = v.givings; change = later v.change w.change }
 
   abbrev pub spent_view : View C
   spent_view = idle 0 0 (0, []) []
@@ -101,7 +101,7 @@ module _ {C : Type 0} where
     pub tied : holds contents notes
     pub turns_is : length contents ≡ turns
     pub own : (t : ℕ) (c : C) → counted v t ≡ Some c → slice_get contents t ≡ Some c
-    pub spoken : (i k : ℕ) (c : C) → get_elem? v.speaks i ≡ some (k, c) → (length notes ≡ v.crew) × (slice_get notes k ≡ Some c)
+    pub spoken : (i k : ℕ) (c : C) → get_elem? v.speaks i ≡ some (k, c) → (length notes ≡ v.caller_count) × (slice_get notes k ≡ Some c)
 
 abbrev pub Sits : Type 0 → Type 0 → Type 0
 Sits V C = Me (Option V) (View C)
@@ -115,7 +115,7 @@ module _ {V C : Type 0} where
   abbrev pub asked : (List C → List C → Type 0) → Step (Option V) → Sits V C → ℕ → Sits V C → Type 0
   asked holds st m found m' =
       (contents : List C) × (length contents ≡ st.slots) × (m' ≡ (asked_view st.slots st.first found contents m.0, m.1)) × Told holds st.slots m'.0
-      × (m.0.crew ≡ 1 → ((x : ℕ × C) × (xs : List (ℕ × C)) × (m.0.speaks ≡ x ∷ xs)) → (t : ℕ) → t < st.slots → bit_at found t ≡ 1 → (c : C) × (counted m.0 t ≡ Some c))
+      × (m.0.caller_count ≡ 1 → ((x : ℕ × C) × (xs : List (ℕ × C)) × (m.0.speaks ≡ x ∷ xs)) → (t : ℕ) → t < st.slots → bit_at found t ≡ 1 → (c : C) × (counted m.0 t ≡ Some c))
 
   -- the slot of a held turn is taken
   abbrev pub reached : (V → C) → ℕ → Sits V C → Sits V C → Type 0

@@ -4,7 +4,7 @@ ghost use mathlib.Core.Option.{some};
 ghost use lib.ListN.{get_elem?};
 ghost use Rattle.std.specs.Mem.Slots.{slots_items, slots_filled, slots_len, IsFull};
 ghost use Rattle.turn_board.specs.declared.seat.Seat.{Seat as SeatOf};
-ghost use Rattle.turn_board.specs.Closings.{AllSome, all_voices};
+ghost use Rattle.turn_board.specs.Closings.{AllSome, all_notes};
 
 use crate::board::{Board, Spare};
 use crate::lists::{Seats, Values};
@@ -44,9 +44,9 @@ impl<V, R: TieRule<V>> Board<V, R> {
     fn join(&self, seat: &mut Seat<V, R>, other: Seat<V, R>)
         requires seat { IdleFirst self.now.table.shared.table_id seat.old.pass }
         requires other { IdleFirst self.now.table.shared.table_id other.pass }
-        requires crew { other.pass.me.0.crew ≡ seat.old.pass.me.0.crew }
+        requires caller_count { other.pass.me.0.caller_count ≡ seat.old.pass.me.0.caller_count }
         ensures seat { IdleFirst self.now.table.shared.table_id seat.new.pass
-            × (seat.new.pass.me.0.crew ≡ seat.old.pass.me.0.crew) }
+            × (seat.new.pass.me.0.caller_count ≡ seat.old.pass.me.0.caller_count) }
         ensures callers { seat.new.pass.me.0.speaks ≡ other.pass.me.0.speaks ++ seat.old.pass.me.0.speaks }
     {
         self.table
@@ -59,10 +59,10 @@ impl<V, R: TieRule<V>> Board<V, R> {
         requires seat { IdleFirst self.now.table.shared.table_id seat.old.pass }
         requires others { (i : ℕ) (s : SeatOf V R R.Content) → slice_get list.items i ≡ Some s
             → IdleFirst self.now.table.shared.table_id s.pass
-            × (s.pass.me.0.crew ≡ seat.old.pass.me.0.crew) }
+            × (s.pass.me.0.caller_count ≡ seat.old.pass.me.0.caller_count) }
         ensures seat { IdleFirst self.now.table.shared.table_id seat.new.pass }
-        ensures crew { seat.new.pass.me.0.crew ≡ seat.old.pass.me.0.crew }
-        ensures callers { seat.new.pass.me.0.speaks ≡ all_voices list.items ++ seat.old.pass.me.0.speaks }
+        ensures caller_count { seat.new.pass.me.0.caller_count ≡ seat.old.pass.me.0.caller_count }
+        ensures callers { seat.new.pass.me.0.speaks ≡ all_notes list.items ++ seat.old.pass.me.0.speaks }
     {
         while let Some(other) = list.pop() {
             self.join(seat, other);

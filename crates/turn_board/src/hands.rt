@@ -31,6 +31,7 @@ impl<V: Drop> Drop for Hands<V> {
 }
 
 impl<V> Hands<V> {
+    /// Empty hands with room for so many values.
     pub fn with_room(alloc: Global, room: u32) -> Result<Hands<V>, NoMemory>
         ensures { IfOk result (λ hands. (hands.pairs ≡ []) × (hands.room ≡ room)) }
     {
@@ -38,12 +39,14 @@ impl<V> Hands<V> {
         Ok(Hands { queue })
     }
 
+    /// How many values there are.
     pub fn len(&self) -> u32
         ensures { result ≡ length self.now.pairs }
     {
         self.queue.len() as u32
     }
 
+    /// A turn and its value, by its place from 0.
     pub fn get(&self, i: u32) -> &(u32, V)
         requires { i < length self.now.pairs }
         ensures { slice_get self.now.pairs i ≡ Some result.now }
@@ -51,6 +54,7 @@ impl<V> Hands<V> {
         &self.queue[i as usize]
     }
 
+    /// Puts a turn's value behind the others, in the room that there is.
     pub fn push(&mut self, turn: u32, value: V)
         requires { length self.old.pairs < self.old.room }
         ensures pairs { self.new.pairs ≡ self.old.pairs ++ (turn, value) ∷ [] }

@@ -11,7 +11,7 @@ use std::marker::Brand;
 use std::snapshot::Snapshot;
 
 impl<V, R: TieRule<V>> Board<V, R> {
-    ghost use Rattle.turn_board.specs.Boards.{IsSeatOf, turn_count, held, caller, SameVoice, Answered, Released, Booked, Changed};
+    ghost use Rattle.turn_board.specs.Boards.{IsSeatOf, turn_count, held, caller, SameNote, Answered, Released, Booked, Changed};
     ghost use Rattle.turn_board.specs.Hands.{put_back};
     ghost use Rattle.turn_board.specs.Maps.{SameTurns};
 
@@ -21,7 +21,7 @@ impl<V, R: TieRule<V>> Board<V, R> {
         requires seat { IsSeatOf self.now seat.old }
         requires turn { turn < turn_count self.now }
         requires free { held seat.old turn ≡ None }
-        ensures seat { IsSeatOf self.now seat.new × SameVoice seat.old seat.new }
+        ensures seat { IsSeatOf self.now seat.new × SameNote seat.old seat.new }
         ensures answer { Answered R.content R.holds (turn_count self.now) seat.old seat.new turn
             result }
     {
@@ -33,7 +33,7 @@ impl<V, R: TieRule<V>> Board<V, R> {
         if found & bit != 0 {
             return Taken::Busy { turn };
         }
-        Taken::Here(self.lift::<Brand>(seat, turn))
+        Taken::Here(self.take_out::<Brand>(seat, turn))
     }
 
     /// Gives back a turn other than the book's, with a value that counts as before.
@@ -41,7 +41,7 @@ impl<V, R: TieRule<V>> Board<V, R> {
         requires seat { IsSeatOf self.now seat.old }
         requires turn { 0 < turn }
         requires same { held seat.old turn ≡ Some (R.content value) }
-        ensures seat { IsSeatOf self.now seat.new × SameVoice seat.old seat.new }
+        ensures seat { IsSeatOf self.now seat.new × SameNote seat.old seat.new }
         ensures gave { Released seat.old seat.new turn }
     {
         self.lower::<Brand>(seat, turn, value);

@@ -25,9 +25,9 @@ impl<V, R: TieRule<V>> Board<V, R> {
         requires callers { (k n : ℕ) × (c : R.Content)
             × (seat.old.pass.me.0.speaks ≡ all_speak k (suc n) c) }
         ensures first { IdleFirst self.now.table.shared.table_id seat.new.pass
-            × (seat.new.pass.me.0.crew ≡ seat.old.pass.me.0.crew) }
+            × (seat.new.pass.me.0.caller_count ≡ seat.old.pass.me.0.caller_count) }
         ensures one { IdleFirst self.now.table.shared.table_id result.pass
-            × (result.pass.me.0.crew ≡ seat.old.pass.me.0.crew) }
+            × (result.pass.me.0.caller_count ≡ seat.old.pass.me.0.caller_count) }
         ensures callers { (k n : ℕ) (c : R.Content)
             → seat.old.pass.me.0.speaks ≡ all_speak k (suc n) c
             → (seat.new.pass.me.0.speaks ≡ all_speak (suc k) n c)
@@ -42,10 +42,10 @@ impl<V, R: TieRule<V>> Board<V, R> {
     }
 
     // Gives each caller but the last a seat of its own, and the last one what is left.
-    fn deal(&self, mut first: Seat<V, R>, list: &mut Vec<Seat<V, R>>, callers: u32)
+    fn hand_out(&self, mut first: Seat<V, R>, list: &mut Vec<Seat<V, R>>, callers: u32)
         requires room { (list.old.items ≡ []) × (callers ≤ vec_capacity list.old) × (0 < callers) }
         requires first { IdleFirst self.now.table.shared.table_id first.pass × Unlost first.pass }
-        requires crew { (first.pass.me.0.crew ≡ callers)
+        requires caller_count { (first.pass.me.0.caller_count ≡ callers)
             × ((b : R.Content) × (first.pass.me.0.speaks ≡ all_speak 0 callers b)) }
         ensures len { length list.new.items ≡ callers }
         ensures each { (b : R.Content) → first.pass.me.0.speaks ≡ all_speak 0 callers b
@@ -89,7 +89,7 @@ impl<V: Drop, R: TieRule<V>> Board<V, R> {
         let kept = Vec::with_capacity(alloc, 57)?;
         let about = Opening {
             turns: values.len() as u64,
-            crew: callers as u64,
+            caller_count: callers as u64,
             book: Snapshot::of(&values[0]),
             values: Snapshot::of(&values),
         };
@@ -98,7 +98,7 @@ impl<V: Drop, R: TieRule<V>> Board<V, R> {
             Ok((table, pass)) => {
                 let kept = Mutex::new(Spare { list: kept });
                 let board = Board { table, kept };
-                board.deal(Seat { pass }, &mut list, callers);
+                board.hand_out(Seat { pass }, &mut list, callers);
                 Ok((board, Seats::from_vec(list)))
             }
             Err(_) => Err(NoMemory),

@@ -22,7 +22,7 @@ impl<V, R: TieRule<V>> Board<V, R> {
     ghost use Rattle.turn_board.specs.Passes as passes;
 
     // Moves a value out of its slot.
-    pub(crate) fn lift<K: Aim>(&self, seat: &mut Seat<V, R>, turn: u32) -> V
+    pub(crate) fn take_out<K: Aim>(&self, seat: &mut Seat<V, R>, turn: u32) -> V
         requires aim { K.turn ≡ turn }
         requires seat { Placed self.now.table.shared.table_id seat.old.pass }
         requires turn { turn < self.now.table.shared.table_id.slots }

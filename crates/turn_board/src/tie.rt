@@ -5,6 +5,7 @@ use crate::view::{Opening, View};
 use atomic_table::TableRule;
 use std::marker::PhantomData;
 
+/// The rule of the table under a board. No value of it is made.
 pub struct Tie<R> {
     marker: PhantomData<R>,
 }
@@ -13,8 +14,8 @@ impl<V, R: TieRule<V>> TableRule<Option<V>, View<R::Content>, Opening<V>> for Ti
     ghost use Rattle.std.specs.Prelude.{map};
     ghost use Rattle.turn_board.specs.Tied.{Tied, first_view};
 
-    ghost holds = { λ key. Tied R.content R.holds key.crew };
+    ghost holds = { λ key. Tied R.content R.holds key.caller_count };
 
-    ghost first = { λ key. first_view key.turns key.crew (R.content key.book.value)
+    ghost first = { λ key. first_view key.turns key.caller_count (R.content key.book.value)
         (map R.content key.values.value.items) };
 }

@@ -18,8 +18,8 @@ impl<V, R: TieRule<V>> Board<V, R> {
     ghost use Rattle.turn_board.specs.Hands.{in_hands, put_back, Once};
     ghost use Rattle.turn_board.specs.Passes.{Placed};
     ghost use Rattle.turn_board.specs.Passes as passes;
-    ghost use Rattle.turn_board.specs.Moving.{Emptied, Lifted, Filled};
-    ghost use Rattle.turn_board.specs.Boards.{IsSeatOf, turn_count, held, caller, CanAsk, SameVoice, AnsweredAll, BookedAll, Changed};
+    ghost use Rattle.turn_board.specs.Moving.{Emptied, TakenOut, Filled};
+    ghost use Rattle.turn_board.specs.Boards.{IsSeatOf, turn_count, held, caller, CanAsk, SameNote, AnsweredAll, BookedAll, Changed};
 
     /// Takes all turns of a set, or none: bit t of `turns` asks for turn t.
     pub fn try_take_all(&self, seat: &mut Seat<V, R>, turns: u64, hands: &mut Hands<V>) -> TookAll
@@ -28,7 +28,7 @@ impl<V, R: TieRule<V>> Board<V, R> {
         requires some { 0 < turns }
         requires room { length hands.old.pairs + length (bits_of turns (turn_count self.now))
             ≤ hands.old.room }
-        ensures seat { IsSeatOf self.now seat.new × SameVoice seat.old seat.new }
+        ensures seat { IsSeatOf self.now seat.new × SameNote seat.old seat.new }
         ensures answer { AnsweredAll R.content R.holds (turn_count self.now) seat.old seat.new turns
             hands.old.pairs hands.new.pairs result }
         ensures room { hands.new.room ≡ hands.old.room }
@@ -39,7 +39,7 @@ impl<V, R: TieRule<V>> Board<V, R> {
             .fetch_or::<Ask<R>>(&mut seat.pass, MASK, turns);
         let taken = found & turns;
         if taken == 0 {
-            self.lift_all(seat, turns, hands);
+            self.take_out_all(seat, turns, hands);
             return TookAll::Here;
         }
         let turn = taken.trailing_zeros();
@@ -54,21 +54,21 @@ impl<V, R: TieRule<V>> Board<V, R> {
     }
 
     // Moves the values of a set of turns out of their slots.
-    fn lift_all(&self, seat: &mut Seat<V, R>, set: u64, hands: &mut Hands<V>)
+    fn take_out_all(&self, seat: &mut Seat<V, R>, set: u64, hands: &mut Hands<V>)
         requires seat { Placed self.now.table.shared.table_id seat.old.pass }
         requires lies { (u : ℕ) → bit_at set u ≡ 1 → (c : R.Content) × (0 < u)
             × (passes.held seat.old.pass u ≡ Some c) × (place seat.old.pass.me.0 u ≡ Lies c) }
         requires room { length hands.old.pairs + length (bits_of set self.now.table.shared.table_id.slots)
             ≤ hands.old.room }
         ensures seat { Emptied set self.now.table.shared.table_id.slots seat.old.pass seat.new.pass }
-        ensures pairs { Lifted R.content set self.now.table.shared.table_id.slots
+        ensures pairs { TakenOut R.content set self.now.table.shared.table_id.slots
             (passes.held seat.old.pass) hands.old.pairs hands.new.pairs }
         ensures room { hands.new.room ≡ hands.old.room }
     {
         let mut left = set;
         while left != 0 {
             let turn = left.trailing_zeros();
-            let value = self.lift::<Brand>(seat, turn);
+            let value = self.take_out::<Brand>(seat, turn);
             hands.push(turn, value);
             left &= !(1u64 << turn);
         }

@@ -11,18 +11,20 @@ pub enum Place<C> {
     Lies(C),
 }
 
+/// What a seat knows of the board.
 pub struct View<C> {
     /// The callers that the seat speaks for, each with its note.
     pub speaks: LinkedList<(u64, C)>,
     /// By turn: the counted content, where the seat holds the turn.
     pub counts: LinkedList<Option<C>>,
+    /// By turn: where its value is.
     pub places: LinkedList<Place<C>>,
     /// By turn: how often the seat found it taken by another seat.
     pub lost: LinkedList<u64>,
     /// How often the seat gave the book back.
     pub given: u64,
     /// The number of callers of the board.
-    pub crew: u64,
+    pub caller_count: u64,
     /// How often the seat asked for turns: for a set that is asked for in one step, once.
     pub asks: u64,
     /// How often the seat gave turns back: for all turns that one step gives back, once.
@@ -34,9 +36,12 @@ pub struct View<C> {
 
 /// What the table is told when it is made.
 pub struct Opening<V> {
+    /// How many turns there are.
     pub turns: u64,
-    pub crew: u64,
+    pub caller_count: u64,
+    /// The first turn's value.
     pub book: Snapshot<V>,
+    /// All turns' values.
     pub values: Snapshot<Vec<V>>,
 }
 
@@ -44,7 +49,7 @@ impl<V> Drop for Opening<V> {
     fn drop(self) {
         let Opening {
             turns: _,
-            crew: _,
+            caller_count: _,
             book,
             values,
         } = self;

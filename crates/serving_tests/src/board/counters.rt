@@ -1,7 +1,7 @@
 // Four callers that add to two counters, each 1,000 times, after one has found a turn taken that
 // another holds.
 ghost use Rattle.std.specs.Prelude.{◌≡◌, ◌≢◌, ℕ, ◌+◌, ◌^◌, ◌<◌, cond, List, [], ◌∷◌, Some, None, map, slice_index, vec_len};
-ghost use Rattle.turn_board.specs.Boards.{IsSeatOf, turn_count, held, SameVoice, Tells, Begins, AllBegin};
+ghost use Rattle.turn_board.specs.Boards.{IsSeatOf, turn_count, held, SameNote, Tells, Begins, AllBegin};
 ghost use Rattle.serving_tests.specs.Counters.{Balanced, one_more, HasBoth, HasAdded, AllHaveAdded, EachHasAdded};
 
 use std::alloc::Global;
@@ -43,7 +43,7 @@ fn take<R: Wait>(
     requires seat { IsSeatOf board.now seat.old }
     requires turn { turn < turn_count board.now }
     requires free { held seat.old turn ≡ None }
-    ensures seat { IsSeatOf board.now seat.new × SameVoice seat.old seat.new }
+    ensures seat { IsSeatOf board.now seat.new × SameNote seat.old seat.new }
     ensures value { held seat.new turn ≡ Some result }
     ensures others { (u : ℕ) → u ≢ turn → held seat.new u ≡ held seat.old u }
     ensures told { Tells Balanced (turn_count board.now) seat.new }
@@ -68,7 +68,7 @@ fn take_both<R: Wait>(
     requires turns { turn_count board.now ≡ 3 }
     requires free { (held seat.old 1 ≡ None) × (held seat.old 2 ≡ None) }
     requires room { (hands.old.pairs ≡ []) × (1 < hands.old.room) }
-    ensures seat { IsSeatOf board.now seat.new × SameVoice seat.old seat.new }
+    ensures seat { IsSeatOf board.now seat.new × SameNote seat.old seat.new }
     ensures both { HasBoth seat.old seat.new hands.new.pairs }
     ensures room { hands.new.room ≡ hands.old.room }
 {
@@ -170,7 +170,7 @@ fn hold_until_found<R: Wait>(
     requires seat { IsSeatOf board.now seat.old }
     requires turns { turn_count board.now ≡ 3 }
     requires free { (t : ℕ) → held seat.old t ≡ None }
-    ensures seat { IsSeatOf board.now seat.new × SameVoice seat.old seat.new }
+    ensures seat { IsSeatOf board.now seat.new × SameNote seat.old seat.new }
     ensures free { (t : ℕ) → held seat.new t ≡ None }
 {
     let counter = take(rt, board, seat, 1);
@@ -189,7 +189,7 @@ fn find_taken<R: Wait>(
     requires seat { IsSeatOf board.now seat.old }
     requires turns { turn_count board.now ≡ 3 }
     requires free { (t : ℕ) → held seat.old t ≡ None }
-    ensures seat { IsSeatOf board.now seat.new × SameVoice seat.old seat.new }
+    ensures seat { IsSeatOf board.now seat.new × SameNote seat.old seat.new }
     ensures free { (t : ℕ) → held seat.new t ≡ None }
 {
     wait_for(rt, &meeting.is_held);

@@ -1,7 +1,7 @@
 // Two callers of one hall on one thread: one finds the shard taken that the other one holds.
 
 ghost use Rattle.std.specs.Prelude.{◌≡◌, ◌<◌, [], ◌∷◌, IfOk, OnOk};
-ghost use Rattle.symbolic_ops.specs.Symbols.{exact_symbol};
+ghost use Rattle.symbolic_ops.specs.Matching.{exact_symbol};
 ghost use Rattle.session_hall.specs.declared.stage.Stage.TheVariants.{Applied, Idle, InFlight, Out, Serving};
 ghost use Rattle.session_hall.specs.Callers.{IsCallerOf};
 ghost use Rattle.session_hall.specs.Names.{script_of};

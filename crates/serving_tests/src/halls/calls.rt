@@ -1,5 +1,5 @@
 // Calls of a hall over a list of tickets that end a test where they answer something else than the
-// test's story says.
+// test's history says.
 
 ghost use Rattle.std.specs.Prelude.{◌≡◌, [], IfOk, OnOk};
 ghost use Rattle.turn_board.specs.Boards.{turn_count};

@@ -1,5 +1,5 @@
 use Rattle.std.proofs.Common.{rules}
-use Rattle.commute_tables.proofs.Telling.{decided, Decides-commute}
+use Rattle.commute_tables.proofs.TellingApart.{decided, Decides-commute}
 use Rattle.commute_tables.proofs.commuting.commute.Goals as goal
 
 pub returns-clause-exact : goal.returns-clause-exact

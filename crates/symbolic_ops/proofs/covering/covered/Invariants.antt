@@ -1,6 +1,6 @@
 use Rattle.std.proofs.Common.{◌≡◌, take}
 use Rattle.std.specs.List.{AllByRecursion}
-use Rattle.symbolic_ops.specs.Symbols.{IsBelowSome}
+use Rattle.symbolic_ops.specs.Matching.{IsBelowSome}
 use Rattle.symbolic_ops.proofs.covering.covered.Given as goal
 
 abbrev pub invariant-loop-s : goal.invariant-loop-s

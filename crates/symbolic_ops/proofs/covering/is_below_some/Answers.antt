@@ -1,5 +1,5 @@
 use Rattle.std.proofs.Common.{◌≡◌, ℕ, suc, ◌+◌, Bool, true, false, refl, take, subst, arith}
-use Rattle.symbolic_ops.specs.Symbols.{IsBelowSome}
+use Rattle.symbolic_ops.specs.Matching.{IsBelowSome}
 use Rattle.symbolic_ops.proofs.BelowSome.{below_at, still_none}
 use Rattle.symbolic_ops.proofs.covering.is_below_some.Goals as goal
 

@@ -1,6 +1,6 @@
 use Rattle.std.proofs.Common.{◌<◌, length, ap, sym, ◌∙◌, rules}
 use Rattle.symbolic_ops.specs.Instantiate.{symbol_in}
-use Rattle.symbolic_ops.specs.Symbols.{HasNoVar}
+use Rattle.symbolic_ops.specs.Matching.{HasNoVar}
 use Rattle.symbolic_ops.proofs.PutValues.{values_put, known_put}
 use Rattle.symbolic_ops.proofs.instantiating.put_values.Goals as goal
 

@@ -1,7 +1,7 @@
 use Rattle.std.proofs.Common.{◌≡◌, ◌++◌, map, take, drop}
 use Rattle.std.specs.List.{AllByRecursion}
 use Rattle.symbolic_ops.specs.Instantiate.{symbol_in}
-use Rattle.symbolic_ops.specs.Symbols.{HasNoVar}
+use Rattle.symbolic_ops.specs.Matching.{HasNoVar}
 use Rattle.symbolic_ops.proofs.instantiating.put_values.Given as goal
 
 abbrev pub invariant-loop-i : goal.invariant-loop-i

@@ -2,7 +2,7 @@ use Rattle.std.proofs.Common.{◌≤◌, sym, ap, ◌∙◌, arith}
 use Rattle.turn_board.proofs.laws.changes_tell.Goals as goal
 
 pub returns : goal.returns
-returns g c = λ crew s t r q there back.
+returns g c = λ caller_count s t r q there back.
     let l = r.latest in
     let w = there l.0 l.1 l.2 in
     let m = q.latest in

@@ -4,7 +4,7 @@ use Rattle.admission_book.specs.declared.admission.Admission.{Admission}
 use Rattle.admission_book.specs.declared.admission.Admission.TheVariants.{Admitted, Delayed}
 use Rattle.admission_book.specs.Book.{Book}
 use Rattle.admission_book.specs.Lawful.{Lawful}
-use Rattle.admission_book.specs.Books.{MayAdmit, Admits, IsOldestOpen}
+use Rattle.admission_book.specs.Methods.{MayAdmit, Admits, IsOldestOpen}
 use Rattle.admission_book.proofs.Shown.{events_are, here, there, leaves, lawful_same, place, keeps_with}
 use Rattle.admission_book.proofs.Stays.{grows_none, grows_unless, stays}
 use Rattle.admission_book.proofs.Admits.{free_here, blocker_here, never_oldest, admit_lawful, admitted, admit_shown, admit_keeps, blocker, delay_lawful, delay_room, delay_shown, delayed, delay_keeps, delay_count}

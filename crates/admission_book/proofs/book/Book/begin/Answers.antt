@@ -4,7 +4,7 @@ use Rattle.session_journal.specs.Script.{Meaning}
 use Rattle.admission_book.specs.Book.{Book}
 use Rattle.admission_book.specs.Lawful.{Lawful}
 use Rattle.admission_book.specs.declared.caller_record.CallerRecord.{CallerRecord}
-use Rattle.admission_book.specs.Books.{MayBeginNext, Begins}
+use Rattle.admission_book.specs.Methods.{MayBeginNext, Begins}
 use Rattle.admission_book.proofs.Shown.{events_are, here, leaves_of, lawful_same, record_here, keeps_with, room_for}
 use Rattle.admission_book.proofs.Stays.{grows_by, stays, stays_same}
 use Rattle.admission_book.proofs.Begins.{begin_lawful, begin_shown, begin_keeps, begin_count, begins, within}

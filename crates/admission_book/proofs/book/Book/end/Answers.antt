@@ -3,7 +3,7 @@ use Rattle.std.proofs.lemmas.List.{length-set}
 use Rattle.session_journal.specs.Script.{Meaning}
 use Rattle.admission_book.specs.Book.{Book}
 use Rattle.admission_book.specs.Lawful.{Lawful}
-use Rattle.admission_book.specs.Books.{MayEnd, HasEnded}
+use Rattle.admission_book.specs.Methods.{MayEnd, HasEnded}
 use Rattle.admission_book.proofs.Shown.{events_are, here, leaves, lawful_same, place, keeps_with, room_for}
 use Rattle.admission_book.proofs.Stays.{grows_by, stays}
 use Rattle.admission_book.proofs.Ends.{end_within, end_lawful, end_shown, ended_so, end_keeps, end_count}

@@ -2,7 +2,7 @@ use Rattle.std.proofs.Common.{refl}
 use Rattle.session_journal.specs.Script.{Meaning}
 use Rattle.admission_book.specs.Book.{Book}
 use Rattle.admission_book.specs.Lawful.{Lawful}
-use Rattle.admission_book.specs.Books.{MayNarrow, Narrowed}
+use Rattle.admission_book.specs.Methods.{MayNarrow, Narrowed}
 use Rattle.admission_book.proofs.Shown.{here, leaves, lawful_same, place, keeps_with}
 use Rattle.admission_book.proofs.Stays.{grows_none, stays}
 use Rattle.admission_book.proofs.Narrows.{narrow_lawful, narrow_shown, narrowed, narrow_keeps}

@@ -1,7 +1,7 @@
 use Rattle.session_journal.specs.Script.{Meaning}
 use Rattle.admission_book.specs.Book.{Book}
 use Rattle.admission_book.specs.Lawful.{Lawful}
-use Rattle.admission_book.specs.Books.{IsOldestOpen}
+use Rattle.admission_book.specs.Methods.{IsOldestOpen}
 use Rattle.admission_book.proofs.Shown.{here, there}
 use Rattle.admission_book.proofs.Oldest.{oldest}
 use Rattle.admission_book.proofs.book.Book.oldest_open.Goals as goal

@@ -1,7 +1,7 @@
 use Rattle.std.proofs.Common.{◌≡◌, ◌<◌, arith, subst, sym, ap, ◌∙◌, length, vec_capacity}
 use Rattle.session_values.specs.Dialogue.{Calls, Entry}
 use Rattle.session_values.specs.Tables.{Tables, reply}
-use Rattle.symbolic_ops.specs.Symbols.{Matches}
+use Rattle.symbolic_ops.specs.Matching.{Matches}
 use Rattle.session_journal.specs.Desks.{next_of}
 use Rattle.plain_desk.specs.PlainDesks.{PlainView, tables_at}
 use Rattle.plain_desk.proofs.Serving.{call_kept, same_kept, tables_before_call}

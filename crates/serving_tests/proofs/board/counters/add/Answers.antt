@@ -16,7 +16,7 @@ returns g c = λ times h.
       seat = e.seat.0;
       three = h.three;
       caller_is = e.seat.1.caller_is ∙ booked.caller_is ∙ b.seat.1.caller_is ∙ a.seat.1.caller_is ∙ h.caller_is;
-      crew_is = e.seat.1.crew_is ∙ booked.crew_is ∙ b.seat.1.crew_is ∙ a.seat.1.crew_is ∙ h.crew_is;
+      caller_count_is = e.seat.1.caller_count_is ∙ booked.caller_count_is ∙ b.seat.1.caller_count_is ∙ a.seat.1.caller_count_is ∙ h.caller_count_is;
       near = h.near;
       free = freed _ _ _ _ _ c.in-Some.pair booked pushed e.gave;
       noted = (_, e.seat.1.note_is ∙ booked.noted, get_or-set_same c.take-book.result k (get_or c.take-book.result k 0 + 1) 0 (let n = h.near in let l = c.take-book.type_inv in omega arith) ∙ ap (λ (n : ℕ). n + 1) count);

@@ -39,7 +39,7 @@ returns g c = λ times h.
       seat = e.seat;
       three = h.three;
       caller_is = e.booked.caller_is ∙ b.seat.1.caller_is ∙ a.seat.1.caller_is ∙ h.caller_is;
-      crew_is = e.booked.crew_is ∙ b.seat.1.crew_is ∙ a.seat.1.crew_is ∙ h.crew_is;
+      caller_count_is = e.booked.caller_count_is ∙ b.seat.1.caller_count_is ∙ a.seat.1.caller_count_is ∙ h.caller_count_is;
       near = h.near;
       free = e.booked.nothing;
       noted = (_, e.booked.noted, get_or-set_same c.take-book.result k (get_or c.take-book.result k 0 + 1) 0 (let n = h.near in let l = c.take-book.type_inv in omega arith) ∙ ap (λ (n : ℕ). n + 1) count);

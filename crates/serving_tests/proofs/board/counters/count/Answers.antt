@@ -21,7 +21,7 @@ close-requires-clause-all g c = λ i s e.
     let h = c.work_each.ensures.each i a.0 a.1 in
     let long = sym (ap length are ∙ length-map (λ j. j.0) _ ∙ sym c.work_each.new.jobs.ok.0 ∙ c.work_each.ensures.len ∙ c.hire_all-jobs.ensures.len) in
     subst (λ n. Ends c.expect-board.result.0 n i s) long
-    (subst (λ y. Ends c.expect-board.result.0 4 i y) a.2 (record { seat = h.seat; caller_is = h.caller_is; crew_is = h.crew_is; free = h.free }))
+    (subst (λ y. Ends c.expect-board.result.0 4 i y) a.2 (record { seat = h.seat; caller_is = h.caller_is; caller_count_is = h.caller_count_is; free = h.free }))
 
 pub returns : goal.returns
 returns g c =

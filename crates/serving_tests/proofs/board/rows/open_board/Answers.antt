@@ -16,4 +16,4 @@ returns-clause-each c = λ i s e.
     let some' = c.requires.values.0 in
     let x = get-within c.args.values.items 0 (omega arith) in
     let h = c.in_ok-board.ensures.each x.0 (map-get (λ (v : ℕ). v) c.args.values.items 0 x.0 x.1) i s (ap (λ l. slice_get l i) (sym c.into_vec.ensures) ∙ e) in
-    record { seat = h.seat; caller_is = h.caller_is; crew_is = h.crew_is; free = h.free }
+    record { seat = h.seat; caller_is = h.caller_is; caller_count_is = h.caller_count_is; free = h.free }

@@ -1,7 +1,7 @@
 use Rattle.std.proofs.Common.{◌≡◌, ℕ, ◌+◌, ◌-◌, ◌≤◌, List, length, take, drop, sym, ◌∙◌, ap, subst, arith}
 use Rattle.std.specs.List.{AllByRecursion}
 use Rattle.symbolic_ops.specs.declared.symbol.Symbol.{Symbol}
-use Rattle.symbolic_ops.specs.Symbols.{HasNoVar}
+use Rattle.symbolic_ops.specs.Matching.{HasNoVar}
 use Rattle.session_journal.proofs.ListKeeps.{entry_is, entry_row, entry_within}
 use Rattle.session_journal.proofs.list_script.ListScriptScript.entry.Goals as goal
 

@@ -6,7 +6,7 @@ use Rattle.atomic_table.specs.Table.{step, Allows}
 use Rattle.turn_board.specs.Tied.{Tied, counted}
 use Rattle.turn_board.specs.Steps.{returned, given_view}
 use Rattle.turn_board.proofs.Gives.{returns}
-use Rattle.turn_board.proofs.Returns.{held-near, freed, gave, sits-again, voice-again}
+use Rattle.turn_board.proofs.Returns.{held-near, freed, gave, sits-again, spoken-again}
 use Rattle.turn_board.proofs.Rows.{few-turns}
 use Rattle.turn_board.proofs.board.Board.give.Goals as goal
 
@@ -23,7 +23,7 @@ returns-clause-seat g c =
     let table = c.fetch_and.ensures.0 ∙ c.lower.ensures.0 in
     let seat-id = c.fetch_and.ensures.1 ∙ c.lower.ensures.1 in (
       sits-again id c.args.self.now.few p c.requires.seat t (g.R.TieRule.content c.args.value) c.requires.same m c.lower.ensures.2 q table seat-id q-is,
-      voice-again id c.args.self.now.few p c.requires.seat t (g.R.TieRule.content c.args.value) c.requires.same m c.lower.ensures.2 q table seat-id q-is,
+      spoken-again id c.args.self.now.few p c.requires.seat t (g.R.TieRule.content c.args.value) c.requires.same m c.lower.ensures.2 q table seat-id q-is,
     )
 
 pub returns-clause-gave : goal.returns-clause-gave
@@ -47,12 +47,12 @@ fetch_and-requires g c =
     let p = c.args.seat.now.pass in
     let m = c.lower.new.seat.pass in
     let id = c.args.self.now.table.shared.table_id in
-    let crew = c.args.self.now.table.shared.key.crew in
+    let caller_count = c.args.self.now.table.shared.key.caller_count in
     let near = held-near p.me.0 id.slots t _ c.requires.seat.placed.counts c.requires.same in
     let e = one_shl t 64 (few-turns t id.slots c.args.self.now.few near) in (
       c.lower.ensures.0 ∙ c.requires.seat.placed.of_table,
       (let h = c.args.self.now.words in omega arith),
-      subst (λ (b : ℕ). Allows (Tied g.R.TieRule.content g.R.TieRule.holds crew) id.slots m.id m.me 7 (λ x. bit_and x (bit_not w64 b)) (λ _ n. returned (step id.slots 7 (bit_not w64 b) 0 none) m.me n)) (sym e)
-          (returns g.R.TieRule.content g.R.TieRule.holds crew id.slots m.id m.me (bit_not w64 (2 ^ t))
+      subst (λ (b : ℕ). Allows (Tied g.R.TieRule.content g.R.TieRule.holds caller_count) id.slots m.id m.me 7 (λ x. bit_and x (bit_not w64 b)) (λ _ n. returned (step id.slots 7 (bit_not w64 b) 0 none) m.me n)) (sym e)
+          (returns g.R.TieRule.content g.R.TieRule.holds caller_count id.slots m.id m.me (bit_not w64 (2 ^ t))
           (freed id c.args.self.now.few p c.requires.seat t (g.R.TieRule.content c.args.value) c.requires.same m c.lower.ensures.2)),
     )

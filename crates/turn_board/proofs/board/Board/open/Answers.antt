@@ -21,8 +21,8 @@ new-requires g c =
     (subst (λ b. Tied content g.R.TieRule.holds c.args.callers (opening (replicate 15 0) (map Some items) (first_view (length items) c.args.callers b before))) (sym note)
     (subst (λ xs. Tied content g.R.TieRule.holds c.args.callers (opening (replicate 15 0) (map Some items) (first_view (length items) c.args.callers r.0 xs))) (sym whole) start)))
 
-pub deal-requires-clause-first : goal.deal-requires-clause-first
-deal-requires-clause-first g c =
+pub hand_out-requires-clause-first : goal.hand_out-requires-clause-first
+hand_out-requires-clause-first g c =
     let content = g.R.TieRule.content in
     let items = c.args.values.items in
     let e = c.in-Ok.ensures.ok in
@@ -37,7 +37,7 @@ returns-in-Ok-clause-each g c = λ b has i s at.
     let items = c.args.values.items in
     let e = c.in-Ok.ensures.ok in
     let note = first-content content items c.of.result.value b (c.of.ensures ∙ c.index.ensures ∙ ap (Rattle.std.proofs.Common.get_or items 0) (sym c.of.ensures)) has in
-    begins _ c.args.callers b _ i s (c.deal.ensures.each b (ap (λ m. m.0.speaks) e.4 ∙ ap (all_speak 0 c.args.callers) note) i s (ap (λ l. slice_get l i) (sym c.from_vec.ensures) ∙ at))
+    begins _ c.args.callers b _ i s (c.hand_out.ensures.each b (ap (λ m. m.0.speaks) e.4 ∙ ap (all_speak 0 c.args.callers) note) i s (ap (λ l. slice_get l i) (sym c.from_vec.ensures) ∙ at))
 
 pub returns-in-Ok-clause-opened : goal.returns-in-Ok-clause-opened
 returns-in-Ok-clause-opened g c = λ i s at.
@@ -46,4 +46,4 @@ returns-in-Ok-clause-opened g c = λ i s at.
     let e = c.in-Ok.ensures.ok in
     let r = c.requires.rule in
     let note = first-content content items c.of.result.value r.0 (c.of.ensures ∙ c.index.ensures ∙ ap (Rattle.std.proofs.Common.get_or items 0) (sym c.of.ensures)) r.1 in
-    (c.deal.ensures.each r.0 (ap (λ m. m.0.speaks) e.4 ∙ ap (all_speak 0 c.args.callers) note) i s (ap (λ l. slice_get l i) (sym c.from_vec.ensures) ∙ at)).change_is ∙ ap (λ m. m.0.change) e.4 ∙ ap (λ (xs : List g.row.V.Denot). (1, map content xs)) (ap vec_items c.of-2.ensures)
+    (c.hand_out.ensures.each r.0 (ap (λ m. m.0.speaks) e.4 ∙ ap (all_speak 0 c.args.callers) note) i s (ap (λ l. slice_get l i) (sym c.from_vec.ensures) ∙ at)).change_is ∙ ap (λ m. m.0.change) e.4 ∙ ap (λ (xs : List g.row.V.Denot). (1, map content xs)) (ap vec_items c.of-2.ensures)

@@ -2,7 +2,7 @@ use Rattle.std.proofs.Common.{ap, ◌∙◌, suc, arith, length, None}
 use Rattle.turn_board.specs.declared.view.Place.TheVariants.{Vacant}
 use Rattle.turn_board.specs.Tied.{all_speak, counted, place}
 use Rattle.turn_board.specs.Steps.{head, tail, lost_at}
-use Rattle.turn_board.proofs.Crews.{parts, none-at, rising}
+use Rattle.turn_board.proofs.CallerCounts.{parts, none-at, rising}
 use Rattle.turn_board.proofs.Rows.{row-length}
 use Rattle.turn_board.proofs.board.Board.part.Goals as goal
 
@@ -25,7 +25,7 @@ returns-clause-one g c = let r = c.split_seat.ensures.4 in let v = c.args.seat.n
     vacant = λ t. ap (λ m. place m.0 t) r ∙ none-at t n Vacant;
     none_held = λ t. ap (λ m. counted m.0 t) r ∙ none-at t n None;
   },
-  ap (λ m. m.0.crew) r,
+  ap (λ m. m.0.caller_count) r,
 )
 
 pub returns-clause-callers : goal.returns-clause-callers

@@ -9,7 +9,7 @@ use Rattle.atomic_table.specs.Table.{step, Allows}
 use Rattle.turn_board.specs.Tied.{Tied, counted}
 use Rattle.turn_board.specs.Steps.{asked}
 use Rattle.turn_board.proofs.Asks.{asks}
-use Rattle.turn_board.proofs.Takes.{found-free, found-taken, still-placed, same-voice, tells-still, now-lies, gained, tells-now, sits-now, voice-now, now-missed, sits-still, not-alone}
+use Rattle.turn_board.proofs.Takes.{found-free, found-taken, still-placed, same-spoken, tells-still, now-lies, gained, tells-now, sits-now, spoken-now, now-missed, sits-still, not-alone}
 use Rattle.turn_board.proofs.Rows.{few-turns}
 use Rattle.turn_board.proofs.board.Board.try_take.Goals as goal
 
@@ -25,7 +25,7 @@ returns-then-found-bit-ne0-clause-seat g c =
     let taken = found-taken r t (λ z. c.if-found-bit-ne0.true (ap (bit_and r) e ∙ z)) in
     let same = c.fetch_or-found.ensures in (
       sits-still g.R.TieRule.holds id p q t r c.requires.turn c.requires.seat.placed same.0 same.1 a taken c.requires.seat.vacant,
-      same-voice g.R.TieRule.holds id p q t r c.requires.turn c.requires.seat.placed same.0 same.1 a,
+      same-spoken g.R.TieRule.holds id p q t r c.requires.turn c.requires.seat.placed same.0 same.1 a,
     )
 
 pub returns-then-found-bit-ne0-clause-answer : goal.returns-then-found-bit-ne0-clause-answer
@@ -56,9 +56,9 @@ returns-clause-seat g c =
     let a = subst (λ (b : ℕ). asked g.R.TieRule.holds (step id.slots 7 b 0 none) p.me r q.me) e c.fetch_or-found.ensures.2 in
     let free = found-free r t (ap (bit_and r) (sym e) ∙ c.if-found-bit-ne0.false) in
     let same = c.fetch_or-found.ensures in
-    let l = c.lift.ensures.seat in (
-      sits-now g.R.TieRule.holds id p q t r c.requires.turn c.requires.seat.placed same.0 same.1 a free c.lift.new.seat.pass l.0 l.1 l.2 c.requires.seat.vacant,
-      voice-now g.R.TieRule.holds id p q t r c.requires.turn c.requires.seat.placed same.0 same.1 a free c.lift.new.seat.pass l.0 l.1 l.2,
+    let l = c.take_out.ensures.seat in (
+      sits-now g.R.TieRule.holds id p q t r c.requires.turn c.requires.seat.placed same.0 same.1 a free c.take_out.new.seat.pass l.0 l.1 l.2 c.requires.seat.vacant,
+      spoken-now g.R.TieRule.holds id p q t r c.requires.turn c.requires.seat.placed same.0 same.1 a free c.take_out.new.seat.pass l.0 l.1 l.2,
     )
 
 pub returns-clause-answer : goal.returns-clause-answer
@@ -72,9 +72,9 @@ returns-clause-answer g c =
     let a = subst (λ (b : ℕ). asked g.R.TieRule.holds (step id.slots 7 b 0 none) p.me r q.me) e c.fetch_or-found.ensures.2 in
     let free = found-free r t (ap (bit_and r) (sym e) ∙ c.if-found-bit-ne0.false) in
     let same = c.fetch_or-found.ensures in
-    let l = c.lift.ensures.seat in (
-      gained g.R.TieRule.holds id p q t r c.requires.turn c.requires.seat.placed same.0 same.1 a free c.lift.new.seat.pass l.0 l.1 l.2 (g.R.TieRule.content c.lift.result) c.lift.ensures.value,
-      tells-now g.R.TieRule.holds id p q t r c.requires.turn c.requires.seat.placed same.0 same.1 a free c.lift.new.seat.pass l.0 l.1 l.2,
+    let l = c.take_out.ensures.seat in (
+      gained g.R.TieRule.holds id p q t r c.requires.turn c.requires.seat.placed same.0 same.1 a free c.take_out.new.seat.pass l.0 l.1 l.2 (g.R.TieRule.content c.take_out.result) c.take_out.ensures.value,
+      tells-now g.R.TieRule.holds id p q t r c.requires.turn c.requires.seat.placed same.0 same.1 a free c.take_out.new.seat.pass l.0 l.1 l.2,
     )
 
 pub fetch_or-found-requires : goal.fetch_or-found-requires
@@ -87,13 +87,13 @@ fetch_or-found-requires g c =
     let p = c.args.seat.now.pass in (
       sits.of_table,
       (let h = c.args.self.now.words in omega arith),
-      subst (λ (b : ℕ). Allows (Tied g.R.TieRule.content g.R.TieRule.holds c.args.self.now.table.shared.key.crew) slots p.id p.me 7 (λ n. bit_or n b) (asked g.R.TieRule.holds (step slots 7 b 0 none) p.me)) (sym e)
-          (asks g.R.TieRule.content g.R.TieRule.holds c.args.self.now.table.shared.key.crew slots p.id p.me (2 ^ t) sits.one.0 sits.one.1 sits.one.2
+      subst (λ (b : ℕ). Allows (Tied g.R.TieRule.content g.R.TieRule.holds c.args.self.now.table.shared.key.caller_count) slots p.id p.me 7 (λ n. bit_or n b) (asked g.R.TieRule.holds (step slots 7 b 0 none) p.me)) (sym e)
+          (asks g.R.TieRule.content g.R.TieRule.holds c.args.self.now.table.shared.key.caller_count slots p.id p.me (2 ^ t) sits.one.0 sits.one.1 sits.one.2
           (λ u one. dite (ℕ_discrete u t) (λ same. ap (counted p.me.0) same ∙ c.requires.free) (λ ne. absurd (let z = bit_at-pow_other t u ne in omega arith)))),
     )
 
-pub lift-requires-clause-seat : goal.lift-requires-clause-seat
-lift-requires-clause-seat g c =
+pub take_out-requires-clause-seat : goal.take_out-requires-clause-seat
+take_out-requires-clause-seat g c =
     let t : ℕ = c.args.turn in
     let e = one_shl t 64 (few-turns t _ c.args.self.now.few c.requires.turn) in
     let p = c.args.seat.now.pass in
@@ -104,8 +104,8 @@ lift-requires-clause-seat g c =
     let same = c.fetch_or-found.ensures in
     still-placed g.R.TieRule.holds id p q t r c.requires.turn c.requires.seat.placed same.0 same.1 a
 
-pub lift-requires-clause-lies : goal.lift-requires-clause-lies
-lift-requires-clause-lies g c =
+pub take_out-requires-clause-lies : goal.take_out-requires-clause-lies
+take_out-requires-clause-lies g c =
     let t : ℕ = c.args.turn in
     let e = one_shl t 64 (few-turns t _ c.args.self.now.few c.requires.turn) in
     let p = c.args.seat.now.pass in

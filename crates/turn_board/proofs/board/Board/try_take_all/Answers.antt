@@ -5,7 +5,7 @@ use Rattle.std.proofs.lemmas.Nat.Bits.{bit_at_and, bit_at-trailing_zeros, bit_at
 use Rattle.std.specs.Int.{bit_at, trailing_zeros, w64}
 use Rattle.turn_board.proofs.Asks.{asks}
 use Rattle.turn_board.proofs.Gives.{returns}
-use Rattle.turn_board.proofs.Sets.{none-taken, one-won, positive, now-lie, set-placed, set-tells, set-voice, all-out, all-voice, all-others, all-lost, all-asks, all-givings, all-tells, untouched, back-sits, back-voice, back-held, back-lost, back-asks, back-givings, back-tells, all-found, still-held, still-sits, missed-all, set-alone}
+use Rattle.turn_board.proofs.Sets.{none-taken, one-won, positive, now-lie, set-placed, set-tells, set-spoken, all-out, all-spoken, all-others, all-lost, all-asks, all-givings, all-tells, untouched, back-sits, back-spoken, back-held, back-lost, back-asks, back-givings, back-tells, all-found, still-held, still-sits, missed-all, set-alone}
 use Rattle.turn_board.proofs.board.Board.try_take_all.Goals as goal
 
 both-one : (a b : ℕ) → a < 2 → b < 2 → min a b ≡ 1 → (a ≡ 1) × (b ≡ 1)
@@ -27,7 +27,7 @@ returns-then-won-eq0-clause-seat g c =
     let q = c.fetch_or-found.new.seat in
     let f = c.fetch_or-found.result in (
       still-sits g.R.TieRule.holds id p q c.args.turns f c.requires.seat e.0 e.1 e.2 c.args.self.now.few c.fetch_or-found.type_inv c.ranges.turns.fits (λ u b. (c.requires.set u b).1) c.if-won-eq0.true,
-      set-voice g.R.TieRule.holds id p q c.args.turns f c.requires.seat e.0 e.1 e.2,
+      set-spoken g.R.TieRule.holds id p q c.args.turns f c.requires.seat e.0 e.1 e.2,
     )
 
 pub returns-then-won-eq0-clause-answer : goal.returns-then-won-eq0-clause-answer
@@ -61,7 +61,7 @@ returns-clause-seat g c =
     let f = c.fetch_or-found.result in
     let free = λ (u : ℕ) (b : bit_at c.args.turns u ≡ 1). (c.requires.set u b).2 in (
       back-sits g.R.TieRule.holds id p q c.args.turns f c.requires.seat e.0 e.1 e.2 c.args.self.now.few c.fetch_or-found.type_inv c.ranges.turns.fits free c.fetch_and.new.seat r.0 r.1 r.2,
-      back-voice g.R.TieRule.holds id p q c.args.turns f c.requires.seat e.0 e.1 e.2 c.args.self.now.few c.fetch_or-found.type_inv c.ranges.turns.fits free c.fetch_and.new.seat r.0 r.1 r.2,
+      back-spoken g.R.TieRule.holds id p q c.args.turns f c.requires.seat e.0 e.1 e.2 c.args.self.now.few c.fetch_or-found.type_inv c.ranges.turns.fits free c.fetch_and.new.seat r.0 r.1 r.2,
     )
 
 pub returns-clause-answer : goal.returns-clause-answer
@@ -94,20 +94,20 @@ returns-clause-answer g c =
 
 pub returns-then-taken-eq0-clause-seat : goal.returns-then-taken-eq0-clause-seat
 returns-then-taken-eq0-clause-seat g c = let e = c.fetch_or-found.ensures in (
-  all-out g.R.TieRule.holds c.args.self.now.table.shared.table_id c.args.seat.now.pass c.fetch_or-found.new.seat c.args.turns c.fetch_or-found.result c.requires.seat e.0 e.1 e.2 c.lift_all.new.seat.pass c.lift_all.ensures.seat,
-  all-voice g.R.TieRule.holds c.args.self.now.table.shared.table_id c.args.seat.now.pass c.fetch_or-found.new.seat c.args.turns c.fetch_or-found.result c.requires.seat e.0 e.1 e.2 c.lift_all.new.seat.pass c.lift_all.ensures.seat,
+  all-out g.R.TieRule.holds c.args.self.now.table.shared.table_id c.args.seat.now.pass c.fetch_or-found.new.seat c.args.turns c.fetch_or-found.result c.requires.seat e.0 e.1 e.2 c.take_out_all.new.seat.pass c.take_out_all.ensures.seat,
+  all-spoken g.R.TieRule.holds c.args.self.now.table.shared.table_id c.args.seat.now.pass c.fetch_or-found.new.seat c.args.turns c.fetch_or-found.result c.requires.seat e.0 e.1 e.2 c.take_out_all.new.seat.pass c.take_out_all.ensures.seat,
 )
 
 pub returns-then-taken-eq0-clause-answer : goal.returns-then-taken-eq0-clause-answer
 returns-then-taken-eq0-clause-answer g c =
     let e = c.fetch_or-found.ensures in
-    let l = c.lift_all.ensures in
+    let l = c.take_out_all.ensures in
     let id = c.args.self.now.table.shared.table_id in
     let p = c.args.seat.now.pass in
     let q = c.fetch_or-found.new.seat in
     let f = c.fetch_or-found.result in
     let s = c.args.turns in
-    let r = c.lift_all.new.seat.pass in (
+    let r = c.take_out_all.new.seat.pass in (
       record {
         new = l.pairs.new;
         added = l.pairs.added;
@@ -137,12 +137,12 @@ fetch_and-requires g c = let e = c.fetch_or-found.ensures in (
       (untouched g.R.TieRule.holds c.args.self.now.table.shared.table_id c.args.seat.now.pass c.fetch_or-found.new.seat c.args.turns c.fetch_or-found.result c.requires.seat e.0 e.1 e.2 c.args.self.now.few c.fetch_or-found.type_inv c.ranges.turns.fits),
 )
 
-pub lift_all-requires-clause-seat : goal.lift_all-requires-clause-seat
-lift_all-requires-clause-seat g c = let e = c.fetch_or-found.ensures in
+pub take_out_all-requires-clause-seat : goal.take_out_all-requires-clause-seat
+take_out_all-requires-clause-seat g c = let e = c.fetch_or-found.ensures in
     set-placed g.R.TieRule.holds c.args.self.now.table.shared.table_id c.args.seat.now.pass c.fetch_or-found.new.seat c.args.turns c.fetch_or-found.result c.requires.seat e.0 e.1 e.2
 
-pub lift_all-requires-clause-lies : goal.lift_all-requires-clause-lies
-lift_all-requires-clause-lies g c = λ u b. let e = c.fetch_or-found.ensures in
+pub take_out_all-requires-clause-lies : goal.take_out_all-requires-clause-lies
+take_out_all-requires-clause-lies g c = λ u b. let e = c.fetch_or-found.ensures in
     let x = now-lie g.R.TieRule.holds c.args.self.now.table.shared.table_id c.args.seat.now.pass c.fetch_or-found.new.seat c.args.turns c.fetch_or-found.result c.requires.seat e.0 e.1 e.2 u (c.requires.set u b).1 b
     (none-taken c.fetch_or-found.result c.args.turns c.if-taken-eq0.true u b) in
     (x.0, (c.requires.set u b).0, x.1, x.2)

@@ -4,13 +4,13 @@ use Rattle.std.proofs.lemmas.Option.{none-some}
 use Rattle.turn_board.specs.Tied.{all_speak}
 use Rattle.turn_board.specs.Openings.{Fresh}
 use Rattle.turn_board.proofs.Rows.{get-snoc}
-use Rattle.turn_board.proofs.board.Board.deal.Goals as goal
+use Rattle.turn_board.proofs.board.Board.hand_out.Goals as goal
 
 pub loop-next-init : goal.loop-next-init
 loop-next-init g c = let r = c.requires in let n : ℕ = c.args.callers - 1 in let long = c.args.list.now.ok.0 in record {
   idle = r.first.0;
   unlost = r.first.1;
-  crew_is = r.crew.0;
+  caller_count_is = r.caller_count.0;
   change_is = refl;
   callers = (0, n, refl, (let h = r.room.2 in omega arith), long ∙ ap length r.room.0, λ b e. e ∙ ap (λ m. all_speak 0 m b) (let h = r.room.2 in let q : c.args.callers ≡ suc n = omega arith in q));
   room = r.room.1;
@@ -29,7 +29,7 @@ loop-next-preserved g c =
     record {
       idle = c.part.ensures.first.0;
       unlost = c.part.ensures.counts.1 inv.unlost;
-      crew_is = c.part.ensures.first.1 ∙ inv.crew_is;
+      caller_count_is = c.part.ensures.first.1 ∙ inv.caller_count_is;
       change_is = c.part.ensures.change.0 ∙ inv.change_is;
       callers = (
         suc k,
@@ -43,7 +43,7 @@ loop-next-preserved g c =
       each = λ b e i s f. ⊎_elim (λ h. inv.each b e i s h)
           (λ h. let at : i ≡ k = h.0 ∙ sym long ∙ inv.callers.4 in
           subst (λ y. Fresh c.args.self.now.table.shared.table_id c.args.callers b c.args.first.pass.me.0.change i y.pass) h.1
-          record { idle = c.part.ensures.one.0; unlost = c.part.ensures.counts.0; crew_is = c.part.ensures.one.1 ∙ inv.crew_is; speaks = (c.part.ensures.callers k n b (inv.callers.5 b e)).1 ∙ ap (λ m. (m, b) ∷ []) (sym at); change_is = c.part.ensures.change.1 ∙ inv.change_is })
+          record { idle = c.part.ensures.one.0; unlost = c.part.ensures.counts.0; caller_count_is = c.part.ensures.one.1 ∙ inv.caller_count_is; speaks = (c.part.ensures.callers k n b (inv.callers.5 b e)).1 ∙ ap (λ m. (m, b) ∷ []) (sym at); change_is = c.part.ensures.change.1 ∙ inv.change_is })
           (get-snoc c.loop-next.list.items c.part.result s i (sym (ap (λ l. slice_get l i) c.push_reserved.ensures.items) ∙ f));
     }
 
@@ -59,5 +59,5 @@ returns-clause-each g c = λ b e i s f.
     ⊎_elim (λ h. inv.each b e i s h)
     (λ h. let at : i ≡ k = h.0 ∙ sym long ∙ inv.callers.4 in
     subst (λ y. Fresh c.args.self.now.table.shared.table_id c.args.callers b c.args.first.pass.me.0.change i y.pass) h.1
-    record { idle = inv.idle; unlost = inv.unlost; crew_is = inv.crew_is; speaks = inv.callers.5 b e ∙ ap (λ m. all_speak k (suc m) b) last ∙ ap (λ m. (m, b) ∷ []) (sym at); change_is = inv.change_is })
+    record { idle = inv.idle; unlost = inv.unlost; caller_count_is = inv.caller_count_is; speaks = inv.callers.5 b e ∙ ap (λ m. all_speak k (suc m) b) last ∙ ap (λ m. (m, b) ∷ []) (sym at); change_is = inv.change_is })
     (get-snoc c.loop-next.list.items c.loop-next.first s i (sym (ap (λ l. slice_get l i) c.push_reserved-2.ensures.items) ∙ f))

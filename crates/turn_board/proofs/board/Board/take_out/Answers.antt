@@ -2,7 +2,7 @@ use Rattle.std.proofs.Common.{arith, sym, ap, ◌∙◌, ℕ, None, [], ◌∷�
 use Rattle.turn_board.specs.declared.view.Place.TheVariants.{Away}
 use Rattle.turn_board.specs.Tied.{place, counted}
 use Rattle.turn_board.proofs.Slots.{reaches, lays, step_one, between, finally}
-use Rattle.turn_board.proofs.board.Board.lift.Goals as goal
+use Rattle.turn_board.proofs.board.Board.take_out.Goals as goal
 
 pub load-requires : goal.load-requires
 load-requires g c = let is = c.requires.lies in let aim = sym c.requires.aim in let v = c.args.seat.now.pass.me.0 in (

@@ -3,30 +3,30 @@ use Rattle.std.specs.Prelude.{bit_and}
 use Rattle.std.proofs.lemmas.Nat.{one_shl}
 use Rattle.std.specs.Int.{bit_not, trailing_zeros, w64}
 use Rattle.turn_board.specs.Maps.{bits_of}
-use Rattle.turn_board.specs.Moving.{Lifted}
+use Rattle.turn_board.specs.Moving.{TakenOut}
 use Rattle.turn_board.specs.Passes.{held}
 use Rattle.turn_board.proofs.Rows.{length-map}
 use Rattle.turn_board.proofs.Returns.{held-near}
-use Rattle.turn_board.proofs.Several.{Walk, walk-start, walk-end, walk-next, low-near, low-from, low-set, low-gap, less-left, with-bit, more-bits, emptied-to, emptied-one, lifted-start, lifted-to, lifted-one}
-use Rattle.turn_board.proofs.board.Board.lift_all.Goals as goal
+use Rattle.turn_board.proofs.Several.{Walk, walk-start, walk-end, walk-next, low-near, low-from, low-set, low-gap, less-left, with-bit, more-bits, emptied-to, emptied-one, taken_out-start, taken_out-to, taken_out-one}
+use Rattle.turn_board.proofs.board.Board.take_out_all.Goals as goal
 
 pub loop-left-init : goal.loop-left-init
 loop-left-init g c = record {
   turn = 0;
   walk = walk-start c.args.set c.args.self.now.table.shared.table_id.slots;
-  emptied = record { table = refl; id = refl; none = refl; speaks = refl; counts = refl; lost = refl; given = refl; crew = refl; asks = refl; givings = refl; change = refl; long = refl; out = λ u h. absurd (omega arith); later = λ u h. refl; others = λ u z. refl };
-  lifted = lifted-start g.R.TieRule.content c.args.set (held c.args.seat.now.pass) c.args.hands.now.pairs;
+  emptied = record { table = refl; id = refl; none = refl; speaks = refl; counts = refl; lost = refl; given = refl; caller_count = refl; asks = refl; givings = refl; change = refl; long = refl; out = λ u h. absurd (omega arith); later = λ u h. refl; others = λ u z. refl };
+  taken_out = taken_out-start g.R.TieRule.content c.args.set (held c.args.seat.now.pass) c.args.hands.now.pairs;
   room = refl;
 }
 
-pub lift-value-requires-clause-turn : goal.lift-value-requires-clause-turn
-lift-value-requires-clause-turn g c =
+pub take_out-value-requires-clause-turn : goal.take_out-value-requires-clause-turn
+take_out-value-requires-clause-turn g c =
     let inv = c.loop-left.invariant in
     let x = c.requires.lies (trailing_zeros w64 c.loop-left.left) (low-set c.args.set c.loop-left.left c.args.self.now.table.shared.table_id.slots inv.turn inv.walk c.loop-left-test.true c.loop-left.auto.left-fits.fits) in
     held-near c.args.seat.now.pass.me.0 _ (trailing_zeros w64 c.loop-left.left) x.0 c.requires.seat.counts x.2
 
-pub lift-value-requires-clause-lies : goal.lift-value-requires-clause-lies
-lift-value-requires-clause-lies g c =
+pub take_out-value-requires-clause-lies : goal.take_out-value-requires-clause-lies
+take_out-value-requires-clause-lies g c =
     let inv = c.loop-left.invariant in
     let n = c.args.self.now.table.shared.table_id.slots in
     let t : ℕ = trailing_zeros w64 c.loop-left.left in
@@ -41,7 +41,7 @@ push-requires g c =
     let bit = low-set c.args.set c.loop-left.left n inv.turn inv.walk c.loop-left-test.true c.loop-left.auto.left-fits.fits in
     let x = c.requires.lies t bit in
     let near : t < n = held-near c.args.seat.now.pass.me.0 _ t x.0 c.requires.seat.counts x.2 in
-    let l = lifted-to g.R.TieRule.content c.args.set (held c.args.seat.now.pass) c.args.hands.now.pairs inv.turn c.loop-left.hands.pairs inv.lifted t
+    let l = taken_out-to g.R.TieRule.content c.args.set (held c.args.seat.now.pass) c.args.hands.now.pairs inv.turn c.loop-left.hands.pairs inv.taken_out t
     (low-from c.args.set c.loop-left.left n inv.turn inv.walk c.loop-left-test.true c.loop-left.auto.left-fits.fits) (low-gap c.args.set c.loop-left.left n inv.turn inv.walk c.loop-left-test.true c.loop-left.auto.left-fits.fits) in
     let more = more-bits c.args.set (t + 1) (n - (t + 1)) in
     let all = ap (λ i. length (bits_of c.args.set i)) (let q : n - (t + 1) + (t + 1) ≡ n = omega arith in q) in
@@ -73,15 +73,15 @@ loop-left-preserved g c =
     let gap = low-gap c.args.set c.loop-left.left n inv.turn inv.walk ne fits in
     let x = c.requires.lies t bit in
     let near : t < n = held-near c.args.seat.now.pass.me.0 _ t x.0 c.requires.seat.counts x.2 in
-    let l = c.lift-value.ensures.seat in
+    let l = c.take_out-value.ensures.seat in
     let m = emptied-to c.args.set inv.turn c.args.seat.now.pass c.loop-left.seat.pass inv.emptied t from gap in
-    let k = lifted-to g.R.TieRule.content c.args.set (held c.args.seat.now.pass) c.args.hands.now.pairs inv.turn c.loop-left.hands.pairs inv.lifted t from gap in
+    let k = taken_out-to g.R.TieRule.content c.args.set (held c.args.seat.now.pass) c.args.hands.now.pairs inv.turn c.loop-left.hands.pairs inv.taken_out t from gap in
     record {
       turn = t + 1;
       walk = subst (λ (b : ℕ). Walk c.args.set (bit_and c.loop-left.left (bit_not w64 b)) n (t + 1)) (sym e) (walk-next c.args.set c.loop-left.left n inv.turn inv.walk ne fits near);
-      emptied = emptied-one c.args.set t c.args.seat.now.pass c.loop-left.seat.pass m c.lift-value.new.seat.pass bit (let q = c.requires.seat.places in omega arith) c.requires.seat.empty l.0 l.1 l.2;
-      lifted = subst (λ y. Lifted g.R.TieRule.content c.args.set (t + 1) (held c.args.seat.now.pass) c.args.hands.now.pairs y) (sym c.push.ensures.pairs)
-          (lifted-one g.R.TieRule.content c.args.set (held c.args.seat.now.pass) c.args.hands.now.pairs t c.loop-left.hands.pairs k c.lift-value.result bit x.1 (ap (λ y. get_or y t None) (sym inv.emptied.counts) ∙ c.lift-value.ensures.value));
+      emptied = emptied-one c.args.set t c.args.seat.now.pass c.loop-left.seat.pass m c.take_out-value.new.seat.pass bit (let q = c.requires.seat.places in omega arith) c.requires.seat.empty l.0 l.1 l.2;
+      taken_out = subst (λ y. TakenOut g.R.TieRule.content c.args.set (t + 1) (held c.args.seat.now.pass) c.args.hands.now.pairs y) (sym c.push.ensures.pairs)
+          (taken_out-one g.R.TieRule.content c.args.set (held c.args.seat.now.pass) c.args.hands.now.pairs t c.loop-left.hands.pairs k c.take_out-value.result bit x.1 (ap (λ y. get_or y t None) (sym inv.emptied.counts) ∙ c.take_out-value.ensures.value));
       room = c.push.ensures.room ∙ inv.room;
     }
 
@@ -95,4 +95,4 @@ pub returns-clause-pairs : goal.returns-clause-pairs
 returns-clause-pairs g c =
     let inv = c.loop-left.invariant in
     let n = c.args.self.now.table.shared.table_id.slots in
-    lifted-to g.R.TieRule.content c.args.set (held c.args.seat.now.pass) c.args.hands.now.pairs inv.turn c.loop-left.hands.pairs inv.lifted n inv.walk.within (walk-end c.args.set c.loop-left.left n inv.turn c.args.self.now.few inv.walk c.loop-left-test.false)
+    taken_out-to g.R.TieRule.content c.args.set (held c.args.seat.now.pass) c.args.hands.now.pairs inv.turn c.loop-left.hands.pairs inv.taken_out n inv.walk.within (walk-end c.args.set c.loop-left.left n inv.turn c.args.self.now.few inv.walk c.loop-left-test.false)

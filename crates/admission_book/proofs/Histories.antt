@@ -113,7 +113,7 @@ going_is t (End u r ∷ J) h = (elim (eqb u t) as (λ x. (elim (cond x (Some r) 
     some_none e = cc
 
 -- ---- along the journal
-record Story (m : Meaning) (t : ℕ) (J : List Event) : Type 0 where
+record History (m : Meaning) (t : ℕ) (J : List Event) : Type 0 where
   tells : TellsAll (m.next t) (events_of t J)
   none : begun J ≤ t → events_of t J ≡ []
   some : t < begun J → events_of t J ≡ [] → ⊥
@@ -145,8 +145,8 @@ same a b h = grind (arith, nat_tests)
 differs : (a b : ℕ) → eqb a b ≡ false → a ≢ b
 differs a b h = grind (arith, nat_tests)
 
-story_other : (m : Meaning) (t : ℕ) (J : List Event) (e : Event) → Story m t J → eqb (ticket_of e) t ≡ false → (begun (J ++ e ∷ []) ≤ t → begun J ≤ t) → (t < begun (J ++ e ∷ []) → t < begun J) → Story m t (J ++ e ∷ [])
-story_other m t J e s h less more =
+history_other : (m : Meaning) (t : ℕ) (J : List Event) (e : Event) → History m t J → eqb (ticket_of e) t ≡ false → (begun (J ++ e ∷ []) ≤ t → begun J ≤ t) → (t < begun (J ++ e ∷ []) → t < begun J) → History m t (J ++ e ∷ [])
+history_other m t J e s h less more =
     let P : List Event → Type 0 = λ K. TellsAll (m.next t) K in
     record {
       tells = subst P (sym (other_event J e t h)) s.tells;
@@ -154,8 +154,8 @@ story_other m t J e s h less more =
       some = λ l k. s.some (more l) (sym (other_event J e t h) ∙ k);
     }
 
-story_own : (m : Meaning) (t : ℕ) (J : List Event) (e : Event) → eqb (ticket_of e) t ≡ true → TellsAll (m.next t) (events_of t J ++ e ∷ []) → t < begun (J ++ e ∷ []) → Story m t (J ++ e ∷ [])
-story_own m t J e h told l =
+history_own : (m : Meaning) (t : ℕ) (J : List Event) (e : Event) → eqb (ticket_of e) t ≡ true → TellsAll (m.next t) (events_of t J ++ e ∷ []) → t < begun (J ++ e ∷ []) → History m t (J ++ e ∷ [])
+history_own m t J e h told l =
     let P : List Event → Type 0 = λ K. TellsAll (m.next t) K in
     record {
       tells = subst P (sym (own_event J e t h)) told;
@@ -163,52 +163,52 @@ story_own m t J e h told l =
       some = λ g k. not_empty (events_of t J) e (sym (own_event J e t h) ∙ k);
     }
 
-stories : (m : Meaning) (callers : ℕ) (t : ℕ) (J : List Event) → ComeInTurn m callers [] J → Story m t J
-stories m callers t J h = through_turns m callers (Story m t) keep [] J (record { tells = tt; none = λ l. refl; some = λ l k. absurd (omega arith) }) h
+histories : (m : Meaning) (callers : ℕ) (t : ℕ) (J : List Event) → ComeInTurn m callers [] J → History m t J
+histories m callers t J h = through_turns m callers (History m t) keep [] J (record { tells = tt; none = λ l. refl; some = λ l k. absurd (omega arith) }) h
   where
-    keep : (J : List Event) (e : Event) → Story m t J → MayCome m callers J e → Story m t (J ++ e ∷ [])
+    keep : (J : List Event) (e : Event) → History m t J → MayCome m callers J e → History m t (J ++ e ∷ [])
     keep J (Begin u c) s w = go (eqb u t) refl
       where
-        go : (b : Bool) → eqb u t ≡ b → Story m t (J ++ Begin u c ∷ [])
-        go true q = let P : List Event → Type 0 = λ K. TellsAll (m.next t) (K ++ Begin u c ∷ []) in story_own m t J (Begin u c) q (subst P (sym (s.none (omega (arith, same u t q, w.next)))) tt) (omega (arith, begun_more J u c, same u t q, w.next))
-        go false q = story_other m t J (Begin u c) s q (λ l. omega (arith, begun_more J u c)) (λ l. omega (arith, begun_more J u c, differs u t q, w.next))
+        go : (b : Bool) → eqb u t ≡ b → History m t (J ++ Begin u c ∷ [])
+        go true q = let P : List Event → Type 0 = λ K. TellsAll (m.next t) (K ++ Begin u c ∷ []) in history_own m t J (Begin u c) q (subst P (sym (s.none (omega (arith, same u t q, w.next)))) tt) (omega (arith, begun_more J u c, same u t q, w.next))
+        go false q = history_other m t J (Begin u c) s q (λ l. omega (arith, begun_more J u c)) (λ l. omega (arith, begun_more J u c, differs u t q, w.next))
     keep J (Done u op r) s w = go (eqb u t) refl
       where
         n : begun (J ++ Done u op r ∷ []) ≡ begun J
         n = begun_stays J (Done u op r) refl
 
-        go : (b : Bool) → eqb u t ≡ b → Story m t (J ++ Done u op r ∷ [])
+        go : (b : Bool) → eqb u t ≡ b → History m t (J ++ Done u op r ∷ [])
         go true q =
             let e : u ≡ t = same u t q in
             let O : ℕ → Type 0 = λ x. IsOpen J x in
             let o : IsOpen J t = subst O e w.is_open in
-            story_own m t J (Done u op r) q (TellsAll-done (m.next t) (events_of t J) u op r (s.some o.begun) s.tells (going_is t J o.not_ended) (now_is m t J ∙ ap (now m J) (sym e) ∙ w.calls)) (omega (arith, n, o.begun))
-        go false q = story_other m t J (Done u op r) s q (λ l. omega (arith, n)) (λ l. omega (arith, n))
+            history_own m t J (Done u op r) q (TellsAll-done (m.next t) (events_of t J) u op r (s.some o.begun) s.tells (going_is t J o.not_ended) (now_is m t J ∙ ap (now m J) (sym e) ∙ w.calls)) (omega (arith, n, o.begun))
+        go false q = history_other m t J (Done u op r) s q (λ l. omega (arith, n)) (λ l. omega (arith, n))
     keep J (Delay u op older y) s w = go (eqb u t) refl
       where
         n : begun (J ++ Delay u op older y ∷ []) ≡ begun J
         n = begun_stays J (Delay u op older y) refl
 
-        go : (b : Bool) → eqb u t ≡ b → Story m t (J ++ Delay u op older y ∷ [])
+        go : (b : Bool) → eqb u t ≡ b → History m t (J ++ Delay u op older y ∷ [])
         go true q =
             let e : u ≡ t = same u t q in
             let O : ℕ → Type 0 = λ x. IsOpen J x in
             let o : IsOpen J t = subst O e w.is_open in
-            story_own m t J (Delay u op older y) q (TellsAll-delay (m.next t) (events_of t J) u op older y (s.some o.begun) s.tells (going_is t J o.not_ended) (noted_is t false J ∙ ap (is_delayed J) (sym e) ∙ w.once) (now_is m t J ∙ ap (now m J) (sym e) ∙ w.calls) w.is_older w.symbol) (omega (arith, n, o.begun))
-        go false q = story_other m t J (Delay u op older y) s q (λ l. omega (arith, n)) (λ l. omega (arith, n))
+            history_own m t J (Delay u op older y) q (TellsAll-delay (m.next t) (events_of t J) u op older y (s.some o.begun) s.tells (going_is t J o.not_ended) (noted_is t false J ∙ ap (is_delayed J) (sym e) ∙ w.once) (now_is m t J ∙ ap (now m J) (sym e) ∙ w.calls) w.is_older w.symbol) (omega (arith, n, o.begun))
+        go false q = history_other m t J (Delay u op older y) s q (λ l. omega (arith, n)) (λ l. omega (arith, n))
     keep J (End u r) s w = go (eqb u t) refl
       where
         n : begun (J ++ End u r ∷ []) ≡ begun J
         n = begun_stays J (End u r) refl
 
-        go : (b : Bool) → eqb u t ≡ b → Story m t (J ++ End u r ∷ [])
+        go : (b : Bool) → eqb u t ≡ b → History m t (J ++ End u r ∷ [])
         go true q =
             let e : u ≡ t = same u t q in
             let O : ℕ → Type 0 = λ x. IsOpen J x in
             let o : IsOpen J t = subst O e w.is_open in
-            story_own m t J (End u r) q (TellsAll-end (m.next t) (events_of t J) u r (s.some o.begun) s.tells (going_is t J o.not_ended) (now_is m t J ∙ ap (now m J) (sym e) ∙ w.answers)) (omega (arith, n, o.begun))
-        go false q = story_other m t J (End u r) s q (λ l. omega (arith, n)) (λ l. omega (arith, n))
+            history_own m t J (End u r) q (TellsAll-end (m.next t) (events_of t J) u r (s.some o.begun) s.tells (going_is t J o.not_ended) (now_is m t J ∙ ap (now m J) (sym e) ∙ w.answers)) (omega (arith, n, o.begun))
+        go false q = history_other m t J (End u r) s q (λ l. omega (arith, n)) (λ l. omega (arith, n))
 
 -- the events of each ticket of a journal that comes in turn read as they should
 pub told : (m : Meaning) (callers : ℕ) (t : ℕ) (J : List Event) → ComeInTurn m callers [] J → TellsAll (m.next t) (events_of t J)
-told m callers t J h = (stories m callers t J h).tells
+told m callers t J h = (histories m callers t J h).tells

@@ -2,7 +2,7 @@ use Rattle.std.proofs.Common.{◌≡◌, ◌+◌, ◌≤◌, Some, vec_len, vec_
 use Rattle.std.specs.Prelude.{slice_get}
 use Rattle.turn_board.specs.Tied.{all_speak}
 use Rattle.turn_board.specs.Openings.{IdleFirst, Unlost, Fresh}
-use Rattle.turn_board.proofs.board.Board.deal.Given as goal
+use Rattle.turn_board.proofs.board.Board.hand_out.Given as goal
 
 abbrev pub invariant-loop-next : goal.invariant-loop-next
 invariant-loop-next g l =
@@ -10,7 +10,7 @@ invariant-loop-next g l =
     record {
       idle : IdleFirst id l.first.pass;
       unlost : Unlost l.first.pass;
-      crew_is : l.first.pass.me.0.crew ≡ l.callers;
+      caller_count_is : l.first.pass.me.0.caller_count ≡ l.callers;
       change_is : l.first.pass.me.0.change ≡ l.fn.first.pass.me.0.change;
       callers : (k n : ℕ) × (l.next ≡ suc k) × (k + suc n ≡ l.callers) × (vec_len l.list ≡ k) × ((b : _) → l.fn.first.pass.me.0.speaks ≡ all_speak 0 l.callers b → l.first.pass.me.0.speaks ≡ all_speak k (suc n) b);
       room : l.callers ≤ vec_capacity l.list;

@@ -23,7 +23,7 @@ use Rattle.std.specs.List.{AllByRecursion}
 use Rattle.std.specs.Bool.{MatchBool, Decides}
 use Rattle.commute_tables.proofs.Commutes.{commutes-Commute}
 use Rattle.commute_tables.proofs.OneTable.{SwapsOn, SwapsAt, swaps_to, table_after, twice_after}
-use Rattle.commute_tables.proofs.TellingPairs.{op, Tells, turn, sees, binds, see_bind, see_del, put_put, bind_del, bind_size, del_size, joins, has_join, has_drop, add_join, join_drop, join_count, drop_count}
+use Rattle.commute_tables.proofs.TellingApartPairs.{op, Tells, turn, sees, binds, see_bind, see_del, put_put, bind_del, bind_size, del_size, joins, has_join, has_drop, add_join, join_drop, join_count, drop_count}
 
 -- ---- every pair that doesn't commute
 -- what the test says where it says that they don't commute

@@ -46,8 +46,8 @@ rising note zero from i k c e = absurd (some-ne-none {A = ℕ × _} (k, c) (sym 
 rising note (suc n) from zero k c e = let h : from ≡ k = ap (λ x. x.0) (some-injective {A = ℕ × _} (from, note) (k, c) e) in omega arith
 rising note (suc n) from (suc i) k c e = let h = rising note n (suc from) i k c e in omega arith
 
-module _ {V C : Type 0} (content : V → C) (holds : List C → List C → Type 0) (crew : ℕ) where
-  module _ (s : State (Option V) (View C)) (r : Tied content holds crew s) where
+module _ {V C : Type 0} (content : V → C) (holds : List C → List C → Type 0) (caller_count : ℕ) where
+  module _ (s : State (Option V) (View C)) (r : Tied content holds caller_count s) where
     -- a seat that holds no turn is nobody's holder
     pub not-holder : (id : ℕ) (v : View C) → get_elem? s.views id ≡ some v → ((t : ℕ) → counted v t ≡ None) → (k t : ℕ) (u : View C) (c : C) → get_elem? s.views (r.seat_of k) ≡ some u → counted u t ≡ Some c → r.seat_of k ≢ id
     not-holder id v at none' k t u c sits has e =
@@ -65,15 +65,15 @@ module _ {V C : Type 0} (content : V → C) (holds : List C → List C → Type 
       seat-old : (k : ℕ) → k ≢ k0 → cond (k == k0) (length s.views) (r.seat_of k) ≡ r.seat_of k
       seat-old k ne = ap (λ (b : Bool). cond b (length s.views) (r.seat_of k)) (ne_eqb k k0 ne)
 
-      voice : (v.crew ≡ crew) × (k0 < crew) × (r.seat_of k0 ≡ id) × (slice_get r.notes k0 ≡ Some c0)
-      voice = (r.each_view id v at).spoken 0 k0 c0 (ap (λ (l : List (ℕ × C)). get_elem? l 0) one)
+      spoken : (v.caller_count ≡ caller_count) × (k0 < caller_count) × (r.seat_of k0 ≡ id) × (slice_get r.notes k0 ≡ Some c0)
+      spoken = (r.each_view id v at).spoken 0 k0 c0 (ap (λ (l : List (ℕ × C)). get_elem? l 0) one)
 
-      tail-voice : (i k : ℕ) (c : C) → get_elem? (tail v.speaks) i ≡ some (k, c) → (k ≢ k0) × (v.crew ≡ crew) × (k < crew) × (r.seat_of k ≡ id) × (slice_get r.notes k ≡ Some c)
-      tail-voice i k c e = let there' : get_elem? xs i ≡ some (k, c) = sym (ap (λ (l : List (ℕ × C)). get_elem? (tail l) i) one) ∙ e in
+      tail-spoken : (i k : ℕ) (c : C) → get_elem? (tail v.speaks) i ≡ some (k, c) → (k ≢ k0) × (v.caller_count ≡ caller_count) × (k < caller_count) × (r.seat_of k ≡ id) × (slice_get r.notes k ≡ Some c)
+      tail-spoken i k c e = let there' : get_elem? xs i ≡ some (k, c) = sym (ap (λ (l : List (ℕ × C)). get_elem? (tail l) i) one) ∙ e in
           let h = (r.each_view id v at).spoken (suc i) k c (ap (λ (l : List (ℕ × C)). get_elem? l (suc i)) one ∙ there') in (apart i k c there', h.0, h.1, h.2, h.3)
 
       elsewhere : (k : ℕ) → r.seat_of k ≢ id → k ≢ k0
-      elsewhere k ne e = ne (ap r.seat_of e ∙ voice.2)
+      elsewhere k ne e = ne (ap r.seat_of e ∙ spoken.2)
 
       abbrev cut : State (Option V) (View C)
       cut = record { words = s.words; homes = s.homes; views = set s.views id (left_view v) ++ right_view v ∷ [] }
@@ -81,7 +81,7 @@ module _ {V C : Type 0} (content : V → C) (holds : List C → List C → Type 
       abbrev after-seat : ℕ → ℕ
       after-seat k = cond (k == k0) (length s.views) (r.seat_of k)
 
-      turn-cut : (t o : ℕ) → TurnOk content crew r.owner r.seat_of r.contents r.notes s t o → TurnOk content crew r.owner after-seat r.contents r.notes cut t o
+      turn-cut : (t o : ℕ) → TurnOk content caller_count r.owner r.seat_of r.contents r.notes s t o → TurnOk content caller_count r.owner after-seat r.contents r.notes cut t o
       turn-cut t zero b = b
       turn-cut t (suc k) b = let ne = not-holder id v at none' k t b.2.0 b.2.1 b.2.2 b.2.3 in (
         b.0,
@@ -95,22 +95,22 @@ module _ {V C : Type 0} (content : V → C) (holds : List C → List C → Type 
       )
 
       abbrev Ok : ℕ → View C → Type 0
-      Ok = ViewOk content crew r.owner after-seat r.contents r.notes cut
+      Ok = ViewOk content caller_count r.owner after-seat r.contents r.notes cut
 
       left-ok : Ok id (left_view v)
       left-ok = record {
-        spoken = λ i k c e. let h = tail-voice i k c e in (h.1, h.2, seat-old k h.0 ∙ h.3, h.4);
+        spoken = λ i k c e. let h = tail-spoken i k c e in (h.1, h.2, seat-old k h.0 ∙ h.3, h.4);
         held = λ t c e. absurd (none-some c (sym (none' t) ∙ e));
       }
 
-      right-voice : (i k : ℕ) (c : C) → get_elem? {A = ℕ × C} ((k0, c0) ∷ []) i ≡ some (k, c) → (v.crew ≡ crew) × (k < crew) × (after-seat k ≡ length s.views) × (slice_get r.notes k ≡ Some c)
-      right-voice zero k c e = let p = some-injective {A = ℕ × C} (k0, c0) (k, c) e in let ek : k0 ≡ k = ap (λ (x : ℕ × C). x.0) p in
-          (voice.0, subst (λ (n : ℕ). n < crew) ek voice.1, seat-new k (sym ek), ap (slice_get r.notes) (sym ek) ∙ voice.3 ∙ ap (λ (x : ℕ × C). Some x.1) p)
-      right-voice (suc i) k c e = absurd (some-ne-none {A = ℕ × C} (k, c) (sym e))
+      right-spoken : (i k : ℕ) (c : C) → get_elem? {A = ℕ × C} ((k0, c0) ∷ []) i ≡ some (k, c) → (v.caller_count ≡ caller_count) × (k < caller_count) × (after-seat k ≡ length s.views) × (slice_get r.notes k ≡ Some c)
+      right-spoken zero k c e = let p = some-injective {A = ℕ × C} (k0, c0) (k, c) e in let ek : k0 ≡ k = ap (λ (x : ℕ × C). x.0) p in
+          (spoken.0, subst (λ (n : ℕ). n < caller_count) ek spoken.1, seat-new k (sym ek), ap (slice_get r.notes) (sym ek) ∙ spoken.3 ∙ ap (λ (x : ℕ × C). Some x.1) p)
+      right-spoken (suc i) k c e = absurd (some-ne-none {A = ℕ × C} (k, c) (sym e))
 
       right-ok : Ok (length s.views) (right_view v)
       right-ok = record {
-        spoken = λ i k c e. right-voice i k c (sym (ap (λ (l : List (ℕ × C)). get_elem? (head l) i) one) ∙ e);
+        spoken = λ i k c e. right-spoken i k c (sym (ap (λ (l : List (ℕ × C)). get_elem? (head l) i) one) ∙ e);
         held = λ t c e. absurd (none-some c (sym (none-at t (length v.counts) None) ∙ e));
       }
 
@@ -135,7 +135,7 @@ module _ {V C : Type 0} (content : V → C) (holds : List C → List C → Type 
       else-view : (j : ℕ) (u : View C) → j ≢ id → get_elem? s.views j ≡ some u → get_elem? (set s.views id (left_view v) ++ right_view v ∷ []) j ≡ some u
       else-view j u ne e = at_longer (set s.views id (left_view v)) (right_view v ∷ []) j u (set_else s.views id j (left_view v) ne ∙ e)
 
-      caller-cut : (k : ℕ) → k < crew → Heard after-seat (set s.views id (left_view v) ++ right_view v ∷ []) k
+      caller-cut : (k : ℕ) → k < caller_count → Heard after-seat (set s.views id (left_view v) ++ right_view v ∷ []) k
       caller-cut k near = let h = r.each_caller k near in dite (ℕ_discrete k k0)
           (λ e. (
             right_view v,
@@ -164,7 +164,7 @@ module _ {V C : Type 0} (content : V → C) (holds : List C → List C → Type 
           (λ e. (id, left_view v, left-view, ap (λ (x : View C). x.change.0) (some-injective v l.1 (sym at ∙ ap (get_elem? s.views) (sym e) ∙ l.2)) ∙ l.3))
           (λ n. (l.0, l.1, else-view l.0 l.1 n l.2, l.3))
 
-      pub cut-tied : Tied content holds crew cut
+      pub cut-tied : Tied content holds caller_count cut
       cut-tied = record {
         owner = r.owner;
         seat_of = after-seat;
@@ -185,11 +185,11 @@ module _ {V C : Type 0} (content : V → C) (holds : List C → List C → Type 
       }
 
   pub parts : (id : ℕ) (v : View C) (k0 : ℕ) (c0 : C) (xs : List (ℕ × C)) → ((t : ℕ) → counted v t ≡ None) → v.speaks ≡ (k0, c0) ∷ xs → ((i k : ℕ) (c : C) → get_elem? xs i ≡ some (k, c) → k ≢ k0)
-      → Splits (Tied content holds crew) id v (left_view v) (right_view v)
+      → Splits (Tied content holds caller_count) id v (left_view v) (right_view v)
   parts id v k0 c0 xs none' one apart s r at = cut-tied s r id v k0 c0 xs at none' one apart
 
-  module _ (s : State (Option V) (View C)) (r : Tied content holds crew s) (id other : ℕ) (v w : View C) (at : get_elem? s.views id ≡ some v) (ne : ¬ (other ≡ id)) (at' : get_elem? (set s.views id (both_views v w)) other ≡ some w)
-      (none-v : (t : ℕ) → counted v t ≡ None) (none-w : (t : ℕ) → counted w t ≡ None) (same-crew : w.crew ≡ v.crew) where
+  module _ (s : State (Option V) (View C)) (r : Tied content holds caller_count s) (id other : ℕ) (v w : View C) (at : get_elem? s.views id ≡ some v) (ne : ¬ (other ≡ id)) (at' : get_elem? (set s.views id (both_views v w)) other ≡ some w)
+      (none-v : (t : ℕ) → counted v t ≡ None) (none-w : (t : ℕ) → counted w t ≡ None) (same-caller_count : w.caller_count ≡ v.caller_count) where
     abbrev to-seat : ℕ → ℕ
     to-seat k = cond (r.seat_of k == other) id (r.seat_of k)
 
@@ -206,9 +206,9 @@ module _ {V C : Type 0} (content : V → C) (holds : List C → List C → Type 
     joined = record { words = s.words; homes = s.homes; views = set (set s.views id (both_views v w)) other spent_view }
 
     abbrev JoinedOk : ℕ → View C → Type 0
-    JoinedOk = ViewOk content crew r.owner to-seat r.contents r.notes joined
+    JoinedOk = ViewOk content caller_count r.owner to-seat r.contents r.notes joined
 
-    turn-joined : (t o : ℕ) → TurnOk content crew r.owner r.seat_of r.contents r.notes s t o → TurnOk content crew r.owner to-seat r.contents r.notes joined t o
+    turn-joined : (t o : ℕ) → TurnOk content caller_count r.owner r.seat_of r.contents r.notes s t o → TurnOk content caller_count r.owner to-seat r.contents r.notes joined t o
     turn-joined t zero b = b
     turn-joined t (suc k) b =
         let n1 = not-holder s r id v at none-v k t b.2.0 b.2.1 b.2.2 b.2.3 in
@@ -226,7 +226,7 @@ module _ {V C : Type 0} (content : V → C) (holds : List C → List C → Type 
     both-ok : JoinedOk id (both_views v w)
     both-ok = record {
       spoken = λ i k c e. ⊎_elim
-          (λ (h : get_elem? w.speaks i ≡ some (k, c)). let x = (r.each_view other w was-other).spoken i k c h in (sym same-crew ∙ x.0, x.1, moves-to k x.2, x.3))
+          (λ (h : get_elem? w.speaks i ≡ some (k, c)). let x = (r.each_view other w was-other).spoken i k c h in (sym same-caller_count ∙ x.0, x.1, moves-to k x.2, x.3))
           (λ (h : (m : ℕ) × (get_elem? v.speaks m ≡ some (k, c))). let x = (r.each_view id v at).spoken h.0 k c h.1 in (x.0, x.1, remains k (λ g. ne (sym g ∙ x.2)) ∙ x.2, x.3))
           (at_either w.speaks v.speaks (k, c) i e);
       held = λ t c e. absurd (none-some c (sym (none-v t) ∙ e));
@@ -256,7 +256,7 @@ module _ {V C : Type 0} (content : V → C) (holds : List C → List C → Type 
     third-view : (j : ℕ) (u : View C) → j ≢ id → j ≢ other → get_elem? s.views j ≡ some u → get_elem? (set (set s.views id (both_views v w)) other spent_view) j ≡ some u
     third-view j u n1 n2 e = set_else (set s.views id (both_views v w)) other j spent_view n2 ∙ set_else s.views id j (both_views v w) n1 ∙ e
 
-    caller-joined : (k : ℕ) → k < crew → Heard to-seat (set (set s.views id (both_views v w)) other spent_view) k
+    caller-joined : (k : ℕ) → k < caller_count → Heard to-seat (set (set s.views id (both_views v w)) other spent_view) k
     caller-joined k near = let h = r.each_caller k near in dite (ℕ_discrete (r.seat_of k) other)
         (λ e. let same : h.0 ≡ w = some-injective h.0 w (sym h.3 ∙ ap (get_elem? s.views) e ∙ was-other) in
         (both_views v w, h.1, h.2, ap (get_elem? (set (set s.views id (both_views v w)) other spent_view)) (moves-to k e) ∙ both-view, at_longer w.speaks v.speaks h.1 (k, h.2) (ap (λ (y : View C). get_elem? y.speaks h.1) (sym same) ∙ h.4)))
@@ -299,7 +299,7 @@ module _ {V C : Type 0} (content : V → C) (holds : List C → List C → Type 
         (λ e. (id, both_views v w, both-view, newest-right (ap (λ (x : View C). x.change.0) (some-injective w l.1 (sym was-other ∙ ap (get_elem? s.views) (sym e) ∙ l.2)) ∙ l.3)))
         (λ m. (l.0, l.1, third-view l.0 l.1 n m l.2, l.3)))
 
-    pub joined-tied : Tied content holds crew joined
+    pub joined-tied : Tied content holds caller_count joined
     joined-tied = record {
       owner = r.owner;
       seat_of = to-seat;
@@ -319,5 +319,5 @@ module _ {V C : Type 0} (content : V → C) (holds : List C → List C → Type 
       latest = latest-joined;
     }
 
-  pub merges : (id other : ℕ) (v w : View C) → ((t : ℕ) → counted v t ≡ None) → ((t : ℕ) → counted w t ≡ None) → w.crew ≡ v.crew → Joins (Tied content holds crew) id v other w (both_views v w) spent_view
+  pub merges : (id other : ℕ) (v w : View C) → ((t : ℕ) → counted v t ≡ None) → ((t : ℕ) → counted w t ≡ None) → w.caller_count ≡ v.caller_count → Joins (Tied content holds caller_count) id v other w (both_views v w) spent_view
   merges id other v w none-v none-w same s r at ne at' = joined-tied s r id other v w at ne at' none-v none-w same

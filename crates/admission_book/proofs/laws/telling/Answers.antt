@@ -1,5 +1,0 @@
-use Rattle.admission_book.proofs.Stories.{told}
-use Rattle.admission_book.proofs.laws.telling.Goals as goal
-
-pub returns : goal.returns
-returns c = λ m b t L. told m _ t b.journal L.turns
