@@ -159,6 +159,46 @@ fn sessions_that_are_made(rt: HostRuntime) -> Result<(), Fail> {
     Ok(())
 }
 
+// Whether 32 callers write what one caller writes, of one request repeated.
+fn serve_alike<R: Threads + Wait + Sync>(
+    rt: &R,
+    alloc: Global,
+    handlers: &str,
+    request: &str,
+) -> Result<bool, Fail> {
+    let alone = repeated(alloc, handlers, request, 300)?;
+    let one = run_on(rt, alloc, "serve --callers 1", alone, &OpenGate)?;
+    let beside = repeated(alloc, handlers, request, 300)?;
+    let many = run_on(
+        rt,
+        alloc,
+        "serve --callers 32 --shards 8",
+        beside,
+        &OpenGate,
+    )?;
+    let is_served = one.status == 0 && many.status == 0;
+    Ok(is_served && one.out.as_slice() == many.out.as_slice())
+}
+
+// Every two tickets of the first session conflict, and no two of the second.
+#[test]
+fn many_callers_serve_as_one(rt: HostRuntime) -> Result<(), Fail> {
+    for (handlers, request) in [
+        (
+            "map m; handler f(n) { let old = swap(m, 1, n); let c = size(m); reply old, c; }\n%%\n",
+            "f 5\n",
+        ),
+        (
+            "set s; handler f(n) { mark(s, n); mark(s, 7); reply n; }\n%%\n",
+            "f 5\n",
+        ),
+    ] {
+        let is_alike = serve_alike(&rt, rt.alloc(), handlers, request)?;
+        assert!(rt; is_alike, "{handlers:?}");
+    }
+    Ok(())
+}
+
 // A handler of 10,000 calls beside many small ones on other keys.
 #[test]
 fn a_long_handler_beside_small_ones(rt: HostRuntime) -> Result<(), Fail> {
