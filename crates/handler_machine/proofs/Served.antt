@@ -24,6 +24,10 @@ values_more : (es : List Entry) (e : Entry) → AllByRecursion IsValue (replies 
 values_more [] e h v = (v, tt)
 values_more (x ∷ es) e h v = (h.0, values_more es e h.1 v)
 
+covered_by_none : (f : List Symbol) → Covered f [] → f ≡ []
+covered_by_none [] h = refl
+covered_by_none (s ∷ f) h = absurd h.0
+
 covered_from : (declared : Declarations) (at : Place) (ps qs : List Place) → IsCoveredChain declared at (ps ++ qs) → IsCoveredChain declared (last_place at ps) qs
 covered_from declared at [] qs h = h
 covered_from declared at (p ∷ ps) qs h = covered_from declared p ps qs h.1
@@ -174,6 +178,9 @@ module _ (c : Course) (now : DeskView) (room : ℕ) where
           let told : f ≡ c.meaning.told now.ticket (replies es) = is_list ∙ is_told c s.first s.gives s.promises (replies es) s.passed point env next s.is_ahead n ∙ ap (λ (t : ℕ). c.meaning.told t (replies es)) (sym s.ticket) in
           subst (λ (x : Option Entry). MayFinish c.meaning now x f) (sym s.waits) (told, k)
 
+      pub finish_present : (new : DeskView) → new ≡ finished now now.waiting f → new.present ≡ f
+      finish_present new is = ap (λ (d : DeskView). d.present) (is ∙ ap (λ (x : Option Entry). finished now x f) w.1.waits)
+
       pub finish_serves : (new : DeskView) → new ≡ finished now now.waiting f → IsServing c new room next
       finish_serves new is =
           let s = w.1 in
@@ -196,6 +203,17 @@ module _ (c : Course) (now : DeskView) (room : ℕ) where
             sure = s.sure;
             roomy = s.roomy;
           })
+
+-- where nothing is declared any more, nothing is at the next point either, and the desk is as if it were told
+module _ (c : Course) (now : DeskView) (room point : ℕ) (env : Env) (next : Ahead) (s : IsServing c now room (passing point env false next)) (none : now.present ≡ []) where
+  abbrev here : Place
+  here = record { point = point; env = env; replied = false }
+
+  nothing_here : list_at c.declared here ≡ []
+  nothing_here = covered_by_none (list_at c.declared here) (subst (Covered (list_at c.declared here)) none (declare_may c now room point env next (list_at c.declared here) s refl).covered)
+
+  pub passes_settled : IsServing c now room next
+  passes_settled = declare_serves c now room point env next [] s (sym nothing_here) now (ap (with_present now) none)
 
 -- ---- the beginning and the end
 pub serving_first : (c : Course) (room : ℕ) (first : Place) → Gives c.meaning c.start.ticket c.declared first c.whole → Promises c.points c.declared first c.whole → c.start.entries ≡ [] → c.start.waiting ≡ None → c.start.ended ≡ false → c.start.present ≡ list_at c.declared first → 256 ≤ room

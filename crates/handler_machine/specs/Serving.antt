@@ -1,5 +1,5 @@
 -- A handler's run at a desk.
-use Rattle.std.specs.Prelude.{◌≡◌, ℕ, ◌+◌, ◌<◌, ◌≤◌, ◌++◌, List, [], ◌∷◌, Option, Some, None, false, if◌then◌else◌, length}
+use Rattle.std.specs.Prelude.{◌≡◌, ℕ, ◌+◌, ◌<◌, ◌≤◌, ◌++◌, List, [], ◌∷◌, Option, Some, None, Bool, true, false, if◌then◌else◌, length}
 use Rattle.std.specs.List.{AllByRecursion}
 use Rattle.session_values.specs.declared.op.Op.{Op}
 use Rattle.session_values.specs.declared.value.Value.{Value}
@@ -74,6 +74,10 @@ IsServing c now room ahead = Serving c now room now.entries None ahead
 -- an operation waits with its reply
 abbrev pub IsAwaiting : Course → DeskView → ℕ → Ahead → Type 0
 IsAwaiting c now room ahead = (e : Entry) × Serving c now room (now.entries ++ e ∷ []) (Some e) ahead
+
+-- where nothing is declared any more, nothing more may come of the ticket
+abbrev pub IsSettled : Bool → DeskView → Type 0
+IsSettled settled now = settled ≡ true → now.present ≡ []
 
 -- a desk that was stopped: it isn't sure, and it follows the run so far
 pub record Halted (c : Course) (now : DeskView) (room : ℕ) : Type 0 where

@@ -1,7 +1,12 @@
 // A walk at a desk, which is told of each declaration that is passed.
 
-ghost use Rattle.std.specs.Prelude.{◌≡◌, ◌<◌, length};
-ghost use Rattle.handler_machine.specs.Serving.{Halted, IsAwaiting, IsServing, course_of};
+ghost use Rattle.std.specs.Prelude.{◌≡◌, ◌+◌, ◌<◌, ◌≤◌, [], true, length, map};
+ghost use Rattle.declaration_insertion.specs.Program.{declared_at};
+ghost use Rattle.declaration_insertion.specs.Promises.{symbol_at};
+ghost use Rattle.handler_check.specs.Resolved.{code_at};
+ghost use Rattle.handler_dialogue.specs.Code.{points};
+ghost use Rattle.handler_dialogue.specs.Dialogue.{env_of};
+ghost use Rattle.handler_machine.specs.Serving.{Halted, IsAwaiting, IsServing, IsSettled, course_of};
 
 use declaration_insertion::Program;
 use handler_walk::Guide;
@@ -10,6 +15,28 @@ use session_values::{NoMemory, Op, Value};
 use std::sync::Wait;
 use std::thread::Threads;
 use symbolic_ops::{Foresight, instantiate};
+
+/// Takes the declaration of a point of a handler, with these values of the variables, and tells
+/// whether nothing is declared there.
+fn take_declaration(
+    program: &Program,
+    h: u32,
+    point: u32,
+    env: &[Value],
+    next: &mut Foresight,
+) -> bool
+    requires handler { h < length program.now.file.handlers }
+    requires point { point < 1 + points (code_at program.now.file h) }
+    requires variables { 32 ≤ length env.now }
+    requires room { 256 ≤ next.old.room }
+    ensures symbols { next.new.symbols
+        ≡ map (symbol_at (env_of env.now)) (declared_at program.now h point) }
+    ensures room { next.new.room ≡ next.old.room }
+    ensures nothing { result ≡ true → next.new.symbols ≡ [] }
+{
+    instantiate(program.declaration(h, point), env, next);
+    next.len() == 0
+}
 
 /// Leads a walk over a handler of a program at a desk: at each point it narrows to the declaration
 /// there.
@@ -20,6 +47,9 @@ pub(crate) struct Narrowing<'a, R> {
     pub(crate) handler: u32,
     /// The declaration of the last point, in room for 256 symbols.
     pub(crate) next: Foresight,
+    /// Nothing is declared any more. What is declared later is covered by that, so it is nothing
+    /// too, and the desk needn't be told.
+    pub(crate) settled: bool,
     ghost exists: { handler < length program.now.file.handlers },
 }
 
@@ -28,7 +58,8 @@ impl<'a, R: Threads + Wait + Sync, D: Desk> Guide<D> for Narrowing<'a, R> {
 
     ghost Serves = { λ n whole start now ahead. (D.script now ≡ D.script start)
         × IsServing (course_of (D.Served.meaning (D.script start)) (D.at start)
-        n.program.now n.handler whole) (D.at now) n.next.room ahead };
+        n.program.now n.handler whole) (D.at now) n.next.room ahead
+        × IsSettled n.settled (D.at now) };
 
     ghost Waits = { λ n whole start now ahead. (D.script now ≡ D.script start)
         × IsAwaiting (course_of (D.Served.meaning (D.script start)) (D.at start)
@@ -45,20 +76,17 @@ impl<'a, R: Threads + Wait + Sync, D: Desk> Guide<D> for Narrowing<'a, R> {
     }
 
     fn replied(&mut self, host: &mut D, point: u32, env: &[Value]) {
-        instantiate(
-            self.program.declaration(self.handler, point),
-            env,
-            &mut self.next,
-        );
+        let nothing = take_declaration(self.program, self.handler, point, env, &mut self.next);
         host.finish(self.rt, &self.next);
+        self.settled = nothing;
     }
 
     fn passed(&mut self, host: &mut D, point: u32, env: &[Value]) {
-        instantiate(
-            self.program.declaration(self.handler, point),
-            env,
-            &mut self.next,
-        );
+        if self.settled {
+            return;
+        }
+        let nothing = take_declaration(self.program, self.handler, point, env, &mut self.next);
         host.declare(self.rt, &self.next);
+        self.settled = nothing;
     }
 }

@@ -10,7 +10,7 @@ ghost use Rattle.ticket_serving.specs.Served.{IsServed};
 ghost use Rattle.handler_check.specs.Resolved.{code_at, params_at};
 ghost use Rattle.declaration_insertion.specs.Promises.{list_at};
 ghost use Rattle.declaration_insertion.specs.Program.{declared_at};
-ghost use Rattle.handler_machine.specs.Serving.{Gives, Promises};
+ghost use Rattle.handler_machine.specs.Serving.{Gives, IsSettled, Promises};
 
 use crate::narrowing::Narrowing;
 use declaration_insertion::Program;
@@ -43,6 +43,7 @@ fn serve_body<R: Threads + Wait + Sync, D: Desk>(
         (declared_at guide.old.program.now guide.old.handler) (entry (env_of env.old))
         (run (block_code body.now) (env_of env.old)) }
     requires room { 256 ≤ guide.old.next.room }
+    requires settled { IsSettled guide.old.settled (D.at desk.old) }
     ensures script { D.script desk.new ≡ D.script desk.old }
     ensures served { IfOk result (λ _. IsServed (D.Served.meaning (D.script desk.old))
         (D.at desk.old) (D.at desk.new)) }
@@ -92,6 +93,7 @@ fn serve_handler<R: Threads + Wait + Sync, D: Desk>(
         program,
         handler: h,
         next: foresight,
+        settled: false,
     };
     let env = values.as_mut_slice();
     set_up(env, args);
@@ -101,6 +103,7 @@ fn serve_handler<R: Threads + Wait + Sync, D: Desk>(
         program: _,
         handler: _,
         next,
+        settled: _,
     } = guide;
     scratch.put(Room {
         values,

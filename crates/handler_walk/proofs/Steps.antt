@@ -126,18 +126,18 @@ module _ (S : Ahead → Type 0) (k : Env → Ahead) where
       subst (λ (z : ℕ). S (turns_then body x z i k env)) e now
 
 -- where a part led, of which the result is known
-pub leads_on : {E : Type 0} (S : Ahead → Type 0) (T : Type 0) (k : Env → Ahead) (env : Env) (flow : Flow) (r : Result Flow E) → r ≡ Ok flow → flow ≡ On → Leads S T k env r → S (k env)
-leads_on {E} S T k env flow r was is h = subst (λ (z : Flow). Leads {E = E} S T k env (Ok z)) is (subst (λ (z : Result Flow E). Leads S T k env z) was h)
+pub leads_on : {E : Type 0} (S : Ahead → Type 0) (T : Type 0) (k : Env → Ahead) (env : Env) (a : Reply) (flow : Flow) (r : Result Flow E) → r ≡ Ok flow → flow ≡ On → Leads S T k env a r → S (k env)
+leads_on {E} S T k env a flow r was is h = subst (λ (z : Flow). Leads {E = E} S T k env a (Ok z)) is (subst (λ (z : Result Flow E). Leads S T k env a z) was h)
 
-pub leads_answered : {E : Type 0} (S : Ahead → Type 0) (T : Type 0) (k : Env → Ahead) (env : Env) (flow : Flow) (a : Reply) (r : Result Flow E) → r ≡ Ok flow → flow ≡ Answered a → Leads S T k env r → (values : List Value) × (a ≡ reply_of values) × S (answering values)
-leads_answered {E} S T k env flow a r was is h = subst (λ (z : Flow). Leads {E = E} S T k env (Ok z)) is (subst (λ (z : Result Flow E). Leads S T k env z) was h)
+pub leads_answered : {E : Type 0} (S : Ahead → Type 0) (T : Type 0) (k : Env → Ahead) (env : Env) (a : Reply) (flow : Flow) (r : Result Flow E) → r ≡ Ok flow → flow ≡ Answered → Leads S T k env a r → (values : List Value) × (a ≡ reply_of values) × S (answering values)
+leads_answered {E} S T k env a flow r was is h = subst (λ (z : Flow). Leads {E = E} S T k env a (Ok z)) is (subst (λ (z : Result Flow E). Leads S T k env a z) was h)
 
-pub leads_stopped : {E : Type 0} (S : Ahead → Type 0) (T : Type 0) (k : Env → Ahead) (env : Env) (r : Result Flow E) (e : E) → r ≡ Err e → Leads S T k env r → T
-leads_stopped {E} S T k env r e is h = subst (λ (z : Result Flow E). Leads S T k env z) is h
+pub leads_stopped : {E : Type 0} (S : Ahead → Type 0) (T : Type 0) (k : Env → Ahead) (env : Env) (a : Reply) (r : Result Flow E) (e : E) → r ≡ Err e → Leads S T k env a r → T
+leads_stopped {E} S T k env a r e is h = subst (λ (z : Result Flow E). Leads S T k env a z) is h
 
-pub leads_err : {E : Type 0} (S : Ahead → Type 0) (T : Type 0) (k : Env → Ahead) (env : Env) (r : Result Flow E) → IsErr r → T → Leads S T k env r
-leads_err S T k env (Ok x) is t = cc
-leads_err S T k env (Err e) is t = t
+pub leads_err : {E : Type 0} (S : Ahead → Type 0) (T : Type 0) (k : Env → Ahead) (env : Env) (a : Reply) (r : Result Flow E) → IsErr r → T → Leads S T k env a r
+leads_err S T k env a (Ok x) is t = cc
+leads_err S T k env a (Err e) is t = t
 
 pub call_stopped : {E : Type 0} (r : Result Value E) (e : E) (P : Value → Type 0) (T : Type 0) → r ≡ Err e → MatchResult r P (λ _. T) → T
 call_stopped {E} r e P T is h = subst (λ (z : Result Value E). MatchResult z P (λ _. T)) is h

@@ -1,16 +1,9 @@
 -- Code that can be walked with so many variables: that which speaks of them alone, over some tables.
-use Rattle.std.specs.Prelude.{ℕ, ℤ, List, Option, Some, None}
-use Rattle.session_values.specs.declared.value.Value.{Value}
-use Rattle.session_values.specs.declared.value.Value.TheVariants.{Nil, Num}
+use Rattle.std.specs.Prelude.{ℕ, List}
 use Rattle.session_values.specs.declared.kind.TableKind.{TableKind}
 use Rattle.handler_dialogue.specs.declared.tree.CheckedCall.{CheckedCall}
 use Rattle.handler_dialogue.specs.Code.{Code}
 use Rattle.handler_dialogue.specs.Within.{CallWithin, CodeWithin}
-
--- a number, or nil where there is none
-abbrev pub number_of : Option ℤ → Value
-number_of None = Nil
-number_of (Some n) = Num n
 
 abbrev pub IsCallWithin : ℕ → CheckedCall → Type 0
 IsCallWithin n c = (shape : List TableKind) × CallWithin shape n c

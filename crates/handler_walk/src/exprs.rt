@@ -1,22 +1,35 @@
 // Values of expressions and conditions, and the operations of calls.
 
 ghost use Rattle.std.specs.Prelude.{◌≡◌, length};
-ghost use Rattle.session_values.specs.declared.value.Value.{Value};
+ghost use Rattle.session_values.specs.declared.value.Value.TheVariants.{Num};
 ghost use Rattle.session_values.specs.Values.{value_eq};
 ghost use Rattle.handler_trees.specs.declared.expr.Calc.{Calc};
 ghost use Rattle.handler_dialogue.specs.Code.{cond_test, expr_term};
 ghost use Rattle.handler_dialogue.specs.Dialogue as meaning;
 ghost use Rattle.handler_dialogue.specs.Dialogue.{env_of};
 ghost use Rattle.handler_dialogue.specs.Within.{AtomWithin, TermWithin};
-ghost use Rattle.handler_walk.specs.Runnable.{IsCallWithin, number_of};
+ghost use Rattle.handler_walk.specs.Numbers as numbers;
+ghost use Rattle.handler_walk.specs.Runnable.{IsCallWithin};
 
 use handler_dialogue::{CheckedAtom, CheckedCall, CheckedCond, CheckedExpr};
 use handler_trees::{Calc, Compare};
 use session_values::{Op, Value};
 
+/// The number that a value is; none where it is another value.
+#[inline(always)]
+fn number_of(value: Value) -> Option<i64>
+    ensures { result ≡ numbers.number_of value }
+{
+    match value {
+        Value::Num(n) => Some(n),
+        _ => None,
+    }
+}
+
 /// A number, or nil where there is none.
-fn number(n: Option<i64>) -> Value
-    ensures { result ≡ number_of n }
+#[inline(always)]
+fn number_or_nil(n: Option<i64>) -> Value
+    ensures { result ≡ numbers.number_or_nil n }
 {
     match n {
         Some(n) => Value::Num(n),
@@ -24,38 +37,44 @@ fn number(n: Option<i64>) -> Value
     }
 }
 
-fn plus(a: i64, b: i64) -> Value
-    ensures { result ≡ meaning.calculated Calc.Plus (Value.Num a) (Value.Num b) }
+#[inline(always)]
+fn plus(a: i64, b: i64) -> Option<i64>
+    ensures { numbers.number_or_nil result ≡ meaning.calculated Calc.Plus (Num a) (Num b) }
 {
-    number(a.checked_add(b))
+    a.checked_add(b)
 }
 
-fn minus(a: i64, b: i64) -> Value
-    ensures { result ≡ meaning.calculated Calc.Minus (Value.Num a) (Value.Num b) }
+#[inline(always)]
+fn minus(a: i64, b: i64) -> Option<i64>
+    ensures { numbers.number_or_nil result ≡ meaning.calculated Calc.Minus (Num a) (Num b) }
 {
-    number(a.checked_sub(b))
+    a.checked_sub(b)
 }
 
-fn times(a: i64, b: i64) -> Value
-    ensures { result ≡ meaning.calculated Calc.Times (Value.Num a) (Value.Num b) }
+#[inline(always)]
+fn times(a: i64, b: i64) -> Option<i64>
+    ensures { numbers.number_or_nil result ≡ meaning.calculated Calc.Times (Num a) (Num b) }
 {
-    number(a.checked_mul(b))
+    a.checked_mul(b)
 }
 
-/// A sum, a difference or a product; nil where it leaves 64 bits or a side is no number.
-fn calculate(calc: Calc, left: Value, right: Value) -> Value
-    ensures { result ≡ meaning.calculated calc left right }
+/// A sum, a difference or a product; none where it leaves 64 bits or a side is no number.
+#[inline(always)]
+fn calculate(calc: Calc, left: Option<i64>, right: Option<i64>) -> Option<i64>
+    ensures { numbers.number_or_nil result ≡ meaning.calculated calc (numbers.number_or_nil left)
+        (numbers.number_or_nil right) }
 {
     match (left, right) {
-        (Value::Num(a), Value::Num(b)) => match calc {
+        (Some(a), Some(b)) => match calc {
             Calc::Plus => plus(a, b),
             Calc::Minus => minus(a, b),
             Calc::Times => times(a, b),
         },
-        _ => Value::Nil,
+        _ => None,
     }
 }
 
+#[inline(always)]
 fn value_of_atom(env: &[Value], atom: CheckedAtom) -> Value
     requires { AtomWithin (length env.now) atom }
     ensures { result ≡ meaning.atom_value atom (env_of env.now) }
@@ -66,7 +85,39 @@ fn value_of_atom(env: &[Value], atom: CheckedAtom) -> Value
     }
 }
 
+/// The number that an expression is. What is calculated is a number or nil, so the sides of a
+/// calculation are asked for their numbers alone, which a machine hands on in registers.
+#[cycle(numbers)]
+#[inline(always)]
+fn number_in(env: &[Value], expr: &CheckedExpr) -> Option<i64>
+    requires { TermWithin (length env.now) (expr_term expr.now) }
+    ensures { result
+        ≡ numbers.number_of (meaning.value_of (expr_term expr.now) (env_of env.now)) }
+{
+    match expr {
+        CheckedExpr::Leaf(atom) => number_of(value_of_atom(env, *atom)),
+        CheckedExpr::Binary { calc, left, right } => {
+            calculated(env, *calc, left.get(), right.get())
+        }
+    }
+}
+
+/// The number that a calculation gives.
+#[cycle(numbers)]
+fn calculated(env: &[Value], calc: Calc, left: &CheckedExpr, right: &CheckedExpr) -> Option<i64>
+    requires left { TermWithin (length env.now) (expr_term left.now) }
+    requires right { TermWithin (length env.now) (expr_term right.now) }
+    ensures { numbers.number_or_nil result ≡ meaning.calculated calc
+        (meaning.value_of (expr_term left.now) (env_of env.now))
+        (meaning.value_of (expr_term right.now) (env_of env.now)) }
+{
+    let a = number_in(env, left);
+    let b = number_in(env, right);
+    calculate(calc, a, b)
+}
+
 /// The value of an expression.
+#[inline(always)]
 pub(crate) fn value_of(env: &[Value], expr: &CheckedExpr) -> Value
     requires { TermWithin (length env.now) (expr_term expr.now) }
     ensures { result ≡ meaning.value_of (expr_term expr.now) (env_of env.now) }
@@ -74,14 +125,13 @@ pub(crate) fn value_of(env: &[Value], expr: &CheckedExpr) -> Value
     match expr {
         CheckedExpr::Leaf(atom) => value_of_atom(env, *atom),
         CheckedExpr::Binary { calc, left, right } => {
-            let a = value_of(env, left.get());
-            let b = value_of(env, right.get());
-            calculate(*calc, a, b)
+            number_or_nil(calculated(env, *calc, left.get(), right.get()))
         }
     }
 }
 
 /// Whether two values are the same.
+#[inline(always)]
 fn same(left: Value, right: Value) -> bool
     ensures { result ≡ value_eq left right }
 {
@@ -93,6 +143,7 @@ fn same(left: Value, right: Value) -> bool
     }
 }
 
+#[inline(always)]
 fn compared(compare: Compare, left: Value, right: Value) -> bool
     ensures { result ≡ meaning.compared compare left right }
 {
@@ -111,6 +162,7 @@ fn compared(compare: Compare, left: Value, right: Value) -> bool
 }
 
 /// Whether a condition holds.
+#[inline(always)]
 pub(crate) fn holds(env: &[Value], cond: &CheckedCond) -> bool
     requires left { TermWithin (length env.now) (expr_term cond.now.left) }
     requires right { TermWithin (length env.now) (expr_term cond.now.right) }
@@ -122,6 +174,7 @@ pub(crate) fn holds(env: &[Value], cond: &CheckedCond) -> bool
 }
 
 /// The operation that a call makes.
+#[inline]
 pub(crate) fn op_of(env: &[Value], call: CheckedCall) -> Op
     requires { IsCallWithin (length env.now) call }
     ensures { result ≡ meaning.op_of call (env_of env.now) }

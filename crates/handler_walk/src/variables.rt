@@ -11,6 +11,7 @@ ghost use Rattle.handler_dialogue.specs.Within.{VarWithin};
 use session_values::Value;
 
 /// The argument of a number, and nil behind the last.
+#[inline]
 fn argument(args: &[Value], i: usize) -> Value
     ensures value { result ≡ slice_index_or args.now i Nil }
     ensures held { IsValue result }
@@ -33,6 +34,7 @@ pub fn set_up(env: &mut [Value], args: &[Value])
 }
 
 /// Gives a variable its value.
+#[inline]
 pub(crate) fn put(env: &mut [Value], var: u32, value: Value)
     requires { var < length env.old }
     ensures { env_of env.new ≡ with_value (env_of env.old) var value }
@@ -41,6 +43,7 @@ pub(crate) fn put(env: &mut [Value], var: u32, value: Value)
 }
 
 /// Keeps a reply, where a variable is named for it.
+#[inline]
 pub(crate) fn keep(env: &mut [Value], var: Option<u32>, reply: Value)
     requires { VarWithin (length env.old) var }
     ensures { env_of env.new ≡ with_reply var reply (env_of env.old) }
@@ -51,6 +54,7 @@ pub(crate) fn keep(env: &mut [Value], var: Option<u32>, reply: Value)
 }
 
 /// The number of a turn as a value.
+#[inline]
 pub(crate) fn turn_number(turn: u32) -> Value
     ensures { result ≡ Value.Num (pos turn) }
 {

@@ -14,12 +14,13 @@ use crate::variables::{keep, put, turn_number};
 use handler_dialogue::{CheckedBlock, CheckedStmt};
 use session_values::{NoMemory, Reply, Value};
 
-/// How a part of a handler ends.
+/// How a part of a handler ends. It has no payload, since each statement hands one up; the reply
+/// stands where the caller keeps it.
 #[derive(Clone, Copy, Debug, PartialEq, Eq)]
 pub(crate) enum Flow {
     /// It goes on behind the part.
     On,
-    Answered(Reply),
+    Answered,
 }
 
 /// Does the body of a handler to its reply.
@@ -38,9 +39,10 @@ pub fn walk_body<H, G: Guide<H>>(
         → Ends (G.Serves guide.new whole start host.new) (G.Stops guide.new whole start host.new)
         result }
 {
-    match walk_block(guide, host, env, body)? {
+    let mut reply = nil_reply();
+    match walk_block(guide, host, env, body, &mut reply)? {
         Flow::On => Ok(nil_reply()),
-        Flow::Answered(reply) => Ok(reply),
+        Flow::Answered => Ok(reply),
     }
 }
 
@@ -51,6 +53,7 @@ fn walk_block<H, G: Guide<H>>(
     host: &mut H,
     env: &mut [Value],
     block: &CheckedBlock,
+    reply: &mut Reply,
 ) -> Result<Flow, NoMemory>
     requires variables { G.variables ≤ length env.old }
     requires within { IsRunnable (length env.old) (block_code block.now) }
@@ -61,12 +64,13 @@ fn walk_block<H, G: Guide<H>>(
         → G.Serves guide.old whole start host.old
         (run_then (block_code block.now) k (env_of env.old))
         → Leads (G.Serves guide.new whole start host.new)
-        (G.Stops guide.new whole start host.new) k (env_of env.new) result }
+        (G.Stops guide.new whole start host.new) k (env_of env.new) reply.new
+        result }
 {
     for s in block.as_slice() {
-        match walk_stmt(guide, host, env, s)? {
+        match walk_stmt(guide, host, env, s, reply)? {
             Flow::On => {}
-            Flow::Answered(reply) => return Ok(Flow::Answered(reply)),
+            Flow::Answered => return Ok(Flow::Answered),
         }
     }
     Ok(Flow::On)
@@ -74,11 +78,13 @@ fn walk_block<H, G: Guide<H>>(
 
 /// Does a statement.
 #[cycle(walk)]
+#[inline(always)]
 fn walk_stmt<H, G: Guide<H>>(
     guide: &mut G,
     host: &mut H,
     env: &mut [Value],
     stmt: &CheckedStmt,
+    reply: &mut Reply,
 ) -> Result<Flow, NoMemory>
     requires variables { G.variables ≤ length env.old }
     requires within { IsRunnable (length env.old) (stmt_code stmt.now Finish) }
@@ -89,7 +95,8 @@ fn walk_stmt<H, G: Guide<H>>(
         → G.Serves guide.old whole start host.old
         (run_then (stmt_code stmt.now Finish) k (env_of env.old))
         → Leads (G.Serves guide.new whole start host.new)
-        (G.Stops guide.new whole start host.new) k (env_of env.new) result }
+        (G.Stops guide.new whole start host.new) k (env_of env.new) reply.new
+        result }
 {
     match stmt {
         CheckedStmt::Store { var, right } => {
@@ -104,8 +111,8 @@ fn walk_stmt<H, G: Guide<H>>(
             ..
         } => {
             let op = op_of(env, *call);
-            let reply = guide.call(host, op)?;
-            keep(env, *var, reply);
+            let value = guide.call(host, op)?;
+            keep(env, *var, value);
             guide.replied(host, *point, env);
             Ok(Flow::On)
         }
@@ -119,10 +126,10 @@ fn walk_stmt<H, G: Guide<H>>(
         } => {
             if holds(env, cond) {
                 guide.passed(host, *yes_point, env);
-                walk_block(guide, host, env, yes)
+                walk_block(guide, host, env, yes, reply)
             } else {
                 guide.passed(host, *no_point, env);
-                walk_block(guide, host, env, no)
+                walk_block(guide, host, env, no, reply)
             }
         }
         CheckedStmt::Repeat {
@@ -132,20 +139,24 @@ fn walk_stmt<H, G: Guide<H>>(
             body,
             ..
         } => {
-            match walk_turns(guide, host, env, *turns, *var, body)? {
+            match walk_turns(guide, host, env, *turns, *var, body, reply)? {
                 Flow::On => {
                     guide.passed(host, *point, env);
                     Ok(Flow::On)
                 }
-                Flow::Answered(reply) => Ok(Flow::Answered(reply)),
+                Flow::Answered => Ok(Flow::Answered),
             }
         }
-        CheckedStmt::Answer { values } => Ok(Flow::Answered(reply_of(env, values.as_slice()))),
+        CheckedStmt::Answer { values } => {
+            *reply = reply_of(env, values.as_slice());
+            Ok(Flow::Answered)
+        }
     }
 }
 
 /// Does the turns of a loop.
 #[cycle(walk)]
+#[inline(always)]
 fn walk_turns<H, G: Guide<H>>(
     guide: &mut G,
     host: &mut H,
@@ -153,6 +164,7 @@ fn walk_turns<H, G: Guide<H>>(
     turns: u32,
     var: u32,
     body: &CheckedBlock,
+    reply: &mut Reply,
 ) -> Result<Flow, NoMemory>
     requires var { var < length env.old }
     requires variables { G.variables ≤ length env.old }
@@ -164,13 +176,14 @@ fn walk_turns<H, G: Guide<H>>(
         → G.Serves guide.old whole start host.old
         (turns_then (run_then (block_code body.now)) var turns 0 k (env_of env.old))
         → Leads (G.Serves guide.new whole start host.new)
-        (G.Stops guide.new whole start host.new) k (env_of env.new) result }
+        (G.Stops guide.new whole start host.new) k (env_of env.new) reply.new
+        result }
 {
     for turn in 0..turns {
         put(env, var, turn_number(turn));
-        match walk_block(guide, host, env, body)? {
+        match walk_block(guide, host, env, body, reply)? {
             Flow::On => {}
-            Flow::Answered(reply) => return Ok(Flow::Answered(reply)),
+            Flow::Answered => return Ok(Flow::Answered),
         }
     }
     Ok(Flow::On)

@@ -19,7 +19,7 @@ walk_body-requires-clause-serves g c =
     let E = env_of c.args.env.now in
     let course : Course = course_of (g.D.Served.Script.meaning (g.D.Desk.script start)) (at start) n.program.now n.handler (run (block_code c.args.body.now) E) in
     let s = serving_first course n.next.room (entry E) r.gives r.promises r.fresh r.idle r.going r.present r.room in
-    (course.whole, start, (refl, s))
+    (course.whole, start, (refl, s, r.settled))
 
 pub returns-in_err-reply-clause-script : goal.returns-in_err-reply-clause-script
 returns-in_err-reply-clause-script g c =
@@ -30,7 +30,7 @@ returns-in_err-reply-clause-script g c =
     let E = env_of c.args.env.now in
     let course : Course = course_of (g.D.Served.Script.meaning (g.D.Desk.script start)) (at start) n.program.now n.handler (run (block_code c.args.body.now) E) in
     let s = serving_first course n.next.room (entry E) r.gives r.promises r.fresh r.idle r.going r.present r.room in
-    let h = c.in_err-reply.ensures course.whole start (refl, s) in
+    let h = c.in_err-reply.ensures course.whole start (refl, s, r.settled) in
     h.0
 
 pub returns-in_err-reply-clause-unsure : goal.returns-in_err-reply-clause-unsure
@@ -42,7 +42,7 @@ returns-in_err-reply-clause-unsure g c =
     let E = env_of c.args.env.now in
     let course : Course = course_of (g.D.Served.Script.meaning (g.D.Desk.script start)) (at start) n.program.now n.handler (run (block_code c.args.body.now) E) in
     let s = serving_first course n.next.room (entry E) r.gives r.promises r.fresh r.idle r.going r.present r.room in
-    let h = c.in_err-reply.ensures course.whole start (refl, s) in
+    let h = c.in_err-reply.ensures course.whole start (refl, s, r.settled) in
     on_err c.from_residual.result _ h.1.unsure
 
 pub returns-in_err-reply-clause-room : goal.returns-in_err-reply-clause-room
@@ -54,7 +54,7 @@ returns-in_err-reply-clause-room g c =
     let E = env_of c.args.env.now in
     let course : Course = course_of (g.D.Served.Script.meaning (g.D.Desk.script start)) (at start) n.program.now n.handler (run (block_code c.args.body.now) E) in
     let s = serving_first course n.next.room (entry E) r.gives r.promises r.fresh r.idle r.going r.present r.room in
-    let h = c.in_err-reply.ensures course.whole start (refl, s) in
+    let h = c.in_err-reply.ensures course.whole start (refl, s, r.settled) in
     h.1.roomy
 
 pub end-requires-clause-idle : goal.end-requires-clause-idle
@@ -66,7 +66,7 @@ end-requires-clause-idle g c =
     let E = env_of c.args.env.now in
     let course : Course = course_of (g.D.Served.Script.meaning (g.D.Desk.script start)) (at start) n.program.now n.handler (run (block_code c.args.body.now) E) in
     let s = serving_first course n.next.room (entry E) r.gives r.promises r.fresh r.idle r.going r.present r.room in
-    let h = c.in_ok-reply.ensures course.whole start (refl, s) in
+    let h = c.in_ok-reply.ensures course.whole start (refl, s, r.settled) in
     let m = c.walk_body.new.guide in
     let now = at c.walk_body.new.host in
     let late : Course = course_of course.meaning course.start m.program.now m.handler course.whole in
@@ -81,7 +81,7 @@ end-requires-clause-going g c =
     let E = env_of c.args.env.now in
     let course : Course = course_of (g.D.Served.Script.meaning (g.D.Desk.script start)) (at start) n.program.now n.handler (run (block_code c.args.body.now) E) in
     let s = serving_first course n.next.room (entry E) r.gives r.promises r.fresh r.idle r.going r.present r.room in
-    let h = c.in_ok-reply.ensures course.whole start (refl, s) in
+    let h = c.in_ok-reply.ensures course.whole start (refl, s, r.settled) in
     let m = c.walk_body.new.guide in
     let now = at c.walk_body.new.host in
     let late : Course = course_of course.meaning course.start m.program.now m.handler course.whole in
@@ -96,7 +96,7 @@ end-requires-clause-answers g c =
     let E = env_of c.args.env.now in
     let course : Course = course_of (g.D.Served.Script.meaning (g.D.Desk.script start)) (at start) n.program.now n.handler (run (block_code c.args.body.now) E) in
     let s = serving_first course n.next.room (entry E) r.gives r.promises r.fresh r.idle r.going r.present r.room in
-    let h = c.in_ok-reply.ensures course.whole start (refl, s) in
+    let h = c.in_ok-reply.ensures course.whole start (refl, s, r.settled) in
     let m = c.walk_body.new.guide in
     let now = at c.walk_body.new.host in
     let late : Course = course_of course.meaning course.start m.program.now m.handler course.whole in
@@ -111,7 +111,7 @@ end-requires-clause-due g c =
     let E = env_of c.args.env.now in
     let course : Course = course_of (g.D.Served.Script.meaning (g.D.Desk.script start)) (at start) n.program.now n.handler (run (block_code c.args.body.now) E) in
     let s = serving_first course n.next.room (entry E) r.gives r.promises r.fresh r.idle r.going r.present r.room in
-    let h = c.in_ok-reply.ensures course.whole start (refl, s) in
+    let h = c.in_ok-reply.ensures course.whole start (refl, s, r.settled) in
     let m = c.walk_body.new.guide in
     let now = at c.walk_body.new.host in
     let late : Course = course_of course.meaning course.start m.program.now m.handler course.whole in
@@ -126,7 +126,7 @@ returns-clause-script g c =
     let E = env_of c.args.env.now in
     let course : Course = course_of (g.D.Served.Script.meaning (g.D.Desk.script start)) (at start) n.program.now n.handler (run (block_code c.args.body.now) E) in
     let s = serving_first course n.next.room (entry E) r.gives r.promises r.fresh r.idle r.going r.present r.room in
-    let h = c.in_ok-reply.ensures course.whole start (refl, s) in
+    let h = c.in_ok-reply.ensures course.whole start (refl, s, r.settled) in
     let m = c.walk_body.new.guide in
     let now = at c.walk_body.new.host in
     let late : Course = course_of course.meaning course.start m.program.now m.handler course.whole in
@@ -141,7 +141,7 @@ returns-clause-served g c =
     let E = env_of c.args.env.now in
     let course : Course = course_of (g.D.Served.Script.meaning (g.D.Desk.script start)) (at start) n.program.now n.handler (run (block_code c.args.body.now) E) in
     let s = serving_first course n.next.room (entry E) r.gives r.promises r.fresh r.idle r.going r.present r.room in
-    let h = c.in_ok-reply.ensures course.whole start (refl, s) in
+    let h = c.in_ok-reply.ensures course.whole start (refl, s, r.settled) in
     let m = c.walk_body.new.guide in
     let now = at c.walk_body.new.host in
     let late : Course = course_of course.meaning course.start m.program.now m.handler course.whole in
@@ -156,7 +156,7 @@ returns-clause-room g c =
     let E = env_of c.args.env.now in
     let course : Course = course_of (g.D.Served.Script.meaning (g.D.Desk.script start)) (at start) n.program.now n.handler (run (block_code c.args.body.now) E) in
     let s = serving_first course n.next.room (entry E) r.gives r.promises r.fresh r.idle r.going r.present r.room in
-    let h = c.in_ok-reply.ensures course.whole start (refl, s) in
+    let h = c.in_ok-reply.ensures course.whole start (refl, s, r.settled) in
     let m = c.walk_body.new.guide in
     let now = at c.walk_body.new.host in
     let late : Course = course_of course.meaning course.start m.program.now m.handler course.whole in

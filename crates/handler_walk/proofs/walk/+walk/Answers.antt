@@ -31,7 +31,7 @@ walk_block-returns-in_err-walk_stmt g t c whole start k now =
     let rest = block_code (drop (i + 1) ss) in
     let at = item_at ss c.as_slice-s-items.result.now i s s c.as_slice-s-items.ensures c.loop-s-test.true c.s-item.is in
     let led = c.walk_stmt.ensures whole start (run_then rest k) (block_ahead (g.G.Guide.Serves c.loop-s.guide whole start c.loop-s.host) k ss i s s (env_of c.loop-s.env) at.0 at.1 (c.loop-s.invariant.serves whole start k now)) in
-    leads_err (g.G.Guide.Serves c.walk_stmt.new.guide whole start c.walk_stmt.new.host) (g.G.Guide.Stops c.walk_stmt.new.guide whole start c.walk_stmt.new.host) k (env_of c.walk_stmt.new.env) c.from_residual.result c.from_residual.ensures.0 (leads_stopped (g.G.Guide.Serves c.walk_stmt.new.guide whole start c.walk_stmt.new.host) (g.G.Guide.Stops c.walk_stmt.new.guide whole start c.walk_stmt.new.host) (run_then rest k) (env_of c.walk_stmt.new.env) c.walk_stmt.result _ c.in_err-walk_stmt.was led)
+    leads_err (g.G.Guide.Serves c.walk_stmt.new.guide whole start c.walk_stmt.new.host) (g.G.Guide.Stops c.walk_stmt.new.guide whole start c.walk_stmt.new.host) k (env_of c.walk_stmt.new.env) c.walk_stmt.new.reply c.from_residual.result c.from_residual.ensures.0 (leads_stopped (g.G.Guide.Serves c.walk_stmt.new.guide whole start c.walk_stmt.new.host) (g.G.Guide.Stops c.walk_stmt.new.guide whole start c.walk_stmt.new.host) (run_then rest k) (env_of c.walk_stmt.new.env) c.walk_stmt.new.reply c.walk_stmt.result _ c.in_err-walk_stmt.was led)
 
 pub walk_block-returns-in-Answered : goal.walk_block-returns-in-Answered
 walk_block-returns-in-Answered g t c whole start k now =
@@ -41,7 +41,7 @@ walk_block-returns-in-Answered g t c whole start k now =
     let rest = block_code (drop (i + 1) ss) in
     let at = item_at ss c.as_slice-s-items.result.now i s s c.as_slice-s-items.ensures c.loop-s-test.true c.s-item.is in
     let led = c.walk_stmt.ensures whole start (run_then rest k) (block_ahead (g.G.Guide.Serves c.loop-s.guide whole start c.loop-s.host) k ss i s s (env_of c.loop-s.env) at.0 at.1 (c.loop-s.invariant.serves whole start k now)) in
-    leads_answered (g.G.Guide.Serves c.walk_stmt.new.guide whole start c.walk_stmt.new.host) (g.G.Guide.Stops c.walk_stmt.new.guide whole start c.walk_stmt.new.host) (run_then rest k) (env_of c.walk_stmt.new.env) _ _ c.walk_stmt.result c.in_ok-walk_stmt.was c.in-Answered.is led
+    leads_answered (g.G.Guide.Serves c.walk_stmt.new.guide whole start c.walk_stmt.new.host) (g.G.Guide.Stops c.walk_stmt.new.guide whole start c.walk_stmt.new.host) (run_then rest k) (env_of c.walk_stmt.new.env) c.walk_stmt.new.reply _ c.walk_stmt.result c.in_ok-walk_stmt.was c.in-Answered.is led
 
 pub walk_block-loop-s-preserved : goal.walk_block-loop-s-preserved
 walk_block-loop-s-preserved g t c =
@@ -54,7 +54,7 @@ walk_block-loop-s-preserved g t c =
     record {
       within = (within_stmt (length c.args.env.now) s rest w).1;
       serves = λ whole start k h.
-          leads_on (g.G.Guide.Serves c.walk_stmt.new.guide whole start c.walk_stmt.new.host) (g.G.Guide.Stops c.walk_stmt.new.guide whole start c.walk_stmt.new.host) (run_then rest k) (env_of c.walk_stmt.new.env) _ c.walk_stmt.result c.in_ok-walk_stmt.was c.in-On.is
+          leads_on (g.G.Guide.Serves c.walk_stmt.new.guide whole start c.walk_stmt.new.host) (g.G.Guide.Stops c.walk_stmt.new.guide whole start c.walk_stmt.new.host) (run_then rest k) (env_of c.walk_stmt.new.env) c.walk_stmt.new.reply _ c.walk_stmt.result c.in_ok-walk_stmt.was c.in-On.is
           (c.walk_stmt.ensures whole start (run_then rest k) (block_ahead (g.G.Guide.Serves c.loop-s.guide whole start c.loop-s.host) k ss i s s (env_of c.loop-s.env) at.0 at.1 (c.loop-s.invariant.serves whole start k h)));
     }
 
@@ -65,14 +65,14 @@ walk_stmt-call-requires g t c =
     let p = c.in-Perform in
     (r.0, r.1, (λ v. passing p.point (with_reply p.var v E) true (r.2 (with_reply p.var v E))), ask_ahead (g.G.Guide.Serves c.args.guide.now r.0 r.1 c.args.host.now) r.2 c.args.stmt.now p.at p.point p.var p.call E c.op_of-op.result p.is c.op_of-op.ensures r.3)
 
-pub walk_stmt-returns-in_err-reply-in-Perform : goal.walk_stmt-returns-in_err-reply-in-Perform
-walk_stmt-returns-in_err-reply-in-Perform g t c whole start k now =
+pub walk_stmt-returns-in_err-value-in-Perform : goal.walk_stmt-returns-in_err-value-in-Perform
+walk_stmt-returns-in_err-value-in-Perform g t c whole start k now =
     let E = env_of c.args.env.now in
     let p = c.in-Perform in
     let next : Value → Ahead = λ v. passing p.point (with_reply p.var v E) true (k (with_reply p.var v E)) in
     let led = c.call.ensures whole start next (ask_ahead (g.G.Guide.Serves c.args.guide.now whole start c.args.host.now) k c.args.stmt.now p.at p.point p.var p.call E c.op_of-op.result p.is c.op_of-op.ensures now) in
-    leads_err (g.G.Guide.Serves c.call.new.self whole start c.call.new.host) (g.G.Guide.Stops c.call.new.self whole start c.call.new.host) k E c.from_residual.result c.from_residual.ensures.0
-    (call_stopped c.call.result _ (λ v. g.G.Guide.Waits c.call.new.self whole start c.call.new.host (next v)) (g.G.Guide.Stops c.call.new.self whole start c.call.new.host) c.in_err-reply-in-Perform.was led)
+    leads_err (g.G.Guide.Serves c.call.new.self whole start c.call.new.host) (g.G.Guide.Stops c.call.new.self whole start c.call.new.host) k E c.args.reply.now c.from_residual.result c.from_residual.ensures.0
+    (call_stopped c.call.result _ (λ v. g.G.Guide.Waits c.call.new.self whole start c.call.new.host (next v)) (g.G.Guide.Stops c.call.new.self whole start c.call.new.host) c.in_err-value-in-Perform.was led)
 
 pub walk_stmt-replied-requires-clause-waits : goal.walk_stmt-replied-requires-clause-waits
 walk_stmt-replied-requires-clause-waits g t c =
@@ -80,17 +80,17 @@ walk_stmt-replied-requires-clause-waits g t c =
     let E = env_of c.args.env.now in
     let p = c.in-Perform in
     let next : Value → Ahead = λ v. passing p.point (with_reply p.var v E) true (r.2 (with_reply p.var v E)) in
-    let v = c.in_ok-reply-in-Perform.reply in
-    let h = c.in_ok-reply-in-Perform.ensures r.0 r.1 next (ask_ahead (g.G.Guide.Serves c.args.guide.now r.0 r.1 c.args.host.now) r.2 c.args.stmt.now p.at p.point p.var p.call E c.op_of-op.result p.is c.op_of-op.ensures r.3) in
+    let v = c.in_ok-value-in-Perform.value in
+    let h = c.in_ok-value-in-Perform.ensures r.0 r.1 next (ask_ahead (g.G.Guide.Serves c.args.guide.now r.0 r.1 c.args.host.now) r.2 c.args.stmt.now p.at p.point p.var p.call E c.op_of-op.result p.is c.op_of-op.ensures r.3) in
     (r.0, r.1, r.2 (with_reply p.var v E), subst (λ (e : Env). g.G.Guide.Waits c.call.new.self r.0 r.1 c.call.new.host (passing p.point e true (r.2 (with_reply p.var v E)))) (sym c.keep.ensures) h)
 
-pub walk_stmt-returns-in_ok-reply-in-Perform : goal.walk_stmt-returns-in_ok-reply-in-Perform
-walk_stmt-returns-in_ok-reply-in-Perform g t c whole start k now =
+pub walk_stmt-returns-in_ok-value-in-Perform : goal.walk_stmt-returns-in_ok-value-in-Perform
+walk_stmt-returns-in_ok-value-in-Perform g t c whole start k now =
     let E = env_of c.args.env.now in
     let p = c.in-Perform in
     let next : Value → Ahead = λ v. passing p.point (with_reply p.var v E) true (k (with_reply p.var v E)) in
-    let v = c.in_ok-reply-in-Perform.reply in
-    let h = c.in_ok-reply-in-Perform.ensures whole start next (ask_ahead (g.G.Guide.Serves c.args.guide.now whole start c.args.host.now) k c.args.stmt.now p.at p.point p.var p.call E c.op_of-op.result p.is c.op_of-op.ensures now) in
+    let v = c.in_ok-value-in-Perform.value in
+    let h = c.in_ok-value-in-Perform.ensures whole start next (ask_ahead (g.G.Guide.Serves c.args.guide.now whole start c.args.host.now) k c.args.stmt.now p.at p.point p.var p.call E c.op_of-op.result p.is c.op_of-op.ensures now) in
     let r = c.replied.ensures whole start (k (with_reply p.var v E)) (subst (λ (e : Env). g.G.Guide.Waits c.call.new.self whole start c.call.new.host (passing p.point e true (k (with_reply p.var v E)))) (sym c.keep.ensures) h) in
     subst (λ (e : Env). g.G.Guide.Serves c.replied.new.self whole start c.replied.new.host (k e)) (sym c.keep.ensures) r
 
@@ -109,7 +109,7 @@ walk_stmt-returns-in_err-walk_turns-in-Repeat g t c whole start k now =
     let p = c.in-Repeat in
     let to : Env → Ahead = λ e. passing p.point e false (k e) in
     let led = c.walk_turns.ensures whole start to (loop_ahead (g.G.Guide.Serves c.args.guide.now whole start c.args.host.now) k c.args.stmt.now p.at p.point p.turns p.var p.body E p.is now) in
-    leads_err (g.G.Guide.Serves c.walk_turns.new.guide whole start c.walk_turns.new.host) (g.G.Guide.Stops c.walk_turns.new.guide whole start c.walk_turns.new.host) k (env_of c.walk_turns.new.env) c.from_residual-in_err-walk_turns-in-Repeat.result c.from_residual-in_err-walk_turns-in-Repeat.ensures.0 (leads_stopped (g.G.Guide.Serves c.walk_turns.new.guide whole start c.walk_turns.new.host) (g.G.Guide.Stops c.walk_turns.new.guide whole start c.walk_turns.new.host) to (env_of c.walk_turns.new.env) c.walk_turns.result _ c.in_err-walk_turns-in-Repeat.was led)
+    leads_err (g.G.Guide.Serves c.walk_turns.new.guide whole start c.walk_turns.new.host) (g.G.Guide.Stops c.walk_turns.new.guide whole start c.walk_turns.new.host) k (env_of c.walk_turns.new.env) c.walk_turns.new.reply c.from_residual-in_err-walk_turns-in-Repeat.result c.from_residual-in_err-walk_turns-in-Repeat.ensures.0 (leads_stopped (g.G.Guide.Serves c.walk_turns.new.guide whole start c.walk_turns.new.host) (g.G.Guide.Stops c.walk_turns.new.guide whole start c.walk_turns.new.host) to (env_of c.walk_turns.new.env) c.walk_turns.new.reply c.walk_turns.result _ c.in_err-walk_turns-in-Repeat.was led)
 
 pub walk_stmt-passed-requires-in-On-clause-serves : goal.walk_stmt-passed-requires-in-On-clause-serves
 walk_stmt-passed-requires-in-On-clause-serves g t c =
@@ -118,7 +118,7 @@ walk_stmt-passed-requires-in-On-clause-serves g t c =
     let p = c.in-Repeat in
     let to : Env → Ahead = λ e. passing p.point e false (r.2 e) in
     let led = c.walk_turns.ensures r.0 r.1 to (loop_ahead (g.G.Guide.Serves c.args.guide.now r.0 r.1 c.args.host.now) r.2 c.args.stmt.now p.at p.point p.turns p.var p.body E p.is r.3) in
-    (r.0, r.1, r.2 (env_of c.walk_turns.new.env), leads_on (g.G.Guide.Serves c.walk_turns.new.guide r.0 r.1 c.walk_turns.new.host) (g.G.Guide.Stops c.walk_turns.new.guide r.0 r.1 c.walk_turns.new.host) to (env_of c.walk_turns.new.env) _ c.walk_turns.result c.in_ok-walk_turns-in-Repeat.was c.in-On.is led)
+    (r.0, r.1, r.2 (env_of c.walk_turns.new.env), leads_on (g.G.Guide.Serves c.walk_turns.new.guide r.0 r.1 c.walk_turns.new.host) (g.G.Guide.Stops c.walk_turns.new.guide r.0 r.1 c.walk_turns.new.host) to (env_of c.walk_turns.new.env) c.walk_turns.new.reply _ c.walk_turns.result c.in_ok-walk_turns-in-Repeat.was c.in-On.is led)
 
 pub walk_stmt-returns-in-On : goal.walk_stmt-returns-in-On
 walk_stmt-returns-in-On g t c whole start k now =
@@ -126,7 +126,7 @@ walk_stmt-returns-in-On g t c whole start k now =
     let p = c.in-Repeat in
     let to : Env → Ahead = λ e. passing p.point e false (k e) in
     let led = c.walk_turns.ensures whole start to (loop_ahead (g.G.Guide.Serves c.args.guide.now whole start c.args.host.now) k c.args.stmt.now p.at p.point p.turns p.var p.body E p.is now) in
-    c.passed-in-On.ensures whole start (k (env_of c.walk_turns.new.env)) (leads_on (g.G.Guide.Serves c.walk_turns.new.guide whole start c.walk_turns.new.host) (g.G.Guide.Stops c.walk_turns.new.guide whole start c.walk_turns.new.host) to (env_of c.walk_turns.new.env) _ c.walk_turns.result c.in_ok-walk_turns-in-Repeat.was c.in-On.is led)
+    c.passed-in-On.ensures whole start (k (env_of c.walk_turns.new.env)) (leads_on (g.G.Guide.Serves c.walk_turns.new.guide whole start c.walk_turns.new.host) (g.G.Guide.Stops c.walk_turns.new.guide whole start c.walk_turns.new.host) to (env_of c.walk_turns.new.env) c.walk_turns.new.reply _ c.walk_turns.result c.in_ok-walk_turns-in-Repeat.was c.in-On.is led)
 
 pub walk_stmt-returns-in-Answered : goal.walk_stmt-returns-in-Answered
 walk_stmt-returns-in-Answered g t c whole start k now =
@@ -134,7 +134,7 @@ walk_stmt-returns-in-Answered g t c whole start k now =
     let p = c.in-Repeat in
     let to : Env → Ahead = λ e. passing p.point e false (k e) in
     let led = c.walk_turns.ensures whole start to (loop_ahead (g.G.Guide.Serves c.args.guide.now whole start c.args.host.now) k c.args.stmt.now p.at p.point p.turns p.var p.body E p.is now) in
-    leads_answered (g.G.Guide.Serves c.walk_turns.new.guide whole start c.walk_turns.new.host) (g.G.Guide.Stops c.walk_turns.new.guide whole start c.walk_turns.new.host) to (env_of c.walk_turns.new.env) _ _ c.walk_turns.result c.in_ok-walk_turns-in-Repeat.was c.in-Answered.is led
+    leads_answered (g.G.Guide.Serves c.walk_turns.new.guide whole start c.walk_turns.new.host) (g.G.Guide.Stops c.walk_turns.new.guide whole start c.walk_turns.new.host) to (env_of c.walk_turns.new.env) c.walk_turns.new.reply _ c.walk_turns.result c.in_ok-walk_turns-in-Repeat.was c.in-Answered.is led
 
 pub walk_stmt-reply_of-requires-clause-some : goal.walk_stmt-reply_of-requires-clause-some
 walk_stmt-reply_of-requires-clause-some g t c =
@@ -164,7 +164,7 @@ walk_turns-returns-in_err-walk_block g t c whole start k now =
     let put : env_of c.put.new.env ≡ with_value (env_of c.loop-turn.env) c.args.var (Num (pos c.loop-turn.turn)) = c.put.ensures ∙ ap (λ (v : Value). with_value (env_of c.loop-turn.env) c.args.var v) c.turn_number.ensures in
     let h = turn_ahead (g.G.Guide.Serves c.loop-turn.guide whole start c.loop-turn.host) k body c.args.var c.args.turns c.loop-turn.turn (env_of c.loop-turn.env) c.loop-turn-test.true (c.loop-turn.invariant whole start k now) in
     let led = c.walk_block.ensures whole start to (subst (λ (e : Env). g.G.Guide.Serves c.loop-turn.guide whole start c.loop-turn.host (body to e)) (sym put) h) in
-    leads_err (g.G.Guide.Serves c.walk_block.new.guide whole start c.walk_block.new.host) (g.G.Guide.Stops c.walk_block.new.guide whole start c.walk_block.new.host) k (env_of c.walk_block.new.env) c.from_residual.result c.from_residual.ensures.0 (leads_stopped (g.G.Guide.Serves c.walk_block.new.guide whole start c.walk_block.new.host) (g.G.Guide.Stops c.walk_block.new.guide whole start c.walk_block.new.host) to (env_of c.walk_block.new.env) c.walk_block.result _ c.in_err-walk_block.was led)
+    leads_err (g.G.Guide.Serves c.walk_block.new.guide whole start c.walk_block.new.host) (g.G.Guide.Stops c.walk_block.new.guide whole start c.walk_block.new.host) k (env_of c.walk_block.new.env) c.walk_block.new.reply c.from_residual.result c.from_residual.ensures.0 (leads_stopped (g.G.Guide.Serves c.walk_block.new.guide whole start c.walk_block.new.host) (g.G.Guide.Stops c.walk_block.new.guide whole start c.walk_block.new.host) to (env_of c.walk_block.new.env) c.walk_block.new.reply c.walk_block.result _ c.in_err-walk_block.was led)
 
 pub walk_turns-returns-in-Answered : goal.walk_turns-returns-in-Answered
 walk_turns-returns-in-Answered g t c whole start k now =
@@ -173,7 +173,7 @@ walk_turns-returns-in-Answered g t c whole start k now =
     let put : env_of c.put.new.env ≡ with_value (env_of c.loop-turn.env) c.args.var (Num (pos c.loop-turn.turn)) = c.put.ensures ∙ ap (λ (v : Value). with_value (env_of c.loop-turn.env) c.args.var v) c.turn_number.ensures in
     let h = turn_ahead (g.G.Guide.Serves c.loop-turn.guide whole start c.loop-turn.host) k body c.args.var c.args.turns c.loop-turn.turn (env_of c.loop-turn.env) c.loop-turn-test.true (c.loop-turn.invariant whole start k now) in
     let led = c.walk_block.ensures whole start to (subst (λ (e : Env). g.G.Guide.Serves c.loop-turn.guide whole start c.loop-turn.host (body to e)) (sym put) h) in
-    leads_answered (g.G.Guide.Serves c.walk_block.new.guide whole start c.walk_block.new.host) (g.G.Guide.Stops c.walk_block.new.guide whole start c.walk_block.new.host) to (env_of c.walk_block.new.env) _ _ c.walk_block.result c.in_ok-walk_block.was c.in-Answered.is led
+    leads_answered (g.G.Guide.Serves c.walk_block.new.guide whole start c.walk_block.new.host) (g.G.Guide.Stops c.walk_block.new.guide whole start c.walk_block.new.host) to (env_of c.walk_block.new.env) c.walk_block.new.reply _ c.walk_block.result c.in_ok-walk_block.was c.in-Answered.is led
 
 pub walk_turns-loop-turn-preserved : goal.walk_turns-loop-turn-preserved
 walk_turns-loop-turn-preserved g t c whole start k now =
@@ -182,7 +182,7 @@ walk_turns-loop-turn-preserved g t c whole start k now =
     let put : env_of c.put.new.env ≡ with_value (env_of c.loop-turn.env) c.args.var (Num (pos c.loop-turn.turn)) = c.put.ensures ∙ ap (λ (v : Value). with_value (env_of c.loop-turn.env) c.args.var v) c.turn_number.ensures in
     let h = turn_ahead (g.G.Guide.Serves c.loop-turn.guide whole start c.loop-turn.host) k body c.args.var c.args.turns c.loop-turn.turn (env_of c.loop-turn.env) c.loop-turn-test.true (c.loop-turn.invariant whole start k now) in
     let led = c.walk_block.ensures whole start to (subst (λ (e : Env). g.G.Guide.Serves c.loop-turn.guide whole start c.loop-turn.host (body to e)) (sym put) h) in
-    leads_on (g.G.Guide.Serves c.walk_block.new.guide whole start c.walk_block.new.host) (g.G.Guide.Stops c.walk_block.new.guide whole start c.walk_block.new.host) to (env_of c.walk_block.new.env) _ c.walk_block.result c.in_ok-walk_block.was c.in-On.is led
+    leads_on (g.G.Guide.Serves c.walk_block.new.guide whole start c.walk_block.new.host) (g.G.Guide.Stops c.walk_block.new.guide whole start c.walk_block.new.host) to (env_of c.walk_block.new.env) c.walk_block.new.reply _ c.walk_block.result c.in_ok-walk_block.was c.in-On.is led
 
 pub walk_turns-returns : goal.walk_turns-returns
 walk_turns-returns g t c whole start k now =

@@ -14,14 +14,14 @@ walk_block-requires-clause-serves g c =
 pub returns-in_err-walk_block : goal.returns-in_err-walk_block
 returns-in_err-walk_block g c whole start now =
     let led = c.walk_block.ensures whole start goes (subst (λ (a : Ahead). g.G.Guide.Serves c.args.guide.now whole start c.args.host.now a) (sym (run_goes (block_code c.args.body.now) (env_of c.args.env.now))) now) in
-    ends_err (g.G.Guide.Serves c.walk_block.new.guide whole start c.walk_block.new.host) (g.G.Guide.Stops c.walk_block.new.guide whole start c.walk_block.new.host) (env_of c.walk_block.new.env) c.walk_block.result led _ c.from_residual.result c.in_err-walk_block.was c.from_residual.ensures.0
+    ends_err (g.G.Guide.Serves c.walk_block.new.guide whole start c.walk_block.new.host) (g.G.Guide.Stops c.walk_block.new.guide whole start c.walk_block.new.host) (env_of c.walk_block.new.env) c.walk_block.new.reply c.walk_block.result led _ c.from_residual.result c.in_err-walk_block.was c.from_residual.ensures.0
 
 pub returns-in-On : goal.returns-in-On
 returns-in-On g c whole start now =
     let led = c.walk_block.ensures whole start goes (subst (λ (a : Ahead). g.G.Guide.Serves c.args.guide.now whole start c.args.host.now a) (sym (run_goes (block_code c.args.body.now) (env_of c.args.env.now))) now) in
-    ends_on (g.G.Guide.Serves c.walk_block.new.guide whole start c.walk_block.new.host) (g.G.Guide.Stops c.walk_block.new.guide whole start c.walk_block.new.host) (env_of c.walk_block.new.env) c.walk_block.result led _ c.nil_reply.result c.in_ok-walk_block.was c.in-On.is c.nil_reply.ensures
+    ends_on (g.G.Guide.Serves c.walk_block.new.guide whole start c.walk_block.new.host) (g.G.Guide.Stops c.walk_block.new.guide whole start c.walk_block.new.host) (env_of c.walk_block.new.env) c.walk_block.new.reply c.walk_block.result led _ c.nil_reply.result c.in_ok-walk_block.was c.in-On.is c.nil_reply.ensures
 
 pub returns-in-Answered : goal.returns-in-Answered
 returns-in-Answered g c whole start now =
     let led = c.walk_block.ensures whole start goes (subst (λ (a : Ahead). g.G.Guide.Serves c.args.guide.now whole start c.args.host.now a) (sym (run_goes (block_code c.args.body.now) (env_of c.args.env.now))) now) in
-    ends_answered (g.G.Guide.Serves c.walk_block.new.guide whole start c.walk_block.new.host) (g.G.Guide.Stops c.walk_block.new.guide whole start c.walk_block.new.host) (env_of c.walk_block.new.env) c.walk_block.result led _ c.in-Answered.reply c.in_ok-walk_block.was c.in-Answered.is
+    ends_answered (g.G.Guide.Serves c.walk_block.new.guide whole start c.walk_block.new.host) (g.G.Guide.Stops c.walk_block.new.guide whole start c.walk_block.new.host) (env_of c.walk_block.new.env) c.walk_block.new.reply c.walk_block.result led _ c.in_ok-walk_block.was c.in-Answered.is

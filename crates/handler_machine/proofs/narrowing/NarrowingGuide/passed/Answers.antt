@@ -1,20 +1,16 @@
-use Rattle.std.proofs.Common.{arith, ◌≡◌, ◌+◌, ◌∙◌, false, length, None, map, sym, ap, subst}
+use Rattle.std.proofs.Common.{◌≡◌, ◌∙◌, false, None, sym, ap, subst}
 use Rattle.session_journal.specs.Desks.{MayNarrow}
+use Rattle.session_journal.specs.Desks.{DeskView}
 use Rattle.handler_dialogue.specs.Dialogue.{env_of}
-use Rattle.declaration_insertion.specs.Promises.{symbol_at}
-use Rattle.declaration_insertion.specs.Program.{declared_at}
-use Rattle.handler_check.specs.Resolved.{code_at}
-use Rattle.handler_dialogue.specs.Code.{points}
-use Rattle.declaration_insertion.proofs.Vars.{instantiated}
 use Rattle.handler_machine.specs.Serving.{Course, course_of, IsServing}
-use Rattle.handler_machine.proofs.Served.{vars_more, point_within, declare_may, declare_serves}
+use Rattle.handler_machine.proofs.Served.{point_within, declare_may, declare_serves, passes_settled}
 use Rattle.handler_machine.proofs.narrowing.NarrowingGuide.passed.Goals as goal
 
-pub declaration-requires-clause-handler : goal.declaration-requires-clause-handler
-declaration-requires-clause-handler g c = c.args.self.now.exists
+pub take_declaration-nothing-requires-clause-handler : goal.take_declaration-nothing-requires-clause-handler
+take_declaration-nothing-requires-clause-handler g c = c.args.self.now.exists
 
-pub declaration-requires-clause-point : goal.declaration-requires-clause-point
-declaration-requires-clause-point g c =
+pub take_declaration-nothing-requires-clause-point : goal.take_declaration-nothing-requires-clause-point
+take_declaration-nothing-requires-clause-point g c =
     let s = c.requires.serves in
     let at = g.D.Desk.at in
     let now = at c.args.host.now in
@@ -22,15 +18,8 @@ declaration-requires-clause-point g c =
     let course : Course = course_of (g.D.Served.Script.meaning (g.D.Desk.script (s.1))) (at (s.1)) n.program.now n.handler (s.0) in
     point_within course now n.next.room now.entries None c.args.point (env_of c.args.env.now) false s.2 s.3.1
 
-pub instantiate-requires-clause-vars : goal.instantiate-requires-clause-vars
-instantiate-requires-clause-vars g c = vars_more c.declaration.result.now 32 (length c.args.env.now) c.requires.variables c.declaration.ensures.vars
-
-pub instantiate-requires-clause-room : goal.instantiate-requires-clause-room
-instantiate-requires-clause-room g c =
-    let r = c.requires.serves in
-    let few = c.declaration.ensures.few in
-    let roomy = r.3.1.roomy in
-    omega arith
+pub take_declaration-nothing-requires-clause-room : goal.take_declaration-nothing-requires-clause-room
+take_declaration-nothing-requires-clause-room g c = c.requires.serves.3.1.roomy
 
 pub declare-requires-clause-narrows : goal.declare-requires-clause-narrows
 declare-requires-clause-narrows g c =
@@ -39,19 +28,23 @@ declare-requires-clause-narrows g c =
     let now = at c.args.host.now in
     let n = c.args.self.now in
     let course : Course = course_of (g.D.Served.Script.meaning (g.D.Desk.script (s.1))) (at (s.1)) n.program.now n.handler (s.0) in
-    let f = c.instantiate.new.out.symbols in
-    let is_list : f ≡ map (symbol_at (env_of c.args.env.now)) (declared_at n.program.now n.handler c.args.point) =
-    (λ i. (c.instantiate.ensures i).symbols) ∙ instantiated c.args.env.now c.declaration.result.now ∙ ap (map (symbol_at (env_of c.args.env.now))) c.declaration.ensures.list in
-    subst (λ z. MayNarrow (g.D.Served.Script.meaning z) now.ticket now.entries now.present f) (sym s.3.0) (declare_may course now n.next.room c.args.point (env_of c.args.env.now) s.2 f s.3.1 is_list)
+    let f = c.take_declaration-nothing.new.next.symbols in
+    subst (λ z. MayNarrow (g.D.Served.Script.meaning z) now.ticket now.entries now.present f) (sym s.3.0) (declare_may course now n.next.room c.args.point (env_of c.args.env.now) s.2 f s.3.1 c.take_declaration-nothing.ensures.symbols)
+
+pub returns-then-self : goal.returns-then-self
+returns-then-self g c whole start next so_far =
+    let at = g.D.Desk.at in
+    let now = at c.args.host.now in
+    let n = c.args.self.now in
+    let course : Course = course_of (g.D.Served.Script.meaning (g.D.Desk.script start)) (at start) n.program.now n.handler whole in
+    (so_far.0, passes_settled course now n.next.room c.args.point (env_of c.args.env.now) next so_far.1 (so_far.2 c.if-self.true), so_far.2)
 
 pub returns : goal.returns
 returns g c whole start next so_far =
     let at = g.D.Desk.at in
     let now = at c.args.host.now in
     let n = c.args.self.now in
-    let course : Course = course_of (g.D.Served.Script.meaning (g.D.Desk.script (start))) (at (start)) n.program.now n.handler (whole) in
-    let f = c.instantiate.new.out.symbols in
-    let is_list : f ≡ map (symbol_at (env_of c.args.env.now)) (declared_at n.program.now n.handler c.args.point) =
-    (λ i. (c.instantiate.ensures i).symbols) ∙ instantiated c.args.env.now c.declaration.result.now ∙ ap (map (symbol_at (env_of c.args.env.now))) c.declaration.ensures.list in
-    let h = declare_serves course now n.next.room c.args.point (env_of c.args.env.now) next f so_far.1 is_list (at c.declare.new.self) c.declare.ensures.narrowed in
-    (c.declare.ensures.script ∙ so_far.0, subst (λ r. IsServing course (at c.declare.new.self) r next) (λ i. (sym c.instantiate.ensures i).room) h)
+    let course : Course = course_of (g.D.Served.Script.meaning (g.D.Desk.script start)) (at start) n.program.now n.handler whole in
+    let f = c.take_declaration-nothing.new.next.symbols in
+    let h = declare_serves course now n.next.room c.args.point (env_of c.args.env.now) next f so_far.1 c.take_declaration-nothing.ensures.symbols (at c.declare.new.self) c.declare.ensures.narrowed in
+    (c.declare.ensures.script ∙ so_far.0, subst (λ r. IsServing course (at c.declare.new.self) r next) (sym c.take_declaration-nothing.ensures.room) h, λ e. ap (λ (d : DeskView). d.present) c.declare.ensures.narrowed ∙ c.take_declaration-nothing.ensures.nothing e)
