@@ -2,14 +2,12 @@
 use Rattle.std.proofs.Common.{◌≡◌, ◌↔◌, ℕ, ◌+◌, ◌<◌, ◌≤◌, true, false, List, [], ◌∷◌, ◌++◌, length, take, drop, get_or, subst, refl, sym, ap, ◌∙◌, inl, inr, ◌⊎◌, arith}
 use Rattle.std.specs.Prelude.{Result, Ok, Err}
 use Rattle.std.specs.Cmp.{IsTotalOrder, IsStrictWeakOrder}
-use Rattle.std.specs.Bool.{Decides}
-use Rattle.std.specs.Result.{is_ok}
 use Rattle.std.specs.List.{All, AllByRecursion, AllWithin, Contains, dedup, insert}
 use Rattle.std.specs.List.Sorted.{IsPermutation, IsSorted, IsStrictlySortedBy, IsBinarySearchResult, IsSearchInRange}
 use Rattle.std.proofs.lemmas.List.{take-append-drop, length-take-le, length-drop, get_or-take, get_or-drop}
 use Rattle.std.proofs.lemmas.List.Kept.{IsStrictlySortedBy-dedup, Contains-dedup, Contains-from_dedup}
 use Rattle.std.proofs.lemmas.List.Sorted.{Contains-permutation, IsPermutation-insert, IsPermutation-sym, searchable_from_sorted}
-use Rattle.std.proofs.lemmas.List.Elements.{All-contains, recursion_from_All, Contains-append_cases}
+use Rattle.std.proofs.lemmas.List.Elements.{recursion_from_All}
 use Rattle.std.proofs.lemmas.Map.Keys.{Less-from_sorted}
 use Rattle.std.proofs.lemmas.Cmp.{eq_by_cmp_equiv}
 use Rattle.std.specs.Ordering.{ordering_reverse, is_lt, is_eq, eq_by_cmp}
@@ -85,14 +83,6 @@ searched xs s (Ok i) sorted bound at = (i, bound, symbol_exact (get_or xs i s) s
 searched xs s (Err i) sorted bound at =
     let parts = at (searchable_from_sorted symbol_cmp_total (λ q. q) xs s (sorted_plainly xs sorted)) in
     (bound, (within_take (λ q. symbol_cmp q s ≡ Less) xs i bound parts.0, within_drop (λ q. symbol_cmp s q ≡ Less) xs i bound (λ k d from upto. reversed (get_or xs k d) s (parts.1 k d from upto))))
-
-pub is_searched : (xs : List Symbol) (s : Symbol) (r : Result ℕ ℕ) → IsSearched xs s r → Decides (is_ok r) (Contains xs s)
-is_searched xs s (Ok i) m = (λ e. m, λ k. refl)
-is_searched xs s (Err i) m = (λ e. absurd (cc e), λ k. absurd (none (Contains-append_cases (take i xs) (drop i xs) s (subst (λ (zs : List Symbol). Contains zs s) (sym (take-append-drop i xs)) k))))
-  where
-    none : Contains (take i xs) s ⊎ Contains (drop i xs) s → ⊥
-    none (inl c) = not_itself s (All-contains (λ q. symbol_cmp q s ≡ Less) (take i xs) s m.1.0 c)
-    none (inr c) = not_itself s (All-contains (λ q. symbol_cmp s q ≡ Less) (drop i xs) s m.1.1 c)
 
 -- ---- an element in its place
 

@@ -30,7 +30,7 @@ abbrev pub count_in : Stored → Option ℕ
 count_in (Listed list) = None
 count_in (Counted count) = Some count
 
--- ---- how it is held: equal lists of neighbours are held once
+-- ---- how it is held: a list that was kept before is held once
 
 -- the list that an entry holds itself
 abbrev pub own_list : Kept → List Symbol
@@ -43,6 +43,10 @@ abbrev pub stored_by : List Kept → Kept → Stored
 stored_by entries (Own list) = Listed list
 stored_by entries (Same k) = Listed (own_list (slice_index_or entries k (Count 0)))
 stored_by entries (Count n) = Counted n
+
+-- the entry at a place of these holds the list itself
+abbrev pub IsHeldAt : List Kept → List Symbol → ℕ → Type 0
+IsHeldAt entries list k = (k < length entries) × (own_list (slice_index_or entries k (Count 0)) ≡ list)
 
 abbrev pub all_stored : List Kept → List Stored
 all_stored entries = map (stored_by entries) entries

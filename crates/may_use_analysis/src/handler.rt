@@ -12,12 +12,17 @@ use handler_dialogue::CheckedHandler;
 use session_values::NoMemory;
 use std::alloc::Global;
 
-/// The lists of a handler's points, the last point first and the entry last.
-pub(crate) fn handler_lists(alloc: Global, handler: &CheckedHandler) -> Result<PointLists, NoMemory>
+/// The lists of a handler's points, the last point first and the entry last, where they may hold so
+/// many symbols.
+pub(crate) fn handler_lists(
+    alloc: Global,
+    handler: &CheckedHandler,
+    room: usize,
+) -> Result<PointLists, NoMemory>
     requires { IsNumbered (block_code handler.now.body) 1 }
     ensures { IfOk result (AreStored (block_code handler.now.body)) }
 {
-    let mut lists = PointLists::new(alloc);
+    let mut lists = PointLists::with_room(alloc, room)?;
     let mut heads = Heads::new(alloc);
     let nothing = Ordered::new(alloc);
     let body = handler.body.as_slice();

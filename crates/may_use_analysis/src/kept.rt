@@ -2,9 +2,10 @@
 
 ghost use Rattle.std.specs.Prelude.{◌≡◌, ◌<◌, ◌++◌, ◌∷◌, [], length, slice_get, slice_index_or, take, IfOk, IfSome, OnOk, Some};
 ghost use Rattle.std.specs.Bool.{OnTrue};
-ghost use Rattle.may_use_analysis.specs.Stored.{AllReferBack, Counted, IsStoredOf, RefersBack, Stored, count_in, list_in, own_list, stored_by};
+ghost use Rattle.may_use_analysis.specs.Stored.{AllReferBack, Counted, IsHeldAt, IsStoredOf, RefersBack, Stored, count_in, list_in, own_list, stored_by};
 
 use crate::ordered::is_same;
+use crate::recent::Recent;
 use session_values::{Listed, NoMemory};
 use std::alloc::Global;
 use std::marker::Model;
@@ -62,21 +63,69 @@ fn kept_list(entries: &[Kept], i: usize) -> &[Symbol]
     }
 }
 
-/// The place of the entry that holds the list of the last one.
-fn last_owner(entries: &[Kept]) -> Option<usize>
+/// The place of the entry that holds the list of the entry at a place.
+fn owner_at(entries: &[Kept], i: usize) -> Option<usize>
     requires { AllReferBack entries.now }
     ensures { IfSome result (λ k. k < length entries.now) }
 {
-    let last = entries.len().checked_sub(1)?;
-    match &entries[last] {
-        Kept::Own(_) => Some(last),
+    match entries.get(i)? {
+        Kept::Own(_) => Some(i),
         Kept::Same(k) => Some(*k),
         Kept::Count(_) => None,
     }
 }
 
-/// The entry of a list that comes behind these.
-fn entry_of(alloc: Global, entries: &[Kept], list: &[Symbol]) -> Result<Kept, NoMemory>
+/// The place of the entry that holds this list, where the list is that of the entry at a place.
+fn owner_of(entries: &[Kept], i: usize, list: &[Symbol]) -> Option<usize>
+    requires { AllReferBack entries.now }
+    ensures { IfSome result (IsHeldAt entries.now list.now) }
+{
+    let k = owner_at(entries, i)?;
+    if are_same(own_list(entries, k), list) {
+        Some(k)
+    } else {
+        None
+    }
+}
+
+/// The place of an entry that holds this list: that of the last entry, or one that is remembered.
+/// The place behind the entries is remembered for it.
+fn found_owner(entries: &[Kept], recent: &mut Recent, list: &[Symbol]) -> Option<usize>
+    requires { AllReferBack entries.now }
+    ensures { IfSome result (IsHeldAt entries.now list.now) }
+{
+    let end = entries.len();
+    match owner_of(entries, end.saturating_sub(1), list) {
+        Some(k) => Some(k),
+        None => owner_of(entries, recent.exchange(list, end), list),
+    }
+}
+
+/// How many symbols the entry holds itself.
+fn held(entry: &Kept) -> usize {
+    match entry {
+        Kept::Own(list) => list.as_slice().len(),
+        Kept::Same(_) | Kept::Count(_) => 0,
+    }
+}
+
+/// How many symbols the entries from a place on hold themselves.
+fn held_from(entries: &[Kept], n: usize) -> usize {
+    let mut sum: usize = 0;
+    for i in n..entries.len() {
+        sum = sum.saturating_add(held(&entries[i]));
+    }
+    sum
+}
+
+/// The entry of a list that comes behind these, where it may hold so many symbols.
+fn entry_of(
+    alloc: Global,
+    entries: &[Kept],
+    recent: &mut Recent,
+    room: usize,
+    list: &[Symbol],
+) -> Result<Kept, NoMemory>
     requires { AllReferBack entries.now }
     ensures back { IfOk result (RefersBack (length entries.now)) }
     ensures stored { IfOk result (λ e. IsStoredOf list.now (stored_by entries.now e)) }
@@ -84,10 +133,11 @@ fn entry_of(alloc: Global, entries: &[Kept], list: &[Symbol]) -> Result<Kept, No
     if list.len() > LIMIT {
         return Ok(Kept::Count(list.len() as u64));
     }
-    if let Some(k) = last_owner(entries) {
-        if are_same(own_list(entries, k), list) {
-            return Ok(Kept::Same(k));
-        }
+    if let Some(k) = found_owner(entries, recent, list) {
+        return Ok(Kept::Same(k));
+    }
+    if list.len() > room {
+        return Err(NoMemory);
     }
     let copy = Vec::from_slice(alloc, list)?;
     Ok(Kept::Own(Listed::from_vec(copy)))
@@ -97,6 +147,9 @@ fn entry_of(alloc: Global, entries: &[Kept], list: &[Symbol]) -> Result<Kept, No
 #[derive(Drop)]
 pub(crate) struct PointLists {
     entries: Vec<Kept>,
+    recent: Recent,
+    // How many more symbols may be held.
+    room: usize,
 }
 
 impl Model for PointLists {
@@ -111,12 +164,20 @@ impl Model for PointLists {
 }
 
 impl PointLists {
-    pub(crate) fn new(alloc: Global) -> PointLists
-        ensures { result ≡ [] }
+    /// No list, with room for so many symbols.
+    pub(crate) fn with_room(alloc: Global, room: usize) -> Result<PointLists, NoMemory>
+        ensures { IfOk result (λ lists. lists ≡ []) }
     {
-        PointLists {
+        Ok(PointLists {
             entries: Vec::new(alloc),
-        }
+            recent: Recent::new(alloc)?,
+            room,
+        })
+    }
+
+    /// How many more symbols may be held.
+    pub(crate) fn room(&self) -> usize {
+        self.room
     }
 
     pub(crate) fn len(&self) -> usize
@@ -128,6 +189,8 @@ impl PointLists {
     pub(crate) fn truncate(&mut self, n: usize)
         ensures { self.new ≡ take n self.old }
     {
+        let freed = held_from(self.entries.as_slice(), n);
+        self.room = self.room.saturating_add(freed);
         self.entries.truncate(n);
     }
 
@@ -136,7 +199,14 @@ impl PointLists {
         ensures { OnOk result ((stored : Stored) × IsStoredOf list.now stored
             × (self.new ≡ self.old ++ stored ∷ [])) }
     {
-        let entry = entry_of(alloc, self.entries.as_slice(), list)?;
+        let entry = entry_of(
+            alloc,
+            self.entries.as_slice(),
+            &mut self.recent,
+            self.room,
+            list,
+        )?;
+        self.room = self.room.saturating_sub(held(&entry));
         self.entries.push(entry)?;
         Ok(())
     }

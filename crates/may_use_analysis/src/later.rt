@@ -13,6 +13,10 @@ use std::alloc::Global;
 use std::marker::Model;
 use symbolic_ops::Symbol;
 
+/// How many symbols are kept of a file, in lists of which no two of a handler that were kept close
+/// to each other are equal.
+const ROOM: usize = 12_582_912;
+
 /// The list of each point of each handler of a file. Contracts see it as these lists, by the
 /// numbers of handlers and points.
 #[derive(Drop)]
@@ -38,9 +42,11 @@ pub fn later_sets(alloc: Global, checked: &Checked) -> Result<Later, AnalysisRef
         → IsTooMany checked.now e) }
 {
     let mut handlers = Vec::new(alloc);
+    let mut room = ROOM;
     for h in 0..checked.handlers() {
         let handler = checked.handler(h);
-        let lists = handler_lists(alloc, handler)?;
+        let lists = handler_lists(alloc, handler, room)?;
+        room = lists.room();
         match first_excess(&lists) {
             None => handlers.push(lists)?,
             Some(excess) => {

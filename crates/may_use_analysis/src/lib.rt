@@ -8,6 +8,7 @@ mod later;
 pub mod laws;
 mod ordered;
 mod places;
+mod recent;
 mod refusal;
 mod stores;
 mod walk;

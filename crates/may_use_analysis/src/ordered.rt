@@ -1,7 +1,7 @@
 // Ordered lists of symbols.
 
 ghost use Rattle.std.specs.Prelude.{◌≡◌, ◌↔◌, ◌⊎◌, [], length, map, Contains, IfOk, OnOk};
-ghost use Rattle.std.specs.Bool.{Decides, OnFalse, OnTrue};
+ghost use Rattle.std.specs.Bool.{OnFalse, OnTrue};
 ghost use Rattle.std.specs.List.{AllByRecursion};
 ghost use Rattle.std.specs.List.Sorted.{IsStrictlySortedBy};
 ghost use Rattle.std.specs.Ordering.{eq_by_cmp};
@@ -63,21 +63,30 @@ fn find(list: &[Symbol], s: &Symbol) -> Result<usize, usize>
     list.binary_search_by(|q| q.compare(s))
 }
 
-/// Whether an ordered list has the symbol.
-fn has(list: &[Symbol], s: &Symbol) -> bool
-    requires { IsStrictlySortedBy symbol_cmp list.now }
-    ensures { Decides result (Contains list.now s.now) }
-{
-    find(list, s).is_ok()
+/// The first place from one on whose symbol isn't less than this one, or the end.
+fn place_from(list: &[Symbol], start: usize, s: &Symbol) -> usize {
+    for i in start..list.len() {
+        if !list[i].compare(s).is_lt() {
+            return i;
+        }
+    }
+    list.len()
 }
 
-/// Whether an ordered list has all of these.
+fn is_at(list: &[Symbol], i: usize, s: &Symbol) -> bool
+    ensures { OnTrue result (Contains list.now s.now) }
+{
+    i < list.len() && is_same(&list[i], s)
+}
+
+/// Whether an ordered list has all of these, which are in order too.
 fn has_all(list: &[Symbol], more: &[Symbol]) -> bool
-    requires { IsStrictlySortedBy symbol_cmp list.now }
     ensures { OnTrue result ((s : Symbol) → Contains more.now s → Contains list.now s) }
 {
+    let mut i = 0;
     for s in more {
-        if !has(list, s) {
+        i = place_from(list, i, s);
+        if !is_at(list, i, s) {
             return false;
         }
     }

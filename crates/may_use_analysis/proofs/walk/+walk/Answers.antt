@@ -1,12 +1,10 @@
-use Rattle.std.proofs.Common.{◌≡◌, ℕ, ◌+◌, ◌*◌, ◌-◌, ◌<◌, ◌≤◌, ◌∷◌, [], ◌++◌, append-nil, arith, rules, length, drop, List, refl, sym, ap, ◌∙◌, subst, Contains, inl, inr, ◌⊎◌, ◌↔◌}
+use Rattle.std.proofs.Common.{ℕ, ◌+◌, ◌*◌, ◌-◌, ◌<◌, ◌∷◌, [], ◌++◌, append-nil, arith, rules, length, drop, List, refl, sym, ap, ◌∙◌, subst, Contains, inl, inr, ◌⊎◌}
 use Rattle.std.specs.Prelude.{IfOk, OnOk}
 use Rattle.symbolic_ops.specs.declared.symbol.Symbol.{Symbol}
 use Rattle.handler_dialogue.specs.declared.tree.CheckedStmt.{CheckedStmt}
 use Rattle.handler_dialogue.specs.Code.{Code, Finish, Loop, IsNumbered, stmt_code, block_code, points}
 use Rattle.handler_check.proofs.Counting.{checked_size, checked_sizes, member_smaller, first_smaller, second_smaller, body_smaller, code_store, code_choose, code_repeat}
-use Rattle.may_use_analysis.specs.Steps.{Other}
-use Rattle.may_use_analysis.specs.Trails.{Back}
-use Rattle.may_use_analysis.specs.Flow.{Flow, Head, StmtFlow}
+use Rattle.may_use_analysis.specs.Flow.{Flow, Head}
 use Rattle.may_use_analysis.specs.Ordered.{Are}
 use Rattle.may_use_analysis.specs.Recorded.{Recorded}
 use Rattle.may_use_analysis.specs.Stored.{Stored}
@@ -14,7 +12,7 @@ use Rattle.may_use_analysis.specs.Warm.{HeadAt, AreWarm, SameOutside}
 use Rattle.may_use_analysis.proofs.LoopLemmas.{head_start}
 use Rattle.may_use_analysis.proofs.Records.{recorded_same, recorded_stmt, recorded_extends, head_lists, kept_lists}
 use Rattle.may_use_analysis.proofs.Sets.{stored_lent}
-use Rattle.may_use_analysis.proofs.WalkSteps.{block_step, fork_step, turn_sound, turn_start, turn_least, turn_done, drop_code, all_code}
+use Rattle.may_use_analysis.proofs.WalkSteps.{block_step, fork_step, turn_sound, turn_start, turn_least, turn_done, drop_code}
 use Rattle.may_use_analysis.proofs.WarmLemmas.{warm_larger, warm_below, warm_above, outside_trans, start_of, numbered_next, warm_next, warm_after, others_after, warm_kept}
 use Rattle.may_use_analysis.proofs.walk.+walk.Goals as goal
 
