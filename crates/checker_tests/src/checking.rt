@@ -1,4 +1,4 @@
-// What the checker answers: the first place where a file breaks a rule, or the bounds by its text.
+// What the checker tells of files that break no rule. Refusals are stored runs, in `checks/`.
 
 use handler_check::{Checked, check};
 use handler_syntax::parse;
@@ -6,110 +6,87 @@ use session_values::Names;
 use std::alloc::Global;
 use std::test::Fail;
 
-/// The bounds of the first handler, on its calls and its work; none where there is no handler.
-fn bounds(alloc: Global, checked: &Checked) -> Result<String, Fail> {
-    if checked.handlers() == 0 {
-        return Ok(String::new(alloc));
-    }
-    let calls = checked.calls_bound(0);
-    let work = checked.work_bound(0);
-    Ok(format!(in alloc; "{calls} {work}")?)
-}
-
-/// Why a source is refused, as text, or else the bounds of its first handler.
-fn answer(alloc: Global, source: &str) -> Result<String, Fail> {
-    if source.len() > 4_194_304 {
-        return Err(Fail::from("too long"));
-    }
-    let mut names = Names::new(alloc)?;
-    let file = match parse(alloc, source, &mut names) {
-        Ok(file) => file.into_tree(),
-        Err(e) => return Ok(format!(in alloc; "{e:?}")?),
-    };
-    match check(alloc, file) {
-        Ok(checked) => bounds(alloc, &checked),
-        Err(e) => Ok(format!(in alloc; "{e:?}")?),
-    }
-}
-
-#[test]
-fn finds_the_first_fault(rt: HostRuntime) -> Result<(), Fail> {
-    for (source, want) in [
-        ("map m; set m;", "Twice { at: 11 }"),
-        (
-            "map m; handler f() { repeat 1000 as i { repeat 10 as j { get(m, j); } } }",
-            "10000 22001",
-        ),
-        (
-            "map m; handler f() { repeat 1000 as i { repeat 10 as j { get(m, j); } } get(m, 0); }",
-            "TooManyCalls { at: 15 }",
-        ),
-        (
-            "handler spin() { repeat 1000 as i { repeat 48 as j { let x = j; } } }",
-            "0 98001",
-        ),
-        (
-            "handler spin() { repeat 1000 as i { repeat 49 as j { let x = j; } } }",
-            "TooMuchWork { at: 8 }",
-        ),
-        (
-            "handler spin() { repeat 1000 as i { repeat 48 as j { let x = j; } } repeat 999 as k { } repeat 998 as l { } }",
-            "0 100000",
-        ),
-        (
-            "handler spin() { repeat 1000 as i { repeat 48 as j { let x = j; } } repeat 999 as k { } repeat 999 as l { } }",
-            "TooMuchWork { at: 8 }",
-        ),
-        (
-            "map m; handler f(a) { if a == 1 { put(m, a, 1); del(m, a); } else { get(m, a); } reply a; get(m, a); }",
-            "3 5",
-        ),
-    ] {
-        let found = answer(rt.alloc(), source)?;
-        assert_eq!(rt; found.as_str(), want, "{source}");
-    }
-    Ok(())
-}
-
-/// What is known of the handlers of a source: how many there are, the number of the one whose name
-/// is the second of the list, and of that one its parameters, its points, its adding calls on the
-/// first table and its variables.
-fn known(alloc: Global, source: &str) -> Result<String, Fail> {
+/// A source, checked.
+fn checked_of(alloc: Global, source: &str) -> Result<Checked, Fail> {
     if source.len() > 4_194_304 {
         return Err(Fail::from("too long"));
     }
     let mut names = Names::new(alloc)?;
     let file = parse(alloc, source, &mut names)?;
-    let checked = check(alloc, file.into_tree())?;
-    let count = checked.handlers();
+    Ok(check(alloc, file.into_tree())?)
+}
+
+/// The bounds of the first handler of a source, on its calls and its work.
+fn bounds(alloc: Global, source: &str) -> Result<(u32, u32), Fail> {
+    let checked = checked_of(alloc, source)?;
+    if checked.handlers() == 0 {
+        return Err(Fail::from("no handler"));
+    }
+    Ok((checked.calls_bound(0), checked.work_bound(0)))
+}
+
+#[test]
+fn bounds_of_handlers(rt: HostRuntime) -> Result<(), Fail> {
+    for (source, want) in [
+        (
+            "map m; handler f() { repeat 1000 as i { repeat 10 as j { get(m, j); } } }",
+            (10_000, 22_001),
+        ),
+        (
+            "handler spin() { repeat 1000 as i { repeat 48 as j { let x = j; } } }",
+            (0, 98_001),
+        ),
+        (
+            "handler spin() { repeat 1000 as i { repeat 48 as j { let x = j; } } repeat 999 as k { } repeat 998 as l { } }",
+            (0, 100_000),
+        ),
+        (
+            "map m; handler f(a) { if a == 1 { put(m, a, 1); del(m, a); } else { get(m, a); } reply a; get(m, a); }",
+            (3, 5),
+        ),
+    ] {
+        let found = bounds(rt.alloc(), source)?;
+        assert_eq!(rt; found, want, "{source}");
+    }
+    Ok(())
+}
+
+/// What is known of the handler of a source whose name is the second of the list: its number, its
+/// parameters, its points, its adding calls on the first table, its variables and the name of the
+/// first one.
+fn known(alloc: Global, source: &str) -> Result<Option<[u32; 6]>, Fail> {
+    let checked = checked_of(alloc, source)?;
     let Some(h) = checked.find(1) else {
-        return Ok(format!(in alloc; "{count}")?);
+        return Ok(None);
     };
-    if h >= count {
+    if h >= checked.handlers() {
         return Err(Fail::from("no such handler"));
     }
     let adds = checked.adds_bound(h, 0);
     let handler = checked.handler(h);
-    let (params, points) = (handler.params, handler.points);
-    let variables = handler.variables.as_slice();
-    Ok(format!(in alloc; "{count} {h} {params} {points} {adds} {variables:?}")?)
+    let count = handler.variables.len();
+    if count == 0 {
+        return Err(Fail::from("no variable"));
+    }
+    let first = *handler.variables.get(0);
+    Ok(Some([h, handler.params, handler.points, adds, count, first]))
 }
 
 #[test]
 fn tells_of_handlers(rt: HostRuntime) -> Result<(), Fail> {
     for (source, want) in [
-        ("map m; handler m() { }", "1"),
+        ("map m; handler m() { }", None),
         (
             "map m; handler f(a) { if a == 1 { put(m, a, 1); del(m, a); } else { get(m, a); } } handler m() { }",
-            "2 0 1 6 1 [2]",
+            Some([0, 1, 6, 1, 1, 2]),
         ),
         (
             "set s; handler f(a, b) { repeat 3 as i { let x = add(s, i); mark(s, x); } let y = 1; }",
-            "1 0 2 4 6 [2, 3, 4, 5, 6]",
+            Some([0, 2, 4, 6, 5, 2]),
         ),
     ] {
         let found = known(rt.alloc(), source)?;
-        assert_eq!(rt; found.as_str(), want, "{source}");
+        assert_eq!(rt; found, want, "{source}");
     }
     Ok(())
 }

@@ -1,10 +1,12 @@
-// The requests' part of a session file, with values from outside.
+// The requests' part of a session file, with values from outside. What single requests are is shown
+// by stored runs, in `checks/`.
 
 ghost use Rattle.std.specs.Prelude.{◌≤◌, length};
 
 use handler_check::check;
 use handler_syntax::parse;
-use request_files::{Lines, Requests, divide, read_requests};
+use request_files::RequestRefusal::{Arity, TooManyCalls, TooManyRequests, TooMuchWork};
+use request_files::{Lines, RequestRefusal, divide, read_requests};
 use session_values::Names;
 use std::alloc::Global;
 use std::test::Fail;
@@ -63,111 +65,49 @@ fn lines_and_words(rt: HostRuntime) {
     }
 }
 
-/// Requests as text: of each the handler's number and the arguments.
-fn shown(alloc: Global, requests: &Requests) -> Result<String, Fail> {
-    let mut text = String::new(alloc);
-    for t in 0..requests.len() {
-        let handler = requests.handler(t);
-        let args = requests.args(t);
-        let one = format!(in alloc; "{handler} {args:?};")?;
-        text.push_str(one.as_str())?;
-    }
-    Ok(text)
-}
-
-/// The requests of a session file as text, or how many there are, or why it is refused.
-fn answer(alloc: Global, text: &str, counted: bool) -> Result<String, Fail> {
-    if text.len() > 1_000_000 {
-        return Err(Fail::from("too long"));
-    }
-    let Some(parts) = divide(text) else {
-        return Err(Fail::from("no requests"));
-    };
-    let first = parts.first;
-    if parts.handlers.len() > 1_000_000 || parts.requests.len() > 1_000_000 || first > 1_000_000 {
+/// How many requests a text makes for these handlers, or why it is refused. Its first line has the
+/// number 3.
+fn read(
+    alloc: Global,
+    handlers: &str,
+    requests: &str,
+) -> Result<Result<u32, RequestRefusal>, Fail> {
+    if handlers.len() > 1_000_000 || requests.len() > 1_000_000 {
         return Err(Fail::from("too long"));
     }
     let mut names = Names::new(alloc)?;
-    let file = parse(alloc, parts.handlers, &mut names)?;
+    let file = parse(alloc, handlers, &mut names)?;
     let checked = check(alloc, file.into_tree())?;
     if names.len() > 1_000_000 {
         return Err(Fail::from("too many names"));
     }
-    match read_requests(alloc, &checked, parts.requests, first, &mut names) {
-        Ok(found) if counted => Ok(format!(in alloc; "{}", found.len())?),
-        Ok(found) => shown(alloc, &found),
-        Err(e) => Ok(format!(in alloc; "{e:?}")?),
+    match read_requests(alloc, &checked, requests, 3, &mut names) {
+        Ok(found) => Ok(Ok(found.len())),
+        Err(e) => Ok(Err(e)),
     }
 }
 
-const HANDLERS: &str = "map seats;
-set online;
-handler login(u, now) {
-  let old = swap(seats, u, now);
-  mark(online, u);
-  reply old;
-}
-handler logout(u) {
-  del(seats, u);
-  drop(online, u);
-} handler nop() { }
-%%
-";
-
-/// What requests of these handlers are, whose first line has the number 13.
-fn answer_here(alloc: Global, requests: &str) -> Result<String, Fail> {
-    let mut text = String::from_str(alloc, HANDLERS)?;
-    text.push_str(requests)?;
-    answer(alloc, text.as_str(), false)
-}
-
-#[test]
-fn requests(rt: HostRuntime) -> Result<(), Fail> {
-    for (text, want) in [
-        (
-            "login alice -007 # x\n\n # y\nnop\r\n\tlogin nil bob\nlogout alice",
-            "0 [Sym(8), Num(-7)];2 [];0 [Nil, Sym(9)];1 [Sym(8)];",
-        ),
-        ("enter alice", "UnknownHandler { line: 13 }"),
-        ("alice", "UnknownHandler { line: 13 }"),
-        ("seats", "UnknownHandler { line: 13 }"),
-        ("login alice", "Arity { line: 13 }"),
-        ("nop # x\nnop x", "Arity { line: 14 }"),
-        ("login 5x", "Arity { line: 13 }"),
-        ("login alice 5x", "BadWord { line: 13 }"),
-        ("\n\nlogin alice 5x\nenter", "BadWord { line: 15 }"),
-        ("login alice +5", "BadWord { line: 13 }"),
-        (
-            "login -9223372036854775808 9223372036854775808",
-            "BadWord { line: 13 }",
-        ),
-        (
-            "login -9223372036854775809 9223372036854775807",
-            "BadWord { line: 13 }",
-        ),
-        ("login x ü", "BadWord { line: 13 }"),
-        (
-            "login x a123456789b123456789c123456789d123456789e123456789f123456789g1234",
-            "BadWord { line: 13 }",
-        ),
-    ] {
-        let found = answer_here(rt.alloc(), text)?;
-        assert_eq!(rt; found.as_str(), want, "{text:?}");
-    }
-    Ok(())
-}
-
-/// How many requests a handler, a dividing line and so many times a line behind it make, with a
-/// last line behind them.
-fn count(alloc: Global, handler: &str, line: &str, times: u32, last: &str) -> Result<String, Fail> {
-    let mut text = String::from_str(alloc, handler)?;
-    text.push_str("\n%%\n")?;
+/// A line so many times, with a last line behind them.
+fn repeated(alloc: Global, line: &str, times: u32, last: &str) -> Result<String, Fail> {
+    let mut text = String::new(alloc);
     for _ in 0..times {
         text.push_str(line)?;
         text.push_str("\n")?;
     }
     text.push_str(last)?;
-    answer(alloc, text.as_str(), true)
+    Ok(text)
+}
+
+/// How many requests such a text makes for these handlers.
+fn count(
+    alloc: Global,
+    handlers: &str,
+    line: &str,
+    times: u32,
+    last: &str,
+) -> Result<Result<u32, RequestRefusal>, Fail> {
+    let text = repeated(alloc, line, times, last)?;
+    read(alloc, handlers, text.as_str())
 }
 
 #[test]
@@ -178,27 +118,33 @@ fn sums_over_requests(rt: HostRuntime) -> Result<(), Fail> {
     let work = "handler spin() { repeat 1000 as i { repeat 48 as j { let x = j; } } }";
     let most =
         "handler spin() { repeat 1000 as i { repeat 48 as j { let x = j; } } repeat 999 as k { } repeat 998 as l { } } handler g() { reply 1; }";
-    for (handler, line, times, last, want) in [
-        (nop, "nop", 20_000, "", "20000"),
-        (nop, "nop", 20_000, "nop", "TooManyRequests { line: 20003 }"),
+    for (handlers, line, times, last, want) in [
+        (nop, "nop", 20_000, "", Ok(20_000)),
+        (
+            nop,
+            "nop",
+            20_000,
+            "nop",
+            Err(TooManyRequests { line: 20_003 }),
+        ),
         (
             nop,
             "nop",
             20_000,
             "enter 5x",
-            "TooManyRequests { line: 20003 }",
+            Err(TooManyRequests { line: 20_003 }),
         ),
-        (calls, "f", 20, "", "20"),
-        (calls, "f", 20, "g", "TooManyCalls { line: 23 }"),
-        (calls, "f", 20, "g 1", "Arity { line: 23 }"),
-        (calls, "f", 20, "f", "TooManyCalls { line: 23 }"),
-        (work, "spin", 102, "", "102"),
-        (work, "spin", 102, "spin", "TooMuchWork { line: 105 }"),
-        (most, "spin", 100, "", "100"),
-        (most, "spin", 100, "g", "TooMuchWork { line: 103 }"),
+        (calls, "f", 20, "", Ok(20)),
+        (calls, "f", 20, "g", Err(TooManyCalls { line: 23 })),
+        (calls, "f", 20, "g 1", Err(Arity { line: 23 })),
+        (calls, "f", 20, "f", Err(TooManyCalls { line: 23 })),
+        (work, "spin", 102, "", Ok(102)),
+        (work, "spin", 102, "spin", Err(TooMuchWork { line: 105 })),
+        (most, "spin", 100, "", Ok(100)),
+        (most, "spin", 100, "g", Err(TooMuchWork { line: 103 })),
     ] {
-        let found = count(rt.alloc(), handler, line, times, last)?;
-        assert_eq!(rt; found.as_str(), want, "{times} times {line:?}");
+        let found = count(rt.alloc(), handlers, line, times, last)?;
+        assert_eq!(rt; found, want, "{times} times {line:?}");
     }
     Ok(())
 }
