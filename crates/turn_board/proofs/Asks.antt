@@ -1,5 +1,5 @@
 -- Asking for a set of turns keeps the rule.
-use Rattle.std.proofs.Common.{◌≡◌, ℕ, zero, suc, ◌<◌, ◌≤◌, ◌⊎◌, inl, inr, List, [], ◌∷◌, length, get_or, set, Bool, true, false, cond, ◌&&◌, max, refl, sym, ap, ap₂, ◌∙◌, subst, arith, suc-ne-zero}
+use Rattle.std.proofs.Common.{◌≡◌, ℕ, zero, suc, ◌<◌, ◌≤◌, ◌⊎◌, inl, inr, List, [], ◌∷◌, length, get_or, set, Bool, true, false, cond, ◌&&◌, max, refl, sym, ap, ap₂, ◌∙◌, subst, arith, suc-ne-zero, length-set, get_or-set_same}
 use Rattle.std.specs.Prelude.{Option, Some, None, slice_get, ◌==◌, bit_or}
 use Rattle.std.proofs.lemmas.Nat.Bits.{bit_at_or, bit_at-lt}
 use Rattle.std.proofs.lemmas.Option.{none-some}
@@ -68,10 +68,10 @@ module _ {V C : Type 0} (content : V → C) (holds : List C → List C → Type 
     new-bit t = bit_at_or (get_or s.words 7 0) set' t
 
     abbrev SameAt : ℕ → Type 0
-    SameAt = Same content holds caller_count s r id v w (bit_or (get_or s.words 7 0) set') s.homes r.contents r.notes owner'
+    SameAt = Same content holds caller_count s r id v w (bit_or (get_or s.words 7 0) set') (set s.words 7 (bit_or (get_or s.words 7 0) set')) s.homes r.contents r.notes owner'
 
     abbrev MineAt : ℕ → Type 0
-    MineAt = Mine content holds caller_count s r id v w (bit_or (get_or s.words 7 0) set') s.homes r.contents r.notes owner'
+    MineAt = Mine content holds caller_count s r id v w (bit_or (get_or s.words 7 0) set') (set s.words 7 (bit_or (get_or s.words 7 0) set')) s.homes r.contents r.notes owner'
 
     stays : (t : ℕ) → t < slots → got t ≡ false → SameAt t
     stays t h e = record {
@@ -95,7 +95,7 @@ module _ {V C : Type 0} (content : V → C) (holds : List C → List C → Type 
         let set-bit : bit_at (bit_or (get_or s.words 7 0) set') t ≡ 1 = new-bit t ∙ ap₂ max bits.1 bits.0 in
         record {
           ours = λ k g. absurd (suc-ne-zero k (sym g ∙ f.0));
-          owns = subst (λ (o : ℕ). Owns content holds caller_count s r id v w (bit_or (get_or s.words 7 0) set') s.homes r.contents r.notes owner' t o) (sym own) (set-bit, spoken.1, spoken.2, (c, is));
+          owns = subst (λ (o : ℕ). Owns content holds caller_count s r id v w (bit_or (get_or s.words 7 0) set') (set s.words 7 (bit_or (get_or s.words 7 0) set')) s.homes r.contents r.notes owner' t o) (sym own) (set-bit, spoken.1, spoken.2, (c, is));
           held = λ d g. (f.1.1 ∙ sym is ∙ g, subst (InPlace content s.homes t) (sym put) f.1.2, (k0, own, spoken.2));
         }
 
@@ -110,7 +110,7 @@ module _ {V C : Type 0} (content : V → C) (holds : List C → List C → Type 
     spoken_notes = (r.each_view id v at).spoken
 
     pub asked-tied : Tied content holds caller_count record { words = set s.words 7 (bit_or (get_or s.words 7 0) set'); homes = s.homes; views = set s.views id w }
-    asked-tied = moved content holds caller_count s r id v w (bit_or (get_or s.words 7 0) set') s.homes r.contents r.notes owner' at refl each within spoken_notes (λ k ne. refl) r.now (no-change r.now r.contents v w r.opened (r.changes id v at) refl refl) r.turns r.callers r.tied
+    asked-tied = moved content holds caller_count s r id v w (bit_or (get_or s.words 7 0) set') (set s.words 7 (bit_or (get_or s.words 7 0) set')) s.homes r.contents r.notes owner' at refl (get_or-set_same s.words 7 (bit_or (get_or s.words 7 0) set') 0 (let h : length s.words ≡ 15 = r.words in omega arith)) (length-set s.words 7 (bit_or (get_or s.words 7 0) set') ∙ r.words) each within spoken_notes (λ k ne. refl) r.now (no-change r.now r.contents v w r.opened (r.changes id v at) refl refl) r.turns r.callers r.tied
 
     -- a board of one caller has no other seat that could hold a turn
     alone : v.caller_count ≡ 1 → (t : ℕ) → t < length s.homes → bit_at (get_or s.words 7 0) t ≡ 1 → (o : ℕ) → TurnOk content caller_count r.owner r.seat_of r.contents r.notes s t o → (c : C) × (counted v t ≡ Some c)

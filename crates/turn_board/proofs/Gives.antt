@@ -1,5 +1,5 @@
 -- Giving turns back keeps the rule, alone or with new contents and a new note.
-use Rattle.std.proofs.Common.{◌≡◌, ◌≢◌, ℕ, zero, suc, ◌+◌, ◌<◌, ◌≤◌, ◌⊎◌, inl, inr, List, [], ◌∷◌, length, get_or, set, Bool, true, false, cond, min, refl, sym, ap, ap₂, ◌∙◌, subst, arith, length-set, eq-eqb, ne_eqb}
+use Rattle.std.proofs.Common.{◌≡◌, ◌≢◌, ℕ, zero, suc, ◌+◌, ◌<◌, ◌≤◌, ◌⊎◌, inl, inr, List, [], ◌∷◌, length, get_or, set, Bool, true, false, cond, min, refl, sym, ap, ap₂, ◌∙◌, subst, arith, length-set, get_or-set_same, eq-eqb, ne_eqb}
 use Rattle.std.specs.Prelude.{Option, Some, None, slice_get, ◌==◌, bit_and}
 use Rattle.std.proofs.lemmas.Nat.Bits.{bit_at_and, bit_at-lt}
 use Rattle.std.proofs.lemmas.Option.{none-some}
@@ -42,13 +42,13 @@ module _ {V C : Type 0} (content : V → C) (holds : List C → List C → Type 
     owner' t = cond (bit_at mask t == 0) 0 (r.owner t)
 
     abbrev SameAt : ℕ → Type 0
-    SameAt = Same content holds caller_count s r id v w word s.homes contents notes owner'
+    SameAt = Same content holds caller_count s r id v w word (set s.words 7 word) s.homes contents notes owner'
 
     abbrev MineAt : ℕ → Type 0
-    MineAt = Mine content holds caller_count s r id v w word s.homes contents notes owner'
+    MineAt = Mine content holds caller_count s r id v w word (set s.words 7 word) s.homes contents notes owner'
 
     abbrev OwnsAt : ℕ → ℕ → Type 0
-    OwnsAt = Owns content holds caller_count s r id v w word s.homes contents notes owner'
+    OwnsAt = Owns content holds caller_count s r id v w word (set s.words 7 word) s.homes contents notes owner'
 
     count-at : (t : ℕ) → t < slots → counted w t ≡ cond (bit_at mask t == 0) None (new t)
     count-at t h = row-here slots (λ u. cond (bit_at mask u == 0) None (new u)) None t h
@@ -131,7 +131,7 @@ module _ {V C : Type 0} (content : V → C) (holds : List C → List C → Type 
     pub given-tied : ((i k : ℕ) (c : C) → get_elem? speaks i ≡ some (k, c) → (v.caller_count ≡ caller_count) × (k < caller_count) × (r.seat_of k ≡ id) × (slice_get notes k ≡ Some c))
         → ((k : ℕ) → r.seat_of k ≢ id → slice_get notes k ≡ slice_get r.notes k) → (now : ℕ) → Follows r.now r.contents v now contents w → length contents ≡ length s.homes → length notes ≡ caller_count → holds contents notes
         → Tied content holds caller_count record { words = set s.words 7 word; homes = s.homes; views = set s.views id w }
-    given-tied spoken_notes others now follows full all ok = moved content holds caller_count s r id v w word s.homes contents notes owner' at refl each within spoken_notes others now follows full all ok
+    given-tied spoken_notes others now follows full all ok = moved content holds caller_count s r id v w word (set s.words 7 word) s.homes contents notes owner' at refl (get_or-set_same s.words 7 word 0 (let h : length s.words ≡ 15 = r.words in omega arith)) (length-set s.words 7 word ∙ r.words) each within spoken_notes others now follows full all ok
 
   pub returns : (slots id : ℕ) (me : Sits V C) (mask : ℕ) → ((t : ℕ) → t < slots → bit_at mask t ≡ 0 → (d : C) × (counted me.0 t ≡ Some d) × (place me.0 t ≡ Lies d))
       → Allows (Tied content holds caller_count) slots id me 7 (λ n. bit_and n mask) (λ _ m. returned (step slots 7 mask 0 none) me m)

@@ -40,9 +40,9 @@ module _ {V C : Type 0} (content : V → C) (holds : List C → List C → Type 
   abbrev pub St : Type 0
   St = State (Option V) (View C)
 
-  module _ (s : St) (r : Tied content holds caller_count s) (id : ℕ) (v w : View C) (word : ℕ) (homes : List (maybe.Option (Option V))) (contents notes : List C) (owner : ℕ → ℕ) where
+  module _ (s : St) (r : Tied content holds caller_count s) (id : ℕ) (v w : View C) (word : ℕ) (words : List ℕ) (homes : List (maybe.Option (Option V))) (contents notes : List C) (owner : ℕ → ℕ) where
     abbrev pub after : St
-    after = record { words = set s.words 7 word; homes = homes; views = set s.views id w }
+    after = record { words = words; homes = homes; views = set s.views id w }
 
     pub record Same (t : ℕ) : Type 0 where
       pub bit : bit_at word t ≡ bit_at (get_or s.words 7 0) t
@@ -61,15 +61,12 @@ module _ {V C : Type 0} (content : V → C) (holds : List C → List C → Type 
       pub owns : Owns t (owner t)
       pub held : (c : C) → counted w t ≡ Some c → (slice_get contents t ≡ Some c) × InPlace content homes t (place w t) × ((k : ℕ) × (owner t ≡ suc k) × (r.seat_of k ≡ id))
 
-    module _ (at : get_elem? s.views id ≡ some v) (as_long : length homes ≡ length s.homes) where
+    module _ (at : get_elem? s.views id ≡ some v) (as_long : length homes ≡ length s.homes) (shown : get_or words 7 0 ≡ word) (all_words : length words ≡ 15) where
       abbrev Was : ℕ → ℕ → Type 0
       Was t o = TurnOk content caller_count r.owner r.seat_of r.contents r.notes s t o
 
       abbrev Is : ℕ → ℕ → Type 0
       Is t o = TurnOk content caller_count owner r.seat_of contents notes after t o
-
-      shown : get_or (set s.words 7 word) 7 0 ≡ word
-      shown = get_or-set_same s.words 7 word 0 (let h : length s.words ≡ 15 = r.words in omega arith)
 
       lying : (t : ℕ) (c : C) → get_elem? homes t ≡ get_elem? s.homes t → Lying content s.homes t c → Lying content homes t c
       lying t c e l = (l.0, e ∙ l.1, l.2)
@@ -169,7 +166,7 @@ module _ {V C : Type 0} (content : V → C) (holds : List C → List C → Type 
           contents = contents;
           notes = notes;
           now = now;
-          words = length-set s.words 7 word ∙ r.words;
+          words = all_words;
           turns = full ∙ sym as_long;
           small = (let g : length s.homes ≤ 57 = r.small in omega arith);
           callers = all;

@@ -24,10 +24,10 @@ module _ {V C : Type 0} (content : V → C) (holds : List C → List C → Type 
     w = put_place t p v
 
     abbrev SameAt : ℕ → Type 0
-    SameAt = Same content holds caller_count s r id v w (get_or s.words 7 0) (set s.homes t h) r.contents r.notes r.owner
+    SameAt = Same content holds caller_count s r id v w (get_or s.words 7 0) (set s.words 14 (get_or s.words 14 0)) (set s.homes t h) r.contents r.notes r.owner
 
     abbrev MineAt : ℕ → Type 0
-    MineAt = Mine content holds caller_count s r id v w (get_or s.words 7 0) (set s.homes t h) r.contents r.notes r.owner
+    MineAt = Mine content holds caller_count s r id v w (get_or s.words 7 0) (set s.words 14 (get_or s.words 14 0)) (set s.homes t h) r.contents r.notes r.owner
 
     bit-one : (k : ℕ) (o : ℕ) → o ≡ suc k → TurnOk content caller_count r.owner r.seat_of r.contents r.notes s t o → (bit_at (get_or s.words 7 0) t ≡ 1) × (k < caller_count)
     bit-one k zero e q = absurd (omega arith)
@@ -36,7 +36,7 @@ module _ {V C : Type 0} (content : V → C) (holds : List C → List C → Type 
     own : MineAt t
     own = let x = (r.each_view id v at).held t c is in let k : ℕ = x.3.0 in let b = bit-one k (r.owner t) x.3.1 (r.each_turn t x.0) in record {
       ours = λ j e. ap r.seat_of (let g : suc j ≡ suc k = sym e ∙ x.3.1 in let q : j ≡ k = omega arith in q) ∙ x.3.2;
-      owns = subst (λ (o : ℕ). Owns content holds caller_count s r id v w (get_or s.words 7 0) (set s.homes t h) r.contents r.notes r.owner t o) (sym x.3.1) (b.0, b.1, x.3.2, (c, is));
+      owns = subst (λ (o : ℕ). Owns content holds caller_count s r id v w (get_or s.words 7 0) (set s.words 14 (get_or s.words 14 0)) (set s.homes t h) r.contents r.notes r.owner t o) (sym x.3.1) (b.0, b.1, x.3.2, (c, is));
       held = λ d e. (x.1 ∙ sym is ∙ e, subst (InPlace content (set s.homes t h) t) (sym (get_or-set_same v.places t p Vacant room)) lying, x.3);
     }
 
@@ -46,8 +46,8 @@ module _ {V C : Type 0} (content : V → C) (holds : List C → List C → Type 
     each : (u : ℕ) → u < length s.homes → SameAt u ⊎ MineAt u
     each u near = dite (ℕ_discrete u t) (λ e. inr (subst MineAt (sym e) own)) (λ ne. inl (else u ne))
 
-    pub slot-tied : Tied content holds caller_count record { words = set s.words 7 (get_or s.words 7 0); homes = set s.homes t h; views = set s.views id w }
-    slot-tied = moved content holds caller_count s r id v w (get_or s.words 7 0) (set s.homes t h) r.contents r.notes r.owner at (length-set s.homes t h) each
+    pub slot-tied : Tied content holds caller_count record { words = set s.words 14 (get_or s.words 14 0); homes = set s.homes t h; views = set s.views id w }
+    slot-tied = moved content holds caller_count s r id v w (get_or s.words 7 0) (set s.words 14 (get_or s.words 14 0)) (set s.homes t h) r.contents r.notes r.owner at (length-set s.homes t h) (get_or-set_other s.words 14 7 (get_or s.words 14 0) 0 (λ e. absurd (omega arith))) (length-set s.words 14 (get_or s.words 14 0) ∙ r.words) each
         (λ u d e. ((r.each_view id v at).held u d e).0) ((r.each_view id v at).spoken) (λ k ne. refl) r.now (no-change r.now r.contents v w r.opened (r.changes id v at) refl refl) r.turns r.callers r.tied
 
   found : (homes : List (maybe.Option (Option V))) (t : ℕ) (p : Place C) → p ≢ Away → InPlace content homes t p → (y : Option V) × (get_elem? homes t ≡ some (some y)) × (lies_as content y ≡ p)
@@ -56,7 +56,7 @@ module _ {V C : Type 0} (content : V → C) (holds : List C → List C → Type 
   found homes t (Lies c) ne h = (Some h.0, h.1, ap Lies h.2)
 
   pub reaches : (slots id : ℕ) (me : Sits V C) (t : ℕ) (c : C) → counted me.0 t ≡ Some c → place me.0 t ≢ Away → length me.0.places ≡ slots → t < slots
-      → Allows (Tied content holds caller_count) slots id me 7 (λ n. n) (λ _ m. reached content t me m)
+      → Allows (Tied content holds caller_count) slots id me 14 (λ n. n) (λ _ m. reached content t me m)
   reaches slots id me t c is there' long near s r wide at small =
       let x = (r.each_view id me.0 at).held t c is in
       let f = found s.homes t (place me.0 t) there' x.2 in
@@ -67,13 +67,13 @@ module _ {V C : Type 0} (content : V → C) (holds : List C → List C → Type 
   laying homes t (Some x) near = (x, set_here homes t (some (Some x)) near, refl)
 
   pub lays-at : (slots id : ℕ) (v : View C) (t : ℕ) (y : Option V) (more : List (ℕ × Option V)) (c : C) → counted v t ≡ Some c → length v.places ≡ slots → t < slots
-      → Allows (Tied content holds caller_count) slots id (v, (t, y) ∷ more) 7 (λ n. n) (λ _ m. laid content (v, (t, y) ∷ more) m)
+      → Allows (Tied content holds caller_count) slots id (v, (t, y) ∷ more) 14 (λ n. n) (λ _ m. laid content (v, (t, y) ∷ more) m)
   lays-at slots id v t y more c is long near s r wide at small =
       (put_place t (lies_as content y) v, gives, tt, slot-tied s r id v t (some y) (lies_as content y) c at is (let g : t < length v.places = omega arith in g) (laying s.homes t y (let g : t < length s.homes = omega arith in g)), refl)
 
   pub lays : (slots id : ℕ) (me : Sits V C) (t : ℕ) (y : Option V) (more : List (ℕ × Option V)) (c : C) → me ≡ (me.0, (t, y) ∷ more) → counted me.0 t ≡ Some c → length me.0.places ≡ slots → t < slots
-      → Allows (Tied content holds caller_count) slots id me 7 (λ n. n) (λ _ m. laid content me m)
-  lays slots id me t y more c e is long near = subst (λ (m : Sits V C). Allows (Tied content holds caller_count) slots id m 7 (λ n. n) (λ _ m'. laid content m m')) (sym e) (lays-at slots id me.0 t y more c is long near)
+      → Allows (Tied content holds caller_count) slots id me 14 (λ n. n) (λ _ m. laid content me m)
+  lays slots id me t y more c e is long near = subst (λ (m : Sits V C). Allows (Tied content holds caller_count) slots id m 14 (λ n. n) (λ _ m'. laid content m m')) (sym e) (lays-at slots id me.0 t y more c is long near)
 
 pub step_one : (V C : Type 0) (v : View C) (t : ℕ) (y : Option V) (aim : ℕ) (m : Sits V C) {l : List (ℕ × Option V)} → aim ≡ t → l ≡ [] → m ≡ (put_place aim Away v, (aim, y) ∷ l) → m ≡ (put_place t Away v, (t, y) ∷ [])
 step_one V C v t y aim m e f g = g ∙ ap₂ {A = ℕ} {B = List (ℕ × Option V)} {C = Sits V C} (λ u k. (put_place u Away v, (u, y) ∷ k)) e f

@@ -15,6 +15,11 @@ pub(crate) const WORDS: [u64; 15] = [0; 15];
 /// The place of the word in which all turns stand: bit t is set where turn t is taken.
 pub(crate) const MASK: usize = 7;
 
+/// The place of a word that is never written, and lies in another cache line than the turns. What
+/// only tells the proofs where a value went is a load of it, so that callers who ask for turns don't
+/// slow down one who has them.
+pub(crate) const IDLE: usize = 14;
+
 /// An empty list with room for the values of a board.
 #[derive(Drop)]
 pub(crate) struct Spare<V> {

@@ -1,7 +1,7 @@
 // How a value leaves its slot, how it gets there, and the step that gives the book back.
 ghost use Rattle.std.specs.Prelude.{◌≡◌, ℕ, ◌<◌, Some, []};
 
-use crate::board::{Board, MASK};
+use crate::board::{Board, IDLE, MASK};
 use crate::hands::Hands;
 use crate::plays::{Aim, Book, Change, Lay, Reach};
 use crate::seat::Seat;
@@ -35,9 +35,9 @@ impl<V, R: TieRule<V>> Board<V, R> {
     {
         let slot = turn as usize;
         let words = &self.table.shared;
-        words.load::<Reach<R, K>>(&mut seat.pass, MASK);
+        words.load::<Reach<R, K>>(&mut seat.pass, IDLE);
         let value = words.exchange(&mut seat.pass, slot, None);
-        words.load::<Lay<R>>(&mut seat.pass, MASK);
+        words.load::<Lay<R>>(&mut seat.pass, IDLE);
         value.unwrap()
     }
 
@@ -54,12 +54,12 @@ impl<V, R: TieRule<V>> Board<V, R> {
     {
         let slot = turn as usize;
         let words = &self.table.shared;
-        words.load::<Reach<R, K>>(&mut seat.pass, MASK);
+        words.load::<Reach<R, K>>(&mut seat.pass, IDLE);
         match words.exchange(&mut seat.pass, slot, Some(value)) {
             None => {}
             Some(_) => unreachable!(),
         }
-        words.load::<Lay<R>>(&mut seat.pass, MASK);
+        words.load::<Lay<R>>(&mut seat.pass, IDLE);
     }
 
     // The one step that gives back the book, and with it all turns of the set.
