@@ -6,6 +6,7 @@ pub mod Ends
 pub mod Events
 pub mod Firsts
 pub mod Foreknown
+mod Inside
 pub mod Keep
 pub mod Keys
 pub mod Narrows

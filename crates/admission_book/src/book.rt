@@ -21,10 +21,9 @@ use symbolic_ops::Foresight;
 /// The replies of all tickets, in their order.
 pub type Replies = Listed<Reply>;
 
-/// A script, the journal of what was done of it, the replies of its tickets that have ended, and
-/// for each caller the ticket that it serves.
+/// What a book holds.
 #[derive(Drop)]
-pub struct Book<S: Script + Drop> {
+struct Inner<S: Script + Drop> {
     /// What the tickets call, answer and declare. No call changes it.
     script: S,
     /// How many tickets are begun, so the next one's number.
@@ -39,6 +38,13 @@ pub struct Book<S: Script + Drop> {
     records: Vec<CallerRecord>,
 }
 
+/// A script, the journal of what was done of it, the replies of its tickets that have ended, and
+/// for each caller the ticket that it serves. They are in a box, so that a book moves in one word.
+#[derive(Drop)]
+pub struct Book<S: Script + Drop> {
+    inner: Box<Inner<S>>,
+}
+
 impl<S: Script + Drop> Model for Book<S> {
     ghost use Rattle.std.specs.Prelude.{vec_capacity};
     ghost use Rattle.admission_book.specs.Methods.{BookView};
@@ -46,14 +52,14 @@ impl<S: Script + Drop> Model for Book<S> {
 
     ghost Value = { BookView S };
 
-    ghost view = { λ b. record {
-      script = b.script;
-      book = book_of b.journal.events b.kept.items b.records.items;
+    ghost view = { λ b. let inner = b.inner.value in record {
+      script = inner.script;
+      book = book_of inner.journal.events inner.kept.items inner.records.items;
     } };
 
-    ghost invariant = { λ b. Keeps
-        (S.meaning b.script) b.begun b.journal b.kept.items b.listed.items
-        (vec_capacity b.listed) b.records.items };
+    ghost invariant = { λ b. let inner = b.inner.value in Keeps
+        (S.meaning inner.script) inner.begun inner.journal inner.kept.items inner.listed.items
+        (vec_capacity inner.listed) inner.records.items };
 }
 
 impl<S: Script + Drop> Book<S> {
@@ -71,13 +77,16 @@ impl<S: Script + Drop> Book<S> {
         let kept = no_replies(alloc, requests)?;
         let listed = Vec::with_capacity(alloc, requests as usize)?;
         let records = idle_records(alloc, callers)?;
-        Ok(Book {
+        let inner = Inner {
             script,
             begun: 0,
             journal,
             kept,
             listed,
             records,
+        };
+        Ok(Book {
+            inner: Box::new(alloc, inner)?,
         })
     }
 
@@ -86,15 +95,15 @@ impl<S: Script + Drop> Book<S> {
         ensures script { result.now ≡ self.now.script }
         ensures lawful { IsScript (S.meaning self.now.script) }
     {
-        &self.script
+        &self.inner.script
     }
 
     /// The next ticket, or None where all are begun.
     pub fn next_ticket(&self) -> Option<u32>
         ensures { IfNext result (S.meaning self.now.script).requests self.now.book.journal }
     {
-        if self.begun < self.script.requests() {
-            Some(self.begun)
+        if self.inner.begun < self.inner.script.requests() {
+            Some(self.inner.begun)
         } else {
             None
         }
@@ -109,14 +118,16 @@ impl<S: Script + Drop> Book<S> {
             caller entry.now.symbols result self.new.book }
         ensures stays { StaysLawful S S.meaning self.old self.new }
     {
-        if self.begun >= self.script.requests() {
+        let inner = &mut *self.inner;
+        if inner.begun >= inner.script.requests() {
             return None;
         }
-        let t = self.begun;
-        self.journal
+        let t = inner.begun;
+        inner
+            .journal
             .push_reserved(Event::Begin { ticket: t, caller });
-        self.begun += 1;
-        self.records[caller as usize].begin(t, entry);
+        inner.begun += 1;
+        inner.records[caller as usize].begin(t, entry);
         Some(t)
     }
 
@@ -127,8 +138,9 @@ impl<S: Script + Drop> Book<S> {
         ensures narrowed { Narrowed self.old.book t f.now.symbols self.new.book }
         ensures stays { StaysLawful S S.meaning self.old self.new }
     {
-        let caller = place_of(self.records.as_slice(), t);
-        self.records[caller].narrow(f);
+        let inner = &mut *self.inner;
+        let caller = place_of(inner.records.as_slice(), t);
+        inner.records[caller].narrow(f);
     }
 
     /// Puts the operation in flight, unless an older open ticket may still call one with which it
@@ -140,9 +152,10 @@ impl<S: Script + Drop> Book<S> {
         ensures oldest { IsOldestOpen (Some t) self.old.book.journal → result ≡ Admission.Admitted }
         ensures stays { StaysLawful S S.meaning self.old self.new }
     {
-        let caller = place_of(self.records.as_slice(), t);
-        let Some(b) = least_against(self.records.as_slice(), t, &op) else {
-            self.records[caller].launch(op);
+        let inner = &mut *self.inner;
+        let caller = place_of(inner.records.as_slice(), t);
+        let Some(b) = least_against(inner.records.as_slice(), t, &op) else {
+            inner.records[caller].launch(op);
             return Admission::Admitted;
         };
         let delay = Event::Delay {
@@ -151,7 +164,7 @@ impl<S: Script + Drop> Book<S> {
             older: b.older,
             symbol: b.symbol,
         };
-        note_delay(&mut self.journal, &mut self.records[caller], delay);
+        note_delay(&mut inner.journal, &mut inner.records[caller], delay);
         Admission::Delayed {
             older: b.older,
             symbol: b.symbol,
@@ -165,14 +178,15 @@ impl<S: Script + Drop> Book<S> {
         ensures did { DidIt self.old.book t reply next.now.symbols self.new.book }
         ensures stays { StaysLawful S S.meaning self.old self.new }
     {
-        let caller = place_of(self.records.as_slice(), t);
-        let op = self.records[caller].finish(next);
+        let inner = &mut *self.inner;
+        let caller = place_of(inner.records.as_slice(), t);
+        let op = inner.records[caller].finish(next);
         let done = Event::Done {
             ticket: t,
             op,
             reply,
         };
-        self.journal.push_reserved(done);
+        inner.journal.push_reserved(done);
     }
 
     /// Ends the ticket with its reply.
@@ -182,10 +196,11 @@ impl<S: Script + Drop> Book<S> {
         ensures ended { HasEnded self.old.book t reply self.new.book }
         ensures stays { StaysLawful S S.meaning self.old self.new }
     {
-        let caller = place_of(self.records.as_slice(), t);
-        self.records[caller].end();
-        self.journal.push_reserved(Event::End { ticket: t, reply });
-        self.kept[t as usize] = Some(reply);
+        let inner = &mut *self.inner;
+        let caller = place_of(inner.records.as_slice(), t);
+        inner.records[caller].end();
+        inner.journal.push_reserved(Event::End { ticket: t, reply });
+        inner.kept[t as usize] = Some(reply);
     }
 
     /// The least open ticket, or None where none is open.
@@ -193,7 +208,7 @@ impl<S: Script + Drop> Book<S> {
         requires lawful { Lawful (S.meaning self.now.script) self.now.book }
         ensures { IsOldestOpen result self.now.book.journal }
     {
-        least_ticket(self.records.as_slice())
+        least_ticket(self.inner.records.as_slice())
     }
 
     /// What was done, with room for all that is still to come.
@@ -205,7 +220,7 @@ impl<S: Script + Drop> Book<S> {
         ensures room { 2 * (S.meaning self.now.script).requests
             + 2 * calls (S.meaning self.now.script) ≤ result.now.room }
     {
-        &self.journal
+        &self.inner.journal
     }
 
     /// The reply of a ticket, or None where it hasn't ended or isn't one of the script's.
@@ -217,7 +232,7 @@ impl<S: Script + Drop> Book<S> {
             IfSome result (λ r.
             (serial (session_of (S.meaning self.now.script)) t).answer ≡ Some r) }
     {
-        match self.kept.get(t as usize) {
+        match self.inner.kept.get(t as usize) {
             Some(reply) => *reply,
             None => None,
         }
@@ -235,14 +250,15 @@ impl<S: Script + Drop> Book<S> {
         ensures serial { result.1
             ≡ serial_replies (session_of (S.meaning self.script)) (S.meaning self.script).requests }
     {
-        let Book {
+        let Book { inner } = self;
+        let Inner {
             script: _,
             begun: _,
             journal,
             kept,
             listed,
             records: _,
-        } = self;
+        } = Box::into_inner(inner);
         let replies = all_replies(kept.as_slice(), listed);
         (journal, Listed::from_vec(replies))
     }

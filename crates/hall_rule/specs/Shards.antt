@@ -9,8 +9,8 @@ use Rattle.hall_rule.specs.Contents as contents
 
 -- what a shard of either kind holds
 abbrev pub shard_view : Part → ShardView
-shard_view (Bindings s) = map_shard s
-shard_view (Members s) = set_shard s
+shard_view (Bindings s) = map_shard s.value
+shard_view (Members s) = set_shard s.value
 
 -- what counts of the value of a turn
 abbrev pub content_of : {S : Type 0} → Held S → Content S

@@ -9,11 +9,11 @@ ghost use Rattle.hall_rule.specs.Shards.{shard_view};
 use session_values::{Op, Value};
 use shard_tables::{MapShard, SetShard};
 
-/// The part of a table that one turn holds.
+/// The part of a table that one turn holds, in a box, so that it moves in one word.
 #[derive(Drop)]
 pub enum Part {
-    Bindings(MapShard),
-    Members(SetShard),
+    Bindings(Box<MapShard>),
+    Members(Box<SetShard>),
 }
 
 impl Part {

@@ -39,8 +39,8 @@ fn new_part(alloc: Global, kind: TableKind, room: u32) -> Result<Part, NoMemory>
     ensures { IfOk result (λ p. shard_view p ≡ record { container = empty_of kind; room = room }) }
 {
     let part = match kind {
-        TableKind::Map => Part::Bindings(MapShard::with_room(alloc, room)?),
-        TableKind::Set => Part::Members(SetShard::with_room(alloc, room)?),
+        TableKind::Map => Part::Bindings(Box::new(alloc, MapShard::with_room(alloc, room)?)?),
+        TableKind::Set => Part::Members(Box::new(alloc, SetShard::with_room(alloc, room)?)?),
     };
     Ok(part)
 }

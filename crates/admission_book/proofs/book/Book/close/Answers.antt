@@ -5,25 +5,32 @@ use Rattle.session_journal.specs.Journal.{after, ended}
 use Rattle.session_journal.specs.Script.{Meaning, session_of}
 use Rattle.admission_book.specs.Book.{Book}
 use Rattle.admission_book.specs.Lawful.{Lawful}
+use Rattle.admission_book.proofs.Inside.{view_lent, keeps_lent}
 use Rattle.admission_book.proofs.Shown.{here, there}
 use Rattle.admission_book.proofs.Replies.{kept_some, tables_serial, replies_serial}
 use Rattle.admission_book.proofs.book.Book.close.Goals as goal
 
 pub all_replies-replies-requires-clause-ended : goal.all_replies-replies-requires-clause-ended
 all_replies-replies-requires-clause-ended g c =
-    let L = here Lawful g.S.Script.meaning _ _ _ c.self.view_is c.requires.lawful in
-    let done = here (λ (m : Meaning) (b : Book). (t : ℕ) → t < m.requests → IsSome (ended b.journal t)) g.S.Script.meaning _ _ _ c.self.view_is c.requires.ended in
-    kept_some _ _ c.self.invariant.script L done c.as_slice.result.now c.as_slice.ensures.value c.self.invariant.one_each
+    let seen = view_lent _ _ _ c.into_inner-journal.ensures c.self.view_is in
+    let keeps = keeps_lent g.S.Script.meaning _ _ c.into_inner-journal.ensures c.self.invariant in
+    let L = here Lawful g.S.Script.meaning _ _ _ seen c.requires.lawful in
+    let done = here (λ (m : Meaning) (b : Book). (t : ℕ) → t < m.requests → IsSome (ended b.journal t)) g.S.Script.meaning _ _ _ seen c.requires.ended in
+    kept_some _ _ keeps.script L done c.as_slice.result.now c.as_slice.ensures.value keeps.one_each
 
 pub returns-clause-tables : goal.returns-clause-tables
 returns-clause-tables g c =
-    let L = here Lawful g.S.Script.meaning _ _ _ c.self.view_is c.requires.lawful in
-    let done = here (λ (m : Meaning) (b : Book). (t : ℕ) → t < m.requests → IsSome (ended b.journal t)) g.S.Script.meaning _ _ _ c.self.view_is c.requires.ended in
-    there (λ (m : Meaning) (b : Book). after m.opening c.self.inside.journal.events ≡ tables_before (session_of m) m.requests) g.S.Script.meaning _ _ _ c.self.view_is (tables_serial _ _ c.self.invariant.script L done)
+    let seen = view_lent _ _ _ c.into_inner-journal.ensures c.self.view_is in
+    let keeps = keeps_lent g.S.Script.meaning _ _ c.into_inner-journal.ensures c.self.invariant in
+    let L = here Lawful g.S.Script.meaning _ _ _ seen c.requires.lawful in
+    let done = here (λ (m : Meaning) (b : Book). (t : ℕ) → t < m.requests → IsSome (ended b.journal t)) g.S.Script.meaning _ _ _ seen c.requires.ended in
+    there (λ (m : Meaning) (b : Book). after m.opening c.into_inner-journal.result.journal.events ≡ tables_before (session_of m) m.requests) g.S.Script.meaning _ _ _ seen (tables_serial _ _ keeps.script L done)
 
 pub returns-clause-serial : goal.returns-clause-serial
 returns-clause-serial g c =
-    let L = here Lawful g.S.Script.meaning _ _ _ c.self.view_is c.requires.lawful in
-    let done = here (λ (m : Meaning) (b : Book). (t : ℕ) → t < m.requests → IsSome (ended b.journal t)) g.S.Script.meaning _ _ _ c.self.view_is c.requires.ended in
-    there (λ (m : Meaning) (b : Book). c.from_vec.result ≡ serial_replies (session_of m) m.requests) g.S.Script.meaning _ _ _ c.self.view_is
-    (c.from_vec.ensures ∙ replies_serial _ _ c.self.invariant.script L done c.all_replies-replies.result.items (c.all_replies-replies.ensures ∙ c.as_slice.ensures.value) c.self.invariant.one_each)
+    let seen = view_lent _ _ _ c.into_inner-journal.ensures c.self.view_is in
+    let keeps = keeps_lent g.S.Script.meaning _ _ c.into_inner-journal.ensures c.self.invariant in
+    let L = here Lawful g.S.Script.meaning _ _ _ seen c.requires.lawful in
+    let done = here (λ (m : Meaning) (b : Book). (t : ℕ) → t < m.requests → IsSome (ended b.journal t)) g.S.Script.meaning _ _ _ seen c.requires.ended in
+    there (λ (m : Meaning) (b : Book). c.from_vec.result ≡ serial_replies (session_of m) m.requests) g.S.Script.meaning _ _ _ seen
+    (c.from_vec.ensures ∙ replies_serial _ _ keeps.script L done c.all_replies-replies.result.items (c.all_replies-replies.ensures ∙ c.as_slice.ensures.value) keeps.one_each)

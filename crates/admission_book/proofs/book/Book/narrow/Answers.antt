@@ -3,6 +3,7 @@ use Rattle.session_journal.specs.Script.{Meaning}
 use Rattle.admission_book.specs.Book.{Book}
 use Rattle.admission_book.specs.Lawful.{Lawful}
 use Rattle.admission_book.specs.Methods.{MayNarrow, Narrowed}
+use Rattle.admission_book.proofs.Inside.{view_lent, keeps_lent}
 use Rattle.admission_book.proofs.Shown.{here, leaves, lawful_same, place, keeps_with}
 use Rattle.admission_book.proofs.Stays.{grows_none, stays}
 use Rattle.admission_book.proofs.Narrows.{narrow_lawful, narrow_shown, narrowed, narrow_keeps}
@@ -10,23 +11,28 @@ use Rattle.admission_book.proofs.book.Book.narrow.Goals as goal
 
 pub invariant_of-self : goal.invariant_of-self
 invariant_of-self g c =
+    let seen = view_lent _ _ _ c.deref_mut-inner.ensures.value c.self.view_is in
+    let keeps = keeps_lent g.S.Script.meaning _ _ c.deref_mut-inner.ensures.value c.self.invariant in
     let p = place _ _ _ _ _ c.as_slice.ensures.value c.place_of-caller.ensures.within c.place_of-caller.ensures.serves c.index_mut.ensures.value in
-    let L = here Lawful g.S.Script.meaning _ _ _ c.self.view_is c.requires.lawful in
-    let may = here (λ (m : Meaning) (b : Book). MayNarrow m b c.args.t c.args.f.now.symbols) g.S.Script.meaning _ _ _ c.self.view_is c.requires.may in
-    keeps_with _ _ _ c.self.inside.journal c.self.inside.journal _ _ _ _ _ _ _ c.self.invariant refl c.self.invariant.counted refl (narrow_keeps _ _ _ _ _ _ _ _ L may p c.narrow.new.self c.narrow.ensures c.self.invariant.each)
+    let L = here Lawful g.S.Script.meaning _ _ _ seen c.requires.lawful in
+    let may = here (λ (m : Meaning) (b : Book). MayNarrow m b c.args.t c.args.f.now.symbols) g.S.Script.meaning _ _ _ seen c.requires.may in
+    keeps_with _ _ _ c.deref_mut-inner.result.now.journal c.deref_mut-inner.result.now.journal _ _ _ _ _ _ _ keeps refl keeps.counted refl (narrow_keeps _ _ _ _ _ _ _ _ L may p c.narrow.new.self c.narrow.ensures keeps.each)
 
 pub returns-clause-narrowed : goal.returns-clause-narrowed
 returns-clause-narrowed g c =
+    let seen = view_lent _ _ _ c.deref_mut-inner.ensures.value c.self.view_is in
     let p = place _ _ _ _ _ c.as_slice.ensures.value c.place_of-caller.ensures.within c.place_of-caller.ensures.serves c.index_mut.ensures.value in
-    let L = here Lawful g.S.Script.meaning _ _ _ c.self.view_is c.requires.lawful in
-    let may = here (λ (m : Meaning) (b : Book). MayNarrow m b c.args.t c.args.f.now.symbols) g.S.Script.meaning _ _ _ c.self.view_is c.requires.may in
-    leaves (λ (b d : Book). Narrowed b c.args.t c.args.f.now.symbols d) _ _ _ _ _ c.self.view_is (narrow_shown _ _ _ _ _ _ _ _ L may p c.narrow.new.self c.narrow.ensures) (narrowed _ _ _ _ _ _ _ _ L may p)
+    let L = here Lawful g.S.Script.meaning _ _ _ seen c.requires.lawful in
+    let may = here (λ (m : Meaning) (b : Book). MayNarrow m b c.args.t c.args.f.now.symbols) g.S.Script.meaning _ _ _ seen c.requires.may in
+    leaves (λ (b d : Book). Narrowed b c.args.t c.args.f.now.symbols d) _ _ _ _ _ seen (narrow_shown _ _ _ _ _ _ _ _ L may p c.narrow.new.self c.narrow.ensures) (narrowed _ _ _ _ _ _ _ _ L may p)
 
 pub returns-clause-stays : goal.returns-clause-stays
 returns-clause-stays g c =
+    let seen = view_lent _ _ _ c.deref_mut-inner.ensures.value c.self.view_is in
+    let keeps = keeps_lent g.S.Script.meaning _ _ c.deref_mut-inner.ensures.value c.self.invariant in
     let p = place _ _ _ _ _ c.as_slice.ensures.value c.place_of-caller.ensures.within c.place_of-caller.ensures.serves c.index_mut.ensures.value in
-    let L = here Lawful g.S.Script.meaning _ _ _ c.self.view_is c.requires.lawful in
-    let may = here (λ (m : Meaning) (b : Book). MayNarrow m b c.args.t c.args.f.now.symbols) g.S.Script.meaning _ _ _ c.self.view_is c.requires.may in
-    stays g.S.Script.meaning _ _ _ _ c.self.view_is c.self.invariant.script
+    let L = here Lawful g.S.Script.meaning _ _ _ seen c.requires.lawful in
+    let may = here (λ (m : Meaning) (b : Book). MayNarrow m b c.args.t c.args.f.now.symbols) g.S.Script.meaning _ _ _ seen c.requires.may in
+    stays g.S.Script.meaning _ _ _ _ seen keeps.script
     (lawful_same _ _ _ (narrow_shown _ _ _ _ _ _ _ _ L may p c.narrow.new.self c.narrow.ensures) (narrow_lawful _ _ _ _ _ _ _ _ L may p))
     (grows_none _)
