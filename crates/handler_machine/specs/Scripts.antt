@@ -21,7 +21,8 @@ pub record ScriptsView : Type 0 where
 abbrev pub declared_by : ProgramView → Request → Place → List Symbol
 declared_by p r at = list_at (declared_at p r.handler) at
 
--- Each request is a ticket. What it declares is what stands at its entry, at the point that its last reply led to, and at the last point that it passed.
+-- Each request is a ticket. What it declares is what stands at its entry, at the point that its last
+-- reply led to, and at the last point that it passed.
 abbrev pub meaning : ScriptsView → Meaning
 meaning s = record {
   shape = shape_of s.program.file;
@@ -30,9 +31,14 @@ meaning s = record {
   next = λ t. dialogue_of s.program.file (request_at s.requests t);
   length = λ t. calls_bound (code_at s.program.file (request_at s.requests t).handler);
   adds = λ t table. adds_bound table (code_at s.program.file (request_at s.requests t).handler);
-  entry = λ t. declared_by s.program (request_at s.requests t) (entry (env_of (request_at s.requests t).args));
-  told = λ t replies. declared_by s.program (request_at s.requests t) (told_place (code_at s.program.file (request_at s.requests t).handler) (env_of (request_at s.requests t).args) replies);
-  due = λ t replies. declared_by s.program (request_at s.requests t) (due_place (code_at s.program.file (request_at s.requests t).handler) (env_of (request_at s.requests t).args) replies);
+  entry = λ t. declared_by s.program (request_at s.requests t)
+      (entry (env_of (request_at s.requests t).args));
+  told = λ t replies. declared_by s.program (request_at s.requests t)
+      (told_place (code_at s.program.file (request_at s.requests t).handler)
+      (env_of (request_at s.requests t).args) replies);
+  due = λ t replies. declared_by s.program (request_at s.requests t)
+      (due_place (code_at s.program.file (request_at s.requests t).handler)
+      (env_of (request_at s.requests t).args) replies);
 }
 
 -- the program is one, and it can serve the requests

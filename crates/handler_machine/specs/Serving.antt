@@ -21,23 +21,33 @@ replied_count [] = 0
 replied_count (p ∷ ps) = (if p.replied then 1 else 0) + replied_count ps
 
 -- The ticket's dialogue is this run, and its foresights are the declarations that the run passes.
-pub record Gives (m : Meaning) (t : ℕ) (declared : Declarations) (first : Place) (whole : Ahead) : Type 0 where
+pub record Gives (m : Meaning) (t : ℕ) (declared : Declarations) (first : Place)
+    (whole : Ahead) : Type 0 where
   pub next : (rs : List Value) → m.next t rs ≡ ended (whole rs)
-  pub told : (rs : List Value) → m.told t rs ≡ list_at declared (last_replied first (passed_by (whole rs)))
-  pub due : (rs : List Value) → m.due t rs ≡ list_at declared (last_place first (passed_by (whole rs)))
+  pub told : (rs : List Value)
+      → m.told t rs ≡ list_at declared (last_replied first (passed_by (whole rs)))
+  pub due : (rs : List Value)
+      → m.due t rs ≡ list_at declared (last_place first (passed_by (whole rs)))
 
 -- What makes the declarations of a run lawful at each desk.
-pub record Promises (points : ℕ) (declared : Declarations) (first : Place) (whole : Ahead) : Type 0 where
-  pub within : (rs : List Value) → AllByRecursion (λ (p : Place). p.point < points) (passed_by (whole rs))
+pub record Promises (points : ℕ) (declared : Declarations) (first : Place)
+    (whole : Ahead) : Type 0 where
+  pub within : (rs : List Value)
+      → AllByRecursion (λ (p : Place). p.point < points) (passed_by (whole rs))
   pub few : (at : Place) → length (list_at declared at) ≤ 256
   pub known : (at : Place) → AllByRecursion HasNoVar (list_at declared at)
   pub covered : (rs : List Value) → IsCoveredChain declared first (passed_by (whole rs))
-  pub matched : (rs : List Value) (ps : List Place) (op : Op) → AllByRecursion IsValue rs → whole rs ≡ Calls ps op → Matches (list_at declared (last_place first ps)) op
-  pub covers : (rs : List Value) (front past : List Place) → AllByRecursion IsValue rs → passed_by (whole rs) ≡ front ++ past
-      → (more : List Value) (op : Op) → AllByRecursion IsValue more → ended (whole (rs ++ more)) ≡ NextCalls op → Matches (list_at declared (last_place first front)) op
+  pub matched : (rs : List Value) (ps : List Place) (op : Op) → AllByRecursion IsValue rs
+      → whole rs ≡ Calls ps op → Matches (list_at declared (last_place first ps)) op
+  pub covers : (rs : List Value) (front past : List Place) → AllByRecursion IsValue rs
+      → passed_by (whole rs) ≡ front ++ past
+      → (more : List Value) (op : Op) → AllByRecursion IsValue more
+      → ended (whole (rs ++ more)) ≡ NextCalls op
+      → Matches (list_at declared (last_place first front)) op
   pub counted : (rs : List Value) → replied_count (passed_by (whole rs)) ≤ length rs
 
--- what a walk is about: the script's meaning, the desk at the ticket's beginning, the points of the handler, their declarations, and the whole run
+-- what a walk is about: the script's meaning, the desk at the ticket's beginning, the points of the
+-- handler, their declarations, and the whole run
 pub record Course : Type 0 where
   pub meaning : Meaning
   pub start : DeskView
@@ -47,10 +57,17 @@ pub record Course : Type 0 where
 
 -- that of a program's handler
 abbrev pub course_of : Meaning → DeskView → ProgramView → ℕ → Ahead → Course
-course_of m start p h whole = record { meaning = m; start = start; points = 1 + points (code_at p.file h); declared = declared_at p h; whole = whole }
+course_of m start p h whole = record {
+  meaning = m;
+  start = start;
+  points = 1 + points (code_at p.file h);
+  declared = declared_at p h;
+  whole = whole;
+}
 
 -- a desk that has come so far, after these entries, and what is ahead of it
-pub record Serving (c : Course) (now : DeskView) (room : ℕ) (entries : List Entry) (waiting : Option Entry) (ahead : Ahead) : Type 0 where
+pub record Serving (c : Course) (now : DeskView) (room : ℕ) (entries : List Entry)
+    (waiting : Option Entry) (ahead : Ahead) : Type 0 where
   pub first : Place
   pub gives : Gives c.meaning c.start.ticket c.declared first c.whole
   pub promises : Promises c.points c.declared first c.whole
@@ -73,7 +90,8 @@ IsServing c now room ahead = Serving c now room now.entries None ahead
 
 -- an operation waits with its reply
 abbrev pub IsAwaiting : Course → DeskView → ℕ → Ahead → Type 0
-IsAwaiting c now room ahead = (e : Entry) × Serving c now room (now.entries ++ e ∷ []) (Some e) ahead
+IsAwaiting c now room ahead =
+    (e : Entry) × Serving c now room (now.entries ++ e ∷ []) (Some e) ahead
 
 -- where nothing is declared any more, nothing more may come of the ticket
 abbrev pub IsSettled : Bool → DeskView → Type 0

@@ -6,7 +6,8 @@ ghost use Rattle.declaration_insertion.specs.Promises.{symbol_at};
 ghost use Rattle.handler_check.specs.Resolved.{code_at};
 ghost use Rattle.handler_dialogue.specs.Code.{points};
 ghost use Rattle.handler_dialogue.specs.Dialogue.{env_of};
-ghost use Rattle.handler_machine.specs.Serving.{Halted, IsAwaiting, IsServing, IsSettled, course_of};
+ghost use Rattle.handler_machine.specs.Serving.{Halted, IsAwaiting, IsServing, IsSettled};
+ghost use Rattle.handler_machine.specs.Serving.{course_of};
 
 use declaration_insertion::Program;
 use handler_walk::Guide;

@@ -1,12 +1,14 @@
 -- Replies of lists of expressions.
-use Rattle.std.proofs.Common.{◌≡◌, ℕ, zero, suc, ◌<◌, ◌≤◌, arith, List, [], ◌∷◌, length, get_or, map, refl, ap, ◌∙◌}
+use Rattle.std.proofs.Common.{◌≡◌, ℕ, zero, suc, ◌<◌, ◌≤◌, arith, List, [], ◌∷◌, length, get_or, map, refl, sym, ap, ◌∙◌}
 use Rattle.std.specs.List.{AllByRecursion}
 use Rattle.std.specs.Prelude.{slice_index_or}
+use Rattle.std.proofs.lemmas.List.{get_or_past}
 use Rattle.session_values.specs.declared.reply.Reply.{Reply}
 use Rattle.session_values.specs.declared.value.Value.{Value}
 use Rattle.session_values.specs.declared.value.Value.TheVariants.{Nil}
 use Rattle.session_values.specs.Reply.{IsReply, reply_of}
 use Rattle.session_values.specs.Values.{IsValue}
+use Rattle.handler_dialogue.specs.Dialogue.{env_of}
 
 module _ {X Y : Type 0} (v : X → Y) where
   pub all_at : (P : Y → Type 0) (xs : List X) (i : ℕ) (d : X) → i < length xs → AllByRecursion P (map v xs) → P (v (get_or xs i d))
@@ -64,3 +66,16 @@ pub all_held : (xs : List Value) (n : ℕ) → length xs ≤ n → ((k : ℕ) �
 all_held [] n l h = tt
 all_held (x ∷ xs) zero l h = absurd (omega arith)
 all_held (x ∷ xs) (suc n) l h = (h 0 (omega arith), all_held xs n (omega arith) (λ k lt. h (suc k) (omega arith)))
+
+-- a place in a list, or one behind it
+place_or_behind : {P : Type 0} (xs : List Value) (k : ℕ) → (k < length xs → P) → (length xs ≤ k → P) → P
+place_or_behind [] k f g = g (omega arith)
+place_or_behind (x ∷ xs) zero f g = f (omega arith)
+place_or_behind (x ∷ xs) (suc k) f g = place_or_behind xs k (λ h. f (omega arith)) (λ h. g (omega arith))
+
+-- variables that have the arguments first, and nil behind them
+pub same_values : (env args : List Value) → ((k : ℕ) → k < length args → slice_index_or env k Nil ≡ slice_index_or args k Nil)
+    → ((k : ℕ) → length args ≤ k → slice_index_or env k Nil ≡ Nil) → env_of env ≡ env_of args
+same_values env args values nil i k =
+    let same : slice_index_or env k Nil ≡ slice_index_or args k Nil = place_or_behind args k (values k) (λ h. nil k h ∙ sym (get_or_past args k Nil h)) in
+    same i

@@ -14,26 +14,32 @@ abbrev pub Steps : {H : Type 0} → (H → Op → Value → H → Type 0) → H 
 Steps step old [] new = new ≡ old
 Steps step old (e ∷ es) new = (mid : _) × step old e.op e.reply mid × Steps step mid es new
 
--- A whole run: steps lead from one state to the other, their operations are those that the dialogue calls after the replies before them, and after all replies it answers.
-pub record Runs {H : Type 0} (step : H → Op → Value → H → Type 0) (f : Dialogue) (old new : H) (answer : Reply) : Type 0 where
+-- A whole run: steps lead from one state to the other, their operations are those that the dialogue
+-- calls after the replies before them, and after all replies it answers.
+pub record Runs {H : Type 0} (step : H → Op → Value → H → Type 0) (f : Dialogue)
+    (old new : H) (answer : Reply) : Type 0 where
   pub entries : List Entry
   pub steps : Steps step old entries new
   pub follows : Follows f entries
   pub answers : f (replies entries) ≡ Answers answer
 
--- a run that was broken off: steps lead from one state to the other, and their operations are those that the dialogue calls after the replies before them
-pub record Breaks {H : Type 0} (step : H → Op → Value → H → Type 0) (f : Dialogue) (old new : H) : Type 0 where
+-- A run that was broken off: steps lead from one state to the other, and their operations are those
+-- that the dialogue calls after the replies before them.
+pub record Breaks {H : Type 0} (step : H → Op → Value → H → Type 0) (f : Dialogue)
+    (old new : H) : Type 0 where
   pub entries : List Entry
   pub steps : Steps step old entries new
   pub follows : Follows f entries
 
 -- no call changes the kinds of the tables, and whether memory is never wanted
-pub record Stays {H : Type 0} (shape : H → List TableKind) (sure : H → Bool) (old new : H) : Type 0 where
+pub record Stays {H : Type 0} (shape : H → List TableKind) (sure : H → Bool)
+    (old new : H) : Type 0 where
   pub same_shape : shape new ≡ shape old
   pub same_sure : sure new ≡ sure old
 
 -- a run so far, and what is ahead of it
-pub record Asked {H : Type 0} (step : H → Op → Value → H → Type 0) (shape : H → List TableKind) (sure : H → Bool) (whole : Ahead) (start now : H) (ahead : Ahead) : Type 0 where
+pub record Asked {H : Type 0} (step : H → Op → Value → H → Type 0) (shape : H → List TableKind)
+    (sure : H → Bool) (whole : Ahead) (start now : H) (ahead : Ahead) : Type 0 where
   pub entries : List Entry
   pub steps : Steps step start entries now
   pub follows : Follows (λ rs. ended (whole rs)) entries
@@ -42,7 +48,8 @@ pub record Asked {H : Type 0} (step : H → Op → Value → H → Type 0) (shap
   pub stays : Stays shape sure start now
 
 -- a run that stopped, since what answers isn't sure
-pub record Stopped {H : Type 0} (step : H → Op → Value → H → Type 0) (shape : H → List TableKind) (sure : H → Bool) (whole : Ahead) (start now : H) : Type 0 where
+pub record Stopped {H : Type 0} (step : H → Op → Value → H → Type 0) (shape : H → List TableKind)
+    (sure : H → Bool) (whole : Ahead) (start now : H) : Type 0 where
   pub breaks : Breaks step (λ rs. ended (whole rs)) start now
   pub unsure : sure start ≡ false
   pub stays : Stays shape sure start now

@@ -9,10 +9,13 @@ use Rattle.handler_dialogue.specs.Dialogue.{Env, ended, passed_by}
 use Rattle.handler_walk.specs.declared.walk.Flow.{Flow}
 use Rattle.handler_walk.specs.declared.walk.Flow.TheVariants.{On, Answered}
 
--- A part goes on with the rest k at these values of the variables, or it has answered with this reply, or it was stopped. What is then ahead is what the first property is of.
-abbrev pub Leads : {E : Type 0} → (Ahead → Type 0) → Type 0 → (Env → Ahead) → Env → Reply → Result Flow E → Type 0
+-- A part goes on with the rest k at these values of the variables, or it has answered with this
+-- reply, or it was stopped. What is then ahead is what the first property is of.
+abbrev pub Leads : {E : Type 0} → (Ahead → Type 0) → Type 0 → (Env → Ahead) → Env → Reply
+    → Result Flow E → Type 0
 Leads serves stopped k env reply (Ok On) = serves (k env)
-Leads serves stopped k env reply (Ok Answered) = (values : List Value) × (reply ≡ reply_of values) × serves (answering values)
+Leads serves stopped k env reply (Ok Answered) =
+    (values : List Value) × (reply ≡ reply_of values) × serves (answering values)
 Leads serves stopped k env reply (Err e) = stopped
 
 -- what is ahead is this answer alone

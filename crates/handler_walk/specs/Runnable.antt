@@ -1,4 +1,4 @@
--- Code that can be walked with so many variables: that which speaks of them alone, over some tables.
+-- Code that can be walked with so many variables: it speaks of them alone, over some tables.
 use Rattle.std.specs.Prelude.{ℕ, List}
 use Rattle.session_values.specs.declared.kind.TableKind.{TableKind}
 use Rattle.handler_dialogue.specs.declared.tree.CheckedCall.{CheckedCall}

@@ -1,6 +1,6 @@
 // The values of a handler's variables, by their numbers.
 
-ghost use Rattle.std.specs.Prelude.{◌≡◌, ◌<◌, ◌≤◌, length, pos, slice_index_or};
+ghost use Rattle.std.specs.Prelude.{◌≡◌, ◌<◌, ◌≤◌, ℕ, length, pos, slice_index_or};
 ghost use Rattle.std.specs.List.{AllByRecursion};
 ghost use Rattle.session_values.specs.declared.value.Value.{Value};
 ghost use Rattle.session_values.specs.declared.value.Value.TheVariants.{Nil};
@@ -10,15 +10,31 @@ ghost use Rattle.handler_dialogue.specs.Within.{VarWithin};
 
 use session_values::Value;
 
-/// The argument of a number, and nil behind the last.
-#[inline]
-fn argument(args: &[Value], i: usize) -> Value
-    ensures value { result ≡ slice_index_or args.now i Nil }
-    ensures held { IsValue result }
+/// Puts the arguments first.
+fn put_args(env: &mut [Value], args: &[Value])
+    requires { length args.now ≤ length env.old }
+    ensures values { (k : ℕ) → k < length args.now
+        → slice_index_or env.new k Nil ≡ slice_index_or args.now k Nil }
+    // A program holds them.
+    ensures held { AllByRecursion IsValue args.now }
 {
-    let value = if i < args.len() { args[i] } else { Value::Nil };
-    value.bounds();
-    value
+    for i in 0..args.len() {
+        let value = args[i];
+        value.bounds();
+        env[i] = value;
+    }
+}
+
+/// Makes the variables from a number on nil.
+fn clear_from(env: &mut [Value], from: usize)
+    requires { from ≤ length env.old }
+    ensures kept { (k : ℕ) → k < from
+        → slice_index_or env.new k Nil ≡ slice_index_or env.old k Nil }
+    ensures nil { (k : ℕ) → from ≤ k → slice_index_or env.new k Nil ≡ Nil }
+{
+    for i in from..env.len() {
+        env[i] = Value::Nil;
+    }
 }
 
 /// Puts the arguments first, and nil behind them.
@@ -28,9 +44,8 @@ pub fn set_up(env: &mut [Value], args: &[Value])
     // A program holds them.
     ensures held { AllByRecursion IsValue args.now }
 {
-    for i in 0..env.len() {
-        env[i] = argument(args, i);
-    }
+    put_args(env, args);
+    clear_from(env, args.len());
 }
 
 /// Gives a variable its value.

@@ -1,4 +1,4 @@
-use Rattle.std.proofs.Common.{◌∙◌, arith, length, map, ap, sym}
+use Rattle.std.proofs.Common.{◌∙◌, length, map, ap}
 use Rattle.handler_dialogue.specs.Dialogue.{env_of}
 use Rattle.declaration_insertion.specs.Promises.{symbol_at}
 use Rattle.declaration_insertion.proofs.Vars.{instantiated}

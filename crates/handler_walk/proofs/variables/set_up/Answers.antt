@@ -1,8 +1,6 @@
-use Rattle.std.proofs.Common.{◌≤◌, length, arith}
-use Rattle.handler_walk.proofs.Answering.{all_held}
+use Rattle.std.proofs.Common.{◌∙◌}
+use Rattle.handler_walk.proofs.Answering.{same_values}
 use Rattle.handler_walk.proofs.variables.set_up.Goals as goal
 
-pub returns-clause-held : goal.returns-clause-held
-returns-clause-held c =
-    let past : length c.args.args.now ≤ c.loop-i.i = (let few = c.requires in let test = c.loop-i-test.false in let same = c.loop-i.auto.env in omega arith) in
-    all_held c.args.args.now c.loop-i.i past c.loop-i.invariant.held
+pub returns-clause-values : goal.returns-clause-values
+returns-clause-values c = same_values c.clear_from.new.env c.args.args.now (λ k h. c.clear_from.ensures.kept k h ∙ c.put_args.ensures.values k h) c.clear_from.ensures.nil

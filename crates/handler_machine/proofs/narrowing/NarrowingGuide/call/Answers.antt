@@ -1,9 +1,6 @@
-use Rattle.std.proofs.Common.{◌≡◌, ◌+◌, ◌∙◌, sym, subst}
+use Rattle.std.proofs.Common.{◌≡◌, ◌∙◌, sym, subst}
 use Rattle.session_values.specs.Dialogue.{Calls}
 use Rattle.session_journal.specs.Desks.{due_of, next_of}
-use Rattle.declaration_insertion.specs.Program.{declared_at}
-use Rattle.handler_check.specs.Resolved.{code_at}
-use Rattle.handler_dialogue.specs.Code.{points}
 use Rattle.handler_machine.specs.Serving.{Course, course_of}
 use Rattle.handler_machine.proofs.Places.{match_err}
 use Rattle.handler_machine.proofs.Served.{call_next, call_due, call_matches, call_waits, call_halts}

@@ -1,4 +1,4 @@
-use Rattle.std.proofs.Common.{◌≡◌, ◌∙◌, false, None, sym, ap, subst}
+use Rattle.std.proofs.Common.{◌∙◌, false, None, sym, ap, subst}
 use Rattle.session_journal.specs.Desks.{MayNarrow}
 use Rattle.session_journal.specs.Desks.{DeskView}
 use Rattle.handler_dialogue.specs.Dialogue.{env_of}

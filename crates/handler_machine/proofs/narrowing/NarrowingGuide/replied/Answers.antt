@@ -1,4 +1,4 @@
-use Rattle.std.proofs.Common.{◌≡◌, ◌∙◌, ◌++◌, ◌∷◌, [], true, Some, sym, subst}
+use Rattle.std.proofs.Common.{◌∙◌, ◌++◌, ◌∷◌, [], true, Some, sym, subst}
 use Rattle.session_journal.specs.Desks.{MayFinish}
 use Rattle.handler_dialogue.specs.Dialogue.{env_of}
 use Rattle.handler_machine.specs.Serving.{Course, course_of, IsServing}
