@@ -39,17 +39,21 @@ pub record Holds (m : Meaning) (b : Book) (c : ℕ) (s : Serving) : Type 0 where
   pub is_open : IsOpen b.journal s.ticket
   pub owner : owner b.journal s.ticket ≡ Some c
   -- its foresight covers what the ticket may still do
-  pub foresight : IsForesight (rest (m.next s.ticket) (replies (entries b.journal s.ticket))) s.foresight
+  pub foresight : IsForesight (rest (m.next s.ticket) (replies (entries b.journal s.ticket)))
+      s.foresight
   -- its operation in flight is the one that the ticket calls
   pub flight : (op : Op) → s.flight ≡ Some op → now m b.journal s.ticket ≡ Calls op
   -- what younger tickets have done, or have in flight, commutes with all that it may still do
-  pub done : AllByRecursion (λ d. s.ticket < d.ticket → CommutesWithAll d.op s.foresight) (done_operations b.journal)
-  pub in_flight : (d : ℕ) (z : Serving) (op : Op) → record_of b d ≡ Some z → s.ticket < z.ticket → z.flight ≡ Some op → CommutesWithAll op s.foresight
+  pub done : AllByRecursion (λ d. s.ticket < d.ticket
+      → CommutesWithAll d.op s.foresight) (done_operations b.journal)
+  pub in_flight : (d : ℕ) (z : Serving) (op : Op) → record_of b d ≡ Some z → s.ticket < z.ticket
+      → z.flight ≡ Some op → CommutesWithAll op s.foresight
 
 -- ---- who delays an operation
 -- no older open ticket has a symbol with which the operation doesn't commute
 abbrev pub IsFree : Book → ℕ → Op → Type 0
-IsFree b t op = (c : ℕ) (s : Serving) → record_of b c ≡ Some s → s.ticket < t → AllByRecursion (λ y. CommutesWith op y) s.foresight
+IsFree b t op = (c : ℕ) (s : Serving) → record_of b c ≡ Some s → s.ticket < t
+    → AllByRecursion (λ y. CommutesWith op y) s.foresight
 
 -- y is the first symbol of the list with which the operation doesn't commute
 pub record IsFirstAgainst (op : Op) (foresight : List Symbol) (y : Symbol) : Type 0 where
@@ -78,15 +82,24 @@ with_event b e = record { journal = b.journal ++ e ∷ []; kept = b.kept; record
 
 -- after caller c begins the next ticket
 abbrev pub after_begin : Book → ℕ → List Symbol → Book
-after_begin b c f = with_record (with_event b (Begin (begun b.journal) c)) c (Some (record { ticket = begun b.journal; foresight = f; flight = None }))
+after_begin b c f = with_record (with_event b (Begin (begun b.journal) c)) c
+    (Some (record { ticket = begun b.journal; foresight = f; flight = None }))
 
 -- after the ticket of caller c narrows
 abbrev pub after_narrow : Book → ℕ → Serving → List Symbol → Book
-after_narrow b c s f = with_record b c (Some (record { ticket = s.ticket; foresight = f; flight = s.flight }))
+after_narrow b c s f = with_record b c (Some (record {
+  ticket = s.ticket;
+  foresight = f;
+  flight = s.flight;
+}))
 
 -- after an operation of caller c is admitted
 abbrev pub after_admit : Book → ℕ → Serving → Op → Book
-after_admit b c s op = with_record b c (Some (record { ticket = s.ticket; foresight = s.foresight; flight = Some op }))
+after_admit b c s op = with_record b c (Some (record {
+  ticket = s.ticket;
+  foresight = s.foresight;
+  flight = Some op;
+}))
 
 -- after an operation is delayed: it is noted once
 abbrev pub after_delay : Book → ℕ → Op → ℕ → Symbol → Book
@@ -94,12 +107,21 @@ after_delay b t op older y = cond (is_delayed b.journal t) b (with_event b (Dela
 
 -- after the operation in flight of caller c is done
 abbrev pub after_done : Book → ℕ → Serving → Op → Value → List Symbol → Book
-after_done b c s op r f = with_record (with_event b (Done s.ticket op r)) c (Some (record { ticket = s.ticket; foresight = f; flight = None }))
+after_done b c s op r f = with_record (with_event b (Done s.ticket op r)) c
+    (Some (record { ticket = s.ticket; foresight = f; flight = None }))
 
 -- after the ticket of caller c ends
 abbrev pub after_end : Book → ℕ → Serving → Reply → Book
-after_end b c s r = record { journal = b.journal ++ End s.ticket r ∷ []; kept = slice_set b.kept s.ticket (Some r); records = slice_set b.records c None }
+after_end b c s r = record {
+  journal = b.journal ++ End s.ticket r ∷ [];
+  kept = slice_set b.kept s.ticket (Some r);
+  records = slice_set b.records c None;
+}
 
 -- a book with these many callers and room for these many Replies, before any ticket is begun
 abbrev pub opened : ℕ → ℕ → Book
-opened requests callers = record { journal = []; kept = replicate requests None; records = replicate callers None }
+opened requests callers = record {
+  journal = [];
+  kept = replicate requests None;
+  records = replicate callers None;
+}

@@ -70,7 +70,8 @@ MayCome m callers J (End t r) = MayEnd m J t r
 -- each event may come after those before it
 abbrev pub ComeInTurn : Meaning → ℕ → List Event → List Event → Type 0
 ComeInTurn m callers front [] = Unit {0}
-ComeInTurn m callers front (e ∷ J) = MayCome m callers front e × ComeInTurn m callers (front ++ e ∷ []) J
+ComeInTurn m callers front (e ∷ J) = MayCome m callers front e
+    × ComeInTurn m callers (front ++ e ∷ []) J
 
 -- ---- the events of one ticket
 abbrev pub events_of : ℕ → List Event → List Event
@@ -83,7 +84,8 @@ events_of t (e ∷ J) = cond (ticket_of e == t) (e ∷ events_of t J) (events_of
 abbrev pub TellsOn : Dialogue → Bool → List Event → Type 0
 TellsOn f noted [] = Unit {0}
 TellsOn f noted (Done t op r ∷ K) = (f [] ≡ Calls op) × TellsOn (rest f (r ∷ [])) false K
-TellsOn f noted (Delay t op older y ∷ K) = (noted ≡ false) × (f [] ≡ Calls op) × (older < t) × (CommutesWith op y → ⊥) × TellsOn f true K
+TellsOn f noted (Delay t op older y ∷ K) = (noted ≡ false) × (f [] ≡ Calls op) × (older < t)
+    × (CommutesWith op y → ⊥) × TellsOn f true K
 TellsOn f noted (End t r ∷ K) = (f [] ≡ Answers r) × (K ≡ [])
 TellsOn f noted (Begin t c ∷ K) = ⊥
 

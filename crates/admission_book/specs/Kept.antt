@@ -49,4 +49,5 @@ pub record IsLeastTicket (rs : List CallerRecord) (i : ℕ) (found : Option ℕ)
 
 -- the lesser of two tickets, where there are any
 abbrev pub IsLesser : Option ℕ → Option ℕ → Option ℕ → Type 0
-IsLesser a b r = ((r ≡ a) × ((u : ℕ) → b ≡ Some u → IsAtMost a u)) ⊎ ((r ≡ b) × ((u : ℕ) → a ≡ Some u → IsAtMost b u))
+IsLesser a b r = ((r ≡ a) × ((u : ℕ) → b ≡ Some u → IsAtMost a u))
+    ⊎ ((r ≡ b) × ((u : ℕ) → a ≡ Some u → IsAtMost b u))

@@ -19,6 +19,7 @@ pub record Lawful (m : Meaning) (b : Book) : Type 0 where
   pub inversions : InversionsCommute (done_operations b.journal)
   -- each record that isn't empty holds an open ticket, and each open ticket has one
   pub records : (c : ℕ) (s : Serving) → record_of b c ≡ Some s → Holds m b c s
-  pub placed : (t : ℕ) → IsOpen b.journal t → (c : ℕ) × (s : Serving) × (record_of b c ≡ Some s) × (s.ticket ≡ t)
+  pub placed : (t : ℕ) → IsOpen b.journal t → (c : ℕ) × (s : Serving) × (record_of b c ≡ Some s)
+      × (s.ticket ≡ t)
   -- events come in turn
   pub turns : ComeInTurn m (length b.records) [] b.journal

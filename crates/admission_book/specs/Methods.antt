@@ -67,7 +67,8 @@ pub record MayNarrow (m : Meaning) (b : Book) (t : ℕ) (f : List Symbol) : Type
   pub covers : IsForesight (rest (m.next t) (replies (entries b.journal t))) f
 
 abbrev pub Narrowed : Book → ℕ → List Symbol → Book → Type 0
-Narrowed b t f d = (c : ℕ) (s : Serving) → record_of b c ≡ Some s → s.ticket ≡ t → d ≡ after_narrow b c s f
+Narrowed b t f d = (c : ℕ) (s : Serving) → record_of b c ≡ Some s → s.ticket ≡ t
+    → d ≡ after_narrow b c s f
 
 pub record MayAdmit (m : Meaning) (b : Book) (t : ℕ) (op : Op) : Type 0 where
   pub caller : ℕ
@@ -80,7 +81,8 @@ pub record MayAdmit (m : Meaning) (b : Book) (t : ℕ) (op : Op) : Type 0 where
 
 -- admitted where no older open ticket is against the operation, else delayed by the least one that is
 abbrev pub Admits : Book → ℕ → Op → Admission → Book → Type 0
-Admits b t op Admitted d = IsFree b t op × ((c : ℕ) (s : Serving) → record_of b c ≡ Some s → s.ticket ≡ t → d ≡ after_admit b c s op)
+Admits b t op Admitted d = IsFree b t op × ((c : ℕ) (s : Serving) → record_of b c ≡ Some s
+    → s.ticket ≡ t → d ≡ after_admit b c s op)
 Admits b t op (Delayed older y) d = IsBlocker b t op older y × (d ≡ after_delay b t op older y)
 
 pub record MayDo (m : Meaning) (b : Book) (t : ℕ) (r : Value) (f : List Symbol) : Type 0 where
@@ -92,10 +94,14 @@ pub record MayDo (m : Meaning) (b : Book) (t : ℕ) (r : Value) (f : List Symbol
   pub flight : serving.flight ≡ Some op
   pub reply_is : r ≡ reply (after m.opening b.journal) op
   pub covered : Covered f serving.foresight
-  pub covers : IsForesight (rest (m.next t) (replies (entries b.journal t ++ record { op = op; reply = r } ∷ []))) f
+  pub covers : IsForesight (rest (m.next t) (replies (entries b.journal t ++ record {
+    op = op;
+    reply = r;
+  } ∷ []))) f
 
 abbrev pub DidIt : Book → ℕ → Value → List Symbol → Book → Type 0
-DidIt b t r f d = (c : ℕ) (s : Serving) (op : Op) → record_of b c ≡ Some s → s.ticket ≡ t → s.flight ≡ Some op → d ≡ after_done b c s op r f
+DidIt b t r f d = (c : ℕ) (s : Serving) (op : Op) → record_of b c ≡ Some s → s.ticket ≡ t
+    → s.flight ≡ Some op → d ≡ after_done b c s op r f
 
 pub record MayEnd (m : Meaning) (b : Book) (t : ℕ) (r : Reply) : Type 0 where
   pub caller : ℕ
@@ -106,4 +112,5 @@ pub record MayEnd (m : Meaning) (b : Book) (t : ℕ) (r : Reply) : Type 0 where
   pub answers : now m b.journal t ≡ Answers r
 
 abbrev pub HasEnded : Book → ℕ → Reply → Book → Type 0
-HasEnded b t r d = (c : ℕ) (s : Serving) → record_of b c ≡ Some s → s.ticket ≡ t → d ≡ after_end b c s r
+HasEnded b t r d = (c : ℕ) (s : Serving) → record_of b c ≡ Some s → s.ticket ≡ t
+    → d ≡ after_end b c s r

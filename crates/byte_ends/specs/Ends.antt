@@ -25,13 +25,15 @@ pub record Gave (old : List ℕ) (new : Option (List ℕ)) (n : ℕ) (buf : List
 
 -- what a read gave, where old and new are what was left before and is left now
 abbrev pub ReadGives : Option (List ℕ) → Option (List ℕ) → List ℕ → Got → Type 0
-ReadGives old new buf (got.Bytes n) = (0 < n) × (n ≤ length buf) × IfSome old (λ bytes. Gave bytes new n buf)
+ReadGives old new buf (got.Bytes n) = (0 < n) × (n ≤ length buf)
+    × IfSome old (λ bytes. Gave bytes new n buf)
 ReadGives old new buf got.End = Stays old new × IfSome old (λ bytes. bytes ≡ [])
 ReadGives old new buf got.Failed = Stays old new
 
 -- what a write took, where old and new are what was held before and is held now
 abbrev pub WriteTakes : Option (List ℕ) → Option (List ℕ) → List ℕ → Put → Type 0
-WriteTakes old new bytes (put.Took n) = (0 < n) × (n ≤ length bytes) × IfSome old (λ held. new ≡ Some (held ++ take n bytes))
+WriteTakes old new bytes (put.Took n) = (0 < n) × (n ≤ length bytes)
+    × IfSome old (λ held. new ≡ Some (held ++ take n bytes))
 WriteTakes old new bytes put.Failed = Stays old new
 
 -- all that was left is gone, where it is told
@@ -44,7 +46,8 @@ LostFirst old new n = IfSome old (λ bytes. new ≡ Some (drop n bytes))
 
 -- so many of the first bytes at most are gone, and no others, where they are told
 abbrev pub LostAtMost : Option (List ℕ) → Option (List ℕ) → ℕ → Type 0
-LostAtMost old new most = IfSome old (λ bytes. (n : ℕ) × (n ≤ most) × (n ≤ length bytes) × (new ≡ Some (drop n bytes)))
+LostAtMost old new most = IfSome old (λ bytes. (n : ℕ) × (n ≤ most) × (n ≤ length bytes)
+    × (new ≡ Some (drop n bytes)))
 
 -- what is held grew by these bytes, where it is told
 abbrev pub Grew : Option (List ℕ) → Option (List ℕ) → List ℕ → Type 0
@@ -52,4 +55,5 @@ Grew old new bytes = IfSome old (λ held. new ≡ Some (held ++ bytes))
 
 -- what is held grew by a front of these bytes, where it is told
 abbrev pub GrewByFront : Option (List ℕ) → Option (List ℕ) → List ℕ → Type 0
-GrewByFront old new bytes = IfSome old (λ held. (n : ℕ) × (n ≤ length bytes) × (new ≡ Some (held ++ take n bytes)))
+GrewByFront old new bytes = IfSome old (λ held. (n : ℕ) × (n ≤ length bytes)
+    × (new ≡ Some (held ++ take n bytes)))

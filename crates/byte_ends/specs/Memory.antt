@@ -23,7 +23,8 @@ pub record SourceView : Type 0 where
 abbrev pub read_answer : SourceView → ℕ → Got
 read_answer s asked =
     if is_listed s.fails s.calls then got.Failed
-    else (if nat_eq (length s.left) 0 then got.End else (got.Bytes (min s.piece (min asked (length s.left)))))
+    else (if nat_eq (length s.left) 0 then got.End
+    else (got.Bytes (min s.piece (min asked (length s.left)))))
 
 -- the source behind a read with this answer
 abbrev pub after_read : SourceView → Got → SourceView
@@ -44,13 +45,18 @@ pub record SinkView : Type 0 where
 abbrev pub write_answer : SinkView → ℕ → Put
 write_answer s offered =
     if is_listed s.fails s.calls then put.Failed
-    else (if nat_le s.room (length s.held) then put.Failed else (put.Took (min s.piece (min offered (s.room - length s.held)))))
+    else (if nat_le s.room (length s.held) then put.Failed
+    else (put.Took (min s.piece (min offered (s.room - length s.held)))))
 
 -- the sink behind a write of these bytes with this answer
 abbrev pub after_write : SinkView → List ℕ → Put → SinkView
-after_write s bytes (put.Took n) = record s { held = s.held ++ take n bytes; calls = raised s.calls }
+after_write s bytes (put.Took n) = record s {
+  held = s.held ++ take n bytes;
+  calls = raised s.calls;
+}
 after_write s bytes put.Failed = record s { calls = raised s.calls; faults = raised s.faults }
 
 -- what a read of a sure source answers, by how much is left and how much fits: a count is at most the largest u32
 abbrev pub sure_answer : ℕ → ℕ → Got
-sure_answer left asked = if nat_eq left 0 then got.End else (got.Bytes (min (min left asked) (2 ^ 32 - 1)))
+sure_answer left asked = if nat_eq left 0 then got.End
+    else (got.Bytes (min (min left asked) (2 ^ 32 - 1)))

@@ -12,11 +12,13 @@ size_of word = number_from 0 word
 
 -- digits, without a sign, and without a leading zero but for `0` itself
 abbrev pub is_number : List ℕ → Bool
-is_number word = nat_lt 0 (length word) && all_ascii_digits word && (nat_le (length word) 1 || not (slice_index word 0 == 48))
+is_number word = nat_lt 0 (length word) && all_ascii_digits word
+    && (nat_le (length word) 1 || not (slice_index word 0 == 48))
 
 -- the number of 32 bits that a word says, if it is one
 unfoldable pub number : List ℕ → Option ℕ
-number word = if is_number word && nat_le (size_of word) 4294967295 then Some (size_of word) else None
+number word = if is_number word && nat_le (size_of word) 4294967295 then Some (size_of word)
+    else None
 
 -- a number, if it is one from `low` to `high`
 abbrev pub within : ℕ → ℕ → Option ℕ → Option ℕ

@@ -20,7 +20,8 @@ commutes a b =
     || not (same_bool (is_on_map a.kind) (is_on_map b.kind))
     || (is_read a.kind && is_read b.kind)
     || (is_keyed a.kind && is_keyed b.kind && not (value_eq a.key b.key))
-    || (is_plain a.kind && (kind_place a.kind == kind_place b.kind) && value_eq a.key b.key && (not (kind_place a.kind == 1) || value_eq a.value b.value))
+    || (is_plain a.kind && (kind_place a.kind == kind_place b.kind) && value_eq a.key b.key
+    && (not (kind_place a.kind == 1) || value_eq a.value b.value))
 
 -- ---- against a symbol
 -- the argument is a known value other than v
@@ -42,4 +43,5 @@ commutes_symbol a s =
     || not (same_bool (is_on_map a.kind) (is_on_map s.kind))
     || (is_read a.kind && is_read s.kind)
     || (is_keyed a.kind && is_keyed s.kind && is_apart a.key s.key)
-    || (is_plain a.kind && (kind_place a.kind == kind_place s.kind) && (not (kind_place a.kind == 1) || is_same a.value s.value))
+    || (is_plain a.kind && (kind_place a.kind == kind_place s.kind)
+    && (not (kind_place a.kind == 1) || is_same a.value s.value))

@@ -36,7 +36,8 @@ fn known_same(v: Value, arg: Arg) -> bool
 /// The keys are known to differ.
 #[inline(always)]
 fn keys_known_apart(a: &Op, s: &Symbol) -> bool
-    ensures { result ≡ (is_keyed a.now.kind && is_keyed s.now.kind && is_apart a.now.key s.now.key) }
+    ensures { result ≡ (is_keyed a.now.kind && is_keyed s.now.kind
+        && is_apart a.now.key s.now.key) }
 {
     a.kind.is_keyed() && s.kind.is_keyed() && known_apart(a.key, s.key)
 }
@@ -44,7 +45,8 @@ fn keys_known_apart(a: &Op, s: &Symbol) -> bool
 /// They are one plain change, whatever the key.
 #[inline(always)]
 fn known_change(a: &Op, s: &Symbol) -> bool
-    ensures { result ≡ (is_plain a.now.kind && (kind_place a.now.kind == kind_place s.now.kind) && (not (kind_place a.now.kind == 1) || is_same a.now.value s.now.value)) }
+    ensures { result ≡ (is_plain a.now.kind && (kind_place a.now.kind == kind_place s.now.kind)
+        && (not (kind_place a.now.kind == 1) || is_same a.now.value s.now.value)) }
 {
     a.kind.is_plain() && a.kind == s.kind && (a.kind != Kind::Put || known_same(a.value, s.value))
 }

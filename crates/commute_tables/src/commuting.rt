@@ -14,7 +14,8 @@ use session_values::{Kind, Op};
 /// They are about different keys.
 #[inline(always)]
 fn keys_apart(a: &Op, b: &Op) -> bool
-    ensures { result ≡ (is_keyed a.now.kind && is_keyed b.now.kind && not (value_eq a.now.key b.now.key)) }
+    ensures { result ≡ (is_keyed a.now.kind && is_keyed b.now.kind
+        && not (value_eq a.now.key b.now.key)) }
 {
     a.kind.is_keyed() && b.kind.is_keyed() && a.key != b.key
 }
@@ -22,7 +23,9 @@ fn keys_apart(a: &Op, b: &Op) -> bool
 /// They are one plain change.
 #[inline(always)]
 fn same_change(a: &Op, b: &Op) -> bool
-    ensures { result ≡ (is_plain a.now.kind && (kind_place a.now.kind == kind_place b.now.kind) && value_eq a.now.key b.now.key && (not (kind_place a.now.kind == 1) || value_eq a.now.value b.now.value)) }
+    ensures { result ≡ (is_plain a.now.kind && (kind_place a.now.kind == kind_place b.now.kind)
+        && value_eq a.now.key b.now.key && (not (kind_place a.now.kind == 1)
+        || value_eq a.now.value b.now.value)) }
 {
     a.kind.is_plain()
         && a.kind == b.kind

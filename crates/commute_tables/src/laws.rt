@@ -15,5 +15,6 @@ pub fn symmetry()
 
 /// To commute at all tables that both fit, with values that a program can hold, is to commute.
 pub fn commuting_where_fit()
-    ensures { (shape : List TableKind) (a b : Op) → IsValue a.key → IsValue b.key → Fits shape a → Fits shape b → CommuteAt shape a b → Commute a b }
+    ensures { (shape : List TableKind) (a b : Op) → IsValue a.key → IsValue b.key → Fits shape a
+        → Fits shape b → CommuteAt shape a b → Commute a b }
 {}

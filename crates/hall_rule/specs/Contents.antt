@@ -31,7 +31,8 @@ tables_after m J = after m.opening J
 
 -- what the shard behind turn j + 1 holds after the journal: its part of its table
 abbrev pub share : Meaning → ℕ → List Event → ℕ → Container
-share m turns J j = part (shards_in m turns) (j % shards_in m turns) (table (tables_after m J) (j / shards_in m turns))
+share m turns J j = part (shards_in m turns) (j % shards_in m turns)
+    (table (tables_after m J) (j / shards_in m turns))
 
 -- for how many keys the shard behind turn j + 1 needs room: those that it opens with, and those that the script may add to its table
 abbrev pub needed : Meaning → ℕ → ℕ → ℕ

@@ -36,4 +36,7 @@ pub record AllEnded {S : Type 0} (m : Meaning) (script : S) (contents : List (Co
   pub lawful : Lawful m book
   pub all_begun : begun book.journal ≡ m.requests
   pub all_ended : (t : ℕ) → t < m.requests → (r : Reply) × (ended book.journal t ≡ Some r)
-  pub parts : (j : ℕ) (x : Content S) → slice_get contents (suc j) ≡ Some x → (room : ℕ) × (x ≡ Shard (part (shards_in m turns) (j % shards_in m turns) (table (tables_before (session_of m) m.requests) (j / shards_in m turns))) room)
+  pub parts : (j : ℕ) (x : Content S) → slice_get contents (suc j) ≡ Some x
+      → (room : ℕ)
+      × (x ≡ Shard (part (shards_in m turns) (j % shards_in m turns)
+      (table (tables_before (session_of m) m.requests) (j / shards_in m turns))) room)

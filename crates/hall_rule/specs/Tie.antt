@@ -16,7 +16,8 @@ pub record Tied {S : Type 0} (meaning : S → Meaning) (contents notes : List (C
   pub register : slice_get contents 0 ≡ Some (Register script book)
   pub lawful : Lawful (meaning script) book
   pub callers : length book.records ≡ length notes
-  pub shards : (j : ℕ) (x : Content S) → slice_get contents (suc j) ≡ Some x → IsShard (meaning script) (length contents) book.journal j x
+  pub shards : (j : ℕ) (x : Content S) → slice_get contents (suc j) ≡ Some x
+      → IsShard (meaning script) (length contents) book.journal j x
   pub noted : (c : ℕ) (x : Content S) → slice_get notes c ≡ Some x → IsNote script book c x
 
 -- what one giving back of the book by a caller may change, of the contents of the turns that it holds: the book stays lawful, other callers' records stay, and the journal grows by events of the caller's tickets; each shard that is held is its part of the tables after the new journal, and the parts of all other shards stay
@@ -32,5 +33,8 @@ pub record Moves {S : Type 0} (meaning : S → Meaning) (turns caller : ℕ) (ol
   pub more : List Event
   pub grows : before.journal ++ more ≡ now.journal
   pub own : AllByRecursion (λ e. owner now.journal (ticket_of e) ≡ Some caller) more
-  pub held : (j : ℕ) (x : Content S) → new (suc j) ≡ Some x → (y : Container) × (room : ℕ) × (old (suc j) ≡ Some (Shard y room)) × (x ≡ Shard (share (meaning script) turns now.journal j) room)
-  pub free : (j : ℕ) → new (suc j) ≡ None → share (meaning script) turns before.journal j ≡ share (meaning script) turns now.journal j
+  pub held : (j : ℕ) (x : Content S) → new (suc j) ≡ Some x
+      → (y : Container) × (room : ℕ) × (old (suc j) ≡ Some (Shard y room))
+      × (x ≡ Shard (share (meaning script) turns now.journal j) room)
+  pub free : (j : ℕ) → new (suc j) ≡ None → share (meaning script) turns before.journal j ≡ share
+      (meaning script) turns now.journal j

@@ -19,7 +19,8 @@ abbrev pub ChangedBy : {S : Type 0} → Op → Option (Content S) → Option (Co
 ChangedBy op None None = Unit {0}
 ChangedBy op None (Some y) = ⊥
 ChangedBy op (Some x) None = ⊥
-ChangedBy op (Some x) (Some y) = (c : Container) × (room : ℕ) × (x ≡ Shard c room) × (y ≡ Shard (after_on c op) room)
+ChangedBy op (Some x) (Some y) = (c : Container) × (room : ℕ) × (x ≡ Shard c room)
+    × (y ≡ Shard (after_on c op) room)
 
 -- the operation was done on its shards: its turns and no others are held, and each has in hand what the operation makes of its counted content; v is its reply after every journal whose shards these are
 pub record WasDone {S : Type 0} (m : Meaning) (turns : ℕ) (op : Op) (v : Value) (held hands : ℕ → Option (Content S)) : Type 0 where
@@ -27,7 +28,9 @@ pub record WasDone {S : Type 0} (m : Meaning) (turns : ℕ) (op : Op) (v : Value
   pub each : (j : ℕ) → ChangedBy op (held (suc j)) (hands (suc j))
   pub mine : (j : ℕ) (x : Content S) → held (suc j) ≡ Some x → IsTurnOf (shards_in m turns) op j
   pub all : (j : ℕ) → held (suc j) ≡ None → IsTurnOf (shards_in m turns) op j → ⊥
-  pub settled : (J : List Event) → ((j : ℕ) (c : Container) (room : ℕ) → held (suc j) ≡ Some (Shard c room) → c ≡ share m turns J j) → reply (tables_after m J) op ≡ v
+  pub settled : (J : List Event) → ((j : ℕ) (c : Container) (room : ℕ)
+      → held (suc j) ≡ Some (Shard c room) → c ≡ share m turns J j)
+      → reply (tables_after m J) op ≡ v
 
 -- ---- the turns as a set
 -- how many turns an operation takes

@@ -51,7 +51,8 @@ pub record Keeps (m : Meaning) (d : DeskView) (tables : Tables) (symbol_room : �
   pub script : IsScript m
   pub kinds : map kind_of tables ≡ m.shape
   pub count : length ended ≡ ended_count m d
-  pub serial : (t : ℕ) (e : EndedTicket) → slice_get ended t ≡ Some e → IsSerial (session_of m) all t e
+  pub serial : (t : ℕ) (e : EndedTicket) → slice_get ended t ≡ Some e
+      → IsSerial (session_of m) all t e
   pub is_open : d.ended ≡ false → IsOpen m d tables
   pub idle : d.ended ≡ true → IsIdle m d tables
   pub within : first ≤ length all

@@ -15,7 +15,15 @@ pub record PlainView (S : Type 0) : Type 0 where
 
 -- a plain desk has no name for what it stands over, and may want memory
 abbrev pub desk_of : ℕ → List Entry → List Symbol → Option Entry → Bool → DeskView
-desk_of t es f w e = record { ticket = t; entries = es; present = f; waiting = w; ended = e; home = []; sure = false }
+desk_of t es f w e = record {
+  ticket = t;
+  entries = es;
+  present = f;
+  waiting = w;
+  ended = e;
+  home = [];
+  sure = false;
+}
 
 -- before the first ticket: it is at the place behind the last one, and counts as ended
 abbrev pub new_desk : Meaning → DeskView

@@ -7,4 +7,5 @@ use Rattle.session_values.specs.ReplyText.{IsPrintable}
 
 -- all values of replies
 abbrev pub ArePrintableReplies : List (List ℕ) → List Reply → Type 0
-ArePrintableReplies names replies = AllByRecursion (λ (r : Reply). AllByRecursion (IsPrintable names) (values_of r)) replies
+ArePrintableReplies names replies = AllByRecursion
+    (λ (r : Reply). AllByRecursion (IsPrintable names) (values_of r)) replies

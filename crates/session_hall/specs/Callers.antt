@@ -53,7 +53,8 @@ pub record IsCallerIn {S : Type 0} (meaning : S → Meaning) (p : HallId) (scrip
   pub room : 256 ≤ c.foresight.room
   pub hands_room : 8 ≤ c.hands.room
   pub once : Once content_of c.hands.pairs
-  pub stands : Stands (meaning script) p.board.slots c.stage c.foresight.symbols (book_of c) c.seat c.hands.pairs
+  pub stands : Stands (meaning script) p.board.slots c.stage c.foresight.symbols (book_of c) c.seat
+      c.hands.pairs
 
 -- a caller of the hall of this name, which serves this script
 abbrev pub IsCallerAt : {S : Type 0} → (S → Meaning) → List ℕ → S → Caller S → Type 0

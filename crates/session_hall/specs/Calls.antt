@@ -52,7 +52,11 @@ MayAnswer r m b t = now m b.journal t ≡ Answers r
 
 -- an operation was done on its shards, and the list may take the place of the foresight once it is entered
 abbrev pub MayFinishAt : Meaning → Stage → List Symbol → Book → List Symbol → Type 0
-MayFinishAt m (Applied t op v) f b next = Covered next f × IsForesight (rest (m.next t) (replies (entries b.journal t ++ record { op = op; reply = v } ∷ []))) next
+MayFinishAt m (Applied t op v) f b next = Covered next f
+    × IsForesight (rest (m.next t) (replies (entries b.journal t ++ record {
+      op = op;
+      reply = v;
+    } ∷ []))) next
 MayFinishAt m _ f b next = ⊥
 
 abbrev pub MayFinish : {S : Type 0} → Meaning → Caller S → List Symbol → Type 0
@@ -160,8 +164,10 @@ module _ {S : Type 0} (m : Meaning) (p q : Caller S) where
     pub place : ℕ
     pub turn_is : u ≡ suc place
     pub of_operation : IsTurnOf shards op place
-    pub some_won : (j : ℕ) → IsTurnOf shards op j → lost q.seat (suc j) ≡ lost p.seat (suc j) → after ≡ givings p.seat + 1
-    pub none_won : ((j : ℕ) → IsTurnOf shards op j → lost q.seat (suc j) ≡ lost p.seat (suc j) + 1) → after ≡ givings p.seat
+    pub some_won : (j : ℕ) → IsTurnOf shards op j → lost q.seat (suc j) ≡ lost p.seat (suc j)
+        → after ≡ givings p.seat + 1
+    pub none_won : ((j : ℕ) → IsTurnOf shards op j → lost q.seat (suc j) ≡ lost p.seat (suc j) + 1)
+        → after ≡ givings p.seat
 
   abbrev pub AppliedAs : ℕ → ℕ → Applying → Type 0
   AppliedAs shards turns (applying.Applied v) = OnFlight p.stage (AppliedAt turns v)
@@ -170,7 +176,8 @@ module _ {S : Type 0} (m : Meaning) (p q : Caller S) where
   -- ---- finish
   pub record FinishedAt (next : List Symbol) (t : ℕ) (op : Op) (v : Value) : Type 0 where
     pub found : Book
-    pub gave : GaveBack found (after_done found (caller p.seat) (flying t p.foresight.symbols op) op v next)
+    pub gave : GaveBack found (after_done found (caller p.seat) (flying t p.foresight.symbols op)
+        op v next)
     pub stage_is : q.stage ≡ Serves t
     pub foresight_is : q.foresight.symbols ≡ next
     pub entries_more : entries_of q t ≡ entries_of p t ++ record { op = op; reply = v } ∷ []

@@ -53,7 +53,9 @@ pub record IsDone (m : Meaning) (d : ClosedView) : Type 0 where
   pub replies : d.replies ≡ serial_replies (session_of m) m.requests
   pub tables : tables_after m d.journal ≡ tables_before (session_of m) m.requests
   pub parts_are : length d.parts ≡ length m.shape * d.shards
-  pub parts : (j : ℕ) (x : Part) → slice_get d.parts j ≡ Some x → (shard_view x).container ≡ part d.shards (j % d.shards) (table (tables_before (session_of m) m.requests) (j / d.shards))
+  pub parts : (j : ℕ) (x : Part) → slice_get d.parts j ≡ Some x
+      → (shard_view x).container ≡ part d.shards (j % d.shards)
+      (table (tables_before (session_of m) m.requests) (j / d.shards))
 
 -- what every closed hall holds
 abbrev pub IsClosed : ClosedView → Type 0

@@ -40,7 +40,8 @@ module _ {S : Type 0} (p q : SeatOf S) where
     pub lost_still : (u : ℕ) → lost q u ≡ lost p u
     pub asks_more : asks q ≡ asks p + 1
     pub givings_still : givings q ≡ givings p
-    pub shares : (j : ℕ) (x : Container) (room : ℕ) → held q (suc j) ≡ Some (Shard x room) → x ≡ share (meaning script) turns b.book.journal j
+    pub shares : (j : ℕ) (x : Container) (room : ℕ) → held q (suc j) ≡ Some (Shard x room)
+        → x ≡ share (meaning script) turns b.book.journal j
 
   abbrev pub TookBook : (S → Meaning) → S → ℕ → Option (BookView S) → Type 0
   TookBook meaning script turns None = FoundTaken 0

@@ -38,7 +38,8 @@ pub record FirstValues {S : Type 0} (meaning : S → Meaning) (script : S) (shar
   pub script_kept : IsScript (meaning script)
   pub long : length values ≡ 1 + length (meaning script).shape * shards
   pub first : slice_get (map content_of values) 0 ≡ Some (first_content meaning script callers)
-  pub tied : Tied meaning (map content_of values) (replicate callers (first_content meaning script callers))
+  pub tied : Tied meaning (map content_of values)
+      (replicate callers (first_content meaning script callers))
 
 -- a caller with this seat, which serves no ticket and holds nothing in its hands
 pub record IsNew {S : Type 0} (seat : SeatOf S) (number : ℕ) (c : Caller S) : Type 0 where
@@ -52,4 +53,5 @@ pub record IsNew {S : Type 0} (seat : SeatOf S) (number : ℕ) (c : Caller S) : 
 -- a caller for each of the first n seats
 pub record AllNew {S : Type 0} (seats : List (SeatOf S)) (n : ℕ) (callers : List (Caller S)) : Type 0 where
   pub long : length callers ≡ n
-  pub each : (i : ℕ) (c : Caller S) → slice_get callers i ≡ Some c → (s : SeatOf S) × (slice_get seats i ≡ Some s) × IsNew s i c
+  pub each : (i : ℕ) (c : Caller S) → slice_get callers i ≡ Some c
+      → (s : SeatOf S) × (slice_get seats i ≡ Some s) × IsNew s i c

@@ -32,12 +32,16 @@ pub record HoldsNone {S : Type 0} (s : SeatOf S) (pairs : List (ℕ × Held S)) 
   pub no_pairs : pairs ≡ []
 
 -- the caller's record in the book of its note, and what it holds, by its stage
-abbrev pub Stands : {S : Type 0} → Meaning → ℕ → Stage → List Symbol → Book → SeatOf S → List (ℕ × Held S) → Type 0
+abbrev pub Stands : {S : Type 0} → Meaning → ℕ → Stage → List Symbol → Book → SeatOf S
+    → List (ℕ × Held S) → Type 0
 Stands m turns Idle f b s xs = (record_of b (caller s) ≡ None) × HoldsNone s xs
 Stands m turns (Serves t) f b s xs = (record_of b (caller s) ≡ Some (waiting t f)) × HoldsNone s xs
-Stands m turns (InFlight t op) f b s xs = (record_of b (caller s) ≡ Some (flying t f op)) × HoldsNone s xs
-Stands m turns (Applied t op v) f b s xs = (record_of b (caller s) ≡ Some (flying t f op)) × WasDone m turns op v (held s) (in_hands content_of xs)
-Stands m turns Out f b s xs = (record_of b (caller s) ≡ None) × (m.requests ≤ begun b.journal) × HoldsNone s xs
+Stands m turns (InFlight t op) f b s xs = (record_of b (caller s) ≡ Some (flying t f op))
+    × HoldsNone s xs
+Stands m turns (Applied t op v) f b s xs = (record_of b (caller s) ≡ Some (flying t f op))
+    × WasDone m turns op v (held s) (in_hands content_of xs)
+Stands m turns Out f b s xs = (record_of b (caller s) ≡ None) × (m.requests ≤ begun b.journal)
+    × HoldsNone s xs
 
 -- it serves no ticket
 abbrev pub IsBetween : Stage → Type 0

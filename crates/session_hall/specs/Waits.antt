@@ -42,20 +42,28 @@ module _ {S : Type 0} (m : Meaning) (p q : Caller S) where
 
   -- with the entries as the first caller has them
   abbrev pub DeclaredAfter : List Symbol → Type 0
-  DeclaredAfter f = OnServing p.stage (λ t. (via : Caller S) × OnlyLost p via × DeclaredAt m via q f t × (entries_of q t ≡ entries_of p t))
+  DeclaredAfter f = OnServing p.stage (λ t. (via : Caller S) × OnlyLost p via
+      × DeclaredAt m via q f t × (entries_of q t ≡ entries_of p t))
 
   abbrev pub AdmittedAfter : Op → Type 0
-  AdmittedAfter op = OnServing p.stage (λ t. (via : Caller S) × OnlyDelayed p via t × AdmittedAt m via q op t × (q.foresight ≡ p.foresight) × (entries_of q t ≡ entries_of p t))
+  AdmittedAfter op = OnServing p.stage (λ t. (via : Caller S) × OnlyDelayed p via t
+      × AdmittedAt m via q op t × (q.foresight ≡ p.foresight) × (entries_of q t ≡ entries_of p t))
 
   abbrev pub AppliedAfter : ℕ → Value → Type 0
-  AppliedAfter turns v = OnFlight p.stage (λ t op. (via : Caller S) × OnlyLost p via × AppliedAt m via q turns v t op × (q.foresight ≡ p.foresight) × (book_of q ≡ book_of p))
+  AppliedAfter turns v = OnFlight p.stage (λ t op. (via : Caller S) × OnlyLost p via
+      × AppliedAt m via q turns v t op × (q.foresight ≡ p.foresight) × (book_of q ≡ book_of p))
 
   abbrev pub FinishedAfterFrom : List Symbol → Stage → Type 0
-  FinishedAfterFrom next (Applied t op v) = (via : Caller S) × OnlyLost p via × FinishedAt m via q next t op v × (entries_of q t ≡ entries_of p t ++ record { op = op; reply = v } ∷ [])
+  FinishedAfterFrom next (Applied t op v) = (via : Caller S) × OnlyLost p via
+      × FinishedAt m via q next t op v × (entries_of q t ≡ entries_of p t ++ record {
+        op = op;
+        reply = v;
+      } ∷ [])
   FinishedAfterFrom next _ = ⊥
 
   abbrev pub FinishedAfter : List Symbol → Type 0
   FinishedAfter next = FinishedAfterFrom next p.stage
 
   abbrev pub EndedAfter : Reply → Type 0
-  EndedAfter r = OnServing p.stage (λ t. (via : Caller S) × OnlyLost p via × EndedAt m via q r t × (q.foresight ≡ p.foresight) × (entries_of q t ≡ entries_of p t))
+  EndedAfter r = OnServing p.stage (λ t. (via : Caller S) × OnlyLost p via × EndedAt m via q r t
+      × (q.foresight ≡ p.foresight) × (entries_of q t ≡ entries_of p t))

@@ -27,7 +27,8 @@ module _ {S : Type 0} where
 
   -- it is a shard of the operation's kind, with room for one key more where the operation may add one
   abbrev pub CanDo : Op → Content S → Type 0
-  CanDo op (Shard c room) = (kind_of c ≡ home op.kind) × (is_adding op.kind ≡ true → size_of c < room)
+  CanDo op (Shard c room) = (kind_of c ≡ home op.kind)
+      × (is_adding op.kind ≡ true → size_of c < room)
   CanDo op (Register s b) = ⊥
 
   -- the shard after the operation, and the operation's reply there
@@ -42,7 +43,8 @@ module _ {S : Type 0} where
 
   abbrev pub WorkedFirst : Op → List (ℕ × Held S) → List (ℕ × Held S) → Value → Type 0
   WorkedFirst op [] ys v = ⊥
-  WorkedFirst op (x ∷ xs) ys v = (y : Held S) × (ys ≡ xs ++ (x.0, y) ∷ []) × WorkedTo op (content_of x.1) (content_of y) v
+  WorkedFirst op (x ∷ xs) ys v = (y : Held S) × (ys ≡ xs ++ (x.0, y) ∷ [])
+      × WorkedTo op (content_of x.1) (content_of y) v
 
   abbrev pub FirstCounts : Op → List (ℕ × Held S) → Type 0
   FirstCounts op [] = ⊥
@@ -50,7 +52,8 @@ module _ {S : Type 0} where
 
   abbrev pub CountedFirst : List (ℕ × Held S) → List (ℕ × Held S) → ℕ → Type 0
   CountedFirst [] ys n = ⊥
-  CountedFirst (x ∷ xs) ys n = (y : Held S) × (ys ≡ xs ++ (x.0, y) ∷ []) × (content_of y ≡ content_of x.1) × (n ≡ keys_in (content_of x.1))
+  CountedFirst (x ∷ xs) ys n = (y : Held S) × (ys ≡ xs ++ (x.0, y) ∷ [])
+      × (content_of y ≡ content_of x.1) × (n ≡ keys_in (content_of x.1))
 
   -- ---- all shards
   abbrev pub AllCan : Op → List (ℕ × Content S) → Type 0
@@ -65,10 +68,13 @@ module _ {S : Type 0} where
 
   -- with a key one shard is in the hands; else their keys are counted
   abbrev pub CanWork : Op → List (ℕ × Held S) → Type 0
-  CanWork op xs = AllCan op (contents xs) × (0 < length xs) × (arguments op.kind ≡ 0 → all_keys (contents xs) ≤ 200000)
+  CanWork op xs = AllCan op (contents xs) × (0 < length xs)
+      × (arguments op.kind ≡ 0 → all_keys (contents xs) ≤ 200000)
 
   abbrev pub HasWorked : Op → List (ℕ × Held S) → List (ℕ × Held S) → Value → Type 0
-  HasWorked op xs ys v = (arguments op.kind ≡ 0 → (contents ys ≡ contents xs) × (v ≡ Num (pos (all_keys (contents xs))))) × (0 < arguments op.kind → WorkedFirst op xs ys v)
+  HasWorked op xs ys v = (arguments op.kind ≡ 0
+      → (contents ys ≡ contents xs) × (v ≡ Num (pos (all_keys (contents xs)))))
+      × (0 < arguments op.kind → WorkedFirst op xs ys v)
 
   -- so many shards have been counted: their contents stand behind the others
   pub record Counting (op : Op) (first now : List (ℕ × Held S)) (done count : ℕ) : Type 0 where

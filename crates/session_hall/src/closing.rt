@@ -58,7 +58,8 @@ fn parts_of<S: Script + Drop>(values: Vec<Held<S>>, list: Vec<Part>) -> Vec<Part
 // The values of the turns in the order of their turns, and how many shards each table has.
 fn values_of<S: Script + Drop>(hall: Hall<S>, callers: Callers<S>) -> (Vec<Held<S>>, Vec<Part>)
     requires all { length callers ≡ hall.sizes.callers }
-    requires callers { (i : ℕ) (c : CallerOf S) → slice_get callers i ≡ Some c → Leaves S.meaning hall i c }
+    requires callers { (i : ℕ) (c : CallerOf S) → slice_get callers i ≡ Some c
+        → Leaves S.meaning hall i c }
     ensures values { HasLeft S.meaning hall result.0.items }
     ensures room { (result.1.items ≡ []) × (vec_len result.0 ≤ vec_capacity result.1) }
 {
@@ -79,7 +80,8 @@ impl<S: Script + Drop> Hall<S> {
     /// shards. It can't be refused.
     pub fn close(self, callers: Callers<S>) -> Closed
         requires all { length callers ≡ self.sizes.callers }
-        requires callers { (i : ℕ) (c : CallerOf S) → slice_get callers i ≡ Some c → Leaves S.meaning self i c }
+        requires callers { (i : ℕ) (c : CallerOf S) → slice_get callers i ≡ Some c
+            → Leaves S.meaning self i c }
         ensures done { IsDone (S.meaning (script_of self)) result }
         ensures shards { result.shards ≡ self.sizes.shards }
         ensures callers { result.callers ≡ self.sizes.callers }

@@ -19,7 +19,8 @@ impl<S: Script + Drop> Hall<S> {
         requires seat { IsSeatOf self.now.board seat.old }
         requires turns { 0 < turn_count self.now.board }
         requires free { held seat.old 0 ≡ None }
-        requires noted { note seat.old ≡ Some (Register (script_of self.now) (book_in (note seat.old))) }
+        requires noted { note seat.old ≡ Some
+            (Register (script_of self.now) (book_in (note seat.old))) }
         ensures seat { IsSeatOf self.now.board seat.new × SameNote seat.old seat.new }
         ensures took { TookBook seat.old seat.new S.meaning (script_of self.now)
             (turn_count self.now.board) result }

@@ -44,7 +44,8 @@ impl<S: Script + Drop> Caller<S> {
             (MayDeclare self.old.foresight.symbols f.now.symbols) }
         ensures caller { IsCallerOf S.meaning hall.now self.new }
         ensures same { self.new.number ≡ self.old.number }
-        ensures declared { DeclaredAfter (S.meaning (script_of hall.now)) self.old self.new f.now.symbols }
+        ensures declared { DeclaredAfter (S.meaning (script_of hall.now)) self.old self.new
+            f.now.symbols }
     {
         for _ in rt.forever() {
             match self.try_declare(hall, f) {

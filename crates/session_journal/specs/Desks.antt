@@ -32,24 +32,57 @@ pub record MayNarrow (m : Meaning) (t : ℕ) (entries : List Entry) (present lis
 
 -- an operation waits with its reply
 abbrev pub with_waiting : DeskView → Op → Value → DeskView
-with_waiting d op v = record { ticket = d.ticket; entries = d.entries; present = d.present; waiting = Some (record { op = op; reply = v }); ended = d.ended; home = d.home; sure = d.sure }
+with_waiting d op v = record {
+  ticket = d.ticket;
+  entries = d.entries;
+  present = d.present;
+  waiting = Some (record { op = op; reply = v });
+  ended = d.ended;
+  home = d.home;
+  sure = d.sure;
+}
 
 -- an entry is made, and none waits
 abbrev pub with_entry : DeskView → Entry → List Symbol → DeskView
-with_entry d e f = record { ticket = d.ticket; entries = d.entries ++ e ∷ []; present = f; waiting = None; ended = d.ended; home = d.home; sure = d.sure }
+with_entry d e f = record {
+  ticket = d.ticket;
+  entries = d.entries ++ e ∷ [];
+  present = f;
+  waiting = None;
+  ended = d.ended;
+  home = d.home;
+  sure = d.sure;
+}
 
 -- another foresight is the present one
 abbrev pub with_present : DeskView → List Symbol → DeskView
-with_present d f = record { ticket = d.ticket; entries = d.entries; present = f; waiting = d.waiting; ended = d.ended; home = d.home; sure = d.sure }
+with_present d f = record {
+  ticket = d.ticket;
+  entries = d.entries;
+  present = f;
+  waiting = d.waiting;
+  ended = d.ended;
+  home = d.home;
+  sure = d.sure;
+}
 
 -- the ticket has ended
 abbrev pub with_end : DeskView → DeskView
-with_end d = record { ticket = d.ticket; entries = d.entries; present = d.present; waiting = d.waiting; ended = true; home = d.home; sure = d.sure }
+with_end d = record {
+  ticket = d.ticket;
+  entries = d.entries;
+  present = d.present;
+  waiting = d.waiting;
+  ended = true;
+  home = d.home;
+  sure = d.sure;
+}
 
 -- what finish asks: an operation waits, the list is the one told after it, and the ticket may narrow to it
 abbrev pub MayFinish : Meaning → DeskView → Option Entry → List Symbol → Type 0
 MayFinish m d None f = ⊥
-MayFinish m d (Some e) f = (f ≡ m.told d.ticket (replies (d.entries ++ e ∷ []))) × MayNarrow m d.ticket (d.entries ++ e ∷ []) d.present f
+MayFinish m d (Some e) f = (f ≡ m.told d.ticket (replies (d.entries ++ e ∷ [])))
+    × MayNarrow m d.ticket (d.entries ++ e ∷ []) d.present f
 
 -- the desk after finish
 abbrev pub finished : DeskView → Option Entry → List Symbol → DeskView

@@ -58,7 +58,8 @@ Replays ts (e ∷ es) = (reply ts e.op ≡ e.reply) × Replays (step ts e.op) es
 -- of two done_operations where the younger ticket's stands first, the operations commute
 abbrev pub InversionsCommute : List DoneOperation → Type 0
 InversionsCommute [] = Unit {0}
-InversionsCommute (d ∷ ds) = AllByRecursion (λ e. e.ticket < d.ticket → Commute d.op e.op) ds × InversionsCommute ds
+InversionsCommute (d ∷ ds) = AllByRecursion (λ e. e.ticket < d.ticket → Commute d.op e.op) ds
+    × InversionsCommute ds
 
 -- each done operation is of a ticket below n
 abbrev pub AreBelow : ℕ → List DoneOperation → Type 0

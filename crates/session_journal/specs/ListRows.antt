@@ -9,7 +9,11 @@ use Rattle.session_journal.specs.Lists.{Ticket, IsTicket}
 
 -- the ticket of a row
 abbrev pub ticket_of_row : List Op → List Symbol → Row → Ticket
-ticket_of_row ops symbols r = record { ops = take r.ops (drop r.first_op ops); reply = r.reply; entry = take r.symbols (drop r.first_symbol symbols) }
+ticket_of_row ops symbols r = record {
+  ops = take r.ops (drop r.first_op ops);
+  reply = r.reply;
+  entry = take r.symbols (drop r.first_symbol symbols);
+}
 
 abbrev pub tickets_of : List Op → List Symbol → List Row → List Ticket
 tickets_of ops symbols rows = map (ticket_of_row ops symbols) rows
@@ -17,7 +21,8 @@ tickets_of ops symbols rows = map (ticket_of_row ops symbols) rows
 -- the rows follow one another, from these places on, and leave off at those
 abbrev pub Follow : ℕ → ℕ → List Row → ℕ → ℕ → Type 0
 Follow o s [] p q = (o ≡ p) × (s ≡ q)
-Follow o s (r ∷ rows) p q = (r.first_op ≡ o) × ((r.first_symbol ≡ s) × Follow (o + r.ops) (s + r.symbols) rows p q)
+Follow o s (r ∷ rows) p q = (r.first_op ≡ o) × ((r.first_symbol ≡ s)
+    × Follow (o + r.ops) (s + r.symbols) rows p q)
 
 -- what the lists keep, and how many places each may have
 pub record KeepsRows (shape : List TableKind) (rows : List Row) (ops : List Op) (symbols : List Symbol) (row_room op_room symbol_room : ℕ) : Type 0 where

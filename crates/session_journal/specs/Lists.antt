@@ -28,7 +28,11 @@ pub record ListView : Type 0 where
 
 -- what stands past the last ticket
 abbrev pub no_ticket : Ticket
-no_ticket = record { ops = []; reply = record { count = 1; a = Nil; b = Nil; c = Nil; d = Nil }; entry = [] }
+no_ticket = record {
+  ops = [];
+  reply = record { count = 1; a = Nil; b = Nil; c = Nil; d = Nil };
+  entry = [];
+}
 
 abbrev pub ticket_at : List Ticket → ℕ → Ticket
 ticket_at [] t = no_ticket
@@ -88,7 +92,11 @@ answers_only r = record { ops = []; reply = r; entry = [] }
 
 -- a ticket that calls one operation more, and declares it
 abbrev pub calls_more : Ticket → Op → Ticket
-calls_more x op = record { ops = x.ops ++ op ∷ []; reply = x.reply; entry = x.entry ++ exact_symbol op ∷ [] }
+calls_more x op = record {
+  ops = x.ops ++ op ∷ [];
+  reply = x.reply;
+  entry = x.entry ++ exact_symbol op ∷ [];
+}
 
 -- a ticket that declares one symbol more
 abbrev pub allows_more : Ticket → Symbol → Ticket

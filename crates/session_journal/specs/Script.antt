@@ -17,7 +17,8 @@ use Rattle.symbolic_ops.specs.Matching.{Matches, HasNoVar}
 
 -- whatever replies come that a program can hold, some symbol of the list stands for each operation that the dialogue calls
 pub record Covers (f : Dialogue) (foresight : List Symbol) : Type 0 where
-  pub each : (more : List Value) (op : Op) → AllByRecursion IsValue more → f more ≡ Calls op → Matches foresight op
+  pub each : (more : List Value) (op : Op) → AllByRecursion IsValue more → f more ≡ Calls op
+      → Matches foresight op
 
 -- a list that a ticket may have as its foresight
 pub record IsForesight (f : Dialogue) (foresight : List Symbol) : Type 0 where
@@ -44,7 +45,13 @@ pub record Meaning : Type 0 where
 
 -- what the serial run is made of
 abbrev pub session_of : Meaning → Session
-session_of m = record { shape = m.shape; opening = m.opening; requests = m.requests; next = m.next; length = m.length }
+session_of m = record {
+  shape = m.shape;
+  opening = m.opening;
+  requests = m.requests;
+  next = m.next;
+  length = m.length;
+}
 
 -- how many of a list's operations are of the adding kinds on table i
 abbrev pub adds_on : ℕ → List Entry → ℕ
@@ -64,15 +71,19 @@ pub record IsScript (m : Meaning) : Type 0 where
   -- the opening tables are of its kinds, and all are empty
   pub opening : m.opening ≡ start m.shape
   -- each operation fits the tables, and where the replies are values, so are the values that come
-  pub fits : (t : ℕ) (replies : List Value) (op : Op) → m.next t replies ≡ Calls op → Fits m.shape op
-  pub values : (t : ℕ) (replies : List Value) → AllByRecursion IsValue replies → HasValues (m.next t replies)
+  pub fits : (t : ℕ) (replies : List Value) (op : Op) → m.next t replies ≡ Calls op
+      → Fits m.shape op
+  pub values : (t : ℕ) (replies : List Value) → AllByRecursion IsValue replies
+      → HasValues (m.next t replies)
   -- the bounds on a ticket's calls
   pub ends : (t : ℕ) → EndsBy (m.length t) (m.next t)
   pub adds : (t i : ℕ) (es : List Entry) → Follows (m.next t) es → adds_on i es ≤ m.adds t i
   -- what is declared covers what is still to come, where the replies so far are values
   pub entry : (t : ℕ) → IsForesight (m.next t) (m.entry t)
-  pub told : (t : ℕ) (replies : List Value) → AllByRecursion IsValue replies → IsForesight (rest (m.next t) replies) (m.told t replies)
-  pub due : (t : ℕ) (replies : List Value) → AllByRecursion IsValue replies → IsForesight (rest (m.next t) replies) (m.due t replies)
+  pub told : (t : ℕ) (replies : List Value) → AllByRecursion IsValue replies
+      → IsForesight (rest (m.next t) replies) (m.told t replies)
+  pub due : (t : ℕ) (replies : List Value) → AllByRecursion IsValue replies
+      → IsForesight (rest (m.next t) replies) (m.due t replies)
   -- the bounds on all tickets together
   pub few_requests : m.requests ≤ 20000
   pub few_calls : calls m ≤ 200000

@@ -10,7 +10,8 @@ use crate::event::Event;
 /// one's, replays regrouped by ticket too, and gives the same tables.
 pub fn regrouping()
     ensures replays { (ts : Tables) (J : List Event) → Replays ts (in_order (done_operations J)) →
-        InversionsCommute (done_operations J) → AreBelow (begun J) (done_operations J) → Replays ts (regrouped J) }
+        InversionsCommute (done_operations J) → AreBelow (begun J) (done_operations J)
+        → Replays ts (regrouped J) }
     ensures tables { (ts : Tables) (J : List Event) → Replays ts (in_order (done_operations J)) →
         InversionsCommute (done_operations J) → AreBelow (begun J) (done_operations J) →
         run ts (regrouped J) ≡ run ts (in_order (done_operations J)) }

@@ -26,4 +26,6 @@ container_cases (Members s) = refl
 
 -- how a container is told from others
 abbrev pub container_code : Coded Container
-container_code = code_by (map.FinMap value_cmp Value ⊎ set.FinSet value_cmp) (coded⊎ (map.code value.the_row.coded value.the_row.coded) (set.code value.the_row.coded)) cases container container_cases
+container_code = code_by (map.FinMap value_cmp Value ⊎ set.FinSet value_cmp)
+    (coded⊎ (map.code value.the_row.coded value.the_row.coded) (set.code value.the_row.coded))
+    cases container container_cases

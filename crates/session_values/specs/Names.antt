@@ -9,7 +9,8 @@ with_text names text = if list_any (bytes_eq text) names then names else names +
 
 -- no text stands at two places
 abbrev pub AreDistinct : List (List ℕ) → Type 0
-AreDistinct names = (i j : ℕ) (text : List ℕ) → slice_get names i ≡ Some text → slice_get names j ≡ Some text → i ≡ j
+AreDistinct names = (i j : ℕ) (text : List ℕ) → slice_get names i ≡ Some text
+    → slice_get names j ≡ Some text → i ≡ j
 
 -- the place of a text, or the length of the list where it isn't there
 abbrev pub place_of : List (List ℕ) → List ℕ → ℕ

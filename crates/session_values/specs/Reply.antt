@@ -13,7 +13,8 @@ pub record ReplyView : Type 0 where
 
 -- it has 1 to 4 values, and the others are nil
 abbrev pub IsReply : ℕ → Value → Value → Value → Type 0
-IsReply count b c d = (0 < count) × (count ≤ 4) × (count < 2 → b ≡ Nil) × (count < 3 → c ≡ Nil) × (count < 4 → d ≡ Nil)
+IsReply count b c d = (0 < count) × (count ≤ 4) × (count < 2 → b ≡ Nil) × (count < 3 → c ≡ Nil)
+    × (count < 4 → d ≡ Nil)
 
 -- a program can hold it: its values are such values, and it has 1 to 4 of them
 pub record IsHeldReply (r : ReplyView) : Type 0 where

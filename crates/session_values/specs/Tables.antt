@@ -50,7 +50,8 @@ map_reply m Drop k = Nil
 map_reply m Count k = Nil
 
 -- the map after an operation, which those on sets leave as it was
-abbrev pub map_after : map.FinMap value_cmp Value → Kind → Value → Value → map.FinMap value_cmp Value
+abbrev pub map_after : map.FinMap value_cmp Value → Kind → Value → Value
+    → map.FinMap value_cmp Value
 map_after m Get k v = m
 map_after m Put k v = map.insert m k v
 map_after m Swap k v = map.insert m k v

@@ -35,7 +35,8 @@ value_cmp_antisymm (Sym p) Nil = refl
 value_cmp_antisymm (Sym p) (Num y) = refl
 value_cmp_antisymm (Sym p) (Sym q) = nat_cmp_total.antisymm p q
 
-value_cmp_trans : (x y z : Value) → value_cmp x y ≡ Less → value_cmp y z ≡ Less → value_cmp x z ≡ Less
+value_cmp_trans : (x y z : Value) → value_cmp x y ≡ Less → value_cmp y z ≡ Less
+    → value_cmp x z ≡ Less
 value_cmp_trans Nil Nil z e f = f
 value_cmp_trans Nil (Num y) Nil e f = cc
 value_cmp_trans Nil (Num y) (Num z) e f = refl

@@ -26,7 +26,8 @@ impl Model for Names {
 
     ghost view = { λ n. map string_bytes n.texts.keys };
 
-    ghost invariant = { λ n. AreDistinct (map string_bytes n.texts.keys) × (length (map string_bytes n.texts.keys) < 2 ^ 32) };
+    ghost invariant = { λ n. AreDistinct (map string_bytes n.texts.keys)
+        × (length (map string_bytes n.texts.keys) < 2 ^ 32) };
 }
 
 impl Names {

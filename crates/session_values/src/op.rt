@@ -25,7 +25,12 @@ impl Model for Op {
 
     ghost invariant = { λ o. IsOp o.kind o.key o.value };
 
-    ghost inverse = { λ o. record { kind = o.kind; table = o.table; key = o.key; value = o.value } };
+    ghost inverse = { λ o. record {
+      kind = o.kind;
+      table = o.table;
+      key = o.key;
+      value = o.value;
+    } };
 }
 
 impl Op {

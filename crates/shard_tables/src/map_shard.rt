@@ -32,14 +32,18 @@ impl Model for MapShard {
 
     ghost view = { λ s. record { entries = s.pairs.items; room = s.room } };
 
-    ghost invariant = { λ s. FitsRoom (λ p. p.0) s.pairs.items (vec_capacity s.pairs) s.room s.index };
+    ghost invariant = { λ s. FitsRoom (λ p. p.0) s.pairs.items (vec_capacity s.pairs) s.room
+        s.index };
 }
 
 impl MapShard {
     /// An empty shard with room for so many keys.
     pub fn with_room(alloc: Global, room: u32) -> Result<MapShard, NoMemory>
         requires { room ≤ 1073741824 }
-        ensures { IfOk result (λ shard. map_shard shard ≡ record { container = empty_of Map; room = room }) }
+        ensures { IfOk result (λ shard. map_shard shard ≡ record {
+          container = empty_of Map;
+          room = room;
+        }) }
     {
         let pairs = Vec::with_capacity(alloc, room as usize)?;
         let index = PlaceIndex::with_room(alloc, room)?;

@@ -39,7 +39,10 @@ impl SetShard {
     /// An empty shard with room for so many keys.
     pub fn with_room(alloc: Global, room: u32) -> Result<SetShard, NoMemory>
         requires { room ≤ 1073741824 }
-        ensures { IfOk result (λ shard. set_shard shard ≡ record { container = empty_of Set; room = room }) }
+        ensures { IfOk result (λ shard. set_shard shard ≡ record {
+          container = empty_of Set;
+          room = room;
+        }) }
     {
         let keys = Vec::with_capacity(alloc, room as usize)?;
         let index = PlaceIndex::with_room(alloc, room)?;

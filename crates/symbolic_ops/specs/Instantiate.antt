@@ -23,4 +23,9 @@ arg_in env Any = Any
 
 -- a symbol with each variable known to be its value
 abbrev pub symbol_in : List Value → Symbol → Symbol
-symbol_in env s = record { kind = s.kind; table = s.table; key = arg_in env s.key; value = arg_in env s.value }
+symbol_in env s = record {
+  kind = s.kind;
+  table = s.table;
+  key = arg_in env s.key;
+  value = arg_in env s.value;
+}

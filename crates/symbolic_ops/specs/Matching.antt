@@ -63,4 +63,9 @@ Covered g f = AllByRecursion (λ s. IsBelowSome s f) g
 
 -- the symbol that stands for this operation alone
 abbrev pub exact_symbol : Op → Symbol
-exact_symbol op = record { kind = op.kind; table = op.table; key = Known op.key; value = Known op.value }
+exact_symbol op = record {
+  kind = op.kind;
+  table = op.table;
+  key = Known op.key;
+  value = Known op.value;
+}

@@ -22,4 +22,6 @@ arg_cmp Any Any = Equal
 
 -- by table, then kind, then key, then value
 abbrev pub symbol_cmp : Symbol → Symbol → Ordering
-symbol_cmp = then_cmp (on (λ s. s.table) nat_cmp) (then_cmp (on (λ s. s.kind) kind_cmp) (then_cmp (on (λ s. s.key) arg_cmp) (on (λ s. s.value) arg_cmp)))
+symbol_cmp = then_cmp (on (λ s. s.table) nat_cmp)
+    (then_cmp (on (λ s. s.kind) kind_cmp) (then_cmp (on (λ s. s.key) arg_cmp)
+    (on (λ s. s.value) arg_cmp)))

@@ -15,7 +15,8 @@ pub record SymbolView : Type 0 where
 
 -- its unused arguments are known to be nil
 abbrev pub IsSymbol : Kind → Arg → Arg → Type 0
-IsSymbol kind key value = (arguments kind < 1 → key ≡ Known Nil) × (arguments kind < 2 → value ≡ Known Nil)
+IsSymbol kind key value = (arguments kind < 1 → key ≡ Known Nil)
+    × (arguments kind < 2 → value ≡ Known Nil)
 
 -- a known argument is a value that a program can hold
 abbrev pub IsHeldArg : Arg → Type 0

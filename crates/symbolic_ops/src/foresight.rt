@@ -29,7 +29,9 @@ impl Model for Foresight {
 
     ghost view = { λ f. record { symbols = f.symbols.items; room = f.room } };
 
-    ghost invariant = { λ f. AllByRecursion HasNoVar f.symbols.items × (length f.symbols.items ≤ f.room) × (f.room ≤ vec_capacity f.symbols) × (f.room < 2 ^ 32) };
+    ghost invariant = { λ f. AllByRecursion HasNoVar f.symbols.items
+        × (length f.symbols.items ≤ f.room) × (f.room ≤ vec_capacity f.symbols)
+        × (f.room < 2 ^ 32) };
 }
 
 impl Foresight {
@@ -105,7 +107,10 @@ impl Foresight {
     pub(crate) fn copy_with_values(&mut self, symbols: &[Symbol], env: &[Value])
         requires vars { AllByRecursion (λ s. IsWithin (length env.now) s) symbols.now }
         requires room { length symbols.now ≤ self.old.room }
-        ensures { self.new ≡ record { symbols = map (symbol_in env.now) symbols.now; room = self.old.room } }
+        ensures { self.new ≡ record {
+          symbols = map (symbol_in env.now) symbols.now;
+          room = self.old.room;
+        } }
     {
         self.symbols.clear();
         let _copied = self.symbols.extend_from_slice(symbols);

@@ -33,7 +33,12 @@ impl Model for Symbol {
 
     ghost invariant = { λ s. IsSymbol s.kind s.key s.value };
 
-    ghost inverse = { λ s. record { kind = s.kind; table = s.table; key = s.key; value = s.value } };
+    ghost inverse = { λ s. record {
+      kind = s.kind;
+      table = s.table;
+      key = s.key;
+      value = s.value;
+    } };
 }
 
 impl Symbol {

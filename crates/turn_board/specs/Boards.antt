@@ -14,7 +14,8 @@ use Rattle.turn_board.specs.Passes as passes
 
 -- the rule holds of these values, where each caller's note is the content of the first
 abbrev pub CanOpen : {V C : Type 0} → (V → C) → (List C → List C → Type 0) → List V → ℕ → Type 0
-CanOpen {V} {C} content holds values callers = (b : C) × (slice_get (map content values) 0 ≡ Some b) × holds (map content values) (replicate callers b)
+CanOpen {V} {C} content holds values callers = (b : C)
+    × (slice_get (map content values) 0 ≡ Some b) × holds (map content values) (replicate callers b)
 
 module _ {V R C : Type 0} where
   -- the number of turns
@@ -84,11 +85,13 @@ module _ {V R C : Type 0} where
 
   -- the board's seats, in the order of its n callers, as it is opened
   abbrev pub AllBegin : Board V R C → ℕ → C → List (Seat V R C) → Type 0
-  AllBegin b n opening seats = (i : ℕ) (s : Seat V R C) → slice_get seats i ≡ Some s → Begins b n opening i s
+  AllBegin b n opening seats = (i : ℕ) (s : Seat V R C) → slice_get seats i ≡ Some s
+      → Begins b n opening i s
 
   -- the opening is the first change of counted contents, which leaves these
   abbrev pub AllOpened : List C → List (Seat V R C) → Type 0
-  AllOpened contents seats = (i : ℕ) (s : Seat V R C) → slice_get seats i ≡ Some s → last_change s ≡ (1, contents)
+  AllOpened contents seats = (i : ℕ) (s : Seat V R C) → slice_get seats i ≡ Some s
+      → last_change s ≡ (1, contents)
 
   -- seats of the board in the order of its n callers, which hold nothing
   abbrev pub AllEnd : Board V R C → ℕ → List (Seat V R C) → Type 0
@@ -182,8 +185,10 @@ module _ {V R C : Type 0} where
       pub added : after ≡ before ++ new
       pub rising : map (λ (x : ℕ × V). x.0) new ≡ bits_of set turns
       pub once : Once content new
-      pub here : (u : ℕ) → bit_at set u ≡ 1 → (c : C) × (held q u ≡ Some c) × (in_hands content new u ≡ Some c)
-      pub others : (u : ℕ) → bit_at set u ≡ 0 → (held q u ≡ held p u) × (in_hands content new u ≡ None)
+      pub here : (u : ℕ) → bit_at set u ≡ 1 → (c : C) × (held q u ≡ Some c)
+          × (in_hands content new u ≡ Some c)
+      pub others : (u : ℕ) → bit_at set u ≡ 0
+          → (held q u ≡ held p u) × (in_hands content new u ≡ None)
       pub lost_is : (u : ℕ) → lost q u ≡ lost p u
       pub asks_is : asks q ≡ asks p + 1
       pub givings_is : givings q ≡ givings p
@@ -196,7 +201,8 @@ module _ {V R C : Type 0} where
       pub held_is : (u : ℕ) → held q u ≡ held p u
       pub here : lost q t ≡ lost p t + 1
       pub below : (u : ℕ) → u < t → lost q u ≡ lost p u
-      pub above : (u : ℕ) → t < u → (lost q u ≡ lost p u) ⊎ ((bit_at set u ≡ 1) × (lost q u ≡ lost p u + 1))
+      pub above : (u : ℕ) → t < u → (lost q u ≡ lost p u)
+          ⊎ ((bit_at set u ≡ 1) × (lost q u ≡ lost p u + 1))
       pub asks_is : asks q ≡ asks p + 1
       pub some_won : (u : ℕ) → bit_at set u ≡ 1 → lost q u ≡ lost p u → givings q ≡ givings p + 1
       pub none_won : ((u : ℕ) → bit_at set u ≡ 1 → lost q u ≡ lost p u + 1) → givings q ≡ givings p
@@ -208,5 +214,7 @@ module _ {V R C : Type 0} where
     Answered t (Busy u) = (u ≡ t) × Missed p q t × (caller_count p ≢ 1) × Tells holds turns q
 
     abbrev pub AnsweredAll : ℕ → List (ℕ × V) → List (ℕ × V) → TookAll → Type 0
-    AnsweredAll set before after all.Here = GainedAll p q content turns set before after × Tells holds turns q
-    AnsweredAll set before after (all.Busy t) = (after ≡ before) × MissedAll p q set t × (caller_count p ≢ 1) × Tells holds turns q
+    AnsweredAll set before after all.Here = GainedAll p q content turns set before after
+        × Tells holds turns q
+    AnsweredAll set before after (all.Busy t) = (after ≡ before) × MissedAll p q set t
+        × (caller_count p ≢ 1) × Tells holds turns q

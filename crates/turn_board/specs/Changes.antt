@@ -7,10 +7,14 @@ use Rattle.turn_board.specs.declared.view.View.{View}
 use Rattle.turn_board.specs.Tied.{Tied}
 
 -- each seat of a state has its last change in the other state too
-abbrev pub KeepsChanges : {V C : Type 0} → State (Option V) (View C) → State (Option V) (View C) → Type 0
-KeepsChanges {V} {C} s t = (j : ℕ) (v : View C) → get_elem? s.views j ≡ some v → (w : View C) × (get_elem? t.views j ≡ some w) × (w.change ≡ v.change)
+abbrev pub KeepsChanges : {V C : Type 0} → State (Option V) (View C) → State (Option V) (View C)
+    → Type 0
+KeepsChanges {V} {C} s t = (j : ℕ) (v : View C) → get_elem? s.views j ≡ some v
+    → (w : View C) × (get_elem? t.views j ≡ some w) × (w.change ≡ v.change)
 
 -- two states in which each seat has the same last change count the same contents
 abbrev pub ChangesTell : {V C : Type 0} → (V → C) → (List C → List C → Type 0) → Type 0
 ChangesTell {V} {C} content holds =
-    (caller_count : ℕ) (s t : State (Option V) (View C)) (r : Tied content holds caller_count s) (q : Tied content holds caller_count t) → KeepsChanges s t → KeepsChanges t s → r.contents ≡ q.contents
+    (caller_count : ℕ) (s t : State (Option V) (View C)) (r : Tied content holds caller_count s)
+    (q : Tied content holds caller_count t) → KeepsChanges s t → KeepsChanges t s
+    → r.contents ≡ q.contents

@@ -31,7 +31,8 @@ pub record TakenOut {V C : Type 0} (content : V → C) (set n : ℕ) (counts : �
   pub added : after ≡ before ++ new
   pub rising : map (λ (x : ℕ × V). x.0) new ≡ bits_of set n
   pub once : Once content new
-  pub here : (u : ℕ) → u < n → bit_at set u ≡ 1 → (c : C) × (counts u ≡ Some c) × (in_hands content new u ≡ Some c)
+  pub here : (u : ℕ) → u < n → bit_at set u ≡ 1
+      → (c : C) × (counts u ≡ Some c) × (in_hands content new u ≡ Some c)
   pub others : (u : ℕ) → bit_at set u ≡ 0 → in_hands content new u ≡ None
   pub later : (u : ℕ) → n ≤ u → in_hands content new u ≡ None
 
@@ -49,5 +50,7 @@ pub record Filled {V C : Type 0} (content : V → C) (xs : List (ℕ × V)) (set
   pub givings : q.me.0.givings ≡ p.me.0.givings
   pub change : q.me.0.change ≡ p.me.0.change
   pub long : length q.me.0.places ≡ length p.me.0.places
-  pub there : (u : ℕ) → bit_at set u ≡ 1 → (c : C) × (in_hands content xs u ≡ Some c) × (place q.me.0 u ≡ Lies c)
-  pub others : (u : ℕ) → bit_at set u ≡ 0 → (in_hands content xs u ≡ None) × (place q.me.0 u ≡ place p.me.0 u)
+  pub there : (u : ℕ) → bit_at set u ≡ 1 → (c : C) × (in_hands content xs u ≡ Some c)
+      × (place q.me.0 u ≡ Lies c)
+  pub others : (u : ℕ) → bit_at set u ≡ 0 → (in_hands content xs u ≡ None)
+      × (place q.me.0 u ≡ place p.me.0 u)

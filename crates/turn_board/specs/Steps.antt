@@ -27,9 +27,12 @@ module _ {C : Type 0} where
   abbrev pub asked_view : ℕ → ℕ → ℕ → List C → View C → View C
   asked_view turns set found contents v = record {
     speaks = v.speaks;
-    counts = row 0 turns (λ t. cond ((bit_at set t == 1) && (bit_at found t == 0)) (slice_get contents t) (counted v t));
-    places = row 0 turns (λ t. cond ((bit_at set t == 1) && (bit_at found t == 0)) (lies (slice_get contents t)) (place v t));
-    lost = row 0 turns (λ t. cond ((bit_at set t == 1) && (bit_at found t == 1)) (one_more_lost (counted v t) (lost_at v t)) (lost_at v t));
+    counts = row 0 turns (λ t. cond ((bit_at set t == 1) && (bit_at found t == 0))
+        (slice_get contents t) (counted v t));
+    places = row 0 turns (λ t. cond ((bit_at set t == 1) && (bit_at found t == 0))
+        (lies (slice_get contents t)) (place v t));
+    lost = row 0 turns (λ t. cond ((bit_at set t == 1) && (bit_at found t == 1))
+        (one_more_lost (counted v t) (lost_at v t)) (lost_at v t));
     given = v.given;
     caller_count = v.caller_count;
     asks = v.asks + 1;
@@ -52,7 +55,17 @@ module _ {C : Type 0} where
   }
 
   abbrev pub put_place : ℕ → Place C → View C → View C
-  put_place t p v = record { speaks = v.speaks; counts = v.counts; places = slice_set v.places t p; lost = v.lost; given = v.given; caller_count = v.caller_count; asks = v.asks; givings = v.givings; change = v.change }
+  put_place t p v = record {
+    speaks = v.speaks;
+    counts = v.counts;
+    places = slice_set v.places t p;
+    lost = v.lost;
+    given = v.given;
+    caller_count = v.caller_count;
+    asks = v.asks;
+    givings = v.givings;
+    change = v.change;
+  }
 
   abbrev pub note_of : List (ℕ × C) → Option C
   note_of [] = None
@@ -78,7 +91,17 @@ module _ {C : Type 0} where
 
   -- a seat loses its first caller, and a new seat has it
   abbrev pub left_view : View C → View C
-  left_view v = record { speaks = tail v.speaks; counts = v.counts; places = v.places; lost = v.lost; given = v.given; caller_count = v.caller_count; asks = v.asks; givings = v.givings; change = v.change }
+  left_view v = record {
+    speaks = tail v.speaks;
+    counts = v.counts;
+    places = v.places;
+    lost = v.lost;
+    given = v.given;
+    caller_count = v.caller_count;
+    asks = v.asks;
+    givings = v.givings;
+    change = v.change;
+  }
 
   abbrev pub right_view : View C → View C
   right_view v = idle (length v.counts) v.caller_count v.change (head v.speaks)
@@ -89,7 +112,17 @@ module _ {C : Type 0} where
 
   -- a seat has the callers of another one too
   abbrev pub both_views : View C → View C → View C
-  both_views v w = record { speaks = w.speaks ++ v.speaks; counts = v.counts; places = v.places; lost = v.lost; given = v.given; caller_count = v.caller_count; asks = v.asks; givings = v.givings; change = later v.change w.change }
+  both_views v w = record {
+    speaks = w.speaks ++ v.speaks;
+    counts = v.counts;
+    places = v.places;
+    lost = v.lost;
+    given = v.given;
+    caller_count = v.caller_count;
+    asks = v.asks;
+    givings = v.givings;
+    change = later v.change w.change;
+  }
 
   abbrev pub spent_view : View C
   spent_view = idle 0 0 (0, []) []
@@ -101,7 +134,8 @@ module _ {C : Type 0} where
     pub tied : holds contents notes
     pub turns_is : length contents ≡ turns
     pub own : (t : ℕ) (c : C) → counted v t ≡ Some c → slice_get contents t ≡ Some c
-    pub spoken : (i k : ℕ) (c : C) → get_elem? v.speaks i ≡ some (k, c) → (length notes ≡ v.caller_count) × (slice_get notes k ≡ Some c)
+    pub spoken : (i k : ℕ) (c : C) → get_elem? v.speaks i ≡ some (k, c)
+        → (length notes ≡ v.caller_count) × (slice_get notes k ≡ Some c)
 
 abbrev pub Sits : Type 0 → Type 0 → Type 0
 Sits V C = Me (Option V) (View C)
@@ -114,12 +148,15 @@ module _ {V C : Type 0} where
   -- a set of turns is asked for by setting bits
   abbrev pub asked : (List C → List C → Type 0) → Step (Option V) → Sits V C → ℕ → Sits V C → Type 0
   asked holds st m found m' =
-      (contents : List C) × (length contents ≡ st.slots) × (m' ≡ (asked_view st.slots st.first found contents m.0, m.1)) × Told holds st.slots m'.0
-      × (m.0.caller_count ≡ 1 → ((x : ℕ × C) × (xs : List (ℕ × C)) × (m.0.speaks ≡ x ∷ xs)) → (t : ℕ) → t < st.slots → bit_at found t ≡ 1 → (c : C) × (counted m.0 t ≡ Some c))
+      (contents : List C) × (length contents ≡ st.slots)
+      × (m' ≡ (asked_view st.slots st.first found contents m.0, m.1)) × Told holds st.slots m'.0
+      × (m.0.caller_count ≡ 1 → ((x : ℕ × C) × (xs : List (ℕ × C)) × (m.0.speaks ≡ x ∷ xs))
+      → (t : ℕ) → t < st.slots → bit_at found t ≡ 1 → (c : C) × (counted m.0 t ≡ Some c))
 
   -- the slot of a held turn is taken
   abbrev pub reached : (V → C) → ℕ → Sits V C → Sits V C → Type 0
-  reached content t m m' = (y : Option V) × (m' ≡ (put_place t Away m.0, (t, y) ∷ m.1)) × (lies_as content y ≡ place m.0 t)
+  reached content t m m' = (y : Option V) × (m' ≡ (put_place t Away m.0, (t, y) ∷ m.1))
+      × (lies_as content y ≡ place m.0 t)
 
   -- the slot that was taken last is at home again
   abbrev pub laid_view : (V → C) → List (ℕ × Option V) → View C → View C
@@ -131,11 +168,20 @@ module _ {V C : Type 0} where
 
   -- turns are given back by clearing bits, with the contents that they had
   abbrev pub returned : Step (Option V) → Sits V C → Sits V C → Type 0
-  returned st m m' = m' ≡ (given_view st.slots st.first (counted m.0) m.0.speaks m.0.given m.0.change m.0, m.1)
+  returned st m m' = m' ≡ (
+    given_view st.slots st.first (counted m.0) m.0.speaks m.0.given
+        m.0.change m.0,
+    m.1,
+  )
 
   -- the book is given back, and the turns that the seat holds have new contents: this is the change
   -- after n others, of these contents
   abbrev pub booked : (ℕ → Option C) → Step (Option V) → Sits V C → Sits V C → Type 0
   booked new st m m' =
-      (n : ℕ) × (contents : List C) × (m' ≡ (given_view st.slots st.first new (noted (new 0) m.0.speaks) (m.0.given + 1) (suc n, overlay new contents) m.0, m.1))
+      (n : ℕ) × (contents : List C)
+      × (m' ≡ (
+        given_view st.slots st.first new (noted (new 0) m.0.speaks) (m.0.given + 1)
+            (suc n, overlay new contents) m.0,
+        m.1,
+      ))
       × (m.0.change.0 ≤ n) × (length contents ≡ st.slots) × FitsTurns contents (counted m.0)

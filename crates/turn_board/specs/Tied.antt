@@ -32,7 +32,8 @@ module _ {C : Type 0} where
 
   -- to open a board is the first change of its counted contents
   abbrev pub first_view : ℕ → ℕ → C → List C → View C
-  first_view turns caller_count note contents = idle turns caller_count (1, contents) (all_speak 0 caller_count note)
+  first_view turns caller_count note contents = idle turns caller_count (1, contents)
+      (all_speak 0 caller_count note)
 
   abbrev pub counted : View C → ℕ → Option C
   counted v t = slice_index_or v.counts t None
@@ -57,16 +58,23 @@ Left now contents v = (v.change.0 ≤ now) × (v.change.0 ≡ now → v.change.1
 module _ {V C : Type 0} (content : V → C) (caller_count : ℕ) (owner seat_of : ℕ → ℕ) (contents notes : List C) (s : State (Option V) (View C)) where
   -- the owner of a turn is 0 where it is free, and else one more than the caller
   abbrev pub TurnOk : ℕ → ℕ → Type 0
-  TurnOk t zero = (bit_at (slice_index s.words 7) t ≡ 0) × ((c : C) × (slice_get contents t ≡ Some c) × Lying content s.homes t c)
-  TurnOk t (suc k) = (bit_at (slice_index s.words 7) t ≡ 1) × (k < caller_count) × ((v : View C) × (c : C) × (get_elem? s.views (seat_of k) ≡ some v) × (counted v t ≡ Some c))
+  TurnOk t zero = (bit_at (slice_index s.words 7) t ≡ 0)
+      × ((c : C) × (slice_get contents t ≡ Some c) × Lying content s.homes t c)
+  TurnOk t (suc k) = (bit_at (slice_index s.words 7) t ≡ 1) × (k < caller_count)
+      × ((v : View C) × (c : C) × (get_elem? s.views (seat_of k) ≡ some v) × (counted v t ≡ Some c))
 
   pub record ViewOk (j : ℕ) (v : View C) : Type 0 where
-    pub spoken : (i k : ℕ) (c : C) → get_elem? v.speaks i ≡ some (k, c) → (v.caller_count ≡ caller_count) × (k < caller_count) × (seat_of k ≡ j) × (slice_get notes k ≡ Some c)
-    pub held : (t : ℕ) (c : C) → counted v t ≡ Some c → (t < length s.homes) × (slice_get contents t ≡ Some c) × InPlace content s.homes t (place v t) × ((k : ℕ) × (owner t ≡ suc k) × (seat_of k ≡ j))
+    pub spoken : (i k : ℕ) (c : C) → get_elem? v.speaks i ≡ some (k, c)
+        → (v.caller_count ≡ caller_count) × (k < caller_count) × (seat_of k ≡ j)
+        × (slice_get notes k ≡ Some c)
+    pub held : (t : ℕ) (c : C) → counted v t ≡ Some c
+        → (t < length s.homes) × (slice_get contents t ≡ Some c)
+        × InPlace content s.homes t (place v t) × ((k : ℕ) × (owner t ≡ suc k) × (seat_of k ≡ j))
 
 -- a view speaks for the caller k, that of its seat: with its note, as `spoken` says
 abbrev pub Heard : {C : Type 0} → (ℕ → ℕ) → List (View C) → ℕ → Type 0
-Heard {C} seat_of views k = (v : View C) × (i : ℕ) × (c : C) × (get_elem? views (seat_of k) ≡ some v) × (get_elem? v.speaks i ≡ some (k, c))
+Heard {C} seat_of views k = (v : View C) × (i : ℕ) × (c : C)
+    × (get_elem? views (seat_of k) ≡ some v) × (get_elem? v.speaks i ≡ some (k, c))
 
 pub record Tied {V C : Type 0} (content : V → C) (holds : List C → List C → Type 0) (caller_count : ℕ) (s : State (Option V) (View C)) : Type 0 where
   pub owner : ℕ → ℕ
@@ -80,8 +88,10 @@ pub record Tied {V C : Type 0} (content : V → C) (holds : List C → List C �
   pub small : length s.homes ≤ 57
   pub callers : length notes ≡ caller_count
   pub tied : holds contents notes
-  pub each_turn : (t : ℕ) → t < length s.homes → TurnOk content caller_count owner seat_of contents notes s t (owner t)
-  pub each_view : (j : ℕ) (v : View C) → get_elem? s.views j ≡ some v → ViewOk content caller_count owner seat_of contents notes s j v
+  pub each_turn : (t : ℕ) → t < length s.homes
+      → TurnOk content caller_count owner seat_of contents notes s t (owner t)
+  pub each_view : (j : ℕ) (v : View C) → get_elem? s.views j ≡ some v
+      → ViewOk content caller_count owner seat_of contents notes s j v
   pub each_caller : (k : ℕ) → k < caller_count → Heard seat_of s.views k
   pub opened : 0 < now
   pub changes : (j : ℕ) (v : View C) → get_elem? s.views j ≡ some v → Left now contents v

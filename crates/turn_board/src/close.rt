@@ -47,7 +47,8 @@ impl<V, R: TieRule<V>> Board<V, R> {
         requires caller_count { other.pass.me.0.caller_count ≡ seat.old.pass.me.0.caller_count }
         ensures seat { IdleFirst self.now.table.shared.table_id seat.new.pass
             × (seat.new.pass.me.0.caller_count ≡ seat.old.pass.me.0.caller_count) }
-        ensures callers { seat.new.pass.me.0.speaks ≡ other.pass.me.0.speaks ++ seat.old.pass.me.0.speaks }
+        ensures callers { seat.new.pass.me.0.speaks
+            ≡ other.pass.me.0.speaks ++ seat.old.pass.me.0.speaks }
     {
         self.table
             .shared
@@ -62,7 +63,8 @@ impl<V, R: TieRule<V>> Board<V, R> {
             × (s.pass.me.0.caller_count ≡ seat.old.pass.me.0.caller_count) }
         ensures seat { IdleFirst self.now.table.shared.table_id seat.new.pass }
         ensures caller_count { seat.new.pass.me.0.caller_count ≡ seat.old.pass.me.0.caller_count }
-        ensures callers { seat.new.pass.me.0.speaks ≡ all_notes list.items ++ seat.old.pass.me.0.speaks }
+        ensures callers { seat.new.pass.me.0.speaks ≡ all_notes
+            list.items ++ seat.old.pass.me.0.speaks }
     {
         while let Some(other) = list.pop() {
             self.join(seat, other);

@@ -18,7 +18,10 @@ impl<V> Model for Hands<V> {
 
     ghost Value = { HandsView V };
 
-    ghost view = { λ hands. record { pairs = hands.queue.items; room = deque_capacity hands.queue } };
+    ghost view = { λ hands. record {
+      pairs = hands.queue.items;
+      room = deque_capacity hands.queue;
+    } };
 
     ghost invariant = { λ hands. deque_capacity hands.queue < 2 ^ 32 };
 }

@@ -80,7 +80,8 @@ impl<V: Drop, R: TieRule<V>> Board<V, R> {
         requires turns { vec_len values ≤ 57 }
         requires callers { (0 < callers) × (callers ≤ 32) }
         requires rule { CanOpen R.content R.holds values.items callers }
-        ensures sizes { IfOk result (λ r. (turn_count r.0 ≡ vec_len values) × (length r.1 ≡ callers)) }
+        ensures sizes { IfOk result (λ r. (turn_count r.0 ≡ vec_len values)
+            × (length r.1 ≡ callers)) }
         ensures each { IfOk result (λ r. (b : R.Content)
             → slice_get (map R.content values.items) 0 ≡ Some b → AllBegin r.0 callers b r.1) }
         ensures opened { IfOk result (λ r. AllOpened (map R.content values.items) r.1) }

@@ -50,7 +50,10 @@ impl<V, R: TieRule<V>> Board<V, R> {
         requires vacant { place seat.old.pass.me.0 turn ≡ Vacant }
         ensures { (seat.new.pass.table_id ≡ seat.old.pass.table_id)
             × (seat.new.pass.id ≡ seat.old.pass.id)
-            × (seat.new.pass.me ≡ (put_place turn (Lies (R.content value)) seat.old.pass.me.0, [])) }
+            × (seat.new.pass.me ≡ (
+              put_place turn (Lies (R.content value)) seat.old.pass.me.0,
+              [],
+            )) }
     {
         let slot = turn as usize;
         let words = &self.table.shared;
@@ -75,7 +78,8 @@ impl<V, R: TieRule<V>> Board<V, R> {
         requires lies { (u : ℕ) → u < turn_count self.now → bit_at set u ≡ 1 → (c : R.Content)
             × (put_back R.content book.now.value hands.now.value.pairs u ≡ Some c)
             × (place seat.old.pass.me.0 u ≡ Lies c) }
-        requires held { SameTurns (held seat.old) (put_back R.content book.now.value hands.now.value.pairs) }
+        requires held { SameTurns (held seat.old)
+            (put_back R.content book.now.value hands.now.value.pairs) }
         requires moves { R.moves (turn_count self.now) (caller seat.old) (held seat.old)
             (put_back R.content book.now.value hands.now.value.pairs) }
         ensures seat { (seat.new.pass.table_id ≡ seat.old.pass.table_id)

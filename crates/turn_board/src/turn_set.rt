@@ -58,9 +58,11 @@ impl<V, R: TieRule<V>> Board<V, R> {
         requires seat { Placed self.now.table.shared.table_id seat.old.pass }
         requires lies { (u : ℕ) → bit_at set u ≡ 1 → (c : R.Content) × (0 < u)
             × (passes.held seat.old.pass u ≡ Some c) × (place seat.old.pass.me.0 u ≡ Lies c) }
-        requires room { length hands.old.pairs + length (bits_of set self.now.table.shared.table_id.slots)
+        requires room { length hands.old.pairs + length
+            (bits_of set self.now.table.shared.table_id.slots)
             ≤ hands.old.room }
-        ensures seat { Emptied set self.now.table.shared.table_id.slots seat.old.pass seat.new.pass }
+        ensures seat { Emptied set self.now.table.shared.table_id.slots seat.old.pass
+            seat.new.pass }
         ensures pairs { TakenOut R.content set self.now.table.shared.table_id.slots
             (passes.held seat.old.pass) hands.old.pairs hands.new.pairs }
         ensures room { hands.new.room ≡ hands.old.room }

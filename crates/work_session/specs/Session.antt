@@ -15,7 +15,8 @@ request_line a b c =
 
 -- the line of request t, from 0: it has the draws from number 3 t on
 abbrev pub line_at : ℕ → ℕ → List ℕ
-line_at start t = request_line (draw start (3 * t)) (draw start (3 * t + 1)) (draw start (3 * t + 2))
+line_at start t = request_line (draw start (3 * t)) (draw start (3 * t + 1))
+    (draw start (3 * t + 2))
 
 -- the lines of the first n requests
 unfoldable pub lines_of : ℕ → ℕ → List ℕ
