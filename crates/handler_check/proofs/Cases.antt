@@ -1,6 +1,7 @@
 -- Inductions over expressions, cases of statements, and the equations of what is defined over them.
 use Rattle.std.proofs.Common.{◌≡◌, ℕ, List, ◌++◌, subst, rules}
 use Rattle.handler_trees.specs.declared.expr.Atom.{Atom}
+use Rattle.handler_trees.specs.declared.expr.Atom.TheVariants as atom
 use Rattle.handler_trees.specs.declared.expr.Calc.{Calc}
 use Rattle.handler_trees.specs.declared.expr.Expr.{Expr, roll-Expr, map-Expr, the_lemmas}
 use Rattle.handler_trees.specs.declared.expr.Expr.TheFolds.{ind-Expr}
@@ -13,13 +14,15 @@ use Rattle.handler_trees.specs.declared.stmt.Stmt.{Stmt, roll-Stmt, map-Stmt, th
 use Rattle.handler_trees.specs.declared.stmt.Stmt.TheFolds.{ind-Stmt}
 use Rattle.handler_trees.specs.declared.stmt.Stmt.TheOpen.{Stmt-F}
 use Rattle.handler_trees.specs.declared.stmt.Stmt.TheVariants as stmt
+use Rattle.handler_trees.specs.Alone.{alone}
 use Rattle.handler_rules.specs.Marks.{atom_marks, expr_marks}
 use Rattle.handler_rules.specs.Source.{Source, Let, Assign, Do, Choose, Repeat, Answer, stmt_source, block_source}
 
-module _ (P : Expr → Type 0) (leaf : (a : Atom) → P (expr.Leaf a)) (binary : (c : Calc) (l r : Expr) → P l → P r → P (expr.Binary c l r)) where
+module _ (P : Expr → Type 0) (leaf : (a : Atom) → P (alone a)) (binary : (c : Calc) (l r : Expr) → P l → P r → P (expr.Binary c l r)) where
   expr_rolled : (y : Expr-F ((e : Expr) × P e)) → P (roll-Expr (map-Expr ((e : Expr) × P e) Expr (λ e. e.0) y))
   unfolding roll-Expr denote.Hole.Carrier.roll
-  expr_rolled (Expr-F.Leaf a) = leaf a
+  expr_rolled (Expr-F.Lit v) = leaf (atom.Lit v)
+  expr_rolled (Expr-F.Name n p) = leaf (atom.Name n p)
   expr_rolled (Expr-F.Binary c l r) = binary c l.0 r.0 l.1 r.1
 
   pub expr_induction : (e : Expr) → P e
@@ -48,8 +51,9 @@ module _ (P : Stmt → Type 0) (each : EachKind P) where
   stmt_cases = ind-Stmt P (λ x y is. subst (λ z. P (roll-Stmt z)) is (stmt_rolled y))
 
 -- ---- equations
-pub marks_leaf : (a : Atom) → expr_marks (expr.Leaf a) ≡ atom_marks a
-marks_leaf a = search (rules, the_lemmas)
+pub marks_leaf : (a : Atom) → expr_marks (alone a) ≡ atom_marks a
+marks_leaf (atom.Lit v) = search (rules, the_lemmas)
+marks_leaf (atom.Name n p) = search (rules, the_lemmas)
 
 pub marks_binary : (c : Calc) (l r : Expr) → expr_marks (expr.Binary c l r) ≡ expr_marks l ++ expr_marks r
 marks_binary c l r = search (rules, the_lemmas)

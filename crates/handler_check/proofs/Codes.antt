@@ -15,6 +15,7 @@ use Rattle.handler_trees.specs.declared.stmt.Right.TheVariants as right
 use Rattle.handler_trees.specs.declared.file.File.{File}
 use Rattle.handler_trees.specs.declared.file.Handler.{Handler}
 use Rattle.handler_trees.specs.declared.file.Param.{Param}
+use Rattle.handler_trees.specs.Alone.{alone}
 use Rattle.handler_trees.specs.Mentions.{Mention, atom_mentions, expr_mentions, right_mentions}
 use Rattle.handler_trees.proofs.Mentions.{mentions_leaf, mentions_binary, all_first}
 use Rattle.handler_dialogue.specs.declared.tree.CheckedAtom.TheVariants.{Lit}
@@ -36,8 +37,9 @@ use Rattle.handler_check.proofs.Scans.{params_declared}
 use Rattle.handler_check.proofs.Within.{few_calls, little_work, in_file}
 use Rattle.handler_rules.proofs.Texts.{declared_append}
 
-term_leaf : (variables : List ℕ) (a : Atom) → term_of variables (expr.Leaf a) ≡ code.Atom (atom_of variables a)
-term_leaf variables a = search (rules, the_lemmas)
+term_leaf : (variables : List ℕ) (a : Atom) → term_of variables (alone a) ≡ code.Atom (atom_of variables a)
+term_leaf variables (atom.Lit v) = search (rules, the_lemmas)
+term_leaf variables (atom.Name n p) = search (rules, the_lemmas)
 
 term_binary : (variables : List ℕ) (c : Calc) (l r : Expr) → term_of variables (expr.Binary c l r) ≡ Calculate c (term_of variables l) (term_of variables r)
 term_binary variables c l r = search (rules, the_lemmas)

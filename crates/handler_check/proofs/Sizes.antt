@@ -10,7 +10,8 @@ use Rattle.handler_trees.specs.declared.stmt.Stmt.TheOpen.{Stmt-F}
 use Rattle.handler_trees.specs.declared.stmt.Stmt.TheVariants as stmt
 
 abbrev pub expr_weight : Expr-F ℕ → ℕ
-expr_weight (Expr-F.Leaf a) = 1
+expr_weight (Expr-F.Lit v) = 1
+expr_weight (Expr-F.Name n p) = 1
 expr_weight (Expr-F.Binary c left right) = 1 + (left + right)
 
 abbrev pub expr_size : Expr → ℕ

@@ -35,7 +35,8 @@ atom_of variables (named.Lit v) = Lit v
 atom_of variables (named.Name name at) = Var (number_in variables name)
 
 abbrev pub term_step : List ℕ → Expr-F code.Term → code.Term
-term_step variables (Expr-F.Leaf a) = code.Atom (atom_of variables a)
+term_step variables (Expr-F.Lit v) = code.Atom (atom_of variables (named.Lit v))
+term_step variables (Expr-F.Name name at) = code.Atom (atom_of variables (named.Name name at))
 term_step variables (Expr-F.Binary calc l r) = code.Calculate calc l r
 
 abbrev pub term_of : List ℕ → Expr → code.Term

@@ -120,7 +120,7 @@ fn resolve_stmt(
         }
         Stmt::Perform { call } => resolve_perform(tables, variables, None, call, points),
         Stmt::Choose { at, cond, yes, no } => {
-            let cond = resolve_cond(alloc, variables, cond)?;
+            let cond = resolve_cond(alloc, variables, cond.get())?;
             let yes_point = next_point(points)?;
             let yes = resolve_block(alloc, tables, variables, yes.as_slice(), points)?;
             let no_point = next_point(points)?;

@@ -5,6 +5,7 @@ use Rattle.handler_tokens.specs.declared.word.Sort.TheVariants as sort
 use Rattle.handler_trees.specs.declared.expr.Expr.{Expr}
 use Rattle.handler_trees.specs.declared.expr.Expr.TheVariants as expr
 use Rattle.handler_trees.specs.declared.expr.Calc.TheVariants as calc
+use Rattle.handler_trees.specs.Alone.{alone}
 use Rattle.handler_grammar.specs.Phrase.{word, NamePhrase, named, name_words, digits, AtomPhrase, name_atom, nil_atom, symbol_atom, number_atom, negative_atom, atom_words, FactorPhrase, plain, grouped, factor_words, MoreFactors, no_factor, times, factors_words, TermPhrase, term, term_words, MoreTerms, no_term, plus, minus, terms_words, ExprPhrase, sum, expr_words}
 use Rattle.handler_grammar.specs.Tree.{name_of, atom_tree, factor_tree, factors_tree, term_tree, terms_tree, expr_tree}
 
@@ -62,7 +63,7 @@ not_open (negative_atom q d) p r s e = let h = head_sort e in cc
 
 mutual
   same_factor : (f g : FactorPhrase) (r s : List Word) → factor_words f r ≡ factor_words g s → Same (factor_tree f) (factor_tree g) r s
-  same_factor (plain a) (plain b) r s e = let h = same_atom a b r s e in record { tree = ap expr.Leaf h.tree; rest = h.rest }
+  same_factor (plain a) (plain b) r s e = let h = same_atom a b r s e in record { tree = ap alone h.tree; rest = h.rest }
   same_factor (plain a) (grouped p t q) r s e = absurd (not_open a p r _ e)
   same_factor (grouped p t q) (plain b) r s e = absurd (not_open b p s _ (sym e))
   same_factor (grouped p t q) (grouped p' u q') r s e =

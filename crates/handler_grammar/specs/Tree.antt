@@ -17,6 +17,7 @@ use Rattle.handler_trees.specs.declared.file.Param.{Param}
 use Rattle.handler_trees.specs.declared.file.TableDecl.{TableDecl}
 use Rattle.handler_trees.specs.declared.file.Handler.{Handler}
 use Rattle.handler_trees.specs.declared.file.File.{File}
+use Rattle.handler_trees.specs.Alone.{alone}
 use Rattle.handler_grammar.specs.declared.parse_call.Turns.{Turns}
 use Rattle.handler_grammar.specs.Phrase.{NamePhrase, named, NumberPhrase, digits, AtomPhrase, name_atom, nil_atom, symbol_atom, number_atom, negative_atom, FactorPhrase, plain, grouped, MoreFactors, no_factor, times, TermPhrase, term, MoreTerms, no_term, plus, minus, ExprPhrase, sum, MoreAtoms, no_atom, more_atom, ArgumentsPhrase, OperandsPhrase, operands, CallPhrase, a_call, RightPhrase, result_right, plain_right, CondPhrase, a_cond, TurnsPhrase, a_turns, MoreValues, no_value, more_value, ValuesPhrase, StmtPhrase, let_stmt, assign_stmt, call_stmt, if_stmt, repeat_stmt, reply_stmt, ElsePhrase, no_else, an_else, StmtsPhrase, no_stmt, more_stmts, BlockPhrase, block, MoreParams, no_more, more_param, SomeParams, ParamsPhrase, no_param, some_params, HandlerPhrase, a_handler, HandlersPhrase, no_handler, more_handlers, TablePhrase, a_table, TablesPhrase, no_table, more_tables, FilePhrase, a_file}
 
@@ -48,7 +49,7 @@ atom_tree (negative_atom p d) = atom.Lit (value.Num (negative_of d))
 -- operators group to the left, and parentheses leave no trace
 abbrev mutual
   pub factor_tree : FactorPhrase → Expr
-  factor_tree (plain a) = expr.Leaf (atom_tree a)
+  factor_tree (plain a) = alone (atom_tree a)
   factor_tree (grouped p e q) = expr_tree e
 
   pub factors_tree : MoreFactors → Expr → Expr

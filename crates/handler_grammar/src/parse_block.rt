@@ -19,7 +19,7 @@ use crate::refusal::{SyntaxRefusal, refusal};
 use crate::sorts::{Start, statement_start};
 use handler_tokens::Sort;
 use handler_trees::{Block, Stmt};
-use session_values::Listed;
+use session_values::{Boxed, Listed};
 use std::alloc::Global;
 
 const MAX_DEPTH: u32 = 16;
@@ -82,7 +82,7 @@ fn choice(alloc: Global, input: &mut Input<'_>, depth: u32) -> Result<Stmt, Synt
     ensures shorter { OnOk result (length input.new.reader.words < length input.old.reader.words) }
 {
     let word = input.take()?;
-    let cond = condition(alloc, input)?;
+    let cond = Boxed::new(alloc, condition(alloc, input)?)?;
     let yes = block(alloc, input, depth)?;
     let no = otherwise(alloc, input, depth)?;
     Ok(Stmt::Choose {

@@ -62,7 +62,7 @@ fn factor(alloc: Global, input: &mut Input<'_>, opened: u32) -> Result<Expr, Syn
         }
         _ => {
             let atom = atom(input)?;
-            Ok(Expr::Leaf(atom))
+            Ok(atom.alone())
         }
     }
 }

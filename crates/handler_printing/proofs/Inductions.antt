@@ -5,6 +5,7 @@ use Rattle.std.specs.List.{AllByRecursion}
 use Rattle.handler_tokens.specs.declared.word.Sort.{Sort}
 use Rattle.handler_tokens.specs.declared.word.Sort.TheVariants as sort
 use Rattle.handler_trees.specs.declared.expr.Atom.{Atom}
+use Rattle.handler_trees.specs.declared.expr.Atom.TheVariants as atom
 use Rattle.handler_trees.specs.declared.expr.Calc.{Calc}
 use Rattle.handler_trees.specs.declared.expr.Expr.{Expr, roll-Expr, map-Expr, the_lemmas}
 use Rattle.handler_trees.specs.declared.expr.Expr.TheFolds.{ind-Expr}
@@ -17,16 +18,18 @@ use Rattle.handler_trees.specs.declared.stmt.Stmt.{Stmt, roll-Stmt, map-Stmt, th
 use Rattle.handler_trees.specs.declared.stmt.Stmt.TheFolds.{ind-Stmt}
 use Rattle.handler_trees.specs.declared.stmt.Stmt.TheOpen.{Stmt-F}
 use Rattle.handler_trees.specs.declared.stmt.Stmt.TheVariants as stmt
+use Rattle.handler_trees.specs.Alone.{alone}
 use Rattle.handler_printing.specs.declared.expr.Level.{Level}
 use Rattle.handler_printing.specs.Canonical.{atom_text, opening, closing, left_level, right_level, operator_text, expr_text, stmt_text, indent, assignment_text, call_text, choice_text, repeat_text, listed, whole_text}
 use Rattle.handler_printing.specs.CanonicalWords.{atom_sorts, opening_sorts, closing_sorts, calc_sort, expr_sorts, stmt_sorts, assignment_sorts, call_sorts, choice_sorts, repeat_sorts, listed_sorts, whole_sorts}
 
 -- ---- expressions
 
-module _ (P : Expr → Type 0) (leaf : (a : Atom) → P (expr.Leaf a)) (binary : (c : Calc) (l r : Expr) → P l → P r → P (expr.Binary c l r)) where
+module _ (P : Expr → Type 0) (leaf : (a : Atom) → P (alone a)) (binary : (c : Calc) (l r : Expr) → P l → P r → P (expr.Binary c l r)) where
   expr_rolled : (y : Expr-F ((e : Expr) × P e)) → P (roll-Expr (map-Expr ((e : Expr) × P e) Expr (λ e. e.0) y))
   unfolding roll-Expr denote.Hole.Carrier.roll
-  expr_rolled (Expr-F.Leaf a) = leaf a
+  expr_rolled (Expr-F.Lit v) = leaf (atom.Lit v)
+  expr_rolled (Expr-F.Name n p) = leaf (atom.Name n p)
   expr_rolled (Expr-F.Binary c l r) = binary c l.0 r.0 l.1 r.1
 
   pub expr_induction : (e : Expr) → P e
@@ -62,8 +65,9 @@ module _ (P : Stmt → Type 0) (simple : Simple P) (choose : (p : ℕ) (cond : C
 -- ---- equations
 
 module _ (names : List (List ℕ)) where
-  pub text_leaf : (a : Atom) (l : Level) (rest : List ℕ) → expr_text names (expr.Leaf a) l rest ≡ atom_text names a rest
-  text_leaf a l rest = search (rules, the_lemmas)
+  pub text_leaf : (a : Atom) (l : Level) (rest : List ℕ) → expr_text names (alone a) l rest ≡ atom_text names a rest
+  text_leaf (atom.Lit v) l rest = search (rules, the_lemmas)
+  text_leaf (atom.Name n p) l rest = search (rules, the_lemmas)
 
   pub text_binary : (c : Calc) (left right : Expr) (l : Level) (rest : List ℕ) → expr_text names (expr.Binary c left right) l rest
       ≡ opening l c ++ expr_text names left (left_level c) (operator_text c ++ expr_text names right (right_level c) (closing l c ++ rest))
@@ -88,8 +92,9 @@ module _ (names : List (List ℕ)) where
   pub text_reply : (p : ℕ) (values : List Expr) (depth : ℕ) (rest : List ℕ) → stmt_text names (stmt.Answer p values) depth rest ≡ indent depth (codes "reply " ++ listed (map (whole_text names) values) (codes ";\n" ++ rest))
   text_reply p values depth rest = search (rules, stmt_lemmas)
 
-pub sorts_leaf : (a : Atom) (l : Level) (rest : List Sort) → expr_sorts (expr.Leaf a) l rest ≡ atom_sorts a rest
-sorts_leaf a l rest = search (rules, the_lemmas)
+pub sorts_leaf : (a : Atom) (l : Level) (rest : List Sort) → expr_sorts (alone a) l rest ≡ atom_sorts a rest
+sorts_leaf (atom.Lit v) l rest = search (rules, the_lemmas)
+sorts_leaf (atom.Name n p) l rest = search (rules, the_lemmas)
 
 pub sorts_binary : (c : Calc) (left right : Expr) (l : Level) (rest : List Sort) → expr_sorts (expr.Binary c left right) l rest
     ≡ opening_sorts l c (expr_sorts left (left_level c) (calc_sort c ∷ expr_sorts right (right_level c) (closing_sorts l c rest)))

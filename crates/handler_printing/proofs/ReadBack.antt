@@ -31,6 +31,7 @@ use Rattle.handler_printing.specs.declared.expr.Level.{Level}
 use Rattle.handler_printing.specs.declared.expr.Level.TheVariants as level
 use Rattle.handler_printing.specs.Canonical
 use Rattle.handler_printing.specs.CanonicalWords
+use Rattle.handler_trees.specs.Alone.{alone}
 use Rattle.handler_trees.specs.Mentions.{Mention, value_mentions, atom_mentions, expr_mentions, call_mentions, right_mentions, cond_mentions, stmt_mentions, table_mentions, param_mentions, handler_mentions, file_mentions}
 use Rattle.handler_tokens.specs.Texts.{AreReadable, IsNameText, text_at}
 use Rattle.handler_printing.specs.Readable.{ReadsBack}
@@ -152,7 +153,7 @@ module _ (names : List (List ℕ)) (distinct : AreDistinct names) where
   abbrev ExprReads : Expr → Type 0
   ExprReads e = Readable (expr_mentions e) → (l : Level) → Reads (Canonical.expr_text names e l) (CanonicalWords.expr_sorts e l)
 
-  leaf_reads : (a : Atom) → ExprReads (expr.Leaf a)
+  leaf_reads : (a : Atom) → ExprReads (alone a)
   leaf_reads a h l rest ends =
       ap read (trees.text_leaf names a l rest) ∙ atom_reads a (subst Readable (parts.mentions_leaf a) h) rest ends ∙ sym (ap (λ ss. (ss, (read rest).1)) (trees.sorts_leaf a l (read rest).0))
 

@@ -104,7 +104,8 @@ operator_text calc.Times = codes " * "
 
 -- an expression, where the texts of its operands are given
 abbrev pub expr_step : List (List ℕ) → Expr-F (Level → Text) → Level → Text
-expr_step names (Expr-F.Leaf a) l rest = atom_text names a rest
+expr_step names (Expr-F.Lit v) l rest = atom_text names (atom.Lit v) rest
+expr_step names (Expr-F.Name n p) l rest = atom_text names (atom.Name n p) rest
 expr_step names (Expr-F.Binary c left right) l rest =
     opening l c ++ left (left_level c) (operator_text c ++ right (right_level c) (closing l c ++ rest))
 

@@ -6,7 +6,7 @@ ghost use Rattle.handler_printing.specs.Canonical as spec;
 ghost use Rattle.handler_trees.specs.Mentions.{AreNamed, expr_mentions};
 ghost use Rattle.handler_printing.specs.Writing.{Adds};
 
-use crate::piece::{put, put_atom};
+use crate::piece::{put, put_literal, put_name};
 use handler_trees::{Calc, Expr};
 use session_values::{Names, NoMemory};
 
@@ -87,7 +87,8 @@ pub(crate) fn put_expr(
         (string_bytes out.old) (string_bytes out.new)) }
 {
     match e {
-        Expr::Leaf(atom) => put_atom(*atom, names, out),
+        Expr::Lit(value) => put_literal(*value, names, out),
+        Expr::Name { name, .. } => put_name(*name, names, out),
         Expr::Binary { calc, left, right } => {
             put(level.opening(*calc), out)?;
             put_expr(left.get(), left_level(*calc), names, out)?;

@@ -47,7 +47,15 @@ fn put_statement<D: Declarations>(
             put_point(spot, at, names, out)
         }
         Stmt::Choose { cond, yes, no, .. } => {
-            put_choice(cond, yes.as_slice(), no.as_slice(), spot, at, names, out)
+            put_choice(
+                cond.get(),
+                yes.as_slice(),
+                no.as_slice(),
+                spot,
+                at,
+                names,
+                out,
+            )
         }
         Stmt::Repeat {
             turns,

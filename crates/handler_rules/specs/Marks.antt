@@ -62,7 +62,8 @@ atom_marks (atom.Lit v) = []
 atom_marks (atom.Name name at) = Mentioned name at [] ∷ []
 
 abbrev pub expr_step : Expr-F (List Mark) → List Mark
-expr_step (Expr-F.Leaf a) = atom_marks a
+expr_step (Expr-F.Lit v) = atom_marks (atom.Lit v)
+expr_step (Expr-F.Name name at) = atom_marks (atom.Name name at)
 expr_step (Expr-F.Binary calc l r) = l ++ r
 
 abbrev pub expr_marks : Expr → List Mark

@@ -1,6 +1,7 @@
 -- What setting the places to 0 makes of each kind of node.
 use Rattle.std.proofs.Common.{◌≡◌, ℕ, List, map, rules}
 use Rattle.handler_trees.specs.declared.expr.Atom.{Atom}
+use Rattle.handler_trees.specs.declared.expr.Atom.TheVariants as atom
 use Rattle.handler_trees.specs.declared.expr.Calc.{Calc}
 use Rattle.handler_trees.specs.declared.expr.Expr.{Expr}
 use Rattle.handler_trees.specs.declared.expr.Expr as expr_laws
@@ -11,10 +12,12 @@ use Rattle.handler_trees.specs.declared.stmt.Right.{Right}
 use Rattle.handler_trees.specs.declared.stmt.Stmt.{Stmt}
 use Rattle.handler_trees.specs.declared.stmt.Stmt as stmt_laws
 use Rattle.handler_trees.specs.declared.stmt.Stmt.TheVariants as stmt
+use Rattle.handler_trees.specs.Alone.{alone}
 use Rattle.handler_syntax.specs.SameTree.{atom_bare, expr_bare, call_bare, right_bare, cond_bare, stmt_bare}
 
-pub bare_leaf : (a : Atom) → expr_bare (expr.Leaf a) ≡ expr.Leaf (atom_bare a)
-bare_leaf a = search (rules, expr_laws.the_lemmas)
+pub bare_leaf : (a : Atom) → expr_bare (alone a) ≡ alone (atom_bare a)
+bare_leaf (atom.Lit v) = search (rules, expr_laws.the_lemmas)
+bare_leaf (atom.Name n p) = search (rules, expr_laws.the_lemmas)
 
 pub bare_binary : (c : Calc) (l r : Expr) → expr_bare (expr.Binary c l r) ≡ expr.Binary c (expr_bare l) (expr_bare r)
 bare_binary c l r = search (rules, expr_laws.the_lemmas)

@@ -6,6 +6,7 @@ use Rattle.handler_trees.specs.declared.expr.Calc.{Calc}
 use Rattle.handler_trees.specs.declared.expr.Calc.TheVariants as calc
 use Rattle.handler_trees.specs.declared.expr.Expr.{Expr}
 use Rattle.handler_trees.specs.declared.expr.Expr.TheVariants as expr
+use Rattle.handler_trees.specs.Alone.{alone}
 use Rattle.handler_grammar.specs.Bounds.{max_open}
 use Rattle.handler_grammar.specs.Phrase.{AtomPhrase, FactorPhrase, plain, grouped, MoreFactors, no_factor, times, TermPhrase, term, MoreTerms, no_term, plus, minus, ExprPhrase, sum, factor_words, term_words, expr_words}
 use Rattle.handler_grammar.specs.Tree.{atom_tree, factor_tree, factors_tree, term_tree, terms_tree, expr_tree}
@@ -93,12 +94,12 @@ record AsFactor (e : Expr) (opened signs : ℕ) : Type 0 where
 
 module _ (a : AtomPhrase) (fits : AtomFits a) where
   abbrev leaf : Expr
-  leaf = expr.Leaf (atom_tree a)
+  leaf = alone (atom_tree a)
 
   leaf_factor : (o : ℕ) (l : Level) → ReadsFactor leaf o 0 (expr_sorts leaf l)
   leaf_factor o l =
       sorted (sorts_leaf (atom_tree a) l) (made (atom_reads a fits) plain (λ b rest. refl)
-      (λ b g. record { tree = bare_leaf (atom_tree b) ∙ ap expr.Leaf g.tree ∙ sym (bare_leaf (atom_tree a)); fits = g.fits; counted = refl }))
+      (λ b g. record { tree = bare_leaf (atom_tree b) ∙ ap alone g.tree ∙ sym (bare_leaf (atom_tree a)); fits = g.fits; counted = refl }))
 
   leaf_levels : (o : ℕ) → Levels leaf o 0
   leaf_levels o = record {

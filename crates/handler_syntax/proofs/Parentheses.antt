@@ -2,18 +2,21 @@
 use Rattle.std.proofs.Common.{◌≡◌, ℕ, Bool, false, List, ◌++◌, Option, Some, None, refl, sym, ap, ◌∙◌, subst, rules}
 use Rattle.std.specs.Prelude.{is_some, codes}
 use Rattle.handler_trees.specs.declared.expr.Atom.{Atom}
+use Rattle.handler_trees.specs.declared.expr.Atom.TheVariants as atom
 use Rattle.handler_trees.specs.declared.expr.Calc.{Calc}
 use Rattle.handler_trees.specs.declared.expr.Calc.TheVariants as calc
 use Rattle.handler_trees.specs.declared.expr.Expr.{Expr, the_lemmas}
 use Rattle.handler_trees.specs.declared.expr.Expr.TheVariants as expr
+use Rattle.handler_trees.specs.Alone.{alone}
 use Rattle.handler_printing.specs.declared.expr.Level.{Level}
 use Rattle.handler_printing.specs.declared.expr.Level.TheVariants as level
 use Rattle.handler_printing.specs.Canonical.{expr_text, whole_text, operator_text, left_level, right_level}
 use Rattle.handler_printing.proofs.Inductions.{expr_induction, text_leaf, text_binary}
 use Rattle.handler_syntax.specs.Parentheses.{operator_of, is_sum, is_left_grouped, is_right_grouped, grouped_if, operands_text}
 
-operator_leaf : (a : Atom) → operator_of (expr.Leaf a) ≡ None
-operator_leaf a = search (rules, the_lemmas)
+operator_leaf : (a : Atom) → operator_of (alone a) ≡ None
+operator_leaf (atom.Lit v) = search (rules, the_lemmas)
+operator_leaf (atom.Name n p) = search (rules, the_lemmas)
 
 operator_binary : (c : Calc) (l r : Expr) → operator_of (expr.Binary c l r) ≡ Some c
 operator_binary c l r = search (rules, the_lemmas)
@@ -32,7 +35,7 @@ module _ (names : List (List ℕ)) where
   abbrev AtLevels : Expr → Type 0
   AtLevels e = At e (operator_of e)
 
-  leaf_at : (a : Atom) → At (expr.Leaf a) None
+  leaf_at : (a : Atom) → At (alone a) None
   leaf_at a level.Whole rest = refl
   leaf_at a level.Term rest = text_leaf names a level.Term rest ∙ sym (text_leaf names a level.Whole rest)
   leaf_at a level.Factor rest = text_leaf names a level.Factor rest ∙ sym (text_leaf names a level.Whole rest)
@@ -45,7 +48,7 @@ module _ (names : List (List ℕ)) where
   binary_at c l r level.Factor rest = text_binary names c l r level.Factor rest ∙ ap (λ t. codes "(" ++ t) (sym (text_binary names c l r level.Whole (codes ")" ++ rest)))
 
   at_levels : (e : Expr) → AtLevels e
-  at_levels = expr_induction AtLevels (λ a. subst (At (expr.Leaf a)) (sym (operator_leaf a)) (leaf_at a)) (λ c l r f g. subst (At (expr.Binary c l r)) (sym (operator_binary c l r)) (binary_at c l r))
+  at_levels = expr_induction AtLevels (λ a. subst (At (alone a)) (sym (operator_leaf a)) (leaf_at a)) (λ c l r f g. subst (At (expr.Binary c l r)) (sym (operator_binary c l r)) (binary_at c l r))
 
   left_at : (c : Calc) (l : Expr) (rest : List ℕ) → expr_text names l (left_level c) rest ≡ grouped_if (is_left_grouped c (operator_of l)) (whole_text names l) rest
   left_at calc.Plus l rest = refl

@@ -8,6 +8,7 @@ use Rattle.handler_tokens.specs.Scan.{gap, scan}
 use Rattle.handler_tokens.specs.Tokens.{Piece, pieces, behind_gap}
 use Rattle.handler_tokens.specs.Words.{names_after, word_after, words, words_of}
 use Rattle.handler_trees.specs.declared.expr.Atom.{Atom}
+use Rattle.handler_trees.specs.declared.expr.Atom.TheVariants as atom
 use Rattle.handler_trees.specs.declared.expr.Calc.{Calc}
 use Rattle.handler_trees.specs.declared.expr.Calc.TheVariants as calc
 use Rattle.handler_trees.specs.declared.expr.Expr.{Expr, the_lemmas as expr_lemmas}
@@ -19,6 +20,7 @@ use Rattle.handler_trees.specs.declared.stmt.Stmt.{Stmt, the_lemmas}
 use Rattle.handler_trees.specs.declared.stmt.Stmt.TheVariants as stmt
 use Rattle.handler_trees.specs.declared.file.File.{File}
 use Rattle.handler_trees.specs.declared.file.Handler.{Handler}
+use Rattle.handler_trees.specs.Alone.{alone}
 use Rattle.handler_grammar.specs.Phrase.{word, NamePhrase, named, name_words, digits, AtomPhrase, name_atom, nil_atom, symbol_atom, number_atom, negative_atom, atom_words, FactorPhrase, plain, grouped, factor_words, MoreFactors, no_factor, times, factors_words, TermPhrase, term, term_words, MoreTerms, no_term, plus, minus, terms_words, ExprPhrase, sum, expr_words, MoreAtoms, no_atom, more_atom, atoms_words, CallPhrase, a_call, operands, call_words, RightPhrase, result_right, plain_right, right_words, CondPhrase, a_cond, cond_words, a_turns, MoreValues, no_value, more_value, more_words, StmtPhrase, let_stmt, assign_stmt, call_stmt, if_stmt, repeat_stmt, reply_stmt, stmt_words, ElsePhrase, no_else, an_else, else_words, StmtsPhrase, no_stmt, more_stmts, stmts_words, block, block_words, MoreParams, no_more, more_param, more_params_words, ParamsPhrase, no_param, some_params, params_words, HandlersPhrase, no_handler, more_handlers, a_handler, handlers_words, TablesPhrase, no_table, more_tables, a_table, tables_words, FilePhrase, a_file, file_words}
 use Rattle.handler_grammar.specs.Tree.{atom_tree, factor_tree, factors_tree, term_tree, terms_tree, expr_tree, atoms_trees, call_tree, right_tree, cond_tree, more_trees, stmt_tree, else_trees, stmts_trees, param_of, more_params_trees, params_trees, handlers_trees, tables_trees, file_tree}
 use Rattle.handler_grammar.specs.Limits.{IsFileWithin}
@@ -121,8 +123,9 @@ stand_as xs ys f e h = subst (λ ms. Stand ms f) (sym e) h
 
 -- ---- expressions
 
-marks_leaf : (a : Atom) → expr_marks (expr.Leaf a) ≡ atom_marks a
-marks_leaf a = search (rules, expr_lemmas)
+marks_leaf : (a : Atom) → expr_marks (alone a) ≡ atom_marks a
+marks_leaf (atom.Lit v) = search (rules, expr_lemmas)
+marks_leaf (atom.Name n p) = search (rules, expr_lemmas)
 
 marks_binary : (c : Calc) (l r : Expr) → expr_marks (expr.Binary c l r) ≡ expr_marks l ++ expr_marks r
 marks_binary c l r = search (rules, expr_lemmas)

@@ -19,6 +19,7 @@ use Rattle.handler_trees.specs.declared.file.Param.{Param}
 use Rattle.handler_trees.specs.declared.file.TableDecl.{TableDecl}
 use Rattle.handler_trees.specs.declared.file.Handler.{Handler}
 use Rattle.handler_trees.specs.declared.file.File.{File}
+use Rattle.handler_trees.specs.Alone.{alone}
 use Rattle.handler_printing.specs.declared.expr.Level.{Level}
 use Rattle.handler_printing.specs.declared.expr.Level.TheVariants as level
 use Rattle.handler_printing.specs.Canonical
@@ -56,7 +57,7 @@ module _ (names : List (List ℕ)) where
   abbrev ExprAlike : Expr → Type 0
   ExprAlike e = (l : Level) → Alike (Canonical.expr_text names e l) (Canonical.expr_text names (expr_bare e) l)
 
-  leaf_alike : (a : Atom) → ExprAlike (expr.Leaf a)
+  leaf_alike : (a : Atom) → ExprAlike (alone a)
   leaf_alike a l rest = trees.text_leaf names a l rest ∙ atom_alike a rest ∙ sym (trees.text_leaf names (atom_bare a) l rest) ∙ ap (λ e. Canonical.expr_text names e l rest) (sym (bare_leaf a))
 
   binary_alike : (c : Calc) (left right : Expr) → ExprAlike left → ExprAlike right → ExprAlike (expr.Binary c left right)

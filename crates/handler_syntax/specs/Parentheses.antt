@@ -8,7 +8,8 @@ use Rattle.handler_printing.specs.Canonical.{whole_text, operator_text}
 use Rattle.handler_printing.specs.Writing.{Text}
 
 abbrev pub operator_step : Expr-F (Option Calc) → Option Calc
-operator_step (Expr-F.Leaf a) = None
+operator_step (Expr-F.Lit v) = None
+operator_step (Expr-F.Name n p) = None
 operator_step (Expr-F.Binary c l r) = Some c
 
 -- the operator of an expression, if it has one

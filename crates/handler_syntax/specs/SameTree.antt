@@ -25,7 +25,8 @@ atom_bare (atom.Name n p) = atom.Name n 0
 
 -- an expression, where its operands are bare
 abbrev pub expr_step : Expr-F Expr → Expr
-expr_step (Expr-F.Leaf a) = expr.Leaf (atom_bare a)
+expr_step (Expr-F.Lit v) = expr.Lit v
+expr_step (Expr-F.Name n p) = expr.Name n 0
 expr_step (Expr-F.Binary c left right) = expr.Binary c left right
 
 abbrev pub expr_bare : Expr → Expr

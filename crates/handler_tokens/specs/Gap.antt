@@ -1,14 +1,15 @@
 -- What stands between tokens, in words of its own.
 use Rattle.std.specs.Prelude.{◌≡◌, ◌≢◌, ℕ, Bool, true, ◌||◌, ◌==◌, List, [], ◌∷◌, ◌++◌}
 use Rattle.std.specs.List.{AllByRecursion}
+use Rattle.byte_classes.specs.Bytes.{is_blank}
 
--- a space, a tab, a carriage return or a line feed
-abbrev pub is_blank : ℕ → Bool
-is_blank b = b == 32 || (b == 9 || (b == 13 || b == 10))
+-- a blank or a line feed
+abbrev pub is_space : ℕ → Bool
+is_space b = is_blank b || b == 10
 
--- one blank, or a comment, given without its `#`
+-- one blank or line feed, or a comment, given without its `#`
 pub data Filler : Type 0 where
-  Blank : ℕ → Filler
+  Space : ℕ → Filler
   Comment : List ℕ → Filler
 
 -- the text is at an end of a line
@@ -22,10 +23,10 @@ pub record IsComment (comment text after : List ℕ) : Type 0 where
   pub one_line : AllByRecursion (λ b. b ≢ 10) comment
   pub ends : EndsLine after
 
--- the text is these blanks and comments, and then the rest
+-- the text is these blanks, line feeds and comments, and then the rest
 abbrev pub Fills : List Filler → List ℕ → List ℕ → Type 0
 Fills [] text rest = text ≡ rest
-Fills (Blank b ∷ more) text rest = (after : List ℕ) × (text ≡ b ∷ after) × (is_blank b ≡ true) × Fills more after rest
+Fills (Space b ∷ more) text rest = (after : List ℕ) × (text ≡ b ∷ after) × (is_space b ≡ true) × Fills more after rest
 Fills (Comment comment ∷ more) text rest = (after : List ℕ) × IsComment comment text after × Fills more after rest
 
 -- only blanks, line feeds and comments stand in the text before the rest

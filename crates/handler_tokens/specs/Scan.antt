@@ -3,15 +3,16 @@ use Rattle.std.specs.Prelude.{ℕ, ◌+◌, Bool, true, false, ◌||◌, ◌&&�
 use Rattle.std.specs.Char.{is_ascii_digit, is_ascii_alphabetic, is_ascii_alphanumeric}
 use Rattle.std.specs.List.{prefix_len}
 use Rattle.std.specs.Str.{bytes_eq}
+use Rattle.byte_classes.specs.Bytes.{is_blank, is_symbol_byte}
 use Rattle.handler_tokens.specs.declared.scan.Class.{Class}
 use Rattle.handler_tokens.specs.declared.scan.Class.TheVariants as class
 use Rattle.handler_tokens.specs.declared.token_kind.TokenKind.{TokenKind}
 use Rattle.handler_tokens.specs.declared.token_kind.TokenKind.TheVariants as kind
 
--- a letter, a digit or `_`; in a symbol also `.`, `-`, `@` and `:`
+-- a letter, a digit or `_`, or what a symbol is made of
 abbrev pub is_in : Class → ℕ → Bool
 is_in class.Name b = is_ascii_alphanumeric b || b == 95
-is_in class.Symbol b = is_ascii_alphanumeric b || (b == 95 || (b == 46 || (b == 45 || (b == 64 || b == 58))))
+is_in class.Symbol b = is_symbol_byte b
 is_in class.Digit b = is_ascii_digit b
 
 -- a kind and a length
@@ -81,5 +82,5 @@ gap commented [] = 0
 gap commented (b ∷ bs) =
     if b == 10 then 1 + gap false bs
     else (if b == 35 then 1 + gap true bs
-    else (if b == 32 || (b == 9 || b == 13) then 1 + gap commented bs
+    else (if is_blank b then 1 + gap commented bs
     else (if commented then 1 + gap true bs else 0)))

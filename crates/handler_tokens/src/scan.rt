@@ -5,6 +5,7 @@ ghost use Rattle.std.specs.List.{prefix_len};
 ghost use Rattle.handler_tokens.specs.Scan as spec;
 
 use crate::token_kind::TokenKind;
+use byte_classes::{is_blank, is_symbol_byte};
 
 /// The bytes that runs are made of.
 #[derive(Clone, Copy)]
@@ -19,9 +20,7 @@ fn is_in(class: Class, byte: u8) -> bool
 {
     match class {
         Class::Name => byte.is_ascii_alphanumeric() || byte == b'_',
-        Class::Symbol => {
-            byte.is_ascii_alphanumeric() || matches!(byte, b'_' | b'.' | b'-' | b'@' | b':')
-        }
+        Class::Symbol => is_symbol_byte(byte),
         Class::Digit => byte.is_ascii_digit(),
     }
 }
@@ -139,7 +138,7 @@ pub(crate) fn gap_len(text: &[u8]) -> usize
         commented = match *b {
             b'\n' => false,
             b'#' => true,
-            b' ' | b'\t' | b'\r' => commented,
+            byte if is_blank(byte) => commented,
             _ if commented => true,
             _ => return i,
         };

@@ -2,6 +2,7 @@
 use Rattle.std.proofs.Common.{◌≡◌, ℕ, pos, List, [], ◌∷◌, ◌++◌, map, refl, ap, ◌∙◌, rules}
 use Rattle.std.specs.List.{AllByRecursion, flat_map}
 use Rattle.handler_trees.specs.declared.expr.Atom.{Atom}
+use Rattle.handler_trees.specs.declared.expr.Atom.TheVariants as atom
 use Rattle.handler_trees.specs.declared.expr.Calc.{Calc}
 use Rattle.handler_trees.specs.declared.expr.Expr.{Expr, the_lemmas}
 use Rattle.handler_trees.specs.declared.expr.Expr.TheVariants as expr
@@ -10,10 +11,12 @@ use Rattle.handler_trees.specs.declared.stmt.Cond.{Cond}
 use Rattle.handler_trees.specs.declared.stmt.Right.{Right}
 use Rattle.handler_trees.specs.declared.stmt.Stmt.{Stmt, the_lemmas as stmt_lemmas}
 use Rattle.handler_trees.specs.declared.stmt.Stmt.TheVariants as stmt
+use Rattle.handler_trees.specs.Alone.{alone}
 use Rattle.handler_trees.specs.Mentions.{Mention, a_name, a_number, joined, atom_mentions, expr_mentions, call_mentions, right_mentions, cond_mentions, stmt_mentions}
 
-pub mentions_leaf : (a : Atom) → expr_mentions (expr.Leaf a) ≡ atom_mentions a
-mentions_leaf a = search (rules, the_lemmas)
+pub mentions_leaf : (a : Atom) → expr_mentions (alone a) ≡ atom_mentions a
+mentions_leaf (atom.Lit v) = search (rules, the_lemmas)
+mentions_leaf (atom.Name n p) = search (rules, the_lemmas)
 
 pub mentions_binary : (c : Calc) (l r : Expr) → expr_mentions (expr.Binary c l r) ≡ expr_mentions l ++ expr_mentions r
 mentions_binary c l r = search (rules, the_lemmas)

@@ -35,7 +35,8 @@ atom_mentions (atom.Name n p) = a_name n ∷ []
 
 -- those of an operand, or of both operands
 abbrev pub expr_step : Expr-F (List Mention) → List Mention
-expr_step (Expr-F.Leaf a) = atom_mentions a
+expr_step (Expr-F.Lit v) = value_mentions v
+expr_step (Expr-F.Name n p) = a_name n ∷ []
 expr_step (Expr-F.Binary c left right) = left ++ right
 
 abbrev pub expr_mentions : Expr → List Mention

@@ -1,7 +1,7 @@
 // Statements of a file of handlers.
 
 use crate::expr::{Atoms, Expr, Exprs};
-use session_values::{Kind, Listed};
+use session_values::{Boxed, Kind, Listed};
 
 pub type Block = Listed<Stmt>;
 
@@ -24,9 +24,10 @@ pub enum Stmt {
     Perform {
         call: Call,
     },
+    /// One of two blocks. The condition is boxed, since it is larger than the rest of any statement.
     Choose {
         at: u32,
-        cond: Cond,
+        cond: Boxed<Cond>,
         yes: Block,
         no: Block,
     },

@@ -8,7 +8,8 @@ use Rattle.std.proofs.lemmas.List.Sums.{prefix_len-le-length, prefix_len_passes,
 use Rattle.std.proofs.lemmas.Str.{IsCharBoundary-start, IsCharBoundary-end, IsCharBoundary-before_ascii, IsCharBoundary-after_ascii}
 use Rattle.std.specs.List.{prefix_len}
 use Rattle.std.specs.Str.{IsCharBoundary}
-use Rattle.request_files.specs.Text.{Text, is_blank, is_word_byte, is_line_byte, attach, lines, in_word, words}
+use Rattle.byte_classes.specs.Bytes.{is_blank}
+use Rattle.request_files.specs.Text.{Text, is_word_byte, is_line_byte, attach, lines, in_word, words}
 
 -- ---- where runs end
 

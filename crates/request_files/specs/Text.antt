@@ -1,12 +1,9 @@
 -- The lines of a text and the words of a line, as lists of bytes.
 use Rattle.std.specs.Prelude.{ℕ, Bool, false, not, ◌||◌, ◌==◌, if◌then◌else◌, List, [], ◌∷◌}
+use Rattle.byte_classes.specs.Bytes.{is_blank}
 
 abbrev pub Text : Type 0
 Text = List ℕ
-
--- a space, a tab or a carriage return
-abbrev pub is_blank : ℕ → Bool
-is_blank b = b == 32 || b == 9 || b == 13
 
 -- neither a blank nor `#`
 abbrev pub is_word_byte : ℕ → Bool

@@ -1,7 +1,9 @@
 -- Words as values, and the names that they place.
 use Rattle.std.specs.Prelude.{ℕ, ◌+◌, ◌-◌, ◌*◌, ◌^◌, ℤ, pos, neg_ℤ, Bool, not, ◌&&◌, ◌||◌, ◌==◌, nat_le, nat_lt, if◌then◌else◌, List, [], ◌∷◌, drop, length, map, slice_index, codes, Option, Some, None, is_some, unwrap_or}
+use Rattle.std.specs.Char.{is_ascii_alphabetic}
 use Rattle.std.specs.List.{list_all}
 use Rattle.std.specs.Str.{bytes_eq, all_ascii_digits}
+use Rattle.byte_classes.specs.Bytes.{is_symbol_byte}
 use Rattle.session_values.specs.Names.{with_text, place_of}
 use Rattle.session_values.specs.declared.value.Value.{Value}
 use Rattle.session_values.specs.declared.value.Value.TheVariants.{Nil, Num, Sym}
@@ -39,21 +41,11 @@ number w = if is_number w then Some (number_of w) else None
 
 -- ---- symbols
 
-abbrev pub is_letter : ℕ → Bool
-is_letter b = (nat_le 65 b && nat_le b 90) || (nat_le 97 b && nat_le b 122)
-
-abbrev pub is_digit : ℕ → Bool
-is_digit b = nat_le 48 b && nat_le b 57
-
--- a letter, a digit, `_`, `.`, `-`, `@` or `:`
-abbrev pub is_symbol_byte : ℕ → Bool
-is_symbol_byte b = is_letter b || is_digit b || b == 95 || b == 46 || b == 45 || b == 64 || b == 58
-
 abbrev pub is_nil : Text → Bool
 is_nil w = bytes_eq w (codes "nil")
 
 unfoldable pub is_symbol : Text → Bool
-is_symbol w = not (is_nil w) && is_letter (slice_index w 0) && nat_le (length w) 64 && list_all is_symbol_byte w
+is_symbol w = not (is_nil w) && is_ascii_alphabetic (slice_index w 0) && nat_le (length w) 64 && list_all is_symbol_byte w
 
 -- ---- values
 

@@ -2,10 +2,12 @@
 
 ghost use Rattle.std.specs.Prelude.{◌≡◌, ◌≤◌, MatchOption, length, false};
 ghost use Rattle.std.specs.List.{list_any, list_all};
-ghost use Rattle.request_files.specs.Text.{lines, is_blank};
+ghost use Rattle.byte_classes.specs.Bytes as classes;
+ghost use Rattle.request_files.specs.Text.{lines};
 ghost use Rattle.request_files.specs.Divide as spec;
 
 use crate::scan::line_len;
+use byte_classes::is_blank;
 
 /// The parts of a file that has a dividing line.
 #[derive(Clone, Copy, Debug)]
@@ -19,9 +21,9 @@ pub struct Divided<'a> {
 }
 
 fn are_blanks(bytes: &[u8]) -> bool
-    ensures { result ≡ list_all is_blank bytes.now }
+    ensures { result ≡ list_all classes.is_blank bytes.now }
 {
-    bytes.iter().all(|b| crate::scan::is_blank(*b))
+    bytes.iter().all(|b| is_blank(*b))
 }
 
 #[tactic(auto, unfolding(crate::specs::Divide::is_dividing))]

@@ -2,14 +2,10 @@
 
 ghost use Rattle.std.specs.Prelude.{◌≡◌, ◌≤◌, length};
 ghost use Rattle.std.specs.List.{prefix_len};
+ghost use Rattle.byte_classes.specs.Bytes as classes;
 ghost use Rattle.request_files.specs.Text as spec;
 
-#[inline]
-pub(crate) fn is_blank(byte: u8) -> bool
-    ensures { result ≡ spec.is_blank byte }
-{
-    byte == b' ' || byte == b'\t' || byte == b'\r'
-}
+use byte_classes::is_blank;
 
 #[inline]
 fn is_word_byte(byte: u8) -> bool
@@ -27,7 +23,7 @@ fn is_line_byte(byte: u8) -> bool
 
 /// How many blanks stand in front.
 pub(crate) fn blanks_len(bytes: &[u8]) -> usize
-    ensures len { result ≡ prefix_len spec.is_blank bytes.now }
+    ensures len { result ≡ prefix_len classes.is_blank bytes.now }
     ensures within { result ≤ length bytes.now }
 {
     bytes.iter().take_while(|b| is_blank(**b)).count()

@@ -2,8 +2,10 @@
 
 ghost use Rattle.std.specs.Prelude.{◌≡◌, ◌<◌, length, slice_index, IfOk, OnOk, OnErr};
 ghost use Rattle.std.specs.List.{list_all};
+ghost use Rattle.byte_classes.specs.Bytes as classes;
 ghost use Rattle.request_files.specs.Values as spec;
 
+use byte_classes::is_symbol_byte;
 use session_values::{Names, NoMemory, Value};
 
 #[inline]
@@ -25,28 +27,8 @@ fn number(word: &str) -> Option<i64>
     word.parse::<i64>().ok()
 }
 
-#[inline]
-fn is_letter(byte: u8) -> bool
-    ensures { result ≡ spec.is_letter byte }
-{
-    byte >= b'A' && byte <= b'Z' || byte >= b'a' && byte <= b'z'
-}
-
-#[inline]
-fn is_symbol_byte(byte: u8) -> bool
-    ensures { result ≡ spec.is_symbol_byte byte }
-{
-    is_letter(byte)
-        || byte >= b'0' && byte <= b'9'
-        || byte == b'_'
-        || byte == b'.'
-        || byte == b'-'
-        || byte == b'@'
-        || byte == b':'
-}
-
 fn are_symbol_bytes(bytes: &[u8]) -> bool
-    ensures { result ≡ list_all spec.is_symbol_byte bytes.now }
+    ensures { result ≡ list_all classes.is_symbol_byte bytes.now }
 {
     bytes.iter().all(|b| is_symbol_byte(*b))
 }
@@ -60,7 +42,7 @@ fn is_symbol(word: &str) -> bool
     if word == "nil" {
         return false;
     }
-    if !is_letter(first) {
+    if !first.is_ascii_alphabetic() {
         return false;
     }
     if bytes.len() > 64 {

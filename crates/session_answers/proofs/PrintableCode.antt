@@ -16,6 +16,7 @@ use Rattle.handler_trees.specs.declared.stmt.Stmt.{Stmt}
 use Rattle.handler_trees.specs.declared.stmt.Stmt.TheVariants as stmt
 use Rattle.handler_trees.specs.declared.file.File.{File}
 use Rattle.handler_trees.specs.declared.file.Handler.{Handler}
+use Rattle.handler_trees.specs.Alone.{alone}
 use Rattle.handler_trees.specs.Mentions.{Mention, a_symbol, atom_mentions, expr_mentions, call_mentions, right_mentions, cond_mentions, stmt_mentions, table_mentions, param_mentions, handler_mentions}
 use Rattle.handler_trees.proofs.Mentions.{mentions_leaf, mentions_binary, mentions_let, mentions_assign, mentions_perform, mentions_choose, mentions_repeat, mentions_answer, all_first}
 use Rattle.handler_tokens.specs.Texts.{HasText, HaveTexts, IsNamedFile}
@@ -29,8 +30,9 @@ use Rattle.handler_check.specs.Resolved.{atom_of, term_of, key_of, value_of, cal
 use Rattle.handler_check.proofs.Cases.{expr_induction, source_let, source_assign, source_call, source_choose, source_repeat, source_reply}
 use Rattle.handler_check.proofs.Inductions.{stmt_induction}
 
-term_leaf : (variables : List ℕ) (a : Atom) → term_of variables (expr.Leaf a) ≡ code.Atom (atom_of variables a)
-term_leaf variables a = search (rules, the_lemmas)
+term_leaf : (variables : List ℕ) (a : Atom) → term_of variables (alone a) ≡ code.Atom (atom_of variables a)
+term_leaf variables (atom.Lit v) = search (rules, the_lemmas)
+term_leaf variables (atom.Name n p) = search (rules, the_lemmas)
 
 term_binary : (variables : List ℕ) (c : Calc) (l r : Expr) → term_of variables (expr.Binary c l r) ≡ Calculate c (term_of variables l) (term_of variables r)
 term_binary variables c l r = search (rules, the_lemmas)

@@ -25,7 +25,8 @@ fn find_in_expr(visible: &[u32], e: &Expr) -> Result<(), CheckRefusal>
         → Found (scan of_variables tables earlier visible.now (expr_marks e.now)) result }
 {
     match e {
-        Expr::Leaf(atom) => find_in_atom(visible, *atom),
+        Expr::Lit(_) => Ok(()),
+        Expr::Name { name, at } => see(visible, *name, *at),
         Expr::Binary { left, right, .. } => {
             find_in_expr(visible, left.get())?;
             find_in_expr(visible, right.get())

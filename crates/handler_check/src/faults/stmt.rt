@@ -37,7 +37,7 @@ fn find_in_stmt(
         }
         Stmt::Perform { call } => find_in_call(tables, visible, call),
         Stmt::Choose { cond, yes, no, .. } => {
-            find_in_cond(visible, cond)?;
+            find_in_cond(visible, cond.get())?;
             find_in_block(tables, names, visible, yes.as_slice())?;
             find_in_block(tables, names, visible, no.as_slice())
         }

@@ -46,7 +46,10 @@ pub(super) fn resolve_expr(
     ensures { IfOk result (λ found. expr_term found ≡ spec.term_of variables.now e.now) }
 {
     match e {
-        Expr::Leaf(atom) => Ok(CheckedExpr::Leaf(resolve_atom(variables, *atom))),
+        Expr::Lit(value) => Ok(CheckedExpr::Leaf(CheckedAtom::Lit(*value))),
+        Expr::Name { name, .. } => {
+            Ok(CheckedExpr::Leaf(CheckedAtom::Var(number_in(variables, *name))))
+        }
         Expr::Binary { calc, left, right } => {
             let left = resolve_expr(alloc, variables, left.get())?;
             let right = resolve_expr(alloc, variables, right.get())?;

@@ -32,13 +32,13 @@ choice-returns-clause-reads t c =
     let w = c.in_ok-word.ensures.word in
     let at = c.in_ok-word.word.at in
     let first = took _ _ _ _ sort.If w (ap (λ x. x.sort) w ∙ c.requires.first) (λ e. cc) c.in_ok-word.ensures.words in
-    let d = c.in_ok-cond.ensures.reads in
+    let d = c.in_ok-condition.ensures.reads in
     let y = c.in_ok-yes.ensures.reads in
     let n = c.in_ok-no.ensures.reads in (
       record {
         phrase = if_stmt at d.0.phrase y.0.phrase n.0.phrase;
         read = first ∙ ap (λ l. word sort.If at ∷ l) (d.0.read ∙ ap (cond_words d.0.phrase) (y.0.read ∙ ap (block_words y.0.phrase) n.0.read));
-        value = ap (λ x. stmt.Choose at x c.in_ok-yes.yes c.in_ok-no.no) d.0.value ∙ ap (λ x. stmt.Choose at (cond_tree d.0.phrase) x c.in_ok-no.no) y.0.value ∙ ap (stmt.Choose at (cond_tree d.0.phrase) (block_trees y.0.phrase)) n.0.value;
+        value = ap (λ x. stmt.Choose at x c.in_ok-yes.yes c.in_ok-no.no) (c.in_ok-cond.ensures ∙ d.0.value) ∙ ap (λ x. stmt.Choose at (cond_tree d.0.phrase) x c.in_ok-no.no) y.0.value ∙ ap (stmt.Choose at (cond_tree d.0.phrase) (block_trees y.0.phrase)) n.0.value;
       },
       passed_then (passed_one (Inside c.args.depth) _ _ statements (expression ∷ a_compare ∷ expression ∷ a_block ∷ or_else ∷ statements ∷ []) _ first c.take.ensures.end c.take.ensures.signs refl (λ under h. refl))
           (passed_then (passed_framed (a_block ∷ or_else ∷ statements ∷ []) (λ under h. h.none_open) d.1)

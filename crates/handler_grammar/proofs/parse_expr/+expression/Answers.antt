@@ -5,6 +5,7 @@ use Rattle.handler_tokens.specs.declared.word.Sort.TheVariants as sort
 use Rattle.handler_trees.specs.declared.expr.Calc.{Calc}
 use Rattle.handler_trees.specs.declared.expr.Calc.TheVariants as calc
 use Rattle.handler_trees.specs.declared.expr.Expr.TheVariants as expr
+use Rattle.handler_trees.specs.Alone.{alone}
 use Rattle.handler_grammar.specs.Bounds.{where_over, open_parentheses, operator_signs}
 use Rattle.handler_grammar.specs.Next.{Opened, operand, more_factors, more_terms, closing}
 use Rattle.handler_grammar.specs.Phrase.{word, plain, grouped, no_factor, term, MoreTerms, no_term, sum, expr_words, factor_words, factors_words, term_words, terms_words}
@@ -38,7 +39,7 @@ pub factor-returns-in_ok-atom-in_default-clause-reads : goal.factor-returns-in_o
 factor-returns-in_ok-atom-in_default-clause-reads t c =
     let seen = c.in_ok-word.ensures in
     let found = c.in_ok-atom-in_default.ensures.reads in (
-      record { phrase = plain found.0.phrase; read = sym seen.words ∙ found.0.read; value = ap expr.Leaf found.0.value },
+      record { phrase = plain found.0.phrase; read = sym seen.words ∙ found.0.read; value = c.alone.ensures ∙ ap alone found.0.value },
       passed_atom _ [] [] c.args.input.now c.atom.new.input (λ e. c.in_default.not-LeftParen (ap (λ w. w.sort) seen.word ∙ e)) (passed_then (passed_still seen.words seen.end seen.signs) (passed_framed [] (λ under h. tt) found.1)),
     )
 

@@ -40,7 +40,7 @@ find_in_stmt-returns-in_err-find_in_cond-in-Choose-clause-found t c =
     let parts = choose_parts c.args.tables.now c.args.s.now _ b.cond b.yes b.no b.yes b.no earlier (earlier ++ declared (marks (block_source b.yes))) visible visible b.is refl refl refl refl in
     let p = err_from_is_err_and c.from_residual-in_err-find_in_cond-in-Choose.result c.from_residual-in_err-find_in_cond-in-Choose.ensures.1 in
     let found = c.in_err-find_in_cond-in-Choose.ensures c.args.tables.now earlier in
-    exits _ _ _ _ p.1 p.2 (stops _ _ _ _ parts (rw c.deref-in-Choose.ensures.value at found))
+    exits _ _ _ _ p.1 p.2 (stops _ _ _ _ parts (rw (c.deref-in-Choose.ensures.value, c.get.ensures) at found))
 
 pub find_in_stmt-returns-in_err-find_in_block-in-Choose-clause-found : goal.find_in_stmt-returns-in_err-find_in_block-in-Choose-clause-found
 find_in_stmt-returns-in_err-find_in_block-in-Choose-clause-found t c =
@@ -50,7 +50,7 @@ find_in_stmt-returns-in_err-find_in_block-in-Choose-clause-found t c =
     let parts = choose_parts c.args.tables.now c.args.s.now _ b.cond b.yes b.no c.as_slice.result.now b.no earlier (earlier ++ declared (marks (block_source c.as_slice.result.now))) visible visible b.is c.as_slice.ensures refl refl refl in
     let p = err_from_is_err_and c.from_residual-in_err-find_in_block-in-Choose.result c.from_residual-in_err-find_in_block-in-Choose.ensures.1 in
     let first = c.in_ok-find_in_cond-in-Choose.ensures c.args.tables.now earlier in
-    exits _ _ _ _ p.1 p.2 (stops _ _ _ _ (later _ _ _ parts (rw c.deref-in-Choose.ensures.value at first)) c.in_err-find_in_block-in-Choose.ensures.found)
+    exits _ _ _ _ p.1 p.2 (stops _ _ _ _ (later _ _ _ parts (rw (c.deref-in-Choose.ensures.value, c.get.ensures) at first)) c.in_err-find_in_block-in-Choose.ensures.found)
 
 pub find_in_stmt-returns-in_ok-push-in-Let-clause-names : goal.find_in_stmt-returns-in_ok-push-in-Let-clause-names
 find_in_stmt-returns-in_ok-push-in-Let-clause-names t c =
@@ -70,7 +70,7 @@ find_in_stmt-returns-in_ok-find_in_block-in-Choose-clause-found t c =
     let done = c.in_ok-find_in_block-in-Choose.ensures in
     let parts = choose_parts c.args.tables.now c.args.s.now _ b.cond b.yes b.no c.as_slice.result.now c.as_slice-in-Choose.result.now earlier c.find_in_block.new.names.items visible c.find_in_block.new.visible.items b.is c.as_slice.ensures c.as_slice-in-Choose.ensures done.names done.visible in
     let first = c.in_ok-find_in_cond-in-Choose.ensures c.args.tables.now earlier in
-    goes_on _ _ _ _ (later _ _ _ parts (rw c.deref-in-Choose.ensures.value at first)) done.found c.find_in_block-in-Choose.ensures.found
+    goes_on _ _ _ _ (later _ _ _ parts (rw (c.deref-in-Choose.ensures.value, c.get.ensures) at first)) done.found c.find_in_block-in-Choose.ensures.found
 
 pub find_in_stmt-returns-in_ok-find_in_block-in-Choose-clause-names : goal.find_in_stmt-returns-in_ok-find_in_block-in-Choose-clause-names
 find_in_stmt-returns-in_ok-find_in_block-in-Choose-clause-names t c =

@@ -3,7 +3,8 @@ use Rattle.std.proofs.lemmas.Bool.Decides.{nat_tests}
 use Rattle.std.proofs.lemmas.List.{take-append-drop}
 use Rattle.std.specs.Str.{IsCharBoundary}
 use Rattle.std.specs.List.{prefix_len}
-use Rattle.request_files.specs.Text.{is_blank, is_word_byte}
+use Rattle.byte_classes.specs.Bytes.{is_blank}
+use Rattle.request_files.specs.Text.{is_word_byte}
 use Rattle.request_files.proofs.TextLemmas.{boundary_run, boundary_stopped, blank_ascii, word_stop_ascii, words_cut, words_over}
 use Rattle.request_files.proofs.line.LineIterator.next.Goals as goal
 
