@@ -50,7 +50,8 @@ joined (s ∷ ss) = s (joined ss)
 abbrev pub stmt_step : CheckedStmt-F (Code → Code) → Code → Code
 stmt_step (CheckedStmt-F.Store x e) rest = Move x (expr_term e) rest
 stmt_step (CheckedStmt-F.Perform at p x c) rest = Ask at p x c rest
-stmt_step (CheckedStmt-F.Choose at p q c a b) rest = Fork at p q (cond_test c) (joined a) (joined b) rest
+stmt_step (CheckedStmt-F.Choose at p q c a b) rest = Fork at p q (cond_test c) (joined a)
+    (joined b) rest
 stmt_step (CheckedStmt-F.Repeat at p n x body) rest = Loop at p n x (joined body) rest
 stmt_step (CheckedStmt-F.Answer es) rest = Quit (map expr_term es) rest
 
@@ -78,6 +79,8 @@ IsNumbered Finish i = Unit {0}
 IsNumbered (Move x e rest) i = IsNumbered rest i
 IsNumbered (Ask at p x c rest) i = (p ≡ i) × IsNumbered rest (i + 1)
 IsNumbered (Fork at p q test a b rest) i =
-    (p ≡ i) × IsNumbered a (i + 1) × (q ≡ i + 1 + points a) × IsNumbered b (i + 2 + points a) × IsNumbered rest (i + 2 + points a + points b)
-IsNumbered (Loop at p n x body rest) i = IsNumbered body i × (p ≡ i + points body) × IsNumbered rest (i + points body + 1)
+    (p ≡ i) × IsNumbered a (i + 1) × (q ≡ i + 1 + points a) × IsNumbered b (i + 2 + points a)
+    × IsNumbered rest (i + 2 + points a + points b)
+IsNumbered (Loop at p n x body rest) i = IsNumbered body i × (p ≡ i + points body)
+    × IsNumbered rest (i + points body + 1)
 IsNumbered (Quit es rest) i = IsNumbered rest i

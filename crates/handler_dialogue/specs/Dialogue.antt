@@ -67,7 +67,12 @@ holds test env = compared test.compare (value_of test.left env) (value_of test.r
 
 -- the operation that a call makes
 abbrev pub op_of : CheckedCall → Env → Op
-op_of c env = record { kind = c.kind; table = c.table; key = atom_value c.key env; value = atom_value c.value env }
+op_of c env = record {
+  kind = c.kind;
+  table = c.table;
+  key = atom_value c.key env;
+  value = atom_value c.value env;
+}
 
 -- ---- runs
 
@@ -106,17 +111,21 @@ with_reply (Some x) v env = with_value env x v
 -- n turns, the first of which has the number i
 abbrev pub turns : (Env → List Value → Outcome) → ℕ → ℕ → ℕ → Env → List Value → Outcome
 turns body x zero i env left = Goes [] env left
-turns body x (suc n) i env left = then_do (body (with_value env x (Num (pos i))) left) (turns body x n (i + 1))
+turns body x (suc n) i env left = then_do (body (with_value env x (Num (pos i))) left)
+    (turns body x n (i + 1))
 
 -- a block, from these values of the variables and with these replies to come
 abbrev pub run : Code → Env → List Value → Outcome
 run Finish env left = Goes [] env left
 run (Move x e rest) env left = run rest (with_value env x (value_of e env)) left
 run (Ask at p x c rest) env [] = Calls [] (op_of c env)
-run (Ask at p x c rest) env (v ∷ left) = pass p (with_reply x v env) true (run rest (with_reply x v env) left)
+run (Ask at p x c rest) env (v ∷ left) = pass p (with_reply x v env) true
+    (run rest (with_reply x v env) left)
 run (Fork at p q test a b rest) env left =
-    then_do (if holds test env then pass p env false (run a env left) else pass q env false (run b env left)) (run rest)
-run (Loop at p n x body rest) env left = then_do (turns (run body) x n 0 env left) (λ e l. pass p e false (run rest e l))
+    then_do (if holds test env then pass p env false (run a env left) else pass q env false
+    (run b env left)) (run rest)
+run (Loop at p n x body rest) env left = then_do (turns (run body) x n 0 env left)
+    (λ e l. pass p e false (run rest e l))
 run (Quit es rest) env left = Answers [] (map (λ e. value_of e env) es)
 
 -- ---- what a handler does next

@@ -35,7 +35,11 @@ VarWithin n (Some x) = x < n
 abbrev pub CodeWithin : List TableKind → ℕ → Code → Type 0
 CodeWithin shape n Finish = Unit {0}
 CodeWithin shape n (Move x e rest) = (x < n) × TermWithin n e × CodeWithin shape n rest
-CodeWithin shape n (Ask at p x c rest) = VarWithin n x × CallWithin shape n c × CodeWithin shape n rest
-CodeWithin shape n (Fork at p q test a b rest) = (TermWithin n test.left × TermWithin n test.right) × CodeWithin shape n a × CodeWithin shape n b × CodeWithin shape n rest
-CodeWithin shape n (Loop at p turns x body rest) = (x < n) × (0 < turns) × (turns ≤ 1000) × CodeWithin shape n body × CodeWithin shape n rest
-CodeWithin shape n (Quit es rest) = (0 < length es) × (length es ≤ 4) × AllByRecursion (TermWithin n) es × CodeWithin shape n rest
+CodeWithin shape n (Ask at p x c rest) = VarWithin n x × CallWithin shape n c
+    × CodeWithin shape n rest
+CodeWithin shape n (Fork at p q test a b rest) = (TermWithin n test.left × TermWithin n test.right)
+    × CodeWithin shape n a × CodeWithin shape n b × CodeWithin shape n rest
+CodeWithin shape n (Loop at p turns x body rest) = (x < n) × (0 < turns) × (turns ≤ 1000)
+    × CodeWithin shape n body × CodeWithin shape n rest
+CodeWithin shape n (Quit es rest) = (0 < length es) × (length es ≤ 4)
+    × AllByRecursion (TermWithin n) es × CodeWithin shape n rest

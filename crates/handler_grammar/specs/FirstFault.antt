@@ -27,7 +27,8 @@ BeginsText ws = (more : List Word) × IsText (ws ++ more)
 
 -- some file within the limits begins with these words
 abbrev pub BeginsFileWithin : List Word → Type 0
-BeginsFileWithin ws = (p : FilePhrase) × (more : List Word) × (ws ++ more ≡ file_words p []) × FileFits p
+BeginsFileWithin ws = (p : FilePhrase) × (more : List Word) × (ws ++ more ≡ file_words p [])
+    × FileFits p
 
 -- ---- limits
 

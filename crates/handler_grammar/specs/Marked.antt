@@ -33,7 +33,8 @@ name_marked (named n p) rest = fine (word (sort.Name n) p) ∷ rest
 
 -- a number is at most so large
 abbrev pub number_marked : ℕ → NumberPhrase → List Marked → List Marked
-number_marked most (digits v p) rest = limited number_size (nat_lt most v) (word (sort.Number v) p) ∷ rest
+number_marked most (digits v p) rest = limited number_size (nat_lt most v)
+    (word (sort.Number v) p) ∷ rest
 
 abbrev pub atom_marked : AtomPhrase → List Marked → List Marked
 atom_marked (name_atom n p) rest = fine (word (sort.Name n) p) ∷ rest
@@ -53,25 +54,31 @@ abbrev mutual
   pub factor_marked : FactorPhrase → ℕ → ℕ → List Marked → List Marked
   factor_marked (plain a) opened signs rest = atom_marked a rest
   factor_marked (grouped p e q) opened signs rest =
-      limited open_parentheses (nat_le max_open opened) (word sort.LeftParen p) ∷ expr_marked e (opened + 1) signs (fine (word sort.RightParen q) ∷ rest)
+      limited open_parentheses (nat_le max_open opened) (word sort.LeftParen p) ∷ expr_marked e
+      (opened + 1) signs (fine (word sort.RightParen q) ∷ rest)
 
   pub factors_marked : MoreFactors → ℕ → ℕ → List Marked → List Marked
   factors_marked no_factor opened signs rest = rest
   factors_marked (times p f fs) opened signs rest =
-      sign_marked sort.Times signs p ∷ factor_marked f opened (signs + 1) (factors_marked fs opened (signs + 1 + factor_signs f) rest)
+      sign_marked sort.Times signs p ∷ factor_marked f opened (signs + 1)
+      (factors_marked fs opened (signs + 1 + factor_signs f) rest)
 
   pub term_marked : TermPhrase → ℕ → ℕ → List Marked → List Marked
-  term_marked (term f fs) opened signs rest = factor_marked f opened signs (factors_marked fs opened (signs + factor_signs f) rest)
+  term_marked (term f fs) opened signs rest = factor_marked f opened signs
+      (factors_marked fs opened (signs + factor_signs f) rest)
 
   pub terms_marked : MoreTerms → ℕ → ℕ → List Marked → List Marked
   terms_marked no_term opened signs rest = rest
   terms_marked (plus p t ts) opened signs rest =
-      sign_marked sort.Plus signs p ∷ term_marked t opened (signs + 1) (terms_marked ts opened (signs + 1 + term_signs t) rest)
+      sign_marked sort.Plus signs p ∷ term_marked t opened (signs + 1)
+      (terms_marked ts opened (signs + 1 + term_signs t) rest)
   terms_marked (minus p t ts) opened signs rest =
-      sign_marked sort.Minus signs p ∷ term_marked t opened (signs + 1) (terms_marked ts opened (signs + 1 + term_signs t) rest)
+      sign_marked sort.Minus signs p ∷ term_marked t opened (signs + 1)
+      (terms_marked ts opened (signs + 1 + term_signs t) rest)
 
   pub expr_marked : ExprPhrase → ℕ → ℕ → List Marked → List Marked
-  expr_marked (sum t ts) opened signs rest = term_marked t opened signs (terms_marked ts opened (signs + term_signs t) rest)
+  expr_marked (sum t ts) opened signs rest = term_marked t opened signs
+      (terms_marked ts opened (signs + term_signs t) rest)
 
 -- a whole expression
 abbrev pub whole_marked : ExprPhrase → List Marked → List Marked
@@ -81,11 +88,13 @@ whole_marked e rest = expr_marked e 0 0 rest
 
 abbrev pub atoms_marked : MoreAtoms → List Marked → List Marked
 atoms_marked no_atom rest = rest
-atoms_marked (more_atom p a xs) rest = fine (word sort.Comma p) ∷ atom_marked a (atoms_marked xs rest)
+atoms_marked (more_atom p a xs) rest = fine (word sort.Comma p) ∷ atom_marked a
+    (atoms_marked xs rest)
 
 abbrev pub operands_marked : OperandsPhrase → List Marked → List Marked
 operands_marked (operands l t xs r) rest =
-    fine (word sort.LeftParen l) ∷ name_marked t (atoms_marked xs.atoms (fine (word sort.RightParen r) ∷ rest))
+    fine (word sort.LeftParen l) ∷ name_marked t
+    (atoms_marked xs.atoms (fine (word sort.RightParen r) ∷ rest))
 
 abbrev pub call_marked : CallPhrase → List Marked → List Marked
 call_marked (a_call k p o) rest = fine (word (sort.Do k) p) ∷ operands_marked o rest
@@ -95,14 +104,17 @@ right_marked (result_right c) rest = call_marked c rest
 right_marked (plain_right e) rest = whole_marked e rest
 
 abbrev pub cond_marked : CondPhrase → List Marked → List Marked
-cond_marked (a_cond a c p b) rest = whole_marked a (fine (word (sort.Compare c) p) ∷ whole_marked b rest)
+cond_marked (a_cond a c p b) rest = whole_marked a
+    (fine (word (sort.Compare c) p) ∷ whole_marked b rest)
 
 abbrev pub turns_marked : TurnsPhrase → List Marked → List Marked
-turns_marked (a_turns d a n) rest = number_marked max_number d (fine (word sort.As a) ∷ name_marked n rest)
+turns_marked (a_turns d a n) rest = number_marked max_number d
+    (fine (word sort.As a) ∷ name_marked n rest)
 
 abbrev pub more_marked : MoreValues → List Marked → List Marked
 more_marked no_value rest = rest
-more_marked (more_value p e vs) rest = fine (word sort.Comma p) ∷ whole_marked e (more_marked vs rest)
+more_marked (more_value p e vs) rest = fine (word sort.Comma p) ∷ whole_marked e
+    (more_marked vs rest)
 
 abbrev pub values_marked : ValuesPhrase → List Marked → List Marked
 values_marked v rest = whole_marked v.first (more_marked v.more rest)
@@ -112,12 +124,17 @@ values_marked v rest = whole_marked v.first (more_marked v.more rest)
 abbrev mutual
   pub stmt_marked : StmtPhrase → ℕ → List Marked → List Marked
   stmt_marked (let_stmt p n a r e) depth rest =
-      fine (word sort.Let p) ∷ name_marked n (fine (word sort.Assign a) ∷ right_marked r (fine (word sort.Semicolon e) ∷ rest))
-  stmt_marked (assign_stmt n a r e) depth rest = name_marked n (fine (word sort.Assign a) ∷ right_marked r (fine (word sort.Semicolon e) ∷ rest))
+      fine (word sort.Let p) ∷ name_marked n (fine (word sort.Assign a) ∷ right_marked r
+      (fine (word sort.Semicolon e) ∷ rest))
+  stmt_marked (assign_stmt n a r e) depth rest = name_marked n
+      (fine (word sort.Assign a) ∷ right_marked r (fine (word sort.Semicolon e) ∷ rest))
   stmt_marked (call_stmt c e) depth rest = call_marked c (fine (word sort.Semicolon e) ∷ rest)
-  stmt_marked (if_stmt p c b e) depth rest = fine (word sort.If p) ∷ cond_marked c (block_marked b depth (else_marked e depth rest))
-  stmt_marked (repeat_stmt p t b) depth rest = fine (word sort.Repeat p) ∷ turns_marked t (block_marked b depth rest)
-  stmt_marked (reply_stmt p v e) depth rest = fine (word sort.Reply p) ∷ values_marked v (fine (word sort.Semicolon e) ∷ rest)
+  stmt_marked (if_stmt p c b e) depth rest = fine (word sort.If p) ∷ cond_marked c
+      (block_marked b depth (else_marked e depth rest))
+  stmt_marked (repeat_stmt p t b) depth rest = fine (word sort.Repeat p) ∷ turns_marked t
+      (block_marked b depth rest)
+  stmt_marked (reply_stmt p v e) depth rest = fine (word sort.Reply p) ∷ values_marked v
+      (fine (word sort.Semicolon e) ∷ rest)
 
   pub else_marked : ElsePhrase → ℕ → List Marked → List Marked
   else_marked no_else depth rest = rest
@@ -129,7 +146,8 @@ abbrev mutual
 
   pub block_marked : BlockPhrase → ℕ → List Marked → List Marked
   block_marked (block p ss q) depth rest =
-      limited block_depth (nat_le max_depth depth) (word sort.LeftBrace p) ∷ stmts_marked ss (depth + 1) (fine (word sort.RightBrace q) ∷ rest)
+      limited block_depth (nat_le max_depth depth) (word sort.LeftBrace p) ∷ stmts_marked ss
+      (depth + 1) (fine (word sort.RightBrace q) ∷ rest)
 
 -- ---- files
 
@@ -137,7 +155,8 @@ abbrev pub handlers_marked : HandlersPhrase → List Marked
 handlers_marked no_handler = []
 handlers_marked (more_handlers (a_handler p n l ps r b) hs) =
     fine (word sort.Handler p)
-    ∷ name_marked n (fine (word sort.LeftParen l) ∷ all_fine (params_words ps []) (fine (word sort.RightParen r) ∷ block_marked b 0 (handlers_marked hs)))
+    ∷ name_marked n (fine (word sort.LeftParen l) ∷ all_fine (params_words ps [])
+    (fine (word sort.RightParen r) ∷ block_marked b 0 (handlers_marked hs)))
 
 abbrev pub file_marked : FilePhrase → List Marked
 file_marked (a_file ts hs) = all_fine (tables_words ts []) (handlers_marked hs)

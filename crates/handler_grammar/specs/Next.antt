@@ -115,12 +115,17 @@ values_row _ _ = None
 
 -- what follows the word that begins a statement
 abbrev pub where_statement : Option Start → Option (List Part)
-where_statement (Some start.Let) = Some (a_name ∷ mark sort.Assign ∷ a_right ∷ mark sort.Semicolon ∷ statements ∷ [])
-where_statement (Some (start.Assign n)) = Some (mark sort.Assign ∷ a_right ∷ mark sort.Semicolon ∷ statements ∷ [])
+where_statement (Some start.Let) = Some (a_name ∷ mark sort.Assign ∷ a_right ∷ mark
+    sort.Semicolon ∷ statements ∷ [])
+where_statement (Some (start.Assign n)) = Some
+    (mark sort.Assign ∷ a_right ∷ mark sort.Semicolon ∷ statements ∷ [])
 where_statement (Some (start.Call k)) = Some (call_parts ++ mark sort.Semicolon ∷ statements ∷ [])
-where_statement (Some start.If) = Some (expression ∷ a_compare ∷ expression ∷ a_block ∷ or_else ∷ statements ∷ [])
-where_statement (Some start.Repeat) = Some (a_count ∷ mark sort.As ∷ a_name ∷ a_block ∷ statements ∷ [])
-where_statement (Some start.Reply) = Some (expression ∷ more_values 3 ∷ mark sort.Semicolon ∷ statements ∷ [])
+where_statement (Some start.If) = Some
+    (expression ∷ a_compare ∷ expression ∷ a_block ∷ or_else ∷ statements ∷ [])
+where_statement (Some start.Repeat) = Some (a_count ∷ mark
+    sort.As ∷ a_name ∷ a_block ∷ statements ∷ [])
+where_statement (Some start.Reply) = Some (expression ∷ more_values 3 ∷ mark
+    sort.Semicolon ∷ statements ∷ [])
 where_statement None = None
 
 abbrev pub else_row : Sort → Option (List Part)
@@ -140,7 +145,8 @@ more_params_row sort.Comma = Some (a_name ∷ more_params ∷ [])
 more_params_row _ = None
 
 abbrev pub handlers_row : Sort → Option (List Part)
-handlers_row sort.Handler = Some (a_name ∷ mark sort.LeftParen ∷ first_param ∷ mark sort.RightParen ∷ a_block ∷ handlers ∷ [])
+handlers_row sort.Handler = Some (a_name ∷ mark sort.LeftParen ∷ first_param ∷ mark
+    sort.RightParen ∷ a_block ∷ handlers ∷ [])
 handlers_row _ = None
 
 abbrev pub where_table : Option TableKind → Option (List Part)
@@ -268,9 +274,11 @@ abbrev pub go_on : Word → Option Limit → Option SyntaxRefusal → Option Syn
 go_on w (Some l) after = Some (limit_refusal l w.at)
 go_on w None after = after
 
-abbrev pub after_taking : Word → ℕ → (List Part → ℕ → Option SyntaxRefusal) → Option Taken → Option SyntaxRefusal
+abbrev pub after_taking : Word → ℕ → (List Part → ℕ → Option SyntaxRefusal) → Option Taken
+    → Option SyntaxRefusal
 after_taking w signs rest None = Some (refusal w)
-after_taking w signs rest (Some t) = go_on w (broken t.part t.under signs w.sort) (rest (t.left ++ t.under) (signs_after t.part signs))
+after_taking w signs rest (Some t) = go_on w (broken t.part t.under signs w.sort)
+    (rest (t.left ++ t.under) (signs_after t.part signs))
 
 -- the first fault of words that end at a byte place, where these parts are to come, behind so many operator signs
 abbrev pub fault : ℕ → List Part → ℕ → List Word → Option SyntaxRefusal

@@ -22,11 +22,13 @@ pub record Parsed (old : List (List ℕ)) (source : List ℕ) (result : Result F
   -- The source is a file of the grammar, within its limits, and this is its tree.
   pub ok : IfOk result (IsSourceOf old source)
   -- Such a file is read, unless memory runs out, and it has no other tree.
-  pub only : (file : File) → IsSourceOf old source file → MatchResult result (λ read. read ≡ file) (λ e. e ≡ NoMemory)
+  pub only : (file : File) → IsSourceOf old source file
+      → MatchResult result (λ read. read ≡ file) (λ e. e ≡ NoMemory)
   -- What is refused has its first fault here.
   pub refused : IfErr result (λ e. e ≢ NoMemory → HasFault old source e)
   -- A source with a first fault is refused for it, unless memory runs out.
-  pub fault : (e : SyntaxRefusal) → HasFault old source e → MatchResult result (λ file. ⊥) (λ r. (r ≡ e) ⊎ (r ≡ NoMemory))
+  pub fault : (e : SyntaxRefusal) → HasFault old source e
+      → MatchResult result (λ file. ⊥) (λ r. (r ≡ e) ⊎ (r ≡ NoMemory))
   -- The names are the old ones and the new texts, in the order of their first appearance.
   pub names : OnOk result (new ≡ names_of old source)
   -- After a refusal too the old ones stand first.

@@ -141,7 +141,8 @@ pub data ParamsPhrase : Type 0 where
 
 -- Handler = "handler" Name "(" Params ")" Block
 pub data HandlerPhrase : Type 0 where
-  a_handler : (at : ℕ) → NamePhrase → (left_at : ℕ) → ParamsPhrase → (right_at : ℕ) → BlockPhrase → HandlerPhrase
+  a_handler : (at : ℕ) → NamePhrase → (left_at : ℕ) → ParamsPhrase → (right_at : ℕ) → BlockPhrase
+      → HandlerPhrase
 
 -- Handler*
 pub data HandlersPhrase : Type 0 where
@@ -185,7 +186,8 @@ atom_words (negative_atom p d) rest = word sort.Minus p ∷ number_words d rest
 abbrev mutual
   pub factor_words : FactorPhrase → List Word → List Word
   factor_words (plain a) rest = atom_words a rest
-  factor_words (grouped p e q) rest = word sort.LeftParen p ∷ expr_words e (word sort.RightParen q ∷ rest)
+  factor_words (grouped p e q) rest = word sort.LeftParen p ∷ expr_words e
+      (word sort.RightParen q ∷ rest)
 
   pub factors_words : MoreFactors → List Word → List Word
   factors_words no_factor rest = rest
@@ -210,7 +212,8 @@ abbrev pub arguments_words : ArgumentsPhrase → List Word → List Word
 arguments_words xs rest = atoms_words xs.atoms rest
 
 abbrev pub operands_words : OperandsPhrase → List Word → List Word
-operands_words (operands l t xs r) rest = word sort.LeftParen l ∷ name_words t (arguments_words xs (word sort.RightParen r ∷ rest))
+operands_words (operands l t xs r) rest = word sort.LeftParen l ∷ name_words t
+    (arguments_words xs (word sort.RightParen r ∷ rest))
 
 abbrev pub call_words : CallPhrase → List Word → List Word
 call_words (a_call k p o) rest = word (sort.Do k) p ∷ operands_words o rest
@@ -238,12 +241,16 @@ values_words v rest = expr_words v.first (more_words v.more rest)
 
 abbrev mutual
   pub stmt_words : StmtPhrase → List Word → List Word
-  stmt_words (let_stmt p n a r e) rest = word sort.Let p ∷ name_words n (word sort.Assign a ∷ right_words r (word sort.Semicolon e ∷ rest))
-  stmt_words (assign_stmt n a r e) rest = name_words n (word sort.Assign a ∷ right_words r (word sort.Semicolon e ∷ rest))
+  stmt_words (let_stmt p n a r e) rest = word sort.Let p ∷ name_words n
+      (word sort.Assign a ∷ right_words r (word sort.Semicolon e ∷ rest))
+  stmt_words (assign_stmt n a r e) rest = name_words n
+      (word sort.Assign a ∷ right_words r (word sort.Semicolon e ∷ rest))
   stmt_words (call_stmt c e) rest = call_words c (word sort.Semicolon e ∷ rest)
-  stmt_words (if_stmt p c b e) rest = word sort.If p ∷ cond_words c (block_words b (else_words e rest))
+  stmt_words (if_stmt p c b e) rest = word sort.If p ∷ cond_words c
+      (block_words b (else_words e rest))
   stmt_words (repeat_stmt p t b) rest = word sort.Repeat p ∷ turns_words t (block_words b rest)
-  stmt_words (reply_stmt p v e) rest = word sort.Reply p ∷ values_words v (word sort.Semicolon e ∷ rest)
+  stmt_words (reply_stmt p v e) rest = word sort.Reply p ∷ values_words v
+      (word sort.Semicolon e ∷ rest)
 
   pub else_words : ElsePhrase → List Word → List Word
   else_words no_else rest = rest
@@ -254,11 +261,13 @@ abbrev mutual
   stmts_words (more_stmts s ss) rest = stmt_words s (stmts_words ss rest)
 
   pub block_words : BlockPhrase → List Word → List Word
-  block_words (block p ss q) rest = word sort.LeftBrace p ∷ stmts_words ss (word sort.RightBrace q ∷ rest)
+  block_words (block p ss q) rest = word sort.LeftBrace p ∷ stmts_words ss
+      (word sort.RightBrace q ∷ rest)
 
 abbrev pub more_params_words : MoreParams → List Word → List Word
 more_params_words no_more rest = rest
-more_params_words (more_param p n ns) rest = word sort.Comma p ∷ name_words n (more_params_words ns rest)
+more_params_words (more_param p n ns) rest = word sort.Comma p ∷ name_words n
+    (more_params_words ns rest)
 
 abbrev pub some_params_words : SomeParams → List Word → List Word
 some_params_words ps rest = name_words ps.first (more_params_words ps.more rest)
@@ -268,14 +277,16 @@ params_words no_param rest = rest
 params_words (some_params ps) rest = some_params_words ps rest
 
 abbrev pub handler_words : HandlerPhrase → List Word → List Word
-handler_words (a_handler p n l ps r b) rest = word sort.Handler p ∷ name_words n (word sort.LeftParen l ∷ params_words ps (word sort.RightParen r ∷ block_words b rest))
+handler_words (a_handler p n l ps r b) rest = word sort.Handler p ∷ name_words n
+    (word sort.LeftParen l ∷ params_words ps (word sort.RightParen r ∷ block_words b rest))
 
 abbrev pub handlers_words : HandlersPhrase → List Word → List Word
 handlers_words no_handler rest = rest
 handlers_words (more_handlers h hs) rest = handler_words h (handlers_words hs rest)
 
 abbrev pub table_words : TablePhrase → List Word → List Word
-table_words (a_table k p n e) rest = word (sort.Table k) p ∷ name_words n (word sort.Semicolon e ∷ rest)
+table_words (a_table k p n e) rest = word (sort.Table k) p ∷ name_words n
+    (word sort.Semicolon e ∷ rest)
 
 abbrev pub tables_words : TablesPhrase → List Word → List Word
 tables_words no_table rest = rest

@@ -25,7 +25,8 @@ pub record Passed (U : List Part → Type 0) (ps qs : List Part) (old new : Inpu
   pub end_same : new.reader.end ≡ old.reader.end
   pub no_longer : length new.reader.words ≤ length old.reader.words
   pub no_end : HasNoEnd old.reader.words → HasNoEnd new.reader.words
-  pub fault_same : (under : List Part) → U under → fault_at old (ps ++ under) ≡ fault_at new (qs ++ under)
+  pub fault_same : (under : List Part) → U under
+      → fault_at old (ps ++ under) ≡ fault_at new (qs ++ under)
 
 -- the words of the phrase were read, and the value is its tree
 pub record Found {P T : Type 0} (words : P → List Word → List Word) (tree : P → T) (old new : List Word) (t : T) : Type 0 where
@@ -34,6 +35,8 @@ pub record Found {P T : Type 0} (words : P → List Word → List Word) (tree : 
   pub value : t ≡ tree phrase
 
 -- the tree of a phrase whose words were read, or the first fault
-abbrev pub Reads : {P T : Type 0} → (P → List Word → List Word) → (P → T) → (List Part → Type 0) → List Part → List Part → Input → Result T SyntaxRefusal → Input → Type 0
-Reads words tree U ps qs old (Ok t) new = Found words tree old.reader.words new.reader.words t × Passed U ps qs old new
+abbrev pub Reads : {P T : Type 0} → (P → List Word → List Word) → (P → T) → (List Part → Type 0)
+    → List Part → List Part → Input → Result T SyntaxRefusal → Input → Type 0
+Reads words tree U ps qs old (Ok t) new = Found words tree old.reader.words new.reader.words t
+    × Passed U ps qs old new
 Reads words tree U ps qs old (Err e) new = e ≢ NoMemory → Refused U ps old e

@@ -75,7 +75,13 @@ abbrev pub arguments_trees : ArgumentsPhrase → List Atom
 arguments_trees xs = atoms_trees xs.atoms
 
 abbrev pub call_of : Kind → ℕ → OperandsPhrase → Call
-call_of k p (operands l t xs r) = record { kind = k; at = p; table = (name_of t).0; table_at = (name_of t).1; args = arguments_trees xs }
+call_of k p (operands l t xs r) = record {
+  kind = k;
+  at = p;
+  table = (name_of t).0;
+  table_at = (name_of t).1;
+  args = arguments_trees xs;
+}
 
 abbrev pub call_tree : CallPhrase → Call
 call_tree (a_call k p o) = call_of k p o
@@ -88,7 +94,12 @@ abbrev pub cond_tree : CondPhrase → Cond
 cond_tree (a_cond a c p b) = record { compare = c; left = expr_tree a; right = expr_tree b }
 
 abbrev pub turns_of : TurnsPhrase → Turns
-turns_of (a_turns d a n) = record { turns = (count_of d).0; turns_at = (count_of d).1; name = (name_of n).0; name_at = (name_of n).1 }
+turns_of (a_turns d a n) = record {
+  turns = (count_of d).0;
+  turns_at = (count_of d).1;
+  name = (name_of n).0;
+  name_at = (name_of n).1;
+}
 
 abbrev pub more_trees : MoreValues → List Expr
 more_trees no_value = []
@@ -136,7 +147,12 @@ params_trees (some_params ps) = some_params_trees ps
 
 abbrev pub handler_tree : HandlerPhrase → Handler
 handler_tree (a_handler p n l ps r b) =
-    record { name = (name_of n).0; at = (name_of n).1; params = params_trees ps; body = block_trees b }
+    record {
+      name = (name_of n).0;
+      at = (name_of n).1;
+      params = params_trees ps;
+      body = block_trees b;
+    }
 
 abbrev pub handlers_trees : HandlersPhrase → List Handler
 handlers_trees no_handler = []

@@ -23,7 +23,8 @@ use std::alloc::Global;
 
 fn file(alloc: Global, input: &mut Input<'_>) -> Result<File, SyntaxRefusal>
     requires { length input.old.reader.words < 2 ^ 32 }
-    ensures reads { Reads spec.file_words tree.file_tree (Inside 0) whole_file [] input.old result input.new }
+    ensures reads { Reads spec.file_words tree.file_tree (Inside 0) whole_file [] input.old result
+        input.new }
     ensures names { input.new.reader.names ≡ input.old.reader.names }
     ensures count { input.old.reader.count ≤ input.new.reader.count }
 {
@@ -38,8 +39,10 @@ fn whole(alloc: Global, input: &mut Input<'_>) -> Result<File, SyntaxRefusal>
     requires no_end { HasNoEnd input.old.reader.words }
     requires signs { input.old.signs ≡ 0 }
     ensures ok { IfOk result (λ file. IsFile input.old.reader.words file) }
-    ensures within { OnOk result (fault input.old.reader.end whole_file 0 input.old.reader.words ≡ None) }
-    ensures exact { IfErr result (λ e. e ≢ syntax_refusal.NoMemory → fault input.old.reader.end whole_file 0 input.old.reader.words ≡ Some e) }
+    ensures within { OnOk result (fault input.old.reader.end whole_file 0
+        input.old.reader.words ≡ None) }
+    ensures exact { IfErr result (λ e. e ≢ syntax_refusal.NoMemory
+        → fault input.old.reader.end whole_file 0 input.old.reader.words ≡ Some e) }
     ensures finished { OnOk result (input.new.reader.words ≡ []) }
     ensures names { input.new.reader.names ≡ input.old.reader.names }
     ensures count { input.old.reader.count ≤ input.new.reader.count }
@@ -57,8 +60,10 @@ fn read_source(alloc: Global, source: &str, names: Names) -> (Result<File, Synta
     requires short { length source.now ≤ 4194304 }
     requires room { length names ≤ 4000000000 }
     ensures ok { IfOk result.0 (λ file. IsFile (words_of names source.now) file) }
-    ensures within { OnOk result.0 (fault (length source.now) whole_file 0 (words_of names source.now) ≡ None) }
-    ensures exact { IfErr result.0 (λ e. e ≢ syntax_refusal.NoMemory → fault (length source.now) whole_file 0 (words_of names source.now) ≡ Some e) }
+    ensures within { OnOk result.0 (fault (length source.now) whole_file 0
+        (words_of names source.now) ≡ None) }
+    ensures exact { IfErr result.0 (λ e. e ≢ syntax_refusal.NoMemory
+        → fault (length source.now) whole_file 0 (words_of names source.now) ≡ Some e) }
     ensures names { OnOk result.0 (result.1 ≡ names_of names source.now) }
     ensures kept { Begins names result.1 }
     ensures few { length result.1 ≤ length names + length source.now }

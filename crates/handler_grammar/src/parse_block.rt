@@ -33,7 +33,8 @@ pub(crate) fn block(
 ) -> Result<Block, SyntaxRefusal>
     requires few { length input.old.reader.words < 2 ^ 32 }
     requires depth { depth ≤ max_depth }
-    ensures reads { Reads spec.block_words tree.block_trees (Inside depth) (a_block ∷ []) [] input.old result input.new }
+    ensures reads { Reads spec.block_words tree.block_trees (Inside depth) (a_block ∷ []) []
+        input.old result input.new }
     ensures names { input.new.reader.names ≡ input.old.reader.names }
     ensures count { input.old.reader.count ≤ input.new.reader.count }
 {
@@ -56,7 +57,8 @@ pub(crate) fn block(
 fn otherwise(alloc: Global, input: &mut Input<'_>, depth: u32) -> Result<Block, SyntaxRefusal>
     requires few { length input.old.reader.words < 2 ^ 32 }
     requires depth { depth ≤ max_depth }
-    ensures reads { Reads spec.else_words tree.else_trees (Inside depth) (or_else ∷ []) [] input.old result input.new }
+    ensures reads { Reads spec.else_words tree.else_trees (Inside depth) (or_else ∷ []) []
+        input.old result input.new }
     ensures names { input.new.reader.names ≡ input.old.reader.names }
     ensures count { input.old.reader.count ≤ input.new.reader.count }
 {
@@ -76,7 +78,8 @@ fn choice(alloc: Global, input: &mut Input<'_>, depth: u32) -> Result<Stmt, Synt
     requires few { length input.old.reader.words < 2 ^ 32 }
     requires depth { depth ≤ max_depth }
     requires first { (first_word input.old.reader.end input.old.reader.words).sort ≡ sort.If }
-    ensures reads { Reads spec.stmt_words tree.stmt_tree (Inside depth) (statements ∷ []) (statements ∷ []) input.old result input.new }
+    ensures reads { Reads spec.stmt_words tree.stmt_tree (Inside depth) (statements ∷ [])
+        (statements ∷ []) input.old result input.new }
     ensures names { input.new.reader.names ≡ input.old.reader.names }
     ensures count { input.old.reader.count ≤ input.new.reader.count }
     ensures shorter { OnOk result (length input.new.reader.words < length input.old.reader.words) }
@@ -99,7 +102,8 @@ fn repetition(alloc: Global, input: &mut Input<'_>, depth: u32) -> Result<Stmt, 
     requires few { length input.old.reader.words < 2 ^ 32 }
     requires depth { depth ≤ max_depth }
     requires first { (first_word input.old.reader.end input.old.reader.words).sort ≡ sort.Repeat }
-    ensures reads { Reads spec.stmt_words tree.stmt_tree (Inside depth) (statements ∷ []) (statements ∷ []) input.old result input.new }
+    ensures reads { Reads spec.stmt_words tree.stmt_tree (Inside depth) (statements ∷ [])
+        (statements ∷ []) input.old result input.new }
     ensures names { input.new.reader.names ≡ input.old.reader.names }
     ensures count { input.old.reader.count ≤ input.new.reader.count }
     ensures shorter { OnOk result (length input.new.reader.words < length input.old.reader.words) }
@@ -127,8 +131,10 @@ fn statement(
 ) -> Result<Stmt, SyntaxRefusal>
     requires few { length input.old.reader.words < 2 ^ 32 }
     requires depth { depth ≤ max_depth }
-    requires first { sorts.statement_start (first_word input.old.reader.end input.old.reader.words).sort ≡ Some start }
-    ensures reads { Reads spec.stmt_words tree.stmt_tree (Inside depth) (statements ∷ []) (statements ∷ []) input.old result input.new }
+    requires first { sorts.statement_start (first_word input.old.reader.end
+        input.old.reader.words).sort ≡ Some start }
+    ensures reads { Reads spec.stmt_words tree.stmt_tree (Inside depth) (statements ∷ [])
+        (statements ∷ []) input.old result input.new }
     ensures names { input.new.reader.names ≡ input.old.reader.names }
     ensures count { input.old.reader.count ≤ input.new.reader.count }
     ensures shorter { OnOk result (length input.new.reader.words < length input.old.reader.words) }
@@ -148,7 +154,8 @@ fn statement(
 fn statements(alloc: Global, input: &mut Input<'_>, depth: u32) -> Result<Block, SyntaxRefusal>
     requires few { length input.old.reader.words < 2 ^ 32 }
     requires depth { depth ≤ max_depth }
-    ensures reads { Reads spec.stmts_words tree.stmts_trees (Inside depth) (statements ∷ []) [] input.old result input.new }
+    ensures reads { Reads spec.stmts_words tree.stmts_trees (Inside depth) (statements ∷ []) []
+        input.old result input.new }
     ensures names { input.new.reader.names ≡ input.old.reader.names }
     ensures count { input.old.reader.count ≤ input.new.reader.count }
 {

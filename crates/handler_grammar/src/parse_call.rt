@@ -30,7 +30,8 @@ pub(crate) struct Turns {
 
 /// At most two arguments, each behind a comma.
 fn arguments(alloc: Global, input: &mut Input<'_>) -> Result<Atoms, SyntaxRefusal>
-    ensures reads { Reads spec.arguments_words tree.arguments_trees Anywhere (more_arguments 2 ∷ []) [] input.old result input.new }
+    ensures reads { Reads spec.arguments_words tree.arguments_trees Anywhere
+        (more_arguments 2 ∷ []) [] input.old result input.new }
     ensures names { input.new.reader.names ≡ input.old.reader.names }
     ensures count { input.old.reader.count ≤ input.new.reader.count }
 {
@@ -55,7 +56,8 @@ pub(crate) fn operands(
     kind: Kind,
     at: u32,
 ) -> Result<Call, SyntaxRefusal>
-    ensures reads { Reads spec.operands_words (tree.call_of kind at) Anywhere call_parts [] input.old result input.new }
+    ensures reads { Reads spec.operands_words (tree.call_of kind at) Anywhere call_parts []
+        input.old result input.new }
     ensures names { input.new.reader.names ≡ input.old.reader.names }
     ensures count { input.old.reader.count ≤ input.new.reader.count }
 {
@@ -74,7 +76,8 @@ pub(crate) fn operands(
 
 /// What stands behind `=`.
 pub(crate) fn right_side(alloc: Global, input: &mut Input<'_>) -> Result<Right, SyntaxRefusal>
-    ensures reads { Reads spec.right_words tree.right_tree (Opened 0) (a_right ∷ []) [] input.old result input.new }
+    ensures reads { Reads spec.right_words tree.right_tree (Opened 0) (a_right ∷ []) [] input.old
+        result input.new }
     ensures names { input.new.reader.names ≡ input.old.reader.names }
     ensures count { input.old.reader.count ≤ input.new.reader.count }
 {
@@ -96,7 +99,8 @@ pub(crate) fn right_side(alloc: Global, input: &mut Input<'_>) -> Result<Right, 
 
 /// A comparison's sign, with its place.
 fn compare_sign(input: &mut Input<'_>) -> Result<(Compare, u32), SyntaxRefusal>
-    ensures reads { Reads spec.compare_words (λ c. c) Anywhere (a_compare ∷ []) [] input.old result input.new }
+    ensures reads { Reads spec.compare_words (λ c. c) Anywhere (a_compare ∷ []) [] input.old result
+        input.new }
     ensures names { input.new.reader.names ≡ input.old.reader.names }
     ensures count { input.old.reader.count ≤ input.new.reader.count }
 {
@@ -109,7 +113,8 @@ fn compare_sign(input: &mut Input<'_>) -> Result<(Compare, u32), SyntaxRefusal>
 
 /// Two expressions that are compared.
 pub(crate) fn condition(alloc: Global, input: &mut Input<'_>) -> Result<Cond, SyntaxRefusal>
-    ensures reads { Reads spec.cond_words tree.cond_tree (Opened 0) (expression ∷ a_compare ∷ expression ∷ []) [] input.old result input.new }
+    ensures reads { Reads spec.cond_words tree.cond_tree (Opened 0)
+        (expression ∷ a_compare ∷ expression ∷ []) [] input.old result input.new }
     ensures names { input.new.reader.names ≡ input.old.reader.names }
     ensures count { input.old.reader.count ≤ input.new.reader.count }
 {
@@ -125,7 +130,8 @@ pub(crate) fn condition(alloc: Global, input: &mut Input<'_>) -> Result<Cond, Sy
 
 /// How often a repeat runs, with the number's place.
 fn turn_count(input: &mut Input<'_>) -> Result<(u64, u32), SyntaxRefusal>
-    ensures reads { Reads spec.number_words tree.count_of Anywhere (a_count ∷ []) [] input.old result input.new }
+    ensures reads { Reads spec.number_words tree.count_of Anywhere (a_count ∷ []) [] input.old
+        result input.new }
     ensures names { input.new.reader.names ≡ input.old.reader.names }
     ensures count { input.old.reader.count ≤ input.new.reader.count }
 {
@@ -143,7 +149,8 @@ fn turn_count(input: &mut Input<'_>) -> Result<(u64, u32), SyntaxRefusal>
 
 /// What stands between `repeat` and its block.
 pub(crate) fn repeat_head(input: &mut Input<'_>) -> Result<Turns, SyntaxRefusal>
-    ensures reads { Reads spec.turns_words tree.turns_of Anywhere (a_count ∷ mark sort.As ∷ a_name ∷ []) [] input.old result input.new }
+    ensures reads { Reads spec.turns_words tree.turns_of Anywhere
+        (a_count ∷ mark sort.As ∷ a_name ∷ []) [] input.old result input.new }
     ensures names { input.new.reader.names ≡ input.old.reader.names }
     ensures count { input.old.reader.count ≤ input.new.reader.count }
 {

@@ -21,7 +21,8 @@ use std::alloc::Global;
 /// One parameter, and those behind it.
 fn some_params(alloc: Global, input: &mut Input<'_>) -> Result<Params, SyntaxRefusal>
     requires { length input.old.reader.words < 2 ^ 32 }
-    ensures reads { Reads spec.some_params_words tree.some_params_trees Anywhere (a_name ∷ more_params ∷ []) [] input.old result input.new }
+    ensures reads { Reads spec.some_params_words tree.some_params_trees Anywhere
+        (a_name ∷ more_params ∷ []) [] input.old result input.new }
     ensures names { input.new.reader.names ≡ input.old.reader.names }
     ensures count { input.old.reader.count ≤ input.new.reader.count }
 {
@@ -46,7 +47,8 @@ fn some_params(alloc: Global, input: &mut Input<'_>) -> Result<Params, SyntaxRef
 
 fn params(alloc: Global, input: &mut Input<'_>) -> Result<Params, SyntaxRefusal>
     requires { length input.old.reader.words < 2 ^ 32 }
-    ensures reads { Reads spec.params_words tree.params_trees Anywhere (first_param ∷ []) [] input.old result input.new }
+    ensures reads { Reads spec.params_words tree.params_trees Anywhere (first_param ∷ []) []
+        input.old result input.new }
     ensures names { input.new.reader.names ≡ input.old.reader.names }
     ensures count { input.old.reader.count ≤ input.new.reader.count }
 {
@@ -63,7 +65,8 @@ fn params(alloc: Global, input: &mut Input<'_>) -> Result<Params, SyntaxRefusal>
 fn handler(alloc: Global, input: &mut Input<'_>) -> Result<Handler, SyntaxRefusal>
     requires few { length input.old.reader.words < 2 ^ 32 }
     requires first { (first_word input.old.reader.end input.old.reader.words).sort ≡ sort.Handler }
-    ensures reads { Reads spec.handler_words tree.handler_tree (Inside 0) (handlers ∷ []) (handlers ∷ []) input.old result input.new }
+    ensures reads { Reads spec.handler_words tree.handler_tree (Inside 0) (handlers ∷ [])
+        (handlers ∷ []) input.old result input.new }
     ensures names { input.new.reader.names ≡ input.old.reader.names }
     ensures count { input.old.reader.count ≤ input.new.reader.count }
     ensures shorter { OnOk result (length input.new.reader.words < length input.old.reader.words) }
@@ -85,7 +88,8 @@ fn handler(alloc: Global, input: &mut Input<'_>) -> Result<Handler, SyntaxRefusa
 /// The handlers of a file.
 pub(crate) fn handlers(alloc: Global, input: &mut Input<'_>) -> Result<Handlers, SyntaxRefusal>
     requires { length input.old.reader.words < 2 ^ 32 }
-    ensures reads { Reads spec.handlers_words tree.handlers_trees (Inside 0) (handlers ∷ []) [] input.old result input.new }
+    ensures reads { Reads spec.handlers_words tree.handlers_trees (Inside 0) (handlers ∷ []) []
+        input.old result input.new }
     ensures names { input.new.reader.names ≡ input.old.reader.names }
     ensures count { input.old.reader.count ≤ input.new.reader.count }
 {

@@ -27,7 +27,8 @@ pub(crate) fn let_statement(
     depth: u32,
 ) -> Result<Stmt, SyntaxRefusal>
     requires { (first_word input.old.reader.end input.old.reader.words).sort ≡ sort.Let }
-    ensures reads { Reads spec.stmt_words tree.stmt_tree (Inside depth) (statements ∷ []) (statements ∷ []) input.old result input.new }
+    ensures reads { Reads spec.stmt_words tree.stmt_tree (Inside depth) (statements ∷ [])
+        (statements ∷ []) input.old result input.new }
     ensures names { input.new.reader.names ≡ input.old.reader.names }
     ensures count { input.old.reader.count ≤ input.new.reader.count }
     ensures shorter { OnOk result (length input.new.reader.words < length input.old.reader.words) }
@@ -48,7 +49,8 @@ pub(crate) fn assignment(
     name: u32,
 ) -> Result<Stmt, SyntaxRefusal>
     requires { (first_word input.old.reader.end input.old.reader.words).sort ≡ sort.Name name }
-    ensures reads { Reads spec.stmt_words tree.stmt_tree (Inside depth) (statements ∷ []) (statements ∷ []) input.old result input.new }
+    ensures reads { Reads spec.stmt_words tree.stmt_tree (Inside depth) (statements ∷ [])
+        (statements ∷ []) input.old result input.new }
     ensures names { input.new.reader.names ≡ input.old.reader.names }
     ensures count { input.old.reader.count ≤ input.new.reader.count }
     ensures shorter { OnOk result (length input.new.reader.words < length input.old.reader.words) }
@@ -71,8 +73,10 @@ pub(crate) fn call_statement(
     depth: u32,
     kind: Kind,
 ) -> Result<Stmt, SyntaxRefusal>
-    requires { sorts.operation (first_word input.old.reader.end input.old.reader.words).sort ≡ Some kind }
-    ensures reads { Reads spec.stmt_words tree.stmt_tree (Inside depth) (statements ∷ []) (statements ∷ []) input.old result input.new }
+    requires { sorts.operation (first_word input.old.reader.end input.old.reader.words).sort ≡ Some
+        kind }
+    ensures reads { Reads spec.stmt_words tree.stmt_tree (Inside depth) (statements ∷ [])
+        (statements ∷ []) input.old result input.new }
     ensures names { input.new.reader.names ≡ input.old.reader.names }
     ensures count { input.old.reader.count ≤ input.new.reader.count }
     ensures shorter { OnOk result (length input.new.reader.words < length input.old.reader.words) }
@@ -85,7 +89,8 @@ pub(crate) fn call_statement(
 
 /// The one to four values of a reply.
 fn values(alloc: Global, input: &mut Input<'_>) -> Result<Exprs, SyntaxRefusal>
-    ensures reads { Reads spec.values_words tree.values_trees (Opened 0) (expression ∷ more_values 3 ∷ []) [] input.old result input.new }
+    ensures reads { Reads spec.values_words tree.values_trees (Opened 0)
+        (expression ∷ more_values 3 ∷ []) [] input.old result input.new }
     ensures names { input.new.reader.names ≡ input.old.reader.names }
     ensures count { input.old.reader.count ≤ input.new.reader.count }
 {
@@ -111,7 +116,8 @@ pub(crate) fn reply_statement(
     depth: u32,
 ) -> Result<Stmt, SyntaxRefusal>
     requires { (first_word input.old.reader.end input.old.reader.words).sort ≡ sort.Reply }
-    ensures reads { Reads spec.stmt_words tree.stmt_tree (Inside depth) (statements ∷ []) (statements ∷ []) input.old result input.new }
+    ensures reads { Reads spec.stmt_words tree.stmt_tree (Inside depth) (statements ∷ [])
+        (statements ∷ []) input.old result input.new }
     ensures names { input.new.reader.names ≡ input.old.reader.names }
     ensures count { input.old.reader.count ≤ input.new.reader.count }
     ensures shorter { OnOk result (length input.new.reader.words < length input.old.reader.words) }

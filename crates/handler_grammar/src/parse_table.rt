@@ -20,8 +20,10 @@ use std::alloc::Global;
 
 /// A table whose first word is in hand.
 fn table(input: &mut Input<'_>, kind: TableKind) -> Result<TableDecl, SyntaxRefusal>
-    requires { sorts.table_kind (first_word input.old.reader.end input.old.reader.words).sort ≡ Some kind }
-    ensures reads { Reads spec.table_words tree.table_tree Anywhere (tables ∷ []) (tables ∷ []) input.old result input.new }
+    requires { sorts.table_kind (first_word input.old.reader.end input.old.reader.words).sort
+        ≡ Some kind }
+    ensures reads { Reads spec.table_words tree.table_tree Anywhere (tables ∷ []) (tables ∷ [])
+        input.old result input.new }
     ensures names { input.new.reader.names ≡ input.old.reader.names }
     ensures count { input.old.reader.count ≤ input.new.reader.count }
     ensures shorter { OnOk result (length input.new.reader.words < length input.old.reader.words) }
@@ -35,7 +37,8 @@ fn table(input: &mut Input<'_>, kind: TableKind) -> Result<TableDecl, SyntaxRefu
 /// The tables of a file.
 pub(crate) fn tables(alloc: Global, input: &mut Input<'_>) -> Result<TableDecls, SyntaxRefusal>
     requires { length input.old.reader.words < 2 ^ 32 }
-    ensures reads { Reads spec.tables_words tree.tables_trees Anywhere (tables ∷ []) [] input.old result input.new }
+    ensures reads { Reads spec.tables_words tree.tables_trees Anywhere (tables ∷ []) [] input.old
+        result input.new }
     ensures names { input.new.reader.names ≡ input.old.reader.names }
     ensures count { input.old.reader.count ≤ input.new.reader.count }
 {

@@ -107,7 +107,8 @@ abbrev pub expr_step : List (List ℕ) → Expr-F (Level → Text) → Level →
 expr_step names (Expr-F.Lit v) l rest = atom_text names (atom.Lit v) rest
 expr_step names (Expr-F.Name n p) l rest = atom_text names (atom.Name n p) rest
 expr_step names (Expr-F.Binary c left right) l rest =
-    opening l c ++ left (left_level c) (operator_text c ++ right (right_level c) (closing l c ++ rest))
+    opening l c ++ left (left_level c) (operator_text c ++ right (right_level c)
+    (closing l c ++ rest))
 
 abbrev pub expr_text : List (List ℕ) → Expr → Level → Text
 expr_text names = fold-Expr (Level → Text) (expr_step names)
@@ -124,7 +125,8 @@ compare_text compare.Less = codes " < "
 compare_text compare.LessOrSame = codes " <= "
 
 abbrev pub cond_text : List (List ℕ) → Cond → Text
-cond_text names cond rest = whole_text names cond.left (compare_text cond.compare ++ whole_text names cond.right rest)
+cond_text names cond rest = whole_text names cond.left
+    (compare_text cond.compare ++ whole_text names cond.right rest)
 
 abbrev pub right_text : List (List ℕ) → Right → Text
 right_text names (right.Plain e) rest = whole_text names e rest
@@ -164,8 +166,10 @@ abbrev pub stmt_step : List (List ℕ) → Stmt-F Lines → Lines
 stmt_step names (Stmt-F.Let n p r) depth rest = indent depth (codes "let " ++ assignment_text names n r rest)
 stmt_step names (Stmt-F.Assign n p r) depth rest = indent depth (assignment_text names n r rest)
 stmt_step names (Stmt-F.Perform call) depth rest = indent depth (call_text names call (codes ";\n" ++ rest))
-stmt_step names (Stmt-F.Choose p cond first second) depth rest = indent depth (choice_text names cond first second depth rest)
-stmt_step names (Stmt-F.Repeat p turns q n r body) depth rest = indent depth (repeat_text names turns n body depth rest)
+stmt_step names (Stmt-F.Choose p cond first second) depth rest = indent depth
+    (choice_text names cond first second depth rest)
+stmt_step names (Stmt-F.Repeat p turns q n r body) depth rest = indent depth
+    (repeat_text names turns n body depth rest)
 stmt_step names (Stmt-F.Answer p values) depth rest = indent depth (codes "reply " ++ listed (map (whole_text names) values) (codes ";\n" ++ rest))
 
 abbrev pub stmt_text : List (List ℕ) → Stmt → Lines
@@ -193,4 +197,5 @@ handler_text names h rest =
 
 -- the tables, each on a line, and then the handlers
 abbrev pub canonical_text : List (List ℕ) → File → List ℕ
-canonical_text names file = each (map (table_text names) file.tables) (each (map (handler_text names) file.handlers) [])
+canonical_text names file = each (map (table_text names) file.tables)
+    (each (map (handler_text names) file.handlers) [])

@@ -65,7 +65,8 @@ atom_sorts (atom.Lit v) rest = literal_sorts v rest
 atom_sorts (atom.Name n p) rest = sort.Name n ∷ rest
 
 abbrev pub call_sorts : Call → Sorts
-call_sorts call rest = sort.Do call.kind ∷ sort.LeftParen ∷ sort.Name call.table ∷ further_sorts (map atom_sorts call.args) (sort.RightParen ∷ rest)
+call_sorts call rest = sort.Do call.kind ∷ sort.LeftParen ∷ sort.Name call.table ∷ further_sorts
+    (map atom_sorts call.args) (sort.RightParen ∷ rest)
 
 abbrev pub opening_sorts : Level → Calc → Sorts
 opening_sorts l c rest = if is_bracketed l c then sort.LeftParen ∷ rest else rest
@@ -77,7 +78,8 @@ abbrev pub expr_sorts_step : Expr-F (Level → Sorts) → Level → Sorts
 expr_sorts_step (Expr-F.Lit v) l rest = atom_sorts (atom.Lit v) rest
 expr_sorts_step (Expr-F.Name n p) l rest = atom_sorts (atom.Name n p) rest
 expr_sorts_step (Expr-F.Binary c left right) l rest =
-    opening_sorts l c (left (left_level c) (calc_sort c ∷ right (right_level c) (closing_sorts l c rest)))
+    opening_sorts l c (left (left_level c) (calc_sort c ∷ right (right_level c)
+    (closing_sorts l c rest)))
 
 abbrev pub expr_sorts : Expr → Level → Sorts
 expr_sorts = fold-Expr (Level → Sorts) expr_sorts_step
@@ -86,7 +88,8 @@ abbrev pub whole_sorts : Expr → Sorts
 whole_sorts e = expr_sorts e level.Whole
 
 abbrev pub cond_sorts : Cond → Sorts
-cond_sorts cond rest = whole_sorts cond.left (sort.Compare cond.compare ∷ whole_sorts cond.right rest)
+cond_sorts cond rest = whole_sorts cond.left (sort.Compare cond.compare ∷ whole_sorts cond.right
+    rest)
 
 abbrev pub right_sorts : Right → Sorts
 right_sorts (right.Plain e) rest = whole_sorts e rest
@@ -102,10 +105,12 @@ else_sorts [] rest = rest
 else_sorts (w ∷ ws) rest = sort.RightBrace ∷ sort.Else ∷ sort.LeftBrace ∷ each_sorts (w ∷ ws) rest
 
 abbrev pub choice_sorts : Cond → List Sorts → List Sorts → Sorts
-choice_sorts cond first second rest = sort.If ∷ cond_sorts cond (sort.LeftBrace ∷ each_sorts first (else_sorts second (sort.RightBrace ∷ rest)))
+choice_sorts cond first second rest = sort.If ∷ cond_sorts cond
+    (sort.LeftBrace ∷ each_sorts first (else_sorts second (sort.RightBrace ∷ rest)))
 
 abbrev pub repeat_sorts : ℕ → ℕ → List Sorts → Sorts
-repeat_sorts turns n body rest = sort.Repeat ∷ sort.Number turns ∷ sort.As ∷ sort.Name n ∷ sort.LeftBrace ∷ each_sorts body (sort.RightBrace ∷ rest)
+repeat_sorts turns n body rest = sort.Repeat ∷ sort.Number turns ∷ sort.As ∷ sort.Name
+    n ∷ sort.LeftBrace ∷ each_sorts body (sort.RightBrace ∷ rest)
 
 abbrev pub stmt_sorts_step : Stmt-F Sorts → Sorts
 stmt_sorts_step (Stmt-F.Let n p r) rest = sort.Let ∷ assignment_sorts n r rest
@@ -113,7 +118,8 @@ stmt_sorts_step (Stmt-F.Assign n p r) rest = assignment_sorts n r rest
 stmt_sorts_step (Stmt-F.Perform call) rest = call_sorts call (sort.Semicolon ∷ rest)
 stmt_sorts_step (Stmt-F.Choose p cond first second) rest = choice_sorts cond first second rest
 stmt_sorts_step (Stmt-F.Repeat p turns q n r body) rest = repeat_sorts turns n body rest
-stmt_sorts_step (Stmt-F.Answer p values) rest = sort.Reply ∷ listed_sorts (map whole_sorts values) (sort.Semicolon ∷ rest)
+stmt_sorts_step (Stmt-F.Answer p values) rest = sort.Reply ∷ listed_sorts (map whole_sorts values)
+    (sort.Semicolon ∷ rest)
 
 abbrev pub stmt_sorts : Stmt → Sorts
 stmt_sorts = fold-Stmt Sorts stmt_sorts_step
@@ -131,7 +137,9 @@ param_sorts p rest = sort.Name p.name ∷ rest
 
 abbrev pub handler_sorts : Handler → Sorts
 handler_sorts h rest =
-    sort.Handler ∷ sort.Name h.name ∷ sort.LeftParen ∷ listed_sorts (map param_sorts h.params) (sort.RightParen ∷ sort.LeftBrace ∷ block_sorts h.body (sort.RightBrace ∷ rest))
+    sort.Handler ∷ sort.Name h.name ∷ sort.LeftParen ∷ listed_sorts (map param_sorts h.params)
+    (sort.RightParen ∷ sort.LeftBrace ∷ block_sorts h.body (sort.RightBrace ∷ rest))
 
 abbrev pub canonical_words : File → List Sort
-canonical_words file = each_sorts (map table_sorts file.tables) (each_sorts (map handler_sorts file.handlers) [])
+canonical_words file = each_sorts (map table_sorts file.tables)
+    (each_sorts (map handler_sorts file.handlers) [])

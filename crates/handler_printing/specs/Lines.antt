@@ -63,7 +63,8 @@ block_lines (p ∷ ps) depth point = p.lines depth point ++ block_lines ps depth
 
 -- a block of a statement inside so many blocks, with the point at its start
 abbrev pub branch_lines : At → List Part → (depth point : ℕ) → List Line
-branch_lines at block depth point = point_line at (depth + 1) point ∷ block_lines block (depth + 1) (point + 1)
+branch_lines at block depth point = point_line at (depth + 1) point ∷ block_lines block (depth + 1)
+    (point + 1)
 
 abbrev pub close_text : Text
 close_text rest = codes "}\n" ++ rest
@@ -108,7 +109,9 @@ choice_part names at cond first second = record {
   points = 1 + block_points first + (1 + block_points second);
   lines = λ depth point.
       own_line depth (if_text names cond)
-      ∷ (branch_lines at first depth point ++ (else_line second depth ∷ (branch_lines at second depth (point + (1 + block_points first)) ++ (close_line depth ∷ []))));
+      ∷ (branch_lines at first depth point ++ (else_line second
+      depth ∷ (branch_lines at second depth
+      (point + (1 + block_points first)) ++ (close_line depth ∷ []))));
 }
 
 -- the point of a `repeat` stands behind it
@@ -117,7 +120,8 @@ repeat_part names at turns n body = record {
   points = block_points body + 1;
   lines = λ depth point.
       own_line depth (repeat_head_text names turns n)
-      ∷ (block_lines body (depth + 1) point ++ (close_line depth ∷ point_line at depth (point + block_points body) ∷ []));
+      ∷ (block_lines body (depth + 1) point ++ (close_line depth ∷ point_line at depth
+      (point + block_points body) ∷ []));
 }
 
 -- a statement, where the statements inside are given
@@ -132,7 +136,8 @@ stmt_step names at (Stmt-F.Assign n p r) = record {
 }
 stmt_step names at (Stmt-F.Perform call) = record {
   points = 1;
-  lines = λ depth point. own_line depth (call_line_text names call) ∷ point_line at depth point ∷ [];
+  lines = λ depth point. own_line depth (call_line_text names call) ∷ point_line at depth
+      point ∷ [];
 }
 stmt_step names at (Stmt-F.Choose p cond first second) = choice_part names at cond first second
 stmt_step names at (Stmt-F.Repeat p turns q n r body) = repeat_part names at turns n body
@@ -154,15 +159,18 @@ head_text names h rest = codes "handler " ++ name_text names h.name (codes "(" +
 
 -- A handler. Its entry is point 0.
 abbrev pub handler_lines : List (List ℕ) → At → Handler → List Line
-handler_lines names at h = of_file (head_text names h) ∷ (branch_lines at (block_parts names at h.body) 0 0 ++ (close_line 0 ∷ []))
+handler_lines names at h = of_file (head_text names h) ∷ (branch_lines at
+    (block_parts names at h.body) 0 0 ++ (close_line 0 ∷ []))
 
 -- handlers, of which the first has this number
 abbrev pub handlers_lines : List (List ℕ) → AtPoints → ℕ → List Handler → List Line
 handlers_lines names a n [] = []
-handlers_lines names a n (h ∷ hs) = handler_lines names (point_text names a n) h ++ handlers_lines names a (n + 1) hs
+handlers_lines names a n (h ∷ hs) = handler_lines names (point_text names a n) h ++ handlers_lines
+    names a (n + 1) hs
 
 abbrev pub file_lines : List (List ℕ) → AtPoints → File → List Line
-file_lines names a file = map (λ (t : TableDecl). of_file (table_text names t)) file.tables ++ handlers_lines names a 0 file.handlers
+file_lines names a file = map (λ (t : TableDecl). of_file (table_text names t))
+    file.tables ++ handlers_lines names a 0 file.handlers
 
 -- the text of a file with what stands at its points
 abbrev pub shown_text : List (List ℕ) → AtPoints → File → List ℕ

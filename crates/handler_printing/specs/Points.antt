@@ -20,7 +20,12 @@ pub record AtPoints : Type 0 where
 
 -- no point has a line
 abbrev pub nothing_shown : AtPoints
-nothing_shown = record { shown = false; symbols = λ handler point. []; tables = []; variables = λ handler. [] }
+nothing_shown = record {
+  shown = false;
+  symbols = λ handler point. [];
+  tables = [];
+  variables = λ handler. [];
+}
 
 -- a name, if there is one
 abbrev pub named_text : List (List ℕ) → Option ℕ → Text
@@ -45,7 +50,8 @@ symbol_text names tables variables s rest =
 -- the symbols, or that there is none
 abbrev pub symbols_text : List (List ℕ) → List ℕ → List ℕ → List Symbol → Text
 symbols_text names tables variables [] rest = codes "nothing" ++ rest
-symbols_text names tables variables (s ∷ ss) rest = listed (map (symbol_text names tables variables) (s ∷ ss)) rest
+symbols_text names tables variables (s ∷ ss) rest = listed
+    (map (symbol_text names tables variables) (s ∷ ss)) rest
 
 -- the line of a point, inside so many blocks
 abbrev pub point_text : List (List ℕ) → AtPoints → (handler depth point : ℕ) → Text

@@ -17,29 +17,35 @@ abbrev pub parts_of : List (List ℕ) → AtPoints → Spot → List Stmt → Li
 parts_of names a spot block = block_parts names (at_of names a spot) block
 
 abbrev pub put_point_text : List (List ℕ) → AtPoints → Spot → Text
-put_point_text names a spot = line_text a.shown (point_line (at_of names a spot) spot.depth spot.point)
+put_point_text names a spot = line_text a.shown
+    (point_line (at_of names a spot) spot.depth spot.point)
 
 abbrev pub put_right_text : List (List ℕ) → AtPoints → Spot → Right → Text
-put_right_text names a spot r = written a.shown (right_lines (at_of names a spot) r spot.depth spot.point)
+put_right_text names a spot r = written a.shown
+    (right_lines (at_of names a spot) r spot.depth spot.point)
 
 abbrev pub put_part_text : AtPoints → Spot → Part → Text
 put_part_text a spot part = written a.shown (part.lines spot.depth spot.point)
 
 abbrev pub put_block_text : List (List ℕ) → AtPoints → Spot → List Stmt → Text
-put_block_text names a spot block = written a.shown (block_lines (parts_of names a spot block) spot.depth spot.point)
+put_block_text names a spot block = written a.shown
+    (block_lines (parts_of names a spot block) spot.depth spot.point)
 
 abbrev pub put_branch_text : List (List ℕ) → AtPoints → Spot → List Stmt → Text
-put_branch_text names a spot block = written a.shown (branch_lines (at_of names a spot) (parts_of names a spot block) spot.depth spot.point)
+put_branch_text names a spot block = written a.shown
+    (branch_lines (at_of names a spot) (parts_of names a spot block) spot.depth spot.point)
 
 -- the part that a statement is at a spot
 abbrev pub part_at : List (List ℕ) → AtPoints → Spot → Stmt → Part
 part_at names a spot s = stmt_part names (at_of names a spot) s
 
 abbrev pub choice_at : List (List ℕ) → AtPoints → Spot → Cond → List Stmt → List Stmt → Part
-choice_at names a spot cond first second = choice_part names (at_of names a spot) cond (parts_of names a spot first) (parts_of names a spot second)
+choice_at names a spot cond first second = choice_part names (at_of names a spot) cond
+    (parts_of names a spot first) (parts_of names a spot second)
 
 abbrev pub repeat_at : List (List ℕ) → AtPoints → Spot → (turns name : ℕ) → List Stmt → Part
-repeat_at names a spot turns n body = repeat_part names (at_of names a spot) turns n (parts_of names a spot body)
+repeat_at names a spot turns n body = repeat_part names (at_of names a spot) turns n
+    (parts_of names a spot body)
 
 -- the handler of this number, and handlers from this number on
 abbrev pub put_handler_text : List (List ℕ) → AtPoints → ℕ → Handler → Text

@@ -34,7 +34,8 @@ abbrev pub forms_step : Stmt-F Forms → Forms
 forms_step (Stmt-F.Let n p r) depth = right_forms r
 forms_step (Stmt-F.Assign n p r) depth = right_forms r
 forms_step (Stmt-F.Perform call) depth = a_call (length call.args) ∷ []
-forms_step (Stmt-F.Choose p cond first second) depth = a_nest depth ∷ (forms_at (depth + 1) first ++ forms_at (depth + 1) second)
+forms_step (Stmt-F.Choose p cond first second) depth = a_nest
+    depth ∷ (forms_at (depth + 1) first ++ forms_at (depth + 1) second)
 forms_step (Stmt-F.Repeat p turns q n r body) depth = a_nest depth ∷ forms_at (depth + 1) body
 forms_step (Stmt-F.Answer p values) depth = a_reply (length values) ∷ []
 

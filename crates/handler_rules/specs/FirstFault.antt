@@ -54,7 +54,8 @@ KeepsRules f = (g : CheckRefusal) → IsBroken f g → ⊥
 
 -- all marks of a file, in the order of its text
 abbrev pub file_marks : File → List Mark
-file_marks f = table_marks f.tables ++ flat_map (λ (h : Handler). Declared h.name h.at ∷ handler_marks h) f.handlers
+file_marks f = table_marks f.tables ++ flat_map
+    (λ (h : Handler). Declared h.name h.at ∷ handler_marks h) f.handlers
 
 -- each number is below all behind it
 abbrev pub AreRising : List ℕ → Type 0

@@ -70,7 +70,8 @@ abbrev pub expr_marks : Expr → List Mark
 expr_marks = fold-Expr (List Mark) expr_step
 
 abbrev pub call_marks : Call → List Mark
-call_marks c = Operation c.kind (length c.args) c.at ∷ OnTable c.kind c.table c.table_at ∷ flat_map atom_marks c.args
+call_marks c = Operation c.kind (length c.args) c.at ∷ OnTable c.kind c.table c.table_at ∷ flat_map
+    atom_marks c.args
 
 abbrev pub right_marks : Right → List Mark
 right_marks (right.Plain e) = expr_marks e
@@ -86,7 +87,8 @@ marks (Let n at r rest) = Declared n at ∷ (right_marks r ++ seeing (n ∷ []) 
 marks (Assign n at r rest) = Mentioned n at [] ∷ (right_marks r ++ marks rest)
 marks (Do c rest) = call_marks c ++ marks rest
 marks (Choose at c a b rest) = cond_marks c ++ (marks a ++ (marks b ++ marks rest))
-marks (Repeat at n n_at name name_at body rest) = Turns n n_at ∷ Declared name name_at ∷ (seeing (name ∷ []) (marks body) ++ marks rest)
+marks (Repeat at n n_at name name_at body rest) = Turns n n_at ∷ Declared name
+    name_at ∷ (seeing (name ∷ []) (marks body) ++ marks rest)
 marks (Answer es rest) = flat_map expr_marks es ++ marks rest
 
 abbrev pub param_marks : List Param → List Mark
@@ -97,7 +99,8 @@ param_names params = map (λ (p : Param). p.name) params
 
 -- Parameters are visible in the whole handler.
 abbrev pub handler_marks : Handler → List Mark
-handler_marks h = param_marks h.params ++ seeing (param_names h.params) (marks (block_source h.body))
+handler_marks h = param_marks h.params ++ seeing (param_names h.params)
+    (marks (block_source h.body))
 
 abbrev pub table_marks : List TableDecl → List Mark
 table_marks tables = map (λ (t : TableDecl). Declared t.name t.at) tables

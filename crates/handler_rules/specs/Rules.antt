@@ -25,32 +25,40 @@ kind_of (t ∷ ts) name = if t.name == name then Some t.kind else kind_of ts nam
 
 -- a name is declared that stands among those declared earlier
 abbrev pub IsTwice : List Mark → ℕ → Type 0
-IsTwice text at = (before : List Mark) × (name : ℕ) × Stands text before (Declared name at) × Contains (declared before) name
+IsTwice text at = (before : List Mark) × (name : ℕ) × Stands text before (Declared name at)
+    × Contains (declared before) name
 
 -- a name is declared behind so many others
 abbrev pub IsPast : ℕ → List Mark → ℕ → Type 0
-IsPast limit text at = (before : List Mark) × (name : ℕ) × Stands text before (Declared name at) × (length (declared before) ≡ limit)
+IsPast limit text at = (before : List Mark) × (name : ℕ) × Stands text before (Declared name at)
+    × (length (declared before) ≡ limit)
 
 -- a variable is read or assigned that isn't visible there
 abbrev pub IsUnseen : List Mark → ℕ → Type 0
-IsUnseen text at = (before : List Mark) × (name : ℕ) × (visible : List ℕ) × Stands text before (Mentioned name at visible) × (Contains visible name → ⊥)
+IsUnseen text at = (before : List Mark) × (name : ℕ) × (visible : List ℕ)
+    × Stands text before (Mentioned name at visible) × (Contains visible name → ⊥)
 
 -- an operation names no declared table
 abbrev pub IsTableless : List TableDecl → List Mark → ℕ → Type 0
-IsTableless tables text at = (before : List Mark) × (kind : Kind) × (name : ℕ) × Stands text before (OnTable kind name at) × (kind_of tables name ≡ None)
+IsTableless tables text at = (before : List Mark) × (kind : Kind) × (name : ℕ)
+    × Stands text before (OnTable kind name at) × (kind_of tables name ≡ None)
 
 -- an operation has another number of arguments than its kind takes
 abbrev pub IsMiscounted : List Mark → ℕ → Type 0
-IsMiscounted text at = (before : List Mark) × (kind : Kind) × (count : ℕ) × Stands text before (Operation kind count at) × (count ≡ arguments kind → ⊥)
+IsMiscounted text at = (before : List Mark) × (kind : Kind) × (count : ℕ)
+    × Stands text before (Operation kind count at) × (count ≡ arguments kind → ⊥)
 
 -- an operation names a table of the other kind
 abbrev pub IsMisplaced : List TableDecl → List Mark → ℕ → Type 0
 IsMisplaced tables text at =
-    (before : List Mark) × (kind : Kind) × (name : ℕ) × (found : TableKind) × Stands text before (OnTable kind name at) × (kind_of tables name ≡ Some found) × (found ≡ home kind → ⊥)
+    (before : List Mark) × (kind : Kind) × (name : ℕ) × (found : TableKind)
+    × Stands text before (OnTable kind name at) × (kind_of tables name ≡ Some found)
+    × (found ≡ home kind → ⊥)
 
 -- a block is to be done no times, or more than a thousand
 abbrev pub IsUnbounded : List Mark → ℕ → Type 0
-IsUnbounded text at = (before : List Mark) × (n : ℕ) × Stands text before (Turns n at) × ((n ≡ 0) ⊎ (1000 < n))
+IsUnbounded text at = (before : List Mark) × (n : ℕ) × Stands text before (Turns n at)
+    × ((n ≡ 0) ⊎ (1000 < n))
 
 -- ---- rules on a file
 
@@ -59,7 +67,8 @@ InHandler f P = (h : Handler) × Contains f.handlers h × P (handler_marks h)
 
 -- this rule is broken at this place
 abbrev pub IsBroken : File → CheckRefusal → Type 0
-IsBroken f (Twice at) = IsTwice (table_marks f.tables) at ⊎ IsTwice (name_marks f.handlers) at ⊎ InHandler f (λ text. IsTwice text at)
+IsBroken f (Twice at) = IsTwice (table_marks f.tables) at ⊎ IsTwice (name_marks f.handlers) at
+    ⊎ InHandler f (λ text. IsTwice text at)
 IsBroken f (Unknown at) = InHandler f (λ text. IsUnseen text at ⊎ IsTableless f.tables text at)
 IsBroken f (Arity at) = InHandler f (λ text. IsMiscounted text at)
 IsBroken f (WrongTable at) = InHandler f (λ text. IsMisplaced f.tables text at)

@@ -31,7 +31,8 @@ is_among names name = list_any (λ y. y == name) names
 
 -- the faults of a declaration behind these names, where so many are too many
 abbrev pub declared_fault : ℕ → (ℕ → CheckRefusal) → List ℕ → ℕ → ℕ → Fault
-declared_fault limit past earlier name at = or_else (fault_if (is_among earlier name) (Twice at)) (fault_if (length earlier == limit) (past at))
+declared_fault limit past earlier name at = or_else (fault_if (is_among earlier name) (Twice at))
+    (fault_if (length earlier == limit) (past at))
 
 abbrev pub unseen_fault : List ℕ → ℕ → ℕ → Fault
 unseen_fault visible name at = if is_among visible name then None else Some (Unknown at)
@@ -47,7 +48,8 @@ is_same_kind Set Map = false
 
 abbrev pub found_fault : Option TableKind → Kind → ℕ → Fault
 found_fault None kind at = Some (Unknown at)
-found_fault (Some found) kind at = if is_same_kind found (home kind) then None else Some (WrongTable at)
+found_fault (Some found) kind at = if is_same_kind found (home kind) then None else Some
+    (WrongTable at)
 
 abbrev pub table_fault : List TableDecl → Kind → ℕ → ℕ → Fault
 table_fault tables kind name at = found_fault (kind_of tables name) kind at
@@ -80,7 +82,8 @@ mark_fault l tables earlier (Turns n at) = turns_fault n at
 -- the first fault of marks behind these names, where these variables are visible too
 abbrev pub scan : Limit → List TableDecl → List ℕ → List ℕ → List Mark → Fault
 scan l tables earlier visible [] = None
-scan l tables earlier visible (m ∷ ms) = or_else (mark_fault l tables earlier (sees visible m)) (scan l tables (earlier ++ declared (m ∷ [])) visible ms)
+scan l tables earlier visible (m ∷ ms) = or_else (mark_fault l tables earlier (sees visible m))
+    (scan l tables (earlier ++ declared (m ∷ [])) visible ms)
 
 -- what a walk answers that finds this; want of memory may come at any place
 abbrev pub Found : {X : Type 0} → Fault → Result X CheckRefusal → Type 0
@@ -90,7 +93,10 @@ Found w result = MatchResult result (λ _. w ≡ None) (λ e. e ≢ NoMemory →
 abbrev pub scan_handlers : List TableDecl → List ℕ → List Handler → Fault
 scan_handlers tables earlier [] = None
 scan_handlers tables earlier (h ∷ hs) =
-    or_else (declared_fault of_handlers.limit of_handlers.past earlier h.name h.at) (or_else (scan of_variables tables [] [] (handler_marks h)) (scan_handlers tables (earlier ++ h.name ∷ []) hs))
+    or_else (declared_fault of_handlers.limit of_handlers.past earlier h.name h.at)
+    (or_else (scan of_variables tables [] [] (handler_marks h))
+    (scan_handlers tables (earlier ++ h.name ∷ []) hs))
 
 abbrev pub file_fault : File → Fault
-file_fault f = or_else (scan of_tables [] [] [] (table_marks f.tables)) (scan_handlers f.tables [] f.handlers)
+file_fault f = or_else (scan of_tables [] [] [] (table_marks f.tables))
+    (scan_handlers f.tables [] f.handlers)

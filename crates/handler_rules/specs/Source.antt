@@ -28,7 +28,8 @@ stmt_step (Stmt-F.Let n at r) rest = Let n at r rest
 stmt_step (Stmt-F.Assign n at r) rest = Assign n at r rest
 stmt_step (Stmt-F.Perform c) rest = Do c rest
 stmt_step (Stmt-F.Choose at c a b) rest = Choose at c (joined a) (joined b) rest
-stmt_step (Stmt-F.Repeat at turns turns_at n n_at body) rest = Repeat at turns turns_at n n_at (joined body) rest
+stmt_step (Stmt-F.Repeat at turns turns_at n n_at body) rest = Repeat at turns turns_at n n_at
+    (joined body) rest
 stmt_step (Stmt-F.Answer at es) rest = Answer es rest
 
 -- a statement, and what follows it in its block

@@ -26,7 +26,8 @@ pub record IsKept (tree : File) : Type 0 where
 
 -- the text is read as the same tree, places aside, and brings no new name
 abbrev pub IsReadAs : List (List ℕ) → File → List ℕ → Type 0
-IsReadAs names tree text = (g : File) × IsSourceOf names text g × SameTree tree g × (names_of names text ≡ names)
+IsReadAs names tree text = (g : File) × IsSourceOf names text g × SameTree tree g
+    × (names_of names text ≡ names)
 
 -- what printing gives
 pub record Printed (names : List (List ℕ)) (file : File) (written : List ℕ) : Type 0 where

@@ -40,4 +40,6 @@ grouped_if false t rest = t rest
 -- the text of an operator with its operands
 abbrev pub operands_text : List (List ℕ) → Calc → Expr → Expr → Text
 operands_text names c l r rest =
-    grouped_if (is_left_grouped c (operator_of l)) (whole_text names l) (operator_text c ++ grouped_if (is_right_grouped c (operator_of r)) (whole_text names r) rest)
+    grouped_if (is_left_grouped c (operator_of l)) (whole_text names l)
+    (operator_text c ++ grouped_if (is_right_grouped c (operator_of r)) (whole_text names r)
+    rest)

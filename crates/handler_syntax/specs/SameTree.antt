@@ -33,14 +33,24 @@ abbrev pub expr_bare : Expr → Expr
 expr_bare = fold-Expr Expr expr_step
 
 abbrev pub call_bare : Call → Call
-call_bare call = record { kind = call.kind; at = 0; table = call.table; table_at = 0; args = map atom_bare call.args }
+call_bare call = record {
+  kind = call.kind;
+  at = 0;
+  table = call.table;
+  table_at = 0;
+  args = map atom_bare call.args;
+}
 
 abbrev pub right_bare : Right → Right
 right_bare (right.Plain e) = right.Plain (expr_bare e)
 right_bare (right.Result call) = right.Result (call_bare call)
 
 abbrev pub cond_bare : Cond → Cond
-cond_bare cond = record { compare = cond.compare; left = expr_bare cond.left; right = expr_bare cond.right }
+cond_bare cond = record {
+  compare = cond.compare;
+  left = expr_bare cond.left;
+  right = expr_bare cond.right;
+}
 
 -- a statement, where the statements inside are bare
 abbrev pub stmt_step : Stmt-F Stmt → Stmt
@@ -61,10 +71,18 @@ abbrev pub param_bare : Param → Param
 param_bare p = record { name = p.name; at = 0 }
 
 abbrev pub handler_bare : Handler → Handler
-handler_bare h = record { name = h.name; at = 0; params = map param_bare h.params; body = map stmt_bare h.body }
+handler_bare h = record {
+  name = h.name;
+  at = 0;
+  params = map param_bare h.params;
+  body = map stmt_bare h.body;
+}
 
 abbrev pub file_bare : File → File
-file_bare file = record { tables = map table_bare file.tables; handlers = map handler_bare file.handlers }
+file_bare file = record {
+  tables = map table_bare file.tables;
+  handlers = map handler_bare file.handlers;
+}
 
 -- the same tree, places aside
 abbrev pub SameTree : File → File → Type 0

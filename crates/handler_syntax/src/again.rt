@@ -24,11 +24,13 @@ pub fn reprint(alloc: Global, file: &File, names: &mut Names) -> Result<Option<F
     // A file whose names and symbols have texts that the language can write is read as the same
     // tree, places aside, unless memory runs out.
     ensures same { IsNamedFile names.old file.now
-        → MatchResult result (λ read. IfSome read (SameTree file.now)) (λ e. e ≡ syntax_refusal.NoMemory) }
+        → MatchResult result (λ read. IfSome read (SameTree file.now))
+        (λ e. e ≡ syntax_refusal.NoMemory) }
     // No new name comes of it.
     ensures names { IsNamedFile names.old file.now
         → IfOk result (λ read. names.new ≡ names.old) }
-    ensures long { IfOk result (λ read. read ≡ None ↔ 4194304 < length (canonical_text names.old file.now)) }
+    ensures long { IfOk result (λ read. read ≡ None ↔ 4194304 < length
+        (canonical_text names.old file.now)) }
     // Any other file is refused where its text is.
     ensures refused { IfErr result (λ e.
         e ≢ syntax_refusal.NoMemory

@@ -47,7 +47,8 @@ pub fn reads_back()
         → AreDistinct names
         → IsFileWithin ws file
         → IsNamedFile names file
-        → (g : File) × IsFileWithin (words_of names (canonical_text names file)) g × SameTree file g × (names_of names (canonical_text names file) ≡ names) }
+        → (g : File) × IsFileWithin (words_of names (canonical_text names file)) g
+        × SameTree file g × (names_of names (canonical_text names file) ≡ names) }
 {}
 
 /// The tree of a source within the limits can be printed with the names behind the source, and its
@@ -67,7 +68,10 @@ pub fn source_reads_back()
     ensures { (names : List (List ℕ)) (source : List ℕ) (file : File)
         → AreDistinct names
         → IsFileWithin (words_of names source) file
-        → (g : File) × IsFileWithin (words_of (names_of names source) (canonical_text (names_of names source) file)) g × SameTree file g × (names_of (names_of names source) (canonical_text (names_of names source) file) ≡ names_of names source) }
+        → (g : File) × IsFileWithin (words_of (names_of names source)
+        (canonical_text (names_of names source) file)) g × SameTree file g
+        × (names_of (names_of names source)
+        (canonical_text (names_of names source) file) ≡ names_of names source) }
 {}
 
 /// A source has a tree or a first fault, one of them at most, and not both; and a fault is never
@@ -152,7 +156,8 @@ pub fn names_stay_readable()
 /// The token at the front of a text is the longest front that is one.
 pub fn tokens_are_the_longest()
     ensures { (b : ℕ) (bs : List ℕ)
-        → IsFirstToken (b ∷ bs) (with_reserved (scan (b ∷ bs)).0 (take (scan (b ∷ bs)).1 (b ∷ bs))) (scan (b ∷ bs)).1 }
+        → IsFirstToken (b ∷ bs) (with_reserved (scan (b ∷ bs)).0 (take (scan (b ∷ bs)).1 (b ∷ bs)))
+        (scan (b ∷ bs)).1 }
 {}
 
 /// The tokens of a source, with the blanks and comments between them, are the source; and each

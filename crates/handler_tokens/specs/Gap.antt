@@ -26,8 +26,10 @@ pub record IsComment (comment text after : List ℕ) : Type 0 where
 -- the text is these blanks, line feeds and comments, and then the rest
 abbrev pub Fills : List Filler → List ℕ → List ℕ → Type 0
 Fills [] text rest = text ≡ rest
-Fills (Space b ∷ more) text rest = (after : List ℕ) × (text ≡ b ∷ after) × (is_space b ≡ true) × Fills more after rest
-Fills (Comment comment ∷ more) text rest = (after : List ℕ) × IsComment comment text after × Fills more after rest
+Fills (Space b ∷ more) text rest = (after : List ℕ) × (text ≡ b ∷ after) × (is_space b ≡ true)
+    × Fills more after rest
+Fills (Comment comment ∷ more) text rest = (after : List ℕ) × IsComment comment text after
+    × Fills more after rest
 
 -- only blanks, line feeds and comments stand in the text before the rest
 abbrev pub IsGap : List ℕ → List ℕ → Type 0

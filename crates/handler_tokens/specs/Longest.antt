@@ -49,5 +49,6 @@ pub record IsQuotedNil (text : List ℕ) : Type 0 where
 -- The token at the front of a text that isn't empty: the longest front that is one; or, where none is or a quote stands
 -- before `nil`, one bad character.
 abbrev pub IsFirstToken : List ℕ → TokenKind → ℕ → Type 0
-IsFirstToken text kind.Bad n = (n ≡ char_length (slice_index text 0)) × (IsLongest text 0 ⊎ IsQuotedNil text)
+IsFirstToken text kind.Bad n = (n ≡ char_length (slice_index text 0))
+    × (IsLongest text 0 ⊎ IsQuotedNil text)
 IsFirstToken text k n = IsShape k (take n text) × IsLongest text n

@@ -33,7 +33,8 @@ scan_name text = name_of_length (prefix_len (is_in class.Name) text)
 
 -- the length of the character whose first byte this is
 abbrev pub char_length : ℕ → ℕ
-char_length b = if nat_lt b 128 then 1 else (if nat_lt b 224 then 2 else (if nat_lt b 240 then 3 else 4))
+char_length b = if nat_lt b 128 then 1 else (if nat_lt b 224 then 2
+    else (if nat_lt b 240 then 3 else 4))
 
 -- one character that begins no other token
 unfoldable pub scan_bad : List ℕ → Scanned
@@ -47,7 +48,8 @@ symbol_of_length text run n =
 -- a quote, and the longest run behind it, which begins with a letter
 unfoldable pub scan_symbol : List ℕ → Scanned
 scan_symbol text =
-    if is_ascii_alphabetic (slice_index text 1) then symbol_of_length text (drop 1 text) (prefix_len (is_in class.Symbol) (drop 1 text)) else scan_bad text
+    if is_ascii_alphabetic (slice_index text 1) then symbol_of_length text (drop 1 text)
+    (prefix_len (is_in class.Symbol) (drop 1 text)) else scan_bad text
 
 -- a byte that `=` may follow: = < !
 abbrev pub begins_two : ℕ → Bool
@@ -55,7 +57,9 @@ begins_two b = b == 61 || (b == 60 || b == 33)
 
 -- a sign of one byte: ( ) { } , ; = < + - *
 abbrev pub is_single : ℕ → Bool
-is_single b = b == 40 || (b == 41 || (b == 123 || (b == 125 || (b == 44 || (b == 59 || (b == 61 || (b == 60 || (b == 43 || (b == 45 || b == 42)))))))))
+is_single b = b == 40 || (b == 41 || (b == 123
+    || (b == 125
+    || (b == 44 || (b == 59 || (b == 61 || (b == 60 || (b == 43 || (b == 45 || b == 42)))))))))
 
 -- a sign, of two bytes where it can be, or a bad character
 unfoldable pub scan_sign : List ℕ → Scanned

@@ -21,7 +21,8 @@ pub record Gives (old : Tokens) (token : Token) (new : Tokens) : Type 0 where
 
 -- a call gives the next token, or nothing once End was given
 abbrev pub Steps : Tokens → Option Token → Tokens → Type 0
-Steps old given new = MatchOption given ((old.ended ≡ true) × (new ≡ old)) (λ token. Gives old token new)
+Steps old given new = MatchOption given ((old.ended ≡ true) × (new ≡ old))
+    (λ token. Gives old token new)
 
 -- at most so many tokens are left
 abbrev pub left : Tokens → ℕ

@@ -50,7 +50,11 @@ names_after names piece = names_by piece.kind piece.text names
 
 -- the word of a token
 unfoldable pub word_after : List (List ℕ) → Piece → Word
-word_after names piece = record { sort = sort_by piece.kind piece.text (names_by piece.kind piece.text names); at = piece.start }
+word_after names piece = record {
+  sort = sort_by piece.kind piece.text
+      (names_by piece.kind piece.text names);
+  at = piece.start;
+}
 
 -- the words of tokens, in order
 abbrev pub words : List (List ℕ) → List Piece → List Word

@@ -100,7 +100,8 @@ fn next_word(tokens: &mut Tokens<'_>, names: &mut Names) -> Result<Option<Word>,
     requires { length names.old + length tokens.old.rest.now < 4294967295 }
     ensures words { IfOk result (λ next.
         words_left next names.new tokens.new ≡ words_left None names.old tokens.old) }
-    ensures names { OnOk result (names_left names.new tokens.new ≡ names_left names.old tokens.old) }
+    ensures names { OnOk result (names_left names.new tokens.new ≡ names_left names.old
+        tokens.old) }
     ensures last { IfOk result (λ next. next ≡ None → tokens.new.rest.now ≡ []) }
     ensures end { end_of tokens.new ≡ end_of tokens.old }
     ensures room { length names.new + length tokens.new.rest.now

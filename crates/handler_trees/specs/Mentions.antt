@@ -61,7 +61,8 @@ abbrev pub stmt_step : Stmt-F (List Mention) → List Mention
 stmt_step (Stmt-F.Let n p r) = a_name n ∷ right_mentions r
 stmt_step (Stmt-F.Assign n p r) = a_name n ∷ right_mentions r
 stmt_step (Stmt-F.Perform call) = call_mentions call
-stmt_step (Stmt-F.Choose p cond first second) = cond_mentions cond ++ (joined first ++ joined second)
+stmt_step (Stmt-F.Choose p cond first second) = cond_mentions
+    cond ++ (joined first ++ joined second)
 stmt_step (Stmt-F.Repeat p turns q n r body) = a_number (pos turns) ∷ a_name n ∷ joined body
 stmt_step (Stmt-F.Answer p values) = flat_map expr_mentions values
 
@@ -75,7 +76,8 @@ abbrev pub param_mentions : Param → List Mention
 param_mentions p = a_name p.name ∷ []
 
 abbrev pub handler_mentions : Handler → List Mention
-handler_mentions h = a_name h.name ∷ (flat_map param_mentions h.params ++ flat_map stmt_mentions h.body)
+handler_mentions h = a_name h.name ∷ (flat_map param_mentions h.params ++ flat_map stmt_mentions
+    h.body)
 
 abbrev pub file_mentions : File → List Mention
 file_mentions file = flat_map table_mentions file.tables ++ flat_map handler_mentions file.handlers

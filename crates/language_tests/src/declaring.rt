@@ -20,7 +20,12 @@ struct Sample {
 impl Declarations for Sample {
     ghost use Rattle.std.specs.Prelude.{[], ◌∷◌, length, min, take, true};
 
-    ghost at_points = { λ s. record { shown = true; symbols = λ handler point. take (min point (length s.symbols.items)) s.symbols.items; tables = s.table ∷ []; variables = λ handler. s.variable ∷ [] } };
+    ghost at_points = { λ s. record {
+      shown = true;
+      symbols = λ handler point. take (min point (length s.symbols.items)) s.symbols.items;
+      tables = s.table ∷ [];
+      variables = λ handler. s.variable ∷ [];
+    } };
 
     fn is_shown(&self) -> bool {
         true

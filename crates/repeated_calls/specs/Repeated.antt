@@ -18,7 +18,11 @@ no_value = record { count = 1; a = Nil; b = Nil; c = Nil; d = Nil }
 
 -- a ticket that calls an operation n times
 abbrev pub repeated : ℕ → Op → Ticket
-repeated n op = record { ops = replicate n op; reply = no_value; entry = replicate n (exact_symbol op) }
+repeated n op = record {
+  ops = replicate n op;
+  reply = no_value;
+  entry = replicate n (exact_symbol op);
+}
 
 -- what contracts see of such a list: the script, the operation of each ticket, and how often it is called
 pub record RepeatedView : Type 0 where
@@ -55,7 +59,11 @@ list_more l n op = record {
 
 -- with one ticket more
 abbrev pub with_repeated : RepeatedView → Op → RepeatedView
-with_repeated v op = record { list = list_more v.list v.times op; ops = v.ops ++ op ∷ []; times = v.times }
+with_repeated v op = record {
+  list = list_more v.list v.times op;
+  ops = v.ops ++ op ∷ [];
+  times = v.times;
+}
 
 -- the ticket calls the operation n times and then answers nil, and declares this list all along
 pub record IsPlan (m : Meaning) (t : ℕ) (op : Op) (n : ℕ) (list : List Symbol) : Type 0 where

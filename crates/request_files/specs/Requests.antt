@@ -46,11 +46,13 @@ AreKnown names f = AllByRecursion (λ (h : Handler). h.name < length names) f.ha
 
 -- the number of the first handler with this name, or how many there are where none has it
 unfoldable pub handler_of : List Text → File → Text → ℕ
-handler_of names f name = position_or_len (λ (h : Handler). h.name == place_of names name) f.handlers
+handler_of names f name = position_or_len (λ (h : Handler). h.name == place_of names name)
+    f.handlers
 
 -- what a search for the name answers
 abbrev pub IsHandler : List Text → File → Text → Option ℕ → Type 0
-IsHandler names f name o = MatchOption o (length f.handlers ≤ handler_of names f name) (λ i. (i ≡ handler_of names f name) × (i < length f.handlers))
+IsHandler names f name o = MatchOption o (length f.handlers ≤ handler_of names f name)
+    (λ i. (i ≡ handler_of names f name) × (i < length f.handlers))
 
 -- ---- the sums over requests
 
@@ -59,30 +61,38 @@ no_requests = record { requests = 0; calls = 0; work = 0 }
 
 -- the sums with one request more, of the handler of this number
 abbrev pub with_request : File → ℕ → Tally → Tally
-with_request f i t = record { requests = t.requests + 1; calls = t.calls + calls_bound (code_at f i); work = t.work + work_bound (code_at f i) }
+with_request f i t = record {
+  requests = t.requests + 1;
+  calls = t.calls + calls_bound (code_at f i);
+  work = t.work + work_bound (code_at f i);
+}
 
 -- ---- the fault of a row, in the order in which faults are tried
 
 -- its fault where the sums behind it are these, if it has one
 abbrev pub sum_fault : Tally → ℕ → Option RequestRefusal
-sum_fault t line = if nat_lt 200000 t.calls then Some (TooManyCalls line) else (if nat_lt 10000000 t.work then Some (TooMuchWork line) else None)
+sum_fault t line = if nat_lt 200000 t.calls then Some (TooManyCalls line)
+    else (if nat_lt 10000000 t.work then Some (TooMuchWork line) else None)
 
 -- its fault where its handler has this number, if it has one
 abbrev pub handler_fault : File → Tally → Row → ℕ → Option RequestRefusal
 handler_fault f t r i =
     if nat_le (length f.handlers) i then Some (UnknownHandler r.line)
     else (if not (params_at f i == length r.args) then Some (Arity r.line)
-    else (if not (list_all is_value r.args) then Some (BadWord r.line) else sum_fault (with_request f i t) r.line))
+    else (if not (list_all is_value r.args) then Some (BadWord r.line) else sum_fault
+    (with_request f i t) r.line))
 
 -- its fault behind requests with these sums, if it has one
 unfoldable pub fault_of : List Text → File → Tally → Row → Option RequestRefusal
 fault_of names f t r =
-    if nat_le 20000 t.requests then Some (TooManyRequests r.line) else handler_fault f t r (handler_of names f r.name)
+    if nat_le 20000 t.requests then Some (TooManyRequests r.line) else handler_fault f t r
+    (handler_of names f r.name)
 
 -- the first fault of the rows behind requests with these sums, if there is one
 unfoldable pub first_fault : List Text → File → Tally → List Row → Option RequestRefusal
 first_fault names f t [] = None
-first_fault names f t (r ∷ rs) = option_or (fault_of names f t r) (first_fault names f (with_request f (handler_of names f r.name) t) rs)
+first_fault names f t (r ∷ rs) = option_or (fault_of names f t r)
+    (first_fault names f (with_request f (handler_of names f r.name) t) rs)
 
 -- ---- requests
 
@@ -99,7 +109,8 @@ names_behind names (r ∷ rs) = names_behind (placed_all names r.args) rs
 
 -- none where some word is no value, else their values
 abbrev pub AreValues : List Text → List Text → Option (List Value) → Type 0
-AreValues names ws o = MatchOption o (list_all is_value ws ≡ false) (λ vs. (list_all is_value ws ≡ true) × (vs ≡ values_of names ws))
+AreValues names ws o = MatchOption o (list_all is_value ws ≡ false)
+    (λ vs. (list_all is_value ws ≡ true) × (vs ≡ values_of names ws))
 
 -- the sums are within their limits
 pub record IsWithin (t : Tally) : Type 0 where

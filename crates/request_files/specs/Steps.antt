@@ -13,10 +13,12 @@ IsSliceOf line word rest = (k : ℕ) × (word ++ rest ≡ drop k line)
 abbrev pub TakesWord : Line → Option (Bor Text) → Line → Type 0
 TakesWord old r new = MatchOption r
     ((words old.rest.now ≡ []) × (new ≡ old))
-    (λ w. (words old.rest.now ≡ w.now ∷ words new.rest.now) × IsSliceOf old.rest.now w.now new.rest.now)
+    (λ w. (words old.rest.now ≡ w.now ∷ words new.rest.now)
+    × IsSliceOf old.rest.now w.now new.rest.now)
 
 -- no line is left, and nothing changes; or the first that is left, with its number
 abbrev pub TakesLine : Lines → Option (ℕ × Line) → Lines → Type 0
 TakesLine old r new = MatchOption r
     ((lines old.rest.now ≡ []) × (new ≡ old))
-    (λ l. (lines old.rest.now ≡ l.1.rest.now ∷ lines new.rest.now) × (l.0 ≡ old.number) × (new.number ≡ old.number + 1))
+    (λ l. (lines old.rest.now ≡ l.1.rest.now ∷ lines new.rest.now) × (l.0 ≡ old.number)
+    × (new.number ≡ old.number + 1))

@@ -30,7 +30,8 @@ abbrev pub size_limit : Text → ℕ
 size_limit w = if has_minus w then 2 ^ 63 else 2 ^ 63 - 1
 
 abbrev pub is_number : Text → Bool
-is_number w = nat_lt 0 (length (digits_of w)) && all_ascii_digits (digits_of w) && nat_le (size_of w) (size_limit w)
+is_number w = nat_lt 0 (length (digits_of w)) && all_ascii_digits (digits_of w)
+    && nat_le (size_of w) (size_limit w)
 
 abbrev pub number_of : Text → ℤ
 number_of w = if has_minus w then neg_ℤ (pos (size_of w)) else pos (size_of w)
@@ -45,7 +46,8 @@ abbrev pub is_nil : Text → Bool
 is_nil w = bytes_eq w (codes "nil")
 
 unfoldable pub is_symbol : Text → Bool
-is_symbol w = not (is_nil w) && is_ascii_alphabetic (slice_index w 0) && nat_le (length w) 64 && list_all is_symbol_byte w
+is_symbol w = not (is_nil w) && is_ascii_alphabetic (slice_index w 0) && nat_le (length w) 64
+    && list_all is_symbol_byte w
 
 -- ---- values
 
@@ -55,7 +57,8 @@ as_value (Some n) = Some (Num n)
 
 -- the value of a word, where symbols have their places in these names
 unfoldable pub value_of : List Text → Text → Option Value
-value_of names w = if is_symbol w then Some (Sym (place_of names w)) else (if is_nil w then Some Nil else as_value (number w))
+value_of names w = if is_symbol w then Some (Sym (place_of names w))
+    else (if is_nil w then Some Nil else as_value (number w))
 
 -- whether a word is a value; the names don't matter
 unfoldable pub is_value : Text → Bool
