@@ -8,7 +8,7 @@ use Rattle.handler_dialogue.specs.Code.{block_code, expr_term, stmt_code}
 use Rattle.handler_dialogue.specs.Dialogue.{Env, env_of, with_reply, with_value}
 use Rattle.handler_walk.specs.Runnable.{IsRunnable}
 use Rattle.handler_walk.proofs.Answering.{lengths_once}
-use Rattle.handler_walk.proofs.Steps.{item_at, code_at, within_stmt, within_repeat, within_answer, block_ahead, ask_ahead, loop_ahead, turn_ahead, turns_end, leads_on, leads_answered, leads_stopped, leads_err, call_stopped, size_at, size_repeat}
+use Rattle.handler_walk.proofs.Steps.{item_at, code_at, within_stmt, within_choose, within_repeat, within_answer, block_ahead, ask_ahead, yes_ahead, no_ahead, loop_ahead, turn_ahead, turns_end, leads_on, leads_answered, leads_stopped, leads_err, call_stopped, size_at, size_choose, size_repeat}
 use Rattle.handler_walk.proofs.walk.+walk.Goals as goal
 
 pub walk_block-walk_stmt-requires : goal.walk_block-walk_stmt-requires
@@ -93,6 +93,60 @@ walk_stmt-returns-in_ok-value-in-Perform g t c whole start k now =
     let h = c.in_ok-value-in-Perform.ensures whole start next (ask_ahead (g.G.Guide.Serves c.args.guide.now whole start c.args.host.now) k c.args.stmt.now p.at p.point p.var p.call E c.op_of-op.result p.is c.op_of-op.ensures now) in
     let r = c.replied.ensures whole start (k (with_reply p.var v E)) (subst (λ (e : Env). g.G.Guide.Waits c.call.new.self whole start c.call.new.host (passing p.point e true (k (with_reply p.var v E)))) (sym c.keep.ensures) h) in
     subst (λ (e : Env). g.G.Guide.Serves c.replied.new.self whole start c.replied.new.host (k e)) (sym c.keep.ensures) r
+
+pub walk_stmt-passed-requires-clause-serves : goal.walk_stmt-passed-requires-clause-serves
+walk_stmt-passed-requires-clause-serves g t c =
+    let r = c.requires.serves in
+    let E = env_of c.args.env.now in
+    let p = c.in-Choose in
+    let told = sym c.holds.ensures ∙ c.if-holds.true in
+    (r.0, r.1, run_then (block_code p.yes) r.2 E, yes_ahead (g.G.Guide.Serves c.args.guide.now r.0 r.1 c.args.host.now) r.2 c.args.stmt.now p.at p.yes_point p.no_point p.cond p.yes p.no E p.is told r.3)
+
+pub walk_stmt-walk_block-requires : goal.walk_stmt-walk_block-requires
+walk_stmt-walk_block-requires g t c κs within =
+    let r = c.requires.serves in
+    let E = env_of c.args.env.now in
+    let p = c.in-Choose in
+    let told = sym c.holds.ensures ∙ c.if-holds.true in
+    let w = within_choose (length c.args.env.now) c.args.stmt.now p.at p.yes_point p.no_point p.cond p.yes p.no p.is c.requires.within in
+    let less = size_choose c.args.stmt.now p.at p.yes_point p.no_point p.cond p.yes p.no p.is in
+    let h = c.passed.ensures r.0 r.1 (run_then (block_code p.yes) r.2 E) (yes_ahead (g.G.Guide.Serves c.args.guide.now r.0 r.1 c.args.host.now) r.2 c.args.stmt.now p.at p.yes_point p.no_point p.cond p.yes p.no E p.is told r.3) in
+    (omega (arith, c.decreases, less.0), (search rules, (search rules, (c.requires.variables, (w.2, (r.0, r.1, r.2, h))))))
+
+pub walk_stmt-returns-then-holds : goal.walk_stmt-returns-then-holds
+walk_stmt-returns-then-holds g t c whole start k now =
+    let E = env_of c.args.env.now in
+    let p = c.in-Choose in
+    let told = sym c.holds.ensures ∙ c.if-holds.true in
+    let h = yes_ahead (g.G.Guide.Serves c.args.guide.now whole start c.args.host.now) k c.args.stmt.now p.at p.yes_point p.no_point p.cond p.yes p.no E p.is told now in
+    c.walk_block.ensures whole start k (c.passed.ensures whole start (run_then (block_code p.yes) k E) h)
+
+pub walk_stmt-passed-requires-else-holds-clause-serves : goal.walk_stmt-passed-requires-else-holds-clause-serves
+walk_stmt-passed-requires-else-holds-clause-serves g t c =
+    let r = c.requires.serves in
+    let E = env_of c.args.env.now in
+    let p = c.in-Choose in
+    let told = sym c.holds.ensures ∙ c.if-holds.false in
+    (r.0, r.1, run_then (block_code p.no) r.2 E, no_ahead (g.G.Guide.Serves c.args.guide.now r.0 r.1 c.args.host.now) r.2 c.args.stmt.now p.at p.yes_point p.no_point p.cond p.yes p.no E p.is told r.3)
+
+pub walk_stmt-walk_block-requires-else-holds : goal.walk_stmt-walk_block-requires-else-holds
+walk_stmt-walk_block-requires-else-holds g t c κs within =
+    let r = c.requires.serves in
+    let E = env_of c.args.env.now in
+    let p = c.in-Choose in
+    let told = sym c.holds.ensures ∙ c.if-holds.false in
+    let w = within_choose (length c.args.env.now) c.args.stmt.now p.at p.yes_point p.no_point p.cond p.yes p.no p.is c.requires.within in
+    let less = size_choose c.args.stmt.now p.at p.yes_point p.no_point p.cond p.yes p.no p.is in
+    let h = c.passed-else-holds.ensures r.0 r.1 (run_then (block_code p.no) r.2 E) (no_ahead (g.G.Guide.Serves c.args.guide.now r.0 r.1 c.args.host.now) r.2 c.args.stmt.now p.at p.yes_point p.no_point p.cond p.yes p.no E p.is told r.3) in
+    (omega (arith, c.decreases, less.1), (search rules, (search rules, (c.requires.variables, (w.3, (r.0, r.1, r.2, h))))))
+
+pub walk_stmt-returns-else-holds : goal.walk_stmt-returns-else-holds
+walk_stmt-returns-else-holds g t c whole start k now =
+    let E = env_of c.args.env.now in
+    let p = c.in-Choose in
+    let told = sym c.holds.ensures ∙ c.if-holds.false in
+    let h = no_ahead (g.G.Guide.Serves c.args.guide.now whole start c.args.host.now) k c.args.stmt.now p.at p.yes_point p.no_point p.cond p.yes p.no E p.is told now in
+    c.walk_block-else-holds.ensures whole start k (c.passed-else-holds.ensures whole start (run_then (block_code p.no) k E) h)
 
 pub walk_stmt-walk_turns-requires : goal.walk_stmt-walk_turns-requires
 walk_stmt-walk_turns-requires g t c κs within =
