@@ -19,7 +19,12 @@ arg_at env (Var x) = Known (env x)
 arg_at env Any = Any
 
 abbrev pub symbol_at : Env → Symbol → Symbol
-symbol_at env s = record { kind = s.kind; table = s.table; key = arg_at env s.key; value = arg_at env s.value }
+symbol_at env s = record {
+  kind = s.kind;
+  table = s.table;
+  key = arg_at env s.key;
+  value = arg_at env s.value;
+}
 
 -- the lists of a handler's points, by their numbers
 abbrev pub Declarations : Type 0
@@ -35,12 +40,14 @@ list_at declared at = map (symbol_at at.env) (declared at.point)
 -- each declaration that is passed is covered by the one passed before it
 abbrev pub IsCoveredChain : Declarations → Place → List Place → Type 0
 IsCoveredChain declared at [] = Unit {0}
-IsCoveredChain declared at (later ∷ passed) = Covered (list_at declared later) (list_at declared at) × IsCoveredChain declared later passed
+IsCoveredChain declared at (later ∷ passed) = Covered (list_at declared later)
+    (list_at declared at) × IsCoveredChain declared later passed
 
 -- whatever replies come that a program can hold, the list has a symbol for the operation that is called after them
 abbrev pub CoversRest : Code → Env → List Value → List Symbol → Type 0
 CoversRest code env replies list =
-    (more : List Value) (op : Op) → AllByRecursion IsValue more → next code env (replies ++ more) ≡ NextCalls op → Matches list op
+    (more : List Value) (op : Op) → AllByRecursion IsValue more
+    → next code env (replies ++ more) ≡ NextCalls op → Matches list op
 
 -- What the declarations promise of each run from the handler's entry, with these values of the parameters.
 pub record ArePromised (code : Code) (declared : Declarations) (env : Env) : Type 0 where
@@ -48,12 +55,19 @@ pub record ArePromised (code : Code) (declared : Declarations) (env : Env) : Typ
   pub few : (at : Place) → length (list_at declared at) ≤ 256
   pub known : (at : Place) → AllByRecursion HasNoVar (list_at declared at)
   -- each is covered by the one before it
-  pub covered : (replies : List Value) → IsCoveredChain declared (entry env) (passed_by (run code env replies))
+  pub covered : (replies : List Value) → IsCoveredChain declared (entry env)
+      (passed_by (run code env replies))
   -- the operation that is called next is matched by the last one
-  pub matched : (replies : List Value) (passed : List Place) (op : Op) → AllByRecursion IsValue replies → run code env replies ≡ Calls passed op → Matches (list_at declared (last_place (entry env) passed)) op
+  pub matched : (replies : List Value) (passed : List Place) (op : Op)
+      → AllByRecursion IsValue replies → run code env replies ≡ Calls passed op
+      → Matches (list_at declared (last_place (entry env) passed)) op
   -- each one that is passed covers the rest of the run
-  pub covers : (replies : List Value) (front past : List Place) → AllByRecursion IsValue replies → passed_by (run code env replies) ≡ front ++ past → CoversRest code env replies (list_at declared (last_place (entry env) front))
+  pub covers : (replies : List Value) (front past : List Place) → AllByRecursion IsValue replies
+      → passed_by (run code env replies) ≡ front ++ past
+      → CoversRest code env replies (list_at declared (last_place (entry env) front))
   -- in particular that of the entry, the last one that a reply led to, and the last one
   pub opening : CoversRest code env [] (list_at declared (entry env))
-  pub told : (replies : List Value) → AllByRecursion IsValue replies → CoversRest code env replies (list_at declared (told_place code env replies))
-  pub due : (replies : List Value) → AllByRecursion IsValue replies → CoversRest code env replies (list_at declared (due_place code env replies))
+  pub told : (replies : List Value) → AllByRecursion IsValue replies
+      → CoversRest code env replies (list_at declared (told_place code env replies))
+  pub due : (replies : List Value) → AllByRecursion IsValue replies
+      → CoversRest code env replies (list_at declared (due_place code env replies))

@@ -16,4 +16,9 @@ variables_at f h = variables_in (slice_get f.handlers h)
 
 -- the declaration of each point, with the names of tables and variables
 abbrev pub shown_of : ProgramView → AtPoints
-shown_of p = record { shown = true; symbols = declared_at p; tables = table_names p.file; variables = variables_at p.file }
+shown_of p = record {
+  shown = true;
+  symbols = declared_at p;
+  tables = table_names p.file;
+  variables = variables_at p.file;
+}

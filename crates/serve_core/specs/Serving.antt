@@ -45,9 +45,11 @@ abbrev pub IsInputReason : List ℕ → Unserved → Type 0
 IsInputReason input NoMemory = Unit {0}
 IsInputReason input (Refused fault.TooLarge) = ⊥
 IsInputReason input (Refused fault.NotText) = (length input ≤ max_input) × (IsUtf8 input → ⊥)
-IsInputReason input (Refused fault.NoRequests) = (length input ≤ max_input) × IsUtf8 input × (is_divided input ≡ false)
+IsInputReason input (Refused fault.NoRequests) = (length input ≤ max_input) × IsUtf8 input
+    × (is_divided input ≡ false)
 IsInputReason input (Refused fault.HasRequests) = ⊥
-IsInputReason input (Refused e) = IsSessionInput input × IsSessionReason (parts_of input) (Refused e)
+IsInputReason input (Refused e) = IsSessionInput input
+    × IsSessionReason (parts_of input) (Refused e)
 
 abbrev pub status_of : Unserved → Status
 status_of NoMemory = status.NoMemory

@@ -48,12 +48,18 @@ pub record HasRequestFault (parts : Parts) (e : RequestRefusal) : Type 0 where
 abbrev pub IsRefused : Command → List ℕ → Fault → Type 0
 IsRefused command input fault.TooLarge = max_input < length input
 IsRefused command input fault.NotText = (length input ≤ max_input) × (IsUtf8 input → ⊥)
-IsRefused command input fault.NoRequests = (length input ≤ max_input) × IsUtf8 input × (has_requests command ≡ true) × (is_divided input ≡ false)
-IsRefused command input fault.HasRequests = (length input ≤ max_input) × IsUtf8 input × (has_requests command ≡ false) × (is_divided input ≡ true)
-IsRefused command input (fault.Syntax e) = IsInput command input × HasSyntaxFault (handlers_of command input) e
-IsRefused command input (fault.Check e) = IsInput command input × HasCheckFault (handlers_of command input) e
-IsRefused command input (fault.Analysis e) = IsInput command input × HasAnalysisFault (handlers_of command input) e
-IsRefused command input (fault.Request e) = IsInput command input × (has_requests command ≡ true) × HasRequestFault (parts_of input) e
+IsRefused command input fault.NoRequests = (length input ≤ max_input) × IsUtf8 input
+    × (has_requests command ≡ true) × (is_divided input ≡ false)
+IsRefused command input fault.HasRequests = (length input ≤ max_input) × IsUtf8 input
+    × (has_requests command ≡ false) × (is_divided input ≡ true)
+IsRefused command input (fault.Syntax e) = IsInput command input
+    × HasSyntaxFault (handlers_of command input) e
+IsRefused command input (fault.Check e) = IsInput command input
+    × HasCheckFault (handlers_of command input) e
+IsRefused command input (fault.Analysis e) = IsInput command input
+    × HasAnalysisFault (handlers_of command input) e
+IsRefused command input (fault.Request e) = IsInput command input × (has_requests command ≡ true)
+    × HasRequestFault (parts_of input) e
 
 -- ---- texts
 
@@ -64,7 +70,8 @@ pub record IsChecked (input text : List ℕ) : Type 0 where
   pub text_is : text ≡ canonical_text (names_of [] input) file
 
 abbrev pub shown_of : List ℕ → File → List (List (List Symbol)) → List ℕ
-shown_of input file lists = shown_text (names_of [] input) (points_shown (record { file = file; lists = lists })) file
+shown_of input file lists = shown_text (names_of [] input)
+    (points_shown (record { file = file; lists = lists })) file
 
 -- the text with what is declared at each point, which is the list of the operations that may still come there
 pub record IsShown (input text : List ℕ) : Type 0 where
@@ -85,7 +92,9 @@ pub record IsServed (input text : List ℕ) : Type 0 where
 -- the summary of a session of so many requests: how many operations the serial run makes, and how many bytes its replies take
 abbrev pub summary_of : ℕ → List ℕ → File → List ℕ
 summary_of requests input file =
-    summary requests (serial_calls (session_of_parts (parts_of input) file) (session_of_parts (parts_of input) file).requests) (length (replies_text (parts_of input) file))
+    summary requests (serial_calls (session_of_parts (parts_of input) file)
+    (session_of_parts (parts_of input) file).requests)
+    (length (replies_text (parts_of input) file))
 
 pub record IsSummary (requests : ℕ) (input text : List ℕ) : Type 0 where
   pub file : File

@@ -17,7 +17,11 @@ pub record Parts : Type 0 where
 
 -- the parts before and behind the dividing line
 abbrev pub parts_of : List ℕ → Parts
-parts_of input = record { handlers = take (head_size (lines input)) input; requests = drop (mark_size (lines input)) input; first = position_or_len is_dividing (lines input) + 2 }
+parts_of input = record {
+  handlers = take (head_size (lines input)) input;
+  requests = drop (mark_size (lines input)) input;
+  first = position_or_len is_dividing (lines input) + 2;
+}
 
 abbrev pub is_divided : List ℕ → Bool
 is_divided input = list_any is_dividing (lines input)

@@ -35,7 +35,8 @@ abbrev pub all_names_of : Parts → List (List ℕ)
 all_names_of parts = names_behind (handler_names_of parts) (rows_of parts)
 
 abbrev pub requests_of : Parts → File → List Request
-requests_of parts file = map (request_of (handler_names_of parts) (all_names_of parts) file) (rows_of parts)
+requests_of parts file = map (request_of (handler_names_of parts) (all_names_of parts) file)
+    (rows_of parts)
 
 -- the first fault of the requests, if there is one
 abbrev pub request_fault : Parts → File → Option RequestRefusal
@@ -54,7 +55,8 @@ session_of_parts parts file = session file (requests_of parts file)
 
 -- the replies of the serial run, as text
 abbrev pub replies_text : Parts → File → List ℕ
-replies_text parts file = reply_text (all_names_of parts) 0 (serial_replies (session_of_parts parts file) (session_of_parts parts file).requests)
+replies_text parts file = reply_text (all_names_of parts) 0
+    (serial_replies (session_of_parts parts file) (session_of_parts parts file).requests)
 
 -- how many operations the first n tickets of a session make in the serial run
 unfoldable pub serial_calls : Session → ℕ → ℕ

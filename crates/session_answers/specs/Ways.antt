@@ -20,7 +20,8 @@ pub record HasRead {I : Type 0} (source : Change I) (bytes : List ℕ) : Type 0 
 -- why a reading that ended with this status stopped
 abbrev pub StopsAs : {I : Type 0} → Change I → Status → Type 0
 StopsAs source (status.Refused TooLarge) =
-    IfSome (source.bytes source.old) (λ all. max_input < length all) × LostFirst (source.bytes source.old) (source.bytes source.new) (max_input + 1)
+    IfSome (source.bytes source.old) (λ all. max_input < length all)
+    × LostFirst (source.bytes source.old) (source.bytes source.new) (max_input + 1)
 StopsAs source (status.Refused fault) = ⊥
 StopsAs source status.ReadFault = Failed source
 StopsAs source status.NoMemory = Unit {0}
@@ -29,7 +30,8 @@ StopsAs source status.Usage = ⊥
 StopsAs source status.WriteFault = ⊥
 
 abbrev pub StoppedAs : {I : Type 0} → Change I → Status → Type 0
-StoppedAs source s = LostAtMost (source.bytes source.old) (source.bytes source.new) (max_input + 1) × StopsAs source s
+StoppedAs source s = LostAtMost (source.bytes source.old) (source.bytes source.new) (max_input + 1)
+    × StopsAs source s
 
 -- what a command answers to an input, and with which hall
 pub record AnswersTo {O : Type 0} (command : Command) (bytes : List ℕ) (out : Change O) (s : Status) (closed : Option ClosedView) : Type 0 where
