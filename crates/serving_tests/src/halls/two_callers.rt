@@ -10,9 +10,11 @@ ghost use Rattle.serving_tests.specs.HallRows.{IsServing, meaning_of, put_entry}
 
 use crate::books::{GET_1, NIL, PUT_1, PUT_2, two_tickets};
 use crate::halls::calls::{begin, declare, delayed, do_op, end, leave};
+use hall_rule::Part;
 use session_hall::{Caller, Closed, Hall};
 use session_journal::{Event, ListScript};
 use session_values::{Listed, Reply, TableKind, Value};
+use shard_tables::{MapShard, shard_of};
 use std::alloc::Global;
 use std::test::Fail;
 use symbolic_ops::{Foresight, Symbol};
@@ -125,6 +127,26 @@ fn left_by(closed: &Closed) -> ([Option<Event>; 5], [Option<Reply>; 2], usize) {
     )
 }
 
+/// What a key is bound to in a shard.
+fn value_in(shard: &MapShard, key: Value) -> Option<Value> {
+    for i in 0..shard.len() {
+        let (other, value) = shard.entry(i);
+        if other == key {
+            return Some(value);
+        }
+    }
+    None
+}
+
+/// What a key is bound to in its shard of the two that a hall of one map leaves.
+fn bound_to(closed: &Closed, key: Value) -> Option<Value> {
+    let shard = shard_of(key, 2);
+    match closed.parts().as_slice().get(shard as usize) {
+        Some(Part::Bindings(shard)) => value_in(shard, key),
+        _ => None,
+    }
+}
+
 /// What two callers are told, and what their hall leaves.
 fn told_by_two(
     alloc: Global,
@@ -132,16 +154,21 @@ fn told_by_two(
     (
         (Value, u32, Symbol, Value),
         ([Option<Event>; 5], [Option<Reply>; 2], usize),
+        [Option<Value>; 2],
     ),
     Fail,
 > {
     let (told, closed) = served_by_two(alloc)?;
-    Ok((told, left_by(&closed)))
+    let bound = [
+        bound_to(&closed, Value::Num(1)),
+        bound_to(&closed, Value::Num(2)),
+    ];
+    Ok((told, left_by(&closed), bound))
 }
 
 #[test]
 fn a_younger_caller_waits_until_the_older_one_declares(rt: HostRuntime) -> Result<(), Fail> {
-    let (told, left) = told_by_two(rt.alloc())?;
+    let found = told_by_two(rt.alloc())?;
     let symbol = Symbol::exact(&GET_1);
     let reply = Value::Nil;
     let events = [
@@ -173,7 +200,8 @@ fn a_younger_caller_waits_until_the_older_one_declares(rt: HostRuntime) -> Resul
     let expected = (
         (reply, 0, symbol, reply),
         (events, [Some(NIL), Some(NIL)], 7),
+        [Some(Value::Num(7)), Some(Value::Num(7))],
     );
-    assert_eq!(rt; (told, left), expected);
+    assert_eq!(rt; found, expected);
     Ok(())
 }
