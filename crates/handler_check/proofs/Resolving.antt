@@ -102,17 +102,16 @@ pub record IsHandlerAt (f : File) (i : ℕ) (c : CheckedHandler) : Type 0 where
   pub points : c.points ≡ 1 + points (code_at f i)
   pub params : c.params ≡ params_at f i
 
-pub handler_at : (f : File) (cs : List CheckedHandler) (i : ℕ) (c : CheckedHandler) → AllZip (IsResolved (table_names f)) f.handlers cs → slice_get cs i ≡ Some c → IsHandlerAt f i c
-handler_at f cs i c z e =
-    let at = zip_at (IsResolved (table_names f)) f.handlers cs i c z e in
-    let h : Handler = at.0 in
-    let there : slice_get f.handlers i ≡ Some h = at.1 in
-    let r : IsResolved (table_names f) h c = at.2 in
+pub source_at : (f : File) (i : ℕ) (c : CheckedHandler) (h : Handler) → slice_get f.handlers i ≡ Some h → IsResolved (table_names f) h c → IsHandlerAt f i c
+source_at f i c h there r =
     record {
       body = r.body ∙ sym (ap (code_in f) there);
       points = r.points ∙ ap (λ (n : ℕ). 1 + n) (sym (counted (table_names f) (variables_of h) (block_source h.body) 1)) ∙ ap (λ (o : Option Handler). 1 + points (code_in f o)) (sym there);
       params = r.params ∙ sym (ap params_in there);
     }
+
+pub handler_at : (f : File) (cs : List CheckedHandler) (i : ℕ) (c : CheckedHandler) → AllZip (IsResolved (table_names f)) f.handlers cs → slice_get cs i ≡ Some c → IsHandlerAt f i c
+handler_at f cs i c z e = (let at = zip_at (IsResolved (table_names f)) f.handlers cs i c z e in source_at f i c at.0 at.1 at.2)
 
 -- the bounds of the handler of a number
 pub bounds_at : (f : File) (cs : List CheckedHandler) (bs : List HandlerBounds) (i : ℕ) (b : HandlerBounds) → AllZip (IsResolved (table_names f)) f.handlers cs → AllZip AreBoundsOf cs bs → slice_get bs i ≡ Some b

@@ -25,6 +25,11 @@ pub record AreBoundsOf (c : CheckedHandler) (b : HandlerBounds) : Type 0 where
   pub calls : b.calls ≡ calls_bound (block_code c.body)
   pub work : b.work ≡ work_bound (block_code c.body)
 
+-- the file breaks no rule and keeps its bounds
+pub record IsKept (f : File) : Type 0 where
+  pub accepted : IsAccepted f
+  pub bounded : KeepsBounds f
+
 -- the file breaks no rule and keeps its bounds, and these are its handlers and their bounds
 pub record IsChecked (f : File) (handlers : List CheckedHandler) (bounds : List HandlerBounds) : Type 0 where
   pub accepted : IsAccepted f

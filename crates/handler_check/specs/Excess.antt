@@ -1,10 +1,13 @@
 -- The first handler that may do too much, as a walk over resolved handlers finds it.
-use Rattle.std.specs.Prelude.{ℕ, nat_lt, List, [], ◌∷◌, None}
+use Rattle.std.specs.Prelude.{◌≡◌, ℕ, nat_lt, List, [], ◌∷◌, None}
+use Rattle.std.specs.List.{AllZip}
+use Rattle.handler_trees.specs.declared.file.Handler.{Handler}
 use Rattle.handler_dialogue.specs.declared.tree.CheckedHandler.{CheckedHandler}
 use Rattle.handler_dialogue.specs.Bounds.{calls_bound, work_bound}
 use Rattle.handler_dialogue.specs.Code.{Code, block_code}
 use Rattle.handler_rules.specs.declared.refusal.CheckRefusal.TheVariants.{TooManyCalls, TooMuchWork}
 use Rattle.handler_rules.specs.Scan.{Fault, or_else, fault_if}
+use Rattle.handler_check.specs.Resolved.{IsResolved}
 
 abbrev pub code_excess : Code → ℕ → Fault
 code_excess code at = or_else (fault_if (nat_lt 10000 (calls_bound code)) (TooManyCalls at)) (fault_if (nat_lt 100000 (work_bound code)) (TooMuchWork at))
@@ -15,3 +18,7 @@ own_excess c = code_excess (block_code c.body) c.at
 abbrev pub excess : List CheckedHandler → Fault
 excess [] = None
 excess (c ∷ cs) = or_else (own_excess c) (excess cs)
+
+-- the same of handlers that are resolved where the tables have these names
+abbrev pub IsExcessOf : List ℕ → List Handler → Fault → Type 0
+IsExcessOf tables hs fault = (cs : List CheckedHandler) × AllZip (IsResolved tables) hs cs × (excess cs ≡ fault)

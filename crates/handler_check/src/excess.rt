@@ -1,9 +1,9 @@
 // Handlers that may do too much.
 
-ghost use Rattle.std.specs.Prelude.{IfOk};
+ghost use Rattle.std.specs.Prelude.{◌≡◌, IfOk};
 ghost use Rattle.std.specs.List.{AllZip};
 ghost use Rattle.handler_check.specs.Checked.{AreBoundsOf};
-ghost use Rattle.handler_check.specs.Excess.{excess, own_excess};
+ghost use Rattle.handler_check.specs.Excess as spec;
 ghost use Rattle.handler_rules.specs.Scan.{Found};
 
 use crate::bounds::{Counted, HandlerBounds, count_calls};
@@ -20,7 +20,7 @@ pub(crate) fn bound_all(
     alloc: Global,
     handlers: &[CheckedHandler],
 ) -> Result<Listed<HandlerBounds>, CheckRefusal>
-    ensures found { Found (excess handlers.now) result }
+    ensures found { Found (spec.excess handlers.now) result }
     ensures bounds { IfOk result (AllZip AreBoundsOf handlers.now) }
 {
     let mut found = Vec::new(alloc);
@@ -32,7 +32,7 @@ pub(crate) fn bound_all(
 }
 
 fn bound_handler(handler: &CheckedHandler) -> Result<HandlerBounds, CheckRefusal>
-    ensures found { Found (own_excess handler.now) result }
+    ensures found { Found (spec.own_excess handler.now) result }
     ensures bounds { IfOk result (AreBoundsOf handler.now) }
 {
     let body = handler.body.as_slice();
@@ -45,4 +45,19 @@ fn bound_handler(handler: &CheckedHandler) -> Result<HandlerBounds, CheckRefusal
         return Err(CheckRefusal::TooMuchWork { at: handler.at });
     }
     Ok(HandlerBounds { calls, work })
+}
+
+/// Whether a handler may do too much: that it may make too many calls, before that its work may be
+/// too much.
+pub(crate) fn excess(handler: &CheckedHandler) -> Option<CheckRefusal>
+    ensures { result ≡ spec.own_excess handler.now }
+{
+    let body = handler.body.as_slice();
+    if count_calls(Counted::Every, body) > 10_000 {
+        return Some(CheckRefusal::TooManyCalls { at: handler.at });
+    }
+    if count_work(body) > 100_000 {
+        return Some(CheckRefusal::TooMuchWork { at: handler.at });
+    }
+    None
 }

@@ -184,7 +184,7 @@ fn resolve_block(
 }
 
 /// A handler, or its first fault.
-fn resolve_handler(
+pub(crate) fn resolve_handler(
     alloc: Global,
     declared: &[TableDecl],
     tables: &[u32],

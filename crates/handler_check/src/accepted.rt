@@ -1,0 +1,89 @@
+// Accepted files.
+
+ghost use Rattle.std.specs.Prelude.{◌≡◌, ◌≢◌, ◌<◌, ◌≤◌, IfOk, MatchResult, Some, length, slice_get};
+ghost use Rattle.handler_trees.specs.declared.file.Handler.{Handler};
+ghost use Rattle.handler_check.specs.Checked.{HandlerWithin};
+ghost use Rattle.handler_check.specs.Checking.{IsAccepted, IsRefusal};
+ghost use Rattle.handler_check.specs.Resolved.{IsResolved, code_at, table_names};
+ghost use Rattle.handler_dialogue.specs.Code.{block_code};
+ghost use Rattle.handler_rules.specs.Bounds.{KeepsBounds};
+ghost use Rattle.handler_rules.specs.declared.refusal.CheckRefusal.TheVariants as refusal;
+ghost use Rattle.handler_rules.specs.FirstFault.{PlacesRise};
+
+use crate::looking::{look, resolve_one};
+use handler_dialogue::CheckedHandler;
+use handler_rules::CheckRefusal;
+use handler_trees::File;
+use session_values::NoMemory;
+use std::alloc::Global;
+use std::marker::Model;
+
+/// A file of handlers that breaks no rule. Contracts see it as the file. It keeps no resolved
+/// handlers, which would take as much memory again.
+#[derive(Drop)]
+pub struct Accepted {
+    file: File,
+}
+
+impl Model for Accepted {
+    ghost use Rattle.std.specs.Coded.{codes};
+    ghost use Rattle.handler_trees.specs.contracts.stmt.Stmt as stmt;
+    ghost use Rattle.handler_trees.specs.declared.file.File.{File as Tree};
+    ghost use Rattle.handler_check.specs.Checked.{IsKept};
+
+    ghost Value = { Tree };
+
+    ghost coded = { Prim.hlevel (codes, stmt.the_row.coded) };
+
+    ghost view = { λ a. a.file };
+
+    ghost invariant = { λ a. IsKept a.file };
+}
+
+/// Checks a file as `check` does, handler by handler.
+pub fn accept(alloc: Global, file: File) -> Result<Accepted, CheckRefusal>
+    requires rise { PlacesRise file }
+    requires bounds { KeepsBounds file }
+    ensures file { IfOk result (λ accepted. accepted ≡ file) }
+    ensures rules { MatchResult result (λ _. IsAccepted file) (λ e. e ≢ refusal.NoMemory
+        → IsRefusal file e) }
+{
+    let beyond = look(alloc, &file)?;
+    match beyond {
+        None => Ok(Accepted { file }),
+        Some(e) => Err(e),
+    }
+}
+
+impl Accepted {
+    pub fn file(&self) -> &File
+        ensures file { result.now ≡ self.now }
+        ensures accepted { IsAccepted self.now }
+        ensures bounds { KeepsBounds self.now }
+    {
+        &self.file
+    }
+
+    /// How many handlers it has.
+    pub fn handlers(&self) -> u32
+        ensures count { result ≡ length self.now.handlers }
+    {
+        self.file.handlers.len()
+    }
+
+    /// The handler of this number, which each call resolves anew.
+    pub fn resolved(&self, alloc: Global, h: u32) -> Result<CheckedHandler, NoMemory>
+        requires { h < length self.now.handlers }
+        ensures resolved { IfOk result (λ c. (source : Handler)
+            → slice_get self.now.handlers h ≡ Some source
+            → IsResolved (table_names self.now) source c) }
+        ensures body { IfOk result (λ c. block_code c.body ≡ code_at self.now h) }
+        ensures within { HandlerWithin self.now h }
+    {
+        match resolve_one(alloc, &self.file, h) {
+            Ok(c) => Ok(c),
+            // An accepted file has no fault.
+            Err(_) => Err(NoMemory),
+        }
+    }
+}
