@@ -19,7 +19,7 @@ use Rattle.may_use_analysis.specs.declared.refusal.AnalysisRefusal.{AnalysisRefu
 use Rattle.may_use_analysis.specs.declared.refusal.AnalysisRefusal.TheVariants.{TooManySymbols, NoMemory}
 use Rattle.may_use_analysis.specs.Trails.{Symbols, LaterAt}
 use Rattle.may_use_analysis.specs.Flow.{Flow, FlowPoint}
-use Rattle.may_use_analysis.specs.Later.{IsLaterList, HasLists, AreLater, places_in, places_at, IsShort, IsBefore, IsExcess, IsTooMany}
+use Rattle.may_use_analysis.specs.Later.{IsLaterList, HasLists, HasLater, AreLater, places_in, places_at, IsShort, IsBefore, IsExcess, IsTooMany}
 use Rattle.may_use_analysis.specs.Numbered.{stored_at, by_number, AreStored, AreShortBelow, IsFirstExcess}
 use Rattle.may_use_analysis.specs.Ordered.{Lists}
 use Rattle.may_use_analysis.specs.Places.{places}
@@ -211,6 +211,16 @@ more_lists f items new lists h len is each here k lt = go (cases_lt k h)
         let e : k ≡ length items = omega arith in
         let at : get_or new k [] ≡ lists = ap (λ (z : List (List Stored)). get_or z k []) is ∙ ap (λ (j : ℕ). get_or (items ++ lists ∷ []) j []) e ∙ get_or-append_seam items lists [] [] in
         subst (λ (z : List Stored). HasLists (code_at f k) (by_number z)) (sym at) (subst (λ (j : ℕ). HasLists (code_at f j) (by_number lists)) (sym (e ∙ len)) here)
+
+-- what is kept of all handlers is their lists
+pub lists_of_all : (f : File) (kept : List (List Stored)) (h : ℕ) → length f.handlers ≤ h → length kept ≡ h → h ≤ length f.handlers → ((k : ℕ) → k < h → HasLists (code_at f k) (by_number (get_or kept k []))) → HasLater f
+lists_of_all f kept h all len few each = (
+  map by_number kept,
+  record {
+    count = omega (arith, length-map kept by_number, len);
+    each = λ k lt. subst (HasLists (code_at f k)) (sym (get_or-map by_number kept k [])) (each k (omega arith));
+  },
+)
 
 -- ---- refusals
 

@@ -61,3 +61,7 @@ pub record IsExcess (f : File) (at count : ℕ) : Type 0 where
 abbrev pub IsTooMany : File → AnalysisRefusal → Type 0
 IsTooMany f (TooManySymbols at count) = IsExcess f at count
 IsTooMany f NoMemory = ⊥
+
+-- each point of each handler has a list of at most 256 symbols
+abbrev pub HasLater : File → Type 0
+HasLater f = (all : List (List (List Symbol))) × AreLater f all

@@ -15,7 +15,7 @@ use symbolic_ops::Symbol;
 
 /// How many symbols are kept of a file, in lists of which no two of a handler that were kept close
 /// to each other are equal.
-const ROOM: usize = 12_582_912;
+pub(crate) const ROOM: usize = 12_582_912;
 
 /// The list of each point of each handler of a file. Contracts see it as these lists, by the
 /// numbers of handlers and points.

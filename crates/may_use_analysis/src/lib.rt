@@ -1,6 +1,7 @@
 //! The operations that may still come at each point of a handler.
 #![tactic(auto)]
 
+mod bounded;
 mod handler;
 mod heads;
 mod kept;
@@ -13,5 +14,6 @@ mod refusal;
 mod stores;
 mod walk;
 
+pub use bounded::bound_later_sets;
 pub use later::{Later, later_sets};
 pub use refusal::AnalysisRefusal;

@@ -1,0 +1,33 @@
+// Whether the points of a file have lists, seen handler by handler.
+
+ghost use Rattle.std.specs.Prelude.{◌≢◌, MatchResult};
+ghost use Rattle.may_use_analysis.specs.declared.refusal.AnalysisRefusal.TheVariants as refusal;
+ghost use Rattle.may_use_analysis.specs.Later.{HasLater, IsTooMany};
+
+use crate::handler::{first_excess, handler_lists};
+use crate::later::ROOM;
+use crate::places::place_of;
+use crate::refusal::AnalysisRefusal;
+use handler_check::Accepted;
+use std::alloc::Global;
+
+/// Sees that at no point of a file more than 256 symbols may still come, as `later_sets` does, which
+/// keeps the lists. Here one handler is held at a time, with its lists.
+pub fn bound_later_sets(alloc: Global, accepted: &Accepted) -> Result<(), AnalysisRefusal>
+    ensures { MatchResult result (λ _. HasLater accepted.now) (λ e. e ≢ refusal.NoMemory
+        → IsTooMany accepted.now e) }
+{
+    for h in 0..accepted.handlers() {
+        let handler = accepted.resolved(alloc, h)?;
+        let lists = handler_lists(alloc, &handler, ROOM)?;
+        match first_excess(&lists) {
+            None => {}
+            Some(excess) => {
+                let at = place_of(alloc, &handler, excess.point)?;
+                let count = excess.count;
+                return Err(AnalysisRefusal::TooManySymbols { at, count });
+            }
+        }
+    }
+    Ok(())
+}
