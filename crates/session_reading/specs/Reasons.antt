@@ -1,7 +1,7 @@
 -- Why nothing is made of a text: memory ran out, or this is the first broken rule.
 use Rattle.std.specs.Prelude.{ℕ, List}
 use Rattle.handler_trees.specs.declared.file.File.{File}
-use Rattle.handler_check.specs.Checking.{IsRefusal}
+use Rattle.handler_check.specs.Checking.{IsAccepted, IsRefusal}
 use Rattle.may_use_analysis.specs.Later.{IsTooMany}
 use Rattle.command_words.specs.declared.command.Command.{Command}
 use Rattle.session_answers.specs.declared.status.Fault.TheVariants as fault
@@ -24,6 +24,12 @@ abbrev pub IsAnalysisReason : File → Unserved → Type 0
 IsAnalysisReason file NoMemory = Unit {0}
 IsAnalysisReason file (Refused (fault.Analysis e)) = IsTooMany file e
 IsAnalysisReason file (Refused e) = ⊥
+
+abbrev pub IsFileReason : File → Unserved → Type 0
+IsFileReason file NoMemory = Unit {0}
+IsFileReason file (Refused (fault.Check e)) = IsRefusal file e
+IsFileReason file (Refused (fault.Analysis e)) = IsAccepted file × IsTooMany file e
+IsFileReason file (Refused e) = ⊥
 
 abbrev pub IsProgramReason : List ℕ → Unserved → Type 0
 IsProgramReason text NoMemory = Unit {0}

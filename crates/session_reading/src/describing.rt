@@ -1,21 +1,22 @@
 // Describing: from the bytes of a file of handlers to its text.
 
-ghost use Rattle.std.specs.Prelude.{◌≡◌, ◌≤◌, length, string_bytes, IfOk, IfErr};
-ghost use Rattle.handler_syntax.specs.Language.{AreNamed, file_mentions};
+ghost use Rattle.std.specs.Prelude.{◌≡◌, ◌≤◌, [], Bool, true, false, length, string_bytes, IfOk, IfErr};
+ghost use Rattle.handler_syntax.specs.Language.{AreNamed, IsSourceOf, file_mentions, names_of};
 ghost use Rattle.session_answers.specs.Input.{IsInput};
 ghost use Rattle.session_answers.specs.Answer.{IsTextOf};
 ghost use Rattle.session_answers.specs.Ways.{describing};
-ghost use Rattle.session_reading.specs.Programs.{described};
-ghost use Rattle.session_reading.specs.Reasons.{IsReason, IsProgramReason};
+ghost use Rattle.session_reading.specs.Programs.{Describes, IsParsed};
+ghost use Rattle.session_reading.specs.Reasons.{IsFileReason, IsReason, IsSyntaxReason};
 
 use crate::naming::names_of_input;
-use crate::program::read_program;
+use crate::program::{accepted_file, bounded_file, checked_file, read_file, with_declarations};
 use crate::unserved::Unserved;
-use declaration_insertion::{Program, show};
+use declaration_insertion::show;
 use handler_printing::print;
+use handler_syntax::File;
 use request_files::divide;
 use session_answers::Fault;
-use session_values::{Names, NoMemory};
+use session_values::Names;
 use std::alloc::Global;
 
 /// The canonical text of a file of handlers; with `shown`, with its declarations.
@@ -26,41 +27,82 @@ pub fn described_text(alloc: Global, shown: bool, bytes: &[u8]) -> Result<String
         (λ text. IsTextOf (describing shown) bytes.now (string_bytes text)) }
     ensures refused { IfErr result (IsReason (describing shown) bytes.now) }
 {
+    match parsed(alloc, bytes) {
+        Ok((file, names)) => match text_of_file(alloc, shown, file, &names) {
+            Ok(text) => Ok(text),
+            Err(e) => Err(e),
+        },
+        Err(e) => Err(e),
+    }
+}
+
+// The file that some bytes are, and the names of its text.
+fn parsed(alloc: Global, bytes: &[u8]) -> Result<(File, Names), Unserved>
+    requires { length bytes.now ≤ 4194304 }
+    ensures parsed { IfOk result (λ found. IsParsed bytes.now found.0 found.1) }
+    ensures refused { IfErr result (λ e. (shown : Bool)
+        → IsReason (describing shown) bytes.now e) }
+{
     let Ok(text) = std::str::from_utf8(bytes) else {
         return Err(Unserved::Refused(Fault::NotText));
     };
     if divide(text).is_some() {
         return Err(Unserved::Refused(Fault::HasRequests));
     }
-    text_of_handlers(alloc, shown, text)
-}
-
-// The text of the handlers that a text is.
-fn text_of_handlers(alloc: Global, shown: bool, text: &str) -> Result<String, Unserved>
-    requires { length text.now ≤ 4194304 }
-    ensures text { IfOk result
-        (λ out. IsTextOf (describing shown) text.now (string_bytes out)) }
-    ensures refused { IfErr result (IsProgramReason text.now) }
-{
-    let mut names = names_of_input(alloc, text, "");
-    match read_program(alloc, text, &mut names) {
-        Ok(program) => match printed(alloc, shown, &program, &names) {
-            Ok(text) => Ok(text),
-            Err(_) => Err(Unserved::NoMemory),
-        },
+    match named_file(alloc, text) {
+        Ok(found) => Ok(found),
         Err(e) => Err(e),
     }
 }
 
-// The text of a program.
-fn printed(alloc: Global, shown: bool, program: &Program, names: &Names) -> Result<String, NoMemory>
-    requires { AreNamed names.now (file_mentions program.now.file) }
-    ensures { IfOk result
-        (λ text. string_bytes text ≡ described shown names.now program.now) }
+// The file that a text is, and its names.
+fn named_file(alloc: Global, text: &str) -> Result<(File, Names), Unserved>
+    requires { length text.now ≤ 4194304 }
+    ensures form { IfOk result (λ found. IsSourceOf [] text.now found.0) }
+    ensures names { IfOk result (λ found. found.1 ≡ names_of [] text.now) }
+    ensures named { IfOk result (λ found. AreNamed found.1 (file_mentions found.0)) }
+    ensures refused { IfErr result (IsSyntaxReason text.now) }
+{
+    let mut names = names_of_input(alloc, text, "");
+    let file = read_file(alloc, text, &mut names)?;
+    Ok((file, names))
+}
+
+// The text of a file.
+fn text_of_file(alloc: Global, shown: bool, file: File, names: &Names) -> Result<String, Unserved>
+    requires { AreNamed names.now (file_mentions file) }
+    ensures text { IfOk result (λ text. Describes shown names.now file (string_bytes text)) }
+    ensures refused { IfErr result (IsFileReason file) }
 {
     if shown {
-        show(alloc, program, names)
+        declared_text(alloc, file, names)
     } else {
-        print(alloc, program.checked().file(), names)
+        canonical_text(alloc, file, names)
+    }
+}
+
+// The canonical text of a file. One handler is resolved at a time.
+fn canonical_text(alloc: Global, file: File, names: &Names) -> Result<String, Unserved>
+    requires { AreNamed names.now (file_mentions file) }
+    ensures text { IfOk result (λ text. Describes false names.now file (string_bytes text)) }
+    ensures refused { IfErr result (IsFileReason file) }
+{
+    let accepted = bounded_file(alloc, accepted_file(alloc, file)?)?;
+    match print(alloc, accepted.file(), names) {
+        Ok(text) => Ok(text),
+        Err(_) => Err(Unserved::NoMemory),
+    }
+}
+
+// The text of a file with its declarations.
+fn declared_text(alloc: Global, file: File, names: &Names) -> Result<String, Unserved>
+    requires { AreNamed names.now (file_mentions file) }
+    ensures text { IfOk result (λ text. Describes true names.now file (string_bytes text)) }
+    ensures refused { IfErr result (IsFileReason file) }
+{
+    let program = with_declarations(alloc, checked_file(alloc, file)?)?;
+    match show(alloc, &program, names) {
+        Ok(text) => Ok(text),
+        Err(_) => Err(Unserved::NoMemory),
     }
 }

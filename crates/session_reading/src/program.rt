@@ -3,15 +3,15 @@
 ghost use Rattle.std.specs.Prelude.{◌≡◌, ◌≤◌, [], length, IfOk, IfErr, OnOk};
 ghost use Rattle.handler_check.specs.Checking.{IsAccepted};
 ghost use Rattle.handler_syntax.specs.Language.{names_of, file_mentions, AreNamed, IsSourceOf, IsNamedFile};
-ghost use Rattle.may_use_analysis.specs.Later.{AreLater};
+ghost use Rattle.may_use_analysis.specs.Later.{AreLater, HasLater};
 ghost use Rattle.session_reading.specs.Programs.{IsProgramOf};
 ghost use Rattle.session_reading.specs.Reasons.{IsSyntaxReason, IsCheckReason, IsAnalysisReason, IsProgramReason};
 
 use crate::unserved::Unserved;
 use declaration_insertion::{Program, insert};
-use handler_check::{CheckRefusal, Checked, check};
+use handler_check::{Accepted, CheckRefusal, Checked, accept, check};
 use handler_syntax::{File, SyntaxRefusal, parse};
-use may_use_analysis::{AnalysisRefusal, later_sets};
+use may_use_analysis::{AnalysisRefusal, bound_later_sets, later_sets};
 use session_answers::{Certain, Fault};
 use session_values::Names;
 use std::alloc::Global;
@@ -33,7 +33,7 @@ pub fn read_program(alloc: Global, text: &str, names: &mut Names) -> Result<Prog
 }
 
 // The file that a text is.
-fn read_file(alloc: Global, text: &str, names: &mut Names) -> Result<File, Unserved>
+pub(crate) fn read_file(alloc: Global, text: &str, names: &mut Names) -> Result<File, Unserved>
     requires short { length text.now ≤ 4194304 }
     requires fresh { names.old ≡ [] }
     ensures file { IfOk result (IsSourceOf [] text.now) }
@@ -51,7 +51,7 @@ fn read_file(alloc: Global, text: &str, names: &mut Names) -> Result<File, Unser
 }
 
 // A file that breaks no rule of the checker.
-fn checked_file(alloc: Global, file: File) -> Result<Checked, Unserved>
+pub(crate) fn checked_file(alloc: Global, file: File) -> Result<Checked, Unserved>
     ensures same { IfOk result (λ checked. checked ≡ file) }
     ensures accepted { OnOk result (IsAccepted file) }
     ensures refused { IfErr result (IsCheckReason file) }
@@ -64,7 +64,7 @@ fn checked_file(alloc: Global, file: File) -> Result<Checked, Unserved>
 }
 
 // A file with its declarations, where at no point too many operations may still come.
-fn with_declarations(alloc: Global, checked: Checked) -> Result<Program, Unserved>
+pub(crate) fn with_declarations(alloc: Global, checked: Checked) -> Result<Program, Unserved>
     ensures file { IfOk result (λ p. p.file ≡ checked) }
     ensures later { IfOk result (λ p. AreLater p.file p.lists) }
     ensures refused { IfErr result (IsAnalysisReason checked) }
@@ -74,6 +74,32 @@ fn with_declarations(alloc: Global, checked: Checked) -> Result<Program, Unserve
             Ok(program) => Ok(program),
             Err(_) => Err(Unserved::NoMemory),
         },
+        Err(AnalysisRefusal::NoMemory) => Err(Unserved::NoMemory),
+        Err(e) => Err(Unserved::Refused(Fault::Analysis(Certain::new(e)))),
+    }
+}
+
+// A file that breaks no rule of the checker, without resolved handlers.
+pub(crate) fn accepted_file(alloc: Global, file: File) -> Result<Accepted, Unserved>
+    ensures same { IfOk result (λ accepted. accepted ≡ file) }
+    ensures accepted { OnOk result (IsAccepted file) }
+    ensures refused { IfErr result (IsCheckReason file) }
+{
+    match accept(alloc, file.into_tree()) {
+        Ok(accepted) => Ok(accepted),
+        Err(CheckRefusal::NoMemory) => Err(Unserved::NoMemory),
+        Err(e) => Err(Unserved::Refused(Fault::Check(Certain::new(e)))),
+    }
+}
+
+// The same file, where at no point too many operations may still come.
+pub(crate) fn bounded_file(alloc: Global, accepted: Accepted) -> Result<Accepted, Unserved>
+    ensures same { IfOk result (λ bounded. bounded ≡ accepted) }
+    ensures later { OnOk result (HasLater accepted) }
+    ensures refused { IfErr result (IsAnalysisReason accepted) }
+{
+    match bound_later_sets(alloc, &accepted) {
+        Ok(()) => Ok(accepted),
         Err(AnalysisRefusal::NoMemory) => Err(Unserved::NoMemory),
         Err(e) => Err(Unserved::Refused(Fault::Analysis(Certain::new(e)))),
     }
