@@ -98,18 +98,21 @@ syntax_reason shown bytes (Refused fault.NotText) i h = absurd h
 syntax_reason shown bytes (Refused fault.NoRequests) i h = absurd h
 syntax_reason shown bytes (Refused fault.HasRequests) i h = absurd h
 
-abbrev pub as_program : (bytes : List ℕ) (file : File) (names : List (List ℕ)) → IsParsed bytes file names → IsAccepted file → HasLater file → IsProgram bytes file
-as_program bytes file names p a l = record { form = p.form; accepted = a; lists = l.0; later = l.1 }
+abbrev pub as_program : (text : List ℕ) (p : ProgramView) → IsProgramOf text p → IsProgram text p.file
+as_program text p h = record { form = h.form; accepted = h.accepted; lists = p.lists; later = h.later }
+
+abbrev pub as_parsed : (bytes : List ℕ) (file : File) (names : List (List ℕ)) → IsParsed bytes file names → IsAccepted file → HasLater file → IsProgram bytes file
+as_parsed bytes file names p a l = record { form = p.form; accepted = a; lists = l.0; later = l.1 }
 
 pub described_is : (shown : Bool) (bytes text : List ℕ) (file : File) (names : List (List ℕ)) → IsParsed bytes file names → Describes shown names file text → IsTextOf (describing shown) bytes text
 described_is true bytes text file names p d = record {
   file = file;
-  program = as_program bytes file names p d.accepted d.later;
+  program = as_parsed bytes file names p d.accepted d.later;
   text_is = d.text_is ∙ ap (λ (ns : List (List ℕ)). shown_text ns (shown_of (record { file = file; lists = d.later.0 })) file) p.names_are;
 }
 described_is false bytes text file names p d = record {
   file = file;
-  program = as_program bytes file names p d.accepted d.later;
+  program = as_parsed bytes file names p d.accepted d.later;
   text_is = d.text_is ∙ ap (λ (ns : List (List ℕ)). canonical_text ns file) p.names_are;
 }
 
