@@ -1,3 +1,4 @@
+pub mod Finite
 pub mod FlowLemmas
 pub mod KeptLemmas
 pub mod Literal

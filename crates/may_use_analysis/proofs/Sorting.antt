@@ -96,7 +96,7 @@ module _ {X : Type 0} (R : X → X → Ordering) where
       both [] k = h.0
       both (z ∷ zs) k = (k.0, both zs k.1)
 
-  sorted_cons : (x : X) (xs : List X) → AllByRecursion (λ y. R x y ≡ Less) xs → IsStrictlySortedBy R xs → IsStrictlySortedBy R (x ∷ xs)
+  pub sorted_cons : (x : X) (xs : List X) → AllByRecursion (λ y. R x y ≡ Less) xs → IsStrictlySortedBy R xs → IsStrictlySortedBy R (x ∷ xs)
   unfolding IsStrictlySortedBy
   sorted_cons x xs h s = (h, s)
 

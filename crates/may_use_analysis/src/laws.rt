@@ -1,10 +1,11 @@
 //! Laws on the lists of points.
 
-ghost use Rattle.std.specs.Prelude.{◌≡◌, ◌↔◌, List};
+ghost use Rattle.std.specs.Prelude.{◌≡◌, ◌↔◌, ℕ, List};
 ghost use Rattle.symbolic_ops.specs.declared.symbol.Symbol.{Symbol};
 ghost use Rattle.handler_trees.specs.declared.file.File.{File};
+ghost use Rattle.handler_dialogue.specs.Code.{Code};
 ghost use Rattle.may_use_analysis.specs.declared.refusal.AnalysisRefusal.{AnalysisRefusal};
-ghost use Rattle.may_use_analysis.specs.Later.{AreLater, IsTooMany};
+ghost use Rattle.may_use_analysis.specs.Later.{AreLater, IsLaterList, IsTooMany};
 ghost use Rattle.may_use_analysis.specs.Steps.{Step};
 ghost use Rattle.may_use_analysis.specs.Trails.{Shows, ShowsSomewhere};
 
@@ -15,6 +16,11 @@ pub fn one_answer()
     ensures refusal { (f : File) (d e : AnalysisRefusal) → IsTooMany f d → IsTooMany f e → d ≡ e }
     ensures apart { (f : File) (all : List (List (List Symbol))) (e : AnalysisRefusal)
         → AreLater f all → IsTooMany f e → ⊥ }
+{}
+
+/// The symbols of all trails from a point are finitely many: there is a list of them.
+pub fn each_point_has_its_list()
+    ensures { (code : Code) (p : ℕ) → (list : List Symbol) × IsLaterList code p list }
 {}
 
 /// What a trail shows are the symbols of its operations, each with its arguments carried back over

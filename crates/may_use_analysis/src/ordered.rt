@@ -145,7 +145,8 @@ impl Ordered {
 
     /// Takes a symbol into its place.
     pub(crate) fn insert(&mut self, s: Symbol) -> Result<(), NoMemory>
-        ensures { OnOk result ((q : Symbol) → Contains self.new q ↔ (Contains self.old q ⊎ (q ≡ s))) }
+        ensures { OnOk result ((q : Symbol) → Contains self.new q
+            ↔ (Contains self.old q ⊎ (q ≡ s))) }
     {
         match find(self.symbols.as_slice(), &s) {
             Ok(_) => Ok(()),
@@ -161,8 +162,10 @@ impl Ordered {
 
     /// Takes these symbols in, and says whether some of them are new.
     pub(crate) fn join(&mut self, more: &Ordered) -> Result<bool, NoMemory>
-        ensures union { OnOk result ((q : Symbol) → Contains self.new q ↔ (Contains self.old q ⊎ Contains more.now q)) }
-        ensures same { IfOk result (λ grew. OnFalse grew ((q : Symbol) → Contains more.now q → Contains self.old q)) }
+        ensures union { OnOk result ((q : Symbol) → Contains self.new q
+            ↔ (Contains self.old q ⊎ Contains more.now q)) }
+        ensures same { IfOk result (λ grew. OnFalse grew ((q : Symbol) → Contains more.now q
+            → Contains self.old q)) }
     {
         if has_all(self.symbols.as_slice(), more.as_slice()) {
             return Ok(false);

@@ -51,8 +51,8 @@ pub(crate) fn place_of(
     point: usize,
 ) -> Result<u32, NoMemory>
     requires { point < 1 + points (block_code handler.now.body) }
-    ensures { IfOk result (λ at. slice_get (handler.now.at ∷ places (block_code handler.now.body)) point
-        ≡ Some at) }
+    ensures { IfOk result (λ at.
+        slice_get (handler.now.at ∷ places (block_code handler.now.body)) point ≡ Some at) }
 {
     let mut places = Vec::new(alloc);
     places.push(handler.at)?;

@@ -101,7 +101,8 @@ fn before_loop(
     heads: &mut Heads,
     out: &mut PointLists,
 ) -> Result<Ordered, NoMemory>
-    requires numbered { (low : ℕ) × IsNumbered (Loop 0 point 0 var (block_code body.now) Finish) low }
+    requires numbered { (low : ℕ)
+        × IsNumbered (Loop 0 point 0 var (block_code body.now) Finish) low }
     requires warm { AreWarm heads.old (Loop 0 point 0 var (block_code body.now) Finish)
         (Contains after) }
     ensures set { IfOk result (λ r. Are r (Head var (block_code body.now) (Contains after))) }
