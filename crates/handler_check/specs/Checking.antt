@@ -11,8 +11,10 @@ use Rattle.handler_check.specs.Resolved.{handler_code}
 
 -- a handler that may do too much, at the place of its name
 abbrev pub IsBeyond : File → CheckRefusal → Type 0
-IsBeyond f (TooManyCalls at) = (h : Handler) × Contains f.handlers h × (h.at ≡ at) × (10000 < calls_bound (handler_code f h))
-IsBeyond f (TooMuchWork at) = (h : Handler) × Contains f.handlers h × (h.at ≡ at) × (100000 < work_bound (handler_code f h))
+IsBeyond f (TooManyCalls at) = (h : Handler) × Contains f.handlers h × (h.at ≡ at)
+    × (10000 < calls_bound (handler_code f h))
+IsBeyond f (TooMuchWork at) = (h : Handler) × Contains f.handlers h × (h.at ≡ at)
+    × (100000 < work_bound (handler_code f h))
 IsBeyond f (Twice at) = ⊥
 IsBeyond f (Unknown at) = ⊥
 IsBeyond f (Arity at) = ⊥

@@ -10,7 +10,8 @@ use Rattle.handler_rules.specs.Scan.{Fault, or_else, fault_if}
 use Rattle.handler_check.specs.Resolved.{IsResolved}
 
 abbrev pub code_excess : Code → ℕ → Fault
-code_excess code at = or_else (fault_if (nat_lt 10000 (calls_bound code)) (TooManyCalls at)) (fault_if (nat_lt 100000 (work_bound code)) (TooMuchWork at))
+code_excess code at = or_else (fault_if (nat_lt 10000 (calls_bound code)) (TooManyCalls at))
+    (fault_if (nat_lt 100000 (work_bound code)) (TooMuchWork at))
 
 abbrev pub own_excess : CheckedHandler → Fault
 own_excess c = code_excess (block_code c.body) c.at
@@ -21,4 +22,5 @@ excess (c ∷ cs) = or_else (own_excess c) (excess cs)
 
 -- the same of handlers that are resolved where the tables have these names
 abbrev pub IsExcessOf : List ℕ → List Handler → Fault → Type 0
-IsExcessOf tables hs fault = (cs : List CheckedHandler) × AllZip (IsResolved tables) hs cs × (excess cs ≡ fault)
+IsExcessOf tables hs fault = (cs : List CheckedHandler) × AllZip (IsResolved tables) hs cs
+    × (excess cs ≡ fault)

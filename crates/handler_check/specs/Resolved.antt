@@ -43,7 +43,11 @@ abbrev pub term_of : List ℕ → Expr → code.Term
 term_of variables = fold-Expr code.Term (term_step variables)
 
 abbrev pub test_of : List ℕ → Cond → code.Test
-test_of variables c = record { compare = c.compare; left = term_of variables c.left; right = term_of variables c.right }
+test_of variables c = record {
+  compare = c.compare;
+  left = term_of variables c.left;
+  right = term_of variables c.right;
+}
 
 -- a call's first and second argument, each nil where there is none
 abbrev pub key_of : List ℕ → List Named → CheckedAtom
@@ -56,7 +60,12 @@ value_of variables (a ∷ []) = Lit Nil
 value_of variables (a ∷ b ∷ more) = atom_of variables b
 
 abbrev pub call_of : List ℕ → List ℕ → Call → CheckedCall
-call_of tables variables c = record { kind = c.kind; table = number_in tables c.table; key = key_of variables c.args; value = value_of variables c.args }
+call_of tables variables c = record {
+  kind = c.kind;
+  table = number_in tables c.table;
+  key = key_of variables c.args;
+  value = value_of variables c.args;
+}
 
 -- ---- points
 abbrev pub right_points : Right → ℕ
@@ -77,20 +86,29 @@ points_of (Answer es rest) = points_of rest
 
 -- a variable that is given its right side, whose point has this number if it has one
 abbrev pub stored : List ℕ → List ℕ → ℕ → Right → ℕ → code.Code → code.Code
-stored tables variables name (right.Plain e) p rest = code.Move (number_in variables name) (term_of variables e) rest
-stored tables variables name (right.Result c) p rest = code.Ask c.at p (Some (number_in variables name)) (call_of tables variables c) rest
+stored tables variables name (right.Plain e) p rest = code.Move (number_in variables name)
+    (term_of variables e) rest
+stored tables variables name (right.Result c) p rest = code.Ask c.at p
+    (Some (number_in variables name)) (call_of tables variables c) rest
 
 -- a block whose points are counted from this number
 abbrev pub code_of : List ℕ → List ℕ → Source → ℕ → code.Code
 code_of tables variables Finish p = code.Finish
-code_of tables variables (Let n at r rest) p = stored tables variables n r p (code_of tables variables rest (p + right_points r))
-code_of tables variables (Assign n at r rest) p = stored tables variables n r p (code_of tables variables rest (p + right_points r))
-code_of tables variables (Do c rest) p = code.Ask c.at p None (call_of tables variables c) (code_of tables variables rest (p + 1))
+code_of tables variables (Let n at r rest) p = stored tables variables n r p
+    (code_of tables variables rest (p + right_points r))
+code_of tables variables (Assign n at r rest) p = stored tables variables n r p
+    (code_of tables variables rest (p + right_points r))
+code_of tables variables (Do c rest) p = code.Ask c.at p None (call_of tables variables c)
+    (code_of tables variables rest (p + 1))
 code_of tables variables (Choose at c a b rest) p =
-    code.Fork at p (p + 1 + points_of a) (test_of variables c) (code_of tables variables a (p + 1)) (code_of tables variables b (p + 2 + points_of a)) (code_of tables variables rest (p + 2 + points_of a + points_of b))
+    code.Fork at p (p + 1 + points_of a) (test_of variables c) (code_of tables variables a (p + 1))
+    (code_of tables variables b (p + 2 + points_of a))
+    (code_of tables variables rest (p + 2 + points_of a + points_of b))
 code_of tables variables (Repeat at n n_at name name_at body rest) p =
-    code.Loop at (p + points_of body) n (number_in variables name) (code_of tables variables body p) (code_of tables variables rest (p + points_of body + 1))
-code_of tables variables (Answer es rest) p = code.Quit (map (term_of variables) es) (code_of tables variables rest p)
+    code.Loop at (p + points_of body) n (number_in variables name)
+    (code_of tables variables body p) (code_of tables variables rest (p + points_of body + 1))
+code_of tables variables (Answer es rest) p = code.Quit (map (term_of variables) es)
+    (code_of tables variables rest p)
 
 -- ---- files
 

@@ -102,7 +102,8 @@ impl Checked {
             ≡ Some source) × (source.name ≡ name)) }
         ensures none { IfNone result ((h : ℕ) (source : Handler) → slice_get self.now.handlers h
             ≡ Some source → source.name ≡ name → ⊥) }
-        ensures index { result ≡ position (λ (source : Handler). source.name == name) self.now.handlers }
+        ensures index { result ≡ position (λ (source : Handler). source.name == name)
+            self.now.handlers }
     {
         let handlers = &self.file.handlers;
         for h in 0..handlers.len() {

@@ -191,7 +191,8 @@ pub(crate) fn resolve_handler(
     handler: &Handler,
 ) -> Result<CheckedHandler, CheckRefusal>
     requires { length tables.now < 2 ^ 32 }
-    ensures found { Found (scan of_variables declared.now [] [] (handler_marks handler.now)) result }
+    ensures found { Found (scan of_variables declared.now [] [] (handler_marks handler.now))
+        result }
     ensures handler { IfOk result (spec.IsResolved tables.now handler.now) }
 {
     let names = find_in_handler(alloc, declared, handler)?;

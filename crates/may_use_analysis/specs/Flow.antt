@@ -21,7 +21,8 @@ abbrev pub Flow : Code → Symbols → Symbols
 Flow Finish after = after
 Flow (Move x e rest) after = Back (store_step x e) (Flow rest after)
 Flow (Ask at p x c rest) after = λ s. (s ≡ symbol_of c) ⊎ RepliedBack x (Flow rest after) s
-Flow (Fork at p q test a b rest) after = λ s. Flow a (Flow rest after) s ⊎ Flow b (Flow rest after) s
+Flow (Fork at p q test a b rest) after = λ s. Flow a (Flow rest after) s
+    ⊎ Flow b (Flow rest after) s
 Flow (Loop at p n x body rest) after = λ s. (k : ℕ) × Turned x (Flow body) k (Flow rest after) s
 Flow (Quit es rest) after = λ s. ⊥
 
@@ -35,9 +36,12 @@ FlowPoint Finish i after s = ⊥
 FlowPoint (Move x e rest) i after s = FlowPoint rest i after s
 FlowPoint (Ask at p x c rest) i after s = ((i ≡ p) × Flow rest after s) ⊎ FlowPoint rest i after s
 FlowPoint (Fork at p q test a b rest) i after s =
-    ((i ≡ p) × Flow a (Flow rest after) s) ⊎ (((i ≡ q) × Flow b (Flow rest after) s) ⊎ (FlowPoint a i (Flow rest after) s ⊎ (FlowPoint b i (Flow rest after) s ⊎ FlowPoint rest i after s)))
+    ((i ≡ p) × Flow a (Flow rest after) s) ⊎ (((i ≡ q) × Flow b (Flow rest after) s)
+    ⊎ (FlowPoint a i (Flow rest after) s ⊎ (FlowPoint b i (Flow rest after) s
+    ⊎ FlowPoint rest i after s)))
 FlowPoint (Loop at p n x body rest) i after s =
-    ((i ≡ p) × Flow rest after s) ⊎ (FlowPoint body i (Head x body (Flow rest after)) s ⊎ FlowPoint rest i after s)
+    ((i ≡ p) × Flow rest after s) ⊎ (FlowPoint body i (Head x body (Flow rest after)) s
+    ⊎ FlowPoint rest i after s)
 FlowPoint (Quit es rest) i after s = FlowPoint rest i after s
 
 -- the symbols at a point of a handler

@@ -55,7 +55,8 @@ pub record IsExcess (f : File) (at count : ℕ) : Type 0 where
   pub later : IsLaterList (code_at f handler) point list
   pub count_is : count ≡ length list
   pub many : 256 < length list
-  pub first : (h p : ℕ) → h < length f.handlers → p < 1 + points (code_at f h) → IsBefore h p handler point → IsShort (code_at f h) p
+  pub first : (h p : ℕ) → h < length f.handlers → p < 1 + points (code_at f h)
+      → IsBefore h p handler point → IsShort (code_at f h) p
 
 -- why a file has no lists
 abbrev pub IsTooMany : File → AnalysisRefusal → Type 0

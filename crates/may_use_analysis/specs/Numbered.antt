@@ -26,4 +26,5 @@ AreShortBelow kept n = (p : ℕ) → p < n → count_in (stored_at kept p) ≡ N
 -- the first point that has too many symbols, if there is one
 abbrev pub IsFirstExcess : List Stored → Option Excess → Type 0
 IsFirstExcess kept None = AreShortBelow kept (length kept)
-IsFirstExcess kept (Some e) = (e.point < length kept) × (count_in (stored_at kept e.point) ≡ Some e.count) × AreShortBelow kept e.point
+IsFirstExcess kept (Some e) = (e.point < length kept)
+    × (count_in (stored_at kept e.point) ≡ Some e.count) × AreShortBelow kept e.point

@@ -17,4 +17,6 @@ Lists list set = IsStrictlySortedBy symbol_cmp list × Are list set
 -- what a search in order found: that the symbol is there, or the place between the lesser ones and the greater ones
 abbrev pub IsSearched : List Symbol → Symbol → Result ℕ ℕ → Type 0
 IsSearched list s (Ok i) = Contains list s
-IsSearched list s (Err i) = (i ≤ length list) × (All (λ q. symbol_cmp q s ≡ Less) (take i list) × All (λ q. symbol_cmp s q ≡ Less) (drop i list))
+IsSearched list s (Err i) = (i ≤ length list)
+    × (All (λ q. symbol_cmp q s ≡ Less) (take i list)
+    × All (λ q. symbol_cmp s q ≡ Less) (drop i list))

@@ -11,11 +11,18 @@ abbrev pub Recorded : Code → Symbols → List Stored → List Stored → Type 
 Recorded Finish after old new = new ≡ old
 Recorded (Move x e rest) after old new = Recorded rest after old new
 Recorded (Ask at p x c rest) after old new =
-    (mid : List Stored) × (list : Stored) × Recorded rest after old mid × IsStored list (Flow rest after) × (new ≡ mid ++ list ∷ [])
+    (mid : List Stored) × (list : Stored) × Recorded rest after old mid
+    × IsStored list (Flow rest after) × (new ≡ mid ++ list ∷ [])
 Recorded (Fork at p q test a b rest) after old new =
-    (m1 : List Stored) × (m2 : List Stored) × (m3 : List Stored) × (second : Stored) × (first : Stored) × Recorded rest after old m1 × Recorded b (Flow rest after) m1 m2 × IsStored second (Flow b (Flow rest after)) × Recorded a (Flow rest after) (m2 ++ second ∷ []) m3 × IsStored first (Flow a (Flow rest after)) × (new ≡ m3 ++ first ∷ [])
+    (m1 : List Stored) × (m2 : List Stored) × (m3 : List Stored) × (second : Stored)
+    × (first : Stored) × Recorded rest after old m1 × Recorded b (Flow rest after) m1 m2
+    × IsStored second (Flow b (Flow rest after))
+    × Recorded a (Flow rest after) (m2 ++ second ∷ []) m3
+    × IsStored first (Flow a (Flow rest after)) × (new ≡ m3 ++ first ∷ [])
 Recorded (Loop at p n x body rest) after old new =
-    (m1 : List Stored) × (list : Stored) × Recorded rest after old m1 × IsStored list (Flow rest after) × Recorded body (Head x body (Flow rest after)) (m1 ++ list ∷ []) new
+    (m1 : List Stored) × (list : Stored) × Recorded rest after old m1
+    × IsStored list (Flow rest after) × Recorded body (Head x body (Flow rest after))
+    (m1 ++ list ∷ []) new
 Recorded (Quit es rest) after old new = Recorded rest after old new
 
 abbrev pub StmtRecorded : CheckedStmt → Symbols → List Stored → List Stored → Type 0

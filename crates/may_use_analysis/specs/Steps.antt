@@ -35,7 +35,12 @@ argument false a = Known Nil
 
 -- the symbol of an operation, as it stands in the text
 abbrev pub symbol_of : CheckedCall → Symbol
-symbol_of c = record { kind = c.kind; table = c.table; key = argument (nat_lt 0 (arguments c.kind)) c.key; value = argument (nat_lt 1 (arguments c.kind)) c.value }
+symbol_of c = record {
+  kind = c.kind;
+  table = c.table;
+  key = argument (nat_lt 0 (arguments c.kind)) c.key;
+  value = argument (nat_lt 1 (arguments c.kind)) c.value;
+}
 
 -- ---- carrying back
 
@@ -55,4 +60,9 @@ arg_back step Any = Any
 
 -- a symbol carried back over a step
 abbrev pub back : Step → Symbol → Symbol
-back step s = record { kind = s.kind; table = s.table; key = arg_back step s.key; value = arg_back step s.value }
+back step s = record {
+  kind = s.kind;
+  table = s.table;
+  key = arg_back step s.key;
+  value = arg_back step s.value;
+}

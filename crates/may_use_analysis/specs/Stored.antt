@@ -14,7 +14,8 @@ pub data Stored : Type 0 where
 -- the list with the symbols of the set where these are at most 256, and else their count
 abbrev pub IsStored : Stored → Symbols → Type 0
 IsStored (Listed list) set = Lists list set × (length list ≤ 256)
-IsStored (Counted count) set = (list : List Symbol) × Lists list set × (count ≡ length list) × (256 < count)
+IsStored (Counted count) set = (list : List Symbol) × Lists list set × (count ≡ length list)
+    × (256 < count)
 
 -- what is kept of a list
 abbrev pub IsStoredOf : List Symbol → Stored → Type 0
@@ -46,7 +47,8 @@ stored_by entries (Count n) = Counted n
 
 -- the entry at a place of these holds the list itself
 abbrev pub IsHeldAt : List Kept → List Symbol → ℕ → Type 0
-IsHeldAt entries list k = (k < length entries) × (own_list (slice_index_or entries k (Count 0)) ≡ list)
+IsHeldAt entries list k = (k < length entries)
+    × (own_list (slice_index_or entries k (Count 0)) ≡ list)
 
 abbrev pub all_stored : List Kept → List Stored
 all_stored entries = map (stored_by entries) entries
@@ -58,4 +60,5 @@ RefersBack i (Same k) = k < i
 RefersBack i (Count n) = Unit {0}
 
 abbrev pub AllReferBack : List Kept → Type 0
-AllReferBack entries = (i : ℕ) (d : Kept) → i < length entries → RefersBack i (slice_index_or entries i d)
+AllReferBack entries = (i : ℕ) (d : Kept) → i < length entries
+    → RefersBack i (slice_index_or entries i d)

@@ -32,7 +32,8 @@ abbrev pub From : Code → Trails → Trails
 From Finish after = after
 From (Move x e rest) after = Begins (store_step x e) (From rest after)
 From (Ask at p x c rest) after = Begins (Call c) (Replied x (From rest after))
-From (Fork at p q test a b rest) after = λ t. From a (From rest after) t ⊎ From b (From rest after) t
+From (Fork at p q test a b rest) after = λ t. From a (From rest after) t
+    ⊎ From b (From rest after) t
 From (Loop at p n x body rest) after = AnyTurns x (From body) (From rest after)
 From (Quit es rest) after = λ t. t ≡ End ∷ []
 
@@ -42,9 +43,12 @@ FromPoint Finish i after t = ⊥
 FromPoint (Move x e rest) i after t = FromPoint rest i after t
 FromPoint (Ask at p x c rest) i after t = ((i ≡ p) × From rest after t) ⊎ FromPoint rest i after t
 FromPoint (Fork at p q test a b rest) i after t =
-    ((i ≡ p) × From a (From rest after) t) ⊎ (((i ≡ q) × From b (From rest after) t) ⊎ (FromPoint a i (From rest after) t ⊎ (FromPoint b i (From rest after) t ⊎ FromPoint rest i after t)))
+    ((i ≡ p) × From a (From rest after) t) ⊎ (((i ≡ q) × From b (From rest after) t)
+    ⊎ (FromPoint a i (From rest after) t ⊎ (FromPoint b i (From rest after) t
+    ⊎ FromPoint rest i after t)))
 FromPoint (Loop at p n x body rest) i after t =
-    ((i ≡ p) × From rest after t) ⊎ (FromPoint body i (AnyTurns x (From body) (From rest after)) t ⊎ FromPoint rest i after t)
+    ((i ≡ p) × From rest after t) ⊎ (FromPoint body i (AnyTurns x (From body) (From rest after)) t
+    ⊎ FromPoint rest i after t)
 FromPoint (Quit es rest) i after t = FromPoint rest i after t
 
 -- the one trail without a step
@@ -96,4 +100,5 @@ carried_back (step ∷ before) s = back step (carried_back before s)
 -- an operation stands on the trail that has this symbol, carried back over the steps before it
 abbrev pub ShowsSomewhere : List Step → Symbol → Type 0
 ShowsSomewhere t s =
-    (before : List Step) × (c : CheckedCall) × (rest : List Step) × (t ≡ before ++ Call c ∷ rest) × (s ≡ carried_back before (symbol_of c))
+    (before : List Step) × (c : CheckedCall) × (rest : List Step) × (t ≡ before ++ Call c ∷ rest)
+    × (s ≡ carried_back before (symbol_of c))

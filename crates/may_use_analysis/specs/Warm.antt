@@ -14,11 +14,14 @@ abbrev pub AreWarm : List (List Symbol) → Code → Symbols → Type 0
 AreWarm heads Finish after = Unit {0}
 AreWarm heads (Move x e rest) after = AreWarm heads rest after
 AreWarm heads (Ask at p x c rest) after = AreWarm heads rest after
-AreWarm heads (Fork at p q test a b rest) after = AreWarm heads a (Flow rest after) × AreWarm heads b (Flow rest after) × AreWarm heads rest after
+AreWarm heads (Fork at p q test a b rest) after = AreWarm heads a (Flow rest after)
+    × AreWarm heads b (Flow rest after) × AreWarm heads rest after
 AreWarm heads (Loop at p n x body rest) after =
-    ((s : Symbol) → HeadAt heads p s → Head x body (Flow rest after) s) × AreWarm heads body (HeadAt heads p) × AreWarm heads rest after
+    ((s : Symbol) → HeadAt heads p s → Head x body (Flow rest after) s)
+    × AreWarm heads body (HeadAt heads p) × AreWarm heads rest after
 AreWarm heads (Quit es rest) after = AreWarm heads rest after
 
 -- what is kept of loops with other numbers is as it was
 abbrev pub SameOutside : (old new : List (List Symbol)) → ℕ → ℕ → Type 0
-SameOutside old new low high = (i : ℕ) → (i < low) ⊎ (high ≤ i) → slice_index_or new i [] ≡ slice_index_or old i []
+SameOutside old new low high = (i : ℕ) → (i < low) ⊎ (high ≤ i)
+    → slice_index_or new i [] ≡ slice_index_or old i []
