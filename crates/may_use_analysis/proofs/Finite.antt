@@ -497,9 +497,9 @@ placed (y ∷ ys) s o = go (symbol_cmp s y) refl (placed ys s (sorted_tail symbo
     above e z (inl f) = subst (λ (v : Symbol). symbol_cmp y v ≡ Less) (sym f) e
     above e z (inr m) = all_to_members (λ v. symbol_cmp y v ≡ Less) ys (sorted_head symbol_cmp y ys o) z m
 
-    lift : (zs : List Symbol) (q : Symbol) → (Contains zs q → (q ≡ s) ⊎ Contains ys q) → (q ≡ y) ⊎ Contains zs q → (q ≡ y) ⊎ ((q ≡ s) ⊎ Contains ys q)
-    lift zs q h (inl e) = inl e
-    lift zs q h (inr m) = inr (h m)
+    take_out : (zs : List Symbol) (q : Symbol) → (Contains zs q → (q ≡ s) ⊎ Contains ys q) → (q ≡ y) ⊎ Contains zs q → (q ≡ y) ⊎ ((q ≡ s) ⊎ Contains ys q)
+    take_out zs q h (inl e) = inl e
+    take_out zs q h (inr m) = inr (h m)
 
     unlift : (zs : List Symbol) (q : Symbol) → ((q ≡ s) ⊎ Contains ys q → Contains zs q) → (q ≡ y) ⊎ ((q ≡ s) ⊎ Contains ys q) → (q ≡ y) ⊎ Contains zs q
     unlift zs q h (inl e) = inl e
@@ -511,7 +511,7 @@ placed (y ∷ ys) s o = go (symbol_cmp s y) refl (placed ys s (sorted_tail symbo
         (s ∷ (y ∷ ys), sorted_cons symbol_cmp s (y ∷ ys) (e, past e ys (sorted_head symbol_cmp y ys o)) o, λ q. (λ m. cons_cases s (y ∷ ys) q m, among (y ∷ ys) s q))
     go Greater e r =
         let less : symbol_cmp y s ≡ Less = symbol_cmp_total.antisymm y s ∙ ap ordering_reverse e in
-        (y ∷ r.0, sorted_cons symbol_cmp y r.0 (all_by_members (λ v. symbol_cmp y v ≡ Less) r.0 (λ z m. above less z ((r.2 z).0 m))) r.1, λ q. (λ m. turned q (lift r.0 q (λ k. (r.2 q).0 k) (cons_cases y r.0 q m)), λ m. among r.0 y q (unlift r.0 q (λ k. (r.2 q).1 k) (turned_back q (opened q m)))))
+        (y ∷ r.0, sorted_cons symbol_cmp y r.0 (all_by_members (λ v. symbol_cmp y v ≡ Less) r.0 (λ z m. above less z ((r.2 z).0 m))) r.1, λ q. (λ m. turned q (take_out r.0 q (λ k. (r.2 q).0 k) (cons_cases y r.0 q m)), λ m. among r.0 y q (unlift r.0 q (λ k. (r.2 q).1 k) (turned_back q (opened q m)))))
 
 in_its_order : (xs : List Symbol) → HasOrder xs
 in_its_order [] = ([], sorted_nil symbol_cmp [] refl, λ s. (λ m. m, λ m. m))
