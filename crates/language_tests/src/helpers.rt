@@ -8,7 +8,7 @@ use std::alloc::Global;
 use std::test::Fail;
 
 /// The tree of a source as text, or why it has none.
-pub(crate) fn shown(alloc: Global, source: &str) -> Result<String, Fail>
+fn shown(alloc: Global, source: &str) -> Result<String, Fail>
     requires { length source.now ≤ 4194304 }
 {
     let mut names = Names::new(alloc)?;
@@ -21,6 +21,13 @@ pub(crate) fn shown(alloc: Global, source: &str) -> Result<String, Fail>
     }
 }
 
+/// Whether a source has this tree, or is refused so.
+pub(crate) fn is_shown(alloc: Global, source: &str, want: &str) -> Result<bool, Fail>
+    requires { length source.now ≤ 4194304 }
+{
+    Ok(shown(alloc, source)?.as_str() == want)
+}
+
 fn printed(alloc: Global, source: &str) -> Result<String, SyntaxRefusal>
     requires { length source.now ≤ 4194304 }
 {
@@ -29,11 +36,11 @@ fn printed(alloc: Global, source: &str) -> Result<String, SyntaxRefusal>
     Ok(print(alloc, &file, &names)?)
 }
 
-/// The canonical text of a source.
-pub(crate) fn canonical(alloc: Global, source: &str) -> Result<String, Fail>
+/// Whether this is the canonical text of a source.
+pub(crate) fn is_canonical(alloc: Global, source: &str, want: &str) -> Result<bool, Fail>
     requires { length source.now ≤ 4194304 }
 {
-    Ok(printed(alloc, source)?)
+    Ok(printed(alloc, source)?.as_str() == want)
 }
 
 /// Whether the canonical text of a source is its own canonical text.
@@ -48,8 +55,16 @@ pub(crate) fn is_kept(alloc: Global, source: &str) -> Result<bool, Fail>
     Ok(again == text)
 }
 
+/// Whether a source's canonical text has the tree of another source.
+pub(crate) fn is_again(alloc: Global, source: &str, other: &str) -> Result<bool, Fail>
+    requires source { length source.now ≤ 4194304 }
+    requires other { length other.now ≤ 4194304 }
+{
+    Ok(shown_again(alloc, source)? == shown(alloc, other)?)
+}
+
 /// The tree that a source's canonical text has, as text.
-pub(crate) fn shown_again(alloc: Global, source: &str) -> Result<String, Fail>
+fn shown_again(alloc: Global, source: &str) -> Result<String, Fail>
     requires { length source.now ≤ 4194304 }
 {
     let mut names = Names::new(alloc)?;

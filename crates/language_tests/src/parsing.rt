@@ -2,7 +2,9 @@
 
 ghost use Rattle.std.specs.Prelude.{◌≤◌, length};
 
-use crate::helpers::shown;
+use crate::helpers::is_shown;
+use handler_syntax::parse;
+use session_values::Names;
 use std::alloc::Global;
 use std::test::Fail;
 
@@ -66,52 +68,59 @@ fn refuses_at_the_first_fault(rt: HostRuntime) -> Result<(), Fail> {
         ),
         ("handler f(x,) { }", "Unexpected { at: 12, found: Sign }"),
     ] {
-        let text = shown(rt.alloc(), source)?;
-        assert_eq!(rt; text.as_str(), refusal, "{source}");
+        let is_so = is_shown(rt.alloc(), source, refusal)?;
+        assert_eq!(rt; is_so, true, "{source}");
     }
     Ok(())
 }
 
-/// Why the 65th sign, the 17th block and the 17th parenthesis are refused.
-fn refused_limits(alloc: Global) -> Result<(String, String), Fail> {
+/// Whether the 65th sign and the 17th block are refused.
+fn refuses_past_limits(alloc: Global) -> Result<bool, Fail> {
     let signs = format!(in alloc; "{SIXTEEN_SIGNS}{SIXTEEN_SIGNS}{SIXTEEN_SIGNS}{SIXTEEN_SIGNS}")?;
     let sign = format!(in alloc; "handler f() {{ reply 1{signs}+1; }}")?;
     let block = format!(in alloc; "handler f() {SIXTEEN_BLOCKS}if 1==1{{")?;
     if sign.len() > 4000 || block.len() > 4000 {
         return Err("too long")?;
     }
-    Ok((shown(alloc, sign.as_str())?, shown(alloc, block.as_str())?))
+    let is_sign = is_shown(alloc, sign.as_str(), "TooDeep { at: 149 }")?;
+    let is_block = is_shown(alloc, block.as_str(), "TooDeep { at: 140 }")?;
+    Ok(is_sign && is_block)
 }
 
 #[test]
 fn counts_signs_and_blocks(rt: HostRuntime) -> Result<(), Fail> {
-    let (sign, block) = refused_limits(rt.alloc())?;
-    assert_eq!(rt; sign.as_str(), "TooDeep { at: 149 }");
-    assert_eq!(rt; block.as_str(), "TooDeep { at: 140 }");
+    let is_refused = refuses_past_limits(rt.alloc())?;
+    assert_eq!(rt; is_refused, true);
     Ok(())
 }
 
-/// The ends at which a session's front is a file.
-fn whole_fronts(alloc: Global) -> Result<Vec<usize>, Fail> {
-    let mut whole = Vec::new(alloc);
+/// Whether a text is a file.
+fn is_file(alloc: Global, text: &str) -> Result<bool, Fail>
+    requires { length text.now ≤ 4194304 }
+{
+    let mut names = Names::new(alloc)?;
+    Ok(parse(alloc, text, &mut names).is_ok())
+}
+
+/// The number of ends at which a session's front is a file, and whether these are all of them.
+fn whole_fronts(alloc: Global, ends: &[usize]) -> Result<(usize, bool), Fail> {
+    let mut count: usize = 0;
+    let mut is_all = true;
     for end in 0..173usize {
         if let Some(front) = SESSION.get(..end) {
-            let text = shown(alloc, front)?;
-            if text.as_str().starts_with("File") {
-                whole.push(end)?;
+            if is_file(alloc, front)? {
+                count = count.saturating_add(1);
+                is_all = is_all && ends.contains(&end);
             }
         }
     }
-    Ok(whole)
+    Ok((count, is_all))
 }
 
 #[test]
 fn reads_fronts_of_a_session(rt: HostRuntime) -> Result<(), Fail> {
-    let whole = whole_fronts(rt.alloc())?;
-    assert_eq!(rt;
-        whole.as_slice(),
-        [0, 10, 11, 22, 23, 113, 114, 171, 172].as_slice()
-    );
+    let whole = whole_fronts(rt.alloc(), &[0, 10, 11, 22, 23, 113, 114, 171, 172])?;
+    assert_eq!(rt; whole, (9, true));
     Ok(())
 }
 
@@ -139,8 +148,8 @@ fn reads_trees(rt: HostRuntime) -> Result<(), Fail> {
             "File { tables: Listed { items: [TableDecl { kind: Map, name: 0, at: 4 }] }, handlers: Listed { items: [Handler { name: 1, at: 15, params: Listed { items: [] }, body: Listed { items: [Repeat { at: 21, turns: 3, turns_at: 28, name: 2, name_at: 33, body: Listed { items: [Let { name: 3, at: 41, right: Plain(Lit(Num(-9223372036854775808))) }] } }] } }] } }",
         ),
     ] {
-        let text = shown(rt.alloc(), source)?;
-        assert_eq!(rt; text.as_str(), tree, "{source}");
+        let is_so = is_shown(rt.alloc(), source, tree)?;
+        assert_eq!(rt; is_so, true, "{source}");
     }
     Ok(())
 }

@@ -1,6 +1,6 @@
 // Canonical texts, and what they are read as.
 
-use crate::helpers::{canonical, is_kept, shown, shown_again};
+use crate::helpers::{is_again, is_canonical, is_kept};
 use std::alloc::Global;
 use std::test::Fail;
 
@@ -84,8 +84,8 @@ handler tour(first) {
 
 #[test]
 fn prints_a_file(rt: HostRuntime) -> Result<(), Fail> {
-    let text = canonical(rt.alloc(), WHOLE)?;
-    assert_eq!(rt; text.as_str(), WHOLE_CANONICAL);
+    let is_so = is_canonical(rt.alloc(), WHOLE, WHOLE_CANONICAL)?;
+    assert_eq!(rt; is_so, true);
     Ok(())
 }
 
@@ -126,7 +126,7 @@ fn prints_values(alloc: Global, values: &str, printed: &str) -> Result<bool, Fai
     if source.len() > 1000 {
         return Err("too long")?;
     }
-    Ok(canonical(alloc, source.as_str())? == want)
+    is_canonical(alloc, source.as_str(), want.as_str())
 }
 
 #[test]
@@ -146,9 +146,8 @@ fn reads_the_canonical_text(rt: HostRuntime) -> Result<(), Fail> {
             "map m;\nhandler f(a) {\n  if a == nil {\n    repeat 2 as i {\n      put(m, i, a);\n    }\n  }\n  let b = get(m, a);\n  reply b;\n}\n",
         ),
     ] {
-        let again = shown_again(rt.alloc(), source)?;
-        let want = shown(rt.alloc(), printed)?;
-        assert_eq!(rt; again, want, "{source}");
+        let is_read_back = is_again(rt.alloc(), source, printed)?;
+        assert_eq!(rt; is_read_back, true, "{source}");
     }
     Ok(())
 }

@@ -2,9 +2,8 @@
 
 ghost use Rattle.std.specs.Prelude.{◌≤◌, length};
 
-use handler_tokens::{Reader, Sort, Tokens, Word};
-use handler_trees::Compare;
-use session_values::{Kind, Names, TableKind};
+use handler_tokens::{Reader, Tokens};
+use session_values::Names;
 use std::alloc::Global;
 use std::test::Fail;
 
@@ -21,6 +20,14 @@ fn shown(alloc: Global, source: &str) -> Result<String, Fail>
         text.push_str(one.as_str())?;
     }
     Ok(text)
+}
+
+/// Whether a text has these tokens.
+fn is_cut(alloc: Global, source: &str, want: &str) -> Result<bool, Fail> {
+    if source.len() > 1000 {
+        return Err("too long")?;
+    }
+    Ok(shown(alloc, source)?.as_str() == want)
 }
 
 #[test]
@@ -69,14 +76,14 @@ fn cuts_tokens(rt: HostRuntime) -> Result<(), Fail> {
             "Key 0 6 mayuse|Key 7 12 count|Name 13 18 drops|End 18 18 |",
         ),
     ] {
-        assert!(rt; source.len() <= 1000);
-        assert_eq!(rt; shown(rt.alloc(), source)?.as_str(), want);
+        let is_so = is_cut(rt.alloc(), source, want)?;
+        assert_eq!(rt; is_so, true, "{source}");
     }
     Ok(())
 }
 
-/// Kinds and ends of the tokens of names at the limit and beyond.
-fn long_names(alloc: Global) -> Result<String, Fail> {
+/// Whether names at the limit and beyond have tokens of these kinds and ends.
+fn are_long_names(alloc: Global, want: &str) -> Result<bool, Fail> {
     let most = "a123456789b123456789c123456789d123456789e123456789f123456789g123";
     let name = format!(in alloc; "{most} {most}x '{most} '{most}.")?;
     let mut kinds = String::new(alloc);
@@ -86,21 +93,20 @@ fn long_names(alloc: Global) -> Result<String, Fail> {
             kinds.push_str(one.as_str())?;
         }
     }
-    Ok(kinds)
+    Ok(kinds.as_str() == want)
 }
 
 #[test]
 fn cuts_long_names(rt: HostRuntime) -> Result<(), Fail> {
-    let kinds = long_names(rt.alloc())?;
-    assert_eq!(rt;
-        kinds.as_str(),
-        "Name 64|Long 130|Symbol 196|Long 263|End 263|"
-    );
+    let want = "Name 64|Long 130|Symbol 196|Long 263|End 263|";
+    let is_so = are_long_names(rt.alloc(), want)?;
+    assert_eq!(rt; is_so, true);
     Ok(())
 }
 
-/// The words of a source behind the one name `b`, each looked at before it is taken, and the names.
-fn words(alloc: Global, source: &str) -> Result<(Vec<Word>, u32, bool), Fail>
+/// The words of a source behind the one name `b`, each looked at before it is taken, as
+/// `Name(1) 4|`, and then how many names there are.
+fn words(alloc: Global, source: &str) -> Result<String, Fail>
     requires { length source.now ≤ 1000 }
 {
     let mut names = Names::new(alloc)?;
@@ -109,107 +115,45 @@ fn words(alloc: Global, source: &str) -> Result<(Vec<Word>, u32, bool), Fail>
         return Err("too many names")?;
     }
     let mut reader = Reader::over(source, names);
-    let mut words = Vec::new(alloc);
-    let mut is_steady = true;
+    let mut text = String::new(alloc);
     for _ in 0..16u32 {
         let seen = reader.peek()?;
         let taken = reader.take()?;
-        is_steady = is_steady && seen == taken;
-        words.push(taken)?;
+        let is_steady = seen == taken;
+        let one = format!(in alloc; "{:?} {} {is_steady}|", taken.sort, taken.at)?;
+        text.push_str(one.as_str())?;
     }
-    Ok((words, reader.into_names().len(), is_steady))
+    let count = reader.into_names().len();
+    let last = format!(in alloc; "{count}")?;
+    text.push_str(last.as_str())?;
+    Ok(text)
+}
+
+/// Whether a source has these words.
+fn has_words(alloc: Global, source: &str, want: &str) -> Result<bool, Fail>
+    requires { length source.now ≤ 1000 }
+{
+    Ok(words(alloc, source)?.as_str() == want)
 }
 
 #[test]
 fn reads_words(rt: HostRuntime) -> Result<(), Fail> {
     let source = "let a = 'b + 'a.c; # a\n18446744073709551617 a 'nil put <= set";
-    let (words, names, is_steady) = words(rt.alloc(), source)?;
-    assert_eq!(rt;
-        (words.as_slice(), names, is_steady),
-        (
-            [
-                Word {
-                    sort: Sort::Let,
-                    at: 0
-                },
-                Word {
-                    sort: Sort::Name(1),
-                    at: 4
-                },
-                Word {
-                    sort: Sort::Assign,
-                    at: 6
-                },
-                Word {
-                    sort: Sort::Symbol(0),
-                    at: 8
-                },
-                Word {
-                    sort: Sort::Plus,
-                    at: 11
-                },
-                Word {
-                    sort: Sort::Symbol(2),
-                    at: 13
-                },
-                Word {
-                    sort: Sort::Semicolon,
-                    at: 17
-                },
-                Word {
-                    sort: Sort::Number(18446744073709551615),
-                    at: 23
-                },
-                Word {
-                    sort: Sort::Name(1),
-                    at: 44
-                },
-                Word {
-                    sort: Sort::Bad,
-                    at: 46
-                },
-                Word {
-                    sort: Sort::Nil,
-                    at: 47
-                },
-                Word {
-                    sort: Sort::Do(Kind::Put),
-                    at: 51
-                },
-                Word {
-                    sort: Sort::Compare(Compare::LessOrSame),
-                    at: 55
-                },
-                Word {
-                    sort: Sort::Table(TableKind::Set),
-                    at: 58
-                },
-                Word {
-                    sort: Sort::End,
-                    at: 61
-                },
-                Word {
-                    sort: Sort::End,
-                    at: 61
-                },
-            ]
-            .as_slice(),
-            3,
-            true,
-        )
-    );
+    let want =
+        "Let 0 true|Name(1) 4 true|Assign 6 true|Symbol(0) 8 true|Plus 11 true|Symbol(2) 13 true|Semicolon 17 true|Number(18446744073709551615) 23 true|Name(1) 44 true|Bad 46 true|Nil 47 true|Do(Put) 51 true|Compare(LessOrSame) 55 true|Table(Set) 58 true|End 61 true|End 61 true|3";
+    let is_so = has_words(rt.alloc(), source, want)?;
+    assert_eq!(rt; is_so, true);
     Ok(())
 }
 
 /// The reserved words are keys, and what is longer or shorter is a name.
 #[test]
 fn tells_reserved_words(rt: HostRuntime) -> Result<(), Fail> {
-    let text = shown(
-        rt.alloc(),
-        "map set handler let if else repeat as reply nil nothing any get put swap del size has add mark drop count ma maps pu counts",
-    )?;
+    let source =
+        "map set handler let if else repeat as reply nil nothing any get put swap del size has add mark drop count ma maps pu counts";
     let want =
         "Key 0 3 map|Key 4 7 set|Key 8 15 handler|Key 16 19 let|Key 20 22 if|Key 23 27 else|Key 28 34 repeat|Key 35 37 as|Key 38 43 reply|Key 44 47 nil|Key 48 55 nothing|Key 56 59 any|Key 60 63 get|Key 64 67 put|Key 68 72 swap|Key 73 76 del|Key 77 81 size|Key 82 85 has|Key 86 89 add|Key 90 94 mark|Key 95 99 drop|Key 100 105 count|Name 106 108 ma|Name 109 113 maps|Name 114 116 pu|Name 117 123 counts|End 123 123 |";
-    assert_eq!(rt; text.as_str(), want);
+    let is_so = is_cut(rt.alloc(), source, want)?;
+    assert_eq!(rt; is_so, true);
     Ok(())
 }
