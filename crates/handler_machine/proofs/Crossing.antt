@@ -6,7 +6,7 @@ use Rattle.session_values.proofs.Listed.TheSendSync as lists
 use Rattle.session_values.proofs.Boxed.TheSendSync as boxes
 use Rattle.handler_trees.specs.contracts.expr.Expr as expr
 use Rattle.handler_trees.proofs.expr.Expr.TheLaws.TheKnot as expr_knot
-use Rattle.handler_trees.proofs.expr.Atom.TheSendSync as atom
+use Rattle.session_values.proofs.value.Value.TheSendSync as value
 use Rattle.handler_trees.proofs.expr.Calc.TheSendSync as calc
 use Rattle.handler_trees.specs.contracts.stmt.Stmt as stmt
 use Rattle.handler_trees.proofs.stmt.Stmt.TheLaws.TheKnot as stmt_knot
@@ -34,7 +34,7 @@ use Rattle.request_files.proofs.requests.Requests.TheSendSync as requests
 use Rattle.handler_machine.specs.contracts.scripts.Scripts as scripts
 
 expr_field : IsSync (expr.the_field).row
-expr_field = expr_knot.sync-Expr atom.the_field_sync calc.the_field_sync boxes.the_sync
+expr_field = search (sendable, expr_knot.sync-Expr, value.the_field_sync, calc.the_field_sync, boxes.the_sync) depth 20
 
 pub expr_sync : IsSync expr.the_row
 expr_sync = as_row_sync expr.the_field expr_field
@@ -45,8 +45,11 @@ right_field = search (sendable, expr_field, call.the_field_sync) depth 20
 cond_field : IsSync (cond.the_field).row
 cond_field = search (sendable, expr_field, compare.the_field_sync) depth 20
 
+cond_sync : IsSync cond.the_row
+cond_sync = as_row_sync cond.the_field cond_field
+
 stmt_field : IsSync (stmt.the_field).row
-stmt_field = search (sendable, stmt_knot.sync-Stmt, right_field, call.the_field_sync, cond_field, lists.the_sync, expr_sync) depth 20
+stmt_field = search (sendable, stmt_knot.sync-Stmt, right_field, call.the_field_sync, boxes.the_sync, cond_sync, lists.the_sync, expr_sync) depth 20
 
 pub stmt_sync : IsSync stmt.the_row
 stmt_sync = as_row_sync stmt.the_field stmt_field
