@@ -56,6 +56,7 @@ pub fn accept(alloc: Global, file: File) -> Result<Accepted, CheckRefusal>
 }
 
 impl Accepted {
+    /// The file, as it was accepted.
     pub fn file(&self) -> &File
         ensures file { result.now ≡ self.now }
         ensures accepted { IsAccepted self.now }

@@ -67,6 +67,7 @@ pub fn check(alloc: Global, file: File) -> Result<Checked, CheckRefusal>
 }
 
 impl Checked {
+    /// The file, as it was checked.
     pub fn file(&self) -> &File
         ensures file { result.now ≡ self.now }
         ensures accepted { IsAccepted self.now }

@@ -15,9 +15,9 @@ pub(crate) const WORDS: [u64; 15] = [0; 15];
 /// The place of the word in which all turns stand: bit t is set where turn t is taken.
 pub(crate) const MASK: usize = 7;
 
-/// The place of a word that is never written, and lies in another cache line than the turns. What
-/// only tells the proofs where a value went is a load of it, so that callers who ask for turns don't
-/// slow down one who has them.
+/// The place of a word that is never written, the last one, which for most places of the table lies
+/// in another cache line than the turns. What only tells the proofs where a value went is a load of
+/// it, so that such a load needs no line that other callers write.
 pub(crate) const IDLE: usize = 14;
 
 /// An empty list with room for the values of a board.
