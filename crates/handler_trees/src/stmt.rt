@@ -24,7 +24,8 @@ pub enum Stmt {
     Perform {
         call: Call,
     },
-    /// One of two blocks. The condition is boxed, since it is larger than the rest of any statement.
+    /// One of two blocks. The condition is boxed, since it is larger than the rest of any
+    /// statement.
     Choose {
         at: u32,
         cond: Boxed<Cond>,

@@ -11,8 +11,8 @@ use crate::refusal::AnalysisRefusal;
 use handler_check::Accepted;
 use std::alloc::Global;
 
-/// Sees that at no point of a file more than 256 symbols may still come, as `later_sets` does, which
-/// keeps the lists. Here one handler is held at a time, with its lists.
+/// Sees that at no point of a file more than 256 symbols may still come, as `later_sets` does,
+/// which keeps the lists. Here one handler is held at a time, with its lists.
 pub fn bound_later_sets(alloc: Global, accepted: &Accepted) -> Result<(), AnalysisRefusal>
     ensures { MatchResult result (λ _. HasLater accepted.now) (λ e. e ≢ refusal.NoMemory
         → IsTooMany accepted.now e) }

@@ -27,7 +27,8 @@ pub record IsSessionInput (input : List ℕ) : Type 0 where
   pub utf8 : IsUtf8 input
   pub divided : is_divided input ≡ true
 
--- The parts' session was served through a hall by so many callers, over so many shards a table, and its replies can be printed.
+-- The parts' session was served through a hall by so many callers, over so many shards a table, and
+-- its replies can be printed.
 pub record HasServed (parts : Parts) (callers shards : ℕ) (s : Served) : Type 0 where
   pub file : File
   pub is_session : IsSession parts file
