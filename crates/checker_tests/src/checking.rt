@@ -9,20 +9,25 @@ use std::test::Fail;
 /// A source, checked.
 fn checked_of(alloc: Global, source: &str) -> Result<Checked, Fail> {
     if source.len() > 4_194_304 {
-        return Err(Fail::from("too long"));
+        return Err("too long")?;
     }
-    let mut names = Names::new(alloc)?;
+    let mut names = Names::with_seed(alloc, 0);
     let file = parse(alloc, source, &mut names)?;
     Ok(check(alloc, file.into_tree())?)
 }
 
-/// The bounds of the first handler of a source, on its calls and its work.
-fn bounds(alloc: Global, source: &str) -> Result<(u32, u32), Fail> {
-    let checked = checked_of(alloc, source)?;
+/// The bounds of the first handler, on its calls and its work.
+fn first_bounds(checked: &Checked) -> Option<(u32, u32)> {
     if checked.handlers() == 0 {
-        return Err(Fail::from("no handler"));
+        return None;
     }
-    Ok((checked.calls_bound(0), checked.work_bound(0)))
+    Some((checked.calls_bound(0), checked.work_bound(0)))
+}
+
+/// The bounds of the first handler of a source.
+fn bounds(alloc: Global, source: &str) -> Result<Option<(u32, u32)>, Fail> {
+    let checked = checked_of(alloc, source)?;
+    Ok(first_bounds(&checked))
 }
 
 #[test]
@@ -46,30 +51,32 @@ fn bounds_of_handlers(rt: HostRuntime) -> Result<(), Fail> {
         ),
     ] {
         let found = bounds(rt.alloc(), source)?;
-        assert_eq!(rt; found, want, "{source}");
+        assert_eq!(rt; found, Some(want), "{source}");
     }
     Ok(())
 }
 
-/// What is known of the handler of a source whose name is the second of the list: its number, its
-/// parameters, its points, its adding calls on the first table, its variables and the name of the
-/// first one.
-fn known(alloc: Global, source: &str) -> Result<Option<[u32; 6]>, Fail> {
-    let checked = checked_of(alloc, source)?;
-    let Some(h) = checked.find(1) else {
-        return Ok(None);
-    };
+/// What is known of the handler whose name is the second of the list: its number, its parameters,
+/// its points, its adding calls on the first table, its variables and the name of the first one.
+fn second_known(checked: &Checked) -> Option<[u32; 6]> {
+    let h = checked.find(1)?;
     if h >= checked.handlers() {
-        return Err(Fail::from("no such handler"));
+        return None;
     }
     let adds = checked.adds_bound(h, 0);
     let handler = checked.handler(h);
     let count = handler.variables.len();
     if count == 0 {
-        return Err(Fail::from("no variable"));
+        return None;
     }
     let first = *handler.variables.get(0);
-    Ok(Some([h, handler.params, handler.points, adds, count, first]))
+    Some([h, handler.params, handler.points, adds, count, first])
+}
+
+/// What is known of such a handler of a source.
+fn known(alloc: Global, source: &str) -> Result<Option<[u32; 6]>, Fail> {
+    let checked = checked_of(alloc, source)?;
+    Ok(second_known(&checked))
 }
 
 #[test]

@@ -1,11 +1,12 @@
-// The requests' part of a session file, with values from outside. What single requests are is shown
-// by stored runs, in `checks/`.
+// The requests' part of a session file, with values from outside. What single requests are, and
+// the sums of their calls and work, are stored runs, in `checks/`.
 
 ghost use Rattle.std.specs.Prelude.{◌≤◌, length};
+ghost use Rattle.handler_trees.specs.Mentions.{AreNamed, file_mentions};
 
-use handler_check::check;
+use handler_check::{Checked, check};
 use handler_syntax::parse;
-use request_files::RequestRefusal::{Arity, TooManyCalls, TooManyRequests, TooMuchWork};
+use request_files::RequestRefusal::TooManyRequests;
 use request_files::{Lines, RequestRefusal, divide, read_requests};
 use session_values::Names;
 use std::alloc::Global;
@@ -65,86 +66,60 @@ fn lines_and_words(rt: HostRuntime) {
     }
 }
 
-/// How many requests a text makes for these handlers, or why it is refused. Its first line has the
-/// number 3.
-fn read(
+/// How many requests a text makes for the handlers of a file, or why it is refused. Its first line
+/// has the number 3.
+fn count_of(
     alloc: Global,
-    handlers: &str,
+    checked: &Checked,
     requests: &str,
-) -> Result<Result<u32, RequestRefusal>, Fail> {
-    if handlers.len() > 1_000_000 || requests.len() > 1_000_000 {
-        return Err(Fail::from("too long"));
-    }
-    let mut names = Names::new(alloc)?;
-    let file = parse(alloc, handlers, &mut names)?;
-    let checked = check(alloc, file.into_tree())?;
-    if names.len() > 1_000_000 {
-        return Err(Fail::from("too many names"));
-    }
-    match read_requests(alloc, &checked, requests, 3, &mut names) {
-        Ok(found) => Ok(Ok(found.len())),
-        Err(e) => Ok(Err(e)),
-    }
+    names: &mut Names,
+) -> Result<u32, RequestRefusal>
+    requires named { AreNamed names.old (file_mentions checked.now) }
+    requires text { length requests.now ≤ 1000000 }
+    requires names { length names.old ≤ 4000000000 }
+{
+    let found = read_requests(alloc, checked, requests, 3, names)?;
+    Ok(found.len())
 }
 
-/// A line so many times, with a last line behind them.
-fn repeated(alloc: Global, line: &str, times: u32, last: &str) -> Result<String, Fail> {
+/// How many requests a text makes for one handler without parameters.
+fn read(alloc: Global, requests: &str) -> Result<Result<u32, RequestRefusal>, Fail>
+    requires { length requests.now ≤ 1000000 }
+{
+    let mut names = Names::with_seed(alloc, 0);
+    let file = parse(alloc, "handler nop() { }", &mut names)?;
+    let checked = check(alloc, file.into_tree())?;
+    Ok(count_of(alloc, &checked, requests, &mut names))
+}
+
+/// A line of the word `nop` so many times, and a last line behind them.
+fn repeated(alloc: Global, times: u32, last: &str) -> Result<String, Fail> {
     let mut text = String::new(alloc);
     for _ in 0..times {
-        text.push_str(line)?;
-        text.push_str("\n")?;
+        text.push_str("nop\n")?;
     }
     text.push_str(last)?;
     Ok(text)
 }
 
-/// How many requests such a text makes for these handlers.
-fn count(
-    alloc: Global,
-    handlers: &str,
-    line: &str,
-    times: u32,
-    last: &str,
-) -> Result<Result<u32, RequestRefusal>, Fail> {
-    let text = repeated(alloc, line, times, last)?;
-    read(alloc, handlers, text.as_str())
+/// How many requests so many lines make, with a last one behind them.
+fn count(alloc: Global, times: u32, last: &str) -> Result<Result<u32, RequestRefusal>, Fail> {
+    let text = repeated(alloc, times, last)?;
+    if text.len() > 1_000_000 {
+        return Err("too long")?;
+    }
+    read(alloc, text.as_str())
 }
 
 #[test]
-fn sums_over_requests(rt: HostRuntime) -> Result<(), Fail> {
-    let nop = "handler nop() { }";
-    let calls =
-        "map m; handler f() { repeat 1000 as i { repeat 10 as j { get(m, j); } } } handler g() { let x = size(m); }";
-    let work = "handler spin() { repeat 1000 as i { repeat 48 as j { let x = j; } } }";
-    let most =
-        "handler spin() { repeat 1000 as i { repeat 48 as j { let x = j; } } repeat 999 as k { } repeat 998 as l { } } handler g() { reply 1; }";
-    for (handlers, line, times, last, want) in [
-        (nop, "nop", 20_000, "", Ok(20_000)),
-        (
-            nop,
-            "nop",
-            20_000,
-            "nop",
-            Err(TooManyRequests { line: 20_003 }),
-        ),
-        (
-            nop,
-            "nop",
-            20_000,
-            "enter 5x",
-            Err(TooManyRequests { line: 20_003 }),
-        ),
-        (calls, "f", 20, "", Ok(20)),
-        (calls, "f", 20, "g", Err(TooManyCalls { line: 23 })),
-        (calls, "f", 20, "g 1", Err(Arity { line: 23 })),
-        (calls, "f", 20, "f", Err(TooManyCalls { line: 23 })),
-        (work, "spin", 102, "", Ok(102)),
-        (work, "spin", 102, "spin", Err(TooMuchWork { line: 105 })),
-        (most, "spin", 100, "", Ok(100)),
-        (most, "spin", 100, "g", Err(TooMuchWork { line: 103 })),
+fn counts_requests(rt: HostRuntime) -> Result<(), Fail> {
+    for (times, last, want) in [
+        (20_000, "", Ok(20_000)),
+        (20_000, "nop", Err(TooManyRequests { line: 20_003 })),
+        (20_000, "enter 5x", Err(TooManyRequests { line: 20_003 })),
     ] {
-        let found = count(rt.alloc(), handlers, line, times, last)?;
-        assert_eq!(rt; found, want, "{times} times {line:?}");
+        let found = count(rt.alloc(), times, last)?;
+        assert_eq!(rt; found, want, "{last:?}");
     }
     Ok(())
 }

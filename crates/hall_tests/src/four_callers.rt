@@ -1,7 +1,8 @@
 // Four callers in threads serve tickets whose keys meet, and what they did is compared with plain
-// tables and with a serial run.
+// tables and with a serial run. One caller serves the same tickets, and the largest hall opens and
+// closes.
 
-ghost use Rattle.std.specs.Prelude.{◌≡◌, ◌∷◌, [], IfOk, OnOk, map, true};
+ghost use Rattle.std.specs.Prelude.{◌≡◌, ◌≤◌, ◌∷◌, [], IfOk, length, map, true};
 ghost use Rattle.session_values.specs.declared.kind.TableKind.TheVariants.{Map};
 ghost use Rattle.session_values.specs.Tables.{Fits, kind_of};
 
@@ -13,8 +14,8 @@ use session_hall::Closed;
 use session_journal::{Event, Journal};
 use session_values::{Kind, NoMemory, Op, TableKind, Value};
 use std::alloc::Global;
+use std::process::Abort;
 use std::sync::Wait;
-use std::test::Fail;
 use std::thread::Threads;
 use ticket_serving::{Scratch, Serves};
 use worker_gate::OpenGate;
@@ -54,22 +55,32 @@ fn tickets(alloc: Global) -> Result<RepeatedCalls, NoMemory>
     Ok(list)
 }
 
-/// What a hall of four callers leaves.
-fn served_by_four<R: Threads + Wait + Sync>(
+/// What a hall of so many callers leaves, with so many shards of each table.
+fn served_by<R: Threads + Wait + Abort + Sync>(
     rt: &R,
     alloc: Global,
     list: &RepeatedCalls,
-) -> Result<Closed, NoMemory>
-    requires { list.now.list.shape ≡ Map ∷ [] }
+    shape: &[TableKind],
+    shards: u32,
+    callers: u32,
+) -> Closed
+    requires shape { list.now.list.shape ≡ shape.now }
+    requires tables { length shape.now ≤ 7 }
+    requires shards { (1 ≤ shards) × (shards ≤ 8) }
+    requires callers { (1 ≤ callers) × (callers ≤ 32) }
 {
     let script = RepeatedScript { list };
     let plan = RepeatedScript { list };
-    let shape = [TableKind::Map];
-    serve_session(rt, alloc, script, &plan, &shape, 8, 4, &OpenGate)
+    serve_session(rt, alloc, script, &plan, shape, shards, callers, &OpenGate).expect(rt, "memory")
+}
+
+/// Appends a finished call.
+fn add_call<R: Abort>(rt: &R, calls: &mut Vec<DoneCall>, op: Op, reply: Value) {
+    calls.push(DoneCall { op, reply }).expect(rt, "memory");
 }
 
 /// Appends the finished calls of a ticket.
-fn add_finished(events: &[Event], ticket: u32, calls: &mut Vec<DoneCall>) -> Result<(), NoMemory> {
+fn add_finished<R: Abort>(rt: &R, events: &[Event], ticket: u32, calls: &mut Vec<DoneCall>) {
     for event in events {
         match *event {
             Event::Done {
@@ -78,132 +89,169 @@ fn add_finished(events: &[Event], ticket: u32, calls: &mut Vec<DoneCall>) -> Res
                 reply,
             } => {
                 if owner == ticket {
-                    calls.push(DoneCall { op, reply })?;
+                    add_call(rt, calls, op, reply);
                 }
             }
             _ => {}
         }
     }
-    Ok(())
 }
 
 /// The finished calls of a journal, regrouped by ticket.
-fn regrouped(alloc: Global, journal: &Journal) -> Result<Vec<DoneCall>, NoMemory> {
+fn regrouped<R: Abort>(rt: &R, alloc: Global, journal: &Journal) -> Vec<DoneCall> {
     let mut calls = Vec::new(alloc);
     for ticket in 0..TICKETS {
-        add_finished(journal.events(), ticket, &mut calls)?;
+        add_finished(rt, journal.events(), ticket, &mut calls);
     }
-    Ok(calls)
+    calls
 }
 
-/// The reply of an operation on one map, or none where it is of another table.
+/// The reply of an operation on one map.
 #[tactic(auto, using(crate::proofs::OneMap::fits_one_map))]
-fn reply_on(tables: &mut PlainTables, op: Op) -> Result<Option<Value>, NoMemory>
+fn reply_on<R: Abort>(rt: &R, tables: &mut PlainTables, op: Op) -> Value
     requires { map kind_of tables.old ≡ Map ∷ [] }
     ensures { map kind_of tables.new ≡ Map ∷ [] }
 {
     if op.table != 0 {
-        return Ok(None);
+        rt.panic("another table")
     }
     if !op.kind.on_map() {
-        return Ok(None);
+        rt.panic("an operation on sets")
     }
-    let reply = tables.apply(op)?;
-    Ok(Some(reply))
+    tables.apply(op).expect(rt, "memory")
 }
 
-/// Whether the calls, done in order on one map, have their replies.
-fn replays(alloc: Global, calls: &[DoneCall]) -> Result<bool, NoMemory> {
-    let mut tables = PlainTables::new(alloc, &[TableKind::Map])?;
-    let mut replays = true;
+/// The calls, done in order on one map as it is, have their replies.
+fn replay_on<R: Abort>(rt: &R, tables: &mut PlainTables, calls: &[DoneCall])
+    requires { map kind_of tables.old ≡ Map ∷ [] }
+{
     for call in calls {
-        let reply = reply_on(&mut tables, call.op)?;
-        replays = replays && reply == Some(call.reply);
+        let reply = reply_on(rt, tables, call.op);
+        assert!(rt; reply == call.reply);
     }
-    Ok(replays)
 }
 
-/// Serves the next ticket at a plain desk, where one is left.
-fn serve_next<'a, R: Threads + Wait + Sync>(
+/// The calls, done in order on one map, have their replies.
+fn replay<R: Abort>(rt: &R, alloc: Global, calls: &[DoneCall]) {
+    let mut tables = PlainTables::new(alloc, &[TableKind::Map]).expect(rt, "memory");
+    replay_on(rt, &mut tables, calls);
+}
+
+/// Serves the next ticket at a plain desk.
+fn serve_next<'a, R: Threads + Wait + Abort + Sync>(
     rt: &R,
     plan: &RepeatedScript<'a>,
     scratch: &mut Scratch,
     desk: &mut PlainDesk<RepeatedScript<'a>>,
-) -> Result<(), NoMemory>
+)
     requires ready { scratch.old.ready ≡ true }
     requires plan { desk.old.script ≡ plan.now }
     requires ended { desk.old.desk.ended ≡ true }
     ensures ready { scratch.new.ready ≡ true }
     ensures plan { desk.new.script ≡ plan.now }
-    ensures ended { OnOk result (desk.new.desk.ended ≡ true) }
+    ensures ended { desk.new.desk.ended ≡ true }
 {
-    match desk.start() {
-        Some(ticket) => plan.serve(rt, ticket, scratch, desk),
-        None => Ok(()),
-    }
+    let Some(ticket) = desk.start() else {
+        rt.panic("no ticket")
+    };
+    plan.serve(rt, ticket, scratch, desk).expect(rt, "memory");
 }
 
 /// Appends the calls of a ticket that has ended.
-fn add_entries<'a>(
+fn add_entries<'a, R: Abort>(
+    rt: &R,
     desk: &PlainDesk<RepeatedScript<'a>>,
     ticket: u32,
     calls: &mut Vec<DoneCall>,
-) -> Result<(), NoMemory> {
-    if let Some(entries) = desk.entries(ticket) {
-        calls.extend_from_slice(entries)?;
+) {
+    let Some(entries) = desk.entries(ticket) else {
+        rt.panic("a ticket has not ended")
+    };
+    calls.extend_from_slice(entries).expect(rt, "memory");
+}
+
+/// Serves all tickets at a plain desk, and appends their calls.
+fn serve_all<'a, R: Threads + Wait + Abort + Sync>(
+    rt: &R,
+    plan: &RepeatedScript<'a>,
+    scratch: &mut Scratch,
+    desk: &mut PlainDesk<RepeatedScript<'a>>,
+    calls: &mut Vec<DoneCall>,
+)
+    requires ready { scratch.old.ready ≡ true }
+    requires plan { desk.old.script ≡ plan.now }
+    requires ended { desk.old.desk.ended ≡ true }
+{
+    for ticket in 0..TICKETS {
+        serve_next(rt, plan, scratch, desk);
+        add_entries(rt, desk, ticket, calls);
     }
-    Ok(())
 }
 
 /// The calls of all tickets, served one at a time.
-fn serial_calls<R: Threads + Wait + Sync>(
+fn serial_calls<R: Threads + Wait + Abort + Sync>(
     rt: &R,
     alloc: Global,
     list: &RepeatedCalls,
-) -> Result<Vec<DoneCall>, NoMemory>
+) -> Vec<DoneCall>
     requires { list.now.list.shape ≡ Map ∷ [] }
 {
     let plan = RepeatedScript { list };
-    let mut scratch = Scratch::new(alloc)?;
+    let mut scratch = Scratch::new(alloc).expect(rt, "memory");
     let script = RepeatedScript { list };
-    let mut desk = PlainDesk::new(alloc, script, &[TableKind::Map])?;
-    for served in 0..TICKETS {
-        serve_next(rt, &plan, &mut scratch, &mut desk)?;
-    }
+    let mut desk = PlainDesk::new(alloc, script, &[TableKind::Map]).expect(rt, "memory");
     let mut calls = Vec::new(alloc);
-    for ticket in 0..TICKETS {
-        add_entries(&desk, ticket, &mut calls)?;
-    }
-    Ok(calls)
+    serve_all(rt, &plan, &mut scratch, &mut desk, &mut calls);
+    calls
 }
 
-/// How many calls four callers finished, whether they replay by ticket on plain tables, and whether
-/// they are those of a serial run.
-fn compared<R: Threads + Wait + Sync>(
+/// The calls of all tickets, served by four callers, regrouped by ticket.
+fn calls_by_four<R: Threads + Wait + Abort + Sync>(
     rt: &R,
     alloc: Global,
     list: &RepeatedCalls,
-) -> Result<(usize, bool, bool), NoMemory>
+) -> Vec<DoneCall>
     requires { list.now.list.shape ≡ Map ∷ [] }
 {
-    let closed = served_by_four(rt, alloc, list)?;
-    let calls = regrouped(alloc, closed.journal())?;
-    let serial = serial_calls(rt, alloc, list)?;
-    Ok((calls.len(), replays(alloc, &calls)?, calls == serial))
+    let closed = served_by(rt, alloc, list, &[TableKind::Map], 8, 4);
+    regrouped(rt, alloc, closed.journal())
 }
 
-/// The same of all tickets.
-fn told_by_four<R: Threads + Wait + Sync>(
+/// What four callers did replays by ticket on plain tables, and is what a serial run does.
+#[test]
+fn four_callers_reply_as_a_serial_run_does(rt: HostRuntime) {
+    let list = tickets(rt.alloc()).expect(&rt, "memory");
+    let calls = calls_by_four(&rt, rt.alloc(), &list);
+    let serial = serial_calls(&rt, rt.alloc(), &list);
+    assert!(rt; calls.len() == 16000 && calls == serial);
+    replay(&rt, rt.alloc(), &calls);
+}
+
+/// A closed hall has so many events, replies, shards, and shards of each table.
+fn has_left<R: Abort>(
     rt: &R,
-    alloc: Global,
-) -> Result<(usize, bool, bool), NoMemory> {
-    let list = tickets(alloc)?;
-    compared(rt, alloc, &list)
+    closed: &Closed,
+    events: usize,
+    replies: u32,
+    parts: u32,
+    shards: u32,
+) {
+    assert!(rt; closed.journal().events().len() == events && closed.replies().len() == replies);
+    assert!(rt; closed.parts().len() == parts && closed.shards() == shards);
 }
 
 #[test]
-fn four_callers_reply_as_a_serial_run_does(rt: HostRuntime) -> Result<(), Fail> {
-    let told = told_by_four(&rt, rt.alloc())?;
-    assert_eq!(rt; told, (16000, true, true));
-    Ok(())
+fn one_caller_serves_all_tickets(rt: HostRuntime) {
+    let list = tickets(rt.alloc()).expect(&rt, "memory");
+    let closed = served_by(&rt, rt.alloc(), &list, &[TableKind::Map], 2, 1);
+    has_left(&rt, &closed, 24000, 4000, 2, 2);
+}
+
+#[test]
+fn the_largest_hall_opens_and_closes(rt: HostRuntime) {
+    let (map, set) = (TableKind::Map, TableKind::Set);
+    let shape = [map, set, map, set, map, set, map];
+    let list = RepeatedCalls::with_room(rt.alloc(), &shape, 0, 0).expect(&rt, "memory");
+    let closed = served_by(&rt, rt.alloc(), &list, &shape, 8, 32);
+    has_left(&rt, &closed, 0, 0, 56, 8);
 }

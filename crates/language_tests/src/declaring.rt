@@ -1,8 +1,9 @@
 // The text of a file with a line at each point.
 
 ghost use Rattle.std.specs.Prelude.{◌≤◌, length};
+ghost use Rattle.handler_trees.specs.Mentions.{AreNamed, file_mentions};
 
-use handler_syntax::{Declarations, parse, print_with_declarations};
+use handler_syntax::{Declarations, File, parse, print_with_declarations};
 use session_values::{Kind, Names, Value};
 use std::alloc::Global;
 use std::test::Fail;
@@ -78,21 +79,22 @@ fn three_symbols(alloc: Global, names: &Names) -> Result<Sample, Fail> {
     })
 }
 
-/// The text of a source with the declarations of the sample.
-fn declared(alloc: Global, source: &str) -> Result<String, Fail>
-    requires { length source.now ≤ 4194304 }
+/// Whether a file has this text with the declarations of the sample.
+fn is_text(alloc: Global, file: &File, names: &Names, want: &str) -> Result<bool, Fail>
+    requires { AreNamed names.now (file_mentions file.now) }
 {
-    let mut names = Names::new(alloc)?;
-    let file = parse(alloc, source, &mut names)?;
-    let at = three_symbols(alloc, &names)?;
-    Ok(print_with_declarations(alloc, file.tree(), &at, &names)?)
+    let at = three_symbols(alloc, names)?;
+    let text = print_with_declarations(alloc, 0, file.tree(), &at, names)?;
+    Ok(text.as_str() == want)
 }
 
 /// Whether the source has this text with the declarations of the sample.
 fn is_declared(alloc: Global, source: &str, want: &str) -> Result<bool, Fail>
     requires { length source.now ≤ 4194304 }
 {
-    Ok(declared(alloc, source)?.as_str() == want)
+    let mut names = Names::with_seed(alloc, 0);
+    let file = parse(alloc, source, &mut names)?;
+    is_text(alloc, &file, &names, want)
 }
 
 const SOURCE: &str = "map m;

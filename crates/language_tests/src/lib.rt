@@ -1,4 +1,5 @@
-//! Tests of the handler language, through the calls that other crates make.
+//! Tests of the handler language, through the calls that other crates make. Refusals and canonical
+//! texts are stored runs, in `checks/`.
 #![tactic(auto)]
 
 #[cfg(test)]
@@ -7,7 +8,5 @@ mod declaring;
 mod helpers;
 #[cfg(test)]
 mod parsing;
-#[cfg(test)]
-mod printing;
 #[cfg(test)]
 mod tokens;

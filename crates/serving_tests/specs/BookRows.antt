@@ -1,4 +1,4 @@
--- The sessions of the tests, and what their books go through.
+-- The session of the book's test, and what its book goes through.
 use Rattle.std.specs.Prelude.{◌≡◌, ℕ, List, [], ◌∷◌, pos, Some, None}
 use Rattle.session_values.specs.declared.kind.Kind.TheVariants.{Get, Put}
 use Rattle.session_values.specs.declared.kind.TableKind.TheVariants.{Map}
@@ -7,7 +7,8 @@ use Rattle.session_values.specs.declared.reply.Reply.{Reply}
 use Rattle.session_values.specs.declared.value.Value.TheVariants.{Nil, Num}
 use Rattle.symbolic_ops.specs.declared.symbol.Symbol.{Symbol}
 use Rattle.symbolic_ops.specs.Matching.{exact_symbol}
-use Rattle.session_journal.specs.Lists.{ListView, Ticket, list_meaning}
+use Rattle.session_journal.specs.Lists.{ListView, Ticket, list_meaning, ticket_at}
+use Rattle.session_journal.specs.Script.{Meaning}
 use Rattle.admission_book.specs.Book.{Book, opened, after_begin, after_narrow, after_admit, after_delay, after_done, after_end}
 use Rattle.admission_book.specs.Methods.{BookView}
 use Rattle.admission_book.specs.Lawful.{Lawful}
@@ -25,19 +26,18 @@ nil_reply = record { count = 1; a = Nil; b = Nil; c = Nil; d = Nil }
 abbrev pub on_one_map : List Ticket → ListView
 on_one_map tickets = record { shape = Map ∷ []; tickets = tickets; tickets_left = 0; calls_left = 0; symbols_left = 0 }
 
--- a ticket that may get, and one that puts twice
-abbrev pub get_or_puts : ListView
-get_or_puts = on_one_map (
-    record { ops = []; reply = nil_reply; entry = exact_symbol (get_of 1) ∷ [] }
-    ∷ record { ops = put_of 2 7 ∷ put_of 1 7 ∷ []; reply = nil_reply; entry = exact_symbol (put_of 2 7) ∷ exact_symbol (put_of 1 7) ∷ [] }
-    ∷ []
-    )
+abbrev pub meaning_of : ListView → Meaning
+meaning_of s = list_meaning s.shape s.tickets
 
--- two tickets that may get twice, and one that puts
+-- what a ticket declares at its beginning
+abbrev pub list_entry : ListView → ℕ → List Symbol
+list_entry s t = (ticket_at s.tickets t).entry
+
+-- a ticket that may get two keys, one that may get the second one, and one that puts it
 abbrev pub gets_and_put : ListView
 gets_and_put = on_one_map (
     record { ops = []; reply = nil_reply; entry = exact_symbol (get_of 1) ∷ exact_symbol (get_of 2) ∷ [] }
-    ∷ record { ops = []; reply = nil_reply; entry = exact_symbol (get_of 1) ∷ exact_symbol (get_of 2) ∷ [] }
+    ∷ record { ops = []; reply = nil_reply; entry = exact_symbol (get_of 2) ∷ [] }
     ∷ record { ops = put_of 2 7 ∷ []; reply = nil_reply; entry = exact_symbol (put_of 2 7) ∷ [] }
     ∷ []
     )
@@ -46,36 +46,37 @@ gets_and_put = on_one_map (
 pub record IsAt (s : ListView) (b : Book) (v : BookView ListView) : Type 0 where
   pub script : v.script ≡ s
   pub book : v.book ≡ b
-  pub lawful : Lawful (list_meaning v.script.shape v.script.tickets) v.book
+  pub lawful : Lawful (meaning_of v.script) v.book
 
--- ---- the book of get_or_puts
-abbrev pub both_begun : Book
-both_begun = after_begin (after_begin (opened 2 3) 0 (exact_symbol (get_of 1) ∷ [])) 1 (exact_symbol (put_of 2 7) ∷ exact_symbol (put_of 1 7) ∷ [])
-
--- the younger ticket has put once
-abbrev pub put_once : Book
-put_once = after_done (after_admit both_begun 1 (record { ticket = 1; foresight = exact_symbol (put_of 2 7) ∷ exact_symbol (put_of 1 7) ∷ []; flight = None }) (put_of 2 7))
-    1 (record { ticket = 1; foresight = exact_symbol (put_of 2 7) ∷ exact_symbol (put_of 1 7) ∷ []; flight = Some (put_of 2 7) }) (put_of 2 7) Nil (exact_symbol (put_of 1 7) ∷ [])
-
--- its second put was delayed, and then the older ticket narrowed to nothing
-abbrev pub narrowed_older : ℕ → Symbol → Book
-narrowed_older older y = after_narrow (after_delay put_once 1 (put_of 1 7) older y) 0 (record { ticket = 0; foresight = exact_symbol (get_of 1) ∷ []; flight = None }) []
-
--- the younger ticket has put twice
-abbrev pub put_twice : ℕ → Symbol → Book
-put_twice older y = after_done (after_admit (narrowed_older older y) 1 (record { ticket = 1; foresight = exact_symbol (put_of 1 7) ∷ []; flight = None }) (put_of 1 7))
-    1 (record { ticket = 1; foresight = exact_symbol (put_of 1 7) ∷ []; flight = Some (put_of 1 7) }) (put_of 1 7) Nil []
-
--- ---- the book of gets_and_put
+-- all tickets have begun
 abbrev pub all_begun : Book
-all_begun = after_begin (after_begin (after_begin (opened 3 3) 0 (exact_symbol (get_of 1) ∷ exact_symbol (get_of 2) ∷ [])) 1 (exact_symbol (get_of 1) ∷ exact_symbol (get_of 2) ∷ [])) 2 (exact_symbol (put_of 2 7) ∷ [])
+all_begun = after_begin (after_begin (after_begin (opened 3 3) 0 (exact_symbol (get_of 1) ∷ exact_symbol (get_of 2) ∷ [])) 1 (exact_symbol (get_of 2) ∷ [])) 2 (exact_symbol (put_of 2 7) ∷ [])
 
--- ---- one ticket that calls nothing, begun and ended
-abbrev pub calls_nothing : ListView
-calls_nothing = on_one_map (record { ops = []; reply = nil_reply; entry = [] } ∷ [])
+module _ (older : ℕ) (y : Symbol) where
+  -- the put was delayed
+  abbrev pub delayed : Book
+  delayed = after_delay all_begun 2 (put_of 2 7) older y
 
-abbrev pub one_begun : Book
-one_begun = after_begin (opened 1 1) 0 []
+  -- the others narrowed to nothing
+  abbrev pub narrowed_one : Book
+  narrowed_one = after_narrow delayed 0 (record { ticket = 0; foresight = exact_symbol (get_of 1) ∷ exact_symbol (get_of 2) ∷ []; flight = None }) []
 
-abbrev pub once_ended : Book
-once_ended = after_end one_begun 0 (record { ticket = 0; foresight = []; flight = None }) nil_reply
+  abbrev pub narrowed : Book
+  narrowed = after_narrow narrowed_one 1 (record { ticket = 1; foresight = exact_symbol (get_of 2) ∷ []; flight = None }) []
+
+  -- the put was done
+  abbrev pub in_flight : Book
+  in_flight = after_admit narrowed 2 (record { ticket = 2; foresight = exact_symbol (put_of 2 7) ∷ []; flight = None }) (put_of 2 7)
+
+  abbrev pub has_put : Book
+  has_put = after_done in_flight 2 (record { ticket = 2; foresight = exact_symbol (put_of 2 7) ∷ []; flight = Some (put_of 2 7) }) (put_of 2 7) Nil []
+
+  -- the tickets end one after another
+  abbrev pub one_ended : Book
+  one_ended = after_end has_put 0 (record { ticket = 0; foresight = []; flight = None }) nil_reply
+
+  abbrev pub two_ended : Book
+  two_ended = after_end one_ended 1 (record { ticket = 1; foresight = []; flight = None }) nil_reply
+
+  abbrev pub all_ended : Book
+  all_ended = after_end two_ended 2 (record { ticket = 2; foresight = []; flight = None }) nil_reply

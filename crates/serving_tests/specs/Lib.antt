@@ -1,4 +1,3 @@
 pub mod BookRows
-pub mod CounterLaw
-pub mod Counters
+pub mod Callers
 pub mod HallRows

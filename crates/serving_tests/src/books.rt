@@ -1,17 +1,16 @@
-// Books over lists of tickets.
+// A book over a list of tickets: the youngest of three waits until both others narrow, and all end.
 
-ghost use Rattle.std.specs.Prelude.{◌≡◌, ◌<◌, ◌≤◌, None, Some, OnOk, IfOk, length};
+ghost use Rattle.std.specs.Prelude.{◌≡◌, ◌<◌, ◌≤◌, None, IfOk, length};
 ghost use Rattle.session_journal.specs.Journal.{begun};
-ghost use Rattle.admission_book.specs.Book.{record_of};
+ghost use Rattle.admission_book.specs.Book.{after_begin, record_of};
 ghost use Rattle.admission_book.specs.Lawful.{Lawful};
-ghost use Rattle.admission_book.specs.Methods.{Begins};
-ghost use Rattle.serving_tests.specs.BookRows.{IsAt, all_begun, both_begun, calls_nothing, get_or_puts, gets_and_put, once_ended, one_begun, put_once, put_twice};
+ghost use Rattle.serving_tests.specs.BookRows.{IsAt, all_begun, all_ended, gets_and_put, has_put, list_entry, meaning_of};
 
 use admission_book::{Admission, Book};
 use session_journal::{Event, ListScript, Script};
 use session_values::{Kind, NoMemory, Op, Reply, TableKind, Value};
 use std::alloc::Global;
-use std::test::Fail;
+use std::process::Abort;
 use symbolic_ops::{Foresight, Symbol};
 
 pub(crate) const NIL: Reply = Reply {
@@ -20,13 +19,6 @@ pub(crate) const NIL: Reply = Reply {
     b: Value::Nil,
     c: Value::Nil,
     d: Value::Nil,
-};
-
-pub(crate) const PUT_1: Op = Op {
-    kind: Kind::Put,
-    table: 0,
-    key: Value::Num(1),
-    value: Value::Num(7),
 };
 
 pub(crate) const PUT_2: Op = Op {
@@ -50,29 +42,15 @@ const GET_2: Op = Op {
     value: Value::Nil,
 };
 
-/// A ticket that may get, and one that puts twice.
-pub(crate) fn two_tickets(alloc: Global) -> Result<ListScript, NoMemory>
-    ensures { IfOk result (λ s. s ≡ get_or_puts) }
-{
-    let mut script = ListScript::with_room(alloc, &[TableKind::Map], 2, 2, 3)?;
-    script.ticket(NIL);
-    script.allow(Symbol::exact(&GET_1));
-    script.ticket(NIL);
-    script.call(PUT_2);
-    script.call(PUT_1);
-    Ok(script)
-}
-
-/// Two tickets that may get twice, and one that puts.
+/// A ticket that may get two keys, one that may get the second one, and one that puts it.
 fn three_tickets(alloc: Global) -> Result<ListScript, NoMemory>
     ensures { IfOk result (λ s. s ≡ gets_and_put) }
 {
-    let mut script = ListScript::with_room(alloc, &[TableKind::Map], 3, 1, 5)?;
+    let mut script = ListScript::with_room(alloc, &[TableKind::Map], 3, 1, 4)?;
     script.ticket(NIL);
     script.allow(Symbol::exact(&GET_1));
     script.allow(Symbol::exact(&GET_2));
     script.ticket(NIL);
-    script.allow(Symbol::exact(&GET_1));
     script.allow(Symbol::exact(&GET_2));
     script.ticket(NIL);
     script.call(PUT_2);
@@ -80,203 +58,111 @@ fn three_tickets(alloc: Global) -> Result<ListScript, NoMemory>
 }
 
 /// Begins the next ticket with what it declares.
-fn begin_next<S: Script + Drop>(
-    book: &mut Book<S>,
-    caller: u32,
-    scratch: &mut Foresight,
-) -> Option<u32>
-    requires lawful { Lawful (S.meaning book.old.script) book.old.book }
+fn begin_next<R: Abort>(rt: &R, book: &mut Book<ListScript>, caller: u32, scratch: &mut Foresight)
+    requires lawful { Lawful (meaning_of book.old.script) book.old.book }
     requires caller { caller < length book.old.book.records }
     requires idle { record_of book.old.book caller ≡ None }
     requires room { 256 ≤ scratch.old.room }
     ensures script { book.new.script ≡ book.old.script }
-    ensures begins { Begins (S.meaning book.old.script) book.old.book caller
-        ((S.meaning book.old.script).entry (begun book.old.book.journal)) result book.new.book }
-    ensures lawful { Lawful (S.meaning book.new.script) book.new.book }
+    ensures begins { book.new.book ≡ after_begin book.old.book caller
+        (list_entry book.old.script (begun book.old.book.journal)) }
+    ensures lawful { Lawful (meaning_of book.new.script) book.new.book }
     ensures room { scratch.new.room ≡ scratch.old.room }
 {
-    let t = book.next_ticket()?;
-    if t < book.script().requests() {
-        book.script().entry(t, scratch);
-    }
-    book.begin(caller, scratch)
-}
-
-/// The book of two tickets for three callers, with both begun.
-fn both_begun(alloc: Global, scratch: &mut Foresight) -> Result<Book<ListScript>, Fail>
-    requires { 256 ≤ scratch.old.room }
-    ensures at { IfOk result (λ b. IsAt get_or_puts both_begun b) }
-    ensures room { scratch.new.room ≡ scratch.old.room }
-{
-    let mut book = Book::open(alloc, two_tickets(alloc)?, 3)?;
-    begin_next(&mut book, 0, scratch).ok_or("no ticket")?;
-    begin_next(&mut book, 1, scratch).ok_or("no ticket")?;
-    Ok(book)
+    let Some(t) = book.next_ticket() else {
+        rt.panic("no ticket")
+    };
+    book.script().entry(t, scratch);
+    book.begin(caller, scratch);
 }
 
 /// The book of three tickets for three callers, with all begun.
-fn all_begun(alloc: Global, scratch: &mut Foresight) -> Result<Book<ListScript>, Fail>
+fn begin_all<R: Abort>(rt: &R, alloc: Global, scratch: &mut Foresight) -> Book<ListScript>
     requires { 256 ≤ scratch.old.room }
-    ensures { IfOk result (λ b. IsAt gets_and_put all_begun b) }
+    ensures { IsAt gets_and_put all_begun result }
 {
-    let mut book = Book::open(alloc, three_tickets(alloc)?, 3)?;
-    begin_next(&mut book, 0, scratch).ok_or("no ticket")?;
-    begin_next(&mut book, 1, scratch).ok_or("no ticket")?;
-    begin_next(&mut book, 2, scratch).ok_or("no ticket")?;
-    Ok(book)
+    let script = three_tickets(alloc).expect(rt, "memory");
+    let mut book = Book::open(alloc, script, 3).expect(rt, "memory");
+    begin_next(rt, &mut book, 0, scratch);
+    begin_next(rt, &mut book, 1, scratch);
+    begin_next(rt, &mut book, 2, scratch);
+    book
 }
 
-/// The answer was Admitted.
-fn admitted(answer: Admission) -> Result<(), Fail>
-    ensures { OnOk result (answer ≡ Admission.Admitted) }
+/// The youngest ticket is told who delays its put; the others narrow to nothing, and it puts.
+fn put_when_free<R: Abort>(
+    rt: &R,
+    book: &mut Book<ListScript>,
+    scratch: &mut Foresight,
+) -> (u32, Symbol)
+    requires { IsAt gets_and_put all_begun book.old }
+    ensures { IsAt gets_and_put (has_put result.0 result.1) book.new }
 {
-    match answer {
-        Admission::Admitted => Ok(()),
-        Admission::Delayed { older, symbol } => Err("delayed")?,
-    }
-}
-
-/// Ticket 1 puts once, and then may put once more.
-fn put_once(book: &mut Book<ListScript>, scratch: &mut Foresight) -> Result<(), Fail>
-    requires at { IsAt get_or_puts both_begun book.old }
-    requires room { 256 ≤ scratch.old.room }
-    ensures at { OnOk result (IsAt get_or_puts put_once book.new) }
-    ensures room { scratch.new.room ≡ scratch.old.room }
-{
-    admitted(book.admit(1, PUT_2))?;
-    scratch.clear();
-    scratch.push(Symbol::exact(&PUT_1));
-    book.done(1, Value::Nil, scratch);
-    Ok(())
-}
-
-/// Ticket 1 is told who delays its second put; ticket 0 narrows to nothing, and ticket 1 puts.
-fn put_twice(book: &mut Book<ListScript>, scratch: &mut Foresight) -> Result<(u32, Symbol), Fail>
-    requires at { IsAt get_or_puts put_once book.old }
-    ensures at { IfOk result (λ p. IsAt get_or_puts (put_twice p.0 p.1) book.new) }
-    ensures room { scratch.new.room ≡ scratch.old.room }
-{
-    let Admission::Delayed { older, symbol } = book.admit(1, PUT_1) else {
-        return Err("not delayed")?;
+    let Admission::Delayed { older, symbol } = book.admit(2, PUT_2) else {
+        rt.panic("not delayed")
     };
     scratch.clear();
     book.narrow(0, scratch);
-    admitted(book.admit(1, PUT_1))?;
-    book.done(1, Value::Nil, scratch);
-    Ok((older, symbol))
+    book.narrow(1, scratch);
+    let Admission::Admitted = book.admit(2, PUT_2) else {
+        rt.panic("delayed")
+    };
+    book.done(2, Value::Nil, scratch);
+    (older, symbol)
 }
 
-/// What the book says once ticket 1 has put once: how many events there are, the last one, the
-/// oldest open ticket, and the reply of ticket 1.
-fn said_after_one_put(
-    alloc: Global,
-) -> Result<(usize, Option<Event>, Option<u32>, Option<Reply>), Fail> {
-    let mut scratch = Foresight::with_room(alloc, 256)?;
-    let mut book = both_begun(alloc, &mut scratch)?;
-    put_once(&mut book, &mut scratch)?;
-    let events = book.journal().events();
-    let (len, last) = (events.len(), events.last().copied());
-    Ok((len, last, book.oldest_open(), book.reply(1)))
+/// All tickets end.
+fn end_all(book: &mut Book<ListScript>, older: u32, symbol: Symbol)
+    requires { IsAt gets_and_put (has_put older symbol) book.old }
+    ensures { IsAt gets_and_put (all_ended older symbol) book.new }
+{
+    book.end(0, NIL);
+    book.end(1, NIL);
+    book.end(2, NIL);
 }
 
-#[test]
-fn an_operation_that_was_done_is_the_last_event(rt: HostRuntime) -> Result<(), Fail> {
-    let said = said_after_one_put(rt.alloc())?;
+/// What the book says once the youngest ticket has put: the last event, the oldest open ticket, and
+/// no reply of the ticket yet.
+fn says_put<R: Abort>(rt: &R, book: &Book<ListScript>)
+    requires { Lawful (meaning_of book.now.script) book.now.book }
+{
     let done = Event::Done {
-        ticket: 1,
+        ticket: 2,
         op: PUT_2,
         reply: Value::Nil,
     };
-    assert_eq!(rt; said, (3, Some(done), Some(0), None));
-    Ok(())
+    assert!(rt; book.journal().events().last().copied() == Some(done));
+    assert!(rt; book.oldest_open() == Some(0) && book.reply(2) == None);
 }
 
-/// Who delays the second put until it narrows, by which symbol, and the next ticket when both are
-/// begun, asked for and begun.
-fn said_of_second_put(alloc: Global) -> Result<(u32, Symbol, Option<u32>, Option<u32>), Fail> {
-    let mut scratch = Foresight::with_room(alloc, 256)?;
-    let mut book = both_begun(alloc, &mut scratch)?;
-    put_once(&mut book, &mut scratch)?;
-    let (older, symbol) = put_twice(&mut book, &mut scratch)?;
-    let next = book.next_ticket();
-    let begun = begin_next(&mut book, 2, &mut scratch);
-    Ok((older, symbol, next, begun))
-}
-
-#[test]
-fn a_younger_ticket_waits_until_an_older_one_narrows(rt: HostRuntime) -> Result<(), Fail> {
-    let said = said_of_second_put(rt.alloc())?;
-    assert_eq!(rt; said, (0, Symbol::exact(&GET_1), None, None));
-    Ok(())
-}
-
-/// What the third ticket is told about its put, and how many events there are then.
-fn said_to_third(alloc: Global) -> Result<(Admission, usize), Fail> {
-    let mut scratch = Foresight::with_room(alloc, 256)?;
-    let mut book = all_begun(alloc, &mut scratch)?;
-    let answer = book.admit(2, PUT_2);
-    Ok((answer, book.journal().events().len()))
-}
-
-#[test]
-fn the_least_ticket_and_its_first_symbol_are_named(rt: HostRuntime) -> Result<(), Fail> {
-    let said = said_to_third(rt.alloc())?;
-    let delayed = Admission::Delayed {
-        older: 0,
-        symbol: Symbol::exact(&GET_2),
-    };
-    assert_eq!(rt; said, (delayed, 4));
-    Ok(())
-}
-
-/// A book of one ticket that calls nothing, which has begun.
-fn one_begun(alloc: Global, scratch: &mut Foresight) -> Result<Book<ListScript>, Fail>
-    requires { 256 ≤ scratch.old.room }
-    ensures { IfOk result (λ b. IsAt calls_nothing one_begun b) }
+/// What the book says at the end: the reply of the youngest ticket, and that no ticket is open or
+/// left to begin.
+fn says_ended<R: Abort>(rt: &R, book: &Book<ListScript>)
+    requires { Lawful (meaning_of book.now.script) book.now.book }
 {
-    let mut script = ListScript::with_room(alloc, &[TableKind::Map], 1, 0, 0)?;
-    script.ticket(NIL);
-    let mut book = Book::open(alloc, script, 1)?;
-    begin_next(&mut book, 0, scratch).ok_or("no ticket")?;
-    Ok(book)
+    assert!(rt; book.reply(2) == Some(NIL));
+    assert!(rt; book.oldest_open() == None && book.next_ticket() == None);
 }
 
-fn end_it(book: &mut Book<ListScript>)
-    requires { IsAt calls_nothing one_begun book.old }
-    ensures { IsAt calls_nothing once_ended book.new }
-{
-    book.end(0, NIL);
-}
-
-/// The reply of the ticket that has ended, and the oldest open ticket then.
-fn said_after_end(alloc: Global) -> Result<(Option<Reply>, Option<u32>), Fail> {
-    let mut scratch = Foresight::with_room(alloc, 256)?;
-    let mut book = one_begun(alloc, &mut scratch)?;
-    end_it(&mut book);
-    Ok((book.reply(0), book.oldest_open()))
+/// So many replies, each of which is nil.
+pub(crate) fn are_nil<R: Abort>(rt: &R, replies: &[Reply], count: usize) {
+    assert!(rt; replies.len() == count);
+    for reply in replies {
+        assert!(rt; *reply == NIL);
+    }
 }
 
 #[test]
-fn an_ended_ticket_has_its_reply(rt: HostRuntime) -> Result<(), Fail> {
-    let said = said_after_end(rt.alloc())?;
-    assert_eq!(rt; said, (Some(NIL), None));
-    Ok(())
-}
-
-/// What a closed book gives: the events, the room that is left, the replies, and the first one.
-fn given_at_close(alloc: Global) -> Result<(usize, u32, usize, Option<Reply>), Fail> {
-    let mut scratch = Foresight::with_room(alloc, 256)?;
-    let mut book = one_begun(alloc, &mut scratch)?;
-    end_it(&mut book);
+fn the_youngest_ticket_waits_until_the_others_narrow(rt: HostRuntime) {
+    let alloc = rt.alloc();
+    let mut scratch = Foresight::with_room(alloc, 256).expect(&rt, "memory");
+    let mut book = begin_all(&rt, alloc, &mut scratch);
+    let (older, symbol) = put_when_free(&rt, &mut book, &mut scratch);
+    assert!(rt; older == 0 && symbol == Symbol::exact(&GET_2));
+    says_put(&rt, &book);
+    end_all(&mut book, older, symbol);
+    says_ended(&rt, &book);
     let (journal, replies) = book.close();
-    let list = replies.as_slice();
-    let (events, left) = (journal.events().len(), journal.spare());
-    Ok((events, left, list.len(), list.first().copied()))
-}
-
-#[test]
-fn a_closed_book_gives_its_journal_and_replies(rt: HostRuntime) -> Result<(), Fail> {
-    let given = given_at_close(rt.alloc())?;
-    assert_eq!(rt; given, (2, 0, 1, Some(NIL)));
-    Ok(())
+    assert!(rt; journal.events().len() == 8 && journal.spare() == 0);
+    are_nil(&rt, replies.as_slice(), 3);
 }

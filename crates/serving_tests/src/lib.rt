@@ -1,5 +1,5 @@
-//! Tests of the crates that serve requests: journal, desk, book and board. They stand above those
-//! crates, so that each is proved once.
+//! Tests of the crates that serve requests: journal, desk, book, board and hall. They stand above
+//! those crates, so that each is proved once.
 #![tactic(auto)]
 
 #[cfg(test)]

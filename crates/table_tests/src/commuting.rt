@@ -1,15 +1,16 @@
 // The relation on the worked rows, and against plain tables.
 
-ghost use Rattle.std.specs.Prelude.{◌≡◌, ◌∷◌, [], Some, slice_get};
+ghost use Rattle.std.specs.Prelude.{◌≡◌, ◌∷◌, [], Some, map, slice_get};
 ghost use Rattle.session_values.specs.declared.kind.TableKind.TheVariants.{Map, Set};
 ghost use Rattle.session_values.specs.Kinds.{home};
+ghost use Rattle.session_values.specs.Tables.{kind_of};
 
 use crate::kinds::KINDS;
 use commute_tables::{commute, commute_symbol};
 use plain_tables::PlainTables;
-use session_values::{Kind, NoMemory, Op, TableKind, Value};
+use session_values::{Kind, Op, TableKind, Value};
 use std::alloc::Global;
-use std::test::Fail;
+use std::process::Abort;
 use symbolic_ops::{Arg, Symbol};
 
 // An operation on the map 0 or the set 1.
@@ -39,152 +40,164 @@ fn op(kind: Kind, key: i64, value: i64) -> Op
     }
 }
 
-// The replies of two operations, and what the tables hold after both.
-#[derive(Clone, Copy, PartialEq)]
-struct Outcome {
-    first: Value,
-    second: Value,
-    bound: [Value; 3],
-    members: [Value; 3],
+// The reply of an operation on the map 0 or the set 1.
+fn reply<R: Abort>(rt: &R, tables: &mut PlainTables, op: Op) -> Value
+    requires tables { map kind_of tables.old ≡ Map ∷ Set ∷ [] }
+    requires fits { slice_get (Map ∷ Set ∷ []) op.table ≡ Some (home op.kind) }
+    ensures { map kind_of tables.new ≡ Map ∷ Set ∷ [] }
+{
+    tables.apply(op).expect(rt, "memory")
 }
 
-fn done_in_order(alloc: Global, held: Op, a: Op, b: Op) -> Result<Outcome, NoMemory>
-    requires held { slice_get (Map ∷ Set ∷ []) held.table ≡ Some (home held.kind) }
-    requires first { slice_get (Map ∷ Set ∷ []) a.table ≡ Some (home a.kind) }
-    requires second { slice_get (Map ∷ Set ∷ []) b.table ≡ Some (home b.kind) }
+// Whether both tables reply the same.
+fn is_alike<R: Abort>(rt: &R, one: &mut PlainTables, other: &mut PlainTables, op: Op) -> bool
+    requires one { map kind_of one.old ≡ Map ∷ Set ∷ [] }
+    requires other { map kind_of other.old ≡ Map ∷ Set ∷ [] }
+    requires fits { slice_get (Map ∷ Set ∷ []) op.table ≡ Some (home op.kind) }
+    ensures one { map kind_of one.new ≡ Map ∷ Set ∷ [] }
+    ensures other { map kind_of other.new ≡ Map ∷ Set ∷ [] }
 {
-    let mut tables = PlainTables::new(alloc, &[TableKind::Map, TableKind::Set])?;
-    tables.apply(held)?;
-    let first = tables.apply(a)?;
-    let second = tables.apply(b)?;
-    let one = tables.apply(op(Kind::Get, 1, 0))?;
-    let two = tables.apply(op(Kind::Get, 2, 0))?;
-    let size = tables.apply(op(Kind::Size, 0, 0))?;
-    let has_one = tables.apply(op(Kind::Has, 1, 0))?;
-    let has_two = tables.apply(op(Kind::Has, 2, 0))?;
-    let count = tables.apply(op(Kind::Count, 0, 0))?;
-    Ok(Outcome {
-        first,
-        second,
-        bound: [one, two, size],
-        members: [has_one, has_two, count],
-    })
+    reply(rt, one, op) == reply(rt, other, op)
+}
+
+// Whether both tables hold the same at the keys 1 and 2, and as many keys.
+fn hold_alike<R: Abort>(rt: &R, one: &mut PlainTables, other: &mut PlainTables) -> bool
+    requires one { map kind_of one.old ≡ Map ∷ Set ∷ [] }
+    requires other { map kind_of other.old ≡ Map ∷ Set ∷ [] }
+{
+    let alike = [
+        is_alike(rt, one, other, op(Kind::Get, 1, 0)),
+        is_alike(rt, one, other, op(Kind::Get, 2, 0)),
+        is_alike(rt, one, other, op(Kind::Size, 0, 0)),
+        is_alike(rt, one, other, op(Kind::Has, 1, 0)),
+        is_alike(rt, one, other, op(Kind::Has, 2, 0)),
+        is_alike(rt, one, other, op(Kind::Count, 0, 0)),
+    ];
+    alike == [true; 6]
+}
+
+// Tables on which this operation was done.
+fn tables_after<R: Abort>(rt: &R, alloc: Global, held: Op) -> PlainTables
+    requires { slice_get (Map ∷ Set ∷ []) held.table ≡ Some (home held.kind) }
+    ensures { map kind_of result ≡ Map ∷ Set ∷ [] }
+{
+    let shape = [TableKind::Map, TableKind::Set];
+    let mut tables = PlainTables::new(alloc, &shape).expect(rt, "memory");
+    reply(rt, &mut tables, held);
+    tables
 }
 
 // Whether both orders give the same after the operation `held`.
-fn swap_after(alloc: Global, held: Op, a: Op, b: Op) -> Result<bool, NoMemory>
+fn swap_after<R: Abort>(rt: &R, alloc: Global, held: Op, a: Op, b: Op) -> bool
     requires held { slice_get (Map ∷ Set ∷ []) held.table ≡ Some (home held.kind) }
     requires first { slice_get (Map ∷ Set ∷ []) a.table ≡ Some (home a.kind) }
     requires second { slice_get (Map ∷ Set ∷ []) b.table ≡ Some (home b.kind) }
 {
-    let ab = done_in_order(alloc, held, a, b)?;
-    let ba = done_in_order(alloc, held, b, a)?;
-    Ok(
-        ab.first == ba.second
-            && ab.second == ba.first
-            && ab.bound == ba.bound
-            && ab.members == ba.members,
-    )
+    let mut one = tables_after(rt, alloc, held);
+    let mut other = tables_after(rt, alloc, held);
+    let first = [reply(rt, &mut one, a), reply(rt, &mut one, b)];
+    let second = [reply(rt, &mut other, b), reply(rt, &mut other, a)];
+    hold_alike(rt, &mut one, &mut other) && first == [second[1], second[0]]
 }
 
 // Whether both orders give the same where the key is bound to 0 or to 1, or a member.
-fn swap_at_key(alloc: Global, key: i64, a: Op, b: Op) -> Result<bool, NoMemory>
+fn swap_at_key<R: Abort>(rt: &R, alloc: Global, key: i64, a: Op, b: Op) -> bool
     requires first { slice_get (Map ∷ Set ∷ []) a.table ≡ Some (home a.kind) }
     requires second { slice_get (Map ∷ Set ∷ []) b.table ≡ Some (home b.kind) }
 {
-    let zero = swap_after(alloc, op(Kind::Put, key, 0), a, b)?;
-    let one = swap_after(alloc, op(Kind::Put, key, 1), a, b)?;
-    let member = swap_after(alloc, op(Kind::Mark, key, 0), a, b)?;
-    Ok(zero && one && member)
+    let zero = swap_after(rt, alloc, op(Kind::Put, key, 0), a, b);
+    let one = swap_after(rt, alloc, op(Kind::Put, key, 1), a, b);
+    let member = swap_after(rt, alloc, op(Kind::Mark, key, 0), a, b);
+    zero && one && member
 }
 
 // Whether both orders give the same at the tables that tell of the keys 1 and 2.
-fn swap_everywhere(alloc: Global, a: Op, b: Op) -> Result<bool, NoMemory>
+fn swap_everywhere<R: Abort>(rt: &R, alloc: Global, a: Op, b: Op) -> bool
     requires first { slice_get (Map ∷ Set ∷ []) a.table ≡ Some (home a.kind) }
     requires second { slice_get (Map ∷ Set ∷ []) b.table ≡ Some (home b.kind) }
 {
-    let empty = swap_after(alloc, op(Kind::Get, 1, 0), a, b)?;
-    let at_one = swap_at_key(alloc, 1, a, b)?;
-    let at_two = swap_at_key(alloc, 2, a, b)?;
-    Ok(empty && at_one && at_two)
+    let empty = swap_after(rt, alloc, op(Kind::Get, 1, 0), a, b);
+    let at_one = swap_at_key(rt, alloc, 1, a, b);
+    let at_two = swap_at_key(rt, alloc, 2, a, b);
+    empty && at_one && at_two
 }
 
-// The first kind whose operation on this key and value is told wrongly beside `a`.
-fn wrong_beside(alloc: Global, a: Op, key: i64, value: i64) -> Result<Option<Kind>, NoMemory>
+// Whether they commute, asked in both ways and by the exact symbol.
+fn told(a: &Op, b: &Op) -> [bool; 3] {
+    [
+        commute(a, b),
+        commute(b, a),
+        commute_symbol(a, &Symbol::exact(b)),
+    ]
+}
+
+// The operation of each kind on this key and value is told rightly beside `a`.
+fn is_right_beside<R: Abort>(rt: &R, alloc: Global, a: Op, key: i64, value: i64)
     requires { slice_get (Map ∷ Set ∷ []) a.table ≡ Some (home a.kind) }
 {
     for kind in KINDS {
         let b = op(kind, key, value);
-        let swap = swap_everywhere(alloc, a, b)?;
-        let told = commute(&a, &b) == swap && commute(&b, &a) == swap;
-        if !told || commute_symbol(&a, &Symbol::exact(&b)) != swap {
-            return Ok(Some(kind));
-        }
+        let swap = swap_everywhere(rt, alloc, a, b);
+        assert!(rt; told(&a, &b) == [swap, swap, swap]);
     }
-    Ok(None)
 }
 
-// The first pair of kinds that is told wrongly, the second of which has this key and value.
-fn first_wrong(alloc: Global, key: i64, value: i64) -> Result<Option<(Kind, Kind)>, NoMemory> {
+// Each pair of kinds is told rightly, the second of which has this key and value.
+fn is_right<R: Abort>(rt: &R, alloc: Global, key: i64, value: i64) {
     for kind in KINDS {
-        if let Some(other) = wrong_beside(alloc, op(kind, 1, 5), key, value)? {
-            return Ok(Some((kind, other)));
-        }
+        is_right_beside(rt, alloc, op(kind, 1, 5), key, value);
     }
-    Ok(None)
 }
 
 #[test]
-fn all_pairs_of_kinds_as_the_tables_tell(rt: HostRuntime) -> Result<(), Fail> {
-    for (key, value) in [(1, 5), (1, 6), (2, 5), (2, 6)] {
-        assert_eq!(rt; first_wrong(rt.alloc(), key, value)?, None, "{key} {value}");
-    }
-    Ok(())
+fn all_pairs_of_kinds_as_the_tables_tell(rt: HostRuntime) {
+    is_right(&rt, rt.alloc(), 1, 5);
+    is_right(&rt, rt.alloc(), 1, 6);
+    is_right(&rt, rt.alloc(), 2, 5);
+    is_right(&rt, rt.alloc(), 2, 6);
+}
+
+// Whether two kinds commute on the key 1 and the value 5.
+fn pair(kind: Kind, other: Kind) -> bool {
+    commute(&op(kind, 1, 5), &op(other, 1, 5))
 }
 
 #[test]
 fn worked_pairs(rt: HostRuntime) {
-    // It names a map, and works on sets: no tables fit it beside an operation on that map.
+    let pairs = [
+        pair(Kind::Swap, Kind::Swap),
+        pair(Kind::Del, Kind::Del),
+        pair(Kind::Size, Kind::Get),
+        pair(Kind::Size, Kind::Del),
+        pair(Kind::Add, Kind::Add),
+        pair(Kind::Mark, Kind::Mark),
+        pair(Kind::Add, Kind::Mark),
+    ];
+    assert!(rt; pairs == [false, true, true, false, false, true, false]);
+}
+
+// The other one names a map, and works on sets: no tables fit it beside an operation on that map.
+#[test]
+fn an_operation_elsewhere_commutes(rt: HostRuntime) {
     let elsewhere = Op {
         kind: Kind::Has,
         table: 0,
         key: Value::Num(1),
         value: Value::Nil,
     };
-    let rows = [
-        (Kind::Swap, op(Kind::Swap, 1, 5), false),
-        (Kind::Del, op(Kind::Del, 1, 5), true),
-        (Kind::Size, op(Kind::Get, 1, 5), true),
-        (Kind::Size, op(Kind::Del, 1, 5), false),
-        (Kind::Add, op(Kind::Add, 1, 5), false),
-        (Kind::Mark, op(Kind::Mark, 1, 5), true),
-        (Kind::Add, op(Kind::Mark, 1, 5), false),
-        (Kind::Put, elsewhere, true),
-    ];
-    for (kind, other, wanted) in rows {
-        assert_eq!(rt;
-            commute(&op(kind, 1, 5), &other),
-            wanted,
-            "{kind:?} {other:?}"
-        );
-    }
+    assert!(rt; commute(&op(Kind::Put, 1, 5), &elsewhere));
 }
 
-// Whether `put` of 5 at 1, and `get` of 1, commute with each `put` on their map with these
-// arguments.
-fn told_of_puts(key: Arg, value: Arg) -> [bool; 2] {
+// Whether the operation of this kind on the key 1 and the value 5 commutes with each `put` on its
+// map with these arguments.
+fn told_of_puts(kind: Kind, key: Arg, value: Arg) -> bool {
     let symbol = Symbol {
         kind: Kind::Put,
         table: 0,
         key,
         value,
     };
-    if symbol.has_no_var() {
-        let put = commute_symbol(&op(Kind::Put, 1, 5), &symbol);
-        [put, commute_symbol(&op(Kind::Get, 1, 0), &symbol)]
-    } else {
-        [false, false]
-    }
+    symbol.has_no_var() && commute_symbol(&op(kind, 1, 5), &symbol)
 }
 
 #[test]
@@ -192,13 +205,18 @@ fn worked_symbols(rt: HostRuntime) {
     let one = Arg::Known(Value::Num(1));
     let two = Arg::Known(Value::Num(2));
     let five = Arg::Known(Value::Num(5));
-    let rows = [
-        (Arg::Any, five, [true, false]),
-        (one, Arg::Any, [false, false]),
-        (Arg::Any, Arg::Any, [false, false]),
-        (two, Arg::Any, [true, true]),
+    let puts = [
+        told_of_puts(Kind::Put, Arg::Any, five),
+        told_of_puts(Kind::Put, one, Arg::Any),
+        told_of_puts(Kind::Put, Arg::Any, Arg::Any),
+        told_of_puts(Kind::Put, two, Arg::Any),
     ];
-    for (key, value, wanted) in rows {
-        assert_eq!(rt; told_of_puts(key, value), wanted, "{key:?} {value:?}");
-    }
+    assert!(rt; puts == [true, false, false, true]);
+    let gets = [
+        told_of_puts(Kind::Get, Arg::Any, five),
+        told_of_puts(Kind::Get, one, Arg::Any),
+        told_of_puts(Kind::Get, Arg::Any, Arg::Any),
+        told_of_puts(Kind::Get, two, Arg::Any),
+    ];
+    assert!(rt; gets == [false, false, false, true]);
 }

@@ -1,15 +1,16 @@
 // The ten operations, each by its reply and by what the next ones see.
 
-ghost use Rattle.std.specs.Prelude.{◌≡◌, [], ◌∷◌, Some, slice_get};
+ghost use Rattle.std.specs.Prelude.{◌≡◌, [], ◌∷◌, Some, map, slice_get};
 ghost use Rattle.session_values.specs.declared.kind.TableKind.TheVariants.{Map, Set};
 ghost use Rattle.session_values.specs.Op.{IsOp};
 ghost use Rattle.session_values.specs.Kinds.{home};
+ghost use Rattle.session_values.specs.Tables.{kind_of};
 
 use plain_tables::PlainTables;
 use session_values::Value::{Nil, Num, Sym};
-use session_values::{Kind, NoMemory, Op, TableKind, Value};
+use session_values::{Kind, Op, TableKind, Value};
 use std::alloc::Global;
-use std::test::Fail;
+use std::process::Abort;
 
 // An operation that fits a map, a set, a map and a set, and its reply.
 #[derive(Clone, Copy)]
@@ -32,25 +33,30 @@ fn case_of(kind: Kind, table: u32, key: Value, value: Value, reply: Value) -> Ca
     Case { op, reply }
 }
 
-// The first case whose reply is another one.
-fn first_wrong(alloc: Global, cases: &[Case]) -> Result<Option<usize>, NoMemory> {
+// Each case has its reply, done in order on these tables.
+fn have_replies<R: Abort>(rt: &R, tables: &mut PlainTables, cases: &[Case])
+    requires { map kind_of tables.old ≡ Map ∷ Set ∷ Map ∷ Set ∷ [] }
+{
+    for case in cases {
+        let reply = tables.apply(case.op).expect(rt, "memory");
+        assert!(rt; reply == case.reply);
+    }
+}
+
+// Each case has its reply, done in order on two maps and two sets.
+fn reply_so<R: Abort>(rt: &R, alloc: Global, cases: &[Case]) {
     let shape = [
         TableKind::Map,
         TableKind::Set,
         TableKind::Map,
         TableKind::Set,
     ];
-    let mut tables = PlainTables::new(alloc, &shape)?;
-    for (i, case) in cases.iter().enumerate() {
-        if tables.apply(case.op)? != case.reply {
-            return Ok(Some(i));
-        }
-    }
-    Ok(None)
+    let mut tables = PlainTables::new(alloc, &shape).expect(rt, "memory");
+    have_replies(rt, &mut tables, cases);
 }
 
 #[test]
-fn maps_bind_and_unbind(rt: HostRuntime) -> Result<(), Fail> {
+fn maps_bind_and_unbind(rt: HostRuntime) {
     let cases = [
         case_of(Kind::Size, 0, Nil, Nil, Num(0)),
         case_of(Kind::Get, 0, Num(1), Nil, Nil),
@@ -71,12 +77,11 @@ fn maps_bind_and_unbind(rt: HostRuntime) -> Result<(), Fail> {
         case_of(Kind::Put, 2, Num(2), Num(6), Nil),
         case_of(Kind::Get, 0, Num(2), Nil, Num(7)),
     ];
-    assert_eq!(rt; first_wrong(rt.alloc(), &cases)?, None);
-    Ok(())
+    reply_so(&rt, rt.alloc(), &cases);
 }
 
 #[test]
-fn sets_take_in_and_drop(rt: HostRuntime) -> Result<(), Fail> {
+fn sets_take_in_and_drop(rt: HostRuntime) {
     let cases = [
         case_of(Kind::Add, 1, Num(1), Nil, Num(1)),
         case_of(Kind::Add, 1, Num(1), Nil, Num(0)),
@@ -91,6 +96,5 @@ fn sets_take_in_and_drop(rt: HostRuntime) -> Result<(), Fail> {
         case_of(Kind::Has, 3, Nil, Nil, Num(0)),
         case_of(Kind::Count, 3, Nil, Nil, Num(0)),
     ];
-    assert_eq!(rt; first_wrong(rt.alloc(), &cases)?, None);
-    Ok(())
+    reply_so(&rt, rt.alloc(), &cases);
 }

@@ -1,11 +1,11 @@
 // Boards of a few turns, under the rule that asks nothing.
-ghost use Rattle.std.specs.Prelude.{◌≡◌, ◌+◌, ◌<◌, ◌≤◌, [], IfOk, vec_len};
-ghost use Rattle.turn_board.specs.Boards.{turn_count, Ends, AllEnd};
+ghost use Rattle.std.specs.Prelude.{◌≡◌, ℕ, ◌+◌, ◌<◌, ◌≤◌, [], None, IfOk, vec_len};
+ghost use Rattle.turn_board.specs.Boards.{turn_count, held, IsSeatOf, SameNote, Gained, Ends, AllEnd};
 
-use super::crossing::cross;
 use owned_lists::NoMemory;
 use std::alloc::Global;
-use turn_board::{Board, Hands, Seat, Seats, Taken, TieRule, TookAll, Values};
+use std::process::Abort;
+use turn_board::{Board, Hands, Seat, Taken, TieRule, TookAll};
 
 /// The rule that asks nothing.
 pub struct Anything;
@@ -22,17 +22,10 @@ impl TieRule<u64> for Anything {
     ghost kept = { λ _ _ _ _ _ _ _ _ _ _ _ _. tt };
 }
 
-/// What a taking answered: the value, or the turn that was found taken.
-#[derive(Clone, Copy, Debug, PartialEq)]
-pub enum Answer {
-    Here(u64),
-    Busy(u32),
-}
+pub type Row = Vec<Seat<u64, Anything>>;
 
-type Row = Vec<Seat<u64, Anything>>;
-
-// A board over these values, and its seats.
-fn open_board(
+/// A board over these values, and its seats.
+pub fn open_board(
     alloc: Global,
     values: Vec<u64>,
     callers: u32,
@@ -59,7 +52,7 @@ fn last_seat(board: &Board<u64, Anything>, callers: u32, seats: &mut Row) -> Sea
 }
 
 // On a board of one seat no turn is ever found taken.
-fn never_busy_alone(board: &Board<u64, Anything>, seat: &mut Seat<u64, Anything>) -> Answer
+fn never_busy_alone(board: &Board<u64, Anything>, seat: &mut Seat<u64, Anything>) -> u64
     requires seat { Ends board.now 1 0 seat.old }
     requires turns { turn_count board.now ≡ 5 }
 {
@@ -67,118 +60,149 @@ fn never_busy_alone(board: &Board<u64, Anything>, seat: &mut Seat<u64, Anything>
         unreachable!()
     };
     board.give(seat, 3, value);
-    Answer::Here(value)
+    value
 }
 
-fn answer_of(taken: Taken<u64>) -> Answer {
-    match taken {
-        Taken::Here(value) => Answer::Here(value),
-        Taken::Busy { turn } => Answer::Busy(turn),
-    }
-}
-
-// A turn that one seat holds is busy for another until it is given back, and other turns are not.
-fn busy_until_given(
+// Takes a turn that is free.
+fn take_free<R: Abort>(
+    rt: &R,
     board: &Board<u64, Anything>,
-    first: &mut Seat<u64, Anything>,
-    second: &mut Seat<u64, Anything>,
-) -> [Answer; 4]
-    requires first { Ends board.now 2 0 first.old }
-    requires second { Ends board.now 2 1 second.old }
-    requires turns { turn_count board.now ≡ 5 }
+    seat: &mut Seat<u64, Anything>,
+    turn: u32,
+) -> u64
+    requires seat { IsSeatOf board.now seat.old }
+    requires turn { turn < turn_count board.now }
+    requires free { held seat.old turn ≡ None }
+    ensures seat { IsSeatOf board.now seat.new × SameNote seat.old seat.new }
+    ensures gained { Gained seat.old seat.new turn result }
 {
-    let mut found = [Answer::Busy(0); 4];
-    let Taken::Here(value) = board.try_take(first, 3) else {
-        return found;
+    let Taken::Here(value) = board.try_take(seat, turn) else {
+        rt.panic("a turn was taken")
     };
-    found[0] = Answer::Here(value);
-    let Taken::Busy { turn } = board.try_take(second, 3) else {
-        return found;
-    };
-    found[1] = Answer::Busy(turn);
-    found[2] = answer_of(board.try_take(second, 4));
-    board.give(first, 3, value);
-    found[3] = answer_of(board.try_take(second, 3));
-    found
+    value
 }
 
-// A set of turns is taken whole or not at all, and the least turn that is taken is named.
-fn whole_or_not_at_all(
+/// Finds a turn taken.
+pub fn find_taken<R: Abort>(
+    rt: &R,
+    board: &Board<u64, Anything>,
+    seat: &mut Seat<u64, Anything>,
+    turn: u32,
+)
+    requires seat { IsSeatOf board.now seat.old }
+    requires turn { turn < turn_count board.now }
+    requires free { held seat.old turn ≡ None }
+    ensures seat { IsSeatOf board.now seat.new × SameNote seat.old seat.new }
+    ensures same { (u : ℕ) → held seat.new u ≡ held seat.old u }
+{
+    let Taken::Busy { turn: found } = board.try_take(seat, turn) else {
+        rt.panic("a turn was not taken")
+    };
+    assert!(rt; found == turn);
+}
+
+// Finds turn 3 taken, the least such one of turns 1 to 4.
+fn find_set_taken<R: Abort>(
+    rt: &R,
+    board: &Board<u64, Anything>,
+    seat: &mut Seat<u64, Anything>,
+    hands: &mut Hands<u64>,
+)
+    requires seat { IsSeatOf board.now seat.old }
+    requires turns { turn_count board.now ≡ 9 }
+    requires free { (u : ℕ) → held seat.old u ≡ None }
+    requires hands { (hands.old.pairs ≡ []) × (4 ≤ hands.old.room) }
+    ensures seat { IsSeatOf board.now seat.new }
+    ensures same { (u : ℕ) → held seat.new u ≡ None }
+    ensures hands { (hands.new.pairs ≡ []) × (4 ≤ hands.new.room) }
+{
+    let TookAll::Busy { turn } = board.try_take_all(seat, 0b11110, hands) else {
+        rt.panic("no turn was taken")
+    };
+    assert!(rt; turn == 3);
+}
+
+// Takes turns 1 to 4 in one step.
+fn take_set<R: Abort>(
+    rt: &R,
+    board: &Board<u64, Anything>,
+    seat: &mut Seat<u64, Anything>,
+    hands: &mut Hands<u64>,
+)
+    requires seat { IsSeatOf board.now seat.old }
+    requires turns { turn_count board.now ≡ 9 }
+    requires free { (u : ℕ) → held seat.old u ≡ None }
+    requires hands { (hands.old.pairs ≡ []) × (4 ≤ hands.old.room) }
+{
+    let TookAll::Here = board.try_take_all(seat, 0b11110, hands) else {
+        rt.panic("a turn was taken")
+    };
+}
+
+// A turn that one seat holds is busy for another until it is given back, and other turns are not; a
+// set of turns is taken whole or not at all, and the least turn that is taken is named.
+fn whole_or_not_at_all<R: Abort>(
+    rt: &R,
     board: &Board<u64, Anything>,
     first: &mut Seat<u64, Anything>,
     second: &mut Seat<u64, Anything>,
     third: &mut Seat<u64, Anything>,
     hands: &mut Hands<u64>,
-) -> [Answer; 3]
+)
     requires first { Ends board.now 3 0 first.old }
     requires second { Ends board.now 3 1 second.old }
     requires third { Ends board.now 3 2 third.old }
     requires turns { turn_count board.now ≡ 9 }
     requires hands { (hands.old.pairs ≡ []) × (4 ≤ hands.old.room) }
 {
-    let mut found = [Answer::Busy(0); 3];
-    let Taken::Here(value) = board.try_take(first, 3) else {
-        return found;
-    };
-    found[0] = Answer::Here(value);
-    let TookAll::Busy { turn } = board.try_take_all(second, 0b11110, hands) else {
-        return found;
-    };
-    found[1] = Answer::Busy(turn);
-    let Taken::Here(other) = board.try_take(third, 4) else {
-        return found;
-    };
-    found[2] = Answer::Here(other);
+    let value = take_free(rt, board, first, 3);
+    find_taken(rt, board, second, 3);
+    find_set_taken(rt, board, second, hands);
+    let other = take_free(rt, board, third, 4);
     board.give(first, 3, value);
     board.give(third, 4, other);
-    board.try_take_all(second, 0b11110, hands);
-    found
+    take_set(rt, board, second, hands);
+    assert!(rt; value == 30 && other == 40);
 }
 
-pub fn one_seat(alloc: Global) -> Result<(u32, Answer), NoMemory> {
-    let values = [0u64, 10, 20, 30, 40].to_vec(alloc)?;
-    let (board, mut seats) = open_board(alloc, values, 1)?;
+// The hands hold the values of turns 1 to 4, in this order.
+fn hold_four<R: Abort>(rt: &R, hands: &Hands<u64>) {
+    assert!(rt; hands.len() == 4);
+    for i in 0..4u32 {
+        let (turn, value) = *hands.get(i);
+        assert!(rt; turn == i + 1 && value == 10 * (i as u64 + 1));
+    }
+}
+
+/// The only seat of a board takes a turn and gives it back.
+pub fn one_seat<R: Abort>(rt: &R, alloc: Global) {
+    let values = [0u64, 10, 20, 30, 40].to_vec(alloc).expect(rt, "memory");
+    let (board, mut seats) = open_board(alloc, values, 1).expect(rt, "memory");
     let mut seat = last_seat(&board, 1, &mut seats);
-    let found = never_busy_alone(&board, &mut seat);
-    cross(&board, seat, Hands::with_room(alloc, 1)?);
-    Ok((board.turns(), found))
+    let value = never_busy_alone(&board, &mut seat);
+    assert!(rt; value == 30 && board.turns() == 5);
 }
 
-pub fn two_seats(alloc: Global) -> Result<[Answer; 4], NoMemory> {
-    let values = [0u64, 10, 20, 30, 40].to_vec(alloc)?;
-    let (board, mut seats) = open_board(alloc, values, 2)?;
-    let mut second = last_seat(&board, 2, &mut seats);
-    let mut first = last_seat(&board, 2, &mut seats);
-    Ok(busy_until_given(&board, &mut first, &mut second))
-}
-
-/// What was found, and the pairs in the hands at the end.
-pub fn three_seats(alloc: Global) -> Result<([Answer; 3], Vec<(u32, u64)>), NoMemory> {
-    let values = [0u64, 10, 20, 30, 40, 50, 60, 70, 80].to_vec(alloc)?;
-    let (board, mut seats) = open_board(alloc, values, 3)?;
+/// Three seats of a board take turns one by one and as a set.
+pub fn three_seats<R: Abort>(rt: &R, alloc: Global) {
+    let values = [0u64, 10, 20, 30, 40, 50, 60, 70, 80];
+    let values = values.to_vec(alloc).expect(rt, "memory");
+    let (board, mut seats) = open_board(alloc, values, 3).expect(rt, "memory");
     let mut third = last_seat(&board, 3, &mut seats);
     let mut second = last_seat(&board, 3, &mut seats);
     let mut first = last_seat(&board, 3, &mut seats);
-    let mut hands = Hands::with_room(alloc, 4)?;
-    let found = whole_or_not_at_all(&board, &mut first, &mut second, &mut third, &mut hands);
-    Ok((found, pairs_of(alloc, hands)?))
+    let mut hands = Hands::with_room(alloc, 4).expect(rt, "memory");
+    whole_or_not_at_all(rt, &board, &mut first, &mut second, &mut third, &mut hands);
+    hold_four(rt, &hands);
 }
 
-// All pairs, read one by one and taken out.
-fn pairs_of(alloc: Global, mut hands: Hands<u64>) -> Result<Vec<(u32, u64)>, NoMemory> {
-    let mut pairs = Vec::new(alloc);
-    for i in 0..hands.len() {
-        pairs.push(*hands.get(i))?;
-    }
-    while let Some(_) = hands.take_first() {}
-    Ok(pairs)
-}
+fn shared<T: Sync>(_it: &T) {}
 
-/// The number of values, of seats, and a value, read back out of their lists.
-pub fn lists(alloc: Global) -> Result<(u32, u32, u64), NoMemory> {
-    let values = Values::from_vec([0u64, 7].to_vec(alloc)?);
-    let seventh = *values.get(1);
-    let count = values.len();
-    let (_board, seats) = open_board(alloc, values.into_vec(), 2)?;
-    Ok((count, Seats::from_vec(seats).len(), seventh))
+fn moved<T: Send>(_it: &T) {}
+
+/// A board is shared, and a seat and hands are moved, where a value may be moved.
+pub fn cross<V: Send, R: TieRule<V>>(board: &Board<V, R>, seat: &Seat<V, R>, hands: &Hands<V>) {
+    shared(board);
+    moved(seat);
+    moved(hands);
 }

@@ -4,4 +4,4 @@ use Rattle.session_values.specs.Tables.{kind_of}
 use Rattle.serving_tests.proofs.journals.replay.Given as goal
 
 abbrev pub invariant-loop-event : goal.invariant-loop-event
-invariant-loop-event l = map kind_of l.tables ≡ Map ∷ []
+invariant-loop-event g l = map kind_of l.tables ≡ Map ∷ []
