@@ -1,118 +1,22 @@
 -- The symbols at each point are finitely many.
-use Rattle.std.proofs.Common.{◌≡◌, ℕ, zero, suc, ◌+◌, ◌<◌, ◌≤◌, Bool, true, false, List, [], ◌∷◌, ◌++◌, map, length, refl, sym, ap, ◌∙◌, subst, inl, inr, ◌⊎◌, ◌↔◌, Contains, arith, length-append, Option, Some, None}
+use Rattle.std.proofs.Common.{◌≡◌, ℕ, zero, suc, ◌+◌, ◌<◌, Bool, true, false, List, [], ◌∷◌, ◌++◌, map, length, refl, sym, ap, ◌∙◌, subst, inl, inr, ◌⊎◌, Contains, arith, Option, Some, None}
 use Rattle.std.specs.Prelude.{if◌then◌else◌, ◌==◌}
-use Rattle.std.specs.List.{AllByRecursion}
-use Rattle.std.specs.List.Sorted.{IsStrictlySortedBy}
-use Rattle.std.specs.Ordering.{ordering_reverse}
-use Rattle.std.specs.declared.cmp.Ordering.{Ordering}
-use Rattle.std.specs.declared.cmp.Ordering.TheVariants.{Less, Equal, Greater}
 use Rattle.std.proofs.lemmas.Bool.{cases_order}
-use Rattle.std.proofs.lemmas.Map.Keys.{sorted_head, sorted_tail}
 use Rattle.session_values.specs.declared.kind.Kind.{Kind}
-use Rattle.symbolic_ops.specs.Order.{symbol_cmp}
 use Rattle.symbolic_ops.specs.declared.arg.Arg.{Arg}
 use Rattle.symbolic_ops.specs.declared.arg.Arg.TheVariants.{Known, Var, Any}
 use Rattle.symbolic_ops.specs.declared.symbol.Symbol.{Symbol}
-use Rattle.symbolic_ops.proofs.Orders.{symbol_cmp_total, symbol_exact}
-use Rattle.handler_dialogue.specs.declared.tree.CheckedAtom.TheVariants as atom
-use Rattle.handler_dialogue.specs.declared.tree.CheckedCall.{CheckedCall}
-use Rattle.handler_dialogue.specs.Code.{Code, Finish, Move, Ask, Fork, Loop, Quit, Term, Atom, Calculate}
-use Rattle.may_use_analysis.specs.Steps.{Step, Copy, Constant, Other, Call, End, store_step, symbol_of, before_step, arg_back, back}
-use Rattle.may_use_analysis.specs.Trails.{Symbols, Back, LaterAt}
-use Rattle.may_use_analysis.specs.Flow.{RepliedBack, Turned, Flow, Head, FlowPoint, FlowHandler}
+use Rattle.handler_dialogue.specs.Code.{Code, Finish, Move, Ask, Fork, Loop, Quit}
+use Rattle.may_use_analysis.specs.Steps.{Step, Copy, Constant, Other, Call, End, store_step, symbol_of, arg_back, back}
+use Rattle.may_use_analysis.specs.Trails.{Symbols, Back}
+use Rattle.may_use_analysis.specs.Flow.{RepliedBack, Turned, Flow, Head, FlowPoint}
 use Rattle.may_use_analysis.specs.Ordered.{Are}
-use Rattle.may_use_analysis.specs.Later.{IsLaterList}
 use Rattle.may_use_analysis.proofs.FlowLemmas.{Within}
 use Rattle.may_use_analysis.proofs.LoopLemmas.{head_least, head_start, head_turn}
 use Rattle.may_use_analysis.proofs.Members.{contains_both, map_back}
-use Rattle.may_use_analysis.proofs.PointLemmas.{later_is_flow}
 use Rattle.may_use_analysis.proofs.Sets.{Same, head_same}
-use Rattle.may_use_analysis.proofs.Sorting.{sorted_cons, sorted_nil}
 use Rattle.may_use_analysis.proofs.Unique.{none_in_nil, cons_cases, cons_head, cons_tail}
-
--- ---- lists of different symbols
-
-abbrev AreDifferent : List Symbol → Type 0
-AreDifferent [] = Unit {0}
-AreDifferent (x ∷ xs) = (Contains xs x → ⊥) × AreDifferent xs
-
--- what is left of a list without one of its elements
-taken_out : (ys : List Symbol) (x : Symbol) → Contains ys x → (left : List Symbol) × (length ys ≡ suc (length left)) × ((s : Symbol) → Contains ys s → (s ≡ x) ⊎ Contains left s)
-taken_out [] x m = absurd (none_in_nil x m)
-taken_out (y ∷ ys) x m = go (cons_cases y ys x m) (taken_out ys x)
-  where
-    go : (x ≡ y) ⊎ Contains ys x → (Contains ys x → (left : List Symbol) × (length ys ≡ suc (length left)) × ((s : Symbol) → Contains ys s → (s ≡ x) ⊎ Contains left s)) → (left : List Symbol) × (length (y ∷ ys) ≡ suc (length left)) × ((s : Symbol) → Contains (y ∷ ys) s → (s ≡ x) ⊎ Contains left s)
-    go (inl e) k = (ys, refl, λ s c. first s (cons_cases y ys s c))
-      where
-        first : (s : Symbol) → (s ≡ y) ⊎ Contains ys s → (s ≡ x) ⊎ Contains ys s
-        first s (inl f) = inl (f ∙ sym e)
-        first s (inr c) = inr c
-    go (inr h) k = let r = k h in (y ∷ r.0, ap suc r.1, λ s c. later r.0 r.2 s (cons_cases y ys s c))
-      where
-        put : (left : List Symbol) (s : Symbol) → (s ≡ x) ⊎ Contains left s → (s ≡ x) ⊎ Contains (y ∷ left) s
-        put left s (inl f) = inl f
-        put left s (inr c) = inr (cons_tail y left s c)
-
-        later : (left : List Symbol) → ((s : Symbol) → Contains ys s → (s ≡ x) ⊎ Contains left s) → (s : Symbol) → (s ≡ y) ⊎ Contains ys s → (s ≡ x) ⊎ Contains (y ∷ left) s
-        later left r s (inl f) = inr (subst (Contains (y ∷ left)) (sym f) (cons_head y left))
-        later left r s (inr c) = put left s (r s c)
-
--- different symbols of a list are no more than it has
-no_more : (xs ys : List Symbol) → AreDifferent xs → ((s : Symbol) → Contains xs s → Contains ys s) → length xs ≤ length ys
-no_more [] ys d h = omega arith
-no_more (x ∷ xs) ys d h =
-    let r = taken_out ys x (h x (cons_head x xs)) in
-    let few = no_more xs r.0 d.1 (λ s m. left r.0 s m (r.2 s (h s (cons_tail x xs s m)))) in
-    omega (arith, r.1, few)
-  where
-    left : (rest : List Symbol) (s : Symbol) → Contains xs s → (s ≡ x) ⊎ Contains rest s → Contains rest s
-    left rest s m (inl e) = absurd (d.0 (subst (Contains xs) e m))
-    left rest s m (inr c) = c
-
--- ---- whether a list has a symbol
-
-is_itself : (s : Symbol) → symbol_cmp s s ≡ Equal
-is_itself s = go (symbol_cmp s s) refl
-  where
-    go : (o : Ordering) → symbol_cmp s s ≡ o → symbol_cmp s s ≡ Equal
-    go Equal e = e
-    go Less e = absurd (cc (sym e ∙ symbol_cmp_total.antisymm s s ∙ ap ordering_reverse e))
-    go Greater e = absurd (cc (sym e ∙ symbol_cmp_total.antisymm s s ∙ ap ordering_reverse e))
-
-same_or_not : (a b : Symbol) → (a ≡ b) ⊎ (a ≡ b → ⊥)
-same_or_not a b = go (symbol_cmp a b) refl
-  where
-    go : (o : Ordering) → symbol_cmp a b ≡ o → (a ≡ b) ⊎ (a ≡ b → ⊥)
-    go Equal e = inl (symbol_exact a b e)
-    go Less e = inr (λ f. absurd (cc (sym e ∙ ap (symbol_cmp a) (sym f) ∙ is_itself a)))
-    go Greater e = inr (λ f. absurd (cc (sym e ∙ ap (symbol_cmp a) (sym f) ∙ is_itself a)))
-
-has_or_not : (xs : List Symbol) (s : Symbol) → Contains xs s ⊎ (Contains xs s → ⊥)
-has_or_not [] s = inr (none_in_nil s)
-has_or_not (x ∷ xs) s = go (same_or_not s x) (has_or_not xs s)
-  where
-    neither : (s ≡ x → ⊥) → (Contains xs s → ⊥) → (s ≡ x) ⊎ Contains xs s → ⊥
-    neither a b (inl e) = a e
-    neither a b (inr m) = b m
-
-    go : (s ≡ x) ⊎ (s ≡ x → ⊥) → Contains xs s ⊎ (Contains xs s → ⊥) → Contains (x ∷ xs) s ⊎ (Contains (x ∷ xs) s → ⊥)
-    go (inl e) m = inl (subst (Contains (x ∷ xs)) (sym e) (cons_head x xs))
-    go (inr n) (inl m) = inl (cons_tail x xs s m)
-    go (inr n) (inr k) = inr (λ m. neither n k (cons_cases x xs s m))
-
--- a list has all of these, or there is one that it hasn't
-all_or_one : (ys xs : List Symbol) → ((s : Symbol) → Contains ys s → Contains xs s) ⊎ ((s : Symbol) × Contains ys s × (Contains xs s → ⊥))
-all_or_one [] xs = inl (λ s m. absurd (none_in_nil s m))
-all_or_one (y ∷ ys) xs = go (has_or_not xs y) (all_or_one ys xs)
-  where
-    go : Contains xs y ⊎ (Contains xs y → ⊥) → ((s : Symbol) → Contains ys s → Contains xs s) ⊎ ((s : Symbol) × Contains ys s × (Contains xs s → ⊥)) → ((s : Symbol) → Contains (y ∷ ys) s → Contains xs s) ⊎ ((s : Symbol) × Contains (y ∷ ys) s × (Contains xs s → ⊥))
-    go (inr n) r = inr (y, cons_head y ys, n)
-    go (inl h) (inr r) = inr (r.0, cons_tail y ys r.0 r.1, r.2)
-    go (inl h) (inl all) = inl (λ s m. each s (cons_cases y ys s m))
-      where
-        each : (s : Symbol) → (s ≡ y) ⊎ Contains ys s → Contains xs s
-        each s (inl e) = subst (Contains xs) (sym e) h
-        each s (inr m) = all s m
+use Rattle.may_use_analysis.proofs.Different.{AreDifferent, no_more, all_or_one}
 
 -- ---- finite sets
 
@@ -122,7 +26,7 @@ IsFinite set = (list : List Symbol) × Are list set
 members_of : (xs : List Symbol) → IsFinite (Contains xs)
 members_of xs = (xs, λ s. (λ m. m, λ m. m))
 
-none_finite : IsFinite (λ s. ⊥)
+pub none_finite : IsFinite (λ s. ⊥)
 none_finite = ([], λ s. (λ m. absurd (none_in_nil s m), λ m. absurd m))
 
 one_finite : (x : Symbol) → IsFinite (λ s. s ≡ x)
@@ -132,7 +36,7 @@ one_finite x = (x ∷ [], λ s. (λ m. one s (cons_cases x [] s m), λ e. subst 
     one s (inl e) = e
     one s (inr m) = absurd (none_in_nil s m)
 
-both_finite : (A B : Symbols) → IsFinite A → IsFinite B → IsFinite (λ s. A s ⊎ B s)
+pub both_finite : (A B : Symbols) → IsFinite A → IsFinite B → IsFinite (λ s. A s ⊎ B s)
 both_finite A B a b = (a.0 ++ b.0, λ s. (λ m. there s ((contains_both a.0 b.0 s).0 m), λ m. (contains_both a.0 b.0 s).1 (back_again s m)))
   where
     there : (s : Symbol) → Contains a.0 s ⊎ Contains b.0 s → A s ⊎ B s
@@ -154,7 +58,7 @@ replied_finite (Some x) A a = back_finite (Other x) A a
 same_finite : (A B : Symbols) → Same A B → IsFinite A → IsFinite B
 same_finite A B h a = (a.0, λ s. (λ m. (h s).0 ((a.1 s).0 m), λ m. (a.1 s).1 ((h s).1 m)))
 
-when_finite : (i p : ℕ) (A : Symbols) → IsFinite A → IsFinite (λ s. (i ≡ p) × A s)
+pub when_finite : (i p : ℕ) (A : Symbols) → IsFinite A → IsFinite (λ s. (i ≡ p) × A s)
 when_finite i p A a = go (cases_order i p)
   where
     go : (i ≡ p) ⊎ ((i < p) ⊎ (p < i)) → IsFinite (λ s. (i ≡ p) × A s)
@@ -411,7 +315,7 @@ head_finite : (x : ℕ) (body : Code) (after : Symbols) → IsFinite after → (
 head_finite x body after a f =
     same_finite (Head x body (Contains a.0)) (Head x body after) (head_same x body (Contains a.0) after a.1) (list_head x body a.0 f)
 
-flow_finite : (code : Code) (after : Symbols) → IsFinite after → IsFinite (Flow code after)
+pub flow_finite : (code : Code) (after : Symbols) → IsFinite after → IsFinite (Flow code after)
 flow_finite Finish after a = a
 flow_finite (Move x e rest) after a = back_finite (store_step x e) (Flow rest after) (flow_finite rest after a)
 flow_finite (Ask at p x c rest) after a =
@@ -422,7 +326,7 @@ flow_finite (Fork at p q test a b rest) after f =
 flow_finite (Loop at p n x body rest) after a = head_finite x body (Flow rest after) (flow_finite rest after a) (λ X. flow_finite body (Contains X) (members_of X))
 flow_finite (Quit es rest) after a = none_finite
 
-point_finite : (code : Code) (i : ℕ) (after : Symbols) → IsFinite after → IsFinite (FlowPoint code i after)
+pub point_finite : (code : Code) (i : ℕ) (after : Symbols) → IsFinite after → IsFinite (FlowPoint code i after)
 point_finite Finish i after f = none_finite
 point_finite (Move x e rest) i after f = point_finite rest i after f
 point_finite (Ask at p x c rest) i after f =
@@ -441,96 +345,3 @@ point_finite (Loop at p n x body rest) i after f =
     let last = both_finite (FlowPoint body i (Head x body A)) (FlowPoint rest i after) (point_finite body i (Head x body A) head) (point_finite rest i after f) in
     both_finite (λ s. (i ≡ p) × A s) (λ s. FlowPoint body i (Head x body A) s ⊎ FlowPoint rest i after s) (when_finite i p A r) last
 point_finite (Quit es rest) i after f = point_finite rest i after f
-
--- ---- in order
-
-all_by_members : (P : Symbol → Type 0) (xs : List Symbol) → ((s : Symbol) → Contains xs s → P s) → AllByRecursion P xs
-all_by_members P [] h = tt
-all_by_members P (x ∷ xs) h = (h x (cons_head x xs), all_by_members P xs (λ s m. h s (cons_tail x xs s m)))
-
-all_to_members : (P : Symbol → Type 0) (xs : List Symbol) → AllByRecursion P xs → (s : Symbol) → Contains xs s → P s
-all_to_members P [] a s m = absurd (none_in_nil s m)
-all_to_members P (x ∷ xs) a s m = go (cons_cases x xs s m) (all_to_members P xs a.1 s)
-  where
-    go : (s ≡ x) ⊎ Contains xs s → (Contains xs s → P s) → P s
-    go (inl e) k = subst P (sym e) a.0
-    go (inr n) k = k n
-
-abbrev HasOrder : List Symbol → Type 0
-HasOrder xs = (ys : List Symbol) × IsStrictlySortedBy symbol_cmp ys × ((s : Symbol) → Contains ys s ↔ Contains xs s)
-
-placed : (ys : List Symbol) (s : Symbol) → IsStrictlySortedBy symbol_cmp ys → (zs : List Symbol) × IsStrictlySortedBy symbol_cmp zs × ((q : Symbol) → Contains zs q ↔ ((q ≡ s) ⊎ Contains ys q))
-placed [] s o = (s ∷ [], sorted_cons symbol_cmp s [] tt o, λ q. (λ m. cons_cases s [] q m, both q))
-  where
-    both : (q : Symbol) → (q ≡ s) ⊎ Contains [] q → Contains (s ∷ []) q
-    both q (inl e) = subst (Contains (s ∷ [])) (sym e) (cons_head s [])
-    both q (inr m) = cons_tail s [] q m
-placed (y ∷ ys) s o = go (symbol_cmp s y) refl (placed ys s (sorted_tail symbol_cmp y ys o))
-  where
-    among : (zs : List Symbol) (z q : Symbol) → (q ≡ z) ⊎ Contains zs q → Contains (z ∷ zs) q
-    among zs z q (inl e) = subst (Contains (z ∷ zs)) (sym e) (cons_head z zs)
-    among zs z q (inr m) = cons_tail z zs q m
-
-    known : (q : Symbol) → s ≡ y → (q ≡ s) ⊎ Contains (y ∷ ys) q → Contains (y ∷ ys) q
-    known q e (inl f) = among ys y q (inl (f ∙ e))
-    known q e (inr m) = m
-
-    past : symbol_cmp s y ≡ Less → (zs : List Symbol) → AllByRecursion (λ z. symbol_cmp y z ≡ Less) zs → AllByRecursion (λ z. symbol_cmp s z ≡ Less) zs
-    past e [] k = tt
-    past e (z ∷ zs) k = (symbol_cmp_total.trans s y z e k.0, past e zs k.1)
-
-    turned : (q : Symbol) → (q ≡ y) ⊎ ((q ≡ s) ⊎ Contains ys q) → (q ≡ s) ⊎ Contains (y ∷ ys) q
-    turned q (inl e) = inr (among ys y q (inl e))
-    turned q (inr (inl e)) = inl e
-    turned q (inr (inr m)) = inr (cons_tail y ys q m)
-
-    turned_back : (q : Symbol) → (q ≡ s) ⊎ ((q ≡ y) ⊎ Contains ys q) → (q ≡ y) ⊎ ((q ≡ s) ⊎ Contains ys q)
-    turned_back q (inl e) = inr (inl e)
-    turned_back q (inr (inl e)) = inl e
-    turned_back q (inr (inr m)) = inr (inr m)
-
-    opened : (q : Symbol) → (q ≡ s) ⊎ Contains (y ∷ ys) q → (q ≡ s) ⊎ ((q ≡ y) ⊎ Contains ys q)
-    opened q (inl e) = inl e
-    opened q (inr m) = inr (cons_cases y ys q m)
-
-    above : symbol_cmp y s ≡ Less → (z : Symbol) → (z ≡ s) ⊎ Contains ys z → symbol_cmp y z ≡ Less
-    above e z (inl f) = subst (λ (v : Symbol). symbol_cmp y v ≡ Less) (sym f) e
-    above e z (inr m) = all_to_members (λ v. symbol_cmp y v ≡ Less) ys (sorted_head symbol_cmp y ys o) z m
-
-    take_out : (zs : List Symbol) (q : Symbol) → (Contains zs q → (q ≡ s) ⊎ Contains ys q) → (q ≡ y) ⊎ Contains zs q → (q ≡ y) ⊎ ((q ≡ s) ⊎ Contains ys q)
-    take_out zs q h (inl e) = inl e
-    take_out zs q h (inr m) = inr (h m)
-
-    unlift : (zs : List Symbol) (q : Symbol) → ((q ≡ s) ⊎ Contains ys q → Contains zs q) → (q ≡ y) ⊎ ((q ≡ s) ⊎ Contains ys q) → (q ≡ y) ⊎ Contains zs q
-    unlift zs q h (inl e) = inl e
-    unlift zs q h (inr m) = inr (h m)
-
-    go : (c : Ordering) → symbol_cmp s y ≡ c → (zs : List Symbol) × IsStrictlySortedBy symbol_cmp zs × ((q : Symbol) → Contains zs q ↔ ((q ≡ s) ⊎ Contains ys q)) → (zs : List Symbol) × IsStrictlySortedBy symbol_cmp zs × ((q : Symbol) → Contains zs q ↔ ((q ≡ s) ⊎ Contains (y ∷ ys) q))
-    go Equal e r = (y ∷ ys, o, λ q. (λ m. inr m, known q (symbol_exact s y e)))
-    go Less e r =
-        (s ∷ (y ∷ ys), sorted_cons symbol_cmp s (y ∷ ys) (e, past e ys (sorted_head symbol_cmp y ys o)) o, λ q. (λ m. cons_cases s (y ∷ ys) q m, among (y ∷ ys) s q))
-    go Greater e r =
-        let less : symbol_cmp y s ≡ Less = symbol_cmp_total.antisymm y s ∙ ap ordering_reverse e in
-        (y ∷ r.0, sorted_cons symbol_cmp y r.0 (all_by_members (λ v. symbol_cmp y v ≡ Less) r.0 (λ z m. above less z ((r.2 z).0 m))) r.1, λ q. (λ m. turned q (take_out r.0 q (λ k. (r.2 q).0 k) (cons_cases y r.0 q m)), λ m. among r.0 y q (unlift r.0 q (λ k. (r.2 q).1 k) (turned_back q (opened q m)))))
-
-in_its_order : (xs : List Symbol) → HasOrder xs
-in_its_order [] = ([], sorted_nil symbol_cmp [] refl, λ s. (λ m. m, λ m. m))
-in_its_order (x ∷ xs) =
-    let r = in_its_order xs in
-    let p = placed r.0 x r.1 in
-    (p.0, p.1, λ s. (λ m. put s r.0 (λ k. (r.2 s).0 k) ((p.2 s).0 m), λ m. (p.2 s).1 (take s r.0 (λ k. (r.2 s).1 k) (cons_cases x xs s m))))
-  where
-    put : (s : Symbol) (ys : List Symbol) → (Contains ys s → Contains xs s) → (s ≡ x) ⊎ Contains ys s → Contains (x ∷ xs) s
-    put s ys h (inl e) = subst (Contains (x ∷ xs)) (sym e) (cons_head x xs)
-    put s ys h (inr m) = cons_tail x xs s (h m)
-
-    take : (s : Symbol) (ys : List Symbol) → (Contains xs s → Contains ys s) → (s ≡ x) ⊎ Contains xs s → (s ≡ x) ⊎ Contains ys s
-    take s ys h (inl e) = inl e
-    take s ys h (inr m) = inr (h m)
-
--- each point has its list
-pub later_list : (code : Code) (p : ℕ) → (list : List Symbol) × IsLaterList code p list
-later_list code p =
-    let set = both_finite (λ s. (p ≡ 0) × Flow code (λ z. ⊥) s) (FlowPoint code p (λ z. ⊥)) (when_finite p 0 (Flow code (λ z. ⊥)) (flow_finite code (λ z. ⊥) none_finite)) (point_finite code p (λ z. ⊥) none_finite) in
-    let r = in_its_order set.0 in
-    (r.0, (r.1, λ s. (λ m. (later_is_flow code p s).1 ((set.1 s).0 ((r.2 s).0 m)), λ m. (r.2 s).1 ((set.1 s).1 ((later_is_flow code p s).0 m)))))

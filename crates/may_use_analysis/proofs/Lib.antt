@@ -1,3 +1,5 @@
+pub mod Arranged
+pub mod Different
 pub mod Finite
 pub mod FlowLemmas
 pub mod KeptLemmas

@@ -1,7 +1,6 @@
 -- An operation is done on its shards.
-use Rattle.std.proofs.Common.{◌≡◌, ◌≢◌, ℕ, suc, ◌+◌, ◌*◌, ◌-◌, ◌/◌, ◌%◌, ◌<◌, ◌≤◌, ◌⊎◌, inl, inr, List, [], ◌∷◌, ◌++◌, length, map, Option, Some, None, Bool, true, false, cond, eqb, pos, refl, sym, ◌∙◌, ap, subst, mod-lt, arith}
+use Rattle.std.proofs.Common.{◌≡◌, ◌≢◌, ℕ, suc, ◌+◌, ◌*◌, ◌-◌, ◌/◌, ◌%◌, ◌<◌, ◌≤◌, List, [], ◌∷◌, ◌++◌, length, map, Option, Some, None, Bool, true, false, cond, eqb, pos, refl, sym, ◌∙◌, ap, subst, mod-lt, arith}
 use Rattle.std.specs.Int.{bit_at}
-use Rattle.std.proofs.lemmas.Bool.Decides.{nat_tests}
 use Rattle.std.proofs.lemmas.Nat.{div-mul-add, mod-mul-add}
 use Rattle.std.proofs.lemmas.Nat.Bits.{bit_at-lt, bit_at_mask_below}
 use Rattle.session_values.specs.declared.op.Op.{Op}
@@ -19,12 +18,12 @@ use Rattle.shard_tables.specs.Parts.{part, shard_of}
 use Rattle.shard_tables.proofs.PartSizes.{part_few, part_sizes}
 use Rattle.admission_book.specs.Book.{Holds, record_of}
 use Rattle.admission_book.proofs.Keys.{keys_few, keys_fewer}
-use Rattle.turn_board.specs.Boards.{IsSeatOf, SameNote, Tells, GainedAll, MissedAll, turn_count, held, caller, caller_count, lost, givings}
+use Rattle.turn_board.specs.Boards.{IsSeatOf, SameNote, Tells, GainedAll, turn_count, held, caller, caller_count}
 use Rattle.turn_board.specs.Hands.{HandsView, in_hands, Once}
 use Rattle.turn_board.specs.Maps.{bits_of}
 use Rattle.turn_board.proofs.Rows.{two}
 use Rattle.hall_rule.specs.declared.held.Held.{Held}
-use Rattle.hall_rule.specs.Contents.{Content, Register, Shard, IsShard, share, shards_in, shards_of, tables_after}
+use Rattle.hall_rule.specs.Contents.{Content, Shard, IsShard, share, shards_in, tables_after}
 use Rattle.hall_rule.specs.Law.{none_some, lies_within, same_container}
 use Rattle.hall_rule.specs.Shards.{content_of}
 use Rattle.hall_rule.specs.Tie.{Tied}
@@ -35,7 +34,7 @@ use Rattle.session_hall.specs.declared.hall.Hall.{Hall}
 use Rattle.session_hall.specs.declared.stage.Stage.{Stage}
 use Rattle.session_hall.specs.declared.stage.Stage.TheVariants.{InFlight, Applied}
 use Rattle.session_hall.specs.Callers.{IsCallerOf, book_of, entries_of}
-use Rattle.session_hall.specs.Calls.{AppliedAt, IsBusyAt}
+use Rattle.session_hall.specs.Calls.{AppliedAt}
 use Rattle.session_hall.specs.Findings.{Finds}
 use Rattle.session_hall.specs.Names.{script_of}
 use Rattle.session_hall.specs.Stages.{SeatOf, HoldsNone, Stands, OnFlight, flying}
@@ -43,44 +42,8 @@ use Rattle.session_hall.specs.Working.{CanDo, CanWork, HasWorked, WorkedFirst, W
 use Rattle.session_hall.proofs.Counts.{each_of, find_in, found_once, in_find, keyless_reply, keys_sum, once_found, once_in, sum_over, sum_same, sum_up, turns_of}
 use Rattle.session_hall.proofs.Finding.{finds_book, shard_at}
 use Rattle.session_hall.proofs.Giving.{opens, caller_on}
-use Rattle.session_hall.proofs.TurnSets.{bit_inside, bits_row, few_span, in_row, length-up, lower, other_test, row_low, same_test, some_span, some_turns, turn_in, turn_out, up, up_one}
-
--- ---- one shard
-to_shard : {S : Type 0} (op : Op) (x y : Content S) (v : Value) → WorkedTo op x y v → (c : Container) × (r : ℕ) × (x ≡ Shard c r) × (y ≡ Shard (after_on c op) r) × (v ≡ reply_on c op)
-to_shard op (Register s b) y v w = absurd w
-to_shard op (Shard c r) y v w = (c, r, refl, w.0, w.1)
-
-changed : {S : Type 0} (op : Op) (b : Bool) (x y : Content S) (v : Value) → WorkedTo op x y v → ChangedBy op (cond b (Some x) None) (cond b (Some y) None)
-changed op true x y v w = let t = to_shard op x y v w in (t.0, t.1, t.2, t.3)
-changed op false x y v w = tt
-
-single : {S : Type 0} (xs : List (ℕ × Held S)) (u : ℕ) → map (λ (x : ℕ × Held S). x.0) xs ≡ u ∷ [] → (x : ℕ × Held S) × (xs ≡ x ∷ []) × (x.0 ≡ u)
-single {S} [] u e = absurd (nil_cons u e)
-  where
-    nil_cons : (a : ℕ) → ◌≡◌ {A = List ℕ} [] (a ∷ []) → ⊥
-    nil_cons a h = cc
-single {S} (x ∷ []) u e = (x, refl, first x.0 u e)
-  where
-    first : (a b : ℕ) → ◌≡◌ {A = List ℕ} (a ∷ []) (b ∷ []) → a ≡ b
-    first a b h = cc
-single {S} (x ∷ y ∷ xs) u e = absurd (two_one x.0 y.0 u (map (λ (z : ℕ × Held S). z.0) xs) e)
-  where
-    two_one : (a b d : ℕ) (l : List ℕ) → ◌≡◌ {A = List ℕ} (a ∷ b ∷ l) (d ∷ []) → ⊥
-    two_one a b d l h = cc
-
-same : (a b : ℕ) → eqb a b ≡ true → a ≡ b
-same a b e = grind (arith, nat_tests)
-
-differs : (a b : ℕ) → eqb a b ≡ false → a ≢ b
-differs a b e = grind (arith, nat_tests)
-
-pub shards_are : (turns tables n : ℕ) → turns ≡ 1 + tables * n → 0 < tables → shards_of turns tables ≡ n
-shards_are turns tables n e l =
-    let z : turns - 1 ≡ n * tables + 0 = omega (arith, e) in
-    ap (λ (a : ℕ). a / tables) z ∙ div-mul-add n tables 0 l
-
-product_small : (a n : ℕ) → 0 < n → a ≤ a * n
-product_small a n l = grind arith
+use Rattle.session_hall.proofs.TurnSets.{bit_inside, bits_row, few_span, in_row, length-up, other_test, row_low, same_test, some_span, some_turns, turn_in, turn_out, up, up_one}
+use Rattle.session_hall.proofs.OneShard.{to_shard, changed, single, same, differs, shards_are, product_small}
 
 module _ {S : Type 0} (meaning : S → Meaning) (h : Hall S) (c : Caller S) (k : IsCallerOf meaning h c) (t : ℕ) (op : Op) (st : c.stage ≡ InFlight t op) where
   abbrev m : Meaning
@@ -410,57 +373,3 @@ module _ {S : Type 0} (meaning : S → Meaning) (h : Hall S) (c : Caller S) (k :
                 asks_more = g.asks_is;
                 givings_still = g.givings_is;
               })
-
-    -- ---- a turn was found taken
-    module _ (q : SeatOf S) (v : SameNote c.seat q) (u : ℕ) (g : MissedAll c.seat q set u) (several : caller_count c.seat ≢ 1) (hands : HandsView (Held S)) (pairs : hands.pairs ≡ c.hands.pairs) where
-      missed_lost : (w : ℕ) → lost c.seat w ≤ lost q w
-      missed_lost w = elim (lower w u) [
-        | inl p ↦ (let e : lost q w ≡ lost c.seat w = g.below w p in omega (arith, e))
-        | inr p ↦ elim (lower u w) [
-          | inl z ↦ more (g.above w z)
-          | inr z ↦ (let e : w ≡ u = omega (arith, p, z) in let P : ℕ → Type 0 = λ a. lost c.seat a ≤ lost q a in subst P (sym e) (let f : lost q u ≡ lost c.seat u + 1 = g.here in omega (arith, f)))
-        ]
-      ]
-        where
-          more : (lost q w ≡ lost c.seat w) ⊎ ((bit_at set w ≡ 1) × (lost q w ≡ lost c.seat w + 1)) → lost c.seat w ≤ lost q w
-          more (inl e) = omega (arith, e)
-          more (inr e) = omega (arith, e.1)
-
-      bit_of : (j : ℕ) → IsTurnOf n op j → bit_at set (suc j) ≡ 1
-      bit_of j at =
-          let r : (place n op ≤ j) × (j < place n op + span n op) = turn_out n op k.some_shards j at in
-          ap (λ (x : ℕ). bit_at x (suc j)) is ∙ bit_inside lo (span n op) (suc j) (omega (arith, r.0)) (omega (arith, r.1))
-
-      all_lost : ((j : ℕ) → IsTurnOf n op j → lost q (suc j) ≡ lost c.seat (suc j) + 1) → (w : ℕ) → bit_at set w ≡ 1 → lost q w ≡ lost c.seat w + 1
-      all_lost each w b =
-          let t : (j : ℕ) × (w ≡ suc j) × IsTurnOf n op j = busy_turn w b in
-          let Q : ℕ → Type 0 = λ a. lost q a ≡ lost c.seat a + 1 in
-          subst Q (sym t.1) (each t.0 t.2)
-
-      pub busy_at : OnFlight c.stage (IsBusyAt (meaning (script_of h)) c (record { seat = q; number = c.number; stage = c.stage; foresight = c.foresight; hands = hands }) h.sizes.shards u)
-      busy_at =
-          let later : Caller S = record { seat = q; number = c.number; stage = c.stage; foresight = c.foresight; hands = hands } in
-          let P : Stage → Type 0 = λ s. OnFlight s (IsBusyAt m c later n u) in
-          let b : (j : ℕ) × (u ≡ suc j) × IsTurnOf n op j = busy_turn u g.asked in
-          subst P (sym st) (record {
-            after = givings q;
-            busy = record {
-              givings_is = refl;
-              rose = g.here;
-              lost_grows = missed_lost;
-              several = several;
-              asks_more = g.asks_is;
-              change_still = v.change_is;
-              stage_still = refl;
-              foresight_still = refl;
-              note_still = v.note_is;
-              given_still = v.given_is;
-              held_still = g.held_is;
-              hands_still = pairs;
-            };
-            place = b.0;
-            turn_is = b.1;
-            of_operation = b.2;
-            some_won = λ j at e. g.some_won (suc j) (bit_of j at) e;
-            none_won = λ each. g.none_won (all_lost each);
-          })

@@ -30,7 +30,7 @@ use Rattle.session_hall.specs.Callers.{IsCallerOf, book_of}
 use Rattle.session_hall.specs.Closings.{HasLeft, IsDone, IsTable, Leaves}
 use Rattle.session_hall.specs.Names.{script_of}
 use Rattle.session_hall.specs.Stages.{SeatOf, Stands}
-use Rattle.session_hall.proofs.Doing.{shards_are}
+use Rattle.session_hall.proofs.OneShard.{shards_are}
 use Rattle.session_hall.proofs.Giving.{is_told}
 use Rattle.session_hall.proofs.Moving.{first_of, get_in, length-map, map-get, map-read}
 

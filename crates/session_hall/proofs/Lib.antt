@@ -8,7 +8,9 @@ pub mod Ends
 pub mod Entering
 pub mod TurnSets
 pub mod Counts
+pub mod OneShard
 pub mod Doing
+pub mod Taken
 pub mod Trying
 pub mod Moving
 pub mod Opened

@@ -1,4 +1,4 @@
-use Rattle.may_use_analysis.proofs.Finite.{later_list}
+use Rattle.may_use_analysis.proofs.Arranged.{later_list}
 use Rattle.may_use_analysis.proofs.laws.each_point_has_its_list.Goals as goal
 
 pub returns : goal.returns

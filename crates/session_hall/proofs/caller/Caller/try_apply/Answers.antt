@@ -1,6 +1,7 @@
 use Rattle.std.proofs.Common.{refl, ◌∙◌, arith}
-use Rattle.session_hall.proofs.Doing.{few, can_ask, asks_some, ask_room, busy_at, can_work, hands_fit, applied_caller, applied_at}
+use Rattle.session_hall.proofs.Doing.{few, can_ask, asks_some, ask_room, can_work, hands_fit, applied_caller, applied_at}
 use Rattle.session_hall.proofs.Giving.{busy_on}
+use Rattle.session_hall.proofs.Taken.{busy_at}
 use Rattle.session_hall.proofs.caller.Caller.try_apply.Goals as goal
 
 pub turns_of-turns-requires-clause-few : goal.turns_of-turns-requires-clause-few

@@ -1,0 +1,86 @@
+-- A turn of an operation was found taken.
+use Rattle.std.proofs.Common.{◌≡◌, ◌≢◌, ℕ, suc, ◌+◌, ◌<◌, ◌≤◌, ◌⊎◌, inl, inr, [], refl, sym, ◌∙◌, ap, subst, arith}
+use Rattle.std.specs.Int.{bit_at}
+use Rattle.session_values.specs.declared.op.Op.{Op}
+use Rattle.session_journal.specs.Script.{Meaning}
+use Rattle.turn_board.specs.Boards.{SameNote, MissedAll, turn_count, caller_count, lost, givings}
+use Rattle.turn_board.specs.Hands.{HandsView}
+use Rattle.hall_rule.specs.declared.held.Held.{Held}
+use Rattle.hall_rule.specs.Turns.{IsTurnOf, place, span, turn_set}
+use Rattle.session_hall.specs.declared.caller.Caller.{Caller}
+use Rattle.session_hall.specs.declared.hall.Hall.{Hall}
+use Rattle.session_hall.specs.declared.stage.Stage.{Stage}
+use Rattle.session_hall.specs.declared.stage.Stage.TheVariants.{InFlight}
+use Rattle.session_hall.specs.Callers.{IsCallerOf}
+use Rattle.session_hall.specs.Calls.{IsBusyAt}
+use Rattle.session_hall.specs.Names.{script_of}
+use Rattle.session_hall.specs.Stages.{SeatOf, OnFlight}
+use Rattle.session_hall.proofs.TurnSets.{bit_inside, lower, turn_out}
+use Rattle.session_hall.proofs.Doing.{busy_turn}
+
+module _ {S : Type 0} (meaning : S → Meaning) (h : Hall S) (c : Caller S) (k : IsCallerOf meaning h c) (t : ℕ) (op : Op) (st : c.stage ≡ InFlight t op) where
+  abbrev m : Meaning
+  m = meaning (script_of h)
+
+  abbrev n : ℕ
+  n = h.sizes.shards
+
+  abbrev turns : ℕ
+  turns = turn_count h.board
+
+  abbrev lo : ℕ
+  lo = suc (place h.sizes.shards op)
+
+  module _ (set : ℕ) (is : set ≡ turn_set h.sizes.shards op) where
+    module _ (q : SeatOf S) (v : SameNote c.seat q) (u : ℕ) (g : MissedAll c.seat q set u) (several : caller_count c.seat ≢ 1) (hands : HandsView (Held S)) (pairs : hands.pairs ≡ c.hands.pairs) where
+      missed_lost : (w : ℕ) → lost c.seat w ≤ lost q w
+      missed_lost w = elim (lower w u) [
+        | inl p ↦ (let e : lost q w ≡ lost c.seat w = g.below w p in omega (arith, e))
+        | inr p ↦ elim (lower u w) [
+          | inl z ↦ more (g.above w z)
+          | inr z ↦ (let e : w ≡ u = omega (arith, p, z) in let P : ℕ → Type 0 = λ a. lost c.seat a ≤ lost q a in subst P (sym e) (let f : lost q u ≡ lost c.seat u + 1 = g.here in omega (arith, f)))
+        ]
+      ]
+        where
+          more : (lost q w ≡ lost c.seat w) ⊎ ((bit_at set w ≡ 1) × (lost q w ≡ lost c.seat w + 1)) → lost c.seat w ≤ lost q w
+          more (inl e) = omega (arith, e)
+          more (inr e) = omega (arith, e.1)
+
+      bit_of : (j : ℕ) → IsTurnOf n op j → bit_at set (suc j) ≡ 1
+      bit_of j at =
+          let r : (place n op ≤ j) × (j < place n op + span n op) = turn_out n op k.some_shards j at in
+          ap (λ (x : ℕ). bit_at x (suc j)) is ∙ bit_inside lo (span n op) (suc j) (omega (arith, r.0)) (omega (arith, r.1))
+
+      all_lost : ((j : ℕ) → IsTurnOf n op j → lost q (suc j) ≡ lost c.seat (suc j) + 1) → (w : ℕ) → bit_at set w ≡ 1 → lost q w ≡ lost c.seat w + 1
+      all_lost each w b =
+          let t : (j : ℕ) × (w ≡ suc j) × IsTurnOf n op j = busy_turn meaning h c k t op st set is w b in
+          let Q : ℕ → Type 0 = λ a. lost q a ≡ lost c.seat a + 1 in
+          subst Q (sym t.1) (each t.0 t.2)
+
+      pub busy_at : OnFlight c.stage (IsBusyAt (meaning (script_of h)) c (record { seat = q; number = c.number; stage = c.stage; foresight = c.foresight; hands = hands }) h.sizes.shards u)
+      busy_at =
+          let later : Caller S = record { seat = q; number = c.number; stage = c.stage; foresight = c.foresight; hands = hands } in
+          let P : Stage → Type 0 = λ s. OnFlight s (IsBusyAt m c later n u) in
+          let b : (j : ℕ) × (u ≡ suc j) × IsTurnOf n op j = busy_turn meaning h c k t op st set is u g.asked in
+          subst P (sym st) (record {
+            after = givings q;
+            busy = record {
+              givings_is = refl;
+              rose = g.here;
+              lost_grows = missed_lost;
+              several = several;
+              asks_more = g.asks_is;
+              change_still = v.change_is;
+              stage_still = refl;
+              foresight_still = refl;
+              note_still = v.note_is;
+              given_still = v.given_is;
+              held_still = g.held_is;
+              hands_still = pairs;
+            };
+            place = b.0;
+            turn_is = b.1;
+            of_operation = b.2;
+            some_won = λ j at e. g.some_won (suc j) (bit_of j at) e;
+            none_won = λ each. g.none_won (all_lost each);
+          })
