@@ -76,11 +76,16 @@ impl Declarations for Program {
 }
 
 /// The canonical text with the declarations: a line `mayuse ..;` at each point, and an else part of
-/// each `if`.
-pub fn show(alloc: Global, program: &Program, names: &Names) -> Result<String, NoMemory>
+/// each `if`. So many bytes are reserved for it ahead; it may be longer.
+pub fn show(
+    alloc: Global,
+    room: usize,
+    program: &Program,
+    names: &Names,
+) -> Result<String, NoMemory>
     requires { AreNamed names.now (file_mentions program.now.file) }
     ensures { IfOk result (λ text. string_bytes text
         ≡ shown_text names.now (shown_of program.now) program.now.file) }
 {
-    print_with_declarations(alloc, program.checked().file(), program, names)
+    print_with_declarations(alloc, room, program.checked().file(), program, names)
 }

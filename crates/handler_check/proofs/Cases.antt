@@ -18,12 +18,12 @@ use Rattle.handler_trees.specs.Alone.{alone}
 use Rattle.handler_rules.specs.Marks.{atom_marks, expr_marks}
 use Rattle.handler_rules.specs.Source.{Source, Let, Assign, Do, Choose, Repeat, Answer, stmt_source, block_source}
 
-module _ (P : Expr → Type 0) (leaf : (a : Atom) → P (alone a)) (binary : (c : Calc) (l r : Expr) → P l → P r → P (expr.Binary c l r)) where
+module _ (P : Expr → Type 0) (leaf : (a : Atom) → P (alone a)) (binary : (c : Calc) (l r : Expr) → P l → P r → P (expr.Binary c (l, r))) where
   expr_rolled : (y : Expr-F ((e : Expr) × P e)) → P (roll-Expr (map-Expr ((e : Expr) × P e) Expr (λ e. e.0) y))
   unfolding roll-Expr denote.Hole.Carrier.roll
   expr_rolled (Expr-F.Lit v) = leaf (atom.Lit v)
   expr_rolled (Expr-F.Name n p) = leaf (atom.Name n p)
-  expr_rolled (Expr-F.Binary c l r) = binary c l.0 r.0 l.1 r.1
+  expr_rolled (Expr-F.Binary c s) = binary c s.0.0 s.1.0 s.0.1 s.1.1
 
   pub expr_induction : (e : Expr) → P e
   expr_induction = ind-Expr P (λ x y is. subst (λ z. P (roll-Expr z)) is (expr_rolled y))
@@ -55,7 +55,7 @@ pub marks_leaf : (a : Atom) → expr_marks (alone a) ≡ atom_marks a
 marks_leaf (atom.Lit v) = search (rules, the_lemmas)
 marks_leaf (atom.Name n p) = search (rules, the_lemmas)
 
-pub marks_binary : (c : Calc) (l r : Expr) → expr_marks (expr.Binary c l r) ≡ expr_marks l ++ expr_marks r
+pub marks_binary : (c : Calc) (l r : Expr) → expr_marks (expr.Binary c (l, r)) ≡ expr_marks l ++ expr_marks r
 marks_binary c l r = search (rules, the_lemmas)
 
 pub source_let : (n p : ℕ) (r : Right) (rest : Source) → stmt_source (stmt.Let n p r) rest ≡ Let n p r rest

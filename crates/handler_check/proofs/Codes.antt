@@ -41,7 +41,7 @@ term_leaf : (variables : List ℕ) (a : Atom) → term_of variables (alone a) �
 term_leaf variables (atom.Lit v) = search (rules, the_lemmas)
 term_leaf variables (atom.Name n p) = search (rules, the_lemmas)
 
-term_binary : (variables : List ℕ) (c : Calc) (l r : Expr) → term_of variables (expr.Binary c l r) ≡ Calculate c (term_of variables l) (term_of variables r)
+term_binary : (variables : List ℕ) (c : Calc) (l r : Expr) → term_of variables (expr.Binary c (l, r)) ≡ Calculate c (term_of variables l) (term_of variables r)
 term_binary variables c l r = search (rules, the_lemmas)
 
 module _ (shape : List TableKind) (tables variables : List ℕ) where
@@ -75,7 +75,7 @@ module _ (shape : List TableKind) (tables variables : List ℕ) where
   abbrev IsWithin : Expr → Type 0
   IsWithin e = Fine (expr_marks e) → AreSmall (expr_mentions e) → TermWithin 32 (term_of variables e)
 
-  binary_within : (c : Calc) (l r : Expr) → IsWithin l → IsWithin r → IsWithin (expr.Binary c l r)
+  binary_within : (c : Calc) (l r : Expr) → IsWithin l → IsWithin r → IsWithin (expr.Binary c (l, r))
   binary_within c l r f g h k =
       let a = parts (expr_marks l) (expr_marks r) (subst Fine (marks_binary c l r) h) in
       let b = smalls (expr_mentions l) (expr_mentions r) (subst AreSmall (mentions_binary c l r) k) in

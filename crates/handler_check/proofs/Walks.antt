@@ -58,7 +58,7 @@ silent_turn {X} f e l tables xs i x d earlier visible h is =
 pub silent_end : {X : Type 0} (f : X → List Mark) (l : Limit) (tables : List TableDecl) (xs : List X) (i : ℕ) (earlier visible : List ℕ) → length xs ≤ i → scan l tables earlier visible (flat_map f (drop i xs)) ≡ None
 silent_end {X} f l tables xs i earlier visible h = ap (λ (ys : List X). scan l tables earlier visible (flat_map f ys)) (drop_all i xs h)
 
-pub binary_both : (l : Limit) (tables : List TableDecl) (e a b : Expr) (c : Calc) (x y : Expr) (earlier visible : List ℕ) → e ≡ expr.Binary c x y → a ≡ x → b ≡ y
+pub binary_both : (l : Limit) (tables : List TableDecl) (e a b : Expr) (c : Calc) (x y : Expr) (earlier visible : List ℕ) → e ≡ expr.Binary c (x, y) → a ≡ x → b ≡ y
     → scan l tables earlier visible (expr_marks e) ≡ or_else (scan l tables earlier visible (expr_marks a)) (scan l tables earlier visible (expr_marks b))
 binary_both l tables e a b c x y earlier visible is p q =
     ap (λ (z : Expr). scan l tables earlier visible (expr_marks z)) is

@@ -37,7 +37,7 @@ atom_of variables (named.Name name at) = Var (number_in variables name)
 abbrev pub term_step : List ℕ → Expr-F code.Term → code.Term
 term_step variables (Expr-F.Lit v) = code.Atom (atom_of variables (named.Lit v))
 term_step variables (Expr-F.Name name at) = code.Atom (atom_of variables (named.Name name at))
-term_step variables (Expr-F.Binary calc l r) = code.Calculate calc l r
+term_step variables (Expr-F.Binary calc sides) = code.Calculate calc sides.0 sides.1
 
 abbrev pub term_of : List ℕ → Expr → code.Term
 term_of variables = fold-Expr code.Term (term_step variables)

@@ -1,21 +1,18 @@
 -- How operations, comparisons and right sides begin.
 use Rattle.std.proofs.Common.{◌≡◌, ℕ, List, [], ◌∷◌, ◌++◌, Option, Some, None, refl, sym, ap, subst, ◌∙◌}
 use Rattle.session_values.specs.declared.kind.Kind.{Kind}
-use Rattle.session_values.specs.declared.kind.Kind.TheVariants as kind
 use Rattle.session_values.specs.declared.kind.TableKind.{TableKind}
-use Rattle.session_values.specs.declared.kind.TableKind.TheVariants as table
 use Rattle.handler_tokens.specs.declared.word.Word.{Word}
 use Rattle.handler_tokens.specs.declared.word.Sort.{Sort}
 use Rattle.handler_tokens.specs.declared.word.Sort.TheVariants as sort
 use Rattle.handler_tokens.specs.Words.{first_word}
 use Rattle.handler_trees.specs.declared.stmt.Compare.{Compare}
-use Rattle.handler_trees.specs.declared.stmt.Compare.TheVariants as compare
 use Rattle.handler_grammar.specs.declared.input.Input.{Input}
 use Rattle.handler_grammar.specs.declared.refusal.SyntaxRefusal.{SyntaxRefusal}
 use Rattle.handler_grammar.specs.Sorts.{operation, comparison, table_kind, call_start, statement_start}
 use Rattle.handler_grammar.specs.declared.sorts.Start.{Start}
 use Rattle.handler_grammar.specs.declared.sorts.Start.TheVariants as start
-use Rattle.handler_grammar.specs.Next.{Part, mark, statements, call_parts, where_operation, a_right, expression, right_row, where_statement, expression_row, operand_over, taking, at_top, after_taking, fault}
+use Rattle.handler_grammar.specs.Next.{Part, call_parts, where_operation, a_right, expression, expression_row, taking, at_top, after_taking, fault}
 use Rattle.handler_grammar.specs.Reads.{Refused, Passed}
 
 -- ---- the word of an operation

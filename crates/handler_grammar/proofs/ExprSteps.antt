@@ -1,5 +1,6 @@
 -- How an expression begins.
-use Rattle.std.proofs.Common.{◌≡◌, ℕ, List, [], ◌∷◌, ◌++◌, refl, ◌∙◌}
+use Rattle.std.proofs.Common.{◌≡◌, ◌≤◌, ℕ, List, [], ◌∷◌, ◌++◌, Some, leb, refl, sym, ap, ◌∙◌, arith}
+use Rattle.std.proofs.lemmas.Bool.{le-leb}
 use Rattle.std.specs.Prelude.{Result, Ok, Err}
 use Rattle.handler_tokens.specs.declared.word.Word.{Word}
 use Rattle.handler_tokens.specs.declared.word.Sort.{Sort}
@@ -8,10 +9,13 @@ use Rattle.handler_tokens.specs.Words.{first_word}
 use Rattle.handler_trees.specs.declared.expr.Expr.{Expr}
 use Rattle.handler_grammar.specs.declared.input.Input.{Input}
 use Rattle.handler_grammar.specs.declared.refusal.SyntaxRefusal.{SyntaxRefusal}
-use Rattle.handler_grammar.specs.Next.{Part, Opened, expression, operand, more_factors, more_terms, an_atom, fault}
+use Rattle.handler_grammar.specs.declared.refusal.SyntaxRefusal.TheVariants.{TooDeep}
+use Rattle.handler_grammar.specs.Bounds.{operator_signs, where_over, max_signs}
+use Rattle.handler_grammar.specs.Next.{Part, row, broken, Opened, expression, operand, more_factors, more_terms, an_atom, fault}
 use Rattle.handler_grammar.specs.Phrase.{word, expr_words}
 use Rattle.handler_grammar.specs.Tree.{expr_tree}
 use Rattle.handler_grammar.specs.Reads.{Refused, Passed, Reads}
+use Rattle.handler_grammar.proofs.Steps.{in_front, refused_is, refused_limit}
 
 -- an operand that doesn't begin with a parenthesis is an atom
 atom_start : (end : ℕ) (under : List Part) (n : ℕ) (s : Sort) (at : ℕ) (ws : List Word) → (s ≡ sort.LeftParen → ⊥) → fault end (operand ∷ under) n (word s at ∷ ws) ≡ fault end (an_atom ∷ under) n (word s at ∷ ws)
@@ -58,3 +62,9 @@ whole_reads a b (Ok v) f = (
   },
 )
 whole_reads a b (Err e) f = λ some. record { fault_is = λ under h. expression_same a.reader.end under a.signs a.reader.words ∙ (f some).fault_is under h }
+
+-- the sign in hand is one too many
+pub refused_sign : (U : List Part → Type 0) (p : Part) (ps left : List Part) (a b : Input) (w : Word) (s : Sort) (e : SyntaxRefusal) → w ≡ first_word a.reader.end a.reader.words → b.reader.words ≡ a.reader.words → b.reader.end ≡ a.reader.end → b.signs ≡ a.signs → w.sort ≡ s → (s ≡ sort.End → ⊥) → row p s ≡ Some left → ((under : List Part) → broken p under a.signs s ≡ where_over operator_signs (leb max_signs a.signs)) → (e ≡ TooDeep (first_word b.reader.end b.reader.words).at) × (max_signs ≤ b.signs) → Refused U (p ∷ ps) a e
+refused_sign U p ps left a b w s e f k n m q o r d h =
+    refused_is (h.0 ∙ ap (λ x. TooDeep x.at) (ap (λ n. first_word n b.reader.words) n ∙ ap (first_word a.reader.end) k ∙ sym f))
+    (refused_limit U p ps left a (word s w.at) _ operator_signs (in_front _ _ w s f q o) r (λ under x. d (ps ++ under) ∙ ap (where_over operator_signs) (le-leb _ _ (omega (arith, h.1, m)))))

@@ -1,4 +1,5 @@
 pub mod Steps
+pub mod Exits
 pub mod Rows
 pub mod ExprSteps
 pub mod CallSteps

@@ -34,10 +34,10 @@ unfolding and_factor
 and_factor-words no_factor p g rest = refl
 and_factor-words (times q f fs) p g rest = ap (λ l. word sort.Times q ∷ factor_words f l) (and_factor-words fs p g rest)
 
-pub and_factor-tree : (fs : MoreFactors) (p : ℕ) (g : FactorPhrase) (left : Expr) → factors_tree (and_factor fs p g) left ≡ expr.Binary calc.Times (factors_tree fs left) (factor_tree g)
+pub and_factor-tree : (fs : MoreFactors) (p : ℕ) (g : FactorPhrase) (left : Expr) → factors_tree (and_factor fs p g) left ≡ expr.Binary calc.Times (factors_tree fs left, factor_tree g)
 unfolding and_factor
 and_factor-tree no_factor p g left = refl
-and_factor-tree (times q f fs) p g left = and_factor-tree fs p g (expr.Binary calc.Times left (factor_tree f))
+and_factor-tree (times q f fs) p g left = and_factor-tree fs p g (expr.Binary calc.Times (left, factor_tree f))
 
 -- ---- the terms of an expression
 
@@ -72,17 +72,17 @@ and_minus-words no_term p t rest = refl
 and_minus-words (plus q s ts) p t rest = ap (λ l. word sort.Plus q ∷ term_words s l) (and_minus-words ts p t rest)
 and_minus-words (minus q s ts) p t rest = ap (λ l. word sort.Minus q ∷ term_words s l) (and_minus-words ts p t rest)
 
-pub and_plus-tree : (ts : MoreTerms) (p : ℕ) (t : TermPhrase) (left : Expr) → terms_tree (and_plus ts p t) left ≡ expr.Binary calc.Plus (terms_tree ts left) (term_tree t)
+pub and_plus-tree : (ts : MoreTerms) (p : ℕ) (t : TermPhrase) (left : Expr) → terms_tree (and_plus ts p t) left ≡ expr.Binary calc.Plus (terms_tree ts left, term_tree t)
 unfolding and_plus
 and_plus-tree no_term p t left = refl
-and_plus-tree (plus q s ts) p t left = and_plus-tree ts p t (expr.Binary calc.Plus left (term_tree s))
-and_plus-tree (minus q s ts) p t left = and_plus-tree ts p t (expr.Binary calc.Minus left (term_tree s))
+and_plus-tree (plus q s ts) p t left = and_plus-tree ts p t (expr.Binary calc.Plus (left, term_tree s))
+and_plus-tree (minus q s ts) p t left = and_plus-tree ts p t (expr.Binary calc.Minus (left, term_tree s))
 
-pub and_minus-tree : (ts : MoreTerms) (p : ℕ) (t : TermPhrase) (left : Expr) → terms_tree (and_minus ts p t) left ≡ expr.Binary calc.Minus (terms_tree ts left) (term_tree t)
+pub and_minus-tree : (ts : MoreTerms) (p : ℕ) (t : TermPhrase) (left : Expr) → terms_tree (and_minus ts p t) left ≡ expr.Binary calc.Minus (terms_tree ts left, term_tree t)
 unfolding and_minus
 and_minus-tree no_term p t left = refl
-and_minus-tree (plus q s ts) p t left = and_minus-tree ts p t (expr.Binary calc.Plus left (term_tree s))
-and_minus-tree (minus q s ts) p t left = and_minus-tree ts p t (expr.Binary calc.Minus left (term_tree s))
+and_minus-tree (plus q s ts) p t left = and_minus-tree ts p t (expr.Binary calc.Plus (left, term_tree s))
+and_minus-tree (minus q s ts) p t left = and_minus-tree ts p t (expr.Binary calc.Minus (left, term_tree s))
 
 -- ---- the arguments of an operation
 

@@ -1,13 +1,9 @@
 -- The limits that the walk finds broken in the words of a phrase are those that the phrase breaks.
 use Rattle.std.proofs.Common.{◌≡◌, ◌≤◌, ◌+◌, ℕ, zero, suc, nat_le, List, [], ◌∷◌, ◌++◌, Option, Some, None, refl, ap, ◌∙◌, arith}
-use Rattle.session_values.specs.declared.kind.Kind.{Kind}
-use Rattle.session_values.specs.declared.kind.Kind.TheVariants as kind
 use Rattle.session_values.specs.declared.kind.TableKind.{TableKind}
-use Rattle.session_values.specs.declared.kind.TableKind.TheVariants as table
 use Rattle.handler_tokens.specs.declared.word.Word.{Word}
 use Rattle.handler_tokens.specs.declared.word.Sort.TheVariants as sort
 use Rattle.handler_trees.specs.declared.stmt.Compare.{Compare}
-use Rattle.handler_trees.specs.declared.stmt.Compare.TheVariants as compare
 use Rattle.handler_grammar.specs.Bounds.{block_depth, open_parentheses, max_depth, max_open}
 use Rattle.handler_grammar.specs.Limits.{factor_signs, factors_signs, term_signs, terms_signs, expr_signs}
 use Rattle.handler_grammar.specs.Marked.{Marked, fine, limited, all_fine, atom_marked, sign_marked, factor_marked, factors_marked, term_marked, terms_marked, expr_marked, whole_marked, atoms_marked, operands_marked, right_marked, cond_marked, turns_marked, more_marked, stmt_marked, else_marked, stmts_marked, block_marked, handlers_marked, file_marked}

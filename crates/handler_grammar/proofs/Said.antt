@@ -59,7 +59,7 @@ module _ (N S : ℕ → Type 0) where
   atom_read (negative_atom q (digits zero p)) rest f h = ((omega arith, tt), h.1.1)
   atom_read (negative_atom q (digits (suc v) p)) rest f h = ((omega (arith, f), tt), h.1.1)
 
-  binary_read : (c : Calc) (l r : Expr) → Readable (expr_mentions l) → Readable (expr_mentions r) → Readable (expr_mentions (expr.Binary c l r))
+  binary_read : (c : Calc) (l r : Expr) → Readable (expr_mentions l) → Readable (expr_mentions r) → Readable (expr_mentions (expr.Binary c (l, r)))
   binary_read c l r h k = subst Readable (sym (mentions_binary c l r)) (both (expr_mentions l) (expr_mentions r) h k)
 
   mutual
@@ -71,7 +71,7 @@ module _ (N S : ℕ → Type 0) where
     factors_read no_factor o left rest fits l h = (l, h)
     factors_read (times p f fs) o left rest fits l h =
         let k = factor_read f o (factors_words fs rest) fits.0 h.1 in
-        factors_read fs o (expr.Binary calc.Times left (factor_tree f)) rest fits.1 (binary_read calc.Times left (factor_tree f) l k.0) k.1
+        factors_read fs o (expr.Binary calc.Times (left, factor_tree f)) rest fits.1 (binary_read calc.Times left (factor_tree f) l k.0) k.1
 
     term_read : (t : TermPhrase) (o : ℕ) (rest : List Word) → TermFits t o → AllRead (term_words t rest) → Readable (expr_mentions (term_tree t)) × AllRead rest
     term_read (term f fs) o rest fits h = let k = factor_read f o (factors_words fs rest) fits.0 h in factors_read fs o (factor_tree f) rest fits.1 k.0 k.1
@@ -80,10 +80,10 @@ module _ (N S : ℕ → Type 0) where
     terms_read no_term o left rest fits l h = (l, h)
     terms_read (plus p t ts) o left rest fits l h =
         let k = term_read t o (terms_words ts rest) fits.0 h.1 in
-        terms_read ts o (expr.Binary calc.Plus left (term_tree t)) rest fits.1 (binary_read calc.Plus left (term_tree t) l k.0) k.1
+        terms_read ts o (expr.Binary calc.Plus (left, term_tree t)) rest fits.1 (binary_read calc.Plus left (term_tree t) l k.0) k.1
     terms_read (minus p t ts) o left rest fits l h =
         let k = term_read t o (terms_words ts rest) fits.0 h.1 in
-        terms_read ts o (expr.Binary calc.Minus left (term_tree t)) rest fits.1 (binary_read calc.Minus left (term_tree t) l k.0) k.1
+        terms_read ts o (expr.Binary calc.Minus (left, term_tree t)) rest fits.1 (binary_read calc.Minus left (term_tree t) l k.0) k.1
 
     expr_read : (e : ExprPhrase) (o : ℕ) (rest : List Word) → GroupFits e o → AllRead (expr_words e rest) → Readable (expr_mentions (expr_tree e)) × AllRead rest
     expr_read (sum t ts) o rest fits h = let k = term_read t o (terms_words ts rest) fits.0 h in terms_read ts o (term_tree t) rest fits.1 k.0 k.1

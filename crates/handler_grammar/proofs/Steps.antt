@@ -60,6 +60,10 @@ passed_one U old new p left w ws e n r b = record {
       ∙ ap (λ k. fault new.reader.end (left ++ under) k new.reader.words) (sym n);
 }
 
+-- the word in hand, of a sort that the part takes, was taken
+pub passed_word : (U : List Part → Type 0) (old new : Input) (p : Part) (left : List Part) (w : Word) (s : Sort) → w ≡ first_word old.reader.end old.reader.words → w.sort ≡ s → (s ≡ sort.End → ⊥) → new.reader.words ≡ drop 1 old.reader.words → new.reader.end ≡ old.reader.end → new.signs ≡ signs_after p old.signs → row p s ≡ Some left → ((under : List Part) → U under → broken p under old.signs s ≡ None) → Passed U (p ∷ []) left old new
+passed_word U old new p left w s f q n d e g r b = passed_one U old new p left (word s w.at) (took _ _ _ w s f q n d) e g r b
+
 -- no part takes the word in hand, or none is left
 pub refused_none : (U : List Part → Type 0) (p : Part) (ps : List Part) (old : Input) (w : Word) → w ≡ first_word old.reader.end old.reader.words → may_be_empty p ≡ false → row p w.sort ≡ None → Refused U (p ∷ ps) old (refusal w)
 refused_none U p ps old w e m r = record {

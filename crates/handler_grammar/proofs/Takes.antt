@@ -1,12 +1,11 @@
 -- What is written with the words of an expression or of an operation is taken, whatever follows.
-use Rattle.std.proofs.Common.{◌≡◌, ◌≤◌, ℕ, zero, suc, List, ◌∷◌, ◌++◌, refl, ap, ◌∙◌, arith}
+use Rattle.std.proofs.Common.{◌≡◌, ◌≤◌, ℕ, zero, suc, List, ◌∷◌, ◌++◌, refl, ◌∙◌, arith}
 use Rattle.handler_tokens.specs.declared.word.Word.{Word}
 use Rattle.handler_tokens.specs.declared.word.Sort.TheVariants as sort
 use Rattle.handler_trees.specs.declared.stmt.Compare.{Compare}
-use Rattle.handler_trees.specs.declared.stmt.Compare.TheVariants as compare
-use Rattle.handler_grammar.specs.Next.{Part, a_right, more_arguments, a_compare, expression, operand, more_factors, more_terms, closing, mark, call_parts, taking, at_top}
+use Rattle.handler_grammar.specs.Next.{Part, a_right, more_arguments, a_compare, expression, operand, more_factors, more_terms, closing, mark, call_parts}
 use Rattle.handler_grammar.specs.Phrase.{word, named, digits, AtomPhrase, name_atom, nil_atom, symbol_atom, number_atom, negative_atom, atom_words, FactorPhrase, plain, grouped, factor_words, MoreFactors, no_factor, times, factors_words, TermPhrase, term, term_words, MoreTerms, no_term, plus, minus, terms_words, ExprPhrase, sum, expr_words, MoreAtoms, no_atom, more_atom, atom_count, atoms_words, OperandsPhrase, operands, operands_words, a_call, RightPhrase, result_right, plain_right, right_words, CondPhrase, a_cond, cond_words}
-use Rattle.handler_grammar.proofs.Spells.{still, go_on_still}
+use Rattle.handler_grammar.proofs.Spells.{still}
 
 atom_taken : (a : AtomPhrase) (under : List Part) (rest : List Word) → still (operand ∷ under) (atom_words a rest) ≡ still under rest
 atom_taken (name_atom n p) under rest = refl

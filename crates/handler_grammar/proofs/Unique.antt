@@ -76,7 +76,7 @@ mutual
   same_factors (times p f fs) no_factor x y r s nr ns t e = absurd (subst NotTimes (sym e) ns refl)
   same_factors (times p f fs) (times q g gs) x y r s nr ns t e =
       let h = same_factor f g (factors_words fs r) (factors_words gs s) (tail e) in
-      same_factors fs gs _ _ r s nr ns (ap (λ l. expr.Binary calc.Times l (factor_tree f)) t ∙ ap (expr.Binary calc.Times y) h.tree) h.rest
+      same_factors fs gs _ _ r s nr ns (ap (λ l. expr.Binary calc.Times (l, factor_tree f)) t ∙ ap (λ z. expr.Binary calc.Times (y, z)) h.tree) h.rest
 
   same_term : (t u : TermPhrase) (r s : List Word) → NotTimes r → NotTimes s → term_words t r ≡ term_words u s → Same (term_tree t) (term_tree u) r s
   same_term (term f fs) (term g gs) r s nr ns e =
@@ -93,10 +93,10 @@ mutual
   same_terms (minus p t ts) (plus q u us) x y r s nr ns d e = let h = head_sort e in cc
   same_terms (plus p t ts) (plus q u us) x y r s nr ns d e =
       let h = same_term t u (terms_words ts r) (terms_words us s) (not_times_terms ts r nr) (not_times_terms us s ns) (tail e) in
-      same_terms ts us _ _ r s nr ns (ap (λ l. expr.Binary calc.Plus l (term_tree t)) d ∙ ap (expr.Binary calc.Plus y) h.tree) h.rest
+      same_terms ts us _ _ r s nr ns (ap (λ l. expr.Binary calc.Plus (l, term_tree t)) d ∙ ap (λ z. expr.Binary calc.Plus (y, z)) h.tree) h.rest
   same_terms (minus p t ts) (minus q u us) x y r s nr ns d e =
       let h = same_term t u (terms_words ts r) (terms_words us s) (not_times_terms ts r nr) (not_times_terms us s ns) (tail e) in
-      same_terms ts us _ _ r s nr ns (ap (λ l. expr.Binary calc.Minus l (term_tree t)) d ∙ ap (expr.Binary calc.Minus y) h.tree) h.rest
+      same_terms ts us _ _ r s nr ns (ap (λ l. expr.Binary calc.Minus (l, term_tree t)) d ∙ ap (λ z. expr.Binary calc.Minus (y, z)) h.tree) h.rest
 
   pub same_expr : (a b : ExprPhrase) (r s : List Word) → NotSign r → NotSign s → expr_words a r ≡ expr_words b s → Same (expr_tree a) (expr_tree b) r s
   same_expr (sum t ts) (sum u us) r s nr ns e =

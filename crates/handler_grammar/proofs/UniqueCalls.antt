@@ -7,7 +7,6 @@ use Rattle.handler_trees.specs.declared.expr.Atom.{Atom}
 use Rattle.handler_trees.specs.declared.expr.Expr.{Expr}
 use Rattle.handler_trees.specs.declared.stmt.Call.{Call}
 use Rattle.handler_trees.specs.declared.stmt.Compare.{Compare}
-use Rattle.handler_trees.specs.declared.stmt.Compare.TheVariants as compare
 use Rattle.handler_trees.specs.declared.stmt.Cond.{Cond}
 use Rattle.handler_trees.specs.declared.stmt.Right.TheVariants as right
 use Rattle.handler_grammar.specs.declared.parse_call.Turns.{Turns}

@@ -54,15 +54,15 @@ abbrev mutual
 
   pub factors_tree : MoreFactors → Expr → Expr
   factors_tree no_factor left = left
-  factors_tree (times p f fs) left = factors_tree fs (expr.Binary calc.Times left (factor_tree f))
+  factors_tree (times p f fs) left = factors_tree fs (expr.Binary calc.Times (left, factor_tree f))
 
   pub term_tree : TermPhrase → Expr
   term_tree (term f fs) = factors_tree fs (factor_tree f)
 
   pub terms_tree : MoreTerms → Expr → Expr
   terms_tree no_term left = left
-  terms_tree (plus p t ts) left = terms_tree ts (expr.Binary calc.Plus left (term_tree t))
-  terms_tree (minus p t ts) left = terms_tree ts (expr.Binary calc.Minus left (term_tree t))
+  terms_tree (plus p t ts) left = terms_tree ts (expr.Binary calc.Plus (left, term_tree t))
+  terms_tree (minus p t ts) left = terms_tree ts (expr.Binary calc.Minus (left, term_tree t))
 
   pub expr_tree : ExprPhrase → Expr
   expr_tree (sum t ts) = terms_tree ts (term_tree t)

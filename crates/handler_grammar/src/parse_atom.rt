@@ -9,7 +9,7 @@ ghost use Rattle.handler_grammar.specs.Reads.{Reads};
 use crate::input::Input;
 use crate::refusal::{SyntaxRefusal, refusal};
 use handler_tokens::Sort;
-use handler_trees::Atom;
+use handler_trees::{Atom, Literal};
 use session_values::Value;
 
 pub(crate) const MAX_NUMBER: u64 = 9_223_372_036_854_775_807;
@@ -48,15 +48,15 @@ pub(crate) fn atom(input: &mut Input<'_>) -> Result<Atom, SyntaxRefusal>
     let word = input.take()?;
     match word.sort {
         Sort::Name(name) => Ok(Atom::Name { name, at: word.at }),
-        Sort::Nil => Ok(Atom::Lit(Value::Nil)),
-        Sort::Symbol(place) => Ok(Atom::Lit(Value::Sym(place))),
+        Sort::Nil => Ok(Atom::Lit(Literal::of(Value::Nil))),
+        Sort::Symbol(place) => Ok(Atom::Lit(Literal::of(Value::Sym(place)))),
         Sort::Number(value) => {
             if value > MAX_NUMBER {
                 return Err(SyntaxRefusal::NumberTooLarge { at: word.at });
             }
-            Ok(Atom::Lit(Value::Num(value as i64)))
+            Ok(Atom::Lit(Literal::of(Value::Num(value as i64))))
         }
-        Sort::Minus => Ok(Atom::Lit(Value::Num(negative(input)?))),
+        Sort::Minus => Ok(Atom::Lit(Literal::of(Value::Num(negative(input)?)))),
         _ => Err(refusal(word)),
     }
 }

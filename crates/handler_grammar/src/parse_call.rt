@@ -35,7 +35,7 @@ fn arguments(alloc: Global, input: &mut Input<'_>) -> Result<Atoms, SyntaxRefusa
     ensures names { input.new.reader.names ≡ input.old.reader.names }
     ensures count { input.old.reader.count ≤ input.new.reader.count }
 {
-    let mut items = Vec::new(alloc);
+    let mut items = Vec::with_capacity(alloc, 2)?;
     for turn in 0..2u32 {
         match input.peek()?.sort {
             Sort::Comma => {

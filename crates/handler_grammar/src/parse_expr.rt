@@ -20,13 +20,10 @@ use std::alloc::Global;
 const MAX_OPEN: u32 = 16;
 
 fn binary(alloc: Global, calc: Calc, left: Expr, right: Expr) -> Result<Expr, NoMemory>
-    ensures { IfOk result (λ e. e ≡ expr.Binary calc left right) }
+    ensures { IfOk result (λ e. e ≡ expr.Binary calc (left, right)) }
 {
-    Ok(Expr::Binary {
-        calc,
-        left: Boxed::new(alloc, left)?,
-        right: Boxed::new(alloc, right)?,
-    })
+    let sides = Boxed::new(alloc, (left, right))?;
+    Ok(Expr::Binary { calc, sides })
 }
 
 /// The parenthesis that ends a group.

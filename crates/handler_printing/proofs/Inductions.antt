@@ -25,12 +25,12 @@ use Rattle.handler_printing.specs.CanonicalWords.{atom_sorts, opening_sorts, clo
 
 -- ---- expressions
 
-module _ (P : Expr → Type 0) (leaf : (a : Atom) → P (alone a)) (binary : (c : Calc) (l r : Expr) → P l → P r → P (expr.Binary c l r)) where
+module _ (P : Expr → Type 0) (leaf : (a : Atom) → P (alone a)) (binary : (c : Calc) (l r : Expr) → P l → P r → P (expr.Binary c (l, r))) where
   expr_rolled : (y : Expr-F ((e : Expr) × P e)) → P (roll-Expr (map-Expr ((e : Expr) × P e) Expr (λ e. e.0) y))
   unfolding roll-Expr denote.Hole.Carrier.roll
   expr_rolled (Expr-F.Lit v) = leaf (atom.Lit v)
   expr_rolled (Expr-F.Name n p) = leaf (atom.Name n p)
-  expr_rolled (Expr-F.Binary c l r) = binary c l.0 r.0 l.1 r.1
+  expr_rolled (Expr-F.Binary c s) = binary c s.0.0 s.1.0 s.0.1 s.1.1
 
   pub expr_induction : (e : Expr) → P e
   expr_induction = ind-Expr P (λ x y is. subst (λ z. P (roll-Expr z)) is (expr_rolled y))
@@ -69,7 +69,7 @@ module _ (names : List (List ℕ)) where
   text_leaf (atom.Lit v) l rest = search (rules, the_lemmas)
   text_leaf (atom.Name n p) l rest = search (rules, the_lemmas)
 
-  pub text_binary : (c : Calc) (left right : Expr) (l : Level) (rest : List ℕ) → expr_text names (expr.Binary c left right) l rest
+  pub text_binary : (c : Calc) (left right : Expr) (l : Level) (rest : List ℕ) → expr_text names (expr.Binary c (left, right)) l rest
       ≡ opening l c ++ expr_text names left (left_level c) (operator_text c ++ expr_text names right (right_level c) (closing l c ++ rest))
   text_binary c left right l rest = search (rules, the_lemmas)
 
@@ -96,7 +96,7 @@ pub sorts_leaf : (a : Atom) (l : Level) (rest : List Sort) → expr_sorts (alone
 sorts_leaf (atom.Lit v) l rest = search (rules, the_lemmas)
 sorts_leaf (atom.Name n p) l rest = search (rules, the_lemmas)
 
-pub sorts_binary : (c : Calc) (left right : Expr) (l : Level) (rest : List Sort) → expr_sorts (expr.Binary c left right) l rest
+pub sorts_binary : (c : Calc) (left right : Expr) (l : Level) (rest : List Sort) → expr_sorts (expr.Binary c (left, right)) l rest
     ≡ opening_sorts l c (expr_sorts left (left_level c) (calc_sort c ∷ expr_sorts right (right_level c) (closing_sorts l c rest)))
 sorts_binary c left right l rest = search (rules, the_lemmas)
 

@@ -21,11 +21,11 @@ module _ (names : List (List ℕ)) where
   both : {ms : List Mention} (ls rs : List Mention) → ms ≡ ls ++ rs → Named ms → Named ls × Named rs
   both ls rs e h = all_first _ ls rs (subst Named e h)
 
-  pub named_left : (e x l r : Expr) (c : Calc) → e ≡ expr.Binary c l r → x ≡ l → Named (expr_mentions e) → Named (expr_mentions x)
+  pub named_left : (e x l r : Expr) (c : Calc) → e ≡ expr.Binary c (l, r) → x ≡ l → Named (expr_mentions e) → Named (expr_mentions x)
   named_left e x l r c is same h =
       subst (λ y. Named (expr_mentions y)) (sym same) (both (expr_mentions l) (expr_mentions r) (ap expr_mentions is ∙ mentions_binary c l r) h).0
 
-  pub named_right : (e x l r : Expr) (c : Calc) → e ≡ expr.Binary c l r → x ≡ r → Named (expr_mentions e) → Named (expr_mentions x)
+  pub named_right : (e x l r : Expr) (c : Calc) → e ≡ expr.Binary c (l, r) → x ≡ r → Named (expr_mentions e) → Named (expr_mentions x)
   named_right e x l r c is same h =
       subst (λ y. Named (expr_mentions y)) (sym same) (both (expr_mentions l) (expr_mentions r) (ap expr_mentions is ∙ mentions_binary c l r) h).1
 

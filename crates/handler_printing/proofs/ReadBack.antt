@@ -157,7 +157,7 @@ module _ (names : List (List ℕ)) (distinct : AreDistinct names) where
   leaf_reads a h l rest ends =
       ap read (trees.text_leaf names a l rest) ∙ atom_reads a (subst Readable (parts.mentions_leaf a) h) rest ends ∙ sym (ap (λ ss. (ss, (read rest).1)) (trees.sorts_leaf a l (read rest).0))
 
-  binary_reads : (c : Calc) (left right : Expr) → ExprReads left → ExprReads right → ExprReads (expr.Binary c left right)
+  binary_reads : (c : Calc) (left right : Expr) → ExprReads left → ExprReads right → ExprReads (expr.Binary c (left, right))
   binary_reads c left right reads_left reads_right h l rest ends =
       let k = both (expr_mentions left) (expr_mentions right) (subst Readable (parts.mentions_binary c left right) h) in
       let after = Canonical.closing l c ++ rest in

@@ -12,18 +12,18 @@ use Rattle.handler_trees.specs.declared.stmt.Stmt.TheVariants as stmt
 abbrev pub expr_weight : Expr-F ℕ → ℕ
 expr_weight (Expr-F.Lit v) = 1
 expr_weight (Expr-F.Name n p) = 1
-expr_weight (Expr-F.Binary c left right) = 1 + (left + right)
+expr_weight (Expr-F.Binary c sides) = 1 + (sides.0 + sides.1)
 
 abbrev pub expr_size : Expr → ℕ
 expr_size = fold-Expr ℕ expr_weight
 
-size_binary : (c : Calc) (l r : Expr) → expr_size (expr.Binary c l r) ≡ 1 + (expr_size l + expr_size r)
+size_binary : (c : Calc) (l r : Expr) → expr_size (expr.Binary c (l, r)) ≡ 1 + (expr_size l + expr_size r)
 size_binary c l r = search (rules, the_lemmas)
 
-pub left_smaller : (e x l r : Expr) (c : Calc) → e ≡ expr.Binary c l r → x ≡ l → expr_size x < expr_size e
+pub left_smaller : (e x l r : Expr) (c : Calc) → e ≡ expr.Binary c (l, r) → x ≡ l → expr_size x < expr_size e
 left_smaller e x l r c is same = omega (arith, ap expr_size is ∙ size_binary c l r, ap expr_size same)
 
-pub right_smaller : (e x l r : Expr) (c : Calc) → e ≡ expr.Binary c l r → x ≡ r → expr_size x < expr_size e
+pub right_smaller : (e x l r : Expr) (c : Calc) → e ≡ expr.Binary c (l, r) → x ≡ r → expr_size x < expr_size e
 right_smaller e x l r c is same = omega (arith, ap expr_size is ∙ size_binary c l r, ap expr_size same)
 
 -- of a block, where those of its statements are given

@@ -106,8 +106,8 @@ operator_text calc.Times = codes " * "
 abbrev pub expr_step : List (List ℕ) → Expr-F (Level → Text) → Level → Text
 expr_step names (Expr-F.Lit v) l rest = atom_text names (atom.Lit v) rest
 expr_step names (Expr-F.Name n p) l rest = atom_text names (atom.Name n p) rest
-expr_step names (Expr-F.Binary c left right) l rest =
-    opening l c ++ left (left_level c) (operator_text c ++ right (right_level c)
+expr_step names (Expr-F.Binary c sides) l rest =
+    opening l c ++ sides.0 (left_level c) (operator_text c ++ sides.1 (right_level c)
     (closing l c ++ rest))
 
 abbrev pub expr_text : List (List ℕ) → Expr → Level → Text

@@ -77,8 +77,8 @@ closing_sorts l c rest = if is_bracketed l c then sort.RightParen ∷ rest else 
 abbrev pub expr_sorts_step : Expr-F (Level → Sorts) → Level → Sorts
 expr_sorts_step (Expr-F.Lit v) l rest = atom_sorts (atom.Lit v) rest
 expr_sorts_step (Expr-F.Name n p) l rest = atom_sorts (atom.Name n p) rest
-expr_sorts_step (Expr-F.Binary c left right) l rest =
-    opening_sorts l c (left (left_level c) (calc_sort c ∷ right (right_level c)
+expr_sorts_step (Expr-F.Binary c sides) l rest =
+    opening_sorts l c (sides.0 (left_level c) (calc_sort c ∷ sides.1 (right_level c)
     (closing_sorts l c rest)))
 
 abbrev pub expr_sorts : Expr → Level → Sorts

@@ -87,13 +87,14 @@ pub(crate) fn put_expr(
         (string_bytes out.old) (string_bytes out.new)) }
 {
     match e {
-        Expr::Lit(value) => put_literal(*value, names, out),
+        Expr::Lit(literal) => put_literal(literal.value(), names, out),
         Expr::Name { name, .. } => put_name(*name, names, out),
-        Expr::Binary { calc, left, right } => {
+        Expr::Binary { calc, sides } => {
+            let (left, right) = sides.get();
             put(level.opening(*calc), out)?;
-            put_expr(left.get(), left_level(*calc), names, out)?;
+            put_expr(left, left_level(*calc), names, out)?;
             put(operator(*calc), out)?;
-            put_expr(right.get(), right_level(*calc), names, out)?;
+            put_expr(right, right_level(*calc), names, out)?;
             put(level.closing(*calc), out)
         }
     }

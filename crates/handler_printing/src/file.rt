@@ -20,8 +20,9 @@ use handler_trees::{File, Handler, Param, TableDecl};
 use session_values::{Names, NoMemory, TableKind};
 use std::alloc::Global;
 
-/// The canonical text of a file, whose names and symbols are those of the list.
-pub fn print(alloc: Global, file: &File, names: &Names) -> Result<String, NoMemory>
+/// The canonical text of a file, whose names and symbols are those of the list. `room` bytes are
+/// reserved for it ahead; it may be longer.
+pub fn print(alloc: Global, room: usize, file: &File, names: &Names) -> Result<String, NoMemory>
     requires { AreNamed names.now (file_mentions file.now) }
     ensures text { IfOk result (λ text. string_bytes text ≡ canonical_text names.now file.now) }
     // Where names, symbols and numbers can be read, the text gives the words of the file again.
@@ -31,14 +32,15 @@ pub fn print(alloc: Global, file: &File, names: &Names) -> Result<String, NoMemo
 {
     // That the texts of the list are different is what `len` says of it.
     let _count = names.len();
-    let text = print_with_declarations(alloc, file, &Undeclared, names)?;
+    let text = print_with_declarations(alloc, room, file, &Undeclared, names)?;
     Ok(text)
 }
 
 /// The text of a file with a line at each point of its handlers, if these are shown; else its
-/// canonical text. A place that a list doesn't have gives no text.
+/// canonical text. A place that a list doesn't have gives no text. `room` is as for `print`.
 pub fn print_with_declarations<D: Declarations>(
     alloc: Global,
+    room: usize,
     file: &File,
     at: &D,
     names: &Names,
@@ -47,7 +49,7 @@ pub fn print_with_declarations<D: Declarations>(
     ensures { IfOk result (λ text.
         string_bytes text ≡ shown_text names.now (D.at_points at.now) file.now) }
 {
-    let mut out = String::new(alloc);
+    let mut out = String::with_capacity(alloc, room)?;
     put_tables(file.tables.as_slice(), names, &mut out)?;
     put_handlers(file.handlers.as_slice(), at, names, &mut out)?;
     Ok(out)

@@ -86,15 +86,15 @@ pub(crate) fn put_literal(value: Value, names: &Names, out: &mut String) -> Resu
 }
 
 /// Appends what stands alone in an expression.
-pub(crate) fn put_atom(atom: Atom, names: &Names, out: &mut String) -> Result<(), NoMemory>
-    requires { AreNamed names.now (atom_mentions atom) }
+pub(crate) fn put_atom(atom: &Atom, names: &Names, out: &mut String) -> Result<(), NoMemory>
+    requires { AreNamed names.now (atom_mentions atom.now) }
     ensures { OnOk result (Adds
-        (atom_text names.now atom)
+        (atom_text names.now atom.now)
         (string_bytes out.old) (string_bytes out.new)) }
 {
     match atom {
-        Atom::Lit(value) => put_literal(value, names, out),
-        Atom::Name { name, .. } => put_name(name, names, out),
+        Atom::Lit(literal) => put_literal(literal.value(), names, out),
+        Atom::Name { name, .. } => put_name(*name, names, out),
     }
 }
 
@@ -121,7 +121,7 @@ fn put_arguments(args: &[Atom], names: &Names, out: &mut String) -> Result<(), N
 {
     'args: for atom in args {
         put(", ", out)?;
-        put_atom(*atom, names, out)?;
+        put_atom(atom, names, out)?;
     }
     Ok(())
 }

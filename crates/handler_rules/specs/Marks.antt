@@ -64,7 +64,7 @@ atom_marks (atom.Name name at) = Mentioned name at [] ∷ []
 abbrev pub expr_step : Expr-F (List Mark) → List Mark
 expr_step (Expr-F.Lit v) = atom_marks (atom.Lit v)
 expr_step (Expr-F.Name name at) = atom_marks (atom.Name name at)
-expr_step (Expr-F.Binary calc l r) = l ++ r
+expr_step (Expr-F.Binary calc sides) = sides.0 ++ sides.1
 
 abbrev pub expr_marks : Expr → List Mark
 expr_marks = fold-Expr (List Mark) expr_step

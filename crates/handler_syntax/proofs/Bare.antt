@@ -19,7 +19,7 @@ pub bare_leaf : (a : Atom) → expr_bare (alone a) ≡ alone (atom_bare a)
 bare_leaf (atom.Lit v) = search (rules, expr_laws.the_lemmas)
 bare_leaf (atom.Name n p) = search (rules, expr_laws.the_lemmas)
 
-pub bare_binary : (c : Calc) (l r : Expr) → expr_bare (expr.Binary c l r) ≡ expr.Binary c (expr_bare l) (expr_bare r)
+pub bare_binary : (c : Calc) (l r : Expr) → expr_bare (expr.Binary c (l, r)) ≡ expr.Binary c (expr_bare l, expr_bare r)
 bare_binary c l r = search (rules, expr_laws.the_lemmas)
 
 pub bare_let : (n p : ℕ) (r : Right) → stmt_bare (stmt.Let n p r) ≡ stmt.Let n 0 (right_bare r)

@@ -115,12 +115,12 @@ module _ (a : AtomPhrase) (fits : AtomFits a) where
 
 -- ---- operators
 
-same_operands : (c : Calc) (x y l r : Expr) → expr_bare x ≡ expr_bare l → expr_bare y ≡ expr_bare r → expr_bare (expr.Binary c x y) ≡ expr_bare (expr.Binary c l r)
-same_operands c x y l r e f = bare_binary c x y ∙ ap (λ z. expr.Binary c z (expr_bare y)) e ∙ ap (expr.Binary c (expr_bare l)) f ∙ sym (bare_binary c l r)
+same_operands : (c : Calc) (x y l r : Expr) → expr_bare x ≡ expr_bare l → expr_bare y ≡ expr_bare r → expr_bare (expr.Binary c (x, y)) ≡ expr_bare (expr.Binary c (l, r))
+same_operands c x y l r e f = bare_binary c x y ∙ ap (λ z. expr.Binary c (z, expr_bare y)) e ∙ ap (λ z. expr.Binary c (expr_bare l, z)) f ∙ sym (bare_binary c l r)
 
 module _ (l r : Expr) (o j k : ℕ) (left : AsTerm l o j) (right : ReadsFactor r o k (expr_sorts r level.Factor)) where
   abbrev product : Expr
-  product = expr.Binary calc.Times l r
+  product = expr.Binary calc.Times (l, r)
 
   abbrev product_sorts : List Sort → List Sort
   product_sorts ss = expr_sorts l level.Term (sort.Times ∷ expr_sorts r level.Factor ss)
@@ -150,12 +150,12 @@ module _ (l r : Expr) (o j k : ℕ) (left : AsTerm l o j) (right : ReadsFactor r
   product_reads = record { term = product_term; as_whole = record { whole = product_whole; inside = product_inside } }
 
 -- of a sum or a difference, by its words with no parentheses
-sum_inside : (c : Calc) (l r : Expr) (o k : ℕ) (S : List Sort → List Sort) → ((ss : List Sort) → expr_sorts (expr.Binary c l r) level.Whole ss ≡ S ss) → ((ss : List Sort) → expr_sorts (expr.Binary c l r) level.Term ss ≡ sort.LeftParen ∷ S (sort.RightParen ∷ ss))
-    → ((ss : List Sort) → expr_sorts (expr.Binary c l r) level.Factor ss ≡ sort.LeftParen ∷ S (sort.RightParen ∷ ss)) → ReadsExpr (expr.Binary c l r) o k S → Whole (expr.Binary c l r) o k
+sum_inside : (c : Calc) (l r : Expr) (o k : ℕ) (S : List Sort → List Sort) → ((ss : List Sort) → expr_sorts (expr.Binary c (l, r)) level.Whole ss ≡ S ss) → ((ss : List Sort) → expr_sorts (expr.Binary c (l, r)) level.Term ss ≡ sort.LeftParen ∷ S (sort.RightParen ∷ ss))
+    → ((ss : List Sort) → expr_sorts (expr.Binary c (l, r)) level.Factor ss ≡ sort.LeftParen ∷ S (sort.RightParen ∷ ss)) → ReadsExpr (expr.Binary c (l, r)) o k S → Whole (expr.Binary c (l, r)) o k
 sum_inside c l r o k S at_whole at_term at_factor bare = record {
   whole = sorted at_whole bare;
   inside = λ n below room.
-      let e = expr.Binary c l r in
+      let e = expr.Binary c (l, r) in
       let factor = in_parentheses e n k S room (expr_with_fewer e (n + 1) o k S (omega (arith, below)) bare) in
       record {
         whole = sorted at_whole (expr_with_fewer e n o k S (omega (arith, below)) bare);
@@ -164,7 +164,7 @@ sum_inside c l r o k S at_whole at_term at_factor bare = record {
       };
 }
 
-plus_reads : (l r : Expr) (o j k : ℕ) → Whole l o j → ReadsTerm r o k (expr_sorts r level.Term) → Whole (expr.Binary calc.Plus l r) o (j + (1 + k))
+plus_reads : (l r : Expr) (o j k : ℕ) → Whole l o j → ReadsTerm r o k (expr_sorts r level.Term) → Whole (expr.Binary calc.Plus (l, r)) o (j + (1 + k))
 plus_reads l r o j k left right =
     sum_inside calc.Plus l r o (j + (1 + k)) (λ ss. expr_sorts l level.Whole (sort.Plus ∷ expr_sorts r level.Term ss)) (sorts_binary calc.Plus l r level.Whole) (sorts_binary calc.Plus l r level.Term) (sorts_binary calc.Plus l r level.Factor)
     (made (followed left.whole (followed (mark sort.Plus) right)) (λ x. with_plus x.0 x.1.0 x.1.1) (λ x rest. with_plus-words x.0 x.1.0 x.1.1 rest)
@@ -174,7 +174,7 @@ plus_reads l r o j k left right =
       counted = with_plus-signs x.0 x.1.0 x.1.1 ∙ ap (λ n. n + (1 + term_signs x.1.1)) g.0.counted ∙ ap (λ n. j + (1 + n)) g.1.1.counted;
     }))
 
-minus_reads : (l r : Expr) (o j k : ℕ) → Whole l o j → ReadsTerm r o k (expr_sorts r level.Term) → Whole (expr.Binary calc.Minus l r) o (j + (1 + k))
+minus_reads : (l r : Expr) (o j k : ℕ) → Whole l o j → ReadsTerm r o k (expr_sorts r level.Term) → Whole (expr.Binary calc.Minus (l, r)) o (j + (1 + k))
 minus_reads l r o j k left right =
     sum_inside calc.Minus l r o (j + (1 + k)) (λ ss. expr_sorts l level.Whole (sort.Minus ∷ expr_sorts r level.Term ss)) (sorts_binary calc.Minus l r level.Whole) (sorts_binary calc.Minus l r level.Term) (sorts_binary calc.Minus l r level.Factor)
     (made (followed left.whole (followed (mark sort.Minus) right)) (λ x. with_minus x.0 x.1.0 x.1.1) (λ x rest. with_minus-words x.0 x.1.0 x.1.1 rest)
@@ -203,7 +203,7 @@ mutual
   factors_read : (fs : MoreFactors) (left : Expr) (o j : ℕ) → FactorsFit fs o → AsTerm left o j → AsTerm (factors_tree fs left) o (j + factors_signs fs)
   factors_read no_factor left o j h r = term_counted left o (omega arith) r
   factors_read (times p f fs) left o j h r =
-      let e = expr.Binary calc.Times left (factor_tree f) in
+      let e = expr.Binary calc.Times (left, factor_tree f) in
       term_counted (factors_tree fs e) o (omega arith) (factors_read fs e o (j + (1 + factor_signs f)) h.1 (product_reads left (factor_tree f) o j (factor_signs f) r (factor_reads f o h.0).factor))
 
   term_reads : (t : TermPhrase) (o : ℕ) → TermFits t o → AsTerm (term_tree t) o (term_signs t)
@@ -212,10 +212,10 @@ mutual
   terms_read : (ts : MoreTerms) (left : Expr) (o j : ℕ) → TermsFit ts o → Whole left o j → Whole (terms_tree ts left) o (j + terms_signs ts)
   terms_read no_term left o j h r = whole_counted left o (omega arith) r
   terms_read (plus p t ts) left o j h r =
-      let e = expr.Binary calc.Plus left (term_tree t) in
+      let e = expr.Binary calc.Plus (left, term_tree t) in
       whole_counted (terms_tree ts e) o (omega arith) (terms_read ts e o (j + (1 + term_signs t)) h.1 (plus_reads left (term_tree t) o j (term_signs t) r (term_reads t o h.0).term))
   terms_read (minus p t ts) left o j h r =
-      let e = expr.Binary calc.Minus left (term_tree t) in
+      let e = expr.Binary calc.Minus (left, term_tree t) in
       whole_counted (terms_tree ts e) o (omega arith) (terms_read ts e o (j + (1 + term_signs t)) h.1 (minus_reads left (term_tree t) o j (term_signs t) r (term_reads t o h.0).term))
 
   expr_reads : (e : ExprPhrase) (o : ℕ) → GroupFits e o → Whole (expr_tree e) o (expr_signs e)

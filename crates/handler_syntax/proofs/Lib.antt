@@ -13,3 +13,4 @@ pub mod SameText
 pub mod Sources
 pub mod Stmts
 pub mod Words
+pub mod TextsKept

@@ -19,9 +19,9 @@ factors_read : (fs : MoreFactors) (p : ℕ) (g : FactorPhrase) (rest : List Word
 factors_read no_factor p g rest = refl
 factors_read (times q f fs) p g rest = ap (λ l. word sort.Times q ∷ factor_words f l) (factors_read fs p g rest)
 
-factors_value : (fs : MoreFactors) (p : ℕ) (g : FactorPhrase) (left : Expr) → factors_tree (and_factor fs p g) left ≡ expr.Binary calc.Times (factors_tree fs left) (factor_tree g)
+factors_value : (fs : MoreFactors) (p : ℕ) (g : FactorPhrase) (left : Expr) → factors_tree (and_factor fs p g) left ≡ expr.Binary calc.Times (factors_tree fs left, factor_tree g)
 factors_value no_factor p g left = refl
-factors_value (times q f fs) p g left = factors_value fs p g (expr.Binary calc.Times left (factor_tree f))
+factors_value (times q f fs) p g left = factors_value fs p g (expr.Binary calc.Times (left, factor_tree f))
 
 factors_within : (fs : MoreFactors) (p : ℕ) (g : FactorPhrase) (o : ℕ) → FactorsFit fs o → FactorFits g o → FactorsFit (and_factor fs p g) o
 factors_within no_factor p g o h k = (k, tt)
@@ -37,7 +37,7 @@ with_factor (term f fs) p g = term f (and_factor fs p g)
 pub with_factor-words : (t : TermPhrase) (p : ℕ) (g : FactorPhrase) (rest : List Word) → term_words t (word sort.Times p ∷ factor_words g rest) ≡ term_words (with_factor t p g) rest
 with_factor-words (term f fs) p g rest = ap (factor_words f) (factors_read fs p g rest)
 
-pub with_factor-tree : (t : TermPhrase) (p : ℕ) (g : FactorPhrase) → term_tree (with_factor t p g) ≡ expr.Binary calc.Times (term_tree t) (factor_tree g)
+pub with_factor-tree : (t : TermPhrase) (p : ℕ) (g : FactorPhrase) → term_tree (with_factor t p g) ≡ expr.Binary calc.Times (term_tree t, factor_tree g)
 with_factor-tree (term f fs) p g = factors_value fs p g (factor_tree f)
 
 pub with_factor-fits : (t : TermPhrase) (p : ℕ) (g : FactorPhrase) (o : ℕ) → TermFits t o → FactorFits g o → TermFits (with_factor t p g) o
@@ -58,10 +58,10 @@ plus_read no_term p t rest = refl
 plus_read (plus q s ts) p t rest = ap (λ l. word sort.Plus q ∷ term_words s l) (plus_read ts p t rest)
 plus_read (minus q s ts) p t rest = ap (λ l. word sort.Minus q ∷ term_words s l) (plus_read ts p t rest)
 
-plus_value : (ts : MoreTerms) (p : ℕ) (t : TermPhrase) (left : Expr) → terms_tree (and_plus ts p t) left ≡ expr.Binary calc.Plus (terms_tree ts left) (term_tree t)
+plus_value : (ts : MoreTerms) (p : ℕ) (t : TermPhrase) (left : Expr) → terms_tree (and_plus ts p t) left ≡ expr.Binary calc.Plus (terms_tree ts left, term_tree t)
 plus_value no_term p t left = refl
-plus_value (plus q s ts) p t left = plus_value ts p t (expr.Binary calc.Plus left (term_tree s))
-plus_value (minus q s ts) p t left = plus_value ts p t (expr.Binary calc.Minus left (term_tree s))
+plus_value (plus q s ts) p t left = plus_value ts p t (expr.Binary calc.Plus (left, term_tree s))
+plus_value (minus q s ts) p t left = plus_value ts p t (expr.Binary calc.Minus (left, term_tree s))
 
 plus_within : (ts : MoreTerms) (p : ℕ) (t : TermPhrase) (o : ℕ) → TermsFit ts o → TermFits t o → TermsFit (and_plus ts p t) o
 plus_within no_term p t o h k = (k, tt)
@@ -79,7 +79,7 @@ with_plus (sum s ts) p t = sum s (and_plus ts p t)
 pub with_plus-words : (e : ExprPhrase) (p : ℕ) (t : TermPhrase) (rest : List Word) → expr_words e (word sort.Plus p ∷ term_words t rest) ≡ expr_words (with_plus e p t) rest
 with_plus-words (sum s ts) p t rest = ap (term_words s) (plus_read ts p t rest)
 
-pub with_plus-tree : (e : ExprPhrase) (p : ℕ) (t : TermPhrase) → expr_tree (with_plus e p t) ≡ expr.Binary calc.Plus (expr_tree e) (term_tree t)
+pub with_plus-tree : (e : ExprPhrase) (p : ℕ) (t : TermPhrase) → expr_tree (with_plus e p t) ≡ expr.Binary calc.Plus (expr_tree e, term_tree t)
 with_plus-tree (sum s ts) p t = plus_value ts p t (term_tree s)
 
 pub with_plus-fits : (e : ExprPhrase) (p : ℕ) (t : TermPhrase) (o : ℕ) → GroupFits e o → TermFits t o → GroupFits (with_plus e p t) o
@@ -98,10 +98,10 @@ minus_read no_term p t rest = refl
 minus_read (plus q s ts) p t rest = ap (λ l. word sort.Plus q ∷ term_words s l) (minus_read ts p t rest)
 minus_read (minus q s ts) p t rest = ap (λ l. word sort.Minus q ∷ term_words s l) (minus_read ts p t rest)
 
-minus_value : (ts : MoreTerms) (p : ℕ) (t : TermPhrase) (left : Expr) → terms_tree (and_minus ts p t) left ≡ expr.Binary calc.Minus (terms_tree ts left) (term_tree t)
+minus_value : (ts : MoreTerms) (p : ℕ) (t : TermPhrase) (left : Expr) → terms_tree (and_minus ts p t) left ≡ expr.Binary calc.Minus (terms_tree ts left, term_tree t)
 minus_value no_term p t left = refl
-minus_value (plus q s ts) p t left = minus_value ts p t (expr.Binary calc.Plus left (term_tree s))
-minus_value (minus q s ts) p t left = minus_value ts p t (expr.Binary calc.Minus left (term_tree s))
+minus_value (plus q s ts) p t left = minus_value ts p t (expr.Binary calc.Plus (left, term_tree s))
+minus_value (minus q s ts) p t left = minus_value ts p t (expr.Binary calc.Minus (left, term_tree s))
 
 minus_within : (ts : MoreTerms) (p : ℕ) (t : TermPhrase) (o : ℕ) → TermsFit ts o → TermFits t o → TermsFit (and_minus ts p t) o
 minus_within no_term p t o h k = (k, tt)
@@ -119,7 +119,7 @@ with_minus (sum s ts) p t = sum s (and_minus ts p t)
 pub with_minus-words : (e : ExprPhrase) (p : ℕ) (t : TermPhrase) (rest : List Word) → expr_words e (word sort.Minus p ∷ term_words t rest) ≡ expr_words (with_minus e p t) rest
 with_minus-words (sum s ts) p t rest = ap (term_words s) (minus_read ts p t rest)
 
-pub with_minus-tree : (e : ExprPhrase) (p : ℕ) (t : TermPhrase) → expr_tree (with_minus e p t) ≡ expr.Binary calc.Minus (expr_tree e) (term_tree t)
+pub with_minus-tree : (e : ExprPhrase) (p : ℕ) (t : TermPhrase) → expr_tree (with_minus e p t) ≡ expr.Binary calc.Minus (expr_tree e, term_tree t)
 with_minus-tree (sum s ts) p t = minus_value ts p t (term_tree s)
 
 pub with_minus-fits : (e : ExprPhrase) (p : ℕ) (t : TermPhrase) (o : ℕ) → GroupFits e o → TermFits t o → GroupFits (with_minus e p t) o

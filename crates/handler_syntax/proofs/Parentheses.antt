@@ -18,7 +18,7 @@ operator_leaf : (a : Atom) → operator_of (alone a) ≡ None
 operator_leaf (atom.Lit v) = search (rules, the_lemmas)
 operator_leaf (atom.Name n p) = search (rules, the_lemmas)
 
-operator_binary : (c : Calc) (l r : Expr) → operator_of (expr.Binary c l r) ≡ Some c
+operator_binary : (c : Calc) (l r : Expr) → operator_of (expr.Binary c (l, r)) ≡ Some c
 operator_binary c l r = search (rules, the_lemmas)
 
 -- an expression with this operator stands in parentheses at a level
@@ -40,7 +40,7 @@ module _ (names : List (List ℕ)) where
   leaf_at a level.Term rest = text_leaf names a level.Term rest ∙ sym (text_leaf names a level.Whole rest)
   leaf_at a level.Factor rest = text_leaf names a level.Factor rest ∙ sym (text_leaf names a level.Whole rest)
 
-  binary_at : (c : Calc) (l r : Expr) → At (expr.Binary c l r) (Some c)
+  binary_at : (c : Calc) (l r : Expr) → At (expr.Binary c (l, r)) (Some c)
   binary_at c l r level.Whole rest = refl
   binary_at calc.Times l r level.Term rest = text_binary names calc.Times l r level.Term rest ∙ sym (text_binary names calc.Times l r level.Whole rest)
   binary_at calc.Plus l r level.Term rest = text_binary names calc.Plus l r level.Term rest ∙ ap (λ t. codes "(" ++ t) (sym (text_binary names calc.Plus l r level.Whole (codes ")" ++ rest)))
@@ -48,7 +48,7 @@ module _ (names : List (List ℕ)) where
   binary_at c l r level.Factor rest = text_binary names c l r level.Factor rest ∙ ap (λ t. codes "(" ++ t) (sym (text_binary names c l r level.Whole (codes ")" ++ rest)))
 
   at_levels : (e : Expr) → AtLevels e
-  at_levels = expr_induction AtLevels (λ a. subst (At (alone a)) (sym (operator_leaf a)) (leaf_at a)) (λ c l r f g. subst (At (expr.Binary c l r)) (sym (operator_binary c l r)) (binary_at c l r))
+  at_levels = expr_induction AtLevels (λ a. subst (At (alone a)) (sym (operator_leaf a)) (leaf_at a)) (λ c l r f g. subst (At (expr.Binary c (l, r))) (sym (operator_binary c l r)) (binary_at c l r))
 
   left_at : (c : Calc) (l : Expr) (rest : List ℕ) → expr_text names l (left_level c) rest ≡ grouped_if (is_left_grouped c (operator_of l)) (whole_text names l) rest
   left_at calc.Plus l rest = refl
@@ -60,7 +60,7 @@ module _ (names : List (List ℕ)) where
   right_at calc.Minus r rest = at_levels r level.Term rest
   right_at calc.Times r rest = at_levels r level.Factor rest
 
-  pub parentheses : (c : Calc) (l r : Expr) (rest : List ℕ) → whole_text names (expr.Binary c l r) rest ≡ operands_text names c l r rest
+  pub parentheses : (c : Calc) (l r : Expr) (rest : List ℕ) → whole_text names (expr.Binary c (l, r)) rest ≡ operands_text names c l r rest
   parentheses c l r rest =
       text_binary names c l r level.Whole rest
       ∙ left_at c l (operator_text c ++ expr_text names r (right_level c) rest)

@@ -127,7 +127,7 @@ marks_leaf : (a : Atom) → expr_marks (alone a) ≡ atom_marks a
 marks_leaf (atom.Lit v) = search (rules, expr_lemmas)
 marks_leaf (atom.Name n p) = search (rules, expr_lemmas)
 
-marks_binary : (c : Calc) (l r : Expr) → expr_marks (expr.Binary c l r) ≡ expr_marks l ++ expr_marks r
+marks_binary : (c : Calc) (l r : Expr) → expr_marks (expr.Binary c (l, r)) ≡ expr_marks l ++ expr_marks r
 marks_binary c l r = search (rules, expr_lemmas)
 
 atom_stands : (a : AtomPhrase) → Stand (atom_marks (atom_tree a)) (atom_words a)
@@ -138,7 +138,7 @@ atom_stands (number_atom (digits v p)) ns rest s = passed p s
 atom_stands (negative_atom q (digits v p)) ns rest s = passed q (passed p s)
 
 -- an operator behind its left operand
-sign_stands : (c : Calc) (x : Sort) (p : ℕ) (l r : Expr) (f g : Front) → Stand (expr_marks l) f → Stand (expr_marks r) g → Stand (expr_marks (expr.Binary c l r)) (λ rest. f (word x p ∷ g rest))
+sign_stands : (c : Calc) (x : Sort) (p : ℕ) (l r : Expr) (f g : Front) → Stand (expr_marks l) f → Stand (expr_marks r) g → Stand (expr_marks (expr.Binary c (l, r))) (λ rest. f (word x p ∷ g rest))
 sign_stands c x p l r f g h k = stand_as _ _ (λ rest. f (word x p ∷ g rest)) (marks_binary c l r) (stand_both (expr_marks l) (expr_marks r) f (λ rest. word x p ∷ g rest) h (λ ns rest s. passed p (k ns rest s)))
 
 mutual
@@ -149,7 +149,7 @@ mutual
   factors_stand : (fs : MoreFactors) (left : Expr) (front : Front) → Stand (expr_marks left) front → Stand (expr_marks (factors_tree fs left)) (λ rest. front (factors_words fs rest))
   factors_stand no_factor left front h = h
   factors_stand (times p f fs) left front h =
-      factors_stand fs (expr.Binary calc.Times left (factor_tree f)) (λ rest. front (word sort.Times p ∷ factor_words f rest)) (sign_stands calc.Times sort.Times p left (factor_tree f) front (factor_words f) h (factor_stands f))
+      factors_stand fs (expr.Binary calc.Times (left, factor_tree f)) (λ rest. front (word sort.Times p ∷ factor_words f rest)) (sign_stands calc.Times sort.Times p left (factor_tree f) front (factor_words f) h (factor_stands f))
 
   term_stands : (t : TermPhrase) → Stand (expr_marks (term_tree t)) (term_words t)
   term_stands (term f fs) = factors_stand fs (factor_tree f) (factor_words f) (factor_stands f)
@@ -157,9 +157,9 @@ mutual
   terms_stand : (ts : MoreTerms) (left : Expr) (front : Front) → Stand (expr_marks left) front → Stand (expr_marks (terms_tree ts left)) (λ rest. front (terms_words ts rest))
   terms_stand no_term left front h = h
   terms_stand (plus p t ts) left front h =
-      terms_stand ts (expr.Binary calc.Plus left (term_tree t)) (λ rest. front (word sort.Plus p ∷ term_words t rest)) (sign_stands calc.Plus sort.Plus p left (term_tree t) front (term_words t) h (term_stands t))
+      terms_stand ts (expr.Binary calc.Plus (left, term_tree t)) (λ rest. front (word sort.Plus p ∷ term_words t rest)) (sign_stands calc.Plus sort.Plus p left (term_tree t) front (term_words t) h (term_stands t))
   terms_stand (minus p t ts) left front h =
-      terms_stand ts (expr.Binary calc.Minus left (term_tree t)) (λ rest. front (word sort.Minus p ∷ term_words t rest)) (sign_stands calc.Minus sort.Minus p left (term_tree t) front (term_words t) h (term_stands t))
+      terms_stand ts (expr.Binary calc.Minus (left, term_tree t)) (λ rest. front (word sort.Minus p ∷ term_words t rest)) (sign_stands calc.Minus sort.Minus p left (term_tree t) front (term_words t) h (term_stands t))
 
   expr_stands : (e : ExprPhrase) → Stand (expr_marks (expr_tree e)) (expr_words e)
   expr_stands (sum t ts) = terms_stand ts (term_tree t) (term_words t) (term_stands t)

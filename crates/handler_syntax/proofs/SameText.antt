@@ -60,7 +60,7 @@ module _ (names : List (List ℕ)) where
   leaf_alike : (a : Atom) → ExprAlike (alone a)
   leaf_alike a l rest = trees.text_leaf names a l rest ∙ atom_alike a rest ∙ sym (trees.text_leaf names (atom_bare a) l rest) ∙ ap (λ e. Canonical.expr_text names e l rest) (sym (bare_leaf a))
 
-  binary_alike : (c : Calc) (left right : Expr) → ExprAlike left → ExprAlike right → ExprAlike (expr.Binary c left right)
+  binary_alike : (c : Calc) (left right : Expr) → ExprAlike left → ExprAlike right → ExprAlike (expr.Binary c (left, right))
   binary_alike c left right f g l rest =
       let after = Canonical.closing l c ++ rest in
       let second = Canonical.expr_text names right (Canonical.right_level c) after in

@@ -10,7 +10,7 @@ use Rattle.handler_printing.specs.Writing.{Text}
 abbrev pub operator_step : Expr-F (Option Calc) → Option Calc
 operator_step (Expr-F.Lit v) = None
 operator_step (Expr-F.Name n p) = None
-operator_step (Expr-F.Binary c l r) = Some c
+operator_step (Expr-F.Binary c sides) = Some c
 
 -- the operator of an expression, if it has one
 abbrev pub operator_of : Expr → Option Calc

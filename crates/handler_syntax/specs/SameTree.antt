@@ -27,7 +27,7 @@ atom_bare (atom.Name n p) = atom.Name n 0
 abbrev pub expr_step : Expr-F Expr → Expr
 expr_step (Expr-F.Lit v) = expr.Lit v
 expr_step (Expr-F.Name n p) = expr.Name n 0
-expr_step (Expr-F.Binary c left right) = expr.Binary c left right
+expr_step (Expr-F.Binary c sides) = expr.Binary c sides
 
 abbrev pub expr_bare : Expr → Expr
 expr_bare = fold-Expr Expr expr_step

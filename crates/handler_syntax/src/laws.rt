@@ -110,7 +110,7 @@ pub fn found_is_the_kind_of_the_token()
 /// and nowhere else.
 pub fn parentheses_stand_where_they_are_needed()
     ensures { (names : List (List ℕ)) (c : Calc) (l r : Expr) (rest : List ℕ)
-        → whole_text names (expr.Binary c l r) rest ≡ operands_text names c l r rest }
+        → whole_text names (expr.Binary c (l, r)) rest ≡ operands_text names c l r rest }
 {}
 
 /// Equal trees, places aside, have equal text.

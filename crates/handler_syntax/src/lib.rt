@@ -10,7 +10,7 @@ mod reading;
 pub use again::reprint;
 pub use file::File;
 pub use handler_grammar::SyntaxRefusal;
-pub use handler_printing::{Declarations, print_with_declarations};
+pub use handler_printing::{Declarations, print as print_tree, print_with_declarations};
 pub use handler_tokens::{Token, TokenKind, Tokens};
 pub use handler_trees::{
     Atom, Atoms, Block, Calc, Call, Compare, Cond, Expr, Exprs, File as Tree, Handler, Handlers,

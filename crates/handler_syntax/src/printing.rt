@@ -15,7 +15,7 @@ pub fn print(alloc: Global, file: &File, names: &Names) -> Result<String, NoMemo
 {
     // That the texts of the list are different is what `len` says of it.
     let _count = names.len();
-    match handler_printing::print(alloc, &file.tree, names) {
+    match handler_printing::print(alloc, 0, &file.tree, names) {
         Ok(text) => Ok(text),
         Err(e) => Err(e),
     }

@@ -18,7 +18,7 @@ pub mentions_leaf : (a : Atom) → expr_mentions (alone a) ≡ atom_mentions a
 mentions_leaf (atom.Lit v) = search (rules, the_lemmas)
 mentions_leaf (atom.Name n p) = search (rules, the_lemmas)
 
-pub mentions_binary : (c : Calc) (l r : Expr) → expr_mentions (expr.Binary c l r) ≡ expr_mentions l ++ expr_mentions r
+pub mentions_binary : (c : Calc) (l r : Expr) → expr_mentions (expr.Binary c (l, r)) ≡ expr_mentions l ++ expr_mentions r
 mentions_binary c l r = search (rules, the_lemmas)
 
 joined_map : (ss : List Stmt) → joined (map stmt_mentions ss) ≡ flat_map stmt_mentions ss

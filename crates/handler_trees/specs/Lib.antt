@@ -1,2 +1,3 @@
 pub mod Alone
+pub mod Literals
 pub mod Mentions

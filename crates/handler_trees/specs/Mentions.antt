@@ -37,7 +37,7 @@ atom_mentions (atom.Name n p) = a_name n ∷ []
 abbrev pub expr_step : Expr-F (List Mention) → List Mention
 expr_step (Expr-F.Lit v) = value_mentions v
 expr_step (Expr-F.Name n p) = a_name n ∷ []
-expr_step (Expr-F.Binary c left right) = left ++ right
+expr_step (Expr-F.Binary c sides) = sides.0 ++ sides.1
 
 abbrev pub expr_mentions : Expr → List Mention
 expr_mentions = fold-Expr (List Mention) expr_step

@@ -3,16 +3,17 @@
 ghost use Rattle.std.specs.Prelude.{◌≡◌};
 ghost use Rattle.handler_trees.specs.Alone as spec;
 
-use session_values::{Boxed, Listed, Value};
+use crate::literal::Literal;
+use session_values::{Boxed, Listed};
 
 pub type Exprs = Listed<Expr>;
 
 pub type Atoms = Listed<Atom>;
 
 /// What may stand as an argument: a literal, or a variable by its name's place.
-#[derive(Clone, Copy, Debug, PartialEq, Eq)]
+#[derive(Debug, Drop)]
 pub enum Atom {
-    Lit(Value),
+    Lit(Literal),
     Name { name: u32, at: u32 },
 }
 
@@ -24,18 +25,18 @@ pub enum Calc {
 }
 
 /// An expression, of which parentheses leave no trace. What stands alone in it has the forms of an
-/// argument: as variants of its own they take a quarter less memory than one that holds an `Atom`.
+/// argument. Its variants, and one box for both sides, are chosen so that it takes sixteen bytes.
 #[derive(Debug, Drop)]
 pub enum Expr {
-    Lit(Value),
+    Lit(Literal),
     Name {
         name: u32,
         at: u32,
     },
     Binary {
         calc: Calc,
-        left: Boxed<Expr>,
-        right: Boxed<Expr>,
+        /// The left side and the right side.
+        sides: Boxed<(Expr, Expr)>,
     },
 }
 
@@ -45,7 +46,7 @@ impl Atom {
         ensures { result ≡ spec.alone self }
     {
         match self {
-            Atom::Lit(value) => Expr::Lit(value),
+            Atom::Lit(literal) => Expr::Lit(literal),
             Atom::Name { name, at } => Expr::Name { name, at },
         }
     }

@@ -3,8 +3,10 @@
 
 mod expr;
 mod file;
+mod literal;
 mod stmt;
 
 pub use expr::{Atom, Atoms, Calc, Expr, Exprs};
 pub use file::{File, Handler, Handlers, Param, Params, TableDecl, TableDecls};
+pub use literal::Literal;
 pub use stmt::{Block, Call, Compare, Cond, Right, Stmt};

@@ -21,15 +21,15 @@ pub(crate) fn describe_source<I: Source, O: Sink>(
         (change O.held O.faults out.old out.new) result None }
 {
     match read_input(alloc, source) {
-        Ok(bytes) => describe_input(alloc, shown, bytes.as_slice(), out),
+        Ok(bytes) => describe_input(alloc, shown, bytes, out),
         Err(status) => status,
     }
 }
 
 // Writes the text of a file of handlers.
-fn describe_input<O: Sink>(alloc: Global, shown: bool, bytes: &[u8], out: &mut O) -> Status
-    requires { length bytes.now ≤ 4194304 }
-    ensures { AnswersTo (describing shown) bytes.now
+fn describe_input<O: Sink>(alloc: Global, shown: bool, bytes: Vec<u8>, out: &mut O) -> Status
+    requires { length bytes.items ≤ 4194304 }
+    ensures { AnswersTo (describing shown) bytes.items
         (change O.held O.faults out.old out.new) result None }
 {
     match described_text(alloc, shown, bytes) {

@@ -19,7 +19,7 @@ use Rattle.handler_trees.specs.declared.file.Handler.{Handler}
 use Rattle.handler_trees.specs.Alone.{alone}
 use Rattle.handler_trees.specs.Mentions.{Mention, a_symbol, atom_mentions, expr_mentions, call_mentions, right_mentions, cond_mentions, stmt_mentions, table_mentions, param_mentions, handler_mentions}
 use Rattle.handler_trees.proofs.Mentions.{mentions_leaf, mentions_binary, mentions_let, mentions_assign, mentions_perform, mentions_choose, mentions_repeat, mentions_answer, all_first}
-use Rattle.handler_tokens.specs.Texts.{HasText, HaveTexts, IsNamedFile}
+use Rattle.handler_syntax.specs.Language.{HasText, HaveTexts, IsNamedFile}
 use Rattle.handler_syntax.proofs.Facts.{symbol_named}
 use Rattle.handler_dialogue.specs.declared.tree.CheckedAtom.{CheckedAtom}
 use Rattle.handler_dialogue.specs.declared.tree.CheckedAtom.TheVariants.{Lit, Var}
@@ -34,7 +34,7 @@ term_leaf : (variables : List ℕ) (a : Atom) → term_of variables (alone a) �
 term_leaf variables (atom.Lit v) = search (rules, the_lemmas)
 term_leaf variables (atom.Name n p) = search (rules, the_lemmas)
 
-term_binary : (variables : List ℕ) (c : Calc) (l r : Expr) → term_of variables (expr.Binary c l r) ≡ Calculate c (term_of variables l) (term_of variables r)
+term_binary : (variables : List ℕ) (c : Calc) (l r : Expr) → term_of variables (expr.Binary c (l, r)) ≡ Calculate c (term_of variables l) (term_of variables r)
 term_binary variables c l r = search (rules, the_lemmas)
 
 -- ---- blocks whose literals can be printed

@@ -15,7 +15,7 @@ use Rattle.session_journal.proofs.Serial.{serve-calls, serve-answers}
 use Rattle.handler_trees.specs.declared.expr.Calc.{Calc}
 use Rattle.handler_trees.specs.declared.expr.Calc.TheVariants.{Plus, Minus, Times}
 use Rattle.handler_trees.specs.declared.file.File.{File}
-use Rattle.handler_tokens.specs.Texts.{IsNamedFile}
+use Rattle.handler_syntax.specs.Language.{IsNamedFile}
 use Rattle.handler_dialogue.specs.declared.tree.CheckedAtom.{CheckedAtom}
 use Rattle.handler_dialogue.specs.declared.tree.CheckedAtom.TheVariants.{Lit, Var}
 use Rattle.handler_dialogue.specs.Bounds.{calls_bound}

@@ -1,13 +1,13 @@
 // Refusals that name a broken rule.
 
 ghost use Rattle.std.specs.Prelude.{◌≡◌, ◌≢◌};
-ghost use Rattle.handler_grammar.specs.declared.refusal.SyntaxRefusal.TheVariants as syntax;
+ghost use Rattle.handler_syntax.specs.Language.syntax_refusal as syntax;
 ghost use Rattle.handler_rules.specs.declared.refusal.CheckRefusal.TheVariants as check;
 ghost use Rattle.may_use_analysis.specs.declared.refusal.AnalysisRefusal.TheVariants as analysis;
 ghost use Rattle.request_files.specs.declared.refusal.RequestRefusal.TheVariants as request;
 
-use handler_grammar::SyntaxRefusal;
 use handler_rules::CheckRefusal;
+use handler_syntax::SyntaxRefusal;
 use may_use_analysis::AnalysisRefusal;
 use request_files::RequestRefusal;
 use std::marker::Model;

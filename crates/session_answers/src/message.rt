@@ -5,8 +5,8 @@ ghost use Rattle.session_answers.specs.Message as spec;
 
 use crate::status::{Fault, Status};
 use command_words::usage_line;
-use handler_grammar::SyntaxRefusal;
 use handler_rules::CheckRefusal;
+use handler_syntax::SyntaxRefusal;
 use may_use_analysis::AnalysisRefusal;
 use request_files::RequestRefusal;
 use short_text::ShortText;

@@ -3,8 +3,8 @@
 ghost use Rattle.std.specs.Prelude.{◌≡◌};
 
 use crate::certain::Certain;
-use handler_grammar::SyntaxRefusal;
 use handler_rules::CheckRefusal;
+use handler_syntax::SyntaxRefusal;
 use may_use_analysis::AnalysisRefusal;
 use request_files::RequestRefusal;
 

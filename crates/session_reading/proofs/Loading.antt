@@ -3,7 +3,7 @@ use Rattle.std.proofs.Common.{◌≡◌, ℕ, Bool, true, false, if◌then◌els
 use Rattle.std.specs.Prelude.{IsUtf8}
 use Rattle.session_values.specs.Names.{Begins}
 use Rattle.handler_trees.specs.Mentions.{file_mentions}
-use Rattle.handler_grammar.proofs.Said.{texts_kept}
+use Rattle.handler_syntax.proofs.TextsKept.{texts_kept}
 use Rattle.handler_syntax.specs.Language.{names_of, File, IsNamedFile, canonical_text, shown_text}
 use Rattle.handler_check.specs.Checking.{IsAccepted}
 use Rattle.may_use_analysis.specs.Later.{AreLater, HasLater}

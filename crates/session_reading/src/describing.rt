@@ -12,28 +12,40 @@ use crate::naming::names_of_input;
 use crate::program::{accepted_file, bounded_file, checked_file, read_file, with_declarations};
 use crate::unserved::Unserved;
 use declaration_insertion::show;
-use handler_printing::print;
-use handler_syntax::File;
+use handler_syntax::{File, print_tree};
 use request_files::divide;
 use session_answers::Fault;
 use session_values::Names;
 use std::alloc::Global;
 
-/// The canonical text of a file of handlers; with `shown`, with its declarations.
-pub fn described_text(alloc: Global, shown: bool, bytes: &[u8]) -> Result<String, Unserved>
-    requires { length bytes.now ≤ 4194304 }
-    ensures input { IfOk result (λ _. IsInput (describing shown) bytes.now) }
+/// The canonical text of a file of handlers; with `shown`, with its declarations. The bytes are
+/// freed as soon as they are parsed.
+pub fn described_text(alloc: Global, shown: bool, bytes: Vec<u8>) -> Result<String, Unserved>
+    requires { length bytes.items ≤ 4194304 }
+    ensures input { IfOk result (λ _. IsInput (describing shown) bytes.items) }
     ensures text { IfOk result
-        (λ text. IsTextOf (describing shown) bytes.now (string_bytes text)) }
-    ensures refused { IfErr result (IsReason (describing shown) bytes.now) }
+        (λ text. IsTextOf (describing shown) bytes.items (string_bytes text)) }
+    ensures refused { IfErr result (IsReason (describing shown) bytes.items) }
 {
-    match parsed(alloc, bytes) {
-        Ok((file, names)) => match text_of_file(alloc, shown, file, &names) {
+    // Texts of usual files are at most twice as long as their sources.
+    let room = 2 * bytes.len();
+    match parsed_bytes(alloc, bytes) {
+        Ok((file, names)) => match text_of_file(alloc, shown, room, file, &names) {
             Ok(text) => Ok(text),
             Err(e) => Err(e),
         },
         Err(e) => Err(e),
     }
+}
+
+// The file that some bytes are, and the names of its text. The bytes are freed.
+fn parsed_bytes(alloc: Global, bytes: Vec<u8>) -> Result<(File, Names), Unserved>
+    requires { length bytes.items ≤ 4194304 }
+    ensures parsed { IfOk result (λ found. IsParsed bytes.items found.0 found.1) }
+    ensures refused { IfErr result (λ e. (shown : Bool)
+        → IsReason (describing shown) bytes.items e) }
+{
+    parsed(alloc, bytes.as_slice())
 }
 
 // The file that some bytes are, and the names of its text.
@@ -69,39 +81,45 @@ fn named_file(alloc: Global, text: &str) -> Result<(File, Names), Unserved>
 }
 
 // The text of a file.
-fn text_of_file(alloc: Global, shown: bool, file: File, names: &Names) -> Result<String, Unserved>
+fn text_of_file(
+    alloc: Global,
+    shown: bool,
+    room: usize,
+    file: File,
+    names: &Names,
+) -> Result<String, Unserved>
     requires { AreNamed names.now (file_mentions file) }
     ensures text { IfOk result (λ text. Describes shown names.now file (string_bytes text)) }
     ensures refused { IfErr result (IsFileReason file) }
 {
     if shown {
-        declared_text(alloc, file, names)
+        declared_text(alloc, room, file, names)
     } else {
-        canonical_text(alloc, file, names)
+        canonical_text(alloc, room, file, names)
     }
 }
 
 // The canonical text of a file. One handler is resolved at a time.
-fn canonical_text(alloc: Global, file: File, names: &Names) -> Result<String, Unserved>
+fn canonical_text(alloc: Global, room: usize, file: File, names: &Names) -> Result<String, Unserved>
     requires { AreNamed names.now (file_mentions file) }
     ensures text { IfOk result (λ text. Describes false names.now file (string_bytes text)) }
     ensures refused { IfErr result (IsFileReason file) }
 {
     let accepted = bounded_file(alloc, accepted_file(alloc, file)?)?;
-    match print(alloc, accepted.file(), names) {
+    match print_tree(alloc, room, accepted.file(), names) {
         Ok(text) => Ok(text),
         Err(_) => Err(Unserved::NoMemory),
     }
 }
 
 // The text of a file with its declarations.
-fn declared_text(alloc: Global, file: File, names: &Names) -> Result<String, Unserved>
+fn declared_text(alloc: Global, room: usize, file: File, names: &Names) -> Result<String, Unserved>
     requires { AreNamed names.now (file_mentions file) }
     ensures text { IfOk result (λ text. Describes true names.now file (string_bytes text)) }
     ensures refused { IfErr result (IsFileReason file) }
 {
     let program = with_declarations(alloc, checked_file(alloc, file)?)?;
-    match show(alloc, &program, names) {
+    match show(alloc, room, &program, names) {
         Ok(text) => Ok(text),
         Err(_) => Err(Unserved::NoMemory),
     }

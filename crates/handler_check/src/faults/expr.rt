@@ -10,13 +10,13 @@ use super::names::{count_arguments, find_table, see};
 use handler_rules::CheckRefusal;
 use handler_trees::{Atom, Call, Cond, Expr, Right, TableDecl};
 
-fn find_in_atom(visible: &[u32], atom: Atom) -> Result<(), CheckRefusal>
+fn find_in_atom(visible: &[u32], atom: &Atom) -> Result<(), CheckRefusal>
     ensures { (tables : List TableDecl) (earlier : List ℕ)
-        → Found (scan of_variables tables earlier visible.now (atom_marks atom)) result }
+        → Found (scan of_variables tables earlier visible.now (atom_marks atom.now)) result }
 {
     match atom {
         Atom::Lit(_) => Ok(()),
-        Atom::Name { name, at } => see(visible, name, at),
+        Atom::Name { name, at } => see(visible, *name, *at),
     }
 }
 
@@ -27,9 +27,10 @@ fn find_in_expr(visible: &[u32], e: &Expr) -> Result<(), CheckRefusal>
     match e {
         Expr::Lit(_) => Ok(()),
         Expr::Name { name, at } => see(visible, *name, *at),
-        Expr::Binary { left, right, .. } => {
-            find_in_expr(visible, left.get())?;
-            find_in_expr(visible, right.get())
+        Expr::Binary { sides, .. } => {
+            let (left, right) = sides.get();
+            find_in_expr(visible, left)?;
+            find_in_expr(visible, right)
         }
     }
 }
@@ -51,7 +52,7 @@ fn find_in_arguments(visible: &[u32], args: &[Atom]) -> Result<(), CheckRefusal>
         (flat_map atom_marks args.now)) result }
 {
     for atom in args {
-        find_in_atom(visible, *atom)?;
+        find_in_atom(visible, atom)?;
     }
     Ok(())
 }

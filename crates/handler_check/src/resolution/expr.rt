@@ -27,13 +27,13 @@ pub(super) fn number_in(names: &[u32], name: u32) -> u32
     number
 }
 
-fn resolve_atom(variables: &[u32], atom: Atom) -> CheckedAtom
+fn resolve_atom(variables: &[u32], atom: &Atom) -> CheckedAtom
     requires { length variables.now < 2 ^ 32 }
-    ensures { result ≡ spec.atom_of variables.now atom }
+    ensures { result ≡ spec.atom_of variables.now atom.now }
 {
     match atom {
-        Atom::Lit(value) => CheckedAtom::Lit(value),
-        Atom::Name { name, .. } => CheckedAtom::Var(number_in(variables, name)),
+        Atom::Lit(literal) => CheckedAtom::Lit(literal.value()),
+        Atom::Name { name, .. } => CheckedAtom::Var(number_in(variables, *name)),
     }
 }
 
@@ -46,13 +46,14 @@ pub(super) fn resolve_expr(
     ensures { IfOk result (λ found. expr_term found ≡ spec.term_of variables.now e.now) }
 {
     match e {
-        Expr::Lit(value) => Ok(CheckedExpr::Leaf(CheckedAtom::Lit(*value))),
+        Expr::Lit(literal) => Ok(CheckedExpr::Leaf(CheckedAtom::Lit(literal.value()))),
         Expr::Name { name, .. } => {
             Ok(CheckedExpr::Leaf(CheckedAtom::Var(number_in(variables, *name))))
         }
-        Expr::Binary { calc, left, right } => {
-            let left = resolve_expr(alloc, variables, left.get())?;
-            let right = resolve_expr(alloc, variables, right.get())?;
+        Expr::Binary { calc, sides } => {
+            let (left, right) = sides.get();
+            let left = resolve_expr(alloc, variables, left)?;
+            let right = resolve_expr(alloc, variables, right)?;
             let left = Boxed::new(alloc, left)?;
             let right = Boxed::new(alloc, right)?;
             Ok(CheckedExpr::Binary {
@@ -116,7 +117,7 @@ fn resolve_key(variables: &[u32], args: &[Atom]) -> CheckedAtom
     if args.len() < 1 {
         NIL
     } else {
-        resolve_atom(variables, args[0])
+        resolve_atom(variables, &args[0])
     }
 }
 
@@ -127,7 +128,7 @@ fn resolve_value(variables: &[u32], args: &[Atom]) -> CheckedAtom
     if args.len() < 2 {
         NIL
     } else {
-        resolve_atom(variables, args[1])
+        resolve_atom(variables, &args[1])
     }
 }
 

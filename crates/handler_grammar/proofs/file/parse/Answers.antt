@@ -1,4 +1,4 @@
-use Rattle.std.proofs.Common.{length, subst}
+use Rattle.std.proofs.Common.{subst}
 use Rattle.handler_grammar.specs.Parsed.{Parsed}
 use Rattle.handler_grammar.proofs.Whole.{parsed}
 use Rattle.handler_grammar.proofs.file.parse.Goals as goal

@@ -6,6 +6,7 @@ use Rattle.handler_grammar.specs.Next.{after_minus}
 use Rattle.handler_grammar.specs.Phrase.{digits}
 use Rattle.handler_grammar.specs.Tree.{minus_ℕ}
 use Rattle.handler_grammar.proofs.Steps.{took, passed_one}
+use Rattle.handler_grammar.proofs.Exits.{no_memory}
 use Rattle.handler_grammar.proofs.parse_atom.negative.Goals as goal
 
 minus_is : (v : ℕ) → v ≤ 9223372036854775807 → to_z w64 (of_z w64 (pos 0 -ℤ to_z w64 v)) ≡ minus_ℕ v
@@ -26,3 +27,28 @@ returns-else-value-gt-MAX_NUMBER-clause-reads c =
       record { phrase = digits c.in-Number.value c.in_ok-word.word.at; read = read; value = minus_is _ (omega (arith, c.if-value-gt-MAX_NUMBER.false)) },
       passed_one _ _ _ after_minus [] _ read c.take.ensures.end c.take.ensures.signs refl (λ under h. ap (where_over number_size) (lt-leb _ _ (omega (arith, c.if-value-gt-MAX_NEGATIVE.false)))),
     )
+
+pub returns-in_err-word : goal.returns-in_err-word
+returns-in_err-word c = record {
+  reads = no_memory _ _ _ _ _ _ _ c.from_residual.result c.from_residual.ensures.1;
+  names = c.in_err-word.ensures.names;
+  count = c.in_err-word.ensures.count;
+}
+
+pub returns-then-value-gt-MAX_NEGATIVE-clause-names : goal.returns-then-value-gt-MAX_NEGATIVE-clause-names
+returns-then-value-gt-MAX_NEGATIVE-clause-names c = c.in_ok-word.ensures.names
+
+pub returns-then-value-gt-MAX_NEGATIVE-clause-count : goal.returns-then-value-gt-MAX_NEGATIVE-clause-count
+returns-then-value-gt-MAX_NEGATIVE-clause-count c = c.in_ok-word.ensures.count
+
+pub returns-then-value-gt-MAX_NUMBER-clause-names : goal.returns-then-value-gt-MAX_NUMBER-clause-names
+returns-then-value-gt-MAX_NUMBER-clause-names c = c.in_ok-word.ensures.names
+
+pub returns-then-value-gt-MAX_NUMBER-clause-count : goal.returns-then-value-gt-MAX_NUMBER-clause-count
+returns-then-value-gt-MAX_NUMBER-clause-count c = c.in_ok-word.ensures.count
+
+pub returns-else-value-gt-MAX_NUMBER-clause-names : goal.returns-else-value-gt-MAX_NUMBER-clause-names
+returns-else-value-gt-MAX_NUMBER-clause-names c = c.in_ok-word.ensures.names
+
+pub returns-else-value-gt-MAX_NUMBER-clause-count : goal.returns-else-value-gt-MAX_NUMBER-clause-count
+returns-else-value-gt-MAX_NUMBER-clause-count c = c.in_ok-word.ensures.count

@@ -7,8 +7,11 @@ use Rattle.handler_grammar.specs.Next.{Inside, mark, expression, a_compare, a_co
 use Rattle.handler_grammar.specs.Phrase.{word, block, no_else, an_else, if_stmt, repeat_stmt, no_stmt, cond_words, turns_words, block_words, stmts_words}
 use Rattle.handler_grammar.specs.Tree.{repeat_tree, cond_tree, turns_of, block_trees, stmts_trees}
 use Rattle.handler_grammar.proofs.Rows.{else_none}
-use Rattle.handler_grammar.proofs.Steps.{took, took_seen, passed_one, passed_then, passed_framed, passed_same, passed_still, passed_over}
+use Rattle.handler_grammar.proofs.Steps.{took, took_seen, passed_one, passed_then, passed_framed, passed_same, passed_still, passed_over, passed_word, refused_after, refused_framed}
 use Rattle.handler_grammar.proofs.ListLoops.{and_stmt, and_stmt-words, and_stmt-trees}
+use Rattle.handler_grammar.proofs.Exits.{passed_on, no_memory, none_read, grown, fewer}
+use Rattle.handler_grammar.proofs.Steps.{in_front, refused_limit}
+use Rattle.std.proofs.lemmas.Bool.{le-leb}
 use Rattle.handler_grammar.proofs.parse_block.+block.Goals as goal
 
 pub block-returns-in_ok-mark-in-LeftBrace-clause-reads : goal.block-returns-in_ok-mark-in-LeftBrace-clause-reads
@@ -121,3 +124,206 @@ statements-returns-in-None t c =
       names = seen.names ∙ so_far.names;
       count = omega (arith, seen.count, so_far.grown);
     }
+
+pub block-returns-in_err-word : goal.block-returns-in_err-word
+block-returns-in_err-word t c = record {
+  reads = no_memory _ _ _ _ _ _ _ c.from_residual.result c.from_residual.ensures.1;
+  names = c.in_err-word.ensures.names;
+  count = c.in_err-word.ensures.count;
+}
+
+pub block-returns-then-depth-ge-MAX_DEPTH-clause-names : goal.block-returns-then-depth-ge-MAX_DEPTH-clause-names
+block-returns-then-depth-ge-MAX_DEPTH-clause-names t c = c.in_ok-word.ensures.names
+
+pub block-returns-then-depth-ge-MAX_DEPTH-clause-count : goal.block-returns-then-depth-ge-MAX_DEPTH-clause-count
+block-returns-then-depth-ge-MAX_DEPTH-clause-count t c = c.in_ok-word.ensures.count
+
+pub block-returns-in_err-body-in-LeftBrace : goal.block-returns-in_err-body-in-LeftBrace
+block-returns-in_err-body-in-LeftBrace t c = record {
+  reads = passed_on _ _ _ _ c.from_residual-in_err-body-in-LeftBrace.result c.from_residual-in_err-body-in-LeftBrace.ensures.1 (λ some. refused_after (passed_word (Inside c.args.depth) c.args.input.now c.take.new.self a_block (statements ∷ mark sort.RightBrace ∷ []) _ sort.LeftBrace c.in_ok-word.ensures.word c.in-LeftBrace.is (λ e. cc) c.in_ok-word.ensures.words c.take.ensures.end c.take.ensures.signs refl (λ under h. ap (where_over block_depth) (lt-leb _ _ (omega (arith, h.depth_is, c.if-depth-ge-MAX_DEPTH.false))))) (refused_framed (mark sort.RightBrace ∷ []) (λ under h. record { none_open = h.none_open; depth_is = omega (arith, h.depth_is) }) (c.in_err-body-in-LeftBrace.ensures.reads some)));
+  names = c.in_err-body-in-LeftBrace.ensures.names ∙ c.in_ok-word.ensures.names;
+  count = grown c.in_ok-word.ensures.count c.in_err-body-in-LeftBrace.ensures.count;
+}
+
+pub block-returns-in_err-mark-in-LeftBrace : goal.block-returns-in_err-mark-in-LeftBrace
+block-returns-in_err-mark-in-LeftBrace t c = record {
+  reads = passed_on _ _ _ _ c.from_residual-in_err-mark-in-LeftBrace.result c.from_residual-in_err-mark-in-LeftBrace.ensures.1 (λ some. refused_after (passed_word (Inside c.args.depth) c.args.input.now c.take.new.self a_block (statements ∷ mark sort.RightBrace ∷ []) _ sort.LeftBrace c.in_ok-word.ensures.word c.in-LeftBrace.is (λ e. cc) c.in_ok-word.ensures.words c.take.ensures.end c.take.ensures.signs refl (λ under h. ap (where_over block_depth) (lt-leb _ _ (omega (arith, h.depth_is, c.if-depth-ge-MAX_DEPTH.false))))) (refused_after (passed_framed (mark sort.RightBrace ∷ []) (λ under h. record { none_open = h.none_open; depth_is = omega (arith, h.depth_is) }) c.in_ok-body-in-LeftBrace.ensures.reads.1) (refused_framed [] (λ under h. tt) (c.in_err-mark-in-LeftBrace.ensures.reads some))));
+  names = c.in_err-mark-in-LeftBrace.ensures.names ∙ c.in_ok-body-in-LeftBrace.ensures.names ∙ c.in_ok-word.ensures.names;
+  count = grown c.in_ok-word.ensures.count (grown c.in_ok-body-in-LeftBrace.ensures.count c.in_err-mark-in-LeftBrace.ensures.count);
+}
+
+pub block-returns-in_ok-mark-in-LeftBrace-clause-names : goal.block-returns-in_ok-mark-in-LeftBrace-clause-names
+block-returns-in_ok-mark-in-LeftBrace-clause-names t c = c.in_ok-mark-in-LeftBrace.ensures.names ∙ c.in_ok-body-in-LeftBrace.ensures.names ∙ c.in_ok-word.ensures.names
+
+pub block-returns-in_ok-mark-in-LeftBrace-clause-count : goal.block-returns-in_ok-mark-in-LeftBrace-clause-count
+block-returns-in_ok-mark-in-LeftBrace-clause-count t c = grown c.in_ok-word.ensures.count (grown c.in_ok-body-in-LeftBrace.ensures.count c.in_ok-mark-in-LeftBrace.ensures.count)
+
+pub choice-returns-in_err-word : goal.choice-returns-in_err-word
+choice-returns-in_err-word t c = record {
+  reads = no_memory _ _ _ _ _ _ _ c.from_residual.result c.from_residual.ensures.1;
+  names = c.in_err-word.ensures.names;
+  count = c.in_err-word.ensures.count;
+  shorter = none_read _ _ c.from_residual.result c.from_residual.ensures.1;
+}
+
+pub choice-returns-in_err-condition : goal.choice-returns-in_err-condition
+choice-returns-in_err-condition t c = record {
+  reads = passed_on _ _ _ _ c.from_residual-in_err-condition.result c.from_residual-in_err-condition.ensures.1 (λ some. refused_after (passed_word (Inside c.args.depth) c.args.input.now c.take.new.self statements (expression ∷ a_compare ∷ expression ∷ a_block ∷ or_else ∷ statements ∷ []) _ sort.If c.in_ok-word.ensures.word (ap (λ x. x.sort) c.in_ok-word.ensures.word ∙ c.requires.first) (λ e. cc) c.in_ok-word.ensures.words c.take.ensures.end c.take.ensures.signs refl (λ under h. refl)) (refused_framed (a_block ∷ or_else ∷ statements ∷ []) (λ under h. h.none_open) (c.in_err-condition.ensures.reads some)));
+  names = c.in_err-condition.ensures.names ∙ c.in_ok-word.ensures.names;
+  count = grown c.in_ok-word.ensures.count c.in_err-condition.ensures.count;
+  shorter = none_read _ _ c.from_residual-in_err-condition.result c.from_residual-in_err-condition.ensures.1;
+}
+
+pub choice-returns-in_err-cond : goal.choice-returns-in_err-cond
+choice-returns-in_err-cond t c = record {
+  reads = no_memory _ _ _ _ _ _ _ c.from_residual-in_err-cond.result c.from_residual-in_err-cond.ensures.1;
+  names = c.in_ok-condition.ensures.names ∙ c.in_ok-word.ensures.names;
+  count = grown c.in_ok-word.ensures.count c.in_ok-condition.ensures.count;
+  shorter = none_read _ _ c.from_residual-in_err-cond.result c.from_residual-in_err-cond.ensures.1;
+}
+
+pub choice-returns-in_err-yes : goal.choice-returns-in_err-yes
+choice-returns-in_err-yes t c = record {
+  reads = passed_on _ _ _ _ c.from_residual-in_err-yes.result c.from_residual-in_err-yes.ensures.1 (λ some. refused_after (passed_word (Inside c.args.depth) c.args.input.now c.take.new.self statements (expression ∷ a_compare ∷ expression ∷ a_block ∷ or_else ∷ statements ∷ []) _ sort.If c.in_ok-word.ensures.word (ap (λ x. x.sort) c.in_ok-word.ensures.word ∙ c.requires.first) (λ e. cc) c.in_ok-word.ensures.words c.take.ensures.end c.take.ensures.signs refl (λ under h. refl)) (refused_after (passed_framed (a_block ∷ or_else ∷ statements ∷ []) (λ under h. h.none_open) c.in_ok-condition.ensures.reads.1) (refused_framed (or_else ∷ statements ∷ []) (λ under h. record { none_open = h.none_open; depth_is = h.depth_is }) (c.in_err-yes.ensures.reads some))));
+  names = c.in_err-yes.ensures.names ∙ c.in_ok-condition.ensures.names ∙ c.in_ok-word.ensures.names;
+  count = grown c.in_ok-word.ensures.count (grown c.in_ok-condition.ensures.count c.in_err-yes.ensures.count);
+  shorter = none_read _ _ c.from_residual-in_err-yes.result c.from_residual-in_err-yes.ensures.1;
+}
+
+pub choice-returns-in_err-no : goal.choice-returns-in_err-no
+choice-returns-in_err-no t c = record {
+  reads = passed_on _ _ _ _ c.from_residual-in_err-no.result c.from_residual-in_err-no.ensures.1 (λ some. refused_after (passed_word (Inside c.args.depth) c.args.input.now c.take.new.self statements (expression ∷ a_compare ∷ expression ∷ a_block ∷ or_else ∷ statements ∷ []) _ sort.If c.in_ok-word.ensures.word (ap (λ x. x.sort) c.in_ok-word.ensures.word ∙ c.requires.first) (λ e. cc) c.in_ok-word.ensures.words c.take.ensures.end c.take.ensures.signs refl (λ under h. refl)) (refused_after (passed_framed (a_block ∷ or_else ∷ statements ∷ []) (λ under h. h.none_open) c.in_ok-condition.ensures.reads.1) (refused_after (passed_framed (or_else ∷ statements ∷ []) (λ under h. record { none_open = h.none_open; depth_is = h.depth_is }) c.in_ok-yes.ensures.reads.1) (refused_framed (statements ∷ []) (λ under h. record { none_open = h.none_open; depth_is = h.depth_is }) (c.in_err-no.ensures.reads some)))));
+  names = c.in_err-no.ensures.names ∙ c.in_ok-yes.ensures.names ∙ c.in_ok-condition.ensures.names ∙ c.in_ok-word.ensures.names;
+  count = grown c.in_ok-word.ensures.count (grown c.in_ok-condition.ensures.count (grown c.in_ok-yes.ensures.count c.in_err-no.ensures.count));
+  shorter = none_read _ _ c.from_residual-in_err-no.result c.from_residual-in_err-no.ensures.1;
+}
+
+pub choice-returns-clause-names : goal.choice-returns-clause-names
+choice-returns-clause-names t c = c.in_ok-no.ensures.names ∙ c.in_ok-yes.ensures.names ∙ c.in_ok-condition.ensures.names ∙ c.in_ok-word.ensures.names
+
+pub choice-returns-clause-count : goal.choice-returns-clause-count
+choice-returns-clause-count t c = grown c.in_ok-word.ensures.count (grown c.in_ok-condition.ensures.count (grown c.in_ok-yes.ensures.count c.in_ok-no.ensures.count))
+
+pub choice-returns-clause-shorter : goal.choice-returns-clause-shorter
+choice-returns-clause-shorter t c = fewer _ (took _ _ _ _ sort.If c.in_ok-word.ensures.word (ap (λ x. x.sort) c.in_ok-word.ensures.word ∙ c.requires.first) (λ e. cc) c.in_ok-word.ensures.words) (grown c.in_ok-no.ensures.reads.1.no_longer (grown c.in_ok-yes.ensures.reads.1.no_longer c.in_ok-condition.ensures.reads.1.no_longer))
+
+pub otherwise-returns-in_err-peek : goal.otherwise-returns-in_err-peek
+otherwise-returns-in_err-peek t c = record {
+  reads = no_memory _ _ _ _ _ _ _ c.from_residual.result c.from_residual.ensures.1;
+  names = c.in_err-peek.ensures.names;
+  count = c.in_err-peek.ensures.count;
+}
+
+pub otherwise-returns-in_err-take-in-Else : goal.otherwise-returns-in_err-take-in-Else
+otherwise-returns-in_err-take-in-Else t c = record {
+  reads = no_memory _ _ _ _ _ _ _ c.from_residual-in_err-take-in-Else.result c.from_residual-in_err-take-in-Else.ensures.1;
+  names = c.in_err-take-in-Else.ensures.names ∙ c.in_ok-peek.ensures.names;
+  count = grown c.in_ok-peek.ensures.count c.in_err-take-in-Else.ensures.count;
+}
+
+pub otherwise-returns-in_err-body-in-Else : goal.otherwise-returns-in_err-body-in-Else
+otherwise-returns-in_err-body-in-Else t c = record {
+  reads = passed_on _ _ _ _ c.from_residual-in_err-body-in-Else.result c.from_residual-in_err-body-in-Else.ensures.1 (λ some. refused_after (passed_one (Inside c.args.depth) c.args.input.now c.take.new.self or_else (a_block ∷ []) _ (took_seen c.args.input.now c.peek.new.self c.take.new.self _ sort.Else c.in_ok-peek.ensures.word c.in_ok-peek.ensures.words c.in-Else.is (λ e. cc) c.in_ok-take-in-Else.ensures.words) (c.in_ok-take-in-Else.ensures.end ∙ c.in_ok-peek.ensures.end) (c.in_ok-take-in-Else.ensures.signs ∙ c.in_ok-peek.ensures.signs) refl (λ under h. refl)) (c.in_err-body-in-Else.ensures.reads some));
+  names = c.in_err-body-in-Else.ensures.names ∙ c.in_ok-take-in-Else.ensures.names ∙ c.in_ok-peek.ensures.names;
+  count = grown c.in_ok-peek.ensures.count (grown c.in_ok-take-in-Else.ensures.count c.in_err-body-in-Else.ensures.count);
+}
+
+pub otherwise-returns-in_ok-body-in-Else-clause-names : goal.otherwise-returns-in_ok-body-in-Else-clause-names
+otherwise-returns-in_ok-body-in-Else-clause-names t c = c.in_ok-body-in-Else.ensures.names ∙ c.in_ok-take-in-Else.ensures.names ∙ c.in_ok-peek.ensures.names
+
+pub otherwise-returns-in_ok-body-in-Else-clause-count : goal.otherwise-returns-in_ok-body-in-Else-clause-count
+otherwise-returns-in_ok-body-in-Else-clause-count t c = grown c.in_ok-peek.ensures.count (grown c.in_ok-take-in-Else.ensures.count c.in_ok-body-in-Else.ensures.count)
+
+pub otherwise-returns-in_default-clause-names : goal.otherwise-returns-in_default-clause-names
+otherwise-returns-in_default-clause-names t c = c.in_ok-peek.ensures.names
+
+pub otherwise-returns-in_default-clause-count : goal.otherwise-returns-in_default-clause-count
+otherwise-returns-in_default-clause-count t c = c.in_ok-peek.ensures.count
+
+pub repetition-returns-in_err-word : goal.repetition-returns-in_err-word
+repetition-returns-in_err-word t c = record {
+  reads = no_memory _ _ _ _ _ _ _ c.from_residual.result c.from_residual.ensures.1;
+  names = c.in_err-word.ensures.names;
+  count = c.in_err-word.ensures.count;
+  shorter = none_read _ _ c.from_residual.result c.from_residual.ensures.1;
+}
+
+pub repetition-returns-in_err-head : goal.repetition-returns-in_err-head
+repetition-returns-in_err-head t c = record {
+  reads = passed_on _ _ _ _ c.from_residual-in_err-head.result c.from_residual-in_err-head.ensures.1 (λ some. refused_after (passed_word (Inside c.args.depth) c.args.input.now c.take.new.self statements (a_count ∷ mark sort.As ∷ a_name ∷ a_block ∷ statements ∷ []) _ sort.Repeat c.in_ok-word.ensures.word (ap (λ x. x.sort) c.in_ok-word.ensures.word ∙ c.requires.first) (λ e. cc) c.in_ok-word.ensures.words c.take.ensures.end c.take.ensures.signs refl (λ under h. refl)) (refused_framed (a_block ∷ statements ∷ []) (λ under h. tt) (c.in_err-head.ensures.reads some)));
+  names = c.in_err-head.ensures.names ∙ c.in_ok-word.ensures.names;
+  count = grown c.in_ok-word.ensures.count c.in_err-head.ensures.count;
+  shorter = none_read _ _ c.from_residual-in_err-head.result c.from_residual-in_err-head.ensures.1;
+}
+
+pub repetition-returns-in_err-body : goal.repetition-returns-in_err-body
+repetition-returns-in_err-body t c = record {
+  reads = passed_on _ _ _ _ c.from_residual-in_err-body.result c.from_residual-in_err-body.ensures.1 (λ some. refused_after (passed_word (Inside c.args.depth) c.args.input.now c.take.new.self statements (a_count ∷ mark sort.As ∷ a_name ∷ a_block ∷ statements ∷ []) _ sort.Repeat c.in_ok-word.ensures.word (ap (λ x. x.sort) c.in_ok-word.ensures.word ∙ c.requires.first) (λ e. cc) c.in_ok-word.ensures.words c.take.ensures.end c.take.ensures.signs refl (λ under h. refl)) (refused_after (passed_framed (a_block ∷ statements ∷ []) (λ under h. tt) c.in_ok-head.ensures.reads.1) (refused_framed (statements ∷ []) (λ under h. record { none_open = h.none_open; depth_is = h.depth_is }) (c.in_err-body.ensures.reads some))));
+  names = c.in_err-body.ensures.names ∙ c.in_ok-head.ensures.names ∙ c.in_ok-word.ensures.names;
+  count = grown c.in_ok-word.ensures.count (grown c.in_ok-head.ensures.count c.in_err-body.ensures.count);
+  shorter = none_read _ _ c.from_residual-in_err-body.result c.from_residual-in_err-body.ensures.1;
+}
+
+pub repetition-returns-clause-names : goal.repetition-returns-clause-names
+repetition-returns-clause-names t c = c.in_ok-body.ensures.names ∙ c.in_ok-head.ensures.names ∙ c.in_ok-word.ensures.names
+
+pub repetition-returns-clause-count : goal.repetition-returns-clause-count
+repetition-returns-clause-count t c = grown c.in_ok-word.ensures.count (grown c.in_ok-head.ensures.count c.in_ok-body.ensures.count)
+
+pub repetition-returns-clause-shorter : goal.repetition-returns-clause-shorter
+repetition-returns-clause-shorter t c = fewer _ (took _ _ _ _ sort.Repeat c.in_ok-word.ensures.word (ap (λ x. x.sort) c.in_ok-word.ensures.word ∙ c.requires.first) (λ e. cc) c.in_ok-word.ensures.words) (grown c.in_ok-body.ensures.reads.1.no_longer c.in_ok-head.ensures.reads.1.no_longer)
+
+pub statement-returns-in-Let : goal.statement-returns-in-Let
+statement-returns-in-Let t c =
+    let found = c.let_statement.ensures in
+    record { reads = found.reads; names = found.names; count = found.count; shorter = found.shorter }
+
+pub statement-returns-in-Assign : goal.statement-returns-in-Assign
+statement-returns-in-Assign t c =
+    let found = c.assignment.ensures in
+    record { reads = found.reads; names = found.names; count = found.count; shorter = found.shorter }
+
+pub statement-returns-in-Call : goal.statement-returns-in-Call
+statement-returns-in-Call t c =
+    let found = c.call_statement.ensures in
+    record { reads = found.reads; names = found.names; count = found.count; shorter = found.shorter }
+
+pub statement-returns-in-If : goal.statement-returns-in-If
+statement-returns-in-If t c =
+    let found = c.choice.ensures in
+    record { reads = found.reads; names = found.names; count = found.count; shorter = found.shorter }
+
+pub statement-returns-in-Repeat : goal.statement-returns-in-Repeat
+statement-returns-in-Repeat t c =
+    let found = c.repetition.ensures in
+    record { reads = found.reads; names = found.names; count = found.count; shorter = found.shorter }
+
+pub statement-returns-in-Reply : goal.statement-returns-in-Reply
+statement-returns-in-Reply t c =
+    let found = c.reply_statement.ensures in
+    record { reads = found.reads; names = found.names; count = found.count; shorter = found.shorter }
+
+pub statements-returns-in_err-peek : goal.statements-returns-in_err-peek
+statements-returns-in_err-peek t c = record {
+  reads = no_memory _ _ _ _ _ _ _ c.from_residual.result c.from_residual.ensures.1;
+  names = c.in_err-peek.ensures.names ∙ c.statements.invariant.names;
+  count = grown c.statements.invariant.grown c.in_err-peek.ensures.count;
+}
+
+pub statements-returns-in_err-next-in-Some : goal.statements-returns-in_err-next-in-Some
+statements-returns-in_err-next-in-Some t c = record {
+  reads = passed_on _ _ _ _ c.from_residual-in_err-next-in-Some.result c.from_residual-in_err-next-in-Some.ensures.1 (λ some. refused_after c.statements.invariant.passed (refused_after (passed_still c.in_ok-peek.ensures.words c.in_ok-peek.ensures.end c.in_ok-peek.ensures.signs) (c.in_err-next-in-Some.ensures.reads some)));
+  names = c.in_err-next-in-Some.ensures.names ∙ c.in_ok-peek.ensures.names ∙ c.statements.invariant.names;
+  count = grown c.statements.invariant.grown (grown c.in_ok-peek.ensures.count c.in_err-next-in-Some.ensures.count);
+}
+
+pub statements-returns-in_err-push-in-Some : goal.statements-returns-in_err-push-in-Some
+statements-returns-in_err-push-in-Some t c = record {
+  reads = no_memory _ _ _ _ _ _ _ c.from_residual-in_err-push-in-Some.result c.from_residual-in_err-push-in-Some.ensures.1;
+  names = c.in_ok-next-in-Some.ensures.names ∙ c.in_ok-peek.ensures.names ∙ c.statements.invariant.names;
+  count = grown c.statements.invariant.grown (grown c.in_ok-peek.ensures.count c.in_ok-next-in-Some.ensures.count);
+}
+
+pub block-returns-then-depth-ge-MAX_DEPTH-clause-reads : goal.block-returns-then-depth-ge-MAX_DEPTH-clause-reads
+block-returns-then-depth-ge-MAX_DEPTH-clause-reads t c = λ some.
+    refused_limit (Inside c.args.depth) a_block [] (statements ∷ mark sort.RightBrace ∷ []) c.args.input.now _ _ block_depth (in_front _ _ _ sort.LeftBrace c.in_ok-word.ensures.word c.in-LeftBrace.is (λ e. cc)) refl (λ under h. ap (where_over block_depth) (le-leb _ _ (omega (arith, h.depth_is, c.if-depth-ge-MAX_DEPTH.true))))

@@ -7,6 +7,7 @@ use Rattle.handler_grammar.specs.Tree.{atoms_trees}
 use Rattle.handler_grammar.proofs.Loops.{and_atom, and_atom-words, and_atom-trees, and_atom-count, argument_step}
 use Rattle.handler_grammar.proofs.Steps.{passed_same, passed_then, passed_framed, passed_empty, passed_over, refused_after, refused_framed}
 use Rattle.handler_grammar.proofs.Rows.{arguments_none, arguments_full}
+use Rattle.handler_grammar.proofs.Exits.{no_memory, grown}
 use Rattle.handler_grammar.proofs.parse_call.arguments.Goals as goal
 
 pub loop-turn-init : goal.loop-turn-init
@@ -14,8 +15,8 @@ loop-turn-init c = record {
   so_far = no_atom;
   read = refl;
   few = refl;
-  value = c.new-items.ensures.items;
-  long = ap length c.new-items.ensures.items;
+  value = c.in_ok-items.ensures.items;
+  long = ap length c.in_ok-items.ensures.items;
   passed = passed_same;
   names = refl;
   grown = omega arith;
@@ -75,3 +76,36 @@ returns-clause-reads c =
       },
       passed_then so_far.passed (passed_empty _ (more_arguments (2 - c.loop-turn.turn)) [] _ _ refl refl (arguments_full _ _ (omega (arith, c.loop-turn-test.false)))),
     )
+
+pub returns-in_err-peek : goal.returns-in_err-peek
+returns-in_err-peek c = record {
+  reads = no_memory _ _ _ _ _ _ _ c.from_residual-in_err-peek.result c.from_residual-in_err-peek.ensures.1;
+  names = c.in_err-peek.ensures.names ∙ c.loop-turn.invariant.names;
+  count = grown c.loop-turn.invariant.grown c.in_err-peek.ensures.count;
+}
+
+pub returns-in_err-take-in-Comma : goal.returns-in_err-take-in-Comma
+returns-in_err-take-in-Comma c = record {
+  reads = no_memory _ _ _ _ _ _ _ c.from_residual-in_err-take-in-Comma.result c.from_residual-in_err-take-in-Comma.ensures.1;
+  names = c.in_err-take-in-Comma.ensures.names ∙ c.in_ok-peek.ensures.names ∙ c.loop-turn.invariant.names;
+  count = grown c.loop-turn.invariant.grown (grown c.in_ok-peek.ensures.count c.in_err-take-in-Comma.ensures.count);
+}
+
+pub returns-in_err-argument-in-Comma-clause-names : goal.returns-in_err-argument-in-Comma-clause-names
+returns-in_err-argument-in-Comma-clause-names c = c.in_err-argument-in-Comma.ensures.names ∙ c.in_ok-take-in-Comma.ensures.names ∙ c.in_ok-peek.ensures.names ∙ c.loop-turn.invariant.names
+
+pub returns-in_err-argument-in-Comma-clause-count : goal.returns-in_err-argument-in-Comma-clause-count
+returns-in_err-argument-in-Comma-clause-count c = grown c.loop-turn.invariant.grown (grown c.in_ok-peek.ensures.count (grown c.in_ok-take-in-Comma.ensures.count c.in_err-argument-in-Comma.ensures.count))
+
+pub returns-in_err-push-in-Comma : goal.returns-in_err-push-in-Comma
+returns-in_err-push-in-Comma c = record {
+  reads = no_memory _ _ _ _ _ _ _ c.from_residual-in_err-push-in-Comma.result c.from_residual-in_err-push-in-Comma.ensures.1;
+  names = c.in_ok-argument-in-Comma.ensures.names ∙ c.in_ok-take-in-Comma.ensures.names ∙ c.in_ok-peek.ensures.names ∙ c.loop-turn.invariant.names;
+  count = grown c.loop-turn.invariant.grown (grown c.in_ok-peek.ensures.count (grown c.in_ok-take-in-Comma.ensures.count c.in_ok-argument-in-Comma.ensures.count));
+}
+
+pub returns-clause-names : goal.returns-clause-names
+returns-clause-names c = c.loop-turn.invariant.names
+
+pub returns-clause-count : goal.returns-clause-count
+returns-clause-count c = c.loop-turn.invariant.grown

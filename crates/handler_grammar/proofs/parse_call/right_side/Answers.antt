@@ -6,6 +6,7 @@ use Rattle.handler_grammar.specs.Next.{Opened, a_right, call_parts}
 use Rattle.handler_grammar.specs.Phrase.{word, a_call, result_right, plain_right}
 use Rattle.handler_grammar.proofs.Steps.{took_seen, passed_one, passed_then, passed_framed, passed_still, refused_after, refused_framed}
 use Rattle.handler_grammar.proofs.CallSteps.{operation_is, passed_plain, refused_plain}
+use Rattle.handler_grammar.proofs.Exits.{no_memory, grown}
 use Rattle.handler_grammar.proofs.parse_call.right_side.Goals as goal
 
 pub returns-in_err-call-in-Some-clause-reads : goal.returns-in_err-call-in-Some-clause-reads
@@ -46,3 +47,41 @@ returns-in_ok-call-in-Some-clause-reads c =
       },
       passed_then (passed_one (Opened 0) c.args.input.now (record c.take.new.self { signs = 0 }) a_right call_parts _ read (taken.end ∙ seen.end) refl refl (λ under h. refl)) (passed_framed [] (λ under h. tt) o.1),
     )
+
+pub returns-in_err-word : goal.returns-in_err-word
+returns-in_err-word c = record {
+  reads = no_memory _ _ _ _ _ _ _ c.from_residual.result c.from_residual.ensures.1;
+  names = c.in_err-word.ensures.names;
+  count = c.in_err-word.ensures.count;
+}
+
+pub returns-in_err-take-in-Some : goal.returns-in_err-take-in-Some
+returns-in_err-take-in-Some c = record {
+  reads = no_memory _ _ _ _ _ _ _ c.from_residual-in_err-take-in-Some.result c.from_residual-in_err-take-in-Some.ensures.1;
+  names = c.in_err-take-in-Some.ensures.names ∙ c.in_ok-word.ensures.names;
+  count = grown c.in_ok-word.ensures.count c.in_err-take-in-Some.ensures.count;
+}
+
+pub returns-in_err-call-in-Some-clause-names : goal.returns-in_err-call-in-Some-clause-names
+returns-in_err-call-in-Some-clause-names c = c.in_err-call-in-Some.ensures.names ∙ c.in_ok-take-in-Some.ensures.names ∙ c.in_ok-word.ensures.names
+
+pub returns-in_err-call-in-Some-clause-count : goal.returns-in_err-call-in-Some-clause-count
+returns-in_err-call-in-Some-clause-count c = grown c.in_ok-word.ensures.count (grown c.in_ok-take-in-Some.ensures.count c.in_err-call-in-Some.ensures.count)
+
+pub returns-in_err-value-in-None-clause-names : goal.returns-in_err-value-in-None-clause-names
+returns-in_err-value-in-None-clause-names c = c.in_err-value-in-None.ensures.names ∙ c.in_ok-word.ensures.names
+
+pub returns-in_err-value-in-None-clause-count : goal.returns-in_err-value-in-None-clause-count
+returns-in_err-value-in-None-clause-count c = grown c.in_ok-word.ensures.count c.in_err-value-in-None.ensures.count
+
+pub returns-in_ok-call-in-Some-clause-names : goal.returns-in_ok-call-in-Some-clause-names
+returns-in_ok-call-in-Some-clause-names c = c.in_ok-call-in-Some.ensures.names ∙ c.in_ok-take-in-Some.ensures.names ∙ c.in_ok-word.ensures.names
+
+pub returns-in_ok-call-in-Some-clause-count : goal.returns-in_ok-call-in-Some-clause-count
+returns-in_ok-call-in-Some-clause-count c = grown c.in_ok-word.ensures.count (grown c.in_ok-take-in-Some.ensures.count c.in_ok-call-in-Some.ensures.count)
+
+pub returns-in_ok-value-in-None-clause-names : goal.returns-in_ok-value-in-None-clause-names
+returns-in_ok-value-in-None-clause-names c = c.in_ok-value-in-None.ensures.names ∙ c.in_ok-word.ensures.names
+
+pub returns-in_ok-value-in-None-clause-count : goal.returns-in_ok-value-in-None-clause-count
+returns-in_ok-value-in-None-clause-count c = grown c.in_ok-word.ensures.count c.in_ok-value-in-None.ensures.count

@@ -15,6 +15,10 @@ use Rattle.handler_grammar.proofs.Rows.{factors_none, terms_none}
 use Rattle.handler_grammar.proofs.Steps.{passed_one, passed_then, passed_framed, passed_over, passed_still, took_seen, refused_after, refused_framed}
 use Rattle.handler_grammar.proofs.ExprSteps.{passed_atom, refused_atom}
 use Rattle.handler_grammar.proofs.Loops.{TermsSoFar, and_factor, and_factor-words, and_factor-tree, and_plus, and_plus-words, and_plus-tree, and_minus, and_minus-words, and_minus-tree}
+use Rattle.handler_grammar.proofs.Exits.{passed_on, no_memory, grown}
+use Rattle.handler_grammar.proofs.Steps.{in_front, refused_limit}
+use Rattle.std.proofs.lemmas.Bool.{le-leb}
+use Rattle.handler_grammar.proofs.ExprSteps.{refused_sign}
 use Rattle.handler_grammar.proofs.parse_expr.+expression.Goals as goal
 use Rattle.handler_grammar.proofs.parse_expr.+expression.Goals.{sum-in-Plus, sum-in-Minus}
 
@@ -68,7 +72,7 @@ term-factors-preserved t c =
       first = so_far.first;
       more = and_factor so_far.more at found.reads.0.phrase;
       read = so_far.read ∙ ap (λ l. factor_words so_far.first (factors_words so_far.more l)) (sign ∙ ap (λ l. word sort.Times at ∷ l) found.reads.0.read) ∙ ap (factor_words so_far.first) (sym (and_factor-words so_far.more at found.reads.0.phrase _));
-      value = c.in_ok-left-in-Times.ensures ∙ ap (λ l. expr.Binary calc.Times l c.in_ok-right-in-Times.right) so_far.value ∙ ap (λ r. expr.Binary calc.Times (factors_tree so_far.more (factor_tree so_far.first)) r) found.reads.0.value ∙ sym (and_factor-tree so_far.more at found.reads.0.phrase _);
+      value = c.in_ok-left-in-Times.ensures ∙ ap (λ l. expr.Binary calc.Times (l, c.in_ok-right-in-Times.right)) so_far.value ∙ ap (λ r. expr.Binary calc.Times (factors_tree so_far.more (factor_tree so_far.first), r)) found.reads.0.value ∙ sym (and_factor-tree so_far.more at found.reads.0.phrase _);
       passed = passed_then so_far.passed (passed_then (passed_one _ c.factors.input c.take_sign.new.self more_factors (operand ∷ more_factors ∷ []) _ sign (signed.end ∙ seen.end) (signed.signs ∙ ap (λ n. n + 1) seen.signs) refl (λ under h. ap (where_over operator_signs) (lt-leb _ _ (omega (arith, signed.room, seen.signs))))) (passed_framed (more_factors ∷ []) (λ under h. h) found.reads.1));
       names = found.names ∙ signed.names ∙ seen.names ∙ so_far.names;
       grown = omega (arith, found.count, signed.count, seen.count, so_far.grown);
@@ -114,7 +118,7 @@ sum-returns-in_default t c =
     }
 
 -- one more term behind the sign
-and_term : (t : ℕ) (c : goal.sum-In_ok-left-2 t) → (calc' : Calc) (more : MoreTerms) → c.match-branch-3.calc ≡ calc' → terms_words more c.term-in-terms.new.input.reader.words ≡ terms_words c.terms.invariant.more c.terms.input.reader.words → terms_tree more (term_tree c.terms.invariant.first) ≡ expr.Binary calc' (terms_tree c.terms.invariant.more (term_tree c.terms.invariant.first)) (term_tree c.in_ok-right.ensures.reads.0.phrase) → Passed (Opened c.args.opened) (more_terms ∷ []) (operand ∷ more_factors ∷ more_terms ∷ []) c.terms.input c.take_sign.new.self → TermsSoFar c.args.opened c.args.input.now c.term-in-terms.new.input c.in_ok-left-2.left
+and_term : (t : ℕ) (c : goal.sum-In_ok-left-2 t) → (calc' : Calc) (more : MoreTerms) → c.match-branch-3.calc ≡ calc' → terms_words more c.term-in-terms.new.input.reader.words ≡ terms_words c.terms.invariant.more c.terms.input.reader.words → terms_tree more (term_tree c.terms.invariant.first) ≡ expr.Binary calc' (terms_tree c.terms.invariant.more (term_tree c.terms.invariant.first), term_tree c.in_ok-right.ensures.reads.0.phrase) → Passed (Opened c.args.opened) (more_terms ∷ []) (operand ∷ more_factors ∷ more_terms ∷ []) c.terms.input c.take_sign.new.self → TermsSoFar c.args.opened c.args.input.now c.term-in-terms.new.input c.in_ok-left-2.left
 and_term t c calc' more is words_are tree_is signed =
     let so_far = c.terms.invariant in
     let seen = c.in_ok-peek.ensures in
@@ -124,7 +128,7 @@ and_term t c calc' more is words_are tree_is signed =
       first = so_far.first;
       more = more;
       read = so_far.read ∙ ap (term_words so_far.first) (sym words_are);
-      value = c.in_ok-left-2.ensures ∙ ap (λ k. expr.Binary k c.terms.left c.in_ok-right.right) is ∙ ap (λ l. expr.Binary calc' l c.in_ok-right.right) so_far.value ∙ ap (λ r. expr.Binary calc' (terms_tree so_far.more (term_tree so_far.first)) r) found.reads.0.value ∙ sym tree_is;
+      value = c.in_ok-left-2.ensures ∙ ap (λ k. expr.Binary k (c.terms.left, c.in_ok-right.right)) is ∙ ap (λ l. expr.Binary calc' (l, c.in_ok-right.right)) so_far.value ∙ ap (λ r. expr.Binary calc' (terms_tree so_far.more (term_tree so_far.first), r)) found.reads.0.value ∙ sym tree_is;
       passed = passed_then so_far.passed (passed_then signed (passed_framed (more_terms ∷ []) (λ under h. h) found.reads.1));
       names = found.names ∙ taken.names ∙ seen.names ∙ so_far.names;
       grown = omega (arith, found.count, taken.count, seen.count, so_far.grown);
@@ -156,3 +160,145 @@ factor-returns-in_err-atom-in_default t c =
       names = found.names ∙ seen.names;
       count = omega (arith, found.count, seen.count);
     }
+
+pub factor-returns-in_err-word : goal.factor-returns-in_err-word
+factor-returns-in_err-word t c = record {
+  reads = no_memory _ _ _ _ _ _ _ c.from_residual.result c.from_residual.ensures.1;
+  names = c.in_err-word.ensures.names;
+  count = c.in_err-word.ensures.count;
+}
+
+pub factor-returns-then-opened-ge-MAX_OPEN-clause-names : goal.factor-returns-then-opened-ge-MAX_OPEN-clause-names
+factor-returns-then-opened-ge-MAX_OPEN-clause-names t c = c.in_ok-word.ensures.names
+
+pub factor-returns-then-opened-ge-MAX_OPEN-clause-count : goal.factor-returns-then-opened-ge-MAX_OPEN-clause-count
+factor-returns-then-opened-ge-MAX_OPEN-clause-count t c = c.in_ok-word.ensures.count
+
+pub factor-returns-in_err-take-in-LeftParen : goal.factor-returns-in_err-take-in-LeftParen
+factor-returns-in_err-take-in-LeftParen t c = record {
+  reads = no_memory _ _ _ _ _ _ _ c.from_residual-in_err-take-in-LeftParen.result c.from_residual-in_err-take-in-LeftParen.ensures.1;
+  names = c.in_err-take-in-LeftParen.ensures.names ∙ c.in_ok-word.ensures.names;
+  count = grown c.in_ok-word.ensures.count c.in_err-take-in-LeftParen.ensures.count;
+}
+
+pub factor-returns-in_err-inner-in-LeftParen : goal.factor-returns-in_err-inner-in-LeftParen
+factor-returns-in_err-inner-in-LeftParen t c = record {
+  reads = passed_on _ _ _ _ c.from_residual-in_err-inner-in-LeftParen.result c.from_residual-in_err-inner-in-LeftParen.ensures.1 (λ some. refused_after (passed_one _ c.args.input.now c.take.new.self operand (operand ∷ more_factors ∷ more_terms ∷ closing ∷ []) _ (took_seen c.args.input.now c.peek.new.self c.take.new.self _ sort.LeftParen c.in_ok-word.ensures.word c.in_ok-word.ensures.words c.in-LeftParen.is (λ e. cc) c.in_ok-take-in-LeftParen.ensures.words) (c.in_ok-take-in-LeftParen.ensures.end ∙ c.in_ok-word.ensures.end) (c.in_ok-take-in-LeftParen.ensures.signs ∙ c.in_ok-word.ensures.signs) refl (λ under h. ap (where_over open_parentheses) (lt-leb _ _ (omega (arith, h, c.if-opened-ge-MAX_OPEN.false))))) (refused_framed (closing ∷ []) (λ under h. omega (arith, h)) (c.in_err-inner-in-LeftParen.ensures.reads some)));
+  names = c.in_err-inner-in-LeftParen.ensures.names ∙ c.in_ok-take-in-LeftParen.ensures.names ∙ c.in_ok-word.ensures.names;
+  count = grown c.in_ok-word.ensures.count (grown c.in_ok-take-in-LeftParen.ensures.count c.in_err-inner-in-LeftParen.ensures.count);
+}
+
+pub factor-returns-in_err-close-in-LeftParen : goal.factor-returns-in_err-close-in-LeftParen
+factor-returns-in_err-close-in-LeftParen t c = record {
+  reads = passed_on _ _ _ _ c.from_residual-in_err-close-in-LeftParen.result c.from_residual-in_err-close-in-LeftParen.ensures.1 (λ some. refused_after (passed_one _ c.args.input.now c.take.new.self operand (operand ∷ more_factors ∷ more_terms ∷ closing ∷ []) _ (took_seen c.args.input.now c.peek.new.self c.take.new.self _ sort.LeftParen c.in_ok-word.ensures.word c.in_ok-word.ensures.words c.in-LeftParen.is (λ e. cc) c.in_ok-take-in-LeftParen.ensures.words) (c.in_ok-take-in-LeftParen.ensures.end ∙ c.in_ok-word.ensures.end) (c.in_ok-take-in-LeftParen.ensures.signs ∙ c.in_ok-word.ensures.signs) refl (λ under h. ap (where_over open_parentheses) (lt-leb _ _ (omega (arith, h, c.if-opened-ge-MAX_OPEN.false))))) (refused_after (passed_framed (closing ∷ []) (λ under h. omega (arith, h)) c.in_ok-inner-in-LeftParen.ensures.reads.1) (refused_framed [] (λ under h. tt) (c.in_err-close-in-LeftParen.ensures.reads some))));
+  names = c.in_err-close-in-LeftParen.ensures.names ∙ c.in_ok-inner-in-LeftParen.ensures.names ∙ c.in_ok-take-in-LeftParen.ensures.names ∙ c.in_ok-word.ensures.names;
+  count = grown c.in_ok-word.ensures.count (grown c.in_ok-take-in-LeftParen.ensures.count (grown c.in_ok-inner-in-LeftParen.ensures.count c.in_err-close-in-LeftParen.ensures.count));
+}
+
+pub factor-returns-in_ok-close-in-LeftParen-clause-names : goal.factor-returns-in_ok-close-in-LeftParen-clause-names
+factor-returns-in_ok-close-in-LeftParen-clause-names t c = c.in_ok-close-in-LeftParen.ensures.names ∙ c.in_ok-inner-in-LeftParen.ensures.names ∙ c.in_ok-take-in-LeftParen.ensures.names ∙ c.in_ok-word.ensures.names
+
+pub factor-returns-in_ok-close-in-LeftParen-clause-count : goal.factor-returns-in_ok-close-in-LeftParen-clause-count
+factor-returns-in_ok-close-in-LeftParen-clause-count t c = grown c.in_ok-word.ensures.count (grown c.in_ok-take-in-LeftParen.ensures.count (grown c.in_ok-inner-in-LeftParen.ensures.count c.in_ok-close-in-LeftParen.ensures.count))
+
+pub factor-returns-in_ok-atom-in_default-clause-names : goal.factor-returns-in_ok-atom-in_default-clause-names
+factor-returns-in_ok-atom-in_default-clause-names t c = c.in_ok-atom-in_default.ensures.names ∙ c.in_ok-word.ensures.names
+
+pub factor-returns-in_ok-atom-in_default-clause-count : goal.factor-returns-in_ok-atom-in_default-clause-count
+factor-returns-in_ok-atom-in_default-clause-count t c = grown c.in_ok-word.ensures.count c.in_ok-atom-in_default.ensures.count
+
+pub term-returns-in_err-left : goal.term-returns-in_err-left
+term-returns-in_err-left t c = record {
+  reads = passed_on _ _ _ _ c.from_residual.result c.from_residual.ensures.1 (λ some. refused_framed (more_factors ∷ []) (λ under h. h) (c.in_err-left.ensures.reads some));
+  names = c.in_err-left.ensures.names;
+  count = c.in_err-left.ensures.count;
+}
+
+pub term-returns-in_err-peek : goal.term-returns-in_err-peek
+term-returns-in_err-peek t c = record {
+  reads = no_memory _ _ _ _ _ _ _ c.from_residual-in_err-peek.result c.from_residual-in_err-peek.ensures.1;
+  names = c.in_err-peek.ensures.names ∙ c.factors.invariant.names;
+  count = grown c.factors.invariant.grown c.in_err-peek.ensures.count;
+}
+
+pub term-returns-in_err-take_sign-in-Times-clause-names : goal.term-returns-in_err-take_sign-in-Times-clause-names
+term-returns-in_err-take_sign-in-Times-clause-names t c = c.in_err-take_sign-in-Times.ensures.names ∙ c.in_ok-peek.ensures.names ∙ c.factors.invariant.names
+
+pub term-returns-in_err-take_sign-in-Times-clause-count : goal.term-returns-in_err-take_sign-in-Times-clause-count
+term-returns-in_err-take_sign-in-Times-clause-count t c = grown c.factors.invariant.grown (grown c.in_ok-peek.ensures.count c.in_err-take_sign-in-Times.ensures.count)
+
+pub term-returns-in_err-right-in-Times : goal.term-returns-in_err-right-in-Times
+term-returns-in_err-right-in-Times t c = record {
+  reads = passed_on _ _ _ _ c.from_residual-in_err-right-in-Times.result c.from_residual-in_err-right-in-Times.ensures.1 (λ some. refused_after c.factors.invariant.passed (refused_after (passed_one _ c.factors.input c.take_sign.new.self more_factors (operand ∷ more_factors ∷ []) _ (took_seen c.factors.input c.peek.new.self c.take_sign.new.self _ sort.Times c.in_ok-peek.ensures.word c.in_ok-peek.ensures.words c.in-Times.is (λ e. cc) c.in_ok-take_sign-in-Times.ensures.words) (c.in_ok-take_sign-in-Times.ensures.end ∙ c.in_ok-peek.ensures.end) (c.in_ok-take_sign-in-Times.ensures.signs ∙ ap (λ n. n + 1) c.in_ok-peek.ensures.signs) refl (λ under h. ap (where_over operator_signs) (lt-leb _ _ (omega (arith, c.in_ok-take_sign-in-Times.ensures.room, c.in_ok-peek.ensures.signs))))) (refused_framed (more_factors ∷ []) (λ under h. h) (c.in_err-right-in-Times.ensures.reads some))));
+  names = c.in_err-right-in-Times.ensures.names ∙ c.in_ok-take_sign-in-Times.ensures.names ∙ c.in_ok-peek.ensures.names ∙ c.factors.invariant.names;
+  count = grown c.factors.invariant.grown (grown c.in_ok-peek.ensures.count (grown c.in_ok-take_sign-in-Times.ensures.count c.in_err-right-in-Times.ensures.count));
+}
+
+pub term-returns-in_err-left-in-Times : goal.term-returns-in_err-left-in-Times
+term-returns-in_err-left-in-Times t c = record {
+  reads = no_memory _ _ _ _ _ _ _ c.from_residual-in_err-left-in-Times.result c.from_residual-in_err-left-in-Times.ensures.1;
+  names = c.in_ok-right-in-Times.ensures.names ∙ c.in_ok-take_sign-in-Times.ensures.names ∙ c.in_ok-peek.ensures.names ∙ c.factors.invariant.names;
+  count = grown c.factors.invariant.grown (grown c.in_ok-peek.ensures.count (grown c.in_ok-take_sign-in-Times.ensures.count c.in_ok-right-in-Times.ensures.count));
+}
+
+pub sum-returns-in_err-left : goal.sum-returns-in_err-left
+sum-returns-in_err-left t c = record {
+  reads = passed_on _ _ _ _ c.from_residual.result c.from_residual.ensures.1 (λ some. refused_framed (more_terms ∷ []) (λ under h. h) (c.in_err-left.ensures.reads some));
+  names = c.in_err-left.ensures.names;
+  count = c.in_err-left.ensures.count;
+}
+
+pub sum-returns-in_err-peek : goal.sum-returns-in_err-peek
+sum-returns-in_err-peek t c = record {
+  reads = no_memory _ _ _ _ _ _ _ c.from_residual-in_err-peek.result c.from_residual-in_err-peek.ensures.1;
+  names = c.in_err-peek.ensures.names ∙ c.terms.invariant.names;
+  count = grown c.terms.invariant.grown c.in_err-peek.ensures.count;
+}
+
+pub sum-returns-in_err-take_sign-clause-names : goal.sum-returns-in_err-take_sign-clause-names
+sum-returns-in_err-take_sign-clause-names t c = c.in_err-take_sign.ensures.names ∙ c.in_ok-peek.ensures.names ∙ c.terms.invariant.names
+
+pub sum-returns-in_err-take_sign-clause-count : goal.sum-returns-in_err-take_sign-clause-count
+sum-returns-in_err-take_sign-clause-count t c = grown c.terms.invariant.grown (grown c.in_ok-peek.ensures.count c.in_err-take_sign.ensures.count)
+
+pub sum-returns-in_err-right-clause-names : goal.sum-returns-in_err-right-clause-names
+sum-returns-in_err-right-clause-names t c = c.in_err-right.ensures.names ∙ c.in_ok-take_sign.ensures.names ∙ c.in_ok-peek.ensures.names ∙ c.terms.invariant.names
+
+pub sum-returns-in_err-right-clause-count : goal.sum-returns-in_err-right-clause-count
+sum-returns-in_err-right-clause-count t c = grown c.terms.invariant.grown (grown c.in_ok-peek.ensures.count (grown c.in_ok-take_sign.ensures.count c.in_err-right.ensures.count))
+
+pub sum-returns-in_err-left-2 : goal.sum-returns-in_err-left-2
+sum-returns-in_err-left-2 t c = record {
+  reads = no_memory _ _ _ _ _ _ _ c.from_residual-in_err-left-2.result c.from_residual-in_err-left-2.ensures.1;
+  names = c.in_ok-right.ensures.names ∙ c.in_ok-take_sign.ensures.names ∙ c.in_ok-peek.ensures.names ∙ c.terms.invariant.names;
+  count = grown c.terms.invariant.grown (grown c.in_ok-peek.ensures.count (grown c.in_ok-take_sign.ensures.count c.in_ok-right.ensures.count));
+}
+
+pub factor-returns-then-opened-ge-MAX_OPEN-clause-reads : goal.factor-returns-then-opened-ge-MAX_OPEN-clause-reads
+factor-returns-then-opened-ge-MAX_OPEN-clause-reads t c = λ some.
+    refused_limit (Opened c.args.opened) operand [] (operand ∷ more_factors ∷ more_terms ∷ closing ∷ []) c.args.input.now _ _ open_parentheses (in_front _ _ _ sort.LeftParen c.in_ok-word.ensures.word c.in-LeftParen.is (λ e. cc)) refl (λ under h. ap (where_over open_parentheses) (le-leb _ _ (omega (arith, h, c.if-opened-ge-MAX_OPEN.true))))
+
+pub term-returns-in_err-take_sign-in-Times-clause-reads : goal.term-returns-in_err-take_sign-in-Times-clause-reads
+term-returns-in_err-take_sign-in-Times-clause-reads t c =
+    let seen = c.in_ok-peek.ensures in
+    let off = c.in_err-take_sign-in-Times.ensures in
+    passed_on _ _ _ _ c.from_residual-in_err-take_sign-in-Times.result c.from_residual-in_err-take_sign-in-Times.ensures.1 (λ some. refused_after c.factors.invariant.passed (refused_sign _ more_factors [] (operand ∷ more_factors ∷ []) c.factors.input c.peek.new.self _ sort.Times _ seen.word seen.words seen.end seen.signs c.in-Times.is (λ e. cc) refl (λ under. refl) (off.deep some)))
+
+pub sum-returns-in_err-take_sign-clause-reads : goal.sum-returns-in_err-take_sign-clause-reads
+sum-returns-in_err-take_sign-clause-reads t c =
+    let seen = c.in_ok-peek.ensures in
+    let off = c.in_err-take_sign.ensures in
+    passed_on _ _ _ _ c.from_residual-in_err-take_sign.result c.from_residual-in_err-take_sign.ensures.1 (λ some. refused_after c.terms.invariant.passed (elim c.match-branch-3.branch [
+      | sum-in-Plus w ↦ refused_sign _ more_terms [] (operand ∷ more_factors ∷ more_terms ∷ []) c.terms.input c.peek.new.self _ sort.Plus _ seen.word seen.words seen.end seen.signs w.in-Plus.is (λ e. cc) refl (λ under. refl) (off.deep some)
+      | sum-in-Minus w ↦ refused_sign _ more_terms [] (operand ∷ more_factors ∷ more_terms ∷ []) c.terms.input c.peek.new.self _ sort.Minus _ seen.word seen.words seen.end seen.signs w.in-Minus.is (λ e. cc) refl (λ under. refl) (off.deep some)
+    ]))
+
+pub sum-returns-in_err-right-clause-reads : goal.sum-returns-in_err-right-clause-reads
+sum-returns-in_err-right-clause-reads t c =
+    let seen = c.in_ok-peek.ensures in
+    let taken = c.in_ok-take_sign.ensures in
+    let signed : Passed (Opened c.args.opened) (more_terms ∷ []) (operand ∷ more_factors ∷ more_terms ∷ []) c.terms.input c.take_sign.new.self = elim c.match-branch-3.branch [
+      | sum-in-Plus w ↦ passed_one _ c.terms.input c.take_sign.new.self more_terms (operand ∷ more_factors ∷ more_terms ∷ []) _ (took_seen c.terms.input c.peek.new.self c.take_sign.new.self _ sort.Plus seen.word seen.words w.in-Plus.is (λ e. cc) taken.words) (taken.end ∙ seen.end) (taken.signs ∙ ap (λ n. n + 1) seen.signs) refl (λ under h. ap (where_over operator_signs) (lt-leb _ _ (omega (arith, taken.room, seen.signs))))
+      | sum-in-Minus w ↦ passed_one _ c.terms.input c.take_sign.new.self more_terms (operand ∷ more_factors ∷ more_terms ∷ []) _ (took_seen c.terms.input c.peek.new.self c.take_sign.new.self _ sort.Minus seen.word seen.words w.in-Minus.is (λ e. cc) taken.words) (taken.end ∙ seen.end) (taken.signs ∙ ap (λ n. n + 1) seen.signs) refl (λ under h. ap (where_over operator_signs) (lt-leb _ _ (omega (arith, taken.room, seen.signs))))
+    ] in
+    passed_on _ _ _ _ c.from_residual-in_err-right.result c.from_residual-in_err-right.ensures.1 (λ some. refused_after c.terms.invariant.passed (refused_after signed (refused_framed (more_terms ∷ []) (λ under h. h) (c.in_err-right.ensures.reads some))))

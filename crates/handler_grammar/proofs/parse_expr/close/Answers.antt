@@ -1,6 +1,7 @@
 use Rattle.std.proofs.Common.{refl, []}
 use Rattle.handler_grammar.specs.Next.{closing}
 use Rattle.handler_grammar.proofs.Steps.{took, passed_one}
+use Rattle.handler_grammar.proofs.Exits.{no_memory}
 use Rattle.handler_grammar.proofs.parse_expr.close.Goals as goal
 
 pub returns-in-RightParen-clause-reads : goal.returns-in-RightParen-clause-reads
@@ -9,3 +10,16 @@ returns-in-RightParen-clause-reads c =
       record { phrase = c.in_ok-word.word.at; read = read; value = refl },
       passed_one _ _ _ closing [] _ read c.take.ensures.end c.take.ensures.signs refl (λ under h. refl),
     )
+
+pub returns-in_err-word : goal.returns-in_err-word
+returns-in_err-word c = record {
+  reads = no_memory _ _ _ _ _ _ _ c.from_residual.result c.from_residual.ensures.1;
+  names = c.in_err-word.ensures.names;
+  count = c.in_err-word.ensures.count;
+}
+
+pub returns-in-RightParen-clause-names : goal.returns-in-RightParen-clause-names
+returns-in-RightParen-clause-names c = c.in_ok-word.ensures.names
+
+pub returns-in-RightParen-clause-count : goal.returns-in-RightParen-clause-count
+returns-in-RightParen-clause-count c = c.in_ok-word.ensures.count

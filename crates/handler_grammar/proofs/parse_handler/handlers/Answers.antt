@@ -2,7 +2,8 @@ use Rattle.std.proofs.Common.{◌≡◌, ◌+◌, ◌∷◌, [], ◌++◌, lengt
 use Rattle.handler_grammar.specs.Phrase.{handlers_words}
 use Rattle.handler_grammar.specs.Tree.{handlers_trees}
 use Rattle.handler_grammar.proofs.ListLoops.{and_handler, and_handler-words, and_handler-trees}
-use Rattle.handler_grammar.proofs.Steps.{passed_then, passed_still}
+use Rattle.handler_grammar.proofs.Steps.{passed_then, passed_still, refused_after}
+use Rattle.handler_grammar.proofs.Exits.{passed_on, no_memory, grown}
 use Rattle.handler_grammar.proofs.parse_handler.handlers.Goals as goal
 
 pub handlers-preserved : goal.handlers-preserved
@@ -21,3 +22,24 @@ handlers-preserved c =
       names = f.names ∙ seen.names ∙ so_far.names;
       grown = omega (arith, f.count, seen.count, so_far.grown);
     }
+
+pub returns-in_err-peek : goal.returns-in_err-peek
+returns-in_err-peek c = record {
+  reads = no_memory _ _ _ _ _ _ _ c.from_residual.result c.from_residual.ensures.1;
+  names = c.in_err-peek.ensures.names ∙ c.handlers.invariant.names;
+  count = grown c.handlers.invariant.grown c.in_err-peek.ensures.count;
+}
+
+pub returns-in_err-next-in-Handler : goal.returns-in_err-next-in-Handler
+returns-in_err-next-in-Handler c = record {
+  reads = passed_on _ _ _ _ c.from_residual-in_err-next-in-Handler.result c.from_residual-in_err-next-in-Handler.ensures.1 (λ some. refused_after c.handlers.invariant.passed (refused_after (passed_still c.in_ok-peek.ensures.words c.in_ok-peek.ensures.end c.in_ok-peek.ensures.signs) (c.in_err-next-in-Handler.ensures.reads some)));
+  names = c.in_err-next-in-Handler.ensures.names ∙ c.in_ok-peek.ensures.names ∙ c.handlers.invariant.names;
+  count = grown c.handlers.invariant.grown (grown c.in_ok-peek.ensures.count c.in_err-next-in-Handler.ensures.count);
+}
+
+pub returns-in_err-push-in-Handler : goal.returns-in_err-push-in-Handler
+returns-in_err-push-in-Handler c = record {
+  reads = no_memory _ _ _ _ _ _ _ c.from_residual-in_err-push-in-Handler.result c.from_residual-in_err-push-in-Handler.ensures.1;
+  names = c.in_ok-next-in-Handler.ensures.names ∙ c.in_ok-peek.ensures.names ∙ c.handlers.invariant.names;
+  count = grown c.handlers.invariant.grown (grown c.in_ok-peek.ensures.count c.in_ok-next-in-Handler.ensures.count);
+}

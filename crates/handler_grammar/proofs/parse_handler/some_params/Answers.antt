@@ -4,9 +4,10 @@ use Rattle.handler_grammar.specs.Next.{a_name, more_params}
 use Rattle.handler_grammar.specs.Phrase.{word, no_more, name_words, more_params_words}
 use Rattle.handler_grammar.specs.Tree.{param_of, more_params_trees}
 use Rattle.handler_grammar.proofs.ListLoops.{and_param, and_param-words, and_param-trees}
-use Rattle.handler_grammar.proofs.Steps.{took_seen, passed_one, passed_then, passed_framed, passed_over}
+use Rattle.handler_grammar.proofs.Steps.{took_seen, passed_one, passed_then, passed_framed, passed_over, refused_after, refused_framed}
 use Rattle.handler_grammar.proofs.Rows.{more_params_none}
 use Rattle.handler_grammar.proofs.Values.{param_with, param_value, name_long}
+use Rattle.handler_grammar.proofs.Exits.{passed_on, no_memory, grown}
 use Rattle.handler_grammar.proofs.parse_handler.some_params.Goals as goal
 
 pub params-init : goal.params-init
@@ -58,3 +59,45 @@ returns-in_default c =
       names = seen.names ∙ so_far.names;
       count = omega (arith, seen.count, so_far.grown);
     }
+
+pub returns-in_err-first : goal.returns-in_err-first
+returns-in_err-first c = record {
+  reads = passed_on _ _ _ _ c.from_residual.result c.from_residual.ensures.1 (λ some. refused_framed (more_params ∷ []) (λ under h. tt) (c.in_err-first.ensures.reads some));
+  names = c.in_err-first.ensures.names;
+  count = c.in_err-first.ensures.count;
+}
+
+pub returns-in_err-params : goal.returns-in_err-params
+returns-in_err-params c = record {
+  reads = no_memory _ _ _ _ _ _ _ c.from_residual-in_err-params.result c.from_residual-in_err-params.ensures.1;
+  names = c.in_ok-first.ensures.names;
+  count = c.in_ok-first.ensures.count;
+}
+
+pub returns-in_err-peek : goal.returns-in_err-peek
+returns-in_err-peek c = record {
+  reads = no_memory _ _ _ _ _ _ _ c.from_residual-in_err-peek.result c.from_residual-in_err-peek.ensures.1;
+  names = c.in_err-peek.ensures.names ∙ c.params.invariant.names;
+  count = grown c.params.invariant.grown c.in_err-peek.ensures.count;
+}
+
+pub returns-in_err-take-in-Comma : goal.returns-in_err-take-in-Comma
+returns-in_err-take-in-Comma c = record {
+  reads = no_memory _ _ _ _ _ _ _ c.from_residual-in_err-take-in-Comma.result c.from_residual-in_err-take-in-Comma.ensures.1;
+  names = c.in_err-take-in-Comma.ensures.names ∙ c.in_ok-peek.ensures.names ∙ c.params.invariant.names;
+  count = grown c.params.invariant.grown (grown c.in_ok-peek.ensures.count c.in_err-take-in-Comma.ensures.count);
+}
+
+pub returns-in_err-name-in-Comma : goal.returns-in_err-name-in-Comma
+returns-in_err-name-in-Comma c = record {
+  reads = passed_on _ _ _ _ c.from_residual-in_err-name-in-Comma.result c.from_residual-in_err-name-in-Comma.ensures.1 (λ some. refused_after c.params.invariant.passed (refused_after (passed_one _ c.params.input c.take.new.self more_params (a_name ∷ more_params ∷ []) _ (took_seen c.params.input c.peek.new.self c.take.new.self _ sort.Comma c.in_ok-peek.ensures.word c.in_ok-peek.ensures.words c.in-Comma.is (λ e. cc) c.in_ok-take-in-Comma.ensures.words) (c.in_ok-take-in-Comma.ensures.end ∙ c.in_ok-peek.ensures.end) (c.in_ok-take-in-Comma.ensures.signs ∙ c.in_ok-peek.ensures.signs) refl (λ under h. refl)) (refused_framed (more_params ∷ []) (λ under h. tt) (c.in_err-name-in-Comma.ensures.reads some))));
+  names = c.in_err-name-in-Comma.ensures.names ∙ c.in_ok-take-in-Comma.ensures.names ∙ c.in_ok-peek.ensures.names ∙ c.params.invariant.names;
+  count = grown c.params.invariant.grown (grown c.in_ok-peek.ensures.count (grown c.in_ok-take-in-Comma.ensures.count c.in_err-name-in-Comma.ensures.count));
+}
+
+pub returns-in_err-push-in-Comma : goal.returns-in_err-push-in-Comma
+returns-in_err-push-in-Comma c = record {
+  reads = no_memory _ _ _ _ _ _ _ c.from_residual-in_err-push-in-Comma.result c.from_residual-in_err-push-in-Comma.ensures.1;
+  names = c.in_ok-name-in-Comma.ensures.names ∙ c.in_ok-take-in-Comma.ensures.names ∙ c.in_ok-peek.ensures.names ∙ c.params.invariant.names;
+  count = grown c.params.invariant.grown (grown c.in_ok-peek.ensures.count (grown c.in_ok-take-in-Comma.ensures.count c.in_ok-name-in-Comma.ensures.count));
+}

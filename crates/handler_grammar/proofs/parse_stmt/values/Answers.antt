@@ -7,6 +7,7 @@ use Rattle.handler_grammar.specs.Tree.{expr_tree, more_trees}
 use Rattle.handler_grammar.proofs.Loops.{and_value, and_value-words, and_value-trees, and_value-count, value_step}
 use Rattle.handler_grammar.proofs.Steps.{passed_then, passed_framed, passed_empty, passed_over, refused_after, refused_framed}
 use Rattle.handler_grammar.proofs.Rows.{values_none, values_full}
+use Rattle.handler_grammar.proofs.Exits.{passed_on, no_memory, grown}
 use Rattle.handler_grammar.proofs.parse_stmt.values.Goals as goal
 
 pub loop-turn-init : goal.loop-turn-init
@@ -79,3 +80,50 @@ returns-clause-reads c =
       },
       passed_then so_far.passed (passed_empty _ (more_values (3 - c.loop-turn.turn)) [] _ _ refl refl (values_full _ _ (omega (arith, c.loop-turn-test.false)))),
     )
+
+pub returns-in_err-first : goal.returns-in_err-first
+returns-in_err-first c = record {
+  reads = passed_on _ _ _ _ c.from_residual.result c.from_residual.ensures.1 (λ some. refused_framed (more_values 3 ∷ []) (λ under h. h) (c.in_err-first.ensures.reads some));
+  names = c.in_err-first.ensures.names;
+  count = c.in_err-first.ensures.count;
+}
+
+pub returns-in_err-values : goal.returns-in_err-values
+returns-in_err-values c = record {
+  reads = no_memory _ _ _ _ _ _ _ c.from_residual-in_err-values.result c.from_residual-in_err-values.ensures.1;
+  names = c.in_ok-first.ensures.names;
+  count = c.in_ok-first.ensures.count;
+}
+
+pub returns-in_err-peek : goal.returns-in_err-peek
+returns-in_err-peek c = record {
+  reads = no_memory _ _ _ _ _ _ _ c.from_residual-in_err-peek.result c.from_residual-in_err-peek.ensures.1;
+  names = c.in_err-peek.ensures.names ∙ c.loop-turn.invariant.names;
+  count = grown c.loop-turn.invariant.grown c.in_err-peek.ensures.count;
+}
+
+pub returns-in_err-take-in-Comma : goal.returns-in_err-take-in-Comma
+returns-in_err-take-in-Comma c = record {
+  reads = no_memory _ _ _ _ _ _ _ c.from_residual-in_err-take-in-Comma.result c.from_residual-in_err-take-in-Comma.ensures.1;
+  names = c.in_err-take-in-Comma.ensures.names ∙ c.in_ok-peek.ensures.names ∙ c.loop-turn.invariant.names;
+  count = grown c.loop-turn.invariant.grown (grown c.in_ok-peek.ensures.count c.in_err-take-in-Comma.ensures.count);
+}
+
+pub returns-in_err-value-in-Comma-clause-names : goal.returns-in_err-value-in-Comma-clause-names
+returns-in_err-value-in-Comma-clause-names c = c.in_err-value-in-Comma.ensures.names ∙ c.in_ok-take-in-Comma.ensures.names ∙ c.in_ok-peek.ensures.names ∙ c.loop-turn.invariant.names
+
+pub returns-in_err-value-in-Comma-clause-count : goal.returns-in_err-value-in-Comma-clause-count
+returns-in_err-value-in-Comma-clause-count c = grown c.loop-turn.invariant.grown (grown c.in_ok-peek.ensures.count (grown c.in_ok-take-in-Comma.ensures.count c.in_err-value-in-Comma.ensures.count))
+
+pub returns-in_err-push-in-Comma : goal.returns-in_err-push-in-Comma
+returns-in_err-push-in-Comma c = record {
+  reads = no_memory _ _ _ _ _ _ _ c.from_residual-in_err-push-in-Comma.result c.from_residual-in_err-push-in-Comma.ensures.1;
+  names = c.in_ok-value-in-Comma.ensures.names ∙ c.in_ok-take-in-Comma.ensures.names ∙ c.in_ok-peek.ensures.names ∙ c.loop-turn.invariant.names;
+  count = grown c.loop-turn.invariant.grown (grown c.in_ok-peek.ensures.count (grown c.in_ok-take-in-Comma.ensures.count c.in_ok-value-in-Comma.ensures.count));
+}
+
+pub returns-clause-names : goal.returns-clause-names
+returns-clause-names c = c.loop-turn.invariant.names
+
+pub returns-clause-count : goal.returns-clause-count
+returns-clause-count c = c.loop-turn.invariant.grown

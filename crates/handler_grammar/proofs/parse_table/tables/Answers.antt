@@ -3,7 +3,8 @@ use Rattle.handler_grammar.specs.Next.{tables, where_table}
 use Rattle.handler_grammar.specs.Phrase.{tables_words}
 use Rattle.handler_grammar.specs.Tree.{tables_trees}
 use Rattle.handler_grammar.proofs.ListLoops.{and_table, and_table-words, and_table-trees}
-use Rattle.handler_grammar.proofs.Steps.{passed_then, passed_still, passed_over}
+use Rattle.handler_grammar.proofs.Steps.{passed_then, passed_still, passed_over, refused_after}
+use Rattle.handler_grammar.proofs.Exits.{passed_on, no_memory, grown}
 use Rattle.handler_grammar.proofs.parse_table.tables.Goals as goal
 
 pub tables-preserved : goal.tables-preserved
@@ -35,3 +36,24 @@ returns-in-None c =
       names = seen.names ∙ so_far.names;
       count = omega (arith, seen.count, so_far.grown);
     }
+
+pub returns-in_err-peek : goal.returns-in_err-peek
+returns-in_err-peek c = record {
+  reads = no_memory _ _ _ _ _ _ _ c.from_residual.result c.from_residual.ensures.1;
+  names = c.in_err-peek.ensures.names ∙ c.tables.invariant.names;
+  count = grown c.tables.invariant.grown c.in_err-peek.ensures.count;
+}
+
+pub returns-in_err-next-in-Some : goal.returns-in_err-next-in-Some
+returns-in_err-next-in-Some c = record {
+  reads = passed_on _ _ _ _ c.from_residual-in_err-next-in-Some.result c.from_residual-in_err-next-in-Some.ensures.1 (λ some. refused_after c.tables.invariant.passed (refused_after (passed_still c.in_ok-peek.ensures.words c.in_ok-peek.ensures.end c.in_ok-peek.ensures.signs) (c.in_err-next-in-Some.ensures.reads some)));
+  names = c.in_err-next-in-Some.ensures.names ∙ c.in_ok-peek.ensures.names ∙ c.tables.invariant.names;
+  count = grown c.tables.invariant.grown (grown c.in_ok-peek.ensures.count c.in_err-next-in-Some.ensures.count);
+}
+
+pub returns-in_err-push-in-Some : goal.returns-in_err-push-in-Some
+returns-in_err-push-in-Some c = record {
+  reads = no_memory _ _ _ _ _ _ _ c.from_residual-in_err-push-in-Some.result c.from_residual-in_err-push-in-Some.ensures.1;
+  names = c.in_ok-next-in-Some.ensures.names ∙ c.in_ok-peek.ensures.names ∙ c.tables.invariant.names;
+  count = grown c.tables.invariant.grown (grown c.in_ok-peek.ensures.count c.in_ok-next-in-Some.ensures.count);
+}

@@ -2,6 +2,7 @@ use Rattle.std.proofs.Common.{refl, sym, ◌∙◌, []}
 use Rattle.handler_grammar.specs.Next.{mark}
 use Rattle.handler_grammar.proofs.Steps.{took, passed_one, refused_is, refused_none}
 use Rattle.handler_grammar.proofs.Rows.{mark_same, mark_no_end, none_left}
+use Rattle.handler_grammar.proofs.Exits.{no_memory}
 use Rattle.handler_grammar.proofs.parse_words.mark.Goals as goal
 
 pub returns-then-is_mark-clause-reads : goal.returns-then-is_mark-clause-reads
@@ -15,3 +16,22 @@ returns-then-is_mark-clause-reads c =
 pub returns-else-is_mark-clause-reads : goal.returns-else-is_mark-clause-reads
 returns-else-is_mark-clause-reads c = λ some.
     refused_is c.refusal.ensures (refused_none _ (mark c.args.sort) [] _ _ c.in_ok-word.ensures.word refl (none_left _ (sym c.is_mark.ensures ∙ c.if-is_mark.false)))
+
+pub returns-in_err-word : goal.returns-in_err-word
+returns-in_err-word c = record {
+  reads = no_memory _ _ _ _ _ _ _ c.from_residual.result c.from_residual.ensures.1;
+  names = c.in_err-word.ensures.names;
+  count = c.in_err-word.ensures.count;
+}
+
+pub returns-then-is_mark-clause-names : goal.returns-then-is_mark-clause-names
+returns-then-is_mark-clause-names c = c.in_ok-word.ensures.names
+
+pub returns-then-is_mark-clause-count : goal.returns-then-is_mark-clause-count
+returns-then-is_mark-clause-count c = c.in_ok-word.ensures.count
+
+pub returns-else-is_mark-clause-names : goal.returns-else-is_mark-clause-names
+returns-else-is_mark-clause-names c = c.in_ok-word.ensures.names
+
+pub returns-else-is_mark-clause-count : goal.returns-else-is_mark-clause-count
+returns-else-is_mark-clause-count c = c.in_ok-word.ensures.count

@@ -1,21 +1,19 @@
-use Rattle.std.proofs.Common.{refl}
-use Rattle.session_values.specs.declared.value.Value.TheVariants.{Nil}
-use Rattle.handler_trees.specs.declared.expr.Atom.TheVariants.{Lit}
 use Rattle.handler_printing.specs.Canonical.{atom_text}
 use Rattle.handler_trees.specs.Mentions.{atom_mentions}
 use Rattle.handler_printing.proofs.Loops.{further_turn, further_end, named_turn}
 use Rattle.handler_printing.proofs.piece.put_arguments.Goals as goal
 
 pub put_atom-requires : goal.put_atom-requires
-put_atom-requires c = (named_turn c.args.names.now atom_mentions c.args.args.now c.args-2.atom-index _ _ c.args-2-test.true refl c.args-2.invariant.named).0
+put_atom-requires c = (named_turn c.args.names.now atom_mentions c.args.args.now c.args-2.atom-index _ _ c.args-2-test.true c.atom-item.is c.args-2.invariant.named).0
 
 pub args-2-preserved : goal.args-2-preserved
 args-2-preserved c =
     let xs = c.args.args.now in
     let i = c.args-2.atom-index in
+    let x = c.atom-item.result in
     record {
-      text = further_turn (atom_text c.args.names.now) xs i _ _ c.args-2-test.true refl c.args-2.invariant.text c.in_ok-put.ensures c.in_ok-put_atom.ensures;
-      named = (named_turn c.args.names.now atom_mentions xs i _ (Lit Nil) c.args-2-test.true refl c.args-2.invariant.named).1;
+      text = further_turn (atom_text c.args.names.now) xs i x x c.args-2-test.true c.atom-item.is c.args-2.invariant.text c.in_ok-put.ensures c.in_ok-put_atom.ensures;
+      named = (named_turn c.args.names.now atom_mentions xs i x x c.args-2-test.true c.atom-item.is c.args-2.invariant.named).1;
     }
 
 pub returns : goal.returns

@@ -1,13 +1,12 @@
-use Rattle.std.proofs.Common.{refl, rules, subst, List, ℕ}
+use Rattle.std.proofs.Common.{refl}
 use Rattle.session_answers.specs.Runs.{change}
-use Rattle.session_answers.specs.Ways.{HasRead}
 use Rattle.serve_core.proofs.TopLemmas.{described_run, undescribed_run}
 use Rattle.serve_core.proofs.describing.describe_source.Goals as goal
 
 pub returns-in-Ok : goal.returns-in-Ok
 returns-in-Ok g c =
     let source = change g.I.Source.left g.I.Source.faults c.args.source.now c.read_input.new.source in
-    described_run source (change g.O.Sink.held g.O.Sink.faults c.args.out.now c.describe_input.new.out) c.args.shown c.as_slice.result.now c.describe_input.result (subst (λ (b : List ℕ). HasRead source b) (search rules) c.in-Ok.ensures.read) c.describe_input.ensures
+    described_run source (change g.O.Sink.held g.O.Sink.faults c.args.out.now c.describe_input.new.out) c.args.shown c.in-Ok.bytes.items c.describe_input.result c.in-Ok.ensures.read c.describe_input.ensures
 
 pub returns-in-Err : goal.returns-in-Err
 returns-in-Err g c =
