@@ -24,8 +24,8 @@ pub enum Stmt {
     Perform {
         call: Call,
     },
-    /// One of two blocks. The condition is boxed, since it is larger than the rest of any
-    /// statement.
+    /// One of two blocks. The condition is boxed, since no other statement is as large as the two
+    /// would be with it.
     Choose {
         at: u32,
         cond: Boxed<Cond>,
