@@ -1,5 +1,6 @@
 -- The record of a caller as fields, and as a book shows it.
 use Rattle.std.specs.Prelude.{ℕ, List, [], Option, Some, None, true, false, map, slice_index_or}
+use Rattle.session_limits.specs.Limits.{max_symbols}
 use Rattle.session_values.specs.declared.op.Op.{Op}
 use Rattle.symbolic_ops.specs.declared.symbol.Symbol.{Symbol}
 use Rattle.admission_book.specs.declared.caller_record.CallerRecord.{CallerRecord}
@@ -24,7 +25,7 @@ servings rs = map (λ r. serving_of r) rs
 abbrev pub idle_record : CallerRecord
 idle_record = record {
   ticket = None;
-  foresight = record { symbols = []; room = 256 };
+  foresight = record { symbols = []; room = max_symbols };
   flight = None;
   delayed = false;
 }

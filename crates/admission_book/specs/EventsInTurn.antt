@@ -48,7 +48,8 @@ pub record MayBeDone (m : Meaning) (J : List Event) (t : ℕ) (op : Op) : Type 0
 
 -- an operation is delayed: the one that its open ticket calls, by an older ticket and a symbol with
 -- which it doesn't commute, and once
-pub record MayBeDelayed (m : Meaning) (J : List Event) (t : ℕ) (op : Op) (older : ℕ) (s : Symbol) : Type 0 where
+pub record MayBeDelayed (m : Meaning) (J : List Event) (t : ℕ) (op : Op) (older : ℕ)
+    (s : Symbol) : Type 0 where
   pub is_open : IsOpen J t
   pub calls : now m J t ≡ Calls op
   pub is_older : older < t

@@ -49,7 +49,8 @@ IfFound records t op None = Unit {0}
 IfFound records t op (Some b) = FoundAt records t op b
 
 -- the answer of the search among the first i records
-pub record Scanned (records : List (Option Serving)) (t : ℕ) (op : Op) (i : ℕ) (found : Option Blocker) : Type 0 where
+pub record Scanned (records : List (Option Serving)) (t : ℕ) (op : Op) (i : ℕ)
+    (found : Option Blocker) : Type 0 where
   pub past : (c : ℕ) → c < i → IsPast (bound t found) op (slice_index_or records c None)
   pub at : IfFound records t op found
   pub older : bound t found ≤ t

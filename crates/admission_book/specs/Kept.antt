@@ -1,5 +1,6 @@
 -- What the fields of a book keep.
 use Rattle.std.specs.Prelude.{◌≡◌, ℕ, ◌<◌, ◌≤◌, ◌+◌, ◌*◌, ◌⊎◌, List, [], Option, Some, None, length}
+use Rattle.session_limits.specs.Limits.{max_symbols}
 use Rattle.session_values.specs.declared.reply.Reply.{Reply}
 use Rattle.session_journal.specs.declared.event.Event.{Event}
 use Rattle.session_journal.specs.Journal.{JournalView, begun}
@@ -15,11 +16,12 @@ book_of J kept rs = record { journal = J; kept = kept; records = servings rs }
 
 -- a record has room for any foresight, and knows whether the last event of its ticket is a Delay
 pub record KeepsRecord (J : List Event) (r : CallerRecord) : Type 0 where
-  pub room : 256 ≤ r.foresight.room
+  pub room : max_symbols ≤ r.foresight.room
   pub noted : (s : Serving) → serving_of r ≡ Some s → r.delayed ≡ is_delayed J s.ticket
 
 -- the begun tickets are counted, and there is room for all that the script can make of the book
-pub record Keeps (m : Meaning) (count : ℕ) (journal : JournalView) (kept : List (Option Reply)) (listed : List Reply) (spare : ℕ) (records : List CallerRecord) : Type 0 where
+pub record Keeps (m : Meaning) (count : ℕ) (journal : JournalView) (kept : List (Option Reply))
+    (listed : List Reply) (spare : ℕ) (records : List CallerRecord) : Type 0 where
   pub script : IsScript m
   pub counted : count ≡ begun journal.events
   pub events : 2 * m.requests + 2 * calls m ≤ journal.room

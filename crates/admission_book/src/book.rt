@@ -1,6 +1,7 @@
 // Books.
 
 ghost use Rattle.std.specs.Prelude.{◌≡◌, ℕ, ◌+◌, ◌*◌, ◌<◌, ◌≤◌, Some, IsSome, IfOk, IfSome, length, map};
+ghost use Rattle.session_limits.specs.Limits.{max_callers};
 ghost use Rattle.session_values.specs.Serial.{serial, serial_replies, tables_before};
 ghost use Rattle.session_journal.specs.Journal.{after, ended};
 ghost use Rattle.session_journal.specs.Script.{IsScript, calls, session_of};
@@ -66,7 +67,7 @@ impl<S: Script + Drop> Book<S> {
     /// A book in which no ticket is begun. No later call takes memory.
     pub fn open(alloc: Global, script: S, callers: u32) -> Result<Book<S>, NoMemory>
         requires some { 1 ≤ callers }
-        requires few { callers ≤ 32 }
+        requires few { callers ≤ max_callers }
         ensures script { IfOk result (λ b. b.script ≡ script) }
         ensures opened { IfOk result (λ b. b.book ≡ opened (S.meaning script).requests callers) }
         ensures lawful { IfOk result (λ b. Lawful (S.meaning b.script) b.book) }

@@ -4,6 +4,7 @@ ghost use Rattle.std.specs.Prelude.{◌≡◌, ◌≤◌, Some, IsSome, IfOk, le
 ghost use Rattle.std.specs.Bool.{Decides};
 ghost use Rattle.admission_book.specs.CallerRecord.{idle_record, with_ticket, with_symbols, with_flight, after_flight, after_ticket};
 
+use session_limits::MAX_SYMBOLS;
 use session_values::{NoMemory, Op};
 use std::alloc::Global;
 use symbolic_ops::Foresight;
@@ -26,7 +27,7 @@ impl CallerRecord {
     pub(crate) fn idle(alloc: Global) -> Result<CallerRecord, NoMemory>
         ensures { IfOk result (λ r. r ≡ idle_record) }
     {
-        let foresight = Foresight::with_room(alloc, 256)?;
+        let foresight = Foresight::with_room(alloc, MAX_SYMBOLS)?;
         Ok(CallerRecord {
             ticket: None,
             foresight,

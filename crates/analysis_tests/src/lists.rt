@@ -6,6 +6,7 @@ use declaration_insertion::{Program, insert};
 use handler_check::check;
 use handler_syntax::parse;
 use may_use_analysis::later_sets;
+use session_limits::MAX_INPUT;
 use session_values::Names;
 use std::alloc::Global;
 use std::test::Fail;
@@ -13,7 +14,7 @@ use symbolic_ops::Symbol;
 
 /// The program of a source.
 fn program_of(alloc: Global, source: &str) -> Result<Program, Fail> {
-    if source.len() > 4_194_304 {
+    if source.len() > MAX_INPUT {
         return Err(Fail::from("too long"));
     }
     let mut names = Names::new(alloc)?;

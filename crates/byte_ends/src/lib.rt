@@ -14,7 +14,7 @@ mod writing;
 
 pub use memory_sink::MemorySink;
 pub use memory_source::MemorySource;
-pub use reading::{MAX_INPUT, Unread, read_all};
+pub use reading::{Unread, read_all};
 pub use sink::{Put, Sink};
 pub use source::{Got, Source};
 pub use sure_sink::SureSink;

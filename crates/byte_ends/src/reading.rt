@@ -1,14 +1,13 @@
 // All bytes of a source.
 
-ghost use Rattle.std.specs.Prelude.{◌≡◌, ◌<◌, ◌≤◌, length, vec_len, IfOk, OnOk, IfSome, IsErrOf};
+ghost use Rattle.std.specs.Prelude.{◌≡◌, ◌+◌, ◌<◌, ◌≤◌, length, vec_len, IfOk, OnOk, IfSome, IsErrOf};
+ghost use Rattle.session_limits.specs.Limits.{max_input};
 ghost use Rattle.byte_ends.specs.Ends.{Rose, IsAtEnd, LostFirst, LostAtMost};
 
 use crate::source::{Got, Source};
+use session_limits::MAX_INPUT;
 use std::alloc::Global;
 use thiserror::Error;
-
-/// The most bytes that are read.
-pub const MAX_INPUT: usize = 4194304;
 
 /// Why a source wasn't read to its end.
 #[derive(Clone, Copy, Debug, PartialEq, Eq, Error)]
@@ -28,20 +27,20 @@ pub enum Unread {
 pub fn read_all<I: Source>(alloc: Global, source: &mut I) -> Result<Vec<u8>, Unread>
     // These are all the bytes that were left, and the source is at its end.
     ensures read { IfOk result (λ bytes. IfSome (I.left source.old) (λ all. bytes.items ≡ all)) }
-    ensures bound { IfOk result (λ bytes. vec_len bytes ≤ 4194304) }
+    ensures bound { IfOk result (λ bytes. vec_len bytes ≤ max_input) }
     ensures end { OnOk result (IsAtEnd (I.left source.old) (I.left source.new)) }
     // There are more than the bound. The first ones up to the bound and one more are gone.
     ensures large { IsErrOf result Unread.TooLarge
-        → IfSome (I.left source.old) (λ all. 4194304 < length all) }
+        → IfSome (I.left source.old) (λ all. max_input < length all) }
     ensures gone { IsErrOf result Unread.TooLarge
-        → LostFirst (I.left source.old) (I.left source.new) 4194305 }
+        → LostFirst (I.left source.old) (I.left source.new) (max_input + 1) }
     ensures failed { IsErrOf result Unread.Failed
         → Rose (I.faults source.old) (I.faults source.new) }
     // What was read is gone, and no more: at a fault no more than the bound, and never more than
     // one byte above it.
     ensures broken { IsErrOf result Unread.Failed
-        → LostAtMost (I.left source.old) (I.left source.new) 4194304 }
-    ensures lost { LostAtMost (I.left source.old) (I.left source.new) 4194305 }
+        → LostAtMost (I.left source.old) (I.left source.new) max_input }
+    ensures lost { LostAtMost (I.left source.old) (I.left source.new) (max_input + 1) }
     ensures later { I.faults source.old ≤ I.faults source.new }
 {
     let mut bytes = Vec::new(alloc);

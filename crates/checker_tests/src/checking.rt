@@ -2,13 +2,14 @@
 
 use handler_check::{Checked, check};
 use handler_syntax::parse;
+use session_limits::MAX_INPUT;
 use session_values::Names;
 use std::alloc::Global;
 use std::test::Fail;
 
 /// A source, checked.
 fn checked_of(alloc: Global, source: &str) -> Result<Checked, Fail> {
-    if source.len() > 4_194_304 {
+    if source.len() > MAX_INPUT {
         return Err("too long")?;
     }
     let mut names = Names::with_seed(alloc, 0);

@@ -2,6 +2,7 @@
 // the sums of their calls and work, are stored runs, in `checks/`.
 
 ghost use Rattle.std.specs.Prelude.{◌≤◌, length};
+ghost use Rattle.session_limits.specs.Limits.{max_input};
 ghost use Rattle.handler_trees.specs.Mentions.{AreNamed, file_mentions};
 
 use handler_check::{Checked, check};
@@ -14,7 +15,7 @@ use std::test::Fail;
 
 // The parts of a text, or nothing.
 fn parts_of(text: &str) -> Option<(&str, &str, u32)>
-    requires { length text.now ≤ 4194304 }
+    requires { length text.now ≤ max_input }
 {
     let parts = divide(text)?;
     Some((parts.handlers, parts.requests, parts.first))

@@ -1,10 +1,12 @@
 // The command of a command line.
 
 ghost use Rattle.std.specs.Prelude.{◌≡◌, ◌≤◌, map, string_bytes, IfSome};
+ghost use Rattle.session_limits.specs.Limits.{max_callers, max_shards};
 ghost use Rattle.command_words.specs.Commands as spec;
 
 use crate::command::Command;
 use crate::number::number_within;
+use session_limits::{MAX_CALLERS, MAX_REQUESTS, MAX_SHARDS};
 
 /// How many callers serve where the words don't say, and over how many shards a table.
 const USUAL: u32 = 4;
@@ -58,8 +60,8 @@ fn serve_of(options: &[String]) -> Option<Command>
         [first, callers, second, shards] => {
             if first.as_str() == "--callers" && second.as_str() == "--shards" {
                 serve_by(
-                    number_within(1, 32, callers.as_str()),
-                    number_within(1, 8, shards.as_str()),
+                    number_within(1, MAX_CALLERS, callers.as_str()),
+                    number_within(1, MAX_SHARDS, shards.as_str()),
                 )
             } else {
                 None
@@ -75,9 +77,9 @@ fn serve_one(option: &str, number: &str) -> Option<Command>
     ensures bounds { IfSome result spec.IsWithinBounds }
 {
     if option == "--callers" {
-        serve_by(number_within(1, 32, number), Some(USUAL))
+        serve_by(number_within(1, MAX_CALLERS, number), Some(USUAL))
     } else if option == "--shards" {
-        serve_by(Some(USUAL), number_within(1, 8, number))
+        serve_by(Some(USUAL), number_within(1, MAX_SHARDS, number))
     } else {
         None
     }
@@ -85,8 +87,8 @@ fn serve_one(option: &str, number: &str) -> Option<Command>
 
 /// Serving with these numbers, if both are there.
 fn serve_by(callers: Option<u32>, shards: Option<u32>) -> Option<Command>
-    requires callers { IfSome callers (λ n. (1 ≤ n) × (n ≤ 32)) }
-    requires shards { IfSome shards (λ n. (1 ≤ n) × (n ≤ 8)) }
+    requires callers { IfSome callers (λ n. (1 ≤ n) × (n ≤ max_callers)) }
+    requires shards { IfSome shards (λ n. (1 ≤ n) × (n ≤ max_shards)) }
     ensures command { result ≡ spec.serve_by callers shards }
     ensures bounds { IfSome result spec.IsWithinBounds }
 {
@@ -101,7 +103,7 @@ fn work_of(requests: &str, start: &str) -> Option<Command>
     ensures command { result ≡ spec.work_of requests.now start.now }
     ensures bounds { IfSome result spec.IsWithinBounds }
 {
-    let requests = number_within(1, 20000, requests)?;
+    let requests = number_within(1, MAX_REQUESTS, requests)?;
     let start = number_within(0, 4294967295, start)?;
     Some(Command::Work { requests, start })
 }

@@ -1,6 +1,7 @@
 -- What the declarations of a handler promise of its runs.
 use Rattle.std.specs.Prelude.{◌≡◌, ℕ, ◌≤◌, List, [], ◌∷◌, ◌++◌, length, map, slice_index_or}
 use Rattle.std.specs.List.{AllByRecursion}
+use Rattle.session_limits.specs.Limits.{max_symbols}
 use Rattle.session_values.specs.declared.value.Value.{Value}
 use Rattle.session_values.specs.declared.op.Op.{Op}
 use Rattle.session_values.specs.Dialogue.{Calls as NextCalls}
@@ -52,7 +53,7 @@ CoversRest code env replies list =
 -- What the declarations promise of each run from the handler's entry, with these values of the parameters.
 pub record ArePromised (code : Code) (declared : Declarations) (env : Env) : Type 0 where
   -- each has at most 256 symbols, and no variable
-  pub few : (at : Place) → length (list_at declared at) ≤ 256
+  pub few : (at : Place) → length (list_at declared at) ≤ max_symbols
   pub known : (at : Place) → AllByRecursion HasNoVar (list_at declared at)
   -- each is covered by the one before it
   pub covered : (replies : List Value) → IsCoveredChain declared (entry env)

@@ -2,6 +2,7 @@
 
 ghost use Rattle.std.specs.Prelude.{◌≡◌, ℕ, ◌<◌, List, length, map};
 ghost use Rattle.std.specs.List.{AllByRecursion};
+ghost use Rattle.session_limits.specs.Limits.{max_variables};
 ghost use Rattle.session_values.specs.declared.kind.TableKind.{TableKind};
 ghost use Rattle.session_values.specs.declared.value.Value.{Value};
 ghost use Rattle.session_values.specs.Values.{IsValue};
@@ -32,7 +33,7 @@ pub fn programs_declare()
         → (args : List Value) → AllByRecursion IsValue args
         → ArePromised (code_at p.file h) (declared_at p h) (env_of args) }
     ensures vars { (p : ProgramView) → IsProgram p → (h : ℕ) → h < length p.file.handlers
-        → (point : ℕ) → AllByRecursion (λ s. IsWithin 32 s) (declared_at p h point) }
+        → (point : ℕ) → AllByRecursion (λ s. IsWithin max_variables s) (declared_at p h point) }
 {}
 
 /// A declaration with the values of its variables, as they are put into it.

@@ -2,6 +2,7 @@
 
 ghost use Rattle.std.specs.Prelude.{◌≡◌, ◌+◌, ◌<◌, ◌≤◌, IfOk, length};
 ghost use Rattle.std.specs.List.{AllByRecursion};
+ghost use Rattle.session_limits.specs.Limits.{max_symbols, max_variables};
 ghost use Rattle.symbolic_ops.specs.Instantiate.{IsWithin};
 ghost use Rattle.handler_dialogue.specs.Code.{points};
 ghost use Rattle.handler_check.specs.Resolved.{code_at};
@@ -59,8 +60,8 @@ impl Program {
     pub fn entry(&self, h: u32) -> &[Symbol]
         requires { h < length self.now.file.handlers }
         ensures list { result.now ≡ declared_at self.now h 0 }
-        ensures few { length result.now ≤ 256 }
-        ensures vars { AllByRecursion (λ s. IsWithin 32 s) result.now }
+        ensures few { length result.now ≤ max_symbols }
+        ensures vars { AllByRecursion (λ s. IsWithin max_variables s) result.now }
     {
         self.declaration(h, 0)
     }
@@ -70,8 +71,8 @@ impl Program {
         requires handler { h < length self.now.file.handlers }
         requires point { point < 1 + points (code_at self.now.file h) }
         ensures list { result.now ≡ declared_at self.now h point }
-        ensures few { length result.now ≤ 256 }
-        ensures vars { AllByRecursion (λ s. IsWithin 32 s) result.now }
+        ensures few { length result.now ≤ max_symbols }
+        ensures vars { AllByRecursion (λ s. IsWithin max_variables s) result.now }
     {
         self.later.list(h, point)
     }

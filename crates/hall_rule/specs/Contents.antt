@@ -39,7 +39,8 @@ abbrev pub needed : Meaning → ℕ → ℕ → ℕ
 needed m turns j = size_of (share m turns [] j) + room m (j / shards_in m turns)
 
 -- the content of turn j + 1 after the journal
-pub record IsShard {S : Type 0} (m : Meaning) (turns : ℕ) (J : List Event) (j : ℕ) (x : Content S) : Type 0 where
+pub record IsShard {S : Type 0} (m : Meaning) (turns : ℕ) (J : List Event) (j : ℕ)
+    (x : Content S) : Type 0 where
   pub container : Container
   pub room : ℕ
   pub is : x ≡ Shard container room

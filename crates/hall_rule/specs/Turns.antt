@@ -23,7 +23,8 @@ ChangedBy op (Some x) (Some y) = (c : Container) × (room : ℕ) × (x ≡ Shard
     × (y ≡ Shard (after_on c op) room)
 
 -- the operation was done on its shards: its turns and no others are held, and each has in hand what the operation makes of its counted content; v is its reply after every journal whose shards these are
-pub record WasDone {S : Type 0} (m : Meaning) (turns : ℕ) (op : Op) (v : Value) (held hands : ℕ → Option (Content S)) : Type 0 where
+pub record WasDone {S : Type 0} (m : Meaning) (turns : ℕ) (op : Op) (v : Value)
+    (held hands : ℕ → Option (Content S)) : Type 0 where
   pub no_book : held 0 ≡ None
   pub each : (j : ℕ) → ChangedBy op (held (suc j)) (hands (suc j))
   pub mine : (j : ℕ) (x : Content S) → held (suc j) ≡ Some x → IsTurnOf (shards_in m turns) op j

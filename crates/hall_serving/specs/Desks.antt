@@ -62,7 +62,8 @@ KnowsReply c t None = has_ended c.stage ≡ false
 KnowsReply c t (Some r) = (t < begun (book_of c).journal) × (ended (book_of c).journal t ≡ Some r)
 
 -- its caller is one of the hall's, and serves the ticket, or has ended it with the Reply
-pub record DeskStands {S : Type 0} (meaning : S → Meaning) (h : Hall S) (c : Caller S) (t : ℕ) (r : Option Reply) : Type 0 where
+pub record DeskStands {S : Type 0} (meaning : S → Meaning) (h : Hall S) (c : Caller S) (t : ℕ)
+    (r : Option Reply) : Type 0 where
   pub caller : IsCallerOf meaning h c
   pub at : AtTicket c.stage t r
   pub known : KnowsReply c t r

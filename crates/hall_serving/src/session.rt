@@ -1,6 +1,7 @@
 // A session served from the opening of its hall to its closing.
 
 ghost use Rattle.std.specs.Prelude.{◌≡◌, ◌<◌, ◌≤◌, IfOk, length, vec_len};
+ghost use Rattle.session_limits.specs.Limits.{max_callers, max_shards, max_tables};
 ghost use Rattle.session_hall.specs.Closings.{IsDone};
 ghost use Rattle.hall_serving.specs.Jobs.{AllReady};
 
@@ -40,9 +41,9 @@ pub fn serve_session<R: Threads + Wait + Sync, S: Serves + Drop + Send + Sync, G
 ) -> Result<Closed, NoMemory>
     requires plan { plan.now ≡ script }
     requires shape { shape.now ≡ (S.meaning script).shape }
-    requires tables { length shape.now ≤ 7 }
-    requires shards { (1 ≤ shards) × (shards ≤ 8) }
-    requires callers { (1 ≤ callers) × (callers ≤ 32) }
+    requires tables { length shape.now ≤ max_tables }
+    requires shards { (1 ≤ shards) × (shards ≤ max_shards) }
+    requires callers { (1 ≤ callers) × (callers ≤ max_callers) }
     ensures done { IfOk result (IsDone (S.meaning script)) }
     ensures callers { IfOk result (λ d. d.callers ≡ callers) }
     ensures shards { IfOk result (λ d. d.shards ≡ shards) }

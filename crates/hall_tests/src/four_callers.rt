@@ -3,6 +3,7 @@
 // closes.
 
 ghost use Rattle.std.specs.Prelude.{◌≡◌, ◌≤◌, ◌∷◌, [], IfOk, length, map, true};
+ghost use Rattle.session_limits.specs.Limits.{max_callers, max_shards, max_tables};
 ghost use Rattle.session_values.specs.declared.kind.TableKind.TheVariants.{Map};
 ghost use Rattle.session_values.specs.Tables.{Fits, kind_of};
 
@@ -65,9 +66,9 @@ fn served_by<R: Threads + Wait + Abort + Sync>(
     callers: u32,
 ) -> Closed
     requires shape { list.now.list.shape ≡ shape.now }
-    requires tables { length shape.now ≤ 7 }
-    requires shards { (1 ≤ shards) × (shards ≤ 8) }
-    requires callers { (1 ≤ callers) × (callers ≤ 32) }
+    requires tables { length shape.now ≤ max_tables }
+    requires shards { (1 ≤ shards) × (shards ≤ max_shards) }
+    requires callers { (1 ≤ callers) × (callers ≤ max_callers) }
 {
     let script = RepeatedScript { list };
     let plan = RepeatedScript { list };

@@ -9,7 +9,6 @@ pub mod Meaning
 pub mod Numbers
 pub mod Resolving
 pub mod Scans
-pub mod Sizes
 pub mod Walks
 pub mod ExcessLemmas
 pub mod Within

@@ -1,6 +1,7 @@
 -- Checked files.
 use Rattle.std.specs.Prelude.{◌≡◌, ℕ, ◌≤◌, List}
 use Rattle.std.specs.List.{AllZip}
+use Rattle.session_limits.specs.Limits.{max_calls, max_variables, max_work}
 use Rattle.handler_trees.specs.declared.file.File.{File}
 use Rattle.handler_dialogue.specs.declared.tree.CheckedHandler.{CheckedHandler}
 use Rattle.handler_dialogue.specs.Bounds.{calls_bound, work_bound}
@@ -14,11 +15,11 @@ use Rattle.handler_check.specs.Resolved.{IsResolved, code_at, params_at, shape_o
 -- what holds of the handler of each number, in a file that is accepted and keeps its bounds
 pub record HandlerWithin (f : File) (h : ℕ) : Type 0 where
   -- the parameters are among the 32 variables that a handler may have
-  pub params : params_at f h ≤ 32
-  pub within : CodeWithin (shape_of f) 32 (code_at f h)
+  pub params : params_at f h ≤ max_variables
+  pub within : CodeWithin (shape_of f) max_variables (code_at f h)
   pub numbered : IsNumbered (code_at f h) 1
-  pub calls : calls_bound (code_at f h) ≤ 10000
-  pub work : work_bound (code_at f h) ≤ 100000
+  pub calls : calls_bound (code_at f h) ≤ max_calls
+  pub work : work_bound (code_at f h) ≤ max_work
 
 -- the bounds of a resolved handler
 pub record AreBoundsOf (c : CheckedHandler) (b : HandlerBounds) : Type 0 where
@@ -31,7 +32,8 @@ pub record IsKept (f : File) : Type 0 where
   pub bounded : KeepsBounds f
 
 -- the file breaks no rule and keeps its bounds, and these are its handlers and their bounds
-pub record IsChecked (f : File) (handlers : List CheckedHandler) (bounds : List HandlerBounds) : Type 0 where
+pub record IsChecked (f : File) (handlers : List CheckedHandler)
+    (bounds : List HandlerBounds) : Type 0 where
   pub accepted : IsAccepted f
   pub bounded : KeepsBounds f
   pub resolved : AllZip (IsResolved (table_names f)) f.handlers handlers

@@ -1,6 +1,7 @@
 -- What the checker accepts, and what it refuses.
 use Rattle.std.specs.Prelude.{◌≡◌, ◌<◌, ◌⊎◌}
 use Rattle.std.specs.List.{Contains}
+use Rattle.session_limits.specs.Limits.{max_calls, max_work}
 use Rattle.handler_trees.specs.declared.file.File.{File}
 use Rattle.handler_trees.specs.declared.file.Handler.{Handler}
 use Rattle.handler_dialogue.specs.Bounds.{calls_bound, work_bound}
@@ -12,9 +13,9 @@ use Rattle.handler_check.specs.Resolved.{handler_code}
 -- a handler that may do too much, at the place of its name
 abbrev pub IsBeyond : File → CheckRefusal → Type 0
 IsBeyond f (TooManyCalls at) = (h : Handler) × Contains f.handlers h × (h.at ≡ at)
-    × (10000 < calls_bound (handler_code f h))
+    × (max_calls < calls_bound (handler_code f h))
 IsBeyond f (TooMuchWork at) = (h : Handler) × Contains f.handlers h × (h.at ≡ at)
-    × (100000 < work_bound (handler_code f h))
+    × (max_work < work_bound (handler_code f h))
 IsBeyond f (Twice at) = ⊥
 IsBeyond f (Unknown at) = ⊥
 IsBeyond f (Arity at) = ⊥

@@ -1,6 +1,7 @@
 -- The first handler that may do too much, as a walk over resolved handlers finds it.
 use Rattle.std.specs.Prelude.{◌≡◌, ℕ, nat_lt, List, [], ◌∷◌, None}
 use Rattle.std.specs.List.{AllZip}
+use Rattle.session_limits.specs.Limits.{max_calls, max_work}
 use Rattle.handler_trees.specs.declared.file.Handler.{Handler}
 use Rattle.handler_dialogue.specs.declared.tree.CheckedHandler.{CheckedHandler}
 use Rattle.handler_dialogue.specs.Bounds.{calls_bound, work_bound}
@@ -10,8 +11,8 @@ use Rattle.handler_rules.specs.Scan.{Fault, or_else, fault_if}
 use Rattle.handler_check.specs.Resolved.{IsResolved}
 
 abbrev pub code_excess : Code → ℕ → Fault
-code_excess code at = or_else (fault_if (nat_lt 10000 (calls_bound code)) (TooManyCalls at))
-    (fault_if (nat_lt 100000 (work_bound code)) (TooMuchWork at))
+code_excess code at = or_else (fault_if (nat_lt max_calls (calls_bound code)) (TooManyCalls at))
+    (fault_if (nat_lt max_work (work_bound code)) (TooMuchWork at))
 
 abbrev pub own_excess : CheckedHandler → Fault
 own_excess c = code_excess (block_code c.body) c.at

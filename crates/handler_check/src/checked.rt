@@ -2,6 +2,7 @@
 
 ghost use Rattle.std.specs.Prelude.{◌≡◌, ◌≢◌, ◌+◌, ◌<◌, ◌≤◌, ◌==◌, ℕ, IfNone, IfOk, IfSome, MatchResult, Some, length, slice_get};
 ghost use Rattle.std.specs.List.{position};
+ghost use Rattle.session_limits.specs.Limits.{max_calls, max_handlers, max_work};
 ghost use Rattle.handler_trees.specs.declared.file.Handler.{Handler};
 ghost use Rattle.handler_check.specs.Checked.{HandlerWithin};
 ghost use Rattle.handler_check.specs.Checking.{IsAccepted, IsRefusal};
@@ -79,7 +80,7 @@ impl Checked {
     /// How many handlers it has.
     pub fn handlers(&self) -> u32
         ensures count { result ≡ length self.now.handlers }
-        ensures few { result ≤ 64 }
+        ensures few { result ≤ max_handlers }
     {
         self.file.handlers.len()
     }
@@ -120,7 +121,7 @@ impl Checked {
     pub fn calls_bound(&self, h: u32) -> u32
         requires { h < length self.now.handlers }
         ensures bound { result ≡ spec.calls_bound (code_at self.now h) }
-        ensures few { result ≤ 10000 }
+        ensures few { result ≤ max_calls }
     {
         self.bounds.get(h).calls
     }
@@ -129,7 +130,7 @@ impl Checked {
     pub fn work_bound(&self, h: u32) -> u32
         requires { h < length self.now.handlers }
         ensures bound { result ≡ spec.work_bound (code_at self.now h) }
-        ensures few { result ≤ 100000 }
+        ensures few { result ≤ max_work }
     {
         self.bounds.get(h).work
     }
@@ -139,7 +140,7 @@ impl Checked {
     pub fn adds_bound(&self, h: u32, table: u32) -> u32
         requires { h < length self.now.handlers }
         ensures bound { result ≡ spec.adds_bound table (code_at self.now h) }
-        ensures few { result ≤ 10000 }
+        ensures few { result ≤ max_calls }
     {
         let handler = self.handler(h);
         count_calls(Counted::Adding(table), handler.body.as_slice())

@@ -11,14 +11,9 @@ use crate::resolution::listed;
 use crate::work::count_work;
 use handler_dialogue::CheckedHandler;
 use handler_rules::CheckRefusal;
+use session_limits::{MAX_CALLS, MAX_WORK};
 use session_values::Listed;
 use std::alloc::Global;
-
-/// The most operations that a handler may make by its bound.
-const MOST_CALLS: u32 = 10_000;
-
-/// The most work that a handler may do by its bound.
-const MOST_WORK: u32 = 100_000;
 
 /// The bounds of handlers, or the first handler, in their order, that may make more than 10,000
 /// calls, or whose work may be above 100,000.
@@ -43,11 +38,11 @@ fn bound_handler(handler: &CheckedHandler) -> Result<HandlerBounds, CheckRefusal
 {
     let body = handler.body.as_slice();
     let calls = count_calls(Counted::Every, body);
-    if calls > MOST_CALLS {
+    if calls > MAX_CALLS {
         return Err(CheckRefusal::TooManyCalls { at: handler.at });
     }
     let work = count_work(body);
-    if work > MOST_WORK {
+    if work > MAX_WORK {
         return Err(CheckRefusal::TooMuchWork { at: handler.at });
     }
     Ok(HandlerBounds { calls, work })
@@ -59,10 +54,10 @@ pub(crate) fn excess(handler: &CheckedHandler) -> Option<CheckRefusal>
     ensures { result ≡ spec.own_excess handler.now }
 {
     let body = handler.body.as_slice();
-    if count_calls(Counted::Every, body) > MOST_CALLS {
+    if count_calls(Counted::Every, body) > MAX_CALLS {
         return Some(CheckRefusal::TooManyCalls { at: handler.at });
     }
-    if count_work(body) > MOST_WORK {
+    if count_work(body) > MAX_WORK {
         return Some(CheckRefusal::TooMuchWork { at: handler.at });
     }
     None

@@ -16,6 +16,7 @@ use self::names::declare_variable;
 use self::stmt::find_in_block;
 use handler_rules::CheckRefusal;
 use handler_trees::{Handler, Param, TableDecl};
+use session_limits::MAX_TABLES;
 use session_values::NoMemory;
 use std::alloc::Global;
 
@@ -28,7 +29,7 @@ pub(crate) fn find_in_tables(alloc: Global, tables: &[TableDecl]) -> Result<Vec<
     let mut earlier = Vec::new(alloc);
     for table in tables {
         let past = CheckRefusal::TooManyTables { at: table.at };
-        declare(&mut earlier, 7, past, table.name, table.at)?;
+        declare(&mut earlier, MAX_TABLES, past, table.name, table.at)?;
     }
     Ok(earlier)
 }

@@ -2,6 +2,7 @@
 
 ghost use Rattle.std.specs.Prelude.{◌≡◌, ◌≤◌, ◌⊎◌, ℕ, List, length};
 ghost use Rattle.std.specs.List.{Contains};
+ghost use Rattle.session_limits.specs.Limits.{max_handlers, max_tables};
 ghost use Rattle.handler_trees.specs.declared.file.File.{File};
 ghost use Rattle.handler_trees.specs.declared.file.Handler.{Handler};
 ghost use Rattle.session_values.specs.declared.kind.Kind.{Kind};
@@ -42,8 +43,8 @@ pub fn names_stand_for_declarations()
 /// and handlers there are.
 pub fn accepted_files_are_within()
     ensures handler { (f : File) → IsAccepted f → KeepsBounds f → (h : ℕ) → HandlerWithin f h }
-    ensures handlers { (f : File) → IsAccepted f → length f.handlers ≤ 64 }
-    ensures tables { (f : File) → IsAccepted f → length f.tables ≤ 7 }
+    ensures handlers { (f : File) → IsAccepted f → length f.handlers ≤ max_handlers }
+    ensures tables { (f : File) → IsAccepted f → length f.tables ≤ max_tables }
 {}
 
 /// A file whose places rise in the order of its text is accepted or has a first fault, one at most

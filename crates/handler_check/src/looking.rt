@@ -15,6 +15,7 @@ use handler_dialogue::CheckedHandler;
 use handler_rules::CheckRefusal;
 use handler_rules::laws::walk_finds_first;
 use handler_trees::{File, Handler, TableDecl};
+use session_limits::MAX_HANDLERS;
 use std::alloc::Global;
 
 fn first_of(one: Option<CheckRefusal>, other: Option<CheckRefusal>) -> Option<CheckRefusal>
@@ -41,7 +42,7 @@ fn look_at_handlers(
     let mut beyond = None;
     for handler in handlers {
         let past = CheckRefusal::TooManyHandlers { at: handler.at };
-        declare(&mut earlier, 64, past, handler.name, handler.at)?;
+        declare(&mut earlier, MAX_HANDLERS, past, handler.name, handler.at)?;
         let one = resolve_handler(alloc, declared, tables, handler)?;
         beyond = first_of(beyond, excess(&one));
     }

@@ -19,6 +19,7 @@ use handler_dialogue::{CheckedBlock, CheckedHandler, CheckedStmt};
 use handler_rules::CheckRefusal;
 use handler_rules::laws::walk_finds_first;
 use handler_trees::{Call, File, Handler, Right, Stmt, TableDecl};
+use session_limits::MAX_HANDLERS;
 use session_values::{Listed, NoMemory};
 use std::alloc::Global;
 
@@ -225,7 +226,7 @@ fn resolve_handlers(
     let mut found = Vec::new(alloc);
     for handler in handlers {
         let past = CheckRefusal::TooManyHandlers { at: handler.at };
-        declare(&mut earlier, 64, past, handler.name, handler.at)?;
+        declare(&mut earlier, MAX_HANDLERS, past, handler.name, handler.at)?;
         let one = resolve_handler(alloc, declared, tables, handler)?;
         found.push(one)?;
     }

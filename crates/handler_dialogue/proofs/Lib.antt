@@ -1,3 +1,4 @@
 pub mod Bounded
 pub mod Held
 pub mod Runs
+pub mod Codes

@@ -1,6 +1,7 @@
 -- Code that speaks of variables and tables which exist.
 use Rattle.std.specs.Prelude.{◌≡◌, ℕ, ◌<◌, ◌≤◌, List, length, Option, Some, None, slice_get}
 use Rattle.std.specs.List.{AllByRecursion}
+use Rattle.session_limits.specs.Limits.{max_turns}
 use Rattle.session_values.specs.declared.value.Value.TheVariants.{Nil}
 use Rattle.session_values.specs.declared.kind.TableKind.{TableKind}
 use Rattle.session_values.specs.Kinds.{arguments, home}
@@ -39,7 +40,7 @@ CodeWithin shape n (Ask at p x c rest) = VarWithin n x × CallWithin shape n c
     × CodeWithin shape n rest
 CodeWithin shape n (Fork at p q test a b rest) = (TermWithin n test.left × TermWithin n test.right)
     × CodeWithin shape n a × CodeWithin shape n b × CodeWithin shape n rest
-CodeWithin shape n (Loop at p turns x body rest) = (x < n) × (0 < turns) × (turns ≤ 1000)
+CodeWithin shape n (Loop at p turns x body rest) = (x < n) × (0 < turns) × (turns ≤ max_turns)
     × CodeWithin shape n body × CodeWithin shape n rest
 CodeWithin shape n (Quit es rest) = (0 < length es) × (length es ≤ 4)
     × AllByRecursion (TermWithin n) es × CodeWithin shape n rest

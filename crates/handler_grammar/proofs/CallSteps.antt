@@ -8,11 +8,11 @@ use Rattle.handler_tokens.specs.declared.word.Sort.TheVariants as sort
 use Rattle.handler_tokens.specs.Words.{first_word}
 use Rattle.handler_trees.specs.declared.stmt.Compare.{Compare}
 use Rattle.handler_grammar.specs.declared.input.Input.{Input}
-use Rattle.handler_grammar.specs.declared.refusal.SyntaxRefusal.{SyntaxRefusal}
-use Rattle.handler_grammar.specs.Sorts.{operation, comparison, table_kind, call_start, statement_start}
-use Rattle.handler_grammar.specs.declared.sorts.Start.{Start}
-use Rattle.handler_grammar.specs.declared.sorts.Start.TheVariants as start
-use Rattle.handler_grammar.specs.Next.{Part, call_parts, where_operation, a_right, expression, expression_row, taking, at_top, after_taking, fault}
+use Rattle.handler_phrases.specs.declared.refusals.SyntaxRefusal.{SyntaxRefusal}
+use Rattle.handler_phrases.specs.Sorts.{operation, comparison, table_kind, call_start, statement_start}
+use Rattle.handler_phrases.specs.declared.sorts.Start.{Start}
+use Rattle.handler_phrases.specs.declared.sorts.Start.TheVariants as start
+use Rattle.handler_phrases.specs.Next.{Part, call_parts, where_operation, a_right, expression, expression_row, taking, at_top, after_taking, fault}
 use Rattle.handler_grammar.specs.Reads.{Refused, Passed}
 
 -- ---- the word of an operation

@@ -3,9 +3,9 @@ use Rattle.std.proofs.Common.{◌≡◌, ◌≤◌, ◌<◌, ◌∷◌, ap, leng
 use Rattle.std.specs.Prelude.{◌≢◌, OnOk}
 use Rattle.handler_tokens.specs.declared.word.Word.{Word}
 use Rattle.handler_grammar.specs.declared.input.Input.{Input}
-use Rattle.handler_grammar.specs.declared.refusal.SyntaxRefusal.{SyntaxRefusal}
-use Rattle.handler_grammar.specs.declared.refusal.SyntaxRefusal.TheVariants.{NoMemory}
-use Rattle.handler_grammar.specs.Next.{Part}
+use Rattle.handler_phrases.specs.declared.refusals.SyntaxRefusal.{SyntaxRefusal}
+use Rattle.handler_phrases.specs.declared.refusals.SyntaxRefusal.TheVariants.{NoMemory}
+use Rattle.handler_phrases.specs.Next.{Part}
 use Rattle.handler_grammar.specs.Reads.{Refused, Reads}
 
 -- a refusal is passed on

@@ -2,19 +2,21 @@
 use Rattle.std.proofs.Common.{◌≡◌, ◌≤◌, ℕ, List, [], ◌∷◌, ◌++◌, Some, leb, refl, sym, ap, ◌∙◌, arith}
 use Rattle.std.proofs.lemmas.Bool.{le-leb}
 use Rattle.std.specs.Prelude.{Result, Ok, Err}
+use Rattle.session_limits.specs.Limits.{max_signs}
 use Rattle.handler_tokens.specs.declared.word.Word.{Word}
 use Rattle.handler_tokens.specs.declared.word.Sort.{Sort}
 use Rattle.handler_tokens.specs.declared.word.Sort.TheVariants as sort
 use Rattle.handler_tokens.specs.Words.{first_word}
 use Rattle.handler_trees.specs.declared.expr.Expr.{Expr}
 use Rattle.handler_grammar.specs.declared.input.Input.{Input}
-use Rattle.handler_grammar.specs.declared.refusal.SyntaxRefusal.{SyntaxRefusal}
-use Rattle.handler_grammar.specs.declared.refusal.SyntaxRefusal.TheVariants.{TooDeep}
-use Rattle.handler_grammar.specs.Bounds.{operator_signs, where_over, max_signs}
-use Rattle.handler_grammar.specs.Next.{Part, row, broken, Opened, expression, operand, more_factors, more_terms, an_atom, fault}
-use Rattle.handler_grammar.specs.Phrase.{word, expr_words}
-use Rattle.handler_grammar.specs.Tree.{expr_tree}
+use Rattle.handler_phrases.specs.declared.refusals.SyntaxRefusal.{SyntaxRefusal}
+use Rattle.handler_phrases.specs.declared.refusals.SyntaxRefusal.TheVariants.{TooDeep}
+use Rattle.handler_phrases.specs.Bounds.{operator_signs, where_over}
+use Rattle.handler_phrases.specs.Next.{Part, row, broken, Opened, expression, operand, more_factors, more_terms, an_atom, fault}
+use Rattle.handler_phrases.specs.Phrase.{word, expr_words}
+use Rattle.handler_phrases.specs.Tree.{expr_tree}
 use Rattle.handler_grammar.specs.Reads.{Refused, Passed, Reads}
+use Rattle.handler_phrases.proofs.Taken.{expression_same}
 use Rattle.handler_grammar.proofs.Steps.{in_front, refused_is, refused_limit}
 
 -- an operand that doesn't begin with a parenthesis is an atom
@@ -36,20 +38,6 @@ passed_atom U ps qs a b off f = record {
 
 pub refused_atom : (U : List Part → Type 0) (ps : List Part) (a : Input) (e : SyntaxRefusal) → ((first_word a.reader.end a.reader.words).sort ≡ sort.LeftParen → ⊥) → Refused U (an_atom ∷ ps) a e → Refused U (operand ∷ ps) a e
 refused_atom U ps a e off f = record { fault_is = λ under h. operand_same a.reader.end (ps ++ under) a.signs a.reader.words off ∙ f.fault_is under h }
-
--- a whole expression begins as an operand does, with no sign so far
-expression_start : (end : ℕ) (under : List Part) (n : ℕ) (s : Sort) (at : ℕ) (ws : List Word) → fault end (expression ∷ under) n (word s at ∷ ws) ≡ fault end (operand ∷ more_factors ∷ more_terms ∷ under) 0 (word s at ∷ ws)
-expression_start end under n (sort.Name x) at ws = refl
-expression_start end under n (sort.Symbol x) at ws = refl
-expression_start end under n (sort.Number x) at ws = refl
-expression_start end under n sort.Nil at ws = refl
-expression_start end under n sort.Minus at ws = refl
-expression_start end under n sort.LeftParen at ws = refl
-expression_start end under n _ at ws = refl
-
-pub expression_same : (end : ℕ) (under : List Part) (n : ℕ) (ws : List Word) → fault end (expression ∷ under) n ws ≡ fault end (operand ∷ more_factors ∷ more_terms ∷ under) 0 ws
-expression_same end under n [] = refl
-expression_same end under n (w ∷ ws) = expression_start end under n w.sort w.at ws
 
 pub whole_reads : (a b : Input) (r : Result Expr SyntaxRefusal) → Reads expr_words expr_tree (Opened 0) (operand ∷ more_factors ∷ more_terms ∷ []) [] (record a { signs = 0 }) r b → Reads expr_words expr_tree (Opened 0) (expression ∷ []) [] a r b
 whole_reads a b (Ok v) f = (

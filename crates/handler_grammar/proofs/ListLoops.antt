@@ -7,9 +7,9 @@ use Rattle.handler_trees.specs.declared.file.Param.{Param}
 use Rattle.handler_trees.specs.declared.file.Handler.{Handler}
 use Rattle.handler_trees.specs.declared.file.TableDecl.{TableDecl}
 use Rattle.handler_grammar.specs.declared.input.Input.{Input}
-use Rattle.handler_grammar.specs.Next.{Anywhere, Inside, statements, a_name, more_params, handlers, tables}
-use Rattle.handler_grammar.specs.Phrase.{word, NamePhrase, name_words, StmtPhrase, StmtsPhrase, no_stmt, more_stmts, stmt_words, stmts_words, MoreParams, no_more, more_param, more_params_words, HandlerPhrase, HandlersPhrase, no_handler, more_handlers, handler_words, handlers_words, TablePhrase, TablesPhrase, no_table, more_tables, table_words, tables_words}
-use Rattle.handler_grammar.specs.Tree.{stmt_tree, stmts_trees, param_of, more_params_trees, handler_tree, handlers_trees, table_tree, tables_trees}
+use Rattle.handler_phrases.specs.Next.{Anywhere, Inside, statements, a_name, more_params, handlers, tables}
+use Rattle.handler_phrases.specs.Phrase.{word, NamePhrase, name_words, StmtPhrase, StmtsPhrase, no_stmt, more_stmts, stmt_words, stmts_words, MoreParams, no_more, more_param, more_params_words, HandlerPhrase, HandlersPhrase, no_handler, more_handlers, handler_words, handlers_words, TablePhrase, TablesPhrase, no_table, more_tables, table_words, tables_words}
+use Rattle.handler_phrases.specs.Tree.{stmt_tree, stmts_trees, param_of, more_params_trees, handler_tree, handlers_trees, table_tree, tables_trees}
 use Rattle.handler_grammar.specs.Reads.{Passed}
 
 -- ---- the statements of a block

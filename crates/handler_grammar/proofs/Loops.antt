@@ -8,9 +8,9 @@ use Rattle.handler_trees.specs.declared.expr.Expr.{Expr}
 use Rattle.handler_trees.specs.declared.expr.Expr.TheVariants as expr
 use Rattle.handler_trees.specs.declared.expr.Calc.TheVariants as calc
 use Rattle.handler_grammar.specs.declared.input.Input.{Input}
-use Rattle.handler_grammar.specs.Next.{Anywhere, Opened, an_atom, more_arguments, expression, more_values, operand, more_factors, more_terms}
-use Rattle.handler_grammar.specs.Phrase.{word, AtomPhrase, atom_words, MoreAtoms, no_atom, more_atom, atom_count, atoms_words, ExprPhrase, expr_words, MoreValues, no_value, more_value, value_count, more_words, FactorPhrase, MoreFactors, no_factor, times, TermPhrase, MoreTerms, no_term, plus, minus, factor_words, factors_words, term_words, terms_words}
-use Rattle.handler_grammar.specs.Tree.{atom_tree, atoms_trees, expr_tree, more_trees, factor_tree, factors_tree, term_tree, terms_tree}
+use Rattle.handler_phrases.specs.Next.{Anywhere, Opened, an_atom, more_arguments, expression, more_values, operand, more_factors, more_terms}
+use Rattle.handler_phrases.specs.Phrase.{word, AtomPhrase, atom_words, MoreAtoms, no_atom, more_atom, atom_count, atoms_words, ExprPhrase, expr_words, MoreValues, no_value, more_value, value_count, more_words, FactorPhrase, MoreFactors, no_factor, times, TermPhrase, MoreTerms, no_term, plus, minus, factor_words, factors_words, term_words, terms_words}
+use Rattle.handler_phrases.specs.Tree.{atom_tree, atoms_trees, expr_tree, more_trees, factor_tree, factors_tree, term_tree, terms_tree}
 use Rattle.handler_grammar.specs.Reads.{Passed}
 use Rattle.handler_grammar.proofs.Steps.{took_seen, passed_then, passed_one}
 

@@ -4,9 +4,10 @@ use Rattle.handler_tokens.specs.declared.word.Word.{Word}
 use Rattle.handler_tokens.specs.declared.word.Sort.TheVariants as sort
 use Rattle.handler_tokens.specs.Words.{first_word}
 use Rattle.handler_grammar.specs.declared.input.Input.{Input}
-use Rattle.handler_grammar.specs.Next.{Part, Anywhere, first_param, more_params, a_name, first_param_row, name_row, fault}
+use Rattle.handler_phrases.specs.Next.{Part, Anywhere, first_param, more_params, a_name, first_param_row, name_row, fault}
 use Rattle.handler_grammar.specs.Reads.{Passed}
-use Rattle.handler_grammar.proofs.Steps.{taken, passed_then, passed_still}
+use Rattle.handler_phrases.proofs.Taken.{taken}
+use Rattle.handler_grammar.proofs.Steps.{passed_then, passed_still}
 
 -- a first parameter is a name, and more of them may follow
 first_as : (end n : ℕ) (ws : List Word) (under : List Part) (w : Word) (name : ℕ) → w ≡ first_word end ws → w.sort ≡ sort.Name name → fault end (first_param ∷ under) n ws ≡ fault end (a_name ∷ more_params ∷ under) n ws

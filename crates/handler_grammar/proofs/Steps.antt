@@ -5,21 +5,16 @@ use Rattle.handler_tokens.specs.declared.word.Word.{Word}
 use Rattle.handler_tokens.specs.declared.word.Sort.{Sort}
 use Rattle.handler_tokens.specs.declared.word.Sort.TheVariants as sort
 use Rattle.handler_tokens.specs.Words.{first_word}
-use Rattle.handler_grammar.specs.Phrase.{word}
+use Rattle.handler_phrases.specs.Phrase.{word}
 use Rattle.handler_grammar.specs.declared.input.Input.{Input}
-use Rattle.handler_grammar.specs.declared.refusal.SyntaxRefusal.{SyntaxRefusal}
-use Rattle.handler_grammar.specs.Refusal.{refusal}
-use Rattle.handler_grammar.specs.Bounds.{Limit, limit_refusal}
-use Rattle.handler_grammar.specs.Next.{Part, row, taking, at_top, or_below, broken, signs_after, go_on, after_taking, fault, may_be_empty, may_end, at_end}
+use Rattle.handler_phrases.specs.declared.refusals.SyntaxRefusal.{SyntaxRefusal}
+use Rattle.handler_phrases.specs.Refusal.{refusal}
+use Rattle.handler_phrases.specs.Bounds.{Limit, limit_refusal}
+use Rattle.handler_phrases.specs.Next.{Part, row, taking, at_top, or_below, broken, signs_after, go_on, after_taking, fault, may_be_empty, may_end, at_end}
+use Rattle.handler_phrases.proofs.Taken.{taken}
 use Rattle.handler_grammar.specs.Reads.{HasNoEnd, fault_at, Refused, Passed}
 
 -- ---- one word against the walk
-
--- a part that takes a word within the limits
-pub taken : (end : ℕ) (p : Part) (left under : List Part) (signs : ℕ) (w : Word) (ws : List Word) → row p w.sort ≡ Some left → broken p under signs w.sort ≡ None → fault end (p ∷ under) signs (w ∷ ws) ≡ fault end (left ++ under) (signs_after p signs) ws
-taken end p left under signs w ws r b =
-    ap (λ o. after_taking w signs (λ ps n. fault end ps n ws) (at_top p under o (taking under w.sort))) r
-    ∙ ap (λ x. go_on w x (fault end (left ++ under) (signs_after p signs) ws)) b
 
 -- a word that breaks a limit
 pub limited : (end : ℕ) (p : Part) (left under : List Part) (signs : ℕ) (w : Word) (ws : List Word) (l : Limit) → row p w.sort ≡ Some left → broken p under signs w.sort ≡ Some l → fault end (p ∷ under) signs (w ∷ ws) ≡ Some (limit_refusal l w.at)

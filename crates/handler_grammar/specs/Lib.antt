@@ -1,11 +1,1 @@
-pub mod Sorts
-pub mod Refusal
-pub mod Phrase
-pub mod Tree
-pub mod Bounds
-pub mod Marked
-pub mod Next
 pub mod Reads
-pub mod FirstFault
-pub mod Limits
-pub mod Parsed

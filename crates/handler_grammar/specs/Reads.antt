@@ -4,9 +4,9 @@ use Rattle.std.specs.List.{AllByRecursion}
 use Rattle.handler_tokens.specs.declared.word.Sort.TheVariants as sort
 use Rattle.handler_tokens.specs.declared.word.Word.{Word}
 use Rattle.handler_grammar.specs.declared.input.Input.{Input}
-use Rattle.handler_grammar.specs.declared.refusal.SyntaxRefusal.{SyntaxRefusal}
-use Rattle.handler_grammar.specs.declared.refusal.SyntaxRefusal.TheVariants.{NoMemory}
-use Rattle.handler_grammar.specs.Next.{Part, fault}
+use Rattle.handler_phrases.specs.declared.refusals.SyntaxRefusal.{SyntaxRefusal}
+use Rattle.handler_phrases.specs.declared.refusals.SyntaxRefusal.TheVariants.{NoMemory}
+use Rattle.handler_phrases.specs.Next.{Part, fault}
 
 -- the end is none of these words
 abbrev pub HasNoEnd : List Word → Type 0
@@ -17,7 +17,8 @@ abbrev pub fault_at : Input → List Part → Option SyntaxRefusal
 fault_at input ps = fault input.reader.end ps input.signs input.reader.words
 
 -- Whatever is still to come behind these parts, where U holds of it, this is the first fault.
-pub record Refused (U : List Part → Type 0) (ps : List Part) (old : Input) (e : SyntaxRefusal) : Type 0 where
+pub record Refused (U : List Part → Type 0) (ps : List Part) (old : Input)
+    (e : SyntaxRefusal) : Type 0 where
   pub fault_is : (under : List Part) → U under → fault_at old (ps ++ under) ≡ Some e
 
 -- No fault comes between: where parts were to come, now others are.
@@ -29,7 +30,8 @@ pub record Passed (U : List Part → Type 0) (ps qs : List Part) (old new : Inpu
       → fault_at old (ps ++ under) ≡ fault_at new (qs ++ under)
 
 -- the words of the phrase were read, and the value is its tree
-pub record Found {P T : Type 0} (words : P → List Word → List Word) (tree : P → T) (old new : List Word) (t : T) : Type 0 where
+pub record Found {P T : Type 0} (words : P → List Word → List Word) (tree : P → T)
+    (old new : List Word) (t : T) : Type 0 where
   pub phrase : P
   pub read : old ≡ words phrase new
   pub value : t ≡ tree phrase

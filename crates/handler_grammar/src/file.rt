@@ -1,21 +1,22 @@
 // Whole files, and the call that reads them.
 
 ghost use Rattle.std.specs.Prelude.{◌≡◌, ◌≢◌, ◌≤◌, ◌<◌, ◌+◌, ◌^◌, [], length, None, Some, IfOk, OnOk, IfErr};
+ghost use Rattle.session_limits.specs.Limits.{max_input};
 ghost use Rattle.session_values.specs.Names.{Begins};
 ghost use Rattle.handler_tokens.specs.Words.{words_of, names_of};
-ghost use Rattle.handler_grammar.specs.FirstFault.{IsFile};
-ghost use Rattle.handler_grammar.specs.Next.{Inside, fault, whole_file};
-ghost use Rattle.handler_grammar.specs.Phrase as spec;
-ghost use Rattle.handler_grammar.specs.Tree as tree;
-ghost use Rattle.handler_grammar.specs.Parsed.{Parsed};
+ghost use Rattle.handler_phrases.specs.FirstFault.{IsFile};
+ghost use Rattle.handler_phrases.specs.Next.{Inside, fault, whole_file};
+ghost use Rattle.handler_phrases.specs.Phrase as spec;
+ghost use Rattle.handler_phrases.specs.Tree as tree;
+ghost use Rattle.handler_phrases.specs.Parsed.{Parsed};
 ghost use Rattle.handler_grammar.specs.Reads.{HasNoEnd, Reads};
-ghost use Rattle.handler_grammar.specs.declared.refusal.SyntaxRefusal.TheVariants as syntax_refusal;
+ghost use Rattle.handler_phrases.specs.declared.refusals.SyntaxRefusal.TheVariants as syntax_refusal;
 ghost use Rattle.handler_trees.specs.declared.file.File.{File};
 
 use crate::input::Input;
 use crate::parse_handler::handlers;
 use crate::parse_table::tables;
-use crate::refusal::{SyntaxRefusal, refusal};
+use handler_phrases::{SyntaxRefusal, refusal};
 use handler_tokens::{Reader, Sort};
 use handler_trees::File;
 use session_values::Names;
@@ -57,7 +58,7 @@ fn whole(alloc: Global, input: &mut Input<'_>) -> Result<File, SyntaxRefusal>
 
 /// The file that a source is, and the names behind what was read of it.
 fn read_source(alloc: Global, source: &str, names: Names) -> (Result<File, SyntaxRefusal>, Names)
-    requires short { length source.now ≤ 4194304 }
+    requires short { length source.now ≤ max_input }
     requires room { length names ≤ 4000000000 }
     ensures ok { IfOk result.0 (λ file. IsFile (words_of names source.now) file) }
     ensures within { OnOk result.0 (fault (length source.now) whole_file 0
@@ -80,7 +81,7 @@ fn read_source(alloc: Global, source: &str, names: Names) -> (Result<File, Synta
 /// The file that a source is. `names` then has the names and symbols of the source too; after a
 /// refusal, perhaps some of them.
 pub fn parse(alloc: Global, source: &str, names: &mut Names) -> Result<File, SyntaxRefusal>
-    requires short { length source.now ≤ 4194304 }
+    requires short { length source.now ≤ max_input }
     requires room { length names.old ≤ 4000000000 }
     ensures { Parsed names.old source.now result names.new }
 {

@@ -1,15 +1,14 @@
 // What the parser reads from.
 
 ghost use Rattle.std.specs.Prelude.{◌≡◌, ◌≤◌, ◌+◌, length, drop, IfOk, IfErr, OnOk};
+ghost use Rattle.session_limits.specs.Limits.{max_signs};
 ghost use Rattle.handler_tokens.specs.Words.{first_word};
-ghost use Rattle.handler_grammar.specs.Bounds.{max_signs};
-ghost use Rattle.handler_grammar.specs.declared.refusal.SyntaxRefusal.TheVariants as refusal;
+ghost use Rattle.handler_phrases.specs.declared.refusals.SyntaxRefusal.TheVariants as refusal;
 
-use crate::refusal::SyntaxRefusal;
+use handler_phrases::SyntaxRefusal;
 use handler_tokens::{Reader, Word};
+use session_limits::MAX_SIGNS;
 use session_values::NoMemory;
-
-const MAX_SIGNS: u32 = 64;
 
 /// The words still to come, and how many operator signs the expression has so far.
 #[derive(Drop)]

@@ -12,12 +12,10 @@ mod parse_handler;
 mod parse_stmt;
 mod parse_table;
 mod parse_words;
-mod refusal;
-mod sorts;
 
 pub use file::parse;
+pub use handler_phrases::SyntaxRefusal;
 pub use handler_trees::{
     Atom, Atoms, Block, Calc, Call, Compare, Cond, Expr, Exprs, File, Handler, Handlers, Param,
     Params, Right, Stmt, TableDecl, TableDecls,
 };
-pub use refusal::SyntaxRefusal;

@@ -1,13 +1,13 @@
 // Literals and names where a value stands.
 
 ghost use Rattle.std.specs.Prelude.{◌≡◌, ◌≤◌, ◌∷◌, []};
-ghost use Rattle.handler_grammar.specs.Next.{Anywhere, an_atom, after_minus};
-ghost use Rattle.handler_grammar.specs.Phrase as spec;
-ghost use Rattle.handler_grammar.specs.Tree.{atom_tree, negative_of};
+ghost use Rattle.handler_phrases.specs.Next.{Anywhere, an_atom, after_minus};
+ghost use Rattle.handler_phrases.specs.Phrase as spec;
+ghost use Rattle.handler_phrases.specs.Tree.{atom_tree, negative_of};
 ghost use Rattle.handler_grammar.specs.Reads.{Reads};
 
 use crate::input::Input;
-use crate::refusal::{SyntaxRefusal, refusal};
+use handler_phrases::{SyntaxRefusal, refusal};
 use handler_tokens::Sort;
 use handler_trees::{Atom, Literal};
 use session_values::Value;

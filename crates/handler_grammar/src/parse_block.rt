@@ -1,13 +1,13 @@
 // Blocks, and the statements that have blocks of their own.
 
 ghost use Rattle.std.specs.Prelude.{◌≡◌, ◌≤◌, ◌<◌, ◌^◌, ◌∷◌, [], length, OnOk, Some};
+ghost use Rattle.session_limits.specs.Limits.{max_depth};
 ghost use Rattle.handler_tokens.specs.Words.{first_word};
 ghost use Rattle.handler_tokens.specs.declared.word.Sort.TheVariants as sort;
-ghost use Rattle.handler_grammar.specs.Bounds.{max_depth};
-ghost use Rattle.handler_grammar.specs.Next.{Inside, a_block, or_else, statements};
-ghost use Rattle.handler_grammar.specs.Phrase as spec;
-ghost use Rattle.handler_grammar.specs.Sorts as sorts;
-ghost use Rattle.handler_grammar.specs.Tree as tree;
+ghost use Rattle.handler_phrases.specs.Next.{Inside, a_block, or_else, statements};
+ghost use Rattle.handler_phrases.specs.Phrase as spec;
+ghost use Rattle.handler_phrases.specs.Sorts as sorts;
+ghost use Rattle.handler_phrases.specs.Tree as tree;
 ghost use Rattle.handler_grammar.specs.Reads.{Reads};
 
 use crate::input::Input;
@@ -15,14 +15,12 @@ use crate::list::list;
 use crate::parse_call::{condition, repeat_head};
 use crate::parse_stmt::{assignment, call_statement, let_statement, reply_statement};
 use crate::parse_words::mark;
-use crate::refusal::{SyntaxRefusal, refusal};
-use crate::sorts::{Start, statement_start};
+use handler_phrases::{Start, SyntaxRefusal, refusal, statement_start};
 use handler_tokens::Sort;
 use handler_trees::{Block, Stmt};
+use session_limits::MAX_DEPTH;
 use session_values::{Boxed, Listed};
 use std::alloc::Global;
-
-const MAX_DEPTH: u32 = 16;
 
 /// A block inside so many others.
 #[cycle(block)]

@@ -1,9 +1,9 @@
 // Operations, right sides, conditions and the head of a repeat.
 
 ghost use Rattle.std.specs.Prelude.{◌≡◌, ◌≤◌, ◌∷◌, []};
-ghost use Rattle.handler_grammar.specs.Next.{Anywhere, Opened, mark, call_parts, more_arguments, a_right, expression, a_compare, a_count, a_name};
-ghost use Rattle.handler_grammar.specs.Phrase as spec;
-ghost use Rattle.handler_grammar.specs.Tree as tree;
+ghost use Rattle.handler_phrases.specs.Next.{Anywhere, Opened, mark, call_parts, more_arguments, a_right, expression, a_compare, a_count, a_name};
+ghost use Rattle.handler_phrases.specs.Phrase as spec;
+ghost use Rattle.handler_phrases.specs.Tree as tree;
 ghost use Rattle.handler_grammar.specs.Reads.{Reads};
 ghost use Rattle.handler_tokens.specs.declared.word.Sort.TheVariants as sort;
 
@@ -12,21 +12,11 @@ use crate::list::list;
 use crate::parse_atom::{MAX_NUMBER, atom};
 use crate::parse_expr::expression;
 use crate::parse_words::{mark, name};
-use crate::refusal::{SyntaxRefusal, refusal};
-use crate::sorts::{comparison, operation};
+use handler_phrases::{SyntaxRefusal, Turns, comparison, operation, refusal};
 use handler_tokens::Sort;
 use handler_trees::{Atoms, Call, Compare, Cond, Right};
 use session_values::Kind;
 use std::alloc::Global;
-
-/// How often a repeat runs, and its variable.
-#[derive(Clone, Copy)]
-pub(crate) struct Turns {
-    pub(crate) turns: u64,
-    pub(crate) turns_at: u32,
-    pub(crate) name: u32,
-    pub(crate) name_at: u32,
-}
 
 /// At most two arguments, each behind a comma.
 fn arguments(alloc: Global, input: &mut Input<'_>) -> Result<Atoms, SyntaxRefusal>

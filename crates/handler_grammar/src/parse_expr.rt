@@ -1,23 +1,22 @@
 // Expressions, where `*` binds tighter than `+` and `-`.
 
 ghost use Rattle.std.specs.Prelude.{◌≡◌, ◌≤◌, ◌∷◌, [], IfOk};
-ghost use Rattle.handler_grammar.specs.Bounds.{max_open};
-ghost use Rattle.handler_grammar.specs.Next.{Anywhere, Opened, expression, operand, more_factors, more_terms, closing};
-ghost use Rattle.handler_grammar.specs.Phrase as spec;
-ghost use Rattle.handler_grammar.specs.Tree.{factor_tree, term_tree, expr_tree};
+ghost use Rattle.session_limits.specs.Limits.{max_open};
+ghost use Rattle.handler_phrases.specs.Next.{Anywhere, Opened, expression, operand, more_factors, more_terms, closing};
+ghost use Rattle.handler_phrases.specs.Phrase as spec;
+ghost use Rattle.handler_phrases.specs.Tree.{factor_tree, term_tree, expr_tree};
 ghost use Rattle.handler_grammar.specs.Reads.{Reads};
 ghost use Rattle.handler_tokens.specs.declared.word.Sort.TheVariants as sort;
 ghost use Rattle.handler_trees.specs.declared.expr.Expr.TheVariants as expr;
 
 use crate::input::Input;
 use crate::parse_atom::atom;
-use crate::refusal::{SyntaxRefusal, refusal};
+use handler_phrases::{SyntaxRefusal, refusal};
 use handler_tokens::Sort;
 use handler_trees::{Calc, Expr};
+use session_limits::MAX_OPEN;
 use session_values::{Boxed, NoMemory};
 use std::alloc::Global;
-
-const MAX_OPEN: u32 = 16;
 
 fn binary(alloc: Global, calc: Calc, left: Expr, right: Expr) -> Result<Expr, NoMemory>
     ensures { IfOk result (λ e. e ≡ expr.Binary calc (left, right)) }

@@ -3,16 +3,16 @@
 ghost use Rattle.std.specs.Prelude.{◌≡◌, ◌≤◌, ◌<◌, ◌^◌, ◌∷◌, [], length, OnOk};
 ghost use Rattle.handler_tokens.specs.Words.{first_word};
 ghost use Rattle.handler_tokens.specs.declared.word.Sort.TheVariants as sort;
-ghost use Rattle.handler_grammar.specs.Next.{Anywhere, Inside, a_name, first_param, more_params, handlers};
-ghost use Rattle.handler_grammar.specs.Phrase as spec;
-ghost use Rattle.handler_grammar.specs.Tree as tree;
+ghost use Rattle.handler_phrases.specs.Next.{Anywhere, Inside, a_name, first_param, more_params, handlers};
+ghost use Rattle.handler_phrases.specs.Phrase as spec;
+ghost use Rattle.handler_phrases.specs.Tree as tree;
 ghost use Rattle.handler_grammar.specs.Reads.{Reads};
 
 use crate::input::Input;
 use crate::list::list;
 use crate::parse_block::block;
 use crate::parse_words::{mark, name};
-use crate::refusal::SyntaxRefusal;
+use handler_phrases::SyntaxRefusal;
 use handler_tokens::Sort;
 use handler_trees::{Handler, Handlers, Param, Params};
 use session_values::Listed;

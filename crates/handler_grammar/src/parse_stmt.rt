@@ -3,10 +3,10 @@
 ghost use Rattle.std.specs.Prelude.{◌≡◌, ◌≤◌, ◌<◌, ◌∷◌, [], length, OnOk, Some};
 ghost use Rattle.handler_tokens.specs.Words.{first_word};
 ghost use Rattle.handler_tokens.specs.declared.word.Sort.TheVariants as sort;
-ghost use Rattle.handler_grammar.specs.Next.{Opened, Inside, expression, more_values, statements};
-ghost use Rattle.handler_grammar.specs.Phrase as spec;
-ghost use Rattle.handler_grammar.specs.Sorts as sorts;
-ghost use Rattle.handler_grammar.specs.Tree as tree;
+ghost use Rattle.handler_phrases.specs.Next.{Opened, Inside, expression, more_values, statements};
+ghost use Rattle.handler_phrases.specs.Phrase as spec;
+ghost use Rattle.handler_phrases.specs.Sorts as sorts;
+ghost use Rattle.handler_phrases.specs.Tree as tree;
 ghost use Rattle.handler_grammar.specs.Reads.{Reads};
 
 use crate::input::Input;
@@ -14,7 +14,7 @@ use crate::list::list;
 use crate::parse_call::{operands, right_side};
 use crate::parse_expr::expression;
 use crate::parse_words::{mark, name};
-use crate::refusal::SyntaxRefusal;
+use handler_phrases::SyntaxRefusal;
 use handler_tokens::Sort;
 use handler_trees::{Exprs, Stmt};
 use session_values::Kind;

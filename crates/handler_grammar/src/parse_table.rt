@@ -2,17 +2,16 @@
 
 ghost use Rattle.std.specs.Prelude.{◌≡◌, ◌≤◌, ◌<◌, ◌^◌, ◌∷◌, [], length, OnOk, Some};
 ghost use Rattle.handler_tokens.specs.Words.{first_word};
-ghost use Rattle.handler_grammar.specs.Next.{Anywhere, tables};
-ghost use Rattle.handler_grammar.specs.Phrase as spec;
-ghost use Rattle.handler_grammar.specs.Sorts as sorts;
-ghost use Rattle.handler_grammar.specs.Tree as tree;
+ghost use Rattle.handler_phrases.specs.Next.{Anywhere, tables};
+ghost use Rattle.handler_phrases.specs.Phrase as spec;
+ghost use Rattle.handler_phrases.specs.Sorts as sorts;
+ghost use Rattle.handler_phrases.specs.Tree as tree;
 ghost use Rattle.handler_grammar.specs.Reads.{Reads};
 
 use crate::input::Input;
 use crate::list::list;
 use crate::parse_words::{mark, name};
-use crate::refusal::SyntaxRefusal;
-use crate::sorts::table_kind;
+use handler_phrases::{SyntaxRefusal, table_kind};
 use handler_tokens::Sort;
 use handler_trees::{TableDecl, TableDecls};
 use session_values::TableKind;

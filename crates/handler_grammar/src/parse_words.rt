@@ -1,16 +1,16 @@
 // Single words of the grammar.
 
 ghost use Rattle.std.specs.Prelude.{◌≡◌, ◌≤◌, ◌∷◌, [], Some, is_some};
-ghost use Rattle.handler_grammar.specs.Next.{Anywhere, mark, mark_row, a_name};
-ghost use Rattle.handler_grammar.specs.Phrase as spec;
-ghost use Rattle.handler_grammar.specs.Tree.{name_of};
+ghost use Rattle.handler_phrases.specs.Next.{Anywhere, mark, mark_row, a_name};
+ghost use Rattle.handler_phrases.specs.Phrase as spec;
+ghost use Rattle.handler_phrases.specs.Tree.{name_of};
 ghost use Rattle.handler_grammar.specs.Reads.{Reads};
 
 use crate::input::Input;
-use crate::refusal::{SyntaxRefusal, refusal};
+use handler_phrases::{SyntaxRefusal, refusal};
 use handler_tokens::Sort;
 
-#[tactic(auto, using(crate::proofs::Rows::mark_none))]
+#[tactic(auto, using(handler_phrases::proofs::Rows::mark_none))]
 fn is_mark(sort: Sort, mark: Sort) -> bool
     ensures { result ≡ is_some (mark_row mark sort) }
 {

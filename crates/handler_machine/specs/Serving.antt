@@ -1,6 +1,7 @@
 -- A handler's run at a desk.
 use Rattle.std.specs.Prelude.{◌≡◌, ℕ, ◌+◌, ◌<◌, ◌≤◌, ◌++◌, List, [], ◌∷◌, Option, Some, None, Bool, true, false, if◌then◌else◌, length}
 use Rattle.std.specs.List.{AllByRecursion}
+use Rattle.session_limits.specs.Limits.{max_symbols}
 use Rattle.session_values.specs.declared.op.Op.{Op}
 use Rattle.session_values.specs.declared.value.Value.{Value}
 use Rattle.session_values.specs.Dialogue.{Calls as NextCalls, Entry, Follows, replies}
@@ -34,7 +35,7 @@ pub record Promises (points : ℕ) (declared : Declarations) (first : Place)
     (whole : Ahead) : Type 0 where
   pub within : (rs : List Value)
       → AllByRecursion (λ (p : Place). p.point < points) (passed_by (whole rs))
-  pub few : (at : Place) → length (list_at declared at) ≤ 256
+  pub few : (at : Place) → length (list_at declared at) ≤ max_symbols
   pub known : (at : Place) → AllByRecursion HasNoVar (list_at declared at)
   pub covered : (rs : List Value) → IsCoveredChain declared first (passed_by (whole rs))
   pub matched : (rs : List Value) (ps : List Place) (op : Op) → AllByRecursion IsValue rs
@@ -82,7 +83,7 @@ pub record Serving (c : Course) (now : DeskView) (room : ℕ) (entries : List En
   pub ticket : now.ticket ≡ c.start.ticket
   pub home : now.home ≡ c.start.home
   pub sure : now.sure ≡ c.start.sure
-  pub roomy : 256 ≤ room
+  pub roomy : max_symbols ≤ room
 
 -- no operation waits
 abbrev pub IsServing : Course → DeskView → ℕ → Ahead → Type 0
@@ -101,4 +102,4 @@ IsSettled settled now = settled ≡ true → now.present ≡ []
 pub record Halted (c : Course) (now : DeskView) (room : ℕ) : Type 0 where
   pub follows : Follows (λ rs. ended (c.whole rs)) now.entries
   pub unsure : c.start.sure ≡ false
-  pub roomy : 256 ≤ room
+  pub roomy : max_symbols ≤ room

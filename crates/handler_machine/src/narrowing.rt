@@ -1,6 +1,7 @@
 // A walk at a desk, which is told of each declaration that is passed.
 
 ghost use Rattle.std.specs.Prelude.{◌≡◌, ◌+◌, ◌<◌, ◌≤◌, [], true, length, map};
+ghost use Rattle.session_limits.specs.Limits.{max_symbols, max_variables};
 ghost use Rattle.declaration_insertion.specs.Program.{declared_at};
 ghost use Rattle.declaration_insertion.specs.Promises.{symbol_at};
 ghost use Rattle.handler_check.specs.Resolved.{code_at};
@@ -28,8 +29,8 @@ fn take_declaration(
 ) -> bool
     requires handler { h < length program.now.file.handlers }
     requires point { point < 1 + points (code_at program.now.file h) }
-    requires variables { 32 ≤ length env.now }
-    requires room { 256 ≤ next.old.room }
+    requires variables { max_variables ≤ length env.now }
+    requires room { max_symbols ≤ next.old.room }
     ensures symbols { next.new.symbols
         ≡ map (symbol_at (env_of env.now)) (declared_at program.now h point) }
     ensures room { next.new.room ≡ next.old.room }
@@ -55,7 +56,7 @@ pub(crate) struct Narrowing<'a, R> {
 }
 
 impl<'a, R: Threads + Wait + Sync, D: Desk> Guide<D> for Narrowing<'a, R> {
-    ghost variables = { 32 };
+    ghost variables = { max_variables };
 
     ghost Serves = { λ n whole start now ahead. (D.script now ≡ D.script start)
         × IsServing (course_of (D.Served.meaning (D.script start)) (D.at start)

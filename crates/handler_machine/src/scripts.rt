@@ -10,6 +10,7 @@ use handler_check::Checked;
 use handler_walk::set_up;
 use request_files::Requests;
 use session_journal::{Desk, Script};
+use session_limits::MAX_VARIABLES;
 use session_values::{NoMemory, Value};
 use std::marker::Model;
 use std::sync::Wait;
@@ -68,7 +69,7 @@ impl<'a> Script for Scripts<'a> {
 
     fn entry(&self, t: u32, out: &mut Foresight) {
         let list = self.program.entry(handler_of(self.requests, t));
-        let mut env = [Value::Nil; 32];
+        let mut env = [Value::Nil; MAX_VARIABLES];
         set_up(&mut env, args_of(self.requests, t));
         instantiate(list, &env, out);
     }

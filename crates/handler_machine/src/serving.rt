@@ -2,6 +2,7 @@
 
 ghost use Rattle.std.specs.Prelude.{◌≡◌, ◌+◌, ◌≤◌, ◌<◌, [], None, true, false, length, IfOk, OnErr};
 ghost use Rattle.std.specs.List.{AllByRecursion};
+ghost use Rattle.session_limits.specs.Limits.{max_symbols, max_variables};
 ghost use Rattle.session_values.specs.Values.{IsValue};
 ghost use Rattle.handler_dialogue.specs.Code.{block_code, points};
 ghost use Rattle.handler_dialogue.specs.Dialogue.{entry, env_of, run};
@@ -29,7 +30,7 @@ fn serve_body<R: Threads + Wait + Sync, D: Desk>(
     env: &mut [Value],
     body: &CheckedBlock,
 ) -> Result<(), NoMemory>
-    requires variables { 32 ≤ length env.old }
+    requires variables { max_variables ≤ length env.old }
     requires within { IsRunnable (length env.old) (block_code body.now) }
     requires fresh { (D.at desk.old).entries ≡ [] }
     requires idle { (D.at desk.old).waiting ≡ None }
@@ -42,13 +43,13 @@ fn serve_body<R: Threads + Wait + Sync, D: Desk>(
     requires promises { Promises (1 + points (code_at guide.old.program.now.file guide.old.handler))
         (declared_at guide.old.program.now guide.old.handler) (entry (env_of env.old))
         (run (block_code body.now) (env_of env.old)) }
-    requires room { 256 ≤ guide.old.next.room }
+    requires room { max_symbols ≤ guide.old.next.room }
     requires settled { IsSettled guide.old.settled (D.at desk.old) }
     ensures script { D.script desk.new ≡ D.script desk.old }
     ensures served { IfOk result (λ _. IsServed (D.Served.meaning (D.script desk.old))
         (D.at desk.old) (D.at desk.new)) }
     ensures unsure { OnErr result ((D.at desk.old).sure ≡ false) }
-    ensures room { 256 ≤ guide.new.next.room }
+    ensures room { max_symbols ≤ guide.new.next.room }
 {
     let reply = walk_body(guide, desk, env, body)?;
     desk.end(guide.rt, reply);
@@ -66,9 +67,9 @@ fn serve_handler<R: Threads + Wait + Sync, D: Desk>(
     desk: &mut D,
 ) -> Result<(), NoMemory>
     requires handler { h < length program.now.file.handlers }
-    requires args { length args.now ≤ 32 }
+    requires args { length args.now ≤ max_variables }
     requires ready { scratch.old.ready ≡ true }
-    requires within { IsRunnable 32 (block_code body.now) }
+    requires within { IsRunnable max_variables (block_code body.now) }
     requires fresh { (D.at desk.old).entries ≡ [] }
     requires idle { (D.at desk.old).waiting ≡ None }
     requires going { (D.at desk.old).ended ≡ false }

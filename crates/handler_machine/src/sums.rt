@@ -1,6 +1,7 @@
 // Sums over the requests of a session.
 
 ghost use Rattle.std.specs.Prelude.{◌≡◌, ◌<◌, ◌≤◌, ℕ, length, slice_index_or};
+ghost use Rattle.session_limits.specs.Limits.{max_calls, max_handlers};
 ghost use Rattle.session_values.specs.Sums.{sum_below};
 ghost use Rattle.handler_dialogue.specs.Bounds as bounds;
 ghost use Rattle.handler_check.specs.Resolved.{code_at};
@@ -9,6 +10,7 @@ ghost use Rattle.request_files.specs.Session.{request_at};
 
 use handler_check::Checked;
 use request_files::Requests;
+use session_limits::MAX_HANDLERS;
 use session_values::Value;
 
 /// The handler of a request, by its number.
@@ -41,13 +43,14 @@ pub(crate) fn count_calls(checked: &Checked, requests: &Requests) -> u32
 }
 
 /// The bound of each handler on its calls that may add a key to the table.
-fn adds_by_handler(checked: &Checked, table: u32) -> [u32; 64]
+fn adds_by_handler(checked: &Checked, table: u32) -> [u32; MAX_HANDLERS]
     ensures each { (h : ℕ) → h < length checked.now.handlers
         → slice_index_or result h 0 ≡ bounds.adds_bound table (code_at checked.now h) }
-    ensures few { (h : ℕ) → h < length checked.now.handlers → slice_index_or result h 0 ≤ 10000 }
-    ensures count { length checked.now.handlers ≤ 64 }
+    ensures few { (h : ℕ) → h < length checked.now.handlers
+        → slice_index_or result h 0 ≤ max_calls }
+    ensures count { length checked.now.handlers ≤ max_handlers }
 {
-    let mut adds = [0; 64];
+    let mut adds = [0; MAX_HANDLERS];
     for h in 0..checked.handlers() {
         adds[h as usize] = checked.adds_bound(h, table);
     }

@@ -6,6 +6,5 @@ pub mod Own
 pub mod Parts
 pub mod Points
 pub mod ReadBack
-pub mod Sizes
 pub mod Tokens
 pub mod Written

@@ -69,7 +69,8 @@ atom_text names (atom.Name n p) rest = name_text names n rest
 -- the operation's word, and in parentheses the table and the arguments
 abbrev pub call_text : List (List ℕ) → Call → Text
 call_text names call rest =
-    word_of call.kind ++ (codes "(" ++ name_text names call.table (further (map (atom_text names) call.args) (codes ")" ++ rest)))
+    word_of call.kind ++ (codes "(" ++ name_text names call.table
+    (further (map (atom_text names) call.args) (codes ")" ++ rest)))
 
 -- ---- expressions
 
@@ -145,32 +146,39 @@ lines_at depth statements rest = each (map (λ (s : Lines). s depth) statements)
 -- the second block of an `if`, up to its closing brace. Where it is empty there is none
 abbrev pub else_lines : ℕ → List Lines → Text
 else_lines depth [] rest = rest
-else_lines depth (s ∷ more) rest = indent depth (codes "} else {\n" ++ lines_at (depth + 1) (s ∷ more) rest)
+else_lines depth (s ∷ more) rest =
+    indent depth (codes "} else {\n" ++ lines_at (depth + 1) (s ∷ more) rest)
 
 -- an `if`, where the lines of both blocks are given
 abbrev pub choice_text : List (List ℕ) → Cond → List Lines → List Lines → Lines
 choice_text names cond first second depth rest =
-    codes "if " ++ cond_text names cond (codes " {\n" ++ lines_at (depth + 1) first (else_lines depth second (indent depth (codes "}\n" ++ rest))))
+    codes "if " ++ cond_text names cond (codes " {\n" ++ lines_at (depth + 1) first
+    (else_lines depth second (indent depth (codes "}\n" ++ rest))))
 
 -- a `repeat`, where the lines of its block are given
 abbrev pub repeat_text : List (List ℕ) → ℕ → ℕ → List Lines → Lines
 repeat_text names turns n body depth rest =
-    codes "repeat " ++ (decimal turns ++ (codes " as " ++ name_text names n (codes " {\n" ++ lines_at (depth + 1) body (indent depth (codes "}\n" ++ rest)))))
+    codes "repeat " ++ (decimal turns ++ (codes " as " ++ name_text names n (codes " {\n"
+    ++ lines_at (depth + 1) body (indent depth (codes "}\n" ++ rest)))))
 
 -- a name, the right side, and a semicolon
 abbrev pub assignment_text : List (List ℕ) → ℕ → Right → Text
-assignment_text names n r rest = name_text names n (codes " = " ++ right_text names r (codes ";\n" ++ rest))
+assignment_text names n r rest =
+    name_text names n (codes " = " ++ right_text names r (codes ";\n" ++ rest))
 
 -- a statement, where the lines of the statements inside are given
 abbrev pub stmt_step : List (List ℕ) → Stmt-F Lines → Lines
-stmt_step names (Stmt-F.Let n p r) depth rest = indent depth (codes "let " ++ assignment_text names n r rest)
+stmt_step names (Stmt-F.Let n p r) depth rest =
+    indent depth (codes "let " ++ assignment_text names n r rest)
 stmt_step names (Stmt-F.Assign n p r) depth rest = indent depth (assignment_text names n r rest)
-stmt_step names (Stmt-F.Perform call) depth rest = indent depth (call_text names call (codes ";\n" ++ rest))
+stmt_step names (Stmt-F.Perform call) depth rest =
+    indent depth (call_text names call (codes ";\n" ++ rest))
 stmt_step names (Stmt-F.Choose p cond first second) depth rest = indent depth
     (choice_text names cond first second depth rest)
 stmt_step names (Stmt-F.Repeat p turns q n r body) depth rest = indent depth
     (repeat_text names turns n body depth rest)
-stmt_step names (Stmt-F.Answer p values) depth rest = indent depth (codes "reply " ++ listed (map (whole_text names) values) (codes ";\n" ++ rest))
+stmt_step names (Stmt-F.Answer p values) depth rest =
+    indent depth (codes "reply " ++ listed (map (whole_text names) values) (codes ";\n" ++ rest))
 
 abbrev pub stmt_text : List (List ℕ) → Stmt → Lines
 stmt_text names = fold-Stmt Lines (stmt_step names)
@@ -193,7 +201,9 @@ param_text names p rest = name_text names p.name rest
 
 abbrev pub handler_text : List (List ℕ) → Handler → Text
 handler_text names h rest =
-    codes "handler " ++ name_text names h.name (codes "(" ++ listed (map (param_text names) h.params) (codes ") {\n" ++ block_text names h.body 1 (codes "}\n" ++ rest)))
+    codes "handler " ++ name_text names h.name (codes "("
+    ++ listed (map (param_text names) h.params) (codes ") {\n"
+    ++ block_text names h.body 1 (codes "}\n" ++ rest)))
 
 -- the tables, each on a line, and then the handlers
 abbrev pub canonical_text : List (List ℕ) → File → List ℕ

@@ -88,7 +88,8 @@ abbrev pub call_line_text : List (List ℕ) → Call → Text
 call_line_text names call rest = call_text names call (codes ";\n" ++ rest)
 
 abbrev pub reply_text : List (List ℕ) → List Expr → Text
-reply_text names values rest = codes "reply " ++ listed (map (whole_text names) values) (codes ";\n" ++ rest)
+reply_text names values rest =
+    codes "reply " ++ listed (map (whole_text names) values) (codes ";\n" ++ rest)
 
 abbrev pub if_text : List (List ℕ) → Cond → Text
 if_text names cond rest = codes "if " ++ cond_text names cond (codes " {\n" ++ rest)
@@ -97,7 +98,8 @@ abbrev pub else_text : Text
 else_text rest = codes "} else {\n" ++ rest
 
 abbrev pub repeat_head_text : List (List ℕ) → (turns name : ℕ) → Text
-repeat_head_text names turns n rest = codes "repeat " ++ (decimal turns ++ (codes " as " ++ name_text names n (codes " {\n" ++ rest)))
+repeat_head_text names turns n rest =
+    codes "repeat " ++ (decimal turns ++ (codes " as " ++ name_text names n (codes " {\n" ++ rest)))
 
 -- the line that opens the second block
 abbrev pub else_line : List Part → ℕ → Line
@@ -155,7 +157,8 @@ block_parts names at block = map (stmt_part names at) block
 -- ---- files
 
 abbrev pub head_text : List (List ℕ) → Handler → Text
-head_text names h rest = codes "handler " ++ name_text names h.name (codes "(" ++ listed (map (param_text names) h.params) (codes ") {\n" ++ rest))
+head_text names h rest = codes "handler " ++ name_text names h.name (codes "("
+    ++ listed (map (param_text names) h.params) (codes ") {\n" ++ rest))
 
 -- A handler. Its entry is point 0.
 abbrev pub handler_lines : List (List ℕ) → At → Handler → List Line

@@ -45,7 +45,8 @@ args_of s = take (arguments s.kind) (s.key ∷ s.value ∷ [])
 -- the operation's word, and in parentheses the table and the arguments
 abbrev pub symbol_text : List (List ℕ) → List ℕ → List ℕ → Symbol → Text
 symbol_text names tables variables s rest =
-    word_of s.kind ++ (codes "(" ++ named_text names (slice_get tables s.table) (further (map (arg_text names variables) (args_of s)) (codes ")" ++ rest)))
+    word_of s.kind ++ (codes "(" ++ named_text names (slice_get tables s.table)
+    (further (map (arg_text names variables) (args_of s)) (codes ")" ++ rest)))
 
 -- the symbols, or that there is none
 abbrev pub symbols_text : List (List ℕ) → List ℕ → List ℕ → List Symbol → Text
@@ -56,4 +57,6 @@ symbols_text names tables variables (s ∷ ss) rest = listed
 -- the line of a point, inside so many blocks
 abbrev pub point_text : List (List ℕ) → AtPoints → (handler depth point : ℕ) → Text
 point_text names a handler depth point rest =
-    indent depth (codes "mayuse " ++ symbols_text names a.tables (a.variables handler) (a.symbols handler point) (codes ";\n" ++ rest))
+    indent depth (codes "mayuse "
+    ++ symbols_text names a.tables (a.variables handler) (a.symbols handler point)
+    (codes ";\n" ++ rest))

@@ -2,6 +2,7 @@
 -- blocks nest, and how large numbers and places of names are.
 use Rattle.std.specs.Prelude.{ℕ, ◌+◌, ◌<◌, ◌≤◌, ◌^◌, List, [], ◌∷◌, ◌++◌, length, map}
 use Rattle.std.specs.List.{AllByRecursion, flat_map}
+use Rattle.session_limits.specs.Limits.{max_depth}
 use Rattle.session_values.specs.declared.value.Value.TheVariants.{Num}
 use Rattle.session_values.specs.Values.{IsValue}
 use Rattle.handler_trees.specs.declared.stmt.Right.{Right}
@@ -54,7 +55,7 @@ file_forms f = flat_map handler_forms f.handlers
 abbrev pub IsBoundedForm : Form → Type 0
 IsBoundedForm (a_call n) = n ≤ 2
 IsBoundedForm (a_reply n) = (1 ≤ n) × (n ≤ 4)
-IsBoundedForm (a_nest depth) = depth < 16
+IsBoundedForm (a_nest depth) = depth < max_depth
 
 -- a number, also how often a repeat runs, is one of i64
 abbrev pub IsBoundedNumber : Mention → Type 0

@@ -1,6 +1,7 @@
 -- The rules of the checker, each as a condition on the whole text. (The two on calls and work are looked at only where none of these is broken.)
 use Rattle.std.specs.Prelude.{◌≡◌, ℕ, ◌<◌, ◌==◌, if◌then◌else◌, ◌⊎◌, List, [], ◌∷◌, ◌++◌, length, Option, Some, None}
 use Rattle.std.specs.List.{Contains}
+use Rattle.session_limits.specs.Limits.{max_handlers, max_tables, max_turns, max_variables}
 use Rattle.session_values.specs.declared.kind.Kind.{Kind}
 use Rattle.session_values.specs.declared.kind.TableKind.{TableKind}
 use Rattle.session_values.specs.Kinds.{arguments, home}
@@ -58,7 +59,7 @@ IsMisplaced tables text at =
 -- a block is to be done no times, or more than a thousand
 abbrev pub IsUnbounded : List Mark → ℕ → Type 0
 IsUnbounded text at = (before : List Mark) × (n : ℕ) × Stands text before (Turns n at)
-    × ((n ≡ 0) ⊎ (1000 < n))
+    × ((n ≡ 0) ⊎ (max_turns < n))
 
 -- ---- rules on a file
 
@@ -73,9 +74,9 @@ IsBroken f (Unknown at) = InHandler f (λ text. IsUnseen text at ⊎ IsTableless
 IsBroken f (Arity at) = InHandler f (λ text. IsMiscounted text at)
 IsBroken f (WrongTable at) = InHandler f (λ text. IsMisplaced f.tables text at)
 IsBroken f (RepeatBound at) = InHandler f (λ text. IsUnbounded text at)
-IsBroken f (TooManyTables at) = IsPast 7 (table_marks f.tables) at
-IsBroken f (TooManyHandlers at) = IsPast 64 (name_marks f.handlers) at
-IsBroken f (TooManyVariables at) = InHandler f (λ text. IsPast 32 text at)
+IsBroken f (TooManyTables at) = IsPast max_tables (table_marks f.tables) at
+IsBroken f (TooManyHandlers at) = IsPast max_handlers (name_marks f.handlers) at
+IsBroken f (TooManyVariables at) = InHandler f (λ text. IsPast max_variables text at)
 IsBroken f (TooManyCalls at) = ⊥
 IsBroken f (TooMuchWork at) = ⊥
 IsBroken f NoMemory = ⊥

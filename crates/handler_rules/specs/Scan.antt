@@ -1,6 +1,7 @@
 -- The first fault of a text as a walk finds it that keeps the names declared so far, and those visible outside the text.
 use Rattle.std.specs.Prelude.{◌≡◌, ◌≢◌, ℕ, ◌==◌, nat_lt, Bool, true, false, ◌||◌, if◌then◌else◌, List, [], ◌∷◌, ◌++◌, length, Option, Some, None, Result, MatchResult}
 use Rattle.std.specs.List.{list_any}
+use Rattle.session_limits.specs.Limits.{max_handlers, max_tables, max_turns, max_variables}
 use Rattle.session_values.specs.declared.kind.Kind.{Kind}
 use Rattle.session_values.specs.declared.kind.TableKind.{TableKind}
 use Rattle.session_values.specs.declared.kind.TableKind.TheVariants.{Map, Set}
@@ -55,7 +56,7 @@ abbrev pub table_fault : List TableDecl → Kind → ℕ → ℕ → Fault
 table_fault tables kind name at = found_fault (kind_of tables name) kind at
 
 abbrev pub turns_fault : ℕ → ℕ → Fault
-turns_fault n at = fault_if (n == 0 || nat_lt 1000 n) (RepeatBound at)
+turns_fault n at = fault_if (n == 0 || nat_lt max_turns n) (RepeatBound at)
 
 -- a declaration's limit, and its refusal
 pub record Limit : Type 0 where
@@ -63,13 +64,13 @@ pub record Limit : Type 0 where
   pub past : ℕ → CheckRefusal
 
 abbrev pub of_tables : Limit
-of_tables = record { limit = 7; past = λ at. TooManyTables at }
+of_tables = record { limit = max_tables; past = λ at. TooManyTables at }
 
 abbrev pub of_handlers : Limit
-of_handlers = record { limit = 64; past = λ at. TooManyHandlers at }
+of_handlers = record { limit = max_handlers; past = λ at. TooManyHandlers at }
 
 abbrev pub of_variables : Limit
-of_variables = record { limit = 32; past = λ at. TooManyVariables at }
+of_variables = record { limit = max_variables; past = λ at. TooManyVariables at }
 
 -- the first fault at a mark behind these names
 abbrev pub mark_fault : Limit → List TableDecl → List ℕ → Mark → Fault

@@ -8,9 +8,9 @@ use Rattle.handler_trees.specs.declared.stmt.Call.{Call}
 use Rattle.handler_trees.specs.declared.stmt.Compare.{Compare}
 use Rattle.handler_trees.specs.declared.stmt.Cond.{Cond}
 use Rattle.handler_trees.specs.declared.stmt.Right.TheVariants as right
-use Rattle.handler_grammar.specs.Phrase.{named, MoreAtoms, no_atom, more_atom, atom_count, ArgumentsPhrase, operands, CallPhrase, a_call, RightPhrase, result_right, plain_right, CondPhrase, a_cond, MoreValues, no_value, more_value, value_count, ValuesPhrase, atoms_words, arguments_words, call_words, right_words, cond_words, more_words, values_words}
-use Rattle.handler_grammar.specs.Tree.{atom_tree, atoms_trees, call_tree, right_tree, cond_tree, expr_tree, more_trees, values_trees}
-use Rattle.handler_grammar.specs.Limits.{AtomsFit, CallFits, RightFits, CondFits, MoreFit, ValuesFit}
+use Rattle.handler_phrases.specs.Phrase.{named, MoreAtoms, no_atom, more_atom, atom_count, ArgumentsPhrase, operands, CallPhrase, a_call, RightPhrase, result_right, plain_right, CondPhrase, a_cond, MoreValues, no_value, more_value, value_count, ValuesPhrase, atoms_words, arguments_words, call_words, right_words, cond_words, more_words, values_words}
+use Rattle.handler_phrases.specs.Tree.{atom_tree, atoms_trees, call_tree, right_tree, cond_tree, expr_tree, more_trees, values_trees}
+use Rattle.handler_phrases.specs.Limits.{AtomsFit, CallFits, RightFits, CondFits, MoreFit, ValuesFit}
 use Rattle.handler_printing.specs.CanonicalWords.{atom_sorts, further_sorts, listed_sorts, call_sorts, whole_sorts, right_sorts, cond_sorts}
 use Rattle.handler_syntax.specs.SameTree.{atom_bare, expr_bare, call_bare, right_bare, cond_bare}
 use Rattle.handler_syntax.proofs.Atoms.{atom_reads}

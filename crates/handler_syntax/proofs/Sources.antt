@@ -9,12 +9,12 @@ use Rattle.handler_tokens.specs.declared.token_kind.TokenKind.TheVariants as kin
 use Rattle.handler_tokens.specs.Tokens.{Piece, pieces}
 use Rattle.handler_tokens.specs.Words.{unquoted, names_by, names_after, names_behind, words_of, names_of}
 use Rattle.handler_trees.specs.declared.file.File.{File}
-use Rattle.handler_grammar.specs.Limits.{IsFileWithin}
+use Rattle.handler_phrases.specs.Limits.{IsFileWithin}
 use Rattle.handler_printing.specs.Canonical.{canonical_text}
 use Rattle.handler_syntax.specs.SameTree.{SameTree}
 use Rattle.handler_syntax.proofs.Files.{text_again}
 use Rattle.handler_trees.specs.Mentions.{file_mentions}
-use Rattle.handler_grammar.proofs.Said.{source_readable, have_texts}
+use Rattle.handler_phrases.proofs.Said.{source_readable, have_texts}
 
 -- ---- the names behind a source are different texts
 

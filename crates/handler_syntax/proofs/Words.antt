@@ -3,7 +3,7 @@ use Rattle.std.proofs.Common.{◌≡◌, List, [], ◌∷◌, map, refl, ap, ◌
 use Rattle.handler_tokens.specs.declared.word.Sort.{Sort}
 use Rattle.handler_tokens.specs.declared.word.Sort.TheVariants as sort
 use Rattle.handler_tokens.specs.declared.word.Word.{Word}
-use Rattle.handler_grammar.specs.Phrase.{word, mark_words}
+use Rattle.handler_phrases.specs.Phrase.{word, mark_words}
 
 -- words have these sorts
 abbrev pub HaveSorts : List Word → List Sort → Type 0

@@ -5,8 +5,8 @@ use Rattle.handler_tokens.specs.Texts.{IsNamedFile}
 use Rattle.handler_tokens.specs.Words.{names_of}
 use Rattle.handler_trees.specs.declared.file.File.{File}
 use Rattle.handler_trees.specs.Mentions.{AreBelow, file_mentions}
-use Rattle.handler_grammar.specs.Limits.{IsFileWithin}
-use Rattle.handler_grammar.specs.Parsed.{IsSourceOf}
+use Rattle.handler_phrases.specs.Limits.{IsFileWithin}
+use Rattle.handler_phrases.specs.Parsed.{IsSourceOf}
 use Rattle.handler_printing.specs.Canonical.{canonical_text}
 use Rattle.handler_rules.specs.FirstFault.{PlacesRise}
 use Rattle.handler_syntax.specs.SameTree.{SameTree}

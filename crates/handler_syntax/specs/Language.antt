@@ -20,9 +20,9 @@ pub use Rattle.handler_trees.specs.declared.file.File.{File}
 pub use Rattle.handler_trees.specs.Mentions.{Mention, a_name, a_symbol, a_number, value_mentions, atom_mentions, expr_mentions, call_mentions, right_mentions, cond_mentions, stmt_mentions, table_mentions, param_mentions, handler_mentions, file_mentions, AreNamed}
 pub use Rattle.handler_tokens.specs.Texts.{HasText, HaveTexts, IsNamedFile}
 pub use Rattle.handler_tokens.specs.Words.{names_of}
-pub use Rattle.handler_grammar.specs.Parsed.{Parsed, IsSourceOf, HasFault}
-pub use Rattle.handler_grammar.specs.declared.refusal.SyntaxRefusal.{SyntaxRefusal}
-pub use Rattle.handler_grammar.specs.declared.refusal.SyntaxRefusal.TheVariants as syntax_refusal
+pub use Rattle.handler_phrases.specs.Parsed.{Parsed, IsSourceOf, HasFault}
+pub use Rattle.handler_phrases.specs.declared.refusals.SyntaxRefusal.{SyntaxRefusal}
+pub use Rattle.handler_phrases.specs.declared.refusals.SyntaxRefusal.TheVariants as syntax_refusal
 pub use Rattle.handler_printing.specs.Canonical.{canonical_text}
 pub use Rattle.handler_printing.specs.Lines.{Line, of_file, of_else, of_point, file_lines, shown_text, written}
 pub use Rattle.handler_printing.specs.Points.{AtPoints}

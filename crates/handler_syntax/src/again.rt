@@ -1,11 +1,12 @@
 // A file that is printed and read again.
 
 ghost use Rattle.std.specs.Prelude.{◌≡◌, ◌≢◌, ◌≤◌, ◌<◌, ◌↔◌, IfOk, IfErr, IfSome, MatchResult, length, None};
+ghost use Rattle.session_limits.specs.Limits.{max_input};
 ghost use Rattle.session_values.specs.Names.{Begins};
 ghost use Rattle.handler_trees.specs.Mentions.{AreNamed, file_mentions};
 ghost use Rattle.handler_tokens.specs.Texts.{IsNamedFile};
-ghost use Rattle.handler_grammar.specs.Parsed.{HasFault};
-ghost use Rattle.handler_grammar.specs.declared.refusal.SyntaxRefusal.TheVariants as syntax_refusal;
+ghost use Rattle.handler_phrases.specs.Parsed.{HasFault};
+ghost use Rattle.handler_phrases.specs.declared.refusals.SyntaxRefusal.TheVariants as syntax_refusal;
 ghost use Rattle.handler_printing.specs.Canonical.{canonical_text};
 ghost use Rattle.handler_syntax.specs.SameTree.{SameTree};
 
@@ -13,6 +14,7 @@ use crate::file::File;
 use crate::printing::print;
 use crate::reading::parse;
 use handler_grammar::SyntaxRefusal;
+use session_limits::MAX_INPUT;
 use session_values::Names;
 use std::alloc::Global;
 
@@ -29,7 +31,7 @@ pub fn reprint(alloc: Global, file: &File, names: &mut Names) -> Result<Option<F
     // No new name comes of it.
     ensures names { IsNamedFile names.old file.now
         → IfOk result (λ read. names.new ≡ names.old) }
-    ensures long { IfOk result (λ read. read ≡ None ↔ 4194304 < length
+    ensures long { IfOk result (λ read. read ≡ None ↔ max_input < length
         (canonical_text names.old file.now)) }
     // Any other file is refused where its text is.
     ensures refused { IfErr result (λ e.
@@ -38,7 +40,7 @@ pub fn reprint(alloc: Global, file: &File, names: &mut Names) -> Result<Option<F
     ensures kept { Begins names.old names.new }
 {
     let text = print(alloc, file, names)?;
-    if text.len() > 4_194_304 {
+    if text.len() > MAX_INPUT {
         return Ok(None);
     }
     let read = parse(alloc, text.as_str(), names)?;

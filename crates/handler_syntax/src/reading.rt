@@ -1,7 +1,8 @@
 // Reading.
 
 ghost use Rattle.std.specs.Prelude.{◌≤◌, length};
-ghost use Rattle.handler_grammar.specs.Parsed.{Parsed};
+ghost use Rattle.session_limits.specs.Limits.{max_input};
+ghost use Rattle.handler_phrases.specs.Parsed.{Parsed};
 
 use crate::file::File;
 use handler_grammar::SyntaxRefusal;
@@ -11,7 +12,7 @@ use std::alloc::Global;
 /// The file that a source is. `names` then has the names and symbols of the source too; after a
 /// refusal, perhaps some of them.
 pub fn parse(alloc: Global, source: &str, names: &mut Names) -> Result<File, SyntaxRefusal>
-    requires short { length source.now ≤ 4194304 }
+    requires short { length source.now ≤ max_input }
     requires room { length names.old ≤ 4000000000 }
     ensures { Parsed names.old source.now result names.new }
 {

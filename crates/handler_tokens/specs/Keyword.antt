@@ -29,8 +29,10 @@ operations = map operation_row kinds
 -- the other reserved words
 abbrev pub statement_words : List (List ℕ × Sort)
 statement_words =
-    (codes "map", sort.Table table.Map) ∷ (codes "set", sort.Table table.Set) ∷ (codes "handler", sort.Handler) ∷ (codes "let", sort.Let) ∷ (codes "if", sort.If)
-    ∷ (codes "else", sort.Else) ∷ (codes "repeat", sort.Repeat) ∷ (codes "as", sort.As) ∷ (codes "reply", sort.Reply) ∷ (codes "nil", sort.Nil)
+    (codes "map", sort.Table table.Map) ∷ (codes "set", sort.Table table.Set)
+    ∷ (codes "handler", sort.Handler) ∷ (codes "let", sort.Let) ∷ (codes "if", sort.If)
+    ∷ (codes "else", sort.Else) ∷ (codes "repeat", sort.Repeat) ∷ (codes "as", sort.As)
+    ∷ (codes "reply", sort.Reply) ∷ (codes "nil", sort.Nil)
     ∷ (codes "mayuse", sort.MayUse) ∷ (codes "nothing", sort.Nothing) ∷ (codes "any", sort.Any) ∷ []
 
 -- the first sort, or the second one where it is missing
@@ -53,9 +55,13 @@ keyword_of text = or_else (statement_word_of text) (operation_of text)
 -- the signs
 abbrev pub signs : List (List ℕ × Sort)
 signs =
-    (codes "(", sort.LeftParen) ∷ (codes ")", sort.RightParen) ∷ (codes "{", sort.LeftBrace) ∷ (codes "}", sort.RightBrace) ∷ (codes ",", sort.Comma)
-    ∷ (codes ";", sort.Semicolon) ∷ (codes "=", sort.Assign) ∷ (codes "==", sort.Compare compare.Same) ∷ (codes "!=", sort.Compare compare.Differ) ∷ (codes "<", sort.Compare compare.Less)
-    ∷ (codes "<=", sort.Compare compare.LessOrSame) ∷ (codes "+", sort.Plus) ∷ (codes "-", sort.Minus) ∷ (codes "*", sort.Times) ∷ []
+    (codes "(", sort.LeftParen) ∷ (codes ")", sort.RightParen) ∷ (codes "{", sort.LeftBrace)
+    ∷ (codes "}", sort.RightBrace) ∷ (codes ",", sort.Comma)
+    ∷ (codes ";", sort.Semicolon) ∷ (codes "=", sort.Assign)
+    ∷ (codes "==", sort.Compare compare.Same) ∷ (codes "!=", sort.Compare compare.Differ)
+    ∷ (codes "<", sort.Compare compare.Less)
+    ∷ (codes "<=", sort.Compare compare.LessOrSame) ∷ (codes "+", sort.Plus)
+    ∷ (codes "-", sort.Minus) ∷ (codes "*", sort.Times) ∷ []
 
 -- the sign that the text is
 unfoldable pub sign_of : List ℕ → Option Sort

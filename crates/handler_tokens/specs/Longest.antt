@@ -2,12 +2,13 @@
 use Rattle.std.specs.Prelude.{◌≡◌, ℕ, ◌<◌, ◌≤◌, ◌⊎◌, true, List, ◌∷◌, length, take, drop, slice_index, is_some, codes}
 use Rattle.std.specs.Char.{is_ascii_alphabetic}
 use Rattle.std.specs.List.{prefix_len, AllByRecursion}
+use Rattle.session_limits.specs.Limits.{max_name}
 use Rattle.handler_tokens.specs.declared.scan.Class.{Class}
 use Rattle.handler_tokens.specs.declared.scan.Class.TheVariants as class
 use Rattle.handler_tokens.specs.declared.token_kind.TokenKind.{TokenKind}
 use Rattle.handler_tokens.specs.declared.token_kind.TokenKind.TheVariants as kind
 use Rattle.handler_tokens.specs.Keyword.{keyword_of, sign_of}
-use Rattle.handler_tokens.specs.Scan.{is_in, max_name, char_length}
+use Rattle.handler_tokens.specs.Scan.{is_in, char_length}
 use Rattle.handler_tokens.specs.Texts.{IsNameText, IsSymbolText}
 
 -- one or more digits

@@ -3,6 +3,7 @@ use Rattle.std.specs.Prelude.{ℕ, ◌+◌, Bool, true, false, ◌||◌, ◌&&�
 use Rattle.std.specs.Char.{is_ascii_digit, is_ascii_alphabetic, is_ascii_alphanumeric}
 use Rattle.std.specs.List.{prefix_len}
 use Rattle.std.specs.Str.{bytes_eq}
+use Rattle.session_limits.specs.Limits.{max_name}
 use Rattle.byte_classes.specs.Bytes.{is_blank, is_symbol_byte}
 use Rattle.handler_tokens.specs.declared.scan.Class.{Class}
 use Rattle.handler_tokens.specs.declared.scan.Class.TheVariants as class
@@ -18,10 +19,6 @@ is_in class.Digit b = is_ascii_digit b
 -- a kind and a length
 abbrev pub Scanned : Type 0
 Scanned = TokenKind × ℕ
-
--- a name, and a symbol without its quote, has at most so many bytes
-abbrev pub max_name : ℕ
-max_name = 64
 
 -- a name of this length
 abbrev pub name_of_length : ℕ → Scanned
@@ -43,7 +40,8 @@ scan_bad text = (kind.Bad, char_length (slice_index text 0))
 -- a quote with a run of this length behind it
 abbrev pub symbol_of_length : List ℕ → List ℕ → ℕ → Scanned
 symbol_of_length text run n =
-    if nat_lt max_name n then (kind.Long, n + 1) else (if bytes_eq (take n run) (codes "nil") then scan_bad text else (kind.Symbol, n + 1))
+    if nat_lt max_name n then (kind.Long, n + 1)
+    else (if bytes_eq (take n run) (codes "nil") then scan_bad text else (kind.Symbol, n + 1))
 
 -- a quote, and the longest run behind it, which begins with a letter
 unfoldable pub scan_symbol : List ℕ → Scanned

@@ -3,6 +3,7 @@ use Rattle.std.specs.Prelude.{◌≡◌, ℕ, ◌≤◌, true, false, List, [], 
 use Rattle.std.specs.Char.{is_ascii_alphabetic}
 use Rattle.std.specs.List.{AllByRecursion}
 use Rattle.std.specs.Str.{bytes_eq}
+use Rattle.session_limits.specs.Limits.{max_name}
 use Rattle.session_values.specs.declared.value.Value.TheVariants.{Num}
 use Rattle.session_values.specs.Values.{IsValue}
 use Rattle.handler_trees.specs.declared.file.File.{File}
@@ -12,7 +13,7 @@ use Rattle.handler_tokens.specs.declared.scan.Class.TheVariants as class
 use Rattle.handler_tokens.specs.declared.word.Sort.{Sort}
 use Rattle.handler_tokens.specs.declared.word.Sort.TheVariants as sort
 use Rattle.handler_tokens.specs.declared.word.Word.{Word}
-use Rattle.handler_tokens.specs.Scan.{is_in, max_name}
+use Rattle.handler_tokens.specs.Scan.{is_in}
 use Rattle.handler_tokens.specs.Keyword.{keyword_of}
 
 -- the text at a place of the list of names

@@ -2,6 +2,7 @@
 
 ghost use Rattle.std.specs.Prelude.{◌≡◌, ◌≢◌, ◌+◌, ◌≤◌, ◌<◌, [], length, drop, IfOk, OnOk, OnErr, None};
 ghost use Rattle.std.specs.List.{AllByRecursion};
+ghost use Rattle.session_limits.specs.Limits.{max_input};
 ghost use Rattle.session_values.specs.Names.{Begins};
 ghost use Rattle.handler_tokens.specs.Reading.{words_left, names_left, end_of};
 ghost use Rattle.handler_tokens.specs.Words.{words_of, names_of, first_word, IsNamedWord};
@@ -38,7 +39,7 @@ impl<'a> Model for Reader<'a> {
 impl<'a> Reader<'a> {
     #[tactic(auto, unfolding(crate::specs::Words::words_of, crate::specs::Words::names_of))]
     pub fn over(source: &'a str, names: Names) -> Reader<'a>
-        requires short { length source.now ≤ 4194304 }
+        requires short { length source.now ≤ max_input }
         requires room { length names ≤ 4000000000 }
         ensures words { result.words ≡ words_of names source.now }
         ensures end { result.end ≡ length source.now }

@@ -6,6 +6,7 @@ ghost use Rattle.handler_tokens.specs.Scan as spec;
 
 use crate::token_kind::TokenKind;
 use byte_classes::{is_blank, is_symbol_byte};
+use session_limits::MAX_NAME;
 
 /// The bytes that runs are made of.
 #[derive(Clone, Copy)]
@@ -37,8 +38,6 @@ fn run_len(class: Class, text: &[u8]) -> usize
     }
     end
 }
-
-const MAX_NAME: usize = 64;
 
 /// The byte at a place, or 0 behind the end.
 pub(crate) fn byte_at(text: &[u8], at: usize) -> u8

@@ -1,6 +1,7 @@
 // The tokens of a source.
 
 ghost use Rattle.std.specs.Prelude.{◌≡◌, ◌≤◌, ◌<◌, ◌+◌, ◌++◌, ◌^◌, length, false};
+ghost use Rattle.session_limits.specs.Limits.{max_input};
 ghost use Rattle.handler_tokens.specs.Gap.{IsGap};
 ghost use Rattle.handler_tokens.specs.Scan.{gap};
 ghost use Rattle.handler_tokens.specs.Tokens.{Cuts, with_reserved, reserved_by};
@@ -22,7 +23,7 @@ pub struct Tokens<'a> {
 
 impl<'a> Tokens<'a> {
     pub fn over(source: &'a str) -> Tokens<'a>
-        requires short { length source.now ≤ 4194304 }
+        requires short { length source.now ≤ max_input }
         ensures rest { result.rest.now ≡ source.now }
         ensures at { result.at ≡ 0 }
         ensures ended { result.ended ≡ false }

@@ -35,7 +35,8 @@ fn unquoted(text: &str) -> &str
     }
 }
 
-/// The word of a token, which is this reserved word if it is one. A name or a symbol is placed in the list of names.
+/// The word of a token, which is this reserved word if it is one. A name or a symbol is placed in
+/// the list of names.
 #[tactic(auto, unfolding(crate::specs::Words::names_after, crate::specs::Words::word_after))]
 pub(crate) fn word(
     names: &mut Names,

@@ -21,7 +21,8 @@ use Rattle.handler_walk.specs.declared.walk.Flow.{Flow}
 use Rattle.handler_walk.specs.declared.walk.Flow.TheVariants.{On, Answered}
 use Rattle.handler_walk.specs.Leading.{Leads}
 use Rattle.handler_walk.specs.Runnable.{IsCallWithin, IsRunnable}
-use Rattle.handler_walk.proofs.Codes.{code_store, code_perform, code_choose, code_repeat, code_answer, code_cases}
+use Rattle.handler_dialogue.proofs.Codes.{code_store, code_perform, code_choose, code_repeat, code_answer}
+use Rattle.handler_walk.proofs.Codes.{code_cases}
 
 -- a statement, and then the rest of its block
 pub stmt_then : (s : CheckedStmt) (rest : Code) (k : Env → Ahead) → run_then (stmt_code s rest) k ≡ run_then (stmt_code s Finish) (run_then rest k)

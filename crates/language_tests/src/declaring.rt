@@ -1,6 +1,7 @@
 // The text of a file with a line at each point.
 
 ghost use Rattle.std.specs.Prelude.{◌≤◌, length};
+ghost use Rattle.session_limits.specs.Limits.{max_input};
 ghost use Rattle.handler_trees.specs.Mentions.{AreNamed, file_mentions};
 
 use handler_syntax::{Declarations, File, parse, print_with_declarations};
@@ -90,7 +91,7 @@ fn is_text(alloc: Global, file: &File, names: &Names, want: &str) -> Result<bool
 
 /// Whether the source has this text with the declarations of the sample.
 fn is_declared(alloc: Global, source: &str, want: &str) -> Result<bool, Fail>
-    requires { length source.now ≤ 4194304 }
+    requires { length source.now ≤ max_input }
 {
     let mut names = Names::with_seed(alloc, 0);
     let file = parse(alloc, source, &mut names)?;

@@ -1,6 +1,7 @@
 // Sources as plain texts: their tree, or why they have none.
 
 ghost use Rattle.std.specs.Prelude.{◌≤◌, length};
+ghost use Rattle.session_limits.specs.Limits.{max_input};
 ghost use Rattle.handler_trees.specs.Mentions.{AreNamed, file_mentions};
 
 use handler_syntax::{File, SyntaxRefusal, parse, reprint};
@@ -22,7 +23,7 @@ fn add_refusal(refusal: &SyntaxRefusal, text: &mut String) -> Result<(), Fail> {
 
 /// Appends the tree of a source, or why it has none.
 fn add_shown(alloc: Global, source: &str, text: &mut String) -> Result<(), Fail>
-    requires { length source.now ≤ 4194304 }
+    requires { length source.now ≤ max_input }
 {
     let mut names = Names::with_seed(alloc, 0);
     match parse(alloc, source, &mut names) {
@@ -70,7 +71,7 @@ fn add_reprinted(
 
 /// Appends the tree that a source's canonical text has.
 fn add_shown_again(alloc: Global, source: &str, text: &mut String) -> Result<(), Fail>
-    requires { length source.now ≤ 4194304 }
+    requires { length source.now ≤ max_input }
 {
     let mut names = Names::with_seed(alloc, 0);
     let file = parse(alloc, source, &mut names)?;
@@ -79,7 +80,7 @@ fn add_shown_again(alloc: Global, source: &str, text: &mut String) -> Result<(),
 
 /// Whether a source's canonical text has the tree of another source.
 pub(crate) fn is_again(alloc: Global, source: &str, other: &str) -> Result<bool, Fail>
-    requires { length source.now ≤ 4194304 }
+    requires { length source.now ≤ max_input }
 {
     let mut text = String::new(alloc);
     add_shown_again(alloc, source, &mut text)?;

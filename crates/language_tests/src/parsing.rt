@@ -1,6 +1,7 @@
 // Trees of sources and of canonical texts, and the fronts of a source that are files.
 
 ghost use Rattle.std.specs.Prelude.{◌≤◌, length};
+ghost use Rattle.session_limits.specs.Limits.{max_input};
 
 use crate::helpers::{is_again, shown_otherwise};
 use handler_syntax::parse;
@@ -62,7 +63,7 @@ const SESSION: &str = "map seats;\nset online;\nhandler login(u, now) {\n  \
 
 /// Whether a text is a file.
 fn is_file(alloc: Global, text: &str) -> bool
-    requires { length text.now ≤ 4194304 }
+    requires { length text.now ≤ max_input }
 {
     let mut names = Names::with_seed(alloc, 0);
     parse(alloc, text, &mut names).is_ok()

@@ -5,13 +5,13 @@ use Rattle.std.proofs.lemmas.Bool.{cases_lt}
 use Rattle.std.proofs.lemmas.List.{get_or-take, length-take}
 use Rattle.may_use_analysis.specs.declared.kept.Kept.{Kept}
 use Rattle.may_use_analysis.specs.declared.kept.Kept.TheVariants.{Own, Same, Count}
-use Rattle.may_use_analysis.specs.Stored.{Stored, Listed, own_list, stored_by, all_stored, RefersBack, AllReferBack}
+use Rattle.may_use_analysis.specs.PointList.{PointList, Listed, own_list, point_list_of, point_lists, RefersBack, AllReferBack}
 
 -- two lists of entries that agree below n
 abbrev AgreeBelow : List Kept → List Kept → ℕ → Type 0
 AgreeBelow xs ys n = (k : ℕ) → k < n → get_or xs k (Count 0) ≡ get_or ys k (Count 0)
 
-stored_agree : (xs ys : List Kept) (n i : ℕ) (e : Kept) → AgreeBelow xs ys n → i ≤ n → RefersBack i e → stored_by xs e ≡ stored_by ys e
+stored_agree : (xs ys : List Kept) (n i : ℕ) (e : Kept) → AgreeBelow xs ys n → i ≤ n → RefersBack i e → point_list_of xs e ≡ point_list_of ys e
 stored_agree xs ys n i (Own list) same le r = refl
 stored_agree xs ys n i (Same k) same le r = ap (λ (z : Kept). Listed (own_list z)) (same k (omega (arith, r)))
 stored_agree xs ys n i (Count m) same le r = refl
@@ -26,10 +26,10 @@ refer_from i [] h = tt
 refer_from i (e ∷ es) h =
     (subst (λ (j : ℕ). RefersBack j e) (omega arith) (h 0 e (omega arith)), refer_from (suc i) es (λ k d lt. subst (λ (j : ℕ). RefersBack j (get_or es k d)) (omega arith) (h (suc k) d (omega arith))))
 
-map_agree : (xs ys es : List Kept) (n i : ℕ) → AgreeBelow xs ys n → i + length es ≤ n → ReferFrom i es → map (stored_by xs) es ≡ map (stored_by ys) es
+map_agree : (xs ys es : List Kept) (n i : ℕ) → AgreeBelow xs ys n → i + length es ≤ n → ReferFrom i es → map (point_list_of xs) es ≡ map (point_list_of ys) es
 map_agree xs ys [] n i same le r = refl
 map_agree xs ys (e ∷ es) n i same le r =
-    ap (λ (z : Stored). z ∷ map (stored_by xs) es) (stored_agree xs ys n i e same (omega arith) r.0) ∙ ap (λ (zs : List Stored). stored_by ys e ∷ zs) (map_agree xs ys es n (suc i) same (omega arith) r.1)
+    ap (λ (z : PointList). z ∷ map (point_list_of xs) es) (stored_agree xs ys n i e same (omega arith) r.0) ∙ ap (λ (zs : List PointList). point_list_of ys e ∷ zs) (map_agree xs ys es n (suc i) same (omega arith) r.1)
 
 map_append : {X Y : Type 0} (f : X → Y) (xs ys : List X) → map f (xs ++ ys) ≡ map f xs ++ map f ys
 map_append f [] ys = refl
@@ -46,13 +46,13 @@ at_front (x ∷ xs) e zero lt = refl
 at_front (x ∷ xs) e (suc k) lt = at_front xs e k (omega arith)
 
 -- one more entry
-pub pushed : (xs ys : List Kept) (e : Kept) → ys ≡ xs ++ e ∷ [] → AllReferBack xs → RefersBack (length xs) e → all_stored ys ≡ all_stored xs ++ stored_by xs e ∷ []
+pub pushed : (xs ys : List Kept) (e : Kept) → ys ≡ xs ++ e ∷ [] → AllReferBack xs → RefersBack (length xs) e → point_lists ys ≡ point_lists xs ++ point_list_of xs e ∷ []
 pushed xs ys e is all r =
     let zs = xs ++ e ∷ [] in
-    ap all_stored is
-    ∙ map_append (stored_by zs) xs (e ∷ [])
-    ∙ ap (λ (l : List Stored). l ++ stored_by zs e ∷ []) (map_agree zs xs xs (length xs) 0 (at_front xs e) (omega arith) (refer_from 0 xs (λ k d lt. subst (λ (j : ℕ). RefersBack j (get_or xs k d)) (omega arith) (all k d lt))))
-    ∙ ap (λ (s : Stored). all_stored xs ++ s ∷ []) (stored_agree zs xs (length xs) (length xs) e (at_front xs e) (omega arith) r)
+    ap point_lists is
+    ∙ map_append (point_list_of zs) xs (e ∷ [])
+    ∙ ap (λ (l : List PointList). l ++ point_list_of zs e ∷ []) (map_agree zs xs xs (length xs) 0 (at_front xs e) (omega arith) (refer_from 0 xs (λ k d lt. subst (λ (j : ℕ). RefersBack j (get_or xs k d)) (omega arith) (all k d lt))))
+    ∙ ap (λ (s : PointList). point_lists xs ++ s ∷ []) (stored_agree zs xs (length xs) (length xs) e (at_front xs e) (omega arith) r)
 
 pub pushed_back : (xs ys : List Kept) (e : Kept) → ys ≡ xs ++ e ∷ [] → AllReferBack xs → RefersBack (length xs) e → AllReferBack ys
 pushed_back xs ys e is all r i d lt =
@@ -78,14 +78,14 @@ cut_back xs ys n is all i d lt =
     let inside : i < length xs = omega (arith, ap length is, lt) in
     subst (λ (zs : List Kept). RefersBack i (get_or zs i d)) (sym is) (subst (RefersBack i) (sym (get_or-take n xs i d below)) (all i d inside))
 
-pub cut : (xs ys : List Kept) (n : ℕ) → ys ≡ take n xs → AllReferBack xs → all_stored ys ≡ take n (all_stored xs)
+pub cut : (xs ys : List Kept) (n : ℕ) → ys ≡ take n xs → AllReferBack xs → point_lists ys ≡ take n (point_lists xs)
 cut xs ys n is all =
     let zs = take n xs in
     let few = length-take n xs in
-    ap all_stored is
+    ap point_lists is
     ∙ map_agree zs xs zs (length zs) 0 (λ k lt. get_or-take n xs k (Count 0) (omega (arith, few, lt))) (omega arith) (refer_from 0 zs (λ k d lt. subst (λ (j : ℕ). RefersBack j (get_or zs k d)) (omega arith) (cut_back xs zs n refl all k d lt)))
-    ∙ map_take (stored_by xs) n xs
+    ∙ map_take (point_list_of xs) n xs
 
-pub stored_length : (xs : List Kept) (f : Kept → Stored) → length (map f xs) ≡ length xs
+pub stored_length : (xs : List Kept) (f : Kept → PointList) → length (map f xs) ≡ length xs
 stored_length [] f = refl
 stored_length (x ∷ xs) f = ap suc (stored_length xs f)

@@ -4,7 +4,7 @@ use Rattle.std.proofs.lemmas.List.{drop_more, drop_all}
 use Rattle.handler_dialogue.specs.declared.tree.CheckedStmt.{CheckedStmt}
 use Rattle.handler_dialogue.specs.declared.tree.CheckedStmt.TheVariants as stmt
 use Rattle.handler_dialogue.specs.Code.{Code, Finish, Move, Ask, Fork, Loop, Quit, expr_term, cond_test, stmt_code, block_code, points}
-use Rattle.handler_check.proofs.Counting.{checked_cases, code_store, code_perform, code_choose, code_repeat, code_answer}
+use Rattle.handler_dialogue.proofs.Codes.{checked_cases, code_store, code_perform, code_choose, code_repeat, code_answer}
 use Rattle.may_use_analysis.specs.Places.{places}
 
 pub places_stmt : (rest : Code) (s : CheckedStmt) → places (stmt_code s rest) ≡ places (stmt_code s Finish) ++ places rest

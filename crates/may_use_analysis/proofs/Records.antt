@@ -7,16 +7,16 @@ use Rattle.handler_dialogue.specs.declared.tree.CheckedCall.{CheckedCall}
 use Rattle.handler_dialogue.specs.declared.tree.CheckedStmt.{CheckedStmt}
 use Rattle.handler_dialogue.specs.declared.tree.CheckedStmt.TheVariants as stmt
 use Rattle.handler_dialogue.specs.Code.{Code, Finish, Move, Ask, Fork, Loop, Quit, expr_term, cond_test, stmt_code, block_code, points, IsNumbered}
-use Rattle.handler_check.proofs.Counting.{checked_cases, code_store, code_perform, code_choose, code_repeat, code_answer}
+use Rattle.handler_dialogue.proofs.Codes.{checked_cases, code_store, code_perform, code_choose, code_repeat, code_answer}
 use Rattle.may_use_analysis.specs.Trails.{Symbols}
 use Rattle.may_use_analysis.specs.Flow.{Flow, Head, StmtFlow}
 use Rattle.may_use_analysis.specs.Recorded.{Recorded, StmtRecorded}
-use Rattle.may_use_analysis.specs.Stored.{Stored, Counted, IsStored}
+use Rattle.may_use_analysis.specs.PointList.{PointList, Counted, IsPointList}
 use Rattle.may_use_analysis.proofs.FlowLemmas.{Within}
 use Rattle.may_use_analysis.proofs.Numbers.{Fits}
 use Rattle.may_use_analysis.proofs.Sets.{Same, flow_same, head_same, stored_same}
 
-pub recorded_same : (code : Code) (A B : Symbols) (old new : List Stored) → Same A B → Recorded code A old new → Recorded code B old new
+pub recorded_same : (code : Code) (A B : Symbols) (old new : List PointList) → Same A B → Recorded code A old new → Recorded code B old new
 recorded_same Finish A B old new h r = r
 recorded_same (Move x e rest) A B old new h r = recorded_same rest A B old new h r
 recorded_same (Ask at p x c rest) A B old new h r =
@@ -34,21 +34,21 @@ recorded_same (Loop at p n x body rest) A B old new h r =
 recorded_same (Quit es rest) A B old new h r = recorded_same rest A B old new h r
 
 -- a statement's lists after those of the rest of its block, where its code is given
-module _ (rest : Code) (A : Symbols) (old mid new : List Stored) (r : Recorded rest A old mid) where
+module _ (rest : Code) (A : Symbols) (old mid new : List PointList) (r : Recorded rest A old mid) where
   record_move : (x : ℕ) (e : _) → Recorded (Move x e Finish) (Flow rest A) mid new → Recorded (Move x e rest) A old new
-  record_move x e s = subst (λ (z : List Stored). Recorded rest A old z) (sym s) r
+  record_move x e s = subst (λ (z : List PointList). Recorded rest A old z) (sym s) r
 
   record_ask : (at p : ℕ) (x : Option ℕ) (c : CheckedCall) → Recorded (Ask at p x c Finish) (Flow rest A) mid new → Recorded (Ask at p x c rest) A old new
-  record_ask at p x c s = (s.0, s.1, subst (λ (z : List Stored). Recorded rest A old z) (sym s.2) r, s.3, s.4)
+  record_ask at p x c s = (s.0, s.1, subst (λ (z : List PointList). Recorded rest A old z) (sym s.2) r, s.3, s.4)
 
   record_fork : (at p q : ℕ) (test : _) (a b : Code) → Recorded (Fork at p q test a b Finish) (Flow rest A) mid new → Recorded (Fork at p q test a b rest) A old new
-  record_fork at p q test a b s = (s.0, s.1, s.2, s.3, s.4, subst (λ (z : List Stored). Recorded rest A old z) (sym s.5) r, s.6, s.7, s.8, s.9, s.10)
+  record_fork at p q test a b s = (s.0, s.1, s.2, s.3, s.4, subst (λ (z : List PointList). Recorded rest A old z) (sym s.5) r, s.6, s.7, s.8, s.9, s.10)
 
   record_loop : (at p n x : ℕ) (body : Code) → Recorded (Loop at p n x body Finish) (Flow rest A) mid new → Recorded (Loop at p n x body rest) A old new
-  record_loop at p n x body s = (s.0, s.1, subst (λ (z : List Stored). Recorded rest A old z) (sym s.2) r, s.3, s.4)
+  record_loop at p n x body s = (s.0, s.1, subst (λ (z : List PointList). Recorded rest A old z) (sym s.2) r, s.3, s.4)
 
   record_quit : (es : _) → Recorded (Quit es Finish) (Flow rest A) mid new → Recorded (Quit es rest) A old new
-  record_quit es s = subst (λ (z : List Stored). Recorded rest A old z) (sym s) r
+  record_quit es s = subst (λ (z : List PointList). Recorded rest A old z) (sym s) r
 
   through : (c d e f : Code) → c ≡ d → e ≡ f → (Recorded d (Flow rest A) mid new → Recorded f A old new) → Recorded c (Flow rest A) mid new → Recorded e A old new
   through c d e f p q k s = subst (λ (z : Code). Recorded z A old new) (sym q) (k (subst (λ (z : Code). Recorded z (Flow rest A) mid new) p s))
@@ -75,16 +75,16 @@ stmt_rest rest A = checked_cases (λ s. Same (StmtFlow s (Flow rest A)) (Flow (s
 
 -- ---- a walk only adds
 
-abbrev pub Extends : List Stored → List Stored → Type 0
-Extends old new = (more : List Stored) × (new ≡ old ++ more)
+abbrev pub Extends : List PointList → List PointList → Type 0
+Extends old new = (more : List PointList) × (new ≡ old ++ more)
 
-pub extends_trans : (a b c : List Stored) → Extends a b → Extends b c → Extends a c
-extends_trans a b c g h = (g.0 ++ h.0, h.1 ∙ ap (λ (z : List Stored). z ++ h.0) g.1 ∙ append_assoc a g.0 h.0)
+pub extends_trans : (a b c : List PointList) → Extends a b → Extends b c → Extends a c
+extends_trans a b c g h = (g.0 ++ h.0, h.1 ∙ ap (λ (z : List PointList). z ++ h.0) g.1 ∙ append_assoc a g.0 h.0)
 
-extends_push : (a b c : List Stored) (v : Stored) → Extends a b → c ≡ b ++ v ∷ [] → Extends a c
+extends_push : (a b c : List PointList) (v : PointList) → Extends a b → c ≡ b ++ v ∷ [] → Extends a c
 extends_push a b c v g e = extends_trans a b c g (v ∷ [], e)
 
-pub recorded_extends : (code : Code) (A : Symbols) (old new : List Stored) → Recorded code A old new → Extends old new
+pub recorded_extends : (code : Code) (A : Symbols) (old new : List PointList) → Recorded code A old new → Extends old new
 recorded_extends Finish A old new r = ([], r ∙ sym (append-nil old))
 recorded_extends (Move x e rest) A old new r = recorded_extends rest A old new r
 recorded_extends (Ask at p x c rest) A old new r = extends_push old r.0 new r.1 (recorded_extends rest A old r.0 r.2) r.4
@@ -105,17 +105,17 @@ on_ok_map (Ok v) P Q f p = f p
 on_ok_map (Err e) P Q f p = tt
 
 -- the lists beside the head's set
-pub head_lists : (x : ℕ) (body : Code) (after head : List Symbol) (old mid new : List Stored) → mid ≡ old → Recorded body (Contains head) mid new → Within (Contains head) (Head x body (Contains after)) → Within (Head x body (Contains after)) (Contains head) → Recorded body (Head x body (Contains after)) old new
+pub head_lists : (x : ℕ) (body : Code) (after head : List Symbol) (old mid new : List PointList) → mid ≡ old → Recorded body (Contains head) mid new → Within (Contains head) (Head x body (Contains after)) → Within (Head x body (Contains after)) (Contains head) → Recorded body (Head x body (Contains after)) old new
 head_lists x body after head old mid new e r h k =
-    recorded_same body (Contains head) (Head x body (Contains after)) old new (λ s. (h s, k s)) (subst (λ (z : List Stored). Recorded body (Contains head) z new) e r)
+    recorded_same body (Contains head) (Head x body (Contains after)) old new (λ s. (h s, k s)) (subst (λ (z : List PointList). Recorded body (Contains head) z new) e r)
 
 -- what is left of the lists where a loop's next turn begins
-pub kept_lists : (old out cut : List Stored) (n : ℕ) → Extends old out → n ≡ length old → cut ≡ take n out → cut ≡ old
+pub kept_lists : (old out cut : List PointList) (n : ℕ) → Extends old out → n ≡ length old → cut ≡ take n out → cut ≡ old
 kept_lists old out cut n x e f = f ∙ ap (λ (k : ℕ). take k out) e ∙ ap (take (length old)) x.1 ∙ take-append_seam old x.0
 
 -- ---- by the numbers of points
 
-pub recorded_length : (code : Code) (A : Symbols) (old new : List Stored) → Recorded code A old new → length new ≡ length old + points code
+pub recorded_length : (code : Code) (A : Symbols) (old new : List PointList) → Recorded code A old new → length new ≡ length old + points code
 recorded_length Finish A old new r = omega (arith, ap length r)
 recorded_length (Move x e rest) A old new r = recorded_length rest A old new r
 recorded_length (Ask at p x c rest) A old new r =
@@ -127,18 +127,18 @@ recorded_length (Loop at p n x body rest) A old new r =
 recorded_length (Quit es rest) A old new r = recorded_length rest A old new r
 
 -- the list of point i stands t - (i + 1) places from the bottom
-abbrev pub StackedAt : List Stored → ℕ → ℕ → Symbols → Type 0
-StackedAt all t i A = IsStored (get_or all (t - (i + 1)) (Counted 0)) A
+abbrev pub StackedAt : List PointList → ℕ → ℕ → Symbols → Type 0
+StackedAt all t i A = IsPointList (get_or all (t - (i + 1)) (Counted 0)) A
 
 -- a list that was added stays where it is
-at_pushed : (mid new all : List Stored) (l : Stored) (k : ℕ) (A : Symbols) → new ≡ mid ++ l ∷ [] → Extends new all → k ≡ length mid → IsStored l A → IsStored (get_or all k (Counted 0)) A
+at_pushed : (mid new all : List PointList) (l : PointList) (k : ℕ) (A : Symbols) → new ≡ mid ++ l ∷ [] → Extends new all → k ≡ length mid → IsPointList l A → IsPointList (get_or all k (Counted 0)) A
 at_pushed mid new all l k A e x f is =
-    let whole : all ≡ mid ++ l ∷ x.0 = x.1 ∙ ap (λ (z : List Stored). z ++ x.0) e ∙ append_assoc mid (l ∷ []) x.0 in
-    let here : get_or all k (Counted 0) ≡ l = ap (λ (z : List Stored). get_or z k (Counted 0)) whole ∙ ap (λ (j : ℕ). get_or (mid ++ l ∷ x.0) j (Counted 0)) f ∙ get_or-append_seam mid l x.0 (Counted 0) in
-    subst (λ (v : Stored). IsStored v A) (sym here) is
+    let whole : all ≡ mid ++ l ∷ x.0 = x.1 ∙ ap (λ (z : List PointList). z ++ x.0) e ∙ append_assoc mid (l ∷ []) x.0 in
+    let here : get_or all k (Counted 0) ≡ l = ap (λ (z : List PointList). get_or z k (Counted 0)) whole ∙ ap (λ (j : ℕ). get_or (mid ++ l ∷ x.0) j (Counted 0)) f ∙ get_or-append_seam mid l x.0 (Counted 0) in
+    subst (λ (v : PointList). IsPointList v A) (sym here) is
 
 -- the lists that a walk recorded fit the points
-pub fits_recorded : (code : Code) (low t : ℕ) (A : Symbols) (old new all : List Stored) → IsNumbered code low → Recorded code A old new → Extends new all → t ≡ length old + points code + low → Fits (StackedAt all t) code A
+pub fits_recorded : (code : Code) (low t : ℕ) (A : Symbols) (old new all : List PointList) → IsNumbered code low → Recorded code A old new → Extends new all → t ≡ length old + points code + low → Fits (StackedAt all t) code A
 fits_recorded Finish low t A old new all n r x e = tt
 fits_recorded (Move y v rest) low t A old new all n r x e = fits_recorded rest low t A old new all n r x e
 fits_recorded (Ask at p y c rest) low t A old new all n r x e =

@@ -7,7 +7,7 @@ use Rattle.handler_dialogue.specs.Code.{Code}
 use Rattle.may_use_analysis.specs.Trails.{Symbols}
 use Rattle.may_use_analysis.specs.Flow.{Flow, Head}
 use Rattle.may_use_analysis.specs.Ordered.{Are, Lists}
-use Rattle.may_use_analysis.specs.Stored.{Stored, Listed, Counted, IsStored, IsStoredOf}
+use Rattle.may_use_analysis.specs.PointList.{PointList, Listed, Counted, IsPointList, IsPointListOf}
 use Rattle.may_use_analysis.proofs.FlowLemmas.{flow_within, turned_within}
 
 -- two sets of the same symbols
@@ -27,15 +27,15 @@ are_same list A B h r s = (λ m. (h s).0 ((r s).0 m), λ m. (r s).1 ((h s).1 m))
 pub lists_same : (list : List Symbol) (A B : Symbols) → Same A B → Lists list A → Lists list B
 lists_same list A B h r = (r.0, are_same list A B h r.1)
 
-pub stored_same : (stored : Stored) (A B : Symbols) → Same A B → IsStored stored A → IsStored stored B
+pub stored_same : (stored : PointList) (A B : Symbols) → Same A B → IsPointList stored A → IsPointList stored B
 stored_same (Listed list) A B h r = (lists_same list A B h r.0, r.1)
 stored_same (Counted n) A B h r = (r.0, lists_same r.0 A B h r.1, r.2, r.3)
 
 -- what is kept of a list that has the symbols of a set
-pub stored_lists : (list : List Symbol) (stored : Stored) (A : Symbols) → IsStoredOf list stored → Lists list A → IsStored stored A
+pub stored_lists : (list : List Symbol) (stored : PointList) (A : Symbols) → IsPointListOf list stored → Lists list A → IsPointList stored A
 stored_lists list (Listed kept) A k h = (subst (λ (z : List Symbol). Lists z A) (sym k.0) h, subst (λ (z : List Symbol). length z ≤ 256) (sym k.0) k.1)
 stored_lists list (Counted n) A k h = (list, h, k.0, k.1)
 
 -- the same, where the list was lent
-pub stored_lent : (lent list : List Symbol) (stored : Stored) (A : Symbols) → lent ≡ list → IsStoredOf lent stored → IsStrictlySortedBy symbol_cmp list → Are list A → IsStored stored A
-stored_lent lent list stored A e k order is = stored_lists list stored A (subst (λ (z : List Symbol). IsStoredOf z stored) e k) (order, is)
+pub stored_lent : (lent list : List Symbol) (stored : PointList) (A : Symbols) → lent ≡ list → IsPointListOf lent stored → IsStrictlySortedBy symbol_cmp list → Are list A → IsPointList stored A
+stored_lent lent list stored A e k order is = stored_lists list stored A (subst (λ (z : List Symbol). IsPointListOf z stored) e k) (order, is)

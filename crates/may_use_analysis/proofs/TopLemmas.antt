@@ -20,11 +20,11 @@ use Rattle.may_use_analysis.specs.declared.refusal.AnalysisRefusal.TheVariants.{
 use Rattle.may_use_analysis.specs.Trails.{Symbols, LaterAt}
 use Rattle.may_use_analysis.specs.Flow.{Flow, FlowPoint}
 use Rattle.may_use_analysis.specs.Later.{IsLaterList, HasLists, HasLater, AreLater, places_in, places_at, IsShort, IsBefore, IsExcess, IsTooMany}
-use Rattle.may_use_analysis.specs.Numbered.{stored_at, by_number, AreStored, AreShortBelow, IsFirstExcess}
+use Rattle.may_use_analysis.specs.Numbered.{point_list_at, by_number, ArePointLists, AreShortBelow, IsFirstExcess}
 use Rattle.may_use_analysis.specs.Ordered.{Lists}
 use Rattle.may_use_analysis.specs.Places.{places}
 use Rattle.may_use_analysis.specs.Recorded.{Recorded}
-use Rattle.may_use_analysis.specs.Stored.{Stored, Listed, Counted, IsStored, list_in, count_in}
+use Rattle.may_use_analysis.specs.PointList.{PointList, Listed, Counted, IsPointList, list_in, count_in}
 use Rattle.may_use_analysis.proofs.PointLemmas.{later_is_flow}
 use Rattle.may_use_analysis.proofs.Records.{recorded_same, recorded_length, StackedAt, fits_recorded}
 use Rattle.may_use_analysis.proofs.Sets.{Same, flow_same, stored_same}
@@ -56,7 +56,7 @@ module _ (code : Code) (n : IsNumbered code 1) where
       point_only (inl m) = let z = m.0 in absurd (omega arith)
       point_only (inr m) = m
 
-  pub handler_stored : (entry : Stored) (lists all : List Stored) → IsStored entry (Flow code (Contains [])) → Recorded code (Contains []) [] lists → all ≡ lists ++ entry ∷ [] → AreStored code all
+  pub handler_stored : (entry : PointList) (lists all : List PointList) → IsPointList entry (Flow code (Contains [])) → Recorded code (Contains []) [] lists → all ≡ lists ++ entry ∷ [] → ArePointLists code all
   handler_stored entry lists all is r e = record { count = count; each = λ p lt. at p lt (cases_lt p 1) }
     where
       len : length lists ≡ points code
@@ -65,20 +65,20 @@ module _ (code : Code) (n : IsNumbered code 1) where
       count : length all ≡ 1 + points code
       count = omega (arith, ap length e, length-append lists (entry ∷ []), len)
 
-      at : (p : ℕ) → p < 1 + points code → (p < 1) ⊎ (1 ≤ p) → IsStored (stored_at all p) (LaterAt code p)
+      at : (p : ℕ) → p < 1 + points code → (p < 1) ⊎ (1 ≤ p) → IsPointList (point_list_at all p) (LaterAt code p)
       at p lt (inl h) =
           let k : length all - (p + 1) ≡ length lists = omega (arith, len, count) in
-          let here : stored_at all p ≡ entry = ap (λ (z : List Stored). get_or z (length all - (p + 1)) (Counted 0)) e ∙ ap (λ (j : ℕ). get_or (lists ++ entry ∷ []) j (Counted 0)) k ∙ get_or-append_seam lists entry [] (Counted 0) in
-          subst (λ (z : Stored). IsStored z (LaterAt code p)) (sym here) (stored_same entry (Flow code Empty) (LaterAt code p) (entry_later p h) (stored_same entry (Flow code (Contains [])) (Flow code Empty) (flow_same code (Contains []) Empty no_member) is))
+          let here : point_list_at all p ≡ entry = ap (λ (z : List PointList). get_or z (length all - (p + 1)) (Counted 0)) e ∙ ap (λ (j : ℕ). get_or (lists ++ entry ∷ []) j (Counted 0)) k ∙ get_or-append_seam lists entry [] (Counted 0) in
+          subst (λ (z : PointList). IsPointList z (LaterAt code p)) (sym here) (stored_same entry (Flow code Empty) (LaterAt code p) (entry_later p h) (stored_same entry (Flow code (Contains [])) (Flow code Empty) (flow_same code (Contains []) Empty no_member) is))
       at p lt (inr h) =
-          let t : length all ≡ length {A = Stored} [] + points code + 1 = omega (arith, count) in
+          let t : length all ≡ length {A = PointList} [] + points code + 1 = omega (arith, count) in
           let fits = fits_recorded code 1 (length all) Empty [] lists all n (recorded_same code (Contains []) Empty [] lists no_member r) (entry ∷ [], e) t in
           let here = fits_point (StackedAt all (length all)) (λ i A B same s. stored_same (get_or all (length all - (i + 1)) (Counted 0)) A B same s) code 1 Empty n fits p h (omega arith) in
-          stored_same (stored_at all p) (FlowPoint code p Empty) (LaterAt code p) (point_later p h) here
+          stored_same (point_list_at all p) (FlowPoint code p Empty) (LaterAt code p) (point_later p h) here
 
 -- ---- by number
 
-pub number_at : (kept : List Stored) (p : ℕ) → p < length kept → slice_index_or (by_number kept) p [] ≡ list_in (stored_at kept p)
+pub number_at : (kept : List PointList) (p : ℕ) → p < length kept → slice_index_or (by_number kept) p [] ≡ list_in (point_list_at kept p)
 number_at kept p lt =
     let m = length-map kept list_in in
     let k : length (map list_in kept) - 1 - p ≡ length kept - (p + 1) = omega (arith, m) in
@@ -86,17 +86,17 @@ number_at kept p lt =
     ∙ ap (λ (j : ℕ). get_or (map list_in kept) j []) k
     ∙ get_or-map list_in kept (length kept - (p + 1)) (Counted 0)
 
-listed : (s : Stored) (A : Symbols) → count_in s ≡ None → IsStored s A → Lists (list_in s) A × (length (list_in s) ≤ 256)
+listed : (s : PointList) (A : Symbols) → count_in s ≡ None → IsPointList s A → Lists (list_in s) A × (length (list_in s) ≤ 256)
 listed (Listed list) A e is = is
 listed (Counted n) A e is = absurd (cc e)
 
-counted : (s : Stored) (n : ℕ) (A : Symbols) → count_in s ≡ Some n → IsStored s A → (list : List Symbol) × Lists list A × (n ≡ length list) × (256 < length list)
+counted : (s : PointList) (n : ℕ) (A : Symbols) → count_in s ≡ Some n → IsPointList s A → (list : List Symbol) × Lists list A × (n ≡ length list) × (256 < length list)
 counted (Listed list) n A e is = absurd (cc e)
 counted (Counted m) n A e is =
     let same : m ≡ n = cc in
     (is.0, is.1, sym same ∙ is.2, (let a = is.2 in let b = is.3 in omega arith))
 
-pub all_listed : (code : Code) (kept : List Stored) → AreStored code kept → AreShortBelow kept (length kept) → HasLists code (by_number kept)
+pub all_listed : (code : Code) (kept : List PointList) → ArePointLists code kept → AreShortBelow kept (length kept) → HasLists code (by_number kept)
 all_listed code kept are short =
     record {
       count = length-reverse (map list_in kept) ∙ length-map kept list_in ∙ are.count;
@@ -107,8 +107,8 @@ all_listed code kept are short =
     below : (p : ℕ) → p < 1 + points code → p < length kept
     below p lt = omega (arith, are.count)
 
-    at : (p : ℕ) → p < 1 + points code → Lists (list_in (stored_at kept p)) (LaterAt code p) × (length (list_in (stored_at kept p)) ≤ 256)
-    at p lt = listed (stored_at kept p) (LaterAt code p) (short p (below p lt)) (are.each p lt)
+    at : (p : ℕ) → p < 1 + points code → Lists (list_in (point_list_at kept p)) (LaterAt code p) × (length (list_in (point_list_at kept p)) ≤ 256)
+    at p lt = listed (point_list_at kept p) (LaterAt code p) (short p (below p lt)) (are.each p lt)
 
 -- ---- files
 
@@ -118,11 +118,11 @@ place_is f h source c e r b =
     ∙ ap (λ (z : Code). source.at ∷ places z) (b ∙ ap (code_in f) e)
     ∙ sym (ap (places_in f) e)
 
-pub excess_found : (f : File) (h at : ℕ) (kept : List Stored) (e : Excess) (lists : ℕ → List (List Symbol)) → h < length f.handlers → AreStored (code_at f h) kept → IsFirstExcess kept (Some e) → slice_get (places_at f h) e.point ≡ Some at → ((k : ℕ) → k < h → HasLists (code_at f k) (lists k)) → IsExcess f at e.count
+pub excess_found : (f : File) (h at : ℕ) (kept : List PointList) (e : Excess) (lists : ℕ → List (List Symbol)) → h < length f.handlers → ArePointLists (code_at f h) kept → IsFirstExcess kept (Some e) → slice_get (places_at f h) e.point ≡ Some at → ((k : ℕ) → k < h → HasLists (code_at f k) (lists k)) → IsExcess f at e.count
 excess_found f h at kept e lists inside are found place before =
     let code = code_at f h in
     let lt : e.point < 1 + points code = omega (arith, found.0, are.count) in
-    let m = counted (stored_at kept e.point) e.count (LaterAt code e.point) found.1 (are.each e.point lt) in
+    let m = counted (point_list_at kept e.point) e.count (LaterAt code e.point) found.1 (are.each e.point lt) in
     record {
       handler = h;
       point = e.point;
@@ -138,8 +138,8 @@ excess_found f h at kept e lists inside are found place before =
   where
     in_same : (p : ℕ) → p < 1 + points (code_at f h) → p < e.point → IsShort (code_at f h) p
     in_same p lt below =
-        let l = listed (stored_at kept p) (LaterAt (code_at f h) p) (found.2 p below) (are.each p lt) in
-        (list_in (stored_at kept p), l.0, l.1)
+        let l = listed (point_list_at kept p) (LaterAt (code_at f h) p) (found.2 p below) (are.each p lt) in
+        (list_in (point_list_at kept p), l.0, l.1)
 
     first : (g p : ℕ) → g < length f.handlers → p < 1 + points (code_at f g) → IsBefore g p h e.point → IsShort (code_at f g) p
     first g p gl pl (inl b) = (slice_index_or (lists g) p [], (before g b).each p pl, (before g b).few p pl)
@@ -200,20 +200,20 @@ pub some_at : {X : Type 0} (xs : List X) (i : ℕ) → i < length xs → (x : X)
 some_at [] i lt = absurd (omega arith)
 some_at (x ∷ xs) i lt = (get_or (x ∷ xs) i x, slice_get-get_or (x ∷ xs) i x lt)
 
-pub more_lists : (f : File) (items new : List (List Stored)) (lists : List Stored) (h : ℕ) → length items ≡ h → new ≡ items ++ lists ∷ [] → ((k : ℕ) → k < h → HasLists (code_at f k) (by_number (get_or items k []))) → HasLists (code_at f h) (by_number lists) → (k : ℕ) → k < h + 1 → HasLists (code_at f k) (by_number (get_or new k []))
+pub more_lists : (f : File) (items new : List (List PointList)) (lists : List PointList) (h : ℕ) → length items ≡ h → new ≡ items ++ lists ∷ [] → ((k : ℕ) → k < h → HasLists (code_at f k) (by_number (get_or items k []))) → HasLists (code_at f h) (by_number lists) → (k : ℕ) → k < h + 1 → HasLists (code_at f k) (by_number (get_or new k []))
 more_lists f items new lists h len is each here k lt = go (cases_lt k h)
   where
     go : (k < h) ⊎ (h ≤ k) → HasLists (code_at f k) (by_number (get_or new k []))
     go (inl b) =
-        let at : get_or new k [] ≡ get_or items k [] = ap (λ (z : List (List Stored)). get_or z k []) is ∙ get_or_append_left items (lists ∷ []) [] k (omega arith) in
-        subst (λ (z : List Stored). HasLists (code_at f k) (by_number z)) (sym at) (each k b)
+        let at : get_or new k [] ≡ get_or items k [] = ap (λ (z : List (List PointList)). get_or z k []) is ∙ get_or_append_left items (lists ∷ []) [] k (omega arith) in
+        subst (λ (z : List PointList). HasLists (code_at f k) (by_number z)) (sym at) (each k b)
     go (inr b) =
         let e : k ≡ length items = omega arith in
-        let at : get_or new k [] ≡ lists = ap (λ (z : List (List Stored)). get_or z k []) is ∙ ap (λ (j : ℕ). get_or (items ++ lists ∷ []) j []) e ∙ get_or-append_seam items lists [] [] in
-        subst (λ (z : List Stored). HasLists (code_at f k) (by_number z)) (sym at) (subst (λ (j : ℕ). HasLists (code_at f j) (by_number lists)) (sym (e ∙ len)) here)
+        let at : get_or new k [] ≡ lists = ap (λ (z : List (List PointList)). get_or z k []) is ∙ ap (λ (j : ℕ). get_or (items ++ lists ∷ []) j []) e ∙ get_or-append_seam items lists [] [] in
+        subst (λ (z : List PointList). HasLists (code_at f k) (by_number z)) (sym at) (subst (λ (j : ℕ). HasLists (code_at f j) (by_number lists)) (sym (e ∙ len)) here)
 
 -- what is kept of all handlers is their lists
-pub lists_of_all : (f : File) (kept : List (List Stored)) (h : ℕ) → length f.handlers ≤ h → length kept ≡ h → h ≤ length f.handlers → ((k : ℕ) → k < h → HasLists (code_at f k) (by_number (get_or kept k []))) → HasLater f
+pub lists_of_all : (f : File) (kept : List (List PointList)) (h : ℕ) → length f.handlers ≤ h → length kept ≡ h → h ≤ length f.handlers → ((k : ℕ) → k < h → HasLists (code_at f k) (by_number (get_or kept k []))) → HasLater f
 lists_of_all f kept h all len few each = (
   map by_number kept,
   record {

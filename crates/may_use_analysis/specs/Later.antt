@@ -1,5 +1,6 @@
 -- The lists of all points of a file, and the first point that has too many symbols.
 use Rattle.std.specs.Prelude.{◌≡◌, ℕ, ◌+◌, ◌<◌, ◌≤◌, ◌⊎◌, List, [], ◌∷◌, length, Option, Some, None, slice_get, slice_index_or}
+use Rattle.session_limits.specs.Limits.{max_symbols}
 use Rattle.symbolic_ops.specs.declared.symbol.Symbol.{Symbol}
 use Rattle.handler_trees.specs.declared.file.File.{File}
 use Rattle.handler_trees.specs.declared.file.Handler.{Handler}
@@ -19,7 +20,7 @@ IsLaterList code p list = Lists list (LaterAt code p)
 pub record HasLists (code : Code) (lists : List (List Symbol)) : Type 0 where
   pub count : length lists ≡ 1 + points code
   pub each : (p : ℕ) → p < 1 + points code → IsLaterList code p (slice_index_or lists p [])
-  pub few : (p : ℕ) → p < 1 + points code → length (slice_index_or lists p []) ≤ 256
+  pub few : (p : ℕ) → p < 1 + points code → length (slice_index_or lists p []) ≤ max_symbols
 
 -- each point of each handler has its list
 pub record AreLater (f : File) (all : List (List (List Symbol))) : Type 0 where
@@ -38,7 +39,7 @@ places_at f h = places_in f (slice_get f.handlers h)
 
 -- the point has at most 256 symbols
 abbrev pub IsShort : Code → ℕ → Type 0
-IsShort code p = (list : List Symbol) × IsLaterList code p list × (length list ≤ 256)
+IsShort code p = (list : List Symbol) × IsLaterList code p list × (length list ≤ max_symbols)
 
 -- one point stands before another one in the text: handlers in their order, points by their numbers
 abbrev pub IsBefore : ℕ → ℕ → ℕ → ℕ → Type 0
@@ -54,7 +55,7 @@ pub record IsExcess (f : File) (at count : ℕ) : Type 0 where
   pub list : List Symbol
   pub later : IsLaterList (code_at f handler) point list
   pub count_is : count ≡ length list
-  pub many : 256 < length list
+  pub many : max_symbols < length list
   pub first : (h p : ℕ) → h < length f.handlers → p < 1 + points (code_at f h)
       → IsBefore h p handler point → IsShort (code_at f h) p
 

@@ -3,9 +3,9 @@ pub mod Later
 pub mod Numbered
 pub mod Ordered
 pub mod Places
+pub mod PointList
 pub mod Recorded
 pub mod Steps
-pub mod Stored
 pub mod Stores
 pub mod Trails
 pub mod Warm

@@ -3,28 +3,28 @@ use Rattle.std.specs.Prelude.{◌≡◌, ℕ, ◌+◌, ◌-◌, ◌<◌, List, l
 use Rattle.symbolic_ops.specs.declared.symbol.Symbol.{Symbol}
 use Rattle.handler_dialogue.specs.Code.{Code, points}
 use Rattle.may_use_analysis.specs.declared.handler.Excess.{Excess}
-use Rattle.may_use_analysis.specs.Stored.{Stored, Counted, IsStored, count_in, list_in}
+use Rattle.may_use_analysis.specs.PointList.{PointList, Counted, IsPointList, count_in, list_in}
 use Rattle.may_use_analysis.specs.Trails.{LaterAt}
 
 -- what is kept of the list of this point, where the last point's comes first
-abbrev pub stored_at : List Stored → ℕ → Stored
-stored_at kept p = slice_index_or kept (length kept - (p + 1)) (Counted 0)
+abbrev pub point_list_at : List PointList → ℕ → PointList
+point_list_at kept p = slice_index_or kept (length kept - (p + 1)) (Counted 0)
 
 -- the lists by the numbers of the points
-abbrev pub by_number : List Stored → List (List Symbol)
+abbrev pub by_number : List PointList → List (List Symbol)
 by_number kept = reverse (map list_in kept)
 
 -- what is kept of each point's list
-pub record AreStored (code : Code) (kept : List Stored) : Type 0 where
+pub record ArePointLists (code : Code) (kept : List PointList) : Type 0 where
   pub count : length kept ≡ 1 + points code
-  pub each : (p : ℕ) → p < 1 + points code → IsStored (stored_at kept p) (LaterAt code p)
+  pub each : (p : ℕ) → p < 1 + points code → IsPointList (point_list_at kept p) (LaterAt code p)
 
 -- no point before this one has too many symbols
-abbrev pub AreShortBelow : List Stored → ℕ → Type 0
-AreShortBelow kept n = (p : ℕ) → p < n → count_in (stored_at kept p) ≡ None
+abbrev pub AreShortBelow : List PointList → ℕ → Type 0
+AreShortBelow kept n = (p : ℕ) → p < n → count_in (point_list_at kept p) ≡ None
 
 -- the first point that has too many symbols, if there is one
-abbrev pub IsFirstExcess : List Stored → Option Excess → Type 0
+abbrev pub IsFirstExcess : List PointList → Option Excess → Type 0
 IsFirstExcess kept None = AreShortBelow kept (length kept)
 IsFirstExcess kept (Some e) = (e.point < length kept)
-    × (count_in (stored_at kept e.point) ≡ Some e.count) × AreShortBelow kept e.point
+    × (count_in (point_list_at kept e.point) ≡ Some e.count) × AreShortBelow kept e.point

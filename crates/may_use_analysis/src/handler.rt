@@ -2,7 +2,7 @@
 
 ghost use Rattle.std.specs.Prelude.{IfOk};
 ghost use Rattle.handler_dialogue.specs.Code.{IsNumbered, block_code};
-ghost use Rattle.may_use_analysis.specs.Numbered.{AreStored, IsFirstExcess};
+ghost use Rattle.may_use_analysis.specs.Numbered.{ArePointLists, IsFirstExcess};
 
 use crate::heads::Heads;
 use crate::kept::PointLists;
@@ -20,7 +20,7 @@ pub(crate) fn handler_lists(
     room: usize,
 ) -> Result<PointLists, NoMemory>
     requires { IsNumbered (block_code handler.now.body) 1 }
-    ensures { IfOk result (AreStored (block_code handler.now.body)) }
+    ensures { IfOk result (ArePointLists (block_code handler.now.body)) }
 {
     let mut lists = PointLists::with_room(alloc, room)?;
     let mut heads = Heads::new(alloc);

@@ -2,17 +2,15 @@
 
 ghost use Rattle.std.specs.Prelude.{◌≡◌, ◌<◌, ◌++◌, ◌∷◌, [], length, slice_get, slice_index_or, take, IfOk, IfSome, OnOk, Some};
 ghost use Rattle.std.specs.Bool.{OnTrue};
-ghost use Rattle.may_use_analysis.specs.Stored.{AllReferBack, Counted, IsHeldAt, IsStoredOf, RefersBack, Stored, count_in, list_in, own_list, stored_by};
+ghost use Rattle.may_use_analysis.specs.PointList.{AllReferBack, Counted, IsHeldAt, IsPointListOf, RefersBack, PointList, count_in, list_in, own_list, point_list_of};
 
 use crate::ordered::is_same;
 use crate::recent::Recent;
+use session_limits::MAX_SYMBOLS;
 use session_values::{Listed, NoMemory};
 use std::alloc::Global;
 use std::marker::Model;
 use symbolic_ops::Symbol;
-
-/// How many symbols a declaration may have.
-const LIMIT: usize = 256;
 
 /// What is kept of a list: it, where its point is the first one with it; the place of that point's
 /// entry; or its length, where it is too long.
@@ -54,7 +52,7 @@ fn kept_list(entries: &[Kept], i: usize) -> &[Symbol]
     requires at { i < length entries.now }
     requires back { AllReferBack entries.now }
     ensures { (e : Kept) → slice_get entries.now i ≡ Some e
-        → result.now ≡ list_in (stored_by entries.now e) }
+        → result.now ≡ list_in (point_list_of entries.now e) }
 {
     match &entries[i] {
         Kept::Own(list) => list.as_slice(),
@@ -128,9 +126,9 @@ fn entry_of(
 ) -> Result<Kept, NoMemory>
     requires { AllReferBack entries.now }
     ensures back { IfOk result (RefersBack (length entries.now)) }
-    ensures stored { IfOk result (λ e. IsStoredOf list.now (stored_by entries.now e)) }
+    ensures stored { IfOk result (λ e. IsPointListOf list.now (point_list_of entries.now e)) }
 {
-    if list.len() > LIMIT {
+    if list.len() > MAX_SYMBOLS as usize {
         return Ok(Kept::Count(list.len() as u64));
     }
     if let Some(k) = found_owner(entries, recent, list) {
@@ -154,11 +152,11 @@ pub(crate) struct PointLists {
 
 impl Model for PointLists {
     ghost use Rattle.std.specs.Prelude.{List};
-    ghost use Rattle.may_use_analysis.specs.Stored.{AllReferBack, Stored, all_stored};
+    ghost use Rattle.may_use_analysis.specs.PointList.{AllReferBack, PointList, point_lists};
 
-    ghost Value = { List Stored };
+    ghost Value = { List PointList };
 
-    ghost view = { λ l. all_stored l.entries.items };
+    ghost view = { λ l. point_lists l.entries.items };
 
     ghost invariant = { λ l. AllReferBack l.entries.items };
 }
@@ -196,7 +194,7 @@ impl PointLists {
 
     /// Keeps a list, or its length where it is too long, behind the others.
     pub(crate) fn keep(&mut self, alloc: Global, list: &[Symbol]) -> Result<(), NoMemory>
-        ensures { OnOk result ((stored : Stored) × IsStoredOf list.now stored
+        ensures { OnOk result ((stored : PointList) × IsPointListOf list.now stored
             × (self.new ≡ self.old ++ stored ∷ [])) }
     {
         let entry = entry_of(

@@ -1,5 +1,6 @@
 -- What the fields of a plain desk keep.
 use Rattle.std.specs.Prelude.{◌≡◌, ℕ, ◌≤◌, ◌<◌, List, Option, Some, None, true, false, length, map, slice_get, slice_range}
+use Rattle.session_limits.specs.Limits.{max_symbols}
 use Rattle.session_values.specs.declared.op.Op.{Op}
 use Rattle.session_values.specs.Dialogue.{Calls, Entry, Follows}
 use Rattle.session_values.specs.Serial.{Session, serial, tables_before}
@@ -47,7 +48,8 @@ abbrev pub HasRoom : ℕ → ℕ → Option Entry → Type 0
 HasRoom count room None = Unit {0}
 HasRoom count room (Some e) = count < room
 
-pub record Keeps (m : Meaning) (d : DeskView) (tables : Tables) (symbol_room : ℕ) (all : List Entry) (entry_room first : ℕ) (ended : List EndedTicket) (reply_room : ℕ) : Type 0 where
+pub record Keeps (m : Meaning) (d : DeskView) (tables : Tables) (symbol_room : ℕ) (all : List Entry)
+    (entry_room first : ℕ) (ended : List EndedTicket) (reply_room : ℕ) : Type 0 where
   pub script : IsScript m
   pub kinds : map kind_of tables ≡ m.shape
   pub count : length ended ≡ ended_count m d
@@ -57,5 +59,5 @@ pub record Keeps (m : Meaning) (d : DeskView) (tables : Tables) (symbol_room : �
   pub idle : d.ended ≡ true → IsIdle m d tables
   pub within : first ≤ length all
   pub room : HasRoom (length all) entry_room d.waiting
-  pub symbols : 256 ≤ symbol_room
+  pub symbols : max_symbols ≤ symbol_room
   pub replies : m.requests ≤ reply_room

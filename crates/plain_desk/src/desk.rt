@@ -13,6 +13,7 @@ use crate::done_call::DoneCall;
 use crate::ended_ticket::EndedTicket;
 use plain_tables::PlainTables;
 use session_journal::{Desk, Script};
+use session_limits::MAX_SYMBOLS;
 use session_values::{NoMemory, Op, Reply, TableKind, Value};
 use std::alloc::Global;
 use std::marker::Model;
@@ -73,7 +74,7 @@ impl<S: Script + Drop> PlainDesk<S> {
     {
         let ticket = script.requests();
         let tables = PlainTables::new(alloc, shape)?;
-        let present = Foresight::with_room(alloc, 256)?;
+        let present = Foresight::with_room(alloc, MAX_SYMBOLS)?;
         let ended = Vec::with_capacity(alloc, ticket as usize)?;
         Ok(PlainDesk {
             script,

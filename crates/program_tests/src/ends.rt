@@ -1,9 +1,10 @@
 // The sources and sinks in memory, and reading and writing over them.
 
 use byte_ends::{
-    Got, MAX_INPUT, MemorySink, MemorySource, Put, Sink, Source, SureSink, SureSource, Unread,
-    read_all, write_all,
+    Got, MemorySink, MemorySource, Put, Sink, Source, SureSink, SureSource, Unread, read_all,
+    write_all,
 };
+use session_limits::MAX_INPUT;
 use std::alloc::Global;
 use std::test::Fail;
 

@@ -1,6 +1,7 @@
 -- Tickets that call one operation a number of times.
 use Rattle.std.specs.Prelude.{◌≡◌, ℕ, ◌+◌, ◌*◌, ◌-◌, ◌<◌, ◌≤◌, List, [], ◌∷◌, ◌++◌, length, map, replicate, None, false}
 use Rattle.std.specs.List.{AllByRecursion}
+use Rattle.session_limits.specs.Limits.{max_requests, max_symbols}
 use Rattle.session_values.specs.declared.kind.TableKind.{TableKind}
 use Rattle.session_values.specs.declared.op.Op.{Op}
 use Rattle.session_values.specs.declared.reply.Reply.{Reply}
@@ -33,11 +34,11 @@ pub record RepeatedView : Type 0 where
 -- what such a list keeps
 pub record Keeps (l : ListView) (ops : List Op) (times places : ℕ) : Type 0 where
   pub tickets : l.tickets ≡ map (repeated times) ops
-  pub few : times ≤ 256
+  pub few : times ≤ max_symbols
   pub calls : l.calls_left ≡ l.tickets_left * times
   pub symbols : l.symbols_left ≡ l.tickets_left * times
   pub within : length ops + l.tickets_left ≤ places
-  pub some : length ops + l.tickets_left ≤ 20000
+  pub some : length ops + l.tickets_left ≤ max_requests
 
 -- no tickets yet
 pub record IsEmpty (shape : List TableKind) (tickets times : ℕ) (v : RepeatedView) : Type 0 where
@@ -70,12 +71,13 @@ pub record IsPlan (m : Meaning) (t : ℕ) (op : Op) (n : ℕ) (list : List Symbo
   pub next : (rs : List Value) → m.next t rs ≡ says (replicate n op) no_value rs
   pub told : (rs : List Value) → m.told t rs ≡ list
   pub due : (rs : List Value) → m.due t rs ≡ list
-  pub few : length list ≤ 256
+  pub few : length list ≤ max_symbols
   pub known : AllByRecursion HasNoVar list
   pub matched : 0 < n → Matches list op
 
 -- so many calls were made at the desk
-pub record Called (n : ℕ) (op : Op) (list : List Symbol) (start now : DeskView) (done : ℕ) : Type 0 where
+pub record Called (n : ℕ) (op : Op) (list : List Symbol) (start now : DeskView)
+    (done : ℕ) : Type 0 where
   pub follows : Follows (says (replicate n op) no_value) now.entries
   pub long : length now.entries ≡ done
   pub present : now.present ≡ list

@@ -1,6 +1,7 @@
 // Tickets that repeat an operation.
 
 ghost use Rattle.std.specs.Prelude.{◌≡◌, ◌*◌, ◌-◌, ◌<◌, ◌≤◌, ◌++◌, ◌∷◌, [], length, IfOk};
+ghost use Rattle.session_limits.specs.Limits.{max_requests, max_session_calls, max_symbols};
 ghost use Rattle.session_values.specs.Op.{IsHeld};
 ghost use Rattle.session_values.specs.Tables.{Fits};
 ghost use Rattle.session_journal.specs.Lists.{answers_only, last_ticket, ticket_at, with_last};
@@ -47,7 +48,7 @@ fn call_times(list: &mut ListScript, op: Op, times: u32)
     requires fits { Fits list.old.shape op }
     requires some { 0 < length list.old.tickets }
     requires last { last_ticket list.old.tickets ≡ answers_only no_value }
-    requires few { times ≤ 256 }
+    requires few { times ≤ max_symbols }
     requires room { (times ≤ list.old.calls_left) × (times ≤ list.old.symbols_left) }
     ensures { list.new ≡ record {
       shape = list.old.shape;
@@ -70,9 +71,9 @@ impl RepeatedCalls {
         tickets: u32,
         times: u32,
     ) -> Result<RepeatedCalls, NoMemory>
-        requires tickets { tickets ≤ 20000 }
-        requires times { times ≤ 256 }
-        requires calls { tickets * times ≤ 200000 }
+        requires tickets { tickets ≤ max_requests }
+        requires times { times ≤ max_symbols }
+        requires calls { tickets * times ≤ max_session_calls }
         ensures { IfOk result (IsEmpty shape.now tickets times) }
     {
         let calls = tickets * times;
@@ -102,7 +103,7 @@ impl RepeatedCalls {
     // How often each ticket calls its operation.
     pub(crate) fn times(&self) -> u32
         ensures times { result ≡ self.now.times }
-        ensures few { result ≤ 256 }
+        ensures few { result ≤ max_symbols }
     {
         self.times
     }

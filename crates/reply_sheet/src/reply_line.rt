@@ -2,6 +2,7 @@
 
 ghost use Rattle.std.specs.Prelude.{◌≡◌, ◌+◌, ◌*◌, ◌<◌, ◌≤◌, ◌++◌, length};
 ghost use Rattle.std.specs.List.{AllByRecursion};
+ghost use Rattle.session_limits.specs.Limits.{max_requests};
 ghost use Rattle.session_values.specs.Reply.{values_of};
 ghost use Rattle.session_values.specs.ReplyText.{IsPrintable, value_text, values_text, line_text};
 
@@ -11,7 +12,7 @@ use session_values::{Names, Reply, Value};
 
 /// The line of a ticket and its reply, in place of what the buffer held.
 pub fn line(ticket: u32, reply: &Reply, names: &Names, out: &mut LineBuf)
-    requires ticket { ticket < 20000 }
+    requires ticket { ticket < max_requests }
     requires printable { AllByRecursion (IsPrintable names.now) (values_of reply.now) }
     ensures { out.new ≡ line_text names.now ticket reply.now }
 {

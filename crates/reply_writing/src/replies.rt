@@ -1,6 +1,7 @@
 // Writing: the replies, line by line.
 
 ghost use Rattle.std.specs.Prelude.{◌≡◌, ◌≤◌, length, true, false};
+ghost use Rattle.session_limits.specs.Limits.{max_requests};
 ghost use Rattle.byte_ends.specs.Ends.{Rose, Grew, GrewByFront};
 ghost use Rattle.session_values.specs.ReplyText.{reply_text};
 ghost use Rattle.reply_writing.specs.Printable.{ArePrintableReplies};
@@ -19,7 +20,7 @@ pub fn write_replies<O: Sink>(
     names: &Names,
     block: &mut Block,
 ) -> bool
-    requires few { length replies.now ≤ 20000 }
+    requires few { length replies.now ≤ max_requests }
     requires printable { ArePrintableReplies names.now replies.now }
     ensures all { result ≡ true
         → Grew (O.held out.old) (O.held out.new) (reply_text names.now 0 replies.now) }

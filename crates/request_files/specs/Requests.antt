@@ -2,6 +2,7 @@
 use Rattle.std.specs.Prelude.{◌≡◌, ℕ, ◌+◌, ◌<◌, ◌≤◌, true, false, not, ◌==◌, nat_le, nat_lt, if◌then◌else◌, List, [], ◌∷◌, length, map, Option, Some, None, MatchOption}
 use Rattle.std.specs.List.{list_all, position_or_len, AllByRecursion}
 use Rattle.std.specs.Option.{option_or}
+use Rattle.session_limits.specs.Limits.{max_requests, max_session_calls, max_session_work}
 use Rattle.session_values.specs.Names.{place_of}
 use Rattle.session_values.specs.ReplyText.{IsPrintable}
 use Rattle.session_values.specs.declared.value.Value.{Value}
@@ -71,8 +72,8 @@ with_request f i t = record {
 
 -- its fault where the sums behind it are these, if it has one
 abbrev pub sum_fault : Tally → ℕ → Option RequestRefusal
-sum_fault t line = if nat_lt 200000 t.calls then Some (TooManyCalls line)
-    else (if nat_lt 10000000 t.work then Some (TooMuchWork line) else None)
+sum_fault t line = if nat_lt max_session_calls t.calls then Some (TooManyCalls line)
+    else (if nat_lt max_session_work t.work then Some (TooMuchWork line) else None)
 
 -- its fault where its handler has this number, if it has one
 abbrev pub handler_fault : File → Tally → Row → ℕ → Option RequestRefusal
@@ -85,7 +86,7 @@ handler_fault f t r i =
 -- its fault behind requests with these sums, if it has one
 unfoldable pub fault_of : List Text → File → Tally → Row → Option RequestRefusal
 fault_of names f t r =
-    if nat_le 20000 t.requests then Some (TooManyRequests r.line) else handler_fault f t r
+    if nat_le max_requests t.requests then Some (TooManyRequests r.line) else handler_fault f t r
     (handler_of names f r.name)
 
 -- the first fault of the rows behind requests with these sums, if there is one
@@ -114,12 +115,13 @@ AreValues names ws o = MatchOption o (list_all is_value ws ≡ false)
 
 -- the sums are within their limits
 pub record IsWithin (t : Tally) : Type 0 where
-  pub requests : t.requests ≤ 20000
-  pub calls : t.calls ≤ 200000
-  pub work : t.work ≤ 10000000
+  pub requests : t.requests ≤ max_requests
+  pub calls : t.calls ≤ max_session_calls
+  pub work : t.work ≤ max_session_work
 
 -- the row has no fault, and this is its request, with the sums and the names behind it
-pub record Accepted (old new : List Text) (f : File) (t : Tally) (r : Row) (request : Request) (next : Tally) : Type 0 where
+pub record Accepted (old new : List Text) (f : File) (t : Tally) (r : Row) (request : Request)
+    (next : Tally) : Type 0 where
   pub fine : fault_of old f t r ≡ None
   pub made : request ≡ request_of old new f r
   pub sums : next ≡ with_request f request.handler t
@@ -128,7 +130,8 @@ pub record Accepted (old new : List Text) (f : File) (t : Tally) (r : Row) (requ
   pub asked : IsRequestOf f request
 
 -- no row has a fault, and these are their requests, with the names behind them
-pub record AreRequests (old new : List Text) (f : File) (rs : List Row) (found : List Request) : Type 0 where
+pub record AreRequests (old new : List Text) (f : File) (rs : List Row)
+    (found : List Request) : Type 0 where
   pub fine : first_fault old f no_requests rs ≡ None
   pub requests : found ≡ map (request_of old new f) rs
   pub names : new ≡ names_behind old rs

@@ -1,6 +1,7 @@
 -- Requests that a checked file can serve, within the limits on all of them together.
 use Rattle.std.specs.Prelude.{◌≡◌, ℕ, ◌<◌, ◌≤◌, List, length}
 use Rattle.std.specs.List.{AllByRecursion, sum_by}
+use Rattle.session_limits.specs.Limits.{max_requests, max_session_calls, max_session_work}
 use Rattle.session_values.specs.Values.{IsValue}
 use Rattle.handler_trees.specs.declared.file.File.{File}
 use Rattle.handler_dialogue.specs.Bounds.{calls_bound, work_bound}
@@ -21,7 +22,7 @@ abbrev pub work_in_all : File → List Request → ℕ
 work_in_all f requests = sum_by (λ (r : Request). work_bound (code_at f r.handler)) requests
 
 pub record IsServable (f : File) (requests : List Request) : Type 0 where
-  pub few : length requests ≤ 20000
+  pub few : length requests ≤ max_requests
   pub each : AllByRecursion (IsRequestOf f) requests
-  pub calls : calls_in_all f requests ≤ 200000
-  pub work : work_in_all f requests ≤ 10000000
+  pub calls : calls_in_all f requests ≤ max_session_calls
+  pub work : work_in_all f requests ≤ max_session_work

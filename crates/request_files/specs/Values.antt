@@ -3,6 +3,7 @@ use Rattle.std.specs.Prelude.{ℕ, ◌+◌, ◌-◌, ◌*◌, ◌^◌, ℤ, pos,
 use Rattle.std.specs.Char.{is_ascii_alphabetic}
 use Rattle.std.specs.List.{list_all}
 use Rattle.std.specs.Str.{bytes_eq, all_ascii_digits}
+use Rattle.session_limits.specs.Limits.{max_name}
 use Rattle.byte_classes.specs.Bytes.{is_symbol_byte}
 use Rattle.session_values.specs.Names.{with_text, place_of}
 use Rattle.session_values.specs.declared.value.Value.{Value}
@@ -46,7 +47,7 @@ abbrev pub is_nil : Text → Bool
 is_nil w = bytes_eq w (codes "nil")
 
 unfoldable pub is_symbol : Text → Bool
-is_symbol w = not (is_nil w) && is_ascii_alphabetic (slice_index w 0) && nat_le (length w) 64
+is_symbol w = not (is_nil w) && is_ascii_alphabetic (slice_index w 0) && nat_le (length w) max_name
     && list_all is_symbol_byte w
 
 -- ---- values

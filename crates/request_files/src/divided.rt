@@ -2,6 +2,7 @@
 
 ghost use Rattle.std.specs.Prelude.{◌≡◌, ◌≤◌, MatchOption, length, false};
 ghost use Rattle.std.specs.List.{list_any, list_all};
+ghost use Rattle.session_limits.specs.Limits.{max_input};
 ghost use Rattle.byte_classes.specs.Bytes as classes;
 ghost use Rattle.request_files.specs.Text.{lines};
 ghost use Rattle.request_files.specs.Divide as spec;
@@ -42,7 +43,7 @@ fn is_dividing(line: &[u8]) -> bool
 
 /// The parts before and behind the first line that is `%%`, or `None` where no line is.
 pub fn divide(text: &str) -> Option<Divided<'_>>
-    requires { length text.now ≤ 4194304 }
+    requires { length text.now ≤ max_input }
     ensures { MatchOption result (list_any spec.is_dividing (lines text.now) ≡ false)
         (λ d. spec.Divides text.now d.handlers.now d.requests.now d.first) }
 {

@@ -11,10 +11,9 @@ use crate::refusal::RequestRefusal;
 use crate::request::Request;
 use crate::tally::{Tally, look_at_sums, with_request};
 use handler_check::Checked;
+use session_limits::MAX_REQUESTS;
 use session_values::Names;
 use std::alloc::Global;
-
-const MAX_REQUESTS: u32 = 20_000;
 
 /// The number of the handler with this name.
 fn handler(checked: &Checked, names: &Names, name: &str) -> Option<u32>

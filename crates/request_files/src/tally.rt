@@ -5,10 +5,7 @@ ghost use Rattle.request_files.specs.Requests as spec;
 
 use crate::refusal::RequestRefusal;
 use handler_check::Checked;
-
-const MAX_CALLS: u64 = 200_000;
-
-const MAX_WORK: u64 = 10_000_000;
+use session_limits::{MAX_SESSION_CALLS, MAX_SESSION_WORK};
 
 /// The sums over the requests so far, which are limited.
 #[derive(Clone, Copy, Debug)]
@@ -38,10 +35,10 @@ pub(crate) fn look_at_sums(tally: Tally, line: u32) -> Result<(), RequestRefusal
     ensures { MatchResult result (λ _. spec.sum_fault tally line ≡ None)
         (λ e. spec.sum_fault tally line ≡ Some e) }
 {
-    if tally.calls > MAX_CALLS {
+    if tally.calls > MAX_SESSION_CALLS {
         return Err(RequestRefusal::TooManyCalls { line });
     }
-    if tally.work > MAX_WORK {
+    if tally.work > MAX_SESSION_WORK {
         return Err(RequestRefusal::TooMuchWork { line });
     }
     Ok(())

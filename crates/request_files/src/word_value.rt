@@ -6,6 +6,7 @@ ghost use Rattle.byte_classes.specs.Bytes as classes;
 ghost use Rattle.request_files.specs.Values as spec;
 
 use byte_classes::is_symbol_byte;
+use session_limits::MAX_NAME;
 use session_values::{Names, NoMemory, Value};
 
 #[inline]
@@ -45,7 +46,7 @@ fn is_symbol(word: &str) -> bool
     if !first.is_ascii_alphabetic() {
         return false;
     }
-    if bytes.len() > 64 {
+    if bytes.len() > MAX_NAME {
         return false;
     }
     are_symbol_bytes(bytes)

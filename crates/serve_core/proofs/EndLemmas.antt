@@ -1,6 +1,7 @@
 -- What a command answers to its input, from what its parts say.
 use Rattle.std.proofs.Common.{◌≡◌, ◌≢◌, ℕ, ◌≤◌, Bool, true, false, is_some, List, length, Option, Some, None, refl, sym, ap, ◌∙◌, subst}
 use Rattle.std.specs.Prelude.{IsUtf8}
+use Rattle.session_limits.specs.Limits.{max_input}
 use Rattle.session_values.specs.declared.reply.Reply.{Reply}
 use Rattle.session_values.specs.Serial.{Session, serial_replies}
 use Rattle.session_values.specs.ReplyText.{reply_text}
@@ -14,7 +15,7 @@ use Rattle.session_answers.specs.declared.status.Fault.{Fault}
 use Rattle.session_answers.specs.declared.status.Fault.TheVariants as fault
 use Rattle.session_answers.specs.declared.status.Status.{Status}
 use Rattle.session_answers.specs.declared.status.Status.TheVariants as status
-use Rattle.session_answers.specs.Input.{Parts, parts_of, input_of, has_requests, handlers_of, is_divided, max_input, IsInput}
+use Rattle.session_answers.specs.Input.{Parts, parts_of, input_of, has_requests, handlers_of, is_divided, IsInput}
 use Rattle.session_answers.specs.Session.{session_of_parts, all_names_of, replies_text, serial_calls}
 use Rattle.session_answers.specs.Answer.{IsRefused, IsTextOf}
 use Rattle.session_answers.specs.Runs.{Change, IsUntouched, Answered, Written, has_served, Holds, IsServedThrough, callers_of, shards_of}

@@ -5,6 +5,7 @@ use Rattle.std.specs.List.{position_or_len}
 use Rattle.std.proofs.lemmas.List.Sums.{prefix_len-le-length}
 use Rattle.std.proofs.lemmas.List.{length-map}
 use Rattle.std.specs.Prelude.{not}
+use Rattle.session_limits.specs.Limits.{max_input}
 use Rattle.session_values.specs.declared.reply.Reply.{Reply}
 use Rattle.session_values.specs.declared.kind.TableKind.{TableKind}
 use Rattle.session_values.specs.Serial.{Session, serial, serial_replies, answered}
@@ -21,7 +22,7 @@ use Rattle.request_files.specs.Session.{session}
 use Rattle.request_files.specs.Text.{Text, is_line_byte, attach, lines}
 use Rattle.handler_machine.specs.Scripts.{meaning}
 use Rattle.session_answers.specs.declared.status.Fault.TheVariants as fault
-use Rattle.session_answers.specs.Input.{Parts, parts_of, is_divided, max_input}
+use Rattle.session_answers.specs.Input.{Parts, parts_of, is_divided}
 use Rattle.reply_writing.specs.Printable.{ArePrintableReplies}
 use Rattle.session_answers.proofs.PrintableRuns.{replies_said}
 use Rattle.session_reading.specs.declared.session.Loaded.{Loaded}

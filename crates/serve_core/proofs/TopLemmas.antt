@@ -1,12 +1,13 @@
 -- Whole runs, from what their parts say.
 use Rattle.std.proofs.Common.{◌≡◌, ◌≢◌, ℕ, zero, ◌+◌, ◌≤◌, Bool, true, false, is_some, List, [], ap, length, drop, Option, Some, None, IfSome, refl, arith}
+use Rattle.session_limits.specs.Limits.{max_input}
 use Rattle.byte_ends.specs.Ends.{LostAtMost}
 use Rattle.session_hall.specs.Closings.{ClosedView}
 use Rattle.command_words.specs.declared.command.Command.{Command}
 use Rattle.command_words.specs.declared.command.Command.TheVariants.{Serve, Work}
 use Rattle.session_answers.specs.declared.status.Status.{Status}
 use Rattle.session_answers.specs.declared.status.Status.TheVariants as status
-use Rattle.session_answers.specs.Input.{is_reading, max_input}
+use Rattle.session_answers.specs.Input.{is_reading}
 use Rattle.session_answers.specs.Runs.{Change, IsUntouched, Runs}
 use Rattle.session_answers.specs.Ways.{AnswersTo, HasRead, StoppedAs, describing}
 use Rattle.session_answers.proofs.RunLemmas.{runs_of, read_run, stopped_run}

@@ -1,5 +1,6 @@
 -- What serving a session file promises.
 use Rattle.std.specs.Prelude.{◌≡◌, ℕ, ◌≤◌, true, false, IsUtf8, List, length}
+use Rattle.session_limits.specs.Limits.{max_input, max_requests}
 use Rattle.session_journal.specs.Script.{Meaning, session_of}
 use Rattle.session_hall.specs.Closings.{IsDone}
 use Rattle.handler_syntax.specs.Language.{File}
@@ -7,7 +8,7 @@ use Rattle.handler_machine.specs.Scripts.{ScriptsView}
 use Rattle.session_answers.specs.declared.status.Fault.TheVariants as fault
 use Rattle.session_answers.specs.declared.status.Status.{Status}
 use Rattle.session_answers.specs.declared.status.Status.TheVariants as status
-use Rattle.session_answers.specs.Input.{Parts, parts_of, is_divided, max_input}
+use Rattle.session_answers.specs.Input.{Parts, parts_of, is_divided}
 use Rattle.reply_writing.specs.Printable.{ArePrintableReplies}
 use Rattle.session_answers.specs.Runs.{Change, Failed, Took, TookFront}
 use Rattle.session_answers.specs.Session.{IsSession, all_names_of, session_of_parts}
@@ -39,7 +40,7 @@ pub record HasServed (parts : Parts) (callers shards : ℕ) (s : Served) : Type 
   pub shards_are : s.closed.shards ≡ shards
   pub names_are : s.names ≡ all_names_of parts
   pub printable : ArePrintableReplies s.names s.closed.replies
-  pub few : length s.closed.replies ≤ 20000
+  pub few : length s.closed.replies ≤ max_requests
 
 -- why a session file isn't served: memory ran out, or this is the first broken rule
 abbrev pub IsInputReason : List ℕ → Unserved → Type 0

@@ -1,6 +1,7 @@
 // Counting: how many operations a session made, and how many bytes its reply lines have.
 
 ghost use Rattle.std.specs.Prelude.{◌≡◌, ◌≤◌, [], ◌∷◌, length};
+ghost use Rattle.session_limits.specs.Limits.{max_requests};
 ghost use Rattle.session_journal.specs.Journal.{done_operations};
 ghost use Rattle.session_values.specs.ReplyText.{reply_text};
 ghost use Rattle.reply_writing.specs.Printable.{ArePrintableReplies};
@@ -35,7 +36,7 @@ fn count_done(event: &Event) -> u64
 
 /// How many bytes the reply lines have.
 pub(crate) fn count_bytes(replies: &[Reply], names: &Names) -> u64
-    requires few { length replies.now ≤ 20000 }
+    requires few { length replies.now ≤ max_requests }
     requires printable { ArePrintableReplies names.now replies.now }
     ensures { result ≡ length (reply_text names.now 0 replies.now) }
 {

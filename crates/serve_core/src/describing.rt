@@ -1,6 +1,7 @@
 // Describing: from a source to the text of its handlers.
 
 ghost use Rattle.std.specs.Prelude.{◌≤◌, length, Some, None};
+ghost use Rattle.session_limits.specs.Limits.{max_input};
 ghost use Rattle.session_answers.specs.Runs.{Runs, change};
 ghost use Rattle.session_answers.specs.Ways.{AnswersTo, describing};
 
@@ -28,7 +29,7 @@ pub(crate) fn describe_source<I: Source, O: Sink>(
 
 // Writes the text of a file of handlers.
 fn describe_input<O: Sink>(alloc: Global, shown: bool, bytes: Vec<u8>, out: &mut O) -> Status
-    requires { length bytes.items ≤ 4194304 }
+    requires { length bytes.items ≤ max_input }
     ensures { AnswersTo (describing shown) bytes.items
         (change O.held O.faults out.old out.new) result None }
 {

@@ -1,6 +1,7 @@
 // A program whose requests are served through a hall.
 
 ghost use Rattle.std.specs.Prelude.{◌≡◌, ◌≤◌, length, map, IfOk};
+ghost use Rattle.session_limits.specs.Limits.{max_callers, max_shards, max_tables};
 ghost use Rattle.handler_check.specs.Resolved.{shape_of as shape_spec};
 ghost use Rattle.session_hall.specs.Closings.{IsDone};
 ghost use Rattle.handler_machine.specs.Scripts.{meaning};
@@ -30,8 +31,8 @@ pub(crate) fn serve_program<R: Threads + Wait + Sync, G: Gate + Sync>(
     gate: &G,
 ) -> Result<Closed, NoMemory>
     requires servable { IsServable program.now.file requests.now }
-    requires callers { (1 ≤ callers) × (callers ≤ 32) }
-    requires shards { (1 ≤ shards) × (shards ≤ 8) }
+    requires callers { (1 ≤ callers) × (callers ≤ max_callers) }
+    requires shards { (1 ≤ shards) × (shards ≤ max_shards) }
     ensures done { IfOk result
         (IsDone (meaning (record { program = program.now; requests = requests.now }))) }
     ensures callers { IfOk result (λ d. d.callers ≡ callers) }
@@ -55,7 +56,7 @@ pub(crate) fn serve_program<R: Threads + Wait + Sync, G: Gate + Sync>(
 // The kinds of the tables of a program.
 fn shape_of(alloc: Global, program: &Program) -> Result<Vec<TableKind>, NoMemory>
     ensures kinds { IfOk result (λ shape. shape.items ≡ shape_spec program.now.file) }
-    ensures few { IfOk result (λ shape. length shape.items ≤ 7) }
+    ensures few { IfOk result (λ shape. length shape.items ≤ max_tables) }
 {
     let shape = kinds_of(alloc, program.checked().file())?;
     Ok(shape)

@@ -1,6 +1,7 @@
 // Serving: from a source to the lines of the replies.
 
 ghost use Rattle.std.specs.Prelude.{◌≡◌, ◌≤◌, length, Some};
+ghost use Rattle.session_limits.specs.Limits.{max_callers, max_input, max_requests, max_shards};
 ghost use Rattle.reply_writing.specs.Printable.{ArePrintableReplies};
 ghost use Rattle.session_answers.specs.Runs.{Runs, change};
 ghost use Rattle.session_answers.specs.Ways.{AnswersTo};
@@ -29,8 +30,8 @@ pub(crate) fn serve_source<R: Threads + Wait + Sync, I: Source, O: Sink, G: Gate
     out: &mut O,
     gate: &G,
 ) -> Outcome
-    requires callers { (1 ≤ callers) × (callers ≤ 32) }
-    requires shards { (1 ≤ shards) × (shards ≤ 8) }
+    requires callers { (1 ≤ callers) × (callers ≤ max_callers) }
+    requires shards { (1 ≤ shards) × (shards ≤ max_shards) }
     ensures { Runs (Some (Serve callers shards))
         (change I.left I.faults source.old source.new)
         (change O.held O.faults out.old out.new) result.status result.closed }
@@ -54,9 +55,9 @@ fn serve_input<R: Threads + Wait + Sync, O: Sink, G: Gate + Sync>(
     out: &mut O,
     gate: &G,
 ) -> Outcome
-    requires short { length bytes.now ≤ 4194304 }
-    requires callers { (1 ≤ callers) × (callers ≤ 32) }
-    requires shards { (1 ≤ shards) × (shards ≤ 8) }
+    requires short { length bytes.now ≤ max_input }
+    requires callers { (1 ≤ callers) × (callers ≤ max_callers) }
+    requires shards { (1 ≤ shards) × (shards ≤ max_shards) }
     ensures { AnswersTo (Serve callers shards) bytes.now
         (change O.held O.faults out.old out.new) result.status result.closed }
 {
@@ -81,7 +82,7 @@ pub(crate) fn ended(e: Unserved) -> Status
 
 // Writes the replies of what was served.
 fn write_served<O: Sink>(served: Served, out: &mut O) -> Outcome
-    requires few { length served.closed.replies ≤ 20000 }
+    requires few { length served.closed.replies ≤ max_requests }
     requires printable { ArePrintableReplies served.names served.closed.replies }
     ensures closed { result.closed ≡ Some served.closed }
     ensures ends { EndsBy (reply_text served.names 0 served.closed.replies)

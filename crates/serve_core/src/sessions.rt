@@ -1,6 +1,7 @@
 // Sessions: from the bytes of a session file to the hall through which it was served.
 
 ghost use Rattle.std.specs.Prelude.{◌≡◌, ◌≤◌, length, IfOk, IfErr};
+ghost use Rattle.session_limits.specs.Limits.{max_callers, max_input, max_shards};
 ghost use Rattle.session_hall.specs.Closings.{IsDone};
 ghost use Rattle.handler_machine.specs.Scripts.{meaning};
 ghost use Rattle.request_files.specs.Servable.{IsServable};
@@ -37,9 +38,9 @@ pub(crate) fn serve_file<R: Threads + Wait + Sync, G: Gate + Sync>(
     bytes: &[u8],
     gate: &G,
 ) -> Result<Served, Unserved>
-    requires short { length bytes.now ≤ 4194304 }
-    requires callers { (1 ≤ callers) × (callers ≤ 32) }
-    requires shards { (1 ≤ shards) × (shards ≤ 8) }
+    requires short { length bytes.now ≤ max_input }
+    requires callers { (1 ≤ callers) × (callers ≤ max_callers) }
+    requires shards { (1 ≤ shards) × (shards ≤ max_shards) }
     ensures input { IfOk result (λ _. IsSessionInput bytes.now) }
     ensures served { IfOk result (HasServed (parts_of bytes.now) callers shards) }
     ensures refused { IfErr result (IsInputReason bytes.now) }
@@ -69,8 +70,8 @@ fn serve_loaded<R: Threads + Wait + Sync, G: Gate + Sync>(
     gate: &G,
 ) -> Result<Served, NoMemory>
     requires servable { IsServable loaded.program.file loaded.requests }
-    requires callers { (1 ≤ callers) × (callers ≤ 32) }
-    requires shards { (1 ≤ shards) × (shards ≤ 8) }
+    requires callers { (1 ≤ callers) × (callers ≤ max_callers) }
+    requires shards { (1 ≤ shards) × (shards ≤ max_shards) }
     ensures names { IfOk result (λ s. s.names ≡ loaded.names) }
     ensures done { IfOk result (λ s. IsDone (meaning (script_of_loaded loaded)) s.closed) }
     ensures callers { IfOk result (λ s. s.closed.callers ≡ callers) }

@@ -1,6 +1,7 @@
 // Working: a made session, and its summary.
 
 ghost use Rattle.std.specs.Prelude.{◌≡◌, ◌+◌, ◌≤◌, ℕ, List, length, Some, IfOk, IfErr};
+ghost use Rattle.session_limits.specs.Limits.{max_requests};
 ghost use Rattle.session_journal.specs.Journal.{done_operations};
 ghost use Rattle.session_values.specs.ReplyText.{reply_text};
 ghost use Rattle.command_words.specs.declared.command.Command.TheVariants.{Work};
@@ -34,7 +35,7 @@ pub(crate) fn work<R: Threads + Wait + Sync, O: Sink, G: Gate + Sync>(
     out: &mut O,
     gate: &G,
 ) -> Outcome
-    requires { requests ≤ 20000 }
+    requires { requests ≤ max_requests }
     ensures { (bytes : List ℕ) → AnswersTo (Work requests start) bytes
         (change O.held O.faults out.old out.new) result.status result.closed }
 {
@@ -55,7 +56,7 @@ fn serve_made<R: Threads + Wait + Sync, G: Gate + Sync>(
     start: u32,
     gate: &G,
 ) -> Result<Served, Unserved>
-    requires { requests ≤ 20000 }
+    requires { requests ≤ max_requests }
     ensures input { IfOk result (λ _. IsSessionInput (text_of_session requests start)) }
     ensures served { IfOk result (HasServed (parts_of (text_of_session requests start)) 4 4) }
     ensures refused { IfErr result (IsInputReason (text_of_session requests start)) }
@@ -68,7 +69,7 @@ fn serve_made<R: Threads + Wait + Sync, G: Gate + Sync>(
 
 // Writes the summary of what was served.
 fn write_summary<O: Sink>(requests: u32, served: Served, out: &mut O) -> Outcome
-    requires few { length served.closed.replies ≤ 20000 }
+    requires few { length served.closed.replies ≤ max_requests }
     requires printable { ArePrintableReplies served.names served.closed.replies }
     ensures closed { result.closed ≡ Some served.closed }
     ensures ends { EndsBy (summary requests (length (done_operations served.closed.journal))

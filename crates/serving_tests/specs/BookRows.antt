@@ -24,7 +24,13 @@ nil_reply = record { count = 1; a = Nil; b = Nil; c = Nil; d = Nil }
 
 -- one map, and no room for more tickets
 abbrev pub on_one_map : List Ticket → ListView
-on_one_map tickets = record { shape = Map ∷ []; tickets = tickets; tickets_left = 0; calls_left = 0; symbols_left = 0 }
+on_one_map tickets = record {
+  shape = Map ∷ [];
+  tickets = tickets;
+  tickets_left = 0;
+  calls_left = 0;
+  symbols_left = 0;
+}
 
 abbrev pub meaning_of : ListView → Meaning
 meaning_of s = list_meaning s.shape s.tickets
@@ -36,7 +42,11 @@ list_entry s t = (ticket_at s.tickets t).entry
 -- a ticket that may get two keys, one that may get the second one, and one that puts it
 abbrev pub gets_and_put : ListView
 gets_and_put = on_one_map (
-    record { ops = []; reply = nil_reply; entry = exact_symbol (get_of 1) ∷ exact_symbol (get_of 2) ∷ [] }
+    record {
+      ops = [];
+      reply = nil_reply;
+      entry = exact_symbol (get_of 1) ∷ exact_symbol (get_of 2) ∷ [];
+    }
     ∷ record { ops = []; reply = nil_reply; entry = exact_symbol (get_of 2) ∷ [] }
     ∷ record { ops = put_of 2 7 ∷ []; reply = nil_reply; entry = exact_symbol (put_of 2 7) ∷ [] }
     ∷ []
@@ -50,7 +60,12 @@ pub record IsAt (s : ListView) (b : Book) (v : BookView ListView) : Type 0 where
 
 -- all tickets have begun
 abbrev pub all_begun : Book
-all_begun = after_begin (after_begin (after_begin (opened 3 3) 0 (exact_symbol (get_of 1) ∷ exact_symbol (get_of 2) ∷ [])) 1 (exact_symbol (get_of 2) ∷ [])) 2 (exact_symbol (put_of 2 7) ∷ [])
+all_begun =
+    after_begin
+    (after_begin
+    (after_begin (opened 3 3) 0 (exact_symbol (get_of 1) ∷ exact_symbol (get_of 2) ∷ []))
+    1 (exact_symbol (get_of 2) ∷ []))
+    2 (exact_symbol (put_of 2 7) ∷ [])
 
 module _ (older : ℕ) (y : Symbol) where
   -- the put was delayed
@@ -59,17 +74,33 @@ module _ (older : ℕ) (y : Symbol) where
 
   -- the others narrowed to nothing
   abbrev pub narrowed_one : Book
-  narrowed_one = after_narrow delayed 0 (record { ticket = 0; foresight = exact_symbol (get_of 1) ∷ exact_symbol (get_of 2) ∷ []; flight = None }) []
+  narrowed_one = after_narrow delayed 0 (record {
+    ticket = 0;
+    foresight = exact_symbol (get_of 1) ∷ exact_symbol (get_of 2) ∷ [];
+    flight = None;
+  }) []
 
   abbrev pub narrowed : Book
-  narrowed = after_narrow narrowed_one 1 (record { ticket = 1; foresight = exact_symbol (get_of 2) ∷ []; flight = None }) []
+  narrowed = after_narrow narrowed_one 1 (record {
+    ticket = 1;
+    foresight = exact_symbol (get_of 2) ∷ [];
+    flight = None;
+  }) []
 
   -- the put was done
   abbrev pub in_flight : Book
-  in_flight = after_admit narrowed 2 (record { ticket = 2; foresight = exact_symbol (put_of 2 7) ∷ []; flight = None }) (put_of 2 7)
+  in_flight = after_admit narrowed 2 (record {
+    ticket = 2;
+    foresight = exact_symbol (put_of 2 7) ∷ [];
+    flight = None;
+  }) (put_of 2 7)
 
   abbrev pub has_put : Book
-  has_put = after_done in_flight 2 (record { ticket = 2; foresight = exact_symbol (put_of 2 7) ∷ []; flight = Some (put_of 2 7) }) (put_of 2 7) Nil []
+  has_put = after_done in_flight 2 (record {
+    ticket = 2;
+    foresight = exact_symbol (put_of 2 7) ∷ [];
+    flight = Some (put_of 2 7);
+  }) (put_of 2 7) Nil []
 
   -- the tickets end one after another
   abbrev pub one_ended : Book

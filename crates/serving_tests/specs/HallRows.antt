@@ -17,8 +17,16 @@ use Rattle.serving_tests.specs.BookRows.{get_of, meaning_of, nil_reply, on_one_m
 -- a ticket that gets one key and may get another one, and one that puts twice
 abbrev pub gets_and_puts : ListView
 gets_and_puts = on_one_map (
-    record { ops = get_of 4 ∷ []; reply = nil_reply; entry = exact_symbol (get_of 4) ∷ exact_symbol (get_of 1) ∷ [] }
-    ∷ record { ops = put_of 2 7 ∷ put_of 1 7 ∷ []; reply = nil_reply; entry = exact_symbol (put_of 2 7) ∷ exact_symbol (put_of 1 7) ∷ [] }
+    record {
+      ops = get_of 4 ∷ [];
+      reply = nil_reply;
+      entry = exact_symbol (get_of 4) ∷ exact_symbol (get_of 1) ∷ [];
+    }
+    ∷ record {
+      ops = put_of 2 7 ∷ put_of 1 7 ∷ [];
+      reply = nil_reply;
+      entry = exact_symbol (put_of 2 7) ∷ exact_symbol (put_of 1 7) ∷ [];
+    }
     ∷ []
     )
 
@@ -27,7 +35,8 @@ abbrev pub done : Op → Value → Entry
 done op v = record { op = op; reply = v }
 
 -- a caller of the hall at this stage, whose ticket has this foresight and these entries
-pub record Stands (h : Hall ListView) (c : Caller ListView) (t : ℕ) (st : Stage) (f : List Symbol) (es : List Entry) : Type 0 where
+pub record Stands (h : Hall ListView) (c : Caller ListView) (t : ℕ) (st : Stage) (f : List Symbol)
+    (es : List Entry) : Type 0 where
   pub caller : IsCallerOf meaning_of h c
   pub stage : c.stage ≡ st
   pub foresight : c.foresight.symbols ≡ f

@@ -1,3 +1,2 @@
 pub mod BookRows
-pub mod Callers
 pub mod HallRows

@@ -1,6 +1,7 @@
 // A book over a list of tickets: the youngest of three waits until both others narrow, and all end.
 
 ghost use Rattle.std.specs.Prelude.{◌≡◌, ◌<◌, ◌≤◌, None, IfOk, length};
+ghost use Rattle.session_limits.specs.Limits.{max_symbols};
 ghost use Rattle.session_journal.specs.Journal.{begun};
 ghost use Rattle.admission_book.specs.Book.{after_begin, record_of};
 ghost use Rattle.admission_book.specs.Lawful.{Lawful};
@@ -62,7 +63,7 @@ fn begin_next<R: Abort>(rt: &R, book: &mut Book<ListScript>, caller: u32, scratc
     requires lawful { Lawful (meaning_of book.old.script) book.old.book }
     requires caller { caller < length book.old.book.records }
     requires idle { record_of book.old.book caller ≡ None }
-    requires room { 256 ≤ scratch.old.room }
+    requires room { max_symbols ≤ scratch.old.room }
     ensures script { book.new.script ≡ book.old.script }
     ensures begins { book.new.book ≡ after_begin book.old.book caller
         (list_entry book.old.script (begun book.old.book.journal)) }
@@ -78,7 +79,7 @@ fn begin_next<R: Abort>(rt: &R, book: &mut Book<ListScript>, caller: u32, scratc
 
 /// The book of three tickets for three callers, with all begun.
 fn begin_all<R: Abort>(rt: &R, alloc: Global, scratch: &mut Foresight) -> Book<ListScript>
-    requires { 256 ≤ scratch.old.room }
+    requires { max_symbols ≤ scratch.old.room }
     ensures { IsAt gets_and_put all_begun result }
 {
     let script = three_tickets(alloc).expect(rt, "memory");

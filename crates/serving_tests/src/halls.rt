@@ -2,6 +2,7 @@
 // holds, and then waits until the older one declares less.
 
 ghost use Rattle.std.specs.Prelude.{◌≡◌, ◌≤◌, [], ◌∷◌, ◌++◌, IfOk};
+ghost use Rattle.session_limits.specs.Limits.{max_symbols};
 ghost use Rattle.symbolic_ops.specs.Matching.{exact_symbol};
 ghost use Rattle.session_values.specs.declared.value.Value.TheVariants.{Nil};
 ghost use Rattle.session_hall.specs.declared.stage.Stage.TheVariants.{Idle, InFlight, Out, Serving};
@@ -97,7 +98,7 @@ fn put_on_taken_shard<R: Wait + Abort>(
         (exact_symbol (get_of 4) ∷ exact_symbol (get_of 1) ∷ []) [] }
     requires younger { Stands hall.now younger.old 1 (Serving 1)
         (exact_symbol (put_of 2 7) ∷ exact_symbol (put_of 1 7) ∷ []) [] }
-    requires room { 256 ≤ scratch.old.room }
+    requires room { max_symbols ≤ scratch.old.room }
     ensures numbers { (older.new.number ≡ older.old.number)
         × (younger.new.number ≡ younger.old.number) }
     ensures older { Stands hall.now older.new 0 (Serving 0)
@@ -129,7 +130,7 @@ fn put_first<R: Wait + Abort>(
     requires script { script_of hall.now ≡ gets_and_puts }
     requires younger { Stands hall.now younger.old 1 (InFlight 1 (put_of 2 7))
         (exact_symbol (put_of 2 7) ∷ exact_symbol (put_of 1 7) ∷ []) [] }
-    requires room { 256 ≤ scratch.old.room }
+    requires room { max_symbols ≤ scratch.old.room }
     ensures number { younger.new.number ≡ younger.old.number }
     ensures younger { Stands hall.now younger.new 1 (Serving 1)
         (exact_symbol (put_of 1 7) ∷ []) (done (put_of 2 7) result ∷ []) }
@@ -215,7 +216,7 @@ fn serve_both<R: Wait + Abort>(
     requires script { script_of hall.now ≡ gets_and_puts }
     requires older { IsCallerOf meaning_of hall.now older.old × (older.old.stage ≡ Idle) }
     requires younger { IsCallerOf meaning_of hall.now younger.old × (younger.old.stage ≡ Idle) }
-    requires room { 256 ≤ scratch.old.room }
+    requires room { max_symbols ≤ scratch.old.room }
     ensures numbers { (older.new.number ≡ older.old.number)
         × (younger.new.number ≡ younger.old.number) }
     ensures older { IsCallerOf meaning_of hall.now older.new × (older.new.stage ≡ Out) }

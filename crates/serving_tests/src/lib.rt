@@ -1,9 +1,7 @@
-//! Tests of the crates that serve requests: journal, desk, book, board and hall. They stand above
+//! Tests of the crates that serve requests: journal, desk, book and hall. They stand above
 //! those crates, so that each is proved once.
 #![tactic(auto)]
 
-#[cfg(test)]
-mod board;
 #[cfg(test)]
 mod books;
 #[cfg(test)]

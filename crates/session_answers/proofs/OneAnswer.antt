@@ -2,6 +2,7 @@
 use Rattle.std.proofs.Common.{◌≡◌, ℕ, ◌<◌, ◌≤◌, ◌⊎◌, inl, inr, Bool, true, false, List, [], length, Option, Some, None, refl, sym, ap, ◌∙◌, subst, arith}
 use Rattle.std.specs.Prelude.{IsUtf8}
 use Rattle.std.proofs.lemmas.Bool.{false≢true}
+use Rattle.session_limits.specs.Limits.{max_input}
 use Rattle.handler_syntax.specs.Language.{names_of, File, SyntaxRefusal, IsSourceOf, canonical_text}
 use Rattle.handler_syntax.proofs.Facts.{one_tree, one_fault, no_fault}
 use Rattle.handler_rules.specs.declared.refusal.CheckRefusal.{CheckRefusal}
@@ -18,7 +19,7 @@ use Rattle.command_words.specs.declared.command.Command.TheVariants.{Check, Show
 use Rattle.command_words.specs.Commands.{command_of}
 use Rattle.session_answers.specs.declared.status.Fault.{Fault}
 use Rattle.session_answers.specs.declared.status.Fault.TheVariants as fault
-use Rattle.session_answers.specs.Input.{parts_of, is_divided, input_of, has_requests, handlers_of, max_input, IsInput}
+use Rattle.session_answers.specs.Input.{parts_of, is_divided, input_of, has_requests, handlers_of, IsInput}
 use Rattle.session_answers.specs.Session.{IsProgram, request_fault}
 use Rattle.session_answers.specs.Answer.{HasSyntaxFault, HasCheckFault, HasAnalysisFault, HasRequestFault, IsRefused, IsTextOf, Answer, Answers, CommandAnswers, IsAnswer}
 use Rattle.session_answers.specs.Answer as answer

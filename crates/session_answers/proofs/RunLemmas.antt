@@ -1,5 +1,6 @@
 -- What a run promises, from what its parts say.
 use Rattle.std.proofs.Common.{◌≡◌, ◌≢◌, ℕ, ◌+◌, ◌<◌, ◌≤◌, ◌⊎◌, inl, inr, Bool, true, false, is_some, List, length, drop, Option, Some, None, IfSome, refl, sym, ap, subst, ◌∙◌, arith}
+use Rattle.session_limits.specs.Limits.{max_input}
 use Rattle.byte_ends.specs.Ends.{IsAtEnd, LostFirst, LostAtMost}
 use Rattle.session_hall.specs.Closings.{ClosedView}
 use Rattle.command_words.specs.declared.command.Command.{Command}
@@ -9,7 +10,7 @@ use Rattle.session_answers.specs.declared.status.Fault.TheVariants.{TooLarge}
 use Rattle.session_answers.specs.declared.status.Status.{Status}
 use Rattle.session_answers.specs.declared.status.Status.TheVariants as status
 use Rattle.session_answers.specs.Answer.{IsRefused, IsTextOf}
-use Rattle.session_answers.specs.Input.{input_of, is_reading, max_input, IsInput}
+use Rattle.session_answers.specs.Input.{input_of, is_reading, IsInput}
 use Rattle.session_answers.specs.Runs.{Change, Failed, IsUntouched, Told, Took, TookFront, has_read_all, Answered, Written, IsUnrefused, IsServedThrough, has_served, Holds, Runs}
 use Rattle.session_answers.specs.Ways.{AnswersTo, HasRead, StoppedAs}
 use Rattle.session_answers.proofs.OneAnswer.{refused_once, text_or_refused}

@@ -1,5 +1,6 @@
 -- What is answered to a command line and an input.
 use Rattle.std.specs.Prelude.{◌≡◌, ◌≢◌, ℕ, ◌<◌, ◌≤◌, true, false, IsUtf8, List, [], length, Option, Some, None}
+use Rattle.session_limits.specs.Limits.{max_input}
 use Rattle.symbolic_ops.specs.declared.symbol.Symbol.{Symbol}
 use Rattle.handler_syntax.specs.Language.{names_of, File, HasFault, IsSourceOf, SyntaxRefusal, canonical_text, shown_text}
 use Rattle.handler_syntax.specs.Language.syntax_refusal
@@ -15,7 +16,7 @@ use Rattle.command_words.specs.Commands.{command_of}
 use Rattle.work_session.specs.Summary.{summary}
 use Rattle.session_answers.specs.declared.status.Fault.{Fault}
 use Rattle.session_answers.specs.declared.status.Fault.TheVariants as fault
-use Rattle.session_answers.specs.Input.{Parts, parts_of, is_divided, input_of, has_requests, handlers_of, max_input, IsInput}
+use Rattle.session_answers.specs.Input.{Parts, parts_of, is_divided, input_of, has_requests, handlers_of, IsInput}
 use Rattle.session_answers.specs.Session.{IsProgram, IsSession, request_fault, session_of_parts, replies_text, serial_calls}
 
 -- ---- faults

@@ -1,6 +1,7 @@
 -- What a command reads, and the parts of a session file.
 use Rattle.std.specs.Prelude.{◌≡◌, ℕ, ◌+◌, ◌≤◌, Bool, true, false, IsUtf8, List, length, take, drop, Option, Some, None}
 use Rattle.std.specs.List.{list_any, position_or_len}
+use Rattle.session_limits.specs.Limits.{max_input}
 use Rattle.request_files.specs.Text.{lines}
 use Rattle.request_files.specs.Divide.{is_dividing, head_size, mark_size}
 use Rattle.command_words.specs.declared.command.Command.{Command}
@@ -56,9 +57,6 @@ handlers_of Check input = input
 handlers_of Show input = input
 handlers_of (Serve callers shards) input = (parts_of input).handlers
 handlers_of (Work requests start) input = (parts_of input).handlers
-
-abbrev pub max_input : ℕ
-max_input = 4194304
 
 -- an input with the parts that the command answers to
 pub record IsInput (command : Command) (input : List ℕ) : Type 0 where

@@ -46,7 +46,8 @@ check_line (check.TooMuchWork at) = numbered (codes "refused K10 at ") at
 check_line check.NoMemory = []
 
 abbrev pub analysis_line : AnalysisRefusal → List ℕ
-analysis_line (analysis.TooManySymbols at count) = ended (codes "refused A1 at " ++ decimal at ++ codes " count " ++ decimal count)
+analysis_line (analysis.TooManySymbols at count) =
+    ended (codes "refused A1 at " ++ decimal at ++ codes " count " ++ decimal count)
 analysis_line analysis.NoMemory = []
 
 abbrev pub request_line : RequestRefusal → List ℕ

@@ -1,5 +1,6 @@
 -- What a run promises, over its command, its input, its outputs and how it ended.
 use Rattle.std.specs.Prelude.{◌≡◌, ◌≢◌, ◌+◌, ◌⊎◌, ◌↔◌, ℕ, Bool, true, false, is_some, List, Option, Some, None, IfSome}
+use Rattle.session_limits.specs.Limits.{max_input}
 use Rattle.byte_ends.specs.Ends.{Rose, Grew, GrewByFront, IsAtEnd, LostFirst, LostAtMost}
 use Rattle.command_words.specs.declared.command.Command.{Command}
 use Rattle.command_words.specs.declared.command.Command.TheVariants.{Check, Show, Serve, Work}
@@ -12,7 +13,7 @@ use Rattle.session_answers.specs.declared.status.Status.{Status}
 use Rattle.session_answers.specs.declared.status.Status.TheVariants as status
 use Rattle.session_answers.specs.Answer.{CommandAnswers}
 use Rattle.session_answers.specs.Answer as answer
-use Rattle.session_answers.specs.Input.{parts_of, input_of, is_reading, max_input}
+use Rattle.session_answers.specs.Input.{parts_of, input_of, is_reading}
 use Rattle.session_answers.specs.Session.{IsSession, session_of_parts}
 use Rattle.session_answers.specs.Message.{message_of}
 

@@ -1,5 +1,6 @@
 -- What the parts of a run promise, of which the whole run's promises are made.
 use Rattle.std.specs.Prelude.{◌≡◌, ◌≢◌, ℕ, ◌+◌, ◌<◌, ◌≤◌, Bool, if◌then◌else◌, is_some, List, length, Option, Some, IfSome}
+use Rattle.session_limits.specs.Limits.{max_input}
 use Rattle.byte_ends.specs.Ends.{IsAtEnd, LostFirst, LostAtMost}
 use Rattle.session_hall.specs.Closings.{ClosedView}
 use Rattle.command_words.specs.declared.command.Command.{Command}
@@ -7,7 +8,6 @@ use Rattle.command_words.specs.declared.command.Command.TheVariants.{Check, Show
 use Rattle.session_answers.specs.declared.status.Fault.TheVariants.{TooLarge}
 use Rattle.session_answers.specs.declared.status.Status.{Status}
 use Rattle.session_answers.specs.declared.status.Status.TheVariants as status
-use Rattle.session_answers.specs.Input.{max_input}
 use Rattle.session_answers.specs.Runs.{Change, Failed, Answered, Written, has_served, Holds}
 
 -- all that a source had was read, and it is at its end
@@ -34,7 +34,8 @@ StoppedAs source s = LostAtMost (source.bytes source.old) (source.bytes source.n
     × StopsAs source s
 
 -- what a command answers to an input, and with which hall
-pub record AnswersTo {O : Type 0} (command : Command) (bytes : List ℕ) (out : Change O) (s : Status) (closed : Option ClosedView) : Type 0 where
+pub record AnswersTo {O : Type 0} (command : Command) (bytes : List ℕ) (out : Change O) (s : Status)
+    (closed : Option ClosedView) : Type 0 where
   pub usage : s ≢ status.Usage
   pub read_fault : s ≢ status.ReadFault
   pub answered : Answered (Some command) bytes out s

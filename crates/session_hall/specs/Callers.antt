@@ -1,5 +1,6 @@
 -- A caller of a hall between two calls.
 use Rattle.std.specs.Prelude.{◌≡◌, ℕ, ◌+◌, ◌*◌, ◌<◌, ◌≤◌, List, Option, Some, None, length}
+use Rattle.session_limits.specs.Limits.{max_shards, max_symbols}
 use Rattle.session_values.specs.Dialogue.{Entry}
 use Rattle.session_journal.specs.Foreknown.{Foreknown}
 use Rattle.session_journal.specs.Journal.{Replays, begun, done_operations, entries, in_order, regrouped}
@@ -37,7 +38,8 @@ pub record IsTold (m : Meaning) (b : Book) : Type 0 where
   pub foreknown : (t : ℕ) → t < begun b.journal → Foreknown m b.journal t
 
 -- its seat is of the hall's board, its note is a lawful book of the hall's script, and it holds what its stage says
-pub record IsCallerIn {S : Type 0} (meaning : S → Meaning) (p : HallId) (script : S) (c : Caller S) : Type 0 where
+pub record IsCallerIn {S : Type 0} (meaning : S → Meaning) (p : HallId) (script : S)
+    (c : Caller S) : Type 0 where
   pub seat : IsSeated p.board c.seat.pass
   pub number_is : caller c.seat ≡ c.number
   pub caller_count_is : caller_count c.seat ≡ p.callers
@@ -47,11 +49,11 @@ pub record IsCallerIn {S : Type 0} (meaning : S → Meaning) (p : HallId) (scrip
   pub told : IsTold (meaning script) (book_of c)
   pub tables_are : length (meaning script).shape ≡ p.tables
   pub some_shards : 0 < p.shards
-  pub few_shards : p.shards ≤ 8
+  pub few_shards : p.shards ≤ max_shards
   pub turns_are : p.board.slots ≡ 1 + p.tables * p.shards
   pub few_turns : p.board.slots ≤ 57
-  pub room : 256 ≤ c.foresight.room
-  pub hands_room : 8 ≤ c.hands.room
+  pub room : max_symbols ≤ c.foresight.room
+  pub hands_room : max_shards ≤ c.hands.room
   pub once : Once content_of c.hands.pairs
   pub stands : Stands (meaning script) p.board.slots c.stage c.foresight.symbols (book_of c) c.seat
       c.hands.pairs

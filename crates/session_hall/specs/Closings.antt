@@ -22,13 +22,15 @@ use Rattle.session_hall.specs.Callers.{IsCallerOf, IsTold}
 use Rattle.session_hall.specs.Names.{script_of}
 
 -- the caller of this number, which serves no ticket yet
-pub record Opens {S : Type 0} (meaning : S → Meaning) (h : Hall S) (i : ℕ) (c : Caller S) : Type 0 where
+pub record Opens {S : Type 0} (meaning : S → Meaning) (h : Hall S) (i : ℕ)
+    (c : Caller S) : Type 0 where
   pub caller : IsCallerOf meaning h c
   pub number_is : c.number ≡ i
   pub idle : c.stage ≡ Idle
 
 -- the caller of this number, which is out
-pub record Leaves {S : Type 0} (meaning : S → Meaning) (h : Hall S) (i : ℕ) (c : Caller S) : Type 0 where
+pub record Leaves {S : Type 0} (meaning : S → Meaning) (h : Hall S) (i : ℕ)
+    (c : Caller S) : Type 0 where
   pub caller : IsCallerOf meaning h c
   pub number_is : c.number ≡ i
   pub out : c.stage ≡ Out
@@ -67,7 +69,8 @@ IsTable (Table p) = Unit {0}
 IsTable (Register b) = ⊥
 
 -- the values of a hall's turns when all callers are out
-pub record HasLeft {S : Type 0} (meaning : S → Meaning) (h : Hall S) (values : List (Held S)) : Type 0 where
+pub record HasLeft {S : Type 0} (meaning : S → Meaning) (h : Hall S)
+    (values : List (Held S)) : Type 0 where
   pub script_kept : IsScript (meaning (script_of h))
   pub long : length values ≡ 1 + length (meaning (script_of h)).shape * h.sizes.shards
   pub few : length values ≤ 57

@@ -31,7 +31,8 @@ module _ {S : Type 0} (p q : SeatOf S) where
     pub several : caller_count p ≢ 1
 
   -- the book was taken, and each shard that is held is its part of the tables after the book's journal
-  pub record HasBook (meaning : S → Meaning) (script : S) (turns : ℕ) (b : BookView S) : Type 0 where
+  pub record HasBook (meaning : S → Meaning) (script : S) (turns : ℕ)
+      (b : BookView S) : Type 0 where
     pub script_is : b.script ≡ script
     pub lawful : Lawful (meaning b.script) b.book
     pub finds : Finds (meaning script) (book_in (note p)) b.book (caller p) (caller_count p)

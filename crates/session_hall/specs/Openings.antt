@@ -1,5 +1,6 @@
 -- What a hall is opened with.
 use Rattle.std.specs.Prelude.{◌≡◌, ℕ, ◌+◌, ◌*◌, ◌/◌, List, [], ◌++◌, Some, length, map, replicate, slice_get}
+use Rattle.session_limits.specs.Limits.{max_shards, max_symbols}
 use Rattle.session_values.specs.declared.kind.TableKind.{TableKind}
 use Rattle.session_values.specs.Tables.{empty_of}
 use Rattle.session_journal.specs.Script.{Meaning, IsScript, room}
@@ -19,7 +20,8 @@ pub record Rooms (m : Meaning) (n : ℕ) (rooms : List ℕ) : Type 0 where
   pub each : (i r : ℕ) → slice_get rooms i ≡ Some r → r ≡ room m i
 
 -- an empty shard of the table that stands behind turn j + 1, with the table's room
-pub record IsNewPart (shape : List TableKind) (rooms : List ℕ) (shards j : ℕ) (p : Part) : Type 0 where
+pub record IsNewPart (shape : List TableKind) (rooms : List ℕ) (shards j : ℕ)
+    (p : Part) : Type 0 where
   pub kind : TableKind
   pub space : ℕ
   pub kind_is : slice_get shape (j / shards) ≡ Some kind
@@ -27,14 +29,16 @@ pub record IsNewPart (shape : List TableKind) (rooms : List ℕ) (shards j : ℕ
   pub is : shard_view p ≡ record { container = empty_of kind; room = space }
 
 -- the shards of the first n turns behind the book were added
-pub record NewParts {S : Type 0} (shape : List TableKind) (rooms : List ℕ) (shards n : ℕ) (before after : List (Held S)) : Type 0 where
+pub record NewParts {S : Type 0} (shape : List TableKind) (rooms : List ℕ) (shards n : ℕ)
+    (before after : List (Held S)) : Type 0 where
   pub parts : List Part
   pub added : after ≡ before ++ map Table parts
   pub long : length parts ≡ n
   pub each : (j : ℕ) (p : Part) → slice_get parts j ≡ Some p → IsNewPart shape rooms shards j p
 
 -- the values of a hall's turns before any ticket is begun: of them the rule holds
-pub record FirstValues {S : Type 0} (meaning : S → Meaning) (script : S) (shards callers : ℕ) (values : List (Held S)) : Type 0 where
+pub record FirstValues {S : Type 0} (meaning : S → Meaning) (script : S) (shards callers : ℕ)
+    (values : List (Held S)) : Type 0 where
   pub script_kept : IsScript (meaning script)
   pub long : length values ≡ 1 + length (meaning script).shape * shards
   pub first : slice_get (map content_of values) 0 ≡ Some (first_content meaning script callers)
@@ -47,11 +51,12 @@ pub record IsNew {S : Type 0} (seat : SeatOf S) (number : ℕ) (c : Caller S) : 
   pub number_is : c.number ≡ number
   pub idle : c.stage ≡ Idle
   pub no_pairs : c.hands.pairs ≡ []
-  pub hands_room : c.hands.room ≡ 8
-  pub room : c.foresight.room ≡ 256
+  pub hands_room : c.hands.room ≡ max_shards
+  pub room : c.foresight.room ≡ max_symbols
 
 -- a caller for each of the first n seats
-pub record AllNew {S : Type 0} (seats : List (SeatOf S)) (n : ℕ) (callers : List (Caller S)) : Type 0 where
+pub record AllNew {S : Type 0} (seats : List (SeatOf S)) (n : ℕ)
+    (callers : List (Caller S)) : Type 0 where
   pub long : length callers ≡ n
   pub each : (i : ℕ) (c : Caller S) → slice_get callers i ≡ Some c
       → (s : SeatOf S) × (slice_get seats i ≡ Some s) × IsNew s i c

@@ -1,6 +1,7 @@
 -- An operation on the shards in a caller's hands.
 use Rattle.std.specs.Prelude.{◌≡◌, ℕ, ◌+◌, ◌<◌, ◌≤◌, pos, true, List, [], ◌∷◌, ◌++◌, length, map}
 use Rattle.std.specs.List.{AllByRecursion}
+use Rattle.session_limits.specs.Limits.{max_session_calls}
 use Rattle.session_values.specs.declared.op.Op.{Op}
 use Rattle.session_values.specs.declared.value.Value.{Value}
 use Rattle.session_values.specs.declared.value.Value.TheVariants.{Num}
@@ -48,7 +49,8 @@ module _ {S : Type 0} where
 
   abbrev pub FirstCounts : Op → List (ℕ × Held S) → Type 0
   FirstCounts op [] = ⊥
-  FirstCounts op (x ∷ xs) = CanDo op (content_of x.1) × (keys_in (content_of x.1) ≤ 200000)
+  FirstCounts op (x ∷ xs) = CanDo op (content_of x.1)
+      × (keys_in (content_of x.1) ≤ max_session_calls)
 
   abbrev pub CountedFirst : List (ℕ × Held S) → List (ℕ × Held S) → ℕ → Type 0
   CountedFirst [] ys n = ⊥
@@ -60,7 +62,7 @@ module _ {S : Type 0} where
   AllCan op xs = AllByRecursion (λ x. CanDo op x.1) xs
 
   abbrev pub CanCount : Op → List (ℕ × Held S) → Type 0
-  CanCount op xs = AllCan op (contents xs) × (all_keys (contents xs) ≤ 200000)
+  CanCount op xs = AllCan op (contents xs) × (all_keys (contents xs) ≤ max_session_calls)
 
   -- nothing that counts has changed, and n is the number of keys
   abbrev pub HasCounted : List (ℕ × Held S) → List (ℕ × Held S) → ℕ → Type 0
@@ -69,7 +71,7 @@ module _ {S : Type 0} where
   -- with a key one shard is in the hands; else their keys are counted
   abbrev pub CanWork : Op → List (ℕ × Held S) → Type 0
   CanWork op xs = AllCan op (contents xs) × (0 < length xs)
-      × (arguments op.kind ≡ 0 → all_keys (contents xs) ≤ 200000)
+      × (arguments op.kind ≡ 0 → all_keys (contents xs) ≤ max_session_calls)
 
   abbrev pub HasWorked : Op → List (ℕ × Held S) → List (ℕ × Held S) → Value → Type 0
   HasWorked op xs ys v = (arguments op.kind ≡ 0
@@ -85,4 +87,4 @@ module _ {S : Type 0} where
     pub long : length front ≡ done
     pub counted : count ≡ all_keys front
     pub can : AllCan op back
-    pub few : all_keys (contents first) ≤ 200000
+    pub few : all_keys (contents first) ≤ max_session_calls

@@ -1,6 +1,7 @@
 // Doing an operation on its shards.
 
 ghost use Rattle.std.specs.Prelude.{◌≡◌, ◌+◌, ◌*◌, ◌<◌, ◌≤◌, length};
+ghost use Rattle.session_limits.specs.Limits.{max_shards};
 ghost use Rattle.session_values.specs.Kinds.{arguments};
 ghost use Rattle.turn_board.specs.Boards.{turn_count};
 ghost use Rattle.hall_rule.specs.Turns.{place, span, turn_set};
@@ -23,7 +24,7 @@ use turn_board::{Hands, TookAll};
 // The first turn of an operation, less one.
 fn place_of(op: Op, shards: u32) -> u32
     requires some { 0 < shards }
-    requires few { (shards ≤ 8) × (op.table ≤ 57) }
+    requires few { (shards ≤ max_shards) × (op.table ≤ 57) }
     ensures { result ≡ place shards op }
 {
     let within = if op.kind.arguments() == 0 {
@@ -44,7 +45,8 @@ fn span_of(op: Op, shards: u32) -> u32
 // The turns of an operation, as a set.
 fn turns_of(op: Op, shards: u32) -> u64
     requires some { 0 < shards }
-    requires few { (shards ≤ 8) × (op.table ≤ 57) × (place shards op + span shards op ≤ 57) }
+    requires few { (shards ≤ max_shards) × (op.table ≤ 57)
+        × (place shards op + span shards op ≤ 57) }
     ensures { result ≡ turn_set shards op }
 {
     let first = 1 + place_of(op, shards);

@@ -1,6 +1,7 @@
 // Halls.
 
 ghost use Rattle.std.specs.Prelude.{◌≡◌, ◌<◌, ◌≤◌, [], vec_capacity};
+ghost use Rattle.session_limits.specs.Limits.{max_callers};
 
 use hall_rule::{HallRule, Held, Part};
 use session_journal::Script;
@@ -26,7 +27,7 @@ pub(crate) struct Sizes {
     pub(crate) shards: u32,
     pub(crate) callers: u32,
     ghost some_callers: { 0 < callers },
-    ghost few_callers: { callers ≤ 32 },
+    ghost few_callers: { callers ≤ max_callers },
 }
 
 /// The tables of a script in shards, and the book of what was done on them, each behind a turn of

@@ -1,6 +1,7 @@
 // Opening a hall.
 
 ghost use Rattle.std.specs.Prelude.{◌≡◌, ℕ, ◌+◌, ◌*◌, ◌<◌, ◌≤◌, [], Some, IfOk, length, slice_get, vec_len, vec_capacity};
+ghost use Rattle.session_limits.specs.Limits.{max_callers, max_shards, max_tables};
 ghost use Rattle.hall_rule.specs.Shards.{shard_view};
 ghost use Rattle.session_values.specs.Tables.{empty_of};
 ghost use Rattle.session_hall.specs.declared.caller.Caller.{Caller as CallerOf};
@@ -14,6 +15,7 @@ use crate::stage::Stage;
 use admission_book::Book;
 use hall_rule::{HallRule, Held, Part};
 use session_journal::Script;
+use session_limits::{MAX_CALLERS, MAX_SHARDS, MAX_SYMBOLS};
 use session_values::{Listed, NoMemory, TableKind};
 use shard_tables::{MapShard, SetShard};
 use std::alloc::Global;
@@ -56,7 +58,7 @@ fn add_parts<S: Script + Drop>(
     requires rooms { length rooms.now ≡ length shape.now }
     requires few { (r i : ℕ) → slice_get rooms.now i ≡ Some r → r ≤ 1073741824 }
     requires some { 0 < shards }
-    requires sizes { (shards ≤ 8) × (length shape.now ≤ 7) }
+    requires sizes { (shards ≤ max_shards) × (length shape.now ≤ max_tables) }
     requires one { vec_len values.old ≡ 1 }
     requires room { 57 ≤ vec_capacity values.old }
     ensures { IfOk result (λ _. NewParts shape.now rooms.now shards
@@ -79,8 +81,8 @@ fn first_values<S: Script + Drop>(
     callers: u32,
 ) -> Result<Vec<Held<S>>, NoMemory>
     requires shape { shape.now ≡ (S.meaning script).shape }
-    requires sizes { (0 < shards) × (shards ≤ 8) × (length shape.now ≤ 7) }
-    requires callers { (1 ≤ callers) × (callers ≤ 32) }
+    requires sizes { (0 < shards) × (shards ≤ max_shards) × (length shape.now ≤ max_tables) }
+    requires callers { (1 ≤ callers) × (callers ≤ max_callers) }
     ensures { IfOk result (λ v. FirstValues S.meaning script shards callers v.items) }
 {
     let mut values = Vec::with_capacity(alloc, 57)?;
@@ -95,7 +97,7 @@ fn first_values<S: Script + Drop>(
 fn spare_lists<S: Script + Drop>(
     alloc: Global,
 ) -> Result<Spare<Seat<Held<S>, HallRule<S>>, Part>, NoMemory> {
-    let seats = Vec::with_capacity(alloc, 32)?;
+    let seats = Vec::with_capacity(alloc, MAX_CALLERS as usize)?;
     let parts = Vec::with_capacity(alloc, 57)?;
     Ok(Spare { seats, parts })
 }
@@ -108,8 +110,8 @@ fn new_caller<S: Script + Drop>(
 ) -> Result<Caller<S>, NoMemory>
     ensures { IfOk result (λ c. IsNew seat number c) }
 {
-    let foresight = Foresight::with_room(alloc, 256)?;
-    let hands = match Hands::with_room(alloc, 8) {
+    let foresight = Foresight::with_room(alloc, MAX_SYMBOLS)?;
+    let hands = match Hands::with_room(alloc, MAX_SHARDS) {
         Ok(hands) => hands,
         Err(_) => return Err(NoMemory),
     };
@@ -127,11 +129,11 @@ fn new_callers<S: Script + Drop>(
     alloc: Global,
     seats: Vec<Seat<Held<S>, HallRule<S>>>,
 ) -> Result<Vec<Caller<S>>, NoMemory>
-    requires { vec_len seats ≤ 32 }
+    requires { vec_len seats ≤ max_callers }
     ensures { IfOk result (λ cs. AllNew seats.items (vec_len seats) cs.items) }
 {
     let mut left = seats;
-    let mut callers = Vec::with_capacity(alloc, 32)?;
+    let mut callers = Vec::with_capacity(alloc, MAX_CALLERS as usize)?;
     for number in 0..left.len() as u32 {
         callers.push_reserved(new_caller(alloc, left.remove(0), number)?);
     }
@@ -149,9 +151,9 @@ impl<S: Script + Drop> Hall<S> {
         callers: u32,
     ) -> Result<(Hall<S>, Callers<S>), NoMemory>
         requires shape { shape.now ≡ (S.meaning script).shape }
-        requires tables { length shape.now ≤ 7 }
-        requires shards { (1 ≤ shards) × (shards ≤ 8) }
-        requires callers { (1 ≤ callers) × (callers ≤ 32) }
+        requires tables { length shape.now ≤ max_tables }
+        requires shards { (1 ≤ shards) × (shards ≤ max_shards) }
+        requires callers { (1 ≤ callers) × (callers ≤ max_callers) }
         ensures script { IfOk result (λ r. script_of r.0 ≡ script) }
         ensures sizes { IfOk result (λ r. (r.0.sizes.tables ≡ length shape.now)
             × (r.0.sizes.shards ≡ shards) × (r.0.sizes.callers ≡ callers)) }

@@ -26,7 +26,8 @@ abbrev pub due_of : Meaning → DeskView → List Symbol
 due_of m d = m.due d.ticket (replies d.entries)
 
 -- the ticket may narrow to this list after these entries
-pub record MayNarrow (m : Meaning) (t : ℕ) (entries : List Entry) (present list : List Symbol) : Type 0 where
+pub record MayNarrow (m : Meaning) (t : ℕ) (entries : List Entry)
+    (present list : List Symbol) : Type 0 where
   pub covered : Covered list present
   pub foresight : IsForesight (rest (m.next t) (replies entries)) list
 

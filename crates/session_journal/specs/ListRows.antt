@@ -1,6 +1,7 @@
 -- The rows of a list of tickets, whose operations and symbols lie one after another.
 use Rattle.std.specs.Prelude.{◌≡◌, ℕ, ◌+◌, ◌≤◌, List, [], ◌∷◌, length, map, take, drop}
 use Rattle.std.specs.List.{AllByRecursion}
+use Rattle.session_limits.specs.Limits.{max_requests, max_session_calls}
 use Rattle.session_values.specs.declared.kind.TableKind.{TableKind}
 use Rattle.session_values.specs.declared.op.Op.{Op}
 use Rattle.symbolic_ops.specs.declared.symbol.Symbol.{Symbol}
@@ -25,12 +26,13 @@ Follow o s (r ∷ rows) p q = (r.first_op ≡ o) × ((r.first_symbol ≡ s)
     × Follow (o + r.ops) (s + r.symbols) rows p q)
 
 -- what the lists keep, and how many places each may have
-pub record KeepsRows (shape : List TableKind) (rows : List Row) (ops : List Op) (symbols : List Symbol) (row_room op_room symbol_room : ℕ) : Type 0 where
+pub record KeepsRows (shape : List TableKind) (rows : List Row) (ops : List Op)
+    (symbols : List Symbol) (row_room op_room symbol_room : ℕ) : Type 0 where
   pub follow : Follow 0 0 rows (length ops) (length symbols)
   pub tickets : AllByRecursion (IsTicket shape) (tickets_of ops symbols rows)
   pub rows_within : length rows ≤ row_room
   pub ops_within : length ops ≤ op_room
   pub symbols_within : length symbols ≤ symbol_room
-  pub few_rows : row_room ≤ 20000
-  pub few_ops : op_room ≤ 200000
+  pub few_rows : row_room ≤ max_requests
+  pub few_ops : op_room ≤ max_session_calls
   pub few_symbols : symbol_room ≤ 400000

@@ -1,6 +1,7 @@
 -- What a script means that is a list of tickets.
 use Rattle.std.specs.Prelude.{ℕ, zero, suc, ◌+◌, ◌<◌, ◌≤◌, List, [], ◌∷◌, ◌++◌, length, cond, ◌&&◌, ◌==◌}
 use Rattle.std.specs.List.{AllByRecursion}
+use Rattle.session_limits.specs.Limits.{max_symbols}
 use Rattle.session_values.specs.declared.value.Value.TheVariants.{Nil}
 use Rattle.session_values.specs.declared.kind.TableKind.{TableKind}
 use Rattle.session_values.specs.declared.op.Op.{Op}
@@ -55,7 +56,7 @@ pub record IsTicket (shape : List TableKind) (x : Ticket) : Type 0 where
   pub fits : AllByRecursion (λ op. Fits shape op) x.ops
   pub values : AllByRecursion (λ op. HasValues (Calls op)) x.ops
   pub answer : HasValues (Answers x.reply)
-  pub few : length x.entry ≤ 256
+  pub few : length x.entry ≤ max_symbols
   pub known : AllByRecursion HasNoVar x.entry
   pub matched : AllByRecursion (λ op. Matches x.entry op) x.ops
 
@@ -105,4 +106,4 @@ allows_more x s = record { ops = x.ops; reply = x.reply; entry = x.entry ++ s �
 -- there is a ticket, and its last one may declare one symbol more
 pub record HasPlace (tickets : List Ticket) : Type 0 where
   pub some : 0 < length tickets
-  pub few : length (last_ticket tickets).entry < 256
+  pub few : length (last_ticket tickets).entry < max_symbols

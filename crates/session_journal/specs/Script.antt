@@ -1,6 +1,7 @@
 -- What a script of tickets means.
 use Rattle.std.specs.Prelude.{◌≡◌, ℕ, ◌+◌, ◌≤◌, List, [], ◌∷◌, length, cond, ◌&&◌, ◌==◌}
 use Rattle.std.specs.List.{AllByRecursion}
+use Rattle.session_limits.specs.Limits.{max_requests, max_session_calls, max_symbols}
 use Rattle.session_values.specs.declared.value.Value.{Value}
 use Rattle.session_values.specs.declared.kind.TableKind.{TableKind}
 use Rattle.session_values.specs.declared.op.Op.{Op}
@@ -22,7 +23,7 @@ pub record Covers (f : Dialogue) (foresight : List Symbol) : Type 0 where
 
 -- a list that a ticket may have as its foresight
 pub record IsForesight (f : Dialogue) (foresight : List Symbol) : Type 0 where
-  pub few : length foresight ≤ 256
+  pub few : length foresight ≤ max_symbols
   pub known : AllByRecursion HasNoVar foresight
   pub covers : Covers f foresight
 
@@ -85,6 +86,6 @@ pub record IsScript (m : Meaning) : Type 0 where
   pub due : (t : ℕ) (replies : List Value) → AllByRecursion IsValue replies
       → IsForesight (rest (m.next t) replies) (m.due t replies)
   -- the bounds on all tickets together
-  pub few_requests : m.requests ≤ 20000
-  pub few_calls : calls m ≤ 200000
-  pub few_adds : (i : ℕ) → room m i ≤ 200000
+  pub few_requests : m.requests ≤ max_requests
+  pub few_calls : calls m ≤ max_session_calls
+  pub few_adds : (i : ℕ) → room m i ≤ max_session_calls

@@ -2,6 +2,7 @@
 
 ghost use Rattle.std.specs.Prelude.{◌≡◌, ℕ, ◌<◌, ◌≤◌, ◌-◌, ◌++◌, ◌∷◌, ◌&&◌, ◌==◌, [], cond, length, IfOk};
 ghost use Rattle.std.specs.List.{AllByRecursion};
+ghost use Rattle.session_limits.specs.Limits.{max_requests, max_session_calls};
 ghost use Rattle.session_values.specs.Kinds.{is_adding};
 ghost use Rattle.session_values.specs.Tables.{Fits};
 ghost use Rattle.symbolic_ops.specs.Matching.{HasNoVar};
@@ -72,8 +73,8 @@ impl ListScript {
         calls: u32,
         symbols: u32,
     ) -> Result<ListScript, NoMemory>
-        requires tickets { tickets ≤ 20000 }
-        requires calls { calls ≤ 200000 }
+        requires tickets { tickets ≤ max_requests }
+        requires calls { calls ≤ max_session_calls }
         requires symbols { symbols ≤ 400000 }
         ensures { IfOk result (λ s. s ≡ record {
           shape = shape.now;
@@ -174,7 +175,7 @@ fn adds_to(op: &Op, table: u32) -> u32
 
 /// How many of the operations may add a key to the table.
 fn count_adding(ops: &[Op], table: u32) -> u32
-    requires { length ops.now ≤ 200000 }
+    requires { length ops.now ≤ max_session_calls }
     ensures { result ≡ adding table ops.now }
 {
     let mut count = 0;

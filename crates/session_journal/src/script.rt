@@ -1,6 +1,7 @@
 // Scripts.
 
 ghost use Rattle.std.specs.Prelude.{◌≡◌, ◌≤◌, ◌<◌};
+ghost use Rattle.session_limits.specs.Limits.{max_symbols};
 ghost use Rattle.session_journal.specs.Script.{Meaning, IsScript, calls, room};
 
 use symbolic_ops::Foresight;
@@ -18,7 +19,7 @@ pub trait Script {
     /// Replaces `out` by what the ticket declares at its beginning.
     fn entry(&self, t: u32, out: &mut Foresight)
         requires ticket { t < (meaning self.now).requests }
-        requires room { 256 ≤ out.old.room }
+        requires room { max_symbols ≤ out.old.room }
         ensures { out.new ≡ record { symbols = (meaning self.now).entry t; room = out.old.room } };
 
     /// The most operations of all tickets together.

@@ -1,6 +1,7 @@
 -- What is loaded, and why nothing is, from what the parts of the reading say.
 use Rattle.std.proofs.Common.{◌≡◌, ℕ, Bool, true, false, if◌then◌else◌, List, [], length, map, ◌≤◌, refl, sym, ap, ◌∙◌, subst}
 use Rattle.std.specs.Prelude.{IsUtf8}
+use Rattle.session_limits.specs.Limits.{max_input}
 use Rattle.session_values.specs.Names.{Begins}
 use Rattle.handler_trees.specs.Mentions.{file_mentions}
 use Rattle.handler_syntax.proofs.TextsKept.{texts_kept}
@@ -15,7 +16,7 @@ use Rattle.request_files.specs.Requests.{rows, request_of, AreRequests, ArePrint
 use Rattle.request_files.specs.Servable.{IsServable}
 use Rattle.session_answers.specs.declared.status.Fault.{Fault}
 use Rattle.session_answers.specs.declared.status.Fault.TheVariants as fault
-use Rattle.session_answers.specs.Input.{Parts, is_divided, IsInput, max_input}
+use Rattle.session_answers.specs.Input.{Parts, is_divided, IsInput}
 use Rattle.session_answers.specs.Session.{IsProgram, rows_of, handler_names_of}
 use Rattle.session_answers.specs.Answer.{IsRefused, IsTextOf}
 use Rattle.session_answers.specs.Ways.{describing}

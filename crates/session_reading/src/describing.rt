@@ -1,6 +1,7 @@
 // Describing: from the bytes of a file of handlers to its text.
 
 ghost use Rattle.std.specs.Prelude.{◌≡◌, ◌≤◌, [], Bool, true, false, length, string_bytes, IfOk, IfErr};
+ghost use Rattle.session_limits.specs.Limits.{max_input};
 ghost use Rattle.handler_syntax.specs.Language.{AreNamed, IsSourceOf, file_mentions, names_of};
 ghost use Rattle.session_answers.specs.Input.{IsInput};
 ghost use Rattle.session_answers.specs.Answer.{IsTextOf};
@@ -21,7 +22,7 @@ use std::alloc::Global;
 /// The canonical text of a file of handlers; with `shown`, with its declarations. The bytes are
 /// freed as soon as they are parsed.
 pub fn described_text(alloc: Global, shown: bool, bytes: Vec<u8>) -> Result<String, Unserved>
-    requires { length bytes.items ≤ 4194304 }
+    requires { length bytes.items ≤ max_input }
     ensures input { IfOk result (λ _. IsInput (describing shown) bytes.items) }
     ensures text { IfOk result
         (λ text. IsTextOf (describing shown) bytes.items (string_bytes text)) }
@@ -40,7 +41,7 @@ pub fn described_text(alloc: Global, shown: bool, bytes: Vec<u8>) -> Result<Stri
 
 // The file that some bytes are, and the names of its text. The bytes are freed.
 fn parsed_bytes(alloc: Global, bytes: Vec<u8>) -> Result<(File, Names), Unserved>
-    requires { length bytes.items ≤ 4194304 }
+    requires { length bytes.items ≤ max_input }
     ensures parsed { IfOk result (λ found. IsParsed bytes.items found.0 found.1) }
     ensures refused { IfErr result (λ e. (shown : Bool)
         → IsReason (describing shown) bytes.items e) }
@@ -50,7 +51,7 @@ fn parsed_bytes(alloc: Global, bytes: Vec<u8>) -> Result<(File, Names), Unserved
 
 // The file that some bytes are, and the names of its text.
 fn parsed(alloc: Global, bytes: &[u8]) -> Result<(File, Names), Unserved>
-    requires { length bytes.now ≤ 4194304 }
+    requires { length bytes.now ≤ max_input }
     ensures parsed { IfOk result (λ found. IsParsed bytes.now found.0 found.1) }
     ensures refused { IfErr result (λ e. (shown : Bool)
         → IsReason (describing shown) bytes.now e) }
@@ -69,7 +70,7 @@ fn parsed(alloc: Global, bytes: &[u8]) -> Result<(File, Names), Unserved>
 
 // The file that a text is, and its names.
 fn named_file(alloc: Global, text: &str) -> Result<(File, Names), Unserved>
-    requires { length text.now ≤ 4194304 }
+    requires { length text.now ≤ max_input }
     ensures form { IfOk result (λ found. IsSourceOf [] text.now found.0) }
     ensures names { IfOk result (λ found. found.1 ≡ names_of [] text.now) }
     ensures named { IfOk result (λ found. AreNamed found.1 (file_mentions found.0)) }

@@ -1,6 +1,7 @@
 // Handlers of a text, with their declarations.
 
 ghost use Rattle.std.specs.Prelude.{◌≡◌, ◌≤◌, [], length, IfOk, IfErr, OnOk};
+ghost use Rattle.session_limits.specs.Limits.{max_input};
 ghost use Rattle.handler_check.specs.Checking.{IsAccepted};
 ghost use Rattle.handler_syntax.specs.Language.{names_of, file_mentions, AreNamed, IsSourceOf, IsNamedFile};
 ghost use Rattle.may_use_analysis.specs.Later.{AreLater, HasLater};
@@ -18,7 +19,7 @@ use std::alloc::Global;
 
 /// The handlers that a text is, where they break no rule, with their declarations.
 pub fn read_program(alloc: Global, text: &str, names: &mut Names) -> Result<Program, Unserved>
-    requires short { length text.now ≤ 4194304 }
+    requires short { length text.now ≤ max_input }
     requires fresh { names.old ≡ [] }
     ensures program { IfOk result (IsProgramOf text.now) }
     ensures names { OnOk result (names.new ≡ names_of [] text.now) }
@@ -34,7 +35,7 @@ pub fn read_program(alloc: Global, text: &str, names: &mut Names) -> Result<Prog
 
 // The file that a text is.
 pub(crate) fn read_file(alloc: Global, text: &str, names: &mut Names) -> Result<File, Unserved>
-    requires short { length text.now ≤ 4194304 }
+    requires short { length text.now ≤ max_input }
     requires fresh { names.old ≡ [] }
     ensures file { IfOk result (IsSourceOf [] text.now) }
     ensures names { OnOk result (names.new ≡ names_of [] text.now) }

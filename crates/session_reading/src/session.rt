@@ -1,6 +1,7 @@
 // Reading a session: from the two parts of a session file to what can be served.
 
 ghost use Rattle.std.specs.Prelude.{◌≤◌, length, IfOk, IfErr};
+ghost use Rattle.session_limits.specs.Limits.{max_input};
 ghost use Rattle.session_reading.specs.Sessions.{IsLoaded};
 ghost use Rattle.session_reading.specs.Reasons.{IsSessionReason};
 
@@ -28,8 +29,8 @@ pub fn read_session(
     requests: &str,
     first: u32,
 ) -> Result<Loaded, Unserved>
-    requires handlers { length handlers.now ≤ 4194304 }
-    requires requests { length requests.now ≤ 4194304 }
+    requires handlers { length handlers.now ≤ max_input }
+    requires requests { length requests.now ≤ max_input }
     requires first { first ≤ 4194306 }
     ensures loaded { IfOk result (IsLoaded
         (record { handlers = handlers.now; requests = requests.now; first = first })) }

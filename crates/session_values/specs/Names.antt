@@ -2,6 +2,7 @@
 use Rattle.std.specs.Prelude.{◌≡◌, ℕ, ◌≤◌, List, [], ◌∷◌, ◌++◌, length, slice_get, Some, if◌then◌else◌}
 use Rattle.std.specs.List.{list_any, position_or_len}
 use Rattle.std.specs.Str.{bytes_eq}
+use Rattle.session_limits.specs.Limits.{max_name}
 
 -- the list with a text at its end, unless it is there
 abbrev pub with_text : List (List ℕ) → List ℕ → List (List ℕ)
@@ -24,4 +25,4 @@ Begins front all = (more : List (List ℕ)) × (all ≡ front ++ more)
 pub record IsNamed (names : List (List ℕ)) (place : ℕ) : Type 0 where
   pub text : List ℕ
   pub at : slice_get names place ≡ Some text
-  pub short : length text ≤ 64
+  pub short : length text ≤ max_name

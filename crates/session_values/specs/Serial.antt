@@ -25,9 +25,13 @@ served_first e s = record { entries = e ∷ s.entries; answer = s.answer; after 
 
 -- serves one dialogue alone from these tables: asks what comes next, does it, and goes on with its reply, for at most so many operations
 abbrev pub serve : ℕ → Dialogue → Tables → Served
-serve zero f ts = elim (f []) [ Calls op ↦ record { entries = []; answer = None; after = ts } | Answers r ↦ record { entries = []; answer = Some r; after = ts } ]
+serve zero f ts = elim (f []) [
+  | Calls op ↦ record { entries = []; answer = None; after = ts }
+  | Answers r ↦ record { entries = []; answer = Some r; after = ts }
+]
 serve (suc n) f ts = elim (f []) [
-  | Calls op ↦ served_first (record { op = op; reply = reply ts op }) (serve n (rest f (reply ts op ∷ [])) (step ts op))
+  | Calls op ↦ served_first (record { op = op; reply = reply ts op })
+      (serve n (rest f (reply ts op ∷ [])) (step ts op))
   | Answers r ↦ record { entries = []; answer = Some r; after = ts }
 ]
 

@@ -1,7 +1,9 @@
 // The room that serving takes.
 
 ghost use Rattle.std.specs.Prelude.{◌≡◌, ◌≤◌, true, false, vec_len, IfOk};
+ghost use Rattle.session_limits.specs.Limits.{max_symbols, max_variables};
 
+use session_limits::{MAX_SYMBOLS, MAX_VARIABLES};
 use session_values::{NoMemory, Value};
 use std::alloc::Global;
 use std::marker::Model;
@@ -14,8 +16,8 @@ pub struct Room {
     pub values: Vec<Value>,
     /// Room for 256 symbols.
     pub foresight: Foresight,
-    ghost variables: { vec_len values ≡ 32 },
-    ghost symbols: { 256 ≤ foresight.room },
+    ghost variables: { vec_len values ≡ max_variables },
+    ghost symbols: { max_symbols ≤ foresight.room },
 }
 
 /// Where a job keeps its room between tickets. Serving takes the room out and puts it back, so that
@@ -65,7 +67,7 @@ impl Scratch {
 
 // Room for 32 variables, which are nil, and 256 symbols.
 fn new_room(alloc: Global) -> Result<Room, NoMemory> {
-    let foresight = Foresight::with_room(alloc, 256)?;
-    let values = vec![in alloc; Value::Nil; 32]?;
+    let foresight = Foresight::with_room(alloc, MAX_SYMBOLS)?;
+    let values = vec![in alloc; Value::Nil; MAX_VARIABLES]?;
     Ok(Room { values, foresight })
 }

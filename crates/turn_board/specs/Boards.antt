@@ -180,7 +180,8 @@ module _ {V R C : Type 0} where
 
     -- the seat has the turns of the set beside what it held, for all of which it asked in one step,
     -- and their values were added in rising order
-    pub record GainedAll (content : V → C) (turns set : ℕ) (before after : List (ℕ × V)) : Type 0 where
+    pub record GainedAll (content : V → C) (turns set : ℕ)
+        (before after : List (ℕ × V)) : Type 0 where
       pub new : List (ℕ × V)
       pub added : after ≡ before ++ new
       pub rising : map (λ (x : ℕ × V). x.0) new ≡ bits_of set turns

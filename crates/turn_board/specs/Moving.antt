@@ -26,7 +26,8 @@ pub record Emptied {V C : Type 0} (set n : ℕ) (p q : Pass V C) : Type 0 where
   pub others : (u : ℕ) → bit_at set u ≡ 0 → place q.me.0 u ≡ place p.me.0 u
 
 -- the values of the turns of a set below n were added, in rising order, with the contents that count
-pub record TakenOut {V C : Type 0} (content : V → C) (set n : ℕ) (counts : ℕ → Option C) (before after : List (ℕ × V)) : Type 0 where
+pub record TakenOut {V C : Type 0} (content : V → C) (set n : ℕ) (counts : ℕ → Option C)
+    (before after : List (ℕ × V)) : Type 0 where
   pub new : List (ℕ × V)
   pub added : after ≡ before ++ new
   pub rising : map (λ (x : ℕ × V). x.0) new ≡ bits_of set n
@@ -37,7 +38,8 @@ pub record TakenOut {V C : Type 0} (content : V → C) (set n : ℕ) (counts : �
   pub later : (u : ℕ) → n ≤ u → in_hands content new u ≡ None
 
 -- the values of the hands were moved into their slots, and the set has their turns
-pub record Filled {V C : Type 0} (content : V → C) (xs : List (ℕ × V)) (set : ℕ) (p q : Pass V C) : Type 0 where
+pub record Filled {V C : Type 0} (content : V → C) (xs : List (ℕ × V)) (set : ℕ)
+    (p q : Pass V C) : Type 0 where
   pub table : q.table_id ≡ p.table_id
   pub id : q.id ≡ p.id
   pub none : q.me.1 ≡ p.me.1

@@ -23,7 +23,8 @@ pub record Unlost {V C : Type 0} (p : Pass V C) : Type 0 where
   pub givings : p.me.0.givings ≡ 0
 
 -- the seat of the caller k of so many, with its opening note
-pub record Fresh {V C : Type 0} (id : TableId) (caller_count : ℕ) (note : C) (change : ℕ × List C) (k : ℕ) (p : Pass V C) : Type 0 where
+pub record Fresh {V C : Type 0} (id : TableId) (caller_count : ℕ) (note : C) (change : ℕ × List C)
+    (k : ℕ) (p : Pass V C) : Type 0 where
   pub idle : IdleFirst id p
   pub unlost : Unlost p
   pub caller_count_is : p.me.0.caller_count ≡ caller_count

@@ -76,7 +76,8 @@ abbrev pub Heard : {C : Type 0} → (ℕ → ℕ) → List (View C) → ℕ → 
 Heard {C} seat_of views k = (v : View C) × (i : ℕ) × (c : C)
     × (get_elem? views (seat_of k) ≡ some v) × (get_elem? v.speaks i ≡ some (k, c))
 
-pub record Tied {V C : Type 0} (content : V → C) (holds : List C → List C → Type 0) (caller_count : ℕ) (s : State (Option V) (View C)) : Type 0 where
+pub record Tied {V C : Type 0} (content : V → C) (holds : List C → List C → Type 0)
+    (caller_count : ℕ) (s : State (Option V) (View C)) : Type 0 where
   pub owner : ℕ → ℕ
   pub seat_of : ℕ → ℕ
   pub contents : List C

@@ -1,5 +1,6 @@
 // Opening a board.
 ghost use Rattle.std.specs.Prelude.{◌≡◌, ◌<◌, ◌≤◌, ◌-◌, [], IfOk, map, Some, vec_len, vec_capacity};
+ghost use Rattle.session_limits.specs.Limits.{max_callers};
 
 use crate::board::{Board, Spare, WORDS};
 use crate::lists::Seats;
@@ -78,7 +79,7 @@ impl<V: Drop, R: TieRule<V>> Board<V, R> {
         callers: u32,
     ) -> Result<(Board<V, R>, Seats<V, R>), NoMemory>
         requires turns { vec_len values ≤ 57 }
-        requires callers { (0 < callers) × (callers ≤ 32) }
+        requires callers { (0 < callers) × (callers ≤ max_callers) }
         requires rule { CanOpen R.content R.holds values.items callers }
         ensures sizes { IfOk result (λ r. (turn_count r.0 ≡ vec_len values)
             × (length r.1 ≡ callers)) }

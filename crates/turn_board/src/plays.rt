@@ -16,7 +16,8 @@ impl Aim for Brand {
     ghost turn = { 0 };
 }
 
-// The contents that a giving back of the book leaves to the turns that the seat holds. A call at `Brand` picks it.
+// The contents that a giving back of the book leaves to the turns that the seat holds. A call at
+// `Brand` picks it.
 pub(crate) trait Change<C> {
     ghost new: { ℕ → Option C };
 }

@@ -9,9 +9,11 @@ handlers_text = codes "map seats;\nset online;\nhandler login(u, now) {\n  let o
 -- a request's line, by its three draws
 abbrev pub request_line : ℕ → ℕ → ℕ → List ℕ
 request_line a b c =
-    if a % 4 == 0 then codes "login u" ++ decimal (b % 100) ++ codes " " ++ decimal (c % 1000) ++ codes "\n"
+    if a % 4 == 0
+    then codes "login u" ++ decimal (b % 100) ++ codes " " ++ decimal (c % 1000) ++ codes "\n"
     else (if a % 4 == 1 then codes "logout u" ++ decimal (b % 100) ++ codes "\n"
-    else (if a % 4 == 2 then codes "seen u" ++ decimal (b % 100) ++ codes "\n" else codes "crowd\n"))
+    else (if a % 4 == 2 then codes "seen u" ++ decimal (b % 100) ++ codes "\n"
+    else codes "crowd\n"))
 
 -- the line of request t, from 0: it has the draws from number 3 t on
 abbrev pub line_at : ℕ → ℕ → List ℕ

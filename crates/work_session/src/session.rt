@@ -1,6 +1,7 @@
 // The text of a made session.
 
 ghost use Rattle.std.specs.Prelude.{◌≡◌, ◌+◌, ◌<◌, ◌≤◌, ◌++◌, codes, decimal, length, string_bytes, string_len, IfOk, OnOk};
+ghost use Rattle.session_limits.specs.Limits.{max_requests};
 ghost use Rattle.work_session.specs.Draws.{next_state, drawn};
 ghost use Rattle.work_session.specs.Session as spec;
 
@@ -15,7 +16,7 @@ const HANDLERS: &str =
 
 /// The text of a session of so many requests, whose draws begin from `start`.
 pub fn session_text(alloc: Global, requests: u32, start: u32) -> Result<String, NoMemory>
-    requires { requests ≤ 20000 }
+    requires { requests ≤ max_requests }
     ensures text { IfOk result (λ t. string_bytes t ≡ spec.session_text requests start) }
     ensures short { IfOk result (λ t. length (string_bytes t) ≤ 1000000) }
 {

@@ -8,6 +8,7 @@ ghost use Rattle.handler_rules.specs.Scan.{Found, count_fault, declared_fault, f
 
 use handler_rules::CheckRefusal;
 use handler_trees::TableDecl;
+use session_limits::{MAX_TURNS, MAX_VARIABLES};
 use session_values::{Kind, TableKind};
 
 /// Declares a name behind the earlier ones, unless it is one of them, or there are too many.
@@ -42,7 +43,13 @@ pub(super) fn declare_variable(
         (declared_fault of_variables.limit of_variables.past earlier.old.items name at) result }
     ensures names { OnOk result (earlier.new.items ≡ earlier.old.items ++ name ∷ []) }
 {
-    declare(earlier, 32, CheckRefusal::TooManyVariables { at }, name, at)
+    declare(
+        earlier,
+        MAX_VARIABLES,
+        CheckRefusal::TooManyVariables { at },
+        name,
+        at,
+    )
 }
 
 /// Whether a variable is visible.
@@ -108,7 +115,7 @@ pub(super) fn find_table(
 pub(super) fn count_turns(turns: u64, at: u32) -> Result<(), CheckRefusal>
     ensures { Found (turns_fault turns at) result }
 {
-    if turns == 0 || turns > 1000 {
+    if turns == 0 || turns > MAX_TURNS {
         Err(CheckRefusal::RepeatBound { at })
     } else {
         Ok(())

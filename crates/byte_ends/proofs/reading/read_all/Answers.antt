@@ -1,20 +1,21 @@
-use Rattle.std.proofs.Common.{◌≡◌, ◌<◌, length, arith}
+use Rattle.std.proofs.Common.{◌≡◌, ◌+◌, ◌<◌, length, arith}
 use Rattle.std.proofs.lemmas.List.{length-take}
+use Rattle.session_limits.specs.Limits.{max_input}
 use Rattle.byte_ends.proofs.EndsLemmas.{long_taken, exact_taken, lost_more}
 use Rattle.byte_ends.proofs.reading.read_all.Goals as goal
 
 pub returns-then-is_err-clause-lost : goal.returns-then-is_err-clause-lost
 returns-then-is_err-clause-lost g c =
     let gives = c.in-Bytes.ensures.gives in
-    lost_more (g.I.Source.left c.args.source.now) (g.I.Source.left c.pieces.source) (g.I.Source.left c.read.new.self) c.pieces.bytes.items c.in-Bytes.n _ 4194305 c.pieces.invariant.taken gives.2
+    lost_more (g.I.Source.left c.args.source.now) (g.I.Source.left c.pieces.source) (g.I.Source.left c.read.new.self) c.pieces.bytes.items c.in-Bytes.n _ (max_input + 1) c.pieces.invariant.taken gives.2
     (omega (arith, gives.1, c.read.auto.buf, length-take c.min-most.result c.pieces.buf, c.min-most.ensures, c.len-in-pieces.ensures, c.pieces.bytes.ok.0, c.pieces.invariant.bound))
 
 pub returns-clause-large : goal.returns-clause-large
 returns-clause-large g c _ =
-    let long : 4194304 < length c.pieces.bytes.items = omega (arith, c.pieces-test.false, c.len.ensures, c.pieces.bytes.ok.0) in
-    long_taken (g.I.Source.left c.args.source.now) (g.I.Source.left c.pieces.source) c.pieces.bytes.items 4194304 c.pieces.invariant.taken long
+    let long : max_input < length c.pieces.bytes.items = omega (arith, c.pieces-test.false, c.len.ensures, c.pieces.bytes.ok.0) in
+    long_taken (g.I.Source.left c.args.source.now) (g.I.Source.left c.pieces.source) c.pieces.bytes.items max_input c.pieces.invariant.taken long
 
 pub returns-clause-gone : goal.returns-clause-gone
 returns-clause-gone g c _ =
-    let all : length c.pieces.bytes.items ≡ 4194305 = omega (arith, c.pieces-test.false, c.len.ensures, c.pieces.bytes.ok.0, c.pieces.invariant.bound) in
-    exact_taken (g.I.Source.left c.args.source.now) (g.I.Source.left c.pieces.source) c.pieces.bytes.items 4194305 c.pieces.invariant.taken all
+    let all : length c.pieces.bytes.items ≡ max_input + 1 = omega (arith, c.pieces-test.false, c.len.ensures, c.pieces.bytes.ok.0, c.pieces.invariant.bound) in
+    exact_taken (g.I.Source.left c.args.source.now) (g.I.Source.left c.pieces.source) c.pieces.bytes.items (max_input + 1) c.pieces.invariant.taken all

@@ -1,7 +1,7 @@
 use Rattle.std.proofs.Common.{◌≡◌, ◌+◌, drop}
 use Rattle.handler_check.specs.Resolved.{code_of, points_of}
 use Rattle.handler_check.proofs.Resolving.{onto}
-use Rattle.handler_check.proofs.Sizes.{stmt_size, block_size}
+use Rattle.handler_trees.proofs.Sizes.{stmt_size, block_size}
 use Rattle.handler_rules.specs.Source.{block_source}
 use Rattle.handler_check.proofs.resolution.+resolution.Given as goal
 

@@ -1,8 +1,8 @@
 use Rattle.std.proofs.Common.{◌∷◌, [], ap, ◌∙◌}
-use Rattle.handler_grammar.specs.Next.{handlers}
-use Rattle.handler_grammar.specs.Phrase.{a_file, tables_words}
+use Rattle.handler_phrases.specs.Next.{handlers}
+use Rattle.handler_phrases.specs.Phrase.{a_file, tables_words}
 use Rattle.handler_grammar.proofs.Steps.{passed_then, passed_framed, refused_after, refused_framed}
-use Rattle.handler_grammar.proofs.Values.{file_value}
+use Rattle.handler_phrases.proofs.Values.{file_value}
 use Rattle.handler_grammar.proofs.file.file.Goals as goal
 use Rattle.handler_grammar.proofs.Exits.{passed_on, grown}
 

@@ -1,6 +1,6 @@
 use Rattle.std.proofs.Common.{subst}
-use Rattle.handler_grammar.specs.Parsed.{Parsed}
-use Rattle.handler_grammar.proofs.Whole.{parsed}
+use Rattle.handler_phrases.specs.Parsed.{Parsed}
+use Rattle.handler_phrases.proofs.Whole.{parsed}
 use Rattle.handler_grammar.proofs.file.parse.Goals as goal
 
 pub returns : goal.returns

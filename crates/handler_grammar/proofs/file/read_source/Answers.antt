@@ -2,7 +2,7 @@ use Rattle.std.proofs.Common.{◌≤◌, length, ap, ◌∙◌, subst, arith}
 use Rattle.session_values.specs.Names.{Begins}
 use Rattle.handler_tokens.specs.Words.{names_of}
 use Rattle.handler_tokens.proofs.NamesGrow.{names_begin, begins_length, names_few, two_fronts}
-use Rattle.handler_grammar.proofs.Whole.{words_few}
+use Rattle.handler_phrases.proofs.Whole.{words_few}
 use Rattle.handler_grammar.proofs.file.read_source.Goals as goal
 
 pub whole-found-requires-clause-few : goal.whole-found-requires-clause-few

@@ -3,11 +3,11 @@ use Rattle.std.proofs.Math.Facts.{to_z_pos, to_z-of_z}
 use Rattle.std.proofs.lemmas.Bool.{lt-leb}
 use Rattle.session_values.specs.declared.value.Value.TheVariants as value
 use Rattle.handler_tokens.specs.declared.word.Sort.TheVariants as sort
-use Rattle.handler_grammar.specs.Phrase.{word}
+use Rattle.handler_phrases.specs.Phrase.{word}
 use Rattle.handler_trees.specs.declared.expr.Atom.TheVariants as atom
-use Rattle.handler_grammar.specs.Bounds.{where_over, number_size}
-use Rattle.handler_grammar.specs.Next.{an_atom, after_minus}
-use Rattle.handler_grammar.specs.Phrase.{digits, name_atom, nil_atom, symbol_atom, number_atom, negative_atom}
+use Rattle.handler_phrases.specs.Bounds.{where_over, number_size}
+use Rattle.handler_phrases.specs.Next.{an_atom, after_minus}
+use Rattle.handler_phrases.specs.Phrase.{digits, name_atom, nil_atom, symbol_atom, number_atom, negative_atom}
 use Rattle.handler_grammar.proofs.Steps.{took, passed_one, passed_then}
 use Rattle.handler_grammar.proofs.Exits.{passed_on, no_memory, grown}
 use Rattle.handler_grammar.proofs.Steps.{refused_after}

@@ -1,10 +1,10 @@
 use Rattle.std.proofs.Common.{arith, refl, ◌≡◌, ◌≤◌, ℕ, zero, suc, pos, ◌-ℤ◌, to_z, of_z, w64, ap, []}
 use Rattle.std.proofs.lemmas.Int.{ints}
 use Rattle.std.proofs.lemmas.Bool.{lt-leb}
-use Rattle.handler_grammar.specs.Bounds.{where_over, number_size}
-use Rattle.handler_grammar.specs.Next.{after_minus}
-use Rattle.handler_grammar.specs.Phrase.{digits}
-use Rattle.handler_grammar.specs.Tree.{minus_ℕ}
+use Rattle.handler_phrases.specs.Bounds.{where_over, number_size}
+use Rattle.handler_phrases.specs.Next.{after_minus}
+use Rattle.handler_phrases.specs.Phrase.{digits}
+use Rattle.handler_phrases.specs.Tree.{minus_ℕ}
 use Rattle.handler_grammar.proofs.Steps.{took, passed_one}
 use Rattle.handler_grammar.proofs.Exits.{no_memory}
 use Rattle.handler_grammar.proofs.parse_atom.negative.Goals as goal

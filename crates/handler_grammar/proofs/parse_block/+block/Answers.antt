@@ -2,11 +2,11 @@ use Rattle.std.proofs.Common.{◌≡◌, ◌+◌, ◌∷◌, [], ◌++◌, lengt
 use Rattle.std.proofs.lemmas.Bool.{lt-leb}
 use Rattle.handler_tokens.specs.declared.word.Sort.TheVariants as sort
 use Rattle.handler_trees.specs.declared.stmt.Stmt.TheVariants as stmt
-use Rattle.handler_grammar.specs.Bounds.{where_over, block_depth}
-use Rattle.handler_grammar.specs.Next.{Inside, mark, expression, a_compare, a_count, a_name, a_block, or_else, statements, where_statement}
-use Rattle.handler_grammar.specs.Phrase.{word, block, no_else, an_else, if_stmt, repeat_stmt, no_stmt, cond_words, turns_words, block_words, stmts_words}
-use Rattle.handler_grammar.specs.Tree.{repeat_tree, cond_tree, turns_of, block_trees, stmts_trees}
-use Rattle.handler_grammar.proofs.Rows.{else_none}
+use Rattle.handler_phrases.specs.Bounds.{where_over, block_depth}
+use Rattle.handler_phrases.specs.Next.{Inside, mark, expression, a_compare, a_count, a_name, a_block, or_else, statements, where_statement}
+use Rattle.handler_phrases.specs.Phrase.{word, block, no_else, an_else, if_stmt, repeat_stmt, no_stmt, cond_words, turns_words, block_words, stmts_words}
+use Rattle.handler_phrases.specs.Tree.{repeat_tree, cond_tree, turns_of, block_trees, stmts_trees}
+use Rattle.handler_phrases.proofs.Rows.{else_none}
 use Rattle.handler_grammar.proofs.Steps.{took, took_seen, passed_one, passed_then, passed_framed, passed_same, passed_still, passed_over, passed_word, refused_after, refused_framed}
 use Rattle.handler_grammar.proofs.ListLoops.{and_stmt, and_stmt-words, and_stmt-trees}
 use Rattle.handler_grammar.proofs.Exits.{passed_on, no_memory, none_read, grown, fewer}

@@ -1,12 +1,12 @@
 use Rattle.std.proofs.Common.{◌-◌, ◌+◌, ◌∷◌, [], ◌++◌, length, refl, sym, ap, ◌∙◌, arith, length-append}
 use Rattle.std.proofs.lemmas.Result.{err_from_is_err_and}
 use Rattle.handler_tokens.specs.declared.word.Sort.TheVariants as sort
-use Rattle.handler_grammar.specs.Next.{more_arguments}
-use Rattle.handler_grammar.specs.Phrase.{word, no_atom, atoms_words}
-use Rattle.handler_grammar.specs.Tree.{atoms_trees}
+use Rattle.handler_phrases.specs.Next.{more_arguments}
+use Rattle.handler_phrases.specs.Phrase.{word, no_atom, atoms_words}
+use Rattle.handler_phrases.specs.Tree.{atoms_trees}
 use Rattle.handler_grammar.proofs.Loops.{and_atom, and_atom-words, and_atom-trees, and_atom-count, argument_step}
 use Rattle.handler_grammar.proofs.Steps.{passed_same, passed_then, passed_framed, passed_empty, passed_over, refused_after, refused_framed}
-use Rattle.handler_grammar.proofs.Rows.{arguments_none, arguments_full}
+use Rattle.handler_phrases.proofs.Rows.{arguments_none, arguments_full}
 use Rattle.handler_grammar.proofs.Exits.{no_memory, grown}
 use Rattle.handler_grammar.proofs.parse_call.arguments.Goals as goal
 

@@ -1,8 +1,8 @@
 use Rattle.std.proofs.Common.{◌∷◌, [], ap, ◌∙◌}
-use Rattle.handler_grammar.specs.Next.{a_compare, expression}
-use Rattle.handler_grammar.specs.Phrase.{a_cond, expr_words, compare_words}
+use Rattle.handler_phrases.specs.Next.{a_compare, expression}
+use Rattle.handler_phrases.specs.Phrase.{a_cond, expr_words, compare_words}
 use Rattle.handler_grammar.proofs.Steps.{passed_then, passed_framed, refused_after, refused_framed}
-use Rattle.handler_grammar.proofs.Values.{cond_value}
+use Rattle.handler_phrases.proofs.Values.{cond_value}
 use Rattle.handler_grammar.proofs.parse_call.condition.Goals as goal
 use Rattle.handler_grammar.proofs.Exits.{passed_on, grown}
 

@@ -1,9 +1,9 @@
 use Rattle.std.proofs.Common.{◌∷◌, [], ap, ◌∙◌}
 use Rattle.handler_tokens.specs.declared.word.Sort.TheVariants as sort
-use Rattle.handler_grammar.specs.Next.{mark, a_name}
-use Rattle.handler_grammar.specs.Phrase.{word, a_turns, number_words}
+use Rattle.handler_phrases.specs.Next.{mark, a_name}
+use Rattle.handler_phrases.specs.Phrase.{word, a_turns, number_words}
 use Rattle.handler_grammar.proofs.Steps.{passed_then, passed_framed, refused_after, refused_framed}
-use Rattle.handler_grammar.proofs.Values.{turns_value}
+use Rattle.handler_phrases.proofs.Values.{turns_value}
 use Rattle.handler_grammar.proofs.parse_call.repeat_head.Goals as goal
 use Rattle.handler_grammar.proofs.Exits.{passed_on, grown}
 

@@ -2,8 +2,8 @@ use Rattle.std.proofs.Common.{◌∷◌, [], refl, sym, ap, ◌∙◌}
 use Rattle.std.proofs.lemmas.Result.{err_from_is_err_and}
 use Rattle.handler_tokens.specs.declared.word.Sort.TheVariants as sort
 use Rattle.handler_trees.specs.declared.stmt.Right.TheVariants as right
-use Rattle.handler_grammar.specs.Next.{Opened, a_right, call_parts}
-use Rattle.handler_grammar.specs.Phrase.{word, a_call, result_right, plain_right}
+use Rattle.handler_phrases.specs.Next.{Opened, a_right, call_parts}
+use Rattle.handler_phrases.specs.Phrase.{word, a_call, result_right, plain_right}
 use Rattle.handler_grammar.proofs.Steps.{took_seen, passed_one, passed_then, passed_framed, passed_still, refused_after, refused_framed}
 use Rattle.handler_grammar.proofs.CallSteps.{operation_is, passed_plain, refused_plain}
 use Rattle.handler_grammar.proofs.Exits.{no_memory, grown}

@@ -1,8 +1,8 @@
 use Rattle.std.proofs.Common.{[], refl, ap, arith}
 use Rattle.std.proofs.lemmas.Bool.{lt-leb}
-use Rattle.handler_grammar.specs.Bounds.{where_over, number_size}
-use Rattle.handler_grammar.specs.Next.{a_count}
-use Rattle.handler_grammar.specs.Phrase.{digits}
+use Rattle.handler_phrases.specs.Bounds.{where_over, number_size}
+use Rattle.handler_phrases.specs.Next.{a_count}
+use Rattle.handler_phrases.specs.Phrase.{digits}
 use Rattle.handler_grammar.proofs.Steps.{took, passed_one}
 use Rattle.handler_grammar.proofs.Exits.{no_memory}
 use Rattle.handler_grammar.proofs.parse_call.turn_count.Goals as goal

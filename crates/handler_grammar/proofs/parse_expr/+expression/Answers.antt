@@ -6,12 +6,12 @@ use Rattle.handler_trees.specs.declared.expr.Calc.{Calc}
 use Rattle.handler_trees.specs.declared.expr.Calc.TheVariants as calc
 use Rattle.handler_trees.specs.declared.expr.Expr.TheVariants as expr
 use Rattle.handler_trees.specs.Alone.{alone}
-use Rattle.handler_grammar.specs.Bounds.{where_over, open_parentheses, operator_signs}
-use Rattle.handler_grammar.specs.Next.{Opened, operand, more_factors, more_terms, closing}
-use Rattle.handler_grammar.specs.Phrase.{word, plain, grouped, no_factor, term, MoreTerms, no_term, sum, expr_words, factor_words, factors_words, term_words, terms_words}
-use Rattle.handler_grammar.specs.Tree.{factors_tree, factor_tree, terms_tree, term_tree}
+use Rattle.handler_phrases.specs.Bounds.{where_over, open_parentheses, operator_signs}
+use Rattle.handler_phrases.specs.Next.{Opened, operand, more_factors, more_terms, closing}
+use Rattle.handler_phrases.specs.Phrase.{word, plain, grouped, no_factor, term, MoreTerms, no_term, sum, expr_words, factor_words, factors_words, term_words, terms_words}
+use Rattle.handler_phrases.specs.Tree.{factors_tree, factor_tree, terms_tree, term_tree}
 use Rattle.handler_grammar.specs.Reads.{Passed}
-use Rattle.handler_grammar.proofs.Rows.{factors_none, terms_none}
+use Rattle.handler_phrases.proofs.Rows.{factors_none, terms_none}
 use Rattle.handler_grammar.proofs.Steps.{passed_one, passed_then, passed_framed, passed_over, passed_still, took_seen, refused_after, refused_framed}
 use Rattle.handler_grammar.proofs.ExprSteps.{passed_atom, refused_atom}
 use Rattle.handler_grammar.proofs.Loops.{TermsSoFar, and_factor, and_factor-words, and_factor-tree, and_plus, and_plus-words, and_plus-tree, and_minus, and_minus-words, and_minus-tree}

@@ -1,5 +1,5 @@
 use Rattle.std.proofs.Common.{refl, []}
-use Rattle.handler_grammar.specs.Next.{closing}
+use Rattle.handler_phrases.specs.Next.{closing}
 use Rattle.handler_grammar.proofs.Steps.{took, passed_one}
 use Rattle.handler_grammar.proofs.Exits.{no_memory}
 use Rattle.handler_grammar.proofs.parse_expr.close.Goals as goal

@@ -1,10 +1,10 @@
 use Rattle.handler_grammar.specs.Reads.{Passed}
 use Rattle.std.proofs.Common.{◌≡◌, ◌∷◌, [], refl, ap, ◌∙◌}
 use Rattle.handler_tokens.specs.declared.word.Sort.TheVariants as sort
-use Rattle.handler_grammar.specs.Next.{Inside, mark, a_name, a_block, first_param, handlers}
-use Rattle.handler_grammar.specs.Phrase.{word, a_handler, name_words, params_words}
+use Rattle.handler_phrases.specs.Next.{Inside, mark, a_name, a_block, first_param, handlers}
+use Rattle.handler_phrases.specs.Phrase.{word, a_handler, name_words, params_words}
 use Rattle.handler_grammar.proofs.Steps.{took, passed_one, passed_then, passed_framed, refused_after, refused_framed}
-use Rattle.handler_grammar.proofs.Values.{handler_value}
+use Rattle.handler_phrases.proofs.Values.{handler_value}
 use Rattle.handler_grammar.proofs.parse_handler.handler.Goals as goal
 use Rattle.handler_grammar.proofs.parse_handler.handler.Goals.{In_ok-take}
 use Rattle.handler_grammar.proofs.Exits.{passed_on, no_memory, none_read, grown, fewer}

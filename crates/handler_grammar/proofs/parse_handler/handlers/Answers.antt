@@ -1,6 +1,6 @@
 use Rattle.std.proofs.Common.{◌≡◌, ◌+◌, ◌∷◌, [], ◌++◌, length, sym, ap, ◌∙◌, arith, length-append}
-use Rattle.handler_grammar.specs.Phrase.{handlers_words}
-use Rattle.handler_grammar.specs.Tree.{handlers_trees}
+use Rattle.handler_phrases.specs.Phrase.{handlers_words}
+use Rattle.handler_phrases.specs.Tree.{handlers_trees}
 use Rattle.handler_grammar.proofs.ListLoops.{and_handler, and_handler-words, and_handler-trees}
 use Rattle.handler_grammar.proofs.Steps.{passed_then, passed_still, refused_after}
 use Rattle.handler_grammar.proofs.Exits.{passed_on, no_memory, grown}

@@ -1,6 +1,6 @@
 use Rattle.std.proofs.Common.{sym, ◌∙◌}
 use Rattle.std.proofs.lemmas.Result.{err_from_is_err_and}
-use Rattle.handler_grammar.specs.Phrase.{some_params}
+use Rattle.handler_phrases.specs.Phrase.{some_params}
 use Rattle.handler_grammar.proofs.Steps.{passed_then, refused_after}
 use Rattle.handler_grammar.proofs.ParamSteps.{passed_first}
 use Rattle.handler_grammar.proofs.Exits.{no_memory, grown}

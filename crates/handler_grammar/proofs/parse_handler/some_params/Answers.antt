@@ -1,12 +1,12 @@
 use Rattle.std.proofs.Common.{◌≡◌, ◌+◌, ◌∷◌, [], ◌++◌, length, refl, sym, ap, ◌∙◌, arith, length-append}
 use Rattle.handler_tokens.specs.declared.word.Sort.TheVariants as sort
-use Rattle.handler_grammar.specs.Next.{a_name, more_params}
-use Rattle.handler_grammar.specs.Phrase.{word, no_more, name_words, more_params_words}
-use Rattle.handler_grammar.specs.Tree.{param_of, more_params_trees}
+use Rattle.handler_phrases.specs.Next.{a_name, more_params}
+use Rattle.handler_phrases.specs.Phrase.{word, no_more, name_words, more_params_words}
+use Rattle.handler_phrases.specs.Tree.{param_of, more_params_trees}
 use Rattle.handler_grammar.proofs.ListLoops.{and_param, and_param-words, and_param-trees}
 use Rattle.handler_grammar.proofs.Steps.{took_seen, passed_one, passed_then, passed_framed, passed_over, refused_after, refused_framed}
-use Rattle.handler_grammar.proofs.Rows.{more_params_none}
-use Rattle.handler_grammar.proofs.Values.{param_with, param_value, name_long}
+use Rattle.handler_phrases.proofs.Rows.{more_params_none}
+use Rattle.handler_phrases.proofs.Values.{param_with, param_value, name_long}
 use Rattle.handler_grammar.proofs.Exits.{passed_on, no_memory, grown}
 use Rattle.handler_grammar.proofs.parse_handler.some_params.Goals as goal
 

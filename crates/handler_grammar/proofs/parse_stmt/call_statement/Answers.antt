@@ -1,9 +1,9 @@
 use Rattle.std.proofs.Common.{◌∷◌, [], ◌++◌, refl, ap, ◌∙◌}
 use Rattle.handler_tokens.specs.declared.word.Sort.TheVariants as sort
 use Rattle.handler_trees.specs.declared.stmt.Stmt.TheVariants as stmt
-use Rattle.handler_grammar.specs.Sorts.{operation}
-use Rattle.handler_grammar.specs.Next.{Inside, mark, call_parts, statements}
-use Rattle.handler_grammar.specs.Phrase.{word, a_call, call_stmt, operands_words}
+use Rattle.handler_phrases.specs.Sorts.{operation}
+use Rattle.handler_phrases.specs.Next.{Inside, mark, call_parts, statements}
+use Rattle.handler_phrases.specs.Phrase.{word, a_call, call_stmt, operands_words}
 use Rattle.std.proofs.lemmas.Result.{err_from_is_err_and}
 use Rattle.handler_grammar.proofs.Steps.{took, passed_one, passed_then, passed_framed, refused_after, refused_framed}
 use Rattle.handler_grammar.proofs.CallSteps.{operation_is}

@@ -2,9 +2,9 @@ use Rattle.handler_grammar.specs.Reads.{Passed}
 use Rattle.std.proofs.Common.{◌≡◌, ℕ, ◌∷◌, [], refl, ap, ◌∙◌}
 use Rattle.handler_tokens.specs.declared.word.Sort.TheVariants as sort
 use Rattle.handler_trees.specs.declared.stmt.Stmt.TheVariants as stmt
-use Rattle.handler_grammar.specs.Next.{Inside, mark, a_name, a_right, statements}
-use Rattle.handler_grammar.specs.Phrase.{word, let_stmt, name_words, right_words}
-use Rattle.handler_grammar.specs.Tree.{name_of}
+use Rattle.handler_phrases.specs.Next.{Inside, mark, a_name, a_right, statements}
+use Rattle.handler_phrases.specs.Phrase.{word, let_stmt, name_words, right_words}
+use Rattle.handler_phrases.specs.Tree.{name_of}
 use Rattle.handler_grammar.proofs.Steps.{took, passed_one, passed_then, passed_framed, refused_after, refused_framed}
 use Rattle.handler_grammar.proofs.parse_stmt.let_statement.Goals as goal
 use Rattle.handler_grammar.proofs.parse_stmt.let_statement.Goals.{In_ok-take}

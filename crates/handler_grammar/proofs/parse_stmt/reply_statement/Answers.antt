@@ -2,8 +2,8 @@ use Rattle.handler_grammar.specs.Reads.{Passed}
 use Rattle.std.proofs.Common.{◌≡◌, ◌∷◌, [], refl, ap, ◌∙◌}
 use Rattle.handler_tokens.specs.declared.word.Sort.TheVariants as sort
 use Rattle.handler_trees.specs.declared.stmt.Stmt.TheVariants as stmt
-use Rattle.handler_grammar.specs.Next.{Inside, mark, expression, more_values, statements}
-use Rattle.handler_grammar.specs.Phrase.{word, reply_stmt, values_words}
+use Rattle.handler_phrases.specs.Next.{Inside, mark, expression, more_values, statements}
+use Rattle.handler_phrases.specs.Phrase.{word, reply_stmt, values_words}
 use Rattle.handler_grammar.proofs.Steps.{took, passed_one, passed_then, passed_framed, refused_after, refused_framed}
 use Rattle.handler_grammar.proofs.parse_stmt.reply_statement.Goals as goal
 use Rattle.handler_grammar.proofs.parse_stmt.reply_statement.Goals.{In_ok-word}

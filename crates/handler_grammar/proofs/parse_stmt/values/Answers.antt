@@ -1,12 +1,12 @@
 use Rattle.std.proofs.Common.{◌-◌, ◌+◌, ◌∷◌, [], ◌++◌, length, refl, sym, ap, ◌∙◌, arith, length-append}
 use Rattle.std.proofs.lemmas.Result.{err_from_is_err_and}
 use Rattle.handler_tokens.specs.declared.word.Sort.TheVariants as sort
-use Rattle.handler_grammar.specs.Next.{more_values}
-use Rattle.handler_grammar.specs.Phrase.{word, no_value, expr_words, more_words}
-use Rattle.handler_grammar.specs.Tree.{expr_tree, more_trees}
+use Rattle.handler_phrases.specs.Next.{more_values}
+use Rattle.handler_phrases.specs.Phrase.{word, no_value, expr_words, more_words}
+use Rattle.handler_phrases.specs.Tree.{expr_tree, more_trees}
 use Rattle.handler_grammar.proofs.Loops.{and_value, and_value-words, and_value-trees, and_value-count, value_step}
 use Rattle.handler_grammar.proofs.Steps.{passed_then, passed_framed, passed_empty, passed_over, refused_after, refused_framed}
-use Rattle.handler_grammar.proofs.Rows.{values_none, values_full}
+use Rattle.handler_phrases.proofs.Rows.{values_none, values_full}
 use Rattle.handler_grammar.proofs.Exits.{passed_on, no_memory, grown}
 use Rattle.handler_grammar.proofs.parse_stmt.values.Goals as goal
 

@@ -1,12 +1,12 @@
 use Rattle.handler_grammar.specs.Reads.{Passed}
 use Rattle.std.proofs.Common.{◌≡◌, ◌∷◌, [], refl, ap, ◌∙◌}
 use Rattle.handler_tokens.specs.declared.word.Sort.TheVariants as sort
-use Rattle.handler_grammar.specs.Sorts.{table_kind}
-use Rattle.handler_grammar.specs.Next.{Anywhere, mark, tables, a_name}
-use Rattle.handler_grammar.specs.Phrase.{word, a_table, name_words}
+use Rattle.handler_phrases.specs.Sorts.{table_kind}
+use Rattle.handler_phrases.specs.Next.{Anywhere, mark, tables, a_name}
+use Rattle.handler_phrases.specs.Phrase.{word, a_table, name_words}
 use Rattle.handler_grammar.proofs.Steps.{took, passed_one, passed_then, passed_framed, refused_after, refused_framed}
 use Rattle.handler_grammar.proofs.CallSteps.{table_is}
-use Rattle.handler_grammar.proofs.Values.{table_value}
+use Rattle.handler_phrases.proofs.Values.{table_value}
 use Rattle.handler_grammar.proofs.parse_table.table.Goals as goal
 use Rattle.handler_grammar.proofs.parse_table.table.Goals.{In_ok-take}
 use Rattle.handler_grammar.proofs.Exits.{passed_on, no_memory, none_read, grown, fewer}

@@ -1,7 +1,7 @@
 use Rattle.std.proofs.Common.{◌≡◌, ◌+◌, ◌∷◌, [], ◌++◌, length, refl, sym, ap, ◌∙◌, arith, length-append}
-use Rattle.handler_grammar.specs.Next.{tables, where_table}
-use Rattle.handler_grammar.specs.Phrase.{tables_words}
-use Rattle.handler_grammar.specs.Tree.{tables_trees}
+use Rattle.handler_phrases.specs.Next.{tables, where_table}
+use Rattle.handler_phrases.specs.Phrase.{tables_words}
+use Rattle.handler_phrases.specs.Tree.{tables_trees}
 use Rattle.handler_grammar.proofs.ListLoops.{and_table, and_table-words, and_table-trees}
 use Rattle.handler_grammar.proofs.Steps.{passed_then, passed_still, passed_over, refused_after}
 use Rattle.handler_grammar.proofs.Exits.{passed_on, no_memory, grown}

@@ -1,7 +1,7 @@
 use Rattle.std.proofs.Common.{refl, sym, ◌∙◌, []}
-use Rattle.handler_grammar.specs.Next.{mark}
+use Rattle.handler_phrases.specs.Next.{mark}
 use Rattle.handler_grammar.proofs.Steps.{took, passed_one, refused_is, refused_none}
-use Rattle.handler_grammar.proofs.Rows.{mark_same, mark_no_end, none_left}
+use Rattle.handler_phrases.proofs.Rows.{mark_same, mark_no_end, none_left}
 use Rattle.handler_grammar.proofs.Exits.{no_memory}
 use Rattle.handler_grammar.proofs.parse_words.mark.Goals as goal
 

@@ -1,6 +1,6 @@
 use Rattle.std.proofs.Common.{refl, []}
-use Rattle.handler_grammar.specs.Next.{a_name}
-use Rattle.handler_grammar.specs.Phrase.{named}
+use Rattle.handler_phrases.specs.Next.{a_name}
+use Rattle.handler_phrases.specs.Phrase.{named}
 use Rattle.handler_grammar.proofs.Steps.{took, passed_one}
 use Rattle.handler_grammar.proofs.Exits.{no_memory}
 use Rattle.handler_grammar.proofs.parse_words.name.Goals as goal

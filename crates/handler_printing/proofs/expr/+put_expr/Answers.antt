@@ -1,7 +1,7 @@
 use Rattle.std.proofs.Common.{ap, rules}
 use Rattle.handler_trees.specs.declared.expr.Expr.{Expr}
 use Rattle.handler_printing.proofs.Parts.{named_left, named_right}
-use Rattle.handler_printing.proofs.Sizes.{left_smaller, right_smaller}
+use Rattle.handler_trees.proofs.Sizes.{left_smaller, right_smaller}
 use Rattle.handler_printing.proofs.expr.+put_expr.Goals as goal
 
 pub put_expr-requires : goal.put_expr-requires

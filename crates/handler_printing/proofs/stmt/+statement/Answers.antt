@@ -2,7 +2,7 @@ use Rattle.std.proofs.Common.{◌≡◌, ◌+◌, subst, string_bytes, arith, ru
 use Rattle.handler_trees.specs.Mentions.{stmt_mentions}
 use Rattle.handler_printing.proofs.Loops.{named_turn}
 use Rattle.handler_printing.proofs.Parts.{named_choice, named_repeat}
-use Rattle.handler_printing.proofs.Sizes.{choice_smaller, repeat_smaller, member_smaller}
+use Rattle.handler_trees.proofs.Sizes.{choice_smaller, repeat_smaller, member_smaller}
 use Rattle.handler_printing.proofs.Written.{block_end, block_turn, choice_adds, points_turn, repeat_adds}
 use Rattle.handler_printing.specs.declared.spot.Spot.{Spot}
 use Rattle.handler_printing.specs.Lines.{block_points, stmt_part, written}

@@ -4,7 +4,7 @@ use Rattle.handler_printing.specs.Lines.{block_lines, block_points, written}
 use Rattle.handler_printing.specs.Put.{parts_of}
 use Rattle.handler_trees.specs.Mentions.{AreNamed, stmt_mentions}
 use Rattle.handler_printing.proofs.Loops.{Owes}
-use Rattle.handler_printing.proofs.Sizes.{stmt_size, block_size}
+use Rattle.handler_trees.proofs.Sizes.{stmt_size, block_size}
 use Rattle.handler_printing.proofs.stmt.+statement.Given as goal
 
 abbrev pub decreases-put_statement : goal.decreases-put_statement

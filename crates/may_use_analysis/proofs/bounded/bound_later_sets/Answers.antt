@@ -5,8 +5,8 @@ use Rattle.handler_trees.specs.declared.file.File.{File}
 use Rattle.handler_dialogue.specs.Code.{Code}
 use Rattle.handler_check.specs.Resolved.{code_at}
 use Rattle.may_use_analysis.specs.Later.{HasLists}
-use Rattle.may_use_analysis.specs.Numbered.{AreStored, by_number}
-use Rattle.may_use_analysis.specs.Stored.{Stored}
+use Rattle.may_use_analysis.specs.Numbered.{ArePointLists, by_number}
+use Rattle.may_use_analysis.specs.PointList.{PointList}
 use Rattle.may_use_analysis.proofs.TopLemmas.{all_listed, excess_found, lists_of_all, more_lists, place_is, some_at}
 use Rattle.may_use_analysis.proofs.bounded.bound_later_sets.Goals as goal
 
@@ -20,7 +20,7 @@ returns-in-Some c = λ _.
     let e = c.in-Some.excess in
     let handler = c.in_ok-handler.handler in
     let inside : h < length f.handlers = omega arith in
-    let are = subst (λ (z : Code). AreStored z c.in_ok-lists.lists) c.in_ok-handler.ensures.body c.in_ok-lists.ensures in
+    let are = subst (λ (z : Code). ArePointLists z c.in_ok-lists.lists) c.in_ok-handler.ensures.body c.in_ok-lists.ensures in
     let source = some_at f.handlers h inside in
     let place = place_is f h source.0 handler source.1 (c.in_ok-handler.ensures.resolved source.0 source.1) c.in_ok-handler.ensures.body in
     let before = c.loop-h.invariant in
@@ -32,7 +32,7 @@ loop-h-preserved c =
     let h = c.loop-h.h in
     let lists = c.in_ok-lists.lists in
     let before = c.loop-h.invariant in
-    let are = subst (λ (z : Code). AreStored z lists) c.in_ok-handler.ensures.body c.in_ok-lists.ensures in
+    let are = subst (λ (z : Code). ArePointLists z lists) c.in_ok-handler.ensures.body c.in_ok-lists.ensures in
     (before.0 ++ lists ∷ [], omega (arith, length-append before.0 (lists ∷ []), before.1), more_lists f before.0 (before.0 ++ lists ∷ []) lists h before.1 refl before.2 (all_listed _ lists are c.in-None.ensures))
 
 pub returns : goal.returns

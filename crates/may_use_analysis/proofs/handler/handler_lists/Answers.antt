@@ -6,7 +6,7 @@ use Rattle.handler_dialogue.specs.Code.{block_code}
 use Rattle.may_use_analysis.specs.Flow.{Flow}
 use Rattle.may_use_analysis.specs.Ordered.{Are}
 use Rattle.may_use_analysis.specs.Recorded.{Recorded}
-use Rattle.may_use_analysis.specs.Stored.{Stored}
+use Rattle.may_use_analysis.specs.PointList.{PointList}
 use Rattle.may_use_analysis.proofs.Sets.{stored_lent}
 use Rattle.may_use_analysis.proofs.TopLemmas.{handler_stored}
 use Rattle.may_use_analysis.proofs.WarmLemmas.{warm_none}
@@ -23,7 +23,7 @@ returns c =
     let set = subst (λ (z : List Symbol). Are entry (Flow body (Contains z))) c.new-nothing.ensures set' in
     let lists' = subst (λ (z : List CheckedStmt). Recorded (block_code z) (Contains nothing) c.in_ok-lists.lists out) c.as_slice-body.ensures c.in_ok-entry.ensures.lists in
     let lists'' = subst (λ (z : List Symbol). Recorded body (Contains z) c.in_ok-lists.lists out) c.new-nothing.ensures lists' in
-    let lists = subst (λ (z : List Stored). Recorded body (Contains []) z out) c.in_ok-lists.ensures lists'' in
+    let lists = subst (λ (z : List PointList). Recorded body (Contains []) z out) c.in_ok-lists.ensures lists'' in
     handler_stored body c.requires k.0 out c.keep.new.self (stored_lent c.as_slice.result.now entry k.0 (Flow body (Contains [])) c.as_slice.ensures.symbols k.1 c.as_slice.ensures.order set) lists k.2
 
 pub before_block-requires-clause-warm : goal.before_block-requires-clause-warm

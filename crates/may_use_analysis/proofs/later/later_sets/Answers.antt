@@ -1,7 +1,7 @@
 use Rattle.std.proofs.Common.{◌≡◌, ℕ, ◌<◌, List, [], ◌∷◌, length, get_or, length-append, ap, subst, arith}
 use Rattle.std.specs.Prelude.{Some, slice_get}
 use Rattle.handler_dialogue.specs.Code.{Code}
-use Rattle.may_use_analysis.specs.Numbered.{AreStored, by_number}
+use Rattle.may_use_analysis.specs.Numbered.{ArePointLists, by_number}
 use Rattle.may_use_analysis.proofs.TopLemmas.{all_listed, excess_found, more_lists, place_is, some_at}
 use Rattle.may_use_analysis.proofs.later.later_sets.Goals as goal
 
@@ -12,7 +12,7 @@ returns-in-Some c = λ _.
     let e = c.in-Some.excess in
     let handler = c.handler-handler.result.now in
     let inside : h < length f.handlers = omega arith in
-    let are = subst (λ (z : Code). AreStored z c.in_ok-lists.lists) c.handler-handler.ensures.body c.in_ok-lists.ensures in
+    let are = subst (λ (z : Code). ArePointLists z c.in_ok-lists.lists) c.handler-handler.ensures.body c.in_ok-lists.ensures in
     let source = some_at f.handlers h inside in
     let place = place_is f h source.0 handler source.1 (c.handler-handler.ensures.resolved source.0 source.1) c.handler-handler.ensures.body in
     excess_found f h c.in_ok-at-in-Some.at c.in_ok-lists.lists e (λ k. by_number (get_or c.loop-h.handlers.items k [])) inside are c.in-Some.ensures (subst (λ (z : List ℕ). slice_get z e.point ≡ Some c.in_ok-at-in-Some.at) place c.in_ok-at-in-Some.ensures) c.loop-h.invariant.each
@@ -22,7 +22,7 @@ loop-h-preserved c =
     let f = c.args.checked.now in
     let h = c.loop-h.h in
     let lists = c.in_ok-lists.lists in
-    let are = subst (λ (z : Code). AreStored z lists) c.handler-handler.ensures.body c.in_ok-lists.ensures in
+    let are = subst (λ (z : Code). ArePointLists z lists) c.handler-handler.ensures.body c.in_ok-lists.ensures in
     record {
       count = omega (arith, ap length c.in_ok-push-in-None.ensures.items, length-append c.loop-h.handlers.items (lists ∷ []), c.loop-h.invariant.count);
       each = more_lists f c.loop-h.handlers.items c.push.new.self.items lists h c.loop-h.invariant.count c.in_ok-push-in-None.ensures.items c.loop-h.invariant.each (all_listed _ lists are c.in-None.ensures);

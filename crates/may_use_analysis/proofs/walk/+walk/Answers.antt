@@ -3,11 +3,12 @@ use Rattle.std.specs.Prelude.{IfOk, OnOk}
 use Rattle.symbolic_ops.specs.declared.symbol.Symbol.{Symbol}
 use Rattle.handler_dialogue.specs.declared.tree.CheckedStmt.{CheckedStmt}
 use Rattle.handler_dialogue.specs.Code.{Code, Finish, Loop, IsNumbered, stmt_code, block_code, points}
-use Rattle.handler_check.proofs.Counting.{checked_size, checked_sizes, member_smaller, first_smaller, second_smaller, body_smaller, code_store, code_choose, code_repeat}
+use Rattle.handler_dialogue.proofs.Codes.{code_store, code_choose, code_repeat}
+use Rattle.handler_check.proofs.Counting.{checked_size, checked_sizes, member_smaller, first_smaller, second_smaller, body_smaller}
 use Rattle.may_use_analysis.specs.Flow.{Flow, Head}
 use Rattle.may_use_analysis.specs.Ordered.{Are}
 use Rattle.may_use_analysis.specs.Recorded.{Recorded}
-use Rattle.may_use_analysis.specs.Stored.{Stored}
+use Rattle.may_use_analysis.specs.PointList.{PointList}
 use Rattle.may_use_analysis.specs.Warm.{HeadAt, AreWarm, SameOutside}
 use Rattle.may_use_analysis.proofs.LoopLemmas.{head_start}
 use Rattle.may_use_analysis.proofs.Records.{recorded_same, recorded_stmt, recorded_extends, head_lists, kept_lists}
@@ -122,7 +123,7 @@ before_loop-loop-preserved t c =
     record {
       sound = turn_sound x body after head start turn new is_start c.carry.ensures c.in_ok-join.ensures.union c.loop.invariant.sound;
       start = turn_start x body after head start turn new c.in_ok-join.ensures.union c.loop.invariant.start;
-      kept = (more.0, more.1 ∙ ap (λ (z : List Stored). z ++ more.0) cut);
+      kept = (more.0, more.1 ∙ ap (λ (z : List PointList). z ++ more.0) cut);
       warm = warm_larger heads body (Contains head) (Contains new) (λ s m. (c.in_ok-join.ensures.union s).1 (inl m)) was;
       others = λ low n. outside_trans c.args.heads.now c.loop.heads heads low (low + points body) (c.loop.invariant.others low n) (c.in_ok-turn.ensures.others low n);
     }
@@ -208,7 +209,7 @@ before_stmt-returns-in_ok-join-in-Choose-clause-lists t c =
     let m3 = c.before_block-in-Choose.new.out in
     let in_b' = subst (λ (z : List Symbol). Recorded (block_code c.as_slice-in-Choose.result.now) (Contains z) m1 m2) c.in_ok-copy-in-Choose.ensures c.in_ok-second-in-Choose.ensures.lists in
     let in_b = subst (λ (z : List CheckedStmt). Recorded (block_code z) after m1 m2) c.as_slice-in-Choose.ensures in_b' in
-    let in_a' = subst (λ (z : List Stored). Recorded (block_code c.as_slice-in-Choose-3.result.now) after z m3) k.2 c.in_ok-first-in-Choose.ensures.lists in
+    let in_a' = subst (λ (z : List PointList). Recorded (block_code c.as_slice-in-Choose-3.result.now) after z m3) k.2 c.in_ok-first-in-Choose.ensures.lists in
     let in_a = subst (λ (z : List CheckedStmt). Recorded (block_code z) after (m2 ++ k.0 ∷ []) m3) c.as_slice-in-Choose-3.ensures in_a' in
     let is_second = stored_lent c.as_slice-in-Choose-2.result.now second k.0 (Flow (block_code w.no) after) c.as_slice-in-Choose-2.ensures.symbols k.1 c.as_slice-in-Choose-2.ensures.order is_b in
     let is_first = stored_lent c.as_slice-in-Choose-4.result.now first l.0 (Flow (block_code w.yes) after) c.as_slice-in-Choose-4.ensures.symbols l.1 c.as_slice-in-Choose-4.ensures.order is_a in

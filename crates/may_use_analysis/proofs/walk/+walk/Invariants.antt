@@ -4,7 +4,7 @@ use Rattle.handler_check.proofs.Counting.{checked_size, checked_sizes}
 use Rattle.may_use_analysis.specs.Flow.{Flow, Head}
 use Rattle.may_use_analysis.specs.Ordered.{Are}
 use Rattle.may_use_analysis.specs.Recorded.{Recorded}
-use Rattle.may_use_analysis.specs.Stored.{Stored}
+use Rattle.may_use_analysis.specs.PointList.{PointList}
 use Rattle.may_use_analysis.specs.Warm.{AreWarm, SameOutside}
 use Rattle.may_use_analysis.proofs.FlowLemmas.{Within}
 use Rattle.may_use_analysis.proofs.walk.+walk.Given as goal
@@ -30,7 +30,7 @@ abbrev pub invariant-before_loop-loop : goal.invariant-before_loop-loop
 invariant-before_loop-loop l = record {
   sound : Within (Contains l.head) (Head l.var (block_code l.body) (Contains l.fn.after));
   start : Within (Contains l.fn.after) (Contains l.head);
-  kept : (more : List Stored) × (l.out ≡ l.fn.out ++ more);
+  kept : (more : List PointList) × (l.out ≡ l.fn.out ++ more);
   warm : AreWarm l.heads (block_code l.body) (Contains l.head);
   others : (low : ℕ) → IsNumbered (block_code l.body) low → SameOutside l.fn.heads l.heads low (low + points (block_code l.body));
 }

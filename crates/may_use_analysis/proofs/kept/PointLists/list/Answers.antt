@@ -5,7 +5,7 @@ use Rattle.std.proofs.lemmas.List.{length-map}
 use Rattle.std.proofs.lemmas.Option.{slice_get-get_or}
 use Rattle.may_use_analysis.specs.declared.kept.Kept.{Kept}
 use Rattle.may_use_analysis.specs.declared.kept.Kept.TheVariants.{Count}
-use Rattle.may_use_analysis.specs.Stored.{Stored, Counted, list_in, stored_by}
+use Rattle.may_use_analysis.specs.PointList.{PointList, Counted, list_in, point_list_of}
 use Rattle.may_use_analysis.proofs.kept.PointLists.list.Goals as goal
 
 pub returns : goal.returns
@@ -13,10 +13,10 @@ returns c =
     let entries = c.self.inside.entries.items in
     let i = c.args.i in
     let e = get_or entries i (Count 0) in
-    let long : length c.args.self.now ≡ length entries = sym (ap length c.self.view_is) ∙ length-map entries (stored_by entries) in
+    let long : length c.args.self.now ≡ length entries = sym (ap length c.self.view_is) ∙ length-map entries (point_list_of entries) in
     let within : i < length entries = omega arith in
     let some : slice_get c.as_slice.result.now i ≡ Some e = ap (λ (z : List Kept). slice_get z i) c.as_slice.ensures.value ∙ slice_get-get_or entries i (Count 0) within in
     c.kept_list.ensures e some
-    ∙ ap (λ (z : List Kept). list_in (stored_by z e)) c.as_slice.ensures.value
-    ∙ ap list_in (sym (get_or-map (stored_by entries) entries i (Count 0)))
-    ∙ ap (λ (z : List Stored). list_in (get_or z i (Counted 0))) c.self.view_is
+    ∙ ap (λ (z : List Kept). list_in (point_list_of z e)) c.as_slice.ensures.value
+    ∙ ap list_in (sym (get_or-map (point_list_of entries) entries i (Count 0)))
+    ∙ ap (λ (z : List PointList). list_in (get_or z i (Counted 0))) c.self.view_is

@@ -3,7 +3,7 @@ use Rattle.std.proofs.Math.ListN.{get_or-map}
 use Rattle.std.proofs.lemmas.List.{get_or_read, length-map, length-reverse}
 use Rattle.symbolic_ops.specs.declared.symbol.Symbol.{Symbol}
 use Rattle.may_use_analysis.specs.Numbered.{by_number}
-use Rattle.may_use_analysis.specs.Stored.{Counted, list_in}
+use Rattle.may_use_analysis.specs.PointList.{Counted, list_in}
 use Rattle.may_use_analysis.proofs.TopLemmas.{number_at}
 use Rattle.may_use_analysis.proofs.later.Later.list.Goals as goal
 

@@ -1,0 +1,9 @@
+//! Tests of the board of turns. They stand above it, so that it is proved once.
+#![tactic(auto)]
+
+#[cfg(test)]
+mod callers;
+#[cfg(test)]
+mod rows;
+#[cfg(test)]
+mod turns;

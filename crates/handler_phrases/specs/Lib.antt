@@ -1,0 +1,10 @@
+pub mod Sorts
+pub mod Refusal
+pub mod Phrase
+pub mod Tree
+pub mod Bounds
+pub mod Marked
+pub mod Next
+pub mod FirstFault
+pub mod Limits
+pub mod Parsed
