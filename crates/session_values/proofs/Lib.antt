@@ -1,3 +1,4 @@
+pub mod Bumps
 pub mod Named
 pub mod NamesLemmas
 pub mod Sizes

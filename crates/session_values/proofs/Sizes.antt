@@ -6,13 +6,14 @@ use Rattle.std.proofs.lemmas.Bool.Decides.{nat_tests}
 use Rattle.std.specs.FinMap as map
 use Rattle.std.specs.FinSet as set
 use Rattle.session_values.specs.declared.kind.Kind.{Kind}
-use Rattle.session_values.specs.declared.kind.Kind.TheVariants.{Get, Put, Swap, Del, Size, Has, Add, Mark, Drop, Count}
+use Rattle.session_values.specs.declared.kind.Kind.TheVariants.{Get, Put, Swap, Del, Size, Bump, Has, Add, Mark, Drop, Count}
 use Rattle.session_values.specs.declared.kind.TableKind.TheVariants.{Map}
 use Rattle.session_values.specs.declared.op.Op.{Op}
 use Rattle.session_values.specs.declared.value.Value.{Value}
 use Rattle.session_values.specs.Kinds.{is_adding}
 use Rattle.session_values.specs.Values.{value_cmp, value_cmp_total}
-use Rattle.session_values.specs.Tables.{Tables, Container, Bindings, Members, empty_of, table, step, map_after, set_after, after_on, size_of}
+use Rattle.session_values.specs.Tables.{Tables, Container, Bindings, Members, empty_of, table, step, bumped, map_after, set_after, after_on, size_of}
+use Rattle.session_values.proofs.Bumps.{bound_few}
 
 abbrev pub one_if : Bool → ℕ
 one_if b = cond b 1 0
@@ -51,6 +52,7 @@ map_few m Put k v = insert_few m k v
 map_few m Swap k v = insert_few m k v
 map_few m Del k v = omega (arith, remove_few m k)
 map_few m Size k v = omega arith
+map_few m Bump k v = bound_few m k (bumped v (map.get m k))
 map_few m Has k v = omega arith
 map_few m Add k v = omega arith
 map_few m Mark k v = omega arith
@@ -63,6 +65,7 @@ set_few s Put k = omega arith
 set_few s Swap k = omega arith
 set_few s Del k = omega arith
 set_few s Size k = omega arith
+set_few s Bump k = omega arith
 set_few s Has k = omega arith
 set_few s Add k = join_few s k
 set_few s Mark k = join_few s k

@@ -1,9 +1,9 @@
--- What a kind of operation is. Each question has a line for each of the ten kinds, so that another kind has to answer all of them.
+-- What a kind of operation is. Each question has a line for each of the eleven kinds, so that another kind has to answer all of them.
 use Rattle.std.specs.Prelude.{ℕ, List, Bool, true, false, not, ◌==◌, codes}
 use Rattle.std.specs.Ordering.{nat_cmp}
 use Rattle.std.specs.declared.cmp.Ordering.{Ordering}
 use Rattle.session_values.specs.declared.kind.Kind.{Kind}
-use Rattle.session_values.specs.declared.kind.Kind.TheVariants.{Get, Put, Swap, Del, Size, Has, Add, Mark, Drop, Count}
+use Rattle.session_values.specs.declared.kind.Kind.TheVariants.{Get, Put, Swap, Del, Size, Bump, Has, Add, Mark, Drop, Count}
 use Rattle.session_values.specs.declared.kind.TableKind.{TableKind}
 use Rattle.session_values.specs.declared.kind.TableKind.TheVariants.{Map, Set}
 
@@ -14,6 +14,7 @@ word_of Put = codes "put"
 word_of Swap = codes "swap"
 word_of Del = codes "del"
 word_of Size = codes "size"
+word_of Bump = codes "bump"
 word_of Has = codes "has"
 word_of Add = codes "add"
 word_of Mark = codes "mark"
@@ -27,11 +28,12 @@ kind_place Put = 1
 kind_place Swap = 2
 kind_place Del = 3
 kind_place Size = 4
-kind_place Has = 5
-kind_place Add = 6
-kind_place Mark = 7
-kind_place Drop = 8
-kind_place Count = 9
+kind_place Bump = 5
+kind_place Has = 6
+kind_place Add = 7
+kind_place Mark = 8
+kind_place Drop = 9
+kind_place Count = 10
 
 -- kinds in the order of their places
 abbrev pub kind_cmp : Kind → Kind → Ordering
@@ -44,6 +46,7 @@ home Put = Map
 home Swap = Map
 home Del = Map
 home Size = Map
+home Bump = Map
 home Has = Set
 home Add = Set
 home Mark = Set
@@ -57,6 +60,7 @@ arguments Put = 2
 arguments Swap = 2
 arguments Del = 1
 arguments Size = 0
+arguments Bump = 2
 arguments Has = 1
 arguments Add = 1
 arguments Mark = 1
@@ -70,6 +74,7 @@ is_read Put = false
 is_read Swap = false
 is_read Del = false
 is_read Size = true
+is_read Bump = false
 is_read Has = true
 is_read Add = false
 is_read Mark = false
@@ -83,6 +88,7 @@ is_adding Put = true
 is_adding Swap = true
 is_adding Del = false
 is_adding Size = false
+is_adding Bump = true
 is_adding Has = false
 is_adding Add = true
 is_adding Mark = true
@@ -96,6 +102,7 @@ is_plain Put = true
 is_plain Swap = false
 is_plain Del = true
 is_plain Size = false
+is_plain Bump = false
 is_plain Has = false
 is_plain Add = false
 is_plain Mark = true

@@ -1,14 +1,15 @@
 -- Tables, and what one operation does to them.
-use Rattle.std.specs.Prelude.{◌≡◌, ℕ, pos, ◌<◌, List, [], ◌∷◌, Bool, true, Some, slice_get, slice_index_or, slice_set, if◌then◌else◌}
+use Rattle.std.specs.Prelude.{◌≡◌, ℕ, ℤ, pos, ◌<◌, ◌+ℤ◌, List, [], ◌∷◌, Bool, true, Option, Some, None, slice_get, slice_index_or, slice_set, if◌then◌else◌}
 use Rattle.std.specs.Option.{unwrap_or}
+use Rattle.std.specs.Int.{int_wrap, w64}
 use Rattle.std.specs.FinMap as map
 use Rattle.std.specs.FinSet as set
 use Rattle.session_values.specs.declared.value.Value.{Value}
-use Rattle.session_values.specs.declared.value.Value.TheVariants.{Nil, Num}
+use Rattle.session_values.specs.declared.value.Value.TheVariants.{Nil, Num, Sym}
 use Rattle.session_values.specs.declared.kind.TableKind.{TableKind}
 use Rattle.session_values.specs.declared.kind.TableKind.TheVariants.{Map, Set}
 use Rattle.session_values.specs.declared.kind.Kind.{Kind}
-use Rattle.session_values.specs.declared.kind.Kind.TheVariants.{Get, Put, Swap, Del, Size, Has, Add, Mark, Drop, Count}
+use Rattle.session_values.specs.declared.kind.Kind.TheVariants.{Get, Put, Swap, Del, Size, Bump, Has, Add, Mark, Drop, Count}
 use Rattle.session_values.specs.declared.op.Op.{Op}
 use Rattle.session_values.specs.Kinds.{arguments, home}
 use Rattle.session_values.specs.Values.{value_cmp, IsValue}
@@ -36,6 +37,25 @@ start (kind ∷ shape) = empty_of kind ∷ start shape
 abbrev pub bit : Bool → Value
 bit b = if b then Num (pos 1) else Num (pos 0)
 
+-- the sum modulo 2^64, in the range of i64
+abbrev pub sum_in_range : ℤ → ℤ → ℤ
+sum_in_range n d = int_wrap w64 (n +ℤ d)
+
+-- what a key is bound to after a bump: by what isn't a number nothing changes. By a number it is that number where the key was unbound, the sum where it was bound to a number, and else what it was
+abbrev pub bumped : Value → Option Value → Option Value
+bumped Nil o = o
+bumped (Sym p) o = o
+bumped (Num d) None = Some (Num d)
+bumped (Num d) (Some Nil) = Some Nil
+bumped (Num d) (Some (Num n)) = Some (Num (sum_in_range n d))
+bumped (Num d) (Some (Sym p)) = Some (Sym p)
+
+-- a map in which the key is bound to this, or unbound
+abbrev pub bound_to : map.FinMap value_cmp Value → Value → Option Value
+    → map.FinMap value_cmp Value
+bound_to m k (Some v) = map.insert m k v
+bound_to m k None = map.remove m k
+
 -- the reply of an operation on a map, which is nil for those on sets
 abbrev pub map_reply : map.FinMap value_cmp Value → Kind → Value → Value
 map_reply m Get k = unwrap_or (map.get m k) Nil
@@ -43,6 +63,7 @@ map_reply m Put k = Nil
 map_reply m Swap k = unwrap_or (map.get m k) Nil
 map_reply m Del k = Nil
 map_reply m Size k = Num (pos (map.len m))
+map_reply m Bump k = Nil
 map_reply m Has k = Nil
 map_reply m Add k = Nil
 map_reply m Mark k = Nil
@@ -57,6 +78,7 @@ map_after m Put k v = map.insert m k v
 map_after m Swap k v = map.insert m k v
 map_after m Del k v = map.remove m k
 map_after m Size k v = m
+map_after m Bump k v = bound_to m k (bumped v (map.get m k))
 map_after m Has k v = m
 map_after m Add k v = m
 map_after m Mark k v = m
@@ -70,6 +92,7 @@ set_reply s Put k = Nil
 set_reply s Swap k = Nil
 set_reply s Del k = Nil
 set_reply s Size k = Nil
+set_reply s Bump k = Nil
 set_reply s Has k = bit (set.contains s k)
 set_reply s Add k = if set.contains s k then Num (pos 0) else Num (pos 1)
 set_reply s Mark k = Nil
@@ -83,6 +106,7 @@ set_after s Put k = s
 set_after s Swap k = s
 set_after s Del k = s
 set_after s Size k = s
+set_after s Bump k = s
 set_after s Has k = s
 set_after s Add k = set.insert s k
 set_after s Mark k = set.insert s k

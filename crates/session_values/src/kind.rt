@@ -12,7 +12,7 @@ pub enum TableKind {
     Set,
 }
 
-/// What an operation does: the first five work on maps, the last five on sets.
+/// What an operation does: the first six work on maps, the last five on sets.
 #[derive(Clone, Copy, Debug, PartialEq, Eq, PartialOrd, Ord)]
 pub enum Kind {
     /// The value of a key, or nil.
@@ -25,6 +25,8 @@ pub enum Kind {
     Del,
     /// The number of bound keys.
     Size,
+    /// Adds a number to what a key is bound to; nil.
+    Bump,
     /// 1 where the key is a member, else 0.
     Has,
     /// Makes the key a member; 1 where it was none, else 0.
@@ -48,6 +50,7 @@ impl Kind {
             Kind::Swap => "swap",
             Kind::Del => "del",
             Kind::Size => "size",
+            Kind::Bump => "bump",
             Kind::Has => "has",
             Kind::Add => "add",
             Kind::Mark => "mark",
@@ -61,7 +64,7 @@ impl Kind {
         ensures { result ≡ arguments self }
     {
         match self {
-            Kind::Put | Kind::Swap => 2,
+            Kind::Put | Kind::Swap | Kind::Bump => 2,
             Kind::Get | Kind::Del | Kind::Has | Kind::Add | Kind::Mark | Kind::Drop => 1,
             Kind::Size | Kind::Count => 0,
         }
@@ -73,7 +76,7 @@ impl Kind {
         ensures { Decides result (home self ≡ Map) }
     {
         match self {
-            Kind::Get | Kind::Put | Kind::Swap | Kind::Del | Kind::Size => true,
+            Kind::Get | Kind::Put | Kind::Swap | Kind::Del | Kind::Size | Kind::Bump => true,
             Kind::Has | Kind::Add | Kind::Mark | Kind::Drop | Kind::Count => false,
         }
     }
@@ -84,7 +87,7 @@ impl Kind {
         ensures { result ≡ is_keyed self }
     {
         match self {
-            Kind::Get | Kind::Put | Kind::Swap | Kind::Del => true,
+            Kind::Get | Kind::Put | Kind::Swap | Kind::Del | Kind::Bump => true,
             Kind::Has | Kind::Add | Kind::Mark | Kind::Drop => true,
             Kind::Size | Kind::Count => false,
         }
@@ -97,7 +100,7 @@ impl Kind {
     {
         match self {
             Kind::Get | Kind::Size | Kind::Has | Kind::Count => true,
-            Kind::Put | Kind::Swap | Kind::Del => false,
+            Kind::Put | Kind::Swap | Kind::Del | Kind::Bump => false,
             Kind::Add | Kind::Mark | Kind::Drop => false,
         }
     }
@@ -107,7 +110,7 @@ impl Kind {
         ensures { result ≡ is_adding self }
     {
         match self {
-            Kind::Put | Kind::Swap | Kind::Add | Kind::Mark => true,
+            Kind::Put | Kind::Swap | Kind::Bump | Kind::Add | Kind::Mark => true,
             Kind::Get | Kind::Del | Kind::Size => false,
             Kind::Has | Kind::Drop | Kind::Count => false,
         }
@@ -121,7 +124,7 @@ impl Kind {
     {
         match self {
             Kind::Put | Kind::Del | Kind::Mark | Kind::Drop => true,
-            Kind::Get | Kind::Swap | Kind::Size => false,
+            Kind::Get | Kind::Swap | Kind::Size | Kind::Bump => false,
             Kind::Has | Kind::Add | Kind::Count => false,
         }
     }

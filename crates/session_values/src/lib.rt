@@ -2,6 +2,7 @@
 //! definitions that every layer above speaks of.
 #![tactic(auto)]
 
+mod bump;
 mod kind;
 pub mod laws;
 mod names;
@@ -10,6 +11,7 @@ mod reply;
 mod seeded;
 mod value;
 
+pub use bump::bumped;
 pub use kind::{Kind, TableKind};
 pub use names::Names;
 pub use op::Op;
