@@ -3,9 +3,9 @@
 ghost use Rattle.std.specs.Prelude.{◌≡◌, IfOk, OnOk, OnErr, IsOk, false, pos, unwrap_or};
 ghost use Rattle.std.specs.FinMap as map;
 ghost use Rattle.session_values.specs.Kinds.{is_adding};
-ghost use Rattle.session_values.specs.Tables.{map_reply, map_after};
+ghost use Rattle.session_values.specs.Tables.{bound_to, bumped, map_reply, map_after};
 
-use session_values::{Kind, NoMemory, Op, Value};
+use session_values::{Kind, NoMemory, Op, Value, bumped};
 use std::alloc::Global;
 use std::collections::BTreeMap;
 use std::marker::Model;
@@ -36,11 +36,31 @@ impl ValueMap {
         }
     }
 
+    /// What a key is bound to.
+    fn value_of(&self, key: Value) -> Option<Value>
+        ensures { result ≡ map.get self.now key }
+    {
+        self.bound.get(&key).copied()
+    }
+
     /// The value of a key, or nil.
     pub fn get(&self, key: Value) -> Value
         ensures { result ≡ unwrap_or (map.get self.now key) Value.Nil }
     {
-        self.bound.get(&key).copied().unwrap_or(Value::Nil)
+        self.value_of(key).unwrap_or(Value::Nil)
+    }
+
+    /// Adds a number to what a key is bound to.
+    #[tactic(auto, using(session_values::proofs::Bumps::bumped_nothing))]
+    pub fn bump(&mut self, key: Value, by: Value) -> Result<(), NoMemory>
+        ensures after { OnOk result (self.new
+            ≡ bound_to self.old key (bumped by (map.get self.old key))) }
+        ensures err { OnErr result (self.new ≡ self.old) }
+    {
+        if let Some(value) = bumped(by, self.value_of(key)) {
+            self.swap(key, value)?;
+        }
+        Ok(())
     }
 
     /// Binds a key, and answers what it was bound to before, or nil.
@@ -86,6 +106,10 @@ impl ValueMap {
                 Ok(Value::Nil)
             }
             Kind::Size => Ok(Value::Num(self.size())),
+            Kind::Bump => {
+                self.bump(op.key, op.value)?;
+                Ok(Value::Nil)
+            }
             Kind::Has | Kind::Add | Kind::Mark | Kind::Drop | Kind::Count => Ok(Value::Nil),
         }
     }

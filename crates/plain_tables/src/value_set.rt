@@ -85,7 +85,8 @@ impl ValueSet {
                 Ok(Value::Nil)
             }
             Kind::Count => Ok(Value::Num(self.count())),
-            Kind::Get | Kind::Put | Kind::Swap | Kind::Del | Kind::Size => Ok(Value::Nil),
+            Kind::Get | Kind::Put | Kind::Swap => Ok(Value::Nil),
+            Kind::Del | Kind::Size | Kind::Bump => Ok(Value::Nil),
         }
     }
 }
