@@ -8,7 +8,7 @@ use Rattle.std.proofs.lemmas.Cmp.{nat_cmp_total, on_total, then_total}
 use Rattle.std.specs.FinMap.{IsAntisymmetric, nat_cmp-IsAntisymmetric}
 use Rattle.session_values.specs.Kinds.{kind_cmp, kind_place}
 use Rattle.session_values.specs.declared.kind.Kind.{Kind}
-use Rattle.session_values.specs.declared.kind.Kind.TheVariants.{Get, Put, Swap, Del, Size, Has, Add, Mark, Drop, Count}
+use Rattle.session_values.specs.declared.kind.Kind.TheVariants.{Get, Put, Swap, Del, Size, Bump, Has, Add, Mark, Drop, Count}
 use Rattle.session_values.specs.Values.{value_cmp_total, value_cmp-IsAntisymmetric}
 use Rattle.symbolic_ops.specs.Order.{arg_cmp, symbol_cmp}
 use Rattle.symbolic_ops.specs.declared.arg.Arg.{Arg}
@@ -89,10 +89,11 @@ kind_at (suc zero) = Put
 kind_at (suc (suc zero)) = Swap
 kind_at (suc (suc (suc zero))) = Del
 kind_at (suc (suc (suc (suc zero)))) = Size
-kind_at (suc (suc (suc (suc (suc zero))))) = Has
-kind_at (suc (suc (suc (suc (suc (suc zero)))))) = Add
-kind_at (suc (suc (suc (suc (suc (suc (suc zero))))))) = Mark
-kind_at (suc (suc (suc (suc (suc (suc (suc (suc zero)))))))) = Drop
+kind_at (suc (suc (suc (suc (suc zero))))) = Bump
+kind_at (suc (suc (suc (suc (suc (suc zero)))))) = Has
+kind_at (suc (suc (suc (suc (suc (suc (suc zero))))))) = Add
+kind_at (suc (suc (suc (suc (suc (suc (suc (suc zero)))))))) = Mark
+kind_at (suc (suc (suc (suc (suc (suc (suc (suc (suc zero))))))))) = Drop
 kind_at _ = Count
 
 kind_at_place : (k : Kind) → kind_at (kind_place k) ≡ k
@@ -102,6 +103,7 @@ kind_at_place Put = refl
 kind_at_place Swap = refl
 kind_at_place Del = refl
 kind_at_place Size = refl
+kind_at_place Bump = refl
 kind_at_place Has = refl
 kind_at_place Add = refl
 kind_at_place Mark = refl
