@@ -6,6 +6,8 @@ use Rattle.std.specs.FinMap as map
 use Rattle.std.specs.FinSet as set
 use Rattle.session_values.specs.declared.value.Value.{Value}
 use Rattle.session_values.specs.Values.{value_cmp, value_eq, value_cmp_total, value_cmp-IsAntisymmetric}
+use Rattle.session_values.specs.Tables.{bound_to, bumped}
+use Rattle.session_values.proofs.Bumps.{get-bound_to}
 
 -- a value is the same as itself, and as no other
 pub same_value : (v w : Value) → value_eq v w ≡ true → v ≡ w
@@ -42,21 +44,39 @@ module _ (M V E : Type 0) (get : M → Value → V) (act : E → Value → M →
       cases q false true x y = refl
       cases q false false x y = refl
 
+  -- changes whose order doesn't matter to what is at a key give the same in both orders
+  pub act_any : (e f : E) (k j : Value) (m : M) → ((v : V) → put f (put e v) ≡ put e (put f v)) → act f j (act e k m) ≡ act e k (act f j m)
+  act_any e f k j m h = same (act f j (act e k m)) (act e k (act f j m)) (λ q.
+      get-act f j (act e k m) q
+      ∙ ap (λ (v : V). cond (value_eq q j) (put f v) v) (get-act e k m q)
+      ∙ cases q (value_eq q k) (value_eq q j)
+      ∙ sym (ap (λ (v : V). cond (value_eq q k) (put e v) v) (get-act f j m q))
+      ∙ sym (get-act e k (act f j m) q))
+    where
+      cases : (q : Value) (b c : Bool) → cond c (put f (cond b (put e (get m q)) (get m q))) (cond b (put e (get m q)) (get m q)) ≡ cond b (put e (cond c (put f (get m q)) (get m q))) (cond c (put f (get m q)) (get m q))
+      cases q true true = h (get m q)
+      cases q true false = refl
+      cases q false true = refl
+      cases q false false = refl
+
 -- ---- of maps
 pub data MapAct : Type 0 where
   Keep : MapAct
   Bind : Value → MapAct
   Unbind : MapAct
+  Sum : Value → MapAct
 
 abbrev pub act_on_map : MapAct → Value → map.FinMap value_cmp Value → map.FinMap value_cmp Value
 act_on_map Keep k m = m
 act_on_map (Bind v) k m = map.insert m k v
 act_on_map Unbind k m = map.remove m k
+act_on_map (Sum v) k m = bound_to m k (bumped v (map.get m k))
 
 abbrev pub bound_by : MapAct → Option Value → Option Value
 bound_by Keep o = o
 bound_by (Bind v) o = Some v
 bound_by Unbind o = None
+bound_by (Sum v) o = bumped v o
 
 same_both : {A : Type 0} (b : Bool) (x : A) → x ≡ cond b x x
 same_both true x = refl
@@ -66,6 +86,11 @@ pub get-act_on_map : (e : MapAct) (k : Value) (m : map.FinMap value_cmp Value) (
 get-act_on_map Keep k m q = same_both (value_eq q k) (map.get m q)
 get-act_on_map (Bind v) k m q = map.get-insert value_cmp_total m k v q
 get-act_on_map Unbind k m q = map.get-remove value_cmp_total m k q
+get-act_on_map (Sum v) k m q = get-bound_to m k (bumped v (map.get m k)) q ∙ go (value_eq q k) refl
+  where
+    go : (b : Bool) → value_eq q k ≡ b → cond b (bumped v (map.get m k)) (map.get m q) ≡ cond b (bumped v (map.get m q)) (map.get m q)
+    go true e = ap (λ (x : Value). bumped v (map.get m x)) (sym (same_value q k e))
+    go false e = refl
 
 pub same_map : (m n : map.FinMap value_cmp Value) → ((q : Value) → map.get m q ≡ map.get n q) → m ≡ n
 same_map = map.same_map value_cmp_total value_cmp-IsAntisymmetric

@@ -1,20 +1,23 @@
 -- Which operations commute.
-use Rattle.std.proofs.Common.{◌≡◌, ℕ, pos, zero, suc, ◌≢◌, ◌⊎◌, inl, inr, Option, Bool, true, false, cond, not, ◌&&◌, ◌||◌, eqb, refl, sym, ◌∙◌, ap, arith}
+use Rattle.std.proofs.Common.{◌≡◌, ℕ, ℤ, pos, zero, suc, ◌+ℤ◌, ◌≢◌, ◌⊎◌, inl, inr, Option, Some, None, Bool, true, false, cond, not, ◌&&◌, ◌||◌, eqb, refl, sym, ◌∙◌, ap, subst, arith}
+use Rattle.std.specs.Int.{int_wrap, w64}
+use Rattle.std.proofs.lemmas.Int.{ints, int_wrap-add_left, int_wrap_fits}
 use Rattle.std.specs.Option.{unwrap_or}
 use Rattle.std.proofs.lemmas.Bool.Decides.{nat_tests}
 use Rattle.std.specs.FinMap as map
 use Rattle.std.specs.FinSet as set
 use Rattle.session_values.specs.declared.kind.Kind.{Kind}
-use Rattle.session_values.specs.declared.kind.Kind.TheVariants.{Get, Put, Swap, Del, Size, Has, Add, Mark, Drop, Count}
+use Rattle.session_values.specs.declared.kind.Kind.TheVariants.{Get, Put, Swap, Del, Size, Bump, Has, Add, Mark, Drop, Count}
 use Rattle.session_values.specs.declared.op.Op.{Op}
 use Rattle.session_values.specs.declared.value.Value.{Value}
-use Rattle.session_values.specs.declared.value.Value.TheVariants.{Nil, Num}
-use Rattle.session_values.specs.Values.{value_cmp, value_eq}
-use Rattle.session_values.specs.Tables.{Container, Bindings, Members, map_reply, map_after, set_reply, set_after, reply_on, after_on, bit}
+use Rattle.session_values.specs.declared.value.Value.TheVariants.{Nil, Num, Sym}
+use Rattle.session_values.specs.Values.{value_cmp, value_eq, IsValue}
+use Rattle.session_values.specs.Tables.{Container, Bindings, Members, bumped, sum_in_range, map_reply, map_after, set_reply, set_after, reply_on, after_on, bit}
 use Rattle.session_values.specs.Commuting.{Commute}
 use Rattle.session_values.specs.Kinds.{is_keyed, is_plain, kind_place, is_on_map, is_read}
-use Rattle.commute_tables.specs.Relation.{same_bool, commutes}
-use Rattle.commute_tables.proofs.Apart.{same_value, not_same, get_apart, act_apart, MapAct, Keep, Bind, Unbind, act_on_map, bound_by, get-act_on_map, same_map, SetAct, Stay, Join, Leave, act_on_set, member_by, contains-act_on_set, same_set}
+use Rattle.session_values.proofs.Bumps.{bound_to-same, fits_number}
+use Rattle.commute_tables.specs.Relation.{same_bool, commutes, is_put, is_bump, is_number, is_zero, sums}
+use Rattle.commute_tables.proofs.Apart.{same_value, not_same, get_apart, act_apart, act_any, MapAct, Keep, Bind, Unbind, Sum, act_on_map, bound_by, get-act_on_map, same_map, SetAct, Stay, Join, Leave, act_on_set, member_by, contains-act_on_set, same_set}
 use Rattle.commute_tables.proofs.OneTable.{SwapsOn, commute_on, commute_apart}
 
 -- ---- what each kind does to a map
@@ -22,6 +25,7 @@ abbrev pub map_act : Kind → Value → MapAct
 map_act Put v = Bind v
 map_act Swap v = Bind v
 map_act Del v = Unbind
+map_act Bump v = Sum v
 map_act _ v = Keep
 
 pub map_after_is : (m : map.FinMap value_cmp Value) (kind : Kind) (k v : Value) → map_after m kind k v ≡ act_on_map (map_act kind v) k m
@@ -30,6 +34,7 @@ map_after_is m Put k v = refl
 map_after_is m Swap k v = refl
 map_after_is m Del k v = refl
 map_after_is m Size k v = refl
+map_after_is m Bump k v = refl
 map_after_is m Has k v = refl
 map_after_is m Add k v = refl
 map_after_is m Mark k v = refl
@@ -47,6 +52,7 @@ map_reply_is m Put k h = refl
 map_reply_is m Swap k h = refl
 map_reply_is m Del k h = refl
 map_reply_is m Size k h = cc
+map_reply_is m Bump k h = refl
 map_reply_is m Has k h = refl
 map_reply_is m Add k h = refl
 map_reply_is m Mark k h = refl
@@ -65,6 +71,7 @@ set_after_is s Put k = refl
 set_after_is s Swap k = refl
 set_after_is s Del k = refl
 set_after_is s Size k = refl
+set_after_is s Bump k = refl
 set_after_is s Has k = refl
 set_after_is s Add k = refl
 set_after_is s Mark k = refl
@@ -82,6 +89,7 @@ set_reply_is s Put k h = refl
 set_reply_is s Swap k h = refl
 set_reply_is s Del k h = refl
 set_reply_is s Size k h = refl
+set_reply_is s Bump k h = refl
 set_reply_is s Has k h = refl
 set_reply_is s Add k h = refl
 set_reply_is s Mark k h = refl
@@ -142,6 +150,7 @@ read_leaves (Bindings m) op h = ap (λ (n : map.FinMap value_cmp Value). Binding
     go Swap h = cc
     go Del h = cc
     go Size h = refl
+    go Bump h = cc
     go Has h = refl
     go Add h = refl
     go Mark h = refl
@@ -155,6 +164,7 @@ read_leaves (Members s) op h = ap (λ (n : set.FinSet value_cmp). Members n) (go
     go Swap h = refl
     go Del h = refl
     go Size h = refl
+    go Bump h = refl
     go Has h = refl
     go Add h = cc
     go Mark h = cc
@@ -169,6 +179,7 @@ silent_on_map m Put k v h = cc
 silent_on_map m Swap k v h = cc
 silent_on_map m Del k v h = cc
 silent_on_map m Size k v h = cc
+silent_on_map m Bump k v h = cc
 silent_on_map m Has k v h = (refl, refl)
 silent_on_map m Add k v h = (refl, refl)
 silent_on_map m Mark k v h = (refl, refl)
@@ -181,6 +192,7 @@ silent_on_set s Put k h = (refl, refl)
 silent_on_set s Swap k h = (refl, refl)
 silent_on_set s Del k h = (refl, refl)
 silent_on_set s Size k h = (refl, refl)
+silent_on_set s Bump k h = (refl, refl)
 silent_on_set s Has k h = cc
 silent_on_set s Add k h = cc
 silent_on_set s Mark k h = cc
@@ -216,6 +228,7 @@ plain_reply (Bindings m) op h = go op.kind h
     go Swap h = cc
     go Del h = refl
     go Size h = cc
+    go Bump h = refl
     go Has h = refl
     go Add h = refl
     go Mark h = refl
@@ -229,6 +242,7 @@ plain_reply (Members s) op h = go op.kind h
     go Swap h = refl
     go Del h = refl
     go Size h = refl
+    go Bump h = refl
     go Has h = cc
     go Add h = cc
     go Mark h = refl
@@ -242,11 +256,12 @@ kind_at (suc zero) = Put
 kind_at (suc (suc zero)) = Swap
 kind_at (suc (suc (suc zero))) = Del
 kind_at (suc (suc (suc (suc zero)))) = Size
-kind_at (suc (suc (suc (suc (suc zero))))) = Has
-kind_at (suc (suc (suc (suc (suc (suc zero)))))) = Add
-kind_at (suc (suc (suc (suc (suc (suc (suc zero))))))) = Mark
-kind_at (suc (suc (suc (suc (suc (suc (suc (suc zero)))))))) = Drop
-kind_at (suc (suc (suc (suc (suc (suc (suc (suc (suc n))))))))) = Count
+kind_at (suc (suc (suc (suc (suc zero))))) = Bump
+kind_at (suc (suc (suc (suc (suc (suc zero)))))) = Has
+kind_at (suc (suc (suc (suc (suc (suc (suc zero))))))) = Add
+kind_at (suc (suc (suc (suc (suc (suc (suc (suc zero)))))))) = Mark
+kind_at (suc (suc (suc (suc (suc (suc (suc (suc (suc zero))))))))) = Drop
+kind_at (suc (suc (suc (suc (suc (suc (suc (suc (suc (suc n)))))))))) = Count
 
 kind_at-place : (kind : Kind) → kind_at (kind_place kind) ≡ kind
 unfolding kind_at
@@ -255,6 +270,7 @@ kind_at-place Put = refl
 kind_at-place Swap = refl
 kind_at-place Del = refl
 kind_at-place Size = refl
+kind_at-place Bump = refl
 kind_at-place Has = refl
 kind_at-place Add = refl
 kind_at-place Mark = refl
@@ -277,6 +293,7 @@ same_change (Bindings m) a b e k p v =
     go Swap h v = cc
     go Del h v = refl
     go Size h v = refl
+    go Bump h v = cc
     go Has h v = refl
     go Add h v = refl
     go Mark h v = refl
@@ -292,6 +309,98 @@ one_change c a b e k p v =
       first = plain_reply c a p ∙ sym (plain_reply (after_on c b) a p);
       second = plain_reply (after_on c a) b q ∙ sym (plain_reply c b q);
     }
+
+-- ---- bumps
+bump_kind : (kind : Kind) → is_bump kind ≡ true → kind ≡ Bump
+bump_kind kind h = same_kind kind Bump h
+
+put_kind : (kind : Kind) → is_put kind ≡ true → kind ≡ Put
+put_kind kind h = same_kind kind Put h
+
+bump_reply : (c : Container) (op : Op) → is_bump op.kind ≡ true → reply_on c op ≡ Nil
+bump_reply (Bindings m) op h = ap (λ (x : Kind). map_reply m x op.key) (bump_kind op.kind h)
+bump_reply (Members s) op h = ap (λ (x : Kind). set_reply s x op.key) (bump_kind op.kind h)
+
+-- a bump by no number leaves a container as it is
+idle_leaves : (c : Container) (op : Op) → is_bump op.kind ≡ true → is_number op.value ≡ false → after_on c op ≡ c
+idle_leaves (Bindings m) op h n = ap (λ (x : map.FinMap value_cmp Value). Bindings x) (ap (λ (x : Kind). map_after m x op.key op.value) (bump_kind op.kind h) ∙ go op.value n)
+  where
+    go : (v : Value) → is_number v ≡ false → map_after m Bump op.key v ≡ m
+    go Nil n = bound_to-same m op.key
+    go (Num d) n = cc
+    go (Sym p) n = bound_to-same m op.key
+idle_leaves (Members s) op h n = ap (λ (x : set.FinSet value_cmp). Members x) (ap (λ (x : Kind). set_after s x op.key) (bump_kind op.kind h))
+
+idle_swaps : (c : Container) (a b : Op) → is_bump b.kind ≡ true → is_number b.value ≡ false → SwapsOn c a b
+idle_swaps c a b h n = beside_silent c a b (idle_leaves c b h n) (idle_leaves (after_on c a) b h n) (bump_reply (after_on c a) b h) (bump_reply c b h)
+
+-- changes of a map whose order doesn't matter to what is at a key, and whose replies are nil
+pair_swaps : (c : Container) (a b : Op) → is_on_map a.kind ≡ true → is_on_map b.kind ≡ true → ((d : Container) → reply_on d a ≡ Nil) → ((d : Container) → reply_on d b ≡ Nil)
+    → ((o : Option Value) → bound_by (map_act b.kind b.value) (bound_by (map_act a.kind a.value) o) ≡ bound_by (map_act a.kind a.value) (bound_by (map_act b.kind b.value) o)) → SwapsOn c a b
+pair_swaps (Bindings m) a b p q ra rb h =
+    let both : (x y : Op) → map_after (map_after m x.kind x.key x.value) y.kind y.key y.value ≡ act_on_map (map_act y.kind y.value) y.key (act_on_map (map_act x.kind x.value) x.key m) = λ x y. map_after_is (map_after m x.kind x.key x.value) y.kind y.key y.value ∙ ap (act_on_map (map_act y.kind y.value) y.key) (map_after_is m x.kind x.key x.value) in
+    record {
+      after = ap (λ (n : map.FinMap value_cmp Value). Bindings n) (both a b ∙ act_any (map.FinMap value_cmp Value) (Option Value) MapAct map.get act_on_map bound_by get-act_on_map same_map (map_act a.kind a.value) (map_act b.kind b.value) a.key b.key m h ∙ sym (both b a));
+      first = ra (Bindings m) ∙ sym (ra (after_on (Bindings m) b));
+      second = rb (after_on (Bindings m) a) ∙ sym (rb (Bindings m));
+    }
+pair_swaps (Members s) a b p q ra rb h = both_leave (Members s) a b (ap (λ (n : set.FinSet value_cmp). Members n) (silent_on_set s a.kind a.key p).0) (ap (λ (n : set.FinSet value_cmp). Members n) (silent_on_set s b.kind b.key q).0)
+
+-- two sums, whatever their order
+two_sums : (n d e : ℤ) → sum_in_range (sum_in_range n d) e ≡ sum_in_range (sum_in_range n e) d
+two_sums n d e = int_wrap-add_left w64 (n +ℤ d) e ∙ ap (int_wrap w64) turned ∙ sym (int_wrap-add_left w64 (n +ℤ e) d)
+  where
+    turned : (n +ℤ d) +ℤ e ≡ (n +ℤ e) +ℤ d
+    turned = omega (arith, ints)
+
+bumped_twice : (d e : Value) (o : Option Value) → bumped e (bumped d o) ≡ bumped d (bumped e o)
+bumped_twice Nil e o = refl
+bumped_twice (Sym p) e o = refl
+bumped_twice (Num d) Nil o = refl
+bumped_twice (Num d) (Sym p) o = refl
+bumped_twice (Num d) (Num e) None = ap (λ (z : ℤ). Some (Num (int_wrap w64 z))) turned
+  where
+    turned : d +ℤ e ≡ e +ℤ d
+    turned = omega (arith, ints)
+bumped_twice (Num d) (Num e) (Some Nil) = refl
+bumped_twice (Num d) (Num e) (Some (Num n)) = ap (λ (z : ℤ). Some (Num z)) (two_sums n d e)
+bumped_twice (Num d) (Num e) (Some (Sym p)) = refl
+
+-- what is put stays where it is no number, or where 0 is added
+bumped_put : (d x : Value) → IsValue x → (is_zero d || not (is_number x)) ≡ true → bumped d (Some x) ≡ Some x
+bumped_put Nil x p h = refl
+bumped_put (Sym s) x p h = refl
+bumped_put (Num d) Nil p h = refl
+bumped_put (Num d) (Sym s) p h = refl
+bumped_put (Num d) (Num n) p h = ap (λ (z : ℤ). Some (Num z)) (ap (λ (z : ℤ). sum_in_range n z) none ∙ ap (int_wrap w64) same ∙ int_wrap_fits w64 n (fits_number n p))
+  where
+    or_false : (b : Bool) → (b || false) ≡ true → b ≡ true
+    or_false true e = refl
+    or_false false e = cc
+
+    number : (a b : ℤ) → ◌≡◌ {A = Value} (Num a) (Num b) → a ≡ b
+    number a b e = cc
+
+    none : d ≡ pos 0
+    none = number d (pos 0) (sym (same_value (Num (pos 0)) (Num d) (or_false (is_zero (Num d)) h)))
+
+    same : n +ℤ pos 0 ≡ n
+    same = omega (arith, ints)
+
+abbrev Turns : Kind → Value → Kind → Value → Type 0
+Turns x v y w = (o : Option Value) → bound_by (map_act y w) (bound_by (map_act x v) o) ≡ bound_by (map_act x v) (bound_by (map_act y w) o)
+
+bumps_swap : (c : Container) (a b : Op) → is_bump a.kind ≡ true → is_bump b.kind ≡ true → SwapsOn c a b
+bumps_swap c a b p q =
+    let P : Kind → Type 0 = λ x. Turns x a.value b.kind b.value in
+    let Q : Kind → Type 0 = λ y. Turns Bump a.value y b.value in
+    pair_swaps c a b (ap is_on_map (bump_kind a.kind p)) (ap is_on_map (bump_kind b.kind q)) (λ d. bump_reply d a p) (λ d. bump_reply d b q) (subst P (sym (bump_kind a.kind p)) (subst Q (sym (bump_kind b.kind q)) (bumped_twice a.value b.value)))
+
+bump_put_swap : (c : Container) (a b : Op) → IsValue b.value → is_bump a.kind ≡ true → is_put b.kind ≡ true → (is_zero a.value || not (is_number b.value)) ≡ true → SwapsOn c a b
+bump_put_swap c a b held p q h =
+    let P : Kind → Type 0 = λ x. Turns x a.value b.kind b.value in
+    let Q : Kind → Type 0 = λ y. Turns Bump a.value y b.value in
+    pair_swaps c a b (ap is_on_map (bump_kind a.kind p)) (ap is_on_map (put_kind b.kind q)) (λ d. bump_reply d a p) (λ d. plain_reply d b (ap is_plain (put_kind b.kind q))) (subst P (sym (bump_kind a.kind p)) (subst Q (sym (put_kind b.kind q)) (λ o. sym (bumped_put a.value b.value held h))))
 
 -- ---- the test is right where it says that they commute
 pub or_cases : (x y : Bool) → (x || y) ≡ true → (x ≡ true) ⊎ (y ≡ true)
@@ -315,8 +424,33 @@ homes a b h c = go (is_on_map a.kind) (is_on_map b.kind) refl refl h
     go false true p q h = flip c a b (one_silent c b a q p)
     go false false p q h = cc
 
-pub commutes-Commute : (a b : Op) → commutes a b ≡ true → Commute a b
-commutes-Commute a b h = tables (eqb a.table b.table) refl
+sums_swap : (c : Container) (a b : Op) → IsValue a.value → IsValue b.value → sums a b ≡ true → SwapsOn c a b
+sums_swap c a b u v h = elim (or_cases _ _ h) [
+  | inl x ↦ elim (or_cases _ _ x) [
+    | inl y ↦ elim (or_cases _ _ y) [
+      | inl z ↦ elim (or_cases _ _ z) [
+        | inl w ↦ let p : (is_bump a.kind ≡ true) × (is_bump b.kind ≡ true) = and_both _ _ w in bumps_swap c a b p.0 p.1
+        | inr w ↦ let p : (is_bump a.kind ≡ true) × (not (is_number a.value) ≡ true) = and_both _ _ w in flip c a b (idle_swaps c b a p.0 (not_true _ p.1))
+      ]
+      | inr z ↦ let p : (is_bump b.kind ≡ true) × (not (is_number b.value) ≡ true) = and_both _ _ z in idle_swaps c a b p.0 (not_true _ p.1)
+    ]
+    | inr y ↦ let p : ((is_bump a.kind && is_put b.kind) ≡ true) × ((is_zero a.value || not (is_number b.value)) ≡ true) = and_both _ _ y in
+        let q : (is_bump a.kind ≡ true) × (is_put b.kind ≡ true) = and_both _ _ p.0 in
+        bump_put_swap c a b v q.0 q.1 p.1
+  ]
+  | inr x ↦ let p : ((is_put a.kind && is_bump b.kind) ≡ true) × ((not (is_number a.value) || is_zero b.value) ≡ true) = and_both _ _ x in
+      let q : (is_put a.kind ≡ true) × (is_bump b.kind ≡ true) = and_both _ _ p.0 in
+      flip c a b (bump_put_swap c b a u q.1 q.0 (turned (is_number a.value) (is_zero b.value) p.1))
+]
+  where
+    turned : (n z : Bool) → (not n || z) ≡ true → (z || not n) ≡ true
+    turned true true e = refl
+    turned true false e = cc
+    turned false true e = refl
+    turned false false e = refl
+
+pub commutes-Commute : (a b : Op) → IsValue a.value → IsValue b.value → commutes a b ≡ true → Commute a b
+commutes-Commute a b u v h = tables (eqb a.table b.table) refl
   where
     put_same : (x y : Bool) → (not x || y) ≡ true → x ≡ true → y ≡ true
     put_same true y e f = e
@@ -329,8 +463,8 @@ commutes-Commute a b h = tables (eqb a.table b.table) refl
         let z : (is_plain a.kind ≡ true) × (eqb (kind_place a.kind) (kind_place b.kind) ≡ true) = and_both _ _ y.0 in
         commute_on a b t (λ c. one_change c a b (same_kind a.kind b.kind z.1) (same_value a.key b.key y.1) z.0 (λ p. same_value a.value b.value (put_same _ _ x.1 p)))
 
-    rest : a.table ≡ b.table → (not (same_bool (is_on_map a.kind) (is_on_map b.kind)) || (is_read a.kind && is_read b.kind) || (is_keyed a.kind && is_keyed b.kind && not (value_eq a.key b.key)) || (is_plain a.kind && eqb (kind_place a.kind) (kind_place b.kind) && value_eq a.key b.key && (not (eqb (kind_place a.kind) 1) || value_eq a.value b.value))) ≡ true → Commute a b
-    rest t h = elim (or_cases _ _ h) [
+    most : a.table ≡ b.table → (not (same_bool (is_on_map a.kind) (is_on_map b.kind)) || (is_read a.kind && is_read b.kind) || (is_keyed a.kind && is_keyed b.kind && not (value_eq a.key b.key)) || (is_plain a.kind && eqb (kind_place a.kind) (kind_place b.kind) && value_eq a.key b.key && (not (eqb (kind_place a.kind) 1) || value_eq a.value b.value))) ≡ true → Commute a b
+    most t h = elim (or_cases _ _ h) [
       | inl x ↦ elim (or_cases _ _ x) [
         | inl y ↦ elim (or_cases _ _ y) [
           | inl z ↦ commute_on a b t (homes a b (not_true _ z))
@@ -343,8 +477,14 @@ commutes-Commute a b h = tables (eqb a.table b.table) refl
       | inr x ↦ last t x
     ]
 
+    rest : a.table ≡ b.table → (not (same_bool (is_on_map a.kind) (is_on_map b.kind)) || (is_read a.kind && is_read b.kind) || (is_keyed a.kind && is_keyed b.kind && not (value_eq a.key b.key)) || (is_plain a.kind && eqb (kind_place a.kind) (kind_place b.kind) && value_eq a.key b.key && (not (eqb (kind_place a.kind) 1) || value_eq a.value b.value)) || sums a b) ≡ true → Commute a b
+    rest t h = elim (or_cases _ _ h) [
+      | inl x ↦ most t x
+      | inr x ↦ commute_on a b t (λ c. sums_swap c a b u v x)
+    ]
+
     tables : (x : Bool) → eqb a.table b.table ≡ x → Commute a b
-    tables true e = rest (same a.table b.table e) (ap (λ (x : Bool). not x || not (same_bool (is_on_map a.kind) (is_on_map b.kind)) || (is_read a.kind && is_read b.kind) || (is_keyed a.kind && is_keyed b.kind && not (value_eq a.key b.key)) || (is_plain a.kind && eqb (kind_place a.kind) (kind_place b.kind) && value_eq a.key b.key && (not (eqb (kind_place a.kind) 1) || value_eq a.value b.value))) (sym e) ∙ h)
+    tables true e = rest (same a.table b.table e) (ap (λ (x : Bool). not x || not (same_bool (is_on_map a.kind) (is_on_map b.kind)) || (is_read a.kind && is_read b.kind) || (is_keyed a.kind && is_keyed b.kind && not (value_eq a.key b.key)) || (is_plain a.kind && eqb (kind_place a.kind) (kind_place b.kind) && value_eq a.key b.key && (not (eqb (kind_place a.kind) 1) || value_eq a.value b.value)) || sums a b) (sym e) ∙ h)
       where
         same : (x y : ℕ) → eqb x y ≡ true → x ≡ y
         same x y e = grind (arith, nat_tests)

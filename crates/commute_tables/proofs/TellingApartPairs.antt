@@ -1,21 +1,25 @@
 -- The containers that tell apart the orders of each pair of kinds that doesn't commute.
-use Rattle.std.proofs.Common.{◌≡◌, ℕ, pos, ◌+◌, ◌-◌, ◌⊎◌, inl, inr, Option, Some, None, Bool, true, false, cond, not, ◌&&◌, ◌||◌, refl, sym, ◌∙◌, ap, subst, lit<}
+use Rattle.std.proofs.Common.{◌≡◌, ℕ, ℤ, pos, ◌+ℤ◌, neg_ℤ, ◌+◌, ◌-◌, ◌⊎◌, inl, inr, Option, Some, None, Bool, true, false, cond, not, ◌&&◌, ◌||◌, refl, sym, ◌∙◌, ap, subst, lit<, arith}
 use Rattle.std.specs.Prelude.{is_some}
 use Rattle.std.specs.Option.{unwrap_or}
+use Rattle.std.specs.Int.{int_wrap, w64}
+use Rattle.std.proofs.lemmas.Int.{ints, int_wrap-add_left, int_wrap_fits}
 use Rattle.std.specs.FinMap as map
 use Rattle.std.specs.FinSet as set
 use Rattle.session_values.specs.declared.kind.Kind.{Kind}
-use Rattle.session_values.specs.declared.kind.Kind.TheVariants.{Get, Put, Swap, Del, Size, Has, Add, Mark, Drop, Count}
+use Rattle.session_values.specs.declared.kind.Kind.TheVariants.{Get, Put, Swap, Del, Size, Bump, Has, Add, Mark, Drop, Count}
 use Rattle.session_values.specs.declared.kind.TableKind.TheVariants.{Map, Set}
 use Rattle.session_values.specs.declared.op.Op.{Op}
 use Rattle.session_values.specs.declared.value.Value.{Value}
-use Rattle.session_values.specs.declared.value.Value.TheVariants.{Nil, Num}
+use Rattle.session_values.specs.declared.value.Value.TheVariants.{Nil, Num, Sym}
 use Rattle.session_values.specs.Values.{value_cmp, value_eq, value_cmp_total, IsValue}
 use Rattle.session_values.specs.Kinds.{home}
-use Rattle.session_values.specs.Tables.{Container, Bindings, Members, map_reply, map_after, set_after, bit, AreValues}
+use Rattle.session_values.specs.Tables.{Container, Bindings, Members, bound_to, bumped, sum_in_range, map_reply, map_after, set_after, bit, AreValues}
 use Rattle.session_values.specs.Tables.{kind_of}
 use Rattle.commute_tables.proofs.Apart.{same_value, value_eq-self, not_same}
+use Rattle.session_values.proofs.Bumps.{get-bound_to, fits_number}
 use Rattle.session_values.proofs.Starts.{values_none, members_none}
+use Rattle.commute_tables.specs.Relation.{is_number, is_zero}
 use Rattle.commute_tables.proofs.Commutes.{flip}
 use Rattle.commute_tables.proofs.OneTable.{SwapsOn}
 
@@ -42,19 +46,37 @@ no_set = set.empty
 pub zero_one : ◌≡◌ {A = Value} (Num (pos 0)) (Num (pos 1)) → ⊥
 zero_one e = cc
 
+pub one_two : ◌≡◌ {A = Value} (Num (pos 1)) (Num (pos 2)) → ⊥
+one_two e = cc
+
 pub nil_zero : ◌≡◌ {A = Value} (Num (pos 0)) Nil → ⊥
 nil_zero e = cc
 
--- 0, or 1 where it would be the same
+-- 1, or 2 where it would be the same
 abbrev pub other : Value → Value
-other w = cond (value_eq w (Num (pos 0))) (Num (pos 1)) (Num (pos 0))
+other w = cond (value_eq w (Num (pos 1))) (Num (pos 2)) (Num (pos 1))
 
 pub other_differs : (w : Value) → other w ≡ w → ⊥
-other_differs w = go (value_eq w (Num (pos 0))) refl
+other_differs w = go (value_eq w (Num (pos 1))) refl
   where
-    go : (b : Bool) → value_eq w (Num (pos 0)) ≡ b → cond b (Num (pos 1)) (Num (pos 0)) ≡ w → ⊥
-    go true p e = zero_one (sym (same_value w (Num (pos 0)) p) ∙ sym e)
-    go false p e = not_same w (Num (pos 0)) p (sym e)
+    go : (b : Bool) → value_eq w (Num (pos 1)) ≡ b → cond b (Num (pos 2)) (Num (pos 1)) ≡ w → ⊥
+    go true p e = one_two (sym (same_value w (Num (pos 1)) p) ∙ sym e)
+    go false p e = not_same w (Num (pos 1)) p (sym e)
+
+-- it is a number, and not 0
+pub other_number : (w : Value) → is_number (other w) ≡ true
+other_number w = go (value_eq w (Num (pos 1)))
+  where
+    go : (b : Bool) → is_number (cond b (Num (pos 2)) (Num (pos 1))) ≡ true
+    go true = refl
+    go false = refl
+
+pub other_not_zero : (w : Value) → is_zero (other w) ≡ false
+other_not_zero w = go (value_eq w (Num (pos 1)))
+  where
+    go : (b : Bool) → is_zero (cond b (Num (pos 2)) (Num (pos 1))) ≡ false
+    go true = refl
+    go false = refl
 
 -- ---- look-ups
 pub got : (m : map.FinMap value_cmp Value) (k v : Value) → map.get (map.insert m k v) k ≡ Some v
@@ -106,9 +128,9 @@ members_one k p l h = by_key (value_eq l k) refl (sym (set.contains-insert value
     by_key false e g = absurd (both_ways (set.contains no_set l) g (set.contains-empty value_cmp l))
 
 pub other_held : (w : Value) → IsValue (other w)
-other_held w = go (value_eq w (Num (pos 0)))
+other_held w = go (value_eq w (Num (pos 1)))
   where
-    go : (b : Bool) → IsValue (cond b (Num (pos 1)) (Num (pos 0)))
+    go : (b : Bool) → IsValue (cond b (Num (pos 2)) (Num (pos 1)))
     go true = lit< tt
     go false = lit< tt
 
@@ -131,6 +153,7 @@ seen Put m k v h = cc
 seen Swap m k v h = ap (λ (o : Option Value). unwrap_or o Nil) (got m k v)
 seen Del m k v h = cc
 seen Size m k v h = cc
+seen Bump m k v h = cc
 seen Has m k v h = cc
 seen Add m k v h = cc
 seen Mark m k v h = cc
@@ -144,6 +167,7 @@ bound Put m k v h = refl
 bound Swap m k v h = refl
 bound Del m k v h = cc
 bound Size m k v h = cc
+bound Bump m k v h = cc
 bound Has m k v h = cc
 bound Add m k v h = cc
 bound Mark m k v h = cc
@@ -157,6 +181,7 @@ map_kind Put h = refl
 map_kind Swap h = refl
 map_kind Del h = refl
 map_kind Size h = refl
+map_kind Bump h = refl
 map_kind Has (inl h) = cc
 map_kind Has (inr h) = cc
 map_kind Add (inl h) = cc
@@ -197,6 +222,7 @@ see_del x i j k v w p =
     unseen Swap p = ap (λ (o : Option Value). unwrap_or o Nil) (gone _ k)
     unseen Del p = cc
     unseen Size p = cc
+    unseen Bump p = cc
     unseen Has p = cc
     unseen Add p = cc
     unseen Mark p = cc
@@ -255,6 +281,106 @@ del_size i j k l v w =
       differ = λ s. zero_one (sym (ap (λ (n : ℕ). Num (pos n)) fewer) ∙ s.second ∙ ap (λ (n : ℕ). Num (pos n)) (len_one k (Num (pos 0))));
     }
 
+-- ---- bumps by a number
+number_some : (v : Value) → is_number v ≡ true → bumped v None ≡ Some v
+number_some Nil h = cc
+number_some (Num d) h = refl
+number_some (Sym p) h = cc
+
+number_nil : (v : Value) → is_number v ≡ true → v ≡ Nil → ⊥
+number_nil v h e = false_true (sym (ap is_number e) ∙ h)
+  where
+    false_true : false ≡ true → ⊥
+    false_true e = cc
+
+-- what is bound after one, where the key was unbound
+got_bumped : (m : map.FinMap value_cmp Value) (k v : Value) → is_number v ≡ true → map.get m k ≡ None → map.get (map_after m Bump k v) k ≡ Some v
+got_bumped m k v h e = get-bound_to m k (bumped v (map.get m k)) k ∙ ap (λ (b : Bool). cond b (bumped v (map.get m k)) (map.get m k)) (value_eq-self k) ∙ ap (bumped v) e ∙ number_some v h
+
+read_bumped : (k v : Value) → is_number v ≡ true → unwrap_or (map.get (map_after no_map Bump k v) k) Nil ≡ unwrap_or (map.get no_map k) Nil → ⊥
+read_bumped k v h e =
+    let none : map.get no_map k ≡ None = map.get-empty value_cmp k in
+    number_nil v h (sym (ap (λ (o : Option Value). unwrap_or o Nil) (got_bumped no_map k v h none)) ∙ e ∙ ap (λ (o : Option Value). unwrap_or o Nil) none)
+
+-- one against get, and against swap
+pub bump_get : (i j : ℕ) (k v w : Value) → is_number v ≡ true → Tells (op Bump i k v) (op Get j k w)
+bump_get i j k v w h = record {
+  container = Bindings no_map;
+  kind = refl;
+  values = λ p q. values_none;
+  differ = λ s. read_bumped k v h s.second;
+}
+
+pub bump_swap : (i j : ℕ) (k v w : Value) → is_number v ≡ true → Tells (op Bump i k v) (op Swap j k w)
+bump_swap i j k v w h = record {
+  container = Bindings no_map;
+  kind = refl;
+  values = λ p q. values_none;
+  differ = λ s. read_bumped k v h s.second;
+}
+
+-- one against del
+pub bump_del : (i j : ℕ) (k v w : Value) → is_number v ≡ true → Tells (op Bump i k v) (op Del j k w)
+unfolding look
+bump_del i j k v w h = record {
+  container = Bindings no_map;
+  kind = refl;
+  values = λ p q. values_none;
+  differ = λ s. none_some (sym (gone (map_after no_map Bump k v) k) ∙ ap (λ (c : Container). look c k) s.after ∙ got_bumped (map.remove no_map k) k v h (gone no_map k));
+}
+  where
+    none_some : ◌≡◌ {A = Option Value} None (Some v) → ⊥
+    none_some e = cc
+
+-- a number that is added without a trace is 0
+added_none : (n d : ℤ) → IsValue (Num d) → sum_in_range n d ≡ n → d ≡ pos 0
+added_none n d p e =
+    sym (int_wrap_fits w64 d (fits_number d p)) ∙ ap (int_wrap w64) (back n d) ∙ sym (int_wrap-add_left w64 (n +ℤ d) (neg_ℤ n))
+    ∙ ap (λ (z : ℤ). int_wrap w64 (z +ℤ neg_ℤ n)) e ∙ ap (int_wrap w64) (none n) ∙ int_wrap_fits w64 (pos 0) (record { sfits = lit< tt })
+  where
+    back : (n d : ℤ) → d ≡ (n +ℤ d) +ℤ neg_ℤ n
+    back n d = omega (arith, ints)
+
+    none : (n : ℤ) → n +ℤ neg_ℤ n ≡ pos 0
+    none n = omega (arith, ints)
+
+bumped_trace : (v w : Value) → IsValue v → is_number v ≡ true → is_zero v ≡ false → is_number w ≡ true → ◌≡◌ {A = Option Value} (Some w) (bumped v (Some w)) → ⊥
+bumped_trace Nil w p h z g e = cc
+bumped_trace (Sym s) w p h z g e = cc
+bumped_trace (Num d) Nil p h z g e = cc
+bumped_trace (Num d) (Sym s) p h z g e = cc
+bumped_trace (Num d) (Num n) p h z g e = false_true (sym z ∙ ap (λ (x : ℤ). is_zero (Num x)) (added_none n d p (sym (inside n (sum_in_range n d) e))))
+  where
+    inside : (a b : ℤ) → ◌≡◌ {A = Option Value} (Some (Num a)) (Some (Num b)) → a ≡ b
+    inside a b e = cc
+
+    false_true : false ≡ true → ⊥
+    false_true e = cc
+
+-- one by a number other than 0 against a put of a number
+pub bump_put : (i j : ℕ) (k v w : Value) → IsValue v → is_number v ≡ true → is_zero v ≡ false → is_number w ≡ true → Tells (op Bump i k v) (op Put j k w)
+unfolding look
+bump_put i j k v w p h z g =
+    let m : map.FinMap value_cmp Value = map.insert no_map k w in
+    let after : map.get (map_after m Bump k v) k ≡ bumped v (Some w) = get-bound_to m k (bumped v (map.get m k)) k ∙ ap (λ (b : Bool). cond b (bumped v (map.get m k)) (map.get m k)) (value_eq-self k) ∙ ap (bumped v) (got no_map k w) in
+    record {
+      container = Bindings no_map;
+      kind = refl;
+      values = λ p q. values_none;
+      differ = λ s. bumped_trace v w p h z g (sym (got (map_after no_map Bump k v) k w) ∙ ap (λ (c : Container). look c k) s.after ∙ after);
+    }
+
+-- one against size
+pub bump_size : (i j : ℕ) (k l v w : Value) → is_number v ≡ true → Tells (op Bump i k v) (op Size j l w)
+bump_size i j k l v w h =
+    let same : map_after no_map Bump k v ≡ map.insert no_map k v = ap (bound_to no_map k) (ap (bumped v) (map.get-empty value_cmp k) ∙ number_some v h) in
+    record {
+      container = Bindings no_map;
+      kind = refl;
+      values = λ p q. values_none;
+      differ = λ s. zero_one (sym (ap (λ (n : ℕ). Num (pos n)) len_none) ∙ sym s.second ∙ ap (λ (m : map.FinMap value_cmp Value). Num (pos (map.len m))) same ∙ ap (λ (n : ℕ). Num (pos n)) (len_one k v));
+    }
+
 -- ---- sets
 unfoldable pub joins : Kind → Bool
 joins Add = true
@@ -268,6 +394,7 @@ joined Put s k h = cc
 joined Swap s k h = cc
 joined Del s k h = cc
 joined Size s k h = cc
+joined Bump s k h = cc
 joined Has s k h = cc
 joined Add s k h = refl
 joined Mark s k h = refl
@@ -281,6 +408,7 @@ set_kind Put h = cc
 set_kind Swap h = cc
 set_kind Del h = cc
 set_kind Size h = cc
+set_kind Bump h = cc
 set_kind Has h = cc
 set_kind Add h = refl
 set_kind Mark h = refl

@@ -4,10 +4,11 @@ ghost use Rattle.std.specs.Prelude.{◌≡◌, ◌==◌, ◌&&◌, ◌||◌, not
 ghost use Rattle.std.specs.Bool.{Decides, MatchBool};
 ghost use Rattle.symbolic_ops.specs.Matching.{HasNoVar};
 ghost use Rattle.session_values.specs.Kinds.{is_keyed, is_plain, kind_place};
-ghost use Rattle.commute_tables.specs.Relation.{commutes_symbol, is_apart, is_same};
+ghost use Rattle.commute_tables.specs.Relation.{commutes_symbol, is_apart, is_same, may_be_number, sums_symbol};
 ghost use Rattle.commute_tables.specs.Symbols.{CommutesWith, DiffersFromSome};
 
 use crate::kinds::{both_read, one_home};
+use crate::sums::{add_up, is_number, is_zero};
 use session_values::{Kind, Op, Value};
 use symbolic_ops::{Arg, Symbol};
 
@@ -51,6 +52,32 @@ fn known_change(a: &Op, s: &Symbol) -> bool
     a.kind.is_plain() && a.kind == s.kind && (a.kind != Kind::Put || known_same(a.value, s.value))
 }
 
+/// The argument may be a number.
+#[inline(always)]
+fn may_be_number(arg: Arg) -> bool
+    ensures { result ≡ may_be_number arg }
+{
+    match arg {
+        Arg::Known(w) => is_number(w),
+        Arg::Var(_) | Arg::Any => true,
+    }
+}
+
+/// They add up, whatever the key.
+#[inline(always)]
+fn known_sums(a: &Op, s: &Symbol) -> bool
+    ensures { result ≡ sums_symbol a.now s.now }
+{
+    add_up(
+        a.kind,
+        is_number(a.value),
+        is_zero(a.value),
+        s.kind,
+        may_be_number(s.value),
+        known_same(Value::Num(0), s.value),
+    )
+}
+
 /// What the relation says.
 #[inline(always)]
 fn test(a: &Op, s: &Symbol) -> bool
@@ -68,7 +95,10 @@ fn test(a: &Op, s: &Symbol) -> bool
     if keys_known_apart(a, s) {
         return true;
     }
-    known_change(a, s)
+    if known_change(a, s) {
+        return true;
+    }
+    known_sums(a, s)
 }
 
 /// Whether the operation commutes with each one that the symbol stands for.

@@ -5,10 +5,11 @@ ghost use Rattle.std.specs.Bool.{Decides, MatchBool};
 ghost use Rattle.session_values.specs.Commuting.{Commute};
 ghost use Rattle.session_values.specs.Values.{value_eq};
 ghost use Rattle.session_values.specs.Kinds.{is_keyed, is_plain, kind_place};
-ghost use Rattle.commute_tables.specs.Relation.{commutes};
+ghost use Rattle.commute_tables.specs.Relation.{commutes, sums};
 ghost use Rattle.commute_tables.specs.ToldApart.{Differ};
 
 use crate::kinds::{both_read, one_home};
+use crate::sums::{add_up, is_number, is_zero};
 use session_values::{Kind, Op};
 
 /// They are about different keys.
@@ -33,6 +34,21 @@ fn same_change(a: &Op, b: &Op) -> bool
         && (a.kind != Kind::Put || a.value == b.value)
 }
 
+/// They add up.
+#[inline(always)]
+fn sums(a: &Op, b: &Op) -> bool
+    ensures { result ≡ sums a.now b.now }
+{
+    add_up(
+        a.kind,
+        is_number(a.value),
+        is_zero(a.value),
+        b.kind,
+        is_number(b.value),
+        is_zero(b.value),
+    )
+}
+
 /// What the relation says.
 #[inline(always)]
 fn test(a: &Op, b: &Op) -> bool
@@ -50,7 +66,10 @@ fn test(a: &Op, b: &Op) -> bool
     if keys_apart(a, b) {
         return true;
     }
-    same_change(a, b)
+    if same_change(a, b) {
+        return true;
+    }
+    sums(a, b)
 }
 
 /// Whether both orders of the operations give the same tables and the same replies, from all
@@ -62,5 +81,7 @@ pub fn commute(a: &Op, b: &Op) -> bool
     // Where they don't, these tables tell, whatever kinds they have.
     ensures told { MatchBool result (Commute a.now b.now) (Differ a.now b.now) }
 {
+    a.bounds();
+    b.bounds();
     test(a, b)
 }

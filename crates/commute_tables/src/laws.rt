@@ -3,7 +3,7 @@
 ghost use Rattle.std.specs.Prelude.{List};
 ghost use Rattle.session_values.specs.Commuting.{Commute};
 ghost use Rattle.session_values.specs.Tables.{Fits};
-ghost use Rattle.session_values.specs.Values.{IsValue};
+ghost use Rattle.session_values.specs.Op.{IsHeld};
 ghost use Rattle.commute_tables.specs.ToldApart.{CommuteAt};
 
 use session_values::{Op, TableKind};
@@ -15,6 +15,6 @@ pub fn symmetry()
 
 /// To commute at all tables that both fit, with values that a program can hold, is to commute.
 pub fn commuting_where_fit()
-    ensures { (shape : List TableKind) (a b : Op) → IsValue a.key → IsValue b.key → Fits shape a
+    ensures { (shape : List TableKind) (a b : Op) → IsHeld a → IsHeld b → Fits shape a
         → Fits shape b → CommuteAt shape a b → Commute a b }
 {}

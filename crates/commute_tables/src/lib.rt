@@ -5,6 +5,7 @@ mod against_symbol;
 mod commuting;
 mod kinds;
 pub mod laws;
+mod sums;
 
 pub use against_symbol::commute_symbol;
 pub use commuting::commute;
