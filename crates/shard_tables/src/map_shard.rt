@@ -4,12 +4,12 @@ ghost use Rattle.std.specs.Prelude.{◌≡◌, ◌<◌, ◌≤◌, ◌+◌, IfOk
 ghost use Rattle.std.specs.FinMap as map;
 ghost use Rattle.session_values.specs.declared.kind.TableKind.TheVariants.{Map};
 ghost use Rattle.session_values.specs.Kinds.{home};
-ghost use Rattle.session_values.specs.Tables.{Bindings, reply_on, size_of, empty_of};
+ghost use Rattle.session_values.specs.Tables.{Bindings, bound_to, bumped, reply_on, size_of, empty_of};
 ghost use Rattle.place_index.specs.Keys.{AreDifferent};
 ghost use Rattle.shard_tables.specs.Shards.{bindings, map_shard, HasRoomFor, shard_after, spare_of};
 
 use place_index::PlaceIndex;
-use session_values::{Kind, NoMemory, Op, Value};
+use session_values::{Kind, NoMemory, Op, Value, bumped};
 use std::alloc::Global;
 use std::marker::Model;
 
@@ -69,6 +69,10 @@ impl MapShard {
                 Value::Nil
             }
             Kind::Size => Value::Num(i64::from(self.len())),
+            Kind::Bump => {
+                self.bump(op.key, op.value);
+                Value::Nil
+            }
             Kind::Has | Kind::Add | Kind::Mark | Kind::Drop | Kind::Count => Value::Nil,
         }
     }
@@ -109,13 +113,19 @@ impl MapShard {
         self.index.probes(&self.pairs, key)
     }
 
+    fn value_of(&self, key: Value) -> Option<Value>
+        ensures { result ≡ map.get (bindings self.now) key }
+    {
+        match self.index.place_of(&self.pairs, key) {
+            Some(place) => Some(self.pairs[place].1),
+            None => None,
+        }
+    }
+
     fn get(&self, key: Value) -> Value
         ensures { result ≡ unwrap_or (map.get (bindings self.now) key) Value.Nil }
     {
-        match self.index.place_of(&self.pairs, key) {
-            Some(place) => self.pairs[place].1,
-            None => Value::Nil,
-        }
+        self.value_of(key).unwrap_or(Value::Nil)
     }
 
     // Answers what the key was bound to before, or nil.
@@ -139,6 +149,22 @@ impl MapShard {
                 self.pairs.push_reserved((key, value));
                 Value::Nil
             }
+        }
+    }
+
+    #[tactic(auto, using(session_values::proofs::Bumps::bumped_nothing))]
+    fn bump(&mut self, key: Value, by: Value)
+        requires { map.contains_key (bindings self.old) key ≡ false
+            → map.len (bindings self.old) < self.old.room }
+        ensures { map_shard self.new
+            ≡ record {
+              container = Bindings (bound_to (bindings self.old) key
+                  (bumped by (map.get (bindings self.old) key)));
+              room = self.old.room;
+            } }
+    {
+        if let Some(value) = bumped(by, self.value_of(key)) {
+            self.bind(key, value);
         }
     }
 

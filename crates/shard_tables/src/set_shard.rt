@@ -68,7 +68,8 @@ impl SetShard {
                 Value::Nil
             }
             Kind::Count => Value::Num(i64::from(self.len())),
-            Kind::Get | Kind::Put | Kind::Swap | Kind::Del | Kind::Size => Value::Nil,
+            Kind::Get | Kind::Put | Kind::Swap => Value::Nil,
+            Kind::Del | Kind::Size | Kind::Bump => Value::Nil,
         }
     }
 
