@@ -7,14 +7,15 @@ use Rattle.std.specs.FinSet as set
 use Rattle.std.specs.Cmp.{Equal-is}
 use Rattle.std.proofs.Math.ListN.{set as put_at}
 use Rattle.session_values.specs.declared.kind.Kind.{Kind}
-use Rattle.session_values.specs.declared.kind.Kind.TheVariants.{Get, Put, Swap, Del, Size, Has, Add, Mark, Drop, Count}
+use Rattle.session_values.specs.declared.kind.Kind.TheVariants.{Get, Put, Swap, Del, Size, Bump, Has, Add, Mark, Drop, Count}
 use Rattle.session_values.specs.declared.value.Value.{Value}
 use Rattle.session_values.specs.declared.value.Value.TheVariants.{Nil, Num}
 use Rattle.session_values.specs.declared.op.Op.{Op}
 use Rattle.session_values.specs.Dialogue.{Entry}
 use Rattle.session_values.specs.Op.{IsHeld}
 use Rattle.session_values.specs.Values.{value_cmp, value_eq, value_cmp_total, value_cmp-IsAntisymmetric, IsValue}
-use Rattle.session_values.specs.Tables.{AreValues, Bindings, Container, Members, Tables, after_on, bit, map_after, map_reply, reply, reply_on, set_after, set_reply, size_of, step, table}
+use Rattle.session_values.specs.Tables.{AreValues, Bindings, Container, Members, Tables, after_on, bit, bound_to, bumped, map_after, map_reply, reply, reply_on, set_after, set_reply, size_of, step, table}
+use Rattle.session_values.proofs.Bumps.{bumped_value}
 use Rattle.session_values.proofs.Sizes.{step_few}
 use Rattle.session_values.proofs.Starts.{values_none}
 use Rattle.session_journal.specs.Journal.{run}
@@ -62,12 +63,20 @@ set_remove_values s k h l g = by_key (value_eq l k) (sym (set.contains-remove va
     by_key true g = cc
     by_key false g = h l g
 
+bump_values : (m : map.FinMap value_cmp Value) (k v : Value) → AreValues (Bindings m) → IsValue k → IsValue v → AreValues (Bindings (bound_to m k (bumped v (map.get m k))))
+bump_values m k v h p q = by_case (bumped v (map.get m k)) (λ w e. bumped_value v w (map.get m k) q (λ x f. (h k x f).1) e)
+  where
+    by_case : (o : Option Value) → ((w : Value) → o ≡ Some w → IsValue w) → AreValues (Bindings (bound_to m k o))
+    by_case None g = map_remove_values m k h
+    by_case (Some w) g = map_insert_values m k w h p (g w refl)
+
 map_values : (m : map.FinMap value_cmp Value) (kind : Kind) (k v : Value) → AreValues (Bindings m) → IsValue k → IsValue v → AreValues (Bindings (map_after m kind k v))
 map_values m Get k v h p q = h
 map_values m Put k v h p q = map_insert_values m k v h p q
 map_values m Swap k v h p q = map_insert_values m k v h p q
 map_values m Del k v h p q = map_remove_values m k h
 map_values m Size k v h p q = h
+map_values m Bump k v h p q = bump_values m k v h p q
 map_values m Has k v h p q = h
 map_values m Add k v h p q = h
 map_values m Mark k v h p q = h
@@ -80,6 +89,7 @@ set_values s Put k h p = h
 set_values s Swap k h p = h
 set_values s Del k h p = h
 set_values s Size k h p = h
+set_values s Bump k h p = h
 set_values s Has k h p = h
 set_values s Add k h p = set_insert_values s k h p
 set_values s Mark k h p = set_insert_values s k h p
@@ -104,6 +114,7 @@ map_reply_value m Put k h l = tt
 map_reply_value m Swap k h l = bound_value m k h
 map_reply_value m Del k h l = tt
 map_reply_value m Size k h l = l
+map_reply_value m Bump k h l = tt
 map_reply_value m Has k h l = tt
 map_reply_value m Add k h l = tt
 map_reply_value m Mark k h l = tt
@@ -124,6 +135,7 @@ set_reply_value s Put k l = tt
 set_reply_value s Swap k l = tt
 set_reply_value s Del k l = tt
 set_reply_value s Size k l = tt
+set_reply_value s Bump k l = tt
 set_reply_value s Has k l = bit_value (set.contains s k)
 set_reply_value s Add k l = new_value (set.contains s k)
 set_reply_value s Mark k l = tt
