@@ -6,7 +6,7 @@ use Rattle.std.specs.FinSet as set
 use Rattle.std.proofs.lemmas.List.{get_or-set_same, get_or-set_other, length-set}
 use Rattle.std.proofs.lemmas.Bool.Decides.{nat_tests}
 use Rattle.session_values.specs.declared.kind.Kind.{Kind}
-use Rattle.session_values.specs.declared.kind.Kind.TheVariants.{Get, Put, Swap, Del, Size, Has, Add, Mark, Drop, Count}
+use Rattle.session_values.specs.declared.kind.Kind.TheVariants.{Get, Put, Swap, Del, Size, Bump, Has, Add, Mark, Drop, Count}
 use Rattle.session_values.specs.declared.kind.TableKind.{TableKind}
 use Rattle.session_values.specs.declared.kind.TableKind.TheVariants.{Map, Set}
 use Rattle.session_values.specs.declared.op.Op.{Op}
@@ -52,6 +52,7 @@ map_stays m Put key value h = absurd (zero_two h)
 map_stays m Swap key value h = absurd (zero_two h)
 map_stays m Del key value h = absurd (zero_one h)
 map_stays m Size key value h = refl
+map_stays m Bump key value h = absurd (zero_two h)
 map_stays m Has key value h = refl
 map_stays m Add key value h = refl
 map_stays m Mark key value h = refl
@@ -64,6 +65,7 @@ set_stays s Put key h = refl
 set_stays s Swap key h = refl
 set_stays s Del key h = refl
 set_stays s Size key h = refl
+set_stays s Bump key h = refl
 set_stays s Has key h = refl
 set_stays s Add key h = absurd (zero_one h)
 set_stays s Mark key h = absurd (zero_one h)

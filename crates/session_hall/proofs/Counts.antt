@@ -2,7 +2,7 @@
 use Rattle.std.proofs.Common.{◌≡◌, ℕ, zero, suc, ◌+◌, ◌<◌, ◌≤◌, List, [], ◌∷◌, ◌++◌, length, length-append, map, append_assoc, append-nil, Option, Some, None, Bool, cond, eqb, ℤ, pos, refl, sym, ◌∙◌, ap, subst, arith}
 use Rattle.std.specs.List.{AllByRecursion}
 use Rattle.session_values.specs.declared.kind.Kind.{Kind}
-use Rattle.session_values.specs.declared.kind.Kind.TheVariants.{Get, Put, Swap, Del, Size, Has, Add, Mark, Drop, Count}
+use Rattle.session_values.specs.declared.kind.Kind.TheVariants.{Get, Put, Swap, Del, Size, Bump, Has, Add, Mark, Drop, Count}
 use Rattle.session_values.specs.declared.kind.TableKind.{TableKind}
 use Rattle.session_values.specs.declared.kind.TableKind.TheVariants.{Map, Set}
 use Rattle.session_values.specs.declared.op.Op.{Op}
@@ -40,6 +40,7 @@ keyless_reply (Bindings m) op none k = go op.kind none k
     go Get n h = absurd (zero_one n)
     go Put n h = absurd (zero_two n)
     go Swap n h = absurd (zero_two n)
+    go Bump n h = absurd (zero_two n)
     go Del n h = absurd (zero_one n)
     go Has n h = absurd (zero_one n)
     go Add n h = absurd (zero_one n)
@@ -53,6 +54,7 @@ keyless_reply (Members s) op none k = go op.kind none k
     go Get n h = absurd (zero_one n)
     go Put n h = absurd (zero_two n)
     go Swap n h = absurd (zero_two n)
+    go Bump n h = absurd (zero_two n)
     go Del n h = absurd (zero_one n)
     go Has n h = absurd (zero_one n)
     go Add n h = absurd (zero_one n)
