@@ -151,6 +151,7 @@ module _ (names : List (List ℕ)) where
   operation_word operation.Swap rest = token names 115 (119 ∷ 97 ∷ 112 ∷ []) (40 ∷ rest) kind.Name (sort.Do operation.Swap) refl refl refl refl ∙ ap (one (sort.Do operation.Swap)) (left_paren rest)
   operation_word operation.Del rest = token names 100 (101 ∷ 108 ∷ []) (40 ∷ rest) kind.Name (sort.Do operation.Del) refl refl refl refl ∙ ap (one (sort.Do operation.Del)) (left_paren rest)
   operation_word operation.Size rest = token names 115 (105 ∷ 122 ∷ 101 ∷ []) (40 ∷ rest) kind.Name (sort.Do operation.Size) refl refl refl refl ∙ ap (one (sort.Do operation.Size)) (left_paren rest)
+  operation_word operation.Bump rest = token names 98 (117 ∷ 109 ∷ 112 ∷ []) (40 ∷ rest) kind.Name (sort.Do operation.Bump) refl refl refl refl ∙ ap (one (sort.Do operation.Bump)) (left_paren rest)
   operation_word operation.Has rest = token names 104 (97 ∷ 115 ∷ []) (40 ∷ rest) kind.Name (sort.Do operation.Has) refl refl refl refl ∙ ap (one (sort.Do operation.Has)) (left_paren rest)
   operation_word operation.Add rest = token names 97 (100 ∷ 100 ∷ []) (40 ∷ rest) kind.Name (sort.Do operation.Add) refl refl refl refl ∙ ap (one (sort.Do operation.Add)) (left_paren rest)
   operation_word operation.Mark rest = token names 109 (97 ∷ 114 ∷ 107 ∷ []) (40 ∷ rest) kind.Name (sort.Do operation.Mark) refl refl refl refl ∙ ap (one (sort.Do operation.Mark)) (left_paren rest)

@@ -16,8 +16,8 @@ sort_in (row ∷ rows) text = if bytes_eq text row.0 then Some row.1 else sort_i
 
 -- all kinds of operations
 abbrev pub kinds : List Kind
-kinds = kind.Get ∷ kind.Put ∷ kind.Swap ∷ kind.Del ∷ kind.Size ∷ kind.Has ∷ kind.Add ∷ kind.Mark
-    ∷ kind.Drop ∷ kind.Count ∷ []
+kinds = kind.Get ∷ kind.Put ∷ kind.Swap ∷ kind.Del ∷ kind.Size ∷ kind.Bump ∷ kind.Has ∷ kind.Add
+    ∷ kind.Mark ∷ kind.Drop ∷ kind.Count ∷ []
 
 abbrev pub operation_row : Kind → List ℕ × Sort
 operation_row k = (word_of k, sort.Do k)
@@ -73,7 +73,7 @@ may_begin c n =
     if n == 2 then c == 97 || c == 105
     else if n == 3 then c == 97 || c == 100 || c == 103 || c == 104 || c == 108 || c == 109
     || c == 110 || c == 112 || c == 115
-    else if n == 4 then c == 100 || c == 101 || c == 109 || c == 115
+    else if n == 4 then c == 98 || c == 100 || c == 101 || c == 109 || c == 115
     else if n == 5 then c == 99 || c == 114
     else if n == 6 then c == 109 || c == 114
     else if n == 7 then c == 104 || c == 110

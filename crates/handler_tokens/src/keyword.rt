@@ -8,12 +8,13 @@ use crate::word::Sort;
 use handler_trees::Compare;
 use session_values::{Kind, TableKind};
 
-const KINDS: [Kind; 10] = [
+const KINDS: [Kind; 11] = [
     Kind::Get,
     Kind::Put,
     Kind::Swap,
     Kind::Del,
     Kind::Size,
+    Kind::Bump,
     Kind::Has,
     Kind::Add,
     Kind::Mark,
@@ -31,7 +32,7 @@ fn may_begin(first: u8, len: usize) -> bool
             first,
             b'a' | b'd' | b'g' | b'h' | b'l' | b'm' | b'n' | b'p' | b's'
         ),
-        4 => matches!(first, b'd' | b'e' | b'm' | b's'),
+        4 => matches!(first, b'b' | b'd' | b'e' | b'm' | b's'),
         5 => matches!(first, b'c' | b'r'),
         6 => matches!(first, b'm' | b'r'),
         7 => matches!(first, b'h' | b'n'),
