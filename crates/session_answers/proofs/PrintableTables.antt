@@ -6,14 +6,14 @@ use Rattle.std.specs.FinMap as map
 use Rattle.std.specs.Ordering.{eq_by_cmp}
 use Rattle.std.specs.FinSet as set
 use Rattle.session_values.specs.declared.value.Value.{Value}
-use Rattle.session_values.specs.declared.value.Value.TheVariants.{Nil, Num}
+use Rattle.session_values.specs.declared.value.Value.TheVariants.{Nil, Num, Sym}
 use Rattle.session_values.specs.declared.kind.Kind.{Kind}
-use Rattle.session_values.specs.declared.kind.Kind.TheVariants.{Get, Put, Swap, Del, Size, Has, Add, Count}
+use Rattle.session_values.specs.declared.kind.Kind.TheVariants.{Get, Put, Swap, Del, Size, Bump, Has, Add, Count}
 use Rattle.session_values.specs.declared.kind.TableKind.{TableKind}
 use Rattle.session_values.specs.declared.kind.TableKind.TheVariants.{Map, Set}
 use Rattle.session_values.specs.declared.op.Op.{Op}
 use Rattle.session_values.specs.Values.{value_cmp, value_cmp_total}
-use Rattle.session_values.specs.Tables.{Container, Bindings, Members, Tables, empty_of, start, bit, map_reply, map_after, set_reply, reply_on, after_on, table, reply, step}
+use Rattle.session_values.specs.Tables.{Container, Bindings, Members, Tables, empty_of, start, bit, bound_to, bumped, sum_in_range, map_reply, map_after, set_reply, reply_on, after_on, table, reply, step}
 use Rattle.session_values.specs.ReplyText.{IsPrintable}
 
 module _ (names : List (List ℕ)) where
@@ -66,10 +66,25 @@ module _ (names : List (List ℕ)) where
     go true f = absurd (cc)
     go false f = h q w f
 
+  printed : (v x : Value) → IsPrintable names v → ◌≡◌ {A = Option Value} (Some v) (Some x) → IsPrintable names x
+  printed v x h e = let is : v ≡ x = cc in subst (IsPrintable names) is h
+
+  bumped_printable : (v x : Value) (o : Option Value) → IsPrintable names v → ((w : Value) → o ≡ Some w → IsPrintable names w) → bumped v o ≡ Some x → IsPrintable names x
+  bumped_printable Nil x o p h e = h x e
+  bumped_printable (Sym s) x o p h e = h x e
+  bumped_printable (Num d) x None p h e = printed (Num d) x tt e
+  bumped_printable (Num d) x (Some Nil) p h e = printed Nil x tt e
+  bumped_printable (Num d) x (Some (Num n)) p h e = printed (Num (sum_in_range n d)) x tt e
+  bumped_printable (Num d) x (Some (Sym s)) p h e = printed (Sym s) x (h (Sym s) refl) e
+
   maps_after : (m : map.FinMap value_cmp Value) (kind : Kind) (k v : Value) → Holds (Bindings m) → IsPrintable names v → Holds (Bindings (map_after m kind k v))
   maps_after m Put k v h p = inserted m k v h p
   maps_after m Swap k v h p = inserted m k v h p
   maps_after m Del k v h p = removed m k h
+  maps_after m Bump k v h p = rebound (bumped v (map.get m k)) (λ w e. bumped_printable v w (map.get m k) p (h k) e) where
+    rebound : (o : Option Value) → ((w : Value) → o ≡ Some w → IsPrintable names w) → Holds (Bindings (bound_to m k o))
+    rebound None g = removed m k h
+    rebound (Some w) g = inserted m k w h (g w refl)
   maps_after m _ k v h p = h
 
   holds_after : (c : Container) (op : Op) → Holds c → IsPrintable names op.value → Holds (after_on c op)
