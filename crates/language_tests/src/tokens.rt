@@ -22,13 +22,13 @@ const TABLE: &str = "\
     a # ä # 'x\n\tlet\r\n# end~Name 0 1 a|Key 13 16 let|End 23 23 |/\
     ä€x~Bad 0 2 ä|Bad 2 5 €|Name 5 6 x|End 6 6 |/\
     mayuse count drops~Key 0 6 mayuse|Key 7 12 count|Name 13 18 drops|End 18 18 |/\
-    map set handler let if else repeat as reply nil nothing any get put swap del size has add \
-    mark drop count ma maps pu counts~Key 0 3 map|Key 4 7 set|Key 8 15 handler|Key 16 19 let|\
-    Key 20 22 if|Key 23 27 else|Key 28 34 repeat|Key 35 37 as|Key 38 43 reply|Key 44 47 nil|\
-    Key 48 55 nothing|Key 56 59 any|Key 60 63 get|Key 64 67 put|Key 68 72 swap|Key 73 76 del|\
-    Key 77 81 size|Key 82 85 has|Key 86 89 add|Key 90 94 mark|Key 95 99 drop|\
-    Key 100 105 count|Name 106 108 ma|Name 109 113 maps|Name 114 116 pu|Name 117 123 counts|\
-    End 123 123 |/\
+    map set handler let if else repeat as reply nil nothing any get put swap del size bump has \
+    add mark drop count ma maps pu counts bumps~Key 0 3 map|Key 4 7 set|Key 8 15 handler|Key 16 \
+    19 let|Key 20 22 if|Key 23 27 else|Key 28 34 repeat|Key 35 37 as|Key 38 43 reply|Key 44 47 \
+    nil|Key 48 55 nothing|Key 56 59 any|Key 60 63 get|Key 64 67 put|Key 68 72 swap|Key 73 76 \
+    del|Key 77 81 size|Key 82 86 bump|Key 87 90 has|Key 91 94 add|Key 95 99 mark|Key 100 104 \
+    drop|Key 105 110 count|Name 111 113 ma|Name 114 118 maps|Name 119 121 pu|Name 122 128 \
+    counts|Name 129 134 bumps|End 134 134 |/\
     a123456789b123456789c123456789d123456789e123456789f123456789g123 \
     a123456789b123456789c123456789d123456789e123456789f123456789g123x \
     'a123456789b123456789c123456789d123456789e123456789f123456789g123 \

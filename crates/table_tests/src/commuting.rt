@@ -4,6 +4,7 @@ ghost use Rattle.std.specs.Prelude.{◌≡◌, ◌∷◌, [], Some, map, slice_g
 ghost use Rattle.session_values.specs.declared.kind.TableKind.TheVariants.{Map, Set};
 ghost use Rattle.session_values.specs.Kinds.{home};
 ghost use Rattle.session_values.specs.Tables.{kind_of};
+ghost use Rattle.symbolic_ops.specs.Symbol.{IsSymbol};
 
 use crate::kinds::KINDS;
 use commute_tables::{commute, commute_symbol};
@@ -219,4 +220,55 @@ fn worked_symbols(rt: HostRuntime) {
         told_of_puts(Kind::Get, two, Arg::Any),
     ];
     assert!(rt; gets == [false, false, false, true]);
+}
+
+// Whether a bump of the key 1 by this value commutes with each operation of the kind on its map
+// with these arguments.
+fn told_of_bumps(by: Value, kind: Kind, key: Arg, value: Arg) -> bool
+    requires { IsSymbol kind key value }
+{
+    let bump = Op {
+        kind: Kind::Bump,
+        table: 0,
+        key: Value::Num(1),
+        value: by,
+    };
+    let symbol = Symbol {
+        kind,
+        table: 0,
+        key,
+        value,
+    };
+    symbol.has_no_var() && commute_symbol(&bump, &symbol)
+}
+
+#[test]
+fn worked_bumps(rt: HostRuntime) {
+    let one = Arg::Known(Value::Num(1));
+    let nil = Arg::Known(Value::Nil);
+    let three = Value::Num(3);
+    let zero = Value::Num(0);
+    let told = [
+        told_of_bumps(three, Kind::Bump, Arg::Any, Arg::Any),
+        told_of_bumps(three, Kind::Put, one, Arg::Any),
+        told_of_bumps(three, Kind::Put, Arg::Any, nil),
+        told_of_bumps(zero, Kind::Put, one, Arg::Any),
+        told_of_bumps(zero, Kind::Get, one, nil),
+        told_of_bumps(zero, Kind::Del, one, nil),
+        told_of_bumps(Value::Nil, Kind::Size, nil, nil),
+    ];
+    assert!(rt; told == [true, false, true, true, false, false, true]);
+    let bumps = Symbol {
+        kind: Kind::Bump,
+        table: 0,
+        key: one,
+        value: Arg::Any,
+    };
+    assert!(rt; !commute_symbol(&op(Kind::Put, 1, 5), &bumps));
+}
+
+#[test]
+fn bumps_by_no_number_and_by_zero(rt: HostRuntime) {
+    is_right(&rt, rt.alloc(), 1, 0);
+    is_right(&rt, rt.alloc(), 2, 0);
 }

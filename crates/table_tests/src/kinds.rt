@@ -2,13 +2,14 @@
 
 use session_values::Kind;
 
-/// All ten, in the order of their table.
-pub const KINDS: [Kind; 10] = [
+/// All eleven, in the order of their table.
+pub const KINDS: [Kind; 11] = [
     Kind::Get,
     Kind::Put,
     Kind::Swap,
     Kind::Del,
     Kind::Size,
+    Kind::Bump,
     Kind::Has,
     Kind::Add,
     Kind::Mark,

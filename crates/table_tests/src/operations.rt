@@ -1,4 +1,4 @@
-// The ten operations, each by its reply and by what the next ones see.
+// The eleven operations, each by its reply and by what the next ones see.
 
 ghost use Rattle.std.specs.Prelude.{◌≡◌, [], ◌∷◌, Some, map, slice_get};
 ghost use Rattle.session_values.specs.declared.kind.TableKind.TheVariants.{Map, Set};
@@ -76,6 +76,31 @@ fn maps_bind_and_unbind(rt: HostRuntime) {
         case_of(Kind::Get, 2, Num(2), Nil, Nil),
         case_of(Kind::Put, 2, Num(2), Num(6), Nil),
         case_of(Kind::Get, 0, Num(2), Nil, Num(7)),
+    ];
+    reply_so(&rt, rt.alloc(), &cases);
+}
+
+#[test]
+fn bumps_add_up(rt: HostRuntime) {
+    let cases = [
+        case_of(Kind::Bump, 0, Num(1), Num(2), Nil),
+        case_of(Kind::Bump, 0, Num(1), Num(3), Nil),
+        case_of(Kind::Get, 0, Num(1), Nil, Num(5)),
+        // By no number nothing changes, also where the key is unbound.
+        case_of(Kind::Bump, 0, Num(1), Nil, Nil),
+        case_of(Kind::Bump, 0, Num(2), Sym(3), Nil),
+        case_of(Kind::Get, 0, Num(1), Nil, Num(5)),
+        case_of(Kind::Size, 0, Nil, Nil, Num(1)),
+        // Sums stay in the range of 64 bits.
+        case_of(Kind::Bump, 0, Num(1), Num(9223372036854775807), Nil),
+        case_of(Kind::Get, 0, Num(1), Nil, Num(-9223372036854775804)),
+        // What is bound to no number stays.
+        case_of(Kind::Put, 0, Num(3), Nil, Nil),
+        case_of(Kind::Bump, 0, Num(3), Num(7), Nil),
+        case_of(Kind::Get, 0, Num(3), Nil, Nil),
+        case_of(Kind::Put, 0, Num(4), Sym(6), Nil),
+        case_of(Kind::Bump, 0, Num(4), Num(7), Nil),
+        case_of(Kind::Get, 0, Num(4), Nil, Sym(6)),
     ];
     reply_so(&rt, rt.alloc(), &cases);
 }

@@ -101,9 +101,12 @@ fn go_so<R: Abort>(rt: &R, part: &mut Part, rows: &[Row]) {
     }
 }
 
-const MAP_ROWS: [Row; 12] = [
+const MAP_ROWS: [Row; 16] = [
     (Kind::Size, Nil, Nil, Some(Num(0)), 2),
     (Kind::Put, Num(1), Num(5), Some(Nil), 1),
+    (Kind::Bump, Num(1), Num(-7), Some(Nil), 1),
+    (Kind::Get, Num(1), Nil, Some(Num(-2)), 1),
+    (Kind::Bump, Num(2), Nil, Some(Nil), 1),
     (Kind::Put, Num(1), Num(6), Some(Nil), 1),
     (Kind::Swap, Nil, Sym(3), Some(Nil), 0),
     (Kind::Put, Num(2), Num(7), None, 0),
@@ -114,6 +117,7 @@ const MAP_ROWS: [Row; 12] = [
     (Kind::Get, Num(1), Nil, Some(Nil), 0),
     (Kind::Get, Num(2), Nil, Some(Num(7)), 0),
     (Kind::Get, Nil, Nil, Some(Sym(3)), 0),
+    (Kind::Bump, Num(1), Num(1), None, 0),
 ];
 
 #[test]
@@ -177,7 +181,7 @@ impl Made {
     fn op(&mut self) -> Op
         ensures { slice_get (Map ∷ Set ∷ []) result.table ≡ Some (home result.kind) }
     {
-        let kind = KINDS[self.number(10) as usize];
+        let kind = KINDS[self.number(11) as usize];
         let key = self.value();
         let value = self.value();
         op_of(kind, key, value)
