@@ -9,11 +9,11 @@ use Rattle.symbolic_ops.specs.declared.arg.Arg.{Arg}
 use Rattle.symbolic_ops.specs.declared.arg.Arg.TheVariants.{Known, Var, Any}
 use Rattle.symbolic_ops.specs.declared.symbol.Symbol.{Symbol}
 use Rattle.symbolic_ops.specs.Matching.{Agrees}
-use Rattle.handler_dialogue.specs.declared.tree.CheckedAtom.{CheckedAtom}
-use Rattle.handler_dialogue.specs.declared.tree.CheckedAtom.TheVariants as atom
-use Rattle.handler_dialogue.specs.declared.tree.CheckedCall.{CheckedCall}
-use Rattle.handler_dialogue.specs.Code.{Term, Atom, Calculate}
-use Rattle.handler_dialogue.specs.Dialogue.{Env, with_value, atom_value, value_of, op_of}
+use Rattle.check_meaning.specs.declared.tree.CheckedAtom.{CheckedAtom}
+use Rattle.check_meaning.specs.declared.tree.CheckedAtom.TheVariants as atom
+use Rattle.check_meaning.specs.declared.tree.CheckedCall.{CheckedCall}
+use Rattle.check_meaning.specs.Code.{Term, Atom, Calculate}
+use Rattle.check_meaning.specs.Dialogue.{Env, with_value, atom_value, value_of, op_of}
 use Rattle.may_use_analysis.specs.Steps.{Step, Copy, Constant, Other, Call, End, store_step, argument, symbol_of, before_step, arg_back, back}
 use Rattle.declaration_insertion.specs.Promises.{arg_at, symbol_at}
 use Rattle.declaration_insertion.proofs.SetLaw.{IsBelowArg, IsBelow, MayStandFor}

@@ -5,7 +5,7 @@ use Rattle.std.specs.List.{AllByRecursion}
 use Rattle.session_values.specs.declared.value.Value.{Value}
 use Rattle.session_values.specs.Values.{IsValue}
 use Rattle.symbolic_ops.specs.Instantiate.{IsWithin}
-use Rattle.handler_dialogue.specs.Dialogue.{env_of}
+use Rattle.check_meaning.specs.Dialogue.{env_of}
 use Rattle.handler_check.specs.Resolved.{code_at, shape_of}
 use Rattle.handler_check.proofs.Codes.{all_within}
 use Rattle.declaration_insertion.specs.Promises.{ArePromised}

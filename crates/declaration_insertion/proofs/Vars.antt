@@ -9,12 +9,12 @@ use Rattle.symbolic_ops.specs.declared.arg.Arg.{Arg}
 use Rattle.symbolic_ops.specs.declared.arg.Arg.TheVariants.{Known, Var, Any}
 use Rattle.symbolic_ops.specs.declared.symbol.Symbol.{Symbol}
 use Rattle.symbolic_ops.specs.Instantiate.{ArgWithin, IsWithin, arg_in, symbol_in}
-use Rattle.handler_dialogue.specs.declared.tree.CheckedAtom.{CheckedAtom}
-use Rattle.handler_dialogue.specs.declared.tree.CheckedAtom.TheVariants as atom
-use Rattle.handler_dialogue.specs.declared.tree.CheckedCall.{CheckedCall}
-use Rattle.handler_dialogue.specs.Code.{Term, Atom, Calculate, Code, Finish, Move, Ask, Fork, Loop, Quit, IsNumbered}
-use Rattle.handler_dialogue.specs.Dialogue.{env_of}
-use Rattle.handler_dialogue.specs.Within.{AtomWithin, TermWithin, CallWithin, CodeWithin}
+use Rattle.check_meaning.specs.declared.tree.CheckedAtom.{CheckedAtom}
+use Rattle.check_meaning.specs.declared.tree.CheckedAtom.TheVariants as atom
+use Rattle.check_meaning.specs.declared.tree.CheckedCall.{CheckedCall}
+use Rattle.check_meaning.specs.Code.{Term, Atom, Calculate, Code, Finish, Move, Ask, Fork, Loop, Quit, IsNumbered}
+use Rattle.check_meaning.specs.Dialogue.{env_of}
+use Rattle.check_meaning.specs.Within.{AtomWithin, TermWithin, CallWithin, CodeWithin}
 use Rattle.may_use_analysis.specs.Steps.{Step, Copy, Constant, Other, Call, End, store_step, argument, symbol_of, before_step, arg_back}
 use Rattle.may_use_analysis.specs.Trails.{Symbols, Back, LaterAt}
 use Rattle.may_use_analysis.specs.Flow.{RepliedBack, Turned, Flow, Head, FlowPoint, FlowHandler}

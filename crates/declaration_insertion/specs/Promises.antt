@@ -10,8 +10,8 @@ use Rattle.symbolic_ops.specs.declared.arg.Arg.{Arg}
 use Rattle.symbolic_ops.specs.declared.arg.Arg.TheVariants.{Known, Var, Any}
 use Rattle.symbolic_ops.specs.declared.symbol.Symbol.{Symbol}
 use Rattle.symbolic_ops.specs.Matching.{Covered, HasNoVar, Matches}
-use Rattle.handler_dialogue.specs.Code.{Code}
-use Rattle.handler_dialogue.specs.Dialogue.{Env, Place, Calls, run, next, entry, last_place, due_place, told_place, passed_by}
+use Rattle.check_meaning.specs.Code.{Code}
+use Rattle.check_meaning.specs.Dialogue.{Env, Place, Calls, run, next, entry, last_place, due_place, told_place, passed_by}
 
 -- a symbol with each variable known to be its value
 abbrev pub arg_at : Env → Arg → Arg

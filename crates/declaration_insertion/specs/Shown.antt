@@ -1,8 +1,8 @@
 -- What is shown of a program at its points.
 use Rattle.std.specs.Prelude.{ℕ, true, List, [], Option, Some, None, slice_get}
-use Rattle.handler_trees.specs.declared.file.File.{File}
-use Rattle.handler_trees.specs.declared.file.Handler.{Handler}
-use Rattle.handler_printing.specs.Points.{AtPoints}
+use Rattle.syntax_trees.specs.declared.file.File.{File}
+use Rattle.syntax_trees.specs.declared.file.Handler.{Handler}
+use Rattle.syntax_printer.specs.Points.{AtPoints}
 use Rattle.handler_check.specs.Resolved.{table_names, variables_of}
 use Rattle.declaration_insertion.specs.Program.{ProgramView, declared_at}
 

@@ -2,16 +2,16 @@
 
 ghost use Rattle.std.specs.Prelude.{◌≡◌, IfOk, slice_get, string_bytes};
 ghost use Rattle.handler_check.specs.Resolved.{table_names};
-ghost use Rattle.handler_printing.specs.Lines.{shown_text};
-ghost use Rattle.handler_trees.specs.Mentions.{AreNamed, file_mentions};
+ghost use Rattle.syntax_printer.specs.Lines.{shown_text};
+ghost use Rattle.syntax_trees.specs.Mentions.{AreNamed, file_mentions};
 ghost use Rattle.declaration_insertion.specs.Program.{declared_at};
 ghost use Rattle.declaration_insertion.specs.Shown.{shown_of, variables_at};
 
 use crate::program::Program;
-use handler_printing::{Declarations, print_with_declarations};
 use session_values::{Names, NoMemory};
 use std::alloc::Global;
 use symbolic_ops::Symbol;
+use syntax_printer::{Declarations, print_with_declarations};
 
 /// The declaration of a point; nothing where there is no such point.
 fn symbols_at(program: &Program, handler: u32, point: u32) -> &[Symbol]

@@ -4,7 +4,7 @@ ghost use Rattle.std.specs.Prelude.{◌≡◌, ◌+◌, ◌<◌, ◌≤◌, IfOk
 ghost use Rattle.std.specs.List.{AllByRecursion};
 ghost use Rattle.session_limits.specs.Limits.{max_symbols, max_variables};
 ghost use Rattle.symbolic_ops.specs.Instantiate.{IsWithin};
-ghost use Rattle.handler_dialogue.specs.Code.{points};
+ghost use Rattle.check_meaning.specs.Code.{points};
 ghost use Rattle.handler_check.specs.Resolved.{code_at};
 ghost use Rattle.may_use_analysis.specs.Later.{AreLater};
 ghost use Rattle.declaration_insertion.specs.Program.{IsProgram, declared_at};
@@ -25,7 +25,7 @@ pub struct Program {
 
 impl Model for Program {
     ghost use Rattle.std.specs.Coded.{codes};
-    ghost use Rattle.handler_trees.specs.contracts.stmt.Stmt as stmt;
+    ghost use Rattle.syntax_trees.specs.contracts.stmt.Stmt as stmt;
     ghost use Rattle.declaration_insertion.specs.Program.{IsProgram, ProgramView};
 
     ghost Value = { ProgramView };

@@ -1,22 +1,22 @@
 -- Inductions over expressions, cases of statements, and the equations of what is defined over them.
 use Rattle.std.proofs.Common.{◌≡◌, ℕ, List, ◌++◌, subst, rules}
-use Rattle.handler_trees.specs.declared.expr.Atom.{Atom}
-use Rattle.handler_trees.specs.declared.expr.Atom.TheVariants as atom
-use Rattle.handler_trees.specs.declared.expr.Calc.{Calc}
-use Rattle.handler_trees.specs.declared.expr.Expr.{Expr, roll-Expr, map-Expr, the_lemmas}
-use Rattle.handler_trees.specs.declared.expr.Expr.TheFolds.{ind-Expr}
-use Rattle.handler_trees.specs.declared.expr.Expr.TheOpen.{Expr-F}
-use Rattle.handler_trees.specs.declared.expr.Expr.TheVariants as expr
-use Rattle.handler_trees.specs.declared.stmt.Call.{Call}
-use Rattle.handler_trees.specs.declared.stmt.Cond.{Cond}
-use Rattle.handler_trees.specs.declared.stmt.Right.{Right}
-use Rattle.handler_trees.specs.declared.stmt.Stmt.{Stmt, roll-Stmt, map-Stmt, the_lemmas as stmt_lemmas}
-use Rattle.handler_trees.specs.declared.stmt.Stmt.TheFolds.{ind-Stmt}
-use Rattle.handler_trees.specs.declared.stmt.Stmt.TheOpen.{Stmt-F}
-use Rattle.handler_trees.specs.declared.stmt.Stmt.TheVariants as stmt
-use Rattle.handler_trees.specs.Alone.{alone}
-use Rattle.handler_rules.specs.Marks.{atom_marks, expr_marks}
-use Rattle.handler_rules.specs.Source.{Source, Let, Assign, Do, Choose, Repeat, Answer, stmt_source, block_source}
+use Rattle.syntax_trees.specs.declared.expr.Atom.{Atom}
+use Rattle.syntax_trees.specs.declared.expr.Atom.TheVariants as atom
+use Rattle.syntax_trees.specs.declared.expr.Calc.{Calc}
+use Rattle.syntax_trees.specs.declared.expr.Expr.{Expr, roll-Expr, map-Expr, the_lemmas}
+use Rattle.syntax_trees.specs.declared.expr.Expr.TheFolds.{ind-Expr}
+use Rattle.syntax_trees.specs.declared.expr.Expr.TheOpen.{Expr-F}
+use Rattle.syntax_trees.specs.declared.expr.Expr.TheVariants as expr
+use Rattle.syntax_trees.specs.declared.stmt.Call.{Call}
+use Rattle.syntax_trees.specs.declared.stmt.Cond.{Cond}
+use Rattle.syntax_trees.specs.declared.stmt.Right.{Right}
+use Rattle.syntax_trees.specs.declared.stmt.Stmt.{Stmt, roll-Stmt, map-Stmt, the_lemmas as stmt_lemmas}
+use Rattle.syntax_trees.specs.declared.stmt.Stmt.TheFolds.{ind-Stmt}
+use Rattle.syntax_trees.specs.declared.stmt.Stmt.TheOpen.{Stmt-F}
+use Rattle.syntax_trees.specs.declared.stmt.Stmt.TheVariants as stmt
+use Rattle.syntax_trees.specs.Alone.{alone}
+use Rattle.check_rules.specs.Marks.{atom_marks, expr_marks}
+use Rattle.check_rules.specs.Source.{Source, Let, Assign, Do, Choose, Repeat, Answer, stmt_source, block_source}
 
 module _ (P : Expr → Type 0) (leaf : (a : Atom) → P (alone a)) (binary : (c : Calc) (l r : Expr) → P l → P r → P (expr.Binary c (l, r))) where
   expr_rolled : (y : Expr-F ((e : Expr) × P e)) → P (roll-Expr (map-Expr ((e : Expr) × P e) Expr (λ e. e.0) y))

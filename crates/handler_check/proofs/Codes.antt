@@ -4,28 +4,28 @@ use Rattle.std.specs.List.{AllByRecursion, Contains, flat_map}
 use Rattle.session_values.specs.declared.value.Value.TheVariants.{Nil, Num, Sym}
 use Rattle.session_values.specs.declared.kind.TableKind.{TableKind}
 use Rattle.session_values.specs.Kinds.{arguments}
-use Rattle.handler_trees.specs.declared.expr.Atom.{Atom}
-use Rattle.handler_trees.specs.declared.expr.Atom.TheVariants as atom
-use Rattle.handler_trees.specs.declared.expr.Calc.{Calc}
-use Rattle.handler_trees.specs.declared.expr.Expr.{Expr, the_lemmas}
-use Rattle.handler_trees.specs.declared.expr.Expr.TheVariants as expr
-use Rattle.handler_trees.specs.declared.stmt.Call.{Call}
-use Rattle.handler_trees.specs.declared.stmt.Right.{Right}
-use Rattle.handler_trees.specs.declared.stmt.Right.TheVariants as right
-use Rattle.handler_trees.specs.declared.file.File.{File}
-use Rattle.handler_trees.specs.declared.file.Handler.{Handler}
-use Rattle.handler_trees.specs.declared.file.Param.{Param}
-use Rattle.handler_trees.specs.Alone.{alone}
-use Rattle.handler_trees.specs.Mentions.{Mention, atom_mentions, expr_mentions, right_mentions}
-use Rattle.handler_trees.proofs.Mentions.{mentions_leaf, mentions_binary, all_first}
-use Rattle.handler_dialogue.specs.declared.tree.CheckedAtom.TheVariants.{Lit}
-use Rattle.handler_dialogue.specs.Code.{Term, Calculate, Code}
-use Rattle.handler_dialogue.specs.Code as code
-use Rattle.handler_dialogue.specs.Bounds.{calls_bound, work_bound}
-use Rattle.handler_dialogue.specs.Within.{AtomWithin, TermWithin, CallWithin, CodeWithin}
-use Rattle.handler_rules.specs.Bounds.{KeepsBounds}
-use Rattle.handler_rules.specs.Marks.{Mark, Declared, Mentioned, Operation, OnTable, Turns, declared, sees, seeing, atom_marks, expr_marks, call_marks, right_marks, cond_marks, marks, param_marks, param_names}
-use Rattle.handler_rules.specs.Source.{Source, Finish, Let, Assign, Do, Choose, Repeat, Answer, block_source}
+use Rattle.syntax_trees.specs.declared.expr.Atom.{Atom}
+use Rattle.syntax_trees.specs.declared.expr.Atom.TheVariants as atom
+use Rattle.syntax_trees.specs.declared.expr.Calc.{Calc}
+use Rattle.syntax_trees.specs.declared.expr.Expr.{Expr, the_lemmas}
+use Rattle.syntax_trees.specs.declared.expr.Expr.TheVariants as expr
+use Rattle.syntax_trees.specs.declared.stmt.Call.{Call}
+use Rattle.syntax_trees.specs.declared.stmt.Right.{Right}
+use Rattle.syntax_trees.specs.declared.stmt.Right.TheVariants as right
+use Rattle.syntax_trees.specs.declared.file.File.{File}
+use Rattle.syntax_trees.specs.declared.file.Handler.{Handler}
+use Rattle.syntax_trees.specs.declared.file.Param.{Param}
+use Rattle.syntax_trees.specs.Alone.{alone}
+use Rattle.syntax_trees.specs.Mentions.{Mention, atom_mentions, expr_mentions, right_mentions}
+use Rattle.syntax_trees.proofs.Mentions.{mentions_leaf, mentions_binary, all_first}
+use Rattle.check_meaning.specs.declared.tree.CheckedAtom.TheVariants.{Lit}
+use Rattle.check_meaning.specs.Code.{Term, Calculate, Code}
+use Rattle.check_meaning.specs.Code as code
+use Rattle.check_meaning.specs.Bounds.{calls_bound, work_bound}
+use Rattle.check_meaning.specs.Within.{AtomWithin, TermWithin, CallWithin, CodeWithin}
+use Rattle.check_rules.specs.Bounds.{KeepsBounds}
+use Rattle.check_rules.specs.Marks.{Mark, Declared, Mentioned, Operation, OnTable, Turns, declared, sees, seeing, atom_marks, expr_marks, call_marks, right_marks, cond_marks, marks, param_marks, param_names}
+use Rattle.check_rules.specs.Source.{Source, Finish, Let, Assign, Do, Choose, Repeat, Answer, block_source}
 use Rattle.handler_check.specs.Checked.{HandlerWithin}
 use Rattle.handler_check.specs.Checking.{IsAccepted}
 use Rattle.handler_check.specs.Resolved.{number_in, atom_of, term_of, key_of, value_of, call_of, stored, right_points, code_of, points_of, handler_code, code_in, params_in, shape_of, table_names, variables_of}
@@ -35,7 +35,7 @@ use Rattle.handler_check.proofs.Held.{IsSmall, AreSmall, IsHeldBlock, held_handl
 use Rattle.handler_check.proofs.Numbers.{numbered}
 use Rattle.handler_check.proofs.Scans.{params_declared}
 use Rattle.handler_check.proofs.Within.{few_calls, little_work, in_file}
-use Rattle.handler_rules.proofs.Texts.{declared_append}
+use Rattle.check_rules.proofs.Texts.{declared_append}
 
 term_leaf : (variables : List ℕ) (a : Atom) → term_of variables (alone a) ≡ code.Atom (atom_of variables a)
 term_leaf variables (atom.Lit v) = search (rules, the_lemmas)

@@ -2,15 +2,15 @@
 use Rattle.std.proofs.Common.{◌≡◌, ℕ, zero, suc, ◌+◌, ◌*◌, ◌<◌, ◌≤◌, max, min, Bool, true, false, nat_lt, ◌⊎◌, inl, inr, List, [], ◌∷◌, map, length, get_or, drop, Option, refl, sym, ap, ◌∙◌, subst, rules, arith}
 use Rattle.std.proofs.lemmas.List.{drop_more, drop_all}
 use Rattle.std.proofs.lemmas.Bool.Decides.{nat_tests}
-use Rattle.handler_dialogue.specs.declared.tree.CheckedCall.{CheckedCall}
-use Rattle.handler_dialogue.specs.declared.tree.CheckedCond.{CheckedCond}
-use Rattle.handler_dialogue.specs.declared.tree.CheckedExpr.{CheckedExpr}
-use Rattle.handler_dialogue.specs.declared.tree.CheckedStmt.{CheckedStmt, fold-CheckedStmt, the_lemmas}
-use Rattle.handler_dialogue.specs.declared.tree.CheckedStmt.TheOpen.{CheckedStmt-F}
-use Rattle.handler_dialogue.specs.declared.tree.CheckedStmt.TheVariants as stmt
-use Rattle.handler_dialogue.specs.Bounds.{Weight, bound, work_bound}
-use Rattle.handler_dialogue.proofs.Codes.{code_store, code_perform, code_choose, code_repeat, code_answer, checked_cases}
-use Rattle.handler_dialogue.specs.Code.{Code, Finish, Move, Ask, Fork, Loop, Quit, expr_term, cond_test, stmt_code, block_code}
+use Rattle.check_meaning.specs.declared.tree.CheckedCall.{CheckedCall}
+use Rattle.check_meaning.specs.declared.tree.CheckedCond.{CheckedCond}
+use Rattle.check_meaning.specs.declared.tree.CheckedExpr.{CheckedExpr}
+use Rattle.check_meaning.specs.declared.tree.CheckedStmt.{CheckedStmt, fold-CheckedStmt, the_lemmas}
+use Rattle.check_meaning.specs.declared.tree.CheckedStmt.TheOpen.{CheckedStmt-F}
+use Rattle.check_meaning.specs.declared.tree.CheckedStmt.TheVariants as stmt
+use Rattle.check_meaning.specs.Bounds.{Weight, bound, work_bound}
+use Rattle.check_meaning.proofs.Codes.{code_store, code_perform, code_choose, code_repeat, code_answer, checked_cases}
+use Rattle.check_meaning.specs.Code.{Code, Finish, Move, Ask, Fork, Loop, Quit, expr_term, cond_test, stmt_code, block_code}
 
 -- a statement's own bound
 module _ (w : Weight) where

@@ -3,20 +3,20 @@ use Rattle.std.proofs.Common.{◌≡◌, ℕ, suc, zero, ◌+◌, ◌<◌, true,
 use Rattle.std.proofs.lemmas.Bool.Decides.{nat_tests}
 use Rattle.std.proofs.lemmas.List.{drop_more}
 use Rattle.std.specs.List.{AllZip, AllByRecursion, Contains, flat_map}
-use Rattle.handler_trees.specs.declared.file.File.{File}
-use Rattle.handler_trees.specs.declared.file.Handler.{Handler}
-use Rattle.handler_dialogue.specs.declared.tree.CheckedHandler.{CheckedHandler}
-use Rattle.handler_dialogue.specs.Bounds.{calls_bound, work_bound}
-use Rattle.handler_dialogue.specs.Code.{Code}
-use Rattle.handler_rules.specs.declared.refusal.CheckRefusal.{CheckRefusal}
-use Rattle.handler_rules.specs.declared.refusal.CheckRefusal.TheVariants.{Twice, Unknown, Arity, WrongTable, RepeatBound, TooManyTables, TooManyHandlers, TooManyVariables, TooManyCalls, TooMuchWork, NoMemory}
-use Rattle.handler_rules.specs.FirstFault.{place, number, IsNoLater, AreRising, KeepsRules, PlacesRise}
-use Rattle.handler_rules.specs.Marks.{Mark, Declared, mark_at, handler_marks, table_marks}
-use Rattle.handler_rules.specs.Rules.{IsBroken}
-use Rattle.handler_rules.specs.Scan.{Fault, or_else, fault_if, file_fault}
-use Rattle.handler_rules.proofs.Finds.{Faults, Finds, finds_same, finds_both, finds_if}
-use Rattle.handler_rules.proofs.Files.{all_first, rising_parts, map_append, finds_file}
-use Rattle.handler_rules.proofs.Firsts.{one_first}
+use Rattle.syntax_trees.specs.declared.file.File.{File}
+use Rattle.syntax_trees.specs.declared.file.Handler.{Handler}
+use Rattle.check_meaning.specs.declared.tree.CheckedHandler.{CheckedHandler}
+use Rattle.check_meaning.specs.Bounds.{calls_bound, work_bound}
+use Rattle.check_meaning.specs.Code.{Code}
+use Rattle.check_rules.specs.declared.refusal.CheckRefusal.{CheckRefusal}
+use Rattle.check_rules.specs.declared.refusal.CheckRefusal.TheVariants.{Twice, Unknown, Arity, WrongTable, RepeatBound, TooManyTables, TooManyHandlers, TooManyVariables, TooManyCalls, TooMuchWork, NoMemory}
+use Rattle.check_rules.specs.FirstFault.{place, number, IsNoLater, AreRising, KeepsRules, PlacesRise}
+use Rattle.check_rules.specs.Marks.{Mark, Declared, mark_at, handler_marks, table_marks}
+use Rattle.check_rules.specs.Rules.{IsBroken}
+use Rattle.check_rules.specs.Scan.{Fault, or_else, fault_if, file_fault}
+use Rattle.check_rules.proofs.Finds.{Faults, Finds, finds_same, finds_both, finds_if}
+use Rattle.check_rules.proofs.Files.{all_first, rising_parts, map_append, finds_file}
+use Rattle.check_rules.proofs.Firsts.{one_first}
 use Rattle.handler_check.specs.Checking.{IsAccepted, IsBeyond, IsRefusal}
 use Rattle.handler_check.specs.Excess.{code_excess, own_excess, excess}
 use Rattle.handler_check.specs.Resolved.{IsResolved, table_names, handler_code}

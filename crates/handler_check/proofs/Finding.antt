@@ -2,7 +2,7 @@
 use Rattle.std.proofs.Common.{◌≡◌, ℕ, zero, suc, ◌+◌, ◌<◌, Bool, true, false, not, ◌==◌, cond, ltb, List, [], ◌∷◌, length, slice_get, Some, None, refl, sym, ap, ◌∙◌, arith}
 use Rattle.std.proofs.lemmas.Bool.Decides.{nat_tests}
 use Rattle.std.specs.List.{position, position_or_len}
-use Rattle.handler_trees.specs.declared.file.Handler.{Handler}
+use Rattle.syntax_trees.specs.declared.file.Handler.{Handler}
 
 abbrev named : ℕ → Handler → Bool
 named name h = h.name == name

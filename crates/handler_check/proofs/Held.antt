@@ -1,16 +1,16 @@
 -- What the literals and the replies of a block keep, read off the bounds of its file.
 use Rattle.std.proofs.Common.{◌≡◌, ℕ, zero, suc, ◌+◌, ◌<◌, ◌≤◌, ◌^◌, List, [], ◌∷◌, ◌++◌, length, slice_index_or, sym, subst, rules, arith}
 use Rattle.std.specs.List.{AllByRecursion, Contains, flat_map}
-use Rattle.handler_trees.specs.declared.expr.Expr.{Expr}
-use Rattle.handler_trees.specs.declared.stmt.Cond.{Cond}
-use Rattle.handler_trees.specs.declared.stmt.Stmt.{Stmt, the_lemmas}
-use Rattle.handler_trees.specs.declared.stmt.Stmt.TheVariants as stmt
-use Rattle.handler_trees.specs.declared.file.File.{File}
-use Rattle.handler_trees.specs.declared.file.Handler.{Handler}
-use Rattle.handler_trees.specs.Mentions.{Mention, IsBelow, expr_mentions, call_mentions, right_mentions, cond_mentions, stmt_mentions, table_mentions, param_mentions, handler_mentions, file_mentions}
-use Rattle.handler_trees.proofs.Mentions.{mentions_let, mentions_assign, mentions_perform, mentions_choose, mentions_repeat, mentions_answer, all_first}
-use Rattle.handler_rules.specs.Bounds.{Form, a_reply, a_nest, stmt_forms, block_forms, handler_forms, IsBoundedForm, IsBoundedNumber, KeepsBounds}
-use Rattle.handler_rules.specs.Source.{Source, Finish, Let, Assign, Do, Choose, Repeat, Answer, stmt_source, block_source}
+use Rattle.syntax_trees.specs.declared.expr.Expr.{Expr}
+use Rattle.syntax_trees.specs.declared.stmt.Cond.{Cond}
+use Rattle.syntax_trees.specs.declared.stmt.Stmt.{Stmt, the_lemmas}
+use Rattle.syntax_trees.specs.declared.stmt.Stmt.TheVariants as stmt
+use Rattle.syntax_trees.specs.declared.file.File.{File}
+use Rattle.syntax_trees.specs.declared.file.Handler.{Handler}
+use Rattle.syntax_trees.specs.Mentions.{Mention, IsBelow, expr_mentions, call_mentions, right_mentions, cond_mentions, stmt_mentions, table_mentions, param_mentions, handler_mentions, file_mentions}
+use Rattle.syntax_trees.proofs.Mentions.{mentions_let, mentions_assign, mentions_perform, mentions_choose, mentions_repeat, mentions_answer, all_first}
+use Rattle.check_rules.specs.Bounds.{Form, a_reply, a_nest, stmt_forms, block_forms, handler_forms, IsBoundedForm, IsBoundedNumber, KeepsBounds}
+use Rattle.check_rules.specs.Source.{Source, Finish, Let, Assign, Do, Choose, Repeat, Answer, stmt_source, block_source}
 use Rattle.handler_check.proofs.Cases.{source_let, source_assign, source_call, source_choose, source_repeat, source_reply}
 use Rattle.handler_check.proofs.Inductions.{stmt_induction}
 

@@ -1,14 +1,14 @@
 -- An induction over statements.
 use Rattle.std.proofs.Common.{ℕ, List, [], ◌∷◌, map, subst}
 use Rattle.std.specs.List.{AllByRecursion}
-use Rattle.handler_trees.specs.declared.expr.Expr.{Expr}
-use Rattle.handler_trees.specs.declared.stmt.Call.{Call}
-use Rattle.handler_trees.specs.declared.stmt.Cond.{Cond}
-use Rattle.handler_trees.specs.declared.stmt.Right.{Right}
-use Rattle.handler_trees.specs.declared.stmt.Stmt.{Stmt, roll-Stmt, map-Stmt}
-use Rattle.handler_trees.specs.declared.stmt.Stmt.TheFolds.{ind-Stmt}
-use Rattle.handler_trees.specs.declared.stmt.Stmt.TheOpen.{Stmt-F}
-use Rattle.handler_trees.specs.declared.stmt.Stmt.TheVariants as stmt
+use Rattle.syntax_trees.specs.declared.expr.Expr.{Expr}
+use Rattle.syntax_trees.specs.declared.stmt.Call.{Call}
+use Rattle.syntax_trees.specs.declared.stmt.Cond.{Cond}
+use Rattle.syntax_trees.specs.declared.stmt.Right.{Right}
+use Rattle.syntax_trees.specs.declared.stmt.Stmt.{Stmt, roll-Stmt, map-Stmt}
+use Rattle.syntax_trees.specs.declared.stmt.Stmt.TheFolds.{ind-Stmt}
+use Rattle.syntax_trees.specs.declared.stmt.Stmt.TheOpen.{Stmt-F}
+use Rattle.syntax_trees.specs.declared.stmt.Stmt.TheVariants as stmt
 
 -- what holds of each kind of statement where it holds of those inside
 pub record EachHolds (P : Stmt → Type 0) : Type 0 where

@@ -3,24 +3,24 @@ use Rattle.std.proofs.Common.{◌≡◌, ℕ, suc, zero, ◌<◌, ◌==◌, Bool
 use Rattle.std.proofs.lemmas.Bool.Decides.{nat_tests}
 use Rattle.std.proofs.lemmas.List.Elements.{Contains-append_left, Contains-append_right, Contains-append_cases, Contains-push}
 use Rattle.std.specs.List.{Contains, flat_map}
-use Rattle.handler_trees.specs.declared.expr.Atom.{Atom}
-use Rattle.handler_trees.specs.declared.expr.Atom.TheVariants as atom
-use Rattle.handler_trees.specs.declared.expr.Expr.{Expr}
-use Rattle.handler_trees.specs.declared.stmt.Call.{Call}
-use Rattle.handler_trees.specs.declared.stmt.Cond.{Cond}
-use Rattle.handler_trees.specs.declared.stmt.Right.{Right}
-use Rattle.handler_trees.specs.declared.stmt.Right.TheVariants as right
-use Rattle.handler_trees.specs.declared.file.File.{File}
-use Rattle.handler_trees.specs.declared.file.Handler.{Handler}
-use Rattle.handler_trees.specs.declared.file.Param.{Param}
-use Rattle.handler_rules.specs.declared.refusal.CheckRefusal.TheVariants.{Twice, Unknown}
-use Rattle.handler_rules.specs.FirstFault.{KeepsRules}
-use Rattle.handler_rules.specs.Marks.{Mark, Declared, Mentioned, Operation, OnTable, Turns, declared, seeing, atom_marks, expr_marks, call_marks, right_marks, cond_marks, marks, param_marks, param_names, handler_marks}
-use Rattle.handler_rules.specs.Rules.{Stands, IsTwice}
-use Rattle.handler_rules.specs.Scan.{is_among}
-use Rattle.handler_rules.specs.Source.{Source, Finish, Let, Assign, Do, Choose, Repeat, Answer, block_source}
-use Rattle.handler_rules.proofs.Finds.{among_in, in_among}
-use Rattle.handler_rules.proofs.Texts.{declared_append}
+use Rattle.syntax_trees.specs.declared.expr.Atom.{Atom}
+use Rattle.syntax_trees.specs.declared.expr.Atom.TheVariants as atom
+use Rattle.syntax_trees.specs.declared.expr.Expr.{Expr}
+use Rattle.syntax_trees.specs.declared.stmt.Call.{Call}
+use Rattle.syntax_trees.specs.declared.stmt.Cond.{Cond}
+use Rattle.syntax_trees.specs.declared.stmt.Right.{Right}
+use Rattle.syntax_trees.specs.declared.stmt.Right.TheVariants as right
+use Rattle.syntax_trees.specs.declared.file.File.{File}
+use Rattle.syntax_trees.specs.declared.file.Handler.{Handler}
+use Rattle.syntax_trees.specs.declared.file.Param.{Param}
+use Rattle.check_rules.specs.declared.refusal.CheckRefusal.TheVariants.{Twice, Unknown}
+use Rattle.check_rules.specs.FirstFault.{KeepsRules}
+use Rattle.check_rules.specs.Marks.{Mark, Declared, Mentioned, Operation, OnTable, Turns, declared, seeing, atom_marks, expr_marks, call_marks, right_marks, cond_marks, marks, param_marks, param_names, handler_marks}
+use Rattle.check_rules.specs.Rules.{Stands, IsTwice}
+use Rattle.check_rules.specs.Scan.{is_among}
+use Rattle.check_rules.specs.Source.{Source, Finish, Let, Assign, Do, Choose, Repeat, Answer, block_source}
+use Rattle.check_rules.proofs.Finds.{among_in, in_among}
+use Rattle.check_rules.proofs.Texts.{declared_append}
 use Rattle.handler_check.specs.Resolved.{number_in, variables_of, StandsFor}
 use Rattle.handler_check.proofs.Cases.{expr_induction, marks_leaf, marks_binary}
 use Rattle.handler_check.proofs.Scans.{params_declared, expr_declares, right_declares, call_declares, cond_declares, all_declare}

@@ -1,24 +1,24 @@
 -- Scans of texts, part by part.
 use Rattle.std.proofs.Common.{◌≡◌, ◌≢◌, ℕ, List, [], ◌∷◌, ◌++◌, append-nil, append_assoc, Some, None, Result, Err, refl, sym, ap, ◌∙◌, subst}
 use Rattle.std.specs.List.{flat_map}
-use Rattle.handler_trees.specs.declared.expr.Atom.{Atom}
-use Rattle.handler_trees.specs.declared.expr.Atom.TheVariants as atom
-use Rattle.handler_trees.specs.declared.expr.Expr.{Expr}
-use Rattle.handler_trees.specs.declared.stmt.Call.{Call}
-use Rattle.handler_trees.specs.declared.stmt.Cond.{Cond}
-use Rattle.handler_trees.specs.declared.stmt.Right.{Right}
-use Rattle.handler_trees.specs.declared.stmt.Right.TheVariants as right
-use Rattle.handler_trees.specs.declared.stmt.Stmt.{Stmt}
-use Rattle.handler_trees.specs.declared.stmt.Stmt.TheVariants as stmt
-use Rattle.handler_trees.specs.declared.file.Param.{Param}
-use Rattle.handler_trees.specs.declared.file.TableDecl.{TableDecl}
-use Rattle.handler_rules.specs.declared.refusal.CheckRefusal.{CheckRefusal}
-use Rattle.handler_rules.specs.declared.refusal.CheckRefusal.TheVariants.{NoMemory}
-use Rattle.handler_rules.specs.Marks.{Mark, Declared, Mentioned, Operation, OnTable, Turns, declared, sees, seeing, atom_marks, expr_marks, call_marks, right_marks, cond_marks, marks, param_marks, param_names}
-use Rattle.handler_rules.specs.Scan.{Fault, or_else, Limit, mark_fault, scan, Found}
-use Rattle.handler_rules.specs.Source.{Source, Finish, Let, Assign, Do, Choose, Repeat, Answer, stmt_source, block_source}
-use Rattle.handler_rules.proofs.Finds.{sees_none}
-use Rattle.handler_rules.proofs.Texts.{declared_append}
+use Rattle.syntax_trees.specs.declared.expr.Atom.{Atom}
+use Rattle.syntax_trees.specs.declared.expr.Atom.TheVariants as atom
+use Rattle.syntax_trees.specs.declared.expr.Expr.{Expr}
+use Rattle.syntax_trees.specs.declared.stmt.Call.{Call}
+use Rattle.syntax_trees.specs.declared.stmt.Cond.{Cond}
+use Rattle.syntax_trees.specs.declared.stmt.Right.{Right}
+use Rattle.syntax_trees.specs.declared.stmt.Right.TheVariants as right
+use Rattle.syntax_trees.specs.declared.stmt.Stmt.{Stmt}
+use Rattle.syntax_trees.specs.declared.stmt.Stmt.TheVariants as stmt
+use Rattle.syntax_trees.specs.declared.file.Param.{Param}
+use Rattle.syntax_trees.specs.declared.file.TableDecl.{TableDecl}
+use Rattle.check_rules.specs.declared.refusal.CheckRefusal.{CheckRefusal}
+use Rattle.check_rules.specs.declared.refusal.CheckRefusal.TheVariants.{NoMemory}
+use Rattle.check_rules.specs.Marks.{Mark, Declared, Mentioned, Operation, OnTable, Turns, declared, sees, seeing, atom_marks, expr_marks, call_marks, right_marks, cond_marks, marks, param_marks, param_names}
+use Rattle.check_rules.specs.Scan.{Fault, or_else, Limit, mark_fault, scan, Found}
+use Rattle.check_rules.specs.Source.{Source, Finish, Let, Assign, Do, Choose, Repeat, Answer, stmt_source, block_source}
+use Rattle.check_rules.proofs.Finds.{sees_none}
+use Rattle.check_rules.proofs.Texts.{declared_append}
 use Rattle.handler_check.specs.Shown.{first_shown, shown}
 use Rattle.handler_check.proofs.Cases.{expr_induction, stmt_cases, marks_leaf, marks_binary, source_let, source_assign, source_call, source_choose, source_repeat, source_reply}
 

@@ -2,22 +2,22 @@
 use Rattle.std.proofs.Common.{◌≡◌, ℕ, ◌+◌, ◌<◌, ◌≤◌, ◌==◌, List, [], ◌∷◌, ◌++◌, append-nil, append_assoc, length, map, get_or, drop, Some, None, Result, Ok, Err, OnOk, if◌then◌else◌, sym, ap, ◌∙◌}
 use Rattle.std.proofs.lemmas.List.{drop_more, drop_all}
 use Rattle.std.specs.List.{flat_map}
-use Rattle.handler_trees.specs.declared.expr.Calc.{Calc}
-use Rattle.handler_trees.specs.declared.expr.Expr.{Expr}
-use Rattle.handler_trees.specs.declared.expr.Expr.TheVariants as expr
-use Rattle.handler_trees.specs.declared.stmt.Call.{Call}
-use Rattle.handler_trees.specs.declared.stmt.Cond.{Cond}
-use Rattle.handler_trees.specs.declared.stmt.Right.{Right}
-use Rattle.handler_trees.specs.declared.stmt.Stmt.{Stmt}
-use Rattle.handler_trees.specs.declared.stmt.Stmt.TheVariants as stmt
-use Rattle.handler_trees.specs.declared.file.Handler.{Handler}
-use Rattle.handler_trees.specs.declared.file.Param.{Param}
-use Rattle.handler_trees.specs.declared.file.TableDecl.{TableDecl}
-use Rattle.handler_rules.specs.Marks.{Mark, Declared, Mentioned, Turns, declared, seeing, expr_marks, call_marks, right_marks, cond_marks, marks, handler_marks, param_marks, param_names}
-use Rattle.handler_rules.specs.Rules.{kind_of}
-use Rattle.handler_rules.specs.Scan.{Fault, or_else, declared_fault, turns_fault, Limit, of_handlers, of_variables, scan, scan_handlers}
-use Rattle.handler_rules.specs.Source.{Finish, stmt_source, block_source}
-use Rattle.handler_rules.proofs.Texts.{declared_append}
+use Rattle.syntax_trees.specs.declared.expr.Calc.{Calc}
+use Rattle.syntax_trees.specs.declared.expr.Expr.{Expr}
+use Rattle.syntax_trees.specs.declared.expr.Expr.TheVariants as expr
+use Rattle.syntax_trees.specs.declared.stmt.Call.{Call}
+use Rattle.syntax_trees.specs.declared.stmt.Cond.{Cond}
+use Rattle.syntax_trees.specs.declared.stmt.Right.{Right}
+use Rattle.syntax_trees.specs.declared.stmt.Stmt.{Stmt}
+use Rattle.syntax_trees.specs.declared.stmt.Stmt.TheVariants as stmt
+use Rattle.syntax_trees.specs.declared.file.Handler.{Handler}
+use Rattle.syntax_trees.specs.declared.file.Param.{Param}
+use Rattle.syntax_trees.specs.declared.file.TableDecl.{TableDecl}
+use Rattle.check_rules.specs.Marks.{Mark, Declared, Mentioned, Turns, declared, seeing, expr_marks, call_marks, right_marks, cond_marks, marks, handler_marks, param_marks, param_names}
+use Rattle.check_rules.specs.Rules.{kind_of}
+use Rattle.check_rules.specs.Scan.{Fault, or_else, declared_fault, turns_fault, Limit, of_handlers, of_variables, scan, scan_handlers}
+use Rattle.check_rules.specs.Source.{Finish, stmt_source, block_source}
+use Rattle.check_rules.proofs.Texts.{declared_append}
 use Rattle.handler_check.specs.Shown.{first_shown, shown}
 use Rattle.handler_check.proofs.Cases.{marks_binary, source_let, source_assign, source_call, source_choose, source_repeat, source_reply}
 use Rattle.handler_check.proofs.Scans.{scan_append, scan_seeing, declared_seeing, expr_declares, right_declares, call_declares, cond_declares, all_declare, params_declared, scan_stmt, declared_stmt}

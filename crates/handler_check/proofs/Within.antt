@@ -5,11 +5,11 @@ use Rattle.std.proofs.lemmas.Option.{slice_get_within, get_or_from_slice_get}
 use Rattle.std.proofs.Math.Nat.{mul-le-mul_left}
 use Rattle.std.specs.List.{Contains}
 use Rattle.session_values.specs.Kinds.{is_adding}
-use Rattle.handler_trees.specs.declared.file.File.{File}
-use Rattle.handler_trees.specs.declared.file.Handler.{Handler}
-use Rattle.handler_dialogue.specs.Bounds.{bound, adding, calls_bound, adds_bound, work_bound}
-use Rattle.handler_dialogue.specs.Code.{Code, Finish, Move, Ask, Fork, Loop, Quit}
-use Rattle.handler_rules.specs.declared.refusal.CheckRefusal.TheVariants.{TooManyCalls, TooMuchWork}
+use Rattle.syntax_trees.specs.declared.file.File.{File}
+use Rattle.syntax_trees.specs.declared.file.Handler.{Handler}
+use Rattle.check_meaning.specs.Bounds.{bound, adding, calls_bound, adds_bound, work_bound}
+use Rattle.check_meaning.specs.Code.{Code, Finish, Move, Ask, Fork, Loop, Quit}
+use Rattle.check_rules.specs.declared.refusal.CheckRefusal.TheVariants.{TooManyCalls, TooMuchWork}
 use Rattle.handler_check.specs.Checking.{IsAccepted}
 use Rattle.handler_check.specs.Resolved.{handler_code}
 

@@ -2,12 +2,12 @@
 use Rattle.std.specs.Prelude.{◌≡◌, ℕ, ◌≤◌, List}
 use Rattle.std.specs.List.{AllZip}
 use Rattle.session_limits.specs.Limits.{max_calls, max_variables, max_work}
-use Rattle.handler_trees.specs.declared.file.File.{File}
-use Rattle.handler_dialogue.specs.declared.tree.CheckedHandler.{CheckedHandler}
-use Rattle.handler_dialogue.specs.Bounds.{calls_bound, work_bound}
-use Rattle.handler_dialogue.specs.Code.{IsNumbered, block_code}
-use Rattle.handler_dialogue.specs.Within.{CodeWithin}
-use Rattle.handler_rules.specs.Bounds.{KeepsBounds}
+use Rattle.syntax_trees.specs.declared.file.File.{File}
+use Rattle.check_meaning.specs.declared.tree.CheckedHandler.{CheckedHandler}
+use Rattle.check_meaning.specs.Bounds.{calls_bound, work_bound}
+use Rattle.check_meaning.specs.Code.{IsNumbered, block_code}
+use Rattle.check_meaning.specs.Within.{CodeWithin}
+use Rattle.check_rules.specs.Bounds.{KeepsBounds}
 use Rattle.handler_check.specs.declared.bounds.HandlerBounds.{HandlerBounds}
 use Rattle.handler_check.specs.Checking.{IsAccepted}
 use Rattle.handler_check.specs.Resolved.{IsResolved, code_at, params_at, shape_of, table_names}

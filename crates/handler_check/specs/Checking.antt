@@ -2,12 +2,12 @@
 use Rattle.std.specs.Prelude.{◌≡◌, ◌<◌, ◌⊎◌}
 use Rattle.std.specs.List.{Contains}
 use Rattle.session_limits.specs.Limits.{max_calls, max_work}
-use Rattle.handler_trees.specs.declared.file.File.{File}
-use Rattle.handler_trees.specs.declared.file.Handler.{Handler}
-use Rattle.handler_dialogue.specs.Bounds.{calls_bound, work_bound}
-use Rattle.handler_rules.specs.declared.refusal.CheckRefusal.{CheckRefusal}
-use Rattle.handler_rules.specs.declared.refusal.CheckRefusal.TheVariants.{Twice, Unknown, Arity, WrongTable, RepeatBound, TooManyTables, TooManyHandlers, TooManyVariables, TooManyCalls, TooMuchWork, NoMemory}
-use Rattle.handler_rules.specs.FirstFault.{IsFirst, IsFirstFault, KeepsRules}
+use Rattle.syntax_trees.specs.declared.file.File.{File}
+use Rattle.syntax_trees.specs.declared.file.Handler.{Handler}
+use Rattle.check_meaning.specs.Bounds.{calls_bound, work_bound}
+use Rattle.check_rules.specs.declared.refusal.CheckRefusal.{CheckRefusal}
+use Rattle.check_rules.specs.declared.refusal.CheckRefusal.TheVariants.{Twice, Unknown, Arity, WrongTable, RepeatBound, TooManyTables, TooManyHandlers, TooManyVariables, TooManyCalls, TooMuchWork, NoMemory}
+use Rattle.check_rules.specs.FirstFault.{IsFirst, IsFirstFault, KeepsRules}
 use Rattle.handler_check.specs.Resolved.{handler_code}
 
 -- a handler that may do too much, at the place of its name

@@ -1,5 +1,5 @@
 -- Which operations a bound counts.
-use Rattle.handler_dialogue.specs.Bounds.{Weight, every, adding}
+use Rattle.check_meaning.specs.Bounds.{Weight, every, adding}
 use Rattle.handler_check.specs.declared.bounds.Counted.{Counted}
 use Rattle.handler_check.specs.declared.bounds.Counted.TheVariants.{Every, Adding}
 

@@ -2,12 +2,12 @@
 use Rattle.std.specs.Prelude.{◌≡◌, ℕ, nat_lt, List, [], ◌∷◌, None}
 use Rattle.std.specs.List.{AllZip}
 use Rattle.session_limits.specs.Limits.{max_calls, max_work}
-use Rattle.handler_trees.specs.declared.file.Handler.{Handler}
-use Rattle.handler_dialogue.specs.declared.tree.CheckedHandler.{CheckedHandler}
-use Rattle.handler_dialogue.specs.Bounds.{calls_bound, work_bound}
-use Rattle.handler_dialogue.specs.Code.{Code, block_code}
-use Rattle.handler_rules.specs.declared.refusal.CheckRefusal.TheVariants.{TooManyCalls, TooMuchWork}
-use Rattle.handler_rules.specs.Scan.{Fault, or_else, fault_if}
+use Rattle.syntax_trees.specs.declared.file.Handler.{Handler}
+use Rattle.check_meaning.specs.declared.tree.CheckedHandler.{CheckedHandler}
+use Rattle.check_meaning.specs.Bounds.{calls_bound, work_bound}
+use Rattle.check_meaning.specs.Code.{Code, block_code}
+use Rattle.check_rules.specs.declared.refusal.CheckRefusal.TheVariants.{TooManyCalls, TooMuchWork}
+use Rattle.check_rules.specs.Scan.{Fault, or_else, fault_if}
 use Rattle.handler_check.specs.Resolved.{IsResolved}
 
 abbrev pub code_excess : Code → ℕ → Fault

@@ -5,24 +5,24 @@ use Rattle.session_values.specs.declared.value.Value.TheVariants.{Nil}
 use Rattle.session_values.specs.declared.kind.Kind.{Kind}
 use Rattle.session_values.specs.declared.kind.TableKind.{TableKind}
 use Rattle.session_values.specs.Kinds.{home}
-use Rattle.handler_trees.specs.declared.expr.Atom.{Atom as Named}
-use Rattle.handler_trees.specs.declared.expr.Atom.TheVariants as named
-use Rattle.handler_trees.specs.declared.expr.Expr.{Expr, fold-Expr}
-use Rattle.handler_trees.specs.declared.expr.Expr.TheOpen.{Expr-F}
-use Rattle.handler_trees.specs.declared.stmt.Call.{Call}
-use Rattle.handler_trees.specs.declared.stmt.Cond.{Cond}
-use Rattle.handler_trees.specs.declared.stmt.Right.{Right}
-use Rattle.handler_trees.specs.declared.stmt.Right.TheVariants as right
-use Rattle.handler_trees.specs.declared.file.File.{File}
-use Rattle.handler_trees.specs.declared.file.Handler.{Handler}
-use Rattle.handler_trees.specs.declared.file.TableDecl.{TableDecl}
-use Rattle.handler_rules.specs.Marks.{Mark, declared, handler_marks}
-use Rattle.handler_rules.specs.Source.{Source, Finish, Let, Assign, Do, Choose, Repeat, Answer, block_source}
-use Rattle.handler_dialogue.specs.declared.tree.CheckedAtom.{CheckedAtom}
-use Rattle.handler_dialogue.specs.declared.tree.CheckedAtom.TheVariants.{Lit, Var}
-use Rattle.handler_dialogue.specs.declared.tree.CheckedCall.{CheckedCall}
-use Rattle.handler_dialogue.specs.declared.tree.CheckedHandler.{CheckedHandler}
-use Rattle.handler_dialogue.specs.Code as code
+use Rattle.syntax_trees.specs.declared.expr.Atom.{Atom as Named}
+use Rattle.syntax_trees.specs.declared.expr.Atom.TheVariants as named
+use Rattle.syntax_trees.specs.declared.expr.Expr.{Expr, fold-Expr}
+use Rattle.syntax_trees.specs.declared.expr.Expr.TheOpen.{Expr-F}
+use Rattle.syntax_trees.specs.declared.stmt.Call.{Call}
+use Rattle.syntax_trees.specs.declared.stmt.Cond.{Cond}
+use Rattle.syntax_trees.specs.declared.stmt.Right.{Right}
+use Rattle.syntax_trees.specs.declared.stmt.Right.TheVariants as right
+use Rattle.syntax_trees.specs.declared.file.File.{File}
+use Rattle.syntax_trees.specs.declared.file.Handler.{Handler}
+use Rattle.syntax_trees.specs.declared.file.TableDecl.{TableDecl}
+use Rattle.check_rules.specs.Marks.{Mark, declared, handler_marks}
+use Rattle.check_rules.specs.Source.{Source, Finish, Let, Assign, Do, Choose, Repeat, Answer, block_source}
+use Rattle.check_meaning.specs.declared.tree.CheckedAtom.{CheckedAtom}
+use Rattle.check_meaning.specs.declared.tree.CheckedAtom.TheVariants.{Lit, Var}
+use Rattle.check_meaning.specs.declared.tree.CheckedCall.{CheckedCall}
+use Rattle.check_meaning.specs.declared.tree.CheckedHandler.{CheckedHandler}
+use Rattle.check_meaning.specs.Code as code
 
 -- the number of a name's first declaration, or the number of declarations where there is none
 abbrev pub number_in : List ℕ → ℕ → ℕ

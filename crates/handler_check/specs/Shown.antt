@@ -1,7 +1,7 @@
 -- The variable that a statement makes visible behind it.
 use Rattle.std.specs.Prelude.{ℕ, List, [], ◌∷◌}
-use Rattle.handler_rules.specs.Source.{Source, Finish, Let, Assign, Do, Choose, Repeat, Answer, stmt_source}
-use Rattle.handler_trees.specs.declared.stmt.Stmt.{Stmt}
+use Rattle.check_rules.specs.Source.{Source, Finish, Let, Assign, Do, Choose, Repeat, Answer, stmt_source}
+use Rattle.syntax_trees.specs.declared.stmt.Stmt.{Stmt}
 
 abbrev pub first_shown : Source → List ℕ
 first_shown Finish = []

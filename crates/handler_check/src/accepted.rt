@@ -1,22 +1,22 @@
 // Accepted files.
 
 ghost use Rattle.std.specs.Prelude.{◌≡◌, ◌≢◌, ◌<◌, ◌≤◌, IfOk, MatchResult, Some, length, slice_get};
-ghost use Rattle.handler_trees.specs.declared.file.Handler.{Handler};
+ghost use Rattle.syntax_trees.specs.declared.file.Handler.{Handler};
 ghost use Rattle.handler_check.specs.Checked.{HandlerWithin};
 ghost use Rattle.handler_check.specs.Checking.{IsAccepted, IsRefusal};
 ghost use Rattle.handler_check.specs.Resolved.{IsResolved, code_at, table_names};
-ghost use Rattle.handler_dialogue.specs.Code.{block_code};
-ghost use Rattle.handler_rules.specs.Bounds.{KeepsBounds};
-ghost use Rattle.handler_rules.specs.declared.refusal.CheckRefusal.TheVariants as refusal;
-ghost use Rattle.handler_rules.specs.FirstFault.{PlacesRise};
+ghost use Rattle.check_meaning.specs.Code.{block_code};
+ghost use Rattle.check_rules.specs.Bounds.{KeepsBounds};
+ghost use Rattle.check_rules.specs.declared.refusal.CheckRefusal.TheVariants as refusal;
+ghost use Rattle.check_rules.specs.FirstFault.{PlacesRise};
 
 use crate::looking::{look, resolve_one};
-use handler_dialogue::CheckedHandler;
-use handler_rules::CheckRefusal;
-use handler_trees::File;
+use check_meaning::CheckedHandler;
+use check_rules::CheckRefusal;
 use session_values::NoMemory;
 use std::alloc::Global;
 use std::marker::Model;
+use syntax_trees::File;
 
 /// A file of handlers that breaks no rule. Contracts see it as the file. It keeps no resolved
 /// handlers, which would take as much memory again.
@@ -27,8 +27,8 @@ pub struct Accepted {
 
 impl Model for Accepted {
     ghost use Rattle.std.specs.Coded.{codes};
-    ghost use Rattle.handler_trees.specs.contracts.stmt.Stmt as stmt;
-    ghost use Rattle.handler_trees.specs.declared.file.File.{File as Tree};
+    ghost use Rattle.syntax_trees.specs.contracts.stmt.Stmt as stmt;
+    ghost use Rattle.syntax_trees.specs.declared.file.File.{File as Tree};
     ghost use Rattle.handler_check.specs.Checked.{IsKept};
 
     ghost Value = { Tree };

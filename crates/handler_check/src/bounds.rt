@@ -2,10 +2,10 @@
 
 ghost use Rattle.std.specs.Prelude.{◌≡◌, max, min};
 ghost use Rattle.handler_check.specs.Counted.{weight_of};
-ghost use Rattle.handler_dialogue.specs.Bounds.{bound, work_bound};
-ghost use Rattle.handler_dialogue.specs.Code.{Finish, block_code, stmt_code};
+ghost use Rattle.check_meaning.specs.Bounds.{bound, work_bound};
+ghost use Rattle.check_meaning.specs.Code.{Finish, block_code, stmt_code};
 
-use handler_dialogue::CheckedStmt;
+use check_meaning::CheckedStmt;
 use session_values::Kind;
 
 /// Which operations are counted.

@@ -3,25 +3,25 @@
 ghost use Rattle.std.specs.Prelude.{◌≡◌, ◌≢◌, ◌+◌, ◌<◌, ◌≤◌, ◌==◌, ℕ, IfNone, IfOk, IfSome, MatchResult, Some, length, slice_get};
 ghost use Rattle.std.specs.List.{position};
 ghost use Rattle.session_limits.specs.Limits.{max_calls, max_handlers, max_work};
-ghost use Rattle.handler_trees.specs.declared.file.Handler.{Handler};
+ghost use Rattle.syntax_trees.specs.declared.file.Handler.{Handler};
 ghost use Rattle.handler_check.specs.Checked.{HandlerWithin};
 ghost use Rattle.handler_check.specs.Checking.{IsAccepted, IsRefusal};
 ghost use Rattle.handler_check.specs.Resolved.{IsResolved, code_at, params_at, table_names};
-ghost use Rattle.handler_dialogue.specs.Bounds as spec;
-ghost use Rattle.handler_dialogue.specs.Code.{block_code, points};
-ghost use Rattle.handler_rules.specs.Bounds.{KeepsBounds};
-ghost use Rattle.handler_rules.specs.declared.refusal.CheckRefusal.TheVariants as refusal;
-ghost use Rattle.handler_rules.specs.FirstFault.{PlacesRise};
+ghost use Rattle.check_meaning.specs.Bounds as spec;
+ghost use Rattle.check_meaning.specs.Code.{block_code, points};
+ghost use Rattle.check_rules.specs.Bounds.{KeepsBounds};
+ghost use Rattle.check_rules.specs.declared.refusal.CheckRefusal.TheVariants as refusal;
+ghost use Rattle.check_rules.specs.FirstFault.{PlacesRise};
 
 use crate::bounds::{Counted, HandlerBounds, count_calls};
 use crate::excess::bound_all;
 use crate::resolution::resolve;
-use handler_dialogue::CheckedHandler;
-use handler_rules::CheckRefusal;
-use handler_trees::File;
+use check_meaning::CheckedHandler;
+use check_rules::CheckRefusal;
 use session_values::Listed;
 use std::alloc::Global;
 use std::marker::Model;
+use syntax_trees::File;
 
 /// A file of handlers that breaks no rule, beside its resolved handlers. Contracts see it as the
 /// file.
@@ -36,8 +36,8 @@ pub struct Checked {
 
 impl Model for Checked {
     ghost use Rattle.std.specs.Coded.{codes};
-    ghost use Rattle.handler_trees.specs.contracts.stmt.Stmt as stmt;
-    ghost use Rattle.handler_trees.specs.declared.file.File.{File as Tree};
+    ghost use Rattle.syntax_trees.specs.contracts.stmt.Stmt as stmt;
+    ghost use Rattle.syntax_trees.specs.declared.file.File.{File as Tree};
     ghost use Rattle.handler_check.specs.Checked.{IsChecked};
 
     ghost Value = { Tree };

@@ -4,13 +4,13 @@ ghost use Rattle.std.specs.Prelude.{◌≡◌, IfOk};
 ghost use Rattle.std.specs.List.{AllZip};
 ghost use Rattle.handler_check.specs.Checked.{AreBoundsOf};
 ghost use Rattle.handler_check.specs.Excess as spec;
-ghost use Rattle.handler_rules.specs.Scan.{Found};
+ghost use Rattle.check_rules.specs.Scan.{Found};
 
 use crate::bounds::{Counted, HandlerBounds, count_calls};
 use crate::resolution::listed;
 use crate::work::count_work;
-use handler_dialogue::CheckedHandler;
-use handler_rules::CheckRefusal;
+use check_meaning::CheckedHandler;
+use check_rules::CheckRefusal;
 use session_limits::{MAX_CALLS, MAX_WORK};
 use session_values::Listed;
 use std::alloc::Global;

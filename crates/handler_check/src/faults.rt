@@ -6,19 +6,19 @@ mod names;
 mod stmt;
 
 ghost use Rattle.std.specs.Prelude.{◌≡◌, ℕ, List, [], IfOk, map};
-ghost use Rattle.handler_trees.specs.declared.file.TableDecl.{TableDecl};
+ghost use Rattle.syntax_trees.specs.declared.file.TableDecl.{TableDecl};
 ghost use Rattle.handler_check.specs.Resolved.{variables_of};
-ghost use Rattle.handler_rules.specs.Marks.{handler_marks, param_marks, param_names, table_marks};
-ghost use Rattle.handler_rules.specs.Scan.{Found, of_tables, of_variables, scan};
+ghost use Rattle.check_rules.specs.Marks.{handler_marks, param_marks, param_names, table_marks};
+ghost use Rattle.check_rules.specs.Scan.{Found, of_tables, of_variables, scan};
 
 pub(crate) use self::names::declare;
 use self::names::declare_variable;
 use self::stmt::find_in_block;
-use handler_rules::CheckRefusal;
-use handler_trees::{Handler, Param, TableDecl};
+use check_rules::CheckRefusal;
 use session_limits::MAX_TABLES;
 use session_values::NoMemory;
 use std::alloc::Global;
+use syntax_trees::{Handler, Param, TableDecl};
 
 /// Finds the first fault among the names of tables; where there is none, the names.
 pub(crate) fn find_in_tables(alloc: Global, tables: &[TableDecl]) -> Result<Vec<u32>, CheckRefusal>

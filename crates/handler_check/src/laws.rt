@@ -3,20 +3,20 @@
 ghost use Rattle.std.specs.Prelude.{◌≡◌, ◌≤◌, ◌⊎◌, ℕ, List, length};
 ghost use Rattle.std.specs.List.{Contains};
 ghost use Rattle.session_limits.specs.Limits.{max_handlers, max_tables};
-ghost use Rattle.handler_trees.specs.declared.file.File.{File};
-ghost use Rattle.handler_trees.specs.declared.file.Handler.{Handler};
+ghost use Rattle.syntax_trees.specs.declared.file.File.{File};
+ghost use Rattle.syntax_trees.specs.declared.file.Handler.{Handler};
 ghost use Rattle.session_values.specs.declared.kind.Kind.{Kind};
 ghost use Rattle.handler_check.specs.Checked.{HandlerWithin};
 ghost use Rattle.handler_check.specs.Checking.{IsAccepted, IsRefusal};
 ghost use Rattle.handler_check.specs.Resolved.{StandsFor, StandsForTable, handler_code, number_in, points_of, table_names, variables_of};
-ghost use Rattle.handler_dialogue.specs.Code.{IsNumbered, points};
-ghost use Rattle.handler_rules.specs.Bounds.{KeepsBounds};
-ghost use Rattle.handler_rules.specs.declared.refusal.CheckRefusal.{CheckRefusal};
-ghost use Rattle.handler_rules.specs.declared.refusal.CheckRefusal.TheVariants as refusal;
-ghost use Rattle.handler_rules.specs.FirstFault.{KeepsRules, PlacesRise};
-ghost use Rattle.handler_rules.specs.Marks.{Mark, Mentioned, OnTable, handler_marks};
-ghost use Rattle.handler_rules.specs.Rules.{Stands};
-ghost use Rattle.handler_rules.specs.Source.{block_source};
+ghost use Rattle.check_meaning.specs.Code.{IsNumbered, points};
+ghost use Rattle.check_rules.specs.Bounds.{KeepsBounds};
+ghost use Rattle.check_rules.specs.declared.refusal.CheckRefusal.{CheckRefusal};
+ghost use Rattle.check_rules.specs.declared.refusal.CheckRefusal.TheVariants as refusal;
+ghost use Rattle.check_rules.specs.FirstFault.{KeepsRules, PlacesRise};
+ghost use Rattle.check_rules.specs.Marks.{Mark, Mentioned, OnTable, handler_marks};
+ghost use Rattle.check_rules.specs.Rules.{Stands};
+ghost use Rattle.check_rules.specs.Source.{block_source};
 
 /// The points of a resolved handler are numbered in the order of its text, from 1 behind its entry.
 pub fn points_are_numbered()

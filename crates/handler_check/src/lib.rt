@@ -12,5 +12,5 @@ mod resolution;
 mod work;
 
 pub use accepted::{Accepted, accept};
+pub use check_rules::CheckRefusal;
 pub use checked::{Checked, check};
-pub use handler_rules::CheckRefusal;

@@ -3,20 +3,20 @@
 ghost use Rattle.std.specs.Prelude.{◌≡◌, ◌≢◌, ◌<◌, ◌^◌, [], IfOk, MatchResult, Some, length, slice_get};
 ghost use Rattle.handler_check.specs.Excess as spec;
 ghost use Rattle.handler_check.specs.Resolved.{IsResolved, table_names};
-ghost use Rattle.handler_rules.specs.declared.refusal.CheckRefusal.TheVariants as refusal;
-ghost use Rattle.handler_rules.specs.FirstFault.{IsFirstFault, KeepsRules, PlacesRise};
-ghost use Rattle.handler_rules.specs.Scan.{Found, file_fault, or_else, scan_handlers};
-ghost use Rattle.handler_trees.specs.declared.file.Handler.{Handler};
+ghost use Rattle.check_rules.specs.declared.refusal.CheckRefusal.TheVariants as refusal;
+ghost use Rattle.check_rules.specs.FirstFault.{IsFirstFault, KeepsRules, PlacesRise};
+ghost use Rattle.check_rules.specs.Scan.{Found, file_fault, or_else, scan_handlers};
+ghost use Rattle.syntax_trees.specs.declared.file.Handler.{Handler};
 
 use crate::excess::excess;
 use crate::faults::{declare, find_in_tables};
 use crate::resolution::{listed, resolve_handler};
-use handler_dialogue::CheckedHandler;
-use handler_rules::CheckRefusal;
-use handler_rules::laws::walk_finds_first;
-use handler_trees::{File, Handler, TableDecl};
+use check_meaning::CheckedHandler;
+use check_rules::CheckRefusal;
+use check_rules::laws::walk_finds_first;
 use session_limits::MAX_HANDLERS;
 use std::alloc::Global;
+use syntax_trees::{File, Handler, TableDecl};
 
 fn first_of(one: Option<CheckRefusal>, other: Option<CheckRefusal>) -> Option<CheckRefusal>
     ensures { result ≡ or_else one other }

@@ -5,23 +5,23 @@ mod expr;
 ghost use Rattle.std.specs.Prelude.{◌≡◌, ◌≢◌, ◌+◌, ◌<◌, ◌^◌, [], IfOk, MatchResult, OnOk, length};
 ghost use Rattle.std.specs.List.{AllZip};
 ghost use Rattle.handler_check.specs.Resolved as spec;
-ghost use Rattle.handler_dialogue.specs.Code.{Code, Ask, block_code, stmt_code};
-ghost use Rattle.handler_rules.specs.declared.refusal.CheckRefusal.TheVariants as refusal;
-ghost use Rattle.handler_rules.specs.FirstFault.{IsFirstFault, KeepsRules, PlacesRise};
-ghost use Rattle.handler_rules.specs.Marks.{handler_marks};
-ghost use Rattle.handler_rules.specs.Scan.{Found, file_fault, of_variables, scan, scan_handlers};
-ghost use Rattle.handler_rules.specs.Source.{Source, block_source, stmt_source};
+ghost use Rattle.check_meaning.specs.Code.{Code, Ask, block_code, stmt_code};
+ghost use Rattle.check_rules.specs.declared.refusal.CheckRefusal.TheVariants as refusal;
+ghost use Rattle.check_rules.specs.FirstFault.{IsFirstFault, KeepsRules, PlacesRise};
+ghost use Rattle.check_rules.specs.Marks.{handler_marks};
+ghost use Rattle.check_rules.specs.Scan.{Found, file_fault, of_variables, scan, scan_handlers};
+ghost use Rattle.check_rules.specs.Source.{Source, block_source, stmt_source};
 
 pub(crate) use self::expr::listed;
 use self::expr::{number_in, resolve_call, resolve_cond, resolve_expr, resolve_values};
 use crate::faults::{declare, find_in_handler, find_in_tables};
-use handler_dialogue::{CheckedBlock, CheckedHandler, CheckedStmt};
-use handler_rules::CheckRefusal;
-use handler_rules::laws::walk_finds_first;
-use handler_trees::{Call, File, Handler, Right, Stmt, TableDecl};
+use check_meaning::{CheckedBlock, CheckedHandler, CheckedStmt};
+use check_rules::CheckRefusal;
+use check_rules::laws::walk_finds_first;
 use session_limits::MAX_HANDLERS;
 use session_values::{Listed, NoMemory};
 use std::alloc::Global;
+use syntax_trees::{Call, File, Handler, Right, Stmt, TableDecl};
 
 /// Takes the number of the next point.
 fn next_point(points: &mut u32) -> Result<u32, NoMemory>

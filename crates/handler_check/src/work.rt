@@ -1,11 +1,11 @@
 // How much work a resolved handler may do, by its text alone.
 
 ghost use Rattle.std.specs.Prelude.{◌≡◌, min};
-ghost use Rattle.handler_dialogue.specs.Bounds.{work_bound};
-ghost use Rattle.handler_dialogue.specs.Code.{Finish, block_code, stmt_code};
+ghost use Rattle.check_meaning.specs.Bounds.{work_bound};
+ghost use Rattle.check_meaning.specs.Code.{Finish, block_code, stmt_code};
 
 use crate::bounds::larger;
-use handler_dialogue::CheckedStmt;
+use check_meaning::CheckedStmt;
 
 #[cycle(working)]
 fn work_of(s: &CheckedStmt) -> u32

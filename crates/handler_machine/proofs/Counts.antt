@@ -4,8 +4,8 @@ use Rattle.std.specs.Prelude.{pos}
 use Rattle.std.specs.List.{AllByRecursion}
 use Rattle.session_values.specs.declared.value.Value.{Value}
 use Rattle.session_values.specs.declared.value.Value.TheVariants.{Num}
-use Rattle.handler_dialogue.specs.Code.{Code, Finish, Move, Ask, Fork, Loop, Quit, IsNumbered, points}
-use Rattle.handler_dialogue.specs.Dialogue.{Env, with_value, value_of, holds, with_reply, Place, Outcome, Calls, Answers, Goes, after, then_do, pass, turns, run, passed_by}
+use Rattle.check_meaning.specs.Code.{Code, Finish, Move, Ask, Fork, Loop, Quit, IsNumbered, points}
+use Rattle.check_meaning.specs.Dialogue.{Env, with_value, value_of, holds, with_reply, Place, Outcome, Calls, Answers, Goes, after, then_do, pass, turns, run, passed_by}
 use Rattle.handler_machine.specs.Serving.{replied_count}
 use Rattle.handler_machine.proofs.Places.{count_append}
 

@@ -14,17 +14,17 @@ use Rattle.session_values.specs.Sums.{sum_below}
 use Rattle.session_values.specs.Values.{IsValue}
 use Rattle.symbolic_ops.specs.declared.symbol.Symbol.{Symbol}
 use Rattle.session_journal.specs.Script.{HasValues, IsForesight, IsScript, adds_on, calls, room}
-use Rattle.handler_dialogue.specs.Bounds.{adding, adds_bound, calls_bound, weight_of}
-use Rattle.handler_dialogue.specs.Code.{Code, Finish, Move, Ask, Fork, Loop, Quit}
-use Rattle.handler_dialogue.specs.Dialogue.{Env, Place, entry, env_of, next, run, told_place, due_place}
-use Rattle.handler_dialogue.specs.Keeps.{IsHeldNext}
-use Rattle.handler_dialogue.proofs.Bounded.{counted, ends_by}
-use Rattle.handler_dialogue.proofs.Held.{calls_fit, keeps_values}
+use Rattle.check_meaning.specs.Bounds.{adding, adds_bound, calls_bound, weight_of}
+use Rattle.check_meaning.specs.Code.{Code, Finish, Move, Ask, Fork, Loop, Quit}
+use Rattle.check_meaning.specs.Dialogue.{Env, Place, entry, env_of, next, run, told_place, due_place}
+use Rattle.check_meaning.specs.Keeps.{IsHeldNext}
+use Rattle.check_meaning.proofs.Bounded.{counted, ends_by}
+use Rattle.check_meaning.proofs.Held.{calls_fit, keeps_values}
 use Rattle.handler_check.specs.Checked.{HandlerWithin}
 use Rattle.handler_check.specs.Resolved.{code_at, code_in, shape_of}
 use Rattle.handler_check.proofs.Codes.{all_within}
-use Rattle.handler_trees.specs.declared.file.File.{File}
-use Rattle.handler_trees.specs.declared.file.Handler.{Handler}
+use Rattle.syntax_trees.specs.declared.file.File.{File}
+use Rattle.syntax_trees.specs.declared.file.Handler.{Handler}
 use Rattle.request_files.specs.declared.request.Request.{Request}
 use Rattle.request_files.specs.Servable.{IsRequestOf}
 use Rattle.request_files.specs.Session.{request_at}

@@ -1,7 +1,7 @@
 -- The places of a run.
 use Rattle.std.proofs.Common.{◌≡◌, suc, ◌+◌, arith, Bool, true, false, if◌then◌else◌, List, [], ◌∷◌, ◌++◌, length, append_assoc, Result, Ok, Err, IsErr, MatchResult, OnErr, refl, sym, ap}
 use Rattle.session_values.specs.Dialogue.{Entry, replies}
-use Rattle.handler_dialogue.specs.Dialogue.{Place, Outcome, Calls, Answers, Goes, after, ended, last_place, last_replied, passed_by}
+use Rattle.check_meaning.specs.Dialogue.{Place, Outcome, Calls, Answers, Goes, after, ended, last_place, last_replied, passed_by}
 use Rattle.handler_machine.specs.Serving.{replied_count}
 
 pub after_none : (o : Outcome) → after [] o ≡ o

@@ -1,7 +1,7 @@
 -- The declarations of a handler of a program are lawful at each desk.
 use Rattle.std.proofs.Common.{◌+◌}
-use Rattle.handler_dialogue.specs.Code.{Code, IsNumbered, points}
-use Rattle.handler_dialogue.specs.Dialogue.{Env, entry, run}
+use Rattle.check_meaning.specs.Code.{Code, IsNumbered, points}
+use Rattle.check_meaning.specs.Dialogue.{Env, entry, run}
 use Rattle.declaration_insertion.specs.Promises.{ArePromised, Declarations}
 use Rattle.handler_machine.specs.Serving.{Promises}
 use Rattle.handler_machine.proofs.Counts.{counted, points_below}

@@ -13,9 +13,9 @@ use Rattle.symbolic_ops.specs.Instantiate.{ArgWithin, IsWithin}
 use Rattle.symbolic_ops.specs.Matching.{Covered, Matches}
 use Rattle.session_journal.specs.Desks.{DeskView, MayFinish, MayNarrow, due_of, finished, next_of, with_end, with_entry, with_present, with_waiting}
 use Rattle.ticket_serving.specs.Served.{IsServed}
-use Rattle.handler_dialogue.specs.Ahead.{Ahead, asked, passing}
-use Rattle.handler_dialogue.specs.Dialogue.{Env, Place, Outcome, Calls, after, ended, last_place, last_replied, pass, passed_by}
-use Rattle.handler_walk.proofs.Asked.{follows_more, replies_more}
+use Rattle.check_meaning.specs.Ahead.{Ahead, asked, passing}
+use Rattle.check_meaning.specs.Dialogue.{Env, Place, Outcome, Calls, after, ended, last_place, last_replied, pass, passed_by}
+use Rattle.machine_walk.proofs.Asked.{follows_more, replies_more}
 use Rattle.declaration_insertion.specs.Promises.{Declarations, IsCoveredChain, list_at}
 use Rattle.handler_machine.specs.Serving.{Course, Gives, Halted, IsAwaiting, IsServing, Promises, Serving, replied_count}
 use Rattle.handler_machine.proofs.Places.{after_none, after_snoc, count_append, ended_after, last_append, length_replies, none_replied, passed_after, replied_append}

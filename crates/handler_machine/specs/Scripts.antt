@@ -3,8 +3,8 @@ use Rattle.std.specs.Prelude.{List, length}
 use Rattle.session_values.specs.Tables.{start}
 use Rattle.symbolic_ops.specs.declared.symbol.Symbol.{Symbol}
 use Rattle.session_journal.specs.Script.{Meaning}
-use Rattle.handler_dialogue.specs.Bounds.{adds_bound, calls_bound}
-use Rattle.handler_dialogue.specs.Dialogue.{Place, due_place, entry, env_of, told_place}
+use Rattle.check_meaning.specs.Bounds.{adds_bound, calls_bound}
+use Rattle.check_meaning.specs.Dialogue.{Place, due_place, entry, env_of, told_place}
 use Rattle.handler_check.specs.Resolved.{code_at, shape_of}
 use Rattle.request_files.specs.declared.request.Request.{Request}
 use Rattle.request_files.specs.Servable.{IsServable}

@@ -9,10 +9,10 @@ use Rattle.session_values.specs.Values.{IsValue}
 use Rattle.symbolic_ops.specs.Matching.{HasNoVar, Matches}
 use Rattle.session_journal.specs.Desks.{DeskView}
 use Rattle.session_journal.specs.Script.{Meaning}
-use Rattle.handler_dialogue.specs.Ahead.{Ahead}
-use Rattle.handler_dialogue.specs.Code.{points}
+use Rattle.check_meaning.specs.Ahead.{Ahead}
+use Rattle.check_meaning.specs.Code.{points}
 use Rattle.handler_check.specs.Resolved.{code_at}
-use Rattle.handler_dialogue.specs.Dialogue.{Place, Calls, after, ended, last_place, last_replied, passed_by}
+use Rattle.check_meaning.specs.Dialogue.{Place, Calls, after, ended, last_place, last_replied, passed_by}
 use Rattle.declaration_insertion.specs.Program.{ProgramView, declared_at}
 use Rattle.declaration_insertion.specs.Promises.{Declarations, IsCoveredChain, list_at}
 

@@ -5,13 +5,13 @@ ghost use Rattle.session_limits.specs.Limits.{max_symbols, max_variables};
 ghost use Rattle.declaration_insertion.specs.Program.{declared_at};
 ghost use Rattle.declaration_insertion.specs.Promises.{symbol_at};
 ghost use Rattle.handler_check.specs.Resolved.{code_at};
-ghost use Rattle.handler_dialogue.specs.Code.{points};
-ghost use Rattle.handler_dialogue.specs.Dialogue.{env_of};
+ghost use Rattle.check_meaning.specs.Code.{points};
+ghost use Rattle.check_meaning.specs.Dialogue.{env_of};
 ghost use Rattle.handler_machine.specs.Serving.{Halted, IsAwaiting, IsServing, IsSettled};
 ghost use Rattle.handler_machine.specs.Serving.{course_of};
 
 use declaration_insertion::Program;
-use handler_walk::Guide;
+use machine_walk::Guide;
 use session_journal::Desk;
 use session_values::{NoMemory, Op, Value};
 use std::sync::Wait;

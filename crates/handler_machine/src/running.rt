@@ -1,12 +1,12 @@
 // Running a handler on what answers its operations.
 
 ghost use Rattle.std.specs.Prelude.{◌≡◌, ◌<◌, true, false, length, IfOk, OnErr};
-ghost use Rattle.handler_dialogue.specs.Dialogue.{env_of, next};
+ghost use Rattle.check_meaning.specs.Dialogue.{env_of, next};
 ghost use Rattle.handler_check.specs.Resolved.{code_at, params_at, shape_of};
-ghost use Rattle.handler_walk.specs.Asking.{Breaks, Runs, Stays};
+ghost use Rattle.machine_walk.specs.Asking.{Breaks, Runs, Stays};
 
 use handler_check::Checked;
-use handler_walk::{Answerer, run_body};
+use machine_walk::{Answerer, run_body};
 use session_values::{NoMemory, Reply, Value};
 use ticket_serving::Scratch;
 

@@ -7,7 +7,7 @@ use crate::serving::serve_one;
 use crate::sums::{args_of, count_adds, count_calls, handler_of};
 use declaration_insertion::Program;
 use handler_check::Checked;
-use handler_walk::set_up;
+use machine_walk::set_up;
 use request_files::Requests;
 use session_journal::{Desk, Script};
 use session_limits::MAX_VARIABLES;
@@ -30,7 +30,7 @@ pub struct Scripts<'a> {
 impl<'a> Model for Scripts<'a> {
     ghost use Rattle.std.specs.Prelude.{◌≡◌};
     ghost use Rattle.std.specs.Coded.{codes};
-    ghost use Rattle.handler_trees.specs.contracts.stmt.Stmt as stmt;
+    ghost use Rattle.syntax_trees.specs.contracts.stmt.Stmt as stmt;
     ghost use Rattle.handler_machine.specs.Scripts.{KeepsScripts, ScriptsView};
 
     ghost Value = { ScriptsView };

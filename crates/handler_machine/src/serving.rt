@@ -4,9 +4,9 @@ ghost use Rattle.std.specs.Prelude.{◌≡◌, ◌+◌, ◌≤◌, ◌<◌, [], 
 ghost use Rattle.std.specs.List.{AllByRecursion};
 ghost use Rattle.session_limits.specs.Limits.{max_symbols, max_variables};
 ghost use Rattle.session_values.specs.Values.{IsValue};
-ghost use Rattle.handler_dialogue.specs.Code.{block_code, points};
-ghost use Rattle.handler_dialogue.specs.Dialogue.{entry, env_of, run};
-ghost use Rattle.handler_walk.specs.Runnable.{IsRunnable};
+ghost use Rattle.check_meaning.specs.Code.{block_code, points};
+ghost use Rattle.check_meaning.specs.Dialogue.{entry, env_of, run};
+ghost use Rattle.machine_walk.specs.Runnable.{IsRunnable};
 ghost use Rattle.ticket_serving.specs.Served.{IsServed};
 ghost use Rattle.handler_check.specs.Resolved.{code_at, params_at};
 ghost use Rattle.declaration_insertion.specs.Promises.{list_at};
@@ -14,9 +14,9 @@ ghost use Rattle.declaration_insertion.specs.Program.{declared_at};
 ghost use Rattle.handler_machine.specs.Serving.{Gives, IsSettled, Promises};
 
 use crate::narrowing::Narrowing;
+use check_meaning::CheckedBlock;
 use declaration_insertion::Program;
-use handler_dialogue::CheckedBlock;
-use handler_walk::{set_up, walk_body};
+use machine_walk::{set_up, walk_body};
 use session_journal::{Desk, Script};
 use session_values::{NoMemory, Value};
 use std::sync::Wait;

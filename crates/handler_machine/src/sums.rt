@@ -3,7 +3,7 @@
 ghost use Rattle.std.specs.Prelude.{◌≡◌, ◌<◌, ◌≤◌, ℕ, length, slice_index_or};
 ghost use Rattle.session_limits.specs.Limits.{max_calls, max_handlers};
 ghost use Rattle.session_values.specs.Sums.{sum_below};
-ghost use Rattle.handler_dialogue.specs.Bounds as bounds;
+ghost use Rattle.check_meaning.specs.Bounds as bounds;
 ghost use Rattle.handler_check.specs.Resolved.{code_at};
 ghost use Rattle.request_files.specs.Servable.{IsServable};
 ghost use Rattle.request_files.specs.Session.{request_at};

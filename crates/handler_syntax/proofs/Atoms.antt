@@ -1,10 +1,10 @@
 -- The words of an atom are read again.
 use Rattle.std.proofs.Common.{◌≡◌, zero, suc, refl, arith}
-use Rattle.handler_tokens.specs.declared.word.Sort.TheVariants as sort
-use Rattle.handler_phrases.specs.Phrase.{AtomPhrase, name_atom, nil_atom, symbol_atom, number_atom, negative_atom, digits, atom_words}
-use Rattle.handler_phrases.specs.Tree.{atom_tree}
-use Rattle.handler_phrases.specs.Limits.{AtomFits}
-use Rattle.handler_printing.specs.CanonicalWords.{atom_sorts}
+use Rattle.syntax_tokens.specs.declared.word.Sort.TheVariants as sort
+use Rattle.syntax_grammar.specs.Phrase.{AtomPhrase, name_atom, nil_atom, symbol_atom, number_atom, negative_atom, digits, atom_words}
+use Rattle.syntax_grammar.specs.Tree.{atom_tree}
+use Rattle.syntax_grammar.specs.Limits.{AtomFits}
+use Rattle.syntax_printer.specs.CanonicalWords.{atom_sorts}
 use Rattle.handler_syntax.specs.SameTree.{atom_bare}
 use Rattle.handler_syntax.proofs.Words.{Reads, mark, made, followed}
 

@@ -1,21 +1,21 @@
 -- A file within the limits keeps its bounds.
 use Rattle.std.proofs.Common.{◌≡◌, ℕ, suc, ◌+◌, ◌≤◌, ◌^◌, List, [], ◌∷◌, ◌++◌, length, refl, sym, ap, subst, arith, rules}
 use Rattle.std.specs.List.{AllByRecursion, flat_map}
-use Rattle.handler_tokens.specs.declared.word.Word.{Word}
-use Rattle.handler_trees.specs.declared.expr.Expr.{Expr}
-use Rattle.handler_trees.specs.declared.stmt.Call.{Call}
-use Rattle.handler_trees.specs.declared.stmt.Cond.{Cond}
-use Rattle.handler_trees.specs.declared.stmt.Right.{Right}
-use Rattle.handler_trees.specs.declared.stmt.Stmt.{Stmt, the_lemmas}
-use Rattle.handler_trees.specs.declared.stmt.Stmt.TheVariants as stmt
-use Rattle.handler_trees.specs.declared.file.File.{File}
-use Rattle.handler_trees.specs.Mentions.{Mention, a_name, a_symbol, a_number, IsBelow, AreBelow, file_mentions}
-use Rattle.handler_trees.proofs.Mentions.{all_join}
-use Rattle.handler_phrases.specs.Phrase.{MoreAtoms, no_atom, more_atom, atom_count, operands, CallPhrase, a_call as call_phrase, RightPhrase, result_right, plain_right, a_turns, MoreValues, no_value, more_value, value_count, StmtPhrase, let_stmt, assign_stmt, call_stmt, if_stmt, repeat_stmt, reply_stmt, ElsePhrase, no_else, an_else, StmtsPhrase, no_stmt, more_stmts, block, HandlersPhrase, no_handler, more_handlers, a_handler, FilePhrase, a_file, file_words}
-use Rattle.handler_phrases.specs.Tree.{atoms_trees, call_tree, right_tree, cond_tree, more_trees, values_trees, stmt_tree, else_trees, stmts_trees, handlers_trees, file_tree}
-use Rattle.handler_phrases.specs.Limits.{StmtFits, ElseFits, StmtsFit, HandlersFit, FileFits, IsFileWithin}
-use Rattle.handler_phrases.proofs.Said.{IsSaid, file_read, unasked}
-use Rattle.handler_rules.specs.Bounds.{Form, a_call, a_reply, a_nest, right_forms, stmt_forms, block_forms, handler_forms, file_forms, IsBoundedForm, IsBoundedNumber, KeepsBounds}
+use Rattle.syntax_tokens.specs.declared.word.Word.{Word}
+use Rattle.syntax_trees.specs.declared.expr.Expr.{Expr}
+use Rattle.syntax_trees.specs.declared.stmt.Call.{Call}
+use Rattle.syntax_trees.specs.declared.stmt.Cond.{Cond}
+use Rattle.syntax_trees.specs.declared.stmt.Right.{Right}
+use Rattle.syntax_trees.specs.declared.stmt.Stmt.{Stmt, the_lemmas}
+use Rattle.syntax_trees.specs.declared.stmt.Stmt.TheVariants as stmt
+use Rattle.syntax_trees.specs.declared.file.File.{File}
+use Rattle.syntax_trees.specs.Mentions.{Mention, a_name, a_symbol, a_number, IsBelow, AreBelow, file_mentions}
+use Rattle.syntax_trees.proofs.Mentions.{all_join}
+use Rattle.syntax_grammar.specs.Phrase.{MoreAtoms, no_atom, more_atom, atom_count, operands, CallPhrase, a_call as call_phrase, RightPhrase, result_right, plain_right, a_turns, MoreValues, no_value, more_value, value_count, StmtPhrase, let_stmt, assign_stmt, call_stmt, if_stmt, repeat_stmt, reply_stmt, ElsePhrase, no_else, an_else, StmtsPhrase, no_stmt, more_stmts, block, HandlersPhrase, no_handler, more_handlers, a_handler, FilePhrase, a_file, file_words}
+use Rattle.syntax_grammar.specs.Tree.{atoms_trees, call_tree, right_tree, cond_tree, more_trees, values_trees, stmt_tree, else_trees, stmts_trees, handlers_trees, file_tree}
+use Rattle.syntax_grammar.specs.Limits.{StmtFits, ElseFits, StmtsFit, HandlersFit, FileFits, IsFileWithin}
+use Rattle.syntax_grammar.proofs.Said.{IsSaid, file_read, unasked}
+use Rattle.check_rules.specs.Bounds.{Form, a_call, a_reply, a_nest, right_forms, stmt_forms, block_forms, handler_forms, file_forms, IsBoundedForm, IsBoundedNumber, KeepsBounds}
 
 abbrev Bounded : List Form → Type 0
 Bounded fs = AllByRecursion IsBoundedForm fs

@@ -1,17 +1,17 @@
 -- The canonical words of operations, right sides, conditions and replies are read again.
 use Rattle.std.proofs.Common.{◌≡◌, ℕ, suc, ◌≤◌, List, ◌∷◌, map, refl, sym, ap, ◌∙◌, subst}
 use Rattle.session_values.specs.declared.kind.Kind.{Kind}
-use Rattle.handler_tokens.specs.declared.word.Sort.TheVariants as sort
-use Rattle.handler_trees.specs.declared.expr.Atom.{Atom}
-use Rattle.handler_trees.specs.declared.expr.Expr.{Expr}
-use Rattle.handler_trees.specs.declared.stmt.Call.{Call}
-use Rattle.handler_trees.specs.declared.stmt.Compare.{Compare}
-use Rattle.handler_trees.specs.declared.stmt.Cond.{Cond}
-use Rattle.handler_trees.specs.declared.stmt.Right.TheVariants as right
-use Rattle.handler_phrases.specs.Phrase.{named, MoreAtoms, no_atom, more_atom, atom_count, ArgumentsPhrase, operands, CallPhrase, a_call, RightPhrase, result_right, plain_right, CondPhrase, a_cond, MoreValues, no_value, more_value, value_count, ValuesPhrase, atoms_words, arguments_words, call_words, right_words, cond_words, more_words, values_words}
-use Rattle.handler_phrases.specs.Tree.{atom_tree, atoms_trees, call_tree, right_tree, cond_tree, expr_tree, more_trees, values_trees}
-use Rattle.handler_phrases.specs.Limits.{AtomsFit, CallFits, RightFits, CondFits, MoreFit, ValuesFit}
-use Rattle.handler_printing.specs.CanonicalWords.{atom_sorts, further_sorts, listed_sorts, call_sorts, whole_sorts, right_sorts, cond_sorts}
+use Rattle.syntax_tokens.specs.declared.word.Sort.TheVariants as sort
+use Rattle.syntax_trees.specs.declared.expr.Atom.{Atom}
+use Rattle.syntax_trees.specs.declared.expr.Expr.{Expr}
+use Rattle.syntax_trees.specs.declared.stmt.Call.{Call}
+use Rattle.syntax_trees.specs.declared.stmt.Compare.{Compare}
+use Rattle.syntax_trees.specs.declared.stmt.Cond.{Cond}
+use Rattle.syntax_trees.specs.declared.stmt.Right.TheVariants as right
+use Rattle.syntax_grammar.specs.Phrase.{named, MoreAtoms, no_atom, more_atom, atom_count, ArgumentsPhrase, operands, CallPhrase, a_call, RightPhrase, result_right, plain_right, CondPhrase, a_cond, MoreValues, no_value, more_value, value_count, ValuesPhrase, atoms_words, arguments_words, call_words, right_words, cond_words, more_words, values_words}
+use Rattle.syntax_grammar.specs.Tree.{atom_tree, atoms_trees, call_tree, right_tree, cond_tree, expr_tree, more_trees, values_trees}
+use Rattle.syntax_grammar.specs.Limits.{AtomsFit, CallFits, RightFits, CondFits, MoreFit, ValuesFit}
+use Rattle.syntax_printer.specs.CanonicalWords.{atom_sorts, further_sorts, listed_sorts, call_sorts, whole_sorts, right_sorts, cond_sorts}
 use Rattle.handler_syntax.specs.SameTree.{atom_bare, expr_bare, call_bare, right_bare, cond_bare}
 use Rattle.handler_syntax.proofs.Atoms.{atom_reads}
 use Rattle.handler_syntax.proofs.Exprs.{whole_reads}

@@ -1,20 +1,20 @@
 -- The canonical words of an expression are read again.
 use Rattle.std.proofs.Common.{◌≡◌, ℕ, ◌+◌, ◌<◌, ◌≤◌, List, ◌∷◌, refl, sym, ap, ◌∙◌, subst, arith}
 use Rattle.session_limits.specs.Limits.{max_open}
-use Rattle.handler_tokens.specs.declared.word.Sort.{Sort}
-use Rattle.handler_tokens.specs.declared.word.Sort.TheVariants as sort
-use Rattle.handler_trees.specs.declared.expr.Calc.{Calc}
-use Rattle.handler_trees.specs.declared.expr.Calc.TheVariants as calc
-use Rattle.handler_trees.specs.declared.expr.Expr.{Expr}
-use Rattle.handler_trees.specs.declared.expr.Expr.TheVariants as expr
-use Rattle.handler_trees.specs.Alone.{alone}
-use Rattle.handler_phrases.specs.Phrase.{AtomPhrase, FactorPhrase, plain, grouped, MoreFactors, no_factor, times, TermPhrase, term, MoreTerms, no_term, plus, minus, ExprPhrase, sum, factor_words, term_words, expr_words}
-use Rattle.handler_phrases.specs.Tree.{atom_tree, factor_tree, factors_tree, term_tree, terms_tree, expr_tree}
-use Rattle.handler_phrases.specs.Limits.{AtomFits, factor_signs, factors_signs, term_signs, terms_signs, expr_signs, FactorFits, FactorsFit, TermFits, TermsFit, GroupFits, ExprFits}
-use Rattle.handler_printing.specs.declared.expr.Level.{Level}
-use Rattle.handler_printing.specs.declared.expr.Level.TheVariants as level
-use Rattle.handler_printing.specs.CanonicalWords.{expr_sorts, whole_sorts}
-use Rattle.handler_printing.proofs.Inductions.{sorts_leaf, sorts_binary}
+use Rattle.syntax_tokens.specs.declared.word.Sort.{Sort}
+use Rattle.syntax_tokens.specs.declared.word.Sort.TheVariants as sort
+use Rattle.syntax_trees.specs.declared.expr.Calc.{Calc}
+use Rattle.syntax_trees.specs.declared.expr.Calc.TheVariants as calc
+use Rattle.syntax_trees.specs.declared.expr.Expr.{Expr}
+use Rattle.syntax_trees.specs.declared.expr.Expr.TheVariants as expr
+use Rattle.syntax_trees.specs.Alone.{alone}
+use Rattle.syntax_grammar.specs.Phrase.{AtomPhrase, FactorPhrase, plain, grouped, MoreFactors, no_factor, times, TermPhrase, term, MoreTerms, no_term, plus, minus, ExprPhrase, sum, factor_words, term_words, expr_words}
+use Rattle.syntax_grammar.specs.Tree.{atom_tree, factor_tree, factors_tree, term_tree, terms_tree, expr_tree}
+use Rattle.syntax_grammar.specs.Limits.{AtomFits, factor_signs, factors_signs, term_signs, terms_signs, expr_signs, FactorFits, FactorsFit, TermFits, TermsFit, GroupFits, ExprFits}
+use Rattle.syntax_printer.specs.declared.expr.Level.{Level}
+use Rattle.syntax_printer.specs.declared.expr.Level.TheVariants as level
+use Rattle.syntax_printer.specs.CanonicalWords.{expr_sorts, whole_sorts}
+use Rattle.syntax_printer.proofs.Inductions.{sorts_leaf, sorts_binary}
 use Rattle.handler_syntax.specs.SameTree.{expr_bare}
 use Rattle.handler_syntax.proofs.Atoms.{atom_reads}
 use Rattle.handler_syntax.proofs.Bare.{bare_leaf, bare_binary}

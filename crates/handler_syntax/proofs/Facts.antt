@@ -1,19 +1,19 @@
 -- A text has one tree at most and one first fault at most, and not both.
 use Rattle.std.proofs.Common.{◌≡◌, ℕ, List, length, None, Some, sym, ap, ◌∙◌}
-use Rattle.handler_tokens.specs.Words.{words_of}
-use Rattle.handler_trees.specs.declared.file.File.{File}
-use Rattle.handler_phrases.specs.Parsed.{IsSourceOf, HasFault}
-use Rattle.handler_phrases.specs.Next.{fault, whole_file}
-use Rattle.handler_phrases.specs.declared.refusals.SyntaxRefusal.{SyntaxRefusal}
-use Rattle.handler_phrases.proofs.FitsFile.{passed_whole}
-use Rattle.handler_phrases.proofs.Found as found
-use Rattle.handler_phrases.proofs.Said as said
-use Rattle.handler_trees.specs.Mentions.{a_name, a_symbol}
-use Rattle.handler_tokens.specs.Texts.{HasText}
+use Rattle.syntax_tokens.specs.Words.{words_of}
+use Rattle.syntax_trees.specs.declared.file.File.{File}
+use Rattle.syntax_grammar.specs.Parsed.{IsSourceOf, HasFault}
+use Rattle.syntax_grammar.specs.Next.{fault, whole_file}
+use Rattle.syntax_grammar.specs.declared.refusals.SyntaxRefusal.{SyntaxRefusal}
+use Rattle.syntax_grammar.proofs.FitsFile.{passed_whole}
+use Rattle.syntax_grammar.proofs.Found as found
+use Rattle.syntax_grammar.proofs.Said as said
+use Rattle.syntax_trees.specs.Mentions.{a_name, a_symbol}
+use Rattle.syntax_tokens.specs.Texts.{HasText}
 use Rattle.session_values.specs.Names.{IsNamed}
-pub use Rattle.handler_trees.proofs.Mentions.{mentions_leaf, mentions_binary, mentions_let, mentions_assign, mentions_perform, mentions_choose, mentions_repeat, mentions_answer, all_first, all_join}
-pub use Rattle.handler_phrases.proofs.SomeFile.{file_or_fault, fault_certain}
-use Rattle.handler_phrases.proofs.UniqueFile.{same_file}
+pub use Rattle.syntax_trees.proofs.Mentions.{mentions_leaf, mentions_binary, mentions_let, mentions_assign, mentions_perform, mentions_choose, mentions_repeat, mentions_answer, all_first, all_join}
+pub use Rattle.syntax_grammar.proofs.SomeFile.{file_or_fault, fault_certain}
+use Rattle.syntax_grammar.proofs.UniqueFile.{same_file}
 
 pub one_tree : (names : List (List ℕ)) (source : List ℕ) (f g : File) → IsSourceOf names source f → IsSourceOf names source g → f ≡ g
 one_tree names source f g h k = h.2 ∙ same_file h.0 k.0 (sym h.1 ∙ k.1) ∙ sym k.2

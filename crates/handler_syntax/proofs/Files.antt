@@ -1,22 +1,22 @@
 -- The canonical words of a file are read again.
 use Rattle.std.proofs.Common.{◌≡◌, ℕ, List, [], ◌∷◌, map, refl, sym, ap, ◌∙◌, subst}
 use Rattle.session_values.specs.Names.{AreDistinct}
-use Rattle.handler_tokens.specs.declared.word.Sort.TheVariants as sort
-use Rattle.handler_tokens.specs.declared.word.Word.{Word}
-use Rattle.handler_tokens.specs.Words.{words_of, names_of}
-use Rattle.handler_trees.specs.declared.stmt.Stmt.{Stmt}
-use Rattle.handler_trees.specs.declared.file.Param.{Param}
-use Rattle.handler_trees.specs.declared.file.TableDecl.{TableDecl}
-use Rattle.handler_trees.specs.declared.file.Handler.{Handler}
-use Rattle.handler_trees.specs.declared.file.File.{File}
-use Rattle.handler_phrases.specs.Phrase.{NamePhrase, named, MoreParams, no_more, more_param, ParamsPhrase, no_param, some_params, block, HandlerPhrase, a_handler, HandlersPhrase, no_handler, more_handlers, a_table, TablesPhrase, no_table, more_tables, FilePhrase, a_file, name_words, more_params_words, params_words, handler_words, handlers_words, tables_words, file_words}
-use Rattle.handler_phrases.specs.Tree.{param_of, more_params_trees, params_trees, stmts_trees, handler_tree, handlers_trees, table_tree, tables_trees, file_tree}
-use Rattle.handler_phrases.specs.Limits.{HandlersFit, FileFits, IsFileWithin}
-use Rattle.handler_printing.specs.Canonical.{canonical_text}
-use Rattle.handler_printing.specs.CanonicalWords.{each_sorts, further_sorts, listed_sorts, param_sorts, handler_sorts, table_sorts, canonical_words}
-use Rattle.handler_tokens.specs.Texts.{IsNamedFile}
-use Rattle.handler_phrases.proofs.Said.{file_readable}
-use Rattle.handler_printing.proofs.ReadBack as printed
+use Rattle.syntax_tokens.specs.declared.word.Sort.TheVariants as sort
+use Rattle.syntax_tokens.specs.declared.word.Word.{Word}
+use Rattle.syntax_tokens.specs.Words.{words_of, names_of}
+use Rattle.syntax_trees.specs.declared.stmt.Stmt.{Stmt}
+use Rattle.syntax_trees.specs.declared.file.Param.{Param}
+use Rattle.syntax_trees.specs.declared.file.TableDecl.{TableDecl}
+use Rattle.syntax_trees.specs.declared.file.Handler.{Handler}
+use Rattle.syntax_trees.specs.declared.file.File.{File}
+use Rattle.syntax_grammar.specs.Phrase.{NamePhrase, named, MoreParams, no_more, more_param, ParamsPhrase, no_param, some_params, block, HandlerPhrase, a_handler, HandlersPhrase, no_handler, more_handlers, a_table, TablesPhrase, no_table, more_tables, FilePhrase, a_file, name_words, more_params_words, params_words, handler_words, handlers_words, tables_words, file_words}
+use Rattle.syntax_grammar.specs.Tree.{param_of, more_params_trees, params_trees, stmts_trees, handler_tree, handlers_trees, table_tree, tables_trees, file_tree}
+use Rattle.syntax_grammar.specs.Limits.{HandlersFit, FileFits, IsFileWithin}
+use Rattle.syntax_printer.specs.Canonical.{canonical_text}
+use Rattle.syntax_printer.specs.CanonicalWords.{each_sorts, further_sorts, listed_sorts, param_sorts, handler_sorts, table_sorts, canonical_words}
+use Rattle.syntax_tokens.specs.Texts.{IsNamedFile}
+use Rattle.syntax_grammar.proofs.Said.{file_readable}
+use Rattle.syntax_printer.proofs.ReadBack as printed
 use Rattle.handler_syntax.specs.SameTree.{stmt_bare, param_bare, table_bare, handler_bare, file_bare, SameTree}
 use Rattle.handler_syntax.proofs.Stmts.{stmts_read}
 use Rattle.handler_syntax.proofs.Words.{HaveSorts, Reads, mark, made, followed, empty}

@@ -1,13 +1,13 @@
 -- Terms with one more factor, and expressions with one more term.
 use Rattle.std.proofs.Common.{◌≡◌, ℕ, ◌+◌, ◌≤◌, List, ◌∷◌, refl, ap, arith}
-use Rattle.handler_tokens.specs.declared.word.Sort.TheVariants as sort
-use Rattle.handler_tokens.specs.declared.word.Word.{Word}
-use Rattle.handler_trees.specs.declared.expr.Calc.TheVariants as calc
-use Rattle.handler_trees.specs.declared.expr.Expr.{Expr}
-use Rattle.handler_trees.specs.declared.expr.Expr.TheVariants as expr
-use Rattle.handler_phrases.specs.Phrase.{word, FactorPhrase, plain, grouped, MoreFactors, no_factor, times, TermPhrase, term, MoreTerms, no_term, plus, minus, ExprPhrase, sum, factor_words, factors_words, term_words, terms_words, expr_words}
-use Rattle.handler_phrases.specs.Tree.{factor_tree, factors_tree, term_tree, terms_tree, expr_tree}
-use Rattle.handler_phrases.specs.Limits.{factor_signs, factors_signs, term_signs, terms_signs, expr_signs, FactorFits, FactorsFit, TermFits, TermsFit, GroupFits}
+use Rattle.syntax_tokens.specs.declared.word.Sort.TheVariants as sort
+use Rattle.syntax_tokens.specs.declared.word.Word.{Word}
+use Rattle.syntax_trees.specs.declared.expr.Calc.TheVariants as calc
+use Rattle.syntax_trees.specs.declared.expr.Expr.{Expr}
+use Rattle.syntax_trees.specs.declared.expr.Expr.TheVariants as expr
+use Rattle.syntax_grammar.specs.Phrase.{word, FactorPhrase, plain, grouped, MoreFactors, no_factor, times, TermPhrase, term, MoreTerms, no_term, plus, minus, ExprPhrase, sum, factor_words, factors_words, term_words, terms_words, expr_words}
+use Rattle.syntax_grammar.specs.Tree.{factor_tree, factors_tree, term_tree, terms_tree, expr_tree}
+use Rattle.syntax_grammar.specs.Limits.{factor_signs, factors_signs, term_signs, terms_signs, expr_signs, FactorFits, FactorsFit, TermFits, TermsFit, GroupFits}
 
 -- ---- one more factor
 

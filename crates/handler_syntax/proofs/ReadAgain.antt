@@ -1,9 +1,9 @@
 -- What was printed and parsed is the same tree.
 use Rattle.std.proofs.Common.{◌≡◌, ℕ, List, sym, ap, ◌∙◌}
-use Rattle.handler_trees.specs.declared.file.File.{File}
-use Rattle.handler_phrases.specs.Parsed.{IsSourceOf}
-use Rattle.handler_phrases.specs.declared.refusals.SyntaxRefusal.{SyntaxRefusal}
-use Rattle.handler_phrases.specs.declared.refusals.SyntaxRefusal.TheVariants as syntax_refusal
+use Rattle.syntax_trees.specs.declared.file.File.{File}
+use Rattle.syntax_grammar.specs.Parsed.{IsSourceOf}
+use Rattle.syntax_grammar.specs.declared.refusals.SyntaxRefusal.{SyntaxRefusal}
+use Rattle.syntax_grammar.specs.declared.refusals.SyntaxRefusal.TheVariants as syntax_refusal
 use Rattle.handler_syntax.specs.Keeps.{IsReadAs}
 use Rattle.handler_syntax.specs.SameTree.{file_bare, SameTree}
 

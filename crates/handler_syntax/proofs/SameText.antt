@@ -4,27 +4,27 @@ use Rattle.std.specs.Prelude.{codes}
 use Rattle.std.specs.List.{AllByRecursion}
 use Rattle.std.specs.Fmt.{decimal}
 use Rattle.session_values.specs.Kinds.{word_of}
-use Rattle.handler_trees.specs.declared.expr.Atom.{Atom}
-use Rattle.handler_trees.specs.declared.expr.Atom.TheVariants as atom
-use Rattle.handler_trees.specs.declared.expr.Calc.{Calc}
-use Rattle.handler_trees.specs.declared.expr.Expr.{Expr}
-use Rattle.handler_trees.specs.declared.expr.Expr.TheVariants as expr
-use Rattle.handler_trees.specs.declared.stmt.Call.{Call}
-use Rattle.handler_trees.specs.declared.stmt.Cond.{Cond}
-use Rattle.handler_trees.specs.declared.stmt.Right.{Right}
-use Rattle.handler_trees.specs.declared.stmt.Right.TheVariants as right
-use Rattle.handler_trees.specs.declared.stmt.Stmt.{Stmt}
-use Rattle.handler_trees.specs.declared.stmt.Stmt.TheVariants as stmt
-use Rattle.handler_trees.specs.declared.file.Param.{Param}
-use Rattle.handler_trees.specs.declared.file.TableDecl.{TableDecl}
-use Rattle.handler_trees.specs.declared.file.Handler.{Handler}
-use Rattle.handler_trees.specs.declared.file.File.{File}
-use Rattle.handler_trees.specs.Alone.{alone}
-use Rattle.handler_printing.specs.declared.expr.Level.{Level}
-use Rattle.handler_printing.specs.declared.expr.Level.TheVariants as level
-use Rattle.handler_printing.specs.Canonical
-use Rattle.handler_printing.specs.Writing.{Text}
-use Rattle.handler_printing.proofs.Inductions as trees
+use Rattle.syntax_trees.specs.declared.expr.Atom.{Atom}
+use Rattle.syntax_trees.specs.declared.expr.Atom.TheVariants as atom
+use Rattle.syntax_trees.specs.declared.expr.Calc.{Calc}
+use Rattle.syntax_trees.specs.declared.expr.Expr.{Expr}
+use Rattle.syntax_trees.specs.declared.expr.Expr.TheVariants as expr
+use Rattle.syntax_trees.specs.declared.stmt.Call.{Call}
+use Rattle.syntax_trees.specs.declared.stmt.Cond.{Cond}
+use Rattle.syntax_trees.specs.declared.stmt.Right.{Right}
+use Rattle.syntax_trees.specs.declared.stmt.Right.TheVariants as right
+use Rattle.syntax_trees.specs.declared.stmt.Stmt.{Stmt}
+use Rattle.syntax_trees.specs.declared.stmt.Stmt.TheVariants as stmt
+use Rattle.syntax_trees.specs.declared.file.Param.{Param}
+use Rattle.syntax_trees.specs.declared.file.TableDecl.{TableDecl}
+use Rattle.syntax_trees.specs.declared.file.Handler.{Handler}
+use Rattle.syntax_trees.specs.declared.file.File.{File}
+use Rattle.syntax_trees.specs.Alone.{alone}
+use Rattle.syntax_printer.specs.declared.expr.Level.{Level}
+use Rattle.syntax_printer.specs.declared.expr.Level.TheVariants as level
+use Rattle.syntax_printer.specs.Canonical
+use Rattle.syntax_printer.specs.Writing.{Text}
+use Rattle.syntax_printer.proofs.Inductions as trees
 use Rattle.handler_syntax.specs.SameTree.{atom_bare, expr_bare, call_bare, right_bare, cond_bare, stmt_bare, param_bare, table_bare, handler_bare, file_bare, SameTree}
 use Rattle.handler_syntax.proofs.Bare.{bare_leaf, bare_binary, bare_let, bare_assign, bare_perform, bare_choose, bare_repeat, bare_answer}
 

@@ -4,17 +4,17 @@ use Rattle.std.specs.List.{list_any}
 use Rattle.std.specs.Str.{bytes_eq}
 use Rattle.session_values.specs.Names.{AreDistinct, with_text}
 use Rattle.session_values.proofs.NamesLemmas.{AreDistinct-push, with_known, with_new}
-use Rattle.handler_tokens.specs.declared.token_kind.TokenKind.{TokenKind}
-use Rattle.handler_tokens.specs.declared.token_kind.TokenKind.TheVariants as kind
-use Rattle.handler_tokens.specs.Tokens.{Piece, pieces}
-use Rattle.handler_tokens.specs.Words.{unquoted, names_by, names_after, names_behind, words_of, names_of}
-use Rattle.handler_trees.specs.declared.file.File.{File}
-use Rattle.handler_phrases.specs.Limits.{IsFileWithin}
-use Rattle.handler_printing.specs.Canonical.{canonical_text}
+use Rattle.syntax_tokens.specs.declared.token_kind.TokenKind.{TokenKind}
+use Rattle.syntax_tokens.specs.declared.token_kind.TokenKind.TheVariants as kind
+use Rattle.syntax_tokens.specs.Tokens.{Piece, pieces}
+use Rattle.syntax_tokens.specs.Words.{unquoted, names_by, names_after, names_behind, words_of, names_of}
+use Rattle.syntax_trees.specs.declared.file.File.{File}
+use Rattle.syntax_grammar.specs.Limits.{IsFileWithin}
+use Rattle.syntax_printer.specs.Canonical.{canonical_text}
 use Rattle.handler_syntax.specs.SameTree.{SameTree}
 use Rattle.handler_syntax.proofs.Files.{text_again}
-use Rattle.handler_trees.specs.Mentions.{file_mentions}
-use Rattle.handler_phrases.proofs.Said.{source_readable, have_texts}
+use Rattle.syntax_trees.specs.Mentions.{file_mentions}
+use Rattle.syntax_grammar.proofs.Said.{source_readable, have_texts}
 
 -- ---- the names behind a source are different texts
 

@@ -1,15 +1,15 @@
 -- The canonical words of statements and blocks are read again.
 use Rattle.std.proofs.Common.{◌≡◌, ℕ, ◌+◌, ◌<◌, List, ◌∷◌, map, refl, sym, ap, ◌∙◌}
 use Rattle.session_limits.specs.Limits.{max_depth}
-use Rattle.handler_tokens.specs.declared.word.Sort.{Sort}
-use Rattle.handler_tokens.specs.declared.word.Sort.TheVariants as sort
-use Rattle.handler_tokens.specs.declared.word.Word.{Word}
-use Rattle.handler_trees.specs.declared.stmt.Stmt.TheVariants as stmt
-use Rattle.handler_phrases.specs.Phrase.{word, named, digits, a_turns, StmtPhrase, let_stmt, assign_stmt, call_stmt, if_stmt, repeat_stmt, reply_stmt, ElsePhrase, no_else, an_else, StmtsPhrase, no_stmt, more_stmts, block, stmt_words, else_words, stmts_words}
-use Rattle.handler_phrases.specs.Tree.{right_tree, call_tree, cond_tree, values_trees, stmt_tree, else_trees, stmts_trees}
-use Rattle.handler_phrases.specs.Limits.{StmtFits, ElseFits, StmtsFit}
-use Rattle.handler_printing.specs.CanonicalWords.{each_sorts, else_sorts, stmt_sorts}
-use Rattle.handler_printing.proofs.Inductions.{sorts_let, sorts_assign, sorts_call, sorts_choose, sorts_repeat, sorts_reply}
+use Rattle.syntax_tokens.specs.declared.word.Sort.{Sort}
+use Rattle.syntax_tokens.specs.declared.word.Sort.TheVariants as sort
+use Rattle.syntax_tokens.specs.declared.word.Word.{Word}
+use Rattle.syntax_trees.specs.declared.stmt.Stmt.TheVariants as stmt
+use Rattle.syntax_grammar.specs.Phrase.{word, named, digits, a_turns, StmtPhrase, let_stmt, assign_stmt, call_stmt, if_stmt, repeat_stmt, reply_stmt, ElsePhrase, no_else, an_else, StmtsPhrase, no_stmt, more_stmts, block, stmt_words, else_words, stmts_words}
+use Rattle.syntax_grammar.specs.Tree.{right_tree, call_tree, cond_tree, values_trees, stmt_tree, else_trees, stmts_trees}
+use Rattle.syntax_grammar.specs.Limits.{StmtFits, ElseFits, StmtsFit}
+use Rattle.syntax_printer.specs.CanonicalWords.{each_sorts, else_sorts, stmt_sorts}
+use Rattle.syntax_printer.proofs.Inductions.{sorts_let, sorts_assign, sorts_call, sorts_choose, sorts_repeat, sorts_reply}
 use Rattle.handler_syntax.specs.SameTree.{cond_bare, stmt_bare}
 use Rattle.handler_syntax.proofs.Bare.{bare_let, bare_assign, bare_perform, bare_choose, bare_repeat, bare_answer}
 use Rattle.handler_syntax.proofs.Calls.{call_reads, right_reads, cond_reads, values_read}

@@ -1,9 +1,9 @@
 -- Words of given sorts, read as phrases.
 use Rattle.std.proofs.Common.{◌≡◌, List, [], ◌∷◌, map, refl, ap, ◌∙◌}
-use Rattle.handler_tokens.specs.declared.word.Sort.{Sort}
-use Rattle.handler_tokens.specs.declared.word.Sort.TheVariants as sort
-use Rattle.handler_tokens.specs.declared.word.Word.{Word}
-use Rattle.handler_phrases.specs.Phrase.{word, mark_words}
+use Rattle.syntax_tokens.specs.declared.word.Sort.{Sort}
+use Rattle.syntax_tokens.specs.declared.word.Sort.TheVariants as sort
+use Rattle.syntax_tokens.specs.declared.word.Word.{Word}
+use Rattle.syntax_grammar.specs.Phrase.{word, mark_words}
 
 -- words have these sorts
 abbrev pub HaveSorts : List Word → List Sort → Type 0

@@ -1,14 +1,14 @@
 -- What a file of handlers keeps, and what its text is.
 use Rattle.std.specs.Prelude.{◌≡◌, ℕ, ◌^◌, List}
-use Rattle.handler_tokens.specs.declared.word.Word.{Word}
-use Rattle.handler_tokens.specs.Texts.{IsNamedFile}
-use Rattle.handler_tokens.specs.Words.{names_of}
-use Rattle.handler_trees.specs.declared.file.File.{File}
-use Rattle.handler_trees.specs.Mentions.{AreBelow, file_mentions}
-use Rattle.handler_phrases.specs.Limits.{IsFileWithin}
-use Rattle.handler_phrases.specs.Parsed.{IsSourceOf}
-use Rattle.handler_printing.specs.Canonical.{canonical_text}
-use Rattle.handler_rules.specs.FirstFault.{PlacesRise}
+use Rattle.syntax_tokens.specs.declared.word.Word.{Word}
+use Rattle.syntax_tokens.specs.Texts.{IsNamedFile}
+use Rattle.syntax_tokens.specs.Words.{names_of}
+use Rattle.syntax_trees.specs.declared.file.File.{File}
+use Rattle.syntax_trees.specs.Mentions.{AreBelow, file_mentions}
+use Rattle.syntax_grammar.specs.Limits.{IsFileWithin}
+use Rattle.syntax_grammar.specs.Parsed.{IsSourceOf}
+use Rattle.syntax_printer.specs.Canonical.{canonical_text}
+use Rattle.check_rules.specs.FirstFault.{PlacesRise}
 use Rattle.handler_syntax.specs.SameTree.{SameTree}
 
 -- Some words within the limits have this tree. So its canonical text is within the limits too: operations have at most

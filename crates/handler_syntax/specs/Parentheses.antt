@@ -1,11 +1,11 @@
 -- Where parentheses stand in the text of an expression.
 use Rattle.std.specs.Prelude.{ℕ, Bool, true, false, List, ◌++◌, Option, Some, None, is_some, codes}
-use Rattle.handler_trees.specs.declared.expr.Calc.{Calc}
-use Rattle.handler_trees.specs.declared.expr.Calc.TheVariants as calc
-use Rattle.handler_trees.specs.declared.expr.Expr.{Expr, fold-Expr}
-use Rattle.handler_trees.specs.declared.expr.Expr.TheOpen.{Expr-F}
-use Rattle.handler_printing.specs.Canonical.{whole_text, operator_text}
-use Rattle.handler_printing.specs.Writing.{Text}
+use Rattle.syntax_trees.specs.declared.expr.Calc.{Calc}
+use Rattle.syntax_trees.specs.declared.expr.Calc.TheVariants as calc
+use Rattle.syntax_trees.specs.declared.expr.Expr.{Expr, fold-Expr}
+use Rattle.syntax_trees.specs.declared.expr.Expr.TheOpen.{Expr-F}
+use Rattle.syntax_printer.specs.Canonical.{whole_text, operator_text}
+use Rattle.syntax_printer.specs.Writing.{Text}
 
 abbrev pub operator_step : Expr-F (Option Calc) → Option Calc
 operator_step (Expr-F.Lit v) = None

@@ -1,21 +1,21 @@
 -- Trees of files, places aside.
 use Rattle.std.specs.Prelude.{◌≡◌, map}
-use Rattle.handler_trees.specs.declared.expr.Atom.{Atom}
-use Rattle.handler_trees.specs.declared.expr.Atom.TheVariants as atom
-use Rattle.handler_trees.specs.declared.expr.Expr.{Expr, fold-Expr}
-use Rattle.handler_trees.specs.declared.expr.Expr.TheOpen.{Expr-F}
-use Rattle.handler_trees.specs.declared.expr.Expr.TheVariants as expr
-use Rattle.handler_trees.specs.declared.stmt.Call.{Call}
-use Rattle.handler_trees.specs.declared.stmt.Cond.{Cond}
-use Rattle.handler_trees.specs.declared.stmt.Right.{Right}
-use Rattle.handler_trees.specs.declared.stmt.Right.TheVariants as right
-use Rattle.handler_trees.specs.declared.stmt.Stmt.{Stmt, fold-Stmt}
-use Rattle.handler_trees.specs.declared.stmt.Stmt.TheOpen.{Stmt-F}
-use Rattle.handler_trees.specs.declared.stmt.Stmt.TheVariants as stmt
-use Rattle.handler_trees.specs.declared.file.TableDecl.{TableDecl}
-use Rattle.handler_trees.specs.declared.file.Param.{Param}
-use Rattle.handler_trees.specs.declared.file.Handler.{Handler}
-use Rattle.handler_trees.specs.declared.file.File.{File}
+use Rattle.syntax_trees.specs.declared.expr.Atom.{Atom}
+use Rattle.syntax_trees.specs.declared.expr.Atom.TheVariants as atom
+use Rattle.syntax_trees.specs.declared.expr.Expr.{Expr, fold-Expr}
+use Rattle.syntax_trees.specs.declared.expr.Expr.TheOpen.{Expr-F}
+use Rattle.syntax_trees.specs.declared.expr.Expr.TheVariants as expr
+use Rattle.syntax_trees.specs.declared.stmt.Call.{Call}
+use Rattle.syntax_trees.specs.declared.stmt.Cond.{Cond}
+use Rattle.syntax_trees.specs.declared.stmt.Right.{Right}
+use Rattle.syntax_trees.specs.declared.stmt.Right.TheVariants as right
+use Rattle.syntax_trees.specs.declared.stmt.Stmt.{Stmt, fold-Stmt}
+use Rattle.syntax_trees.specs.declared.stmt.Stmt.TheOpen.{Stmt-F}
+use Rattle.syntax_trees.specs.declared.stmt.Stmt.TheVariants as stmt
+use Rattle.syntax_trees.specs.declared.file.TableDecl.{TableDecl}
+use Rattle.syntax_trees.specs.declared.file.Param.{Param}
+use Rattle.syntax_trees.specs.declared.file.Handler.{Handler}
+use Rattle.syntax_trees.specs.declared.file.File.{File}
 
 -- ---- the tree with each place set to 0
 

@@ -3,20 +3,20 @@
 ghost use Rattle.std.specs.Prelude.{◌≡◌, ◌≢◌, ◌≤◌, ◌<◌, ◌↔◌, IfOk, IfErr, IfSome, MatchResult, length, None};
 ghost use Rattle.session_limits.specs.Limits.{max_input};
 ghost use Rattle.session_values.specs.Names.{Begins};
-ghost use Rattle.handler_trees.specs.Mentions.{AreNamed, file_mentions};
-ghost use Rattle.handler_tokens.specs.Texts.{IsNamedFile};
-ghost use Rattle.handler_phrases.specs.Parsed.{HasFault};
-ghost use Rattle.handler_phrases.specs.declared.refusals.SyntaxRefusal.TheVariants as syntax_refusal;
-ghost use Rattle.handler_printing.specs.Canonical.{canonical_text};
+ghost use Rattle.syntax_trees.specs.Mentions.{AreNamed, file_mentions};
+ghost use Rattle.syntax_tokens.specs.Texts.{IsNamedFile};
+ghost use Rattle.syntax_grammar.specs.Parsed.{HasFault};
+ghost use Rattle.syntax_grammar.specs.declared.refusals.SyntaxRefusal.TheVariants as syntax_refusal;
+ghost use Rattle.syntax_printer.specs.Canonical.{canonical_text};
 ghost use Rattle.handler_syntax.specs.SameTree.{SameTree};
 
 use crate::file::File;
 use crate::printing::print;
 use crate::reading::parse;
-use handler_grammar::SyntaxRefusal;
 use session_limits::MAX_INPUT;
 use session_values::Names;
 use std::alloc::Global;
+use syntax_parser::SyntaxRefusal;
 
 /// Prints a file and reads the text again. There is none where the text is longer than a source
 /// may be.

@@ -1,11 +1,11 @@
 // Files of handlers.
 
 ghost use Rattle.std.specs.Prelude.{◌≡◌};
-ghost use Rattle.handler_rules.specs.Bounds.{KeepsBounds};
-ghost use Rattle.handler_rules.specs.FirstFault.{PlacesRise};
+ghost use Rattle.check_rules.specs.Bounds.{KeepsBounds};
+ghost use Rattle.check_rules.specs.FirstFault.{PlacesRise};
 
-use handler_trees::File as Tree;
 use std::marker::Model;
+use syntax_trees::File as Tree;
 
 /// The tree of a file of handlers that keeps the limits of the language, so that its canonical
 /// text can be read back. Contracts see it as the tree.
@@ -16,8 +16,8 @@ pub struct File {
 
 impl Model for File {
     ghost use Rattle.std.specs.Coded.{codes};
-    ghost use Rattle.handler_trees.specs.contracts.stmt.Stmt as stmt;
-    ghost use Rattle.handler_trees.specs.declared.file.File.{File as Tree};
+    ghost use Rattle.syntax_trees.specs.contracts.stmt.Stmt as stmt;
+    ghost use Rattle.syntax_trees.specs.declared.file.File.{File as Tree};
     ghost use Rattle.handler_syntax.specs.Keeps.{IsKept};
 
     ghost Value = { Tree };

@@ -9,12 +9,12 @@ mod reading;
 
 pub use again::reprint;
 pub use file::File;
-pub use handler_grammar::SyntaxRefusal;
-pub use handler_printing::{Declarations, print as print_tree, print_with_declarations};
-pub use handler_tokens::{Token, TokenKind, Tokens};
-pub use handler_trees::{
+pub use printing::print;
+pub use reading::parse;
+pub use syntax_parser::SyntaxRefusal;
+pub use syntax_printer::{Declarations, print as print_tree, print_with_declarations};
+pub use syntax_tokens::{Token, TokenKind, Tokens};
+pub use syntax_trees::{
     Atom, Atoms, Block, Calc, Call, Compare, Cond, Expr, Exprs, File as Tree, Handler, Handlers,
     Param, Params, Right, Stmt, TableDecl, TableDecls,
 };
-pub use printing::print;
-pub use reading::parse;

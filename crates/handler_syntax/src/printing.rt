@@ -1,7 +1,7 @@
 // Printing.
 
 ghost use Rattle.std.specs.Prelude.{IfOk, string_bytes};
-ghost use Rattle.handler_trees.specs.Mentions.{AreNamed, file_mentions};
+ghost use Rattle.syntax_trees.specs.Mentions.{AreNamed, file_mentions};
 ghost use Rattle.handler_syntax.specs.Keeps.{Printed};
 
 use crate::file::File;
@@ -15,7 +15,7 @@ pub fn print(alloc: Global, file: &File, names: &Names) -> Result<String, NoMemo
 {
     // That the texts of the list are different is what `len` says of it.
     let _count = names.len();
-    match handler_printing::print(alloc, 0, &file.tree, names) {
+    match syntax_printer::print(alloc, 0, &file.tree, names) {
         Ok(text) => Ok(text),
         Err(e) => Err(e),
     }

@@ -9,7 +9,7 @@ use Rattle.std.proofs.lemmas.Map.Keys.{sorted_head, sorted_tail}
 use Rattle.symbolic_ops.specs.Order.{symbol_cmp}
 use Rattle.symbolic_ops.specs.declared.symbol.Symbol.{Symbol}
 use Rattle.symbolic_ops.proofs.Orders.{symbol_cmp_total, symbol_exact}
-use Rattle.handler_dialogue.specs.Code.{Code}
+use Rattle.check_meaning.specs.Code.{Code}
 use Rattle.may_use_analysis.specs.Flow.{Flow, FlowPoint}
 use Rattle.may_use_analysis.specs.Later.{IsLaterList}
 use Rattle.may_use_analysis.proofs.PointLemmas.{later_is_flow}

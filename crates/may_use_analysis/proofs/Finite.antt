@@ -6,7 +6,7 @@ use Rattle.session_values.specs.declared.kind.Kind.{Kind}
 use Rattle.symbolic_ops.specs.declared.arg.Arg.{Arg}
 use Rattle.symbolic_ops.specs.declared.arg.Arg.TheVariants.{Known, Var, Any}
 use Rattle.symbolic_ops.specs.declared.symbol.Symbol.{Symbol}
-use Rattle.handler_dialogue.specs.Code.{Code, Finish, Move, Ask, Fork, Loop, Quit}
+use Rattle.check_meaning.specs.Code.{Code, Finish, Move, Ask, Fork, Loop, Quit}
 use Rattle.may_use_analysis.specs.Steps.{Step, Copy, Constant, Other, Call, End, store_step, symbol_of, arg_back, back}
 use Rattle.may_use_analysis.specs.Trails.{Symbols, Back}
 use Rattle.may_use_analysis.specs.Flow.{RepliedBack, Turned, Flow, Head, FlowPoint}

@@ -1,11 +1,11 @@
 -- The sets of symbols of trails are made from the end of a block to its start.
 use Rattle.std.proofs.Common.{◌≡◌, ℕ, zero, suc, List, [], ◌∷◌, Option, Some, None, refl, sym, ap, ◌∙◌, subst, inl, inr, ◌⊎◌, ◌↔◌}
-use Rattle.handler_dialogue.specs.declared.tree.CheckedAtom.TheVariants as atom
-use Rattle.handler_dialogue.specs.declared.tree.CheckedCall.{CheckedCall}
+use Rattle.check_meaning.specs.declared.tree.CheckedAtom.TheVariants as atom
+use Rattle.check_meaning.specs.declared.tree.CheckedCall.{CheckedCall}
 use Rattle.symbolic_ops.specs.declared.arg.Arg.{Arg}
 use Rattle.symbolic_ops.specs.declared.arg.Arg.TheVariants.{Known, Var, Any}
 use Rattle.symbolic_ops.specs.declared.symbol.Symbol.{Symbol}
-use Rattle.handler_dialogue.specs.Code.{Code, Finish, Move, Ask, Fork, Loop, Quit, Term, Atom, Calculate}
+use Rattle.check_meaning.specs.Code.{Code, Finish, Move, Ask, Fork, Loop, Quit, Term, Atom, Calculate}
 use Rattle.may_use_analysis.specs.Steps.{symbol_of}
 use Rattle.may_use_analysis.specs.Steps.{Step, Other, Call, End, store_step, arg_back, back}
 use Rattle.may_use_analysis.specs.Trails.{Trails, Begins, Replied, Turns, From, Symbols, Back, IsOwn, Shows, Shown}

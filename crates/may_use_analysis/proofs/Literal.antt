@@ -1,6 +1,6 @@
 -- Carrying back, as the text says it: an operation's arguments go back over the steps before it, last step first.
 use Rattle.std.proofs.Common.{List, [], ◌∷◌, ◌++◌, refl, sym, ap, ◌∙◌, subst, inl, inr, ◌↔◌}
-use Rattle.handler_dialogue.specs.declared.tree.CheckedCall.{CheckedCall}
+use Rattle.check_meaning.specs.declared.tree.CheckedCall.{CheckedCall}
 use Rattle.symbolic_ops.specs.declared.symbol.Symbol.{Symbol}
 use Rattle.may_use_analysis.specs.Steps.{symbol_of}
 use Rattle.may_use_analysis.specs.Steps.{Step, Copy, Constant, Other, Call, End, back}

@@ -1,7 +1,7 @@
 -- The set at the head of a loop is the least one that its turns lead back into.
 use Rattle.std.proofs.Common.{ℕ, zero, suc, Option, Some, None, inl, inr, ◌⊎◌}
 use Rattle.symbolic_ops.specs.declared.symbol.Symbol.{Symbol}
-use Rattle.handler_dialogue.specs.Code.{Code, Finish, Move, Ask, Fork, Loop, Quit}
+use Rattle.check_meaning.specs.Code.{Code, Finish, Move, Ask, Fork, Loop, Quit}
 use Rattle.may_use_analysis.specs.Steps.{Step, Other, store_step}
 use Rattle.may_use_analysis.specs.Trails.{Symbols, Back}
 use Rattle.may_use_analysis.specs.Flow.{RepliedBack, Turned, Flow, Head}

@@ -3,8 +3,8 @@ use Rattle.std.proofs.Common.{◌≡◌, ℕ, ◌+◌, ◌<◌, ◌≤◌, refl,
 use Rattle.std.specs.Prelude.{Option}
 use Rattle.std.proofs.lemmas.Bool.{cases_lt, cases_order}
 use Rattle.symbolic_ops.specs.declared.symbol.Symbol.{Symbol}
-use Rattle.handler_dialogue.specs.declared.tree.CheckedCall.{CheckedCall}
-use Rattle.handler_dialogue.specs.Code.{Test, Code, Finish, Move, Ask, Fork, Loop, Quit, points, IsNumbered}
+use Rattle.check_meaning.specs.declared.tree.CheckedCall.{CheckedCall}
+use Rattle.check_meaning.specs.Code.{Test, Code, Finish, Move, Ask, Fork, Loop, Quit, points, IsNumbered}
 use Rattle.may_use_analysis.specs.Trails.{Symbols}
 use Rattle.may_use_analysis.specs.Flow.{Flow, Head, FlowPoint}
 use Rattle.may_use_analysis.proofs.Sets.{Same}

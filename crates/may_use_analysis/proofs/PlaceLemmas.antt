@@ -1,10 +1,10 @@
 -- The places of a statement's points, and of those behind it.
 use Rattle.std.proofs.Common.{◌≡◌, ℕ, ◌+◌, ◌<◌, ◌≤◌, List, [], ◌∷◌, ◌++◌, map, length, drop, get_or, length-append, append_assoc, append-nil, refl, sym, ap, ◌∙◌, arith}
 use Rattle.std.proofs.lemmas.List.{drop_more, drop_all}
-use Rattle.handler_dialogue.specs.declared.tree.CheckedStmt.{CheckedStmt}
-use Rattle.handler_dialogue.specs.declared.tree.CheckedStmt.TheVariants as stmt
-use Rattle.handler_dialogue.specs.Code.{Code, Finish, Move, Ask, Fork, Loop, Quit, expr_term, cond_test, stmt_code, block_code, points}
-use Rattle.handler_dialogue.proofs.Codes.{checked_cases, code_store, code_perform, code_choose, code_repeat, code_answer}
+use Rattle.check_meaning.specs.declared.tree.CheckedStmt.{CheckedStmt}
+use Rattle.check_meaning.specs.declared.tree.CheckedStmt.TheVariants as stmt
+use Rattle.check_meaning.specs.Code.{Code, Finish, Move, Ask, Fork, Loop, Quit, expr_term, cond_test, stmt_code, block_code, points}
+use Rattle.check_meaning.proofs.Codes.{checked_cases, code_store, code_perform, code_choose, code_repeat, code_answer}
 use Rattle.may_use_analysis.specs.Places.{places}
 
 pub places_stmt : (rest : Code) (s : CheckedStmt) → places (stmt_code s rest) ≡ places (stmt_code s Finish) ++ places rest

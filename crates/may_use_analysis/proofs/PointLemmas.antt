@@ -1,7 +1,7 @@
 -- The symbols at a point are those of the trails from it.
 use Rattle.std.proofs.Common.{◌≡◌, ℕ, List, [], refl, subst, inl, inr, ◌⊎◌, ◌↔◌}
 use Rattle.symbolic_ops.specs.declared.symbol.Symbol.{Symbol}
-use Rattle.handler_dialogue.specs.Code.{Code, Finish, Move, Ask, Fork, Loop, Quit}
+use Rattle.check_meaning.specs.Code.{Code, Finish, Move, Ask, Fork, Loop, Quit}
 use Rattle.may_use_analysis.specs.Steps.{Step}
 use Rattle.may_use_analysis.specs.Trails.{Trails, AnyTurns, From, FromPoint, NoStep, Symbols, Shows, Shown, LaterAt}
 use Rattle.may_use_analysis.specs.Flow.{Flow, Head, FlowPoint, FlowHandler}

@@ -3,7 +3,7 @@ use Rattle.std.proofs.Common.{◌≡◌, ℕ, ◌≤◌, List, length, ◌↔◌
 use Rattle.std.specs.List.Sorted.{IsStrictlySortedBy}
 use Rattle.symbolic_ops.specs.Order.{symbol_cmp}
 use Rattle.symbolic_ops.specs.declared.symbol.Symbol.{Symbol}
-use Rattle.handler_dialogue.specs.Code.{Code}
+use Rattle.check_meaning.specs.Code.{Code}
 use Rattle.may_use_analysis.specs.Trails.{Symbols}
 use Rattle.may_use_analysis.specs.Flow.{Flow, Head}
 use Rattle.may_use_analysis.specs.Ordered.{Are, Lists}

@@ -9,10 +9,10 @@ use Rattle.std.proofs.lemmas.List.{get_or-reverse, length-reverse, length-map, e
 use Rattle.symbolic_ops.specs.Order.{symbol_cmp}
 use Rattle.symbolic_ops.proofs.Orders.{symbol_cmp_total}
 use Rattle.symbolic_ops.specs.declared.symbol.Symbol.{Symbol}
-use Rattle.handler_trees.specs.declared.file.File.{File}
-use Rattle.handler_trees.specs.declared.file.Handler.{Handler}
-use Rattle.handler_dialogue.specs.declared.tree.CheckedHandler.{CheckedHandler}
-use Rattle.handler_dialogue.specs.Code.{Code, points, IsNumbered, block_code}
+use Rattle.syntax_trees.specs.declared.file.File.{File}
+use Rattle.syntax_trees.specs.declared.file.Handler.{Handler}
+use Rattle.check_meaning.specs.declared.tree.CheckedHandler.{CheckedHandler}
+use Rattle.check_meaning.specs.Code.{Code, points, IsNumbered, block_code}
 use Rattle.handler_check.specs.Resolved.{IsResolved, code_at, code_in, table_names}
 use Rattle.may_use_analysis.specs.declared.handler.Excess.{Excess}
 use Rattle.may_use_analysis.specs.declared.refusal.AnalysisRefusal.{AnalysisRefusal}

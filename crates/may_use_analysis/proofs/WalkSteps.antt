@@ -2,9 +2,9 @@
 use Rattle.std.proofs.Common.{◌≡◌, ℕ, suc, ◌-◌, ◌<◌, ◌≤◌, arith, drop-cons, List, length, get_or, drop, Option, sym, ap, ◌∙◌, subst, inl, inr, ◌⊎◌, ◌↔◌, Contains}
 use Rattle.std.proofs.lemmas.List.{drop_all}
 use Rattle.symbolic_ops.specs.declared.symbol.Symbol.{Symbol}
-use Rattle.handler_dialogue.specs.declared.tree.CheckedCall.{CheckedCall}
-use Rattle.handler_dialogue.specs.declared.tree.CheckedStmt.{CheckedStmt}
-use Rattle.handler_dialogue.specs.Code.{Code, Finish, stmt_code, block_code}
+use Rattle.check_meaning.specs.declared.tree.CheckedCall.{CheckedCall}
+use Rattle.check_meaning.specs.declared.tree.CheckedStmt.{CheckedStmt}
+use Rattle.check_meaning.specs.Code.{Code, Finish, stmt_code, block_code}
 use Rattle.may_use_analysis.specs.Steps.{Other, symbol_of}
 use Rattle.may_use_analysis.specs.Trails.{Symbols, Back}
 use Rattle.may_use_analysis.specs.Flow.{RepliedBack, Flow, Head, AskFlow, StmtFlow}

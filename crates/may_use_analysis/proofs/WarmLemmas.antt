@@ -3,9 +3,9 @@ use Rattle.std.proofs.Common.{◌≡◌, ℕ, zero, suc, ◌+◌, ◌-◌, ◌<�
 use Rattle.std.specs.Prelude.{slice_index_or}
 use Rattle.std.proofs.lemmas.Bool.Decides.{nat_tests}
 use Rattle.symbolic_ops.specs.declared.symbol.Symbol.{Symbol}
-use Rattle.handler_dialogue.specs.declared.tree.CheckedStmt.{CheckedStmt}
-use Rattle.handler_dialogue.specs.Code.{Code, Finish, Move, Ask, Fork, Loop, Quit, expr_term, cond_test, stmt_code, block_code, points, IsNumbered}
-use Rattle.handler_dialogue.proofs.Codes.{checked_cases, code_store, code_perform, code_choose, code_repeat, code_answer}
+use Rattle.check_meaning.specs.declared.tree.CheckedStmt.{CheckedStmt}
+use Rattle.check_meaning.specs.Code.{Code, Finish, Move, Ask, Fork, Loop, Quit, expr_term, cond_test, stmt_code, block_code, points, IsNumbered}
+use Rattle.check_meaning.proofs.Codes.{checked_cases, code_store, code_perform, code_choose, code_repeat, code_answer}
 use Rattle.may_use_analysis.specs.Trails.{Symbols}
 use Rattle.may_use_analysis.specs.Flow.{Flow, Head}
 use Rattle.may_use_analysis.specs.Ordered.{Are}

@@ -1,7 +1,7 @@
 -- What is kept of the lists of a handler, by the numbers of its points.
 use Rattle.std.specs.Prelude.{◌≡◌, ℕ, ◌+◌, ◌-◌, ◌<◌, List, length, map, reverse, Option, Some, None, slice_index_or}
 use Rattle.symbolic_ops.specs.declared.symbol.Symbol.{Symbol}
-use Rattle.handler_dialogue.specs.Code.{Code, points}
+use Rattle.check_meaning.specs.Code.{Code, points}
 use Rattle.may_use_analysis.specs.declared.handler.Excess.{Excess}
 use Rattle.may_use_analysis.specs.PointList.{PointList, Counted, IsPointList, count_in, list_in}
 use Rattle.may_use_analysis.specs.Trails.{LaterAt}

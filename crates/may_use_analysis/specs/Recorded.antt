@@ -1,7 +1,7 @@
 -- What a walk from the end of a block to its start keeps of the lists of its points.
 use Rattle.std.specs.Prelude.{◌≡◌, List, [], ◌∷◌, ◌++◌}
-use Rattle.handler_dialogue.specs.declared.tree.CheckedStmt.{CheckedStmt}
-use Rattle.handler_dialogue.specs.Code.{Code, Finish, Move, Ask, Fork, Loop, Quit, stmt_code}
+use Rattle.check_meaning.specs.declared.tree.CheckedStmt.{CheckedStmt}
+use Rattle.check_meaning.specs.Code.{Code, Finish, Move, Ask, Fork, Loop, Quit, stmt_code}
 use Rattle.may_use_analysis.specs.Flow.{Flow, Head}
 use Rattle.may_use_analysis.specs.PointList.{PointList, IsPointList}
 use Rattle.may_use_analysis.specs.Trails.{Symbols}

@@ -6,10 +6,10 @@ use Rattle.session_values.specs.Kinds.{arguments}
 use Rattle.symbolic_ops.specs.declared.arg.Arg.{Arg}
 use Rattle.symbolic_ops.specs.declared.arg.Arg.TheVariants.{Known, Var, Any}
 use Rattle.symbolic_ops.specs.declared.symbol.Symbol.{Symbol}
-use Rattle.handler_dialogue.specs.declared.tree.CheckedAtom.{CheckedAtom}
-use Rattle.handler_dialogue.specs.declared.tree.CheckedAtom.TheVariants as atom
-use Rattle.handler_dialogue.specs.declared.tree.CheckedCall.{CheckedCall}
-use Rattle.handler_dialogue.specs.Code.{Term, Atom, Calculate}
+use Rattle.check_meaning.specs.declared.tree.CheckedAtom.{CheckedAtom}
+use Rattle.check_meaning.specs.declared.tree.CheckedAtom.TheVariants as atom
+use Rattle.check_meaning.specs.declared.tree.CheckedCall.{CheckedCall}
+use Rattle.check_meaning.specs.Code.{Term, Atom, Calculate}
 
 -- a step: x becomes a copy of y, a constant or something else; an operation; the end
 pub data Step : Type 0 where

@@ -1,8 +1,8 @@
 -- Trails: the ways through a handler, whatever its conditions say, and the symbols of the operations on them.
 use Rattle.std.specs.Prelude.{◌≡◌, ℕ, zero, suc, List, [], ◌∷◌, ◌++◌, Option, Some, None, ◌⊎◌}
 use Rattle.symbolic_ops.specs.declared.symbol.Symbol.{Symbol}
-use Rattle.handler_dialogue.specs.declared.tree.CheckedCall.{CheckedCall}
-use Rattle.handler_dialogue.specs.Code.{Code, Finish, Move, Ask, Fork, Loop, Quit}
+use Rattle.check_meaning.specs.declared.tree.CheckedCall.{CheckedCall}
+use Rattle.check_meaning.specs.Code.{Code, Finish, Move, Ask, Fork, Loop, Quit}
 use Rattle.may_use_analysis.specs.Steps.{Step, Copy, Constant, Other, Call, End, store_step, symbol_of, back}
 
 -- a set of trails

@@ -1,7 +1,7 @@
 -- Lists at the heads of loops that are kept from an earlier walk, so that the next one begins with them.
 use Rattle.std.specs.Prelude.{◌≡◌, ℕ, ◌<◌, ◌≤◌, ◌⊎◌, List, [], Contains, slice_index_or}
 use Rattle.symbolic_ops.specs.declared.symbol.Symbol.{Symbol}
-use Rattle.handler_dialogue.specs.Code.{Code, Finish, Move, Ask, Fork, Loop, Quit}
+use Rattle.check_meaning.specs.Code.{Code, Finish, Move, Ask, Fork, Loop, Quit}
 use Rattle.may_use_analysis.specs.Flow.{Flow, Head}
 use Rattle.may_use_analysis.specs.Trails.{Symbols}
 

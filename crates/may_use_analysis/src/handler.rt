@@ -1,14 +1,14 @@
 // The lists of a handler.
 
 ghost use Rattle.std.specs.Prelude.{IfOk};
-ghost use Rattle.handler_dialogue.specs.Code.{IsNumbered, block_code};
+ghost use Rattle.check_meaning.specs.Code.{IsNumbered, block_code};
 ghost use Rattle.may_use_analysis.specs.Numbered.{ArePointLists, IsFirstExcess};
 
 use crate::heads::Heads;
 use crate::kept::PointLists;
 use crate::ordered::Ordered;
 use crate::walk::before_block;
-use handler_dialogue::CheckedHandler;
+use check_meaning::CheckedHandler;
 use session_values::NoMemory;
 use std::alloc::Global;
 

@@ -2,8 +2,8 @@
 
 ghost use Rattle.std.specs.Prelude.{◌≡◌, ◌↔◌, ℕ, List};
 ghost use Rattle.symbolic_ops.specs.declared.symbol.Symbol.{Symbol};
-ghost use Rattle.handler_trees.specs.declared.file.File.{File};
-ghost use Rattle.handler_dialogue.specs.Code.{Code};
+ghost use Rattle.syntax_trees.specs.declared.file.File.{File};
+ghost use Rattle.check_meaning.specs.Code.{Code};
 ghost use Rattle.may_use_analysis.specs.declared.refusal.AnalysisRefusal.{AnalysisRefusal};
 ghost use Rattle.may_use_analysis.specs.Later.{AreLater, IsLaterList, IsTooMany};
 ghost use Rattle.may_use_analysis.specs.Steps.{Step};

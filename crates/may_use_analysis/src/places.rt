@@ -1,10 +1,10 @@
 // The byte places that stand for points.
 
 ghost use Rattle.std.specs.Prelude.{◌≡◌, ◌+◌, ◌<◌, ◌++◌, ◌∷◌, IfOk, OnOk, Some, slice_get};
-ghost use Rattle.handler_dialogue.specs.Code.{Finish, block_code, points, stmt_code};
+ghost use Rattle.check_meaning.specs.Code.{Finish, block_code, points, stmt_code};
 ghost use Rattle.may_use_analysis.specs.Places.{places};
 
-use handler_dialogue::{CheckedHandler, CheckedStmt};
+use check_meaning::{CheckedHandler, CheckedStmt};
 use session_values::NoMemory;
 use std::alloc::Global;
 

@@ -1,11 +1,11 @@
 // Stores, and symbols carried back over them.
 
 ghost use Rattle.std.specs.Prelude.{◌≡◌, nat_lt};
-ghost use Rattle.handler_dialogue.specs.Code.{expr_term};
+ghost use Rattle.check_meaning.specs.Code.{expr_term};
 ghost use Rattle.may_use_analysis.specs.Steps.{arg_back, argument, back, store_step, symbol_of};
 ghost use Rattle.may_use_analysis.specs.Stores.{step_of};
 
-use handler_dialogue::{CheckedAtom, CheckedCall, CheckedExpr};
+use check_meaning::{CheckedAtom, CheckedCall, CheckedExpr};
 use session_values::Value;
 use symbolic_ops::{Arg, Symbol};
 

@@ -1,7 +1,7 @@
 // From the end of a block to its start.
 
 ghost use Rattle.std.specs.Prelude.{◌≡◌, ◌+◌, ℕ, Contains, IfOk, OnOk};
-ghost use Rattle.handler_dialogue.specs.Code.{Finish, IsNumbered, Loop, block_code, points, stmt_code};
+ghost use Rattle.check_meaning.specs.Code.{Finish, IsNumbered, Loop, block_code, points, stmt_code};
 ghost use Rattle.may_use_analysis.specs.Flow.{AskFlow, Flow, Head, StmtFlow};
 ghost use Rattle.may_use_analysis.specs.Ordered.{Are};
 ghost use Rattle.may_use_analysis.specs.Recorded.{Recorded, StmtRecorded};
@@ -11,7 +11,7 @@ use crate::heads::Heads;
 use crate::kept::PointLists;
 use crate::ordered::Ordered;
 use crate::stores::{Store, store_of, symbol_of};
-use handler_dialogue::{CheckedCall, CheckedStmt};
+use check_meaning::{CheckedCall, CheckedStmt};
 use session_values::NoMemory;
 use std::alloc::Global;
 

@@ -5,7 +5,7 @@ use Rattle.std.specs.List.{list_all, AllByRecursion}
 use Rattle.session_values.specs.Names.{Begins}
 use Rattle.session_values.specs.Values.{IsValue}
 use Rattle.session_values.specs.declared.value.Value.{Value}
-use Rattle.handler_trees.specs.declared.file.File.{File}
+use Rattle.syntax_trees.specs.declared.file.File.{File}
 use Rattle.handler_check.specs.Resolved.{params_at}
 use Rattle.request_files.specs.declared.tally.Tally.{Tally}
 use Rattle.request_files.specs.declared.refusal.RequestRefusal.{RequestRefusal}

@@ -7,10 +7,10 @@ use Rattle.std.proofs.lemmas.List.Sums.{prefix_len-le-length}
 use Rattle.std.specs.List.{position, position_or_len, AllByRecursion, flat_map}
 use Rattle.std.specs.Str.{bytes_eq}
 use Rattle.session_values.specs.Names.{place_of, Begins}
-use Rattle.handler_trees.specs.declared.file.File.{File}
-use Rattle.handler_trees.specs.declared.file.Handler.{Handler}
-use Rattle.handler_trees.specs.Mentions.{IsBelow, AreNamed, table_mentions, handler_mentions, file_mentions}
-use Rattle.handler_trees.proofs.Mentions.{all_first}
+use Rattle.syntax_trees.specs.declared.file.File.{File}
+use Rattle.syntax_trees.specs.declared.file.Handler.{Handler}
+use Rattle.syntax_trees.specs.Mentions.{IsBelow, AreNamed, table_mentions, handler_mentions, file_mentions}
+use Rattle.syntax_trees.proofs.Mentions.{all_first}
 use Rattle.request_files.specs.Text.{Text}
 use Rattle.request_files.specs.Requests.{AreKnown, handler_of, IsHandler}
 use Rattle.request_files.proofs.ValueLemmas.{known, place_kept}

@@ -9,7 +9,7 @@ use Rattle.session_values.specs.ReplyText.{IsPrintable}
 use Rattle.session_values.specs.Values.{IsValue}
 use Rattle.session_values.specs.declared.value.Value.TheVariants.{Nil, Num}
 use Rattle.session_values.proofs.Named.{begins_same, begins_then, named_with, printable_kept}
-use Rattle.handler_trees.specs.declared.file.File.{File}
+use Rattle.syntax_trees.specs.declared.file.File.{File}
 use Rattle.request_files.specs.declared.request.Request.{Request}
 use Rattle.request_files.specs.Text.{Text}
 use Rattle.request_files.specs.Values.{has_minus, size_of, size_limit, is_number, number_of, is_nil, is_symbol, number, as_value, value_of, values_of, placed, placed_all}

@@ -7,14 +7,14 @@ use Rattle.std.specs.List.{AllByRecursion}
 use Rattle.session_values.specs.Names.{Begins}
 use Rattle.session_values.specs.declared.value.Value.{Value}
 use Rattle.session_values.proofs.Named.{begins_same, begins_then}
-use Rattle.handler_trees.specs.declared.file.File.{File}
-use Rattle.handler_trees.specs.declared.file.Handler.{Handler}
-use Rattle.handler_dialogue.specs.Bounds.{calls_bound, work_bound}
+use Rattle.syntax_trees.specs.declared.file.File.{File}
+use Rattle.syntax_trees.specs.declared.file.Handler.{Handler}
+use Rattle.check_meaning.specs.Bounds.{calls_bound, work_bound}
 use Rattle.handler_check.specs.Resolved.{code_at}
 use Rattle.request_files.specs.declared.request.Request.{Request}
 use Rattle.request_files.specs.declared.tally.Tally.{Tally}
 use Rattle.request_files.specs.declared.refusal.RequestRefusal.{RequestRefusal}
-use Rattle.handler_trees.proofs.Mentions.{all_join}
+use Rattle.syntax_trees.proofs.Mentions.{all_join}
 use Rattle.request_files.specs.Servable.{IsRequestOf, IsServable, calls_in_all, work_in_all}
 use Rattle.request_files.specs.Text.{Text, words}
 use Rattle.request_files.specs.Values.{values_of, placed_all}

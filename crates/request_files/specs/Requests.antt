@@ -6,9 +6,9 @@ use Rattle.session_limits.specs.Limits.{max_requests, max_session_calls, max_ses
 use Rattle.session_values.specs.Names.{place_of}
 use Rattle.session_values.specs.ReplyText.{IsPrintable}
 use Rattle.session_values.specs.declared.value.Value.{Value}
-use Rattle.handler_trees.specs.declared.file.File.{File}
-use Rattle.handler_trees.specs.declared.file.Handler.{Handler}
-use Rattle.handler_dialogue.specs.Bounds.{calls_bound, work_bound}
+use Rattle.syntax_trees.specs.declared.file.File.{File}
+use Rattle.syntax_trees.specs.declared.file.Handler.{Handler}
+use Rattle.check_meaning.specs.Bounds.{calls_bound, work_bound}
 use Rattle.handler_check.specs.Resolved.{code_at, params_at}
 use Rattle.request_files.specs.declared.request.Request.{Request}
 use Rattle.request_files.specs.declared.tally.Tally.{Tally}

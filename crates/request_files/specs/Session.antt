@@ -3,9 +3,9 @@ use Rattle.std.specs.Prelude.{ℕ, List, [], length, slice_index_or}
 use Rattle.session_values.specs.Dialogue.{Dialogue}
 use Rattle.session_values.specs.Serial.{Session}
 use Rattle.session_values.specs.Tables.{start}
-use Rattle.handler_trees.specs.declared.file.File.{File}
-use Rattle.handler_dialogue.specs.Bounds.{calls_bound}
-use Rattle.handler_dialogue.specs.Dialogue.{env_of, next}
+use Rattle.syntax_trees.specs.declared.file.File.{File}
+use Rattle.check_meaning.specs.Bounds.{calls_bound}
+use Rattle.check_meaning.specs.Dialogue.{env_of, next}
 use Rattle.handler_check.specs.Resolved.{code_at, shape_of}
 use Rattle.request_files.specs.declared.request.Request.{Request}
 

@@ -2,7 +2,7 @@
 
 ghost use Rattle.std.specs.Prelude.{◌≡◌, ◌≢◌, ◌+◌, ◌≤◌, length, Some, IfOk};
 ghost use Rattle.session_values.specs.Names.{Begins};
-ghost use Rattle.handler_trees.specs.Mentions.{AreNamed, file_mentions};
+ghost use Rattle.syntax_trees.specs.Mentions.{AreNamed, file_mentions};
 ghost use Rattle.request_files.specs.Text.{lines as lines_of};
 ghost use Rattle.request_files.specs.Requests as spec;
 ghost use Rattle.request_files.specs.Servable.{IsServable};

@@ -16,7 +16,7 @@ use Rattle.session_journal.specs.Script.{Meaning, session_of}
 use Rattle.session_journal.proofs.Serial.{serve-calls, serve-answers, differ}
 use Rattle.admission_book.proofs.Events.{only_begun}
 use Rattle.session_hall.specs.Closings.{ClosedView, IsDone}
-use Rattle.session_answers.specs.Session.{serial_calls}
+use Rattle.serve_faults.specs.Session.{serial_calls}
 
 -- ---- the entries of a serving are what its dialogue calls
 serve_stops : (f : Dialogue) (ts : Tables) (op : Op) → f [] ≡ Calls op → serve zero f ts ≡ record { entries = []; answer = None; after = ts }

@@ -8,22 +8,22 @@ use Rattle.session_values.specs.ReplyText.{reply_text}
 use Rattle.session_journal.specs.Script.{Meaning, session_of}
 use Rattle.session_journal.specs.Journal.{done_operations}
 use Rattle.session_hall.specs.Closings.{ClosedView, IsDone}
-use Rattle.command_words.specs.declared.command.Command.{Command}
-use Rattle.command_words.specs.declared.command.Command.TheVariants.{Check, Show, Serve, Work}
-use Rattle.work_session.specs.Summary.{summary}
-use Rattle.session_answers.specs.declared.status.Fault.{Fault}
-use Rattle.session_answers.specs.declared.status.Fault.TheVariants as fault
-use Rattle.session_answers.specs.declared.status.Status.{Status}
-use Rattle.session_answers.specs.declared.status.Status.TheVariants as status
-use Rattle.session_answers.specs.Input.{Parts, parts_of, input_of, has_requests, handlers_of, is_divided, IsInput}
-use Rattle.session_answers.specs.Session.{session_of_parts, all_names_of, replies_text, serial_calls}
-use Rattle.session_answers.specs.Answer.{IsRefused, IsTextOf}
-use Rattle.session_answers.specs.Runs.{Change, IsUntouched, Answered, Written, has_served, Holds, IsServedThrough, callers_of, shards_of}
-use Rattle.session_answers.specs.Ways.{AnswersTo, describing}
-use Rattle.session_answers.proofs.RunLemmas.{refused_answer, no_answer, fine_answer, front_answer, not_served}
-use Rattle.session_reading.specs.declared.unserved.Unserved.{Unserved}
-use Rattle.session_reading.specs.declared.unserved.Unserved.TheVariants.{Refused, NoMemory}
-use Rattle.session_reading.specs.Reasons.{IsReason, IsSessionReason}
+use Rattle.serve_words.specs.declared.command.Command.{Command}
+use Rattle.serve_words.specs.declared.command.Command.TheVariants.{Check, Show, Serve, Work}
+use Rattle.serve_made.specs.Summary.{summary}
+use Rattle.serve_faults.specs.declared.status.Fault.{Fault}
+use Rattle.serve_faults.specs.declared.status.Fault.TheVariants as fault
+use Rattle.serve_faults.specs.declared.status.Status.{Status}
+use Rattle.serve_faults.specs.declared.status.Status.TheVariants as status
+use Rattle.serve_faults.specs.Input.{Parts, parts_of, input_of, has_requests, handlers_of, is_divided, IsInput}
+use Rattle.serve_faults.specs.Session.{session_of_parts, all_names_of, replies_text, serial_calls}
+use Rattle.serve_faults.specs.Answer.{IsRefused, IsTextOf}
+use Rattle.serve_faults.specs.Runs.{Change, IsUntouched, Answered, Written, has_served, Holds, IsServedThrough, callers_of, shards_of}
+use Rattle.serve_faults.specs.Ways.{AnswersTo, describing}
+use Rattle.serve_faults.proofs.RunLemmas.{refused_answer, no_answer, fine_answer, front_answer, not_served}
+use Rattle.serve_reading.specs.declared.unserved.Unserved.{Unserved}
+use Rattle.serve_reading.specs.declared.unserved.Unserved.TheVariants.{Refused, NoMemory}
+use Rattle.serve_reading.specs.Reasons.{IsReason, IsSessionReason}
 use Rattle.serve_core.specs.declared.sessions.Served.{Served}
 use Rattle.serve_core.specs.Serving.{IsSessionInput, HasServed, IsInputReason, status_of, EndsBy}
 use Rattle.serve_core.proofs.CallLemmas.{calls_done}

@@ -11,7 +11,7 @@ use Rattle.session_values.specs.declared.kind.TableKind.{TableKind}
 use Rattle.session_values.specs.Serial.{Session, serial, serial_replies, answered}
 use Rattle.session_journal.specs.Script.{Meaning, session_of}
 use Rattle.session_hall.specs.Closings.{IsDone}
-use Rattle.handler_trees.specs.declared.file.TableDecl.{TableDecl}
+use Rattle.syntax_trees.specs.declared.file.TableDecl.{TableDecl}
 use Rattle.handler_syntax.specs.Language.{File}
 use Rattle.handler_check.specs.Checking.{IsAccepted}
 use Rattle.handler_check.specs.Resolved.{shape_of}
@@ -21,16 +21,16 @@ use Rattle.request_files.specs.Divide.{Divides, is_dividing}
 use Rattle.request_files.specs.Session.{session}
 use Rattle.request_files.specs.Text.{Text, is_line_byte, attach, lines}
 use Rattle.handler_machine.specs.Scripts.{meaning}
-use Rattle.session_answers.specs.declared.status.Fault.TheVariants as fault
-use Rattle.session_answers.specs.Input.{Parts, parts_of, is_divided}
+use Rattle.serve_faults.specs.declared.status.Fault.TheVariants as fault
+use Rattle.serve_faults.specs.Input.{Parts, parts_of, is_divided}
 use Rattle.reply_writing.specs.Printable.{ArePrintableReplies}
-use Rattle.session_answers.proofs.PrintableRuns.{replies_said}
-use Rattle.session_reading.specs.declared.session.Loaded.{Loaded}
-use Rattle.session_reading.specs.declared.unserved.Unserved.{Unserved}
-use Rattle.session_reading.specs.declared.unserved.Unserved.TheVariants.{Refused, NoMemory}
-use Rattle.session_reading.specs.Reasons.{IsSessionReason}
-use Rattle.session_reading.specs.Sessions.{IsLoaded}
-use Rattle.session_reading.proofs.Loading.{as_program}
+use Rattle.serve_faults.proofs.PrintableRuns.{replies_said}
+use Rattle.serve_reading.specs.declared.session.Loaded.{Loaded}
+use Rattle.serve_reading.specs.declared.unserved.Unserved.{Unserved}
+use Rattle.serve_reading.specs.declared.unserved.Unserved.TheVariants.{Refused, NoMemory}
+use Rattle.serve_reading.specs.Reasons.{IsSessionReason}
+use Rattle.serve_reading.specs.Sessions.{IsLoaded}
+use Rattle.serve_reading.proofs.Loading.{as_program}
 use Rattle.serve_core.specs.declared.sessions.Served.{Served}
 use Rattle.serve_core.specs.Serving.{script_of_loaded, IsSessionInput, HasServed, IsInputReason}
 

@@ -3,14 +3,14 @@ use Rattle.std.proofs.Common.{◌≡◌, ◌≢◌, ℕ, zero, ◌+◌, ◌≤�
 use Rattle.session_limits.specs.Limits.{max_input}
 use Rattle.byte_ends.specs.Ends.{LostAtMost}
 use Rattle.session_hall.specs.Closings.{ClosedView}
-use Rattle.command_words.specs.declared.command.Command.{Command}
-use Rattle.command_words.specs.declared.command.Command.TheVariants.{Serve, Work}
-use Rattle.session_answers.specs.declared.status.Status.{Status}
-use Rattle.session_answers.specs.declared.status.Status.TheVariants as status
-use Rattle.session_answers.specs.Input.{is_reading}
-use Rattle.session_answers.specs.Runs.{Change, IsUntouched, Runs}
-use Rattle.session_answers.specs.Ways.{AnswersTo, HasRead, StoppedAs, describing}
-use Rattle.session_answers.proofs.RunLemmas.{runs_of, read_run, stopped_run}
+use Rattle.serve_words.specs.declared.command.Command.{Command}
+use Rattle.serve_words.specs.declared.command.Command.TheVariants.{Serve, Work}
+use Rattle.serve_faults.specs.declared.status.Status.{Status}
+use Rattle.serve_faults.specs.declared.status.Status.TheVariants as status
+use Rattle.serve_faults.specs.Input.{is_reading}
+use Rattle.serve_faults.specs.Runs.{Change, IsUntouched, Runs}
+use Rattle.serve_faults.specs.Ways.{AnswersTo, HasRead, StoppedAs, describing}
+use Rattle.serve_faults.proofs.RunLemmas.{runs_of, read_run, stopped_run}
 
 -- a source that isn't touched has lost nothing
 nothing_lost : (o p : Option (List ℕ)) → p ≡ o → LostAtMost o p (max_input + 1)

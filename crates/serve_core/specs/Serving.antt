@@ -5,17 +5,17 @@ use Rattle.session_journal.specs.Script.{Meaning, session_of}
 use Rattle.session_hall.specs.Closings.{IsDone}
 use Rattle.handler_syntax.specs.Language.{File}
 use Rattle.handler_machine.specs.Scripts.{ScriptsView}
-use Rattle.session_answers.specs.declared.status.Fault.TheVariants as fault
-use Rattle.session_answers.specs.declared.status.Status.{Status}
-use Rattle.session_answers.specs.declared.status.Status.TheVariants as status
-use Rattle.session_answers.specs.Input.{Parts, parts_of, is_divided}
+use Rattle.serve_faults.specs.declared.status.Fault.TheVariants as fault
+use Rattle.serve_faults.specs.declared.status.Status.{Status}
+use Rattle.serve_faults.specs.declared.status.Status.TheVariants as status
+use Rattle.serve_faults.specs.Input.{Parts, parts_of, is_divided}
 use Rattle.reply_writing.specs.Printable.{ArePrintableReplies}
-use Rattle.session_answers.specs.Runs.{Change, Failed, Took, TookFront}
-use Rattle.session_answers.specs.Session.{IsSession, all_names_of, session_of_parts}
-use Rattle.session_reading.specs.Reasons.{IsSessionReason}
-use Rattle.session_reading.specs.declared.session.Loaded.{Loaded}
-use Rattle.session_reading.specs.declared.unserved.Unserved.{Unserved}
-use Rattle.session_reading.specs.declared.unserved.Unserved.TheVariants.{Refused, NoMemory}
+use Rattle.serve_faults.specs.Runs.{Change, Failed, Took, TookFront}
+use Rattle.serve_faults.specs.Session.{IsSession, all_names_of, session_of_parts}
+use Rattle.serve_reading.specs.Reasons.{IsSessionReason}
+use Rattle.serve_reading.specs.declared.session.Loaded.{Loaded}
+use Rattle.serve_reading.specs.declared.unserved.Unserved.{Unserved}
+use Rattle.serve_reading.specs.declared.unserved.Unserved.TheVariants.{Refused, NoMemory}
 use Rattle.serve_core.specs.declared.sessions.Served.{Served}
 
 -- the script of what was loaded

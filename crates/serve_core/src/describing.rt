@@ -2,12 +2,12 @@
 
 ghost use Rattle.std.specs.Prelude.{◌≤◌, length, Some, None};
 ghost use Rattle.session_limits.specs.Limits.{max_input};
-ghost use Rattle.session_answers.specs.Runs.{Runs, change};
-ghost use Rattle.session_answers.specs.Ways.{AnswersTo, describing};
+ghost use Rattle.serve_faults.specs.Runs.{Runs, change};
+ghost use Rattle.serve_faults.specs.Ways.{AnswersTo, describing};
 
 use byte_ends::{Sink, Source, write_all};
-use session_answers::Status;
-use session_reading::{Unserved, described_text, read_input};
+use serve_faults::Status;
+use serve_reading::{Unserved, described_text, read_input};
 use std::alloc::Global;
 
 /// Reads a file of handlers, and writes its text.

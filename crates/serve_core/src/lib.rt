@@ -13,5 +13,5 @@ mod working;
 
 pub use byte_ends::{Got, MemorySink, MemorySource, Put, Sink, Source, SureSink, SureSource};
 pub use outcome::Outcome;
-pub use session_answers::{Fault, Status};
+pub use serve_faults::{Fault, Status};
 pub use top::{describe, run, tell};

@@ -1,6 +1,6 @@
 // What a run leaves.
 
-use session_answers::Status;
+use serve_faults::Status;
 use session_hall::Closed;
 
 /// How a run ended, and the closed hall through which it served its session. Only the closing of a

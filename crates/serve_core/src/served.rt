@@ -10,13 +10,13 @@ ghost use Rattle.request_files.specs.Servable.{IsServable};
 use declaration_insertion::Program;
 use hall_serving::serve_session;
 use handler_machine::Scripts;
-use handler_trees::File;
 use request_files::Requests;
 use session_hall::Closed;
 use session_values::{NoMemory, TableKind};
 use std::alloc::Global;
 use std::sync::Wait;
 use std::thread::Threads;
+use syntax_trees::File;
 use worker_gate::Gate;
 
 /// Serves the requests of a program by so many callers, over so many shards a table. Want of memory

@@ -3,18 +3,18 @@
 ghost use Rattle.std.specs.Prelude.{◌≡◌, ◌≤◌, length, Some};
 ghost use Rattle.session_limits.specs.Limits.{max_callers, max_input, max_requests, max_shards};
 ghost use Rattle.reply_writing.specs.Printable.{ArePrintableReplies};
-ghost use Rattle.session_answers.specs.Runs.{Runs, change};
-ghost use Rattle.session_answers.specs.Ways.{AnswersTo};
+ghost use Rattle.serve_faults.specs.Runs.{Runs, change};
+ghost use Rattle.serve_faults.specs.Ways.{AnswersTo};
 ghost use Rattle.session_values.specs.ReplyText.{reply_text};
-ghost use Rattle.command_words.specs.declared.command.Command.TheVariants.{Serve};
+ghost use Rattle.serve_words.specs.declared.command.Command.TheVariants.{Serve};
 ghost use Rattle.serve_core.specs.Serving.{EndsBy, status_of};
 
 use crate::outcome::Outcome;
 use crate::sessions::{Served, serve_file};
 use byte_ends::{Sink, Source};
 use reply_writing::write_replies;
-use session_answers::Status;
-use session_reading::{Unserved, read_input};
+use serve_faults::Status;
+use serve_reading::{Unserved, read_input};
 use std::alloc::Global;
 use std::sync::Wait;
 use std::thread::Threads;

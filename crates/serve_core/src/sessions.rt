@@ -5,15 +5,15 @@ ghost use Rattle.session_limits.specs.Limits.{max_callers, max_input, max_shards
 ghost use Rattle.session_hall.specs.Closings.{IsDone};
 ghost use Rattle.handler_machine.specs.Scripts.{meaning};
 ghost use Rattle.request_files.specs.Servable.{IsServable};
-ghost use Rattle.session_answers.specs.Input.{parts_of};
+ghost use Rattle.serve_faults.specs.Input.{parts_of};
 ghost use Rattle.serve_core.specs.Serving.{IsSessionInput, IsInputReason, HasServed, script_of_loaded};
 
 use crate::served::serve_program;
 use reply_writing::Block;
 use request_files::divide;
-use session_answers::Fault;
+use serve_faults::Fault;
+use serve_reading::{Loaded, Unserved, read_session};
 use session_hall::Closed;
-use session_reading::{Loaded, Unserved, read_session};
 use session_values::{Names, NoMemory};
 use std::alloc::Global;
 use std::sync::Wait;

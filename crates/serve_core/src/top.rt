@@ -1,17 +1,17 @@
 // The top call.
 
 ghost use Rattle.std.specs.Prelude.{◌≡◌, map, string_bytes, Some, None, IfSome};
-ghost use Rattle.command_words.specs.Commands as commands;
-ghost use Rattle.session_answers.specs.Runs.{Runs, Tells, change};
-ghost use Rattle.session_answers.specs.Ways.{describing};
+ghost use Rattle.serve_words.specs.Commands as commands;
+ghost use Rattle.serve_faults.specs.Runs.{Runs, Tells, change};
+ghost use Rattle.serve_faults.specs.Ways.{describing};
 
 use crate::describing::describe_source;
 use crate::outcome::Outcome;
 use crate::serving::serve_source;
 use crate::working::work;
 use byte_ends::{Sink, Source, write_all};
-use command_words::{Command, command_of};
-use session_answers::{Status, message_of};
+use serve_faults::{Status, message_of};
+use serve_words::{Command, command_of};
 use std::alloc::Global;
 use std::sync::Wait;
 use std::thread::Threads;
@@ -20,7 +20,7 @@ use worker_gate::Gate;
 /// All that the program does: `words` are those after the program's name. It reads an input from
 /// `source`, writes the command's text to `out` and, where it doesn't end well, one line to `err`;
 /// callers that serve pass the gate at each of its places. Its promises stand by name in
-/// `session_answers`, in `specs/Runs.antt`: usage and unread; fine, refused and front; refusing
+/// `serve_faults`, in `specs/Runs.antt`: usage and unread; fine, refused and front; refusing
 /// and complete; read_fault, write_fault and unwritten; end, gone and lost; served and hall; and,
 /// of the line, line and line_front.
 pub fn run<R: Threads + Wait + Sync, I: Source, O: Sink, E: Sink, G: Gate + Sync>(

@@ -4,13 +4,13 @@ ghost use Rattle.std.specs.Prelude.{◌≡◌, ◌+◌, ◌≤◌, ℕ, List, le
 ghost use Rattle.session_limits.specs.Limits.{max_requests};
 ghost use Rattle.session_journal.specs.Journal.{done_operations};
 ghost use Rattle.session_values.specs.ReplyText.{reply_text};
-ghost use Rattle.command_words.specs.declared.command.Command.TheVariants.{Work};
-ghost use Rattle.work_session.specs.Session.{session_text as text_of_session};
-ghost use Rattle.work_session.specs.Summary.{summary};
-ghost use Rattle.session_answers.specs.Input.{parts_of};
+ghost use Rattle.serve_words.specs.declared.command.Command.TheVariants.{Work};
+ghost use Rattle.serve_made.specs.Session.{session_text as text_of_session};
+ghost use Rattle.serve_made.specs.Summary.{summary};
+ghost use Rattle.serve_faults.specs.Input.{parts_of};
 ghost use Rattle.reply_writing.specs.Printable.{ArePrintableReplies};
-ghost use Rattle.session_answers.specs.Runs.{change};
-ghost use Rattle.session_answers.specs.Ways.{AnswersTo};
+ghost use Rattle.serve_faults.specs.Runs.{change};
+ghost use Rattle.serve_faults.specs.Ways.{AnswersTo};
 ghost use Rattle.serve_core.specs.Serving.{IsSessionInput, IsInputReason, HasServed, EndsBy};
 
 use crate::counting::{count_bytes, count_calls};
@@ -18,12 +18,12 @@ use crate::outcome::Outcome;
 use crate::serving::ended;
 use crate::sessions::{Served, serve_file};
 use byte_ends::{Sink, write_all};
-use session_answers::Status;
-use session_reading::Unserved;
+use serve_faults::Status;
+use serve_made::{session_text, summary_text};
+use serve_reading::Unserved;
 use std::alloc::Global;
 use std::sync::Wait;
 use std::thread::Threads;
-use work_session::{session_text, summary_text};
 use worker_gate::Gate;
 
 /// Serves a made session, and writes its summary.
@@ -39,7 +39,7 @@ pub(crate) fn work<R: Threads + Wait + Sync, O: Sink, G: Gate + Sync>(
     ensures { (bytes : List ℕ) → AnswersTo (Work requests start) bytes
         (change O.held O.faults out.old out.new) result.status result.closed }
 {
-    match serve_made(rt, alloc, requests, start, gate) {
+    match serve_work(rt, alloc, requests, start, gate) {
         Ok(served) => write_summary(requests, served, out),
         Err(e) => Outcome {
             status: ended(e),
@@ -49,7 +49,7 @@ pub(crate) fn work<R: Threads + Wait + Sync, O: Sink, G: Gate + Sync>(
 }
 
 // Makes a session, and serves it.
-fn serve_made<R: Threads + Wait + Sync, G: Gate + Sync>(
+fn serve_work<R: Threads + Wait + Sync, G: Gate + Sync>(
     rt: &R,
     alloc: Global,
     requests: u32,

@@ -2,13 +2,13 @@
 
 ghost use Rattle.std.specs.Prelude.{ℕ, List};
 ghost use Rattle.std.specs.List.{flat_map};
-ghost use Rattle.handler_trees.specs.declared.file.TableDecl.{TableDecl};
-ghost use Rattle.handler_rules.specs.Marks.{atom_marks, call_marks, cond_marks, expr_marks, right_marks};
-ghost use Rattle.handler_rules.specs.Scan.{Found, of_variables, scan};
+ghost use Rattle.syntax_trees.specs.declared.file.TableDecl.{TableDecl};
+ghost use Rattle.check_rules.specs.Marks.{atom_marks, call_marks, cond_marks, expr_marks, right_marks};
+ghost use Rattle.check_rules.specs.Scan.{Found, of_variables, scan};
 
 use super::names::{count_arguments, find_table, see};
-use handler_rules::CheckRefusal;
-use handler_trees::{Atom, Call, Cond, Expr, Right, TableDecl};
+use check_rules::CheckRefusal;
+use syntax_trees::{Atom, Call, Cond, Expr, Right, TableDecl};
 
 fn find_in_atom(visible: &[u32], atom: &Atom) -> Result<(), CheckRefusal>
     ensures { (tables : List TableDecl) (earlier : List ℕ)

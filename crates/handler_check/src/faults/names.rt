@@ -2,14 +2,14 @@
 
 ghost use Rattle.std.specs.Prelude.{◌≡◌, ◌==◌, ◌++◌, ◌∷◌, [], OnOk, length};
 ghost use Rattle.session_values.specs.Kinds.{home};
-ghost use Rattle.handler_rules.specs.declared.refusal.CheckRefusal.TheVariants as refusal;
-ghost use Rattle.handler_rules.specs.Rules.{kind_of};
-ghost use Rattle.handler_rules.specs.Scan.{Found, count_fault, declared_fault, fault_if, is_among, is_same_kind, of_variables, or_else, table_fault, turns_fault, unseen_fault};
+ghost use Rattle.check_rules.specs.declared.refusal.CheckRefusal.TheVariants as refusal;
+ghost use Rattle.check_rules.specs.Rules.{kind_of};
+ghost use Rattle.check_rules.specs.Scan.{Found, count_fault, declared_fault, fault_if, is_among, is_same_kind, of_variables, or_else, table_fault, turns_fault, unseen_fault};
 
-use handler_rules::CheckRefusal;
-use handler_trees::TableDecl;
+use check_rules::CheckRefusal;
 use session_limits::{MAX_TURNS, MAX_VARIABLES};
 use session_values::{Kind, TableKind};
+use syntax_trees::TableDecl;
 
 /// Declares a name behind the earlier ones, unless it is one of them, or there are too many.
 pub(crate) fn declare(

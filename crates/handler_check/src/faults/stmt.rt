@@ -2,14 +2,14 @@
 
 ghost use Rattle.std.specs.Prelude.{◌≡◌, ◌++◌, ◌∷◌, [], OnOk};
 ghost use Rattle.handler_check.specs.Shown.{shown};
-ghost use Rattle.handler_rules.specs.Marks.{declared, marks};
-ghost use Rattle.handler_rules.specs.Scan.{Found, of_variables, scan};
-ghost use Rattle.handler_rules.specs.Source.{Finish, block_source, stmt_source};
+ghost use Rattle.check_rules.specs.Marks.{declared, marks};
+ghost use Rattle.check_rules.specs.Scan.{Found, of_variables, scan};
+ghost use Rattle.check_rules.specs.Source.{Finish, block_source, stmt_source};
 
 use super::expr::{find_in_call, find_in_cond, find_in_right, find_in_values};
 use super::names::{count_turns, declare_variable, see};
-use handler_rules::CheckRefusal;
-use handler_trees::{Stmt, TableDecl};
+use check_rules::CheckRefusal;
+use syntax_trees::{Stmt, TableDecl};
 
 #[cycle(statement)]
 fn find_in_stmt(

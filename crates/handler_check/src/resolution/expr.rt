@@ -2,12 +2,12 @@
 
 ghost use Rattle.std.specs.Prelude.{◌≡◌, ◌<◌, ◌^◌, IfOk, length, map};
 ghost use Rattle.handler_check.specs.Resolved as spec;
-ghost use Rattle.handler_dialogue.specs.Code.{cond_test, expr_term};
+ghost use Rattle.check_meaning.specs.Code.{cond_test, expr_term};
 
-use handler_dialogue::{CheckedAtom, CheckedCall, CheckedCond, CheckedExpr, CheckedExprs};
-use handler_trees::{Atom, Call, Cond, Expr};
+use check_meaning::{CheckedAtom, CheckedCall, CheckedCond, CheckedExpr, CheckedExprs};
 use session_values::{Boxed, Listed, NoMemory, Value};
 use std::alloc::Global;
+use syntax_trees::{Atom, Call, Cond, Expr};
 
 /// What stands in the place of an argument that an operation doesn't have.
 const NIL: CheckedAtom = CheckedAtom::Lit(Value::Nil);

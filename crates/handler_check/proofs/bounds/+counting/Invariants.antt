@@ -1,6 +1,6 @@
 use Rattle.std.proofs.Common.{◌≡◌, ◌+◌, ◌≤◌, min, drop}
-use Rattle.handler_dialogue.specs.Bounds.{bound}
-use Rattle.handler_dialogue.specs.Code.{block_code}
+use Rattle.check_meaning.specs.Bounds.{bound}
+use Rattle.check_meaning.specs.Code.{block_code}
 use Rattle.handler_check.specs.Counted.{weight_of}
 use Rattle.handler_check.proofs.Counting.{checked_size, checked_sizes}
 use Rattle.handler_check.proofs.bounds.+counting.Given as goal

@@ -1,7 +1,7 @@
 use Rattle.std.proofs.Common.{◌≡◌, ◌++◌, [], drop, map}
-use Rattle.handler_trees.specs.declared.file.TableDecl.{TableDecl}
-use Rattle.handler_rules.specs.Marks.{table_marks}
-use Rattle.handler_rules.specs.Scan.{of_tables, scan}
+use Rattle.syntax_trees.specs.declared.file.TableDecl.{TableDecl}
+use Rattle.check_rules.specs.Marks.{table_marks}
+use Rattle.check_rules.specs.Scan.{of_tables, scan}
 use Rattle.handler_check.proofs.faults.find_in_tables.Given as goal
 
 abbrev pub invariant-loop-table : goal.invariant-loop-table

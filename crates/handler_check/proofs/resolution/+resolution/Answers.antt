@@ -1,6 +1,6 @@
 use Rattle.std.proofs.Common.{rules}
 use Rattle.handler_check.proofs.Resolving.{block_turn, block_end, points_turn, listed_code}
-use Rattle.handler_trees.proofs.Sizes.{member_smaller}
+use Rattle.syntax_trees.proofs.Sizes.{member_smaller}
 use Rattle.handler_check.proofs.resolution.+resolution.Goals as goal
 
 pub resolve_block-resolve_stmt-requires : goal.resolve_block-resolve_stmt-requires

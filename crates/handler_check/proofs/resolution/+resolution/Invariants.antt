@@ -1,8 +1,8 @@
 use Rattle.std.proofs.Common.{◌≡◌, ◌+◌, drop}
 use Rattle.handler_check.specs.Resolved.{code_of, points_of}
 use Rattle.handler_check.proofs.Resolving.{onto}
-use Rattle.handler_trees.proofs.Sizes.{stmt_size, block_size}
-use Rattle.handler_rules.specs.Source.{block_source}
+use Rattle.syntax_trees.proofs.Sizes.{stmt_size, block_size}
+use Rattle.check_rules.specs.Source.{block_source}
 use Rattle.handler_check.proofs.resolution.+resolution.Given as goal
 
 abbrev pub decreases-resolve_stmt : goal.decreases-resolve_stmt

@@ -1,6 +1,6 @@
 use Rattle.std.proofs.Common.{◌≡◌, ◌+◌, ◌≤◌, min, drop}
-use Rattle.handler_dialogue.specs.Bounds.{work_bound}
-use Rattle.handler_dialogue.specs.Code.{block_code}
+use Rattle.check_meaning.specs.Bounds.{work_bound}
+use Rattle.check_meaning.specs.Code.{block_code}
 use Rattle.handler_check.proofs.Counting.{checked_size, checked_sizes}
 use Rattle.handler_check.proofs.work.+working.Given as goal
 

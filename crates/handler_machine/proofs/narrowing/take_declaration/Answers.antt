@@ -1,5 +1,5 @@
 use Rattle.std.proofs.Common.{◌∙◌, length, map, ap}
-use Rattle.handler_dialogue.specs.Dialogue.{env_of}
+use Rattle.check_meaning.specs.Dialogue.{env_of}
 use Rattle.declaration_insertion.specs.Promises.{symbol_at}
 use Rattle.declaration_insertion.proofs.Vars.{instantiated}
 use Rattle.handler_machine.proofs.Served.{vars_more}

@@ -1,10 +1,10 @@
 use Rattle.std.proofs.Common.{◌≡◌, ℕ, List, length, sym, subst, arith}
 use Rattle.session_values.specs.declared.kind.TableKind.{TableKind}
-use Rattle.handler_dialogue.specs.Code.{Code, block_code}
-use Rattle.handler_dialogue.specs.Dialogue.{env_of, next}
-use Rattle.handler_dialogue.specs.Keeps.{CallsFit}
-use Rattle.handler_dialogue.specs.Within.{CodeWithin}
-use Rattle.handler_dialogue.proofs.Held.{calls_fit}
+use Rattle.check_meaning.specs.Code.{Code, block_code}
+use Rattle.check_meaning.specs.Dialogue.{env_of, next}
+use Rattle.check_meaning.specs.Keeps.{CallsFit}
+use Rattle.check_meaning.specs.Within.{CodeWithin}
+use Rattle.check_meaning.proofs.Held.{calls_fit}
 use Rattle.handler_check.specs.Resolved.{code_at, shape_of}
 use Rattle.handler_machine.proofs.running.run_handler.Goals as goal
 

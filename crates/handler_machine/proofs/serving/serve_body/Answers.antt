@@ -1,8 +1,8 @@
 use Rattle.std.proofs.Common.{◌≡◌, ◌∙◌, refl, sym, subst}
 use Rattle.session_values.specs.Dialogue.{Answers}
 use Rattle.session_journal.specs.Desks.{due_of, next_of}
-use Rattle.handler_dialogue.specs.Code.{block_code}
-use Rattle.handler_dialogue.specs.Dialogue.{entry, env_of, run}
+use Rattle.check_meaning.specs.Code.{block_code}
+use Rattle.check_meaning.specs.Dialogue.{entry, env_of, run}
 use Rattle.handler_machine.specs.Serving.{Course, course_of}
 use Rattle.handler_machine.proofs.Places.{on_err}
 use Rattle.handler_machine.proofs.Served.{serving_first, end_answers, end_due, end_served}

@@ -1,9 +1,9 @@
 use Rattle.std.proofs.Common.{◌≡◌, ◌+◌, ◌∙◌, List, sym, ap, subst}
 use Rattle.session_values.specs.declared.kind.TableKind.{TableKind}
-use Rattle.handler_trees.specs.declared.file.File.{File}
-use Rattle.handler_dialogue.specs.Code.{Code, block_code, points}
-use Rattle.handler_dialogue.specs.Dialogue.{entry, env_of, run}
-use Rattle.handler_dialogue.specs.Within.{CodeWithin}
+use Rattle.syntax_trees.specs.declared.file.File.{File}
+use Rattle.check_meaning.specs.Code.{Code, block_code, points}
+use Rattle.check_meaning.specs.Dialogue.{entry, env_of, run}
+use Rattle.check_meaning.specs.Within.{CodeWithin}
 use Rattle.handler_check.specs.Checked.{HandlerWithin}
 use Rattle.handler_check.specs.Resolved.{code_at, shape_of}
 use Rattle.declaration_insertion.specs.Program.{declared_at}

@@ -1,5 +1,5 @@
 use Rattle.std.proofs.Common.{◌≡◌, ◌<◌, ◌≤◌, ℕ, length, get_or}
-use Rattle.handler_dialogue.specs.Bounds.{adds_bound}
+use Rattle.check_meaning.specs.Bounds.{adds_bound}
 use Rattle.handler_check.specs.Resolved.{code_at}
 use Rattle.handler_machine.proofs.sums.adds_by_handler.Given as goal
 

@@ -1,6 +1,6 @@
 use Rattle.std.proofs.Common.{◌≡◌, ◌*◌, ◌≤◌}
 use Rattle.session_values.specs.Sums.{sum_below}
-use Rattle.handler_dialogue.specs.Bounds.{calls_bound}
+use Rattle.check_meaning.specs.Bounds.{calls_bound}
 use Rattle.handler_check.specs.Resolved.{code_at}
 use Rattle.request_files.specs.Session.{request_at}
 use Rattle.handler_machine.proofs.sums.count_calls.Given as goal

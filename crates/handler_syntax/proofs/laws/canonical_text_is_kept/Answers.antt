@@ -1,5 +1,5 @@
 use Rattle.std.proofs.Common.{sym, subst}
-use Rattle.handler_printing.specs.Canonical.{canonical_text}
+use Rattle.syntax_printer.specs.Canonical.{canonical_text}
 use Rattle.handler_syntax.specs.SameTree.{SameTree}
 use Rattle.handler_syntax.proofs.Facts.{one_tree}
 use Rattle.handler_syntax.proofs.Files.{text_again}

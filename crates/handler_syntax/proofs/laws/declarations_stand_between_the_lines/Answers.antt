@@ -1,6 +1,6 @@
 use Rattle.std.proofs.Common.{[], ◌∙◌, ap}
-use Rattle.handler_printing.specs.Lines.{file_lines, written}
-use Rattle.handler_printing.proofs.Own.{own_is_canonical}
+use Rattle.syntax_printer.specs.Lines.{file_lines, written}
+use Rattle.syntax_printer.proofs.Own.{own_is_canonical}
 use Rattle.handler_syntax.proofs.laws.declarations_stand_between_the_lines.Goals as goal
 
 pub returns-clause-without : goal.returns-clause-without

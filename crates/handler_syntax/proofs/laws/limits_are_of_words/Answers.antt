@@ -1,4 +1,4 @@
-use Rattle.handler_phrases.proofs.Found.{fits_fine, fine_fits}
+use Rattle.syntax_grammar.proofs.Found.{fits_fine, fine_fits}
 use Rattle.handler_syntax.proofs.laws.limits_are_of_words.Goals as goal
 
 pub returns-clause-within : goal.returns-clause-within

@@ -1,5 +1,5 @@
-use Rattle.handler_trees.specs.Mentions.{file_mentions}
-use Rattle.handler_phrases.proofs.Said.{texts_kept}
+use Rattle.syntax_trees.specs.Mentions.{file_mentions}
+use Rattle.syntax_grammar.proofs.Said.{texts_kept}
 use Rattle.handler_syntax.proofs.laws.names_stay_readable.Goals as goal
 
 pub returns : goal.returns

@@ -1,6 +1,6 @@
-use Rattle.handler_tokens.specs.Words.{names_of}
-use Rattle.handler_trees.specs.Mentions.{file_mentions}
-use Rattle.handler_phrases.proofs.Said.{source_readable, have_texts, texts_below}
+use Rattle.syntax_tokens.specs.Words.{names_of}
+use Rattle.syntax_trees.specs.Mentions.{file_mentions}
+use Rattle.syntax_grammar.proofs.Said.{source_readable, have_texts, texts_below}
 use Rattle.handler_syntax.proofs.laws.what_is_read_is_printable.Goals as goal
 
 pub returns-clause-named : goal.returns-clause-named

@@ -1,5 +1,5 @@
 use Rattle.std.proofs.Common.{◌≡◌, sym, ◌∙◌, ap, subst, string_bytes}
-use Rattle.handler_printing.specs.Canonical.{canonical_text}
+use Rattle.syntax_printer.specs.Canonical.{canonical_text}
 use Rattle.handler_syntax.specs.Keeps.{IsKept, IsReadAs}
 use Rattle.handler_syntax.proofs.Files.{text_again}
 use Rattle.handler_syntax.proofs.printing.print.Goals as goal

@@ -1,5 +1,5 @@
 use Rattle.std.proofs.Common.{◌^◌, length, arith}
-use Rattle.handler_trees.specs.Mentions.{file_mentions}
+use Rattle.syntax_trees.specs.Mentions.{file_mentions}
 use Rattle.handler_syntax.proofs.Bounded.{all_below}
 use Rattle.handler_syntax.proofs.Rising.{places_rise}
 use Rattle.handler_syntax.proofs.reading.parse.Goals as goal

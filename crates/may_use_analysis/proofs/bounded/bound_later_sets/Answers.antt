@@ -1,8 +1,8 @@
 use Rattle.std.proofs.Common.{◌≡◌, ℕ, ◌<◌, List, [], ◌∷◌, ◌++◌, length, map, get_or, length-append, refl, ap, ◌∙◌, subst, arith}
 use Rattle.std.specs.Prelude.{Some, slice_get, slice_index_or}
 use Rattle.symbolic_ops.specs.declared.symbol.Symbol.{Symbol}
-use Rattle.handler_trees.specs.declared.file.File.{File}
-use Rattle.handler_dialogue.specs.Code.{Code}
+use Rattle.syntax_trees.specs.declared.file.File.{File}
+use Rattle.check_meaning.specs.Code.{Code}
 use Rattle.handler_check.specs.Resolved.{code_at}
 use Rattle.may_use_analysis.specs.Later.{HasLists}
 use Rattle.may_use_analysis.specs.Numbered.{ArePointLists, by_number}

@@ -1,8 +1,8 @@
 use Rattle.std.proofs.Common.{[], List, Contains, subst, ap}
 use Rattle.std.specs.Prelude.{slice_index_or}
 use Rattle.symbolic_ops.specs.declared.symbol.Symbol.{Symbol}
-use Rattle.handler_dialogue.specs.declared.tree.CheckedStmt.{CheckedStmt}
-use Rattle.handler_dialogue.specs.Code.{block_code}
+use Rattle.check_meaning.specs.declared.tree.CheckedStmt.{CheckedStmt}
+use Rattle.check_meaning.specs.Code.{block_code}
 use Rattle.may_use_analysis.specs.Flow.{Flow}
 use Rattle.may_use_analysis.specs.Ordered.{Are}
 use Rattle.may_use_analysis.specs.Recorded.{Recorded}

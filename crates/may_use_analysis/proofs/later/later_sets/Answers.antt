@@ -1,6 +1,6 @@
 use Rattle.std.proofs.Common.{◌≡◌, ℕ, ◌<◌, List, [], ◌∷◌, length, get_or, length-append, ap, subst, arith}
 use Rattle.std.specs.Prelude.{Some, slice_get}
-use Rattle.handler_dialogue.specs.Code.{Code}
+use Rattle.check_meaning.specs.Code.{Code}
 use Rattle.may_use_analysis.specs.Numbered.{ArePointLists, by_number}
 use Rattle.may_use_analysis.proofs.TopLemmas.{all_listed, excess_found, more_lists, place_is, some_at}
 use Rattle.may_use_analysis.proofs.later.later_sets.Goals as goal

@@ -1,5 +1,5 @@
 use Rattle.std.proofs.Common.{◌≡◌, ◌++◌, drop}
-use Rattle.handler_dialogue.specs.Code.{block_code}
+use Rattle.check_meaning.specs.Code.{block_code}
 use Rattle.handler_check.proofs.Counting.{checked_size, checked_sizes}
 use Rattle.may_use_analysis.specs.Places.{places}
 use Rattle.may_use_analysis.proofs.places.+placing.Given as goal

@@ -1,9 +1,9 @@
 use Rattle.std.proofs.Common.{ℕ, ◌+◌, ◌*◌, ◌-◌, ◌<◌, ◌∷◌, [], ◌++◌, append-nil, arith, rules, length, drop, List, refl, sym, ap, ◌∙◌, subst, Contains, inl, inr, ◌⊎◌}
 use Rattle.std.specs.Prelude.{IfOk, OnOk}
 use Rattle.symbolic_ops.specs.declared.symbol.Symbol.{Symbol}
-use Rattle.handler_dialogue.specs.declared.tree.CheckedStmt.{CheckedStmt}
-use Rattle.handler_dialogue.specs.Code.{Code, Finish, Loop, IsNumbered, stmt_code, block_code, points}
-use Rattle.handler_dialogue.proofs.Codes.{code_store, code_choose, code_repeat}
+use Rattle.check_meaning.specs.declared.tree.CheckedStmt.{CheckedStmt}
+use Rattle.check_meaning.specs.Code.{Code, Finish, Loop, IsNumbered, stmt_code, block_code, points}
+use Rattle.check_meaning.proofs.Codes.{code_store, code_choose, code_repeat}
 use Rattle.handler_check.proofs.Counting.{checked_size, checked_sizes, member_smaller, first_smaller, second_smaller, body_smaller}
 use Rattle.may_use_analysis.specs.Flow.{Flow, Head}
 use Rattle.may_use_analysis.specs.Ordered.{Are}

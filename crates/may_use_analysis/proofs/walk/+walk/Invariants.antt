@@ -1,5 +1,5 @@
 use Rattle.std.proofs.Common.{◌≡◌, ℕ, ◌+◌, ◌*◌, ◌++◌, List, Contains, drop}
-use Rattle.handler_dialogue.specs.Code.{IsNumbered, block_code, points}
+use Rattle.check_meaning.specs.Code.{IsNumbered, block_code, points}
 use Rattle.handler_check.proofs.Counting.{checked_size, checked_sizes}
 use Rattle.may_use_analysis.specs.Flow.{Flow, Head}
 use Rattle.may_use_analysis.specs.Ordered.{Are}

@@ -1,9 +1,9 @@
 use Rattle.std.proofs.Common.{refl, subst}
-use Rattle.session_answers.specs.Runs.{change}
-use Rattle.session_answers.specs.Ways.{describing}
-use Rattle.session_reading.specs.declared.unserved.Unserved.{Unserved}
-use Rattle.session_reading.specs.declared.unserved.Unserved.TheVariants.{Refused}
-use Rattle.session_reading.specs.Reasons.{IsReason}
+use Rattle.serve_faults.specs.Runs.{change}
+use Rattle.serve_faults.specs.Ways.{describing}
+use Rattle.serve_reading.specs.declared.unserved.Unserved.{Unserved}
+use Rattle.serve_reading.specs.declared.unserved.Unserved.TheVariants.{Refused}
+use Rattle.serve_reading.specs.Reasons.{IsReason}
 use Rattle.serve_core.proofs.EndLemmas.{undescribed_to}
 use Rattle.serve_core.proofs.describing.describe_input.Goals as goal
 

@@ -1,6 +1,6 @@
 use Rattle.std.proofs.Common.{refl, rules, subst, List, ℕ}
-use Rattle.session_answers.specs.Runs.{change}
-use Rattle.session_answers.specs.Ways.{HasRead}
+use Rattle.serve_faults.specs.Runs.{change}
+use Rattle.serve_faults.specs.Ways.{HasRead}
 use Rattle.serve_core.proofs.TopLemmas.{served_run, unserved_run}
 use Rattle.serve_core.proofs.serving.serve_source.Goals as goal
 

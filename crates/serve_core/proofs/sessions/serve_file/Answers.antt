@@ -1,5 +1,5 @@
 use Rattle.std.proofs.Common.{◌≡◌, ◌≤◌, ℕ, List, length, rules, sym, subst}
-use Rattle.session_answers.specs.Input.{Parts}
+use Rattle.serve_faults.specs.Input.{Parts}
 use Rattle.serve_core.specs.Serving.{HasServed}
 use Rattle.serve_core.proofs.FileLemmas.{first_few, has_served, parts_same}
 use Rattle.serve_core.proofs.sessions.serve_file.Goals as goal

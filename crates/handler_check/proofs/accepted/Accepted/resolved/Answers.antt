@@ -1,5 +1,5 @@
 use Rattle.std.proofs.Common.{subst}
-use Rattle.handler_rules.specs.Bounds.{KeepsBounds}
+use Rattle.check_rules.specs.Bounds.{KeepsBounds}
 use Rattle.handler_check.specs.Checking.{IsAccepted}
 use Rattle.handler_check.proofs.Codes.{all_within}
 use Rattle.handler_check.proofs.accepted.Accepted.resolved.Goals as goal

@@ -1,7 +1,7 @@
 use Rattle.std.proofs.Common.{◌≡◌, ◌∙◌, List, min, ap}
-use Rattle.handler_dialogue.specs.declared.tree.CheckedStmt.{CheckedStmt}
-use Rattle.handler_dialogue.specs.Bounds.{bound, adding}
-use Rattle.handler_dialogue.specs.Code.{Code, block_code}
+use Rattle.check_meaning.specs.declared.tree.CheckedStmt.{CheckedStmt}
+use Rattle.check_meaning.specs.Bounds.{bound, adding}
+use Rattle.check_meaning.specs.Code.{Code, block_code}
 use Rattle.handler_check.specs.Resolved.{code_at}
 use Rattle.handler_check.proofs.Within.{adds_exact}
 use Rattle.handler_check.proofs.checked.Checked.adds_bound.Goals as goal

@@ -1,8 +1,8 @@
 use Rattle.std.proofs.Common.{◌≡◌, ℕ, ◌==◌, slice_get, Some, None, subst, arith}
 use Rattle.std.proofs.lemmas.Option.{slice_get_within}
 use Rattle.std.specs.List.{position}
-use Rattle.handler_trees.specs.declared.file.File.{File}
-use Rattle.handler_trees.specs.declared.file.Handler.{Handler}
+use Rattle.syntax_trees.specs.declared.file.File.{File}
+use Rattle.syntax_trees.specs.declared.file.Handler.{Handler}
 use Rattle.handler_check.proofs.Finding.{found_first, found_none}
 use Rattle.handler_check.proofs.checked.Checked.find.Goals as goal
 

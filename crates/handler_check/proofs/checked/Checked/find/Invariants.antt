@@ -1,5 +1,5 @@
 use Rattle.std.proofs.Common.{◌≡◌, ◌<◌, ℕ, Some, slice_get}
-use Rattle.handler_trees.specs.declared.file.Handler.{Handler}
+use Rattle.syntax_trees.specs.declared.file.Handler.{Handler}
 use Rattle.handler_check.proofs.checked.Checked.find.Given as goal
 
 abbrev pub invariant-loop-h : goal.invariant-loop-h

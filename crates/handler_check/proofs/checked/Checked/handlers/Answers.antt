@@ -1,5 +1,5 @@
 use Rattle.std.proofs.Common.{◌≡◌, length, ap, arith}
-use Rattle.handler_trees.specs.declared.file.File.{File}
+use Rattle.syntax_trees.specs.declared.file.File.{File}
 use Rattle.handler_check.proofs.Fine.{few_handlers}
 use Rattle.handler_check.proofs.checked.Checked.handlers.Goals as goal
 

@@ -1,7 +1,7 @@
 use Rattle.std.proofs.Common.{◌≡◌, ◌∙◌, length, ap, subst, arith}
-use Rattle.handler_trees.specs.declared.file.File.{File}
-use Rattle.handler_dialogue.specs.Bounds.{work_bound}
-use Rattle.handler_rules.specs.Bounds.{KeepsBounds}
+use Rattle.syntax_trees.specs.declared.file.File.{File}
+use Rattle.check_meaning.specs.Bounds.{work_bound}
+use Rattle.check_rules.specs.Bounds.{KeepsBounds}
 use Rattle.handler_check.specs.Checked.{AreBoundsOf}
 use Rattle.handler_check.specs.Checking.{IsAccepted}
 use Rattle.handler_check.specs.Resolved.{IsResolved, code_at, table_names}

@@ -1,10 +1,10 @@
 use Rattle.std.proofs.Common.{◌++◌, [], ◌∷◌, List, ℕ, append_assoc, refl, sym, ap, ◌∙◌, rules}
 use Rattle.std.proofs.lemmas.Result.{err_from_is_err_and}
-use Rattle.handler_rules.specs.Marks.{declared, marks}
-use Rattle.handler_rules.specs.Source.{Finish, block_source, stmt_source}
+use Rattle.check_rules.specs.Marks.{declared, marks}
+use Rattle.check_rules.specs.Source.{Finish, block_source, stmt_source}
 use Rattle.handler_check.specs.Shown.{shown}
 use Rattle.handler_check.proofs.Scans.{goes_on, stops, exits, later}
-use Rattle.handler_trees.proofs.Sizes.{member_smaller}
+use Rattle.syntax_trees.proofs.Sizes.{member_smaller}
 use Rattle.handler_check.proofs.Walks.{always, block_turn, block_step, choose_parts, declares_let, declares_assign, declares_call, declares_choose, declares_repeat, declares_reply, kept_names, names_then, repeat_parts}
 use Rattle.handler_check.proofs.faults.stmt.+statement.Goals as goal
 

@@ -1,8 +1,8 @@
 use Rattle.std.proofs.Common.{◌≡◌, ◌+◌, ◌++◌, ℕ, List, drop}
-use Rattle.handler_rules.specs.Marks.{declared, marks}
-use Rattle.handler_rules.specs.Scan.{of_variables, scan}
-use Rattle.handler_rules.specs.Source.{block_source}
-use Rattle.handler_trees.proofs.Sizes.{stmt_size, block_size}
+use Rattle.check_rules.specs.Marks.{declared, marks}
+use Rattle.check_rules.specs.Scan.{of_variables, scan}
+use Rattle.check_rules.specs.Source.{block_source}
+use Rattle.syntax_trees.proofs.Sizes.{stmt_size, block_size}
 use Rattle.handler_check.proofs.faults.stmt.+statement.Given as goal
 
 abbrev pub decreases-find_in_stmt : goal.decreases-find_in_stmt

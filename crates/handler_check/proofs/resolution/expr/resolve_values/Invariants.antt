@@ -1,5 +1,5 @@
 use Rattle.std.proofs.Common.{◌≡◌, ◌++◌, map, drop}
-use Rattle.handler_dialogue.specs.Code.{expr_term}
+use Rattle.check_meaning.specs.Code.{expr_term}
 use Rattle.handler_check.specs.Resolved.{term_of}
 use Rattle.handler_check.proofs.resolution.expr.resolve_values.Given as goal
 

@@ -1,7 +1,7 @@
 use Rattle.std.proofs.Common.{◌∙◌, false, None, sym, ap, subst}
 use Rattle.session_journal.specs.Desks.{MayNarrow}
 use Rattle.session_journal.specs.Desks.{DeskView}
-use Rattle.handler_dialogue.specs.Dialogue.{env_of}
+use Rattle.check_meaning.specs.Dialogue.{env_of}
 use Rattle.handler_machine.specs.Serving.{Course, course_of, IsServing}
 use Rattle.handler_machine.proofs.Served.{point_within, declare_may, declare_serves, passes_settled}
 use Rattle.handler_machine.proofs.narrowing.NarrowingGuide.passed.Goals as goal

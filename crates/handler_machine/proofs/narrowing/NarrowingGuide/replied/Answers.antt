@@ -1,6 +1,6 @@
 use Rattle.std.proofs.Common.{◌∙◌, ◌++◌, ◌∷◌, [], true, Some, sym, subst}
 use Rattle.session_journal.specs.Desks.{MayFinish}
-use Rattle.handler_dialogue.specs.Dialogue.{env_of}
+use Rattle.check_meaning.specs.Dialogue.{env_of}
 use Rattle.handler_machine.specs.Serving.{Course, course_of, IsServing}
 use Rattle.handler_machine.proofs.Served.{point_within, finish_may, finish_present, finish_serves}
 use Rattle.handler_machine.proofs.narrowing.NarrowingGuide.replied.Goals as goal

@@ -1,7 +1,7 @@
 use Rattle.std.proofs.Common.{◌≡◌, ◌<◌, ℕ, List, length, map, arith, sym, ap, ◌∙◌, subst}
 use Rattle.session_values.specs.declared.value.Value.{Value}
 use Rattle.symbolic_ops.specs.declared.symbol.Symbol.{Symbol}
-use Rattle.handler_dialogue.specs.Dialogue.{Env, env_of}
+use Rattle.check_meaning.specs.Dialogue.{Env, env_of}
 use Rattle.handler_check.specs.Checked.{HandlerWithin}
 use Rattle.handler_check.proofs.Codes.{all_within}
 use Rattle.request_files.specs.Servable.{IsRequestOf}

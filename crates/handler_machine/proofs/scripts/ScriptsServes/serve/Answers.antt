@@ -1,7 +1,7 @@
 use Rattle.std.proofs.Common.{◌≡◌, ◌<◌, ℕ, List, length, sym, ap, ◌∙◌, subst}
 use denote.Param.Send.{given_sync, param_sync}
 use Rattle.session_values.specs.declared.value.Value.{Value}
-use Rattle.handler_dialogue.specs.Dialogue.{entry, env_of, run}
+use Rattle.check_meaning.specs.Dialogue.{entry, env_of, run}
 use Rattle.handler_check.specs.Resolved.{code_at, params_at}
 use Rattle.request_files.specs.Servable.{IsRequestOf}
 use Rattle.request_files.specs.Session.{request_at}

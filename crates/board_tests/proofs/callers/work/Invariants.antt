@@ -1,9 +1,0 @@
-use Rattle.turn_board.specs.Boards.{Ends}
-use Rattle.board_tests.specs.Callers.{HasRoom}
-use Rattle.board_tests.proofs.callers.work.Given as goal
-
-abbrev pub invariant-loop-done : goal.invariant-loop-done
-invariant-loop-done g l = record {
-  seat : Ends l.board 4 l.caller l.seat;
-  room : HasRoom l.hands;
-}

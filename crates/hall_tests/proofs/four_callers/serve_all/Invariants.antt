@@ -1,5 +1,0 @@
-use Rattle.std.proofs.Common.{◌≡◌, true}
-use Rattle.hall_tests.proofs.four_callers.serve_all.Given as goal
-
-abbrev pub invariant-loop-ticket : goal.invariant-loop-ticket
-invariant-loop-ticket g l = (l.scratch.ready ≡ true) × (l.desk.script ≡ l.plan) × (l.desk.desk.ended ≡ true)

@@ -1,5 +1,0 @@
-use Rattle.handler_grammar.proofs.Loops.{ArgumentsSoFar}
-use Rattle.handler_grammar.proofs.parse_call.arguments.Given as goal
-
-abbrev pub invariant-loop-turn : goal.invariant-loop-turn
-invariant-loop-turn l = ArgumentsSoFar l.turn l.fn.input l.input l.items.items

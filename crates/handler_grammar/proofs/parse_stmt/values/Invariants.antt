@@ -1,5 +1,0 @@
-use Rattle.handler_grammar.proofs.Loops.{ValuesSoFar}
-use Rattle.handler_grammar.proofs.parse_stmt.values.Given as goal
-
-abbrev pub invariant-loop-turn : goal.invariant-loop-turn
-invariant-loop-turn l = ValuesSoFar l.turn l.fn.input l.input l.values.items

@@ -1,5 +1,0 @@
-use Rattle.handler_printing.proofs.Parts.{named_cond}
-use Rattle.handler_printing.proofs.line.put_cond.Goals as goal
-
-pub put_expr-requires-2 : goal.put_expr-requires-2
-put_expr-requires-2 c = (named_cond c.args.names.now c.args.cond.now c.requires).1

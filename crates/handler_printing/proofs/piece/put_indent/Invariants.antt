@@ -1,7 +1,0 @@
-use Rattle.std.proofs.Common.{◌-◌, string_bytes}
-use Rattle.handler_printing.specs.Canonical.{indent}
-use Rattle.handler_printing.proofs.Loops.{Owes}
-use Rattle.handler_printing.proofs.piece.put_indent.Given as goal
-
-abbrev pub invariant-blocks-2 : goal.invariant-blocks-2
-invariant-blocks-2 l = Owes (indent l.depth) (indent (l.depth - l.counter)) (string_bytes l.fn.out) (string_bytes l.out)

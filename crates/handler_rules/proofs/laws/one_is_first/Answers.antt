@@ -1,6 +1,0 @@
-use Rattle.handler_rules.specs.Rules.{IsBroken}
-use Rattle.handler_rules.proofs.Firsts.{one_first}
-use Rattle.handler_rules.proofs.laws.one_is_first.Goals as goal
-
-pub returns : goal.returns
-returns c = λ f e g h k. one_first (IsBroken f) e g h k

@@ -1,0 +1,57 @@
+// The reply with which a handler ends.
+
+ghost use Rattle.std.specs.Prelude.{◌≡◌, ◌<◌, ◌≤◌, [], length, map, slice_index_or};
+ghost use Rattle.std.specs.List.{AllByRecursion};
+ghost use Rattle.session_values.specs.declared.value.Value.{Value};
+ghost use Rattle.session_values.specs.declared.value.Value.TheVariants.{Nil};
+ghost use Rattle.session_values.specs.Reply as spec;
+ghost use Rattle.check_meaning.specs.Code.{expr_term};
+ghost use Rattle.check_meaning.specs.Dialogue as meaning;
+ghost use Rattle.check_meaning.specs.Dialogue.{env_of};
+ghost use Rattle.check_meaning.specs.Within.{TermWithin};
+
+use crate::exprs::value_of;
+use check_meaning::CheckedExpr;
+use session_values::{Reply, Value};
+
+/// The reply of a handler that falls off its end.
+pub(crate) fn nil_reply() -> Reply
+    ensures { result ≡ spec.reply_of [] }
+{
+    Reply {
+        count: 1,
+        a: Value::Nil,
+        b: Value::Nil,
+        c: Value::Nil,
+        d: Value::Nil,
+    }
+}
+
+/// The value of an expression of the list, or nil past its end.
+fn value_at(env: &[Value], values: &[CheckedExpr], i: usize) -> Value
+    requires { AllByRecursion (TermWithin (length env.now)) (map expr_term values.now) }
+    ensures { result ≡ slice_index_or (map (λ e. meaning.value_of e (env_of env.now))
+        (map expr_term values.now)) i Nil }
+{
+    if i < values.len() {
+        value_of(env, &values[i])
+    } else {
+        Value::Nil
+    }
+}
+
+/// The reply of these expressions.
+pub(crate) fn reply_of(env: &[Value], values: &[CheckedExpr]) -> Reply
+    requires some { 0 < length values.now }
+    requires few { length values.now ≤ 4 }
+    requires within { AllByRecursion (TermWithin (length env.now)) (map expr_term values.now) }
+    ensures { result ≡ spec.reply_of (map (λ e. meaning.value_of e (env_of env.now))
+        (map expr_term values.now)) }
+{
+    let count = values.len() as u8;
+    let a = value_at(env, values, 0);
+    let b = value_at(env, values, 1);
+    let c = value_at(env, values, 2);
+    let d = value_at(env, values, 3);
+    Reply { count, a, b, c, d }
+}

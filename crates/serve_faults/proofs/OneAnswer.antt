@@ -1,0 +1,222 @@
+-- An input has one answer at most.
+use Rattle.std.proofs.Common.{◌≡◌, ℕ, ◌<◌, ◌≤◌, ◌⊎◌, inl, inr, Bool, true, false, List, [], length, Option, Some, None, refl, sym, ap, ◌∙◌, subst, arith}
+use Rattle.std.specs.Prelude.{IsUtf8}
+use Rattle.std.proofs.lemmas.Bool.{false≢true}
+use Rattle.session_limits.specs.Limits.{max_input}
+use Rattle.handler_syntax.specs.Language.{names_of, File, SyntaxRefusal, IsSourceOf, canonical_text}
+use Rattle.handler_syntax.proofs.Facts.{one_tree, one_fault, no_fault}
+use Rattle.check_rules.specs.declared.refusal.CheckRefusal.{CheckRefusal}
+use Rattle.check_rules.specs.Rules.{IsBroken}
+use Rattle.check_rules.proofs.Firsts.{one_first}
+use Rattle.handler_check.specs.Checking.{IsAccepted, IsBeyond, IsRefusal}
+use Rattle.symbolic_ops.specs.declared.symbol.Symbol.{Symbol}
+use Rattle.may_use_analysis.specs.declared.refusal.AnalysisRefusal.{AnalysisRefusal}
+use Rattle.may_use_analysis.specs.Later.{AreLater, IsTooMany}
+use Rattle.may_use_analysis.proofs.TopLemmas.{same_later, one_refusal, apart}
+use Rattle.request_files.specs.declared.refusal.RequestRefusal.{RequestRefusal}
+use Rattle.serve_words.specs.declared.command.Command.{Command}
+use Rattle.serve_words.specs.declared.command.Command.TheVariants.{Check, Show, Serve, Work}
+use Rattle.serve_words.specs.Commands.{command_of}
+use Rattle.serve_faults.specs.declared.status.Fault.{Fault}
+use Rattle.serve_faults.specs.declared.status.Fault.TheVariants as fault
+use Rattle.serve_faults.specs.Input.{parts_of, is_divided, input_of, has_requests, handlers_of, IsInput}
+use Rattle.serve_faults.specs.Session.{IsProgram, request_fault}
+use Rattle.serve_faults.specs.Answer.{HasSyntaxFault, HasCheckFault, HasAnalysisFault, HasRequestFault, IsRefused, IsTextOf, Answer, Answers, CommandAnswers, IsAnswer}
+use Rattle.serve_faults.specs.Answer as answer
+
+-- ---- handlers
+one_check : (f : File) (d e : CheckRefusal) → IsRefusal f d → IsRefusal f e → d ≡ e
+one_check f d e (inl a) (inl b) = one_first (IsBroken f) d e a b
+one_check f d e (inl a) (inr b) = absurd (b.0 d a.is_broken)
+one_check f d e (inr a) (inl b) = absurd (a.0 e b.is_broken)
+one_check f d e (inr a) (inr b) = one_first (IsBeyond f) d e a.1 b.1
+
+not_both : (f : File) (e : CheckRefusal) → IsRefusal f e → IsAccepted f → ⊥
+not_both f e (inl a) k = k.keeps e a.is_broken
+not_both f e (inr a) k = k.within e a.1.is_broken
+
+module _ (text : List ℕ) where
+  same_check : (d e : CheckRefusal) → HasCheckFault text d → HasCheckFault text e → d ≡ e
+  same_check d e h k = one_check k.file d e (subst (λ (f : File). IsRefusal f d) (one_tree [] text h.file k.file h.form k.form) h.first) k.first
+
+  no_syntax : (d : SyntaxRefusal) (f : File) → HasSyntaxFault text d → IsSourceOf [] text f → ⊥
+  no_syntax d f h k = no_fault [] text f d k h.first
+
+  no_check : (e : CheckRefusal) (f : File) → HasCheckFault text e → IsProgram text f → ⊥
+  no_check e f h k = not_both f e (subst (λ (g : File). IsRefusal g e) (one_tree [] text h.file f h.form k.form) h.first) k.accepted
+
+  no_check_form : (d : CheckRefusal) (h : HasCheckFault text d) (f : File) → IsSourceOf [] text f → IsAccepted f → ⊥
+  no_check_form d h f k a = not_both f d (subst (λ (g : File). IsRefusal g d) (one_tree [] text h.file f h.form k) h.first) a
+
+  same_analysis : (d e : AnalysisRefusal) → HasAnalysisFault text d → HasAnalysisFault text e → d ≡ e
+  same_analysis d e h k = one_refusal k.file d e (subst (λ (f : File). IsTooMany f d) (one_tree [] text h.file k.file h.form k.form) h.first) k.first
+
+  no_analysis : (e : AnalysisRefusal) (f : File) → HasAnalysisFault text e → IsProgram text f → ⊥
+  no_analysis e f h k = apart f k.lists e k.later (subst (λ (g : File). IsTooMany g e) (one_tree [] text h.file f h.form k.form) h.first)
+
+-- ---- inputs
+module _ (c : Command) (input : List ℕ) where
+  abbrev text : List ℕ
+  text = handlers_of c input
+
+  -- a fault of what an input holds
+  abbrev Inner : Fault → Type 0
+  Inner g = ((e : SyntaxRefusal) × (g ≡ fault.Syntax e) × HasSyntaxFault text e)
+      ⊎ (((e : CheckRefusal) × (g ≡ fault.Check e) × HasCheckFault text e)
+      ⊎ (((e : AnalysisRefusal) × (g ≡ fault.Analysis e) × HasAnalysisFault text e)
+      ⊎ ((e : RequestRefusal) × (g ≡ fault.Request e) × (has_requests c ≡ true) × HasRequestFault (parts_of input) e)))
+
+  inner : (g : Fault) → IsInput c input → IsRefused c input g → Inner g
+  inner fault.TooLarge i r = absurd (omega (arith, i.short, r))
+  inner fault.NotText i r = absurd (r.1 i.utf8)
+  inner fault.NoRequests i r = absurd (false≢true (sym r.3 ∙ i.parts ∙ r.2))
+  inner fault.HasRequests i r = absurd (false≢true (sym r.2 ∙ sym i.parts ∙ r.3))
+  inner (fault.Syntax e) i r = inl (e, refl, r.1)
+  inner (fault.Check e) i r = inr (inl (e, refl, r.1))
+  inner (fault.Analysis e) i r = inr (inr (inl (e, refl, r.1)))
+  inner (fault.Request e) i r = inr (inr (inr (e, refl, r.1, r.2)))
+
+  -- the handlers of a request's fault
+  program_of : (e : RequestRefusal) → has_requests c ≡ true → (h : HasRequestFault (parts_of input) e) → IsProgram text h.file
+  program_of e has h = at c has where
+    at : (k : Command) → has_requests k ≡ true → IsProgram (handlers_of k input) h.file
+    at Check e = absurd (false≢true e)
+    at Show e = absurd (false≢true e)
+    at (Serve callers shards) e = h.program
+    at (Work requests start) e = h.program
+
+  same_request : (d e : RequestRefusal) → HasRequestFault (parts_of input) d → HasRequestFault (parts_of input) e → d ≡ e
+  same_request d e h k =
+      let same = one_tree [] (parts_of input).handlers h.file k.file h.program.form k.program.form in
+      let is : Some d ≡ Some e = sym h.first ∙ ap (request_fault (parts_of input)) same ∙ k.first in
+      cc
+
+  one_inner : (f g : Fault) → Inner f → Inner g → f ≡ g
+  one_inner f g (inl a) (inl b) = a.1 ∙ ap fault.Syntax (one_fault [] text a.0 b.0 a.2.first b.2.first) ∙ sym b.1
+  one_inner f g (inl a) (inr (inl b)) = absurd (no_syntax text a.0 b.2.file a.2 b.2.form)
+  one_inner f g (inl a) (inr (inr (inl b))) = absurd (no_syntax text a.0 b.2.file a.2 b.2.form)
+  one_inner f g (inl a) (inr (inr (inr b))) = absurd (no_syntax text a.0 b.3.file a.2 (program_of b.0 b.2 b.3).form)
+  one_inner f g (inr (inl a)) (inl b) = absurd (no_syntax text b.0 a.2.file b.2 a.2.form)
+  one_inner f g (inr (inl a)) (inr (inl b)) = a.1 ∙ ap fault.Check (same_check text a.0 b.0 a.2 b.2) ∙ sym b.1
+  one_inner f g (inr (inl a)) (inr (inr (inl b))) = absurd (no_check_form text a.0 a.2 b.2.file b.2.form b.2.accepted)
+  one_inner f g (inr (inl a)) (inr (inr (inr b))) = absurd (no_check text a.0 b.3.file a.2 (program_of b.0 b.2 b.3))
+  one_inner f g (inr (inr (inl a))) (inl b) = absurd (no_syntax text b.0 a.2.file b.2 a.2.form)
+  one_inner f g (inr (inr (inl a))) (inr (inl b)) = absurd (no_check_form text b.0 b.2 a.2.file a.2.form a.2.accepted)
+  one_inner f g (inr (inr (inl a))) (inr (inr (inl b))) = a.1 ∙ ap fault.Analysis (same_analysis text a.0 b.0 a.2 b.2) ∙ sym b.1
+  one_inner f g (inr (inr (inl a))) (inr (inr (inr b))) = absurd (no_analysis text a.0 b.3.file a.2 (program_of b.0 b.2 b.3))
+  one_inner f g (inr (inr (inr a))) (inl b) = absurd (no_syntax text b.0 a.3.file b.2 (program_of a.0 a.2 a.3).form)
+  one_inner f g (inr (inr (inr a))) (inr (inl b)) = absurd (no_check text b.0 a.3.file b.2 (program_of a.0 a.2 a.3))
+  one_inner f g (inr (inr (inr a))) (inr (inr (inl b))) = absurd (no_analysis text b.0 a.3.file b.2 (program_of a.0 a.2 a.3))
+  one_inner f g (inr (inr (inr a))) (inr (inr (inr b))) = a.1 ∙ ap fault.Request (same_request a.0 b.0 a.3 b.3) ∙ sym b.1
+
+  -- ---- no two faults are the first one
+  large : (g : Fault) → IsRefused c input g → max_input < length input → g ≡ fault.TooLarge
+  large fault.TooLarge r h = refl
+  large fault.NotText r h = absurd (omega (arith, h, r.0))
+  large fault.NoRequests r h = absurd (omega (arith, h, r.0))
+  large fault.HasRequests r h = absurd (omega (arith, h, r.0))
+  large (fault.Syntax e) r h = absurd (omega (arith, h, r.0.short))
+  large (fault.Check e) r h = absurd (omega (arith, h, r.0.short))
+  large (fault.Analysis e) r h = absurd (omega (arith, h, r.0.short))
+  large (fault.Request e) r h = absurd (omega (arith, h, r.0.short))
+
+  no_text : (g : Fault) → IsRefused c input g → length input ≤ max_input → (IsUtf8 input → ⊥) → g ≡ fault.NotText
+  no_text fault.TooLarge r h k = absurd (omega (arith, h, r))
+  no_text fault.NotText r h k = refl
+  no_text fault.NoRequests r h k = absurd (k r.1)
+  no_text fault.HasRequests r h k = absurd (k r.1)
+  no_text (fault.Syntax e) r h k = absurd (k r.0.utf8)
+  no_text (fault.Check e) r h k = absurd (k r.0.utf8)
+  no_text (fault.Analysis e) r h k = absurd (k r.0.utf8)
+  no_text (fault.Request e) r h k = absurd (k r.0.utf8)
+
+  no_requests : (g : Fault) → IsRefused c input g → length input ≤ max_input → IsUtf8 input → has_requests c ≡ true → is_divided input ≡ false → g ≡ fault.NoRequests
+  no_requests fault.TooLarge r h u has d = absurd (omega (arith, h, r))
+  no_requests fault.NotText r h u has d = absurd (r.1 u)
+  no_requests fault.NoRequests r h u has d = refl
+  no_requests fault.HasRequests r h u has d = absurd (false≢true (sym r.2 ∙ has))
+  no_requests (fault.Syntax e) r h u has d = absurd (false≢true (sym d ∙ r.0.parts ∙ has))
+  no_requests (fault.Check e) r h u has d = absurd (false≢true (sym d ∙ r.0.parts ∙ has))
+  no_requests (fault.Analysis e) r h u has d = absurd (false≢true (sym d ∙ r.0.parts ∙ has))
+  no_requests (fault.Request e) r h u has d = absurd (false≢true (sym d ∙ r.0.parts ∙ has))
+
+  requests_too : (g : Fault) → IsRefused c input g → length input ≤ max_input → IsUtf8 input → has_requests c ≡ false → is_divided input ≡ true → g ≡ fault.HasRequests
+  requests_too fault.TooLarge r h u has d = absurd (omega (arith, h, r))
+  requests_too fault.NotText r h u has d = absurd (r.1 u)
+  requests_too fault.NoRequests r h u has d = absurd (false≢true (sym has ∙ r.2))
+  requests_too fault.HasRequests r h u has d = refl
+  requests_too (fault.Syntax e) r h u has d = absurd (false≢true (sym has ∙ sym r.0.parts ∙ d))
+  requests_too (fault.Check e) r h u has d = absurd (false≢true (sym has ∙ sym r.0.parts ∙ d))
+  requests_too (fault.Analysis e) r h u has d = absurd (false≢true (sym has ∙ sym r.0.parts ∙ d))
+  requests_too (fault.Request e) r h u has d = absurd (false≢true (sym has ∙ sym r.0.parts ∙ d))
+
+  pub refused_once : (f g : Fault) → IsRefused c input f → IsRefused c input g → f ≡ g
+  refused_once fault.TooLarge g r s = sym (large g s r)
+  refused_once fault.NotText g r s = sym (no_text g s r.0 r.1)
+  refused_once fault.NoRequests g r s = sym (no_requests g s r.0 r.1 r.2 r.3)
+  refused_once fault.HasRequests g r s = sym (requests_too g s r.0 r.1 r.2 r.3)
+  refused_once (fault.Syntax e) g r s = one_inner (fault.Syntax e) g (inner (fault.Syntax e) r.0 r) (inner g r.0 s)
+  refused_once (fault.Check e) g r s = one_inner (fault.Check e) g (inner (fault.Check e) r.0 r) (inner g r.0 s)
+  refused_once (fault.Analysis e) g r s = one_inner (fault.Analysis e) g (inner (fault.Analysis e) r.0 r) (inner g r.0 s)
+  refused_once (fault.Request e) g r s = one_inner (fault.Request e) g (inner (fault.Request e) r.0 r) (inner g r.0 s)
+
+-- ---- what has a text isn't refused
+
+-- the handlers of a text
+program_in : (c : Command) (input t : List ℕ) → IsTextOf c input t → (f : File) × IsProgram (handlers_of c input) f
+program_in Check input t h = (h.file, h.program)
+program_in Show input t h = (h.file, h.program)
+program_in (Serve callers shards) input t h = (h.file, h.is_session.program)
+program_in (Work requests start) input t h = (h.file, h.is_session.program)
+
+no_request : (c : Command) (input t : List ℕ) (e : RequestRefusal) → IsTextOf c input t → has_requests c ≡ true → HasRequestFault (parts_of input) e → ⊥
+no_request Check input t e h has k = false≢true has
+no_request Show input t e h has k = false≢true has
+no_request (Serve callers shards) input t e h has k =
+    let same = one_tree [] (parts_of input).handlers h.file k.file h.is_session.program.form k.program.form in
+    let is : None ≡ Some e = sym h.is_session.requests ∙ ap (request_fault (parts_of input)) same ∙ k.first in
+    absurd (cc)
+no_request (Work requests start) input t e h has k =
+    let same = one_tree [] (parts_of input).handlers h.file k.file h.is_session.program.form k.program.form in
+    let is : None ≡ Some e = sym h.is_session.requests ∙ ap (request_fault (parts_of input)) same ∙ k.first in
+    absurd (cc)
+
+pub text_or_refused : (c : Command) (input t : List ℕ) (f : Fault) → IsInput c input → IsTextOf c input t → IsRefused c input f → ⊥
+text_or_refused c input t f i h r = by (inner c input f i r) where
+  by : Inner c input f → ⊥
+  by (inl a) = no_syntax (handlers_of c input) a.0 (program_in c input t h).0 a.2 (program_in c input t h).1.form
+  by (inr (inl a)) = no_check (handlers_of c input) a.0 (program_in c input t h).0 a.2 (program_in c input t h).1
+  by (inr (inr (inl a))) = no_analysis (handlers_of c input) a.0 (program_in c input t h).0 a.2 (program_in c input t h).1
+  by (inr (inr (inr a))) = no_request c input t a.0 h a.2 a.3
+
+-- ---- one answer at most
+same_text : (c : Command) (input s t : List ℕ) → IsTextOf c input s → IsTextOf c input t → s ≡ t
+same_text Check input s t h k = h.text_is ∙ ap (canonical_text (names_of [] input)) (one_tree [] input h.file k.file h.program.form k.program.form) ∙ sym k.text_is
+same_text Show input s t h k =
+    let tree = one_tree [] input h.file k.file h.program.form k.program.form in
+    let lists = same_later k.file h.program.lists k.program.lists (subst (λ (f : File). AreLater f h.program.lists) tree h.program.later) k.program.later in
+    h.text_is ∙ ap (λ (f : File). answer.shown_of input f h.program.lists) tree ∙ ap (λ (ls : List (List (List Symbol))). answer.shown_of input k.file ls) lists ∙ sym k.text_is
+same_text (Serve callers shards) input s t h k =
+    h.text_is ∙ ap (λ (f : File). answer.served_text input f) (one_tree [] (parts_of input).handlers h.file k.file h.is_session.program.form k.is_session.program.form) ∙ sym k.text_is
+same_text (Work requests start) input s t h k =
+    h.text_is ∙ ap (λ (f : File). answer.summary_of requests input f) (one_tree [] (parts_of input).handlers h.file k.file h.is_session.program.form k.is_session.program.form) ∙ sym k.text_is
+
+pub one_of_command : (c : Command) (input : List ℕ) (a b : Answer) → Answers c input a → Answers c input b → a ≡ b
+one_of_command c input answer.Usage b h k = absurd h
+one_of_command c input (answer.Refused f) answer.Usage h k = absurd k
+one_of_command c input (answer.Refused f) (answer.Refused g) h k = ap answer.Refused (refused_once c input f g h k)
+one_of_command c input (answer.Refused f) (answer.Text t) h k = absurd (text_or_refused c input t f k.0 k.1 h)
+one_of_command c input (answer.Text s) answer.Usage h k = absurd k
+one_of_command c input (answer.Text s) (answer.Refused g) h k = absurd (text_or_refused c input s g h.0 h.1 k)
+one_of_command c input (answer.Text s) (answer.Text t) h k = ap answer.Text (same_text c input s t h.1 k.1)
+
+same_answers : (o : Option Command) (bytes : List ℕ) (a b : Answer) → CommandAnswers o bytes a → CommandAnswers o bytes b → a ≡ b
+same_answers None bytes answer.Usage answer.Usage h k = refl
+same_answers None bytes answer.Usage (answer.Refused g) h k = absurd k
+same_answers None bytes answer.Usage (answer.Text t) h k = absurd k
+same_answers None bytes (answer.Refused f) b h k = absurd h
+same_answers None bytes (answer.Text s) b h k = absurd h
+same_answers (Some c) bytes a b h k = one_of_command c (input_of c bytes) a b h k
+
+pub same_answer : (words : List (List ℕ)) (bytes : List ℕ) (a b : Answer) → IsAnswer words bytes a → IsAnswer words bytes b → a ≡ b
+same_answer words bytes a b h k = same_answers (command_of words) bytes a b h k

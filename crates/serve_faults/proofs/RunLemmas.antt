@@ -1,0 +1,199 @@
+-- What a run promises, from what its parts say.
+use Rattle.std.proofs.Common.{◌≡◌, ◌≢◌, ℕ, ◌+◌, ◌<◌, ◌≤◌, ◌⊎◌, inl, inr, Bool, true, false, is_some, List, length, drop, Option, Some, None, IfSome, refl, sym, ap, subst, ◌∙◌, arith}
+use Rattle.session_limits.specs.Limits.{max_input}
+use Rattle.byte_ends.specs.Ends.{IsAtEnd, LostFirst, LostAtMost}
+use Rattle.session_hall.specs.Closings.{ClosedView}
+use Rattle.serve_words.specs.declared.command.Command.{Command}
+use Rattle.serve_words.specs.declared.command.Command.TheVariants.{Check, Show, Serve, Work}
+use Rattle.serve_faults.specs.declared.status.Fault.{Fault}
+use Rattle.serve_faults.specs.declared.status.Fault.TheVariants.{TooLarge}
+use Rattle.serve_faults.specs.declared.status.Status.{Status}
+use Rattle.serve_faults.specs.declared.status.Status.TheVariants as status
+use Rattle.serve_faults.specs.Answer.{IsRefused, IsTextOf}
+use Rattle.serve_faults.specs.Input.{input_of, is_reading, IsInput}
+use Rattle.serve_faults.specs.Runs.{Change, Failed, IsUntouched, Told, Took, TookFront, has_read_all, Answered, Written, IsUnrefused, IsServedThrough, has_served, Holds, Runs}
+use Rattle.serve_faults.specs.Ways.{AnswersTo, HasRead, StoppedAs}
+use Rattle.serve_faults.proofs.OneAnswer.{refused_once, text_or_refused}
+
+-- ---- what a command answers to its input
+module _ {O : Type 0} (c : Command) (bytes : List ℕ) (out : Change O) where
+  -- nothing, with a status that says so
+  pub refused_answer : (f : Fault) → IsRefused c (input_of c bytes) f → Answered (Some c) bytes out (status.Refused f)
+  refused_answer f r = record {
+    fine = λ e. absurd (cc);
+    refused = λ g e. (let same : f ≡ g = cc in subst (λ h. IsRefused c (input_of c bytes) h) same r);
+    front = λ e. absurd (cc);
+  }
+
+  pub no_answer : (s : Status) → s ≢ status.Fine → ((f : Fault) → s ≢ status.Refused f) → s ≢ status.WriteFault → Answered (Some c) bytes out s
+  no_answer s fine refused front = record {
+    fine = λ e. absurd (fine e);
+    refused = λ f e. absurd (refused f e);
+    front = λ e. absurd (front e);
+  }
+
+  -- the text, or a front of it
+  pub fine_answer : (text : List ℕ) → IsInput c (input_of c bytes) → IsTextOf c (input_of c bytes) text → Took out text → Answered (Some c) bytes out status.Fine
+  fine_answer text i is took = record {
+    fine = λ e. (text, (i, is), took);
+    refused = λ f e. absurd (cc);
+    front = λ e. absurd (cc);
+  }
+
+  pub front_answer : (text : List ℕ) → IsInput c (input_of c bytes) → IsTextOf c (input_of c bytes) text → TookFront out text → Answered (Some c) bytes out status.WriteFault
+  front_answer text i is took = record {
+    fine = λ e. absurd (cc);
+    refused = λ f e. absurd (cc);
+    front = λ e. (text, (i, is), took);
+  }
+
+-- ---- of what is told
+
+told_map : {S : Type 0} (c : Command) (s : Change S) (P Q : List ℕ → Type 0) → ((bytes : List ℕ) → P bytes → Q bytes) → Told (Some c) s P → Told (Some c) s Q
+told_map {S} c s P Q f = at c where
+  some : (o : Option (List ℕ)) → IfSome o P → IfSome o Q
+  some None h = tt
+  some (Some x) h = f x h
+
+  at : (k : Command) → Told (Some k) s P → Told (Some k) s Q
+  at Check h = some (s.bytes s.old) h
+  at Show h = some (s.bytes s.old) h
+  at (Serve callers shards) h = some (s.bytes s.old) h
+  at (Work requests start) h = λ bytes. f bytes (h bytes)
+
+-- ---- a whole run
+module _ {I O : Type 0} (c : Command) (source : Change I) (out : Change O) (closed : Option ClosedView) where
+  -- what a status tells besides
+  pub record Ends (s : Status) : Type 0 where
+    pub usage : s ≢ status.Usage
+    pub read_fault : s ≡ status.ReadFault → Failed source
+    pub written : Written out s
+
+  refuses : (bytes : List ℕ) (s : Status) (f : Fault) → Ends s → Answered (Some c) bytes out s → IsRefused c (input_of c bytes) f → (Failed source → ⊥) → (s ≡ status.Refused f) ⊎ (s ≡ status.NoMemory)
+  refuses bytes status.Fine f h a r ok = let t = a.fine refl in absurd (text_or_refused c (input_of c bytes) t.0 f t.1.0 t.1.1 r)
+  refuses bytes (status.Refused g) f h a r ok = inl (ap status.Refused (refused_once c (input_of c bytes) g f (a.refused g refl) r))
+  refuses bytes status.Usage f h a r ok = absurd (h.usage refl)
+  refuses bytes status.NoMemory f h a r ok = inr refl
+  refuses bytes status.ReadFault f h a r ok = absurd (ok (h.read_fault refl))
+  refuses bytes status.WriteFault f h a r ok = let t = a.front refl in absurd (text_or_refused c (input_of c bytes) t.0 f t.1.0 t.1.1 r)
+
+  completes : (bytes : List ℕ) (s : Status) → Ends s → Answered (Some c) bytes out s → IsUnrefused (Some c) bytes → (Failed source → ⊥) → (Failed out → ⊥) → (s ≡ status.Fine) ⊎ (s ≡ status.NoMemory)
+  completes bytes status.Fine h a u ok ok' = inl refl
+  completes bytes (status.Refused g) h a u ok ok' = absurd (u g (a.refused g refl))
+  completes bytes status.Usage h a u ok ok' = absurd (h.usage refl)
+  completes bytes status.NoMemory h a u ok ok' = inr refl
+  completes bytes status.ReadFault h a u ok ok' = absurd (ok (h.read_fault refl))
+  completes bytes status.WriteFault h a u ok ok' = absurd (ok' (h.written.write_fault refl))
+
+  abbrev left : Option (List ℕ)
+  left = source.bytes source.old
+
+  abbrev rest : Option (List ℕ)
+  rest = source.bytes source.new
+
+  pub runs_of : (s : Status) → Ends s → (is_reading (Some c) ≡ false → IsUntouched source × (s ≢ status.ReadFault)) → Told (Some c) source (λ bytes. Answered (Some c) bytes out s)
+      → (is_reading (Some c) ≡ true → has_read_all s ≡ true → IsAtEnd left rest) → (is_reading (Some c) ≡ true → s ≡ status.Refused TooLarge → LostFirst left rest (max_input + 1)) → LostAtMost left rest (max_input + 1)
+      → is_some closed ≡ has_served (Some c) s → Told (Some c) source (λ bytes. Holds (Some c) bytes closed)
+      → Runs (Some c) source out s closed
+  runs_of s h unread answered end gone lost served hall = record {
+    usage = (λ e. absurd (h.usage e), λ e. absurd (cc));
+    unread = unread;
+    answered = answered;
+    refusing = told_map c source (λ bytes. Answered (Some c) bytes out s) _ (λ bytes a f r ok. refuses bytes s f h a r ok) answered;
+    complete = λ e. told_map c source (λ bytes. Answered (Some c) bytes out s) _ (λ bytes a u ok ok'. completes bytes s h a u ok ok') answered;
+    read_fault = h.read_fault;
+    written = h.written;
+    end = end;
+    gone = gone;
+    lost = lost;
+    served = served;
+    hall = hall;
+  }
+
+-- ---- commands that read
+reading_input : (c : Command) (bytes : List ℕ) → is_reading (Some c) ≡ true → input_of c bytes ≡ bytes
+reading_input Check bytes e = refl
+reading_input Show bytes e = refl
+reading_input (Serve callers shards) bytes e = refl
+reading_input (Work requests start) bytes e = absurd (cc)
+
+told_some : {S : Type 0} (c : Command) (s : Change S) (P : List ℕ → Type 0) → is_reading (Some c) ≡ true → IfSome (s.bytes s.old) P → Told (Some c) s P
+told_some Check s P e h = h
+told_some Show s P e h = h
+told_some (Serve callers shards) s P e h = h
+told_some (Work requests start) s P e h = absurd (cc)
+
+if_some : {X : Type 0} (P Q : X → Type 0) (o : Option X) → ((x : X) → P x → Q x) → IfSome o P → IfSome o Q
+if_some P Q None f h = tt
+if_some P Q (Some x) f h = f x h
+
+untold : {X : Type 0} (o : Option X) → IfSome o (λ _. Unit {0})
+untold None = tt
+untold (Some x) = tt
+
+nothing_held : {S : Type 0} (c : Command) (s : Change S) → Told (Some c) s (λ bytes. Holds (Some c) bytes None)
+nothing_held Check s = untold (s.bytes s.old)
+nothing_held Show s = untold (s.bytes s.old)
+nothing_held (Serve callers shards) s = untold (s.bytes s.old)
+nothing_held (Work requests start) s = λ bytes. tt
+
+pub not_served : (c : Command) (s : Status) → s ≢ status.Fine → s ≢ status.WriteFault → false ≡ has_served (Some c) s
+not_served c status.Fine f w = absurd (f refl)
+not_served c status.WriteFault f w = absurd (w refl)
+not_served Check (status.Refused e) f w = refl
+not_served Show (status.Refused e) f w = refl
+not_served (Serve callers shards) (status.Refused e) f w = refl
+not_served (Work requests start) (status.Refused e) f w = refl
+not_served Check status.Usage f w = refl
+not_served Show status.Usage f w = refl
+not_served (Serve callers shards) status.Usage f w = refl
+not_served (Work requests start) status.Usage f w = refl
+not_served Check status.NoMemory f w = refl
+not_served Show status.NoMemory f w = refl
+not_served (Serve callers shards) status.NoMemory f w = refl
+not_served (Work requests start) status.NoMemory f w = refl
+not_served Check status.ReadFault f w = refl
+not_served Show status.ReadFault f w = refl
+not_served (Serve callers shards) status.ReadFault f w = refl
+not_served (Work requests start) status.ReadFault f w = refl
+
+module _ {I O : Type 0} (c : Command) (reads : is_reading (Some c) ≡ true) (source : Change I) (out : Change O) where
+  unread_none : (s : Status) → is_reading (Some c) ≡ false → IsUntouched source × (s ≢ status.ReadFault)
+  unread_none s e = absurd (cc)
+
+  -- reading stopped
+  pub stopped_run : (s : Status) → StoppedAs source s → IsUntouched out → Runs (Some c) source out s None
+  stopped_run (status.Refused TooLarge) h same =
+      runs_of c source out None (status.Refused TooLarge) (record { usage = λ e. cc; read_fault = λ e. absurd (cc); written = record { write_fault = λ e. absurd (cc); unwritten = λ _ _. same } })
+      (unread_none (status.Refused TooLarge))
+      (told_some c source (λ bytes. Answered (Some c) bytes out (status.Refused TooLarge)) reads
+      (if_some (λ all. max_input < length all) _ (source.bytes source.old) (λ bytes l. refused_answer c bytes out TooLarge (subst (λ (bs : List ℕ). max_input < length bs) (sym (reading_input c bytes reads)) l)) h.1.0))
+      (λ _ e. absurd (cc)) (λ _ _. h.1.1) h.0 (not_served c (status.Refused TooLarge) (λ e. cc) (λ e. cc)) (nothing_held c source)
+  stopped_run (status.Refused f) h same = absurd h.1
+  stopped_run status.Fine h same = absurd h.1
+  stopped_run status.Usage h same = absurd h.1
+  stopped_run status.WriteFault h same = absurd h.1
+  stopped_run status.ReadFault h same =
+      runs_of c source out None status.ReadFault (record { usage = λ e. cc; read_fault = λ _. h.1; written = record { write_fault = λ e. absurd (cc); unwritten = λ _ _. same } })
+      (unread_none status.ReadFault)
+      (told_some c source (λ bytes. Answered (Some c) bytes out status.ReadFault) reads
+      (if_some (λ all. Unit {0}) _ (source.bytes source.old) (λ bytes _. no_answer c bytes out status.ReadFault (λ e. cc) (λ f e. cc) (λ e. cc)) (untold (source.bytes source.old))))
+      (λ _ e. absurd (cc)) (λ _ e. absurd (cc)) h.0 (not_served c status.ReadFault (λ e. cc) (λ e. cc)) (nothing_held c source)
+  stopped_run status.NoMemory h same =
+      runs_of c source out None status.NoMemory (record { usage = λ e. cc; read_fault = λ e. absurd (cc); written = record { write_fault = λ e. absurd (cc); unwritten = λ _ _. same } })
+      (unread_none status.NoMemory)
+      (told_some c source (λ bytes. Answered (Some c) bytes out status.NoMemory) reads
+      (if_some (λ all. Unit {0}) _ (source.bytes source.old) (λ bytes _. no_answer c bytes out status.NoMemory (λ e. cc) (λ f e. cc) (λ e. cc)) (untold (source.bytes source.old))))
+      (λ _ e. absurd (cc)) (λ _ e. absurd (cc)) h.0 (not_served c status.NoMemory (λ e. cc) (λ e. cc)) (nothing_held c source)
+
+  -- all was read, and answered
+  pub read_run : (bytes : List ℕ) (s : Status) (closed : Option ClosedView) → HasRead source bytes → AnswersTo c bytes out s closed → Runs (Some c) source out s closed
+  read_run bytes s closed h a =
+      runs_of c source out closed s (record { usage = a.usage; read_fault = λ e. absurd (a.read_fault e); written = a.written })
+      (unread_none s)
+      (told_some c source (λ bs. Answered (Some c) bs out s) reads (if_some (λ all. bytes ≡ all) _ (source.bytes source.old) (λ all e. subst (λ bs. Answered (Some c) bs out s) e a.answered) h.all))
+      (λ _ _. h.end)
+      (λ _ e. (let r : max_input < length bytes = subst (λ (bs : List ℕ). max_input < length bs) (reading_input c bytes reads) (a.answered.refused TooLarge e) in let short = h.short in absurd (omega (arith, short, r))))
+      h.lost
+      a.served
+      (told_some c source (λ bs. Holds (Some c) bs closed) reads (if_some (λ all. bytes ≡ all) _ (source.bytes source.old) (λ all e. subst (λ bs. Holds (Some c) bs closed) e a.hall) h.all))

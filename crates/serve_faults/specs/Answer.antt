@@ -1,0 +1,133 @@
+-- What is answered to a command line and an input.
+use Rattle.std.specs.Prelude.{◌≡◌, ◌≢◌, ℕ, ◌<◌, ◌≤◌, true, false, IsUtf8, List, [], length, Option, Some, None}
+use Rattle.session_limits.specs.Limits.{max_input}
+use Rattle.symbolic_ops.specs.declared.symbol.Symbol.{Symbol}
+use Rattle.handler_syntax.specs.Language.{names_of, File, HasFault, IsSourceOf, SyntaxRefusal, canonical_text, shown_text}
+use Rattle.handler_syntax.specs.Language.syntax_refusal
+use Rattle.check_rules.specs.declared.refusal.CheckRefusal.{CheckRefusal}
+use Rattle.handler_check.specs.Checking.{IsAccepted, IsRefusal}
+use Rattle.declaration_insertion.specs.Shown.{shown_of as points_shown}
+use Rattle.may_use_analysis.specs.declared.refusal.AnalysisRefusal.{AnalysisRefusal}
+use Rattle.may_use_analysis.specs.Later.{IsTooMany}
+use Rattle.request_files.specs.declared.refusal.RequestRefusal.{RequestRefusal}
+use Rattle.serve_words.specs.declared.command.Command.{Command}
+use Rattle.serve_words.specs.declared.command.Command.TheVariants.{Check, Show, Serve, Work}
+use Rattle.serve_words.specs.Commands.{command_of}
+use Rattle.serve_made.specs.Summary.{summary}
+use Rattle.serve_faults.specs.declared.status.Fault.{Fault}
+use Rattle.serve_faults.specs.declared.status.Fault.TheVariants as fault
+use Rattle.serve_faults.specs.Input.{Parts, parts_of, is_divided, input_of, has_requests, handlers_of, IsInput}
+use Rattle.serve_faults.specs.Session.{IsProgram, IsSession, request_fault, session_of_parts, replies_text, serial_calls}
+
+-- ---- faults
+
+-- The handlers' text has this first fault. Want of memory is no fault.
+pub record HasSyntaxFault (text : List ℕ) (e : SyntaxRefusal) : Type 0 where
+  pub first : HasFault [] text e
+  pub certain : e ≢ syntax_refusal.NoMemory
+
+-- the handlers' text has a tree, which breaks this rule first
+pub record HasCheckFault (text : List ℕ) (e : CheckRefusal) : Type 0 where
+  pub file : File
+  pub form : IsSourceOf [] text file
+  pub first : IsRefusal file e
+
+-- the handlers' text has a tree, which breaks no rule, and this is the first point at which too many operations may still come
+pub record HasAnalysisFault (text : List ℕ) (e : AnalysisRefusal) : Type 0 where
+  pub file : File
+  pub form : IsSourceOf [] text file
+  pub accepted : IsAccepted file
+  pub first : IsTooMany file e
+
+-- the handlers break no rule, and this is the first fault of the requests
+pub record HasRequestFault (parts : Parts) (e : RequestRefusal) : Type 0 where
+  pub file : File
+  pub program : IsProgram parts.handlers file
+  pub first : request_fault parts file ≡ Some e
+
+-- the first broken rule of an input, in the order too large, no text, no requests or requests, syntax, check, analysis, requests
+abbrev pub IsRefused : Command → List ℕ → Fault → Type 0
+IsRefused command input fault.TooLarge = max_input < length input
+IsRefused command input fault.NotText = (length input ≤ max_input) × (IsUtf8 input → ⊥)
+IsRefused command input fault.NoRequests = (length input ≤ max_input) × IsUtf8 input
+    × (has_requests command ≡ true) × (is_divided input ≡ false)
+IsRefused command input fault.HasRequests = (length input ≤ max_input) × IsUtf8 input
+    × (has_requests command ≡ false) × (is_divided input ≡ true)
+IsRefused command input (fault.Syntax e) = IsInput command input
+    × HasSyntaxFault (handlers_of command input) e
+IsRefused command input (fault.Check e) = IsInput command input
+    × HasCheckFault (handlers_of command input) e
+IsRefused command input (fault.Analysis e) = IsInput command input
+    × HasAnalysisFault (handlers_of command input) e
+IsRefused command input (fault.Request e) = IsInput command input × (has_requests command ≡ true)
+    × HasRequestFault (parts_of input) e
+
+-- ---- texts
+
+-- the canonical text of the handlers
+pub record IsChecked (input text : List ℕ) : Type 0 where
+  pub file : File
+  pub program : IsProgram input file
+  pub text_is : text ≡ canonical_text (names_of [] input) file
+
+abbrev pub shown_of : List ℕ → File → List (List (List Symbol)) → List ℕ
+shown_of input file lists = shown_text (names_of [] input)
+    (points_shown (record { file = file; lists = lists })) file
+
+-- the text with what is declared at each point, which is the list of the operations that may still come there
+pub record IsShown (input text : List ℕ) : Type 0 where
+  pub file : File
+  pub program : IsProgram input file
+  pub text_is : text ≡ shown_of input file program.lists
+
+-- the replies of the serial run, as text
+abbrev pub served_text : List ℕ → File → List ℕ
+served_text input file = replies_text (parts_of input) file
+
+-- the text of the replies
+pub record IsServed (input text : List ℕ) : Type 0 where
+  pub file : File
+  pub is_session : IsSession (parts_of input) file
+  pub text_is : text ≡ served_text input file
+
+-- the summary of a session of so many requests: how many operations the serial run makes, and how many bytes its replies take
+abbrev pub summary_of : ℕ → List ℕ → File → List ℕ
+summary_of requests input file =
+    summary requests (serial_calls (session_of_parts (parts_of input) file)
+    (session_of_parts (parts_of input) file).requests)
+    (length (replies_text (parts_of input) file))
+
+pub record IsSummary (requests : ℕ) (input text : List ℕ) : Type 0 where
+  pub file : File
+  pub is_session : IsSession (parts_of input) file
+  pub text_is : text ≡ summary_of requests input file
+
+-- the text that a command writes
+abbrev pub IsTextOf : Command → List ℕ → List ℕ → Type 0
+IsTextOf Check input text = IsChecked input text
+IsTextOf Show input text = IsShown input text
+IsTextOf (Serve callers shards) input text = IsServed input text
+IsTextOf (Work requests start) input text = IsSummary requests input text
+
+-- ---- the answer
+
+pub data Answer : Type 0 where
+  Usage : Answer
+  Refused : Fault → Answer
+  Text : List ℕ → Answer
+
+-- what a command answers to its input
+abbrev pub Answers : Command → List ℕ → Answer → Type 0
+Answers command input Usage = ⊥
+Answers command input (Refused e) = IsRefused command input e
+Answers command input (Text text) = IsInput command input × IsTextOf command input text
+
+-- what is answered where this is the command, if the words are one, and the source has these bytes
+abbrev pub CommandAnswers : Option Command → List ℕ → Answer → Type 0
+CommandAnswers None bytes Usage = Unit {0}
+CommandAnswers None bytes (Refused e) = ⊥
+CommandAnswers None bytes (Text text) = ⊥
+CommandAnswers (Some command) bytes answer = Answers command (input_of command bytes) answer
+
+abbrev pub IsAnswer : List (List ℕ) → List ℕ → Answer → Type 0
+IsAnswer words bytes answer = CommandAnswers (command_of words) bytes answer

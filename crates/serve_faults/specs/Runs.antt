@@ -1,0 +1,163 @@
+-- What a run promises, over its command, its input, its outputs and how it ended.
+use Rattle.std.specs.Prelude.{◌≡◌, ◌≢◌, ◌+◌, ◌⊎◌, ◌↔◌, ℕ, Bool, true, false, is_some, List, Option, Some, None, IfSome}
+use Rattle.session_limits.specs.Limits.{max_input}
+use Rattle.byte_ends.specs.Ends.{Rose, Grew, GrewByFront, IsAtEnd, LostFirst, LostAtMost}
+use Rattle.serve_words.specs.declared.command.Command.{Command}
+use Rattle.serve_words.specs.declared.command.Command.TheVariants.{Check, Show, Serve, Work}
+use Rattle.session_journal.specs.Script.{Meaning, session_of}
+use Rattle.session_hall.specs.Closings.{ClosedView, IsDone}
+use Rattle.handler_syntax.specs.Language.{File}
+use Rattle.serve_faults.specs.declared.status.Fault.{Fault}
+use Rattle.serve_faults.specs.declared.status.Fault.TheVariants.{TooLarge}
+use Rattle.serve_faults.specs.declared.status.Status.{Status}
+use Rattle.serve_faults.specs.declared.status.Status.TheVariants as status
+use Rattle.serve_faults.specs.Answer.{CommandAnswers}
+use Rattle.serve_faults.specs.Answer as answer
+use Rattle.serve_faults.specs.Input.{parts_of, input_of, is_reading}
+use Rattle.serve_faults.specs.Session.{IsSession, session_of_parts}
+use Rattle.serve_faults.specs.Message.{message_of}
+
+-- ---- sources and sinks
+
+-- A source or a sink before and after a call: the bytes that it tells, and how often it failed.
+pub record Change (S : Type 0) : Type 0 where
+  pub bytes : S → Option (List ℕ)
+  pub faults : S → ℕ
+  pub old : S
+  pub new : S
+
+abbrev pub change : {S : Type 0} → (S → Option (List ℕ)) → (S → ℕ) → S → S → Change S
+change bytes faults old new = record { bytes = bytes; faults = faults; old = old; new = new }
+
+-- its faults rose
+abbrev pub Failed : {S : Type 0} → Change S → Type 0
+Failed c = Rose (c.faults c.old) (c.faults c.new)
+
+-- it is as before
+abbrev pub IsUntouched : {S : Type 0} → Change S → Type 0
+IsUntouched c = c.new ≡ c.old
+
+-- This holds of the bytes that a source has, where it tells them; for a command that doesn't read, of whatever bytes.
+abbrev pub Told : {S : Type 0} → Option Command → Change S → (List ℕ → Type 0) → Type 0
+Told None c P = (bytes : List ℕ) → P bytes
+Told (Some Check) c P = IfSome (c.bytes c.old) P
+Told (Some Show) c P = IfSome (c.bytes c.old) P
+Told (Some (Serve callers shards)) c P = IfSome (c.bytes c.old) P
+Told (Some (Work requests start)) c P = (bytes : List ℕ) → P bytes
+
+-- a sink took all of the text, or a front of it
+abbrev pub Took : {S : Type 0} → Change S → List ℕ → Type 0
+Took c text = Grew (c.bytes c.old) (c.bytes c.new) text
+
+abbrev pub TookFront : {S : Type 0} → Change S → List ℕ → Type 0
+TookFront c text = GrewByFront (c.bytes c.old) (c.bytes c.new) text
+
+-- whether a run that reads, and that ended so, had read its source to the end
+abbrev pub has_read_all : Status → Bool
+has_read_all status.Fine = true
+has_read_all (status.Refused TooLarge) = false
+has_read_all (status.Refused fault) = true
+has_read_all status.Usage = false
+has_read_all status.NoMemory = false
+has_read_all status.ReadFault = false
+has_read_all status.WriteFault = true
+
+-- ---- what is answered and written
+
+-- what an input is answered with, and what of the answer was written
+pub record Answered {O : Type 0} (command : Option Command) (bytes : List ℕ) (out : Change O)
+    (s : Status) : Type 0 where
+  -- Where a run ends well, the command's text was written.
+  pub fine : s ≡ status.Fine
+      → (text : List ℕ) × CommandAnswers command bytes (answer.Text text) × Took out text
+  -- A refusal is the first broken rule.
+  pub refused : (fault : Fault) → s ≡ status.Refused fault
+      → CommandAnswers command bytes (answer.Refused fault)
+  -- What was written before the sink failed is a front of the text.
+  pub front : s ≡ status.WriteFault
+      → (text : List ℕ) × CommandAnswers command bytes (answer.Text text) × TookFront out text
+
+-- what becomes of the output
+pub record Written {O : Type 0} (out : Change O) (s : Status) : Type 0 where
+  pub write_fault : s ≡ status.WriteFault → Failed out
+  -- With any other status than these two nothing is written.
+  pub unwritten : s ≢ status.Fine → s ≢ status.WriteFault → IsUntouched out
+
+-- no rule is broken
+abbrev pub IsUnrefused : Option Command → List ℕ → Type 0
+IsUnrefused command bytes =
+    (fault : Fault) → CommandAnswers command bytes (answer.Refused fault) → ⊥
+
+-- ---- the hall through which was served
+
+-- how many callers and shards a command serves with
+abbrev pub callers_of : Command → ℕ
+callers_of (Serve callers shards) = callers
+callers_of command = 4
+
+abbrev pub shards_of : Command → ℕ
+shards_of (Serve callers shards) = shards
+shards_of command = 4
+
+-- The session of the input was served through this hall to its end: the journal is that of a lawful book in which all
+-- tickets have ended, the replies are those of the serial run, and the shards are the parts of its final tables. There
+-- were as many callers and shards as the command's words say.
+pub record IsServedThrough (command : Command) (input : List ℕ) (closed : ClosedView) : Type 0 where
+  pub file : File
+  pub is_session : IsSession (parts_of input) file
+  pub script : Meaning
+  pub session_is : session_of script ≡ session_of_parts (parts_of input) file
+  pub done : IsDone script closed
+  pub callers_are : closed.callers ≡ callers_of command
+  pub shards_are : closed.shards ≡ shards_of command
+
+-- whether a command that ended so has served through a hall
+abbrev pub has_served : Option Command → Status → Bool
+has_served (Some (Serve callers shards)) status.Fine = true
+has_served (Some (Serve callers shards)) status.WriteFault = true
+has_served (Some (Work requests start)) status.Fine = true
+has_served (Some (Work requests start)) status.WriteFault = true
+has_served command s = false
+
+-- what a hall that is left holds
+abbrev pub Holds : Option Command → List ℕ → Option ClosedView → Type 0
+Holds None bytes closed = Unit {0}
+Holds (Some command) bytes closed = IfSome closed (IsServedThrough command (input_of command bytes))
+
+-- ---- what is promised
+
+-- A run of a command, or of no command where the words are none.
+pub record Runs {I O : Type 0} (command : Option Command) (source : Change I) (out : Change O)
+    (s : Status) (closed : Option ClosedView) : Type 0 where
+  -- Usage comes exactly where the words are no command line.
+  pub usage : (s ≡ status.Usage) ↔ (is_some command ≡ false)
+  -- Without a command, and for `work`, nothing is read.
+  pub unread : is_reading command ≡ false → IsUntouched source × (s ≢ status.ReadFault)
+  -- The text, the refusal, or a front of the text: its clauses are `fine`, `refused` and `front`.
+  pub answered : Told command source (λ bytes. Answered command bytes out s)
+  -- The first broken rule is refused, unless a read fails or memory runs out.
+  pub refusing : Told command source (λ bytes. (fault : Fault)
+      → CommandAnswers command bytes (answer.Refused fault)
+      → (Failed source → ⊥) → (s ≡ status.Refused fault) ⊎ (s ≡ status.NoMemory))
+  -- Where no rule is broken, and neither the source nor the sink fails, a command ends well or
+  -- wants memory.
+  pub complete : is_some command ≡ true → Told command source (λ bytes. IsUnrefused command bytes
+      → (Failed source → ⊥) → (Failed out → ⊥) → (s ≡ status.Fine) ⊎ (s ≡ status.NoMemory))
+  pub read_fault : s ≡ status.ReadFault → Failed source
+  -- Its clauses are `write_fault` and `unwritten`.
+  pub written : Written out s
+  -- The source was read to its end, or up to the first byte that is too many; never further.
+  pub end : is_reading command ≡ true → has_read_all s ≡ true
+      → IsAtEnd (source.bytes source.old) (source.bytes source.new)
+  pub gone : is_reading command ≡ true → s ≡ status.Refused TooLarge
+      → LostFirst (source.bytes source.old) (source.bytes source.new) (max_input + 1)
+  pub lost : LostAtMost (source.bytes source.old) (source.bytes source.new) (max_input + 1)
+  -- `serve` and `work` leave a closed hall exactly where they end well or the sink fails, and
+  -- through it the session was served.
+  pub served : is_some closed ≡ has_served command s
+  pub hall : Told command source (λ bytes. Holds command bytes closed)
+
+-- The line on the error output is the status's, or a front of it where that output failed.
+pub record Tells {E : Type 0} (err : Change E) (s : Status) : Type 0 where
+  pub line : (Failed err → ⊥) → Took err (message_of s)
+  pub line_front : TookFront err (message_of s)

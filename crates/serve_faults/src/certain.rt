@@ -1,0 +1,67 @@
+// Refusals that name a broken rule.
+
+ghost use Rattle.std.specs.Prelude.{◌≡◌, ◌≢◌};
+ghost use Rattle.handler_syntax.specs.Language.syntax_refusal as syntax;
+ghost use Rattle.check_rules.specs.declared.refusal.CheckRefusal.TheVariants as check;
+ghost use Rattle.may_use_analysis.specs.declared.refusal.AnalysisRefusal.TheVariants as analysis;
+ghost use Rattle.request_files.specs.declared.refusal.RequestRefusal.TheVariants as request;
+
+use check_rules::CheckRefusal;
+use handler_syntax::SyntaxRefusal;
+use may_use_analysis::AnalysisRefusal;
+use request_files::RequestRefusal;
+use std::marker::Model;
+
+/// Why a part of the program refuses a text: a rule that is broken, or want of memory.
+pub trait Refusal {
+    /// A rule is broken.
+    ghost is_certain: { Self → Type 0 };
+}
+
+impl Refusal for SyntaxRefusal {
+    ghost is_certain = { λ e. e ≢ syntax.NoMemory };
+}
+
+impl Refusal for CheckRefusal {
+    ghost is_certain = { λ e. e ≢ check.NoMemory };
+}
+
+impl Refusal for AnalysisRefusal {
+    ghost is_certain = { λ e. e ≢ analysis.NoMemory };
+}
+
+impl Refusal for RequestRefusal {
+    ghost is_certain = { λ e. e ≢ request.NoMemory };
+}
+
+/// A refusal that is never want of memory. Contracts see the refusal.
+#[derive(Debug, Drop)]
+pub struct Certain<E: Refusal> {
+    refusal: E,
+}
+
+impl<E: Refusal> Model for Certain<E> {
+    ghost Value = { E };
+
+    ghost view = { λ s. s.refusal };
+
+    ghost invariant = { λ s. E.is_certain s.refusal };
+}
+
+impl<E: Refusal> Certain<E> {
+    /// The refusal, which names a broken rule.
+    pub fn new(refusal: E) -> Certain<E>
+        requires { E.is_certain refusal }
+        ensures { result ≡ refusal }
+    {
+        Certain { refusal }
+    }
+
+    /// The refusal, with the place that it names.
+    pub fn refusal(&self) -> &E
+        ensures same { result.now ≡ self.now }
+        ensures certain { E.is_certain result.now }
+    {
+        &self.refusal
+    }
+}

@@ -1,0 +1,24 @@
+// Laws of the definitions, each the contract of a function with an empty body.
+
+ghost use Rattle.std.specs.Prelude.{◌≡◌, ℕ, List};
+ghost use Rattle.session_values.specs.Serial.{serial_replies};
+ghost use Rattle.handler_syntax.specs.Language.{File, IsNamedFile};
+ghost use Rattle.request_files.specs.declared.request.Request.{Request};
+ghost use Rattle.request_files.specs.Requests.{ArePrintable};
+ghost use Rattle.request_files.specs.Session.{session};
+ghost use Rattle.serve_faults.specs.Answer.{Answer, IsAnswer};
+ghost use Rattle.reply_writing.specs.Printable.{ArePrintableReplies};
+
+/// A command line and an input have one answer at most.
+pub fn one_answer()
+    ensures { (words : List (List ℕ)) (bytes : List ℕ) (a b : Answer)
+        → IsAnswer words bytes a → IsAnswer words bytes b → a ≡ b }
+{}
+
+/// Where the symbols of a session's handlers and requests have texts that a reply line has room
+/// for, so have those of all replies.
+pub fn replies_are_printable()
+    ensures { (names : List (List ℕ)) (file : File) (requests : List Request) (n : ℕ)
+        → IsNamedFile names file → ArePrintable names requests
+        → ArePrintableReplies names (serial_replies (session file requests) n) }
+{}

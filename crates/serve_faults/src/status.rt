@@ -1,0 +1,64 @@
+// How a run ends.
+
+ghost use Rattle.std.specs.Prelude.{◌≡◌};
+
+use crate::certain::Certain;
+use check_rules::CheckRefusal;
+use handler_syntax::SyntaxRefusal;
+use may_use_analysis::AnalysisRefusal;
+use request_files::RequestRefusal;
+
+/// Why an input is refused. It is never want of memory.
+#[derive(Debug, Drop)]
+pub enum Fault {
+    /// It has more than 4,194,304 bytes.
+    TooLarge,
+    /// It has no dividing line, and requests are to be served.
+    NoRequests,
+    /// It has a dividing line, and is to be a file of handlers alone.
+    HasRequests,
+    /// It is no UTF-8.
+    NotText,
+    /// The text of the handlers is no file of the grammar within its limits.
+    Syntax(Certain<SyntaxRefusal>),
+    /// The handlers break a rule of the checker.
+    Check(Certain<CheckRefusal>),
+    /// Too many operations may still come at a point of the handlers.
+    Analysis(Certain<AnalysisRefusal>),
+    /// A request breaks a rule.
+    Request(Certain<RequestRefusal>),
+}
+
+/// How a run ended.
+#[derive(Debug, Drop)]
+pub enum Status {
+    /// The whole text was written.
+    Fine,
+    Refused(Fault),
+    /// The words are no command line; nothing was read.
+    Usage,
+    NoMemory,
+    /// The source failed.
+    ReadFault,
+    /// The sink failed; what was written is a front of the text.
+    WriteFault,
+}
+
+impl Status {
+    ghost use Rattle.serve_faults.specs.ExitStatus.{exit_status};
+
+    /// The program's exit status: 0 fine, 1 refused, 2 usage, 3 no memory, 4 read fault, 5 write
+    /// fault.
+    pub fn number(&self) -> u8
+        ensures { result ≡ exit_status self.now }
+    {
+        match self {
+            Status::Fine => 0,
+            Status::Refused(_) => 1,
+            Status::Usage => 2,
+            Status::NoMemory => 3,
+            Status::ReadFault => 4,
+            Status::WriteFault => 5,
+        }
+    }
+}

@@ -1,0 +1,51 @@
+-- Why nothing is made of a text: memory ran out, or this is the first broken rule.
+use Rattle.std.specs.Prelude.{ℕ, List}
+use Rattle.syntax_trees.specs.declared.file.File.{File}
+use Rattle.handler_check.specs.Checking.{IsAccepted, IsRefusal}
+use Rattle.may_use_analysis.specs.Later.{IsTooMany}
+use Rattle.serve_words.specs.declared.command.Command.{Command}
+use Rattle.serve_faults.specs.declared.status.Fault.TheVariants as fault
+use Rattle.serve_faults.specs.Answer.{HasSyntaxFault, HasCheckFault, HasAnalysisFault, HasRequestFault, IsRefused}
+use Rattle.serve_faults.specs.Input.{Parts}
+use Rattle.serve_reading.specs.declared.unserved.Unserved.{Unserved}
+use Rattle.serve_reading.specs.declared.unserved.Unserved.TheVariants.{Refused, NoMemory}
+
+abbrev pub IsSyntaxReason : List ℕ → Unserved → Type 0
+IsSyntaxReason text NoMemory = Unit {0}
+IsSyntaxReason text (Refused (fault.Syntax e)) = HasSyntaxFault text e
+IsSyntaxReason text (Refused e) = ⊥
+
+abbrev pub IsCheckReason : File → Unserved → Type 0
+IsCheckReason file NoMemory = Unit {0}
+IsCheckReason file (Refused (fault.Check e)) = IsRefusal file e
+IsCheckReason file (Refused e) = ⊥
+
+abbrev pub IsAnalysisReason : File → Unserved → Type 0
+IsAnalysisReason file NoMemory = Unit {0}
+IsAnalysisReason file (Refused (fault.Analysis e)) = IsTooMany file e
+IsAnalysisReason file (Refused e) = ⊥
+
+abbrev pub IsFileReason : File → Unserved → Type 0
+IsFileReason file NoMemory = Unit {0}
+IsFileReason file (Refused (fault.Check e)) = IsRefusal file e
+IsFileReason file (Refused (fault.Analysis e)) = IsAccepted file × IsTooMany file e
+IsFileReason file (Refused e) = ⊥
+
+abbrev pub IsProgramReason : List ℕ → Unserved → Type 0
+IsProgramReason text NoMemory = Unit {0}
+IsProgramReason text (Refused (fault.Syntax e)) = HasSyntaxFault text e
+IsProgramReason text (Refused (fault.Check e)) = HasCheckFault text e
+IsProgramReason text (Refused (fault.Analysis e)) = HasAnalysisFault text e
+IsProgramReason text (Refused e) = ⊥
+
+abbrev pub IsSessionReason : Parts → Unserved → Type 0
+IsSessionReason parts NoMemory = Unit {0}
+IsSessionReason parts (Refused (fault.Syntax e)) = HasSyntaxFault parts.handlers e
+IsSessionReason parts (Refused (fault.Check e)) = HasCheckFault parts.handlers e
+IsSessionReason parts (Refused (fault.Analysis e)) = HasAnalysisFault parts.handlers e
+IsSessionReason parts (Refused (fault.Request e)) = HasRequestFault parts e
+IsSessionReason parts (Refused e) = ⊥
+
+abbrev pub IsReason : Command → List ℕ → Unserved → Type 0
+IsReason command input NoMemory = Unit {0}
+IsReason command input (Refused e) = IsRefused command input e

@@ -1,0 +1,79 @@
+-- The command lines of the program.
+use Rattle.std.specs.Prelude.{ℕ, ◌≤◌, ◌&&◌, if◌then◌else◌, List, [], ◌∷◌, ◌++◌, Option, Some, None, codes}
+use Rattle.std.specs.Str.{bytes_eq}
+use Rattle.session_limits.specs.Limits.{max_callers, max_requests, max_shards}
+use Rattle.serve_words.specs.Numbers.{number_within}
+use Rattle.serve_words.specs.declared.command.Command.{Command}
+use Rattle.serve_words.specs.declared.command.Command.TheVariants.{Check, Show, Serve, Work}
+
+-- the line that tells the command lines
+abbrev pub usage_line : List ℕ
+usage_line =
+    codes "usage: foresight check | show | serve [--callers N] [--shards S] | work N START" ++ 10 ∷ []
+
+-- the number of callers, and the number of shards of a table
+abbrev pub callers_of : List ℕ → Option ℕ
+callers_of word = number_within 1 max_callers word
+
+abbrev pub shards_of : List ℕ → Option ℕ
+shards_of word = number_within 1 max_shards word
+
+-- serving with these numbers, if both are there
+abbrev pub serve_by : Option ℕ → Option ℕ → Option Command
+serve_by (Some callers) (Some shards) = Some (Serve callers shards)
+serve_by (Some callers) None = None
+serve_by None shards = None
+
+-- serving by one option, where the other number is 4
+abbrev pub serve_one : List ℕ → List ℕ → Option Command
+serve_one option number =
+    if bytes_eq option (codes "--callers") then serve_by (callers_of number) (Some 4)
+    else (if bytes_eq option (codes "--shards") then serve_by (Some 4) (shards_of number) else None)
+
+-- serving by the words behind `serve`: at most one `--callers N`, then at most one `--shards S`
+abbrev pub serve_of : List (List ℕ) → Option Command
+serve_of [] = serve_by (Some 4) (Some 4)
+serve_of (option ∷ number ∷ []) = serve_one option number
+serve_of (first ∷ callers ∷ second ∷ shards ∷ []) =
+    if bytes_eq first (codes "--callers") && bytes_eq second (codes "--shards")
+    then serve_by (callers_of callers) (shards_of shards) else None
+serve_of _ = None
+
+-- a made session by the two words behind `work`
+abbrev pub work_by : Option ℕ → Option ℕ → Option Command
+work_by (Some requests) (Some start) = Some (Work requests start)
+work_by (Some requests) None = None
+work_by None start = None
+
+abbrev pub work_of : List ℕ → List ℕ → Option Command
+work_of requests start = work_by (number_within 1 max_requests requests)
+    (number_within 0 4294967295 start)
+
+-- the command of one word
+abbrev pub alone : List ℕ → Option Command
+alone word =
+    if bytes_eq word (codes "check") then Some Check
+    else (if bytes_eq word (codes "show") then Some Show
+    else (if bytes_eq word (codes "serve") then serve_of [] else None))
+
+-- `work` with two words behind it
+abbrev pub work_line : List (List ℕ) → Option Command
+work_line (word ∷ requests ∷ start ∷ []) =
+    if bytes_eq word (codes "work") then work_of requests start else None
+work_line _ = None
+
+-- the command that the words ask for, if they are a command line
+abbrev pub command_of : List (List ℕ) → Option Command
+command_of [] = None
+command_of (word ∷ []) = alone word
+command_of (word ∷ more) =
+    if bytes_eq word (codes "serve") then serve_of more else work_line (word ∷ more)
+
+-- 1 to 32 callers and 1 to 8 shards; 1 to 20,000 requests from a number of 32 bits
+abbrev pub IsWithinBounds : Command → Type 0
+IsWithinBounds Check = Unit {0}
+IsWithinBounds Show = Unit {0}
+IsWithinBounds (Serve callers shards) = (1 ≤ callers) × (callers ≤ max_callers) × (1 ≤ shards)
+    × (shards ≤ max_shards)
+IsWithinBounds (Work requests start) = (1 ≤ requests) × (requests ≤ max_requests)
+    × (start ≤ 4294967295)

@@ -1,0 +1,109 @@
+// The command of a command line.
+
+ghost use Rattle.std.specs.Prelude.{◌≡◌, ◌≤◌, map, string_bytes, IfSome};
+ghost use Rattle.session_limits.specs.Limits.{max_callers, max_shards};
+ghost use Rattle.serve_words.specs.Commands as spec;
+
+use crate::command::Command;
+use crate::number::number_within;
+use session_limits::{MAX_CALLERS, MAX_REQUESTS, MAX_SHARDS};
+
+/// How many callers serve where the words don't say, and over how many shards a table.
+const USUAL: u32 = 4;
+
+/// The line that tells the command lines, with its line feed.
+pub fn usage_line() -> &'static [u8]
+    ensures { result.now ≡ spec.usage_line }
+{
+    b"usage: foresight check | show | serve [--callers N] [--shards S] | work N START\n"
+}
+
+/// The command of a command line, if it is one; the words are those after the program's name.
+pub fn command_of(words: &[String]) -> Option<Command>
+    ensures command { result ≡ spec.command_of (map string_bytes words.now) }
+    ensures bounds { IfSome result spec.IsWithinBounds }
+{
+    match words {
+        [word] => alone(word.as_str()),
+        [word, options @ ..] if word.as_str() == "serve" => serve_of(options),
+        [word, requests, start] if word.as_str() == "work" => {
+            work_of(requests.as_str(), start.as_str())
+        }
+        _ => None,
+    }
+}
+
+/// The command of one word.
+fn alone(word: &str) -> Option<Command>
+    ensures command { result ≡ spec.alone word.now }
+    ensures bounds { IfSome result spec.IsWithinBounds }
+{
+    if word == "check" {
+        Some(Command::Check)
+    } else if word == "show" {
+        Some(Command::Show)
+    } else if word == "serve" {
+        serve_by(Some(USUAL), Some(USUAL))
+    } else {
+        None
+    }
+}
+
+/// Serving by the options behind the word `serve`.
+fn serve_of(options: &[String]) -> Option<Command>
+    ensures command { result ≡ spec.serve_of (map string_bytes options.now) }
+    ensures bounds { IfSome result spec.IsWithinBounds }
+{
+    match options {
+        [] => serve_by(Some(USUAL), Some(USUAL)),
+        [option, number] => serve_one(option.as_str(), number.as_str()),
+        [first, callers, second, shards] => {
+            if first.as_str() == "--callers" && second.as_str() == "--shards" {
+                serve_by(
+                    number_within(1, MAX_CALLERS, callers.as_str()),
+                    number_within(1, MAX_SHARDS, shards.as_str()),
+                )
+            } else {
+                None
+            }
+        }
+        _ => None,
+    }
+}
+
+/// Serving by one option.
+fn serve_one(option: &str, number: &str) -> Option<Command>
+    ensures command { result ≡ spec.serve_one option.now number.now }
+    ensures bounds { IfSome result spec.IsWithinBounds }
+{
+    if option == "--callers" {
+        serve_by(number_within(1, MAX_CALLERS, number), Some(USUAL))
+    } else if option == "--shards" {
+        serve_by(Some(USUAL), number_within(1, MAX_SHARDS, number))
+    } else {
+        None
+    }
+}
+
+/// Serving with these numbers, if both are there.
+fn serve_by(callers: Option<u32>, shards: Option<u32>) -> Option<Command>
+    requires callers { IfSome callers (λ n. (1 ≤ n) × (n ≤ max_callers)) }
+    requires shards { IfSome shards (λ n. (1 ≤ n) × (n ≤ max_shards)) }
+    ensures command { result ≡ spec.serve_by callers shards }
+    ensures bounds { IfSome result spec.IsWithinBounds }
+{
+    match (callers, shards) {
+        (Some(callers), Some(shards)) => Some(Command::Serve { callers, shards }),
+        _ => None,
+    }
+}
+
+/// A made session of this many requests from this start, if both words say so.
+fn work_of(requests: &str, start: &str) -> Option<Command>
+    ensures command { result ≡ spec.work_of requests.now start.now }
+    ensures bounds { IfSome result spec.IsWithinBounds }
+{
+    let requests = number_within(1, MAX_REQUESTS, requests)?;
+    let start = number_within(0, 4294967295, start)?;
+    Some(Command::Work { requests, start })
+}

@@ -1,5 +1,0 @@
-use Rattle.session_answers.proofs.OneAnswer.{same_answer}
-use Rattle.session_answers.proofs.laws.one_answer.Goals as goal
-
-pub returns : goal.returns
-returns c = λ words bytes a b. same_answer words bytes a b

@@ -1,5 +1,0 @@
-use Rattle.session_answers.proofs.PrintableRuns.{replies_said}
-use Rattle.session_answers.proofs.laws.replies_are_printable.Goals as goal
-
-pub returns : goal.returns
-returns c = λ names file requests n named printable. replies_said names file requests named printable n

@@ -1,0 +1,18 @@
+-- What a reader shows, and what it keeps.
+use Rattle.std.specs.Prelude.{◌+◌, ◌<◌, length}
+use Rattle.syntax_tokens.specs.declared.reader.Reader.TheInside.{Inside}
+use Rattle.syntax_tokens.specs.Reading.{Reading, words_left, names_left, end_of}
+
+-- what the fields stand for
+abbrev pub reading_of : Inside → Reading
+reading_of r =
+    record {
+      words = words_left r.ahead r.names r.tokens;
+      end = end_of r.tokens;
+      names = names_left r.names r.tokens;
+      count = length r.names;
+    }
+
+-- each token may still have a new name
+abbrev pub HasRoom : Inside → Type 0
+HasRoom r = length r.names + length r.tokens.rest.now < 4294967295
