@@ -57,7 +57,7 @@ fn tickets(alloc: Global) -> Result<RepeatedCalls, NoMemory>
 }
 
 /// What a hall of so many callers leaves, with so many shards of each table.
-fn served_by<R: Threads + Wait + Abort + Sync>(
+pub(crate) fn served_by<R: Threads + Wait + Abort + Sync>(
     rt: &R,
     alloc: Global,
     list: &RepeatedCalls,

@@ -3,4 +3,6 @@
 #![tactic(auto)]
 
 #[cfg(test)]
+mod bumps;
+#[cfg(test)]
 mod four_callers;
