@@ -1,4 +1,5 @@
 pub mod Bumps
+pub mod Congruent
 pub mod Named
 pub mod NamesLemmas
 pub mod Sizes

@@ -1,3 +1,4 @@
+pub mod Bumps
 pub mod Commuting
 pub mod Containers
 pub mod Dialogue
