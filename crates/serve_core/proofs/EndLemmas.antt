@@ -18,9 +18,11 @@ use Rattle.serve_faults.specs.declared.status.Status.TheVariants as status
 use Rattle.serve_faults.specs.Input.{Parts, parts_of, input_of, has_requests, handlers_of, is_divided, IsInput}
 use Rattle.serve_faults.specs.Session.{session_of_parts, all_names_of, replies_text, serial_calls}
 use Rattle.serve_faults.specs.Answer.{IsRefused, IsTextOf}
-use Rattle.serve_faults.specs.Runs.{Change, IsUntouched, Answered, Written, has_served, Holds, IsServedThrough, callers_of, shards_of}
-use Rattle.serve_faults.specs.Ways.{AnswersTo, describing}
-use Rattle.serve_faults.proofs.RunLemmas.{refused_answer, no_answer, fine_answer, front_answer, not_served}
+use Rattle.serve_faults.specs.Changes.{Change, IsUntouched}
+use Rattle.serve_core.specs.Runs.{Answered, Written, has_served, Holds, IsServedThrough, callers_of, shards_of}
+use Rattle.serve_core.specs.Runs.{AnswersTo}
+use Rattle.serve_faults.specs.Ways.{describing}
+use Rattle.serve_core.proofs.RunLemmas.{refused_answer, no_answer, fine_answer, front_answer, not_served}
 use Rattle.serve_reading.specs.declared.unserved.Unserved.{Unserved}
 use Rattle.serve_reading.specs.declared.unserved.Unserved.TheVariants.{Refused, NoMemory}
 use Rattle.serve_reading.specs.Reasons.{IsReason, IsSessionReason}
@@ -141,6 +143,7 @@ served_through c input callers shards s h a b = record {
   file = h.file;
   is_session = h.is_session;
   script = h.script;
+  script_is = h.script_is;
   session_is = h.session_is;
   done = h.done;
   callers_are = a;

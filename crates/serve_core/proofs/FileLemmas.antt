@@ -84,6 +84,7 @@ has_served parts callers shards l s h names done callers_are shards_are =
       file = l.program.file;
       is_session = record { program = as_program parts.handlers l.program h.program_of; requests = h.fine };
       script = m;
+      script_is = ap (λ (rs : List Request). meaning (record { program = l.program; requests = rs })) h.requests_are;
       session_is = ap (session l.program.file) h.requests_are;
       done = done;
       callers_are = callers_are;

@@ -2,5 +2,6 @@ pub mod CallLemmas
 pub mod CountLemmas
 pub mod EndLemmas
 pub mod FileLemmas
+pub mod RunLemmas
 pub mod SheetLemmas
 pub mod TopLemmas

@@ -8,9 +8,11 @@ use Rattle.serve_words.specs.declared.command.Command.TheVariants.{Serve, Work}
 use Rattle.serve_faults.specs.declared.status.Status.{Status}
 use Rattle.serve_faults.specs.declared.status.Status.TheVariants as status
 use Rattle.serve_faults.specs.Input.{is_reading}
-use Rattle.serve_faults.specs.Runs.{Change, IsUntouched, Runs}
-use Rattle.serve_faults.specs.Ways.{AnswersTo, HasRead, StoppedAs, describing}
-use Rattle.serve_faults.proofs.RunLemmas.{runs_of, read_run, stopped_run}
+use Rattle.serve_faults.specs.Changes.{Change, IsUntouched}
+use Rattle.serve_core.specs.Runs.{Runs}
+use Rattle.serve_core.specs.Runs.{AnswersTo}
+use Rattle.serve_faults.specs.Ways.{HasRead, StoppedAs, describing}
+use Rattle.serve_core.proofs.RunLemmas.{runs_of, read_run, stopped_run}
 
 -- a source that isn't touched has lost nothing
 nothing_lost : (o p : Option (List ℕ)) → p ≡ o → LostAtMost o p (max_input + 1)

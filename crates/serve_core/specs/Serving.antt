@@ -10,12 +10,13 @@ use Rattle.serve_faults.specs.declared.status.Status.{Status}
 use Rattle.serve_faults.specs.declared.status.Status.TheVariants as status
 use Rattle.serve_faults.specs.Input.{Parts, parts_of, is_divided}
 use Rattle.reply_writing.specs.Printable.{ArePrintableReplies}
-use Rattle.serve_faults.specs.Runs.{Change, Failed, Took, TookFront}
+use Rattle.serve_faults.specs.Changes.{Change, Failed, Took, TookFront}
 use Rattle.serve_faults.specs.Session.{IsSession, all_names_of, session_of_parts}
 use Rattle.serve_reading.specs.Reasons.{IsSessionReason}
 use Rattle.serve_reading.specs.declared.session.Loaded.{Loaded}
 use Rattle.serve_reading.specs.declared.unserved.Unserved.{Unserved}
 use Rattle.serve_reading.specs.declared.unserved.Unserved.TheVariants.{Refused, NoMemory}
+use Rattle.serve_core.specs.Runs.{script_of_session}
 use Rattle.serve_core.specs.declared.sessions.Served.{Served}
 
 -- the script of what was loaded
@@ -34,6 +35,7 @@ pub record HasServed (parts : Parts) (callers shards : ℕ) (s : Served) : Type 
   pub file : File
   pub is_session : IsSession parts file
   pub script : Meaning
+  pub script_is : script ≡ script_of_session parts file is_session.program.lists
   pub session_is : session_of script ≡ session_of_parts parts file
   pub done : IsDone script s.closed
   pub callers_are : s.closed.callers ≡ callers

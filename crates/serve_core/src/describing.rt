@@ -2,8 +2,10 @@
 
 ghost use Rattle.std.specs.Prelude.{◌≤◌, length, Some, None};
 ghost use Rattle.session_limits.specs.Limits.{max_input};
-ghost use Rattle.serve_faults.specs.Runs.{Runs, change};
-ghost use Rattle.serve_faults.specs.Ways.{AnswersTo, describing};
+ghost use Rattle.serve_faults.specs.Changes.{change};
+ghost use Rattle.serve_core.specs.Runs.{Runs};
+ghost use Rattle.serve_core.specs.Runs.{AnswersTo};
+ghost use Rattle.serve_faults.specs.Ways.{describing};
 
 use byte_ends::{Sink, Source, write_all};
 use serve_faults::Status;

@@ -3,8 +3,9 @@
 ghost use Rattle.std.specs.Prelude.{◌≡◌, ◌≤◌, length, Some};
 ghost use Rattle.session_limits.specs.Limits.{max_callers, max_input, max_requests, max_shards};
 ghost use Rattle.reply_writing.specs.Printable.{ArePrintableReplies};
-ghost use Rattle.serve_faults.specs.Runs.{Runs, change};
-ghost use Rattle.serve_faults.specs.Ways.{AnswersTo};
+ghost use Rattle.serve_faults.specs.Changes.{change};
+ghost use Rattle.serve_core.specs.Runs.{Runs};
+ghost use Rattle.serve_core.specs.Runs.{AnswersTo};
 ghost use Rattle.session_values.specs.ReplyText.{reply_text};
 ghost use Rattle.serve_words.specs.declared.command.Command.TheVariants.{Serve};
 ghost use Rattle.serve_core.specs.Serving.{EndsBy, status_of};

@@ -2,7 +2,8 @@
 
 ghost use Rattle.std.specs.Prelude.{◌≡◌, map, string_bytes, Some, None, IfSome};
 ghost use Rattle.serve_words.specs.Commands as commands;
-ghost use Rattle.serve_faults.specs.Runs.{Runs, Tells, change};
+ghost use Rattle.serve_faults.specs.Changes.{change};
+ghost use Rattle.serve_core.specs.Runs.{Runs, Tells};
 ghost use Rattle.serve_faults.specs.Ways.{describing};
 
 use crate::describing::describe_source;
@@ -20,7 +21,7 @@ use worker_gate::Gate;
 /// All that the program does: `words` are those after the program's name. It reads an input from
 /// `source`, writes the command's text to `out` and, where it doesn't end well, one line to `err`;
 /// callers that serve pass the gate at each of its places. Its promises stand by name in
-/// `serve_faults`, in `specs/Runs.antt`: usage and unread; fine, refused and front; refusing
+/// `specs/Runs.antt`: usage and unread; fine, refused and front; refusing
 /// and complete; read_fault, write_fault and unwritten; end, gone and lost; served and hall; and,
 /// of the line, line and line_front.
 pub fn run<R: Threads + Wait + Sync, I: Source, O: Sink, E: Sink, G: Gate + Sync>(

@@ -9,8 +9,8 @@ ghost use Rattle.serve_made.specs.Session.{session_text as text_of_session};
 ghost use Rattle.serve_made.specs.Summary.{summary};
 ghost use Rattle.serve_faults.specs.Input.{parts_of};
 ghost use Rattle.reply_writing.specs.Printable.{ArePrintableReplies};
-ghost use Rattle.serve_faults.specs.Runs.{change};
-ghost use Rattle.serve_faults.specs.Ways.{AnswersTo};
+ghost use Rattle.serve_faults.specs.Changes.{change};
+ghost use Rattle.serve_core.specs.Runs.{AnswersTo};
 ghost use Rattle.serve_core.specs.Serving.{IsSessionInput, IsInputReason, HasServed, EndsBy};
 
 use crate::counting::{count_bytes, count_calls};

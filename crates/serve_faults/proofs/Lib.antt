@@ -2,4 +2,3 @@ pub mod OneAnswer
 pub mod PrintableCode
 pub mod PrintableRuns
 pub mod PrintableTables
-pub mod RunLemmas

@@ -1,7 +1,7 @@
 pub mod Answer
+pub mod Changes
 pub mod ExitStatus
 pub mod Input
 pub mod Message
-pub mod Runs
 pub mod Session
 pub mod Ways

@@ -1,7 +1,7 @@
 // All of a source.
 
 ghost use Rattle.std.specs.Prelude.{IfOk, IfErr};
-ghost use Rattle.serve_faults.specs.Runs.{change};
+ghost use Rattle.serve_faults.specs.Changes.{change};
 ghost use Rattle.serve_faults.specs.Ways.{HasRead, StoppedAs};
 
 use byte_ends::{Source, Unread, read_all};

@@ -1,5 +1,5 @@
 use Rattle.std.proofs.Common.{refl, subst}
-use Rattle.serve_faults.specs.Runs.{change}
+use Rattle.serve_faults.specs.Changes.{change}
 use Rattle.serve_faults.specs.Ways.{describing}
 use Rattle.serve_reading.specs.declared.unserved.Unserved.{Unserved}
 use Rattle.serve_reading.specs.declared.unserved.Unserved.TheVariants.{Refused}

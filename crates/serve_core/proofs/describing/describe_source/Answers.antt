@@ -1,5 +1,5 @@
 use Rattle.std.proofs.Common.{refl}
-use Rattle.serve_faults.specs.Runs.{change}
+use Rattle.serve_faults.specs.Changes.{change}
 use Rattle.serve_core.proofs.TopLemmas.{described_run, undescribed_run}
 use Rattle.serve_core.proofs.describing.describe_source.Goals as goal
 

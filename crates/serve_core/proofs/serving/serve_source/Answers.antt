@@ -1,5 +1,5 @@
 use Rattle.std.proofs.Common.{refl, rules, subst, List, ℕ}
-use Rattle.serve_faults.specs.Runs.{change}
+use Rattle.serve_faults.specs.Changes.{change}
 use Rattle.serve_faults.specs.Ways.{HasRead}
 use Rattle.serve_core.proofs.TopLemmas.{served_run, unserved_run}
 use Rattle.serve_core.proofs.serving.serve_source.Goals as goal

@@ -1,7 +1,8 @@
 use Rattle.std.proofs.Common.{◌≡◌, Option, Some, refl, rules, subst, sym}
 use Rattle.serve_words.specs.declared.command.Command.{Command}
 use Rattle.serve_words.specs.declared.command.Command.TheVariants.{Work}
-use Rattle.serve_faults.specs.Runs.{Runs, change}
+use Rattle.serve_faults.specs.Changes.{change}
+use Rattle.serve_core.specs.Runs.{Runs}
 use Rattle.serve_core.proofs.TopLemmas.{work_run}
 use Rattle.serve_core.proofs.top.answer.Goals as goal
 

@@ -1,4 +1,4 @@
-use Rattle.serve_faults.specs.Runs.{change}
+use Rattle.serve_faults.specs.Changes.{change}
 use Rattle.serve_core.proofs.EndLemmas.{worked_to}
 use Rattle.serve_core.proofs.working.work.Goals as goal
 

@@ -11,8 +11,10 @@ use Rattle.serve_faults.specs.declared.status.Status.{Status}
 use Rattle.serve_faults.specs.declared.status.Status.TheVariants as status
 use Rattle.serve_faults.specs.Answer.{IsRefused, IsTextOf}
 use Rattle.serve_faults.specs.Input.{input_of, is_reading, IsInput}
-use Rattle.serve_faults.specs.Runs.{Change, Failed, IsUntouched, Told, Took, TookFront, has_read_all, Answered, Written, IsUnrefused, IsServedThrough, has_served, Holds, Runs}
-use Rattle.serve_faults.specs.Ways.{AnswersTo, HasRead, StoppedAs}
+use Rattle.serve_faults.specs.Changes.{Change, Failed, IsUntouched, Took, TookFront}
+use Rattle.serve_core.specs.Runs.{Told, has_read_all, Answered, Written, IsUnrefused, IsServedThrough, has_served, Holds, Runs}
+use Rattle.serve_core.specs.Runs.{AnswersTo}
+use Rattle.serve_faults.specs.Ways.{HasRead, StoppedAs}
 use Rattle.serve_faults.proofs.OneAnswer.{refused_once, text_or_refused}
 
 -- ---- what a command answers to its input

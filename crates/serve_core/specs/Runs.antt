@@ -1,41 +1,26 @@
 -- What a run promises, over its command, its input, its outputs and how it ended.
 use Rattle.std.specs.Prelude.{◌≡◌, ◌≢◌, ◌+◌, ◌⊎◌, ◌↔◌, ℕ, Bool, true, false, is_some, List, Option, Some, None, IfSome}
 use Rattle.session_limits.specs.Limits.{max_input}
-use Rattle.byte_ends.specs.Ends.{Rose, Grew, GrewByFront, IsAtEnd, LostFirst, LostAtMost}
+use Rattle.byte_ends.specs.Ends.{IsAtEnd, LostFirst, LostAtMost}
 use Rattle.serve_words.specs.declared.command.Command.{Command}
 use Rattle.serve_words.specs.declared.command.Command.TheVariants.{Check, Show, Serve, Work}
+use Rattle.symbolic_ops.specs.declared.symbol.Symbol.{Symbol}
 use Rattle.session_journal.specs.Script.{Meaning, session_of}
 use Rattle.session_hall.specs.Closings.{ClosedView, IsDone}
 use Rattle.handler_syntax.specs.Language.{File}
+use Rattle.handler_machine.specs.Scripts.{meaning}
 use Rattle.serve_faults.specs.declared.status.Fault.{Fault}
 use Rattle.serve_faults.specs.declared.status.Fault.TheVariants.{TooLarge}
 use Rattle.serve_faults.specs.declared.status.Status.{Status}
 use Rattle.serve_faults.specs.declared.status.Status.TheVariants as status
 use Rattle.serve_faults.specs.Answer.{CommandAnswers}
 use Rattle.serve_faults.specs.Answer as answer
-use Rattle.serve_faults.specs.Input.{parts_of, input_of, is_reading}
-use Rattle.serve_faults.specs.Session.{IsSession, session_of_parts}
+use Rattle.serve_faults.specs.Changes.{Change, Failed, IsUntouched, Took, TookFront}
+use Rattle.serve_faults.specs.Input.{Parts, parts_of, input_of, is_reading}
+use Rattle.serve_faults.specs.Session.{IsSession, requests_of, session_of_parts}
 use Rattle.serve_faults.specs.Message.{message_of}
 
--- ---- sources and sinks
-
--- A source or a sink before and after a call: the bytes that it tells, and how often it failed.
-pub record Change (S : Type 0) : Type 0 where
-  pub bytes : S → Option (List ℕ)
-  pub faults : S → ℕ
-  pub old : S
-  pub new : S
-
-abbrev pub change : {S : Type 0} → (S → Option (List ℕ)) → (S → ℕ) → S → S → Change S
-change bytes faults old new = record { bytes = bytes; faults = faults; old = old; new = new }
-
--- its faults rose
-abbrev pub Failed : {S : Type 0} → Change S → Type 0
-Failed c = Rose (c.faults c.old) (c.faults c.new)
-
--- it is as before
-abbrev pub IsUntouched : {S : Type 0} → Change S → Type 0
-IsUntouched c = c.new ≡ c.old
+-- ---- what is told
 
 -- This holds of the bytes that a source has, where it tells them; for a command that doesn't read, of whatever bytes.
 abbrev pub Told : {S : Type 0} → Option Command → Change S → (List ℕ → Type 0) → Type 0
@@ -44,13 +29,6 @@ Told (Some Check) c P = IfSome (c.bytes c.old) P
 Told (Some Show) c P = IfSome (c.bytes c.old) P
 Told (Some (Serve callers shards)) c P = IfSome (c.bytes c.old) P
 Told (Some (Work requests start)) c P = (bytes : List ℕ) → P bytes
-
--- a sink took all of the text, or a front of it
-abbrev pub Took : {S : Type 0} → Change S → List ℕ → Type 0
-Took c text = Grew (c.bytes c.old) (c.bytes c.new) text
-
-abbrev pub TookFront : {S : Type 0} → Change S → List ℕ → Type 0
-TookFront c text = GrewByFront (c.bytes c.old) (c.bytes c.new) text
 
 -- whether a run that reads, and that ended so, had read its source to the end
 abbrev pub has_read_all : Status → Bool
@@ -90,34 +68,58 @@ IsUnrefused command bytes =
 
 -- ---- the hall through which was served
 
--- how many callers and shards a command serves with
+-- how many callers and shards a command serves with; one that serves nothing has none
 abbrev pub callers_of : Command → ℕ
+callers_of Check = 0
+callers_of Show = 0
 callers_of (Serve callers shards) = callers
-callers_of command = 4
+callers_of (Work requests start) = 4
 
 abbrev pub shards_of : Command → ℕ
+shards_of Check = 0
+shards_of Show = 0
 shards_of (Serve callers shards) = shards
-shards_of command = 4
+shards_of (Work requests start) = 4
 
--- The session of the input was served through this hall to its end: the journal is that of a lawful book in which all
--- tickets have ended, the replies are those of the serial run, and the shards are the parts of its final tables. There
--- were as many callers and shards as the command's words say.
+-- what a file means with these lists and its part of requests, as a script: each request's dialogue
+-- and bounds, and what it declares at each point
+abbrev pub script_of_session : Parts → File → List (List (List Symbol)) → Meaning
+script_of_session parts file lists = meaning (record {
+  program = record { file = file; lists = lists };
+  requests = requests_of parts file;
+})
+
+-- The session of the input was served through this hall to its end, with the declarations that its
+-- points have: the journal is that of a lawful book in which all tickets have ended, the replies are
+-- those of the serial run, and the shards are the parts of its final tables. There were as many
+-- callers and shards as the command's words say.
 pub record IsServedThrough (command : Command) (input : List ℕ) (closed : ClosedView) : Type 0 where
   pub file : File
   pub is_session : IsSession (parts_of input) file
   pub script : Meaning
+  pub script_is : script
+      ≡ script_of_session (parts_of input) file is_session.program.lists
   pub session_is : session_of script ≡ session_of_parts (parts_of input) file
   pub done : IsDone script closed
   pub callers_are : closed.callers ≡ callers_of command
   pub shards_are : closed.shards ≡ shards_of command
 
+-- whether a run that ended so has come to its output
+abbrev pub has_begun_writing : Status → Bool
+has_begun_writing status.Fine = true
+has_begun_writing (status.Refused fault) = false
+has_begun_writing status.Usage = false
+has_begun_writing status.NoMemory = false
+has_begun_writing status.ReadFault = false
+has_begun_writing status.WriteFault = true
+
 -- whether a command that ended so has served through a hall
 abbrev pub has_served : Option Command → Status → Bool
-has_served (Some (Serve callers shards)) status.Fine = true
-has_served (Some (Serve callers shards)) status.WriteFault = true
-has_served (Some (Work requests start)) status.Fine = true
-has_served (Some (Work requests start)) status.WriteFault = true
-has_served command s = false
+has_served None s = false
+has_served (Some Check) s = false
+has_served (Some Show) s = false
+has_served (Some (Serve callers shards)) s = has_begun_writing s
+has_served (Some (Work requests start)) s = has_begun_writing s
 
 -- what a hall that is left holds
 abbrev pub Holds : Option Command → List ℕ → Option ClosedView → Type 0
@@ -125,6 +127,16 @@ Holds None bytes closed = Unit {0}
 Holds (Some command) bytes closed = IfSome closed (IsServedThrough command (input_of command bytes))
 
 -- ---- what is promised
+
+-- what a command answers to an input, and with which hall
+pub record AnswersTo {O : Type 0} (command : Command) (bytes : List ℕ) (out : Change O) (s : Status)
+    (closed : Option ClosedView) : Type 0 where
+  pub usage : s ≢ status.Usage
+  pub read_fault : s ≢ status.ReadFault
+  pub answered : Answered (Some command) bytes out s
+  pub written : Written out s
+  pub served : is_some closed ≡ has_served (Some command) s
+  pub hall : Holds (Some command) bytes closed
 
 -- A run of a command, or of no command where the words are none.
 pub record Runs {I O : Type 0} (command : Option Command) (source : Change I) (out : Change O)

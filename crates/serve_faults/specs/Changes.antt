@@ -1,0 +1,28 @@
+-- A source or a sink before and after a call, and what it took of a text.
+use Rattle.std.specs.Prelude.{◌≡◌, ℕ, List, Option}
+use Rattle.byte_ends.specs.Ends.{Rose, Grew, GrewByFront}
+
+-- A source or a sink before and after a call: the bytes that it tells, and how often it failed.
+pub record Change (S : Type 0) : Type 0 where
+  pub bytes : S → Option (List ℕ)
+  pub faults : S → ℕ
+  pub old : S
+  pub new : S
+
+abbrev pub change : {S : Type 0} → (S → Option (List ℕ)) → (S → ℕ) → S → S → Change S
+change bytes faults old new = record { bytes = bytes; faults = faults; old = old; new = new }
+
+-- its faults rose
+abbrev pub Failed : {S : Type 0} → Change S → Type 0
+Failed c = Rose (c.faults c.old) (c.faults c.new)
+
+-- it is as before
+abbrev pub IsUntouched : {S : Type 0} → Change S → Type 0
+IsUntouched c = c.new ≡ c.old
+
+-- a sink took all of the text, or a front of it
+abbrev pub Took : {S : Type 0} → Change S → List ℕ → Type 0
+Took c text = Grew (c.bytes c.old) (c.bytes c.new) text
+
+abbrev pub TookFront : {S : Type 0} → Change S → List ℕ → Type 0
+TookFront c text = GrewByFront (c.bytes c.old) (c.bytes c.new) text
