@@ -9,8 +9,8 @@ use Rattle.session_journal.specs.declared.event.Event.{Event}
 use Rattle.session_journal.specs.declared.event.Event.TheVariants.{Delay}
 use Rattle.session_journal.specs.Journal.{begun}
 use Rattle.session_journal.specs.Script.{Meaning, IsScript, calls}
-use Rattle.admission_book.specs.Book.{Book, Serving, IsFree, IsBlocker, record_of, with_event, after_admit, after_delay}
-use Rattle.admission_book.specs.EventsInTurn.{IsOpen, is_delayed}
+use Rattle.admission_book.specs.Book.{Book, Holds, Serving, IsFree, IsBlocker, record_of, with_event, after_admit, after_delay}
+use Rattle.admission_book.specs.EventsInTurn.{IsForeseen, IsOpen, is_delayed}
 use Rattle.admission_book.specs.Lawful.{Lawful}
 use Rattle.admission_book.specs.declared.caller_record.CallerRecord.{CallerRecord}
 use Rattle.admission_book.specs.declared.admission.Admission.TheVariants.{Admitted, Delayed}
@@ -75,8 +75,20 @@ module _ (m : Meaning) (J : List Event) (k : List (Option Reply)) (rs : List Cal
     noted : old.delayed ≡ is_delayed J t
     noted = k_old.noted (served t old) (serving_is old t p.has)
 
+    held_older : Holds m (book_of J k rs) found.caller found.serving
+    held_older = L.records found.caller found.serving found.is
+
+    older_open : IsOpen J older
+    older_open = let P : ℕ → Type 0 = λ u. IsOpen J u in subst P found.ticket held_older.is_open
+
+    -- the symbol is in the foresight of the older ticket's record
+    named : IsForeseen m J older y
+    named =
+        let P : ℕ → Type 0 = λ u. IsForeseen m J u y in
+        subst P found.ticket (record { foresight = found.serving.foresight; front = found.symbol.front; back = found.symbol.back; is = found.symbol.is; covers = held_older.foresight; declared = held_older.declared })
+
     pub delay_lawful : Lawful m (after_delay (book_of J k rs) t op older y)
-    delay_lawful = keeps_delay m (book_of J k rs) t op older y L (L.records i (served t old) at).is_open may.calls found.is_older found.symbol.against
+    delay_lawful = keeps_delay m (book_of J k rs) t op older y L (L.records i (served t old) at).is_open may.calls found.is_older found.symbol.against older_open named
 
     pub delay_room : (room : ℕ) → IsScript m → 2 * m.requests + 2 * calls m ≤ room → old.delayed ≡ false → length J < room
     delay_room room S h none =

@@ -25,7 +25,7 @@ lines rs = length-map rs (λ (r : CallerRecord). serving_of r)
 module _ (m : Meaning) (J : List Event) (k : List (Option Reply)) (rs : List CallerRecord) (n i : ℕ) (f : List Symbol)
     (L : Lawful m (book_of J k rs)) (may : MayBeginNext m (book_of J k rs) i f) (left : n < m.requests) (counted : n ≡ begun J) where
   pub begin_lawful : Lawful m (after_begin (book_of J k rs) i f)
-  begin_lawful = let l : begun J < m.requests = omega arith in keeps_begin m (book_of J k rs) i f L l may.caller may.idle (may.entry l)
+  begin_lawful = let l : begun J < m.requests = omega arith in keeps_begin m (book_of J k rs) i f L l may.caller may.idle (may.entry l) (may.declared l)
 
   pub within : i < length rs
   within = omega (arith, may.caller, lines rs)

@@ -1,5 +1,5 @@
 -- One event more at the end of a journal.
-use Rattle.std.proofs.Common.{◌≡◌, ℕ, suc, ◌+◌, ◌<◌, ◌≤◌, ◌≢◌, List, [], ◌∷◌, ◌++◌, Option, Some, None, true, false, cond, eqb, refl, sym, ◌∙◌, ap, subst, append_assoc, arith}
+use Rattle.std.proofs.Common.{◌≡◌, ℕ, suc, ◌+◌, ◌<◌, ◌≤◌, ◌≢◌, List, [], ◌∷◌, ◌++◌, length, Option, Some, None, true, false, cond, eqb, refl, sym, ◌∙◌, ap, subst, append-nil, append_assoc, arith}
 use Rattle.std.specs.List.{AllByRecursion}
 use Rattle.std.proofs.lemmas.Bool.Decides.{nat_tests}
 use Rattle.session_values.specs.declared.op.Op.{Op}
@@ -13,7 +13,9 @@ use Rattle.session_values.specs.Dialogue.{Entry}
 use Rattle.session_journal.specs.Journal.{DoneOperation, entry_of, done_operations, of_ticket, in_order, InversionsCommute, entries, begun, first, end_of, caller_of, ended, owner}
 use Rattle.session_values.specs.Dialogue.{Calls, Dialogue, rest, replies, Follows}
 use Rattle.session_journal.specs.Script.{Meaning}
-use Rattle.admission_book.specs.EventsInTurn.{MayCome, ComeInTurn}
+use Rattle.admission_book.specs.Book.{Book}
+use Rattle.admission_book.specs.EventsInTurn.{MayBeDelayed, MayCome, ComeInTurn}
+use Rattle.admission_book.specs.Lawful.{Lawful}
 
 pub done_operations-append : (J K : List Event) → done_operations (J ++ K) ≡ done_operations J ++ done_operations K
 done_operations-append [] K = refl
@@ -200,3 +202,13 @@ only_begun m callers J h = through_turns m callers OnlyBegun keep [] J (record {
     keep J (Done t op r) p k = keep_done J t op r p k.is_open.begun
     keep J (Delay t op o s) p k = keep_delay J t op o s p
     keep J (End t r) p k = keep_end J t r p k.is_open.begun
+
+-- what comes came in its turn
+come_then : (m : Meaning) (callers : ℕ) (front J K : List Event) (e : Event) → ComeInTurn m callers front (J ++ e ∷ K) → MayCome m callers (front ++ J) e
+come_then m callers front [] K e h = let P : List Event → Type 0 = λ I. MayCome m callers I e in subst P (sym (append-nil front)) h.0
+come_then m callers front (x ∷ J) K e h = let P : List Event → Type 0 = λ I. MayCome m callers I e in subst P (append_assoc front (x ∷ []) J) (come_then m callers (front ++ x ∷ []) J K e h.1)
+
+pub delayed_then : (m : Meaning) (b : Book) (J K : List Event) (t : ℕ) (op : Op) (older : ℕ) (y : Symbol) → Lawful m b → b.journal ≡ J ++ Delay t op older y ∷ K → MayBeDelayed m J t op older y
+delayed_then m b J K t op older y L e =
+    let P : List Event → Type 0 = λ I. ComeInTurn m (length b.records) [] I in
+    come_then m (length b.records) [] J K (Delay t op older y) (subst P e L.turns)

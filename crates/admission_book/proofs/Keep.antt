@@ -13,13 +13,14 @@ use Rattle.session_journal.specs.declared.event.Event.{Event}
 use Rattle.session_journal.specs.declared.event.Event.TheVariants.{Begin, Done, Delay, End}
 use Rattle.session_values.specs.Tables.{reply}
 use Rattle.symbolic_ops.specs.Matching.{Matches, Covered}
+use Rattle.symbolic_ops.proofs.Above.{covered_through}
 use Rattle.commute_tables.specs.Symbols.{CommutesWith, CommutesWithAll}
 use Rattle.session_values.specs.Dialogue.{Entry}
 use Rattle.session_journal.specs.Journal.{DoneOperation, entry_of, done_operations, Replays, of_ticket, in_order, InversionsCommute, entries, begun, end_of, caller_of, ended, owner, after}
 use Rattle.session_values.specs.Dialogue.{Calls, Answers, rest, replies, Follows}
 use Rattle.session_journal.specs.Script.{IsForesight, Meaning}
 use Rattle.admission_book.specs.Book.{Serving, Book, record_of, kept_for, Holds, IsFree, with_event, after_begin, after_narrow, after_admit, after_delay, after_done, after_end}
-use Rattle.admission_book.specs.EventsInTurn.{IsOpen, now, is_delayed, ComeInTurn}
+use Rattle.admission_book.specs.EventsInTurn.{IsForeseen, IsOpen, declared_after, now, is_delayed, ComeInTurn}
 use Rattle.admission_book.specs.Lawful.{Lawful}
 use Rattle.session_journal.proofs.Replay.{Replays-append}
 use Rattle.admission_book.proofs.Events.{done_operations-append, in_order-append, done_operations_stay, begun_stays, begun_more, first_same, owner_other, owner_new, ended_other, ended_new, entries_other, entries_more, Follows-push, All-push, All-weaker, InversionsCommute-push, ComeInTurn-push, OnlyBegun, only_begun}
@@ -41,15 +42,22 @@ holds_on : (m : Meaning) (b b2 : Book) (c : ℕ) (s : Serving) → Holds m b c s
     → ((d : ℕ) (z : Serving) (op : Op) → record_of b2 d ≡ Some z → s.ticket < z.ticket → z.flight ≡ Some op → CommutesWithAll op s.foresight) → Holds m b2 c s
 holds_on m b b2 c s h same more e o fl =
     let P : List DoneOperation → Type 0 = λ ds. IsForesight (rest (m.next s.ticket) (replies (of_ticket s.ticket ds))) s.foresight in
+    let C : List DoneOperation → Type 0 = λ ds. Covered s.foresight (declared_after m s.ticket (of_ticket s.ticket ds)) in
     let Q : List DoneOperation → Type 0 = λ ds. AllByRecursion (λ d. s.ticket < d.ticket → CommutesWithAll d.op s.foresight) ds in
     record {
       is_open = record { begun = omega (arith, h.is_open.begun); not_ended = e ∙ h.is_open.not_ended };
       owner = o ∙ h.owner;
       foresight = subst P (sym same) h.foresight;
+      declared = subst C (sym same) h.declared;
       flight = λ op k. ap (λ (ds : List DoneOperation). m.next s.ticket (replies (of_ticket s.ticket ds))) same ∙ h.flight op k;
       done = subst Q (sym same) h.done;
       in_flight = fl;
     }
+
+-- what is declared after one operation more
+declared_more : (m : Meaning) (t : ℕ) (es : List Entry) (e : Entry) → declared_after m t (es ++ e ∷ []) ≡ m.told t (replies (es ++ e ∷ []))
+declared_more m t [] e = refl
+declared_more m t (x ∷ es) e = refl
 
 none_some : {X : Type 0} (x : X) → ◌≡◌ {A = Option X} None (Some x) → ⊥
 none_some {X} x e = cc
@@ -101,6 +109,7 @@ keeps_narrow m b c s f L at idle cov fore =
               is_open = here.is_open;
               owner = here.owner;
               foresight = fore;
+              declared = covered_through f s.foresight (declared_after m s.ticket (entries b.journal s.ticket)) cov here.declared;
               flight = here.flight;
               done = All-weaker _ _ (λ d g l. CommutesWithAll-narrow d.op f s.foresight cov (g l)) (done_operations b.journal) here.done;
               in_flight = in_flight_set b b.journal b.kept c (Some x) s.ticket f (λ d z op p l fl. CommutesWithAll-narrow op f s.foresight cov (here.in_flight d z op p l fl)) (new_flight s.ticket f);
@@ -136,6 +145,7 @@ keeps_admit m b c s op L at calls free =
               is_open = here.is_open;
               owner = here.owner;
               foresight = here.foresight;
+              declared = here.declared;
               flight = λ o k. calls ∙ ap (λ (a : Op). Calls a) (inside op o k);
               done = here.done;
               in_flight = in_flight_set b b.journal b.kept c (Some x) s.ticket s.foresight here.in_flight (new_flight c s at);
@@ -147,8 +157,8 @@ keeps_admit m b c s op L at calls free =
     }
 
 -- ---- a Delay
-pub keeps_delay : (m : Meaning) (b : Book) (t : ℕ) (op : Op) (older : ℕ) (y : Symbol) → Lawful m b → IsOpen b.journal t → now m b.journal t ≡ Calls op → older < t → (CommutesWith op y → ⊥) → Lawful m (after_delay b t op older y)
-keeps_delay m b t op older y L opened calls less against =
+pub keeps_delay : (m : Meaning) (b : Book) (t : ℕ) (op : Op) (older : ℕ) (y : Symbol) → Lawful m b → IsOpen b.journal t → now m b.journal t ≡ Calls op → older < t → (CommutesWith op y → ⊥) → IsOpen b.journal older → IsForeseen m b.journal older y → Lawful m (after_delay b t op older y)
+keeps_delay m b t op older y L opened calls less against older_open named =
     elim (is_delayed b.journal t) as (λ v. is_delayed b.journal t ≡ v → Lawful m (cond v b (with_event b (Delay t op older y)))) [
       | true ↦ λ e. L
       | false ↦ λ e. noted e
@@ -170,12 +180,12 @@ keeps_delay m b t op older y L opened calls less against =
           inversions = subst InversionsCommute (sym same) L.inversions;
           records = λ d z h. holds_on m b b2 d z (L.records d z h) same (omega arith) (first_same (end_of z.ticket) J v refl) (first_same (caller_of z.ticket) J v refl) (L.records d z h).in_flight;
           placed = λ u o. L.placed u (record { begun = omega (arith, o.begun, count); not_ended = sym (first_same (end_of u) J v refl) ∙ o.not_ended });
-          turns = ComeInTurn-push m (length b.records) [] J v L.turns (record { is_open = opened; calls = calls; is_older = less; symbol = against; once = e });
+          turns = ComeInTurn-push m (length b.records) [] J v L.turns (record { is_open = opened; calls = calls; is_older = less; older_is_open = older_open; symbol = against; named = named; once = e });
         }
 
 -- ---- begin
-pub keeps_begin : (m : Meaning) (b : Book) (c : ℕ) (f : List Symbol) → Lawful m b → begun b.journal < m.requests → c < length b.records → record_of b c ≡ None → IsForesight (m.next (begun b.journal)) f → Lawful m (after_begin b c f)
-keeps_begin m b c f L left caller empty fore =
+pub keeps_begin : (m : Meaning) (b : Book) (c : ℕ) (f : List Symbol) → Lawful m b → begun b.journal < m.requests → c < length b.records → record_of b c ≡ None → IsForesight (m.next (begun b.journal)) f → Covered f (m.entry (begun b.journal)) → Lawful m (after_begin b c f)
+keeps_begin m b c f L left caller empty fore declared =
     let J : List Event = b.journal in
     let n : ℕ = begun J in
     let v : Event = Begin n c in
@@ -198,6 +208,7 @@ keeps_begin m b c f L left caller empty fore =
               is_open = record { begun = omega arith; not_ended = first_same (end_of n) J v refl ∙ known.ended n (omega arith) };
               owner = owner_new J n c (known.owner n (omega arith));
               foresight = let F : List Entry → Type 0 = λ es. IsForesight (rest (m.next n) (replies es)) f in subst F (sym (ap (of_ticket n) same ∙ none_of n (done_operations J) known.done_operations)) fore;
+              declared = let G : List Entry → Type 0 = λ es. Covered f (declared_after m n es) in subst G (sym (ap (of_ticket n) same ∙ none_of n (done_operations J) known.done_operations)) declared;
               flight = λ op k. absurd (none_some op k);
               done = let D : List DoneOperation → Type 0 = λ ds. AllByRecursion (λ d. n < d.ticket → CommutesWithAll d.op f) ds in subst D (sym same) (All-weaker _ _ (λ d l k. absurd (omega arith)) (done_operations J) known.done_operations);
               in_flight = in_flight_set b (J ++ v ∷ []) b.kept c (Some x) n f (λ d z op p l fl. absurd (omega (arith, (L.records d z p).is_open.begun))) (no_flight n f);
@@ -241,8 +252,8 @@ keeps_begin m b c f L left caller empty fore =
 
 -- ---- done
 -- the operation in flight is done, with its reply after the journal, and its ticket narrows
-pub keeps_done : (m : Meaning) (b : Book) (c : ℕ) (s : Serving) (op : Op) (r : Value) (f : List Symbol) → Lawful m b → record_of b c ≡ Some s → s.flight ≡ Some op → r ≡ reply (after m.opening b.journal) op → Covered f s.foresight → IsForesight (rest (m.next s.ticket) (replies (entries b.journal s.ticket ++ record { op = op; reply = r } ∷ []))) f → Lawful m (after_done b c s op r f)
-keeps_done m b c s op r f L at flying is cov fore =
+pub keeps_done : (m : Meaning) (b : Book) (c : ℕ) (s : Serving) (op : Op) (r : Value) (f : List Symbol) → Lawful m b → record_of b c ≡ Some s → s.flight ≡ Some op → r ≡ reply (after m.opening b.journal) op → Covered f s.foresight → IsForesight (rest (m.next s.ticket) (replies (entries b.journal s.ticket ++ record { op = op; reply = r } ∷ []))) f → Covered f (m.told s.ticket (replies (entries b.journal s.ticket ++ record { op = op; reply = r } ∷ []))) → Lawful m (after_done b c s op r f)
+keeps_done m b c s op r f L at flying is cov fore told =
     let J : List Event = b.journal in
     let t : ℕ = s.ticket in
     let v : Event = Done t op r in
@@ -275,6 +286,7 @@ keeps_done m b c s op r f L at flying is cov fore =
               is_open = record { begun = omega (arith, here.is_open.begun, count); not_ended = first_same (end_of t) J v refl ∙ here.is_open.not_ended };
               owner = first_same (caller_of t) J v refl ∙ here.owner;
               foresight = let F : List Entry → Type 0 = λ es. IsForesight (rest (m.next t) (replies es)) f in subst F (sym (entries_more J t op r)) fore;
+              declared = let G : List Entry → Type 0 = λ es. Covered f (declared_after m t es) in subst G (sym (entries_more J t op r)) (let H : List Symbol → Type 0 = λ l. Covered f l in subst H (sym (declared_more m t (entries J t) (record { op = op; reply = r }))) told);
               flight = λ o k. absurd (none_some o k);
               done = let D : List DoneOperation → Type 0 = λ es. AllByRecursion (λ d. t < d.ticket → CommutesWithAll d.op f) es in
                   subst D (sym ds) (All-push _ (done_operations J) new (All-weaker _ _ (λ d k l. CommutesWithAll-narrow d.op f s.foresight cov (k l)) (done_operations J) here.done) (λ l. absurd (omega arith)));
@@ -289,6 +301,7 @@ keeps_done m b c s op r f L at flying is cov fore =
               is_open = record { begun = omega (arith, old.is_open.begun, count); not_ended = first_same (end_of z.ticket) J v refl ∙ old.is_open.not_ended };
               owner = first_same (caller_of z.ticket) J v refl ∙ old.owner;
               foresight = subst F (sym (entries_other J t op r z.ticket n)) old.foresight;
+              declared = let G : List Entry → Type 0 = λ es. Covered z.foresight (declared_after m z.ticket es) in subst G (sym (entries_other J t op r z.ticket n)) old.declared;
               flight = λ o k. ap (λ (es : List Entry). m.next z.ticket (replies es)) (entries_other J t op r z.ticket n) ∙ old.flight o k;
               done = subst D (sym ds) (All-push _ (done_operations J) new old.done (λ l. old.in_flight c s op at l flying));
               in_flight = in_flight_set b (J ++ v ∷ []) b.kept c (Some x) z.ticket z.foresight old.in_flight (no_flight z.ticket z.foresight);

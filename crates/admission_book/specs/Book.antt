@@ -5,13 +5,14 @@ use Rattle.session_values.specs.declared.value.Value.{Value}
 use Rattle.session_values.specs.declared.op.Op.{Op}
 use Rattle.session_values.specs.declared.reply.Reply.{Reply}
 use Rattle.symbolic_ops.specs.declared.symbol.Symbol.{Symbol}
+use Rattle.symbolic_ops.specs.Matching.{Covered}
 use Rattle.session_journal.specs.declared.event.Event.{Event}
 use Rattle.session_journal.specs.declared.event.Event.TheVariants.{Begin, Done, Delay, End}
 use Rattle.commute_tables.specs.Symbols.{CommutesWith, CommutesWithAll}
 use Rattle.session_journal.specs.Journal.{done_operations, entries, begun, owner}
 use Rattle.session_values.specs.Dialogue.{Calls, rest, replies}
 use Rattle.session_journal.specs.Script.{IsForesight, Meaning}
-use Rattle.admission_book.specs.EventsInTurn.{IsOpen, now, is_delayed}
+use Rattle.admission_book.specs.EventsInTurn.{IsOpen, declared_after, now, is_delayed}
 
 -- a caller's record while it serves a ticket
 pub record Serving : Type 0 where
@@ -41,6 +42,9 @@ pub record Holds (m : Meaning) (b : Book) (c : ℕ) (s : Serving) : Type 0 where
   -- its foresight covers what the ticket may still do
   pub foresight : IsForesight (rest (m.next s.ticket) (replies (entries b.journal s.ticket)))
       s.foresight
+  -- and what the ticket declared last, at its beginning or right after an operation, covers its
+  -- foresight
+  pub declared : Covered s.foresight (declared_after m s.ticket (entries b.journal s.ticket))
   -- its operation in flight is the one that the ticket calls
   pub flight : (op : Op) → s.flight ≡ Some op → now m b.journal s.ticket ≡ Calls op
   -- what younger tickets have done, or have in flight, commutes with all that it may still do

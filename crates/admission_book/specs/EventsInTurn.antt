@@ -3,12 +3,13 @@ use Rattle.std.specs.Prelude.{◌≡◌, ℕ, ◌<◌, ◌==◌, List, [], ◌�
 use Rattle.session_values.specs.declared.op.Op.{Op}
 use Rattle.session_values.specs.declared.reply.Reply.{Reply}
 use Rattle.symbolic_ops.specs.declared.symbol.Symbol.{Symbol}
+use Rattle.symbolic_ops.specs.Matching.{Covered}
 use Rattle.session_journal.specs.declared.event.Event.{Event}
 use Rattle.session_journal.specs.declared.event.Event.TheVariants.{Begin, Done, Delay, End}
 use Rattle.commute_tables.specs.Symbols.{CommutesWith}
 use Rattle.session_journal.specs.Journal.{entries, begun, ended, owner, ticket_of}
-use Rattle.session_values.specs.Dialogue.{Next, Calls, Answers, Dialogue, rest, replies}
-use Rattle.session_journal.specs.Script.{Meaning}
+use Rattle.session_values.specs.Dialogue.{Next, Calls, Answers, Dialogue, Entry, rest, replies}
+use Rattle.session_journal.specs.Script.{IsForesight, Meaning}
 
 -- a ticket is open: it is begun and not ended
 pub record IsOpen (J : List Event) (t : ℕ) : Type 0 where
@@ -18,6 +19,21 @@ pub record IsOpen (J : List Event) (t : ℕ) : Type 0 where
 -- what the ticket does after its entries
 abbrev pub now : Meaning → List Event → ℕ → Next
 now m J t = m.next t (replies (entries J t))
+
+-- what a ticket declares after these entries: at its beginning, or right after its last operation
+abbrev pub declared_after : Meaning → ℕ → List Entry → List Symbol
+declared_after m t [] = m.entry t
+declared_after m t (e ∷ es) = m.told t (replies (e ∷ es))
+
+-- The symbol is in a list that the ticket may have as its foresight after the events J: the list
+-- covers what the ticket may still do, and what the ticket declared last covers the list.
+pub record IsForeseen (m : Meaning) (J : List Event) (t : ℕ) (s : Symbol) : Type 0 where
+  pub foresight : List Symbol
+  pub front : List Symbol
+  pub back : List Symbol
+  pub is : foresight ≡ front ++ s ∷ back
+  pub covers : IsForesight (rest (m.next t) (replies (entries J t))) foresight
+  pub declared : Covered foresight (declared_after m t (entries J t))
 
 -- whether the last event of ticket t is a Delay, where b says so before this event
 abbrev pub delayed_after : ℕ → Event → Bool → Bool
@@ -46,14 +62,16 @@ pub record MayBeDone (m : Meaning) (J : List Event) (t : ℕ) (op : Op) : Type 0
   pub is_open : IsOpen J t
   pub calls : now m J t ≡ Calls op
 
--- an operation is delayed: the one that its open ticket calls, by an older ticket and a symbol with
--- which it doesn't commute, and once
+-- an operation is delayed: the one that its open ticket calls, by an older open ticket and a symbol
+-- of that ticket's foresight with which it doesn't commute, and once
 pub record MayBeDelayed (m : Meaning) (J : List Event) (t : ℕ) (op : Op) (older : ℕ)
     (s : Symbol) : Type 0 where
   pub is_open : IsOpen J t
   pub calls : now m J t ≡ Calls op
   pub is_older : older < t
+  pub older_is_open : IsOpen J older
   pub symbol : CommutesWith op s → ⊥
+  pub named : IsForeseen m J older s
   pub once : is_delayed J t ≡ false
 
 -- a ticket ends: with what it answers

@@ -51,6 +51,7 @@ pub record MayBeginNext (m : Meaning) (b : Book) (c : ℕ) (f : List Symbol) : T
   pub caller : c < length b.records
   pub idle : record_of b c ≡ None
   pub entry : begun b.journal < m.requests → IsForesight (m.next (begun b.journal)) f
+  pub declared : begun b.journal < m.requests → Covered f (m.entry (begun b.journal))
 
 -- the next ticket begins, or all are begun and nothing changes
 abbrev pub Begins : Meaning → Book → ℕ → List Symbol → Option ℕ → Book → Type 0
@@ -98,6 +99,10 @@ pub record MayDo (m : Meaning) (b : Book) (t : ℕ) (r : Value) (f : List Symbol
     op = op;
     reply = r;
   } ∷ []))) f
+  pub declared : Covered f (m.told t (replies (entries b.journal t ++ record {
+    op = op;
+    reply = r;
+  } ∷ [])))
 
 abbrev pub DidIt : Book → ℕ → Value → List Symbol → Book → Type 0
 DidIt b t r f d = (c : ℕ) (s : Serving) (op : Op) → record_of b c ≡ Some s → s.ticket ≡ t

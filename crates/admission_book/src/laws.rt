@@ -7,11 +7,13 @@ ghost use Rattle.session_values.specs.Kinds.{is_adding};
 ghost use Rattle.session_values.specs.Tables.{reply, table, size_of};
 ghost use Rattle.symbolic_ops.specs.Matching.{Covered};
 ghost use Rattle.commute_tables.specs.Symbols.{CommutesWith};
+ghost use Rattle.session_journal.specs.declared.event.Event.{Event};
+ghost use Rattle.session_journal.specs.declared.event.Event.TheVariants.{Delay};
 ghost use Rattle.session_journal.specs.Foreknown.{Foreknown};
 ghost use Rattle.session_journal.specs.Journal.{Replays, after, begun, ended, entries, regrouped, run};
 ghost use Rattle.session_journal.specs.Script.{Meaning, IsScript, IsForesight, calls, room, session_of};
 ghost use Rattle.admission_book.specs.Book.{Book, Serving, IsFree, IsBlocker, record_of, opened, after_begin, after_narrow, after_admit, after_delay, after_done, after_end};
-ghost use Rattle.admission_book.specs.EventsInTurn.{IsOpen, TellsAll, now, events_of};
+ghost use Rattle.admission_book.specs.EventsInTurn.{IsForeseen, IsOpen, MayBeDelayed, TellsAll, now, events_of};
 ghost use Rattle.admission_book.specs.Lawful.{Lawful};
 ghost use Rattle.admission_book.specs.Methods.{IsOldestOpen};
 
@@ -35,7 +37,8 @@ pub fn opening()
 pub fn keeping()
     ensures begin { (m : Meaning) (b : Book) (c : ℕ) (f : List Symbol) → Lawful m b →
         begun b.journal < m.requests → c < length b.records → record_of b c ≡ None →
-        IsForesight (m.next (begun b.journal)) f → Lawful m (after_begin b c f) }
+        IsForesight (m.next (begun b.journal)) f → Covered f (m.entry (begun b.journal)) →
+        Lawful m (after_begin b c f) }
     ensures narrow { (m : Meaning) (b : Book) (c : ℕ) (s : Serving) (f : List Symbol) →
         Lawful m b → record_of b c ≡ Some s → s.flight ≡ None → Covered f s.foresight →
         IsForesight (rest (m.next s.ticket) (replies (entries b.journal s.ticket))) f →
@@ -45,12 +48,15 @@ pub fn keeping()
         Lawful m (after_admit b c s op) }
     ensures delay { (m : Meaning) (b : Book) (t : ℕ) (op : Op) (older : ℕ) (y : Symbol) →
         Lawful m b → IsOpen b.journal t → now m b.journal t ≡ Calls op → older < t →
-        (CommutesWith op y → ⊥) → Lawful m (after_delay b t op older y) }
+        (CommutesWith op y → ⊥) → IsOpen b.journal older → IsForeseen m b.journal older y →
+        Lawful m (after_delay b t op older y) }
     ensures done { (m : Meaning) (b : Book) (c : ℕ) (s : Serving) (op : Op) (r : Value)
         (f : List Symbol) → Lawful m b → record_of b c ≡ Some s → s.flight ≡ Some op →
         r ≡ reply (after m.opening b.journal) op → Covered f s.foresight →
         IsForesight (rest (m.next s.ticket) (replies
         (entries b.journal s.ticket ++ record { op = op; reply = r } ∷ []))) f →
+        Covered f (m.told s.ticket (replies
+        (entries b.journal s.ticket ++ record { op = op; reply = r } ∷ []))) →
         Lawful m (after_done b c s op r f) }
     ensures end { (m : Meaning) (b : Book) (c : ℕ) (s : Serving) (r : Reply) → Lawful m b →
         record_of b c ≡ Some s → s.flight ≡ None → now m b.journal s.ticket ≡ Answers r →
@@ -91,6 +97,15 @@ pub fn bounds()
 pub fn histories()
     ensures { (m : Meaning) (b : Book) (t : ℕ) → Lawful m b →
         TellsAll (m.next t) (events_of t b.journal) }
+{}
+
+/// Each Delay of a lawful book names an older ticket that was open then, and a symbol that was in
+/// its foresight: of a list that covered what it might still do, and that was covered by what it
+/// declared at its beginning, or right after its last operation before the Delay.
+pub fn delays()
+    ensures { (m : Meaning) (b : Book) (J : List Event) (K : List Event) (t : ℕ) (op : Op)
+        (older : ℕ) (y : Symbol) → Lawful m b → b.journal ≡ J ++ Delay t op older y ∷ K →
+        MayBeDelayed m J t op older y }
 {}
 
 /// Each ticket of a script is answered when the tickets are served one at a time.

@@ -44,7 +44,7 @@ opened_tied {S} meaning script callers shards fresh = record {
 }
 
 -- ---- closing
-reads : {X : Type 0} (l : List X) (i : ℕ) → i < length l → (x : X) × (slice_get l i ≡ Some x)
+pub reads : {X : Type 0} (l : List X) (i : ℕ) → i < length l → (x : X) × (slice_get l i ≡ Some x)
 reads [] i h = absurd (omega arith)
 reads (x ∷ l) zero h = (x, refl)
 reads (x ∷ l) (suc i) h = reads l i (omega arith)

@@ -1,3 +1,4 @@
 pub mod Shares
 pub mod Entries
 pub mod Halls
+pub mod Counting

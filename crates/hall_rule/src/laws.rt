@@ -2,7 +2,9 @@
 
 ghost use Rattle.std.specs.Prelude.{◌≡◌, ℕ, suc, ◌<◌, List, ◌∷◌, Some, length, slice_get, replicate};
 ghost use Rattle.session_journal.specs.Script.{Meaning, IsScript};
-ghost use Rattle.hall_rule.specs.Contents.{Content};
+ghost use Rattle.admission_book.specs.Book.{Book};
+ghost use Rattle.hall_rule.specs.Contents.{Content, Register};
+ghost use Rattle.hall_rule.specs.Counted.{ReplaysByTicket};
 ghost use Rattle.hall_rule.specs.Halls.{AllEnded, IsFresh, IsOut, first_content};
 ghost use Rattle.hall_rule.specs.Tie.{Tied};
 
@@ -22,4 +24,15 @@ pub fn closing<S>()
         → IsScript (meaning script) → Tied meaning contents notes → 0 < length notes
         → ((c : ℕ) (x : Content S) → slice_get notes c ≡ Some x → IsOut (meaning script) script c x)
         → AllEnded (meaning script) script contents (length contents) }
+{}
+
+/// Wherever the rule holds, as it does between any two atomic steps: what the counted book notes as
+/// done, regrouped by ticket, replays from the opening tables with the same replies, and gives the
+/// tables of which the counted shards are the parts; each begun ticket is foreknown; and nothing
+/// that a caller's note says was done is undone.
+pub fn counting<S>()
+    ensures { (meaning : S → Meaning) (contents notes : List (Content S)) (script : S) (book : Book)
+        → IsScript (meaning script) → Tied meaning contents notes
+        → slice_get contents 0 ≡ Some (Register script book)
+        → ReplaysByTicket (meaning script) script contents notes book }
 {}

@@ -1,3 +1,4 @@
 pub mod Homes
 pub mod Sessions
 mod Crossing
+pub mod Finishing

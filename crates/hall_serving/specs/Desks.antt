@@ -10,7 +10,7 @@ use Rattle.session_hall.specs.declared.caller.Caller.{Caller}
 use Rattle.session_hall.specs.declared.stage.Stage.{Stage}
 use Rattle.session_hall.specs.declared.stage.Stage.TheVariants.{Idle, Serving, Applied}
 use Rattle.session_hall.specs.Callers.{IsCallerOf, book_of, entries_of}
-use Rattle.session_hall.specs.Names.{hall_name}
+use Rattle.session_hall.specs.Names.{hall_name, script_of}
 
 -- the caller serves a ticket that has no operation in flight, and which
 abbrev pub IsServing : Stage → Type 0
@@ -67,3 +67,13 @@ pub record DeskStands {S : Type 0} (meaning : S → Meaning) (h : Hall S) (c : C
   pub caller : IsCallerOf meaning h c
   pub at : AtTicket c.stage t r
   pub known : KnowsReply c t r
+
+-- the caller of a desk, as it leaves it behind the reference of this name: some hall with the
+-- script that the desk shows is the one that the desk stood over, and the caller is one of that
+-- hall's, at the stage at which the desk shows it
+pub record IsCallerOfDesk {S : Type 0} (meaning : S → Meaning) (v : HallView S) (c : Caller S)
+    (name : ℕ) : Type 0 where
+  pub hall : Hall S
+  pub script_is : script_of hall ≡ v.script
+  pub desk_is : desk_at hall c v.desk.ticket name ≡ v.desk
+  pub stands : DeskStands meaning hall c v.desk.ticket v.reply

@@ -3,7 +3,7 @@
 ghost use Rattle.std.specs.Prelude.{◌≡◌, ◌↔◌, None, false};
 ghost use Rattle.session_hall.specs.Callers.{IsCallerOf};
 ghost use Rattle.session_hall.specs.Names.{script_of};
-ghost use Rattle.hall_serving.specs.Desks.{IsServing, desk_at, ticket_of};
+ghost use Rattle.hall_serving.specs.Desks.{IsCallerOfDesk, IsServing, desk_at, ticket_of};
 
 use session_hall::{Caller, Hall, Stage};
 use session_journal::{Desk, Script};
@@ -64,6 +64,21 @@ impl<'a, S: Script + Drop, G: Gate> HallDesk<'a, S, G> {
             done: 0,
             reply: None,
         }
+    }
+
+    /// Gives the caller back, so that it can go on.
+    pub fn into_caller(self) -> &'a mut Caller<S>
+        ensures { IsCallerOfDesk S.meaning self.entry result.now result.ghost_name }
+    {
+        let HallDesk {
+            hall: _,
+            caller,
+            gate: _,
+            ticket: _,
+            done: _,
+            reply: _,
+        } = self;
+        caller
     }
 
     /// The Reply with which the ticket was ended.

@@ -4,6 +4,8 @@ use Rattle.std.specs.List.{AllByRecursion}
 use Rattle.std.proofs.lemmas.Bool.Decides.{nat_tests}
 use Rattle.symbolic_ops.specs.declared.symbol.Symbol.{Symbol}
 use Rattle.symbolic_ops.specs.Foresight.{ForesightView}
+use Rattle.symbolic_ops.specs.Matching.{Covered, HasNoVar}
+use Rattle.symbolic_ops.proofs.Above.{covered_itself}
 use Rattle.session_journal.specs.declared.event.Event.TheVariants.{Begin}
 use Rattle.session_journal.specs.Journal.{DoneOperation, done_operations, of_ticket, entries, begun}
 use Rattle.session_journal.specs.Script.{Meaning, IsForesight}
@@ -90,9 +92,13 @@ module _ {S : Type 0} (meaning : S → Meaning) (h : Hall S) (c : Caller S) (k :
           let Q : ℕ → Type 0 = λ u. IsForesight ((meaning (script_of h)).next u) entry in
           let R : List Symbol → Type 0 = λ l. IsForesight ((meaning (script_of h)).next t) l in
           let covers : IsForesight ((meaning (script_of h)).next (begun b.book.journal)) entry = subst Q next (subst R (sym entry_here) (k.script_kept.entry t)) in
+          let T : ℕ → Type 0 = λ u. Covered entry ((meaning (script_of h)).entry u) in
+          let U : List Symbol → Type 0 = λ l. Covered entry l in
+          let declared : Covered entry ((meaning (script_of h)).entry (begun b.book.journal)) = subst T next (subst U entry_here (covered_itself entry (let V : List Symbol → Type 0 = λ l. AllByRecursion HasNoVar l in subst V (sym entry_here) (k.script_kept.entry t).known))) in
           subst P k.number_is (record {
             caller = near meaning h c k q b v f;
             idle = no_record;
+            declared = λ l. at_script meaning h c k q b v f (λ m. Covered entry (m.entry (begun b.book.journal))) declared;
             entry = λ l. at_script meaning h c k q b v f (λ m. IsForesight (m.next (begun b.book.journal)) entry) covers;
           })
 

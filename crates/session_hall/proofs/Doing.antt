@@ -14,6 +14,7 @@ use Rattle.session_values.proofs.Starts.{start_none}
 use Rattle.session_journal.specs.declared.event.Event.{Event}
 use Rattle.session_journal.specs.Script.{Meaning, room}
 use Rattle.session_values.specs.Sums.{sum_below}
+use Rattle.atomic_table.specs.Seated.{TableId}
 use Rattle.shard_tables.specs.Parts.{part, shard_of}
 use Rattle.shard_tables.proofs.PartSizes.{part_few, part_sizes}
 use Rattle.admission_book.specs.Book.{Holds, record_of}
@@ -40,7 +41,7 @@ use Rattle.session_hall.specs.Names.{script_of}
 use Rattle.session_hall.specs.Stages.{SeatOf, HoldsNone, Stands, OnFlight, flying}
 use Rattle.session_hall.specs.Working.{CanDo, CanWork, HasWorked, WorkedFirst, WorkedTo, all_keys, contents, keys_in}
 use Rattle.session_hall.proofs.Counts.{each_of, find_in, found_once, in_find, keyless_reply, keys_sum, once_found, once_in, sum_over, sum_same, sum_up, turns_of}
-use Rattle.session_hall.proofs.Finding.{finds_book, shard_at}
+use Rattle.session_hall.proofs.Finding.{finds_book, is_tied, shard_at}
 use Rattle.session_hall.proofs.Giving.{opens, caller_on}
 use Rattle.session_hall.proofs.TurnSets.{bit_inside, bits_row, few_span, in_row, length-up, other_test, row_low, same_test, some_span, some_turns, turn_in, turn_out, up, up_one}
 use Rattle.session_hall.proofs.OneShard.{to_shard, changed, single, same, differs, shards_are, product_small}
@@ -363,6 +364,7 @@ module _ {S : Type 0} (meaning : S → Meaning) (h : Hall S) (c : Caller S) (k :
           applied_at =
               let P : Stage → Type 0 = λ s. OnFlight s (AppliedAt m c later turns answer) in
               subst P (sym st) (record {
+                rule = is_tied meaning (script_of h) turns c.seat q k.noted v told (ap (λ (i : TableId). i.slots) seat.placed.of_table);
                 done = done_here;
                 stage_is = refl;
                 foresight_still = refl;

@@ -8,6 +8,7 @@ use Rattle.session_values.specs.Tables.{Container, Fits, after_on, reply}
 use Rattle.session_values.specs.Kinds.{home}
 use Rattle.symbolic_ops.specs.declared.symbol.Symbol.{Symbol}
 use Rattle.symbolic_ops.specs.Foresight.{ForesightView}
+use Rattle.symbolic_ops.specs.Matching.{Covered}
 use Rattle.session_journal.specs.declared.event.Event.TheVariants.{Done}
 use Rattle.session_journal.specs.Journal.{entries, caller_of}
 use Rattle.session_journal.specs.Script.{Meaning, IsForesight}
@@ -90,6 +91,7 @@ module _ {S : Type 0} (meaning : S → Meaning) (h : Hall S) (c : Caller S) (k :
   may_do next may =
       let P : Stage → Type 0 = λ s. MayFinishAt m s c.foresight.symbols (book_of c) next in
       let a : MayFinishAt m (Applied t op answer) c.foresight.symbols (book_of c) next = subst P st may in
+      let T : List Entry → Type 0 = λ es. Covered next (m.told t (replies (es ++ record { op = op; reply = answer } ∷ []))) in
       let R : List Entry → Type 0 = λ es. IsForesight (rest (m.next t) (replies (es ++ record { op = op; reply = answer } ∷ []))) next in
       at_script meaning h c k q b v f (λ n. MayDo n b.book t answer next) (record {
         caller = caller c.seat;
@@ -101,6 +103,7 @@ module _ {S : Type 0} (meaning : S → Meaning) (h : Hall S) (c : Caller S) (k :
         reply_is = reply_stands;
         covered = a.0;
         covers = subst R (sym still) a.1;
+        declared = subst T (sym still) a.2;
       })
 
   pub same_turns : (d : BookView S) → SameTurns (held q) (put_back content_of (value.Register d) c.hands.pairs)

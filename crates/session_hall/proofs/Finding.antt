@@ -1,5 +1,5 @@
 -- What a caller finds when it takes the book.
-use Rattle.std.proofs.Common.{◌≡◌, ℕ, suc, ◌<◌, Some, length, sym, ◌∙◌, ap, subst, arith}
+use Rattle.std.proofs.Common.{◌≡◌, ℕ, suc, ◌<◌, List, Some, length, sym, ◌∙◌, ap, subst, arith}
 use Rattle.std.specs.Prelude.{slice_get}
 use Rattle.session_values.specs.Tables.{Container}
 use Rattle.session_journal.specs.Script.{Meaning}
@@ -11,8 +11,22 @@ use Rattle.hall_rule.specs.Contents.{Content, Register, Shard, IsShard, IsSince,
 use Rattle.hall_rule.specs.Law.{inside, lies_within, same_script, same_book, same_container, apart_contents}
 use Rattle.hall_rule.specs.Tie.{Tied}
 use Rattle.session_hall.specs.Callers.{book_in}
-use Rattle.session_hall.specs.Findings.{Finds, HasBook}
+use Rattle.session_hall.specs.Findings.{Finds, HasBook, IsTied, turns_at}
 use Rattle.session_hall.specs.Stages.{SeatOf}
+
+-- the rule over the meaning of its script alone
+pub one_meaning : {S : Type 0} (meaning : S → Meaning) (script : S) (contents notes : List (Content S)) (t : Tied meaning contents notes) → t.script ≡ script → Tied (λ (s : S). meaning script) contents notes
+one_meaning {S} meaning script contents notes t e =
+    let P : S → Type 0 = λ s. Lawful (meaning s) t.book in
+    record {
+      script = t.script;
+      book = t.book;
+      register = t.register;
+      lawful = subst P e t.lawful;
+      callers = t.callers;
+      shards = λ j x h. let Q : S → Type 0 = λ s. IsShard (meaning s) (length contents) t.book.journal j x in subst Q e (t.shards j x h);
+      noted = t.noted;
+    }
 
 -- what the rule tells a caller of its hall
 module _ {S : Type 0} (meaning : S → Meaning) (script : S) (turns : ℕ) (p q : SeatOf S) (noted : note p ≡ Some (Register script (book_in (note p)))) (v : SameNote p q) (t : Tells (Tied meaning) turns q) where
@@ -24,6 +38,20 @@ module _ {S : Type 0} (meaning : S → Meaning) (script : S) (turns : ℕ) (p q 
 
   pub script_here : t.tied.script ≡ script
   script_here = sym (same_script script t.tied.script (book_in (note p)) my_note.noted my_note.is)
+
+  pub tells : Tells (Tied (λ (s : S). meaning script)) turns q
+  tells = record {
+    contents = t.contents;
+    notes = t.notes;
+    tied = one_meaning meaning script t.contents t.notes t.tied script_here;
+    turns_is = t.turns_is;
+    callers = t.callers;
+    own = t.own;
+    noted = t.noted;
+  }
+
+  pub is_tied : turns_at q ≡ turns → IsTied (meaning script) q
+  is_tied e = let P : ℕ → Type 0 = λ n. Tells (Tied (λ (s : S). meaning script)) n q in subst P (sym e) tells
 
   pub finds_book : Finds (meaning script) (book_in (note p)) t.tied.book (caller p) (caller_count p)
   finds_book =
@@ -77,6 +105,7 @@ module _ {S : Type 0} (meaning : S → Meaning) (script : S) (turns : ℕ) (p q 
           asks_more = g.asks_is;
           givings_still = g.givings_is;
           shares = λ j x room h. share_at j x room h ∙ ap (λ (d : Book). share (meaning script) turns d.journal j) book_is;
+          rule = tells;
         }
 
 -- the book's turn holds the book

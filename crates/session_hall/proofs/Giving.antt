@@ -1,6 +1,8 @@
 -- A caller gives the book back.
-use Rattle.std.proofs.Common.{◌≡◌, ◌≢◌, ℕ, ◌+◌, ◌<◌, ◌≤◌, List, [], ◌++◌, length, Option, Some, None, refl, sym, ◌∙◌, ap, subst, arith}
+use Rattle.std.proofs.Common.{◌≡◌, ◌≢◌, ℕ, suc, ◌+◌, ◌<◌, ◌≤◌, List, [], ◌++◌, length, Option, Some, None, refl, sym, ◌∙◌, ap, subst, arith}
+use Rattle.std.specs.Prelude.{slice_get}
 use Rattle.std.specs.List.{AllByRecursion}
+use Rattle.atomic_table.specs.Seated.{TableId}
 use Rattle.std.proofs.lemmas.List.{length-set, get_or-set_other, get_or-set_same}
 use Rattle.session_values.specs.Tables.{start}
 use Rattle.symbolic_ops.specs.declared.symbol.Symbol.{Symbol}
@@ -127,6 +129,17 @@ module _ {S : Type 0} (meaning : S → Meaning) (h : Hall S) (c : Caller S) (k :
 
       pub gave_back : GaveBack (meaning (script_of h)) c r b.book left
       gave_back = record {
+        rule = record {
+          script = script_of h;
+          contents = f.rule.contents;
+          notes = f.rule.notes;
+          tied = f.rule.tied;
+          turns_are = f.rule.turns_is ∙ ap (λ (i : TableId). i.slots) (sym k.seat.placed.of_table);
+          callers_are = f.rule.callers ∙ v.caller_count_is;
+          book = f.rule.own 0 (Register (script_of h) b.book) f.here;
+          shards = λ j x e. f.rule.own (suc j) x (f.others (suc j) (λ z. omega (arith, z)) ∙ e);
+          noted = ap (slice_get f.rule.notes) (sym v.caller_is) ∙ f.rule.noted ∙ v.note_is;
+        };
         finds = f.finds;
         noted = left_is;
         given_more = g.given_is ∙ ap (λ (n : ℕ). n + 1) v.given_is;

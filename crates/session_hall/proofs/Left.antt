@@ -10,7 +10,7 @@ use Rattle.session_journal.specs.Journal.{begun, ended, after}
 use Rattle.session_journal.specs.Script.{Meaning, session_of}
 use Rattle.shard_tables.specs.Parts.{part}
 use Rattle.admission_book.specs.Book.{Book, record_of}
-use Rattle.admission_book.specs.Methods.{BookView}
+use Rattle.admission_book.specs.Methods.{BookView, Grows}
 use Rattle.admission_book.specs.Lawful.{Lawful}
 use Rattle.turn_board.specs.Boards.{AllEnd, Ends, note, turn_count}
 use Rattle.hall_rule.specs.declared.held.Held.{Held}
@@ -21,13 +21,14 @@ use Rattle.hall_rule.specs.Halls.{AllEnded, IsOut}
 use Rattle.hall_rule.specs.Law.{none_some, inside, same_script, same_book, same_container, apart_contents}
 use Rattle.hall_rule.specs.Shards.{content_of, shard_view}
 use Rattle.hall_rule.specs.Tie.{Tied}
+use Rattle.hall_rule.proofs.Counting.{note_grows, whole_note}
 use Rattle.hall_rule.proofs.Halls.{all_ended}
 use Rattle.session_hall.specs.declared.caller.Caller.{Caller}
 use Rattle.session_hall.specs.declared.hall.Hall.{Hall}
 use Rattle.session_hall.specs.declared.stage.Stage.{Stage}
 use Rattle.session_hall.specs.declared.stage.Stage.TheVariants.{Out}
-use Rattle.session_hall.specs.Callers.{IsCallerOf, book_of}
-use Rattle.session_hall.specs.Closings.{HasLeft, IsDone, IsTable, Leaves}
+use Rattle.session_hall.specs.Callers.{IsCallerOf, book_in, book_of}
+use Rattle.session_hall.specs.Closings.{HasLeft, IsDone, IsNotedBy, IsTable, Leaves}
 use Rattle.session_hall.specs.Names.{script_of}
 use Rattle.session_hall.specs.Stages.{SeatOf, Stands}
 use Rattle.session_hall.proofs.OneShard.{shards_are}
@@ -80,12 +81,18 @@ module _ {S : Type 0} (meaning : S → Meaning) (h : Hall S) (callers : List (Ca
     notes_many : length notes ≡ length seats
     notes_many = sym (length-map (λ (x : Content S). Some x) notes) ∙ ap length noted ∙ length-map note seats
 
-    notes_out : (c : ℕ) (x : Content S) → slice_get notes c ≡ Some x → IsOut (meaning (script_of h)) (script_of h) c x
-    notes_out c x e =
+    -- whose note it is
+    noted_at : (c : ℕ) (x : Content S) → slice_get notes c ≡ Some x → (d : Caller S) × (slice_get callers c ≡ Some d) × (note d.seat ≡ Some x)
+    noted_at c x e =
         let at : ◌≡◌ {A = Option (Option (Content S))} (slice_get (map note seats) c) (Some (Some x)) = ap (λ (l : List (Option (Content S))). slice_get l c) (sym noted) ∙ map-get (λ (y : Content S). Some y) notes c x e in
         let s : (s : SeatOf S) × (slice_get seats c ≡ Some s) × (note s ≡ Some x) = map-read note seats c (Some x) at in
         let d : (d : Caller S) × (slice_get callers c ≡ Some d) × (d.seat ≡ s.0) = seat_at c s.0 s.1 in
-        out_here meaning h c d.0 (leave c d.0 d.1) x (ap note d.2 ∙ s.2)
+        (d.0, d.1, ap note d.2 ∙ s.2)
+
+    notes_out : (c : ℕ) (x : Content S) → slice_get notes c ≡ Some x → IsOut (meaning (script_of h)) (script_of h) c x
+    notes_out c x e =
+        let d : (d : Caller S) × (slice_get callers c ≡ Some d) × (note d.seat ≡ Some x) = noted_at c x e in
+        out_here meaning h c d.0 (leave c d.0 d.1) x d.2
 
     turns_are : length values ≡ 1 + length (meaning (script_of h)).shape * h.sizes.shards
     turns_are = turns ∙ first_caller.turns_are ∙ ap (λ (a : ℕ). 1 + a * h.sizes.shards) (sym first_caller.tables_are)
@@ -96,7 +103,34 @@ module _ {S : Type 0} (meaning : S → Meaning) (h : Hall S) (callers : List (Ca
         let same : tied.book ≡ e.book = same_book tied.script (script_of h) tied.book e.book (inside _ _ (sym tied.register ∙ e.register)) in
         ap (λ (b : Book). length b.records) (sym same) ∙ tied.callers ∙ notes_many ∙ as_many
 
-    pub has_left : HasLeft meaning h values
+    -- what stands in the callers' notes
+    whole_in : (i : ℕ) (b : Book) → slice_get notes i ≡ Some (Register tied.script b) → b.journal ≡ tied.book.journal → (j : ℕ) × (c : Caller S) × (slice_get callers j ≡ Some c) × ((book_of c).journal ≡ tied.book.journal)
+    whole_in i b e same =
+        let r : (d : Caller S) × (slice_get callers i ≡ Some d) × (note d.seat ≡ Some (Register tied.script b)) = noted_at i (Register tied.script b) e in
+        (i, r.0, r.1, ap (λ (o : Option (Content S)). (book_in o).journal) r.2 ∙ same)
+
+    whole_journal : (i : ℕ) × (c : Caller S) × (slice_get callers i ≡ Some c) × ((book_of c).journal ≡ tied.book.journal)
+    whole_journal =
+        let w : (i : ℕ) × (noted : Book) × (slice_get notes i ≡ Some (Register tied.script noted)) × (noted.journal ≡ tied.book.journal) = whole_note meaning (map content_of values) notes tied (omega (arith, notes_many, some_seats)) in
+        whole_in w.0 w.1 w.2 w.3
+
+    front_journal : (i : ℕ) (c : Caller S) → slice_get callers i ≡ Some c → Grows (book_of c).journal tied.book.journal
+    front_journal i c e =
+        let x : Content S = Register (script_of h) (book_of c) in
+        let seat : slice_get seats i ≡ Some c.seat = ap (λ (l : List (SeatOf S)). slice_get l i) seats_are ∙ map-get (λ (d : Caller S). d.seat) callers i c e in
+        let at : ◌≡◌ {A = Option (Option (Content S))} (slice_get (map Some notes) i) (Some (Some x)) = ap (λ (l : List (Option (Content S))). slice_get l i) noted ∙ map-get note seats i c.seat seat ∙ ap Some (leave i c e).caller.noted in
+        let y : (y : Content S) × (slice_get notes i ≡ Some y) × (Some y ≡ Some x) = map-read (λ (z : Content S). Some z) notes i (Some x) at in
+        let g : (b : Book) × (x ≡ Register tied.script b) × Grows b.journal tied.book.journal = note_grows meaning (map content_of values) notes tied i x (y.1 ∙ y.2) in
+        let P : Book → Type 0 = λ b. Grows b.journal tied.book.journal in
+        subst P (sym (same_book (script_of h) tied.script (book_of c) g.0 g.1)) g.2
+
+    noted_by : (a : ℕ) (e : AllEnded (meaning (script_of h)) (script_of h) (map content_of values) a) → IsNotedBy callers e.book.journal
+    noted_by a e =
+        let same : tied.book ≡ e.book = same_book tied.script (script_of h) tied.book e.book (inside _ _ (sym tied.register ∙ e.register)) in
+        let P : Book → Type 0 = λ b. IsNotedBy callers b.journal in
+        subst P same (record { whole = whole_journal; fronts = front_journal })
+
+    pub has_left : HasLeft meaning h callers values
     has_left =
         let P : ℕ → Type 0 = λ a. AllEnded (meaning (script_of h)) (script_of h) (map content_of values) a in
         let all : AllEnded (meaning (script_of h)) (script_of h) (map content_of values) (length values) = subst P (length-map content_of values) (all_ended meaning (script_of h) (map content_of values) notes first_caller.script_kept tied (omega (arith, notes_many, some_seats)) notes_out) in
@@ -106,16 +140,17 @@ module _ {S : Type 0} (meaning : S → Meaning) (h : Hall S) (callers : List (Ca
           few = omega (arith, turns, first_caller.few_turns);
           ended = all;
           callers = as_many_records (length values) all;
+          noted = noted_by (length values) all;
         }
 
 -- ---- the book, and the shards behind it
-pub split_values : {S : Type 0} (meaning : S → Meaning) (h : Hall S) (values rest : List (Held S)) (v : Held S) → HasLeft meaning h values → v ≡ get_or values 0 v → rest ≡ drop 1 values → values ≡ v ∷ rest
-split_values {S} meaning h values rest v l e is = first_of values v (omega (arith, l.long)) e ∙ ap (λ (xs : List (Held S)). v ∷ xs) (sym is)
+pub split_values : {S : Type 0} (meaning : S → Meaning) (h : Hall S) (callers : List (Caller S)) (values rest : List (Held S)) (v : Held S) → HasLeft meaning h callers values → v ≡ get_or values 0 v → rest ≡ drop 1 values → values ≡ v ∷ rest
+split_values {S} meaning h callers values rest v l e is = first_of values v (omega (arith, l.long)) e ∙ ap (λ (xs : List (Held S)). v ∷ xs) (sym is)
 
 some_is : {X : Type 0} (o : Option X) (x : X) → o ≡ Some x → IsSome o
 some_is o x e = ap is_some e
 
-module _ {S : Type 0} (meaning : S → Meaning) (h : Hall S) (values rest : List (Held S)) (v : Held S) (is : values ≡ v ∷ rest) (l : HasLeft meaning h values) where
+module _ {S : Type 0} (meaning : S → Meaning) (h : Hall S) (callers : List (Caller S)) (values rest : List (Held S)) (v : Held S) (is : values ≡ v ∷ rest) (l : HasLeft meaning h callers values) where
   abbrev m : Meaning
   m = meaning (script_of h)
 
@@ -159,6 +194,9 @@ module _ {S : Type 0} (meaning : S → Meaning) (h : Hall S) (values rest : List
         let P : S → Type 0 = λ s. t < (meaning s).requests in
         let e : (r : Reply) × (ended l.ended.book.journal t ≡ Some r) = l.ended.all_ended t (subst P script_is near) in
         some_is (ended b.book.journal t) e.0 (ap (λ (w : Book). ended w.journal t) book_is ∙ e.1)
+
+    pub noted_here : (J : List Event) → J ≡ b.book.journal → IsNotedBy callers J
+    noted_here J e = let P : List Event → Type 0 = λ K. IsNotedBy callers K in subst P (sym (e ∙ ap (λ (w : Book). w.journal) book_is)) l.noted
 
     module _ (J : List Event) (journal : J ≡ b.book.journal) (replies : List Reply) (serial : replies ≡ serial_replies (session_of (meaning b.script)) (meaning b.script).requests) (tables : after (meaning b.script).opening J ≡ tables_before (session_of (meaning b.script)) (meaning b.script).requests) (parts : List Part) (parts_are : map value.Table parts ≡ rest) where
       abbrev sh : ℕ

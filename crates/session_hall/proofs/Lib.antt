@@ -15,3 +15,4 @@ pub mod Trying
 pub mod Moving
 pub mod Opened
 pub mod Left
+pub mod Tried

@@ -213,6 +213,8 @@ opened_caller {S} meaning h i c s b n kept tables some few turns few_turns =
       };
       number_is = n.number_is;
       idle = n.idle;
+      book_is = book_is;
+      unused = record { unasked = begins.unasked; unlost = begins.unlost; ungiving = begins.ungiving; ungiven = begins.ungiven };
     }
 
 -- the same with the script as it was given

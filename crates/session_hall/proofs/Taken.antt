@@ -1,11 +1,13 @@
 -- A turn of an operation was found taken.
-use Rattle.std.proofs.Common.{◌≡◌, ◌≢◌, ℕ, suc, ◌+◌, ◌<◌, ◌≤◌, ◌⊎◌, inl, inr, [], refl, sym, ◌∙◌, ap, subst, arith}
+use Rattle.std.proofs.Common.{◌≡◌, ◌≢◌, ℕ, suc, ◌+◌, ◌<◌, ◌≤◌, ◌⊎◌, inl, inr, refl, sym, ◌∙◌, ap, subst, arith}
 use Rattle.std.specs.Int.{bit_at}
 use Rattle.session_values.specs.declared.op.Op.{Op}
 use Rattle.session_journal.specs.Script.{Meaning}
-use Rattle.turn_board.specs.Boards.{SameNote, MissedAll, turn_count, caller_count, lost, givings}
+use Rattle.atomic_table.specs.Seated.{TableId}
+use Rattle.turn_board.specs.Boards.{IsSeatOf, SameNote, MissedAll, Tells, turn_count, caller_count, lost, givings}
 use Rattle.turn_board.specs.Hands.{HandsView}
 use Rattle.hall_rule.specs.declared.held.Held.{Held}
+use Rattle.hall_rule.specs.Tie.{Tied}
 use Rattle.hall_rule.specs.Turns.{IsTurnOf, place, span, turn_set}
 use Rattle.session_hall.specs.declared.caller.Caller.{Caller}
 use Rattle.session_hall.specs.declared.hall.Hall.{Hall}
@@ -17,6 +19,7 @@ use Rattle.session_hall.specs.Names.{script_of}
 use Rattle.session_hall.specs.Stages.{SeatOf, OnFlight}
 use Rattle.session_hall.proofs.TurnSets.{bit_inside, lower, turn_out}
 use Rattle.session_hall.proofs.Doing.{busy_turn}
+use Rattle.session_hall.proofs.Finding.{is_tied}
 
 module _ {S : Type 0} (meaning : S → Meaning) (h : Hall S) (c : Caller S) (k : IsCallerOf meaning h c) (t : ℕ) (op : Op) (st : c.stage ≡ InFlight t op) where
   abbrev m : Meaning
@@ -32,7 +35,7 @@ module _ {S : Type 0} (meaning : S → Meaning) (h : Hall S) (c : Caller S) (k :
   lo = suc (place h.sizes.shards op)
 
   module _ (set : ℕ) (is : set ≡ turn_set h.sizes.shards op) where
-    module _ (q : SeatOf S) (v : SameNote c.seat q) (u : ℕ) (g : MissedAll c.seat q set u) (several : caller_count c.seat ≢ 1) (hands : HandsView (Held S)) (pairs : hands.pairs ≡ c.hands.pairs) where
+    module _ (q : SeatOf S) (v : SameNote c.seat q) (u : ℕ) (g : MissedAll c.seat q set u) (several : caller_count c.seat ≢ 1) (hands : HandsView (Held S)) (pairs : hands.pairs ≡ c.hands.pairs) (seat : IsSeatOf h.board q) (told : Tells (Tied meaning) (turn_count h.board) q) where
       missed_lost : (w : ℕ) → lost c.seat w ≤ lost q w
       missed_lost w = elim (lower w u) [
         | inl p ↦ (let e : lost q w ≡ lost c.seat w = g.below w p in omega (arith, e))
@@ -65,6 +68,7 @@ module _ {S : Type 0} (meaning : S → Meaning) (h : Hall S) (c : Caller S) (k :
           subst P (sym st) (record {
             after = givings q;
             busy = record {
+              rule = is_tied meaning (script_of h) turns c.seat q k.noted v told (ap (λ (i : TableId). i.slots) seat.placed.of_table);
               givings_is = refl;
               rose = g.here;
               lost_grows = missed_lost;

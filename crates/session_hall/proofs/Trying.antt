@@ -1,5 +1,5 @@
 -- A caller whose operation was delayed tries again.
-use Rattle.std.proofs.Common.{◌≡◌, ℕ, List, [], ◌∷◌, ◌++◌, Bool, true, false, cond, refl, sym, ◌∙◌, ap, subst, append_assoc, append-nil, arith}
+use Rattle.std.proofs.Common.{◌≡◌, ℕ, ◌+◌, List, [], ◌∷◌, ◌++◌, Bool, true, false, cond, refl, sym, ◌∙◌, ap, subst, append_assoc, append-nil, arith}
 use Rattle.session_values.specs.declared.op.Op.{Op}
 use Rattle.session_values.specs.Dialogue.{Calls, Entry, replies}
 use Rattle.symbolic_ops.specs.declared.symbol.Symbol.{Symbol}
@@ -16,7 +16,7 @@ use Rattle.session_hall.specs.declared.stage.Stage.{Stage}
 use Rattle.session_hall.specs.declared.stage.Stage.TheVariants.{Idle, Serving as Serves, InFlight, Applied, Out}
 use Rattle.session_hall.specs.Callers.{book_of}
 use Rattle.session_hall.specs.Calls.{ByNote, MayCall, DelayedAt}
-use Rattle.session_hall.specs.Stages.{OnServing}
+use Rattle.session_hall.specs.Stages.{HoldsNone, OnServing}
 use Rattle.session_hall.specs.Waits.{OnlyDelayed}
 
 delay_grows : (b : Book) (t : ℕ) (op : Op) (older : ℕ) (y : Symbol) → Grows b.journal (after_delay b t op older y).journal
@@ -57,8 +57,8 @@ module _ {S : Type 0} where
     delayed_stage (InFlight w o) z = absurd z
     delayed_stage (Applied w o v) z = absurd z
 
-    pub delay_more : q.number ≡ via.number → OnServing p.stage (OnlyDelayed p q)
-    delay_more number = one_ticket p.stage via.stage (OnlyDelayed p via) (DelayedAt m via q op older y) (OnlyDelayed p q) (stage_of p via p.stage s) s d (λ t a x.
+    pub delay_more : q.number ≡ via.number → HoldsNone via.seat via.hands.pairs → HoldsNone q.seat q.hands.pairs → OnServing p.stage (OnlyDelayed p q)
+    delay_more number none still = one_ticket p.stage via.stage (OnlyDelayed p via) (DelayedAt m via q op older y) (OnlyDelayed p q) (stage_of p via p.stage s) s d (λ t a x.
         let since : Grows (book_of via).journal x.found.journal = record { more = x.gave.finds.since.since; is = sym x.gave.finds.since.grows } in
         let P : Book → Type 0 = λ w. Grows (book_of via).journal w.journal in
         record {
@@ -69,7 +69,15 @@ module _ {S : Type 0} where
               (subst P (sym x.gave.noted) (grows_on (book_of via).journal x.found.journal (after_delay x.found t op older y).journal since (delay_grows x.found t op older y)));
           entries_still = x.entries_still ∙ a.entries_still;
           given_grows = omega (arith, a.given_grows, x.gave.given_more);
+          held_still = λ u. still.free u ∙ sym (none.free u) ∙ a.held_still u;
+          hands_still = still.no_pairs ∙ sym none.no_pairs ∙ a.hands_still;
           lost_grows = λ u. omega (arith, a.lost_grows u, x.gave.lost_still u);
+          losses = a.losses;
+          delays = a.delays + 1;
+          asked = omega (arith, a.asked, x.gave.asks_more);
+          found = x.gave.lost_still 0 ∙ a.found;
+          gave = omega (arith, a.gave, x.gave.given_more);
+          givings_more = omega (arith, a.givings_more, x.gave.givings_more);
         })
 
     pub delay_may : ByNote m via (MayCall via.foresight.symbols op) → ByNote m q (MayCall q.foresight.symbols op)

@@ -31,7 +31,7 @@ use Rattle.session_hall.specs.declared.caller.Caller.{Caller}
 use Rattle.session_hall.specs.declared.stage.Stage.{Stage}
 use Rattle.session_hall.specs.declared.stage.Stage.TheVariants.{Idle, Serving as Serves, InFlight, Applied, Out}
 use Rattle.session_hall.specs.Callers.{book_of, entries_of}
-use Rattle.session_hall.specs.Findings.{Finds}
+use Rattle.session_hall.specs.Findings.{Finds, IsTied, IsTiedWith}
 use Rattle.session_hall.specs.Stages.{OnServing, OnFlight, waiting, flying}
 
 -- ---- what is asked, of the ticket that is served, by the book of the note
@@ -50,21 +50,27 @@ MayCall f op m b t = (now m b.journal t ≡ Calls op) × Matches f op
 abbrev pub MayAnswer : Reply → Meaning → Book → ℕ → Type 0
 MayAnswer r m b t = now m b.journal t ≡ Answers r
 
--- an operation was done on its shards, and the list may take the place of the foresight once it is entered
+-- an operation was done on its shards, and the list may take the place of the foresight once it is
+-- entered: what the ticket declares right after it covers the list
 abbrev pub MayFinishAt : Meaning → Stage → List Symbol → Book → List Symbol → Type 0
 MayFinishAt m (Applied t op v) f b next = Covered next f
     × IsForesight (rest (m.next t) (replies (entries b.journal t ++ record {
       op = op;
       reply = v;
-    } ∷ []))) next
+    } ∷ []))) next × Covered next (m.told t (replies (entries b.journal t ++ record {
+      op = op;
+      reply = v;
+    } ∷ [])))
 MayFinishAt m _ f b next = ⊥
 
 abbrev pub MayFinish : {S : Type 0} → Meaning → Caller S → List Symbol → Type 0
 MayFinish m c next = MayFinishAt m c.stage c.foresight.symbols (book_of c) next
 
 module _ {S : Type 0} (m : Meaning) (p q : Caller S) where
-  -- the caller took the book in one step of the call, found it so, and gave it back so in another one, with all that it held: that is its note now
+  -- the caller took the book in one step of the call, found it so, and gave it back so in another
+  -- one, with all that it held: that is its note now. Where it found the book, the hall's rule held
   pub record GaveBack (found left : Book) : Type 0 where
+    pub rule : IsTiedWith m p.seat found
     pub finds : Finds m (book_of p) found (caller p.seat) (caller_count p.seat)
     pub noted : book_of q ≡ left
     pub given_more : given q.seat ≡ given p.seat + 1
@@ -72,8 +78,11 @@ module _ {S : Type 0} (m : Meaning) (p q : Caller S) where
     pub asks_more : asks q.seat ≡ asks p.seat + 1
     pub givings_more : givings q.seat ≡ givings p.seat + 1
 
-  -- the call's own step found the turn taken by another caller; the caller is as before, its steps that gave turns back are counted by its seat, and no step of the call changed a counted content
+  -- the call's own step found the turn taken by another caller; the caller is as before, its steps
+  -- that gave turns back are counted by its seat, and no step of the call changed a counted
+  -- content. At that step the hall's rule held
   pub record IsBusy (u after : ℕ) : Type 0 where
+    pub rule : IsTied m q.seat
     pub rose : lost q.seat u ≡ lost p.seat u + 1
     pub lost_grows : (w : ℕ) → lost p.seat w ≤ lost q.seat w
     pub several : caller_count p.seat ≢ 1
@@ -145,8 +154,11 @@ module _ {S : Type 0} (m : Meaning) (p q : Caller S) where
   AdmittedAs op (admitting.Busy u) = (u ≡ 0) × IsBusy u (givings p.seat)
 
   -- ---- apply
-  -- in one step the caller took the operation's turns, and holds no others; v is its reply behind every journal whose shards these are
+  -- in one step the caller took the operation's turns, and holds no others; v is its reply behind
+  -- every journal whose shards these are. At that step the hall's rule held, and what the caller
+  -- holds counted
   pub record AppliedAt (turns : ℕ) (v : Value) (t : ℕ) (op : Op) : Type 0 where
+    pub rule : IsTied m q.seat
     pub done : WasDone m turns op v (held q.seat) (in_hands content_of q.hands.pairs)
     pub stage_is : q.stage ≡ Applied t op v
     pub foresight_still : q.foresight ≡ p.foresight

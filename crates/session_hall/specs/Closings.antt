@@ -7,8 +7,10 @@ use Rattle.session_journal.specs.declared.event.Event.{Event}
 use Rattle.session_journal.specs.Journal.{begun, ended}
 use Rattle.session_journal.specs.Script.{Meaning, IsScript, session_of}
 use Rattle.shard_tables.specs.Parts.{part}
-use Rattle.admission_book.specs.Book.{Book}
+use Rattle.admission_book.specs.Book.{Book, opened}
 use Rattle.admission_book.specs.Lawful.{Lawful}
+use Rattle.admission_book.specs.Methods.{Grows}
+use Rattle.turn_board.specs.Boards.{asks, given, givings, lost}
 use Rattle.hall_rule.specs.declared.held.Held.{Held}
 use Rattle.hall_rule.specs.declared.held.Held.TheVariants.{Register, Table}
 use Rattle.hall_rule.specs.declared.part.Part.{Part}
@@ -18,15 +20,26 @@ use Rattle.hall_rule.specs.Shards.{content_of, shard_view}
 use Rattle.session_hall.specs.declared.caller.Caller.{Caller}
 use Rattle.session_hall.specs.declared.hall.Hall.{Hall}
 use Rattle.session_hall.specs.declared.stage.Stage.TheVariants.{Idle, Out}
-use Rattle.session_hall.specs.Callers.{IsCallerOf, IsTold}
+use Rattle.session_hall.specs.Callers.{IsCallerOf, IsTold, book_of}
 use Rattle.session_hall.specs.Names.{script_of}
+use Rattle.session_hall.specs.Stages.{SeatOf}
 
--- the caller of this number, which serves no ticket yet
+-- a seat that has asked for nothing yet, lost nothing, and given nothing back
+pub record IsUnused {S : Type 0} (s : SeatOf S) : Type 0 where
+  pub unasked : asks s ≡ 0
+  pub unlost : (u : ℕ) → lost s u ≡ 0
+  pub ungiving : givings s ≡ 0
+  pub ungiven : given s ≡ 0
+
+-- the caller of this number, which serves no ticket yet: its note is the opened book, whose journal
+-- is empty, and its seat was never used
 pub record Opens {S : Type 0} (meaning : S → Meaning) (h : Hall S) (i : ℕ)
     (c : Caller S) : Type 0 where
   pub caller : IsCallerOf meaning h c
   pub number_is : c.number ≡ i
   pub idle : c.stage ≡ Idle
+  pub book_is : book_of c ≡ opened (meaning (script_of h)).requests h.sizes.callers
+  pub unused : IsUnused c.seat
 
 -- the caller of this number, which is out
 pub record Leaves {S : Type 0} (meaning : S → Meaning) (h : Hall S) (i : ℕ)
@@ -59,6 +72,12 @@ pub record IsDone (m : Meaning) (d : ClosedView) : Type 0 where
       → (shard_view x).container ≡ part d.shards (j % d.shards)
       (table (tables_before (session_of m) m.requests) (j / d.shards))
 
+-- the journal is that of the book in some caller's note, and the journal of each caller's note is a
+-- front of it
+pub record IsNotedBy {S : Type 0} (callers : List (Caller S)) (J : List Event) : Type 0 where
+  pub whole : (i : ℕ) × (c : Caller S) × (slice_get callers i ≡ Some c) × ((book_of c).journal ≡ J)
+  pub fronts : (i : ℕ) (c : Caller S) → slice_get callers i ≡ Some c → Grows (book_of c).journal J
+
 -- what every closed hall holds
 abbrev pub IsClosed : ClosedView → Type 0
 IsClosed d = (m : Meaning) × IsDone m d
@@ -68,11 +87,12 @@ abbrev pub IsTable : {S : Type 0} → Held S → Type 0
 IsTable (Table p) = Unit {0}
 IsTable (Register b) = ⊥
 
--- the values of a hall's turns when all callers are out
-pub record HasLeft {S : Type 0} (meaning : S → Meaning) (h : Hall S)
+-- the values of a hall's turns when all these callers are out
+pub record HasLeft {S : Type 0} (meaning : S → Meaning) (h : Hall S) (served : List (Caller S))
     (values : List (Held S)) : Type 0 where
   pub script_kept : IsScript (meaning (script_of h))
   pub long : length values ≡ 1 + length (meaning (script_of h)).shape * h.sizes.shards
   pub few : length values ≤ 57
   pub ended : AllEnded (meaning (script_of h)) (script_of h) (map content_of values) (length values)
   pub callers : length ended.book.records ≡ h.sizes.callers
+  pub noted : IsNotedBy served ended.book.journal

@@ -1,12 +1,13 @@
 -- What a caller finds when it takes the book.
-use Rattle.std.specs.Prelude.{◌≡◌, ◌≢◌, ℕ, suc, ◌+◌, ◌<◌, Option, Some, None, length}
+use Rattle.std.specs.Prelude.{◌≡◌, ◌≢◌, ℕ, suc, ◌+◌, ◌<◌, List, Option, Some, None, length, slice_get}
 use Rattle.session_values.specs.Tables.{Container}
 use Rattle.session_journal.specs.Script.{Meaning}
 use Rattle.admission_book.specs.Book.{Book}
 use Rattle.admission_book.specs.Lawful.{Lawful}
 use Rattle.admission_book.specs.Methods.{BookView}
-use Rattle.turn_board.specs.Boards.{held, note, caller, caller_count, given, lost, asks, givings, last_change}
-use Rattle.hall_rule.specs.Contents.{Register, Shard, IsSince, share}
+use Rattle.turn_board.specs.Boards.{Tells, held, note, caller, caller_count, given, lost, asks, givings, last_change}
+use Rattle.hall_rule.specs.Contents.{Content, Register, Shard, IsSince, share}
+use Rattle.hall_rule.specs.Tie.{Tied}
 use Rattle.session_hall.specs.Callers.{book_in}
 use Rattle.session_hall.specs.Stages.{SeatOf}
 
@@ -17,9 +18,33 @@ pub record Finds (m : Meaning) (noted found : Book) (c callers : ℕ) : Type 0 w
   pub near : c < callers
   pub since : IsSince noted found c
 
+-- how many turns the seat's board has
+abbrev pub turns_at : {S : Type 0} → SeatOf S → ℕ
+turns_at s = s.pass.table_id.slots
+
+-- the hall's rule held at the seat's last step: of the counted contents of all turns and the notes
+-- of all callers, among which are the contents that the seat holds and its caller's note
+abbrev pub IsTied : {S : Type 0} → Meaning → SeatOf S → Type 0
+IsTied {S} m s = Tells (Tied (λ (script : S). m)) (turns_at s) s
+
+-- the hall's rule held where the book was found by this seat's caller: of the counted contents of
+-- all turns and the notes of all callers, among which are the book, the shards that the seat had,
+-- and its caller's note
+pub record IsTiedWith {S : Type 0} (m : Meaning) (p : SeatOf S) (found : Book) : Type 0 where
+  pub script : S
+  pub contents : List (Content S)
+  pub notes : List (Content S)
+  pub tied : Tied (λ (s : S). m) contents notes
+  pub turns_are : length contents ≡ turns_at p
+  pub callers_are : length notes ≡ caller_count p
+  pub book : slice_get contents 0 ≡ Some (Register script found)
+  pub shards : (j : ℕ) (x : Content S) → held p (suc j) ≡ Some x → slice_get contents (suc j) ≡ Some x
+  pub noted : slice_get notes (caller p) ≡ note p
+
 module _ {S : Type 0} (p q : SeatOf S) where
   -- the turn was found taken, and nothing else changed
-  pub record FoundTaken (t : ℕ) : Type 0 where
+  pub record FoundTaken (m : Meaning) (t : ℕ) : Type 0 where
+    pub rule : IsTied m q
     pub rose : lost q t ≡ lost p t + 1
     pub others : (u : ℕ) → u ≢ t → lost q u ≡ lost p u
     pub held_still : (u : ℕ) → held q u ≡ held p u
@@ -43,7 +68,8 @@ module _ {S : Type 0} (p q : SeatOf S) where
     pub givings_still : givings q ≡ givings p
     pub shares : (j : ℕ) (x : Container) (room : ℕ) → held q (suc j) ≡ Some (Shard x room)
         → x ≡ share (meaning script) turns b.book.journal j
+    pub rule : Tells (Tied (λ (s : S). meaning script)) turns q
 
   abbrev pub TookBook : (S → Meaning) → S → ℕ → Option (BookView S) → Type 0
-  TookBook meaning script turns None = FoundTaken 0
+  TookBook meaning script turns None = FoundTaken (meaning script) 0
   TookBook meaning script turns (Some b) = HasBook meaning script turns b

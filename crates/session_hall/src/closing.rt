@@ -4,7 +4,7 @@ ghost use Rattle.std.specs.Prelude.{◌≡◌, ℕ, ◌<◌, ◌≤◌, [], Some
 ghost use Rattle.std.specs.List.{AllByRecursion};
 ghost use Rattle.hall_rule.specs.declared.held.Held.TheVariants.{Table};
 ghost use Rattle.session_hall.specs.declared.caller.Caller.{Caller as CallerOf};
-ghost use Rattle.session_hall.specs.Closings.{HasLeft, IsDone, IsTable, Leaves};
+ghost use Rattle.session_hall.specs.Closings.{HasLeft, IsDone, IsNotedBy, IsTable, Leaves};
 ghost use Rattle.session_hall.specs.Names.{script_of};
 
 use crate::caller::{Caller, Callers};
@@ -60,7 +60,7 @@ fn values_of<S: Script + Drop>(hall: Hall<S>, callers: Callers<S>) -> (Vec<Held<
     requires all { length callers ≡ hall.sizes.callers }
     requires callers { (i : ℕ) (c : CallerOf S) → slice_get callers i ≡ Some c
         → Leaves S.meaning hall i c }
-    ensures values { HasLeft S.meaning hall result.0.items }
+    ensures values { HasLeft S.meaning hall callers result.0.items }
     ensures room { (result.1.items ≡ []) × (vec_len result.0 ≤ vec_capacity result.1) }
 {
     let Hall {
@@ -83,6 +83,7 @@ impl<S: Script + Drop> Hall<S> {
         requires callers { (i : ℕ) (c : CallerOf S) → slice_get callers i ≡ Some c
             → Leaves S.meaning self i c }
         ensures done { IsDone (S.meaning (script_of self)) result }
+        ensures noted { IsNotedBy callers result.journal }
         ensures shards { result.shards ≡ self.sizes.shards }
         ensures callers { result.callers ≡ self.sizes.callers }
     {

@@ -85,7 +85,7 @@ impl<S: Script + Drop> Caller<S> {
         ensures caller { IsCallerOf S.meaning hall.now self.new }
         ensures same { self.new.number ≡ self.old.number }
         ensures applied { AppliedAfter (S.meaning (script_of hall.now)) self.old self.new
-            (turn_count hall.now.board) result }
+            hall.now.sizes.shards (turn_count hall.now.board) result }
     {
         for _ in rt.forever() {
             match self.try_apply(hall) {

@@ -8,14 +8,15 @@ use Rattle.session_values.specs.Dialogue.{Calls, Answers}
 use Rattle.session_values.specs.Tables.{Container, Bindings, Members, Tables, reply, reply_on, table}
 use Rattle.symbolic_ops.specs.declared.symbol.Symbol.{Symbol}
 use Rattle.symbolic_ops.specs.Foresight.{ForesightView}
-use Rattle.symbolic_ops.specs.Matching.{Matches, StandsFor, exact_symbol}
+use Rattle.symbolic_ops.specs.Matching.{Covered, Matches, StandsFor, exact_symbol}
 use Rattle.session_values.specs.Op.{IsHeld}
 use Rattle.session_values.specs.Values.{IsValue}
 use Rattle.std.specs.List.{AllByRecursion}
 use Rattle.std.specs.Option.{IsSome}
-use Rattle.symbolic_ops.proofs.Above.{exact_stands}
-use Rattle.session_journal.specs.Journal.{ended}
+use Rattle.symbolic_ops.proofs.Above.{covered_itself, exact_stands}
+use Rattle.session_journal.specs.Journal.{begun, ended}
 use Rattle.session_journal.specs.Lists.{ListView, says}
+use Rattle.session_journal.specs.Script.{IsForesight, IsScript}
 use Rattle.admission_book.specs.declared.admission.Admission.{Admission}
 use Rattle.admission_book.specs.declared.admission.Admission.TheVariants.{Admitted, Delayed}
 use Rattle.admission_book.specs.Book.{Book, Serving, after_delay}
@@ -60,6 +61,14 @@ put_is_nil ts k v = go (table ts 0)
 
 pub cleared : (f : ForesightView) (room : ℕ) → f ≡ record { symbols = []; room = room } → f.symbols ≡ []
 cleared f room e = ap (λ (x : ForesightView). x.symbols) e
+
+-- what a ticket declares at its beginning may be its foresight then
+pub begins_so : (z s : ListView) (b : Book) (t room : ℕ) (out : ForesightView) → IsScript (meaning_of z) → s ≡ z → t ≡ begun b.journal → out ≡ record { symbols = (meaning_of s).entry t; room = room } → IsForesight ((meaning_of z).next (begun b.journal)) out.symbols × Covered out.symbols ((meaning_of z).entry (begun b.journal))
+begins_so z s b t room out kept same next is =
+    let n : ℕ = begun b.journal in
+    let P : List Symbol → Type 0 = λ l. IsForesight ((meaning_of z).next n) l × Covered l ((meaning_of z).entry n) in
+    let e : out.symbols ≡ (meaning_of z).entry n = ap (λ (x : ForesightView). x.symbols) is ∙ (λ i. (meaning_of (same i)).entry (next i)) in
+    subst P (sym e) (kept.entry n, covered_itself ((meaning_of z).entry n) (kept.entry n).known)
 
 -- ---- one call after another
 abbrev pub waiting : ℕ → List Symbol → Serving
@@ -138,6 +147,7 @@ module _ (older : ℕ) (y : Symbol) (v : BookView ListView) where
         reply_is = put_is_nil _ 2 7;
         covered = tt;
         covers = record { few = omega arith; known = tt; covers = record { each = no_calls } };
+        declared = tt;
       }))
 
   pub may_end_one : IsAt gets_and_put (has_put older y) v → MayEnd (meaning_of v.script) v.book 0 nil_reply

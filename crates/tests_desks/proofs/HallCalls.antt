@@ -75,26 +75,28 @@ module _ (h : Hall ListView) (script : script_of h ≡ gets_and_puts) (c : Calle
   pub may_put_1 : (v : Value) → Stands h c 1 (Serves 1) (exact_symbol (put_of 1 7) ∷ []) (done (put_of 2 7) v ∷ []) → ByNote (meaning_of (script_of h)) c (MayCall c.foresight.symbols (put_of 1 7))
   may_put_1 v s = may_call 1 (put_of 1 7) _ _ s (refl, inl (put_stands 1 7 (omega arith) (omega arith)))
 
-  may_enter : (t : ℕ) (op : Op) (v : Value) (f : List Symbol) (es : List Entry) (next g : List Symbol) → Stands h c t (Applied t op v) f es → next ≡ g → Covered g f × IsForesight (rest ((meaning_of gets_and_puts).next t) (replies (es ++ done op v ∷ []))) g → MayFinish (meaning_of (script_of h)) c next
+  may_enter : (t : ℕ) (op : Op) (v : Value) (f : List Symbol) (es : List Entry) (next g : List Symbol) → Stands h c t (Applied t op v) f es → next ≡ g → Covered g f × IsForesight (rest ((meaning_of gets_and_puts).next t) (replies (es ++ done op v ∷ []))) g × Covered g ((meaning_of gets_and_puts).told t (replies (es ++ done op v ∷ []))) → MayFinish (meaning_of (script_of h)) c next
   may_enter t op v f es next g s e p =
       let S : Stage → Type 0 = λ st. MayFinishAt (meaning_of (script_of h)) st c.foresight.symbols (book_of c) next in
       let N : List Symbol → Type 0 = λ l. MayFinishAt (meaning_of (script_of h)) (Applied t op v) c.foresight.symbols (book_of c) l in
-      subst S (sym s.stage) (subst N (sym e) (fact_at (λ m k l. Covered g k × IsForesight (rest (m.next t) (replies (l ++ done op v ∷ []))) g) t _ f es s p))
+      subst S (sym s.stage) (subst N (sym e) (fact_at (λ m k l. Covered g k × IsForesight (rest (m.next t) (replies (l ++ done op v ∷ []))) g × Covered g (m.told t (replies (l ++ done op v ∷ [])))) t _ f es s p))
 
   pub may_enter_get : (v : Value) (next : List Symbol) → next ≡ exact_symbol (get_of 1) ∷ [] → Stands h c 0 (Applied 0 (get_of 4) v) (exact_symbol (get_of 4) ∷ exact_symbol (get_of 1) ∷ []) [] → MayFinish (meaning_of (script_of h)) c next
   may_enter_get v next e s = may_enter 0 (get_of 4) v _ _ next _ s e (
     (inr (inl (record { kind = refl; table = refl; key = refl; value = refl })), tt),
     record { few = omega arith; known = ((tt, tt), tt); covers = record { each = λ more op values e. absurd (no_calls more op values e) } },
+    (inr (inl (record { kind = refl; table = refl; key = refl; value = refl })), tt),
   )
 
   pub may_enter_2 : (v : Value) (next : List Symbol) → next ≡ exact_symbol (put_of 1 7) ∷ [] → Stands h c 1 (Applied 1 (put_of 2 7) v) (exact_symbol (put_of 2 7) ∷ exact_symbol (put_of 1 7) ∷ []) [] → MayFinish (meaning_of (script_of h)) c next
   may_enter_2 v next e s = may_enter 1 (put_of 2 7) v _ _ next _ s e (
     (inr (inl (record { kind = refl; table = refl; key = refl; value = refl })), tt),
     record { few = omega arith; known = ((tt, tt), tt); covers = record { each = calls_put } },
+    (inr (inl (record { kind = refl; table = refl; key = refl; value = refl })), tt),
   )
 
   pub may_enter_1 : (u v : Value) (next : List Symbol) → next ≡ [] → Stands h c 1 (Applied 1 (put_of 1 7) v) (exact_symbol (put_of 1 7) ∷ []) (done (put_of 2 7) u ∷ []) → MayFinish (meaning_of (script_of h)) c next
-  may_enter_1 u v next e s = may_enter 1 (put_of 1 7) v _ _ next _ s e (tt, record { few = omega arith; known = tt; covers = record { each = no_calls } })
+  may_enter_1 u v next e s = may_enter 1 (put_of 1 7) v _ _ next _ s e (tt, record { few = omega arith; known = tt; covers = record { each = no_calls } }, tt)
 
   pub may_declare : (v : Value) (f : List Symbol) → f ≡ [] → Stands h c 0 (Serves 0) (exact_symbol (get_of 1) ∷ []) (done (get_of 4) v ∷ []) → ByNote (meaning_of (script_of h)) c (MayDeclare c.foresight.symbols f)
   may_declare v f e s =
@@ -116,8 +118,8 @@ module _ (h : Hall ListView) (p q : Caller ListView) (t : ℕ) (f : List Symbol)
   pub has_admitted : (m : Meaning) (op : Op) → Stands h p t (Serves t) f es → AdmittedAfter m p q op → Stands h q t (InFlight t op) f es
   has_admitted m op s a = let x = of_serving p.stage t _ s.stage a in record { caller = k; stage = x.2.stage_is; foresight = ap (λ y. y.symbols) x.3 ∙ s.foresight; entries = x.4 ∙ s.entries }
 
-  pub has_applied : (m : Meaning) (op : Op) (turns : ℕ) (v : Value) → Stands h p t (InFlight t op) f es → AppliedAfter m p q turns v → Stands h q t (Applied t op v) f es
-  has_applied m op turns v s a = let x = of_flight p.stage t op _ s.stage a in record { caller = k; stage = x.2.stage_is; foresight = ap (λ y. y.symbols) x.3 ∙ s.foresight; entries = ap (λ (b : Book). entries b.journal t) x.4 ∙ s.entries }
+  pub has_applied : (m : Meaning) (op : Op) (shards turns : ℕ) (v : Value) → Stands h p t (InFlight t op) f es → AppliedAfter m p q shards turns v → Stands h q t (Applied t op v) f es
+  has_applied m op shards turns v s a = let x = of_flight p.stage t op _ s.stage a in record { caller = k; stage = x.2.stage_is; foresight = ap (λ y. y.symbols) x.3 ∙ s.foresight; entries = ap (λ (b : Book). entries b.journal t) x.4 ∙ s.entries }
 
   pub has_entered : (m : Meaning) (op : Op) (v : Value) (next g : List Symbol) → next ≡ g → Stands h p t (Applied t op v) f es → FinishedAfter m p q next → Stands h q t (Serves t) g (es ++ done op v ∷ [])
   has_entered m op v next g e s a =

@@ -23,7 +23,7 @@ pub finish-requires-clause-may : goal.finish-requires-clause-may
 finish-requires-clause-may g c =
     let a = was_delayed c.args.hall.now c.args.younger.now c.try_admit.new.self 1 _ _ c.try_admit.ensures.caller _ _ _ _ _ c.in-Delayed.is c.requires.younger c.try_admit.ensures.admitted in
     let b = has_admitted c.args.hall.now c.try_admit.new.self c.admit.new.self 1 _ _ c.admit.ensures.caller _ _ a c.admit.ensures.admitted in
-    let d = has_applied c.args.hall.now c.admit.new.self c.apply-put.new.self 1 _ _ c.apply-put.ensures.caller _ _ _ _ b c.apply-put.ensures.applied in
+    let d = has_applied c.args.hall.now c.admit.new.self c.apply-put.new.self 1 _ _ c.apply-put.ensures.caller _ _ _ _ _ b c.apply-put.ensures.applied in
     may_enter_1 c.args.hall.now c.requires.script c.apply-put.new.self c.args.first c.apply-put.result _ (cleared _ _ c.clear.ensures) d
 
 pub returns-clause-older : goal.returns-clause-older
@@ -33,5 +33,5 @@ pub returns-clause-younger : goal.returns-clause-younger
 returns-clause-younger g c =
     let a = was_delayed c.args.hall.now c.args.younger.now c.try_admit.new.self 1 _ _ c.try_admit.ensures.caller _ _ _ _ _ c.in-Delayed.is c.requires.younger c.try_admit.ensures.admitted in
     let b = has_admitted c.args.hall.now c.try_admit.new.self c.admit.new.self 1 _ _ c.admit.ensures.caller _ _ a c.admit.ensures.admitted in
-    let d = has_applied c.args.hall.now c.admit.new.self c.apply-put.new.self 1 _ _ c.apply-put.ensures.caller _ _ _ _ b c.apply-put.ensures.applied in
+    let d = has_applied c.args.hall.now c.admit.new.self c.apply-put.new.self 1 _ _ c.apply-put.ensures.caller _ _ _ _ _ b c.apply-put.ensures.applied in
     has_entered c.args.hall.now c.apply-put.new.self c.finish.new.self 1 _ _ c.finish.ensures.caller _ _ _ _ _ (cleared _ _ c.clear.ensures) d c.finish.ensures.finished

@@ -20,13 +20,13 @@ try_apply-requires-clause-stage g c =
 pub finish-requires-clause-may : goal.finish-requires-clause-may
 finish-requires-clause-may g c =
     let a = has_admitted c.args.hall.now c.args.older.now c.admit.new.self 0 _ _ c.admit.ensures.caller _ _ c.requires.older c.admit.ensures.admitted in
-    let b = has_applied c.args.hall.now c.admit.new.self c.apply-got.new.self 0 _ _ c.apply-got.ensures.caller _ _ _ _ a c.apply-got.ensures.applied in
+    let b = has_applied c.args.hall.now c.admit.new.self c.apply-got.new.self 0 _ _ c.apply-got.ensures.caller _ _ _ _ _ a c.apply-got.ensures.applied in
     may_enter_get c.args.hall.now c.requires.script c.apply-got.new.self c.apply-got.result _ (pushed _ _ _ _ _ c.clear.ensures c.push.ensures c.exact.ensures) b
 
 pub returns-clause-older : goal.returns-clause-older
 returns-clause-older g c =
     let a = has_admitted c.args.hall.now c.args.older.now c.admit.new.self 0 _ _ c.admit.ensures.caller _ _ c.requires.older c.admit.ensures.admitted in
-    let b = has_applied c.args.hall.now c.admit.new.self c.apply-got.new.self 0 _ _ c.apply-got.ensures.caller _ _ _ _ a c.apply-got.ensures.applied in
+    let b = has_applied c.args.hall.now c.admit.new.self c.apply-got.new.self 0 _ _ c.apply-got.ensures.caller _ _ _ _ _ a c.apply-got.ensures.applied in
     has_entered c.args.hall.now c.apply-got.new.self c.finish.new.self 0 _ _ c.finish.ensures.caller _ _ _ _ _ (pushed _ _ _ _ _ c.clear.ensures c.push.ensures c.exact.ensures) b c.finish.ensures.finished
 
 pub returns-clause-younger : goal.returns-clause-younger

@@ -1,11 +1,12 @@
 use Rattle.session_hall.specs.Callers.{IsCallerOf}
+use Rattle.session_hall.specs.Names.{script_of}
 use Rattle.session_hall.specs.Stages.{IsInFlight}
-use Rattle.session_hall.specs.Waits.{OnlyLost}
+use Rattle.session_hall.specs.Waits.{OnlyShardLost}
 use Rattle.session_hall.proofs.caller.Caller.apply.Given as goal
 
 abbrev pub invariant-loop : goal.invariant-loop
 invariant-loop g l = record {
   caller : IsCallerOf g.S.Script.meaning l.hall l.self;
   stage : IsInFlight l.self.stage;
-  since : OnlyLost l.fn.self l.self;
+  since : OnlyShardLost (g.S.Script.meaning (script_of l.hall)) l.hall.sizes.shards l.fn.self l.self;
 }

@@ -1,11 +1,11 @@
 use Rattle.session_hall.specs.Callers.{IsCallerOf}
 use Rattle.session_hall.specs.Stages.{IsBetween}
-use Rattle.session_hall.specs.Waits.{OnlyLost}
+use Rattle.session_hall.specs.Waits.{OnlyBookLost}
 use Rattle.session_hall.proofs.caller.Caller.begin.Given as goal
 
 abbrev pub invariant-loop : goal.invariant-loop
 invariant-loop g l = record {
   caller : IsCallerOf g.S.Script.meaning l.hall l.self;
   stage : IsBetween l.self.stage;
-  since : OnlyLost l.fn.self l.self;
+  since : OnlyBookLost l.fn.self l.self;
 }

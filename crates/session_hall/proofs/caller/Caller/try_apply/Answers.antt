@@ -25,6 +25,7 @@ pub returns-in-Busy-clause-applied : goal.returns-in-Busy-clause-applied
 returns-in-Busy-clause-applied g c =
     busy_at g.S.Script.meaning c.args.hall.now c.args.self.now c.requires.caller c.in_flight-t.result.0 c.in_flight-t.result.1 c.in_flight-t.ensures c.turns_of-turns.result c.turns_of-turns.ensures
     c.try_take_all.new.seat c.try_take_all.ensures.seat.1 c.in-Busy.turn c.in-Busy.ensures.answer.1 c.in-Busy.ensures.answer.2 c.try_take_all.new.hands c.in-Busy.ensures.answer.0
+    c.try_take_all.ensures.seat.0 c.in-Busy.ensures.answer.3
 
 pub work-reply-requires-clause-can : goal.work-reply-requires-clause-can
 work-reply-requires-clause-can g c =

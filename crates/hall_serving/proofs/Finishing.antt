@@ -1,0 +1,41 @@
+-- What a desk shows, said of its caller.
+use Rattle.std.proofs.Common.{◌≡◌, ℕ, List, [], ◌∷◌, ◌++◌, Option, refl, sym, subst}
+use Rattle.session_values.specs.declared.reply.Reply.{Reply}
+use Rattle.session_values.specs.Dialogue.{rest, replies}
+use Rattle.symbolic_ops.specs.declared.symbol.Symbol.{Symbol}
+use Rattle.symbolic_ops.specs.Matching.{Covered}
+use Rattle.symbolic_ops.proofs.Above.{covered_itself}
+use Rattle.session_journal.specs.Desks as desks
+use Rattle.session_journal.specs.Script.{Meaning, IsForesight}
+use Rattle.session_hall.specs.declared.caller.Caller.{Caller}
+use Rattle.session_hall.specs.declared.hall.Hall.{Hall}
+use Rattle.session_hall.specs.declared.stage.Stage.{Stage}
+use Rattle.session_hall.specs.declared.stage.Stage.TheVariants.{Idle, Serving, InFlight, Applied, Out}
+use Rattle.session_hall.specs.Callers.{book_of, entries_of}
+use Rattle.session_hall.specs.Calls.{MayFinishAt}
+use Rattle.session_hall.specs.Names.{script_of}
+use Rattle.hall_serving.specs.Desks.{AtTicket, DeskStands, HallView, IsCallerOfDesk, desk_at, waiting_of}
+
+-- what the desk is asked before it enters an operation
+pub may_finish : {S : Type 0} (meaning : S → Meaning) (h : Hall S) (c : Caller S) (t name : ℕ) (r : Option Reply) (stands : DeskStands meaning h c t r) (v : HallView S) → record { script = script_of h; desk = desk_at h c t name; reply = r } ≡ v → (next : List Symbol) → desks.MayFinish (meaning v.script) v.desk v.desk.waiting next → MayFinishAt (meaning (script_of h)) c.stage c.foresight.symbols (book_of c) next
+may_finish {S} meaning h c t name r stands v is next may =
+    let P : HallView S → Type 0 = λ w. desks.MayFinish (meaning w.script) w.desk w.desk.waiting next in
+    go c.stage stands.at (subst P (sym is) may)
+  where
+    go : (st : Stage) → AtTicket st t r → desks.MayFinish (meaning (script_of h)) (desk_at h c t name) (waiting_of st) next → MayFinishAt (meaning (script_of h)) st c.foresight.symbols (book_of c) next
+    go (Applied u op w) at m =
+        let Q : ℕ → Type 0 = λ x. Covered next c.foresight.symbols
+        × IsForesight (rest ((meaning (script_of h)).next x) (replies (entries_of c x ++ record { op = op; reply = w } ∷ []))) next
+        × Covered next ((meaning (script_of h)).told x (replies (entries_of c x ++ record { op = op; reply = w } ∷ []))) in
+        let T : List Symbol → Type 0 = λ l. Covered next l in
+        subst Q (sym at.0) (m.1.covered, m.1.foresight, subst T m.0 (covered_itself next m.1.foresight.known))
+    go Idle at m = absurd m
+    go (Serving u) at m = absurd m
+    go (InFlight u op) at m = absurd m
+    go Out at m = absurd m
+
+-- the caller that a desk gives back
+pub leaves_desk : {S : Type 0} (meaning : S → Meaning) (h : Hall S) (c : Caller S) (t name : ℕ) (r : Option Reply) (stands : DeskStands meaning h c t r) (v : HallView S) → record { script = script_of h; desk = desk_at h c t name; reply = r } ≡ v → IsCallerOfDesk meaning v c name
+leaves_desk {S} meaning h c t name r stands v is =
+    let P : HallView S → Type 0 = λ w. IsCallerOfDesk meaning w c name in
+    subst P is (record { hall = h; script_is = refl; desk_is = refl; stands = stands })
