@@ -23,7 +23,7 @@ use Rattle.may_use_analysis.proofs.Different.{AreDifferent, no_more, all_or_one}
 abbrev pub IsFinite : Symbols → Type 0
 IsFinite set = (list : List Symbol) × Are list set
 
-members_of : (xs : List Symbol) → IsFinite (Contains xs)
+pub members_of : (xs : List Symbol) → IsFinite (Contains xs)
 members_of xs = (xs, λ s. (λ m. m, λ m. m))
 
 pub none_finite : IsFinite (λ s. ⊥)

@@ -1,11 +1,12 @@
 -- Entries of a list of lists.
 use Rattle.std.proofs.Common.{◌≡◌, ℕ, zero, suc, ◌+◌, ◌<◌, ◌≤◌, List, [], ◌∷◌, ◌++◌, length, take, get_or, map, refl, sym, ap, ◌∙◌, subst, inl, inr, ◌⊎◌, arith, length-append}
+use Rattle.std.proofs.Math.ListN.{get_or-map}
 use Rattle.std.proofs.Math.Seq.{get_or-append_seam}
 use Rattle.std.proofs.lemmas.Bool.{cases_lt}
 use Rattle.std.proofs.lemmas.List.{get_or-take, length-take}
 use Rattle.may_use_analysis.specs.declared.kept.Kept.{Kept}
-use Rattle.may_use_analysis.specs.declared.kept.Kept.TheVariants.{Own, Same, Count}
-use Rattle.may_use_analysis.specs.PointList.{PointList, Listed, own_list, point_list_of, point_lists, RefersBack, AllReferBack}
+use Rattle.may_use_analysis.specs.declared.kept.Kept.TheVariants.{Own, Same, Short, Count}
+use Rattle.may_use_analysis.specs.PointList.{PointList, Listed, IsHeld, IsKept, AreKept, own_list, point_list_of, point_lists, RefersBack, AllReferBack}
 
 -- two lists of entries that agree below n
 abbrev AgreeBelow : List Kept → List Kept → ℕ → Type 0
@@ -14,6 +15,7 @@ AgreeBelow xs ys n = (k : ℕ) → k < n → get_or xs k (Count 0) ≡ get_or ys
 stored_agree : (xs ys : List Kept) (n i : ℕ) (e : Kept) → AgreeBelow xs ys n → i ≤ n → RefersBack i e → point_list_of xs e ≡ point_list_of ys e
 stored_agree xs ys n i (Own list) same le r = refl
 stored_agree xs ys n i (Same k) same le r = ap (λ (z : Kept). Listed (own_list z)) (same k (omega (arith, r)))
+stored_agree xs ys n i Short same le r = refl
 stored_agree xs ys n i (Count m) same le r = refl
 
 -- each of these entries, which begin at place i, refers to an earlier one
@@ -89,3 +91,14 @@ cut xs ys n is all =
 pub stored_length : (xs : List Kept) (f : Kept → PointList) → length (map f xs) ≡ length xs
 stored_length [] f = refl
 stored_length (x ∷ xs) f = ap suc (stored_length xs f)
+
+entry_kept : (xs : List Kept) (e : Kept) → IsHeld e → IsKept (point_list_of xs e)
+entry_kept xs (Own list) h = tt
+entry_kept xs (Same k) h = tt
+entry_kept xs Short h = absurd h
+entry_kept xs (Count n) h = tt
+
+pub all_kept : (xs : List Kept) → ((k : ℕ) → k < length xs → IsHeld (get_or xs k (Count 0))) → AreKept (point_lists xs)
+all_kept xs h i lt =
+    let within : i < length xs = omega (arith, lt, stored_length xs (point_list_of xs)) in
+    subst IsKept (sym (get_or-map (point_list_of xs) xs i (Count 0))) (entry_kept xs (get_or xs i (Count 0)) (h i within))

@@ -12,7 +12,10 @@ pub mod PointLemmas
 pub mod Records
 pub mod Sets
 pub mod Sorting
+pub mod SpreadLemmas
+pub mod StillLemmas
 pub mod TopLemmas
 pub mod Unique
+pub mod VarLemmas
 pub mod WalkSteps
 pub mod WarmLemmas

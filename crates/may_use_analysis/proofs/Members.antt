@@ -93,3 +93,11 @@ join_both xs ys zs ws e same q =
 pub written_back : (n : ℕ) (p xs : List Symbol) → length p ≡ length xs → n ≡ length xs → take n (p ++ drop (length p) xs) ≡ p
 written_back n p xs e f =
     ap (λ (z : List Symbol). take n (p ++ z)) (drop_all (length p) xs (omega arith)) ∙ ap (take n) (append-nil p) ∙ take_all n p (omega arith)
+
+-- one more symbol of a list joins others of it
+pub new_more : (list old new : List Symbol) (x : Symbol) → ((q : Symbol) → Contains old q → Contains list q) → Contains list x → ((q : Symbol) → Contains new q ↔ (Contains old q ⊎ (q ≡ x))) → (q : Symbol) → Contains new q → Contains list q
+new_more list old new x all here add q m = go ((add q).0 m)
+  where
+    go : Contains old q ⊎ (q ≡ x) → Contains list q
+    go (inl k) = all q k
+    go (inr e) = subst (Contains list) (sym e) here

@@ -7,7 +7,7 @@ use Rattle.check_meaning.specs.Code.{Code}
 use Rattle.may_use_analysis.specs.Trails.{Symbols}
 use Rattle.may_use_analysis.specs.Flow.{Flow, Head}
 use Rattle.may_use_analysis.specs.Ordered.{Are, Lists}
-use Rattle.may_use_analysis.specs.PointList.{PointList, Listed, Counted, IsPointList, IsPointListOf}
+use Rattle.may_use_analysis.specs.PointList.{PointList, Listed, Unlisted, Counted, IsPointList, IsPointListOf}
 use Rattle.may_use_analysis.proofs.FlowLemmas.{flow_within, turned_within}
 
 -- two sets of the same symbols
@@ -29,11 +29,13 @@ lists_same list A B h r = (r.0, are_same list A B h r.1)
 
 pub stored_same : (stored : PointList) (A B : Symbols) → Same A B → IsPointList stored A → IsPointList stored B
 stored_same (Listed list) A B h r = (lists_same list A B h r.0, r.1)
+stored_same Unlisted A B h r = (r.0, lists_same r.0 A B h r.1, r.2)
 stored_same (Counted n) A B h r = (r.0, lists_same r.0 A B h r.1, r.2, r.3)
 
 -- what is kept of a list that has the symbols of a set
 pub stored_lists : (list : List Symbol) (stored : PointList) (A : Symbols) → IsPointListOf list stored → Lists list A → IsPointList stored A
 stored_lists list (Listed kept) A k h = (subst (λ (z : List Symbol). Lists z A) (sym k.0) h, subst (λ (z : List Symbol). length z ≤ 256) (sym k.0) k.1)
+stored_lists list Unlisted A k h = (list, h, k)
 stored_lists list (Counted n) A k h = (list, h, k.0, k.1)
 
 -- the same, where the list was lent

@@ -1,5 +1,5 @@
 -- The lists of a whole handler, and of a file.
-use Rattle.std.proofs.Common.{◌≡◌, ℕ, ◌+◌, ◌-◌, ◌<◌, ◌≤◌, List, [], ◌∷◌, ◌++◌, length, map, get_or, sym, ap, ◌∙◌, subst, inl, inr, ◌⊎◌, Contains, arith, length-append}
+use Rattle.std.proofs.Common.{◌≡◌, ℕ, zero, suc, refl, ◌+◌, ◌-◌, ◌<◌, ◌≤◌, List, [], ◌∷◌, ◌++◌, length, map, get_or, sym, ap, ◌∙◌, subst, inl, inr, ◌⊎◌, Contains, arith, length-append}
 use Rattle.std.specs.Prelude.{Some, None, slice_get, slice_index_or}
 use Rattle.std.proofs.Math.ListN.{get_or-map}
 use Rattle.std.proofs.Math.Seq.{get_or-append_seam}
@@ -24,7 +24,7 @@ use Rattle.may_use_analysis.specs.Numbered.{point_list_at, by_number, ArePointLi
 use Rattle.may_use_analysis.specs.Ordered.{Lists}
 use Rattle.may_use_analysis.specs.Places.{places}
 use Rattle.may_use_analysis.specs.Recorded.{Recorded}
-use Rattle.may_use_analysis.specs.PointList.{PointList, Listed, Counted, IsPointList, list_in, count_in}
+use Rattle.may_use_analysis.specs.PointList.{PointList, Listed, Unlisted, Counted, IsPointList, IsKept, AreKept, list_in, count_in}
 use Rattle.may_use_analysis.proofs.PointLemmas.{later_is_flow}
 use Rattle.may_use_analysis.proofs.Records.{recorded_same, recorded_length, StackedAt, fits_recorded}
 use Rattle.may_use_analysis.proofs.Sets.{Same, flow_same, stored_same}
@@ -86,29 +86,58 @@ number_at kept p lt =
     ∙ ap (λ (j : ℕ). get_or (map list_in kept) j []) k
     ∙ get_or-map list_in kept (length kept - (p + 1)) (Counted 0)
 
-listed : (s : PointList) (A : Symbols) → count_in s ≡ None → IsPointList s A → Lists (list_in s) A × (length (list_in s) ≤ 256)
-listed (Listed list) A e is = is
-listed (Counted n) A e is = absurd (cc e)
+listed : (s : PointList) (A : Symbols) → IsKept s → count_in s ≡ None → IsPointList s A → Lists (list_in s) A × (length (list_in s) ≤ 256)
+listed (Listed list) A k e is = is
+listed Unlisted A k e is = absurd k
+listed (Counted n) A k e is = absurd (cc e)
+
+short_list : (s : PointList) (A : Symbols) → count_in s ≡ None → IsPointList s A → (list : List Symbol) × Lists list A × (length list ≤ 256)
+short_list (Listed list) A e is = (list, is.0, is.1)
+short_list Unlisted A e is = is
+short_list (Counted n) A e is = absurd (cc e)
 
 counted : (s : PointList) (n : ℕ) (A : Symbols) → count_in s ≡ Some n → IsPointList s A → (list : List Symbol) × Lists list A × (n ≡ length list) × (256 < length list)
 counted (Listed list) n A e is = absurd (cc e)
+counted Unlisted n A e is = absurd (cc e)
 counted (Counted m) n A e is =
     let same : m ≡ n = cc in
     (is.0, is.1, sym same ∙ is.2, (let a = is.2 in let b = is.3 in omega arith))
 
-pub all_listed : (code : Code) (kept : List PointList) → ArePointLists code kept → AreShortBelow kept (length kept) → HasLists code (by_number kept)
-all_listed code kept are short =
-    record {
-      count = length-reverse (map list_in kept) ∙ length-map kept list_in ∙ are.count;
-      each = λ p lt. subst (IsLaterList code p) (sym (number_at kept p (below p lt))) (at p lt).0;
-      few = λ p lt. subst (λ (l : List Symbol). length l ≤ 256) (sym (number_at kept p (below p lt))) (at p lt).1;
-    }
-  where
-    below : (p : ℕ) → p < 1 + points code → p < length kept
-    below p lt = omega (arith, are.count)
+module _ (code : Code) (kept : List PointList) (are : ArePointLists code kept) where
+  below : (p : ℕ) → p < 1 + points code → p < length kept
+  below p lt = omega (arith, are.count)
 
-    at : (p : ℕ) → p < 1 + points code → Lists (list_in (point_list_at kept p)) (LaterAt code p) × (length (list_in (point_list_at kept p)) ≤ 256)
-    at p lt = listed (point_list_at kept p) (LaterAt code p) (short p (below p lt)) (are.each p lt)
+  pub all_listed : AreKept kept → AreShortBelow kept (length kept) → HasLists code (by_number kept)
+  all_listed whole short =
+      record {
+        count = length-reverse (map list_in kept) ∙ length-map kept list_in ∙ are.count;
+        each = λ p lt. subst (IsLaterList code p) (sym (number_at kept p (below p lt))) (at p lt).0;
+        few = λ p lt. subst (λ (l : List Symbol). length l ≤ 256) (sym (number_at kept p (below p lt))) (at p lt).1;
+      }
+    where
+      at : (p : ℕ) → p < 1 + points code → Lists (list_in (point_list_at kept p)) (LaterAt code p) × (length (list_in (point_list_at kept p)) ≤ 256)
+      at p lt = listed (point_list_at kept p) (LaterAt code p) (whole (length kept - (p + 1)) (omega (arith, below p lt))) (short p (below p lt)) (are.each p lt)
+
+  -- the lists of so many points
+  first_lists : AreShortBelow kept (length kept) → (n : ℕ) → n ≤ 1 + points code → (lists : List (List Symbol)) × (length lists ≡ n) × ((p : ℕ) → p < n → IsLaterList code p (slice_index_or lists p []) × (length (slice_index_or lists p []) ≤ 256))
+  first_lists short zero le = ([], refl, λ p lt. absurd (omega arith))
+  first_lists short (suc n) le =
+      let before = first_lists short n (omega arith) in
+      let here = short_list (point_list_at kept n) (LaterAt code n) (short n (below n (omega arith))) (are.each n (omega arith)) in
+      (before.0 ++ here.0 ∷ [], omega (arith, length-append before.0 (here.0 ∷ []), before.1), λ p lt. at before.0 before.1 before.2 here.0 here.1 here.2 p lt (cases_lt p n))
+    where
+      at : (lists : List (List Symbol)) → length lists ≡ n → ((p : ℕ) → p < n → IsLaterList code p (slice_index_or lists p []) × (length (slice_index_or lists p []) ≤ 256)) → (list : List Symbol) → IsLaterList code n list → length list ≤ 256 → (p : ℕ) → p < suc n → (p < n) ⊎ (n ≤ p) → IsLaterList code p (slice_index_or (lists ++ list ∷ []) p []) × (length (slice_index_or (lists ++ list ∷ []) p []) ≤ 256)
+      at lists len each list is few p lt (inl h) =
+          subst (λ (l : List Symbol). IsLaterList code p l × (length l ≤ 256)) (sym (get_or_append_left lists (list ∷ []) [] p (omega arith))) (each p h)
+      at lists len each list is few p lt (inr h) =
+          let e : p ≡ length lists = omega arith in
+          let here : slice_index_or (lists ++ list ∷ []) p [] ≡ list = ap (λ (j : ℕ). get_or (lists ++ list ∷ []) j []) e ∙ get_or-append_seam lists list [] [] in
+          subst (λ (l : List Symbol). IsLaterList code p l × (length l ≤ 256)) (sym here) (subst (λ (j : ℕ). IsLaterList code j list) (sym (e ∙ len)) is, few)
+
+  pub short_lists : AreShortBelow kept (length kept) → (lists : List (List Symbol)) × HasLists code lists
+  short_lists short =
+      let all = first_lists short (1 + points code) (omega arith) in
+      (all.0, record { count = all.1; each = λ p lt. (all.2 p lt).0; few = λ p lt. (all.2 p lt).1 })
 
 -- ---- files
 
@@ -137,9 +166,7 @@ excess_found f h at kept e lists inside are found place before =
     }
   where
     in_same : (p : ℕ) → p < 1 + points (code_at f h) → p < e.point → IsShort (code_at f h) p
-    in_same p lt below =
-        let l = listed (point_list_at kept p) (LaterAt (code_at f h) p) (found.2 p below) (are.each p lt) in
-        (list_in (point_list_at kept p), l.0, l.1)
+    in_same p lt before_it = short_list (point_list_at kept p) (LaterAt (code_at f h) p) (found.2 p before_it) (are.each p lt)
 
     first : (g p : ℕ) → g < length f.handlers → p < 1 + points (code_at f g) → IsBefore g p h e.point → IsShort (code_at f g) p
     first g p gl pl (inl b) = (slice_index_or (lists g) p [], (before g b).each p pl, (before g b).few p pl)
@@ -200,27 +227,22 @@ pub some_at : {X : Type 0} (xs : List X) (i : ℕ) → i < length xs → (x : X)
 some_at [] i lt = absurd (omega arith)
 some_at (x ∷ xs) i lt = (get_or (x ∷ xs) i x, slice_get-get_or (x ∷ xs) i x lt)
 
-pub more_lists : (f : File) (items new : List (List PointList)) (lists : List PointList) (h : ℕ) → length items ≡ h → new ≡ items ++ lists ∷ [] → ((k : ℕ) → k < h → HasLists (code_at f k) (by_number (get_or items k []))) → HasLists (code_at f h) (by_number lists) → (k : ℕ) → k < h + 1 → HasLists (code_at f k) (by_number (get_or new k []))
-more_lists f items new lists h len is each here k lt = go (cases_lt k h)
-  where
-    go : (k < h) ⊎ (h ≤ k) → HasLists (code_at f k) (by_number (get_or new k []))
-    go (inl b) =
-        let at : get_or new k [] ≡ get_or items k [] = ap (λ (z : List (List PointList)). get_or z k []) is ∙ get_or_append_left items (lists ∷ []) [] k (omega arith) in
-        subst (λ (z : List PointList). HasLists (code_at f k) (by_number z)) (sym at) (each k b)
-    go (inr b) =
-        let e : k ≡ length items = omega arith in
-        let at : get_or new k [] ≡ lists = ap (λ (z : List (List PointList)). get_or z k []) is ∙ ap (λ (j : ℕ). get_or (items ++ lists ∷ []) j []) e ∙ get_or-append_seam items lists [] [] in
-        subst (λ (z : List PointList). HasLists (code_at f k) (by_number z)) (sym at) (subst (λ (j : ℕ). HasLists (code_at f j) (by_number lists)) (sym (e ∙ len)) here)
+module _ {X : Type 0} (see : X → List (List Symbol)) (d : X) (f : File) where
+  pub more_lists : (items new : List X) (lists : X) (h : ℕ) → length items ≡ h → new ≡ items ++ lists ∷ [] → ((k : ℕ) → k < h → HasLists (code_at f k) (see (get_or items k d))) → HasLists (code_at f h) (see lists) → (k : ℕ) → k < h + 1 → HasLists (code_at f k) (see (get_or new k d))
+  more_lists items new lists h len is each here k lt = go (cases_lt k h)
+    where
+      go : (k < h) ⊎ (h ≤ k) → HasLists (code_at f k) (see (get_or new k d))
+      go (inl b) =
+          let at : get_or new k d ≡ get_or items k d = ap (λ (z : List X). get_or z k d) is ∙ get_or_append_left items (lists ∷ []) d k (omega arith) in
+          subst (λ (z : X). HasLists (code_at f k) (see z)) (sym at) (each k b)
+      go (inr b) =
+          let e : k ≡ length items = omega arith in
+          let at : get_or new k d ≡ lists = ap (λ (z : List X). get_or z k d) is ∙ ap (λ (j : ℕ). get_or (items ++ lists ∷ []) j d) e ∙ get_or-append_seam items lists [] d in
+          subst (λ (z : X). HasLists (code_at f k) (see z)) (sym at) (subst (λ (j : ℕ). HasLists (code_at f j) (see lists)) (sym (e ∙ len)) here)
 
--- what is kept of all handlers is their lists
-pub lists_of_all : (f : File) (kept : List (List PointList)) (h : ℕ) → length f.handlers ≤ h → length kept ≡ h → h ≤ length f.handlers → ((k : ℕ) → k < h → HasLists (code_at f k) (by_number (get_or kept k []))) → HasLater f
-lists_of_all f kept h all len few each = (
-  map by_number kept,
-  record {
-    count = omega (arith, length-map kept by_number, len);
-    each = λ k lt. subst (HasLists (code_at f k)) (sym (get_or-map by_number kept k [])) (each k (omega arith));
-  },
-)
+-- the lists of all handlers
+pub lists_of_all : (f : File) (all : List (List (List Symbol))) (h : ℕ) → length f.handlers ≤ h → length all ≡ h → h ≤ length f.handlers → ((k : ℕ) → k < h → HasLists (code_at f k) (get_or all k [])) → HasLater f
+lists_of_all f all h whole len few each = (all, record { count = omega (arith, len); each = λ k lt. each k (omega arith) })
 
 -- ---- refusals
 

@@ -1,5 +1,5 @@
 -- Lists at the heads of loops that are kept from an earlier walk.
-use Rattle.std.proofs.Common.{◌≡◌, ℕ, zero, suc, ◌+◌, ◌-◌, ◌<◌, ◌≤◌, ◌==◌, Bool, true, false, if◌then◌else◌, List, [], ◌∷◌, length, drop, map, get_or, sym, ap, ◌∙◌, subst, inl, inr, ◌↔◌, Contains, arith}
+use Rattle.std.proofs.Common.{◌≡◌, ℕ, zero, suc, ◌+◌, ◌-◌, ◌<◌, ◌≤◌, ◌==◌, true, List, [], ◌∷◌, length, drop, map, get_or, sym, ◌∙◌, subst, inl, inr, ◌↔◌, Contains, arith}
 use Rattle.std.specs.Prelude.{slice_index_or}
 use Rattle.std.proofs.lemmas.Bool.Decides.{nat_tests}
 use Rattle.symbolic_ops.specs.declared.symbol.Symbol.{Symbol}
@@ -7,7 +7,7 @@ use Rattle.check_meaning.specs.declared.tree.CheckedStmt.{CheckedStmt}
 use Rattle.check_meaning.specs.Code.{Code, Finish, Move, Ask, Fork, Loop, Quit, expr_term, cond_test, stmt_code, block_code, points, IsNumbered}
 use Rattle.check_meaning.proofs.Codes.{checked_cases, code_store, code_perform, code_choose, code_repeat, code_answer}
 use Rattle.may_use_analysis.specs.Trails.{Symbols}
-use Rattle.may_use_analysis.specs.Flow.{Flow, Head}
+use Rattle.may_use_analysis.specs.Flow.{Flow}
 use Rattle.may_use_analysis.specs.Ordered.{Are}
 use Rattle.may_use_analysis.specs.Warm.{HeadAt, AreWarm, SameOutside}
 use Rattle.may_use_analysis.proofs.FlowLemmas.{Within, flow_within, turned_within}
@@ -37,10 +37,10 @@ warm_none H (Loop at p n x body rest) A none =
 warm_none H (Quit es rest) A none = warm_none H rest A none
 
 -- what is kept of loops with the code's own numbers alone matters
-abbrev SameInside : (H K : List (List Symbol)) → ℕ → ℕ → Type 0
+abbrev pub SameInside : (H K : List (List Symbol)) → ℕ → ℕ → Type 0
 SameInside H K low high = (i : ℕ) → low ≤ i → i < high → slice_index_or K i [] ≡ slice_index_or H i []
 
-warm_inside : (H K : List (List Symbol)) (code : Code) (low : ℕ) (A : Symbols) → IsNumbered code low → SameInside H K low (low + points code) → AreWarm H code A → AreWarm K code A
+pub warm_inside : (H K : List (List Symbol)) (code : Code) (low : ℕ) (A : Symbols) → IsNumbered code low → SameInside H K low (low + points code) → AreWarm H code A → AreWarm K code A
 warm_inside H K Finish low A n same w = w
 warm_inside H K (Move x e rest) low A n same w = warm_inside H K rest low A n same w
 warm_inside H K (Ask at p x c rest) low A n same w = warm_inside H K rest (low + 1) A n.1 (λ i g l. same i (omega arith) (omega arith)) w
@@ -204,19 +204,5 @@ module _ (items : List CheckedStmt) (i : ℕ) (x : CheckedStmt) (some : 0 < i) (
 
 -- ---- a loop
 
-is_itself : (p : ℕ) → (p == p) ≡ true
+pub is_itself : (p : ℕ) → (p == p) ≡ true
 is_itself p = grind (arith, nat_tests)
-
-is_other : (i p : ℕ) → i < p → (i == p) ≡ false
-is_other i p h = grind (arith, nat_tests)
-
-chosen : (b c : Bool) (x y : List Symbol) → b ≡ c → (if b then x else y) ≡ (if c then x else y)
-chosen b c x y e = ap (λ (t : Bool). if t then x else y) e
-
--- the list at its head was kept
-pub warm_kept : (H K : List (List Symbol)) (p x low : ℕ) (head : List Symbol) (body : Code) (A : Symbols) → IsNumbered body low → p ≡ low + points body → ((i : ℕ) → slice_index_or K i [] ≡ (if i == p then head else slice_index_or H i []))
-    → Within (Contains head) (Head x body A) → AreWarm H body (Contains head) → AreWarm K (Loop 0 p 0 x body Finish) A
-warm_kept H K p x low head body A n e kept sound w =
-    let here : slice_index_or K p [] ≡ head = kept p ∙ chosen (p == p) true head (slice_index_or H p []) (is_itself p) in
-    let inside = warm_inside H K body low (Contains head) n (λ i g l. kept i ∙ chosen (i == p) false head (slice_index_or H i []) (is_other i p (omega arith))) w in
-    (λ s m. sound s (subst (λ (l : List Symbol). Contains l s) here m), subst (λ (l : List Symbol). AreWarm K body (Contains l)) (sym here) inside, tt)

@@ -8,4 +8,5 @@ pub mod Recorded
 pub mod Steps
 pub mod Stores
 pub mod Trails
+pub mod Vars
 pub mod Warm

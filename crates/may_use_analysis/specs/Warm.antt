@@ -1,5 +1,5 @@
 -- Lists at the heads of loops that are kept from an earlier walk, so that the next one begins with them.
-use Rattle.std.specs.Prelude.{◌≡◌, ℕ, ◌<◌, ◌≤◌, ◌⊎◌, List, [], Contains, slice_index_or}
+use Rattle.std.specs.Prelude.{◌≡◌, ◌≢◌, ℕ, ◌<◌, ◌≤◌, ◌⊎◌, List, [], Contains, slice_index_or}
 use Rattle.symbolic_ops.specs.declared.symbol.Symbol.{Symbol}
 use Rattle.check_meaning.specs.Code.{Code, Finish, Move, Ask, Fork, Loop, Quit}
 use Rattle.may_use_analysis.specs.Flow.{Flow, Head}
@@ -25,3 +25,16 @@ AreWarm heads (Quit es rest) after = AreWarm heads rest after
 abbrev pub SameOutside : (old new : List (List Symbol)) → ℕ → ℕ → Type 0
 SameOutside old new low high = (i : ℕ) → (i < low) ⊎ (high ≤ i)
     → slice_index_or new i [] ≡ slice_index_or old i []
+
+-- what was kept and is warm where a walk begins with these symbols and others stays so
+abbrev pub StaysWarm : Code → List Symbol → (old new : List (List Symbol)) → Type 0
+StaysWarm code begin old new = (base : List Symbol) → ((s : Symbol) → Contains begin s → Contains base s)
+    → AreWarm old code (Contains base) → AreWarm new code (Contains base)
+
+-- these symbols were taken into the kept list of a loop, and some of them are given back as new
+pub record IsTakenIn (p : ℕ) (symbols : List Symbol) (old new : List (List Symbol)) (fresh : List Symbol) : Type 0 where
+  pub given : (s : Symbol) → Contains fresh s → Contains symbols s
+  pub there : (s : Symbol) → Contains fresh s → HeadAt new p s
+  pub kept : (s : Symbol) → HeadAt old p s → HeadAt new p s
+  pub within : (s : Symbol) → HeadAt new p s → HeadAt old p s ⊎ Contains symbols s
+  pub others : (i : ℕ) → i ≢ p → slice_index_or new i [] ≡ slice_index_or old i []

@@ -5,21 +5,21 @@ ghost use Rattle.may_use_analysis.specs.declared.refusal.AnalysisRefusal.TheVari
 ghost use Rattle.may_use_analysis.specs.Later.{HasLater, IsTooMany};
 
 use crate::handler::{first_excess, handler_lists};
-use crate::later::ROOM;
+use crate::kept::Keeping;
 use crate::places::place_of;
 use crate::refusal::AnalysisRefusal;
 use handler_check::Accepted;
 use std::alloc::Global;
 
 /// Sees that at no point of a file more than 256 symbols may still come, as `later_sets` does,
-/// which keeps the lists. Here one handler is held at a time, with its lists.
+/// which keeps the lists. Here one handler is held at a time, and what is too long is counted.
 pub fn bound_later_sets(alloc: Global, accepted: &Accepted) -> Result<(), AnalysisRefusal>
     ensures { MatchResult result (λ _. HasLater accepted.now) (λ e. e ≢ refusal.NoMemory
         → IsTooMany accepted.now e) }
 {
     for h in 0..accepted.handlers() {
         let handler = accepted.resolved(alloc, h)?;
-        let lists = handler_lists(alloc, &handler, ROOM)?;
+        let lists = handler_lists(alloc, &handler, Keeping::Counts)?;
         match first_excess(&lists) {
             None => {}
             Some(excess) => {

@@ -5,28 +5,30 @@ ghost use Rattle.check_meaning.specs.Code.{IsNumbered, block_code};
 ghost use Rattle.may_use_analysis.specs.Numbered.{ArePointLists, IsFirstExcess};
 
 use crate::heads::Heads;
-use crate::kept::PointLists;
+use crate::kept::{Keeping, PointLists};
 use crate::ordered::Ordered;
+use crate::spread::spread_block;
 use crate::walk::before_block;
 use check_meaning::CheckedHandler;
 use session_values::NoMemory;
 use std::alloc::Global;
 
-/// The lists of a handler's points, the last point first and the entry last, where they may hold so
-/// many symbols.
+/// What is kept of the lists of a handler's points, the last point first and the entry last.
 pub(crate) fn handler_lists(
     alloc: Global,
     handler: &CheckedHandler,
-    room: usize,
+    keeping: Keeping,
 ) -> Result<PointLists, NoMemory>
     requires { IsNumbered (block_code handler.now.body) 1 }
     ensures { IfOk result (ArePointLists (block_code handler.now.body)) }
 {
-    let mut lists = PointLists::with_room(alloc, room)?;
+    let mut lists = PointLists::new(alloc, keeping)?;
     let mut heads = Heads::new(alloc);
     let nothing = Ordered::new(alloc);
     let body = handler.body.as_slice();
-    let entry = before_block(alloc, body, nothing, &mut heads, &mut lists)?;
+    let start = Ordered::new(alloc);
+    spread_block(alloc, body, start, true, &mut heads)?;
+    let entry = before_block(alloc, body, nothing, &heads, &mut lists)?;
     lists.keep(alloc, entry.as_slice())?;
     Ok(lists)
 }

@@ -1,15 +1,17 @@
-// The lists at the heads of loops, kept between the walks over a loop that stands in another one.
+// The lists at the heads of loops, found before the walk that keeps the lists of points.
 
-ghost use Rattle.std.specs.Prelude.{◌≡◌, ◌↔◌, ◌⊎◌, ◌==◌, ◌<◌, if◌then◌else◌, ℕ, [], Contains, OnOk, slice_index_or, vec_len};
+ghost use Rattle.std.specs.Prelude.{◌≡◌, ◌↔◌, ◌⊎◌, ◌==◌, ◌<◌, if◌then◌else◌, ℕ, [], Contains, IfOk, OnOk, slice_index_or, vec_len};
 ghost use Rattle.symbolic_ops.specs.declared.symbol.Symbol.{Symbol};
-ghost use Rattle.may_use_analysis.specs.Warm.{HeadAt};
+ghost use Rattle.may_use_analysis.specs.Warm.{HeadAt, IsTakenIn};
 
 use crate::ordered::Ordered;
 use session_values::NoMemory;
 use std::alloc::Global;
 use std::marker::Model;
+use symbolic_ops::Symbol;
 
-/// How many symbols are kept of a handler.
+/// How many symbols are kept of a handler. Where there are more, a loop is walked again for each that
+/// isn't kept.
 const ROOM: usize = 4_194_304;
 
 /// The lists at the heads of loops, by the numbers of the loops' points.
@@ -41,6 +43,25 @@ fn extend_to(alloc: Global, lists: &mut Vec<Ordered>, place: u32) -> Result<(), 
     Ok(())
 }
 
+/// Those of these symbols that a list doesn't have, so many at most.
+fn new_among(
+    alloc: Global,
+    symbols: &[Symbol],
+    kept: &Ordered,
+    room: usize,
+) -> Result<Ordered, NoMemory>
+    ensures { IfOk result (λ fresh. (q : Symbol) → Contains fresh q → Contains symbols.now q) }
+{
+    let mut fresh = Ordered::new(alloc);
+    for s in symbols {
+        if fresh.as_slice().len() >= room || kept.has(s) {
+            continue;
+        }
+        fresh.insert(*s)?;
+    }
+    Ok(fresh)
+}
+
 impl Heads {
     pub(crate) fn new(alloc: Global) -> Heads
         ensures { result ≡ [] }
@@ -65,21 +86,47 @@ impl Heads {
         }
     }
 
-    /// Keeps the list of a loop in place of what was kept.
-    pub(crate) fn keep(&mut self, alloc: Global, point: u32, head: &Ordered) -> Result<(), NoMemory>
+    /// The kept list of a loop.
+    fn copy_of(&self, alloc: Global, point: u32) -> Result<Ordered, NoMemory>
+        ensures { IfOk result (λ head. head ≡ slice_index_or self.now point []) }
+    {
+        match self.lists.get(point as usize) {
+            None => Ok(Ordered::new(alloc)),
+            Some(kept) => kept.copied(alloc),
+        }
+    }
+
+    /// Keeps the list of a loop in place of what was kept, which has so many symbols fewer.
+    fn keep(
+        &mut self,
+        alloc: Global,
+        point: u32,
+        head: Ordered,
+        more: usize,
+    ) -> Result<(), NoMemory>
         ensures { OnOk result ((i : ℕ) → slice_index_or self.new i []
-            ≡ (if i == point then head.now else slice_index_or self.old i [])) }
+            ≡ (if i == point then head else slice_index_or self.old i [])) }
     {
         extend_to(alloc, &mut self.lists, point)?;
-        let room = self
-            .room
-            .saturating_add(self.lists[point as usize].as_slice().len());
-        let size = head.as_slice().len();
-        if size > room {
-            return Err(NoMemory);
-        }
-        self.lists[point as usize] = head.copied(alloc)?;
-        self.room = room - size;
+        self.lists[point as usize] = head;
+        self.room = self.room.saturating_sub(more);
         Ok(())
+    }
+
+    /// Keeps these symbols of the head of a loop beside the others, and gives those that are new, as
+    /// many as there is room for.
+    pub(crate) fn take_in(
+        &mut self,
+        alloc: Global,
+        point: u32,
+        symbols: &Ordered,
+    ) -> Result<Ordered, NoMemory>
+        ensures { IfOk result (IsTakenIn point symbols.now self.old self.new) }
+    {
+        let mut head = self.copy_of(alloc, point)?;
+        let fresh = new_among(alloc, symbols.as_slice(), &head, self.room)?;
+        head.join(&fresh)?;
+        self.keep(alloc, point, head, fresh.as_slice().len())?;
+        Ok(fresh)
     }
 }

@@ -1,8 +1,9 @@
 // What is kept of the lists of points.
 
-ghost use Rattle.std.specs.Prelude.{◌≡◌, ◌<◌, ◌++◌, ◌∷◌, [], length, slice_get, slice_index_or, take, IfOk, IfSome, OnOk, Some};
+ghost use Rattle.std.specs.Prelude.{◌≡◌, ℕ, ◌<◌, ◌++◌, ◌∷◌, [], length, slice_get, slice_index_or, take, IfOk, IfSome, OnOk, Some};
 ghost use Rattle.std.specs.Bool.{OnTrue};
-ghost use Rattle.may_use_analysis.specs.PointList.{AllReferBack, Counted, IsHeldAt, IsPointListOf, RefersBack, PointList, count_in, list_in, own_list, point_list_of};
+ghost use Rattle.may_use_analysis.specs.declared.kept.Kept.TheVariants.{Count};
+ghost use Rattle.may_use_analysis.specs.PointList.{AllReferBack, AreKept, Counted, IsHeld, IsHeldAt, IsPointListOf, RefersBack, PointList, count_in, list_in, own_list, point_list_of};
 
 use crate::ordered::is_same;
 use crate::recent::Recent;
@@ -13,11 +14,12 @@ use std::marker::Model;
 use symbolic_ops::Symbol;
 
 /// What is kept of a list: it, where its point is the first one with it; the place of that point's
-/// entry; or its length, where it is too long.
+/// entry; that it is not too long; or its length, where it is.
 #[derive(Drop)]
 pub(crate) enum Kept {
     Own(Listed<Symbol>),
     Same(usize),
+    Short,
     Count(u64),
 }
 
@@ -43,6 +45,7 @@ fn own_list(entries: &[Kept], k: usize) -> &[Symbol]
     match &entries[k] {
         Kept::Own(list) => list.as_slice(),
         Kept::Same(_) => &[],
+        Kept::Short => &[],
         Kept::Count(_) => &[],
     }
 }
@@ -57,6 +60,7 @@ fn kept_list(entries: &[Kept], i: usize) -> &[Symbol]
     match &entries[i] {
         Kept::Own(list) => list.as_slice(),
         Kept::Same(k) => own_list(entries, *k),
+        Kept::Short => &[],
         Kept::Count(_) => &[],
     }
 }
@@ -69,6 +73,7 @@ fn owner_at(entries: &[Kept], i: usize) -> Option<usize>
     match entries.get(i)? {
         Kept::Own(_) => Some(i),
         Kept::Same(k) => Some(*k),
+        Kept::Short => None,
         Kept::Count(_) => None,
     }
 }
@@ -99,29 +104,33 @@ fn found_owner(entries: &[Kept], recent: &mut Recent, list: &[Symbol]) -> Option
     }
 }
 
-/// How many symbols the entry holds itself.
-fn held(entry: &Kept) -> usize {
-    match entry {
-        Kept::Own(list) => list.as_slice().len(),
-        Kept::Same(_) | Kept::Count(_) => 0,
-    }
+/// What is kept of lists that aren't too long.
+#[derive(Clone, Copy, PartialEq, Eq)]
+pub(crate) enum Keeping {
+    /// The lists themselves.
+    Lists,
+    /// That they are not too long.
+    Counts,
 }
 
-/// How many symbols the entries from a place on hold themselves.
-fn held_from(entries: &[Kept], n: usize) -> usize {
-    let mut sum: usize = 0;
-    for i in n..entries.len() {
-        sum = sum.saturating_add(held(&entries[i]));
+fn are_held(entries: &[Kept]) -> bool
+    ensures { OnTrue result ((k : ℕ) → k < length entries.now
+        → IsHeld (slice_index_or entries.now k (Count 0))) }
+{
+    for entry in entries {
+        if matches!(entry, Kept::Short) {
+            return false;
+        }
     }
-    sum
+    true
 }
 
-/// The entry of a list that comes behind these, where it may hold so many symbols.
+/// The entry of a list that comes behind these.
 fn entry_of(
     alloc: Global,
     entries: &[Kept],
     recent: &mut Recent,
-    room: usize,
+    keeping: Keeping,
     list: &[Symbol],
 ) -> Result<Kept, NoMemory>
     requires { AllReferBack entries.now }
@@ -131,11 +140,11 @@ fn entry_of(
     if list.len() > MAX_SYMBOLS as usize {
         return Ok(Kept::Count(list.len() as u64));
     }
+    if keeping == Keeping::Counts {
+        return Ok(Kept::Short);
+    }
     if let Some(k) = found_owner(entries, recent, list) {
         return Ok(Kept::Same(k));
-    }
-    if list.len() > room {
-        return Err(NoMemory);
     }
     let copy = Vec::from_slice(alloc, list)?;
     Ok(Kept::Own(Listed::from_vec(copy)))
@@ -146,8 +155,7 @@ fn entry_of(
 pub(crate) struct PointLists {
     entries: Vec<Kept>,
     recent: Recent,
-    // How many more symbols may be held.
-    room: usize,
+    keeping: Keeping,
 }
 
 impl Model for PointLists {
@@ -162,20 +170,22 @@ impl Model for PointLists {
 }
 
 impl PointLists {
-    /// No list, with room for so many symbols.
-    pub(crate) fn with_room(alloc: Global, room: usize) -> Result<PointLists, NoMemory>
+    /// No list.
+    pub(crate) fn new(alloc: Global, keeping: Keeping) -> Result<PointLists, NoMemory>
         ensures { IfOk result (λ lists. lists ≡ []) }
     {
         Ok(PointLists {
             entries: Vec::new(alloc),
             recent: Recent::new(alloc)?,
-            room,
+            keeping,
         })
     }
 
-    /// How many more symbols may be held.
-    pub(crate) fn room(&self) -> usize {
-        self.room
+    /// Whether each list is kept, where it isn't too long.
+    pub(crate) fn are_kept(&self) -> bool
+        ensures { OnTrue result (AreKept self.now) }
+    {
+        are_held(self.entries.as_slice())
     }
 
     pub(crate) fn len(&self) -> usize
@@ -187,8 +197,6 @@ impl PointLists {
     pub(crate) fn truncate(&mut self, n: usize)
         ensures { self.new ≡ take n self.old }
     {
-        let freed = held_from(self.entries.as_slice(), n);
-        self.room = self.room.saturating_add(freed);
         self.entries.truncate(n);
     }
 
@@ -201,10 +209,9 @@ impl PointLists {
             alloc,
             self.entries.as_slice(),
             &mut self.recent,
-            self.room,
+            self.keeping,
             list,
         )?;
-        self.room = self.room.saturating_sub(held(&entry));
         self.entries.push(entry)?;
         Ok(())
     }
@@ -225,6 +232,7 @@ impl PointLists {
         match &self.entries[i] {
             Kept::Own(_) => None,
             Kept::Same(_) => None,
+            Kept::Short => None,
             Kept::Count(n) => Some(*n),
         }
     }

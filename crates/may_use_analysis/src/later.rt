@@ -5,17 +5,13 @@ ghost use Rattle.may_use_analysis.specs.declared.refusal.AnalysisRefusal.TheVari
 ghost use Rattle.may_use_analysis.specs.Later.{AreLater, IsTooMany};
 
 use crate::handler::{first_excess, handler_lists};
-use crate::kept::PointLists;
+use crate::kept::{Keeping, PointLists};
 use crate::places::place_of;
 use crate::refusal::AnalysisRefusal;
 use handler_check::Checked;
 use std::alloc::Global;
 use std::marker::Model;
 use symbolic_ops::Symbol;
-
-/// How many symbols are kept of a file, in lists of which no two of a handler that were kept close
-/// to each other are equal.
-pub(crate) const ROOM: usize = 12_582_912;
 
 /// The list of each point of each handler of a file. Contracts see it as these lists, by the
 /// numbers of handlers and points.
@@ -42,11 +38,12 @@ pub fn later_sets(alloc: Global, checked: &Checked) -> Result<Later, AnalysisRef
         → IsTooMany checked.now e) }
 {
     let mut handlers = Vec::new(alloc);
-    let mut room = ROOM;
     for h in 0..checked.handlers() {
         let handler = checked.handler(h);
-        let lists = handler_lists(alloc, handler, room)?;
-        room = lists.room();
+        let lists = handler_lists(alloc, handler, Keeping::Lists)?;
+        if !lists.are_kept() {
+            return Err(AnalysisRefusal::NoMemory);
+        }
         match first_excess(&lists) {
             None => handlers.push(lists)?,
             Some(excess) => {

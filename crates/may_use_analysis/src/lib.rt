@@ -11,7 +11,10 @@ mod ordered;
 mod places;
 mod recent;
 mod refusal;
+mod spread;
+mod still;
 mod stores;
+mod vars;
 mod walk;
 
 pub use bounded::bound_later_sets;

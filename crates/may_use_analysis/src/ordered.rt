@@ -11,20 +11,20 @@ ghost use Rattle.may_use_analysis.specs.Ordered.{Are, IsSearched};
 ghost use Rattle.may_use_analysis.specs.Steps.{back};
 ghost use Rattle.may_use_analysis.specs.Stores.{step_of};
 ghost use Rattle.may_use_analysis.specs.Trails.{Back};
+ghost use Rattle.may_use_analysis.specs.Vars.{AllCovered};
 
 use crate::stores::{Store, symbol_before};
+use crate::vars::Vars;
 use session_values::NoMemory;
 use std::alloc::Global;
 use std::marker::Model;
 use symbolic_ops::Symbol;
 
-/// How many symbols a list has room for.
-const ROOM: usize = 65_536;
-
-/// Symbols in their order, each once.
+/// Symbols in their order, each once, with the variables that they mention.
 #[derive(Drop)]
 pub(crate) struct Ordered {
     symbols: Vec<Symbol>,
+    vars: Vars,
 }
 
 impl Model for Ordered {
@@ -32,12 +32,14 @@ impl Model for Ordered {
     ghost use Rattle.std.specs.List.Sorted.{IsStrictlySortedBy};
     ghost use Rattle.symbolic_ops.specs.Order.{symbol_cmp};
     ghost use Rattle.symbolic_ops.specs.declared.symbol.Symbol.{Symbol};
+    ghost use Rattle.may_use_analysis.specs.Vars.{AllCovered};
 
     ghost Value = { List Symbol };
 
     ghost view = { λ o. o.symbols.items };
 
-    ghost invariant = { λ o. IsStrictlySortedBy symbol_cmp o.symbols.items };
+    ghost invariant = { λ o. IsStrictlySortedBy symbol_cmp o.symbols.items
+        × AllCovered o.vars.bits o.symbols.items };
 }
 
 pub(crate) fn is_same(a: &Symbol, b: &Symbol) -> bool
@@ -46,13 +48,15 @@ pub(crate) fn is_same(a: &Symbol, b: &Symbol) -> bool
     a.compare(b).is_eq()
 }
 
-/// Puts the symbols in order, each once.
-fn put_in_order(list: &mut Vec<Symbol>)
+/// Puts the symbols in order, each once, and gives the variables that they mention.
+fn put_in_order(list: &mut Vec<Symbol>) -> Vars
+    ensures covered { AllCovered result.bits list.new.items }
     ensures members { (s : Symbol) → Contains list.new.items s ↔ Contains list.old.items s }
     ensures order { IsStrictlySortedBy symbol_cmp list.new.items }
 {
     list.sort_unstable_by(|a, b| a.compare(b));
     list.dedup_by(|a, b| is_same(a, b));
+    Vars::of(list.as_slice())
 }
 
 /// Where the symbol is in an ordered list, or where it would be.
@@ -126,6 +130,7 @@ impl Ordered {
     {
         Ordered {
             symbols: Vec::new(alloc),
+            vars: Vars::none(),
         }
     }
 
@@ -136,11 +141,23 @@ impl Ordered {
         self.symbols.as_slice()
     }
 
+    /// Variables among which are all that the symbols mention.
+    pub(crate) fn vars(&self) -> Vars
+        ensures { AllCovered result.bits self.now }
+    {
+        self.vars
+    }
+
     pub(crate) fn copied(&self, alloc: Global) -> Result<Ordered, NoMemory>
         ensures { IfOk result (λ copy. copy ≡ self.now) }
     {
         let symbols = Vec::from_slice(alloc, self.symbols.as_slice())?;
-        Ok(Ordered { symbols })
+        let vars = self.vars;
+        Ok(Ordered { symbols, vars })
+    }
+
+    pub(crate) fn has(&self, s: &Symbol) -> bool {
+        find(self.symbols.as_slice(), s).is_ok()
     }
 
     /// Takes a symbol into its place.
@@ -151,10 +168,9 @@ impl Ordered {
         match find(self.symbols.as_slice(), &s) {
             Ok(_) => Ok(()),
             Err(i) => {
-                if self.symbols.len() >= ROOM {
-                    return Err(NoMemory);
-                }
+                let vars = self.vars.with_symbol(&s);
                 self.symbols.insert(i, s)?;
+                self.vars = vars;
                 Ok(())
             }
         }
@@ -171,10 +187,7 @@ impl Ordered {
             return Ok(false);
         }
         self.symbols.extend_from_slice(more.as_slice())?;
-        put_in_order(&mut self.symbols);
-        if self.symbols.len() > ROOM {
-            return Err(NoMemory);
-        }
+        self.vars = put_in_order(&mut self.symbols);
         Ok(true)
     }
 
@@ -184,7 +197,7 @@ impl Ordered {
     {
         if is_any_changed(store, self.symbols.as_slice()) {
             put_before(store, self.symbols.as_mut_slice());
-            put_in_order(&mut self.symbols);
+            self.vars = put_in_order(&mut self.symbols);
         }
     }
 }

@@ -1,13 +1,10 @@
-use Rattle.std.proofs.Common.{◌≡◌, ℕ, ◌<◌, List, [], ◌∷◌, ◌++◌, length, map, get_or, length-append, refl, ap, ◌∙◌, subst, arith}
-use Rattle.std.specs.Prelude.{Some, slice_get, slice_index_or}
+use Rattle.std.proofs.Common.{◌≡◌, ℕ, ◌<◌, List, [], ◌∷◌, ◌++◌, length, get_or, length-append, refl, subst, arith}
+use Rattle.std.specs.Prelude.{Some, slice_get}
 use Rattle.symbolic_ops.specs.declared.symbol.Symbol.{Symbol}
-use Rattle.syntax_trees.specs.declared.file.File.{File}
 use Rattle.check_meaning.specs.Code.{Code}
 use Rattle.handler_check.specs.Resolved.{code_at}
-use Rattle.may_use_analysis.specs.Later.{HasLists}
-use Rattle.may_use_analysis.specs.Numbered.{ArePointLists, by_number}
-use Rattle.may_use_analysis.specs.PointList.{PointList}
-use Rattle.may_use_analysis.proofs.TopLemmas.{all_listed, excess_found, lists_of_all, more_lists, place_is, some_at}
+use Rattle.may_use_analysis.specs.Numbered.{ArePointLists}
+use Rattle.may_use_analysis.proofs.TopLemmas.{short_lists, excess_found, lists_of_all, more_lists, place_is, some_at}
 use Rattle.may_use_analysis.proofs.bounded.bound_later_sets.Goals as goal
 
 pub loop-h-init : goal.loop-h-init
@@ -24,7 +21,7 @@ returns-in-Some c = λ _.
     let source = some_at f.handlers h inside in
     let place = place_is f h source.0 handler source.1 (c.in_ok-handler.ensures.resolved source.0 source.1) c.in_ok-handler.ensures.body in
     let before = c.loop-h.invariant in
-    excess_found f h c.in_ok-at-in-Some.at c.in_ok-lists.lists e (λ k. by_number (get_or before.0 k [])) inside are c.in-Some.ensures (subst (λ (z : List ℕ). slice_get z e.point ≡ Some c.in_ok-at-in-Some.at) place c.in_ok-at-in-Some.ensures) before.2
+    excess_found f h c.in_ok-at-in-Some.at c.in_ok-lists.lists e (λ k. get_or before.0 k []) inside are c.in-Some.ensures (subst (λ (z : List ℕ). slice_get z e.point ≡ Some c.in_ok-at-in-Some.at) place c.in_ok-at-in-Some.ensures) before.2
 
 pub loop-h-preserved : goal.loop-h-preserved
 loop-h-preserved c =
@@ -33,7 +30,8 @@ loop-h-preserved c =
     let lists = c.in_ok-lists.lists in
     let before = c.loop-h.invariant in
     let are = subst (λ (z : Code). ArePointLists z lists) c.in_ok-handler.ensures.body c.in_ok-lists.ensures in
-    (before.0 ++ lists ∷ [], omega (arith, length-append before.0 (lists ∷ []), before.1), more_lists f before.0 (before.0 ++ lists ∷ []) lists h before.1 refl before.2 (all_listed _ lists are c.in-None.ensures))
+    let here = short_lists (code_at f h) lists are c.in-None.ensures in
+    (before.0 ++ here.0 ∷ [], omega (arith, length-append before.0 (here.0 ∷ []), before.1), more_lists (λ (z : List (List Symbol)). z) [] f before.0 (before.0 ++ here.0 ∷ []) here.0 h before.1 refl before.2 here.1)
 
 pub returns : goal.returns
 returns c =

@@ -9,6 +9,7 @@ use Rattle.may_use_analysis.specs.Recorded.{Recorded}
 use Rattle.may_use_analysis.specs.PointList.{PointList}
 use Rattle.may_use_analysis.proofs.Sets.{stored_lent}
 use Rattle.may_use_analysis.proofs.TopLemmas.{handler_stored}
+use Rattle.may_use_analysis.proofs.Unique.{none_in_nil}
 use Rattle.may_use_analysis.proofs.WarmLemmas.{warm_none}
 use Rattle.may_use_analysis.proofs.handler.handler_lists.Goals as goal
 
@@ -28,4 +29,5 @@ returns c =
 
 pub before_block-requires-clause-warm : goal.before_block-requires-clause-warm
 before_block-requires-clause-warm c =
-    warm_none c.new-heads.result (block_code c.as_slice-body.result.now) (Contains c.new-nothing.result) (λ i. ap (λ (z : List (List Symbol)). slice_index_or z i []) c.new-heads.ensures)
+    let none = λ (s : Symbol) (m : Contains c.new-start.result s). absurd (none_in_nil s (subst (λ (z : List Symbol). Contains z s) c.new-start.ensures m)) in
+    c.in_ok-spread_block.ensures.warm c.new-nothing.result none (warm_none c.new-heads.result (block_code c.as_slice-body.result.now) (Contains c.new-nothing.result) (λ i. ap (λ (z : List (List Symbol)). slice_index_or z i []) c.new-heads.ensures))

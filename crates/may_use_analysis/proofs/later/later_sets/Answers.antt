@@ -1,6 +1,7 @@
 use Rattle.std.proofs.Common.{◌≡◌, ℕ, ◌<◌, List, [], ◌∷◌, length, get_or, length-append, ap, subst, arith}
 use Rattle.std.specs.Prelude.{Some, slice_get}
 use Rattle.check_meaning.specs.Code.{Code}
+use Rattle.handler_check.specs.Resolved.{code_at}
 use Rattle.may_use_analysis.specs.Numbered.{ArePointLists, by_number}
 use Rattle.may_use_analysis.proofs.TopLemmas.{all_listed, excess_found, more_lists, place_is, some_at}
 use Rattle.may_use_analysis.proofs.later.later_sets.Goals as goal
@@ -25,5 +26,5 @@ loop-h-preserved c =
     let are = subst (λ (z : Code). ArePointLists z lists) c.handler-handler.ensures.body c.in_ok-lists.ensures in
     record {
       count = omega (arith, ap length c.in_ok-push-in-None.ensures.items, length-append c.loop-h.handlers.items (lists ∷ []), c.loop-h.invariant.count);
-      each = more_lists f c.loop-h.handlers.items c.push.new.self.items lists h c.loop-h.invariant.count c.in_ok-push-in-None.ensures.items c.loop-h.invariant.each (all_listed _ lists are c.in-None.ensures);
+      each = more_lists by_number [] f c.loop-h.handlers.items c.push.new.self.items lists h c.loop-h.invariant.count c.in_ok-push-in-None.ensures.items c.loop-h.invariant.each (all_listed (code_at f h) lists are (rw c.if-not-are_kept.false at c.are_kept.ensures) c.in-None.ensures);
     }

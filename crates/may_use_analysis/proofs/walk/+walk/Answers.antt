@@ -1,5 +1,5 @@
 use Rattle.std.proofs.Common.{ℕ, ◌+◌, ◌*◌, ◌-◌, ◌<◌, ◌∷◌, [], ◌++◌, append-nil, arith, rules, length, drop, List, refl, sym, ap, ◌∙◌, subst, Contains, inl, inr, ◌⊎◌}
-use Rattle.std.specs.Prelude.{IfOk, OnOk}
+use Rattle.std.specs.Prelude.{IfOk}
 use Rattle.symbolic_ops.specs.declared.symbol.Symbol.{Symbol}
 use Rattle.check_meaning.specs.declared.tree.CheckedStmt.{CheckedStmt}
 use Rattle.check_meaning.specs.Code.{Code, Finish, Loop, IsNumbered, stmt_code, block_code, points}
@@ -9,12 +9,14 @@ use Rattle.may_use_analysis.specs.Flow.{Flow, Head}
 use Rattle.may_use_analysis.specs.Ordered.{Are}
 use Rattle.may_use_analysis.specs.Recorded.{Recorded}
 use Rattle.may_use_analysis.specs.PointList.{PointList}
-use Rattle.may_use_analysis.specs.Warm.{HeadAt, AreWarm, SameOutside}
+use Rattle.may_use_analysis.specs.Vars.{AllCovered}
+use Rattle.may_use_analysis.specs.Warm.{HeadAt, AreWarm}
 use Rattle.may_use_analysis.proofs.LoopLemmas.{head_start}
 use Rattle.may_use_analysis.proofs.Records.{recorded_same, recorded_stmt, recorded_extends, head_lists, kept_lists}
 use Rattle.may_use_analysis.proofs.Sets.{stored_lent}
+use Rattle.may_use_analysis.proofs.StillLemmas.{still_are}
 use Rattle.may_use_analysis.proofs.WalkSteps.{block_step, fork_step, turn_sound, turn_start, turn_least, turn_done, drop_code}
-use Rattle.may_use_analysis.proofs.WarmLemmas.{warm_larger, warm_below, warm_above, outside_trans, start_of, numbered_next, warm_next, warm_after, others_after, warm_kept}
+use Rattle.may_use_analysis.proofs.WarmLemmas.{warm_larger, start_of, numbered_next, warm_next}
 use Rattle.may_use_analysis.proofs.walk.+walk.Goals as goal
 
 -- what is behind a loop and what was kept lie within the set at its head
@@ -31,7 +33,7 @@ before_block-before_stmt-requires t c =
     let within : i - 1 < length items = omega arith in
     let smaller = member_smaller items (i - 1) x x within c.index-block-i.is in
     let double : 2 * checked_size x < 2 * checked_sizes items = omega arith in
-    (search rules, ((start_of items (i - 1) n.0, numbered_next items i x c.loop-i-test.true c.loop-i.auto.i c.index-block-i.is n.0 n.1), warm_next items i x c.loop-i-test.true c.loop-i.auto.i c.index-block-i.is c.loop-i.heads (Contains c.args.after) c.loop-i.set c.loop-i.invariant.warm c.loop-i.invariant.set))
+    (search rules, ((start_of items (i - 1) n.0, numbered_next items i x c.loop-i-test.true c.loop-i.auto.i c.index-block-i.is n.0 n.1), warm_next items i x c.loop-i-test.true c.loop-i.auto.i c.index-block-i.is c.args.heads.now (Contains c.args.after) c.loop-i.set c.requires.warm c.loop-i.invariant.set))
 
 pub before_block-loop-i-preserved : goal.before_block-loop-i-preserved
 before_block-loop-i-preserved t c =
@@ -50,8 +52,6 @@ before_block-loop-i-preserved t c =
     record {
       set = subst (λ (z : Code). Are c.in_ok-set.set (Flow z after)) (sym code) step;
       lists = subst (λ (z : Code). Recorded z after c.args.out.now c.before_stmt.new.out) (sym code) lists;
-      warm = warm_after items i x some le is c.loop-i.heads c.before_stmt.new.heads c.in_ok-set.ensures.others after c.loop-i.set n.0 n.1 c.loop-i.invariant.set c.in_ok-set.ensures.warm c.loop-i.invariant.warm;
-      others = others_after items i x some le is c.loop-i.heads c.before_stmt.new.heads c.in_ok-set.ensures.others c.args.heads.now c.loop-i.invariant.others;
     }
 
 pub before_loop-loop-init : goal.before_loop-loop-init
@@ -67,7 +67,6 @@ before_loop-loop-init t c =
       start = λ s m. (union s).1 (inl m);
       kept = ([], sym (append-nil c.args.out.now));
       warm = warm_larger heads body (HeadAt heads c.args.point) (Contains head) (λ s m. (union s).1 (inr m)) c.requires.warm.1;
-      others = λ low n i h. refl;
     }
 
 pub before_loop-returns-then-not-branch-clause-set : goal.before_loop-returns-then-not-branch-clause-set
@@ -91,21 +90,6 @@ before_loop-returns-then-not-branch-clause-lists t c =
     let least = turn_least x body after head start c.carry.new.self c.join.new.self is_start c.carry.ensures none c.loop.invariant.start in
     head_lists x body after head c.args.out.now c.truncate.new.self c.before_block.new.out cut lists c.loop.invariant.sound least
 
-pub before_loop-returns-then-not-branch-clause-warm : goal.before_loop-returns-then-not-branch-clause-warm
-before_loop-returns-then-not-branch-clause-warm t c =
-    let x = c.args.var in
-    let body = block_code c.args.body.now in
-    let after = c.args.after in
-    let head = c.loop.head in
-    let new = c.join.new.self in
-    let heads = c.before_block.new.heads in
-    let is_start = subst (λ (z : List Symbol). Are c.in_ok-turn.turn (Flow body (Contains z))) c.in_ok-copy.ensures c.in_ok-turn.ensures.set in
-    let sound = turn_sound x body after head c.in_ok-turn.turn c.carry.new.self new is_start c.carry.ensures c.in_ok-join.ensures.union c.loop.invariant.sound in
-    let was = subst (λ (z : List Symbol). AreWarm heads body (Contains z)) c.in_ok-copy.ensures c.in_ok-turn.ensures.warm in
-    let warm = warm_larger heads body (Contains head) (Contains new) (λ s m. (c.in_ok-join.ensures.union s).1 (inl m)) was in
-    let n = c.requires.numbered in
-    warm_kept heads c.keep.new.self c.args.point x n.0 new body (Contains after) n.1.0 n.1.1 c.in_ok-keep.ensures sound warm
-
 pub before_loop-loop-preserved : goal.before_loop-loop-preserved
 before_loop-loop-preserved t c =
     let x = c.args.var in
@@ -115,17 +99,14 @@ before_loop-loop-preserved t c =
     let start = c.in_ok-turn.turn in
     let turn = c.carry.new.self in
     let new = c.join.new.self in
-    let heads = c.before_block.new.heads in
     let is_start = subst (λ (z : List Symbol). Are start (Flow body (Contains z))) c.in_ok-copy.ensures c.in_ok-turn.ensures.set in
     let cut = kept_lists c.args.out.now c.loop.out c.truncate.new.self c.len-size.result c.loop.invariant.kept c.len-size.ensures c.truncate.ensures in
     let more = recorded_extends body (Contains c.in_ok-copy.copy) c.truncate.new.self c.before_block.new.out c.in_ok-turn.ensures.lists in
-    let was = subst (λ (z : List Symbol). AreWarm heads body (Contains z)) c.in_ok-copy.ensures c.in_ok-turn.ensures.warm in
     record {
       sound = turn_sound x body after head start turn new is_start c.carry.ensures c.in_ok-join.ensures.union c.loop.invariant.sound;
       start = turn_start x body after head start turn new c.in_ok-join.ensures.union c.loop.invariant.start;
       kept = (more.0, more.1 ∙ ap (λ (z : List PointList). z ++ more.0) cut);
-      warm = warm_larger heads body (Contains head) (Contains new) (λ s m. (c.in_ok-join.ensures.union s).1 (inl m)) was;
-      others = λ low n. outside_trans c.args.heads.now c.loop.heads heads low (low + points body) (c.loop.invariant.others low n) (c.in_ok-turn.ensures.others low n);
+      warm = warm_larger c.args.heads.now body (Contains head) (Contains new) (λ s m. (c.in_ok-join.ensures.union s).1 (inl m)) c.loop.invariant.warm;
     }
 
 pub before_stmt-before_block-requires : goal.before_stmt-before_block-requires
@@ -148,19 +129,13 @@ before_stmt-before_block-requires-in-Choose t c =
     let after = Contains c.args.after in
     let low = c.requires.numbered.0 in
     let xs = c.as_slice-in-Choose-3.result.now in
-    let yes = block_code w.yes in
-    let no = block_code w.no in
-    let old = c.args.heads.now in
-    let heads = c.before_block.new.heads in
+    let heads = c.args.heads.now in
     let same = ap (λ (z : CheckedStmt). stmt_code z Finish) w.is ∙ code_choose w.at w.yes_point w.no_point w.cond w.yes w.no Finish in
     let n = subst (λ (z : Code). IsNumbered z low) same c.requires.numbered.1 in
-    let warm = subst (λ (z : Code). AreWarm old z after) same c.requires.warm in
+    let warm = subst (λ (z : Code). AreWarm heads z after) same c.requires.warm in
     let smaller = first_smaller c.args.stmt.now w.at w.yes_point w.no_point w.cond w.yes w.no xs w.is c.as_slice-in-Choose-3.ensures in
     let double : 2 * checked_sizes xs < 2 * checked_size c.args.stmt.now = omega arith in
-    let others = subst (λ (z : List CheckedStmt). (j : ℕ) → IsNumbered (block_code z) j → SameOutside old heads j (j + points (block_code z))) c.as_slice-in-Choose.ensures c.in_ok-second-in-Choose.ensures.others in
-    let start = low + 2 + points yes in
-    let there = warm_below old heads yes (low + 1) start (start + points no) after n.1 (others start n.3) (omega arith) warm.0 in
-    (search rules, ((low + 1, subst (λ (z : List CheckedStmt). IsNumbered (block_code z) (low + 1)) (sym c.as_slice-in-Choose-3.ensures) n.1), subst (λ (z : List CheckedStmt). AreWarm heads (block_code z) after) (sym c.as_slice-in-Choose-3.ensures) there))
+    (search rules, ((low + 1, subst (λ (z : List CheckedStmt). IsNumbered (block_code z) (low + 1)) (sym c.as_slice-in-Choose-3.ensures) n.1), subst (λ (z : List CheckedStmt). AreWarm heads (block_code z) after) (sym c.as_slice-in-Choose-3.ensures) warm.0))
 
 pub before_stmt-before_loop-requires : goal.before_stmt-before_loop-requires
 before_stmt-before_loop-requires t c =
@@ -222,28 +197,10 @@ before_stmt-returns-in_ok-keep-in-Repeat-clause-set t c =
     let set = subst (λ (z : List CheckedStmt). IfOk c.before_loop.result (λ r. Are r (Head w.var (block_code z) (Contains c.args.after)))) c.as_slice-in-Repeat-2.ensures c.before_loop.ensures.set in
     subst (λ (z : Code). IfOk c.before_loop.result (λ r. Are r (Flow z (Contains c.args.after)))) (sym same) set
 
-pub before_stmt-returns-in_ok-join-in-Choose-clause-warm : goal.before_stmt-returns-in_ok-join-in-Choose-clause-warm
-before_stmt-returns-in_ok-join-in-Choose-clause-warm t c =
-    let w = c.in-Choose in
-    let after = Contains c.args.after in
-    let low = c.requires.numbered.0 in
-    let yes = block_code w.yes in
-    let no = block_code w.no in
-    let heads = c.before_block.new.heads in
-    let new = c.before_block-in-Choose.new.heads in
-    let same = ap (λ (z : CheckedStmt). stmt_code z Finish) w.is ∙ code_choose w.at w.yes_point w.no_point w.cond w.yes w.no Finish in
-    let n = subst (λ (z : Code). IsNumbered z low) same c.requires.numbered.1 in
-    let others = subst (λ (z : List CheckedStmt). (j : ℕ) → IsNumbered (block_code z) j → SameOutside heads new j (j + points (block_code z))) c.as_slice-in-Choose-3.ensures c.in_ok-first-in-Choose.ensures.others in
-    let first = subst (λ (z : List CheckedStmt). AreWarm new (block_code z) after) c.as_slice-in-Choose-3.ensures c.in_ok-first-in-Choose.ensures.warm in
-    let second' = subst (λ (z : List Symbol). AreWarm heads (block_code c.as_slice-in-Choose.result.now) (Contains z)) c.in_ok-copy-in-Choose.ensures c.in_ok-second-in-Choose.ensures.warm in
-    let second = subst (λ (z : List CheckedStmt). AreWarm heads (block_code z) after) c.as_slice-in-Choose.ensures second' in
-    subst (λ (z : Code). AreWarm new z after) (sym same) (first, warm_above heads new no (low + 2 + points yes) (low + 1) (low + 1 + points yes) after n.3 (others (low + 1) n.1) (omega arith) second, tt)
+pub before_stmt-returns-then-is_still-clause-set : goal.before_stmt-returns-then-is_still-clause-set
+before_stmt-returns-then-is_still-clause-set t c =
+    still_are c.vars-vars.result.bits (stmt_code c.args.stmt.now Finish) c.args.after c.if-is_still.ensures c.vars-vars.ensures
 
-pub before_stmt-returns-in_ok-keep-in-Repeat-clause-warm : goal.before_stmt-returns-in_ok-keep-in-Repeat-clause-warm
-before_stmt-returns-in_ok-keep-in-Repeat-clause-warm t c =
-    let w = c.in-Repeat in
-    let after = Contains c.args.after in
-    let new = c.before_loop.new.heads in
-    let same = ap (λ (z : CheckedStmt). stmt_code z Finish) w.is ∙ code_repeat w.at w.point w.turns w.var w.body Finish in
-    let warm = subst (λ (z : List CheckedStmt). OnOk c.before_loop.result (AreWarm new (Loop 0 w.point 0 w.var (block_code z) Finish) after)) c.as_slice-in-Repeat-2.ensures c.before_loop.ensures.warm in
-    subst (λ (z : Code). OnOk c.before_loop.result (AreWarm new z after)) (sym same) warm
+pub before_stmt-keep_stmt-requires-clause-covered : goal.before_stmt-keep_stmt-requires-clause-covered
+before_stmt-keep_stmt-requires-clause-covered t c =
+    subst (AllCovered c.vars-vars.result.bits) (sym c.as_slice.ensures.symbols) c.vars-vars.ensures

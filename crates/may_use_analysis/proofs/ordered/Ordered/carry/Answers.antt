@@ -12,4 +12,4 @@ returns-then-is_any_changed c =
     let put = c.put_before.ensures ∙ ap (map (back step)) c.as_mut_slice.ensures.value in
     let long : length c.put_before.new.list ≡ length xs = ap length put ∙ length-map xs (back step) in
     let written = written_back c.self.inside.symbols.len c.put_before.new.list xs long c.self.inside.symbols.ok.0 in
-    carried_members step c.args.self.now _ c.put_in_order.new.list.items (written ∙ put ∙ ap (map (back step)) c.self.view_is) c.put_in_order.ensures.members
+    carried_members step c.args.self.now _ c.put_in_order-self-inside.new.list.items (written ∙ put ∙ ap (map (back step)) c.self.view_is) c.put_in_order-self-inside.ensures.members
