@@ -40,7 +40,7 @@ fn keys_known_apart(a: &Op, s: &Symbol) -> bool
     ensures { result ≡ (is_keyed a.now.kind && is_keyed s.now.kind
         && is_apart a.now.key s.now.key) }
 {
-    a.kind.is_keyed() && s.kind.is_keyed() && known_apart(a.key, s.key)
+    a.kind.is_keyed() && s.kind.is_keyed() && known_apart(a.key(), s.key())
 }
 
 /// They are one plain change, whatever the key.
@@ -49,7 +49,9 @@ fn known_change(a: &Op, s: &Symbol) -> bool
     ensures { result ≡ (is_plain a.now.kind && (kind_place a.now.kind == kind_place s.now.kind)
         && (not (kind_place a.now.kind == 1) || is_same a.now.value s.now.value)) }
 {
-    a.kind.is_plain() && a.kind == s.kind && (a.kind != Kind::Put || known_same(a.value, s.value))
+    a.kind.is_plain()
+        && a.kind == s.kind
+        && (a.kind != Kind::Put || known_same(a.value(), s.value()))
 }
 
 /// The argument may be a number.
@@ -70,11 +72,11 @@ fn known_sums(a: &Op, s: &Symbol) -> bool
 {
     add_up(
         a.kind,
-        is_number(a.value),
-        is_zero(a.value),
+        is_number(a.value()),
+        is_zero(a.value()),
         s.kind,
-        may_be_number(s.value),
-        known_same(Value::Num(0), s.value),
+        may_be_number(s.value()),
+        known_same(Value::Num(0), s.value()),
     )
 }
 

@@ -18,7 +18,7 @@ fn keys_apart(a: &Op, b: &Op) -> bool
     ensures { result ≡ (is_keyed a.now.kind && is_keyed b.now.kind
         && not (value_eq a.now.key b.now.key)) }
 {
-    a.kind.is_keyed() && b.kind.is_keyed() && a.key != b.key
+    a.kind.is_keyed() && b.kind.is_keyed() && a.key() != b.key()
 }
 
 /// They are one plain change.
@@ -30,8 +30,8 @@ fn same_change(a: &Op, b: &Op) -> bool
 {
     a.kind.is_plain()
         && a.kind == b.kind
-        && a.key == b.key
-        && (a.kind != Kind::Put || a.value == b.value)
+        && a.key() == b.key()
+        && (a.kind != Kind::Put || a.value() == b.value())
 }
 
 /// They add up.
@@ -41,11 +41,11 @@ fn sums(a: &Op, b: &Op) -> bool
 {
     add_up(
         a.kind,
-        is_number(a.value),
-        is_zero(a.value),
+        is_number(a.value()),
+        is_zero(a.value()),
         b.kind,
-        is_number(b.value),
-        is_zero(b.value),
+        is_number(b.value()),
+        is_zero(b.value()),
     )
 }
 

@@ -179,10 +179,10 @@ pub(crate) fn op_of(env: &[Value], call: CheckedCall) -> Op
     requires { IsCallWithin (length env.now) call }
     ensures { result ≡ meaning.op_of call (env_of env.now) }
 {
-    Op {
-        kind: call.kind,
-        table: call.table,
-        key: value_of_atom(env, call.key),
-        value: value_of_atom(env, call.value),
-    }
+    Op::new(
+        call.kind,
+        call.table,
+        value_of_atom(env, call.key),
+        value_of_atom(env, call.value),
+    )
 }

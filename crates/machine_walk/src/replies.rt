@@ -18,13 +18,7 @@ use session_values::{Reply, Value};
 pub(crate) fn nil_reply() -> Reply
     ensures { result ≡ spec.reply_of [] }
 {
-    Reply {
-        count: 1,
-        a: Value::Nil,
-        b: Value::Nil,
-        c: Value::Nil,
-        d: Value::Nil,
-    }
+    Reply::new(1, Value::Nil, Value::Nil, Value::Nil, Value::Nil)
 }
 
 /// The value of an expression of the list, or nil past its end.
@@ -53,5 +47,5 @@ pub(crate) fn reply_of(env: &[Value], values: &[CheckedExpr]) -> Reply
     let b = value_at(env, values, 1);
     let c = value_at(env, values, 2);
     let d = value_at(env, values, 3);
-    Reply { count, a, b, c, d }
+    Reply::new(count, a, b, c, d)
 }

@@ -28,9 +28,9 @@ fn mark_of_arg(a: Arg) -> u64 {
 }
 
 fn mark_of(s: &Symbol) -> u64 {
-    mark_of_arg(s.key)
+    mark_of_arg(s.key())
         .wrapping_mul(FACTOR)
-        .wrapping_add(mark_of_arg(s.value))
+        .wrapping_add(mark_of_arg(s.value()))
         .wrapping_mul(FACTOR)
         .wrapping_add(u64::from(s.table))
         .wrapping_add(s.kind as u64)

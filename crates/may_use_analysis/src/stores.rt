@@ -44,12 +44,12 @@ pub(crate) fn symbol_before(store: Store, s: &Symbol) -> Symbol
     ensures { result ≡ back (step_of store) s.now }
 {
     s.bounds();
-    Symbol {
-        kind: s.kind,
-        table: s.table,
-        key: arg_before(store, s.key),
-        value: arg_before(store, s.value),
-    }
+    Symbol::new(
+        s.kind,
+        s.table,
+        arg_before(store, s.key()),
+        arg_before(store, s.value()),
+    )
 }
 
 fn argument(has: bool, atom: CheckedAtom) -> Arg
@@ -67,10 +67,10 @@ pub(crate) fn symbol_of(call: &CheckedCall) -> Symbol
     ensures { result ≡ symbol_of call.now }
 {
     let arguments = call.kind.arguments();
-    Symbol {
-        kind: call.kind,
-        table: call.table,
-        key: argument(0 < arguments, call.key),
-        value: argument(1 < arguments, call.value),
-    }
+    Symbol::new(
+        call.kind,
+        call.table,
+        argument(0 < arguments, call.key),
+        argument(1 < arguments, call.value),
+    )
 }

@@ -41,7 +41,7 @@ impl Vars {
         ensures here { Covers result.bits s.now }
         ensures still { (x : ℕ) → IsMarked self.bits x → IsMarked result.bits x }
     {
-        self.with_arg(s.key).with_arg(s.value)
+        self.with_arg(s.key()).with_arg(s.value())
     }
 
     /// Those that some of these symbols mention.

@@ -95,19 +95,19 @@ impl ValueMap {
         ensures sure { is_adding op.kind ≡ false → IsOk result }
     {
         match op.kind {
-            Kind::Get => Ok(self.get(op.key)),
+            Kind::Get => Ok(self.get(op.key())),
             Kind::Put => {
-                self.swap(op.key, op.value)?;
+                self.swap(op.key(), op.value())?;
                 Ok(Value::Nil)
             }
-            Kind::Swap => self.swap(op.key, op.value),
+            Kind::Swap => self.swap(op.key(), op.value()),
             Kind::Del => {
-                self.remove(op.key);
+                self.remove(op.key());
                 Ok(Value::Nil)
             }
             Kind::Size => Ok(Value::Num(self.size())),
             Kind::Bump => {
-                self.bump(op.key, op.value)?;
+                self.bump(op.key(), op.value())?;
                 Ok(Value::Nil)
             }
             Kind::Has | Kind::Add | Kind::Mark | Kind::Drop | Kind::Count => Ok(Value::Nil),

@@ -74,14 +74,14 @@ impl ValueSet {
         ensures sure { is_adding op.kind ≡ false → IsOk result }
     {
         match op.kind {
-            Kind::Has => Ok(bit_of(self.has(op.key))),
-            Kind::Add => Ok(bit_of(self.add(op.key)?)),
+            Kind::Has => Ok(bit_of(self.has(op.key()))),
+            Kind::Add => Ok(bit_of(self.add(op.key())?)),
             Kind::Mark => {
-                self.add(op.key)?;
+                self.add(op.key())?;
                 Ok(Value::Nil)
             }
             Kind::Drop => {
-                self.remove(op.key);
+                self.remove(op.key());
                 Ok(Value::Nil)
             }
             Kind::Count => Ok(Value::Num(self.count())),

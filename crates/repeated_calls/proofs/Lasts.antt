@@ -2,6 +2,7 @@
 use Rattle.std.proofs.Common.{◌≡◌, ℕ, zero, suc, ◌+◌, ◌<◌, List, [], ◌∷◌, ◌++◌, ◌-◌, ◌*◌, length, map, refl, sym, ap, ◌∙◌, subst, arith}
 use Rattle.std.specs.Prelude.{replicate, slice_index_or}
 use Rattle.session_values.specs.declared.op.Op.{Op}
+use Rattle.session_values.specs.declared.reply.Reply.{Reply}
 use Rattle.symbolic_ops.specs.Matching.{exact_symbol}
 use Rattle.session_journal.specs.Lists.{HasPlace, ListView, Ticket, answers_only, calls_more, last_ticket, ticket_at, with_last}
 use Rattle.repeated_calls.specs.Repeated.{Keeps, RepeatedView, list_more, no_value, repeated, with_repeated}
@@ -122,6 +123,12 @@ ticketed l = record {
   calls_left = l.calls_left;
   symbols_left = l.symbols_left;
 }
+
+-- it was made with a reply that is nil
+pub ticketed_by : (l one : ListView) (r : Reply) → r ≡ no_value → one ≡ record { shape = l.shape; tickets = l.tickets ++ answers_only r ∷ []; tickets_left = l.tickets_left - 1; calls_left = l.calls_left; symbols_left = l.symbols_left } → one ≡ ticketed l
+ticketed_by l one r e is =
+    let P : Reply → ListView = λ v. record { shape = l.shape; tickets = l.tickets ++ answers_only v ∷ []; tickets_left = l.tickets_left - 1; calls_left = l.calls_left; symbols_left = l.symbols_left } in
+    is ∙ ap P e
 
 pub listed : (l one two : ListView) (n : ℕ) (op : Op) → one ≡ ticketed l → two ≡ after one op n → two ≡ list_more l n op
 listed l one two n op is made =

@@ -13,13 +13,11 @@ use std::alloc::Global;
 use std::marker::Model;
 
 /// What each ticket answers.
-pub(crate) const NIL: Reply = Reply {
-    count: 1,
-    a: Value::Nil,
-    b: Value::Nil,
-    c: Value::Nil,
-    d: Value::Nil,
-};
+pub(crate) fn nil() -> Reply
+    ensures { result ≡ no_value }
+{
+    Reply::new(1, Value::Nil, Value::Nil, Value::Nil, Value::Nil)
+}
 
 /// A list of tickets, each of which calls an operation of its own so many times, and then answers
 /// nil.
@@ -88,7 +86,7 @@ impl RepeatedCalls {
         requires left { 0 < self.old.list.tickets_left }
         ensures { self.new ≡ with_repeated self.old op }
     {
-        self.list.ticket(NIL);
+        self.list.ticket(nil());
         call_times(&mut self.list, op, self.times);
         self.ops.push_reserved(op);
     }

@@ -4,7 +4,7 @@ ghost use Rattle.std.specs.Prelude.{◌≡◌, [], None, false, IfOk, OnErr};
 ghost use Rattle.ticket_serving.specs.Served.{IsServed};
 ghost use Rattle.repeated_calls.specs.Repeated.{IsPlan};
 
-use crate::list::NIL;
+use crate::list::nil;
 use session_journal::Desk;
 use session_values::{NoMemory, Op};
 use std::sync::Wait;
@@ -34,6 +34,6 @@ pub(crate) fn call_all<R: Threads + Wait + Sync, D: Desk>(
         desk.call(rt, op)?;
         desk.finish(rt, list);
     }
-    desk.end(rt, NIL);
+    desk.end(rt, nil());
     Ok(())
 }

@@ -17,7 +17,7 @@ pub fn line(ticket: u32, reply: &Reply, names: &Names, out: &mut LineBuf)
     ensures { out.new ≡ line_text names.now ticket reply.now }
 {
     let count = reply.count as usize;
-    let values = [reply.a, reply.b, reply.c, reply.d];
+    let values = [reply.a(), reply.b(), reply.c(), reply.d()];
     let mut buffer = Buffer::new();
     out.clear();
     out.push(buffer.format(ticket).as_bytes());

@@ -30,7 +30,7 @@ fn place_of(op: Op, shards: u32) -> u32
     let within = if op.kind.arguments() == 0 {
         0
     } else {
-        shard_of(op.key, shards)
+        shard_of(op.key(), shards)
     };
     op.table * shards + within
 }

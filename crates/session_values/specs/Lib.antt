@@ -8,6 +8,7 @@ pub mod Op
 pub mod Reply
 pub mod ReplyText
 pub mod Serial
+pub mod Sorts
 pub mod Sums
 pub mod Tables
 pub mod Values

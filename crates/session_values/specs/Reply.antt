@@ -1,8 +1,10 @@
 -- Replies as contracts see them: plain records, of which the type keeps a fact.
-use Rattle.std.specs.Prelude.{◌≡◌, ℕ, ◌<◌, ◌≤◌, List, [], ◌∷◌, take}
+use Rattle.std.specs.Prelude.{◌≡◌, ℕ, ◌<◌, ◌≤◌, ◌==◌, Bool, List, [], ◌∷◌, take}
+use Rattle.std.specs.Ordering.{eq_by_cmp, eq_of_both, on}
+use Rattle.std.specs.Cmp.{IsEquivalence, and_equiv, eq_by_cmp_equiv, nat_eq_equiv, on_equiv}
 use Rattle.session_values.specs.declared.value.Value.{Value}
 use Rattle.session_values.specs.declared.value.Value.TheVariants.{Nil}
-use Rattle.session_values.specs.Values.{IsValue}
+use Rattle.session_values.specs.Values.{IsValue, value_cmp, value_cmp_total}
 
 pub record ReplyView : Type 0 where
   pub count : ℕ
@@ -10,6 +12,19 @@ pub record ReplyView : Type 0 where
   pub b : Value
   pub c : Value
   pub d : Value
+
+-- whether two replies are the same: by the number of their values, and these
+abbrev pub reply_eq : ReplyView → ReplyView → Bool
+reply_eq = eq_of_both (eq_of_both (on (λ r. r.count) ◌==◌) (on (λ r. r.a) (eq_by_cmp value_cmp)))
+    (eq_of_both (on (λ r. r.b) (eq_by_cmp value_cmp))
+    (eq_of_both (on (λ r. r.c) (eq_by_cmp value_cmp)) (on (λ r. r.d) (eq_by_cmp value_cmp))))
+
+pub reply_eq_equiv : IsEquivalence reply_eq
+reply_eq_equiv = and_equiv (and_equiv (on_equiv (λ r. r.count) nat_eq_equiv)
+    (on_equiv (λ r. r.a) (eq_by_cmp_equiv value_cmp_total)))
+    (and_equiv (on_equiv (λ r. r.b) (eq_by_cmp_equiv value_cmp_total))
+    (and_equiv (on_equiv (λ r. r.c) (eq_by_cmp_equiv value_cmp_total))
+    (on_equiv (λ r. r.d) (eq_by_cmp_equiv value_cmp_total))))
 
 -- it has 1 to 4 values, and the others are nil
 abbrev pub IsReply : ℕ → Value → Value → Value → Type 0

@@ -9,6 +9,7 @@ mod names;
 mod op;
 mod reply;
 mod seeded;
+mod sort;
 mod value;
 
 pub use bump::bumped;

@@ -58,19 +58,19 @@ impl MapShard {
         ensures after { map_shard self.new ≡ shard_after (map_shard self.old) op }
     {
         match op.kind {
-            Kind::Get => self.get(op.key),
+            Kind::Get => self.get(op.key()),
             Kind::Put => {
-                self.bind(op.key, op.value);
+                self.bind(op.key(), op.value());
                 Value::Nil
             }
-            Kind::Swap => self.bind(op.key, op.value),
+            Kind::Swap => self.bind(op.key(), op.value()),
             Kind::Del => {
-                self.unbind(op.key);
+                self.unbind(op.key());
                 Value::Nil
             }
             Kind::Size => Value::Num(i64::from(self.len())),
             Kind::Bump => {
-                self.bump(op.key, op.value);
+                self.bump(op.key(), op.value());
                 Value::Nil
             }
             Kind::Has | Kind::Add | Kind::Mark | Kind::Drop | Kind::Count => Value::Nil,

@@ -57,14 +57,14 @@ impl SetShard {
         ensures after { set_shard self.new ≡ shard_after (set_shard self.old) op }
     {
         match op.kind {
-            Kind::Has => bit_of(self.has(op.key)),
-            Kind::Add => bit_of(self.add(op.key)),
+            Kind::Has => bit_of(self.has(op.key())),
+            Kind::Add => bit_of(self.add(op.key())),
             Kind::Mark => {
-                self.add(op.key);
+                self.add(op.key());
                 Value::Nil
             }
             Kind::Drop => {
-                self.remove(op.key);
+                self.remove(op.key());
                 Value::Nil
             }
             Kind::Count => Value::Num(i64::from(self.len())),

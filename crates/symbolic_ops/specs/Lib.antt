@@ -1,3 +1,4 @@
+pub mod ArgSorts
 pub mod Foresight
 pub mod Instantiate
 pub mod Order

@@ -3,40 +3,58 @@
 ghost use Rattle.std.specs.Prelude.{◌≡◌, ◌≤◌, length, map};
 ghost use Rattle.std.specs.List.{AllByRecursion};
 ghost use Rattle.symbolic_ops.specs.Instantiate.{ArgWithin, IsWithin, arg_in, symbol_in};
-ghost use Rattle.symbolic_ops.specs.Matching.{HasNoVar, IsNoVar};
+ghost use Rattle.symbolic_ops.specs.Matching.{HasNoVar};
 
 use crate::arg::Arg;
 use crate::foresight::Foresight;
 use crate::symbol::Symbol;
 use session_values::Value;
 
-impl Arg {
-    fn with_values(self, env: &[Value]) -> Arg
-        requires { ArgWithin (length env.now) self }
-        ensures value { result ≡ arg_in env.now self }
-        ensures known { IsNoVar result }
+impl Symbol {
+    /// Puts its value in place of a variable that is the key. Only what changes is written.
+    #[inline(always)]
+    fn put_key(&mut self, env: &[Value])
+        requires { ArgWithin (length env.now) self.old.key }
+        ensures { self.new ≡ record {
+          kind = self.old.kind;
+          table = self.old.table;
+          key = arg_in env.now self.old.key;
+          value = self.old.value;
+        } }
     {
-        match self {
-            Arg::Var(x) => Arg::Known(env[x as usize]),
-            Arg::Known(v) => Arg::Known(v),
-            Arg::Any => Arg::Any,
+        self.bounds();
+        if let Arg::Var(x) = self.key() {
+            self.set_key(Arg::Known(env[x as usize]));
         }
     }
-}
 
-impl Symbol {
+    /// Puts its value in place of a variable that is the value. Only what changes is written.
+    #[inline(always)]
+    fn put_value(&mut self, env: &[Value])
+        requires { ArgWithin (length env.now) self.old.value }
+        ensures { self.new ≡ record {
+          kind = self.old.kind;
+          table = self.old.table;
+          key = self.old.key;
+          value = arg_in env.now self.old.value;
+        } }
+    {
+        self.bounds();
+        if let Arg::Var(x) = self.value() {
+            self.set_value(Arg::Known(env[x as usize]));
+        }
+    }
+
     /// The symbol with the values of its variables.
     pub(crate) fn with_values(&self, env: &[Value]) -> Symbol
         requires { IsWithin (length env.now) self.now }
         ensures value { result ≡ symbol_in env.now self.now }
         ensures known { HasNoVar result }
     {
-        Symbol {
-            kind: self.kind,
-            table: self.table,
-            key: self.key.with_values(env),
-            value: self.value.with_values(env),
-        }
+        let mut s = *self;
+        s.put_key(env);
+        s.put_value(env);
+        s
     }
 }
 

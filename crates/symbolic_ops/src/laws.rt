@@ -14,7 +14,7 @@ use session_values::Op;
 use std::cmp::Ordering;
 
 /// Arguments are ordered as is written: the known ones by value, variables by number, any.
-#[tactic(auto, using(crate::proofs::Orders::arg_cmp_total, crate::proofs::Orders::arg_exact))]
+#[tactic(auto, using(crate::specs::Order::arg_cmp_total, crate::specs::Order::arg_exact))]
 pub fn order_of_args(a: Arg, b: Arg) -> Ordering
     ensures written { result ≡ arg_cmp a b }
     ensures total { IsTotalOrder arg_cmp }

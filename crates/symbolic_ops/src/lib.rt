@@ -2,6 +2,7 @@
 #![tactic(auto)]
 
 mod arg;
+mod arg_sort;
 mod covering;
 mod foresight;
 mod instantiating;

@@ -51,12 +51,12 @@ fn put_args<D: Declarations>(
         return Ok(());
     }
     put(", ", out)?;
-    put_arg(s.key, handler, at, names, out)?;
+    put_arg(s.key(), handler, at, names, out)?;
     if count == 1 {
         return Ok(());
     }
     put(", ", out)?;
-    put_arg(s.value, handler, at, names, out)
+    put_arg(s.value(), handler, at, names, out)
 }
 
 /// Appends a symbol.

@@ -40,7 +40,7 @@ fn is_list_of(list: &[Symbol], found: &[Shown]) -> bool {
         return false;
     }
     for s in list {
-        if !found.contains(&(s.kind, s.table, s.key, s.value)) {
+        if !found.contains(&(s.kind, s.table, s.key(), s.value())) {
             return false;
         }
     }

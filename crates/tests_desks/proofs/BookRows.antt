@@ -167,3 +167,10 @@ module _ (older : ℕ) (y : Symbol) (v : BookView ListView) where
       known (suc zero) l = refl
       known (suc (suc zero)) l = refl
       known (suc (suc (suc t))) l = absurd (omega (arith, l))
+
+-- ---- an operation or a reply that a function made, in the form of the rows
+pub admits_as : (b d : Book) (t : ℕ) (op q : Op) (r : Admission) → op ≡ q → Admits b t op r d → Admits b t q r d
+admits_as b d t op q r e h = let P : Op → Type 0 = λ o. Admits b t o r d in subst P e h
+
+pub ended_as : (b d : Book) (t : ℕ) (r q : Reply) → r ≡ q → HasEnded b t r d → HasEnded b t q d
+ended_as b d t r q e h = let P : Reply → Type 0 = λ o. HasEnded b t o d in subst P e h

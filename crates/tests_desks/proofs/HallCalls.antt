@@ -114,6 +114,10 @@ module _ (h : Hall ListView) (script : script_of h ≡ gets_and_puts) (c : Calle
   may_end_1 v w s = may_end 1 _ _ s refl
 
 -- ---- what the calls leave
+-- the operation in flight is this one
+pub flies : (h : Hall ListView) (c : Caller ListView) (t : ℕ) (f : List Symbol) (es : List Entry) (op q : Op) → op ≡ q → Stands h c t (InFlight t op) f es → Stands h c t (InFlight t q) f es
+flies h c t f es op q e s = let P : Op → Type 0 = λ o. Stands h c t (InFlight t o) f es in subst P e s
+
 module _ (h : Hall ListView) (p q : Caller ListView) (t : ℕ) (f : List Symbol) (es : List Entry) (k : IsCallerOf meaning_of h q) where
   pub has_admitted : (m : Meaning) (op : Op) → Stands h p t (Serves t) f es → AdmittedAfter m p q op → Stands h q t (InFlight t op) f es
   has_admitted m op s a = let x = of_serving p.stage t _ s.stage a in record { caller = k; stage = x.2.stage_is; foresight = ap (λ y. y.symbols) x.3 ∙ s.foresight; entries = x.4 ∙ s.entries }

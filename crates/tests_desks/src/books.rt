@@ -5,7 +5,7 @@ ghost use Rattle.session_limits.specs.Limits.{max_symbols};
 ghost use Rattle.session_journal.specs.Journal.{begun};
 ghost use Rattle.admission_book.specs.Book.{after_begin, record_of};
 ghost use Rattle.admission_book.specs.Lawful.{Lawful};
-ghost use Rattle.tests_desks.specs.BookRows.{IsAt, all_begun, all_ended, gets_and_put, has_put, list_entry, meaning_of};
+ghost use Rattle.tests_desks.specs.BookRows.{IsAt, all_begun, all_ended, get_of, gets_and_put, has_put, list_entry, meaning_of, nil_reply, put_of};
 
 use admission_book::{Admission, Book};
 use session_journal::{Event, ListScript, Script};
@@ -14,47 +14,42 @@ use std::alloc::Global;
 use std::process::Abort;
 use symbolic_ops::{Foresight, Symbol};
 
-pub(crate) const NIL: Reply = Reply {
-    count: 1,
-    a: Value::Nil,
-    b: Value::Nil,
-    c: Value::Nil,
-    d: Value::Nil,
-};
+pub(crate) fn nil() -> Reply
+    ensures { result ≡ nil_reply }
+{
+    Reply::new(1, Value::Nil, Value::Nil, Value::Nil, Value::Nil)
+}
 
-pub(crate) const PUT_2: Op = Op {
-    kind: Kind::Put,
-    table: 0,
-    key: Value::Num(2),
-    value: Value::Num(7),
-};
+pub(crate) fn put_2() -> Op
+    ensures { result ≡ put_of 2 7 }
+{
+    Op::new(Kind::Put, 0, Value::Num(2), Value::Num(7))
+}
 
-pub(crate) const GET_1: Op = Op {
-    kind: Kind::Get,
-    table: 0,
-    key: Value::Num(1),
-    value: Value::Nil,
-};
+pub(crate) fn get_1() -> Op
+    ensures { result ≡ get_of 1 }
+{
+    Op::new(Kind::Get, 0, Value::Num(1), Value::Nil)
+}
 
-const GET_2: Op = Op {
-    kind: Kind::Get,
-    table: 0,
-    key: Value::Num(2),
-    value: Value::Nil,
-};
+fn get_2() -> Op
+    ensures { result ≡ get_of 2 }
+{
+    Op::new(Kind::Get, 0, Value::Num(2), Value::Nil)
+}
 
 /// A ticket that may get two keys, one that may get the second one, and one that puts it.
 fn three_tickets(alloc: Global) -> Result<ListScript, NoMemory>
     ensures { IfOk result (λ s. s ≡ gets_and_put) }
 {
     let mut script = ListScript::with_room(alloc, &[TableKind::Map], 3, 1, 4)?;
-    script.ticket(NIL);
-    script.allow(Symbol::exact(&GET_1));
-    script.allow(Symbol::exact(&GET_2));
-    script.ticket(NIL);
-    script.allow(Symbol::exact(&GET_2));
-    script.ticket(NIL);
-    script.call(PUT_2);
+    script.ticket(nil());
+    script.allow(Symbol::exact(&get_1()));
+    script.allow(Symbol::exact(&get_2()));
+    script.ticket(nil());
+    script.allow(Symbol::exact(&get_2()));
+    script.ticket(nil());
+    script.call(put_2());
     Ok(script)
 }
 
@@ -99,13 +94,13 @@ fn put_when_free<R: Abort>(
     requires { IsAt gets_and_put all_begun book.old }
     ensures { IsAt gets_and_put (has_put result.0 result.1) book.new }
 {
-    let Admission::Delayed { older, symbol } = book.admit(2, PUT_2) else {
+    let Admission::Delayed { older, symbol } = book.admit(2, put_2()) else {
         rt.panic("not delayed")
     };
     scratch.clear();
     book.narrow(0, scratch);
     book.narrow(1, scratch);
-    let Admission::Admitted = book.admit(2, PUT_2) else {
+    let Admission::Admitted = book.admit(2, put_2()) else {
         rt.panic("delayed")
     };
     book.done(2, Value::Nil, scratch);
@@ -117,9 +112,9 @@ fn end_all(book: &mut Book<ListScript>, older: u32, symbol: Symbol)
     requires { IsAt gets_and_put (has_put older symbol) book.old }
     ensures { IsAt gets_and_put (all_ended older symbol) book.new }
 {
-    book.end(0, NIL);
-    book.end(1, NIL);
-    book.end(2, NIL);
+    book.end(0, nil());
+    book.end(1, nil());
+    book.end(2, nil());
 }
 
 /// What the book says once the youngest ticket has put: the last event, the oldest open ticket, and
@@ -129,7 +124,7 @@ fn says_put<R: Abort>(rt: &R, book: &Book<ListScript>)
 {
     let done = Event::Done {
         ticket: 2,
-        op: PUT_2,
+        op: put_2(),
         reply: Value::Nil,
     };
     assert!(rt; book.journal().events().last().copied() == Some(done));
@@ -141,7 +136,7 @@ fn says_put<R: Abort>(rt: &R, book: &Book<ListScript>)
 fn says_ended<R: Abort>(rt: &R, book: &Book<ListScript>)
     requires { Lawful (meaning_of book.now.script) book.now.book }
 {
-    assert!(rt; book.reply(2) == Some(NIL));
+    assert!(rt; book.reply(2) == Some(nil()));
     assert!(rt; book.oldest_open() == None && book.next_ticket() == None);
 }
 
@@ -149,7 +144,7 @@ fn says_ended<R: Abort>(rt: &R, book: &Book<ListScript>)
 pub(crate) fn are_nil<R: Abort>(rt: &R, replies: &[Reply], count: usize) {
     assert!(rt; replies.len() == count);
     for reply in replies {
-        assert!(rt; *reply == NIL);
+        assert!(rt; *reply == nil());
     }
 }
 
@@ -159,7 +154,7 @@ fn the_youngest_ticket_waits_until_the_others_narrow(rt: HostRuntime) {
     let mut scratch = Foresight::with_room(alloc, 256).expect(&rt, "memory");
     let mut book = begin_all(&rt, alloc, &mut scratch);
     let (older, symbol) = put_when_free(&rt, &mut book, &mut scratch);
-    assert!(rt; older == 0 && symbol == Symbol::exact(&GET_2));
+    assert!(rt; older == 0 && symbol == Symbol::exact(&get_2()));
     says_put(&rt, &book);
     end_all(&mut book, older, symbol);
     says_ended(&rt, &book);

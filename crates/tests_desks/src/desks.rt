@@ -52,13 +52,7 @@ fn serve<D: Desk, R: Threads + Wait + Abort + Sync>(
 }
 
 fn answer(n: i64) -> Reply {
-    Reply {
-        count: 1,
-        a: Value::Num(n),
-        b: Value::Nil,
-        c: Value::Nil,
-        d: Value::Nil,
-    }
+    Reply::new(1, Value::Num(n), Value::Nil, Value::Nil, Value::Nil)
 }
 
 // Two tickets over one map, of one operation each.

@@ -12,7 +12,7 @@ ghost use Rattle.session_hall.specs.Stages.{IsBetween};
 ghost use Rattle.tests_desks.specs.BookRows.{get_of, list_entry, meaning_of, put_of};
 ghost use Rattle.tests_desks.specs.HallRows.{HasTwo, Stands, done, gets_and_puts};
 
-use crate::books::{GET_1, NIL, PUT_2, are_nil};
+use crate::books::{are_nil, get_1, nil, put_2};
 use hall_rule::Part;
 use session_hall::{Admitting, Applying, Caller, Closed, Hall};
 use session_journal::{Event, ListScript};
@@ -23,32 +23,30 @@ use std::process::Abort;
 use std::sync::Wait;
 use symbolic_ops::{Foresight, Symbol};
 
-const PUT_1: Op = Op {
-    kind: Kind::Put,
-    table: 0,
-    key: Value::Num(1),
-    value: Value::Num(7),
-};
+fn put_1() -> Op
+    ensures { result ≡ put_of 1 7 }
+{
+    Op::new(Kind::Put, 0, Value::Num(1), Value::Num(7))
+}
 
-/// Its key is in one shard of two with that of `PUT_2`.
-const GET_4: Op = Op {
-    kind: Kind::Get,
-    table: 0,
-    key: Value::Num(4),
-    value: Value::Nil,
-};
+/// Its key is in one shard of two with that of `put_2`.
+fn get_4() -> Op
+    ensures { result ≡ get_of 4 }
+{
+    Op::new(Kind::Get, 0, Value::Num(4), Value::Nil)
+}
 
 /// A ticket that gets one key and may get another one, and one that puts twice.
 fn two_tickets(alloc: Global) -> Result<ListScript, NoMemory>
     ensures { IfOk result (λ s. s ≡ gets_and_puts) }
 {
     let mut script = ListScript::with_room(alloc, &[TableKind::Map], 2, 3, 4)?;
-    script.ticket(NIL);
-    script.call(GET_4);
-    script.allow(Symbol::exact(&GET_1));
-    script.ticket(NIL);
-    script.call(PUT_2);
-    script.call(PUT_1);
+    script.ticket(nil());
+    script.call(get_4());
+    script.allow(Symbol::exact(&get_1()));
+    script.ticket(nil());
+    script.call(put_2());
+    script.call(put_1());
     Ok(script)
 }
 
@@ -107,15 +105,15 @@ fn put_on_taken_shard<R: Wait + Abort>(
         (exact_symbol (put_of 2 7) ∷ exact_symbol (put_of 1 7) ∷ []) [] }
     ensures room { scratch.new.room ≡ scratch.old.room }
 {
-    older.admit(rt, hall, GET_4);
+    older.admit(rt, hall, get_4());
     let got = older.apply(rt, hall);
-    younger.admit(rt, hall, PUT_2);
+    younger.admit(rt, hall, put_2());
     let Applying::Busy { turn } = younger.try_apply(hall) else {
         rt.panic("no shard was taken")
     };
     assert!(rt; turn == 1);
     scratch.clear();
-    scratch.push(Symbol::exact(&GET_1));
+    scratch.push(Symbol::exact(&get_1()));
     older.finish(rt, hall, scratch);
     got
 }
@@ -137,7 +135,7 @@ fn put_first<R: Wait + Abort>(
 {
     let put = younger.apply(rt, hall);
     scratch.clear();
-    scratch.push(Symbol::exact(&PUT_1));
+    scratch.push(Symbol::exact(&put_1()));
     younger.finish(rt, hall, scratch);
     put
 }
@@ -167,14 +165,14 @@ fn put_again<R: Wait + Abort>(
     let Admitting::Delayed {
         older: ticket,
         symbol,
-    } = younger.try_admit(hall, PUT_1)
+    } = younger.try_admit(hall, put_1())
     else {
         rt.panic("not delayed")
     };
-    assert!(rt; ticket == 0 && symbol == Symbol::exact(&GET_1));
+    assert!(rt; ticket == 0 && symbol == Symbol::exact(&get_1()));
     scratch.clear();
     older.declare(rt, hall, scratch);
-    younger.admit(rt, hall, PUT_1);
+    younger.admit(rt, hall, put_1());
     let put = younger.apply(rt, hall);
     younger.finish(rt, hall, scratch);
     put
@@ -199,8 +197,8 @@ fn end_both<R: Wait + Abort>(
     ensures older { IsCallerOf meaning_of hall.now older.new × (older.new.stage ≡ Out) }
     ensures younger { IsCallerOf meaning_of hall.now younger.new × (younger.new.stage ≡ Out) }
 {
-    older.end(rt, hall, NIL);
-    younger.end(rt, hall, NIL);
+    older.end(rt, hall, nil());
+    younger.end(rt, hall, nil());
     leave(rt, hall, older);
     leave(rt, hall, younger);
 }
@@ -260,14 +258,14 @@ fn done_event(ticket: u32, op: Op) -> Option<Event> {
 fn has_events<R: Abort>(rt: &R, closed: &Closed) {
     let delay = Event::Delay {
         ticket: 1,
-        op: PUT_1,
+        op: put_1(),
         older: 0,
-        symbol: Symbol::exact(&GET_1),
+        symbol: Symbol::exact(&get_1()),
     };
-    assert!(rt; event_at(closed, 2) == done_event(0, GET_4));
-    assert!(rt; event_at(closed, 3) == done_event(1, PUT_2));
+    assert!(rt; event_at(closed, 2) == done_event(0, get_4()));
+    assert!(rt; event_at(closed, 3) == done_event(1, put_2()));
     assert!(rt; event_at(closed, 4) == Some(delay));
-    assert!(rt; event_at(closed, 5) == done_event(1, PUT_1));
+    assert!(rt; event_at(closed, 5) == done_event(1, put_1()));
     assert!(rt; closed.journal().events().len() == 8);
 }
 

@@ -4,7 +4,7 @@ ghost use Rattle.std.specs.Prelude.{◌≡◌, ◌∷◌, [], IfOk, length, map}
 ghost use Rattle.session_values.specs.declared.kind.TableKind.TheVariants.{Map};
 ghost use Rattle.session_values.specs.Tables.{kind_of};
 
-use crate::books::NIL;
+use crate::books::nil;
 use crate::map_ops::{get, put};
 use plain_tables::PlainTables;
 use session_journal::{Event, Journal, ListScript, Script};
@@ -121,7 +121,7 @@ fn what_does_not_commute_stays_in_order(rt: HostRuntime) {
 
 #[test]
 fn an_event_is_small(rt: HostRuntime) {
-    assert!(rt; std::mem::size_of::<Event>() <= 112);
+    assert!(rt; std::mem::size_of::<Event>() <= 64);
 }
 
 /// A ticket that puts and gets, and one that puts.
@@ -129,10 +129,10 @@ fn two_tickets(alloc: Global) -> Result<ListScript, NoMemory>
     ensures { IfOk result (λ s. length s.tickets ≡ 2) }
 {
     let mut script = ListScript::with_room(alloc, &[TableKind::Map], 2, 3, 3)?;
-    script.ticket(NIL);
+    script.ticket(nil());
     script.call(put(2, 7));
     script.call(get(1));
-    script.ticket(NIL);
+    script.ticket(nil());
     script.call(put(1, 7));
     Ok(script)
 }

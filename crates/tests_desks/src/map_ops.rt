@@ -8,21 +8,11 @@ use session_values::{Kind, Op, TableKind, Value};
 pub(crate) fn put(key: i64, value: i64) -> Op
     ensures { Fits (TableKind.Map ∷ []) result }
 {
-    Op {
-        kind: Kind::Put,
-        table: 0,
-        key: Value::Num(key),
-        value: Value::Num(value),
-    }
+    Op::new(Kind::Put, 0, Value::Num(key), Value::Num(value))
 }
 
 pub(crate) fn get(key: i64) -> Op
     ensures { Fits (TableKind.Map ∷ []) result }
 {
-    Op {
-        kind: Kind::Get,
-        table: 0,
-        key: Value::Num(key),
-        value: Value::Nil,
-    }
+    Op::new(Kind::Get, 0, Value::Num(key), Value::Nil)
 }

@@ -52,24 +52,14 @@ impl Declarations for Sample {
 }
 
 fn three_symbols(alloc: Global, names: &Names) -> Result<Sample, Fail> {
-    let put = Symbol {
-        kind: Kind::Put,
-        table: 0,
-        key: Arg::Var(0),
-        value: Arg::Known(Value::Num(-7)),
-    };
-    let get = Symbol {
-        kind: Kind::Get,
-        table: 0,
-        key: Arg::Any,
-        value: Arg::Known(Value::Nil),
-    };
-    let size = Symbol {
-        kind: Kind::Size,
-        table: 0,
-        key: Arg::Known(Value::Nil),
-        value: Arg::Known(Value::Nil),
-    };
+    let put = Symbol::new(Kind::Put, 0, Arg::Var(0), Arg::Known(Value::Num(-7)));
+    let get = Symbol::new(Kind::Get, 0, Arg::Any, Arg::Known(Value::Nil));
+    let size = Symbol::new(
+        Kind::Size,
+        0,
+        Arg::Known(Value::Nil),
+        Arg::Known(Value::Nil),
+    );
     let (Some(table), Some(variable)) = (names.find("m"), names.find("k")) else {
         return Err("no such names")?;
     };

@@ -17,13 +17,7 @@ const LINE: &str = "19999 \
 fn prints_the_longest(alloc: Global) -> Result<(bool, usize), Fail> {
     let mut names = Names::with_seed(alloc, 0);
     let a = Value::Sym(names.place(SYMBOL)?);
-    let reply = Reply {
-        count: 4,
-        a,
-        b: a,
-        c: a,
-        d: a,
-    };
+    let reply = Reply::new(4, a, a, a, a);
     let mut out = LineBuf::new();
     line(19999, &reply, &names, &mut out);
     Ok((out.bytes() == LINE.as_bytes(), out.bytes().len()))

@@ -20,24 +20,9 @@ fn op(kind: Kind, key: i64, value: i64) -> Op
 {
     let table = if kind.on_map() { 0 } else { 1 };
     match kind.arguments() {
-        0 => Op {
-            kind,
-            table,
-            key: Value::Nil,
-            value: Value::Nil,
-        },
-        1 => Op {
-            kind,
-            table,
-            key: Value::Num(key),
-            value: Value::Nil,
-        },
-        _ => Op {
-            kind,
-            table,
-            key: Value::Num(key),
-            value: Value::Num(value),
-        },
+        0 => Op::new(kind, table, Value::Nil, Value::Nil),
+        1 => Op::new(kind, table, Value::Num(key), Value::Nil),
+        _ => Op::new(kind, table, Value::Num(key), Value::Num(value)),
     }
 }
 
@@ -180,24 +165,14 @@ fn worked_pairs(rt: HostRuntime) {
 // The other one names a map, and works on sets: no tables fit it beside an operation on that map.
 #[test]
 fn an_operation_elsewhere_commutes(rt: HostRuntime) {
-    let elsewhere = Op {
-        kind: Kind::Has,
-        table: 0,
-        key: Value::Num(1),
-        value: Value::Nil,
-    };
+    let elsewhere = Op::new(Kind::Has, 0, Value::Num(1), Value::Nil);
     assert!(rt; commute(&op(Kind::Put, 1, 5), &elsewhere));
 }
 
 // Whether the operation of this kind on the key 1 and the value 5 commutes with each `put` on its
 // map with these arguments.
 fn told_of_puts(kind: Kind, key: Arg, value: Arg) -> bool {
-    let symbol = Symbol {
-        kind: Kind::Put,
-        table: 0,
-        key,
-        value,
-    };
+    let symbol = Symbol::new(Kind::Put, 0, key, value);
     symbol.has_no_var() && commute_symbol(&op(kind, 1, 5), &symbol)
 }
 
@@ -227,18 +202,8 @@ fn worked_symbols(rt: HostRuntime) {
 fn told_of_bumps(by: Value, kind: Kind, key: Arg, value: Arg) -> bool
     requires { IsSymbol kind key value }
 {
-    let bump = Op {
-        kind: Kind::Bump,
-        table: 0,
-        key: Value::Num(1),
-        value: by,
-    };
-    let symbol = Symbol {
-        kind,
-        table: 0,
-        key,
-        value,
-    };
+    let bump = Op::new(Kind::Bump, 0, Value::Num(1), by);
+    let symbol = Symbol::new(kind, 0, key, value);
     symbol.has_no_var() && commute_symbol(&bump, &symbol)
 }
 
@@ -258,12 +223,7 @@ fn worked_bumps(rt: HostRuntime) {
         told_of_bumps(Value::Nil, Kind::Size, nil, nil),
     ];
     assert!(rt; told == [true, false, true, true, false, false, true]);
-    let bumps = Symbol {
-        kind: Kind::Bump,
-        table: 0,
-        key: one,
-        value: Arg::Any,
-    };
+    let bumps = Symbol::new(Kind::Bump, 0, one, Arg::Any);
     assert!(rt; !commute_symbol(&op(Kind::Put, 1, 5), &bumps));
 }
 

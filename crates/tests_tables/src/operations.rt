@@ -24,12 +24,7 @@ fn case_of(kind: Kind, table: u32, key: Value, value: Value, reply: Value) -> Ca
     requires op { IsOp kind key value }
     requires fits { slice_get (Map ∷ Set ∷ Map ∷ Set ∷ []) table ≡ Some (home kind) }
 {
-    let op = Op {
-        kind,
-        table,
-        key,
-        value,
-    };
+    let op = Op::new(kind, table, key, value);
     Case { op, reply }
 }
 

@@ -81,12 +81,10 @@ fn op_of(kind: Kind, key: Value, value: Value) -> Op
     ensures { slice_get (Map ∷ Set ∷ []) result.table ≡ Some (home result.kind) }
 {
     let arguments = kind.arguments();
-    Op {
-        kind,
-        table: if kind.on_map() { 0 } else { 1 },
-        key: if arguments < 1 { Nil } else { key },
-        value: if arguments < 2 { Nil } else { value },
-    }
+    let table = if kind.on_map() { 0 } else { 1 };
+    let key = if arguments < 1 { Nil } else { key };
+    let value = if arguments < 2 { Nil } else { value };
+    Op::new(kind, table, key, value)
 }
 
 // An operation by its kind, key and value, its reply, and the room that is left after it.
@@ -227,7 +225,7 @@ fn reply_of(parts: &mut [Part], op: Op) -> Option<Value> {
     if op.kind.arguments() == 0 {
         total(&mut parts[first..first + 4], op)
     } else {
-        parts[first + shard_of(op.key, 4) as usize].apply(op)
+        parts[first + shard_of(op.key(), 4) as usize].apply(op)
     }
 }
 

@@ -14,21 +14,11 @@ const ONE: Arg = Arg::Known(Value::Num(1));
 const FIVE: Arg = Arg::Known(Value::Num(5));
 
 fn get(table: u32, key: Arg) -> Symbol {
-    Symbol {
-        kind: Kind::Get,
-        table,
-        key,
-        value: NIL,
-    }
+    Symbol::new(Kind::Get, table, key, NIL)
 }
 
 fn put(table: u32, key: Arg, value: Arg) -> Symbol {
-    Symbol {
-        kind: Kind::Put,
-        table,
-        key,
-        value,
-    }
+    Symbol::new(Kind::Put, table, key, value)
 }
 
 // A foresight of this symbol alone.
@@ -62,12 +52,7 @@ fn any_symbol_covers_none(rt: HostRuntime) {
 }
 
 fn put_five() -> Op {
-    Op {
-        kind: Kind::Put,
-        table: 0,
-        key: Value::Num(1),
-        value: Value::Num(5),
-    }
+    Op::new(Kind::Put, 0, Value::Num(1), Value::Num(5))
 }
 
 // Whether a symbol stands for the operation `put` of 5 at 1 on the table 0.
@@ -103,18 +88,8 @@ fn two_symbols(alloc: Global) -> Result<Foresight, NoMemory>
     ensures { IfOk result (λ f. length f.symbols ≡ 2) }
 {
     let declared = [
-        Symbol {
-            kind: Kind::Put,
-            table: 1,
-            key: Arg::Var(1),
-            value: Arg::Var(0),
-        },
-        Symbol {
-            kind: Kind::Get,
-            table: 0,
-            key: Arg::Any,
-            value: Arg::Known(Value::Nil),
-        },
+        Symbol::new(Kind::Put, 1, Arg::Var(1), Arg::Var(0)),
+        Symbol::new(Kind::Get, 0, Arg::Any, Arg::Known(Value::Nil)),
     ];
     let env = [Value::Num(5), Value::Sym(3)];
     let mut out = Foresight::with_room(alloc, 2)?;

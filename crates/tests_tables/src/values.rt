@@ -38,22 +38,11 @@ fn want_of_memory_is_printed(rt: HostRuntime) {
 }
 
 fn put(table: u32, value: i64) -> Op {
-    Op {
-        kind: Kind::Put,
-        table,
-        key: Value::Nil,
-        value: Value::Num(value),
-    }
+    Op::new(Kind::Put, table, Value::Nil, Value::Num(value))
 }
 
 fn one_value(n: i64) -> Reply {
-    Reply {
-        count: 1,
-        a: Value::Num(n),
-        b: Value::Nil,
-        c: Value::Nil,
-        d: Value::Nil,
-    }
+    Reply::new(1, Value::Num(n), Value::Nil, Value::Nil, Value::Nil)
 }
 
 #[test]

@@ -18,12 +18,7 @@ const TICKETS: u32 = 20000;
 fn op_of(ticket: u32) -> Op
     ensures { Fits (Map ∷ []) result }
 {
-    Op {
-        kind: Kind::Bump,
-        table: 0,
-        key: Value::Num(0),
-        value: Value::Num(i64::from(ticket)),
-    }
+    Op::new(Kind::Bump, 0, Value::Num(0), Value::Num(i64::from(ticket)))
 }
 
 fn tickets(alloc: Global) -> Result<RepeatedCalls, NoMemory>

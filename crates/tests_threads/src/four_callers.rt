@@ -37,12 +37,7 @@ fn op_of(ticket: u32) -> Op
         2 => (Kind::Put, Value::Num(i64::from(ticket))),
         _ => (Kind::Del, Value::Nil),
     };
-    Op {
-        kind,
-        table: 0,
-        key,
-        value,
-    }
+    Op::new(kind, 0, key, value)
 }
 
 /// All tickets.

@@ -23,8 +23,9 @@ loop-done-preserved g c = (
 
 pub end-requires-clause-answers : goal.end-requires-clause-answers
 end-requires-clause-answers g c =
-    subst (λ s. next_of (g.D.Served.Script.meaning s) (g.D.Desk.at c.loop-done.desk) ≡ Answers no_value) (sym c.loop-done.invariant.0)
-    (answers_next (g.D.Served.Script.meaning (g.D.Desk.script c.args.desk.now)) c.args.op c.args.times c.args.list.now.symbols (g.D.Desk.at c.args.desk.now) c.requires.plan (g.D.Desk.at c.loop-done.desk) c.loop-done.done c.loop-done.invariant.1 (omega (arith, c.loop-done-test.false)))
+    subst (λ r. next_of (g.D.Served.Script.meaning (g.D.Desk.script c.loop-done.desk)) (g.D.Desk.at c.loop-done.desk) ≡ Answers r) (sym c.nil.ensures)
+    (subst (λ s. next_of (g.D.Served.Script.meaning s) (g.D.Desk.at c.loop-done.desk) ≡ Answers no_value) (sym c.loop-done.invariant.0)
+    (answers_next (g.D.Served.Script.meaning (g.D.Desk.script c.args.desk.now)) c.args.op c.args.times c.args.list.now.symbols (g.D.Desk.at c.args.desk.now) c.requires.plan (g.D.Desk.at c.loop-done.desk) c.loop-done.done c.loop-done.invariant.1 (omega (arith, c.loop-done-test.false))))
 
 pub returns-clause-served : goal.returns-clause-served
 returns-clause-served g c =
