@@ -1,6 +1,6 @@
 mod Firsts
 mod Going
-mod OneText
+pub mod OneText
 mod Parts
 mod Taken
 mod Texts

@@ -3,7 +3,7 @@ use Rattle.std.specs.Prelude.{◌≡◌, ◌≢◌, ◌+◌, ◌⊎◌, ◌↔�
 use Rattle.session_limits.specs.Limits.{max_input}
 use Rattle.byte_ends.specs.Ends.{Rose, Grew, GrewByFront, IsAtEnd, LostFirst, LostAtMost}
 use Rattle.serve_words.specs.declared.command.Command.{Command}
-use Rattle.serve_words.specs.declared.command.Command.TheVariants.{Check, Show, Serve, Work}
+use Rattle.serve_words.specs.declared.command.Command.TheVariants.{Check, Show, Serve, Work, Ranges}
 use Rattle.session_journal.specs.Script.{Meaning, session_of}
 use Rattle.session_hall.specs.Closings.{ClosedView, IsDone}
 use Rattle.handler_syntax.specs.Language.{File}
@@ -44,6 +44,7 @@ Told (Some Check) c P = IfSome (c.bytes c.old) P
 Told (Some Show) c P = IfSome (c.bytes c.old) P
 Told (Some (Serve callers shards)) c P = IfSome (c.bytes c.old) P
 Told (Some (Work requests start)) c P = (bytes : List ℕ) → P bytes
+Told (Some Ranges) c P = IfSome (c.bytes c.old) P
 
 -- a sink took all of the text, or a front of it
 abbrev pub Took : {S : Type 0} → Change S → List ℕ → Type 0
