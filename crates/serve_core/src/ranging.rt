@@ -16,28 +16,24 @@ use serve_reading::{Unserved, read_input};
 use std::alloc::Global;
 
 /// Reads lines, and writes what they answer.
-pub(crate) fn range_source<I: Source, O: Sink>(
-    alloc: Global,
-    source: &mut I,
-    out: &mut O,
-) -> Status
+pub(crate) fn range_source<I: Source, O: Sink>(alloc: Global, source: &mut I, out: &mut O) -> Status
     ensures { Runs (Some Ranges)
         (change I.left I.faults source.old source.new)
         (change O.held O.faults out.old out.new) result None }
 {
     match read_input(alloc, source) {
-        Ok(bytes) => range_input(alloc, bytes.as_slice(), out),
+        Ok(bytes) => range_input(alloc, bytes, out),
         Err(status) => status,
     }
 }
 
 // Writes what the lines of an input answer.
-fn range_input<O: Sink>(alloc: Global, bytes: &[u8], out: &mut O) -> Status
-    requires { length bytes.now ≤ max_input }
-    ensures { AnswersTo Ranges bytes.now
+fn range_input<O: Sink>(alloc: Global, bytes: Vec<u8>, out: &mut O) -> Status
+    requires { length bytes.items ≤ max_input }
+    ensures { AnswersTo Ranges bytes.items
         (change O.held O.faults out.old out.new) result None }
 {
-    match range_text(alloc, bytes) {
+    match text_of_bytes(alloc, bytes) {
         Ok(text) => {
             if write_all(out, text.as_slice()) {
                 Status::Fine
@@ -48,6 +44,16 @@ fn range_input<O: Sink>(alloc: Global, bytes: &[u8], out: &mut O) -> Status
         Err(Unserved::Refused(fault)) => Status::Refused(fault),
         Err(Unserved::NoMemory) => Status::NoMemory,
     }
+}
+
+// What the lines of an input answer. The bytes are freed.
+fn text_of_bytes(alloc: Global, bytes: Vec<u8>) -> Result<Vec<u8>, Unserved>
+    requires { length bytes.items ≤ max_input }
+    ensures input { IfOk result (λ _. IsInput Ranges bytes.items) }
+    ensures text { IfOk result (λ text. IsTextOf Ranges bytes.items text.items) }
+    ensures refused { IfErr result (IsReason Ranges bytes.items) }
+{
+    range_text(alloc, bytes.as_slice())
 }
 
 // What the lines of an input answer.

@@ -9,5 +9,5 @@ use Rattle.serve_core.proofs.ranging.range_input.Goals as goal
 
 pub returns-in-Err-Refused : goal.returns-in-Err-Refused
 returns-in-Err-Refused g c =
-    unranged_to c.args.bytes.now (change g.O.Sink.held g.O.Sink.faults c.args.out.now c.args.out.now) (Refused c.in-Err-Refused.fault) refl
-    (subst (λ (e : Unserved). IsReason Ranges c.args.bytes.now e) c.in-Err-Refused.field-0-is c.in-Err-Refused.ensures.refused)
+    unranged_to c.args.bytes.items (change g.O.Sink.held g.O.Sink.faults c.args.out.now c.args.out.now) (Refused c.in-Err-Refused.fault) refl
+    (subst (λ (e : Unserved). IsReason Ranges c.args.bytes.items e) c.in-Err-Refused.field-0-is c.in-Err-Refused.ensures.refused)
