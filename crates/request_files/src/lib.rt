@@ -22,3 +22,4 @@ pub use reading::read_requests;
 pub use refusal::RequestRefusal;
 pub use request::Request;
 pub use requests::Requests;
+pub use word_value::{is_symbol, number, value};

@@ -16,8 +16,8 @@ fn first_byte(word: &str) -> u8
     word.as_bytes().first().copied().unwrap_or(0)
 }
 
-/// The number that the word is, if it is one.
-fn number(word: &str) -> Option<i64>
+/// The number that the word is, if it is one: an optional minus, then digits, within 64 bits.
+pub fn number(word: &str) -> Option<i64>
     ensures { result ≡ spec.number word.now }
 {
     let first = first_byte(word);
@@ -34,8 +34,9 @@ fn are_symbol_bytes(bytes: &[u8]) -> bool
     bytes.iter().all(|b| is_symbol_byte(*b))
 }
 
+/// Whether the word is a symbol's text, of at most 64 bytes.
 #[tactic(auto, unfolding(crate::specs::Values::is_symbol))]
-fn is_symbol(word: &str) -> bool
+pub fn is_symbol(word: &str) -> bool
     ensures { result ≡ spec.is_symbol word.now }
 {
     let bytes = word.as_bytes();
@@ -54,7 +55,7 @@ fn is_symbol(word: &str) -> bool
 
 /// The value of a word, if it is one. A symbol is placed in the list of names.
 #[tactic(auto, unfolding(crate::specs::Values::value_of, crate::specs::Values::placed))]
-pub(crate) fn value(word: &str, names: &mut Names) -> Result<Option<Value>, NoMemory>
+pub fn value(word: &str, names: &mut Names) -> Result<Option<Value>, NoMemory>
     requires { length names.old < 4294967295 }
     ensures value { IfOk result (λ v. v ≡ spec.value_of names.new word.now) }
     ensures names { OnOk result (names.new ≡ spec.placed names.old word.now) }

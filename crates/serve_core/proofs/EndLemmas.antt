@@ -9,13 +9,13 @@ use Rattle.session_journal.specs.Script.{Meaning, session_of}
 use Rattle.session_journal.specs.Journal.{done_operations}
 use Rattle.session_hall.specs.Closings.{ClosedView, IsDone}
 use Rattle.serve_words.specs.declared.command.Command.{Command}
-use Rattle.serve_words.specs.declared.command.Command.TheVariants.{Check, Show, Serve, Work}
+use Rattle.serve_words.specs.declared.command.Command.TheVariants.{Check, Show, Serve, Work, Ranges}
 use Rattle.serve_made.specs.Summary.{summary}
 use Rattle.serve_faults.specs.declared.status.Fault.{Fault}
 use Rattle.serve_faults.specs.declared.status.Fault.TheVariants as fault
 use Rattle.serve_faults.specs.declared.status.Status.{Status}
 use Rattle.serve_faults.specs.declared.status.Status.TheVariants as status
-use Rattle.serve_faults.specs.Input.{Parts, parts_of, input_of, has_requests, handlers_of, is_divided, IsInput}
+use Rattle.serve_faults.specs.Input.{Parts, parts_of, input_of, has_handlers, has_requests, wants_divided, handlers_of, is_divided, IsInput}
 use Rattle.serve_faults.specs.Session.{session_of_parts, all_names_of, replies_text, serial_calls}
 use Rattle.serve_faults.specs.Answer.{IsRefused, IsTextOf}
 use Rattle.serve_faults.specs.Changes.{Change, IsUntouched}
@@ -113,23 +113,39 @@ handlers_same Check input e = absurd (cc)
 handlers_same Show input e = absurd (cc)
 handlers_same (Serve callers shards) input e = refl
 handlers_same (Work requests start) input e = refl
+handlers_same Ranges input e = absurd (cc)
+
+wanted : (c : Command) (input : List ℕ) → has_requests c ≡ true → wants_divided c input ≡ true
+wanted Check input e = e
+wanted Show input e = e
+wanted (Serve callers shards) input e = refl
+wanted (Work requests start) input e = refl
+wanted Ranges input e = absurd (cc)
+
+handled : (c : Command) → has_requests c ≡ true → has_handlers c ≡ true
+handled Check e = refl
+handled Show e = refl
+handled (Serve callers shards) e = refl
+handled (Work requests start) e = refl
+handled Ranges e = e
 
 session_input : (c : Command) (input : List ℕ) → has_requests c ≡ true → IsSessionInput input → IsInput c input
-session_input c input has i = record { short = i.short; utf8 = i.utf8; parts = i.divided ∙ sym has }
+session_input c input has i = record { short = i.short; utf8 = i.utf8; parts = i.divided ∙ sym (wanted c input has) }
 
 input_reason : (c : Command) (input : List ℕ) (e : Unserved) → has_requests c ≡ true → IsInputReason input e → IsReason c input e
 input_reason c input NoMemory has h = tt
 input_reason c input (Refused fault.TooLarge) has h = absurd h
 input_reason c input (Refused fault.NotText) has h = h
-input_reason c input (Refused fault.NoRequests) has h = (h.0, h.1, has, h.2)
+input_reason c input (Refused fault.NoRequests) has h = (h.0, h.1, wanted c input has, h.2)
 input_reason c input (Refused fault.HasRequests) has h = absurd h
 input_reason c input (Refused (fault.Syntax e)) has h =
-    (session_input c input has h.0, subst (λ (t : List ℕ). IsSessionReason (record { handlers = t; requests = (parts_of input).requests; first = (parts_of input).first }) (Refused (fault.Syntax e))) (sym (handlers_same c input has)) h.1)
+    (session_input c input has h.0, subst (λ (t : List ℕ). IsSessionReason (record { handlers = t; requests = (parts_of input).requests; first = (parts_of input).first }) (Refused (fault.Syntax e))) (sym (handlers_same c input has)) h.1, handled c has)
 input_reason c input (Refused (fault.Check e)) has h =
-    (session_input c input has h.0, subst (λ (t : List ℕ). IsSessionReason (record { handlers = t; requests = (parts_of input).requests; first = (parts_of input).first }) (Refused (fault.Check e))) (sym (handlers_same c input has)) h.1)
+    (session_input c input has h.0, subst (λ (t : List ℕ). IsSessionReason (record { handlers = t; requests = (parts_of input).requests; first = (parts_of input).first }) (Refused (fault.Check e))) (sym (handlers_same c input has)) h.1, handled c has)
 input_reason c input (Refused (fault.Analysis e)) has h =
-    (session_input c input has h.0, subst (λ (t : List ℕ). IsSessionReason (record { handlers = t; requests = (parts_of input).requests; first = (parts_of input).first }) (Refused (fault.Analysis e))) (sym (handlers_same c input has)) h.1)
+    (session_input c input has h.0, subst (λ (t : List ℕ). IsSessionReason (record { handlers = t; requests = (parts_of input).requests; first = (parts_of input).first }) (Refused (fault.Analysis e))) (sym (handlers_same c input has)) h.1, handled c has)
 input_reason c input (Refused (fault.Request e)) has h = (session_input c input has h.0, has, h.1)
+input_reason c input (Refused (fault.Ranges e)) has h = absurd h.1
 
 -- the text of the replies of what was served
 served_text_is : (parts : Parts) (callers shards : ℕ) (s : Served) (h : HasServed parts callers shards s) → reply_text s.names 0 s.closed.replies ≡ replies_text parts h.file
@@ -199,3 +215,19 @@ module _ {O : Type 0} (requests start : ℕ) (bytes : List ℕ) (out : Change O)
 
   pub unworked_to : (e : Unserved) → IsUntouched out → IsInputReason made e → AnswersTo (Work requests start) bytes out (status_of e) None
   unworked_to e same r = reason_to (Work requests start) bytes out same e (input_reason (Work requests start) made e refl r)
+
+-- ---- range sessions
+module _ {O : Type 0} (bytes : List ℕ) (out : Change O) where
+  range_served : (s : Status) → false ≡ has_served (Some Ranges) s
+  range_served status.Fine = refl
+  range_served status.WriteFault = refl
+  range_served (status.Refused f) = refl
+  range_served status.Usage = refl
+  range_served status.NoMemory = refl
+  range_served status.ReadFault = refl
+
+  pub ranged_to : (text : List ℕ) (s : Status) → IsInput Ranges bytes → IsTextOf Ranges bytes text → EndsBy text out s → AnswersTo Ranges bytes out s None
+  ranged_to text s i is e = ends_to Ranges bytes out text i is s None e (range_served s) tt
+
+  pub unranged_to : (e : Unserved) → IsUntouched out → IsReason Ranges bytes e → AnswersTo Ranges bytes out (status_of e) None
+  unranged_to e same r = reason_to Ranges bytes out same e r

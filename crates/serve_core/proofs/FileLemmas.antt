@@ -101,6 +101,7 @@ session_reason input parts (Refused (fault.Syntax e)) i is h = (i, subst (λ (p 
 session_reason input parts (Refused (fault.Check e)) i is h = (i, subst (λ (p : Parts). IsSessionReason p (Refused (fault.Check e))) is h)
 session_reason input parts (Refused (fault.Analysis e)) i is h = (i, subst (λ (p : Parts). IsSessionReason p (Refused (fault.Analysis e))) is h)
 session_reason input parts (Refused (fault.Request e)) i is h = (i, subst (λ (p : Parts). IsSessionReason p (Refused (fault.Request e))) is h)
+session_reason input parts (Refused (fault.Ranges e)) i is h = absurd h
 session_reason input parts (Refused fault.TooLarge) i is h = absurd h
 session_reason input parts (Refused fault.NotText) i is h = absurd h
 session_reason input parts (Refused fault.NoRequests) i is h = absurd h

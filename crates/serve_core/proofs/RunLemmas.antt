@@ -4,7 +4,7 @@ use Rattle.session_limits.specs.Limits.{max_input}
 use Rattle.byte_ends.specs.Ends.{IsAtEnd, LostFirst, LostAtMost}
 use Rattle.session_hall.specs.Closings.{ClosedView}
 use Rattle.serve_words.specs.declared.command.Command.{Command}
-use Rattle.serve_words.specs.declared.command.Command.TheVariants.{Check, Show, Serve, Work}
+use Rattle.serve_words.specs.declared.command.Command.TheVariants.{Check, Show, Serve, Work, Ranges}
 use Rattle.serve_faults.specs.declared.status.Fault.{Fault}
 use Rattle.serve_faults.specs.declared.status.Fault.TheVariants.{TooLarge}
 use Rattle.serve_faults.specs.declared.status.Status.{Status}
@@ -62,6 +62,7 @@ told_map {S} c s P Q f = at c where
   at Show h = some (s.bytes s.old) h
   at (Serve callers shards) h = some (s.bytes s.old) h
   at (Work requests start) h = λ bytes. f bytes (h bytes)
+  at Ranges h = some (s.bytes s.old) h
 
 -- ---- a whole run
 module _ {I O : Type 0} (c : Command) (source : Change I) (out : Change O) (closed : Option ClosedView) where
@@ -118,12 +119,14 @@ reading_input Check bytes e = refl
 reading_input Show bytes e = refl
 reading_input (Serve callers shards) bytes e = refl
 reading_input (Work requests start) bytes e = absurd (cc)
+reading_input Ranges bytes e = refl
 
 told_some : {S : Type 0} (c : Command) (s : Change S) (P : List ℕ → Type 0) → is_reading (Some c) ≡ true → IfSome (s.bytes s.old) P → Told (Some c) s P
 told_some Check s P e h = h
 told_some Show s P e h = h
 told_some (Serve callers shards) s P e h = h
 told_some (Work requests start) s P e h = absurd (cc)
+told_some Ranges s P e h = h
 
 if_some : {X : Type 0} (P Q : X → Type 0) (o : Option X) → ((x : X) → P x → Q x) → IfSome o P → IfSome o Q
 if_some P Q None f h = tt
@@ -138,6 +141,7 @@ nothing_held Check s = untold (s.bytes s.old)
 nothing_held Show s = untold (s.bytes s.old)
 nothing_held (Serve callers shards) s = untold (s.bytes s.old)
 nothing_held (Work requests start) s = λ bytes. tt
+nothing_held Ranges s = untold (s.bytes s.old)
 
 pub not_served : (c : Command) (s : Status) → s ≢ status.Fine → s ≢ status.WriteFault → false ≡ has_served (Some c) s
 not_served c status.Fine f w = absurd (f refl)
@@ -146,18 +150,22 @@ not_served Check (status.Refused e) f w = refl
 not_served Show (status.Refused e) f w = refl
 not_served (Serve callers shards) (status.Refused e) f w = refl
 not_served (Work requests start) (status.Refused e) f w = refl
+not_served Ranges (status.Refused e) f w = refl
 not_served Check status.Usage f w = refl
 not_served Show status.Usage f w = refl
 not_served (Serve callers shards) status.Usage f w = refl
 not_served (Work requests start) status.Usage f w = refl
+not_served Ranges status.Usage f w = refl
 not_served Check status.NoMemory f w = refl
 not_served Show status.NoMemory f w = refl
 not_served (Serve callers shards) status.NoMemory f w = refl
 not_served (Work requests start) status.NoMemory f w = refl
+not_served Ranges status.NoMemory f w = refl
 not_served Check status.ReadFault f w = refl
 not_served Show status.ReadFault f w = refl
 not_served (Serve callers shards) status.ReadFault f w = refl
 not_served (Work requests start) status.ReadFault f w = refl
+not_served Ranges status.ReadFault f w = refl
 
 module _ {I O : Type 0} (c : Command) (reads : is_reading (Some c) ≡ true) (source : Change I) (out : Change O) where
   unread_none : (s : Status) → is_reading (Some c) ≡ false → IsUntouched source × (s ≢ status.ReadFault)

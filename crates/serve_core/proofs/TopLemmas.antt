@@ -4,7 +4,7 @@ use Rattle.session_limits.specs.Limits.{max_input}
 use Rattle.byte_ends.specs.Ends.{LostAtMost}
 use Rattle.session_hall.specs.Closings.{ClosedView}
 use Rattle.serve_words.specs.declared.command.Command.{Command}
-use Rattle.serve_words.specs.declared.command.Command.TheVariants.{Serve, Work}
+use Rattle.serve_words.specs.declared.command.Command.TheVariants.{Serve, Work, Ranges}
 use Rattle.serve_faults.specs.declared.status.Status.{Status}
 use Rattle.serve_faults.specs.declared.status.Status.TheVariants as status
 use Rattle.serve_faults.specs.Input.{is_reading}
@@ -68,3 +68,9 @@ module _ {I O : Type 0} (source : Change I) (out : Change O) where
 
   pub unserved_run : (callers shards : ℕ) (s : Status) → StoppedAs source s → IsUntouched out → Runs (Some (Serve callers shards)) source out s None
   unserved_run callers shards s h same = stopped_run (Serve callers shards) refl source out s h same
+
+  pub ranged_run : (bytes : List ℕ) (s : Status) → HasRead source bytes → AnswersTo Ranges bytes out s None → Runs (Some Ranges) source out s None
+  ranged_run bytes s h a = read_run Ranges refl source out bytes s None h a
+
+  pub unranged_run : (s : Status) → StoppedAs source s → IsUntouched out → Runs (Some Ranges) source out s None
+  unranged_run s h same = stopped_run Ranges refl source out s h same

@@ -3,7 +3,7 @@ use Rattle.std.specs.Prelude.{◌≡◌, ◌≢◌, ◌+◌, ◌⊎◌, ◌↔�
 use Rattle.session_limits.specs.Limits.{max_input}
 use Rattle.byte_ends.specs.Ends.{IsAtEnd, LostFirst, LostAtMost}
 use Rattle.serve_words.specs.declared.command.Command.{Command}
-use Rattle.serve_words.specs.declared.command.Command.TheVariants.{Check, Show, Serve, Work}
+use Rattle.serve_words.specs.declared.command.Command.TheVariants.{Check, Show, Serve, Work, Ranges}
 use Rattle.symbolic_ops.specs.declared.symbol.Symbol.{Symbol}
 use Rattle.session_journal.specs.Script.{Meaning, session_of}
 use Rattle.session_hall.specs.Closings.{ClosedView, IsDone}
@@ -29,6 +29,7 @@ Told (Some Check) c P = IfSome (c.bytes c.old) P
 Told (Some Show) c P = IfSome (c.bytes c.old) P
 Told (Some (Serve callers shards)) c P = IfSome (c.bytes c.old) P
 Told (Some (Work requests start)) c P = (bytes : List ℕ) → P bytes
+Told (Some Ranges) c P = IfSome (c.bytes c.old) P
 
 -- whether a run that reads, and that ended so, had read its source to the end
 abbrev pub has_read_all : Status → Bool
@@ -74,12 +75,14 @@ callers_of Check = 0
 callers_of Show = 0
 callers_of (Serve callers shards) = callers
 callers_of (Work requests start) = 4
+callers_of Ranges = 0
 
 abbrev pub shards_of : Command → ℕ
 shards_of Check = 0
 shards_of Show = 0
 shards_of (Serve callers shards) = shards
 shards_of (Work requests start) = 4
+shards_of Ranges = 0
 
 -- what a file means with these lists and its part of requests, as a script: each request's dialogue
 -- and bounds, and what it declares at each point
@@ -120,6 +123,7 @@ has_served (Some Check) s = false
 has_served (Some Show) s = false
 has_served (Some (Serve callers shards)) s = has_begun_writing s
 has_served (Some (Work requests start)) s = has_begun_writing s
+has_served (Some Ranges) s = false
 
 -- what a hall that is left holds
 abbrev pub Holds : Option Command → List ℕ → Option ClosedView → Type 0

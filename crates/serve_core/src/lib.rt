@@ -5,6 +5,7 @@
 mod counting;
 mod describing;
 mod outcome;
+mod ranging;
 mod served;
 mod serving;
 mod sessions;
@@ -14,4 +15,4 @@ mod working;
 pub use byte_ends::{Got, MemorySink, MemorySource, Put, Sink, Source, SureSink, SureSource};
 pub use outcome::Outcome;
 pub use serve_faults::{Fault, Status};
-pub use top::{describe, run, tell};
+pub use top::{describe, ranges, run, tell};

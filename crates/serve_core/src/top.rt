@@ -2,12 +2,14 @@
 
 ghost use Rattle.std.specs.Prelude.{◌≡◌, map, string_bytes, Some, None, IfSome};
 ghost use Rattle.serve_words.specs.Commands as commands;
+ghost use Rattle.serve_words.specs.declared.command.Command.TheVariants.{Ranges};
 ghost use Rattle.serve_faults.specs.Changes.{change};
 ghost use Rattle.serve_core.specs.Runs.{Runs, Tells};
 ghost use Rattle.serve_faults.specs.Ways.{describing};
 
 use crate::describing::describe_source;
 use crate::outcome::Outcome;
+use crate::ranging::range_source;
 use crate::serving::serve_source;
 use crate::working::work;
 use byte_ends::{Sink, Source, write_all};
@@ -64,6 +66,7 @@ fn answer<R: Threads + Wait + Sync, I: Source, O: Sink, G: Gate + Sync>(
             serve_source(rt, alloc, callers, shards, source, out, gate)
         }
         Some(Command::Work { requests, start }) => { work(rt, alloc, requests, start, out, gate) }
+        Some(Command::Ranges) => unserved(range_source(alloc, source, out)),
         None => unserved(Status::Usage),
     }
 }
@@ -94,6 +97,24 @@ pub fn describe<I: Source, O: Sink, E: Sink>(
     ensures tells { Tells (change E.held E.faults err.old err.new) result }
 {
     let status = describe_source(alloc, shown, source, out);
+    tell(&status, err);
+    status
+}
+
+/// Reads lines of holds and operations from `source`, writes what they answer to `out` and, where it
+/// doesn't end well, one line to `err`, as `run` does for `ranges`.
+pub fn ranges<I: Source, O: Sink, E: Sink>(
+    alloc: Global,
+    source: &mut I,
+    out: &mut O,
+    err: &mut E,
+) -> Status
+    ensures runs { Runs (Some Ranges)
+        (change I.left I.faults source.old source.new)
+        (change O.held O.faults out.old out.new) result None }
+    ensures tells { Tells (change E.held E.faults err.old err.new) result }
+{
+    let status = range_source(alloc, source, out);
     tell(&status, err);
     status
 }

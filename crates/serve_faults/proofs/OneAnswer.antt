@@ -13,13 +13,16 @@ use Rattle.symbolic_ops.specs.declared.symbol.Symbol.{Symbol}
 use Rattle.may_use_analysis.specs.declared.refusal.AnalysisRefusal.{AnalysisRefusal}
 use Rattle.may_use_analysis.specs.Later.{AreLater, IsTooMany}
 use Rattle.may_use_analysis.proofs.TopLemmas.{same_later, one_refusal, apart}
+use Rattle.range_session.specs.declared.refusal.RangeRefusal.{RangeRefusal}
+use Rattle.range_session.specs.Faults.{text_fault}
+use Rattle.range_session.proofs.OneText.{fine_text, one_text}
 use Rattle.request_files.specs.declared.refusal.RequestRefusal.{RequestRefusal}
 use Rattle.serve_words.specs.declared.command.Command.{Command}
-use Rattle.serve_words.specs.declared.command.Command.TheVariants.{Check, Show, Serve, Work}
+use Rattle.serve_words.specs.declared.command.Command.TheVariants.{Check, Show, Serve, Work, Ranges}
 use Rattle.serve_words.specs.Commands.{command_of}
 use Rattle.serve_faults.specs.declared.status.Fault.{Fault}
 use Rattle.serve_faults.specs.declared.status.Fault.TheVariants as fault
-use Rattle.serve_faults.specs.Input.{parts_of, is_divided, input_of, has_requests, handlers_of, IsInput}
+use Rattle.serve_faults.specs.Input.{parts_of, is_divided, input_of, has_requests, has_handlers, wants_divided, handlers_of, IsInput}
 use Rattle.serve_faults.specs.Session.{IsProgram, request_fault}
 use Rattle.serve_faults.specs.Answer.{HasSyntaxFault, HasCheckFault, HasAnalysisFault, HasRequestFault, IsRefused, IsTextOf, Answer, Answers, CommandAnswers, IsAnswer}
 use Rattle.serve_faults.specs.Answer as answer
@@ -61,20 +64,22 @@ module _ (c : Command) (input : List ℕ) where
 
   -- a fault of what an input holds
   abbrev Inner : Fault → Type 0
-  Inner g = ((e : SyntaxRefusal) × (g ≡ fault.Syntax e) × HasSyntaxFault text e)
-      ⊎ (((e : CheckRefusal) × (g ≡ fault.Check e) × HasCheckFault text e)
-      ⊎ (((e : AnalysisRefusal) × (g ≡ fault.Analysis e) × HasAnalysisFault text e)
-      ⊎ ((e : RequestRefusal) × (g ≡ fault.Request e) × (has_requests c ≡ true) × HasRequestFault (parts_of input) e)))
+  Inner g = ((e : SyntaxRefusal) × (g ≡ fault.Syntax e) × HasSyntaxFault text e × (has_handlers c ≡ true))
+      ⊎ (((e : CheckRefusal) × (g ≡ fault.Check e) × HasCheckFault text e × (has_handlers c ≡ true))
+      ⊎ (((e : AnalysisRefusal) × (g ≡ fault.Analysis e) × HasAnalysisFault text e × (has_handlers c ≡ true))
+      ⊎ (((e : RequestRefusal) × (g ≡ fault.Request e) × (has_requests c ≡ true) × HasRequestFault (parts_of input) e)
+      ⊎ ((e : RangeRefusal) × (g ≡ fault.Ranges e) × (has_handlers c ≡ false) × (text_fault input ≡ Some e)))))
 
   inner : (g : Fault) → IsInput c input → IsRefused c input g → Inner g
   inner fault.TooLarge i r = absurd (omega (arith, i.short, r))
   inner fault.NotText i r = absurd (r.1 i.utf8)
   inner fault.NoRequests i r = absurd (false≢true (sym r.3 ∙ i.parts ∙ r.2))
   inner fault.HasRequests i r = absurd (false≢true (sym r.2 ∙ sym i.parts ∙ r.3))
-  inner (fault.Syntax e) i r = inl (e, refl, r.1)
-  inner (fault.Check e) i r = inr (inl (e, refl, r.1))
-  inner (fault.Analysis e) i r = inr (inr (inl (e, refl, r.1)))
-  inner (fault.Request e) i r = inr (inr (inr (e, refl, r.1, r.2)))
+  inner (fault.Syntax e) i r = inl (e, refl, r.1, r.2)
+  inner (fault.Check e) i r = inr (inl (e, refl, r.1, r.2))
+  inner (fault.Analysis e) i r = inr (inr (inl (e, refl, r.1, r.2)))
+  inner (fault.Request e) i r = inr (inr (inr (inl (e, refl, r.1, r.2))))
+  inner (fault.Ranges e) i r = inr (inr (inr (inr (e, refl, r.1, r.2))))
 
   -- the handlers of a request's fault
   program_of : (e : RequestRefusal) → has_requests c ≡ true → (h : HasRequestFault (parts_of input) e) → IsProgram text h.file
@@ -84,6 +89,20 @@ module _ (c : Command) (input : List ℕ) where
     at Show e = absurd (false≢true e)
     at (Serve callers shards) e = h.program
     at (Work requests start) e = h.program
+    at Ranges e = absurd (false≢true e)
+
+  -- a command with requests has handlers
+  serving : has_requests c ≡ true → has_handlers c ≡ true
+  serving = at c where
+    at : (k : Command) → has_requests k ≡ true → has_handlers k ≡ true
+    at Check e = refl
+    at Show e = refl
+    at (Serve callers shards) e = refl
+    at (Work requests start) e = refl
+    at Ranges e = e
+
+  same_range : (d e : RangeRefusal) → text_fault input ≡ Some d → text_fault input ≡ Some e → d ≡ e
+  same_range d e h k = let is : Some d ≡ Some e = sym h ∙ k in cc
 
   same_request : (d e : RequestRefusal) → HasRequestFault (parts_of input) d → HasRequestFault (parts_of input) e → d ≡ e
   same_request d e h k =
@@ -95,19 +114,28 @@ module _ (c : Command) (input : List ℕ) where
   one_inner f g (inl a) (inl b) = a.1 ∙ ap fault.Syntax (one_fault [] text a.0 b.0 a.2.first b.2.first) ∙ sym b.1
   one_inner f g (inl a) (inr (inl b)) = absurd (no_syntax text a.0 b.2.file a.2 b.2.form)
   one_inner f g (inl a) (inr (inr (inl b))) = absurd (no_syntax text a.0 b.2.file a.2 b.2.form)
-  one_inner f g (inl a) (inr (inr (inr b))) = absurd (no_syntax text a.0 b.3.file a.2 (program_of b.0 b.2 b.3).form)
+  one_inner f g (inl a) (inr (inr (inr (inl b)))) = absurd (no_syntax text a.0 b.3.file a.2 (program_of b.0 b.2 b.3).form)
   one_inner f g (inr (inl a)) (inl b) = absurd (no_syntax text b.0 a.2.file b.2 a.2.form)
   one_inner f g (inr (inl a)) (inr (inl b)) = a.1 ∙ ap fault.Check (same_check text a.0 b.0 a.2 b.2) ∙ sym b.1
   one_inner f g (inr (inl a)) (inr (inr (inl b))) = absurd (no_check_form text a.0 a.2 b.2.file b.2.form b.2.accepted)
-  one_inner f g (inr (inl a)) (inr (inr (inr b))) = absurd (no_check text a.0 b.3.file a.2 (program_of b.0 b.2 b.3))
+  one_inner f g (inr (inl a)) (inr (inr (inr (inl b)))) = absurd (no_check text a.0 b.3.file a.2 (program_of b.0 b.2 b.3))
   one_inner f g (inr (inr (inl a))) (inl b) = absurd (no_syntax text b.0 a.2.file b.2 a.2.form)
   one_inner f g (inr (inr (inl a))) (inr (inl b)) = absurd (no_check_form text b.0 b.2 a.2.file a.2.form a.2.accepted)
   one_inner f g (inr (inr (inl a))) (inr (inr (inl b))) = a.1 ∙ ap fault.Analysis (same_analysis text a.0 b.0 a.2 b.2) ∙ sym b.1
-  one_inner f g (inr (inr (inl a))) (inr (inr (inr b))) = absurd (no_analysis text a.0 b.3.file a.2 (program_of b.0 b.2 b.3))
-  one_inner f g (inr (inr (inr a))) (inl b) = absurd (no_syntax text b.0 a.3.file b.2 (program_of a.0 a.2 a.3).form)
-  one_inner f g (inr (inr (inr a))) (inr (inl b)) = absurd (no_check text b.0 a.3.file b.2 (program_of a.0 a.2 a.3))
-  one_inner f g (inr (inr (inr a))) (inr (inr (inl b))) = absurd (no_analysis text b.0 a.3.file b.2 (program_of a.0 a.2 a.3))
-  one_inner f g (inr (inr (inr a))) (inr (inr (inr b))) = a.1 ∙ ap fault.Request (same_request a.0 b.0 a.3 b.3) ∙ sym b.1
+  one_inner f g (inr (inr (inl a))) (inr (inr (inr (inl b)))) = absurd (no_analysis text a.0 b.3.file a.2 (program_of b.0 b.2 b.3))
+  one_inner f g (inr (inr (inr (inl a)))) (inl b) = absurd (no_syntax text b.0 a.3.file b.2 (program_of a.0 a.2 a.3).form)
+  one_inner f g (inr (inr (inr (inl a)))) (inr (inl b)) = absurd (no_check text b.0 a.3.file b.2 (program_of a.0 a.2 a.3))
+  one_inner f g (inr (inr (inr (inl a)))) (inr (inr (inl b))) = absurd (no_analysis text b.0 a.3.file b.2 (program_of a.0 a.2 a.3))
+  one_inner f g (inr (inr (inr (inl a)))) (inr (inr (inr (inl b)))) = a.1 ∙ ap fault.Request (same_request a.0 b.0 a.3 b.3) ∙ sym b.1
+  one_inner f g (inl a) (inr (inr (inr (inr b)))) = absurd (false≢true (sym b.2 ∙ a.3))
+  one_inner f g (inr (inl a)) (inr (inr (inr (inr b)))) = absurd (false≢true (sym b.2 ∙ a.3))
+  one_inner f g (inr (inr (inl a))) (inr (inr (inr (inr b)))) = absurd (false≢true (sym b.2 ∙ a.3))
+  one_inner f g (inr (inr (inr (inl a)))) (inr (inr (inr (inr b)))) = absurd (false≢true (sym b.2 ∙ serving a.2))
+  one_inner f g (inr (inr (inr (inr a)))) (inl b) = absurd (false≢true (sym a.2 ∙ b.3))
+  one_inner f g (inr (inr (inr (inr a)))) (inr (inl b)) = absurd (false≢true (sym a.2 ∙ b.3))
+  one_inner f g (inr (inr (inr (inr a)))) (inr (inr (inl b))) = absurd (false≢true (sym a.2 ∙ b.3))
+  one_inner f g (inr (inr (inr (inr a)))) (inr (inr (inr (inl b)))) = absurd (false≢true (sym a.2 ∙ serving b.2))
+  one_inner f g (inr (inr (inr (inr a)))) (inr (inr (inr (inr b)))) = a.1 ∙ ap fault.Ranges (same_range a.0 b.0 a.3 b.3) ∙ sym b.1
 
   -- ---- no two faults are the first one
   large : (g : Fault) → IsRefused c input g → max_input < length input → g ≡ fault.TooLarge
@@ -119,6 +147,7 @@ module _ (c : Command) (input : List ℕ) where
   large (fault.Check e) r h = absurd (omega (arith, h, r.0.short))
   large (fault.Analysis e) r h = absurd (omega (arith, h, r.0.short))
   large (fault.Request e) r h = absurd (omega (arith, h, r.0.short))
+  large (fault.Ranges e) r h = absurd (omega (arith, h, r.0.short))
 
   no_text : (g : Fault) → IsRefused c input g → length input ≤ max_input → (IsUtf8 input → ⊥) → g ≡ fault.NotText
   no_text fault.TooLarge r h k = absurd (omega (arith, h, r))
@@ -129,8 +158,9 @@ module _ (c : Command) (input : List ℕ) where
   no_text (fault.Check e) r h k = absurd (k r.0.utf8)
   no_text (fault.Analysis e) r h k = absurd (k r.0.utf8)
   no_text (fault.Request e) r h k = absurd (k r.0.utf8)
+  no_text (fault.Ranges e) r h k = absurd (k r.0.utf8)
 
-  no_requests : (g : Fault) → IsRefused c input g → length input ≤ max_input → IsUtf8 input → has_requests c ≡ true → is_divided input ≡ false → g ≡ fault.NoRequests
+  no_requests : (g : Fault) → IsRefused c input g → length input ≤ max_input → IsUtf8 input → wants_divided c input ≡ true → is_divided input ≡ false → g ≡ fault.NoRequests
   no_requests fault.TooLarge r h u has d = absurd (omega (arith, h, r))
   no_requests fault.NotText r h u has d = absurd (r.1 u)
   no_requests fault.NoRequests r h u has d = refl
@@ -139,8 +169,9 @@ module _ (c : Command) (input : List ℕ) where
   no_requests (fault.Check e) r h u has d = absurd (false≢true (sym d ∙ r.0.parts ∙ has))
   no_requests (fault.Analysis e) r h u has d = absurd (false≢true (sym d ∙ r.0.parts ∙ has))
   no_requests (fault.Request e) r h u has d = absurd (false≢true (sym d ∙ r.0.parts ∙ has))
+  no_requests (fault.Ranges e) r h u has d = absurd (false≢true (sym d ∙ r.0.parts ∙ has))
 
-  requests_too : (g : Fault) → IsRefused c input g → length input ≤ max_input → IsUtf8 input → has_requests c ≡ false → is_divided input ≡ true → g ≡ fault.HasRequests
+  requests_too : (g : Fault) → IsRefused c input g → length input ≤ max_input → IsUtf8 input → wants_divided c input ≡ false → is_divided input ≡ true → g ≡ fault.HasRequests
   requests_too fault.TooLarge r h u has d = absurd (omega (arith, h, r))
   requests_too fault.NotText r h u has d = absurd (r.1 u)
   requests_too fault.NoRequests r h u has d = absurd (false≢true (sym has ∙ r.2))
@@ -149,6 +180,7 @@ module _ (c : Command) (input : List ℕ) where
   requests_too (fault.Check e) r h u has d = absurd (false≢true (sym has ∙ sym r.0.parts ∙ d))
   requests_too (fault.Analysis e) r h u has d = absurd (false≢true (sym has ∙ sym r.0.parts ∙ d))
   requests_too (fault.Request e) r h u has d = absurd (false≢true (sym has ∙ sym r.0.parts ∙ d))
+  requests_too (fault.Ranges e) r h u has d = absurd (false≢true (sym has ∙ sym r.0.parts ∙ d))
 
   pub refused_once : (f g : Fault) → IsRefused c input f → IsRefused c input g → f ≡ g
   refused_once fault.TooLarge g r s = sym (large g s r)
@@ -159,19 +191,22 @@ module _ (c : Command) (input : List ℕ) where
   refused_once (fault.Check e) g r s = one_inner (fault.Check e) g (inner (fault.Check e) r.0 r) (inner g r.0 s)
   refused_once (fault.Analysis e) g r s = one_inner (fault.Analysis e) g (inner (fault.Analysis e) r.0 r) (inner g r.0 s)
   refused_once (fault.Request e) g r s = one_inner (fault.Request e) g (inner (fault.Request e) r.0 r) (inner g r.0 s)
+  refused_once (fault.Ranges e) g r s = one_inner (fault.Ranges e) g (inner (fault.Ranges e) r.0 r) (inner g r.0 s)
 
 -- ---- what has a text isn't refused
 
 -- the handlers of a text
-program_in : (c : Command) (input t : List ℕ) → IsTextOf c input t → (f : File) × IsProgram (handlers_of c input) f
-program_in Check input t h = (h.file, h.program)
-program_in Show input t h = (h.file, h.program)
-program_in (Serve callers shards) input t h = (h.file, h.is_session.program)
-program_in (Work requests start) input t h = (h.file, h.is_session.program)
+program_in : (c : Command) (input t : List ℕ) → has_handlers c ≡ true → IsTextOf c input t → (f : File) × IsProgram (handlers_of c input) f
+program_in Check input t e h = (h.file, h.program)
+program_in Show input t e h = (h.file, h.program)
+program_in (Serve callers shards) input t e h = (h.file, h.is_session.program)
+program_in (Work requests start) input t e h = (h.file, h.is_session.program)
+program_in Ranges input t e h = absurd (false≢true e)
 
 no_request : (c : Command) (input t : List ℕ) (e : RequestRefusal) → IsTextOf c input t → has_requests c ≡ true → HasRequestFault (parts_of input) e → ⊥
 no_request Check input t e h has k = false≢true has
 no_request Show input t e h has k = false≢true has
+no_request Ranges input t e h has k = false≢true has
 no_request (Serve callers shards) input t e h has k =
     let same = one_tree [] (parts_of input).handlers h.file k.file h.is_session.program.form k.program.form in
     let is : None ≡ Some e = sym h.is_session.requests ∙ ap (request_fault (parts_of input)) same ∙ k.first in
@@ -181,13 +216,21 @@ no_request (Work requests start) input t e h has k =
     let is : None ≡ Some e = sym h.is_session.requests ∙ ap (request_fault (parts_of input)) same ∙ k.first in
     absurd (cc)
 
+no_range : (c : Command) (input t : List ℕ) (e : RangeRefusal) → IsTextOf c input t → has_handlers c ≡ false → text_fault input ≡ Some e → ⊥
+no_range Check input t e h has k = false≢true (sym has)
+no_range Show input t e h has k = false≢true (sym has)
+no_range (Serve callers shards) input t e h has k = false≢true (sym has)
+no_range (Work requests start) input t e h has k = false≢true (sym has)
+no_range Ranges input t e h has k = fine_text input t e h k
+
 pub text_or_refused : (c : Command) (input t : List ℕ) (f : Fault) → IsInput c input → IsTextOf c input t → IsRefused c input f → ⊥
 text_or_refused c input t f i h r = by (inner c input f i r) where
   by : Inner c input f → ⊥
-  by (inl a) = no_syntax (handlers_of c input) a.0 (program_in c input t h).0 a.2 (program_in c input t h).1.form
-  by (inr (inl a)) = no_check (handlers_of c input) a.0 (program_in c input t h).0 a.2 (program_in c input t h).1
-  by (inr (inr (inl a))) = no_analysis (handlers_of c input) a.0 (program_in c input t h).0 a.2 (program_in c input t h).1
-  by (inr (inr (inr a))) = no_request c input t a.0 h a.2 a.3
+  by (inl a) = no_syntax (handlers_of c input) a.0 (program_in c input t a.3 h).0 a.2 (program_in c input t a.3 h).1.form
+  by (inr (inl a)) = no_check (handlers_of c input) a.0 (program_in c input t a.3 h).0 a.2 (program_in c input t a.3 h).1
+  by (inr (inr (inl a))) = no_analysis (handlers_of c input) a.0 (program_in c input t a.3 h).0 a.2 (program_in c input t a.3 h).1
+  by (inr (inr (inr (inl a)))) = no_request c input t a.0 h a.2 a.3
+  by (inr (inr (inr (inr a)))) = no_range c input t a.0 h a.2 a.3
 
 -- ---- one answer at most
 same_text : (c : Command) (input s t : List ℕ) → IsTextOf c input s → IsTextOf c input t → s ≡ t
@@ -200,6 +243,7 @@ same_text (Serve callers shards) input s t h k =
     h.text_is ∙ ap (λ (f : File). answer.served_text input f) (one_tree [] (parts_of input).handlers h.file k.file h.is_session.program.form k.is_session.program.form) ∙ sym k.text_is
 same_text (Work requests start) input s t h k =
     h.text_is ∙ ap (λ (f : File). answer.summary_of requests input f) (one_tree [] (parts_of input).handlers h.file k.file h.is_session.program.form k.is_session.program.form) ∙ sym k.text_is
+same_text Ranges input s t h k = one_text input s t h k
 
 pub one_of_command : (c : Command) (input : List ℕ) (a b : Answer) → Answers c input a → Answers c input b → a ≡ b
 one_of_command c input answer.Usage b h k = absurd h

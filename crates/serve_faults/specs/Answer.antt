@@ -9,14 +9,17 @@ use Rattle.handler_check.specs.Checking.{IsAccepted, IsRefusal}
 use Rattle.declaration_insertion.specs.Shown.{shown_of as points_shown}
 use Rattle.may_use_analysis.specs.declared.refusal.AnalysisRefusal.{AnalysisRefusal}
 use Rattle.may_use_analysis.specs.Later.{IsTooMany}
+use Rattle.range_session.specs.declared.refusal.RangeRefusal.{RangeRefusal}
+use Rattle.range_session.specs.Faults.{text_fault}
+use Rattle.range_session.specs.Session.{IsRangesText}
 use Rattle.request_files.specs.declared.refusal.RequestRefusal.{RequestRefusal}
 use Rattle.serve_words.specs.declared.command.Command.{Command}
-use Rattle.serve_words.specs.declared.command.Command.TheVariants.{Check, Show, Serve, Work}
+use Rattle.serve_words.specs.declared.command.Command.TheVariants.{Check, Show, Serve, Work, Ranges}
 use Rattle.serve_words.specs.Commands.{command_of}
 use Rattle.serve_made.specs.Summary.{summary}
 use Rattle.serve_faults.specs.declared.status.Fault.{Fault}
 use Rattle.serve_faults.specs.declared.status.Fault.TheVariants as fault
-use Rattle.serve_faults.specs.Input.{Parts, parts_of, is_divided, input_of, has_requests, handlers_of, IsInput}
+use Rattle.serve_faults.specs.Input.{Parts, parts_of, is_divided, input_of, has_requests, has_handlers, wants_divided, handlers_of, IsInput}
 use Rattle.serve_faults.specs.Session.{IsProgram, IsSession, request_fault, session_of_parts, replies_text, serial_calls}
 
 -- ---- faults
@@ -45,22 +48,24 @@ pub record HasRequestFault (parts : Parts) (e : RequestRefusal) : Type 0 where
   pub program : IsProgram parts.handlers file
   pub first : request_fault parts file ≡ Some e
 
--- the first broken rule of an input, in the order too large, no text, no requests or requests, syntax, check, analysis, requests
+-- the first broken rule of an input, in the order too large, no text, no requests or requests, syntax, check, analysis, requests, or, of a range session, its lines
 abbrev pub IsRefused : Command → List ℕ → Fault → Type 0
 IsRefused command input fault.TooLarge = max_input < length input
 IsRefused command input fault.NotText = (length input ≤ max_input) × (IsUtf8 input → ⊥)
 IsRefused command input fault.NoRequests = (length input ≤ max_input) × IsUtf8 input
-    × (has_requests command ≡ true) × (is_divided input ≡ false)
+    × (wants_divided command input ≡ true) × (is_divided input ≡ false)
 IsRefused command input fault.HasRequests = (length input ≤ max_input) × IsUtf8 input
-    × (has_requests command ≡ false) × (is_divided input ≡ true)
+    × (wants_divided command input ≡ false) × (is_divided input ≡ true)
 IsRefused command input (fault.Syntax e) = IsInput command input
-    × HasSyntaxFault (handlers_of command input) e
+    × HasSyntaxFault (handlers_of command input) e × (has_handlers command ≡ true)
 IsRefused command input (fault.Check e) = IsInput command input
-    × HasCheckFault (handlers_of command input) e
+    × HasCheckFault (handlers_of command input) e × (has_handlers command ≡ true)
 IsRefused command input (fault.Analysis e) = IsInput command input
-    × HasAnalysisFault (handlers_of command input) e
+    × HasAnalysisFault (handlers_of command input) e × (has_handlers command ≡ true)
 IsRefused command input (fault.Request e) = IsInput command input × (has_requests command ≡ true)
     × HasRequestFault (parts_of input) e
+IsRefused command input (fault.Ranges e) = IsInput command input × (has_handlers command ≡ false)
+    × (text_fault input ≡ Some e)
 
 -- ---- texts
 
@@ -108,6 +113,7 @@ IsTextOf Check input text = IsChecked input text
 IsTextOf Show input text = IsShown input text
 IsTextOf (Serve callers shards) input text = IsServed input text
 IsTextOf (Work requests start) input text = IsSummary requests input text
+IsTextOf Ranges input text = IsRangesText input text
 
 -- ---- the answer
 

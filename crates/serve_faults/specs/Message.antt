@@ -10,8 +10,10 @@ use Rattle.may_use_analysis.specs.declared.refusal.AnalysisRefusal.{AnalysisRefu
 use Rattle.may_use_analysis.specs.declared.refusal.AnalysisRefusal.TheVariants as analysis
 use Rattle.request_files.specs.declared.refusal.RequestRefusal.{RequestRefusal}
 use Rattle.request_files.specs.declared.refusal.RequestRefusal.TheVariants as request
+use Rattle.range_session.specs.declared.refusal.RangeRefusal.{RangeRefusal}
+use Rattle.range_session.specs.declared.refusal.RangeRefusal.TheVariants as range
 use Rattle.serve_faults.specs.declared.status.Fault.{Fault}
-use Rattle.serve_faults.specs.declared.status.Fault.TheVariants.{TooLarge, NoRequests, HasRequests, NotText, Syntax, Check, Analysis, Request}
+use Rattle.serve_faults.specs.declared.status.Fault.TheVariants.{TooLarge, NoRequests, HasRequests, NotText, Syntax, Check, Analysis, Request, Ranges}
 use Rattle.serve_faults.specs.declared.status.Status.{Status}
 use Rattle.serve_faults.specs.declared.status.Status.TheVariants.{Fine, Refused, Usage, NoMemory, ReadFault, WriteFault}
 
@@ -59,6 +61,14 @@ request_line (request.TooManyCalls line) = numbered (codes "refused Q5 line ") l
 request_line (request.TooMuchWork line) = numbered (codes "refused Q6 line ") line
 request_line request.NoMemory = []
 
+abbrev pub range_line : RangeRefusal → List ℕ
+range_line (range.UnknownWord line) = numbered (codes "refused G1 line ") line
+range_line (range.Arity line) = numbered (codes "refused G2 line ") line
+range_line (range.BadWord line) = numbered (codes "refused G3 line ") line
+range_line (range.NotOpen line) = numbered (codes "refused G4 line ") line
+range_line (range.TooMany line) = numbered (codes "refused G5 line ") line
+range_line range.NoMemory = []
+
 abbrev pub fault_line : Fault → List ℕ
 fault_line TooLarge = ended (codes "refused T1")
 fault_line NoRequests = ended (codes "refused T2")
@@ -68,6 +78,7 @@ fault_line (Syntax e) = syntax_line e
 fault_line (Check e) = check_line e
 fault_line (Analysis e) = analysis_line e
 fault_line (Request e) = request_line e
+fault_line (Ranges e) = range_line e
 
 -- a fine run has none
 abbrev pub message_of : Status → List ℕ

@@ -5,10 +5,12 @@ ghost use Rattle.handler_syntax.specs.Language.syntax_refusal as syntax;
 ghost use Rattle.check_rules.specs.declared.refusal.CheckRefusal.TheVariants as check;
 ghost use Rattle.may_use_analysis.specs.declared.refusal.AnalysisRefusal.TheVariants as analysis;
 ghost use Rattle.request_files.specs.declared.refusal.RequestRefusal.TheVariants as request;
+ghost use Rattle.range_session.specs.declared.refusal.RangeRefusal.TheVariants as range;
 
 use check_rules::CheckRefusal;
 use handler_syntax::SyntaxRefusal;
 use may_use_analysis::AnalysisRefusal;
+use range_session::RangeRefusal;
 use request_files::RequestRefusal;
 use std::marker::Model;
 
@@ -32,6 +34,10 @@ impl Refusal for AnalysisRefusal {
 
 impl Refusal for RequestRefusal {
     ghost is_certain = { λ e. e ≢ request.NoMemory };
+}
+
+impl Refusal for RangeRefusal {
+    ghost is_certain = { λ e. e ≢ range.NoMemory };
 }
 
 /// A refusal that is never want of memory. Contracts see the refusal.

@@ -7,6 +7,7 @@ use crate::status::{Fault, Status};
 use check_rules::CheckRefusal;
 use handler_syntax::SyntaxRefusal;
 use may_use_analysis::AnalysisRefusal;
+use range_session::RangeRefusal;
 use request_files::RequestRefusal;
 use serve_words::usage_line;
 use short_text::ShortText;
@@ -37,6 +38,7 @@ fn fault_line(fault: &Fault) -> ShortText
         Fault::Check(e) => check_line(e.refusal()),
         Fault::Analysis(e) => analysis_line(e.refusal()),
         Fault::Request(e) => request_line(e.refusal()),
+        Fault::Ranges(e) => range_line(e.refusal()),
     }
 }
 
@@ -113,5 +115,19 @@ fn request_line(e: &RequestRefusal) -> ShortText
         RequestRefusal::TooManyCalls { line } => numbered(b"refused Q5 line ", *line),
         RequestRefusal::TooMuchWork { line } => numbered(b"refused Q6 line ", *line),
         RequestRefusal::NoMemory => unreachable!(),
+    }
+}
+
+fn range_line(e: &RangeRefusal) -> ShortText
+    requires { e.now ≢ RangeRefusal.NoMemory }
+    ensures { result ≡ spec.range_line e.now }
+{
+    match e {
+        RangeRefusal::UnknownWord { line } => numbered(b"refused G1 line ", *line),
+        RangeRefusal::Arity { line } => numbered(b"refused G2 line ", *line),
+        RangeRefusal::BadWord { line } => numbered(b"refused G3 line ", *line),
+        RangeRefusal::NotOpen { line } => numbered(b"refused G4 line ", *line),
+        RangeRefusal::TooMany { line } => numbered(b"refused G5 line ", *line),
+        RangeRefusal::NoMemory => unreachable!(),
     }
 }

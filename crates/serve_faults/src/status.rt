@@ -6,6 +6,7 @@ use crate::certain::Certain;
 use check_rules::CheckRefusal;
 use handler_syntax::SyntaxRefusal;
 use may_use_analysis::AnalysisRefusal;
+use range_session::RangeRefusal;
 use request_files::RequestRefusal;
 
 /// Why an input is refused. It is never want of memory.
@@ -27,6 +28,8 @@ pub enum Fault {
     Analysis(Certain<AnalysisRefusal>),
     /// A request breaks a rule.
     Request(Certain<RequestRefusal>),
+    /// A line of a range session breaks a rule.
+    Ranges(Certain<RangeRefusal>),
 }
 
 /// How a run ended.

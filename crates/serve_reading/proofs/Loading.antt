@@ -57,6 +57,7 @@ check_reason file (Refused (fault.Check e)) h = h
 check_reason file (Refused (fault.Syntax e)) h = absurd h
 check_reason file (Refused (fault.Analysis e)) h = absurd h
 check_reason file (Refused (fault.Request e)) h = absurd h
+check_reason file (Refused (fault.Ranges e)) h = absurd h
 check_reason file (Refused fault.TooLarge) h = absurd h
 check_reason file (Refused fault.NotText) h = absurd h
 check_reason file (Refused fault.NoRequests) h = absurd h
@@ -68,6 +69,7 @@ analysis_reason file (Refused (fault.Analysis e)) a h = (a, h)
 analysis_reason file (Refused (fault.Check e)) a h = absurd h
 analysis_reason file (Refused (fault.Syntax e)) a h = absurd h
 analysis_reason file (Refused (fault.Request e)) a h = absurd h
+analysis_reason file (Refused (fault.Ranges e)) a h = absurd h
 analysis_reason file (Refused fault.TooLarge) a h = absurd h
 analysis_reason file (Refused fault.NotText) a h = absurd h
 analysis_reason file (Refused fault.NoRequests) a h = absurd h
@@ -76,12 +78,13 @@ analysis_reason file (Refused fault.HasRequests) a h = absurd h
 -- what is wrong with a file is wrong with the bytes that it is made of
 pub file_reason : (shown : Bool) (bytes : List ℕ) (file : File) (names : List (List ℕ)) (e : Unserved) → IsParsed bytes file names → IsFileReason file e → IsReason (describing shown) bytes e
 file_reason shown bytes file names NoMemory p h = tt
-file_reason true bytes file names (Refused (fault.Check e)) p h = (p.input true, record { file = file; form = p.form; first = h })
-file_reason false bytes file names (Refused (fault.Check e)) p h = (p.input false, record { file = file; form = p.form; first = h })
-file_reason true bytes file names (Refused (fault.Analysis e)) p h = (p.input true, record { file = file; form = p.form; accepted = h.0; first = h.1 })
-file_reason false bytes file names (Refused (fault.Analysis e)) p h = (p.input false, record { file = file; form = p.form; accepted = h.0; first = h.1 })
+file_reason true bytes file names (Refused (fault.Check e)) p h = (p.input true, record { file = file; form = p.form; first = h }, refl)
+file_reason false bytes file names (Refused (fault.Check e)) p h = (p.input false, record { file = file; form = p.form; first = h }, refl)
+file_reason true bytes file names (Refused (fault.Analysis e)) p h = (p.input true, record { file = file; form = p.form; accepted = h.0; first = h.1 }, refl)
+file_reason false bytes file names (Refused (fault.Analysis e)) p h = (p.input false, record { file = file; form = p.form; accepted = h.0; first = h.1 }, refl)
 file_reason shown bytes file names (Refused (fault.Syntax e)) p h = absurd h
 file_reason shown bytes file names (Refused (fault.Request e)) p h = absurd h
+file_reason shown bytes file names (Refused (fault.Ranges e)) p h = absurd h
 file_reason shown bytes file names (Refused fault.TooLarge) p h = absurd h
 file_reason shown bytes file names (Refused fault.NotText) p h = absurd h
 file_reason shown bytes file names (Refused fault.NoRequests) p h = absurd h
@@ -89,11 +92,12 @@ file_reason shown bytes file names (Refused fault.HasRequests) p h = absurd h
 
 pub syntax_reason : (shown : Bool) (bytes : List ℕ) (e : Unserved) → IsInput (describing shown) bytes → IsSyntaxReason bytes e → IsReason (describing shown) bytes e
 syntax_reason shown bytes NoMemory i h = tt
-syntax_reason true bytes (Refused (fault.Syntax e)) i h = (i, h)
-syntax_reason false bytes (Refused (fault.Syntax e)) i h = (i, h)
+syntax_reason true bytes (Refused (fault.Syntax e)) i h = (i, h, refl)
+syntax_reason false bytes (Refused (fault.Syntax e)) i h = (i, h, refl)
 syntax_reason shown bytes (Refused (fault.Check e)) i h = absurd h
 syntax_reason shown bytes (Refused (fault.Analysis e)) i h = absurd h
 syntax_reason shown bytes (Refused (fault.Request e)) i h = absurd h
+syntax_reason shown bytes (Refused (fault.Ranges e)) i h = absurd h
 syntax_reason shown bytes (Refused fault.TooLarge) i h = absurd h
 syntax_reason shown bytes (Refused fault.NotText) i h = absurd h
 syntax_reason shown bytes (Refused fault.NoRequests) i h = absurd h

@@ -4,12 +4,13 @@ use Rattle.std.specs.Str.{bytes_eq}
 use Rattle.session_limits.specs.Limits.{max_callers, max_requests, max_shards}
 use Rattle.serve_words.specs.Numbers.{number_within}
 use Rattle.serve_words.specs.declared.command.Command.{Command}
-use Rattle.serve_words.specs.declared.command.Command.TheVariants.{Check, Show, Serve, Work}
+use Rattle.serve_words.specs.declared.command.Command.TheVariants.{Check, Show, Serve, Work, Ranges}
 
 -- the line that tells the command lines
 abbrev pub usage_line : List ℕ
 usage_line =
-    codes "usage: foresight check | show | serve [--callers N] [--shards S] | work N START" ++ 10 ∷ []
+    codes "usage: foresight check | show | serve [--callers N] [--shards S] | work N START | ranges"
+    ++ 10 ∷ []
 
 -- the number of callers, and the number of shards of a table
 abbrev pub callers_of : List ℕ → Option ℕ
@@ -54,7 +55,8 @@ abbrev pub alone : List ℕ → Option Command
 alone word =
     if bytes_eq word (codes "check") then Some Check
     else (if bytes_eq word (codes "show") then Some Show
-    else (if bytes_eq word (codes "serve") then serve_of [] else None))
+    else (if bytes_eq word (codes "serve") then serve_of []
+    else (if bytes_eq word (codes "ranges") then Some Ranges else None)))
 
 -- `work` with two words behind it
 abbrev pub work_line : List (List ℕ) → Option Command
@@ -77,3 +79,4 @@ IsWithinBounds (Serve callers shards) = (1 ≤ callers) × (callers ≤ max_call
     × (shards ≤ max_shards)
 IsWithinBounds (Work requests start) = (1 ≤ requests) × (requests ≤ max_requests)
     × (start ≤ 4294967295)
+IsWithinBounds Ranges = Unit {0}

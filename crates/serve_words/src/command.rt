@@ -12,4 +12,6 @@ pub enum Command {
     /// Serve a made session of 1 to 20,000 requests, whose draws begin from `start`, and write its
     /// summary.
     Work { requests: u32, start: u32 },
+    /// Do the operations of a text of lines beside the holds that it opens, and write their lines.
+    Ranges,
 }

@@ -15,7 +15,7 @@ const USUAL: u32 = 4;
 pub fn usage_line() -> &'static [u8]
     ensures { result.now ≡ spec.usage_line }
 {
-    b"usage: foresight check | show | serve [--callers N] [--shards S] | work N START\n"
+    b"usage: foresight check | show | serve [--callers N] [--shards S] | work N START | ranges\n"
 }
 
 /// The command of a command line, if it is one; the words are those after the program's name.
@@ -44,6 +44,8 @@ fn alone(word: &str) -> Option<Command>
         Some(Command::Show)
     } else if word == "serve" {
         serve_by(Some(USUAL), Some(USUAL))
+    } else if word == "ranges" {
+        Some(Command::Ranges)
     } else {
         None
     }

@@ -4,4 +4,6 @@
 #[cfg(test)]
 mod checking;
 #[cfg(test)]
+mod ranges;
+#[cfg(test)]
 mod requests;

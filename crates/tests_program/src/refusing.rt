@@ -2,7 +2,7 @@
 // `checks/`.
 
 use crate::runs::{End, Input, end_of, ends_of, wrote};
-use serve_core::{MemorySink, Status, describe, tell};
+use serve_core::{MemorySink, Status, describe, ranges, tell};
 use std::alloc::Global;
 use std::sync::Wait;
 use std::test::Fail;
@@ -89,6 +89,26 @@ fn a_file_is_described(rt: HostRuntime) -> Result<(), Fail> {
         rt.alloc(),
         "set online;\nhandler login(u) {\n  mark(online, u);\n}\n",
     )?;
+    assert_eq!(rt; found, (0, true));
+    Ok(())
+}
+
+/// The status of a range session, and whether its lines were written.
+fn ranged(alloc: Global, lines: &str, text: &str) -> Result<(u8, bool), Fail> {
+    let input = Input {
+        first: lines,
+        again: "",
+        times: 0,
+    };
+    let mut ends = ends_of(alloc, "", input, (&[], &[]))?;
+    let status = ranges(alloc, &mut ends.source, &mut ends.out, &mut ends.err);
+    Ok((status.number(), wrote(&ends, text.as_bytes(), "")))
+}
+
+#[test]
+fn a_range_session_is_answered(rt: HostRuntime) -> Result<(), Fail> {
+    let lines = "hold put 1..3 any\ndo get 2\ndo get 4\n";
+    let found = ranged(rt.alloc(), lines, "0 delayed 0 0\n1 nil\n")?;
     assert_eq!(rt; found, (0, true));
     Ok(())
 }

@@ -9,6 +9,8 @@ mod kinds;
 #[cfg(test)]
 mod operations;
 #[cfg(test)]
+mod ranges;
+#[cfg(test)]
 mod shards;
 #[cfg(test)]
 mod symbols;

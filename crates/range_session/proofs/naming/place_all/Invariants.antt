@@ -1,0 +1,12 @@
+use Rattle.std.proofs.Common.{◌≡◌, ◌+◌, ◌≤◌, length}
+use Rattle.request_files.specs.Text.{words}
+use Rattle.request_files.specs.Values.{placed_all}
+use Rattle.range_session.proofs.naming.place_all.Given as goal
+
+abbrev pub invariant-words : goal.invariant-words
+invariant-words l = record {
+  next : (goal.iterator-words).can_next l.words;
+  finite : (goal.iterator-words).is_finite l.words;
+  names : placed_all l.names (words l.words.rest.now) ≡ placed_all l.fn.names (words l.initial.words.rest.now);
+  room : length l.names + length (words l.words.rest.now) ≤ length l.fn.names + length (words l.initial.words.rest.now);
+}

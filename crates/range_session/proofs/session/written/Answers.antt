@@ -1,0 +1,59 @@
+use Rattle.std.proofs.Common.{◌≡◌, ℕ, ◌∷◌, List, [], Err, sym, ap, ◌∙◌, subst, arith}
+use Rattle.request_files.specs.Text.{Text, lines, words}
+use Rattle.request_files.specs.Requests.{Row, row_of, rows}
+use Rattle.request_files.proofs.RowLemmas.{rows_nil, rows_pass, rows_step}
+use Rattle.range_session.specs.Faults.{first_fault, names_of, rows_of}
+use Rattle.range_session.proofs.Going.{Going, going_end, going_fault, going_start, going_turn}
+use Rattle.range_session.proofs.session.written.Goals as goal
+
+pub lines-init : goal.lines-init
+lines-init c =
+    let e : rows c.over-lines.result.number (lines c.over-lines.result.rest.now) ≡ rows_of c.args.text.now = ap (λ (n : ℕ). rows n (lines c.over-lines.result.rest.now)) c.over-lines.ensures.number ∙ ap (λ (t : Text). rows 1 (lines t)) c.over-lines.ensures.rest in
+    record {
+      next = tt;
+      finite = tt;
+      going = going_start c.args.names.now c.args.text.now _ c.in_ok-table.table c.new-holds.result.items c.new-out.result.items e c.in_ok-table.ensures c.new-holds.ensures.items c.new-out.ensures.items;
+    }
+
+pub lines-preserved-in-Ok : goal.lines-preserved-in-Ok
+lines-preserved-in-Ok c =
+    let steps = c.in-Some.ensures.steps in
+    let e : rows c.lines.lines.number (lines c.lines.lines.rest.now) ≡ row_of c.in-Some.number c.in-Some-next.name.now (words c.next-in-Some.new.self.rest.now) ∷ rows c.next.new.self.number (lines c.next.new.self.rest.now) =
+    rows_step c.lines.lines.number c.in-Some.number c.next.new.self.number (lines c.lines.lines.rest.now) c.in-Some.line.rest.now (lines c.next.new.self.rest.now) c.in-Some-next.name.now (words c.next-in-Some.new.self.rest.now)
+    steps.0 steps.1 steps.2 c.in-Some-next.ensures.steps.0 in
+    let before = subst (λ rs. Going c.args.names.now (rows_of c.args.text.now) rs c.lines.seen c.lines.table c.lines.holds.items c.lines.asked c.lines.out.items) e c.lines.invariant.going in
+    record {
+      next = tt;
+      finite = tt;
+      going = going_turn c.args.names.now (rows_of c.args.text.now) _ _ c.lines.seen c.lines.table c.take_line.new.table c.lines.holds.items c.take_line.new.holds.items c.lines.asked c.in-Ok.now c.lines.out.items c.take_line.new.out.items
+          before c.in-Ok.ensures.takes c.in-Ok.ensures.fine c.in-Ok.ensures.ready c.in-Ok.ensures.size c.in-Ok.ensures.room c.in-Ok.ensures.few c.in-Ok.ensures.seen;
+    }
+
+pub lines-preserved : goal.lines-preserved
+lines-preserved c =
+    let steps = c.in-Some.ensures.steps in
+    let e : rows c.lines.lines.number (lines c.lines.lines.rest.now) ≡ rows c.next.new.self.number (lines c.next.new.self.rest.now) =
+    rows_pass c.lines.lines.number c.next.new.self.number (lines c.lines.lines.rest.now) c.in-Some.line.rest.now (lines c.next.new.self.rest.now) steps.0 steps.2 c.in_default-next.ensures.steps.0 in
+    record {
+      next = tt;
+      finite = tt;
+      going = subst (λ rs. Going c.args.names.now (rows_of c.args.text.now) rs c.lines.seen c.lines.table c.lines.holds.items c.lines.asked c.lines.out.items) e c.lines.invariant.going;
+    }
+
+pub returns-in-Err-clause-refused : goal.returns-in-Err-clause-refused
+returns-in-Err-clause-refused c = λ e is some.
+    let steps = c.in-Some.ensures.steps in
+    let k : c.in-Err.e ≡ e = cc in
+    let f : rows c.lines.lines.number (lines c.lines.lines.rest.now) ≡ row_of c.in-Some.number c.in-Some-next.name.now (words c.next-in-Some.new.self.rest.now) ∷ rows c.next.new.self.number (lines c.next.new.self.rest.now) =
+    rows_step c.lines.lines.number c.in-Some.number c.next.new.self.number (lines c.lines.lines.rest.now) c.in-Some.line.rest.now (lines c.next.new.self.rest.now) c.in-Some-next.name.now (words c.next-in-Some.new.self.rest.now)
+    steps.0 steps.1 steps.2 c.in-Some-next.ensures.steps.0 in
+    let before = subst (λ rs. Going c.args.names.now (rows_of c.args.text.now) rs c.lines.seen c.lines.table c.lines.holds.items c.lines.asked c.lines.out.items) f c.lines.invariant.going in
+    let fault = going_fault c.args.names.now (rows_of c.args.text.now) _ _ c.lines.seen c.lines.table c.lines.holds.items c.lines.asked c.lines.out.items e before (c.take_line.ensures.refused e (c.in-Err.is ∙ ap (λ x. Err x) k) some) in
+    sym (ap (λ (ns : List Text). first_fault ns 0 [] (rows_of c.args.text.now)) c.requires.names) ∙ fault
+
+pub returns-clause-text : goal.returns-clause-text
+returns-clause-text c =
+    let f : rows c.lines.lines.number (lines c.lines.lines.rest.now) ≡ [] = ap (rows c.lines.lines.number) c.in_default.ensures.steps.0 ∙ rows_nil c.lines.lines.number in
+    let last = subst (λ rs. Going c.args.names.now (rows_of c.args.text.now) rs c.lines.seen c.lines.table c.lines.holds.items c.lines.asked c.lines.out.items) f c.lines.invariant.going in
+    going_end c.args.text.now c.lines.out.items c.lines.seen c.lines.table c.lines.holds.items c.lines.asked
+    (subst (λ ns. Going ns (rows_of c.args.text.now) [] c.lines.seen c.lines.table c.lines.holds.items c.lines.asked c.lines.out.items) c.requires.names last)

@@ -1,0 +1,12 @@
+use Rattle.request_files.specs.Text.{lines}
+use Rattle.request_files.specs.Requests.{rows}
+use Rattle.range_session.specs.Faults.{rows_of}
+use Rattle.range_session.proofs.Going.{Going}
+use Rattle.range_session.proofs.session.written.Given as goal
+
+abbrev pub invariant-lines : goal.invariant-lines
+invariant-lines l = record {
+  next : (goal.iterator-lines).can_next l.lines;
+  finite : (goal.iterator-lines).is_finite l.lines;
+  going : Going l.names (rows_of l.text) (rows l.lines.number (lines l.lines.rest.now)) l.seen l.table l.holds.items l.asked l.out.items;
+}

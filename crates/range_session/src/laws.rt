@@ -1,0 +1,13 @@
+//! Laws of range sessions: each is the contract of a function with an empty body.
+
+ghost use Rattle.std.specs.Prelude.{◌≡◌, List, ℕ, Some};
+ghost use Rattle.range_session.specs.Faults.{text_fault};
+ghost use Rattle.range_session.specs.Session.{IsRangesText};
+ghost use Rattle.range_session.specs.declared.refusal.RangeRefusal.{RangeRefusal};
+
+/// A text of lines writes one text at most, and none where it has a fault.
+pub fn one_text()
+    ensures same { (input t u : List ℕ) → IsRangesText input t → IsRangesText input u → t ≡ u }
+    ensures fine { (input t : List ℕ) (e : RangeRefusal) → IsRangesText input t
+        → text_fault input ≡ Some e → ⊥ }
+{}
