@@ -10,8 +10,8 @@ use std::alloc::Global;
 use std::marker::Model;
 use symbolic_ops::Symbol;
 
-/// How many symbols are kept of a handler. Where there are more, a loop is walked again for each that
-/// isn't kept.
+/// How many symbols are kept of a handler. Where there are more, loops are walked again for those
+/// that aren't kept.
 const ROOM: usize = 4_194_304;
 
 /// The lists at the heads of loops, by the numbers of the loops' points.
@@ -113,8 +113,8 @@ impl Heads {
         Ok(())
     }
 
-    /// Keeps these symbols of the head of a loop beside the others, and gives those that are new, as
-    /// many as there is room for.
+    /// Keeps these symbols of the head of a loop beside the others, and gives those that are new,
+    /// as many as there is room for.
     pub(crate) fn take_in(
         &mut self,
         alloc: Global,

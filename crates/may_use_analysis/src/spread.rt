@@ -28,7 +28,8 @@ pub(crate) fn spread_block(
     heads: &mut Heads,
 ) -> Result<Ordered, NoMemory>
     requires { (low : ℕ) × IsNumbered (block_code block.now) low }
-    ensures within { IfOk result (λ r. (s : Symbol) → Contains r s → Flow (block_code block.now) (Contains after) s) }
+    ensures within { IfOk result (λ r. (s : Symbol) → Contains r s
+        → Flow (block_code block.now) (Contains after) s) }
     ensures warm { OnOk result (StaysWarm (block_code block.now) after heads.old heads.new) }
     ensures others { OnOk result ((low : ℕ) → IsNumbered (block_code block.now) low
         → SameOutside heads.old heads.new low (low + points (block_code block.now))) }
@@ -49,7 +50,8 @@ fn spread_stmt(
     heads: &mut Heads,
 ) -> Result<Ordered, NoMemory>
     requires { (low : ℕ) × IsNumbered (stmt_code stmt.now Finish) low }
-    ensures within { IfOk result (λ r. (s : Symbol) → Contains r s → StmtFlow stmt.now (Contains after) s) }
+    ensures within { IfOk result (λ r. (s : Symbol) → Contains r s
+        → StmtFlow stmt.now (Contains after) s) }
     ensures warm { OnOk result (StaysWarm (stmt_code stmt.now Finish) after heads.old heads.new) }
     ensures others { OnOk result ((low : ℕ) → IsNumbered (stmt_code stmt.now Finish) low
         → SameOutside heads.old heads.new low (low + points (stmt_code stmt.now Finish))) }
@@ -98,8 +100,10 @@ fn spread_loop(
     heads: &mut Heads,
 ) -> Result<Ordered, NoMemory>
     requires { (low : ℕ) × IsNumbered (Loop 0 point 0 var (block_code body.now) Finish) low }
-    ensures within { IfOk result (λ r. (s : Symbol) → Contains r s → Head var (block_code body.now) (Contains after) s) }
-    ensures warm { OnOk result (StaysWarm (Loop 0 point 0 var (block_code body.now) Finish) after heads.old heads.new) }
+    ensures within { IfOk result (λ r. (s : Symbol) → Contains r s
+        → Head var (block_code body.now) (Contains after) s) }
+    ensures warm { OnOk result (StaysWarm (Loop 0 point 0 var (block_code body.now) Finish) after
+        heads.old heads.new) }
     ensures others { OnOk result ((low : ℕ)
         → IsNumbered (Loop 0 point 0 var (block_code body.now) Finish) low
         → SameOutside heads.old heads.new low (low + points (block_code body.now) + 1)) }
