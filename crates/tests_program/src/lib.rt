@@ -5,6 +5,8 @@
 #[cfg(test)]
 mod ends;
 #[cfg(test)]
+mod held;
+#[cfg(test)]
 mod refusing;
 #[cfg(test)]
 mod reply_lines;
