@@ -5,6 +5,7 @@ use std::alloc::Global;
 use std::sync::Wait;
 use std::sync::atomic::{AtomicBool, AtomicUsize, Ordering};
 use std::test::Fail;
+use std::thread;
 use std::thread::Threads;
 use worker_gate::{Gate, HoldGate, Place};
 
@@ -158,5 +159,71 @@ fn one_caller_passes_all_places_in_order(rt: HostRuntime) -> Result<(), Fail> {
         Place::Ended(0),
     ];
     assert_eq!(rt; places_passed(&rt, rt.alloc(), &places)?, (9, false));
+    Ok(())
+}
+
+/// A gate at which each ticket waits at its beginning until so many have begun, but no longer than
+/// a number of turns.
+#[derive(Drop)]
+struct BarrierGate {
+    wanted: usize,
+    limit: u64,
+    /// How many have begun.
+    begun: AtomicUsize,
+    /// Whether one was let go at its limit.
+    broken: AtomicBool,
+}
+
+impl BarrierGate {
+    // Holds a caller.
+    fn wait(&self) {
+        self.begun.fetch_add(1, Ordering::SeqCst);
+        for _ in 0..self.limit {
+            if self.begun.load(Ordering::SeqCst) >= self.wanted {
+                return;
+            }
+            thread::yield_now();
+        }
+        self.broken.store(true, Ordering::SeqCst);
+    }
+}
+
+impl Gate for BarrierGate {
+    fn pass<R: Threads + Wait + Sync>(&self, _rt: &R, place: Place) {
+        if let Place::Begun(_) = place {
+            self.wait();
+        }
+    }
+}
+
+/// Whether eight requests are served by so many callers, each of whose tickets waits until all
+/// eight are begun; and whether one was let go before.
+fn serve_together<R: Threads + Wait + Sync>(
+    rt: &R,
+    alloc: Global,
+    (command, limit): (&str, u64),
+) -> Result<(bool, bool), Fail> {
+    let input = Input {
+        first: WRITE,
+        again: "w 0 5\n",
+        times: 8,
+    };
+    let mut ends = ends_of(alloc, command, input, (&[], &[]))?;
+    let gate = BarrierGate {
+        wanted: 8,
+        limit,
+        begun: AtomicUsize::new(0),
+        broken: AtomicBool::new(false),
+    };
+    let is_served = run_past(rt, alloc, &mut ends, &gate) == (0, true);
+    Ok((is_served, gate.broken.load(Ordering::SeqCst)))
+}
+
+/// As many tickets are open at once as there are callers, and no more.
+#[test]
+fn as_many_tickets_are_open_as_callers(rt: HostRuntime) -> Result<(), Fail> {
+    let eight = serve_together(&rt, rt.alloc(), ("serve --callers 8", 10_000_000))?;
+    let seven = serve_together(&rt, rt.alloc(), ("serve --callers 7", 1000))?;
+    assert_eq!(rt; [eight, seven], [(true, false), (true, true)]);
     Ok(())
 }
