@@ -61,6 +61,12 @@ impl<V, R: TieRule<V>> Board<V, R> {
         self.table.slot_count() as u32
     }
 
+    /// The word of all turns, read without a step: bit t is set where turn t was found taken. It may
+    /// be old by the time it is read, and no seat knows more by it.
+    pub fn look(&self) -> u64 {
+        self.table.shared.peek(MASK)
+    }
+
     pub(crate) fn into_parts(
         self,
     ) -> (
