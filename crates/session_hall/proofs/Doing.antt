@@ -14,7 +14,7 @@ use Rattle.session_values.proofs.Starts.{start_none}
 use Rattle.session_journal.specs.declared.event.Event.{Event}
 use Rattle.session_journal.specs.Script.{Meaning, room}
 use Rattle.session_values.specs.Sums.{sum_below}
-use Rattle.atomic_table.specs.Seated.{TableId}
+use Rattle.turn_board.specs.Seated.{TableId}
 use Rattle.shard_tables.specs.Parts.{part, shard_of}
 use Rattle.shard_tables.proofs.PartSizes.{part_few, part_sizes}
 use Rattle.admission_book.specs.Book.{Holds, record_of}

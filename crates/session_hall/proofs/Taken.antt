@@ -3,7 +3,7 @@ use Rattle.std.proofs.Common.{◌≡◌, ◌≢◌, ℕ, suc, ◌+◌, ◌<◌, 
 use Rattle.std.specs.Int.{bit_at}
 use Rattle.session_values.specs.declared.op.Op.{Op}
 use Rattle.session_journal.specs.Script.{Meaning}
-use Rattle.atomic_table.specs.Seated.{TableId}
+use Rattle.turn_board.specs.Seated.{TableId}
 use Rattle.turn_board.specs.Boards.{IsSeatOf, SameNote, MissedAll, Tells, turn_count, caller_count, lost, givings}
 use Rattle.turn_board.specs.Hands.{HandsView}
 use Rattle.hall_rule.specs.declared.held.Held.{Held}

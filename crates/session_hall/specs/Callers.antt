@@ -40,7 +40,7 @@ pub record IsTold (m : Meaning) (b : Book) : Type 0 where
 -- its seat is of the hall's board, its note is a lawful book of the hall's script, and it holds what its stage says
 pub record IsCallerIn {S : Type 0} (meaning : S → Meaning) (p : HallId) (script : S)
     (c : Caller S) : Type 0 where
-  pub seat : IsSeated p.board c.seat.pass
+  pub seat : IsSeated p.board c.seat.pass.token
   pub number_is : caller c.seat ≡ c.number
   pub caller_count_is : caller_count c.seat ≡ p.callers
   pub noted : note c.seat ≡ Some (Register script (book_of c))

@@ -20,7 +20,7 @@ pub record Finds (m : Meaning) (noted found : Book) (c callers : ℕ) : Type 0 w
 
 -- how many turns the seat's board has
 abbrev pub turns_at : {S : Type 0} → SeatOf S → ℕ
-turns_at s = s.pass.table_id.slots
+turns_at s = s.pass.token.table_id.slots
 
 -- the hall's rule held at the seat's last step: of the counted contents of all turns and the notes
 -- of all callers, among which are the contents that the seat holds and its caller's note

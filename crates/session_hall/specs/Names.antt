@@ -1,6 +1,7 @@
 -- What names a hall: a list of numbers.
 use Rattle.std.specs.Prelude.{ℕ, List, [], ◌∷◌}
-use Rattle.atomic_table.specs.Seated.{TableId}
+use Rattle.turn_board.specs.Seated.{TableId}
+use Rattle.turn_board.specs.Passes as passes
 use Rattle.session_hall.specs.declared.hall.Hall.{Hall}
 
 -- how many callers it has, how many tables, how many shards each of these, and the board on which they lie
@@ -15,7 +16,7 @@ hall_id h = record {
   callers = h.sizes.callers;
   tables = h.sizes.tables;
   shards = h.sizes.shards;
-  board = h.board.table.shared.table_id;
+  board = passes.id_of h.board.words;
 }
 
 -- the same as a list of numbers

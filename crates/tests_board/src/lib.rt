@@ -4,6 +4,8 @@
 #[cfg(test)]
 mod callers;
 #[cfg(test)]
+mod many;
+#[cfg(test)]
 mod rows;
 #[cfg(test)]
 mod turns;

@@ -41,8 +41,8 @@ pub fn open_board(
     Ok((board, seats.into_vec()))
 }
 
-// The last of these seats.
-fn last_seat(board: &Board<u64, Anything>, callers: u32, seats: &mut Row) -> Seat<u64, Anything>
+/// The last of these seats.
+pub fn last_seat(board: &Board<u64, Anything>, callers: u32, seats: &mut Row) -> Seat<u64, Anything>
     requires each { AllEnd board.now callers seats.old.items }
     requires some { 0 < vec_len seats.old }
     ensures len { vec_len seats.new + 1 ≡ vec_len seats.old }
@@ -64,8 +64,8 @@ fn never_busy_alone(board: &Board<u64, Anything>, seat: &mut Seat<u64, Anything>
     value
 }
 
-// Takes a turn that is free.
-fn take_free<R: Abort>(
+/// Takes a turn that is free.
+pub fn take_free<R: Abort>(
     rt: &R,
     board: &Board<u64, Anything>,
     seat: &mut Seat<u64, Anything>,

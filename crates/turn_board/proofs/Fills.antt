@@ -6,24 +6,24 @@ use Rattle.std.proofs.lemmas.Option.{none-some}
 use mathlib.Core.Logic.{dite}
 use native.Mathlib.Decide.{ℕ_discrete, dec_lt}
 use Rattle.std.specs.Int.{bit_at, bit_not, w64}
-use Rattle.atomic_table.specs.Seated.{TableId}
-use Rattle.turn_board.specs.declared.view.View.{View}
-use Rattle.turn_board.specs.declared.view.Place.TheVariants.{Vacant, Lies}
-use Rattle.turn_board.specs.Tied.{counted, place}
-use Rattle.turn_board.specs.Maps.{SameTurns}
-use Rattle.turn_board.specs.Steps.{put_place, given_view, noted, lost_at, note_of, caller_of}
-use Rattle.turn_board.specs.Passes.{Pass, Placed, IsSeated, held}
+use Rattle.turn_steps.specs.Seated.{TableId}
+use Rattle.turn_steps.specs.declared.view.View.{View}
+use Rattle.turn_steps.specs.declared.view.Place.TheVariants.{Vacant, Lies}
+use Rattle.turn_steps.specs.Tied.{counted, place}
+use Rattle.turn_steps.specs.Maps.{SameTurns}
+use Rattle.turn_steps.specs.Steps.{put_place, given_view, noted, lost_at, note_of, caller_of}
+use Rattle.turn_steps.specs.Passes.{Token, Placed, IsSeated, held}
 use Rattle.turn_board.specs.Hands.{in_hands, put_back, Once}
 use Rattle.turn_board.specs.Moving.{Filled}
 use Rattle.turn_board.specs.Boards.{BookedAll}
 use Rattle.turn_board.proofs.AtSeat.{at}
-use Rattle.turn_board.proofs.Rows.{two, row-length, row-here, row-past}
-use Rattle.turn_board.proofs.Gives.{cases}
+use Rattle.turn_steps.proofs.Rows.{two, row-length, row-here, row-past}
+use Rattle.turn_steps.proofs.Gives.{cases}
 use Rattle.turn_board.proofs.Several.{here-in, else-in}
 use Rattle.turn_board.proofs.Returns.{held-near, has-book}
 
 -- the values that stood in xs and stand no more in rest were moved, and the set has their turns
-pub record Filling {V C : Type 0} (content : V → C) (xs rest : List (ℕ × V)) (set : ℕ) (p q : Pass V C) : Type 0 where
+pub record Filling {V C : Type 0} (content : V → C) (xs rest : List (ℕ × V)) (set : ℕ) (p q : Token V C) : Type 0 where
   pub table : q.table_id ≡ p.table_id
   pub id : q.id ≡ p.id
   pub none : q.me.1 ≡ p.me.1
@@ -44,7 +44,7 @@ module _ {V C : Type 0} (content : V → C) where
   pub none-in : (l : List (ℕ × V)) (u : ℕ) → l ≡ [] → in_hands content l u ≡ None
   none-in l u e = ap (λ k. in_hands content k u) e
 
-  pub starts : (xs : List (ℕ × V)) (p : Pass V C) → Filling content xs xs 0 p p
+  pub starts : (xs : List (ℕ × V)) (p : Token V C) → Filling content xs xs 0 p p
   starts xs p = record {
     table = refl;
     id = refl;
@@ -63,7 +63,7 @@ module _ {V C : Type 0} (content : V → C) where
     others = λ u z. (refl, refl);
   }
 
-  pub done : (xs rest : List (ℕ × V)) (set : ℕ) (p q : Pass V C) → rest ≡ [] → Filling content xs rest set p q → Filled content xs set p q
+  pub done : (xs rest : List (ℕ × V)) (set : ℕ) (p q : Token V C) → rest ≡ [] → Filling content xs rest set p q → Filled content xs set p q
   done xs rest set p q e f = record {
     table = f.table;
     id = f.id;
@@ -81,7 +81,7 @@ module _ {V C : Type 0} (content : V → C) where
     others = λ u z. let o = f.others u z in (o.0 ∙ none-in rest u e, o.1);
   }
 
-  module _ (xs rest more : List (ℕ × V)) (set t : ℕ) (x : V) (p q r : Pass V C) (f : Filling content xs rest set p q) (is : rest ≡ (t, x) ∷ more) (once : Once content rest) (near : t < length p.me.0.places) (nothing : p.me.1 ≡ [])
+  module _ (xs rest more : List (ℕ × V)) (set t : ℕ) (x : V) (p q r : Token V C) (f : Filling content xs rest set p q) (is : rest ≡ (t, x) ∷ more) (once : Once content rest) (near : t < length p.me.0.places) (nothing : p.me.1 ≡ [])
       (r-table : r.table_id ≡ q.table_id) (r-id : r.id ≡ q.id) (r-is : r.me ≡ (put_place t (Lies (content x)) q.me.0, [])) where
     once-of : (0 < t) × (in_hands content more t ≡ None) × Once content more
     once-of = subst (Once content) is once
@@ -142,8 +142,8 @@ after-zero content book xs (suc u) h = refl
 pub from-mask : (mask u : ℕ) → mask < 2 ^ 64 → u < 64 → bit_at (bit_not w64 mask) u ≡ 0 → bit_at mask u ≡ 1
 from-mask mask u fits near e = let m = bit_at_not w64 mask u fits near in let b = bit_at-lt mask u in omega arith
 
-module _ {V C : Type 0} (content : V → C) (id : TableId) (few : id.slots ≤ 57) (p : Pass V C) (seated : IsSeated id p) (book : V) (xs : List (ℕ × V)) (once : Once content xs) (same : SameTurns (held p) (put_back content book xs))
-    (m : Pass V C) (m-is : m.me ≡ (put_place 0 (Lies (content book)) p.me.0, [])) where
+module _ {V C : Type 0} (content : V → C) (id : TableId) (few : id.slots ≤ 57) (p : Token V C) (seated : IsSeated id p) (book : V) (xs : List (ℕ × V)) (once : Once content xs) (same : SameTurns (held p) (put_back content book xs))
+    (m : Token V C) (m-is : m.me ≡ (put_place 0 (Lies (content book)) p.me.0, [])) where
   pub book-held : (c : C) × (held p 0 ≡ Some c)
   book-held = has-book (held p) (put_back content book xs) (content book) same refl
 
@@ -156,7 +156,7 @@ module _ {V C : Type 0} (content : V → C) (id : TableId) (few : id.slots ≤ 5
       let h = cases (held p u) ((d : C) × (held p u ≡ Some d)) (λ n. absurd (none-some c (sym (same.0 u n) ∙ after-zero content book xs u pos ∙ e))) (λ d g. (d, g)) in
       ((h.0, ap (λ y. counted y.0 u) m-is ∙ h.1), ap (λ y. place y.0 u) m-is ∙ get_or-set_other p.me.0.places 0 u (Lies (content book)) Vacant (λ s. omega arith) ∙ seated.vacant u)
 
-  module _ (set : ℕ) (q : Pass V C) (f : Filled content xs set m q) where
+  module _ (set : ℕ) (q : Token V C) (f : Filled content xs set m q) where
     zero-unset : bit_at set 0 ≡ 0
     zero-unset = two (bit_at set 0) (λ x. x ≡ 0) (bit_at-lt set 0) (λ _. refl) (λ o. absurd (let h = f.there 0 o in let k = once-positive content xs once 0 h.0 h.1 in omega arith))
 
@@ -176,7 +176,7 @@ module _ {V C : Type 0} (content : V → C) (id : TableId) (few : id.slots ≤ 5
     pub filled-placed : Placed id m → Placed id q
     filled-placed x = record { of_table = f.table ∙ x.of_table; empty = f.none ∙ x.empty; counts = ap length f.counts ∙ x.counts; places = f.long ∙ x.places; losses = ap length f.lost ∙ x.losses; one = (x.one.0, x.one.1, f.speaks ∙ x.one.2) }
 
-    module _ (fits : bit_or set 1 < 2 ^ 64) (r : Pass V C) (change : ℕ × List C)
+    module _ (fits : bit_or set 1 < 2 ^ 64) (r : Token V C) (change : ℕ × List C)
         (r-is : r.me ≡ (given_view id.slots (bit_not w64 (bit_or set 1)) (put_back content book xs) (noted (Some (content book)) q.me.0.speaks) (q.me.0.given + 1) change q.me.0, q.me.1)) where
       abbrev M : ℕ
       M = bit_not w64 (bit_or set 1)

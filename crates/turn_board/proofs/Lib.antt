@@ -1,13 +1,8 @@
+pub use Rattle.turn_steps.proofs.Rows
 pub mod AtSeat
-pub mod Rows
-pub mod Moved
-pub mod Asks
-pub mod Slots
-pub mod Gives
 pub mod Takes
 pub mod Returns
 pub mod Several
-pub mod CallerCounts
 pub mod Opened
 pub mod Closes
 pub mod Sets

@@ -7,20 +7,18 @@ use Rattle.std.proofs.lemmas.Option.{none-some}
 use mathlib.Core.Logic.{dite}
 use native.Mathlib.Decide.{dec_lt, ℕ_discrete}
 use Rattle.std.specs.Int.{bit_at, bit_not, w64}
-use mathlib.Core.Option.{none}
-use Rattle.atomic_table.specs.Table.{Step, step}
-use Rattle.atomic_table.specs.Seated.{TableId}
-use Rattle.turn_board.specs.declared.view.View.{View}
-use Rattle.turn_board.specs.declared.view.Place.TheVariants.{Vacant, Lies}
-use Rattle.turn_board.specs.Tied.{counted, place}
-use Rattle.turn_board.specs.Steps.{Sits, booked, given_view, put_place, lost_at, note_of, caller_of, noted}
-use Rattle.turn_board.specs.Passes.{Pass, IsSeated, held, lost}
+use Rattle.turn_steps.specs.Seated.{TableId}
+use Rattle.turn_steps.specs.declared.view.View.{View}
+use Rattle.turn_steps.specs.declared.view.Place.TheVariants.{Vacant, Lies}
+use Rattle.turn_steps.specs.Tied.{counted, place}
+use Rattle.turn_steps.specs.Steps.{Sits, booked, given_view, put_place, lost_at, note_of, caller_of, noted}
+use Rattle.turn_steps.specs.Passes.{Token, IsSeated, held, lost}
 use Rattle.turn_board.specs.Hands.{HandsView, put_back}
 use Rattle.turn_board.specs.Boards.{SameNote, Released, Booked, Changed}
 use Rattle.turn_board.proofs.AtSeat.{at}
-use Rattle.turn_board.specs.Maps.{SameTurns}
-use Rattle.turn_board.proofs.Rows.{row-length, row-here, row-past, past-end}
-use Rattle.turn_board.proofs.Gives.{cases}
+use Rattle.turn_steps.specs.Maps.{SameTurns}
+use Rattle.turn_steps.proofs.Rows.{row-length, row-here, row-past, past-end}
+use Rattle.turn_steps.proofs.Gives.{cases}
 
 -- the complement of one bit
 pub cleared-here : (t : ℕ) → t < 64 → bit_at (bit_not w64 (2 ^ t)) t ≡ 0
@@ -29,7 +27,7 @@ cleared-here t h = bit_at_not w64 (2 ^ t) t (pow_below t 64 h) h ∙ ap (λ (b :
 pub cleared-else : (t u : ℕ) → t < 64 → u < 64 → u ≢ t → bit_at (bit_not w64 (2 ^ t)) u ≡ 1
 cleared-else t u h k ne = bit_at_not w64 (2 ^ t) u (pow_below t 64 h) k ∙ ap (λ (b : ℕ). 1 - b) (bit_at-pow_other t u ne)
 
-module _ {V C : Type 0} (id : TableId) (v : View C) (t mask : ℕ) (new : ℕ → Option C) (speaks : List (ℕ × C)) (given : ℕ) (change : ℕ × List C) (q : Pass V C)
+module _ {V C : Type 0} (id : TableId) (v : View C) (t mask : ℕ) (new : ℕ → Option C) (speaks : List (ℕ × C)) (given : ℕ) (change : ℕ × List C) (q : Token V C)
     (q-is : q.me ≡ (given_view id.slots mask new speaks given change v, [])) (zero-here : bit_at mask t ≡ 0) (ones : (u : ℕ) → u < id.slots → u ≢ t → bit_at mask u ≡ 1) (near : t < id.slots) where
   view-is : q.me.0 ≡ given_view id.slots mask new speaks given change v
   view-is = ap (λ m. m.0) q-is
@@ -82,7 +80,7 @@ pub held-near : {C : Type 0} (v : View C) (n t : ℕ) (c : C) → length v.count
 held-near v n t c long e = dite (dec_lt t n) (λ h. h) (λ h. absurd (none-some c (sym (past-end v.counts t None (let k : length v.counts ≤ t = omega arith in k)) ∙ e)))
 
 -- one turn is given back as it was: p before, m after its value was laid into the slot, q after the step
-module _ {V C : Type 0} (id : TableId) (few : id.slots ≤ 57) (p : Pass V C) (seated : IsSeated id p) (t : ℕ) (x : C) (is : held p t ≡ Some x) (m : Pass V C) (m-is : m.me ≡ (put_place t (Lies x) p.me.0, [])) where
+module _ {V C : Type 0} (id : TableId) (few : id.slots ≤ 57) (p : Token V C) (seated : IsSeated id p) (t : ℕ) (x : C) (is : held p t ≡ Some x) (m : Token V C) (m-is : m.me ≡ (put_place t (Lies x) p.me.0, [])) where
   below : t < id.slots
   below = held-near p.me.0 id.slots t x seated.placed.counts is
 
@@ -97,7 +95,7 @@ module _ {V C : Type 0} (id : TableId) (few : id.slots ≤ 57) (p : Pass V C) (s
       (λ s. (x, ap₂ counted m-view s ∙ is, ap₂ place m-view s ∙ get_or-set_same p.me.0.places t (Lies x) Vacant (let l : length p.me.0.places ≡ id.slots = seated.placed.places in let b : t < id.slots = below in omega arith)))
       (λ ne. absurd (let b : t < id.slots = below in let o = cleared-else t u (omega arith) (omega arith) ne in omega arith))
 
-  module _ (q : Pass V C) (same-table : q.table_id ≡ p.table_id) (same-id : q.id ≡ p.id) (q-is : q.me ≡ (given_view id.slots (bit_not w64 (2 ^ t)) (counted m.me.0) m.me.0.speaks m.me.0.given m.me.0.change m.me.0, m.me.1)) where
+  module _ (q : Token V C) (same-table : q.table_id ≡ p.table_id) (same-id : q.id ≡ p.id) (q-is : q.me ≡ (given_view id.slots (bit_not w64 (2 ^ t)) (counted m.me.0) m.me.0.speaks m.me.0.given m.me.0.change m.me.0, m.me.1)) where
     zero-bit : bit_at (bit_not w64 (2 ^ t)) t ≡ 0
     zero-bit = cleared-here t (let b : t < id.slots = below in omega arith)
 
@@ -131,8 +129,8 @@ pub has-book : {C : Type 0} (old new : ℕ → Option C) (b : C) → SameTurns o
 has-book {C} old new b same e = cases (old 0) ((c : C) × (old 0 ≡ Some c)) (λ n. absurd (none-some b (sym (same.0 0 n) ∙ e))) (λ c f. (c, f))
 
 -- the book is given back: p before, m after its value was laid into the slot, q after the step
-module _ {V C : Type 0} (id : TableId) (few : id.slots ≤ 57) (p : Pass V C) (seated : IsSeated id p) (new : ℕ → Option C) (b : C) (has : new 0 ≡ Some b) (same : SameTurns (held p) new) (mask : ℕ) (zero-bit : bit_at mask 0 ≡ 0) (ones : (u : ℕ) → 0 < u → u < id.slots → bit_at mask u ≡ 1)
-    (m : Pass V C) (m-is : m.me ≡ (put_place 0 (Lies b) p.me.0, [])) (q : Pass V C) (change : ℕ × List C)
+module _ {V C : Type 0} (id : TableId) (few : id.slots ≤ 57) (p : Token V C) (seated : IsSeated id p) (new : ℕ → Option C) (b : C) (has : new 0 ≡ Some b) (same : SameTurns (held p) new) (mask : ℕ) (zero-bit : bit_at mask 0 ≡ 0) (ones : (u : ℕ) → 0 < u → u < id.slots → bit_at mask u ≡ 1)
+    (m : Token V C) (m-is : m.me ≡ (put_place 0 (Lies b) p.me.0, [])) (q : Token V C) (change : ℕ × List C)
     (q-is : q.me ≡ (given_view id.slots mask new (noted (Some b) m.me.0.speaks) (m.me.0.given + 1) change m.me.0, m.me.1)) where
   private-below : 0 < id.slots
   private-below = let h = has-book (held p) new b same has in held-near p.me.0 id.slots 0 h.0 seated.placed.counts h.1
@@ -191,12 +189,12 @@ pub kept-ones : (slots : ℕ) → slots ≤ 57 → (u : ℕ) → 0 < u → u < s
 kept-ones slots few u pos near = cleared-else 0 u (omega arith) (omega arith) (λ e. omega arith)
 
 -- what the step that gives the book back tells, of the values themselves
-pub given-back : {V C : Type 0} (content : V → C) (slots : ℕ) (m q : Pass V C) (copy book : V) (list hands : HandsView V) → copy ≡ book → list ≡ hands → (mask : ℕ) → booked (put_back content copy list.pairs) (step slots 7 mask 0 none) m.me q.me → booked (put_back content book hands.pairs) (step slots 7 mask 0 none) m.me q.me
-given-back {V} {C} content slots m q copy book list hands e f mask b = subst (λ (x : V × HandsView V). booked (put_back content x.0 x.1.pairs) (step slots 7 mask 0 none) m.me q.me) (λ k. (e k, f k)) b
+pub given-back : {V C : Type 0} (content : V → C) (slots : ℕ) (m q : Token V C) (copy book : V) (list hands : HandsView V) → copy ≡ book → list ≡ hands → (mask : ℕ) → booked (put_back content copy list.pairs) slots mask m.me q.me → booked (put_back content book hands.pairs) slots mask m.me q.me
+given-back {V} {C} content slots m q copy book list hands e f mask b = subst (λ (x : V × HandsView V). booked (put_back content x.0 x.1.pairs) slots mask m.me q.me) (λ k. (e k, f k)) b
 
 -- it is one change of counted contents: p before the call, m before the step, q after it
-pub changed-now : {V R C : Type 0} (p m q : Pass V C) (new : ℕ → Option C) (st : Step (Option V)) → booked new st m.me q.me → m.me.0.counts ≡ p.me.0.counts → m.me.0.change ≡ p.me.0.change → Changed (at R p) (at R q) st.slots new
-changed-now p m q new st b counts change = record {
+pub changed-now : {V R C : Type 0} (p m q : Token V C) (new : ℕ → Option C) (slots mask : ℕ) → booked new slots mask m.me q.me → m.me.0.counts ≡ p.me.0.counts → m.me.0.change ≡ p.me.0.change → Changed (at R p) (at R q) slots new
+changed-now p m q new slots mask b counts change = record {
   contents = b.1;
   turns_is = b.4;
   before = λ t c e. b.5 t c (ap (λ l. slice_index_or l t None) counts ∙ e);

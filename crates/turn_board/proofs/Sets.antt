@@ -4,21 +4,19 @@ use Rattle.std.specs.Prelude.{Some, None, slice_get, ◌==◌, bit_and}
 use Rattle.std.proofs.lemmas.Nat.{and_le_l}
 use Rattle.std.proofs.lemmas.Nat.Bits.{bit_at_and, bit_at-lt, bit_at_not, bit_at-zero, bit_at-trailing_zeros}
 use Rattle.std.proofs.lemmas.Option.{none-some}
-use mathlib.Core.Option.{none}
 use mathlib.Core.Logic.{dite}
 use native.Mathlib.Decide.{dec_lt}
 use Rattle.std.specs.Int.{bit_at, bit_not, trailing_zeros, w64}
-use Rattle.atomic_table.specs.Table.{step}
-use Rattle.atomic_table.specs.Seated.{TableId}
-use Rattle.turn_board.specs.declared.view.View.{View}
-use Rattle.turn_board.specs.declared.view.Place.TheVariants.{Vacant, Lies}
-use Rattle.turn_board.specs.Tied.{counted, place}
-use Rattle.turn_board.specs.Steps.{asked, asked_view, given_view, lies, lost_at, one_more_lost, note_of, caller_of}
-use Rattle.turn_board.specs.Passes.{Pass, Placed, IsSeated, held, lost}
+use Rattle.turn_steps.specs.Seated.{TableId}
+use Rattle.turn_steps.specs.declared.view.View.{View}
+use Rattle.turn_steps.specs.declared.view.Place.TheVariants.{Vacant, Lies}
+use Rattle.turn_steps.specs.Tied.{counted, place}
+use Rattle.turn_steps.specs.Steps.{asked, asked_view, given_view, lies, lost_at, one_more_lost, note_of, caller_of}
+use Rattle.turn_steps.specs.Passes.{Token, Placed, IsSeated, held, lost}
 use Rattle.turn_board.specs.Moving.{Emptied}
 use Rattle.turn_board.specs.Boards.{SameNote, Tells, MissedAll}
 use Rattle.turn_board.proofs.AtSeat.{at, told}
-use Rattle.turn_board.proofs.Rows.{two, row-length, row-here, row-past, changed-here, changed-else, get-within, past-end}
+use Rattle.turn_steps.proofs.Rows.{two, row-length, row-here, row-past, changed-here, changed-else, get-within, past-end}
 
 -- no turn of the set was found taken
 pub none-taken : (found set : ℕ) → bit_and found set ≡ 0 → (u : ℕ) → bit_at set u ≡ 1 → bit_at found u ≡ 0
@@ -58,8 +56,8 @@ module _ (found set : ℕ) (f-fits : found < 2 ^ 64) (s-fits : set < 2 ^ 64) whe
       let m = sym (bit_at_and set (bit_not w64 found) u) ∙ low.1 in let n = bit_at_not w64 found u f-fits near in
       let a = bit_at-lt set u in let b = bit_at-lt found u in let f = all' u (omega arith) in omega arith
 
-module _ {V C : Type 0} (holds : List C → List C → Type 0) (id : TableId) (p q : Pass V C) (set found : ℕ) (seated : IsSeated id p) (same-table : q.table_id ≡ p.table_id) (same-id : q.id ≡ p.id)
-    (a : asked holds (step id.slots 7 set 0 none) p.me found q.me) where
+module _ {V C : Type 0} (holds : List C → List C → Type 0) (id : TableId) (p q : Token V C) (set found : ℕ) (seated : IsSeated id p) (same-table : q.table_id ≡ p.table_id) (same-id : q.id ≡ p.id)
+    (a : asked holds id.slots set p.me found q.me) where
   abbrev v : View C
   v = p.me.0
 
@@ -138,7 +136,7 @@ module _ {V C : Type 0} (holds : List C → List C → Type 0) (id : TableId) (p
   places-past u h = past-end q.me.0.places u Vacant (let l = set-placed.places in omega arith)
 
   -- the values were moved out
-  module _ (r : Pass V C) (e : Emptied set id.slots q r) where
+  module _ (r : Token V C) (e : Emptied set id.slots q r) where
     pub all-out : IsSeated id r
     all-out = record {
       placed = record {
@@ -191,7 +189,7 @@ module _ {V C : Type 0} (holds : List C → List C → Type 0) (id : TableId) (p
     pub untouched : (u : ℕ) → u < id.slots → bit_at (bit_not w64 (bit_and set (bit_not w64 found))) u ≡ 0 → (c : C) × (counted q.me.0 u ≡ Some c) × (place q.me.0 u ≡ Lies c)
     untouched u near z = let b = cleared found set f-fits s-fits u (omega arith) z in now-lie u near b.0 b.1
 
-    module _ (free : (u : ℕ) → bit_at set u ≡ 1 → held p u ≡ None) (r : Pass V C) (r-table : r.table_id ≡ q.table_id) (r-id : r.id ≡ q.id)
+    module _ (free : (u : ℕ) → bit_at set u ≡ 1 → held p u ≡ None) (r : Token V C) (r-table : r.table_id ≡ q.table_id) (r-id : r.id ≡ q.id)
         (r-is : r.me ≡ (given_view id.slots (bit_not w64 (bit_and set (bit_not w64 found))) (counted q.me.0) q.me.0.speaks q.me.0.given q.me.0.change q.me.0, q.me.1)) where
       r-view : r.me.0 ≡ given_view id.slots (bit_not w64 (bit_and set (bit_not w64 found))) (counted q.me.0) q.me.0.speaks q.me.0.given q.me.0.change q.me.0
       r-view = ap (λ m. m.0) r-is
@@ -276,7 +274,7 @@ module _ {V C : Type 0} (holds : List C → List C → Type 0) (id : TableId) (p
       still-sits = record { placed = set-placed; vacant = λ u. place-else u (none-got u) ∙ seated.vacant u }
 
   -- some turn of the set was found taken: p before the call, q after the asking, r at its end
-  module _ (within : (u : ℕ) → bit_at set u ≡ 1 → u < id.slots) (free : (u : ℕ) → bit_at set u ≡ 1 → held p u ≡ None) (r : Pass V C) (r-held : (u : ℕ) → held r u ≡ held p u) (r-lost : (u : ℕ) → lost r u ≡ lost q u) where
+  module _ (within : (u : ℕ) → bit_at set u ≡ 1 → u < id.slots) (free : (u : ℕ) → bit_at set u ≡ 1 → held p u ≡ None) (r : Token V C) (r-held : (u : ℕ) → held r u ≡ held p u) (r-lost : (u : ℕ) → lost r u ≡ lost q u) where
     lost-bit : (u : ℕ) → bit_at set u ≡ 1 → lost r u ≡ lost p u + min (bit_at found u) (bit_at set u)
     lost-bit u s = r-lost u ∙ losses-now u (within u s) (free u)
 

@@ -7,11 +7,11 @@ use Rattle.std.proofs.lemmas.Option.{none-some}
 use mathlib.Core.Logic.{dite}
 use native.Mathlib.Decide.{ℕ_discrete, dec_lt}
 use Rattle.std.specs.Int.{bit_at, bit_not, trailing_zeros, w64}
-use Rattle.turn_board.specs.declared.view.Place.TheVariants.{Vacant}
-use Rattle.turn_board.specs.Maps.{bits_of}
-use Rattle.turn_board.specs.Tied.{place}
-use Rattle.turn_board.specs.Steps.{put_place}
-use Rattle.turn_board.specs.Passes.{Pass}
+use Rattle.turn_steps.specs.declared.view.Place.TheVariants.{Vacant}
+use Rattle.turn_steps.specs.Maps.{bits_of}
+use Rattle.turn_steps.specs.Tied.{place}
+use Rattle.turn_steps.specs.Steps.{put_place}
+use Rattle.turn_steps.specs.Passes.{Token}
 use Rattle.turn_board.specs.Hands.{in_hands, Once}
 use Rattle.turn_board.specs.Moving.{Emptied, TakenOut}
 use Rattle.turn_board.proofs.Returns.{cleared-here, cleared-else}
@@ -100,7 +100,7 @@ module _ (set left n t : ℕ) (w : Walk set left n t) (some' : left ≢ 0) (fits
       less : (m : ℕ) → m ≤ left → (m ≡ left → ⊥) → m < left
       less m h ne = omega arith
 
-module _ {V C : Type 0} (set t : ℕ) (p q : Pass V C) (e : Emptied set t p q) where
+module _ {V C : Type 0} (set t : ℕ) (p q : Token V C) (e : Emptied set t p q) where
   -- on to the next turn of the set
   pub emptied-to : (n : ℕ) → t ≤ n → ((u : ℕ) → t ≤ u → u < n → bit_at set u ≡ 0) → Emptied set n p q
   emptied-to n h gap = record {
@@ -121,7 +121,7 @@ module _ {V C : Type 0} (set t : ℕ) (p q : Pass V C) (e : Emptied set t p q) w
     others = e.others;
   }
 
-  pub emptied-one : (r : Pass V C) → bit_at set t ≡ 1 → t < length p.me.0.places → p.me.1 ≡ [] → r.table_id ≡ q.table_id → r.id ≡ q.id → r.me ≡ (put_place t Vacant q.me.0, []) → Emptied set (t + 1) p r
+  pub emptied-one : (r : Token V C) → bit_at set t ≡ 1 → t < length p.me.0.places → p.me.1 ≡ [] → r.table_id ≡ q.table_id → r.id ≡ q.id → r.me ≡ (put_place t Vacant q.me.0, []) → Emptied set (t + 1) p r
   emptied-one r o near nothing table id is = record {
     table = table ∙ e.table;
     id = id ∙ e.id;

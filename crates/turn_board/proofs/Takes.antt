@@ -4,20 +4,18 @@ use Rattle.std.specs.Prelude.{Some, None, slice_get, ◌==◌, bit_and}
 use Rattle.std.proofs.lemmas.Nat.{pow_pos}
 use Rattle.std.proofs.lemmas.Nat.Bits.{and_pow, bit_at-pow_same, bit_at-pow_other, bit_at-lt}
 use Rattle.std.proofs.lemmas.Option.{none-some}
-use mathlib.Core.Option.{none}
 use mathlib.Core.Logic.{dite}
 use native.Mathlib.Decide.{ℕ_discrete}
 use Rattle.std.specs.Int.{bit_at}
-use Rattle.atomic_table.specs.Table.{step}
-use Rattle.atomic_table.specs.Seated.{TableId}
-use Rattle.turn_board.specs.declared.view.View.{View}
-use Rattle.turn_board.specs.declared.view.Place.TheVariants.{Vacant, Lies}
-use Rattle.turn_board.specs.Tied.{counted, place}
-use Rattle.turn_board.specs.Steps.{asked, asked_view, lies, lost_at, one_more_lost, put_place, note_of, caller_of}
-use Rattle.turn_board.specs.Passes.{Pass, Placed, IsSeated, held, lost}
+use Rattle.turn_steps.specs.Seated.{TableId}
+use Rattle.turn_steps.specs.declared.view.View.{View}
+use Rattle.turn_steps.specs.declared.view.Place.TheVariants.{Vacant, Lies}
+use Rattle.turn_steps.specs.Tied.{counted, place}
+use Rattle.turn_steps.specs.Steps.{asked, asked_view, lies, lost_at, one_more_lost, put_place, note_of, caller_of}
+use Rattle.turn_steps.specs.Passes.{Token, Placed, IsSeated, held, lost}
 use Rattle.turn_board.specs.Boards.{SameNote, Gained, Missed, Tells}
 use Rattle.turn_board.proofs.AtSeat.{at, told}
-use Rattle.turn_board.proofs.Rows.{row-length, changed-here, changed-else, get-within}
+use Rattle.turn_steps.proofs.Rows.{row-length, changed-here, changed-else, get-within}
 
 -- the bit t of the word that was found is not set where the test says so
 pub found-free : (found t : ℕ) → bit_and found (2 ^ t) ≡ 0 → bit_at found t ≡ 0
@@ -33,8 +31,8 @@ found-taken found t ne = one-of (bit_at found t) (bit_at-lt found t) (λ z. ne (
     one-of : (b : ℕ) → b < 2 → (b ≡ 0 → ⊥) → b ≡ 1
     one-of b h n = omega arith
 
-module _ {V C : Type 0} (holds : List C → List C → Type 0) (id : TableId) (p q : Pass V C) (t found : ℕ) (near : t < id.slots) (sits : Placed id p) (same-table : q.table_id ≡ p.table_id) (same-id : q.id ≡ p.id)
-    (a : asked holds (step id.slots 7 (2 ^ t) 0 none) p.me found q.me) where
+module _ {V C : Type 0} (holds : List C → List C → Type 0) (id : TableId) (p q : Token V C) (t found : ℕ) (near : t < id.slots) (sits : Placed id p) (same-table : q.table_id ≡ p.table_id) (same-id : q.id ≡ p.id)
+    (a : asked holds id.slots (2 ^ t) p.me found q.me) where
   abbrev v : View C
   v = p.me.0
 
@@ -100,7 +98,7 @@ module _ {V C : Type 0} (holds : List C → List C → Type 0) (id : TableId) (p
     )
 
     -- after the value was moved out
-    module _ (r : Pass V C) (r-table : r.table_id ≡ q.table_id) (r-id : r.id ≡ q.id) (r-me : r.me ≡ (put_place t Vacant q.me.0, [])) where
+    module _ (r : Token V C) (r-table : r.table_id ≡ q.table_id) (r-id : r.id ≡ q.id) (r-me : r.me ≡ (put_place t Vacant q.me.0, [])) where
       r-view : r.me.0 ≡ put_place t Vacant q.me.0
       r-view = ap (λ m. m.0) r-me
 

@@ -7,10 +7,10 @@ use Rattle.turn_board.specs.declared.taken.Taken.{Taken}
 use Rattle.turn_board.specs.declared.taken.Taken.TheVariants.{Here, Busy}
 use Rattle.turn_board.specs.declared.taken.TookAll.{TookAll}
 use Rattle.turn_board.specs.declared.taken.TookAll.TheVariants as all
-use Rattle.turn_board.specs.Maps.{bits_of, overlay, FitsTurns}
+use Rattle.turn_steps.specs.Maps.{bits_of, overlay, FitsTurns}
 use Rattle.turn_board.specs.Hands.{in_hands, Once}
-use Rattle.turn_board.specs.Passes.{IsSeated}
-use Rattle.turn_board.specs.Passes as passes
+use Rattle.turn_steps.specs.Passes.{IsSeated, id_of, turns_of}
+use Rattle.turn_steps.specs.Passes as passes
 
 -- the rule holds of these values, where each caller's note is the content of the first
 abbrev pub CanOpen : {V C : Type 0} → (V → C) → (List C → List C → Type 0) → List V → ℕ → Type 0
@@ -20,49 +20,49 @@ CanOpen {V} {C} content holds values callers = (b : C)
 module _ {V R C : Type 0} where
   -- the number of turns
   abbrev pub turn_count : Board V R C → ℕ
-  turn_count b = b.table.shared.table_id.slots
+  turn_count b = turns_of b.words
 
   -- it is a seat of this board, for one caller
   abbrev pub IsSeatOf : Board V R C → Seat V R C → Type 0
-  IsSeatOf b s = IsSeated b.table.shared.table_id s.pass
+  IsSeatOf b s = IsSeated (id_of b.words) s.pass.token
 
   -- the counted contents of the turns that the seat holds
   abbrev pub held : Seat V R C → ℕ → Option C
-  held s = passes.held s.pass
+  held s = passes.held s.pass.token
 
   -- the content of the book as the seat's caller last gave it back. Each seat of a board has one
   abbrev pub note : Seat V R C → Option C
-  note s = passes.note s.pass
+  note s = passes.note s.pass.token
 
   -- the number of the seat's caller
   abbrev pub caller : Seat V R C → ℕ
-  caller s = passes.caller s.pass
+  caller s = passes.caller s.pass.token
 
   -- how often this seat found a turn taken by another one
   abbrev pub lost : Seat V R C → ℕ → ℕ
-  lost s = passes.lost s.pass
+  lost s = passes.lost s.pass.token
 
   -- how often this seat gave the book back
   abbrev pub given : Seat V R C → ℕ
-  given s = s.pass.me.0.given
+  given s = s.pass.token.me.0.given
 
   -- the number of callers of the board
   abbrev pub caller_count : Seat V R C → ℕ
-  caller_count s = s.pass.me.0.caller_count
+  caller_count s = s.pass.token.me.0.caller_count
 
   -- how often this seat asked for turns: a set that one step asks for is asked for once
   abbrev pub asks : Seat V R C → ℕ
-  asks s = s.pass.me.0.asks
+  asks s = s.pass.token.me.0.asks
 
   -- how often this seat gave turns back: all turns that one step gives back are given back once
   abbrev pub givings : Seat V R C → ℕ
-  givings s = s.pass.me.0.givings
+  givings s = s.pass.token.me.0.givings
 
   -- the last change of counted contents by this seat, and before that the opening: its number among
   -- all changes of the board, and the contents of all turns that it left. What the latest change of
   -- all seats left is counted, so no step that leaves this as it was changes a counted content
   abbrev pub last_change : Seat V R C → ℕ × List C
-  last_change s = s.pass.me.0.change
+  last_change s = s.pass.token.me.0.change
 
   -- the seat of the caller k of n, as a board is opened: nothing is held, lost or given
   pub record Begins (b : Board V R C) (n : ℕ) (opening : C) (k : ℕ) (s : Seat V R C) : Type 0 where
@@ -194,9 +194,9 @@ module _ {V R C : Type 0} where
       pub asks_is : asks q ≡ asks p + 1
       pub givings_is : givings q ≡ givings p
 
-    -- all turns of the set were asked for in one step, some were found taken by other seats, and t is
-    -- the least of these. The others were given back in one step, and no step was made where there
-    -- were none
+    -- all turns of the set were asked for in one step, some were found taken by other seats, and t
+    -- is the least of these. The others were given back in one step, and no step was made where
+    -- there were none
     pub record MissedAll (set t : ℕ) : Type 0 where
       pub asked : bit_at set t ≡ 1
       pub held_is : (u : ℕ) → held q u ≡ held p u

@@ -2,9 +2,9 @@
 use Rattle.std.specs.Prelude.{◌≡◌, ℕ, List, Option}
 use mathlib.Core.Option.{some}
 use lib.ListN.{get_elem?}
-use Rattle.atomic_table.specs.Table.{State}
-use Rattle.turn_board.specs.declared.view.View.{View}
-use Rattle.turn_board.specs.Tied.{Tied}
+use Rattle.turn_steps.specs.Table.{State}
+use Rattle.turn_steps.specs.declared.view.View.{View}
+use Rattle.turn_steps.specs.Tied.{Tied}
 
 -- each seat of a state has its last change in the other state too
 abbrev pub KeepsChanges : {V C : Type 0} → State (Option V) (View C) → State (Option V) (View C)

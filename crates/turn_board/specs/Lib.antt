@@ -1,9 +1,9 @@
-pub mod Maps
+pub use Rattle.turn_steps.specs.Seated
+pub use Rattle.turn_steps.specs.Maps
+pub use Rattle.turn_steps.specs.Tied
+pub use Rattle.turn_steps.specs.Passes
 pub mod Hands
-pub mod Tied
 pub mod Changes
-pub mod Steps
-pub mod Passes
 pub mod Moving
 pub mod Openings
 pub mod Closings

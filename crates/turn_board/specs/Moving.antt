@@ -1,14 +1,14 @@
 -- Values on their way between their slots and the hands.
 use Rattle.std.specs.Prelude.{◌≡◌, ℕ, ◌<◌, ◌≤◌, List, ◌++◌, length, map, Option, Some, None}
 use Rattle.std.specs.Int.{bit_at}
-use Rattle.turn_board.specs.declared.view.Place.TheVariants.{Vacant, Lies}
-use Rattle.turn_board.specs.Tied.{place}
-use Rattle.turn_board.specs.Maps.{bits_of}
+use Rattle.turn_steps.specs.declared.view.Place.TheVariants.{Vacant, Lies}
+use Rattle.turn_steps.specs.Tied.{place}
+use Rattle.turn_steps.specs.Maps.{bits_of}
 use Rattle.turn_board.specs.Hands.{in_hands, Once}
-use Rattle.turn_board.specs.Passes.{Pass}
+use Rattle.turn_steps.specs.Passes.{Token}
 
 -- the values of the turns of a set below n were moved out, and nothing else changed
-pub record Emptied {V C : Type 0} (set n : ℕ) (p q : Pass V C) : Type 0 where
+pub record Emptied {V C : Type 0} (set n : ℕ) (p q : Token V C) : Type 0 where
   pub table : q.table_id ≡ p.table_id
   pub id : q.id ≡ p.id
   pub none : q.me.1 ≡ p.me.1
@@ -39,7 +39,7 @@ pub record TakenOut {V C : Type 0} (content : V → C) (set n : ℕ) (counts : �
 
 -- the values of the hands were moved into their slots, and the set has their turns
 pub record Filled {V C : Type 0} (content : V → C) (xs : List (ℕ × V)) (set : ℕ)
-    (p q : Pass V C) : Type 0 where
+    (p q : Token V C) : Type 0 where
   pub table : q.table_id ≡ p.table_id
   pub id : q.id ≡ p.id
   pub none : q.me.1 ≡ p.me.1

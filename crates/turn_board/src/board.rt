@@ -1,24 +1,8 @@
 // The board, and how many turns it has.
-ghost use Rattle.std.specs.Prelude.{◌≡◌, ◌<◌, ◌≤◌, [], vec_capacity};
+ghost use Rattle.std.specs.Prelude.{◌≡◌, ◌≤◌, [], vec_capacity};
 
-use crate::tie::Tie;
-use crate::tie_rule::TieRule;
-use crate::view::{Opening, View};
-use atomic_table::Table;
-use std::alloc::Global;
 use std::sync::Mutex;
-
-/// The words of a board's table. All turns stand in the one in the middle, and the others are never
-/// written, so that nothing else that changes lies in its cache line of 64 bytes.
-pub(crate) const WORDS: [u64; 15] = [0; 15];
-
-/// The place of the word in which all turns stand: bit t is set where turn t is taken.
-pub(crate) const MASK: usize = 7;
-
-/// The place of a word that is never written, the last one, which for most places of the table lies
-/// in another cache line than the turns. What only tells the proofs where a value went is a load of
-/// it, so that such a load needs no line that other callers write.
-pub(crate) const IDLE: usize = 14;
+use turn_steps::{TieRule, Words};
 
 /// An empty list with room for the values of a board.
 #[derive(Drop)]
@@ -32,19 +16,16 @@ pub(crate) struct Spare<V> {
 /// Turn 0 is the book's. Between any two atomic steps the rule `R` holds of the counted contents
 /// of all values and of what each caller last gave back.
 pub struct Board<V, R: TieRule<V>> {
-    pub(crate) table: Table<Option<V>, View<R::Content>, Opening<V>, Tie<R>, Global>,
+    pub(crate) words: Words<V, R>,
     // The list that `close` fills. A lock lets threads share the board where V is only Send; no
     // thread takes it.
     pub(crate) kept: Mutex<Spare<V>>,
-    ghost words: { table.shared.table_id.words ≡ 15 },
-    ghost some: { 0 < table.shared.table_id.slots },
-    ghost few: { table.shared.table_id.slots ≤ 57 },
 }
 
 impl<V: Drop, R: TieRule<V>> Drop for Board<V, R> {
     fn drop(self) {
-        let Board { table, kept } = self;
-        drop(table);
+        let Board { words, kept } = self;
+        drop(words);
         drop(kept);
     }
 }
@@ -58,18 +39,19 @@ impl<V, R: TieRule<V>> Board<V, R> {
         ensures turns { result ≡ turn_count self.now }
         ensures range { (0 < turn_count self.now) × (turn_count self.now ≤ 57) }
     {
-        self.table.slot_count() as u32
+        self.words.turns()
     }
 
-    pub(crate) fn into_parts(
-        self,
-    ) -> (
-        Table<Option<V>, View<R::Content>, Opening<V>, Tie<R>, Global>,
-        Mutex<Spare<V>>,
-    )
-        ensures { result.0 ≡ self.table }
+    /// The word of all turns, read without a step: bit t is set where turn t was found taken. It
+    /// may be old by the time it is read, and no seat knows more by it.
+    pub fn look(&self) -> u64 {
+        self.words.look()
+    }
+
+    pub(crate) fn into_parts(self) -> (Words<V, R>, Mutex<Spare<V>>)
+        ensures { result.0 ≡ self.words }
     {
-        let Board { table, kept } = self;
-        (table, kept)
+        let Board { words, kept } = self;
+        (words, kept)
     }
 }

@@ -1,19 +1,18 @@
 // Taking one turn, and giving one back.
 ghost use Rattle.std.specs.Prelude.{◌≡◌, ◌<◌, Some, None};
 
-use crate::board::{Board, MASK};
+use crate::board::Board;
 use crate::hands::Hands;
-use crate::plays::{Ask, Return};
 use crate::seat::Seat;
 use crate::taken::Taken;
-use crate::tie_rule::TieRule;
 use std::marker::Brand;
 use std::snapshot::Snapshot;
+use turn_steps::TieRule;
 
 impl<V, R: TieRule<V>> Board<V, R> {
     ghost use Rattle.turn_board.specs.Boards.{IsSeatOf, turn_count, held, caller, SameNote, Answered, Released, Booked, Changed};
     ghost use Rattle.turn_board.specs.Hands.{put_back};
-    ghost use Rattle.turn_board.specs.Maps.{SameTurns};
+    ghost use Rattle.turn_steps.specs.Maps.{SameTurns};
 
     /// Takes a turn and its value, if no other seat holds it. `lost` of the turn rises where one
     /// does.
@@ -26,14 +25,11 @@ impl<V, R: TieRule<V>> Board<V, R> {
             result }
     {
         let bit = 1u64 << turn;
-        let found = self
-            .table
-            .shared
-            .fetch_or::<Ask<R>>(&mut seat.pass, MASK, bit);
+        let found = self.words.ask(&mut seat.pass, bit);
         if found & bit != 0 {
             return Taken::Busy { turn };
         }
-        Taken::Here(self.take_out::<Brand>(seat, turn))
+        Taken::Here(self.take_out(seat, turn))
     }
 
     /// Gives back a turn other than the book's, with a value that counts as before.
@@ -44,11 +40,9 @@ impl<V, R: TieRule<V>> Board<V, R> {
         ensures seat { IsSeatOf self.now seat.new × SameNote seat.old seat.new }
         ensures gave { Released seat.old seat.new turn }
     {
-        self.lower::<Brand>(seat, turn, value);
+        self.lower(seat, turn, value);
         let bit = 1u64 << turn;
-        self.table
-            .shared
-            .fetch_and::<Return<R>>(&mut seat.pass, MASK, !bit);
+        self.words.give_back(&mut seat.pass, !bit);
     }
 
     /// Gives the book back. From this one step on the contents of the book and of what is in the
@@ -65,7 +59,7 @@ impl<V, R: TieRule<V>> Board<V, R> {
     {
         let copy = Snapshot::of(&book);
         let list = Snapshot::of(hands);
-        self.lower::<Brand>(seat, 0, book);
+        self.lower(seat, 0, book);
         self.settle::<Brand>(seat, &copy, &list, 1);
     }
 }

@@ -1,70 +1,62 @@
 // Opening a board.
-ghost use Rattle.std.specs.Prelude.{◌≡◌, ◌<◌, ◌≤◌, ◌-◌, [], IfOk, map, Some, vec_len, vec_capacity};
+ghost use Rattle.std.specs.Prelude.{◌≡◌, ◌<◌, ◌≤◌, [], IfOk, map, Some, vec_len, vec_capacity};
 ghost use Rattle.session_limits.specs.Limits.{max_callers};
 
-use crate::board::{Board, Spare, WORDS};
+use crate::board::{Board, Spare};
 use crate::lists::Seats;
-use crate::plays::Part;
 use crate::seat::Seat;
-use crate::tie_rule::TieRule;
-use crate::view::Opening;
-use atomic_table::Table;
 use owned_lists::NoMemory;
-use std::alloc::{AllocError, Global};
-use std::snapshot::Snapshot;
+use std::alloc::Global;
 use std::sync::Mutex;
+use turn_steps::{TieRule, Words};
 
 impl<V, R: TieRule<V>> Board<V, R> {
     ghost use Rattle.std.specs.Prelude.{ℕ, suc, ◌∷◌, length, slice_get};
     ghost use Rattle.turn_board.specs.declared.seat.Seat.{Seat as SeatOf};
-    ghost use Rattle.turn_board.specs.Tied.{all_speak};
-    ghost use Rattle.turn_board.specs.Openings.{IdleFirst, Unlost, Fresh};
+    ghost use Rattle.turn_steps.specs.Tied.{all_speak};
+    ghost use Rattle.turn_steps.specs.Passes.{IdleFirst, id_of};
+    ghost use Rattle.turn_board.specs.Openings.{Unlost, Fresh};
 
-    // Cuts off the first caller, for a seat of its own.
+    // Cuts off the first of at least two callers, for a seat of its own.
     fn part(&self, seat: &mut Seat<V, R>) -> Seat<V, R>
-        requires seat { IdleFirst self.now.table.shared.table_id seat.old.pass }
+        requires seat { IdleFirst (id_of self.now.words) seat.old.pass.token }
         requires callers { (k n : ℕ) × (c : R.Content)
-            × (seat.old.pass.me.0.speaks ≡ all_speak k (suc n) c) }
-        ensures first { IdleFirst self.now.table.shared.table_id seat.new.pass
-            × (seat.new.pass.me.0.caller_count ≡ seat.old.pass.me.0.caller_count) }
-        ensures one { IdleFirst self.now.table.shared.table_id result.pass
-            × (result.pass.me.0.caller_count ≡ seat.old.pass.me.0.caller_count) }
+            × (seat.old.pass.token.me.0.speaks ≡ all_speak k (suc (suc n)) c) }
+        ensures first { IdleFirst (id_of self.now.words) seat.new.pass.token
+            × (seat.new.pass.token.me.0.caller_count ≡ seat.old.pass.token.me.0.caller_count) }
+        ensures one { IdleFirst (id_of self.now.words) result.pass.token
+            × (result.pass.token.me.0.caller_count ≡ seat.old.pass.token.me.0.caller_count) }
         ensures callers { (k n : ℕ) (c : R.Content)
-            → seat.old.pass.me.0.speaks ≡ all_speak k (suc n) c
-            → (seat.new.pass.me.0.speaks ≡ all_speak (suc k) n c)
-            × (result.pass.me.0.speaks ≡ (k, c) ∷ []) }
-        ensures counts { Unlost result.pass × (Unlost seat.old.pass → Unlost seat.new.pass) }
-        ensures change { (seat.new.pass.me.0.change ≡ seat.old.pass.me.0.change)
-            × (result.pass.me.0.change ≡ seat.old.pass.me.0.change) }
+            → seat.old.pass.token.me.0.speaks ≡ all_speak k (suc n) c
+            → (seat.new.pass.token.me.0.speaks ≡ all_speak (suc k) n c)
+            × (result.pass.token.me.0.speaks ≡ (k, c) ∷ []) }
+        ensures counts { Unlost result.pass.token
+            × (Unlost seat.old.pass.token → Unlost seat.new.pass.token) }
+        ensures change { (seat.new.pass.token.me.0.change ≡ seat.old.pass.token.me.0.change)
+            × (result.pass.token.me.0.change ≡ seat.old.pass.token.me.0.change) }
     {
         Seat {
-            pass: self.table.shared.split_seat::<Part>(&mut seat.pass),
+            pass: self.words.split(&mut seat.pass),
         }
     }
 
     // Gives each caller but the last a seat of its own, and the last one what is left.
     fn hand_out(&self, mut first: Seat<V, R>, list: &mut Vec<Seat<V, R>>, callers: u32)
         requires room { (list.old.items ≡ []) × (callers ≤ vec_capacity list.old) × (0 < callers) }
-        requires first { IdleFirst self.now.table.shared.table_id first.pass × Unlost first.pass }
-        requires caller_count { (first.pass.me.0.caller_count ≡ callers)
-            × ((b : R.Content) × (first.pass.me.0.speaks ≡ all_speak 0 callers b)) }
+        requires first { IdleFirst (id_of self.now.words) first.pass.token
+            × Unlost first.pass.token }
+        requires caller_count { (first.pass.token.me.0.caller_count ≡ callers)
+            × ((b : R.Content) × (first.pass.token.me.0.speaks ≡ all_speak 0 callers b)) }
         ensures len { length list.new.items ≡ callers }
-        ensures each { (b : R.Content) → first.pass.me.0.speaks ≡ all_speak 0 callers b
+        ensures each { (b : R.Content) → first.pass.token.me.0.speaks ≡ all_speak 0 callers b
             → (i : ℕ) (s : SeatOf V R R.Content) → slice_get list.new.items i ≡ Some s
-            → Fresh self.now.table.shared.table_id callers b first.pass.me.0.change i s.pass }
+            → Fresh (id_of self.now.words) callers b first.pass.token.me.0.change i s.pass.token }
     {
         for next in 1..callers {
             list.push_reserved(self.part(&mut first));
         }
         list.push_reserved(first);
     }
-}
-
-// Each value in a slot of its own.
-fn filled_slots<V: Drop>(alloc: Global, values: Vec<V>) -> Result<Vec<Option<V>>, AllocError>
-    ensures { IfOk result (λ slots. slots.items ≡ map Some values.items) }
-{
-    values.into_iter().map(Some).collect(alloc)
 }
 
 impl<V: Drop, R: TieRule<V>> Board<V, R> {
@@ -89,17 +81,10 @@ impl<V: Drop, R: TieRule<V>> Board<V, R> {
     {
         let mut list = Vec::with_capacity(alloc, callers as usize)?;
         let kept = Vec::with_capacity(alloc, 57)?;
-        let about = Opening {
-            turns: values.len() as u64,
-            caller_count: callers as u64,
-            book: Snapshot::of(&values[0]),
-            values: Snapshot::of(&values),
-        };
-        let slots = filled_slots(alloc, values)?;
-        match Table::new(alloc, &WORDS, slots, &about) {
-            Ok((table, pass)) => {
+        match Words::open(alloc, values, callers) {
+            Ok((words, pass)) => {
                 let kept = Mutex::new(Spare { list: kept });
-                let board = Board { table, kept };
+                let board = Board { words, kept };
                 board.hand_out(Seat { pass }, &mut list, callers);
                 Ok((board, Seats::from_vec(list)))
             }

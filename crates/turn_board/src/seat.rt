@@ -1,12 +1,11 @@
 // A caller's seat.
 
-use crate::tie_rule::TieRule;
-use crate::view::View;
+use turn_steps::{Pass, TieRule};
 
 /// What one caller steps with. It has no bytes: what it holds, its note and its counts are for
 /// contracts alone.
 pub struct Seat<V, R: TieRule<V>> {
-    pub(crate) pass: atomic_table::Seat<Option<V>, View<R::Content>>,
+    pub(crate) pass: Pass<V, R::Content>,
 }
 
 impl<V, R: TieRule<V>> Drop for Seat<V, R> {
@@ -19,7 +18,7 @@ impl<V, R: TieRule<V>> Drop for Seat<V, R> {
 impl<V, R: TieRule<V>> Seat<V, R> {
     ghost use Rattle.std.specs.Prelude.{◌≡◌};
 
-    pub(crate) fn into_pass(self) -> atomic_table::Seat<Option<V>, View<R::Content>>
+    pub(crate) fn into_pass(self) -> Pass<V, R::Content>
         ensures { result ≡ self.pass }
     {
         let Seat { pass } = self;

@@ -1,5 +1,5 @@
 use Rattle.std.proofs.Common.{ap}
-use Rattle.atomic_table.specs.Seated.{TableId}
+use Rattle.turn_board.specs.Seated.{TableId}
 use Rattle.turn_board.specs.Boards.{turn_count}
 use Rattle.session_hall.specs.Names.{script_of}
 use Rattle.session_hall.proofs.Finding.{has_book, is_tied}

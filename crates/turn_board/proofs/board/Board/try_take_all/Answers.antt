@@ -3,8 +3,6 @@ use Rattle.std.specs.Prelude.{bit_and}
 use Rattle.std.proofs.lemmas.Nat.{and_le_l}
 use Rattle.std.proofs.lemmas.Nat.Bits.{bit_at_and, bit_at-trailing_zeros, bit_at-lt}
 use Rattle.std.specs.Int.{bit_at, trailing_zeros, w64}
-use Rattle.turn_board.proofs.Asks.{asks}
-use Rattle.turn_board.proofs.Gives.{returns}
 use Rattle.turn_board.proofs.Sets.{none-taken, one-won, positive, now-lie, set-placed, set-tells, set-spoken, all-out, all-spoken, all-others, all-lost, all-asks, all-givings, all-tells, untouched, back-sits, back-spoken, back-held, back-lost, back-asks, back-givings, back-tells, all-found, still-held, still-sits, missed-all, set-alone}
 use Rattle.turn_board.proofs.board.Board.try_take_all.Goals as goal
 
@@ -21,31 +19,31 @@ least f s fits ne =
 
 pub returns-then-won-eq0-clause-seat : goal.returns-then-won-eq0-clause-seat
 returns-then-won-eq0-clause-seat g c =
-    let e = c.fetch_or-found.ensures in
-    let id = c.args.self.now.table.shared.table_id in
-    let p = c.args.seat.now.pass in
-    let q = c.fetch_or-found.new.seat in
-    let f = c.fetch_or-found.result in (
-      still-sits g.R.TieRule.holds id p q c.args.turns f c.requires.seat e.0 e.1 e.2 c.args.self.now.few c.fetch_or-found.type_inv c.ranges.turns.fits (λ u b. (c.requires.set u b).1) c.if-won-eq0.true,
+    let e = c.ask-found.ensures in
+    let id = c.args.self.now.words.table.shared.table_id in
+    let p = c.args.seat.now.pass.token in
+    let q = c.ask-found.new.pass.token in
+    let f = c.ask-found.result in (
+      still-sits g.R.TieRule.holds id p q c.args.turns f c.requires.seat e.0 e.1 e.2 c.args.self.now.words.few c.ask-found.type_inv c.ranges.turns.fits (λ u b. (c.requires.set u b).1) c.if-won-eq0.true,
       set-spoken g.R.TieRule.holds id p q c.args.turns f c.requires.seat e.0 e.1 e.2,
     )
 
 pub returns-then-won-eq0-clause-answer : goal.returns-then-won-eq0-clause-answer
 returns-then-won-eq0-clause-answer g c =
     let holds = g.R.TieRule.holds in
-    let e = c.fetch_or-found.ensures in
-    let id = c.args.self.now.table.shared.table_id in
-    let p = c.args.seat.now.pass in
-    let q = c.fetch_or-found.new.seat in
-    let f = c.fetch_or-found.result in
+    let e = c.ask-found.ensures in
+    let id = c.args.self.now.words.table.shared.table_id in
+    let p = c.args.seat.now.pass.token in
+    let q = c.ask-found.new.pass.token in
+    let f = c.ask-found.result in
     let s = c.args.turns in
     let near = λ (u : ℕ) (b : bit_at c.args.turns u ≡ 1). (c.requires.set u b).1 in
     let free = λ (u : ℕ) (b : bit_at c.args.turns u ≡ 1). (c.requires.set u b).2 in
-    let l = least f s c.fetch_or-found.type_inv c.if-taken-eq0.false in
+    let l = least f s c.ask-found.type_inv c.if-taken-eq0.false in
     let t : ℕ = trailing_zeros w64 (bit_and f s) in
-    let none' = all-found holds id p q s f c.requires.seat e.0 e.1 e.2 c.args.self.now.few c.fetch_or-found.type_inv c.ranges.turns.fits near c.if-won-eq0.true in (
+    let none' = all-found holds id p q s f c.requires.seat e.0 e.1 e.2 c.args.self.now.words.few c.ask-found.type_inv c.ranges.turns.fits near c.if-won-eq0.true in (
       refl,
-      missed-all holds id p q s f c.requires.seat e.0 e.1 e.2 near free q (still-held holds id p q s f c.requires.seat e.0 e.1 e.2 c.args.self.now.few c.fetch_or-found.type_inv c.ranges.turns.fits near c.if-won-eq0.true) (λ u. refl)
+      missed-all holds id p q s f c.requires.seat e.0 e.1 e.2 near free q (still-held holds id p q s f c.requires.seat e.0 e.1 e.2 c.args.self.now.words.few c.ask-found.type_inv c.ranges.turns.fits near c.if-won-eq0.true) (λ u. refl)
           t l.0 l.1 l.2 refl (λ u b z. absurd (let o = none' u b in omega arith)) (λ _. ap (λ m. m.0.givings) e.2.2),
       set-alone holds id p q s f c.requires.seat e.0 e.1 e.2 t (near t l.0) l.1 (free t l.0),
       set-tells holds id p q s f c.requires.seat e.0 e.1 e.2,
@@ -53,61 +51,61 @@ returns-then-won-eq0-clause-answer g c =
 
 pub returns-clause-seat : goal.returns-clause-seat
 returns-clause-seat g c =
-    let e = c.fetch_or-found.ensures in
-    let r = c.fetch_and.ensures in
-    let id = c.args.self.now.table.shared.table_id in
-    let p = c.args.seat.now.pass in
-    let q = c.fetch_or-found.new.seat in
-    let f = c.fetch_or-found.result in
+    let e = c.ask-found.ensures in
+    let r = c.give_back.ensures in
+    let id = c.args.self.now.words.table.shared.table_id in
+    let p = c.args.seat.now.pass.token in
+    let q = c.ask-found.new.pass.token in
+    let f = c.ask-found.result in
     let free = λ (u : ℕ) (b : bit_at c.args.turns u ≡ 1). (c.requires.set u b).2 in (
-      back-sits g.R.TieRule.holds id p q c.args.turns f c.requires.seat e.0 e.1 e.2 c.args.self.now.few c.fetch_or-found.type_inv c.ranges.turns.fits free c.fetch_and.new.seat r.0 r.1 r.2,
-      back-spoken g.R.TieRule.holds id p q c.args.turns f c.requires.seat e.0 e.1 e.2 c.args.self.now.few c.fetch_or-found.type_inv c.ranges.turns.fits free c.fetch_and.new.seat r.0 r.1 r.2,
+      back-sits g.R.TieRule.holds id p q c.args.turns f c.requires.seat e.0 e.1 e.2 c.args.self.now.words.few c.ask-found.type_inv c.ranges.turns.fits free c.give_back.new.pass.token r.0 r.1 r.2,
+      back-spoken g.R.TieRule.holds id p q c.args.turns f c.requires.seat e.0 e.1 e.2 c.args.self.now.words.few c.ask-found.type_inv c.ranges.turns.fits free c.give_back.new.pass.token r.0 r.1 r.2,
     )
 
 pub returns-clause-answer : goal.returns-clause-answer
 returns-clause-answer g c =
     let holds = g.R.TieRule.holds in
-    let e = c.fetch_or-found.ensures in
-    let r = c.fetch_and.ensures in
-    let id = c.args.self.now.table.shared.table_id in
-    let p = c.args.seat.now.pass in
-    let q = c.fetch_or-found.new.seat in
-    let f = c.fetch_or-found.result in
-    let fits = c.fetch_or-found.type_inv in
-    let few = c.args.self.now.few in
+    let e = c.ask-found.ensures in
+    let r = c.give_back.ensures in
+    let id = c.args.self.now.words.table.shared.table_id in
+    let p = c.args.seat.now.pass.token in
+    let q = c.ask-found.new.pass.token in
+    let f = c.ask-found.result in
+    let fits = c.ask-found.type_inv in
+    let few = c.args.self.now.words.few in
     let s = c.args.turns in
     let near = λ (u : ℕ) (b : bit_at c.args.turns u ≡ 1). (c.requires.set u b).1 in
     let free = λ (u : ℕ) (b : bit_at c.args.turns u ≡ 1). (c.requires.set u b).2 in
     let l = least f s fits c.if-taken-eq0.false in
     let t : ℕ = trailing_zeros w64 (bit_and f s) in
-    let back = back-givings holds id p q s f c.requires.seat e.0 e.1 e.2 few fits c.ranges.turns.fits free c.fetch_and.new.seat r.0 r.1 r.2 in (
+    let back = back-givings holds id p q s f c.requires.seat e.0 e.1 e.2 few fits c.ranges.turns.fits free c.give_back.new.pass.token r.0 r.1 r.2 in (
       refl,
-      missed-all holds id p q s f c.requires.seat e.0 e.1 e.2 near free c.fetch_and.new.seat
-          (back-held holds id p q s f c.requires.seat e.0 e.1 e.2 few fits c.ranges.turns.fits free c.fetch_and.new.seat r.0 r.1 r.2)
-          (back-lost holds id p q s f c.requires.seat e.0 e.1 e.2 few fits c.ranges.turns.fits free c.fetch_and.new.seat r.0 r.1 r.2)
+      missed-all holds id p q s f c.requires.seat e.0 e.1 e.2 near free c.give_back.new.pass.token
+          (back-held holds id p q s f c.requires.seat e.0 e.1 e.2 few fits c.ranges.turns.fits free c.give_back.new.pass.token r.0 r.1 r.2)
+          (back-lost holds id p q s f c.requires.seat e.0 e.1 e.2 few fits c.ranges.turns.fits free c.give_back.new.pass.token r.0 r.1 r.2)
           t l.0 l.1 l.2
-          (back-asks holds id p q s f c.requires.seat e.0 e.1 e.2 few fits c.ranges.turns.fits free c.fetch_and.new.seat r.0 r.1 r.2)
+          (back-asks holds id p q s f c.requires.seat e.0 e.1 e.2 few fits c.ranges.turns.fits free c.give_back.new.pass.token r.0 r.1 r.2)
           (λ _ _ _. back) (λ all'. absurd (one-won f s fits c.ranges.turns.fits c.if-won-eq0.false all')),
       set-alone holds id p q s f c.requires.seat e.0 e.1 e.2 t (near t l.0) l.1 (free t l.0),
-      back-tells holds id p q s f c.requires.seat e.0 e.1 e.2 few fits c.ranges.turns.fits free c.fetch_and.new.seat r.0 r.1 r.2,
+      back-tells holds id p q s f c.requires.seat e.0 e.1 e.2 few fits c.ranges.turns.fits free c.give_back.new.pass.token r.0 r.1 r.2,
     )
 
 pub returns-then-taken-eq0-clause-seat : goal.returns-then-taken-eq0-clause-seat
-returns-then-taken-eq0-clause-seat g c = let e = c.fetch_or-found.ensures in (
-  all-out g.R.TieRule.holds c.args.self.now.table.shared.table_id c.args.seat.now.pass c.fetch_or-found.new.seat c.args.turns c.fetch_or-found.result c.requires.seat e.0 e.1 e.2 c.take_out_all.new.seat.pass c.take_out_all.ensures.seat,
-  all-spoken g.R.TieRule.holds c.args.self.now.table.shared.table_id c.args.seat.now.pass c.fetch_or-found.new.seat c.args.turns c.fetch_or-found.result c.requires.seat e.0 e.1 e.2 c.take_out_all.new.seat.pass c.take_out_all.ensures.seat,
+returns-then-taken-eq0-clause-seat g c = let e = c.ask-found.ensures in (
+  all-out g.R.TieRule.holds c.args.self.now.words.table.shared.table_id c.args.seat.now.pass.token c.ask-found.new.pass.token c.args.turns c.ask-found.result c.requires.seat e.0 e.1 e.2 c.take_out_all.new.seat.pass.token c.take_out_all.ensures.seat,
+  all-spoken g.R.TieRule.holds c.args.self.now.words.table.shared.table_id c.args.seat.now.pass.token c.ask-found.new.pass.token c.args.turns c.ask-found.result c.requires.seat e.0 e.1 e.2 c.take_out_all.new.seat.pass.token c.take_out_all.ensures.seat,
 )
 
 pub returns-then-taken-eq0-clause-answer : goal.returns-then-taken-eq0-clause-answer
 returns-then-taken-eq0-clause-answer g c =
-    let e = c.fetch_or-found.ensures in
+    let e = c.ask-found.ensures in
     let l = c.take_out_all.ensures in
-    let id = c.args.self.now.table.shared.table_id in
-    let p = c.args.seat.now.pass in
-    let q = c.fetch_or-found.new.seat in
-    let f = c.fetch_or-found.result in
+    let id = c.args.self.now.words.table.shared.table_id in
+    let p = c.args.seat.now.pass.token in
+    let q = c.ask-found.new.pass.token in
+    let f = c.ask-found.result in
     let s = c.args.turns in
-    let r = c.take_out_all.new.seat.pass in (
+    let r = c.take_out_all.new.seat.pass.token in (
       record {
         new = l.pairs.new;
         added = l.pairs.added;
@@ -122,27 +120,22 @@ returns-then-taken-eq0-clause-answer g c =
       all-tells g.R.TieRule.holds id p q s f c.requires.seat e.0 e.1 e.2 r l.seat,
     )
 
-pub fetch_or-found-requires : goal.fetch_or-found-requires
-fetch_or-found-requires g c = let sits = c.requires.seat.placed in (
-  sits.of_table,
-  (let h = c.args.self.now.words in omega arith),
-  asks g.R.TieRule.content g.R.TieRule.holds _ _ _ c.args.seat.now.pass.me c.args.turns sits.one.0 sits.one.1 sits.one.2 (λ u b. (c.requires.set u b).2),
-)
+pub ask-found-requires-clause-free : goal.ask-found-requires-clause-free
+ask-found-requires-clause-free g c = λ u b. (c.requires.set u b).2
 
-pub fetch_and-requires : goal.fetch_and-requires
-fetch_and-requires g c = let e = c.fetch_or-found.ensures in (
-  e.0 ∙ c.requires.seat.placed.of_table,
-  (let h = c.args.self.now.words in omega arith),
-  returns g.R.TieRule.content g.R.TieRule.holds _ _ _ c.fetch_or-found.new.seat.me _
-      (untouched g.R.TieRule.holds c.args.self.now.table.shared.table_id c.args.seat.now.pass c.fetch_or-found.new.seat c.args.turns c.fetch_or-found.result c.requires.seat e.0 e.1 e.2 c.args.self.now.few c.fetch_or-found.type_inv c.ranges.turns.fits),
-)
+pub give_back-requires-clause-pass : goal.give_back-requires-clause-pass
+give_back-requires-clause-pass g c = c.ask-found.ensures.0 ∙ c.requires.seat.placed.of_table
+
+pub give_back-requires-clause-lies : goal.give_back-requires-clause-lies
+give_back-requires-clause-lies g c = let e = c.ask-found.ensures in
+    untouched g.R.TieRule.holds c.args.self.now.words.table.shared.table_id c.args.seat.now.pass.token c.ask-found.new.pass.token c.args.turns c.ask-found.result c.requires.seat e.0 e.1 e.2 c.args.self.now.words.few c.ask-found.type_inv c.ranges.turns.fits
 
 pub take_out_all-requires-clause-seat : goal.take_out_all-requires-clause-seat
-take_out_all-requires-clause-seat g c = let e = c.fetch_or-found.ensures in
-    set-placed g.R.TieRule.holds c.args.self.now.table.shared.table_id c.args.seat.now.pass c.fetch_or-found.new.seat c.args.turns c.fetch_or-found.result c.requires.seat e.0 e.1 e.2
+take_out_all-requires-clause-seat g c = let e = c.ask-found.ensures in
+    set-placed g.R.TieRule.holds c.args.self.now.words.table.shared.table_id c.args.seat.now.pass.token c.ask-found.new.pass.token c.args.turns c.ask-found.result c.requires.seat e.0 e.1 e.2
 
 pub take_out_all-requires-clause-lies : goal.take_out_all-requires-clause-lies
-take_out_all-requires-clause-lies g c = λ u b. let e = c.fetch_or-found.ensures in
-    let x = now-lie g.R.TieRule.holds c.args.self.now.table.shared.table_id c.args.seat.now.pass c.fetch_or-found.new.seat c.args.turns c.fetch_or-found.result c.requires.seat e.0 e.1 e.2 u (c.requires.set u b).1 b
-    (none-taken c.fetch_or-found.result c.args.turns c.if-taken-eq0.true u b) in
+take_out_all-requires-clause-lies g c = λ u b. let e = c.ask-found.ensures in
+    let x = now-lie g.R.TieRule.holds c.args.self.now.words.table.shared.table_id c.args.seat.now.pass.token c.ask-found.new.pass.token c.args.turns c.ask-found.result c.requires.seat e.0 e.1 e.2 u (c.requires.set u b).1 b
+    (none-taken c.ask-found.result c.args.turns c.if-taken-eq0.true u b) in
     (x.0, (c.requires.set u b).0, x.1, x.2)

@@ -1,0 +1,7 @@
+pub use Rattle.atomic_table.specs.Table
+pub use Rattle.atomic_table.specs.Seated
+pub mod Maps
+pub mod Tied
+pub mod Steps
+pub mod Passes
+pub mod Closings

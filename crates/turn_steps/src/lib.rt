@@ -1,0 +1,19 @@
+//! The steps under a board: turns that are bits of one word, and what each step makes of what a
+//! seat knows. A step is made by one function alone, which counts it.
+#![tactic(auto)]
+
+mod close;
+mod open;
+mod pass;
+mod plays;
+mod steps;
+mod tie;
+mod tie_rule;
+mod view;
+mod words;
+
+pub use owned_lists::NoMemory;
+pub use pass::Pass;
+pub use plays::Change;
+pub use tie_rule::TieRule;
+pub use words::Words;
