@@ -18,3 +18,4 @@ pub mod Scans
 pub mod Shown
 pub mod Stays
 pub mod Histories
+pub mod Touches

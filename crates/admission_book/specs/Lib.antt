@@ -5,3 +5,4 @@ pub mod EventsInTurn
 pub mod Found
 pub mod Kept
 pub mod Lawful
+pub mod Touched

@@ -7,6 +7,8 @@ mod book;
 mod caller_record;
 mod fields;
 pub mod laws;
+mod marked_foresight;
+mod touched_tables;
 
 pub use admission::Admission;
 pub use book::{Book, Replies};
