@@ -8,6 +8,7 @@ pub mod Firsts
 pub mod Foreknown
 mod Inside
 pub mod Keep
+pub mod KeptLists
 pub mod Keys
 pub mod Narrows
 pub mod Oldest

@@ -41,7 +41,7 @@ invariant_of-self g c =
     let p = place _ _ _ _ _ c.as_slice.ensures.value c.place_of-caller.ensures.within c.place_of-caller.ensures.serves c.index_mut.ensures.value in
     let L = here Lawful g.S.Script.meaning _ _ _ seen c.requires.lawful in
     let may = here (λ (m : Meaning) (b : Book). MayDo m b c.args.t c.args.reply c.args.next.now.symbols) g.S.Script.meaning _ _ _ seen c.requires.may in
-    keeps_with _ _ _ c.deref_mut-inner.result.now.journal c.push_reserved.new.self _ _ _ _ _ _ _ keeps c.push_reserved.ensures
+    keeps_with _ _ _ c.deref_mut-inner.result.now.journal c.push_reserved.new.self _ _ _ _ _ keeps c.push_reserved.ensures
     (done_count _ _ _ _ _ _ _ _ _ L may p c.finish-op.result c.finish-op.ensures.op _ keeps.counted) refl
     (done_keeps _ _ _ _ _ _ _ _ _ L may p c.finish-op.result c.finish-op.ensures.op c.finish-op.new.self c.finish-op.ensures.finished keeps.each)
 

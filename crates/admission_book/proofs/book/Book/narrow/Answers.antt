@@ -16,7 +16,7 @@ invariant_of-self g c =
     let p = place _ _ _ _ _ c.as_slice.ensures.value c.place_of-caller.ensures.within c.place_of-caller.ensures.serves c.index_mut.ensures.value in
     let L = here Lawful g.S.Script.meaning _ _ _ seen c.requires.lawful in
     let may = here (λ (m : Meaning) (b : Book). MayNarrow m b c.args.t c.args.f.now.symbols) g.S.Script.meaning _ _ _ seen c.requires.may in
-    keeps_with _ _ _ c.deref_mut-inner.result.now.journal c.deref_mut-inner.result.now.journal _ _ _ _ _ _ _ keeps refl keeps.counted refl (narrow_keeps _ _ _ _ _ _ _ _ L may p c.narrow.new.self c.narrow.ensures keeps.each)
+    keeps_with _ _ _ c.deref_mut-inner.result.now.journal c.deref_mut-inner.result.now.journal _ _ _ _ _ keeps refl keeps.counted refl (narrow_keeps _ _ _ _ _ _ _ _ L may p c.narrow.new.self c.narrow.ensures keeps.each)
 
 pub narrow-requires-clause-covered : goal.narrow-requires-clause-covered
 narrow-requires-clause-covered g c =
