@@ -41,16 +41,18 @@ module _ (m : Meaning) (J : List Event) (k : List (Option Reply)) (rs : List Cal
   pub flies : IsSome old.flight
   flies = let P : Option Op → Type 0 = λ o. IsSome o in subst P (sym flight) refl
 
+  pub done_covered : Covered f old.foresight.symbols
+  done_covered = let P : Serving → Type 0 = λ s. Covered f s.foresight in subst P same may.covered
+
   module _ (op : Op) (is : old.flight ≡ Some op) where
     op_is : may.op ≡ op
     op_is = inside may.op op (sym flight ∙ is)
 
     pub done_lawful : Lawful m (after_done (book_of J k rs) i (served t old) op r f)
     done_lawful =
-        let P : Serving → Type 0 = λ s. Covered f s.foresight in
         let T : Op → Type 0 = λ o. Covered f (m.told t (replies (entries J t ++ record { op = o; reply = r } ∷ []))) in
         let Q : Op → Type 0 = λ o. IsForesight (rest (m.next t) (replies (entries J t ++ record { op = o; reply = r } ∷ []))) f in
-        keeps_done m (book_of J k rs) i (served t old) op r f L at is (may.reply_is ∙ ap (reply (after m.opening J)) op_is) (subst P same may.covered) (subst Q op_is may.covers) (subst T op_is may.declared)
+        keeps_done m (book_of J k rs) i (served t old) op r f L at is (may.reply_is ∙ ap (reply (after m.opening J)) op_is) done_covered (subst Q op_is may.covers) (subst T op_is may.declared)
 
     pub done_shown : (K : List Event) (new : CallerRecord) → K ≡ J ++ Done t op r ∷ [] → new ≡ after_flight old f → book_of K k (set rs i new) ≡ after_done (book_of J k rs) i (served t old) op r f
     done_shown K new grown e =

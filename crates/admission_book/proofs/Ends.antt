@@ -33,10 +33,11 @@ module _ (m : Meaning) (J : List Event) (k : List (Option Reply)) (rs : List Cal
   pub end_lawful : Lawful m (after_end (book_of J k rs) i (served t old) r)
   end_lawful = keeps_end m (book_of J k rs) i (served t old) r L at (sym (ap (λ (s : Serving). s.flight) same) ∙ may.idle) may.answers end_within
 
-  pub end_shown : (K : List Event) (new : CallerRecord) → K ≡ J ++ End t r ∷ [] → new ≡ after_ticket old → book_of K (set k t (Some r)) (set rs i new) ≡ after_end (book_of J k rs) i (served t old) r
-  end_shown K new grown e =
-      shown K (set k t (Some r)) rs i new None (ap (λ (x : CallerRecord). serving_of x) e)
-      ∙ ap (λ (H : List Event). record { journal = H; kept = set k t (Some r); records = set (servings rs) i None }) grown
+  pub end_shown : (K : List Event) (k2 : List (Option Reply)) (new : CallerRecord) → K ≡ J ++ End t r ∷ [] → k2 ≡ set k t (Some r) → new ≡ after_ticket old → book_of K k2 (set rs i new) ≡ after_end (book_of J k rs) i (served t old) r
+  end_shown K k2 new grown kept e =
+      shown K k2 rs i new None (ap (λ (x : CallerRecord). serving_of x) e)
+      ∙ ap (λ (H : List Event). record { journal = H; kept = k2; records = set (servings rs) i None }) grown
+      ∙ ap (λ (l : List (Option Reply)). record { journal = J ++ End t r ∷ []; kept = l; records = set (servings rs) i None }) kept
 
   pub ended_so : HasEnded (book_of J k rs) t r (after_end (book_of J k rs) i (served t old) r)
   ended_so c s q e = let h : (i ≡ c) × (served t old ≡ s) = one m (book_of J k rs) L i c (served t old) s at q (sym e) in λ j. after_end (book_of J k rs) (h.0 j) (h.1 j) r

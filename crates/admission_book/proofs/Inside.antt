@@ -1,16 +1,15 @@
 -- What is in a book's box, and what is lent from there.
 use Rattle.std.proofs.Common.{◌≡◌, sym, ◌∙◌, ap, subst}
-use Rattle.std.specs.Vec.{vec_capacity}
 use Rattle.session_journal.specs.Script.{Meaning}
 use Rattle.admission_book.specs.Methods.{BookView, StaysLawful}
 use Rattle.admission_book.specs.Kept.{book_of, Keeps}
 use Rattle.admission_book.specs.declared.book.Inner.{Inner}
 
 abbrev pub view_in : {S : Type 0} → Inner S → BookView S
-view_in x = record { script = x.script; book = book_of x.journal.events x.kept.items x.records.items }
+view_in x = record { script = x.script; book = book_of x.journal.events x.kept x.records.items }
 
 abbrev pub KeepsIn : {S : Type 0} → (S → Meaning) → Inner S → Type 0
-KeepsIn meaning x = Keeps (meaning x.script) x.begun x.journal x.kept.items x.listed.items (vec_capacity x.listed) x.records.items
+KeepsIn meaning x = Keeps (meaning x.script) x.begun x.journal x.kept x.records.items
 
 pub view_lent : {S : Type 0} (x y : Inner S) (v : BookView S) → y ≡ x → view_in x ≡ v → view_in y ≡ v
 view_lent x y v e is = ap view_in e ∙ is

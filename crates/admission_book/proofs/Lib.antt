@@ -8,6 +8,7 @@ pub mod Firsts
 pub mod Foreknown
 mod Inside
 pub mod Keep
+pub mod KeptLists
 pub mod Keys
 pub mod Narrows
 pub mod Oldest
@@ -18,3 +19,4 @@ pub mod Scans
 pub mod Shown
 pub mod Stays
 pub mod Histories
+pub mod Touches

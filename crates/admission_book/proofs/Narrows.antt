@@ -23,8 +23,11 @@ module _ (m : Meaning) (J : List Event) (k : List (Option Reply)) (rs : List Cal
   same : may.serving ≡ served t old
   same = (one m (book_of J k rs) L may.caller i may.serving (served t old) may.is at may.ticket).1
 
+  pub narrow_covered : Covered f old.foresight.symbols
+  narrow_covered = let P : Serving → Type 0 = λ s. Covered f s.foresight in subst P same may.covered
+
   pub narrow_lawful : Lawful m (after_narrow (book_of J k rs) i (served t old) f)
-  narrow_lawful = keeps_narrow m (book_of J k rs) i (served t old) f L at (sym (ap (λ (s : Serving). s.flight) same) ∙ may.idle) (let P : Serving → Type 0 = λ s. Covered f s.foresight in subst P same may.covered) may.covers
+  narrow_lawful = keeps_narrow m (book_of J k rs) i (served t old) f L at (sym (ap (λ (s : Serving). s.flight) same) ∙ may.idle) narrow_covered may.covers
 
   pub narrow_shown : (new : CallerRecord) → new ≡ with_symbols old f → book_of J k (set rs i new) ≡ after_narrow (book_of J k rs) i (served t old) f
   narrow_shown new e = shown J k rs i new (Some (record { ticket = t; foresight = f; flight = old.flight })) (ap (λ (r : CallerRecord). serving_of r) e ∙ serving_is (with_symbols old f) t p.has)

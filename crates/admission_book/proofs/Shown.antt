@@ -8,7 +8,7 @@ use Rattle.session_journal.specs.declared.event.Event.{Event}
 use Rattle.session_journal.specs.declared.event.Event.TheVariants.{Begin, Done, Delay, End}
 use Rattle.session_journal.specs.Journal.{JournalView, begun, ticket_of}
 use Rattle.session_journal.specs.Script.{Meaning, IsScript, calls}
-use Rattle.admission_book.specs.Book.{Book, Serving, record_of}
+use Rattle.admission_book.specs.Book.{Book, Serving, kept_for, record_of}
 use Rattle.admission_book.specs.EventsInTurn.{delayed_after, is_delayed, is_delayed_from}
 use Rattle.admission_book.specs.Lawful.{Lawful}
 use Rattle.admission_book.specs.declared.caller_record.CallerRecord.{CallerRecord}
@@ -24,6 +24,9 @@ here {S} P meaning s b v is p = let Q : BookView S → Type 0 = λ w. P (meaning
 
 pub there : {S : Type 0} (P : Meaning → Book → Type 0) (meaning : S → Meaning) (s : S) (b : Book) (v : BookView S) → record { script = s; book = b } ≡ v → P (meaning s) b → P (meaning v.script) v.book
 there {S} P meaning s b v is p = let Q : BookView S → Type 0 = λ w. P (meaning w.script) w.book in subst Q is p
+
+pub kept_there : {S : Type 0} (s : S) (b : Book) (v : BookView S) (t : ℕ) → record { script = s; book = b } ≡ v → kept_for b t ≡ kept_for v.book t
+kept_there {S} s b v t is = ap (λ (w : BookView S). kept_for w.book t) is
 
 -- what a call leaves, where d is the book that the new fields show
 pub leaves : {S : Type 0} (P : Book → Book → Type 0) (s : S) (b : Book) (v : BookView S) (d d2 : Book) → record { script = s; book = b } ≡ v → d ≡ d2 → P b d2 → P v.book d
@@ -120,11 +123,11 @@ keeps_more J rs c e apart k = record {
 }
 
 -- the fields with one event more
-pub keeps_with : (m : Meaning) (count count2 : ℕ) (journal journal2 : JournalView) (k k2 : List (Option Reply)) (listed : List Reply) (spare : ℕ) (rs rs2 : List CallerRecord) (K : List Event)
-    → Keeps m count journal k listed spare rs → journal2 ≡ record { events = K; room = journal.room } → count2 ≡ begun K → length k2 ≡ length k → ((c : ℕ) → KeepsRecord K (record_at rs2 c)) → Keeps m count2 journal2 k2 listed spare rs2
-keeps_with m count count2 journal journal2 k k2 listed spare rs rs2 K keeps is counted same each =
-    let P : JournalView → Type 0 = λ j. Keeps m count2 j k2 listed spare rs2 in
-    subst P (sym is) (record { script = keeps.script; counted = counted; events = keeps.events; one_each = same ∙ keeps.one_each; none_listed = keeps.none_listed; list_room = keeps.list_room; each = each })
+pub keeps_with : (m : Meaning) (count count2 : ℕ) (journal journal2 : JournalView) (k k2 : List (Option Reply)) (rs rs2 : List CallerRecord) (K : List Event)
+    → Keeps m count journal k rs → journal2 ≡ record { events = K; room = journal.room } → count2 ≡ begun K → length k2 ≡ length k → ((c : ℕ) → KeepsRecord K (record_at rs2 c)) → Keeps m count2 journal2 k2 rs2
+keeps_with m count count2 journal journal2 k k2 rs rs2 K keeps is counted same each =
+    let P : JournalView → Type 0 = λ j. Keeps m count2 j k2 rs2 in
+    subst P (sym is) (record { script = keeps.script; counted = counted; events = keeps.events; one_each = same ∙ keeps.one_each; each = each })
 
 -- there is room for an event that leads to a lawful book
 pub room_for : (m : Meaning) (J : List Event) (e : Event) (k : List (Option Reply)) (us : List (Option Serving)) (room : ℕ) → IsScript m → 2 * m.requests + 2 * calls m ≤ room → Lawful m (record { journal = J ++ e ∷ []; kept = k; records = us }) → length J < room

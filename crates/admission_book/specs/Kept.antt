@@ -1,5 +1,5 @@
 -- What the fields of a book keep.
-use Rattle.std.specs.Prelude.{◌≡◌, ℕ, ◌<◌, ◌≤◌, ◌+◌, ◌*◌, ◌⊎◌, List, [], Option, Some, None, length}
+use Rattle.std.specs.Prelude.{◌≡◌, ℕ, ◌<◌, ◌≤◌, ◌+◌, ◌*◌, ◌⊎◌, List, Option, Some, None, length}
 use Rattle.session_limits.specs.Limits.{max_symbols}
 use Rattle.session_values.specs.declared.reply.Reply.{Reply}
 use Rattle.session_journal.specs.declared.event.Event.{Event}
@@ -21,13 +21,11 @@ pub record KeepsRecord (J : List Event) (r : CallerRecord) : Type 0 where
 
 -- the begun tickets are counted, and there is room for all that the script can make of the book
 pub record Keeps (m : Meaning) (count : ℕ) (journal : JournalView) (kept : List (Option Reply))
-    (listed : List Reply) (spare : ℕ) (records : List CallerRecord) : Type 0 where
+    (records : List CallerRecord) : Type 0 where
   pub script : IsScript m
   pub counted : count ≡ begun journal.events
   pub events : 2 * m.requests + 2 * calls m ≤ journal.room
   pub one_each : length kept ≡ m.requests
-  pub none_listed : listed ≡ []
-  pub list_room : m.requests ≤ spare
   pub each : (c : ℕ) → KeepsRecord journal.events (record_at records c)
 
 -- ---- parts of the calls

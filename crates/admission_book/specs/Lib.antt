@@ -4,4 +4,6 @@ pub mod CallerRecord
 pub mod EventsInTurn
 pub mod Found
 pub mod Kept
+pub mod KeptReplies
 pub mod Lawful
+pub mod Touched

@@ -23,7 +23,7 @@ pub(crate) struct Blocker {
 }
 
 /// The first symbol with which the operation doesn't commute.
-fn first_against(op: &Op, symbols: &[Symbol]) -> Option<Symbol>
+pub(crate) fn first_against(op: &Op, symbols: &[Symbol]) -> Option<Symbol>
     requires { AllByRecursion HasNoVar symbols.now }
     ensures { MatchOption result (AllByRecursion (λ y. CommutesWith op.now y) symbols.now)
         (λ y. IsFirstAgainst op.now symbols.now y) }
@@ -56,7 +56,7 @@ fn older_blocker(found: Option<Blocker>, r: &CallerRecord, t: u32, op: &Op) -> O
     if u >= limit(&found, t) {
         return found;
     }
-    match first_against(op, r.foresight.symbols()) {
+    match r.foresight.first_against(op) {
         Some(symbol) => Some(Blocker { older: u, symbol }),
         None => found,
     }

@@ -12,15 +12,13 @@ ghost use Rattle.admission_book.specs.Methods.{Admits, Begins, DidIt, HasEnded, 
 use crate::admission::Admission;
 use crate::blocker::least_against;
 use crate::caller_record::CallerRecord;
-use crate::fields::{all_replies, idle_records, least_ticket, no_replies, note_delay, place_of};
+use crate::fields::{idle_records, least_ticket, note_delay, place_of};
+use crate::kept_replies::{KeptReplies, Replies};
 use session_journal::{Event, Journal, Script};
-use session_values::{Listed, NoMemory, Op, Reply, Value};
+use session_values::{NoMemory, Op, Reply, Value};
 use std::alloc::Global;
 use std::marker::Model;
 use symbolic_ops::Foresight;
-
-/// The replies of all tickets, in their order.
-pub type Replies = Listed<Reply>;
 
 /// What a book holds.
 #[derive(Drop)]
@@ -32,9 +30,7 @@ struct Inner<S: Script + Drop> {
     /// What was done, in room for all events that the script allows.
     journal: Journal,
     /// For each ticket of the script the reply with which it ended, or None until then.
-    kept: Vec<Option<Reply>>,
-    /// Empty, with room for the replies that `close` gives.
-    listed: Vec<Reply>,
+    kept: KeptReplies,
     /// For each caller, by its number, the ticket that it serves.
     records: Vec<CallerRecord>,
 }
@@ -47,7 +43,6 @@ pub struct Book<S: Script + Drop> {
 }
 
 impl<S: Script + Drop> Model for Book<S> {
-    ghost use Rattle.std.specs.Prelude.{vec_capacity};
     ghost use Rattle.admission_book.specs.Methods.{BookView};
     ghost use Rattle.admission_book.specs.Kept.{Keeps, book_of};
 
@@ -55,12 +50,11 @@ impl<S: Script + Drop> Model for Book<S> {
 
     ghost view = { λ b. let inner = b.inner.value in record {
       script = inner.script;
-      book = book_of inner.journal.events inner.kept.items inner.records.items;
+      book = book_of inner.journal.events inner.kept inner.records.items;
     } };
 
     ghost invariant = { λ b. let inner = b.inner.value in Keeps
-        (S.meaning inner.script) inner.begun inner.journal inner.kept.items inner.listed.items
-        (vec_capacity inner.listed) inner.records.items };
+        (S.meaning inner.script) inner.begun inner.journal inner.kept inner.records.items };
 }
 
 impl<S: Script + Drop> Book<S> {
@@ -75,15 +69,13 @@ impl<S: Script + Drop> Book<S> {
         let requests = script.requests();
         let calls = script.calls();
         let journal = Journal::with_room(alloc, 2 * requests + 2 * calls)?;
-        let kept = no_replies(alloc, requests)?;
-        let listed = Vec::with_capacity(alloc, requests as usize)?;
+        let kept = KeptReplies::none(alloc, requests)?;
         let records = idle_records(alloc, callers)?;
         let inner = Inner {
             script,
             begun: 0,
             journal,
             kept,
-            listed,
             records,
         };
         Ok(Book {
@@ -201,7 +193,7 @@ impl<S: Script + Drop> Book<S> {
         let caller = place_of(inner.records.as_slice(), t);
         inner.records[caller].end();
         inner.journal.push_reserved(Event::End { ticket: t, reply });
-        inner.kept[t as usize] = Some(reply);
+        inner.kept.keep(t, reply);
     }
 
     /// The least open ticket, or None where none is open.
@@ -233,10 +225,7 @@ impl<S: Script + Drop> Book<S> {
             IfSome result (λ r.
             (serial (session_of (S.meaning self.now.script)) t).answer ≡ Some r) }
     {
-        match self.inner.kept.get(t as usize) {
-            Some(reply) => *reply,
-            None => None,
-        }
+        self.inner.kept.reply(t)
     }
 
     /// What was done of all tickets, and their replies.
@@ -257,10 +246,8 @@ impl<S: Script + Drop> Book<S> {
             begun: _,
             journal,
             kept,
-            listed,
             records: _,
         } = Box::into_inner(inner);
-        let replies = all_replies(kept.as_slice(), listed);
-        (journal, Listed::from_vec(replies))
+        (journal, kept.all())
     }
 }

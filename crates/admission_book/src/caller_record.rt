@@ -2,8 +2,10 @@
 
 ghost use Rattle.std.specs.Prelude.{◌≡◌, ◌≤◌, Some, IsSome, IfOk, length};
 ghost use Rattle.std.specs.Bool.{Decides};
+ghost use Rattle.symbolic_ops.specs.Matching.{Covered};
 ghost use Rattle.admission_book.specs.CallerRecord.{idle_record, with_ticket, with_symbols, with_flight, after_flight, after_ticket};
 
+use crate::marked_foresight::MarkedForesight;
 use session_limits::MAX_SYMBOLS;
 use session_values::{NoMemory, Op};
 use std::alloc::Global;
@@ -15,7 +17,7 @@ pub(crate) struct CallerRecord {
     /// The open ticket, or None while the caller serves none.
     pub(crate) ticket: Option<u32>,
     /// What the ticket may still call, in room for 256 symbols. Without a ticket it says nothing.
-    pub(crate) foresight: Foresight,
+    pub(crate) foresight: MarkedForesight,
     /// The operation that was admitted and isn't done yet.
     pub(crate) flight: Option<Op>,
     /// Whether the last event of the ticket is a Delay, so that a delay is noted once.
@@ -27,7 +29,7 @@ impl CallerRecord {
     pub(crate) fn idle(alloc: Global) -> Result<CallerRecord, NoMemory>
         ensures { IfOk result (λ r. r ≡ idle_record) }
     {
-        let foresight = Foresight::with_room(alloc, MAX_SYMBOLS)?;
+        let foresight = MarkedForesight::with_room(alloc, MAX_SYMBOLS)?;
         Ok(CallerRecord {
             ticket: None,
             foresight,
@@ -54,15 +56,16 @@ impl CallerRecord {
         self.ticket = Some(t);
         self.flight = None;
         self.delayed = false;
-        self.foresight.replace(entry);
+        self.foresight.take(entry);
     }
 
-    /// Makes a list the ticket's foresight.
+    /// Makes a list that its own covers the ticket's foresight.
     pub(crate) fn narrow(&mut self, f: &Foresight)
-        requires { length f.now.symbols ≤ self.old.foresight.room }
+        requires room { length f.now.symbols ≤ self.old.foresight.room }
+        requires covered { Covered f.now.symbols self.old.foresight.symbols }
         ensures { self.new ≡ with_symbols self.old f.now.symbols }
     {
-        self.foresight.replace(f);
+        self.foresight.narrow(f);
     }
 
     /// Puts an operation in flight.
@@ -76,13 +79,14 @@ impl CallerRecord {
     pub(crate) fn finish(&mut self, next: &Foresight) -> Op
         requires flight { IsSome self.old.flight }
         requires room { length next.now.symbols ≤ self.old.foresight.room }
+        requires covered { Covered next.now.symbols self.old.foresight.symbols }
         ensures op { self.old.flight ≡ Some result }
         ensures finished { self.new ≡ after_flight self.old next.now.symbols }
     {
         let op = self.flight.unwrap();
         self.flight = None;
         self.delayed = false;
-        self.foresight.replace(next);
+        self.foresight.narrow(next);
         op
     }
 

@@ -7,7 +7,7 @@ ghost use Rattle.admission_book.specs.Kept.{IsLeastTicket, IsLesser, IsServed};
 
 use crate::caller_record::CallerRecord;
 use session_journal::{Event, Journal};
-use session_values::{NoMemory, Reply};
+use session_values::NoMemory;
 use std::alloc::Global;
 
 /// Records of so many callers that serve no ticket.
@@ -19,17 +19,6 @@ pub(crate) fn idle_records(alloc: Global, callers: u32) -> Result<Vec<CallerReco
         records.push_reserved(CallerRecord::idle(alloc)?);
     }
     Ok(records)
-}
-
-/// A place for the reply of each ticket, with none in it.
-pub(crate) fn no_replies(alloc: Global, tickets: u32) -> Result<Vec<Option<Reply>>, NoMemory>
-    ensures { IfOk result (λ rs. rs.items ≡ replicate tickets None) }
-{
-    let mut replies = Vec::with_capacity(alloc, tickets as usize)?;
-    for _ in 0..tickets {
-        replies.push_reserved(None);
-    }
-    Ok(replies)
 }
 
 /// The place of the record that has the ticket.
@@ -83,18 +72,4 @@ pub(crate) fn note_delay(journal: &mut Journal, r: &mut CallerRecord, delay: Eve
     }
     journal.push_reserved(delay);
     r.delayed = true;
-}
-
-/// Appends the kept replies to a list that has room for them.
-pub(crate) fn all_replies(kept: &[Option<Reply>], list: Vec<Reply>) -> Vec<Reply>
-    requires empty { list.items ≡ [] }
-    requires room { length kept.now ≤ vec_capacity list }
-    requires ended { AllByRecursion (λ r. IsSome r) kept.now }
-    ensures { map (λ r. Some r) result.items ≡ kept.now }
-{
-    let mut list = list;
-    for r in kept {
-        list.push_reserved(r.unwrap());
-    }
-    list
 }

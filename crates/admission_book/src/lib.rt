@@ -6,7 +6,11 @@ mod blocker;
 mod book;
 mod caller_record;
 mod fields;
+mod kept_replies;
 pub mod laws;
+mod marked_foresight;
+mod touched_tables;
 
 pub use admission::Admission;
-pub use book::{Book, Replies};
+pub use book::Book;
+pub use kept_replies::Replies;

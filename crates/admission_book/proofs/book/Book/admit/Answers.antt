@@ -18,7 +18,7 @@ invariant_of-self g c =
     let p = place _ _ _ _ _ c.as_slice.ensures.value c.place_of-caller.ensures.within c.place_of-caller.ensures.serves c.index_mut.ensures.value in
     let L = here Lawful g.S.Script.meaning _ _ _ seen c.requires.lawful in
     let may = here (λ (m : Meaning) (b : Book). MayAdmit m b c.args.t c.args.op) g.S.Script.meaning _ _ _ seen c.requires.may in
-    keeps_with _ _ _ c.deref_mut-inner.result.now.journal c.deref_mut-inner.result.now.journal _ _ _ _ _ _ _ keeps refl keeps.counted refl (admit_keeps _ _ _ _ _ _ _ _ L may p c.launch.new.self c.launch.ensures keeps.each)
+    keeps_with _ _ _ c.deref_mut-inner.result.now.journal c.deref_mut-inner.result.now.journal _ _ _ _ _ keeps refl keeps.counted refl (admit_keeps _ _ _ _ _ _ _ _ L may p c.launch.new.self c.launch.ensures keeps.each)
 
 pub returns-in_default-clause-admits : goal.returns-in_default-clause-admits
 returns-in_default-clause-admits g c =
@@ -26,7 +26,7 @@ returns-in_default-clause-admits g c =
     let p = place _ _ _ _ _ c.as_slice.ensures.value c.place_of-caller.ensures.within c.place_of-caller.ensures.serves c.index_mut.ensures.value in
     let L = here Lawful g.S.Script.meaning _ _ _ seen c.requires.lawful in
     let may = here (λ (m : Meaning) (b : Book). MayAdmit m b c.args.t c.args.op) g.S.Script.meaning _ _ _ seen c.requires.may in
-    let free = free_here c.deref_mut-inner.result.now.journal.events c.deref_mut-inner.result.now.kept.items _ _ _ _ _ c.as_slice-2.ensures.value c.in_default.is c.least_against.ensures in
+    let free = free_here c.deref_mut-inner.result.now.journal.events c.deref_mut-inner.result.now.kept _ _ _ _ _ c.as_slice-2.ensures.value c.in_default.is c.least_against.ensures in
     leaves (λ (b d : Book). Admits b c.args.t c.args.op Admitted d) _ _ _ _ _ seen (admit_shown _ _ _ _ _ _ _ _ L may p c.launch.new.self c.launch.ensures) (admitted _ _ _ _ _ _ _ _ L may p free)
 
 pub returns-in_default-clause-stays : goal.returns-in_default-clause-stays
@@ -36,7 +36,7 @@ returns-in_default-clause-stays g c =
     let p = place _ _ _ _ _ c.as_slice.ensures.value c.place_of-caller.ensures.within c.place_of-caller.ensures.serves c.index_mut.ensures.value in
     let L = here Lawful g.S.Script.meaning _ _ _ seen c.requires.lawful in
     let may = here (λ (m : Meaning) (b : Book). MayAdmit m b c.args.t c.args.op) g.S.Script.meaning _ _ _ seen c.requires.may in
-    let free = free_here c.deref_mut-inner.result.now.journal.events c.deref_mut-inner.result.now.kept.items _ _ _ _ _ c.as_slice-2.ensures.value c.in_default.is c.least_against.ensures in
+    let free = free_here c.deref_mut-inner.result.now.journal.events c.deref_mut-inner.result.now.kept _ _ _ _ _ c.as_slice-2.ensures.value c.in_default.is c.least_against.ensures in
     stays g.S.Script.meaning _ _ _ _ seen keeps.script
     (lawful_same _ _ _ (admit_shown _ _ _ _ _ _ _ _ L may p c.launch.new.self c.launch.ensures) (admit_lawful _ _ _ _ _ _ _ _ L may p free))
     (grows_none _)
@@ -59,7 +59,7 @@ invariant_of-self-2 g c =
     let L = here Lawful g.S.Script.meaning _ _ _ seen c.requires.lawful in
     let may = here (λ (m : Meaning) (b : Book). MayAdmit m b c.args.t c.args.op) g.S.Script.meaning _ _ _ seen c.requires.may in
     let found = blocker_here _ _ _ _ _ c.in-Some.b c.as_slice-2.ensures.value c.in-Some.is c.least_against.ensures in
-    keeps_with _ _ _ c.deref_mut-inner.result.now.journal c.note_delay.new.journal _ _ _ _ _ _ _ keeps c.note_delay.ensures.journal (delay_count _ _ _ _ _ _ _ _ L may p c.in-Some.b.older c.in-Some.b.symbol found keeps.each _ keeps.counted) refl
+    keeps_with _ _ _ c.deref_mut-inner.result.now.journal c.note_delay.new.journal _ _ _ _ _ keeps c.note_delay.ensures.journal (delay_count _ _ _ _ _ _ _ _ L may p c.in-Some.b.older c.in-Some.b.symbol found keeps.each _ keeps.counted) refl
     (delay_keeps _ _ _ _ _ _ _ _ L may p c.in-Some.b.older c.in-Some.b.symbol found keeps.each c.note_delay.new.r c.note_delay.ensures.noted)
 
 pub returns-clause-admits : goal.returns-clause-admits

@@ -46,7 +46,7 @@ invariant_of-self-2 g c =
     let may = here (λ (m : Meaning) (b : Book). MayBeginNext m b c.args.caller c.args.entry.now.symbols) g.S.Script.meaning _ _ _ seen c.requires.may in
     let left : c.deref_mut-inner.result.now.begun < (g.S.Script.meaning c.deref_mut-inner.result.now.script).requests = omega (arith, c.requests.ensures.requests, c.if-inner-requests.false) in
     let is = record_here _ _ _ (within _ _ _ _ _ _ _ L may left keeps.counted) c.index_mut.ensures.value in
-    keeps_with _ _ _ c.deref_mut-inner.result.now.journal c.push_reserved.new.self _ _ _ _ _ _ _ keeps c.push_reserved.ensures (begin_count _ _ _ _ _ _ _ L may left keeps.counted) refl
+    keeps_with _ _ _ c.deref_mut-inner.result.now.journal c.push_reserved.new.self _ _ _ _ _ keeps c.push_reserved.ensures (begin_count _ _ _ _ _ _ _ L may left keeps.counted) refl
     (begin_keeps _ _ _ _ _ _ _ L may left keeps.counted c.index_mut.result.now c.begin.new.self is c.begin.ensures keeps.each)
 
 pub returns-clause-begins : goal.returns-clause-begins

@@ -1,4 +1,4 @@
-use Rattle.std.proofs.Common.{◌≡◌, ℕ, ◌<◌, ◌∙◌}
+use Rattle.std.proofs.Common.{◌≡◌, refl, ℕ, ◌<◌}
 use Rattle.std.specs.Option.{IsSome}
 use Rattle.session_values.specs.Serial.{serial_replies, tables_before}
 use Rattle.session_journal.specs.Journal.{after, ended}
@@ -10,13 +10,13 @@ use Rattle.admission_book.proofs.Shown.{here, there}
 use Rattle.admission_book.proofs.Replies.{kept_some, tables_serial, replies_serial}
 use Rattle.admission_book.proofs.book.Book.close.Goals as goal
 
-pub all_replies-replies-requires-clause-ended : goal.all_replies-replies-requires-clause-ended
-all_replies-replies-requires-clause-ended g c =
+pub all-requires : goal.all-requires
+all-requires g c =
     let seen = view_lent _ _ _ c.into_inner-journal.ensures c.self.view_is in
     let keeps = keeps_lent g.S.Script.meaning _ _ c.into_inner-journal.ensures c.self.invariant in
     let L = here Lawful g.S.Script.meaning _ _ _ seen c.requires.lawful in
     let done = here (λ (m : Meaning) (b : Book). (t : ℕ) → t < m.requests → IsSome (ended b.journal t)) g.S.Script.meaning _ _ _ seen c.requires.ended in
-    kept_some _ _ keeps.script L done c.as_slice.result.now c.as_slice.ensures.value keeps.one_each
+    kept_some _ _ keeps.script L done c.into_inner-journal.result.kept refl keeps.one_each
 
 pub returns-clause-tables : goal.returns-clause-tables
 returns-clause-tables g c =
@@ -32,5 +32,5 @@ returns-clause-serial g c =
     let keeps = keeps_lent g.S.Script.meaning _ _ c.into_inner-journal.ensures c.self.invariant in
     let L = here Lawful g.S.Script.meaning _ _ _ seen c.requires.lawful in
     let done = here (λ (m : Meaning) (b : Book). (t : ℕ) → t < m.requests → IsSome (ended b.journal t)) g.S.Script.meaning _ _ _ seen c.requires.ended in
-    there (λ (m : Meaning) (b : Book). c.from_vec.result ≡ serial_replies (session_of m) m.requests) g.S.Script.meaning _ _ _ seen
-    (c.from_vec.ensures ∙ replies_serial _ _ keeps.script L done c.all_replies-replies.result.items (c.all_replies-replies.ensures ∙ c.as_slice.ensures.value) keeps.one_each)
+    there (λ (m : Meaning) (b : Book). c.all.result ≡ serial_replies (session_of m) m.requests) g.S.Script.meaning _ _ _ seen
+    (replies_serial _ _ keeps.script L done c.all.result c.all.ensures keeps.one_each)

@@ -6,7 +6,7 @@ use Rattle.admission_book.specs.Methods.{MayDo, DidIt}
 use Rattle.admission_book.proofs.Inside.{view_lent, keeps_lent}
 use Rattle.admission_book.proofs.Shown.{events_are, here, leaves, lawful_same, place, keeps_with, room_for}
 use Rattle.admission_book.proofs.Stays.{grows_by, stays}
-use Rattle.admission_book.proofs.Dones.{flies, done_lawful, done_shown, did, done_keeps, done_count}
+use Rattle.admission_book.proofs.Dones.{flies, done_covered, done_lawful, done_shown, did, done_keeps, done_count}
 use Rattle.admission_book.proofs.book.Book.done.Goals as goal
 
 pub finish-op-requires-clause-flight : goal.finish-op-requires-clause-flight
@@ -16,6 +16,14 @@ finish-op-requires-clause-flight g c =
     let L = here Lawful g.S.Script.meaning _ _ _ seen c.requires.lawful in
     let may = here (λ (m : Meaning) (b : Book). MayDo m b c.args.t c.args.reply c.args.next.now.symbols) g.S.Script.meaning _ _ _ seen c.requires.may in
     flies _ _ _ _ _ _ _ _ _ L may p
+
+pub finish-op-requires-clause-covered : goal.finish-op-requires-clause-covered
+finish-op-requires-clause-covered g c =
+    let seen = view_lent _ _ _ c.deref_mut-inner.ensures.value c.self.view_is in
+    let p = place _ _ _ _ _ c.as_slice.ensures.value c.place_of-caller.ensures.within c.place_of-caller.ensures.serves c.index_mut.ensures.value in
+    let L = here Lawful g.S.Script.meaning _ _ _ seen c.requires.lawful in
+    let may = here (λ (m : Meaning) (b : Book). MayDo m b c.args.t c.args.reply c.args.next.now.symbols) g.S.Script.meaning _ _ _ seen c.requires.may in
+    done_covered _ _ _ _ _ _ _ _ _ L may p
 
 pub push_reserved-requires : goal.push_reserved-requires
 push_reserved-requires g c =
@@ -33,7 +41,7 @@ invariant_of-self g c =
     let p = place _ _ _ _ _ c.as_slice.ensures.value c.place_of-caller.ensures.within c.place_of-caller.ensures.serves c.index_mut.ensures.value in
     let L = here Lawful g.S.Script.meaning _ _ _ seen c.requires.lawful in
     let may = here (λ (m : Meaning) (b : Book). MayDo m b c.args.t c.args.reply c.args.next.now.symbols) g.S.Script.meaning _ _ _ seen c.requires.may in
-    keeps_with _ _ _ c.deref_mut-inner.result.now.journal c.push_reserved.new.self _ _ _ _ _ _ _ keeps c.push_reserved.ensures
+    keeps_with _ _ _ c.deref_mut-inner.result.now.journal c.push_reserved.new.self _ _ _ _ _ keeps c.push_reserved.ensures
     (done_count _ _ _ _ _ _ _ _ _ L may p c.finish-op.result c.finish-op.ensures.op _ keeps.counted) refl
     (done_keeps _ _ _ _ _ _ _ _ _ L may p c.finish-op.result c.finish-op.ensures.op c.finish-op.new.self c.finish-op.ensures.finished keeps.each)
 

@@ -6,7 +6,7 @@ use Rattle.admission_book.specs.Methods.{MayNarrow, Narrowed}
 use Rattle.admission_book.proofs.Inside.{view_lent, keeps_lent}
 use Rattle.admission_book.proofs.Shown.{here, leaves, lawful_same, place, keeps_with}
 use Rattle.admission_book.proofs.Stays.{grows_none, stays}
-use Rattle.admission_book.proofs.Narrows.{narrow_lawful, narrow_shown, narrowed, narrow_keeps}
+use Rattle.admission_book.proofs.Narrows.{narrow_covered, narrow_lawful, narrow_shown, narrowed, narrow_keeps}
 use Rattle.admission_book.proofs.book.Book.narrow.Goals as goal
 
 pub invariant_of-self : goal.invariant_of-self
@@ -16,7 +16,15 @@ invariant_of-self g c =
     let p = place _ _ _ _ _ c.as_slice.ensures.value c.place_of-caller.ensures.within c.place_of-caller.ensures.serves c.index_mut.ensures.value in
     let L = here Lawful g.S.Script.meaning _ _ _ seen c.requires.lawful in
     let may = here (λ (m : Meaning) (b : Book). MayNarrow m b c.args.t c.args.f.now.symbols) g.S.Script.meaning _ _ _ seen c.requires.may in
-    keeps_with _ _ _ c.deref_mut-inner.result.now.journal c.deref_mut-inner.result.now.journal _ _ _ _ _ _ _ keeps refl keeps.counted refl (narrow_keeps _ _ _ _ _ _ _ _ L may p c.narrow.new.self c.narrow.ensures keeps.each)
+    keeps_with _ _ _ c.deref_mut-inner.result.now.journal c.deref_mut-inner.result.now.journal _ _ _ _ _ keeps refl keeps.counted refl (narrow_keeps _ _ _ _ _ _ _ _ L may p c.narrow.new.self c.narrow.ensures keeps.each)
+
+pub narrow-requires-clause-covered : goal.narrow-requires-clause-covered
+narrow-requires-clause-covered g c =
+    let seen = view_lent _ _ _ c.deref_mut-inner.ensures.value c.self.view_is in
+    let p = place _ _ _ _ _ c.as_slice.ensures.value c.place_of-caller.ensures.within c.place_of-caller.ensures.serves c.index_mut.ensures.value in
+    let L = here Lawful g.S.Script.meaning _ _ _ seen c.requires.lawful in
+    let may = here (λ (m : Meaning) (b : Book). MayNarrow m b c.args.t c.args.f.now.symbols) g.S.Script.meaning _ _ _ seen c.requires.may in
+    narrow_covered _ _ _ _ _ _ _ _ L may p
 
 pub returns-clause-narrowed : goal.returns-clause-narrowed
 returns-clause-narrowed g c =
