@@ -64,6 +64,13 @@ pub record IndexView : Type 0 where
 abbrev pub slot_count : IndexView → ℕ
 slot_count index = 2 ^ index.bits
 
+-- 2 ^ bits slots are what an index has for a list that grows to so many elements: the least power
+-- of 2, from 2 on, that is at least twice as many
+pub record IsSizedFor (room bits : ℕ) : Type 0 where
+  pub some : 1 ≤ bits
+  pub enough : 2 * room ≤ 2 ^ bits
+  pub least : 1 < bits → 2 ^ (bits - 1) < 2 * room
+
 -- the places of these keys, in their order, are what the index holds
 abbrev pub IsIndexOf : List Value → IndexView → Type 0
 IsIndexOf keys index = IsIndex index.bits keys index.slots

@@ -1,10 +1,10 @@
 // The index of a list, as contracts see it.
 
-ghost use Rattle.std.specs.Prelude.{◌≡◌, ◌<◌, ◌≤◌, ◌+◌, ◌-◌, ◌*◌, ◌^◌, [], ◌∷◌, ◌++◌, length, map, position, IfOk, IfSome, IfNone};
+ghost use Rattle.std.specs.Prelude.{◌≡◌, ◌<◌, ◌≤◌, ◌+◌, [], ◌∷◌, ◌++◌, length, map, position, IfOk, IfSome, IfNone};
 ghost use Rattle.std.specs.List.{swap_remove};
 ghost use Rattle.session_values.specs.declared.value.Value.TheVariants.{Nil};
 ghost use Rattle.place_index.specs.Keys.{is_under, AreDifferent};
-ghost use Rattle.place_index.specs.Slots.{slot_count, IsIndexOf, IsSearch};
+ghost use Rattle.place_index.specs.Slots.{slot_count, IsIndexOf, IsSearch, IsSizedFor};
 
 use crate::keyed::Keyed;
 use crate::slot_table::SlotTable;
@@ -34,9 +34,7 @@ impl PlaceIndex {
     pub fn with_room(alloc: Global, room: u32) -> Result<PlaceIndex, NoMemory>
         requires { room ≤ 1073741824 }
         ensures empty { IfOk result (λ index. IsIndexOf [] index) }
-        ensures enough { IfOk result (λ index. 2 * room ≤ slot_count index) }
-        ensures some { IfOk result (λ index. 1 ≤ index.bits) }
-        ensures least { IfOk result (λ index. 1 < index.bits → 2 ^ (index.bits - 1) < 2 * room) }
+        ensures sized { IfOk result (λ index. IsSizedFor room index.bits) }
     {
         let table = SlotTable::with_room(alloc, room)?;
         Ok(PlaceIndex { table })
@@ -68,6 +66,7 @@ impl PlaceIndex {
         ensures place { result ≡ position (is_under T.key_of key) items.now }
         ensures found { IfSome result (λ _. self.new ≡ self.old) }
         ensures entered { IfNone result (IsIndexOf (map T.key_of items.now ++ key ∷ []) self.new) }
+        ensures bits { self.new.bits ≡ self.old.bits }
         ensures slots { slot_count self.new ≡ slot_count self.old }
     {
         let slot = self.table.seek(items, key);
@@ -88,6 +87,7 @@ impl PlaceIndex {
         ensures absent { IfNone result (self.new ≡ self.old) }
         ensures index { IfSome result (λ place.
             IsIndexOf (swap_remove (map T.key_of items.now) place Nil) self.new) }
+        ensures bits { self.new.bits ≡ self.old.bits }
         ensures slots { slot_count self.new ≡ slot_count self.old }
     {
         let slot = self.table.seek(items, key);

@@ -1,5 +1,5 @@
 -- Shards as contracts see them: what one holds, and how many keys it has room for.
-use Rattle.std.specs.Prelude.{◌≡◌, ℕ, ◌-◌, ◌*◌, ◌<◌, ◌≤◌, List, length, map as map_list, Bool, true, false, refl}
+use Rattle.std.specs.Prelude.{◌≡◌, ℕ, ◌-◌, ◌<◌, ◌≤◌, List, length, map as map_list, Bool, true, false, refl}
 use Rattle.std.specs.Coded.{Coded, code_by, coded×, coded_ℕ, coded_list}
 use Rattle.std.specs.FinMap as map
 use Rattle.std.specs.FinSet as set
@@ -10,17 +10,21 @@ use Rattle.session_values.specs.Values.{value_cmp}
 use Rattle.session_values.specs.Kinds.{is_adding}
 use Rattle.session_values.specs.Tables.{Container, Bindings, Members, after_on, size_of}
 use Rattle.place_index.specs.Keys.{AreDifferent}
-use Rattle.place_index.specs.Slots.{IndexView, slot_count, IsIndexOf}
+use Rattle.place_index.specs.Slots.{IndexView, IsIndexOf, IsSizedFor}
 
--- a shard of a map: the pairs of its part, in the order in which they stand
+-- a shard of a map: the pairs of its part, in the order in which they stand, and the index of their
+-- places
 pub record MapView : Type 0 where
   pub entries : List (Value × Value)
   pub room : ℕ
+  pub index : IndexView
 
--- a shard of a set: the keys of its part, in the order in which they stand
+-- a shard of a set: the keys of its part, in the order in which they stand, and the index of their
+-- places
 pub record SetView : Type 0 where
   pub entries : List Value
   pub room : ℕ
+  pub index : IndexView
 
 -- what a shard holds
 abbrev pub bindings : MapView → map.FinMap value_cmp Value
@@ -58,25 +62,35 @@ HasRoomFor op s =
 abbrev pub shard_after : ShardView → Op → ShardView
 shard_after s op = record { container = after_on s.container op; room = s.room }
 
+-- how a room is told from others, with an index
+abbrev pub sizes_code : Coded (ℕ × (ℕ × List ℕ))
+sizes_code = coded× coded_ℕ (coded× coded_ℕ (coded_list coded_ℕ))
+
+abbrev pub index_of : ℕ × List ℕ → IndexView
+index_of p = record { bits = p.0; slots = p.1 }
+
 -- how a map's shard is told from others, and a set's
 abbrev pub map_code : Coded MapView
 map_code =
-    code_by (List (Value × Value) × ℕ)
-    (coded× (coded_list (coded× value.the_row.coded value.the_row.coded)) coded_ℕ)
-    (λ s. (s.entries, s.room)) (λ p. record { entries = p.0; room = p.1 }) (λ _. refl)
+    code_by (List (Value × Value) × (ℕ × (ℕ × List ℕ)))
+    (coded× (coded_list (coded× value.the_row.coded value.the_row.coded)) sizes_code)
+    (λ s. (s.entries, (s.room, (s.index.bits, s.index.slots))))
+    (λ p. record { entries = p.0; room = p.1.0; index = index_of p.1.1 }) (λ _. refl)
 
 abbrev pub set_code : Coded SetView
 set_code =
-    code_by (List Value × ℕ) (coded× (coded_list value.the_row.coded) coded_ℕ)
-    (λ s. (s.entries, s.room)) (λ p. record { entries = p.0; room = p.1 }) (λ _. refl)
+    code_by (List Value × (ℕ × (ℕ × List ℕ)))
+    (coded× (coded_list value.the_row.coded) sizes_code)
+    (λ s. (s.entries, (s.room, (s.index.bits, s.index.slots))))
+    (λ p. record { entries = p.0; room = p.1.0; index = index_of p.1.1 }) (λ _. refl)
 
 -- the elements of a shard have different keys, and their places are what the index holds; there are
--- at most as many as the room, for which the capacity is there and half of the index's slots
+-- at most as many as the room, for which the capacity is there and the index has its slots
 pub record FitsRoom {X : Type 0} (key : X → Value) (items : List X) (capacity room : ℕ)
     (index : IndexView) : Type 0 where
   pub different : AreDifferent key items
   pub indexed : IsIndexOf (map_list key items) index
   pub within : length items ≤ room
   pub reserved : room ≤ capacity
-  pub spread : 2 * room ≤ slot_count index
+  pub sized : IsSizedFor room index.bits
   pub few : room ≤ 1073741824

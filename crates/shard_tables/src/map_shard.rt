@@ -1,11 +1,12 @@
 // One shard of a map.
 
-ghost use Rattle.std.specs.Prelude.{◌≡◌, ◌<◌, ◌≤◌, ◌+◌, IfOk, false, pos, unwrap_or, length, slice_get};
+ghost use Rattle.std.specs.Prelude.{◌≡◌, ◌<◌, ◌≤◌, ◌+◌, IfOk, false, pos, unwrap_or, length, position, slice_get};
 ghost use Rattle.std.specs.FinMap as map;
 ghost use Rattle.session_values.specs.declared.kind.TableKind.TheVariants.{Map};
 ghost use Rattle.session_values.specs.Kinds.{home};
 ghost use Rattle.session_values.specs.Tables.{Bindings, bound_to, bumped, reply_on, size_of, empty_of};
-ghost use Rattle.place_index.specs.Keys.{AreDifferent};
+ghost use Rattle.place_index.specs.Keys.{AreDifferent, is_under};
+ghost use Rattle.place_index.specs.Slots.{IsSearch, IsSizedFor, slot_count};
 ghost use Rattle.shard_tables.specs.Shards.{bindings, map_shard, HasRoomFor, shard_after, spare_of};
 
 use place_index::PlaceIndex;
@@ -30,7 +31,7 @@ impl Model for MapShard {
 
     ghost coded = { map_code };
 
-    ghost view = { λ s. record { entries = s.pairs.items; room = s.room } };
+    ghost view = { λ s. record { entries = s.pairs.items; room = s.room; index = s.index } };
 
     ghost invariant = { λ s. FitsRoom (λ p. p.0) s.pairs.items (vec_capacity s.pairs) s.room
         s.index };
@@ -40,10 +41,11 @@ impl MapShard {
     /// An empty shard with room for so many keys.
     pub fn with_room(alloc: Global, room: u32) -> Result<MapShard, NoMemory>
         requires { room ≤ 1073741824 }
-        ensures { IfOk result (λ shard. map_shard shard ≡ record {
+        ensures empty { IfOk result (λ shard. map_shard shard ≡ record {
           container = empty_of Map;
           room = room;
         }) }
+        ensures slots { IfOk result (λ shard. IsSizedFor room shard.index.bits) }
     {
         let pairs = Vec::with_capacity(alloc, room as usize)?;
         let index = PlaceIndex::with_room(alloc, room)?;
@@ -104,9 +106,20 @@ impl MapShard {
         self.pairs[i as usize]
     }
 
+    /// How many slots its index has: the least power of 2, from 2 on, that is at least twice the
+    /// room.
+    pub fn slots(&self) -> u32
+        ensures slots { result ≡ slot_count self.now.index }
+        ensures sized { IsSizedFor self.now.room self.now.index.bits }
+    {
+        self.index.slots()
+    }
+
     /// How many slots a search for this key looks at: the measure of an operation on it, for tests
     /// and benchmarks.
     pub fn probes(&self, key: Value) -> u32
+        ensures search { IsSearch self.now.index key
+            (position (is_under (λ e. e.0) key) self.now.entries) result }
         ensures some { 0 < result }
         ensures few { result ≤ length self.now.entries + 1 }
     {

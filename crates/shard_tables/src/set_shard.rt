@@ -1,11 +1,12 @@
 // One shard of a set.
 
-ghost use Rattle.std.specs.Prelude.{◌≡◌, ◌<◌, ◌≤◌, ◌+◌, IfOk, false, pos, not, length, slice_get, true};
+ghost use Rattle.std.specs.Prelude.{◌≡◌, ◌<◌, ◌≤◌, ◌+◌, IfOk, false, pos, not, length, position, slice_get, true};
 ghost use Rattle.std.specs.FinSet as set;
 ghost use Rattle.session_values.specs.declared.kind.TableKind.TheVariants.{Set};
 ghost use Rattle.session_values.specs.Kinds.{home};
 ghost use Rattle.session_values.specs.Tables.{Members, reply_on, size_of, empty_of, bit};
-ghost use Rattle.place_index.specs.Keys.{AreDifferent};
+ghost use Rattle.place_index.specs.Keys.{AreDifferent, is_under};
+ghost use Rattle.place_index.specs.Slots.{IsSearch, IsSizedFor, slot_count};
 ghost use Rattle.shard_tables.specs.Shards.{members, set_shard, HasRoomFor, shard_after, spare_of};
 
 use place_index::PlaceIndex;
@@ -30,7 +31,7 @@ impl Model for SetShard {
 
     ghost coded = { set_code };
 
-    ghost view = { λ s. record { entries = s.keys.items; room = s.room } };
+    ghost view = { λ s. record { entries = s.keys.items; room = s.room; index = s.index } };
 
     ghost invariant = { λ s. FitsRoom (λ k. k) s.keys.items (vec_capacity s.keys) s.room s.index };
 }
@@ -39,10 +40,11 @@ impl SetShard {
     /// An empty shard with room for so many keys.
     pub fn with_room(alloc: Global, room: u32) -> Result<SetShard, NoMemory>
         requires { room ≤ 1073741824 }
-        ensures { IfOk result (λ shard. set_shard shard ≡ record {
+        ensures empty { IfOk result (λ shard. set_shard shard ≡ record {
           container = empty_of Set;
           room = room;
         }) }
+        ensures slots { IfOk result (λ shard. IsSizedFor room shard.index.bits) }
     {
         let keys = Vec::with_capacity(alloc, room as usize)?;
         let index = PlaceIndex::with_room(alloc, room)?;
@@ -100,9 +102,20 @@ impl SetShard {
         self.keys[i as usize]
     }
 
+    /// How many slots its index has: the least power of 2, from 2 on, that is at least twice the
+    /// room.
+    pub fn slots(&self) -> u32
+        ensures slots { result ≡ slot_count self.now.index }
+        ensures sized { IsSizedFor self.now.room self.now.index.bits }
+    {
+        self.index.slots()
+    }
+
     /// How many slots a search for this key looks at: the measure of an operation on it, for tests
     /// and benchmarks.
     pub fn probes(&self, key: Value) -> u32
+        ensures search { IsSearch self.now.index key
+            (position (is_under (λ k. k) key) self.now.entries) result }
         ensures some { 0 < result }
         ensures few { result ≤ length self.now.entries + 1 }
     {

@@ -7,7 +7,7 @@ use Rattle.session_values.specs.declared.value.Value.{Value}
 use Rattle.session_values.specs.declared.value.Value.TheVariants.{Nil}
 use Rattle.session_values.specs.Tables.{Bindings}
 use Rattle.session_values.specs.Values.{value_cmp}
-use Rattle.place_index.specs.Slots.{IndexView, IsIndexOf}
+use Rattle.place_index.specs.Slots.{IndexView, IsIndexOf, IsSizedFor}
 use Rattle.place_index.proofs.Lists.{index_set, index_pushed}
 use Rattle.place_index.specs.Keys.{is_under, AreDifferent}
 use Rattle.shard_tables.specs.Shards.{MapView, ShardView, bindings}
@@ -31,7 +31,7 @@ invariant_of-self c =
       within = omega (arith, length-set es c.in-Some.place (c.args.key, c.args.value), c.self.invariant.within);
       reserved = c.self.invariant.reserved;
       few = c.self.invariant.few;
-      spread = omega (arith, c.in-Some.ensures.slots, c.self.invariant.spread);
+      sized = let P : ℕ → Type 0 = λ b. IsSizedFor c.self.inside.room b in subst P (sym c.in-Some.ensures.bits) c.self.invariant.sized;
       indexed =
           let P : IndexView → Type 0 = λ v. IsIndexOf (map_list key_of (set es c.in-Some.place (c.args.key, c.args.value))) v in
           subst P (sym c.in-Some.ensures.found)
@@ -78,7 +78,7 @@ invariant_of-self-in-None c =
       within = omega (arith, ap (λ (l : List (Value × Value)). length l) c.push_reserved.ensures.items, length-append es ((c.args.key, c.args.value) ∷ []), size, room, c.requires absent);
       reserved = omega (arith, c.push_reserved.ensures.capacity, c.self.invariant.reserved);
       few = c.self.invariant.few;
-      spread = omega (arith, c.in-None.ensures.slots, c.self.invariant.spread);
+      sized = let P : ℕ → Type 0 = λ b. IsSizedFor c.self.inside.room b in subst P (sym c.in-None.ensures.bits) c.self.invariant.sized;
       indexed =
           let P : List (Value × Value) → Type 0 = λ l. IsIndexOf (map_list key_of l ++ c.args.key ∷ []) c.enter.new.self in
           let Q : List (Value × Value) → Type 0 = λ l. IsIndexOf (map_list key_of l) c.enter.new.self in

@@ -4,7 +4,7 @@ use Rattle.std.specs.FinSet as set
 use Rattle.session_values.specs.declared.value.Value.{Value}
 use Rattle.session_values.specs.Tables.{Members}
 use Rattle.session_values.specs.Values.{value_cmp}
-use Rattle.place_index.specs.Slots.{IsIndexOf}
+use Rattle.place_index.specs.Slots.{IsIndexOf, IsSizedFor}
 use Rattle.place_index.proofs.Lists.{index_pushed}
 use Rattle.place_index.specs.Keys.{is_under, AreDifferent}
 use Rattle.shard_tables.specs.Shards.{SetView, ShardView, members}
@@ -54,7 +54,7 @@ invariant_of-self-in-None c =
       within = omega (arith, ap (λ (l : List Value). length l) c.push_reserved.ensures.items, length-append ks (c.args.key ∷ []), size, room, c.requires absent);
       reserved = omega (arith, c.push_reserved.ensures.capacity, c.self.invariant.reserved);
       few = c.self.invariant.few;
-      spread = omega (arith, c.in-None.ensures.slots, c.self.invariant.spread);
+      sized = let P : ℕ → Type 0 = λ b. IsSizedFor c.self.inside.room b in subst P (sym c.in-None.ensures.bits) c.self.invariant.sized;
       indexed =
           let P : List Value → Type 0 = λ l. IsIndexOf (map_list itself l ++ c.args.key ∷ []) c.enter.new.self in
           let Q : List Value → Type 0 = λ l. IsIndexOf (map_list itself l) c.enter.new.self in

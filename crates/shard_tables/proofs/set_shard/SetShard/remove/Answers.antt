@@ -6,7 +6,7 @@ use Rattle.session_values.specs.declared.value.Value.{Value}
 use Rattle.session_values.specs.declared.value.Value.TheVariants.{Nil}
 use Rattle.session_values.specs.Tables.{Members}
 use Rattle.session_values.specs.Values.{value_cmp}
-use Rattle.place_index.specs.Slots.{IsIndexOf}
+use Rattle.place_index.specs.Slots.{IsIndexOf, IsSizedFor}
 use Rattle.place_index.proofs.Lists.{keys_out}
 use Rattle.place_index.specs.Keys.{is_under, AreDifferent}
 use Rattle.shard_tables.specs.Shards.{SetView, ShardView, members}
@@ -31,7 +31,7 @@ invariant_of-self c =
       within = omega (arith, c.swap_remove.ensures.len, c.self.invariant.within);
       reserved = omega (arith, c.swap_remove.ensures.capacity, c.self.invariant.reserved);
       few = c.self.invariant.few;
-      spread = omega (arith, c.in-Some.ensures.slots, c.self.invariant.spread);
+      sized = let P : ℕ → Type 0 = λ b. IsSizedFor c.self.inside.room b in subst P (sym c.in-Some.ensures.bits) c.self.invariant.sized;
       indexed =
           let P : List Value → Type 0 = λ l. IsIndexOf (swap_remove (map_list itself l) c.in-Some.place Nil) c.remove.new.self in
           let Q : List Value → Type 0 = λ ks. IsIndexOf ks c.remove.new.self in
