@@ -14,6 +14,7 @@ mod serving;
 mod stage;
 mod taking;
 mod waiting;
+mod waits;
 
 pub use answers::{Admitting, Applying, Began, Declared, Ending, Finishing};
 pub use caller::{Caller, Callers};
@@ -21,3 +22,4 @@ pub use closed::{Closed, Parts};
 pub use hall::Hall;
 pub use hall_rule::{Held, Part};
 pub use stage::Stage;
+pub use waits::Waits;

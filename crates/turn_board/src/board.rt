@@ -61,6 +61,12 @@ impl<V, R: TieRule<V>> Board<V, R> {
         self.table.slot_count() as u32
     }
 
+    /// The word of turns as it stood when it was read: bit t is set where turn t was taken. Nothing
+    /// is written, so whoever waits and looks slows nobody down.
+    pub fn look(&self) -> u64 {
+        self.table.shared.peek(MASK)
+    }
+
     pub(crate) fn into_parts(
         self,
     ) -> (
