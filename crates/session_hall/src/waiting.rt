@@ -11,9 +11,9 @@ ghost use Rattle.session_hall.specs.Waits.{BegunAfter, DeclaredAfter, AdmittedAf
 use crate::answers::{Admitting, Applying, Began, Declared, Ending, Finishing};
 use crate::caller::Caller;
 use crate::hall::Hall;
+use crate::waits::Waits;
 use session_journal::Script;
 use session_values::{Op, Reply, Value};
-use crate::waits::Waits;
 use std::sync::Wait;
 use symbolic_ops::Foresight;
 
@@ -63,7 +63,13 @@ impl<S: Script + Drop> Caller<S> {
     }
 
     /// The same, which counts its tries in vain.
-    pub fn declare_with<R: Wait>(&mut self, rt: &R, hall: &Hall<S>, f: &Foresight, waits: &mut Waits)
+    pub fn declare_with<R: Wait>(
+        &mut self,
+        rt: &R,
+        hall: &Hall<S>,
+        f: &Foresight,
+        waits: &mut Waits,
+    )
         requires caller { IsCallerOf S.meaning hall.now self.old }
         requires may { ByNote (S.meaning (script_of hall.now)) self.old
             (MayDeclare self.old.foresight.symbols f.now.symbols) }
@@ -161,7 +167,13 @@ impl<S: Script + Drop> Caller<S> {
     }
 
     /// The same, which counts its tries in vain.
-    pub fn finish_with<R: Wait>(&mut self, rt: &R, hall: &Hall<S>, next: &Foresight, waits: &mut Waits)
+    pub fn finish_with<R: Wait>(
+        &mut self,
+        rt: &R,
+        hall: &Hall<S>,
+        next: &Foresight,
+        waits: &mut Waits,
+    )
         requires caller { IsCallerOf S.meaning hall.now self.old }
         requires may { MayFinish (S.meaning (script_of hall.now)) self.old next.now.symbols }
         ensures caller { IsCallerOf S.meaning hall.now self.new }
