@@ -5,7 +5,7 @@ ghost use Rattle.session_hall.specs.Callers.{IsCallerOf};
 ghost use Rattle.session_hall.specs.Names.{script_of};
 ghost use Rattle.hall_serving.specs.Desks.{IsCallerOfDesk, IsServing, desk_at, ticket_of};
 
-use session_hall::{Caller, Hall, Stage};
+use session_hall::{Caller, Hall, Stage, Waits};
 use session_journal::{Desk, Script};
 use session_values::{NoMemory, Op, Reply, Value};
 use std::marker::Model;
@@ -26,6 +26,8 @@ pub struct HallDesk<'a, S: Script + Drop, G: Gate> {
     pub(crate) done: u32,
     /// What the ticket was ended with.
     pub(crate) reply: Option<Reply>,
+    /// How often its caller had to wait.
+    pub(crate) waits: Waits,
 }
 
 impl<'a, S: Script + Drop, G: Gate> Model for HallDesk<'a, S, G> {
@@ -63,6 +65,7 @@ impl<'a, S: Script + Drop, G: Gate> HallDesk<'a, S, G> {
             ticket,
             done: 0,
             reply: None,
+            waits: Waits::none(),
         }
     }
 
@@ -77,6 +80,7 @@ impl<'a, S: Script + Drop, G: Gate> HallDesk<'a, S, G> {
             ticket: _,
             done: _,
             reply: _,
+            waits: _,
         } = self;
         caller
     }
@@ -98,26 +102,30 @@ impl<'a, S: Script + Drop, G: Gate> Desk for HallDesk<'a, S, G> {
     ghost at = { λ d. d.desk };
 
     fn call<R: Threads + Wait + Sync>(&mut self, rt: &R, op: Op) -> Result<Value, NoMemory> {
-        self.caller.admit(rt, self.hall, op);
+        self.caller
+            .admit_with(rt, self.hall, op, &mut self.waits);
         self.gate.pass(rt, Place::Admitted(self.ticket));
-        let reply = self.caller.apply(rt, self.hall);
+        let reply = self.caller.apply_with(rt, self.hall, &mut self.waits);
         self.gate.pass(rt, Place::Applied(self.ticket));
         Ok(reply)
     }
 
     fn finish<R: Threads + Wait + Sync>(&mut self, rt: &R, next: &Foresight) {
-        self.caller.finish(rt, self.hall, next);
+        self.caller
+            .finish_with(rt, self.hall, next, &mut self.waits);
         self.done = self.done.wrapping_add(1);
         self.gate.pass(rt, Place::Done(self.ticket, self.done));
     }
 
     fn declare<R: Threads + Wait + Sync>(&mut self, rt: &R, f: &Foresight) {
-        self.caller.declare(rt, self.hall, f);
+        self.caller
+            .declare_with(rt, self.hall, f, &mut self.waits);
     }
 
     fn end<R: Threads + Wait + Sync>(&mut self, rt: &R, reply: Reply) {
         self.gate.pass(rt, Place::Ending(self.ticket));
-        self.caller.end(rt, self.hall, reply);
+        self.caller
+            .end_with(rt, self.hall, reply, &mut self.waits);
         self.reply = Some(reply);
         self.gate.pass(rt, Place::Ended(self.ticket));
     }

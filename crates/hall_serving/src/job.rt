@@ -8,6 +8,7 @@ ghost use Rattle.session_hall.specs.declared.stage.Stage.TheVariants.{Idle, Serv
 ghost use Rattle.hall_serving.specs.Jobs.{IsJobOf, HasServed};
 
 use crate::desk::HallDesk;
+use crate::pause::Pause;
 use session_hall::{Caller, Hall};
 use session_journal::Script;
 use session_values::Reply;
@@ -32,6 +33,7 @@ fn serve_ticket<R: Threads + Wait + Sync, S: Serves + Drop, G: Gate>(
     ticket: u32,
     caller: &mut Caller<S>,
     scratch: &mut Scratch,
+    pause: &mut Pause,
 ) -> Reply
     requires caller { IsCallerOf S.meaning hall.now caller.old }
     requires plan { script_of hall.now ≡ plan.now }
@@ -62,7 +64,9 @@ fn serve_ticket<R: Threads + Wait + Sync, S: Serves + Drop, G: Gate>(
         ticket: _,
         done: _,
         reply: _,
+        waits,
     } = desk;
+    pause.after(waits.count());
     reply
 }
 
@@ -78,12 +82,23 @@ pub(crate) fn serve_tickets<R: Threads + Wait + Sync, S: Serves + Drop, G: Gate>
     requires plan { script_of hall.now ≡ plan.now }
     ensures { HasServed S.meaning hall.now job.old job.new }
 {
+    let mut pause = Pause::none();
     for _ in rt.forever() {
+        pause.wait();
         let Some(t) = job.caller.begin(rt, hall) else {
             return;
         };
         gate.pass(rt, Place::Begun(t));
-        serve_ticket(rt, plan, hall, gate, t, &mut job.caller, &mut job.scratch);
+        serve_ticket(
+            rt,
+            plan,
+            hall,
+            gate,
+            t,
+            &mut job.caller,
+            &mut job.scratch,
+            &mut pause,
+        );
     }
     unreachable!()
 }

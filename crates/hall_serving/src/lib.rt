@@ -4,6 +4,7 @@
 mod desk;
 mod job;
 mod jobs;
+mod pause;
 mod session;
 
 pub use desk::HallDesk;

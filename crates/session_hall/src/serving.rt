@@ -38,8 +38,7 @@ impl<S: Script + Drop> Caller<S> {
                 return Began::AllBegun;
             }
         };
-        book.script().entry(t, &mut self.foresight);
-        book.begin(self.number, &self.foresight);
+        self.foresight.begin(&mut book, self.number, t);
         hall.board
             .give_all(&mut self.seat, Held::Register(book), &mut self.hands);
         self.stage = Stage::Serving(t);

@@ -1,4 +1,4 @@
-// The waiting calls: each repeats its try call, and yields the thread between tries.
+// The waiting calls: each repeats its try call, and waits between tries.
 
 ghost use Rattle.std.specs.Prelude.{◌≡◌};
 ghost use Rattle.turn_board.specs.Boards.{turn_count};
@@ -11,10 +11,10 @@ ghost use Rattle.session_hall.specs.Waits.{BegunAfter, DeclaredAfter, AdmittedAf
 use crate::answers::{Admitting, Applying, Began, Declared, Ending, Finishing};
 use crate::caller::Caller;
 use crate::hall::Hall;
+use crate::waits::Waits;
 use session_journal::Script;
 use session_values::{Op, Reply, Value};
 use std::sync::Wait;
-use std::thread;
 use symbolic_ops::Foresight;
 
 impl<S: Script + Drop> Caller<S> {
@@ -26,11 +26,23 @@ impl<S: Script + Drop> Caller<S> {
         ensures same { self.new.number ≡ self.old.number }
         ensures begun { BegunAfter (S.meaning (script_of hall.now)) self.old self.new result }
     {
+        self.begin_with(rt, hall, &mut Waits::none())
+    }
+
+    /// The same, which counts its tries in vain.
+    pub fn begin_with<R: Wait>(&mut self, rt: &R, hall: &Hall<S>, waits: &mut Waits) -> Option<u32>
+        requires caller { IsCallerOf S.meaning hall.now self.old }
+        requires stage { IsBetween self.old.stage }
+        ensures caller { IsCallerOf S.meaning hall.now self.new }
+        ensures same { self.new.number ≡ self.old.number }
+        ensures begun { BegunAfter (S.meaning (script_of hall.now)) self.old self.new result }
+    {
+        waits.reset();
         for _ in rt.forever() {
             match self.try_begin(hall) {
                 Began::Ticket(t) => return Some(t),
                 Began::AllBegun => return None,
-                Began::Busy { turn: _ } => thread::yield_now(),
+                Began::Busy { turn } => waits.until_free(hall, turn),
             }
         }
         unreachable!()
@@ -47,10 +59,30 @@ impl<S: Script + Drop> Caller<S> {
         ensures declared { DeclaredAfter (S.meaning (script_of hall.now)) self.old self.new
             f.now.symbols }
     {
+        self.declare_with(rt, hall, f, &mut Waits::none());
+    }
+
+    /// The same, which counts its tries in vain.
+    pub fn declare_with<R: Wait>(
+        &mut self,
+        rt: &R,
+        hall: &Hall<S>,
+        f: &Foresight,
+        waits: &mut Waits,
+    )
+        requires caller { IsCallerOf S.meaning hall.now self.old }
+        requires may { ByNote (S.meaning (script_of hall.now)) self.old
+            (MayDeclare self.old.foresight.symbols f.now.symbols) }
+        ensures caller { IsCallerOf S.meaning hall.now self.new }
+        ensures same { self.new.number ≡ self.old.number }
+        ensures declared { DeclaredAfter (S.meaning (script_of hall.now)) self.old self.new
+            f.now.symbols }
+    {
+        waits.reset();
         for _ in rt.forever() {
             match self.try_declare(hall, f) {
                 Declared::Yes => return,
-                Declared::Busy { turn: _ } => thread::yield_now(),
+                Declared::Busy { turn } => waits.until_free(hall, turn),
             }
         }
         unreachable!()
@@ -65,14 +97,27 @@ impl<S: Script + Drop> Caller<S> {
         ensures same { self.new.number ≡ self.old.number }
         ensures admitted { AdmittedAfter (S.meaning (script_of hall.now)) self.old self.new op }
     {
+        self.admit_with(rt, hall, op, &mut Waits::none());
+    }
+
+    /// The same, which counts its tries in vain.
+    pub fn admit_with<R: Wait>(&mut self, rt: &R, hall: &Hall<S>, op: Op, waits: &mut Waits)
+        requires caller { IsCallerOf S.meaning hall.now self.old }
+        requires may { ByNote (S.meaning (script_of hall.now)) self.old
+            (MayCall self.old.foresight.symbols op) }
+        ensures caller { IsCallerOf S.meaning hall.now self.new }
+        ensures same { self.new.number ≡ self.old.number }
+        ensures admitted { AdmittedAfter (S.meaning (script_of hall.now)) self.old self.new op }
+    {
+        waits.reset();
         for _ in rt.forever() {
             match self.try_admit(hall, op) {
                 Admitting::Admitted => return,
                 Admitting::Delayed {
                     older: _,
                     symbol: _,
-                } => thread::yield_now(),
-                Admitting::Busy { turn: _ } => thread::yield_now(),
+                } => waits.delayed(),
+                Admitting::Busy { turn } => waits.until_free(hall, turn),
             }
         }
         unreachable!()
@@ -87,10 +132,23 @@ impl<S: Script + Drop> Caller<S> {
         ensures applied { AppliedAfter (S.meaning (script_of hall.now)) self.old self.new
             hall.now.sizes.shards (turn_count hall.now.board) result }
     {
+        self.apply_with(rt, hall, &mut Waits::none())
+    }
+
+    /// The same, which counts its tries in vain.
+    pub fn apply_with<R: Wait>(&mut self, rt: &R, hall: &Hall<S>, waits: &mut Waits) -> Value
+        requires caller { IsCallerOf S.meaning hall.now self.old }
+        requires stage { IsInFlight self.old.stage }
+        ensures caller { IsCallerOf S.meaning hall.now self.new }
+        ensures same { self.new.number ≡ self.old.number }
+        ensures applied { AppliedAfter (S.meaning (script_of hall.now)) self.old self.new
+            hall.now.sizes.shards (turn_count hall.now.board) result }
+    {
+        waits.reset();
         for _ in rt.forever() {
             match self.try_apply(hall) {
                 Applying::Applied(v) => return v,
-                Applying::Busy { turn: _ } => thread::yield_now(),
+                Applying::Busy { turn } => waits.until_free(hall, turn),
             }
         }
         unreachable!()
@@ -105,10 +163,29 @@ impl<S: Script + Drop> Caller<S> {
         ensures finished { FinishedAfter (S.meaning (script_of hall.now)) self.old self.new
             next.now.symbols }
     {
+        self.finish_with(rt, hall, next, &mut Waits::none());
+    }
+
+    /// The same, which counts its tries in vain.
+    pub fn finish_with<R: Wait>(
+        &mut self,
+        rt: &R,
+        hall: &Hall<S>,
+        next: &Foresight,
+        waits: &mut Waits,
+    )
+        requires caller { IsCallerOf S.meaning hall.now self.old }
+        requires may { MayFinish (S.meaning (script_of hall.now)) self.old next.now.symbols }
+        ensures caller { IsCallerOf S.meaning hall.now self.new }
+        ensures same { self.new.number ≡ self.old.number }
+        ensures finished { FinishedAfter (S.meaning (script_of hall.now)) self.old self.new
+            next.now.symbols }
+    {
+        waits.reset();
         for _ in rt.forever() {
             match self.try_finish(hall, next) {
                 Finishing::Done => return,
-                Finishing::Busy { turn: _ } => thread::yield_now(),
+                Finishing::Busy { turn } => waits.until_free(hall, turn),
             }
         }
         unreachable!()
@@ -122,10 +199,22 @@ impl<S: Script + Drop> Caller<S> {
         ensures same { self.new.number ≡ self.old.number }
         ensures ended { EndedAfter (S.meaning (script_of hall.now)) self.old self.new reply }
     {
+        self.end_with(rt, hall, reply, &mut Waits::none());
+    }
+
+    /// The same, which counts its tries in vain.
+    pub fn end_with<R: Wait>(&mut self, rt: &R, hall: &Hall<S>, reply: Reply, waits: &mut Waits)
+        requires caller { IsCallerOf S.meaning hall.now self.old }
+        requires may { ByNote (S.meaning (script_of hall.now)) self.old (MayAnswer reply) }
+        ensures caller { IsCallerOf S.meaning hall.now self.new }
+        ensures same { self.new.number ≡ self.old.number }
+        ensures ended { EndedAfter (S.meaning (script_of hall.now)) self.old self.new reply }
+    {
+        waits.reset();
         for _ in rt.forever() {
             match self.try_end(hall, reply) {
                 Ending::Ended => return,
-                Ending::Busy { turn: _ } => thread::yield_now(),
+                Ending::Busy { turn } => waits.until_free(hall, turn),
             }
         }
         unreachable!()

@@ -2,7 +2,7 @@ use Rattle.std.proofs.Common.{sym, subst}
 use Rattle.session_hall.specs.Names.{script_of}
 use Rattle.session_hall.specs.Stages.{IsBetween}
 use Rattle.session_hall.proofs.Tried.{none_tried, one_tried}
-use Rattle.session_hall.proofs.caller.Caller.begin.Goals as goal
+use Rattle.session_hall.proofs.caller.Caller.begin_with.Goals as goal
 
 pub loop-init : goal.loop-init
 loop-init g c = record { caller = c.requires.caller; stage = c.requires.stage; since = none_tried c.args.self.now }

@@ -1,6 +1,6 @@
 use Rattle.session_hall.specs.Names.{script_of}
 use Rattle.session_hall.proofs.Tried.{flight_still, no_shard_tried, one_shard_tried}
-use Rattle.session_hall.proofs.caller.Caller.apply.Goals as goal
+use Rattle.session_hall.proofs.caller.Caller.apply_with.Goals as goal
 
 pub loop-init : goal.loop-init
 loop-init g c = record { caller = c.requires.caller; stage = c.requires.stage; since = no_shard_tried (g.S.Script.meaning (script_of c.args.hall.now)) c.args.hall.now.sizes.shards c.args.self.now }

@@ -1,8 +1,7 @@
-use Rattle.session_hall.specs.Calls.{MayDeclare}
-use Rattle.session_hall.specs.Stages.{OnServing}
+use Rattle.session_hall.specs.Calls.{MayFinishAt}
 use Rattle.session_hall.specs.Names.{script_of}
 use Rattle.session_hall.proofs.Tried.{none_tried, one_tried, still_may}
-use Rattle.session_hall.proofs.caller.Caller.declare.Goals as goal
+use Rattle.session_hall.proofs.caller.Caller.finish_with.Goals as goal
 
 pub loop-init : goal.loop-init
 loop-init g c = record { caller = c.requires.caller; may = c.requires.may; since = none_tried c.args.self.now }
@@ -13,6 +12,6 @@ loop-preserved g c =
     let m = g.S.Script.meaning (script_of c.args.hall.now) in
     record {
       caller = c.in-Busy.ensures.caller;
-      may = still_may m (λ s l b. OnServing s (λ t. MayDeclare l c.args.f.now.symbols m b t)) c.loop.self c.try_declare.new.self _ _ c.in-Busy.ensures.declared.1 inv.may;
-      since = one_tried m c.args.self.now c.loop.self c.try_declare.new.self _ inv.since c.in-Busy.ensures.same c.in-Busy.ensures.declared;
+      may = still_may m (λ s l b. MayFinishAt m s l b c.args.next.now.symbols) c.loop.self c.try_finish.new.self _ _ c.in-Busy.ensures.finished.1 inv.may;
+      since = one_tried m c.args.self.now c.loop.self c.try_finish.new.self _ inv.since c.in-Busy.ensures.same c.in-Busy.ensures.finished;
     }

@@ -1,8 +1,8 @@
-use Rattle.session_hall.specs.Calls.{MayAnswer}
+use Rattle.session_hall.specs.Calls.{MayDeclare}
 use Rattle.session_hall.specs.Stages.{OnServing}
 use Rattle.session_hall.specs.Names.{script_of}
 use Rattle.session_hall.proofs.Tried.{none_tried, one_tried, still_may}
-use Rattle.session_hall.proofs.caller.Caller.end.Goals as goal
+use Rattle.session_hall.proofs.caller.Caller.declare_with.Goals as goal
 
 pub loop-init : goal.loop-init
 loop-init g c = record { caller = c.requires.caller; may = c.requires.may; since = none_tried c.args.self.now }
@@ -13,6 +13,6 @@ loop-preserved g c =
     let m = g.S.Script.meaning (script_of c.args.hall.now) in
     record {
       caller = c.in-Busy.ensures.caller;
-      may = still_may m (λ s l b. OnServing s (λ t. MayAnswer c.args.reply m b t)) c.loop.self c.try_end.new.self _ _ c.in-Busy.ensures.ended.1 inv.may;
-      since = one_tried m c.args.self.now c.loop.self c.try_end.new.self _ inv.since c.in-Busy.ensures.same c.in-Busy.ensures.ended;
+      may = still_may m (λ s l b. OnServing s (λ t. MayDeclare l c.args.f.now.symbols m b t)) c.loop.self c.try_declare.new.self _ _ c.in-Busy.ensures.declared.1 inv.may;
+      since = one_tried m c.args.self.now c.loop.self c.try_declare.new.self _ inv.since c.in-Busy.ensures.same c.in-Busy.ensures.declared;
     }

@@ -2,7 +2,7 @@ use Rattle.session_hall.specs.Callers.{IsCallerOf}
 use Rattle.session_hall.specs.Names.{script_of}
 use Rattle.session_hall.specs.Stages.{IsInFlight}
 use Rattle.session_hall.specs.Waits.{OnlyShardLost}
-use Rattle.session_hall.proofs.caller.Caller.apply.Given as goal
+use Rattle.session_hall.proofs.caller.Caller.apply_with.Given as goal
 
 abbrev pub invariant-loop : goal.invariant-loop
 invariant-loop g l = record {

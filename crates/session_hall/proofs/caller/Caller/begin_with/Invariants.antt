@@ -1,12 +1,11 @@
 use Rattle.session_hall.specs.Callers.{IsCallerOf}
-use Rattle.session_hall.specs.Calls.{MayFinish}
-use Rattle.session_hall.specs.Names.{script_of}
+use Rattle.session_hall.specs.Stages.{IsBetween}
 use Rattle.session_hall.specs.Waits.{OnlyBookLost}
-use Rattle.session_hall.proofs.caller.Caller.finish.Given as goal
+use Rattle.session_hall.proofs.caller.Caller.begin_with.Given as goal
 
 abbrev pub invariant-loop : goal.invariant-loop
 invariant-loop g l = record {
   caller : IsCallerOf g.S.Script.meaning l.hall l.self;
-  may : MayFinish (g.S.Script.meaning (script_of l.hall)) l.self l.next.symbols;
+  stage : IsBetween l.self.stage;
   since : OnlyBookLost l.fn.self l.self;
 }

@@ -4,7 +4,7 @@ use Rattle.session_hall.specs.Names.{script_of}
 use Rattle.session_hall.specs.Stages.{OnServing}
 use Rattle.session_hall.proofs.Tried.{nothing_delayed, one_lost, serving_holds, still_may}
 use Rattle.session_hall.proofs.Trying.{delay_may, delay_more}
-use Rattle.session_hall.proofs.caller.Caller.admit.Goals as goal
+use Rattle.session_hall.proofs.caller.Caller.admit_with.Goals as goal
 
 pub loop-init : goal.loop-init
 loop-init g c =

@@ -4,7 +4,7 @@ use Rattle.session_hall.specs.Calls.{ByNote, MayCall}
 use Rattle.session_hall.specs.Names.{script_of}
 use Rattle.session_hall.specs.Waits.{OnlyDelayed}
 use Rattle.session_hall.specs.Stages.{OnServing}
-use Rattle.session_hall.proofs.caller.Caller.admit.Given as goal
+use Rattle.session_hall.proofs.caller.Caller.admit_with.Given as goal
 
 abbrev pub invariant-loop : goal.invariant-loop
 invariant-loop g l = record {

@@ -1,12 +1,12 @@
 use Rattle.session_hall.specs.Callers.{IsCallerOf}
-use Rattle.session_hall.specs.Calls.{ByNote, MayAnswer}
+use Rattle.session_hall.specs.Calls.{ByNote, MayDeclare}
 use Rattle.session_hall.specs.Names.{script_of}
 use Rattle.session_hall.specs.Waits.{OnlyBookLost}
-use Rattle.session_hall.proofs.caller.Caller.end.Given as goal
+use Rattle.session_hall.proofs.caller.Caller.declare_with.Given as goal
 
 abbrev pub invariant-loop : goal.invariant-loop
 invariant-loop g l = record {
   caller : IsCallerOf g.S.Script.meaning l.hall l.self;
-  may : ByNote (g.S.Script.meaning (script_of l.hall)) l.self (MayAnswer l.reply);
+  may : ByNote (g.S.Script.meaning (script_of l.hall)) l.self (MayDeclare l.self.foresight.symbols l.f.symbols);
   since : OnlyBookLost l.fn.self l.self;
 }

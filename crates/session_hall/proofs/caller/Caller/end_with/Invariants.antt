@@ -1,11 +1,12 @@
 use Rattle.session_hall.specs.Callers.{IsCallerOf}
-use Rattle.session_hall.specs.Stages.{IsBetween}
+use Rattle.session_hall.specs.Calls.{ByNote, MayAnswer}
+use Rattle.session_hall.specs.Names.{script_of}
 use Rattle.session_hall.specs.Waits.{OnlyBookLost}
-use Rattle.session_hall.proofs.caller.Caller.begin.Given as goal
+use Rattle.session_hall.proofs.caller.Caller.end_with.Given as goal
 
 abbrev pub invariant-loop : goal.invariant-loop
 invariant-loop g l = record {
   caller : IsCallerOf g.S.Script.meaning l.hall l.self;
-  stage : IsBetween l.self.stage;
+  may : ByNote (g.S.Script.meaning (script_of l.hall)) l.self (MayAnswer l.reply);
   since : OnlyBookLost l.fn.self l.self;
 }

@@ -1,0 +1,39 @@
+// What a job waits between two tickets.
+
+use std::thread;
+
+/// How many yields a pause grows by, and the most that it has.
+const STEP: u32 = 32;
+const MOST: u32 = 2_000;
+
+/// The pause of a caller before it begins its next ticket. It is twice as long, and a little longer,
+/// after each ticket that had to wait, and half as long after each that had not. A caller without an
+/// open ticket delays nobody, so where tickets are in each other's way, one is served after the
+/// other, and elsewhere nobody pauses.
+#[derive(Debug, Clone, Copy)]
+pub(crate) struct Pause {
+    yields: u32,
+}
+
+impl Pause {
+    /// None.
+    pub(crate) fn none() -> Pause {
+        Pause { yields: 0 }
+    }
+
+    // The pause after a ticket that waited so often.
+    pub(crate) fn after(&mut self, waits: u32) {
+        self.yields = if waits == 0 {
+            self.yields / 2
+        } else {
+            self.yields.saturating_mul(2).saturating_add(STEP).min(MOST)
+        };
+    }
+
+    // Yields the thread for as long.
+    pub(crate) fn wait(&self) {
+        for _ in 0..self.yields {
+            thread::yield_now();
+        }
+    }
+}
