@@ -1,5 +1,5 @@
 -- The places of a run.
-use Rattle.std.proofs.Common.{◌≡◌, suc, ◌+◌, arith, Bool, true, false, if◌then◌else◌, List, [], ◌∷◌, ◌++◌, length, append_assoc, Result, Ok, Err, IsErr, MatchResult, OnErr, refl, sym, ap}
+use Rattle.std.proofs.Common.{◌≡◌, suc, ◌+◌, arith, Bool, true, false, if◌then◌else◌, List, [], ◌∷◌, ◌++◌, length, append_assoc, Result, Ok, Err, OnErr, refl, sym, ap}
 use Rattle.session_values.specs.Dialogue.{Entry, replies}
 use Rattle.check_meaning.specs.Dialogue.{Place, Outcome, Calls, Answers, Goes, after, ended, last_place, last_replied, passed_by}
 use Rattle.handler_machine.specs.Serving.{replied_count}
@@ -50,10 +50,6 @@ length_replies [] = refl
 length_replies (e ∷ es) = ap suc (length_replies es)
 
 -- ---- results
-pub match_err : {X E : Type 0} (r : Result X E) (P : X → Type 0) (T : Type 0) → IsErr r → T → MatchResult r P (λ _. T)
-match_err (Ok x) P T is h = cc
-match_err (Err e) P T is h = h
-
 pub on_err : {X E : Type 0} (r : Result X E) (P : Type 0) → P → OnErr r P
 on_err (Ok x) P h = tt
 on_err (Err e) P h = h

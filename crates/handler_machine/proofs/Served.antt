@@ -135,7 +135,22 @@ module _ (c : Course) (now : DeskView) (room : ℕ) where
         )
 
     pub call_halts : (new : DeskView) → new ≡ now → now.sure ≡ false → Halted c new room
-    call_halts new is unsure = subst (λ (d : DeskView). Halted c d room) (sym is) (record { follows = s.follows; unsure = sym s.sure ∙ unsure; roomy = s.roomy })
+    call_halts new is unsure =
+        subst (λ (d : DeskView). Halted c d room) (sym is) (record {
+          stopped = record {
+            follows = subst (λ (f : Dialogue). Follows f now.entries) (λ i rs. sym (s.gives.next rs) i) s.follows;
+            wanted = op;
+            calls = s.gives.next (replies now.entries) ∙ ap ended whole_calls;
+            due = s.present ∙ sym (s.gives.due (replies now.entries) ∙ ap (λ (o : Outcome). list_at c.declared (last_place s.first (passed_by o))) whole_calls);
+            idle = s.waits;
+            going = s.going;
+            ticket_is = s.ticket;
+            home_is = s.home;
+            sure_is = s.sure;
+            unsure = sym s.sure ∙ unsure;
+          };
+          roomy = s.roomy;
+        })
 
   module _ (point : ℕ) (env : Env) (next : Ahead) (f : List Symbol) where
     module _ (s : IsServing c now room (passing point env false next)) (is_list : f ≡ list_at c.declared (record { point = point; env = env; replied = false })) where

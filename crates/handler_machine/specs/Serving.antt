@@ -9,6 +9,7 @@ use Rattle.session_values.specs.Values.{IsValue}
 use Rattle.symbolic_ops.specs.Matching.{HasNoVar, Matches}
 use Rattle.session_journal.specs.Desks.{DeskView}
 use Rattle.session_journal.specs.Script.{Meaning}
+use Rattle.ticket_serving.specs.Served.{IsStopped}
 use Rattle.check_meaning.specs.Ahead.{Ahead}
 use Rattle.check_meaning.specs.Code.{points}
 use Rattle.handler_check.specs.Resolved.{code_at}
@@ -98,8 +99,7 @@ IsAwaiting c now room ahead =
 abbrev pub IsSettled : Bool → DeskView → Type 0
 IsSettled settled now = settled ≡ true → now.present ≡ []
 
--- a desk that was stopped: it isn't sure, and it follows the run so far
+-- a desk that was stopped as the call that wanted memory left it
 pub record Halted (c : Course) (now : DeskView) (room : ℕ) : Type 0 where
-  pub follows : Follows (λ rs. ended (c.whole rs)) now.entries
-  pub unsure : c.start.sure ≡ false
+  pub stopped : IsStopped c.meaning c.start now
   pub roomy : max_symbols ≤ room

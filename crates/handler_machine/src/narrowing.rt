@@ -72,9 +72,14 @@ impl<'a, R: Threads + Wait + Sync, D: Desk> Guide<D> for Narrowing<'a, R> {
         n.program.now n.handler whole) (D.at now) n.next.room };
 
     fn call(&mut self, host: &mut D, op: Op) -> Result<Value, NoMemory> {
-        let reply = host.call(self.rt, op)?;
-        reply.bounds();
-        Ok(reply)
+        match host.call(self.rt, op) {
+            Ok(reply) => {
+                reply.bounds();
+                Ok(reply)
+            }
+            // The desk is left as it was.
+            Err(wanted) => Err(wanted),
+        }
     }
 
     fn replied(&mut self, host: &mut D, point: u32, env: &[Value]) {

@@ -7,7 +7,7 @@ ghost use Rattle.session_values.specs.Values.{IsValue};
 ghost use Rattle.check_meaning.specs.Code.{block_code, points};
 ghost use Rattle.check_meaning.specs.Dialogue.{entry, env_of, run};
 ghost use Rattle.machine_walk.specs.Runnable.{IsRunnable};
-ghost use Rattle.ticket_serving.specs.Served.{IsServed};
+ghost use Rattle.ticket_serving.specs.Served.{IsServed, IsStopped};
 ghost use Rattle.handler_check.specs.Resolved.{code_at, params_at};
 ghost use Rattle.declaration_insertion.specs.Promises.{list_at};
 ghost use Rattle.declaration_insertion.specs.Program.{declared_at};
@@ -48,7 +48,8 @@ fn serve_body<R: Threads + Wait + Sync, D: Desk>(
     ensures script { D.script desk.new ≡ D.script desk.old }
     ensures served { IfOk result (λ _. IsServed (D.Served.meaning (D.script desk.old))
         (D.at desk.old) (D.at desk.new)) }
-    ensures unsure { OnErr result ((D.at desk.old).sure ≡ false) }
+    ensures stopped { OnErr result (IsStopped (D.Served.meaning (D.script desk.old))
+        (D.at desk.old) (D.at desk.new)) }
     ensures room { max_symbols ≤ guide.new.next.room }
 {
     let reply = walk_body(guide, desk, env, body)?;
@@ -85,7 +86,8 @@ fn serve_handler<R: Threads + Wait + Sync, D: Desk>(
     ensures script { D.script desk.new ≡ D.script desk.old }
     ensures served { IfOk result (λ _. IsServed (D.Served.meaning (D.script desk.old))
         (D.at desk.old) (D.at desk.new)) }
-    ensures unsure { OnErr result ((D.at desk.old).sure ≡ false) }
+    ensures stopped { OnErr result (IsStopped (D.Served.meaning (D.script desk.old))
+        (D.at desk.old) (D.at desk.new)) }
 {
     let Room { values, foresight } = scratch.take();
     let mut values = values;
@@ -115,7 +117,8 @@ fn serve_handler<R: Threads + Wait + Sync, D: Desk>(
 
 /// Serves a handler of a program with these arguments at a desk, from its entry to its end. At each
 /// point it narrows to the declaration there, so it meets what the desk's calls ask without a test.
-/// Want of memory comes only where the desk isn't sure.
+/// Want of memory comes only where the desk isn't sure, and then the desk is left as the call that
+/// wanted it left it.
 pub fn serve_one<R: Threads + Wait + Sync, D: Desk>(
     rt: &R,
     program: &Program,
@@ -140,7 +143,8 @@ pub fn serve_one<R: Threads + Wait + Sync, D: Desk>(
     ensures script { D.script desk.new ≡ D.script desk.old }
     ensures served { IfOk result (λ _. IsServed (D.Served.meaning (D.script desk.old))
         (D.at desk.old) (D.at desk.new)) }
-    ensures unsure { OnErr result ((D.at desk.old).sure ≡ false) }
+    ensures stopped { OnErr result (IsStopped (D.Served.meaning (D.script desk.old))
+        (D.at desk.old) (D.at desk.new)) }
 {
     let body = &program.checked().handler(h).body;
     serve_handler(rt, program, h, body, args, scratch, desk)

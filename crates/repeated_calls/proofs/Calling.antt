@@ -1,5 +1,5 @@
 -- A ticket that calls an operation n times, at a desk.
-use Rattle.std.proofs.Common.{◌≡◌, ℕ, zero, suc, ◌+◌, ◌<◌, ◌≤◌, List, [], ◌∷◌, ◌++◌, None, false, length, refl, sym, ap, ◌∙◌, subst, arith, inl}
+use Rattle.std.proofs.Common.{◌≡◌, ℕ, zero, suc, ◌+◌, ◌<◌, ◌≤◌, List, [], ◌∷◌, ◌++◌, None, false, length, Result, Ok, Err, OnErr, refl, sym, ap, ◌∙◌, subst, arith, inl}
 use Rattle.std.specs.Prelude.{replicate}
 use Rattle.session_values.specs.declared.op.Op.{Op}
 use Rattle.session_values.specs.declared.reply.Reply.{Reply}
@@ -14,8 +14,12 @@ use Rattle.repeated_calls.proofs.Lasts.{long_replicate}
 use Rattle.session_journal.specs.Desks.{DeskView, MayFinish, finished, next_of, with_end, with_waiting}
 use Rattle.session_journal.specs.Lists.{ListView, Ticket, list_meaning, says, ticket_at}
 use Rattle.session_journal.specs.Script.{IsForesight, Meaning}
-use Rattle.ticket_serving.specs.Served.{IsServed}
+use Rattle.ticket_serving.specs.Served.{IsServed, IsStopped}
 use Rattle.repeated_calls.specs.Repeated.{Called, IsPlan, no_value, repeated}
+
+pub on_err : {X E : Type 0} (r : Result X E) (P : Type 0) → P → OnErr r P
+on_err (Ok x) P h = tt
+on_err (Err e) P h = h
 
 pub long_replies : (es : List Entry) → length (replies es) ≡ length es
 long_replies [] = refl
@@ -88,6 +92,22 @@ module _ (m : Meaning) (op : Op) (n : ℕ) (list : List Symbol) (start : DeskVie
 
     pub answers_next : n ≤ done → next_of m now ≡ Answers no_value
     answers_next past = says_now ∙ answers_past op no_value n (replies now.entries) (subst (λ k. n ≤ k) (sym made) past)
+
+    pub stopped : (new : DeskView) → done < n → new ≡ now → now.sure ≡ false → IsStopped m start new
+    stopped new low is unsure =
+        let P : DeskView → Type 0 = λ d. IsStopped m start d in
+        subst P (sym is) (record {
+          follows = follows_same (m.next start.ticket) (says (replicate n op) no_value) now.entries plan.next at.follows;
+          wanted = op;
+          calls = plan.next (replies now.entries) ∙ sym says_now ∙ calls_next low;
+          due = at.present ∙ sym (plan.due (replies now.entries));
+          idle = at.idle;
+          going = at.going;
+          ticket_is = at.ticket_is;
+          home_is = at.home_is;
+          sure_is = at.sure_is;
+          unsure = sym at.sure_is ∙ unsure;
+        })
 
     pub may_finish : (v : Value) (mid : DeskView) → mid ≡ with_waiting now op v → MayFinish m mid mid.waiting list
     may_finish v mid is =

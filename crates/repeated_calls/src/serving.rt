@@ -1,7 +1,7 @@
 // Serving a ticket that repeats an operation.
 
 ghost use Rattle.std.specs.Prelude.{◌≡◌, [], None, false, IfOk, OnErr};
-ghost use Rattle.ticket_serving.specs.Served.{IsServed};
+ghost use Rattle.ticket_serving.specs.Served.{IsServed, IsStopped};
 ghost use Rattle.repeated_calls.specs.Repeated.{IsPlan};
 
 use crate::list::nil;
@@ -28,7 +28,8 @@ pub(crate) fn call_all<R: Threads + Wait + Sync, D: Desk>(
     ensures script { D.script desk.new ≡ D.script desk.old }
     ensures served { IfOk result (λ _. IsServed (D.Served.meaning (D.script desk.old))
         (D.at desk.old) (D.at desk.new)) }
-    ensures unsure { OnErr result ((D.at desk.old).sure ≡ false) }
+    ensures stopped { OnErr result (IsStopped (D.Served.meaning (D.script desk.old))
+        (D.at desk.old) (D.at desk.new)) }
 {
     for done in 0..times {
         desk.call(rt, op)?;

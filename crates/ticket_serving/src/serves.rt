@@ -2,7 +2,7 @@
 
 ghost use Rattle.std.specs.Prelude.{◌≡◌, ◌<◌, [], None, true, false, IfOk, OnErr};
 ghost use denote.Param.Send.{IsSync};
-ghost use Rattle.ticket_serving.specs.Served.{IsServed};
+ghost use Rattle.ticket_serving.specs.Served.{IsServed, IsStopped};
 
 use crate::scratch::Scratch;
 use session_journal::{Desk, Script};
@@ -13,7 +13,7 @@ use std::thread::Threads;
 /// A script whose tickets can be served, each at a desk.
 pub trait Serves: Script {
     /// Serves the desk's ticket, which has just begun, to its end. Want of memory comes only where
-    /// the desk isn't sure.
+    /// the desk isn't sure, and then the desk is left as the call that wanted it left it.
     fn serve<R: Threads + Wait + Sync, D: Desk<Served = Self>>(
         &self,
         rt: &R,
@@ -35,5 +35,6 @@ pub trait Serves: Script {
         ensures script { D.script desk.new ≡ D.script desk.old }
         ensures served { IfOk result
             (λ _. IsServed (Self.meaning self.now) (D.at desk.old) (D.at desk.new)) }
-        ensures unsure { OnErr result ((D.at desk.old).sure ≡ false) };
+        ensures stopped { OnErr result
+            (IsStopped (Self.meaning self.now) (D.at desk.old) (D.at desk.new)) };
 }

@@ -31,8 +31,8 @@ returns-in_err-reply-clause-script g c =
     let h = c.in_err-reply.ensures course.whole start (refl, s, r.settled) in
     h.0
 
-pub returns-in_err-reply-clause-unsure : goal.returns-in_err-reply-clause-unsure
-returns-in_err-reply-clause-unsure g c =
+pub returns-in_err-reply-clause-stopped : goal.returns-in_err-reply-clause-stopped
+returns-in_err-reply-clause-stopped g c =
     let at = g.D.Desk.at in
     let r = c.requires in
     let start = c.args.desk.now in
@@ -41,7 +41,7 @@ returns-in_err-reply-clause-unsure g c =
     let course : Course = course_of (g.D.Served.Script.meaning (g.D.Desk.script start)) (at start) n.program.now n.handler (run (block_code c.args.body.now) E) in
     let s = serving_first course n.next.room (entry E) r.gives r.promises r.fresh r.idle r.going r.present r.room in
     let h = c.in_err-reply.ensures course.whole start (refl, s, r.settled) in
-    on_err c.from_residual.result _ h.1.unsure
+    on_err c.from_residual.result _ h.1.stopped
 
 pub returns-in_err-reply-clause-room : goal.returns-in_err-reply-clause-room
 returns-in_err-reply-clause-room g c =
