@@ -1,5 +1,6 @@
 pub mod Counts
 pub mod Crossing
+pub mod Late
 pub mod Lawful
 pub mod Places
 pub mod Promised

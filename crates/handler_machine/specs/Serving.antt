@@ -6,8 +6,9 @@ use Rattle.session_values.specs.declared.op.Op.{Op}
 use Rattle.session_values.specs.declared.value.Value.{Value}
 use Rattle.session_values.specs.Dialogue.{Calls as NextCalls, Entry, Follows, replies}
 use Rattle.session_values.specs.Values.{IsValue}
+use Rattle.symbolic_ops.specs.declared.symbol.Symbol.{Symbol}
 use Rattle.symbolic_ops.specs.Matching.{HasNoVar, Matches}
-use Rattle.session_journal.specs.Desks.{DeskView}
+use Rattle.session_journal.specs.Desks.{DeskView, MayNarrow, with_present}
 use Rattle.session_journal.specs.Script.{Meaning}
 use Rattle.ticket_serving.specs.Served.{IsStopped}
 use Rattle.check_meaning.specs.Ahead.{Ahead}
@@ -98,6 +99,14 @@ IsAwaiting c now room ahead =
 -- where nothing is declared any more, nothing more may come of the ticket
 abbrev pub IsSettled : Bool → DeskView → Type 0
 IsSettled settled now = settled ≡ true → now.present ≡ []
+
+-- the desk as it is once it is told of this list, where it hasn't been
+abbrev pub once_told : Bool → List Symbol → DeskView → DeskView
+once_told late f now = with_present now (if late then f else now.present)
+
+-- where the desk hasn't been told of this list, its ticket may narrow to it
+abbrev pub MayTell : Meaning → Bool → List Symbol → DeskView → Type 0
+MayTell m late f now = late ≡ true → MayNarrow m now.ticket now.entries now.present f
 
 -- a desk that was stopped as the call that wanted memory left it
 pub record Halted (c : Course) (now : DeskView) (room : ℕ) : Type 0 where

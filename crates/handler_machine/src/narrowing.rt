@@ -1,13 +1,14 @@
 // A walk at a desk, which is told of each declaration that is passed.
 
-ghost use Rattle.std.specs.Prelude.{◌≡◌, ◌+◌, ◌<◌, ◌≤◌, [], true, length, map};
+ghost use Rattle.std.specs.Prelude.{◌≡◌, ◌+◌, ◌<◌, ◌≤◌, [], true, IfOk, length, map};
 ghost use Rattle.session_limits.specs.Limits.{max_symbols, max_variables};
+ghost use Rattle.session_values.specs.Values.{IsValue};
 ghost use Rattle.declaration_insertion.specs.Program.{declared_at};
 ghost use Rattle.declaration_insertion.specs.Promises.{symbol_at};
 ghost use Rattle.handler_check.specs.Resolved.{code_at};
 ghost use Rattle.check_meaning.specs.Code.{points};
 ghost use Rattle.check_meaning.specs.Dialogue.{env_of};
-ghost use Rattle.handler_machine.specs.Serving.{Halted, IsAwaiting, IsServing, IsSettled};
+ghost use Rattle.handler_machine.specs.Serving.{Halted, IsAwaiting, IsServing, IsSettled, MayTell, once_told};
 ghost use Rattle.handler_machine.specs.Serving.{course_of};
 
 use declaration_insertion::Program;
@@ -16,7 +17,7 @@ use session_journal::Desk;
 use session_values::{NoMemory, Op, Value};
 use std::sync::Wait;
 use std::thread::Threads;
-use symbolic_ops::{Foresight, instantiate};
+use symbolic_ops::{Foresight, Symbol, instantiate};
 
 /// Takes the declaration of a point of a handler, with these values of the variables, and tells
 /// whether nothing is declared there.
@@ -40,8 +41,38 @@ fn take_declaration(
     next.len() == 0
 }
 
+/// How many kinds of operations a declaration names, each on each of its tables; it is in order.
+fn kinds_named(list: &[Symbol]) -> u32 {
+    let mut count = 0u32;
+    let mut last = None;
+    for s in list {
+        let named = Some((s.kind, s.table));
+        if named != last {
+            count = count.wrapping_add(1);
+            last = named;
+        }
+    }
+    count
+}
+
+/// A reply that a desk gave, which is a value that a program can hold.
+fn held(reply: Result<Value, NoMemory>) -> Result<Value, NoMemory>
+    ensures same { result ≡ reply }
+    ensures held { IfOk result IsValue }
+{
+    match reply {
+        Ok(value) => {
+            value.bounds();
+            Ok(value)
+        }
+        Err(wanted) => Err(wanted),
+    }
+}
+
 /// Leads a walk over a handler of a program at a desk: at each point it narrows to the declaration
-/// there.
+/// there. Behind an operation the desk is told of it at once. At a branch and behind a loop it is
+/// told at once where a kind is named no more on some table, since that may free others; else right
+/// before the next operation or the end, so that a handler that computes takes no turn.
 #[derive(Drop)]
 pub(crate) struct Narrowing<'a, R> {
     pub(crate) rt: &'a R,
@@ -52,6 +83,10 @@ pub(crate) struct Narrowing<'a, R> {
     /// Nothing is declared any more. What is declared later is covered by that, so it is nothing
     /// too, and the desk needn't be told.
     pub(crate) settled: bool,
+    /// The desk has still to be told of `next`.
+    pub(crate) late: bool,
+    /// How many kinds the last declaration names.
+    pub(crate) kinds: u32,
     ghost exists: { handler < length program.now.file.handlers },
 }
 
@@ -60,8 +95,10 @@ impl<'a, R: Threads + Wait + Sync, D: Desk> Guide<D> for Narrowing<'a, R> {
 
     ghost Serves = { λ n whole start now ahead. (D.script now ≡ D.script start)
         × IsServing (course_of (D.Served.meaning (D.script start)) (D.at start)
-        n.program.now n.handler whole) (D.at now) n.next.room ahead
-        × IsSettled n.settled (D.at now) };
+        n.program.now n.handler whole) (once_told n.late n.next.symbols (D.at now))
+        n.next.room ahead
+        × IsSettled n.settled (once_told n.late n.next.symbols (D.at now))
+        × MayTell (D.Served.meaning (D.script start)) n.late n.next.symbols (D.at now) };
 
     ghost Waits = { λ n whole start now ahead. (D.script now ≡ D.script start)
         × IsAwaiting (course_of (D.Served.meaning (D.script start)) (D.at start)
@@ -72,19 +109,19 @@ impl<'a, R: Threads + Wait + Sync, D: Desk> Guide<D> for Narrowing<'a, R> {
         n.program.now n.handler whole) (D.at now) n.next.room };
 
     fn call(&mut self, host: &mut D, op: Op) -> Result<Value, NoMemory> {
-        match host.call(self.rt, op) {
-            Ok(reply) => {
-                reply.bounds();
-                Ok(reply)
-            }
-            // The desk is left as it was.
-            Err(wanted) => Err(wanted),
+        if self.late {
+            host.declare(self.rt, &self.next);
+            self.late = false;
+            return held(host.call(self.rt, op));
         }
+        held(host.call(self.rt, op))
     }
 
     fn replied(&mut self, host: &mut D, point: u32, env: &[Value]) {
         let nothing = take_declaration(self.program, self.handler, point, env, &mut self.next);
         host.finish(self.rt, &self.next);
+        self.kinds = kinds_named(self.next.symbols());
+        self.late = false;
         self.settled = nothing;
     }
 
@@ -93,7 +130,14 @@ impl<'a, R: Threads + Wait + Sync, D: Desk> Guide<D> for Narrowing<'a, R> {
             return;
         }
         let nothing = take_declaration(self.program, self.handler, point, env, &mut self.next);
-        host.declare(self.rt, &self.next);
+        let kinds = kinds_named(self.next.symbols());
         self.settled = nothing;
+        if kinds == self.kinds {
+            self.late = true;
+            return;
+        }
+        host.declare(self.rt, &self.next);
+        self.kinds = kinds;
+        self.late = false;
     }
 }

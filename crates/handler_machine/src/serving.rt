@@ -11,7 +11,7 @@ ghost use Rattle.ticket_serving.specs.Served.{IsServed, IsStopped};
 ghost use Rattle.handler_check.specs.Resolved.{code_at, params_at};
 ghost use Rattle.declaration_insertion.specs.Promises.{list_at};
 ghost use Rattle.declaration_insertion.specs.Program.{declared_at};
-ghost use Rattle.handler_machine.specs.Serving.{Gives, IsSettled, Promises};
+ghost use Rattle.handler_machine.specs.Serving.{Gives, IsSettled, MayTell, Promises, once_told};
 
 use crate::narrowing::Narrowing;
 use check_meaning::CheckedBlock;
@@ -21,7 +21,22 @@ use session_journal::{Desk, Script};
 use session_values::{NoMemory, Value};
 use std::sync::Wait;
 use std::thread::Threads;
+use symbolic_ops::Foresight;
 use ticket_serving::{Room, Scratch};
+
+/// Tells a desk of a declaration, where it hasn't been told.
+fn tell<R: Threads + Wait + Sync, D: Desk>(rt: &R, host: &mut D, late: bool, list: &Foresight)
+    requires idle { (D.at host.old).waiting ≡ None }
+    requires going { (D.at host.old).ended ≡ false }
+    requires may { MayTell (D.Served.meaning (D.script host.old)) late list.now.symbols
+        (D.at host.old) }
+    ensures script { D.script host.new ≡ D.script host.old }
+    ensures told { D.at host.new ≡ once_told late list.now.symbols (D.at host.old) }
+{
+    if late {
+        host.declare(rt, list);
+    }
+}
 
 /// Serves the body of a handler at a desk, with these values of its variables, to its end.
 fn serve_body<R: Threads + Wait + Sync, D: Desk>(
@@ -45,6 +60,7 @@ fn serve_body<R: Threads + Wait + Sync, D: Desk>(
         (run (block_code body.now) (env_of env.old)) }
     requires room { max_symbols ≤ guide.old.next.room }
     requires settled { IsSettled guide.old.settled (D.at desk.old) }
+    requires told { guide.old.late ≡ false }
     ensures script { D.script desk.new ≡ D.script desk.old }
     ensures served { IfOk result (λ _. IsServed (D.Served.meaning (D.script desk.old))
         (D.at desk.old) (D.at desk.new)) }
@@ -53,6 +69,8 @@ fn serve_body<R: Threads + Wait + Sync, D: Desk>(
     ensures room { max_symbols ≤ guide.new.next.room }
 {
     let reply = walk_body(guide, desk, env, body)?;
+    tell(guide.rt, desk, guide.late, &guide.next);
+    guide.late = false;
     desk.end(guide.rt, reply);
     Ok(())
 }
@@ -97,6 +115,8 @@ fn serve_handler<R: Threads + Wait + Sync, D: Desk>(
         handler: h,
         next: foresight,
         settled: false,
+        late: false,
+        kinds: 0,
     };
     let env = values.as_mut_slice();
     set_up(env, args);
@@ -107,6 +127,8 @@ fn serve_handler<R: Threads + Wait + Sync, D: Desk>(
         handler: _,
         next,
         settled: _,
+        late: _,
+        kinds: _,
     } = guide;
     scratch.put(Room {
         values,

@@ -3,7 +3,8 @@ use Rattle.session_values.specs.Dialogue.{Answers}
 use Rattle.session_journal.specs.Desks.{due_of, next_of}
 use Rattle.check_meaning.specs.Code.{block_code}
 use Rattle.check_meaning.specs.Dialogue.{entry, env_of, run}
-use Rattle.handler_machine.specs.Serving.{Course, course_of}
+use Rattle.handler_machine.specs.Serving.{Course, IsServing, IsSettled, MayTell, course_of}
+use Rattle.handler_machine.proofs.Late.{is_told, nothing_to_tell}
 use Rattle.handler_machine.proofs.Places.{on_err}
 use Rattle.handler_machine.proofs.Served.{serving_first, end_answers, end_due, end_served}
 use Rattle.handler_machine.proofs.serving.serve_body.Goals as goal
@@ -17,7 +18,7 @@ walk_body-requires-clause-serves g c =
     let E = env_of c.args.env.now in
     let course : Course = course_of (g.D.Served.Script.meaning (g.D.Desk.script start)) (at start) n.program.now n.handler (run (block_code c.args.body.now) E) in
     let s = serving_first course n.next.room (entry E) r.gives r.promises r.fresh r.idle r.going r.present r.room in
-    (course.whole, start, (refl, s, r.settled))
+    (course.whole, start, (refl, is_told n.late n.next.symbols (at start) (λ d. IsServing course d n.next.room course.whole) r.told s, is_told n.late n.next.symbols (at start) (IsSettled n.settled) r.told r.settled, nothing_to_tell course.meaning n.late n.next.symbols (at start) r.told))
 
 pub returns-in_err-reply-clause-script : goal.returns-in_err-reply-clause-script
 returns-in_err-reply-clause-script g c =
@@ -28,7 +29,7 @@ returns-in_err-reply-clause-script g c =
     let E = env_of c.args.env.now in
     let course : Course = course_of (g.D.Served.Script.meaning (g.D.Desk.script start)) (at start) n.program.now n.handler (run (block_code c.args.body.now) E) in
     let s = serving_first course n.next.room (entry E) r.gives r.promises r.fresh r.idle r.going r.present r.room in
-    let h = c.in_err-reply.ensures course.whole start (refl, s, r.settled) in
+    let h = c.in_err-reply.ensures course.whole start (refl, is_told n.late n.next.symbols (at start) (λ d. IsServing course d n.next.room course.whole) r.told s, is_told n.late n.next.symbols (at start) (IsSettled n.settled) r.told r.settled, nothing_to_tell course.meaning n.late n.next.symbols (at start) r.told) in
     h.0
 
 pub returns-in_err-reply-clause-stopped : goal.returns-in_err-reply-clause-stopped
@@ -40,7 +41,7 @@ returns-in_err-reply-clause-stopped g c =
     let E = env_of c.args.env.now in
     let course : Course = course_of (g.D.Served.Script.meaning (g.D.Desk.script start)) (at start) n.program.now n.handler (run (block_code c.args.body.now) E) in
     let s = serving_first course n.next.room (entry E) r.gives r.promises r.fresh r.idle r.going r.present r.room in
-    let h = c.in_err-reply.ensures course.whole start (refl, s, r.settled) in
+    let h = c.in_err-reply.ensures course.whole start (refl, is_told n.late n.next.symbols (at start) (λ d. IsServing course d n.next.room course.whole) r.told s, is_told n.late n.next.symbols (at start) (IsSettled n.settled) r.told r.settled, nothing_to_tell course.meaning n.late n.next.symbols (at start) r.told) in
     on_err c.from_residual.result _ h.1.stopped
 
 pub returns-in_err-reply-clause-room : goal.returns-in_err-reply-clause-room
@@ -52,8 +53,47 @@ returns-in_err-reply-clause-room g c =
     let E = env_of c.args.env.now in
     let course : Course = course_of (g.D.Served.Script.meaning (g.D.Desk.script start)) (at start) n.program.now n.handler (run (block_code c.args.body.now) E) in
     let s = serving_first course n.next.room (entry E) r.gives r.promises r.fresh r.idle r.going r.present r.room in
-    let h = c.in_err-reply.ensures course.whole start (refl, s, r.settled) in
+    let h = c.in_err-reply.ensures course.whole start (refl, is_told n.late n.next.symbols (at start) (λ d. IsServing course d n.next.room course.whole) r.told s, is_told n.late n.next.symbols (at start) (IsSettled n.settled) r.told r.settled, nothing_to_tell course.meaning n.late n.next.symbols (at start) r.told) in
     h.1.roomy
+
+pub tell-requires-clause-idle : goal.tell-requires-clause-idle
+tell-requires-clause-idle g c κs within =
+    let at = g.D.Desk.at in
+    let r = c.requires in
+    let start = c.args.desk.now in
+    let n = c.args.guide.now in
+    let E = env_of c.args.env.now in
+    let course : Course = course_of (g.D.Served.Script.meaning (g.D.Desk.script start)) (at start) n.program.now n.handler (run (block_code c.args.body.now) E) in
+    let s = serving_first course n.next.room (entry E) r.gives r.promises r.fresh r.idle r.going r.present r.room in
+    let h = c.in_ok-reply.ensures course.whole start (refl, is_told n.late n.next.symbols (at start) (λ d. IsServing course d n.next.room course.whole) r.told s, is_told n.late n.next.symbols (at start) (IsSettled n.settled) r.told r.settled, nothing_to_tell course.meaning n.late n.next.symbols (at start) r.told) in
+    let m = c.walk_body.new.guide in
+    h.1.1.waits
+
+pub tell-requires-clause-going : goal.tell-requires-clause-going
+tell-requires-clause-going g c κs within =
+    let at = g.D.Desk.at in
+    let r = c.requires in
+    let start = c.args.desk.now in
+    let n = c.args.guide.now in
+    let E = env_of c.args.env.now in
+    let course : Course = course_of (g.D.Served.Script.meaning (g.D.Desk.script start)) (at start) n.program.now n.handler (run (block_code c.args.body.now) E) in
+    let s = serving_first course n.next.room (entry E) r.gives r.promises r.fresh r.idle r.going r.present r.room in
+    let h = c.in_ok-reply.ensures course.whole start (refl, is_told n.late n.next.symbols (at start) (λ d. IsServing course d n.next.room course.whole) r.told s, is_told n.late n.next.symbols (at start) (IsSettled n.settled) r.told r.settled, nothing_to_tell course.meaning n.late n.next.symbols (at start) r.told) in
+    let m = c.walk_body.new.guide in
+    h.1.1.going
+
+pub tell-requires-clause-may : goal.tell-requires-clause-may
+tell-requires-clause-may g c κs within =
+    let at = g.D.Desk.at in
+    let r = c.requires in
+    let start = c.args.desk.now in
+    let n = c.args.guide.now in
+    let E = env_of c.args.env.now in
+    let course : Course = course_of (g.D.Served.Script.meaning (g.D.Desk.script start)) (at start) n.program.now n.handler (run (block_code c.args.body.now) E) in
+    let s = serving_first course n.next.room (entry E) r.gives r.promises r.fresh r.idle r.going r.present r.room in
+    let h = c.in_ok-reply.ensures course.whole start (refl, is_told n.late n.next.symbols (at start) (λ d. IsServing course d n.next.room course.whole) r.told s, is_told n.late n.next.symbols (at start) (IsSettled n.settled) r.told r.settled, nothing_to_tell course.meaning n.late n.next.symbols (at start) r.told) in
+    let m = c.walk_body.new.guide in
+    subst (λ z. MayTell (g.D.Served.Script.meaning z) m.late m.next.symbols (at c.walk_body.new.host)) (sym h.1.0) h.1.3
 
 pub end-requires-clause-idle : goal.end-requires-clause-idle
 end-requires-clause-idle g c =
@@ -64,11 +104,12 @@ end-requires-clause-idle g c =
     let E = env_of c.args.env.now in
     let course : Course = course_of (g.D.Served.Script.meaning (g.D.Desk.script start)) (at start) n.program.now n.handler (run (block_code c.args.body.now) E) in
     let s = serving_first course n.next.room (entry E) r.gives r.promises r.fresh r.idle r.going r.present r.room in
-    let h = c.in_ok-reply.ensures course.whole start (refl, s, r.settled) in
+    let h = c.in_ok-reply.ensures course.whole start (refl, is_told n.late n.next.symbols (at start) (λ d. IsServing course d n.next.room course.whole) r.told s, is_told n.late n.next.symbols (at start) (IsSettled n.settled) r.told r.settled, nothing_to_tell course.meaning n.late n.next.symbols (at start) r.told) in
     let m = c.walk_body.new.guide in
-    let now = at c.walk_body.new.host in
+    let now = at c.tell.new.host in
     let late : Course = course_of course.meaning course.start m.program.now m.handler course.whole in
-    h.1.1.waits
+    let serving = subst (λ d. IsServing late d m.next.room h.0) (sym c.tell.ensures.told) h.1.1 in
+    serving.waits
 
 pub end-requires-clause-going : goal.end-requires-clause-going
 end-requires-clause-going g c =
@@ -79,11 +120,12 @@ end-requires-clause-going g c =
     let E = env_of c.args.env.now in
     let course : Course = course_of (g.D.Served.Script.meaning (g.D.Desk.script start)) (at start) n.program.now n.handler (run (block_code c.args.body.now) E) in
     let s = serving_first course n.next.room (entry E) r.gives r.promises r.fresh r.idle r.going r.present r.room in
-    let h = c.in_ok-reply.ensures course.whole start (refl, s, r.settled) in
+    let h = c.in_ok-reply.ensures course.whole start (refl, is_told n.late n.next.symbols (at start) (λ d. IsServing course d n.next.room course.whole) r.told s, is_told n.late n.next.symbols (at start) (IsSettled n.settled) r.told r.settled, nothing_to_tell course.meaning n.late n.next.symbols (at start) r.told) in
     let m = c.walk_body.new.guide in
-    let now = at c.walk_body.new.host in
+    let now = at c.tell.new.host in
     let late : Course = course_of course.meaning course.start m.program.now m.handler course.whole in
-    h.1.1.going
+    let serving = subst (λ d. IsServing late d m.next.room h.0) (sym c.tell.ensures.told) h.1.1 in
+    serving.going
 
 pub end-requires-clause-answers : goal.end-requires-clause-answers
 end-requires-clause-answers g c =
@@ -94,11 +136,12 @@ end-requires-clause-answers g c =
     let E = env_of c.args.env.now in
     let course : Course = course_of (g.D.Served.Script.meaning (g.D.Desk.script start)) (at start) n.program.now n.handler (run (block_code c.args.body.now) E) in
     let s = serving_first course n.next.room (entry E) r.gives r.promises r.fresh r.idle r.going r.present r.room in
-    let h = c.in_ok-reply.ensures course.whole start (refl, s, r.settled) in
+    let h = c.in_ok-reply.ensures course.whole start (refl, is_told n.late n.next.symbols (at start) (λ d. IsServing course d n.next.room course.whole) r.told s, is_told n.late n.next.symbols (at start) (IsSettled n.settled) r.told r.settled, nothing_to_tell course.meaning n.late n.next.symbols (at start) r.told) in
     let m = c.walk_body.new.guide in
-    let now = at c.walk_body.new.host in
+    let now = at c.tell.new.host in
     let late : Course = course_of course.meaning course.start m.program.now m.handler course.whole in
-    subst (λ z. next_of (g.D.Served.Script.meaning z) now ≡ Answers c.in_ok-reply.reply) (sym h.1.0) (end_answers late now m.next.room h.0 c.in_ok-reply.reply h.1.1 h.2.answers)
+    let serving = subst (λ d. IsServing late d m.next.room h.0) (sym c.tell.ensures.told) h.1.1 in
+    subst (λ z. next_of (g.D.Served.Script.meaning z) now ≡ Answers c.in_ok-reply.reply) (sym (c.tell.ensures.script ∙ h.1.0)) (end_answers late now m.next.room h.0 c.in_ok-reply.reply serving h.2.answers)
 
 pub end-requires-clause-due : goal.end-requires-clause-due
 end-requires-clause-due g c =
@@ -109,11 +152,12 @@ end-requires-clause-due g c =
     let E = env_of c.args.env.now in
     let course : Course = course_of (g.D.Served.Script.meaning (g.D.Desk.script start)) (at start) n.program.now n.handler (run (block_code c.args.body.now) E) in
     let s = serving_first course n.next.room (entry E) r.gives r.promises r.fresh r.idle r.going r.present r.room in
-    let h = c.in_ok-reply.ensures course.whole start (refl, s, r.settled) in
+    let h = c.in_ok-reply.ensures course.whole start (refl, is_told n.late n.next.symbols (at start) (λ d. IsServing course d n.next.room course.whole) r.told s, is_told n.late n.next.symbols (at start) (IsSettled n.settled) r.told r.settled, nothing_to_tell course.meaning n.late n.next.symbols (at start) r.told) in
     let m = c.walk_body.new.guide in
-    let now = at c.walk_body.new.host in
+    let now = at c.tell.new.host in
     let late : Course = course_of course.meaning course.start m.program.now m.handler course.whole in
-    subst (λ z. now.present ≡ due_of (g.D.Served.Script.meaning z) now) (sym h.1.0) (end_due late now m.next.room h.0 c.in_ok-reply.reply h.1.1 h.2.answers h.2.passes)
+    let serving = subst (λ d. IsServing late d m.next.room h.0) (sym c.tell.ensures.told) h.1.1 in
+    subst (λ z. now.present ≡ due_of (g.D.Served.Script.meaning z) now) (sym (c.tell.ensures.script ∙ h.1.0)) (end_due late now m.next.room h.0 c.in_ok-reply.reply serving h.2.answers h.2.passes)
 
 pub returns-clause-script : goal.returns-clause-script
 returns-clause-script g c =
@@ -124,11 +168,12 @@ returns-clause-script g c =
     let E = env_of c.args.env.now in
     let course : Course = course_of (g.D.Served.Script.meaning (g.D.Desk.script start)) (at start) n.program.now n.handler (run (block_code c.args.body.now) E) in
     let s = serving_first course n.next.room (entry E) r.gives r.promises r.fresh r.idle r.going r.present r.room in
-    let h = c.in_ok-reply.ensures course.whole start (refl, s, r.settled) in
+    let h = c.in_ok-reply.ensures course.whole start (refl, is_told n.late n.next.symbols (at start) (λ d. IsServing course d n.next.room course.whole) r.told s, is_told n.late n.next.symbols (at start) (IsSettled n.settled) r.told r.settled, nothing_to_tell course.meaning n.late n.next.symbols (at start) r.told) in
     let m = c.walk_body.new.guide in
-    let now = at c.walk_body.new.host in
+    let now = at c.tell.new.host in
     let late : Course = course_of course.meaning course.start m.program.now m.handler course.whole in
-    c.end.ensures.script ∙ h.1.0
+    let serving = subst (λ d. IsServing late d m.next.room h.0) (sym c.tell.ensures.told) h.1.1 in
+    c.end.ensures.script ∙ c.tell.ensures.script ∙ h.1.0
 
 pub returns-clause-served : goal.returns-clause-served
 returns-clause-served g c =
@@ -139,11 +184,12 @@ returns-clause-served g c =
     let E = env_of c.args.env.now in
     let course : Course = course_of (g.D.Served.Script.meaning (g.D.Desk.script start)) (at start) n.program.now n.handler (run (block_code c.args.body.now) E) in
     let s = serving_first course n.next.room (entry E) r.gives r.promises r.fresh r.idle r.going r.present r.room in
-    let h = c.in_ok-reply.ensures course.whole start (refl, s, r.settled) in
+    let h = c.in_ok-reply.ensures course.whole start (refl, is_told n.late n.next.symbols (at start) (λ d. IsServing course d n.next.room course.whole) r.told s, is_told n.late n.next.symbols (at start) (IsSettled n.settled) r.told r.settled, nothing_to_tell course.meaning n.late n.next.symbols (at start) r.told) in
     let m = c.walk_body.new.guide in
-    let now = at c.walk_body.new.host in
+    let now = at c.tell.new.host in
     let late : Course = course_of course.meaning course.start m.program.now m.handler course.whole in
-    end_served late now m.next.room h.0 c.in_ok-reply.reply h.1.1 h.2.answers (at c.end.new.self) c.end.ensures.ended
+    let serving = subst (λ d. IsServing late d m.next.room h.0) (sym c.tell.ensures.told) h.1.1 in
+    end_served late now m.next.room h.0 c.in_ok-reply.reply serving h.2.answers (at c.end.new.self) c.end.ensures.ended
 
 pub returns-clause-room : goal.returns-clause-room
 returns-clause-room g c =
@@ -154,8 +200,9 @@ returns-clause-room g c =
     let E = env_of c.args.env.now in
     let course : Course = course_of (g.D.Served.Script.meaning (g.D.Desk.script start)) (at start) n.program.now n.handler (run (block_code c.args.body.now) E) in
     let s = serving_first course n.next.room (entry E) r.gives r.promises r.fresh r.idle r.going r.present r.room in
-    let h = c.in_ok-reply.ensures course.whole start (refl, s, r.settled) in
+    let h = c.in_ok-reply.ensures course.whole start (refl, is_told n.late n.next.symbols (at start) (λ d. IsServing course d n.next.room course.whole) r.told s, is_told n.late n.next.symbols (at start) (IsSettled n.settled) r.told r.settled, nothing_to_tell course.meaning n.late n.next.symbols (at start) r.told) in
     let m = c.walk_body.new.guide in
-    let now = at c.walk_body.new.host in
+    let now = at c.tell.new.host in
     let late : Course = course_of course.meaning course.start m.program.now m.handler course.whole in
-    h.1.1.roomy
+    let serving = subst (λ d. IsServing late d m.next.room h.0) (sym c.tell.ensures.told) h.1.1 in
+    serving.roomy

@@ -39,4 +39,4 @@ returns g c whole start next so_far =
     let f = c.take_declaration-nothing.new.next.symbols in
     let is_list = c.take_declaration-nothing.ensures.symbols in
     let h = finish_serves course now n.next.room c.args.point (env_of c.args.env.now) next f so_far.1 is_list (at c.finish.new.self) c.finish.ensures.finished in
-    (c.finish.ensures.script ∙ so_far.0, subst (λ r. IsServing course (at c.finish.new.self) r next) (sym c.take_declaration-nothing.ensures.room) h, λ e. finish_present course now n.next.room c.args.point (env_of c.args.env.now) next f so_far.1 is_list (at c.finish.new.self) c.finish.ensures.finished ∙ c.take_declaration-nothing.ensures.nothing e)
+    (c.finish.ensures.script ∙ so_far.0, subst (λ r. IsServing course (at c.finish.new.self) r next) (sym c.take_declaration-nothing.ensures.room) h, λ e. finish_present course now n.next.room c.args.point (env_of c.args.env.now) next f so_far.1 is_list (at c.finish.new.self) c.finish.ensures.finished ∙ c.take_declaration-nothing.ensures.nothing e, λ e. cc)
