@@ -40,11 +40,11 @@ returns-clause-caller g c =
     begun_caller g.S.Script.meaning c.args.hall.now c.args.self.now c.requires.caller c.requires.stage c.take_book.new.seat c.in-Some.book c.take_book.ensures.seat.1 c.in-Some.ensures.took
     c.in-Some-next_ticket.t ((g.S.Script.meaning c.in-Some.book.script).entry c.in-Some-next_ticket.t) refl c.in-Some-next_ticket.ensures.0 c.in-Some-next_ticket.ensures.1
     c.begin.result c.begin.new.book c.begin.ensures.stays.script c.begin.ensures.stays.lawful c.begin.ensures.begins
-    _ c.give_all-2.ensures.seat c.give_all-2.ensures.booked c.give_all-2.ensures.hands.0 c.give_all-2.ensures.hands.1 refl refl refl room
+    _ c.give_all-2.ensures.seat c.give_all-2.ensures.booked c.give_all-2.ensures.hands.0 c.give_all-2.ensures.hands.1 refl (ap (λ (x : ForesightView). x.symbols) c.begin.ensures.list) refl room
 
 pub returns-clause-began : goal.returns-clause-began
 returns-clause-began g c =
     began_ticket g.S.Script.meaning c.args.hall.now c.args.self.now c.requires.caller c.requires.stage c.take_book.new.seat c.in-Some.book c.take_book.ensures.seat.1 c.in-Some.ensures.took
     c.in-Some-next_ticket.t ((g.S.Script.meaning c.in-Some.book.script).entry c.in-Some-next_ticket.t) refl c.in-Some-next_ticket.ensures.0 c.in-Some-next_ticket.ensures.1
     c.begin.result c.begin.new.book c.begin.ensures.stays.script c.begin.ensures.stays.lawful c.begin.ensures.begins
-    _ c.give_all-2.ensures.seat c.give_all-2.ensures.booked c.give_all-2.ensures.hands.0 c.give_all-2.ensures.hands.1 refl refl refl
+    _ c.give_all-2.ensures.seat c.give_all-2.ensures.booked c.give_all-2.ensures.hands.0 c.give_all-2.ensures.hands.1 refl (ap (λ (x : ForesightView). x.symbols) c.begin.ensures.list) refl
