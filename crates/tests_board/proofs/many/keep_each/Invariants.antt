@@ -1,4 +1,4 @@
-use Rattle.std.proofs.Common.{◌≡◌, ◌+◌, ◌≤◌, vec_len}
+use Rattle.std.proofs.Common.{◌≡◌, ◌+◌, vec_len}
 use Rattle.turn_board.specs.Boards.{AllEnd}
 use Rattle.tests_board.proofs.many.keep_each.Given as goal
 
