@@ -55,8 +55,13 @@ module _ (names : List Text) (f : File) (t : Tally) (r : Row) where
     same_arity : t.requests < 20000 → i < length f.handlers → params_at f i ≡ length r.args → fault_of names f t r ≡ by_words (list_all is_value r.args)
     same_arity h l e = present h l ∙ ap by_arity (let g : (params_at f i == length r.args) ≡ true = grind (arith, nat_tests) in g)
 
-    pub fault_word : t.requests < 20000 → i < length f.handlers → params_at f i ≡ length r.args → list_all is_value r.args ≡ false → fault_of names f t r ≡ Some (BadWord r.line)
-    fault_word h l e w = same_arity h l e ∙ ap by_words w
+    -- a word that is no value, whatever the number of words
+    pub fault_bad : t.requests < 20000 → i < length f.handlers → list_all is_value r.args ≡ false → fault_of names f t r ≡ Some (cond (params_at f i == length r.args) (BadWord r.line) (Arity r.line))
+    fault_bad h l w = present h l ∙ go (params_at f i == length r.args)
+      where
+        go : (b : Bool) → by_arity b ≡ Some (cond b (BadWord r.line) (Arity r.line))
+        go true = ap by_words w
+        go false = refl
 
     pub fault_sums : t.requests < 20000 → i < length f.handlers → params_at f i ≡ length r.args → list_all is_value r.args ≡ true → fault_of names f t r ≡ sum_fault (with_request f i t) r.line
     fault_sums h l e w = same_arity h l e ∙ ap by_words w
@@ -85,7 +90,7 @@ sums_within t line few none = record { requests = few; calls = calls (nat_lt 200
     work false true e h = absurd (cc)
     work false false e h = no_more 10000000 t.work e
 
-values_long : (names ws : List Text) → length (values_of names ws) ≡ length ws
+pub values_long : (names ws : List Text) → length (values_of names ws) ≡ length ws
 values_long names [] = refl
 values_long names (w ∷ ws) = ap suc (values_long names ws)
 

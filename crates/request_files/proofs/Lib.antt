@@ -1,4 +1,5 @@
 pub mod DivideLemmas
+pub mod EntryLemmas
 pub mod FaultLemmas
 pub mod HandlerLemmas
 pub mod NumberLemmas

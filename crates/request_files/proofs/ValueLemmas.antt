@@ -1,10 +1,13 @@
 -- Values, while the list of names grows.
-use Rattle.std.proofs.Common.{◌≡◌, ◌+◌, ◌≤◌, Bool, true, false, not, ◌||◌, ◌&&◌, cond, List, [], ◌∷◌, ◌++◌, length, Some, None, refl, sym, ap, ◌∙◌, subst, arith, append_assoc, length-append}
+use Rattle.std.proofs.Common.{◌≡◌, ℕ, ◌+◌, ◌≤◌, Bool, true, false, not, ◌||◌, ◌&&◌, ◌==◌, nat_le, slice_index, codes, cond, List, [], ◌∷◌, ◌++◌, length, Some, None, refl, sym, ap, ◌∙◌, subst, arith, append_assoc, length-append}
 use Rattle.std.proofs.lemmas.Bool.{false≢true}
 use Rattle.std.proofs.lemmas.List.{append-nil}
 use Rattle.std.specs.Option.{is_some, unwrap_or}
 use Rattle.std.specs.List.{list_any, list_all}
+use Rattle.std.specs.Char.{is_ascii_alphabetic}
 use Rattle.std.specs.Str.{bytes_eq}
+use Rattle.std.proofs.lemmas.Bool.Decides.{nat_tests}
+use Rattle.byte_classes.specs.Bytes.{is_symbol_byte}
 use Rattle.session_values.specs.Names.{with_text, place_of, Begins}
 use Rattle.session_values.specs.declared.value.Value.{Value}
 use Rattle.session_values.specs.declared.value.Value.TheVariants.{Nil, Sym}
@@ -144,3 +147,52 @@ left_names names0 ws0 names found l = sym (placed_all_nil names) ∙ l.behind
 
 pub left_values : (names0 ws0 names : List Text) (found : List Value) → Left names0 ws0 names [] found → found ≡ values_of names ws0
 left_values names0 ws0 names found l = sym (append-nil found) ∙ l.values ∙ ap (λ n. values_of n ws0) (sym (left_names names0 ws0 names found l))
+
+-- ---- the values go behind those that were there
+
+pub record Behind (names0 ws0 names ws : List Text) (list0 list : List Value) : Type 0 where
+  pub found : List Value
+  pub is : list ≡ list0 ++ found
+  pub left : Left names0 ws0 names ws found
+
+pub behind_start : (names0 ws0 : List Text) (list0 : List Value) → Behind names0 ws0 names0 ws0 list0 list0
+behind_start names0 ws0 list0 = record { found = []; is = sym (append-nil list0); left = left_start names0 ws0 }
+
+pub behind_turn : (names0 ws0 names : List Text) (w : Text) (ws : List Text) (list0 list : List Value) (v : Value)
+    → Behind names0 ws0 names (w ∷ ws) list0 list → value_of (placed names w) w ≡ Some v → Behind names0 ws0 (placed names w) ws list0 (list ++ v ∷ [])
+behind_turn names0 ws0 names w ws list0 list v b e = record {
+  found = b.found ++ v ∷ [];
+  is = ap (λ l. l ++ v ∷ []) b.is ∙ append_assoc list0 b.found (v ∷ []);
+  left = left_turn names0 ws0 names w ws b.found v b.left e;
+}
+
+pub behind_values : (names0 ws0 names : List Text) (list0 list : List Value) → Behind names0 ws0 names [] list0 list → list ≡ list0 ++ values_of names ws0
+behind_values names0 ws0 names list0 list b = b.is ∙ ap (λ l. list0 ++ l) (left_values names0 ws0 names b.found b.left)
+
+-- ---- a word that begins with no letter is no symbol, and isn't nil
+
+not_nil : (w : Text) → is_ascii_alphabetic (slice_index w 0) ≡ false → is_nil w ≡ false
+not_nil [] h = refl
+not_nil (b ∷ bs) h = go (b == 110) refl
+  where
+    same : (b : ℕ) → (b == 110) ≡ true → b ≡ 110
+    same b e = grind (arith, nat_tests)
+
+    go : (x : Bool) → (b == 110) ≡ x → is_nil (b ∷ bs) ≡ false
+    go true e = absurd (false≢true (sym h ∙ ap is_ascii_alphabetic (same b e)))
+    go false e = ap (λ x. x && bytes_eq bs (codes "il")) e
+
+not_symbol : (w : Text) → is_ascii_alphabetic (slice_index w 0) ≡ false → is_symbol w ≡ false
+unfolding is_symbol
+not_symbol w h = go (not (is_nil w)) (nat_le (length w) 64) (list_all is_symbol_byte w) (is_ascii_alphabetic (slice_index w 0)) h
+  where
+    go : (a c d b : Bool) → b ≡ false → (a && b && c && d) ≡ false
+    go true c d true e = absurd (false≢true (sym e))
+    go true c d false e = refl
+    go false c d b e = refl
+
+pub number_only : (names : List Text) (w : Text) → is_ascii_alphabetic (slice_index w 0) ≡ false → value_of names w ≡ as_value (number w)
+number_only names w h = value_by names w false (not_symbol w h) ∙ ap (λ b. cond b (Some Nil) (as_value (number w))) (not_nil w h)
+
+pub none_placed : (names : List Text) (w : Text) → is_ascii_alphabetic (slice_index w 0) ≡ false → placed names w ≡ names
+none_placed names w h = placed_by names w false (not_symbol w h)

@@ -1,4 +1,5 @@
 pub mod Divide
+pub mod Entries
 pub mod Requests
 pub mod Servable
 pub mod Session

@@ -1,15 +1,14 @@
 // The arguments of a request.
 
-ghost use Rattle.std.specs.Prelude.{◌≡◌, ◌+◌, ◌≤◌, length, IfOk, IfSome};
+ghost use Rattle.std.specs.Prelude.{◌≡◌, ◌+◌, ◌++◌, ◌≤◌, length, true, IfOk};
+ghost use Rattle.std.specs.List.{list_all};
 ghost use Rattle.session_values.specs.Names.{Begins};
 ghost use Rattle.request_files.specs.Text.{words as words_of};
 ghost use Rattle.request_files.specs.Values as value_spec;
-ghost use Rattle.request_files.specs.Requests as spec;
 
 use crate::line::Line;
 use crate::word_value::value;
-use session_values::{Listed, Names, NoMemory, Value};
-use std::alloc::Global;
+use session_values::{Names, NoMemory, Value};
 
 /// The number of words that are left.
 pub(crate) fn count(mut words: Line<'_>) -> usize
@@ -22,25 +21,27 @@ pub(crate) fn count(mut words: Line<'_>) -> usize
     count
 }
 
-/// The values of the words that are left, or `None` where one is no value.
+/// Appends the values of the words that are left, and says whether each of them is one.
 pub(crate) fn values(
-    alloc: Global,
     mut words: Line<'_>,
     names: &mut Names,
-) -> Result<Option<Listed<Value>>, NoMemory>
+    list: &mut Vec<Value>,
+) -> Result<bool, NoMemory>
     requires { length names.old + length (words_of words.rest.now) ≤ 4294967295 }
-    ensures values { IfOk result (λ o. spec.AreValues names.new (words_of words.entry.rest.now) o) }
-    ensures names { IfOk result (λ o. IfSome o (λ _.
-        names.new ≡ value_spec.placed_all names.old (words_of words.entry.rest.now))) }
+    ensures tests { IfOk result (λ b. b ≡ list_all value_spec.is_value
+        (words_of words.entry.rest.now)) }
+    ensures values { IfOk result (λ b. b ≡ true → list.new.items ≡ list.old.items
+        ++ value_spec.values_of names.new (words_of words.entry.rest.now)) }
+    ensures names { IfOk result (λ b. b ≡ true →
+        names.new ≡ value_spec.placed_all names.old (words_of words.entry.rest.now)) }
     ensures kept { Begins names.old names.new }
     ensures room { length names.new ≤ length names.old + length (words_of words.entry.rest.now) }
 {
-    let mut found = Vec::new(alloc);
     'words: while let Some(word) = words.next() {
         match value(word, names)? {
-            Some(v) => found.push(v)?,
-            None => return Ok(None),
+            Some(v) => list.push(v)?,
+            None => return Ok(false),
         }
     }
-    Ok(Some(Listed::from_vec(found)))
+    Ok(true)
 }

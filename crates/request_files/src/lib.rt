@@ -4,6 +4,7 @@
 
 mod arguments;
 mod divided;
+mod entry;
 mod line;
 mod lines;
 mod reading;

@@ -13,7 +13,7 @@ use crate::request_line::request;
 use crate::requests::Requests;
 use crate::tally::Tally;
 use handler_check::Checked;
-use session_values::{Listed, Names};
+use session_values::Names;
 use std::alloc::Global;
 
 /// The requests of a text whose first line has the number `first`, in their order. The symbols
@@ -40,6 +40,7 @@ pub fn read_requests(
     ensures room { length names.new ≤ length names.old + length text.now }
 {
     let mut found = Vec::new(alloc);
+    let mut values = Vec::new(alloc);
     let mut tally = Tally {
         requests: 0,
         calls: 0,
@@ -49,9 +50,9 @@ pub fn read_requests(
     'lines: while let Some((number, line)) = lines.next() {
         let mut words = line;
         if let Some(name) = words.next() {
-            match request(alloc, checked, tally, number, name, words, names) {
-                Ok((request, next)) => {
-                    if let Err(_) = found.push(request) {
+            match request(checked, tally, number, name, words, names, &mut values) {
+                Ok((entry, next)) => {
+                    if let Err(_) = found.push(entry) {
                         return Err(RequestRefusal::NoMemory);
                     }
                     tally = next;
@@ -60,5 +61,5 @@ pub fn read_requests(
             }
         }
     }
-    Ok(Requests::over(Listed::from_vec(found)))
+    Ok(Requests::over(found, values))
 }

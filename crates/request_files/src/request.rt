@@ -2,7 +2,7 @@
 
 use session_values::{Listed, Value};
 
-/// A request: a handler by its number, and its arguments.
+/// A request as contracts see it: a handler by its number, and its arguments.
 #[derive(Debug, Drop)]
 pub struct Request {
     pub handler: u32,

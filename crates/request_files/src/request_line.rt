@@ -1,19 +1,20 @@
 // The request of a line.
 
-ghost use Rattle.std.specs.Prelude.{◌≡◌, ◌≢◌, ◌+◌, ◌≤◌, length, Some, IfOk};
+ghost use Rattle.std.specs.Prelude.{◌≡◌, ◌≢◌, ◌+◌, ◌≤◌, ◌==◌, cond, length, Some, IfOk};
 ghost use Rattle.session_values.specs.Names.{Begins};
 ghost use Rattle.request_files.specs.Text.{words as words_of};
+ghost use Rattle.request_files.specs.declared.refusal.RequestRefusal.TheVariants.{Arity, BadWord};
+ghost use Rattle.request_files.specs.Entries.{IsBehind, request_in};
 ghost use Rattle.request_files.specs.Requests as spec;
 
 use crate::arguments::{count, values};
+use crate::entry::Entry;
 use crate::line::Line;
 use crate::refusal::RequestRefusal;
-use crate::request::Request;
 use crate::tally::{Tally, look_at_sums, with_request};
 use handler_check::Checked;
 use session_limits::MAX_REQUESTS;
-use session_values::Names;
-use std::alloc::Global;
+use session_values::{Names, Value};
 
 /// The number of the handler with this name.
 fn handler(checked: &Checked, names: &Names, name: &str) -> Option<u32>
@@ -26,21 +27,36 @@ fn handler(checked: &Checked, names: &Names, name: &str) -> Option<u32>
     }
 }
 
-/// The request of a line, behind those of the tally, with the tally behind it.
+/// The refusal of a line with a word that is no value: its number of words is looked at first.
+fn bad_word(params: u32, words: Line<'_>, line: u32) -> RequestRefusal
+    ensures { result ≡ cond (params == length (words_of words.entry.rest.now))
+        (BadWord line) (Arity line) }
+{
+    if count(words) == params as usize {
+        RequestRefusal::BadWord { line }
+    } else {
+        RequestRefusal::Arity { line }
+    }
+}
+
+/// The request of a line, behind those of the tally, with the tally behind it. Its arguments are
+/// appended to those of the others.
 pub(crate) fn request(
-    alloc: Global,
     checked: &Checked,
     tally: Tally,
     line: u32,
     name: &str,
     words: Line<'_>,
     names: &mut Names,
-) -> Result<(Request, Tally), RequestRefusal>
+    list: &mut Vec<Value>,
+) -> Result<(Entry, Tally), RequestRefusal>
     requires known { spec.AreKnown names.old checked.now }
     requires room { length names.old + length (words_of words.rest.now) ≤ 4294967295 }
     requires within { spec.IsWithin tally }
     ensures ok { IfOk result (λ p. spec.Accepted names.old names.new checked.now tally
-        (spec.row_of line name.now (words_of words.entry.rest.now)) p.0 p.1) }
+        (spec.row_of line name.now (words_of words.entry.rest.now))
+        (request_in list.new.items p.0) p.1) }
+    ensures behind { IfOk result (λ p. IsBehind list.old.items list.new.items p.0) }
     ensures refused { (e : _) → result ≡ Err e → e ≢ RequestRefusal.NoMemory →
         spec.fault_of names.old checked.now tally
         (spec.row_of line name.now (words_of words.entry.rest.now)) ≡ Some e }
@@ -53,22 +69,27 @@ pub(crate) fn request(
     let Some(number) = handler(checked, names, name) else {
         return Err(RequestRefusal::UnknownHandler { line });
     };
-    if count(words) != checked.handler(number).params as usize {
+    let params = checked.handler(number).params;
+    let first = list.len();
+    let Ok(fine) = values(words, names, list) else {
+        return Err(RequestRefusal::NoMemory);
+    };
+    if !fine {
+        return Err(bad_word(params, words, line));
+    }
+    if list.len() - first != params as usize {
         return Err(RequestRefusal::Arity { line });
     }
     let next = with_request(checked, number, tally);
-    match values(alloc, words, names) {
-        Ok(Some(args)) => match look_at_sums(next, line) {
-            Ok(()) => Ok((
-                Request {
-                    handler: number,
-                    args,
-                },
-                next,
-            )),
-            Err(e) => Err(e),
-        },
-        Ok(None) => Err(RequestRefusal::BadWord { line }),
-        Err(_) => Err(RequestRefusal::NoMemory),
+    match look_at_sums(next, line) {
+        Ok(()) => Ok((
+            Entry {
+                handler: number,
+                args: params,
+                first,
+            },
+            next,
+        )),
+        Err(e) => Err(e),
     }
 }

@@ -53,6 +53,17 @@ pub fn is_symbol(word: &str) -> bool
     are_symbol_bytes(bytes)
 }
 
+/// The value of a word that is a number.
+#[inline]
+fn number_value(word: &str) -> Option<Value>
+    ensures { result ≡ spec.as_value (spec.number word.now) }
+{
+    match number(word) {
+        Some(n) => Some(Value::Num(n)),
+        None => None,
+    }
+}
+
 /// The value of a word, if it is one. A symbol is placed in the list of names.
 #[tactic(auto, unfolding(crate::specs::Values::value_of, crate::specs::Values::placed))]
 pub fn value(word: &str, names: &mut Names) -> Result<Option<Value>, NoMemory>
@@ -61,14 +72,15 @@ pub fn value(word: &str, names: &mut Names) -> Result<Option<Value>, NoMemory>
     ensures names { OnOk result (names.new ≡ spec.placed names.old word.now) }
     ensures err { OnErr result (names.new ≡ names.old) }
 {
+    // What begins with no letter is neither a symbol nor `nil`.
+    if !first_byte(word).is_ascii_alphabetic() {
+        return Ok(number_value(word));
+    }
     if is_symbol(word) {
         return Ok(Some(Value::Sym(names.place(word)?)));
     }
     if word == "nil" {
         return Ok(Some(Value::Nil));
     }
-    match number(word) {
-        Some(n) => Ok(Some(Value::Num(n))),
-        None => Ok(None),
-    }
+    Ok(number_value(word))
 }

@@ -1,9 +1,11 @@
 use Rattle.std.proofs.Common.{◌≡◌, ◌∷◌, [], length, sym, ap, ◌∙◌, subst, arith, Err}
 use Rattle.request_files.specs.Text.{lines, words}
+use Rattle.request_files.specs.Entries.{AreWithin, request_in, requests_in}
 use Rattle.request_files.specs.Requests.{rows, row_of, AreRequests, ArePrintable, no_requests}
 use Rattle.request_files.specs.Servable.{IsServable}
 use Rattle.request_files.proofs.TextLemmas.{total, total_le}
 use Rattle.request_files.proofs.RowLemmas.{Going, going_start, going_turn, going_fault, going_end, going_served, known_kept, rows_step, rows_pass, rows_nil}
+use Rattle.request_files.proofs.EntryLemmas.{requests_push, within_push, requests_long}
 use Rattle.request_files.proofs.HandlerLemmas.{named_known}
 use Rattle.request_files.proofs.PrintableLemmas.{printable}
 use Rattle.request_files.proofs.reading.read_requests.Goals as goal
@@ -19,8 +21,9 @@ lines-init c =
     record {
       next = tt;
       finite = tt;
-      going = subst (λ rs. Going c.args.names.now c.args.checked.now (rows c.args.first (lines c.args.text.now)) c.args.names.now rs c.new-found.result.items no_requests) e
-          (subst (λ f. Going c.args.names.now c.args.checked.now (rows c.args.first (lines c.args.text.now)) c.args.names.now (rows c.args.first (lines c.args.text.now)) f no_requests) (sym c.new-found.ensures.items) start);
+      going = subst (λ rs. Going c.args.names.now c.args.checked.now (rows c.args.first (lines c.args.text.now)) c.args.names.now rs (requests_in c.new-values.result.items c.new-found.result.items) no_requests) e
+          (subst (λ f. Going c.args.names.now c.args.checked.now (rows c.args.first (lines c.args.text.now)) c.args.names.now (rows c.args.first (lines c.args.text.now)) (requests_in c.new-values.result.items f) no_requests) (sym c.new-found.ensures.items) start);
+      within = subst (AreWithin (length c.new-values.result.items)) (sym c.new-found.ensures.items) tt;
       room = omega (arith, total_le c.args.text.now, ap (λ t. total (lines t)) c.over-lines.ensures.rest);
     }
 
@@ -30,13 +33,14 @@ lines-preserved-in-Ok c =
     let e : rows c.lines.lines.number (lines c.lines.lines.rest.now) ≡ row_of c.in-Some.number c.in-Some-next.name.now (words c.next-in-Some.new.self.rest.now) ∷ rows c.next.new.self.number (lines c.next.new.self.rest.now) =
     rows_step c.lines.lines.number c.in-Some.number c.next.new.self.number (lines c.lines.lines.rest.now) c.in-Some.line.rest.now (lines c.next.new.self.rest.now) c.in-Some-next.name.now (words c.next-in-Some.new.self.rest.now)
     steps.0 steps.1 steps.2 c.in-Some-next.ensures.steps.0 in
-    let before = subst (λ rs. Going c.args.names.now c.args.checked.now (rows c.args.first (lines c.args.text.now)) c.lines.names rs c.lines.found.items c.lines.tally) e c.lines.invariant.going in
+    let before = subst (λ rs. Going c.args.names.now c.args.checked.now (rows c.args.first (lines c.args.text.now)) c.lines.names rs (requests_in c.lines.values.items c.lines.found.items) c.lines.tally) e c.lines.invariant.going in
     let accepted = c.in-Ok.ensures.ok in
-    let turn = going_turn c.args.names.now c.args.checked.now (rows c.args.first (lines c.args.text.now)) c.lines.names _ _ c.lines.found.items c.lines.tally c.request.new.names c.in-Ok.request c.in-Ok.next (named_known c.args.names.now c.args.checked.now c.requires.named) before accepted in
+    let turn = going_turn c.args.names.now c.args.checked.now (rows c.args.first (lines c.args.text.now)) c.lines.names _ _ (requests_in c.lines.values.items c.lines.found.items) c.lines.tally c.request.new.names (request_in c.request.new.list.items c.in-Ok.entry) c.in-Ok.next (named_known c.args.names.now c.args.checked.now c.requires.named) before accepted in
     record {
       next = tt;
       finite = tt;
-      going = subst (λ f. Going c.args.names.now c.args.checked.now (rows c.args.first (lines c.args.text.now)) c.request.new.names (rows c.next.new.self.number (lines c.next.new.self.rest.now)) f c.in-Ok.next) (sym c.in_default-push.ensures.items) turn;
+      going = subst (λ f. Going c.args.names.now c.args.checked.now (rows c.args.first (lines c.args.text.now)) c.request.new.names (rows c.next.new.self.number (lines c.next.new.self.rest.now)) f c.in-Ok.next) (sym (ap (requests_in c.request.new.list.items) c.in_default-push.ensures.items ∙ requests_push c.lines.values.items c.request.new.list.items c.lines.found.items c.in-Ok.entry c.lines.invariant.within c.in-Ok.ensures.behind)) turn;
+      within = subst (AreWithin (length c.request.new.list.items)) (sym c.in_default-push.ensures.items) (within_push c.lines.values.items c.request.new.list.items c.lines.found.items c.in-Ok.entry c.lines.invariant.within c.in-Ok.ensures.behind);
       room = omega (arith, c.request.ensures.room, ap total steps.0, ap length c.in-Some-next.ensures.steps.0, c.lines.invariant.room);
     }
 
@@ -47,8 +51,8 @@ returns-in-Err-clause-refused c = λ e is some.
     let f : rows c.lines.lines.number (lines c.lines.lines.rest.now) ≡ row_of c.in-Some.number c.in-Some-next.name.now (words c.next-in-Some.new.self.rest.now) ∷ rows c.next.new.self.number (lines c.next.new.self.rest.now) =
     rows_step c.lines.lines.number c.in-Some.number c.next.new.self.number (lines c.lines.lines.rest.now) c.in-Some.line.rest.now (lines c.next.new.self.rest.now) c.in-Some-next.name.now (words c.next-in-Some.new.self.rest.now)
     steps.0 steps.1 steps.2 c.in-Some-next.ensures.steps.0 in
-    let before = subst (λ rs. Going c.args.names.now c.args.checked.now (rows c.args.first (lines c.args.text.now)) c.lines.names rs c.lines.found.items c.lines.tally) f c.lines.invariant.going in
-    going_fault c.args.names.now c.args.checked.now (rows c.args.first (lines c.args.text.now)) c.lines.names _ _ c.lines.found.items c.lines.tally e (named_known c.args.names.now c.args.checked.now c.requires.named) before
+    let before = subst (λ rs. Going c.args.names.now c.args.checked.now (rows c.args.first (lines c.args.text.now)) c.lines.names rs (requests_in c.lines.values.items c.lines.found.items) c.lines.tally) f c.lines.invariant.going in
+    going_fault c.args.names.now c.args.checked.now (rows c.args.first (lines c.args.text.now)) c.lines.names _ _ (requests_in c.lines.values.items c.lines.found.items) c.lines.tally e (named_known c.args.names.now c.args.checked.now c.requires.named) before
     (c.request.ensures.refused e (c.in-Err.is ∙ ap (λ x. Err x) k) some)
 
 pub lines-preserved : goal.lines-preserved
@@ -59,27 +63,34 @@ lines-preserved c =
     record {
       next = tt;
       finite = tt;
-      going = subst (λ rs. Going c.args.names.now c.args.checked.now (rows c.args.first (lines c.args.text.now)) c.lines.names rs c.lines.found.items c.lines.tally) f c.lines.invariant.going;
+      going = subst (λ rs. Going c.args.names.now c.args.checked.now (rows c.args.first (lines c.args.text.now)) c.lines.names rs (requests_in c.lines.values.items c.lines.found.items) c.lines.tally) f c.lines.invariant.going;
+      within = c.lines.invariant.within;
       room = omega (arith, ap total steps.0, c.lines.invariant.room);
     }
 
 pub returns-clause-ok : goal.returns-clause-ok
 returns-clause-ok c =
     let f : rows c.lines.lines.number (lines c.lines.lines.rest.now) ≡ [] = ap (rows c.lines.lines.number) c.in_default.ensures.steps.0 ∙ rows_nil c.lines.lines.number in
-    let last = subst (λ rs. Going c.args.names.now c.args.checked.now (rows c.args.first (lines c.args.text.now)) c.lines.names rs c.lines.found.items c.lines.tally) f c.lines.invariant.going in
-    subst (AreRequests c.args.names.now c.lines.names c.args.checked.now (rows c.args.first (lines c.args.text.now))) (sym (c.over.ensures ∙ c.from_vec.ensures))
-    (going_end c.args.names.now c.args.checked.now (rows c.args.first (lines c.args.text.now)) c.lines.names c.lines.found.items c.lines.tally last)
+    let last = subst (λ rs. Going c.args.names.now c.args.checked.now (rows c.args.first (lines c.args.text.now)) c.lines.names rs (requests_in c.lines.values.items c.lines.found.items) c.lines.tally) f c.lines.invariant.going in
+    subst (AreRequests c.args.names.now c.lines.names c.args.checked.now (rows c.args.first (lines c.args.text.now))) (sym c.over.ensures)
+    (going_end c.args.names.now c.args.checked.now (rows c.args.first (lines c.args.text.now)) c.lines.names (requests_in c.lines.values.items c.lines.found.items) c.lines.tally last)
 
 pub returns-clause-printable : goal.returns-clause-printable
 returns-clause-printable c =
     let f : rows c.lines.lines.number (lines c.lines.lines.rest.now) ≡ [] = ap (rows c.lines.lines.number) c.in_default.ensures.steps.0 ∙ rows_nil c.lines.lines.number in
-    let last = subst (λ rs. Going c.args.names.now c.args.checked.now (rows c.args.first (lines c.args.text.now)) c.lines.names rs c.lines.found.items c.lines.tally) f c.lines.invariant.going in
-    subst (ArePrintable c.lines.names) (sym (c.over.ensures ∙ c.from_vec.ensures))
-    (printable _ _ _ _ _ (going_end c.args.names.now c.args.checked.now (rows c.args.first (lines c.args.text.now)) c.lines.names c.lines.found.items c.lines.tally last))
+    let last = subst (λ rs. Going c.args.names.now c.args.checked.now (rows c.args.first (lines c.args.text.now)) c.lines.names rs (requests_in c.lines.values.items c.lines.found.items) c.lines.tally) f c.lines.invariant.going in
+    subst (ArePrintable c.lines.names) (sym c.over.ensures)
+    (printable _ _ _ _ _ (going_end c.args.names.now c.args.checked.now (rows c.args.first (lines c.args.text.now)) c.lines.names (requests_in c.lines.values.items c.lines.found.items) c.lines.tally last))
 
 pub returns-clause-servable : goal.returns-clause-servable
 returns-clause-servable c =
     let f : rows c.lines.lines.number (lines c.lines.lines.rest.now) ≡ [] = ap (rows c.lines.lines.number) c.in_default.ensures.steps.0 ∙ rows_nil c.lines.lines.number in
-    let last = subst (λ rs. Going c.args.names.now c.args.checked.now (rows c.args.first (lines c.args.text.now)) c.lines.names rs c.lines.found.items c.lines.tally) f c.lines.invariant.going in
-    subst (IsServable c.args.checked.now) (sym (c.over.ensures ∙ c.from_vec.ensures))
-    (going_served c.args.names.now c.args.checked.now (rows c.args.first (lines c.args.text.now)) c.lines.names c.lines.found.items c.lines.tally last)
+    let last = subst (λ rs. Going c.args.names.now c.args.checked.now (rows c.args.first (lines c.args.text.now)) c.lines.names rs (requests_in c.lines.values.items c.lines.found.items) c.lines.tally) f c.lines.invariant.going in
+    subst (IsServable c.args.checked.now) (sym c.over.ensures)
+    (going_served c.args.names.now c.args.checked.now (rows c.args.first (lines c.args.text.now)) c.lines.names (requests_in c.lines.values.items c.lines.found.items) c.lines.tally last)
+
+pub over-requires-clause-few : goal.over-requires-clause-few
+over-requires-clause-few c =
+    let going = c.lines.invariant.going in
+    let within = going.within.requests in
+    omega (arith, going.count, within, requests_long c.lines.values.items c.lines.found.items)

@@ -1,5 +1,6 @@
 use Rattle.std.proofs.Common.{◌+◌, ◌≤◌, length}
 use Rattle.request_files.specs.Text.{lines}
+use Rattle.request_files.specs.Entries.{AreWithin, requests_in}
 use Rattle.request_files.specs.Requests.{rows}
 use Rattle.request_files.proofs.TextLemmas.{total}
 use Rattle.request_files.proofs.RowLemmas.{Going}
@@ -9,6 +10,7 @@ abbrev pub invariant-lines : goal.invariant-lines
 invariant-lines l = record {
   next : (goal.iterator-lines).can_next l.lines;
   finite : (goal.iterator-lines).is_finite l.lines;
-  going : Going l.fn.names l.checked (rows l.first (lines l.text)) l.names (rows l.lines.number (lines l.lines.rest.now)) l.found.items l.tally;
+  going : Going l.fn.names l.checked (rows l.first (lines l.text)) l.names (rows l.lines.number (lines l.lines.rest.now)) (requests_in l.values.items l.found.items) l.tally;
+  within : AreWithin (length l.values.items) l.found.items;
   room : length l.names + total (lines l.lines.rest.now) ≤ length l.fn.names + length l.text;
 }
