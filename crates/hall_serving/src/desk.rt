@@ -102,8 +102,7 @@ impl<'a, S: Script + Drop, G: Gate> Desk for HallDesk<'a, S, G> {
     ghost at = { λ d. d.desk };
 
     fn call<R: Threads + Wait + Sync>(&mut self, rt: &R, op: Op) -> Result<Value, NoMemory> {
-        self.caller
-            .admit_with(rt, self.hall, op, &mut self.waits);
+        self.caller.admit_with(rt, self.hall, op, &mut self.waits);
         self.gate.pass(rt, Place::Admitted(self.ticket));
         let reply = self.caller.apply_with(rt, self.hall, &mut self.waits);
         self.gate.pass(rt, Place::Applied(self.ticket));
@@ -118,14 +117,12 @@ impl<'a, S: Script + Drop, G: Gate> Desk for HallDesk<'a, S, G> {
     }
 
     fn declare<R: Threads + Wait + Sync>(&mut self, rt: &R, f: &Foresight) {
-        self.caller
-            .declare_with(rt, self.hall, f, &mut self.waits);
+        self.caller.declare_with(rt, self.hall, f, &mut self.waits);
     }
 
     fn end<R: Threads + Wait + Sync>(&mut self, rt: &R, reply: Reply) {
         self.gate.pass(rt, Place::Ending(self.ticket));
-        self.caller
-            .end_with(rt, self.hall, reply, &mut self.waits);
+        self.caller.end_with(rt, self.hall, reply, &mut self.waits);
         self.reply = Some(reply);
         self.gate.pass(rt, Place::Ended(self.ticket));
     }

@@ -4,6 +4,7 @@ use std::thread;
 
 /// How many yields a pause grows by, and the most that it has.
 const STEP: u32 = 32;
+
 const MOST: u32 = 2_000;
 
 /// The pause of a caller before it begins its next ticket. It is twice as long, and a little longer,
