@@ -56,6 +56,7 @@ fn kinds_named(list: &[Symbol]) -> u32 {
 }
 
 /// A reply that a desk gave, which is a value that a program can hold.
+#[inline(always)]
 fn held(reply: Result<Value, NoMemory>) -> Result<Value, NoMemory>
     ensures same { result ≡ reply }
     ensures held { IfOk result IsValue }
@@ -85,8 +86,6 @@ pub(crate) struct Narrowing<'a, R> {
     pub(crate) settled: bool,
     /// The desk has still to be told of `next`.
     pub(crate) late: bool,
-    /// How many kinds the last declaration names.
-    pub(crate) kinds: u32,
     ghost exists: { handler < length program.now.file.handlers },
 }
 
@@ -120,7 +119,6 @@ impl<'a, R: Threads + Wait + Sync, D: Desk> Guide<D> for Narrowing<'a, R> {
     fn replied(&mut self, host: &mut D, point: u32, env: &[Value]) {
         let nothing = take_declaration(self.program, self.handler, point, env, &mut self.next);
         host.finish(self.rt, &self.next);
-        self.kinds = kinds_named(self.next.symbols());
         self.late = false;
         self.settled = nothing;
     }
@@ -129,15 +127,15 @@ impl<'a, R: Threads + Wait + Sync, D: Desk> Guide<D> for Narrowing<'a, R> {
         if self.settled {
             return;
         }
+        let before = kinds_named(self.next.symbols());
         let nothing = take_declaration(self.program, self.handler, point, env, &mut self.next);
         let kinds = kinds_named(self.next.symbols());
         self.settled = nothing;
-        if kinds == self.kinds {
+        if kinds == before {
             self.late = true;
             return;
         }
         host.declare(self.rt, &self.next);
-        self.kinds = kinds;
         self.late = false;
     }
 }

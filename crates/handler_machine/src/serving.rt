@@ -116,7 +116,6 @@ fn serve_handler<R: Threads + Wait + Sync, D: Desk>(
         next: foresight,
         settled: false,
         late: false,
-        kinds: 0,
     };
     let env = values.as_mut_slice();
     set_up(env, args);
@@ -128,7 +127,6 @@ fn serve_handler<R: Threads + Wait + Sync, D: Desk>(
         next,
         settled: _,
         late: _,
-        kinds: _,
     } = guide;
     scratch.put(Room {
         values,

@@ -29,8 +29,8 @@ take_declaration-nothing-requires-clause-point g c =
 pub take_declaration-nothing-requires-clause-room : goal.take_declaration-nothing-requires-clause-room
 take_declaration-nothing-requires-clause-room g c = c.requires.serves.3.1.roomy
 
-pub returns-then-kinds-self : goal.returns-then-kinds-self
-returns-then-kinds-self g c whole start next so_far =
+pub returns-then-kinds-before : goal.returns-then-kinds-before
+returns-then-kinds-before g c whole start next so_far =
     let at = g.D.Desk.at in
     let n = c.args.self.now in
     let now = at c.args.host.now in
