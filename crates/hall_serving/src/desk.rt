@@ -85,6 +85,11 @@ impl<'a, S: Script + Drop, G: Gate> HallDesk<'a, S, G> {
         caller
     }
 
+    // How often its caller had to wait.
+    pub(crate) fn waits(&self) -> u32 {
+        self.waits.count()
+    }
+
     /// The Reply with which the ticket was ended.
     pub fn reply(&self) -> Option<Reply>
         ensures is { result ≡ self.now.reply }

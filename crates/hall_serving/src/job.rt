@@ -57,6 +57,7 @@ fn serve_ticket<R: Threads + Wait + Sync, S: Serves + Drop, G: Gate>(
     let Some(reply) = desk.reply() else {
         unreachable!();
     };
+    pause.after(desk.waits());
     let HallDesk {
         hall: _,
         caller: _served,
@@ -64,9 +65,8 @@ fn serve_ticket<R: Threads + Wait + Sync, S: Serves + Drop, G: Gate>(
         ticket: _,
         done: _,
         reply: _,
-        waits,
+        waits: _,
     } = desk;
-    pause.after(waits.count());
     reply
 }
 

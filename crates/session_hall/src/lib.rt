@@ -7,7 +7,6 @@ mod applying;
 mod caller;
 mod closed;
 mod closing;
-mod declared;
 mod finishing;
 mod hall;
 mod opening;

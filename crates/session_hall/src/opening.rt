@@ -10,7 +10,6 @@ ghost use Rattle.session_hall.specs.Names.{script_of};
 ghost use Rattle.session_hall.specs.Openings.{AllNew, FirstValues, IsNew, NewParts, Rooms};
 
 use crate::caller::{Caller, Callers};
-use crate::declared::Declared;
 use crate::hall::{Hall, Sizes, Spare};
 use crate::stage::Stage;
 use admission_book::Book;
@@ -22,6 +21,7 @@ use shard_tables::{MapShard, SetShard};
 use std::alloc::Global;
 use std::snapshot::Snapshot;
 use std::sync::Mutex;
+use symbolic_ops::Foresight;
 use turn_board::{Board, Hands, Seat};
 
 // The room of each table.
@@ -110,7 +110,7 @@ fn new_caller<S: Script + Drop>(
 ) -> Result<Caller<S>, NoMemory>
     ensures { IfOk result (λ c. IsNew seat number c) }
 {
-    let foresight = Declared::with_room(alloc, MAX_SYMBOLS)?;
+    let foresight = Foresight::with_room(alloc, MAX_SYMBOLS)?;
     let hands = match Hands::with_room(alloc, MAX_SHARDS) {
         Ok(hands) => hands,
         Err(_) => return Err(NoMemory),

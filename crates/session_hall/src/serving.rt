@@ -38,7 +38,8 @@ impl<S: Script + Drop> Caller<S> {
                 return Began::AllBegun;
             }
         };
-        self.foresight.begin(&mut book, self.number, t);
+        book.script().entry(t, &mut self.foresight);
+        book.begin(self.number, &self.foresight);
         hall.board
             .give_all(&mut self.seat, Held::Register(book), &mut self.hands);
         self.stage = Stage::Serving(t);

@@ -20,31 +20,31 @@ returns-in-None-next_ticket-clause-caller g c =
 pub begin-requires-clause-may : goal.begin-requires-clause-may
 begin-requires-clause-may g c =
     may_begin g.S.Script.meaning c.args.hall.now c.args.self.now c.requires.caller c.requires.stage c.take_book.new.seat c.in-Some.book c.take_book.ensures.seat.1 c.in-Some.ensures.took
-    c.in-Some-next_ticket.t ((g.S.Script.meaning c.in-Some.book.script).entry c.in-Some-next_ticket.t) refl c.in-Some-next_ticket.ensures.0 c.in-Some-next_ticket.ensures.1
+    c.in-Some-next_ticket.t c.entry.new.out.symbols (ap (λ (x : ForesightView). x.symbols) c.entry.ensures ∙ ap (λ s. (g.S.Script.meaning s).entry c.in-Some-next_ticket.t) c.script.ensures.script) c.in-Some-next_ticket.ensures.0 c.in-Some-next_ticket.ensures.1
 
 pub give_all-requires-2-clause-moves : goal.give_all-requires-2-clause-moves
 give_all-requires-2-clause-moves g c =
     quiet_moves g.S.Script.meaning c.args.hall.now c.args.self.now c.requires.caller c.take_book.new.seat c.in-Some.book c.take_book.ensures.seat.1 c.in-Some.ensures.took
-    c.begin.new.book c.begin.ensures.stays.script c.begin.ensures.stays.lawful _
+    c.begin.new.self c.begin.ensures.stays.script c.begin.ensures.stays.lawful _
     (book_begun g.S.Script.meaning c.args.hall.now c.args.self.now c.requires.caller c.requires.stage c.take_book.new.seat c.in-Some.book c.take_book.ensures.seat.1 c.in-Some.ensures.took
-    c.in-Some-next_ticket.t ((g.S.Script.meaning c.in-Some.book.script).entry c.in-Some-next_ticket.t) refl c.in-Some-next_ticket.ensures.0 c.in-Some-next_ticket.ensures.1
-    c.begin.result c.begin.new.book c.begin.ensures.stays.script c.begin.ensures.stays.lawful c.begin.ensures.begins) _ refl
+    c.in-Some-next_ticket.t c.entry.new.out.symbols (ap (λ (x : ForesightView). x.symbols) c.entry.ensures ∙ ap (λ s. (g.S.Script.meaning s).entry c.in-Some-next_ticket.t) c.script.ensures.script) c.in-Some-next_ticket.ensures.0 c.in-Some-next_ticket.ensures.1
+    c.begin.result c.begin.new.self c.begin.ensures.stays.script c.begin.ensures.stays.lawful c.begin.ensures.begins) _ refl
     (begin_changes g.S.Script.meaning c.args.hall.now c.args.self.now c.requires.caller c.requires.stage c.take_book.new.seat c.in-Some.book c.take_book.ensures.seat.1 c.in-Some.ensures.took
-    c.in-Some-next_ticket.t ((g.S.Script.meaning c.in-Some.book.script).entry c.in-Some-next_ticket.t) refl c.in-Some-next_ticket.ensures.0 c.in-Some-next_ticket.ensures.1
-    c.begin.result c.begin.new.book c.begin.ensures.stays.script c.begin.ensures.stays.lawful c.begin.ensures.begins)
+    c.in-Some-next_ticket.t c.entry.new.out.symbols (ap (λ (x : ForesightView). x.symbols) c.entry.ensures ∙ ap (λ s. (g.S.Script.meaning s).entry c.in-Some-next_ticket.t) c.script.ensures.script) c.in-Some-next_ticket.ensures.0 c.in-Some-next_ticket.ensures.1
+    c.begin.result c.begin.new.self c.begin.ensures.stays.script c.begin.ensures.stays.lawful c.begin.ensures.begins)
     c.args.self.now.hands.pairs (no_pairs g.S.Script.meaning c.args.hall.now c.args.self.now c.requires.caller c.requires.stage)
 
 pub returns-clause-caller : goal.returns-clause-caller
 returns-clause-caller g c =
-    let room : 256 ≤ c.begin.new.self.room = omega (arith, ap (λ (x : ForesightView). x.room) c.begin.ensures.list, c.requires.caller.room) in
+    let room : 256 ≤ c.entry.new.out.room = omega (arith, ap (λ (x : ForesightView). x.room) c.entry.ensures, c.requires.caller.room) in
     begun_caller g.S.Script.meaning c.args.hall.now c.args.self.now c.requires.caller c.requires.stage c.take_book.new.seat c.in-Some.book c.take_book.ensures.seat.1 c.in-Some.ensures.took
-    c.in-Some-next_ticket.t ((g.S.Script.meaning c.in-Some.book.script).entry c.in-Some-next_ticket.t) refl c.in-Some-next_ticket.ensures.0 c.in-Some-next_ticket.ensures.1
-    c.begin.result c.begin.new.book c.begin.ensures.stays.script c.begin.ensures.stays.lawful c.begin.ensures.begins
-    _ c.give_all-2.ensures.seat c.give_all-2.ensures.booked c.give_all-2.ensures.hands.0 c.give_all-2.ensures.hands.1 refl (ap (λ (x : ForesightView). x.symbols) c.begin.ensures.list) refl room
+    c.in-Some-next_ticket.t c.entry.new.out.symbols (ap (λ (x : ForesightView). x.symbols) c.entry.ensures ∙ ap (λ s. (g.S.Script.meaning s).entry c.in-Some-next_ticket.t) c.script.ensures.script) c.in-Some-next_ticket.ensures.0 c.in-Some-next_ticket.ensures.1
+    c.begin.result c.begin.new.self c.begin.ensures.stays.script c.begin.ensures.stays.lawful c.begin.ensures.begins
+    _ c.give_all-2.ensures.seat c.give_all-2.ensures.booked c.give_all-2.ensures.hands.0 c.give_all-2.ensures.hands.1 refl refl refl room
 
 pub returns-clause-began : goal.returns-clause-began
 returns-clause-began g c =
     began_ticket g.S.Script.meaning c.args.hall.now c.args.self.now c.requires.caller c.requires.stage c.take_book.new.seat c.in-Some.book c.take_book.ensures.seat.1 c.in-Some.ensures.took
-    c.in-Some-next_ticket.t ((g.S.Script.meaning c.in-Some.book.script).entry c.in-Some-next_ticket.t) refl c.in-Some-next_ticket.ensures.0 c.in-Some-next_ticket.ensures.1
-    c.begin.result c.begin.new.book c.begin.ensures.stays.script c.begin.ensures.stays.lawful c.begin.ensures.begins
-    _ c.give_all-2.ensures.seat c.give_all-2.ensures.booked c.give_all-2.ensures.hands.0 c.give_all-2.ensures.hands.1 refl (ap (λ (x : ForesightView). x.symbols) c.begin.ensures.list) refl
+    c.in-Some-next_ticket.t c.entry.new.out.symbols (ap (λ (x : ForesightView). x.symbols) c.entry.ensures ∙ ap (λ s. (g.S.Script.meaning s).entry c.in-Some-next_ticket.t) c.script.ensures.script) c.in-Some-next_ticket.ensures.0 c.in-Some-next_ticket.ensures.1
+    c.begin.result c.begin.new.self c.begin.ensures.stays.script c.begin.ensures.stays.lawful c.begin.ensures.begins
+    _ c.give_all-2.ensures.seat c.give_all-2.ensures.booked c.give_all-2.ensures.hands.0 c.give_all-2.ensures.hands.1 refl refl refl
