@@ -105,7 +105,7 @@ going_start old f rs0 = record {
   asked = tt;
 }
 
-fault_step : (old : List Text) (f : File) (t : Tally) (r : Row) (rs : List Row) → first_fault old f t (r ∷ rs) ≡ option_or (fault_of old f t r) (first_fault old f (with_request f (handler_of old f r.name) t) rs)
+pub fault_step : (old : List Text) (f : File) (t : Tally) (r : Row) (rs : List Row) → first_fault old f t (r ∷ rs) ≡ option_or (fault_of old f t r) (first_fault old f (with_request f (handler_of old f r.name) t) rs)
 unfolding first_fault
 fault_step old f t r rs = refl
 
@@ -135,7 +135,7 @@ pub going_fault : (old : List Text) (f : File) (rs0 : List Row) (names : List Te
 going_fault old f rs0 names r rs found t e k g w =
     sym g.faults ∙ fault_step old f t r rs ∙ ap (λ w. option_or w (first_fault old f (with_request f (handler_of old f r.name) t) rs)) (sym (fault_kept old names f t r g.kept k) ∙ w)
 
-first_nil : (old : List Text) (f : File) (t : Tally) → first_fault old f t [] ≡ None
+pub first_nil : (old : List Text) (f : File) (t : Tally) → first_fault old f t [] ≡ None
 unfolding first_fault
 first_nil old f t = refl
 

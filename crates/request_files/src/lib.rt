@@ -5,6 +5,7 @@
 mod arguments;
 mod divided;
 mod entry;
+pub mod laws;
 mod line;
 mod lines;
 mod reading;

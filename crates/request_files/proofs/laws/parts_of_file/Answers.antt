@@ -1,0 +1,5 @@
+use Rattle.request_files.proofs.WholeTexts.{parts_are}
+use Rattle.request_files.proofs.laws.parts_of_file.Goals as goal
+
+pub returns : goal.returns
+returns c = parts_are

@@ -1,0 +1,48 @@
+//! Laws of the definitions: each is the contract of a function with an empty body.
+
+ghost use Rattle.std.specs.Prelude.{◌≡◌, ℕ, ◌<◌, List, [], ◌∷◌, ◌++◌, length, None, Some};
+ghost use Rattle.session_limits.specs.Limits.{max_requests, max_session_calls};
+ghost use Rattle.syntax_trees.specs.declared.file.File.{File};
+ghost use Rattle.request_files.specs.declared.refusal.RequestRefusal.TheVariants.{TooManyCalls, TooManyRequests};
+ghost use Rattle.request_files.specs.Divide.{Divides};
+ghost use Rattle.request_files.specs.Laws.{AreLinesOf, AreParts, AreWordsOf, CallsPass, IsOneTooMany, IsWellFormed, calls_named};
+ghost use Rattle.request_files.specs.Requests.{Row, first_fault, no_requests};
+ghost use Rattle.request_files.specs.Text.{Text, lines, words};
+
+/// The lines of a text with their line feeds are the text.
+pub fn lines_of_text()
+    ensures { (text : Text) → AreLinesOf text (lines text) }
+{}
+
+/// The words of a line with their blanks are the line before its comment.
+pub fn words_of_line()
+    ensures { (line : Text) → AreWordsOf line (words line) }
+{}
+
+/// Head, dividing line and tail are the file.
+pub fn parts_of_file()
+    ensures { (text head tail : Text) (first : ℕ) → Divides text head tail first →
+        AreParts text head tail first }
+{}
+
+/// The row that is refused for too many calls is the first with which their sum passes the limit.
+pub fn calls_within_limit()
+    ensures told { (names : List Text) (f : File) (rs : List Row) (line : ℕ) →
+        first_fault names f no_requests rs ≡ Some (TooManyCalls line) → CallsPass names f rs line }
+    ensures refused { (names : List Text) (f : File) (front : List Row) (row : Row)
+        (back : List Row) → first_fault names f no_requests front ≡ None →
+        length front < max_requests → IsWellFormed names f row →
+        max_session_calls < calls_named names f (front ++ row ∷ []) →
+        first_fault names f no_requests (front ++ row ∷ back) ≡ Some (TooManyCalls row.line) }
+{}
+
+/// The row behind 20,000 requests is refused, whatever it says, and no other for its place.
+pub fn requests_within_limit()
+    ensures told { (names : List Text) (f : File) (rs : List Row) (line : ℕ) →
+        first_fault names f no_requests rs ≡ Some (TooManyRequests line) →
+        IsOneTooMany names f rs line }
+    ensures refused { (names : List Text) (f : File) (front : List Row) (row : Row)
+        (back : List Row) → first_fault names f no_requests front ≡ None →
+        length front ≡ max_requests →
+        first_fault names f no_requests (front ++ row ∷ back) ≡ Some (TooManyRequests row.line) }
+{}
