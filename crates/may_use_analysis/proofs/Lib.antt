@@ -1,3 +1,4 @@
+pub mod Answered
 pub mod Arranged
 pub mod Different
 pub mod Finite

@@ -5,7 +5,7 @@ ghost use Rattle.symbolic_ops.specs.declared.symbol.Symbol.{Symbol};
 ghost use Rattle.syntax_trees.specs.declared.file.File.{File};
 ghost use Rattle.check_meaning.specs.Code.{Code};
 ghost use Rattle.may_use_analysis.specs.declared.refusal.AnalysisRefusal.{AnalysisRefusal};
-ghost use Rattle.may_use_analysis.specs.Later.{AreLater, IsLaterList, IsTooMany};
+ghost use Rattle.may_use_analysis.specs.Later.{AreLater, HasAnswer, IsLaterList, IsTooMany};
 ghost use Rattle.may_use_analysis.specs.Steps.{Step};
 ghost use Rattle.may_use_analysis.specs.Trails.{Shows, ShowsSomewhere};
 
@@ -16,6 +16,12 @@ pub fn one_answer()
     ensures refusal { (f : File) (d e : AnalysisRefusal) → IsTooMany f d → IsTooMany f e → d ≡ e }
     ensures apart { (f : File) (all : List (List (List Symbol))) (e : AnalysisRefusal)
         → AreLater f all → IsTooMany f e → ⊥ }
+{}
+
+/// A file has an answer: lists of at most 256 symbols for all its points, or a first point that has
+/// more, with their number.
+pub fn some_answer()
+    ensures { (f : File) → HasAnswer f }
 {}
 
 /// The symbols of all trails from a point are finitely many: there is a list of them.
