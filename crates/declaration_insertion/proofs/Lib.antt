@@ -3,5 +3,5 @@ pub mod Extends
 pub mod Law
 pub mod Programs
 pub mod SetLaw
-pub mod Vars
+pub mod Values
 pub mod Whole

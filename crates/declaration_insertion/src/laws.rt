@@ -13,6 +13,7 @@ ghost use Rattle.check_meaning.specs.Dialogue.{env_of};
 ghost use Rattle.check_meaning.specs.Within.{CodeWithin};
 ghost use Rattle.handler_check.specs.Resolved.{code_at};
 ghost use Rattle.may_use_analysis.specs.Later.{HasLists};
+ghost use Rattle.may_use_analysis.specs.Own.{IsOfHandler};
 ghost use Rattle.declaration_insertion.specs.Promises.{ArePromised, listed, symbol_at};
 ghost use Rattle.declaration_insertion.specs.Program.{IsProgram, ProgramView, declared_at};
 
@@ -27,11 +28,13 @@ pub fn declarations_cover()
 {}
 
 /// The same of each handler of a program. Its declarations name its own variables alone, of which
-/// there are at most 32.
+/// there are at most 32, and tables of the file.
 pub fn programs_declare()
     ensures promised { (p : ProgramView) → IsProgram p → (h : ℕ) → h < length p.file.handlers
         → (args : List Value) → AllByRecursion IsValue args
         → ArePromised (code_at p.file h) (declared_at p h) (env_of args) }
+    ensures own { (p : ProgramView) → IsProgram p → (h : ℕ) → h < length p.file.handlers
+        → (point : ℕ) → AllByRecursion (IsOfHandler p.file h) (declared_at p h point) }
     ensures vars { (p : ProgramView) → IsProgram p → (h : ℕ) → h < length p.file.handlers
         → (point : ℕ) → AllByRecursion (λ s. IsWithin max_variables s) (declared_at p h point) }
 {}

@@ -143,10 +143,10 @@ tables_in_order f keeps before name at s =
 
 -- ---- marks
 
--- a name is the number of one of 32 variables, an operation has its table and its arguments, and a block is done 1 to 1000 times
+-- a name is the number of one of the variables, an operation has its table and its arguments, and a block is done 1 to 1000 times
 abbrev pub IsFine : List TableKind → List ℕ → List ℕ → Mark → Type 0
-IsFine shape tables variables (Declared name at) = number_in variables name < 32
-IsFine shape tables variables (Mentioned name at visible) = number_in variables name < 32
+IsFine shape tables variables (Declared name at) = number_in variables name < length variables
+IsFine shape tables variables (Mentioned name at visible) = number_in variables name < length variables
 IsFine shape tables variables (Operation kind count at) = count ≡ arguments kind
 IsFine shape tables variables (OnTable kind name at) = slice_get shape (number_in tables name) ≡ Some (home kind)
 IsFine shape tables variables (Turns n at) = (0 < n) × (n ≤ 1000)
@@ -172,8 +172,8 @@ some_turns n h = (first (n == 0) refl, last (nat_lt 1000 n) refl)
     last false e = smaller e
 
 module _ (f : File) (h : Handler) (keeps : KeepsRules f) (among : Contains f.handlers h) where
-  below : (name : ℕ) → slice_get (variables_of h) (number_in (variables_of h) name) ≡ Some name → number_in (variables_of h) name < 32
-  below name e = (let l = slice_get_within (variables_of h) (number_in (variables_of h) name) name e in let few = few_variables f h keeps among in omega (arith, l, few))
+  below : (name : ℕ) → slice_get (variables_of h) (number_in (variables_of h) name) ≡ Some name → number_in (variables_of h) name < length (variables_of h)
+  below name e = slice_get_within (variables_of h) (number_in (variables_of h) name) name e
 
   fine_mark : (before : List Mark) (m : Mark) → Stands (handler_marks h) before m → IsFine (shape_of f) (table_names f) (variables_of h) m
   fine_mark before (Declared name at) s =

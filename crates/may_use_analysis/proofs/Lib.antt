@@ -8,6 +8,7 @@ pub mod Literal
 pub mod LoopLemmas
 pub mod Members
 pub mod Numbers
+pub mod Own
 pub mod PlaceLemmas
 pub mod PointLemmas
 pub mod Records
