@@ -2,6 +2,7 @@ pub mod Carry
 pub mod Extends
 pub mod Law
 pub mod Programs
+pub mod SamePoints
 pub mod SetLaw
-pub mod Vars
+pub mod Values
 pub mod Whole

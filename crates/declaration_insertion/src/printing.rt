@@ -1,11 +1,11 @@
 // The text of a program.
 
 ghost use Rattle.std.specs.Prelude.{◌≡◌, IfOk, slice_get, string_bytes};
-ghost use Rattle.handler_check.specs.Resolved.{table_names};
+ghost use Rattle.handler_check.specs.Resolved.{table_names, variables_at};
 ghost use Rattle.syntax_printer.specs.Lines.{shown_text};
 ghost use Rattle.syntax_trees.specs.Mentions.{AreNamed, file_mentions};
 ghost use Rattle.declaration_insertion.specs.Program.{declared_at};
-ghost use Rattle.declaration_insertion.specs.Shown.{shown_of, variables_at};
+ghost use Rattle.declaration_insertion.specs.Shown.{shown_of};
 
 use crate::program::Program;
 use session_values::{Names, NoMemory};

@@ -7,6 +7,7 @@ ghost use Rattle.symbolic_ops.specs.Instantiate.{IsWithin};
 ghost use Rattle.check_meaning.specs.Code.{points};
 ghost use Rattle.handler_check.specs.Resolved.{code_at};
 ghost use Rattle.may_use_analysis.specs.Later.{AreLater};
+ghost use Rattle.may_use_analysis.specs.Own.{IsOfHandler};
 ghost use Rattle.declaration_insertion.specs.Program.{IsProgram, declared_at};
 
 use handler_check::Checked;
@@ -62,6 +63,8 @@ impl Program {
         ensures list { result.now ≡ declared_at self.now h 0 }
         ensures few { length result.now ≤ max_symbols }
         ensures vars { AllByRecursion (λ s. IsWithin max_variables s) result.now }
+        // Its variables are those of the handler, and its tables are there.
+        ensures own { AllByRecursion (IsOfHandler self.now.file h) result.now }
     {
         self.declaration(h, 0)
     }
@@ -73,6 +76,8 @@ impl Program {
         ensures list { result.now ≡ declared_at self.now h point }
         ensures few { length result.now ≤ max_symbols }
         ensures vars { AllByRecursion (λ s. IsWithin max_variables s) result.now }
+        // Its variables are those of the handler, and its tables are there.
+        ensures own { AllByRecursion (IsOfHandler self.now.file h) result.now }
     {
         self.later.list(h, point)
     }

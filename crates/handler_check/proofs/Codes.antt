@@ -18,17 +18,19 @@ use Rattle.syntax_trees.specs.declared.file.Param.{Param}
 use Rattle.syntax_trees.specs.Alone.{alone}
 use Rattle.syntax_trees.specs.Mentions.{Mention, atom_mentions, expr_mentions, right_mentions}
 use Rattle.syntax_trees.proofs.Mentions.{mentions_leaf, mentions_binary, all_first}
-use Rattle.check_meaning.specs.declared.tree.CheckedAtom.TheVariants.{Lit}
+use Rattle.check_meaning.specs.declared.tree.CheckedAtom.{CheckedAtom}
+use Rattle.check_meaning.specs.declared.tree.CheckedAtom.TheVariants.{Lit, Var}
+use Rattle.check_meaning.specs.declared.tree.CheckedCall.{CheckedCall}
 use Rattle.check_meaning.specs.Code.{Term, Calculate, Code}
 use Rattle.check_meaning.specs.Code as code
 use Rattle.check_meaning.specs.Bounds.{calls_bound, work_bound}
-use Rattle.check_meaning.specs.Within.{AtomWithin, TermWithin, CallWithin, CodeWithin}
+use Rattle.check_meaning.specs.Within.{AtomWithin, TermWithin, CallWithin, CodeWithin, VarWithin}
 use Rattle.check_rules.specs.Bounds.{KeepsBounds}
 use Rattle.check_rules.specs.Marks.{Mark, Declared, Mentioned, Operation, OnTable, Turns, declared, sees, seeing, atom_marks, expr_marks, call_marks, right_marks, cond_marks, marks, param_marks, param_names}
 use Rattle.check_rules.specs.Source.{Source, Finish, Let, Assign, Do, Choose, Repeat, Answer, block_source}
 use Rattle.handler_check.specs.Checked.{HandlerWithin}
 use Rattle.handler_check.specs.Checking.{IsAccepted}
-use Rattle.handler_check.specs.Resolved.{number_in, atom_of, term_of, key_of, value_of, call_of, stored, right_points, code_of, points_of, handler_code, code_in, params_in, shape_of, table_names, variables_of}
+use Rattle.handler_check.specs.Resolved.{number_in, atom_of, term_of, key_of, value_of, call_of, stored, right_points, code_of, points_of, handler_code, code_at, code_in, params_in, shape_of, table_names, variables_at, variables_in, variables_of}
 use Rattle.handler_check.proofs.Cases.{expr_induction, marks_leaf, marks_binary}
 use Rattle.handler_check.proofs.Fine.{IsFine, AreFine, all_fine, few_variables}
 use Rattle.handler_check.proofs.Held.{IsSmall, AreSmall, IsHeldBlock, held_handler}
@@ -66,25 +68,25 @@ module _ (shape : List TableKind) (tables variables : List ℕ) where
   smalls : (ms ns : List Mention) → AreSmall (ms ++ ns) → AreSmall ms × AreSmall ns
   smalls ms ns h = all_first IsSmall ms ns h
 
-  atom_within : (a : Atom) → Fine (atom_marks a) → AreSmall (atom_mentions a) → AtomWithin 32 (atom_of variables a)
+  atom_within : (a : Atom) → Fine (atom_marks a) → AreSmall (atom_mentions a) → AtomWithin (length variables) (atom_of variables a)
   atom_within (atom.Lit Nil) h k = tt
   atom_within (atom.Lit (Num z)) h k = k.0.0
   atom_within (atom.Lit (Sym p)) h k = k.0.1
   atom_within (atom.Name name at) h k = h.0
 
   abbrev IsWithin : Expr → Type 0
-  IsWithin e = Fine (expr_marks e) → AreSmall (expr_mentions e) → TermWithin 32 (term_of variables e)
+  IsWithin e = Fine (expr_marks e) → AreSmall (expr_mentions e) → TermWithin (length variables) (term_of variables e)
 
   binary_within : (c : Calc) (l r : Expr) → IsWithin l → IsWithin r → IsWithin (expr.Binary c (l, r))
   binary_within c l r f g h k =
       let a = parts (expr_marks l) (expr_marks r) (subst Fine (marks_binary c l r) h) in
       let b = smalls (expr_mentions l) (expr_mentions r) (subst AreSmall (mentions_binary c l r) k) in
-      subst (TermWithin 32) (sym (term_binary variables c l r)) (f a.0 b.0, g a.1 b.1)
+      subst (TermWithin (length variables)) (sym (term_binary variables c l r)) (f a.0 b.0, g a.1 b.1)
 
   term_within : (e : Expr) → IsWithin e
-  term_within = expr_induction IsWithin (λ a h k. subst (TermWithin 32) (sym (term_leaf variables a)) (atom_within a (subst Fine (marks_leaf a) h) (subst AreSmall (mentions_leaf a) k))) binary_within
+  term_within = expr_induction IsWithin (λ a h k. subst (TermWithin (length variables)) (sym (term_leaf variables a)) (atom_within a (subst Fine (marks_leaf a) h) (subst AreSmall (mentions_leaf a) k))) binary_within
 
-  terms_within : (es : List Expr) → Fine (flat_map expr_marks es) → AreSmall (flat_map expr_mentions es) → AllByRecursion (TermWithin 32) (map (term_of variables) es)
+  terms_within : (es : List Expr) → Fine (flat_map expr_marks es) → AreSmall (flat_map expr_mentions es) → AllByRecursion (TermWithin (length variables)) (map (term_of variables) es)
   terms_within [] h k = tt
   terms_within (e ∷ es) h k =
       let a = parts (expr_marks e) (flat_map expr_marks es) h in
@@ -95,11 +97,11 @@ module _ (shape : List TableKind) (tables variables : List ℕ) where
   terms_long [] = refl
   terms_long (e ∷ es) = ap suc (terms_long es)
 
-  key_within : (args : List Atom) → Fine (flat_map atom_marks args) → AreSmall (flat_map atom_mentions args) → AtomWithin 32 (key_of variables args)
+  key_within : (args : List Atom) → Fine (flat_map atom_marks args) → AreSmall (flat_map atom_mentions args) → AtomWithin (length variables) (key_of variables args)
   key_within [] h k = tt
   key_within (a ∷ more) h k = atom_within a (parts (atom_marks a) (flat_map atom_marks more) h).0 (smalls (atom_mentions a) (flat_map atom_mentions more) k).0
 
-  value_within : (args : List Atom) → Fine (flat_map atom_marks args) → AreSmall (flat_map atom_mentions args) → AtomWithin 32 (value_of variables args)
+  value_within : (args : List Atom) → Fine (flat_map atom_marks args) → AreSmall (flat_map atom_mentions args) → AtomWithin (length variables) (value_of variables args)
   value_within [] h k = tt
   value_within (a ∷ []) h k = tt
   value_within (a ∷ b ∷ more) h k = key_within (b ∷ more) (parts (atom_marks a) (flat_map atom_marks (b ∷ more)) h).1 (smalls (atom_mentions a) (flat_map atom_mentions (b ∷ more)) k).1
@@ -113,7 +115,7 @@ module _ (shape : List TableKind) (tables variables : List ℕ) where
   no_value (a ∷ []) n e l = refl
   no_value (a ∷ b ∷ more) n e l = absurd (omega arith)
 
-  call_within : (c : Call) → Fine (call_marks c) → AreSmall (flat_map atom_mentions c.args) → CallWithin shape 32 (call_of tables variables c)
+  call_within : (c : Call) → Fine (call_marks c) → AreSmall (flat_map atom_mentions c.args) → CallWithin shape (length variables) (call_of tables variables c)
   call_within c h k = record {
     table = h.1.0;
     key = key_within c.args h.1.1 k;
@@ -122,11 +124,11 @@ module _ (shape : List TableKind) (tables variables : List ℕ) where
     no_value = λ l. no_value c.args (arguments c.kind) h.0 l;
   }
 
-  stored_within : (name : ℕ) (r : Right) (p : ℕ) (rest : Code) → number_in variables name < 32 → Fine (right_marks r) → AreSmall (right_mentions r) → CodeWithin shape 32 rest → CodeWithin shape 32 (stored tables variables name r p rest)
+  stored_within : (name : ℕ) (r : Right) (p : ℕ) (rest : Code) → number_in variables name < length variables → Fine (right_marks r) → AreSmall (right_mentions r) → CodeWithin shape (length variables) rest → CodeWithin shape (length variables) (stored tables variables name r p rest)
   stored_within name (right.Plain e) p rest l h k w = (l, term_within e h k, w)
   stored_within name (right.Result c) p rest l h k w = (l, call_within c h k.1, w)
 
-  code_within : (s : Source) (p : ℕ) → Fine (marks s) → IsHeldBlock s → CodeWithin shape 32 (code_of tables variables s p)
+  code_within : (s : Source) (p : ℕ) → Fine (marks s) → IsHeldBlock s → CodeWithin shape (length variables) (code_of tables variables s p)
   code_within Finish p h k = tt
   code_within (Let n at r rest) p h k =
       let a = parts (right_marks r) (seeing (n ∷ []) (marks rest)) h.1 in
@@ -156,6 +158,43 @@ module _ (shape : List TableKind) (tables variables : List ℕ) where
       let few = k.1 in
       (omega (arith, long, some), omega (arith, long, few), terms_within es x.0 k.2, code_within rest p x.1 k.3)
 
+-- ---- more variables
+module _ (shape : List TableKind) (n m : ℕ) (le : n ≤ m) where
+  more_atom : (a : CheckedAtom) → AtomWithin n a → AtomWithin m a
+  more_atom (Lit v) h = h
+  more_atom (Var x) h = omega (arith, le, h)
+
+  more_term : (t : Term) → TermWithin n t → TermWithin m t
+  more_term (code.Atom a) h = more_atom a h
+  more_term (Calculate c l r) h = (more_term l h.0, more_term r h.1)
+
+  more_terms : (ts : List Term) → AllByRecursion (TermWithin n) ts → AllByRecursion (TermWithin m) ts
+  more_terms [] h = tt
+  more_terms (t ∷ ts) h = (more_term t h.0, more_terms ts h.1)
+
+  more_call : (c : CheckedCall) → CallWithin shape n c → CallWithin shape m c
+  more_call c h = record {
+    table = h.table;
+    key = more_atom c.key h.key;
+    value = more_atom c.value h.value;
+    no_key = h.no_key;
+    no_value = h.no_value;
+  }
+
+  more_var : (x : Option ℕ) → VarWithin n x → VarWithin m x
+  more_var None h = tt
+  more_var (Some x) h = omega (arith, le, h)
+
+  pub more_code : (c : Code) → CodeWithin shape n c → CodeWithin shape m c
+  more_code code.Finish h = tt
+  more_code (code.Move x e rest) h = (let l = h.0 in omega (arith, le, l), more_term e h.1, more_code rest h.2)
+  more_code (code.Ask at p x c rest) h = (more_var x h.0, more_call c h.1, more_code rest h.2)
+  more_code (code.Fork at p q test a b rest) h =
+      ((more_term test.left h.0.0, more_term test.right h.0.1), more_code a h.1, more_code b h.2, more_code rest h.3)
+  more_code (code.Loop at p turns x body rest) h =
+      (let l = h.0 in omega (arith, le, l), h.1, h.2, more_code body h.3, more_code rest h.4)
+  more_code (code.Quit es rest) h = (h.0, h.1, more_terms es h.2, more_code rest h.3)
+
 -- ---- handlers
 few_params : (f : File) (h : Handler) → IsAccepted f → Contains f.handlers h → length h.params ≤ 32
 few_params f h a among =
@@ -169,7 +208,7 @@ few_params f h a among =
     names_long [] = refl
     names_long (p ∷ ps) = ap suc (names_long ps)
 
-handler_within : (f : File) (h : Handler) → IsAccepted f → KeepsBounds f → Contains f.handlers h → CodeWithin (shape_of f) 32 (handler_code f h)
+handler_within : (f : File) (h : Handler) → IsAccepted f → KeepsBounds f → Contains f.handlers h → CodeWithin (shape_of f) (length (variables_of h)) (handler_code f h)
 handler_within f h a bounds among =
     let names : List ℕ = param_names h.params in
     let body : List Mark = marks (block_source h.body) in
@@ -179,7 +218,9 @@ handler_within f h a bounds among =
 pub all_within : (f : File) → IsAccepted f → KeepsBounds f → (i : ℕ) → HandlerWithin f i
 all_within f a bounds i = record {
   params = params (slice_get f.handlers i) refl;
-  within = within (slice_get f.handlers i) refl;
+  within = more_code (shape_of f) (length (variables_at f i)) 32 (variables (slice_get f.handlers i) refl) (code_at f i) (within (slice_get f.handlers i) refl);
+  variables = variables (slice_get f.handlers i) refl;
+  own = within (slice_get f.handlers i) refl;
   numbered = points (slice_get f.handlers i);
   calls = calls (slice_get f.handlers i) refl;
   work = work (slice_get f.handlers i) refl;
@@ -189,7 +230,11 @@ all_within f a bounds i = record {
     params None e = omega arith
     params (Some h) e = few_params f h a (in_file f.handlers i h e)
 
-    within : (o : Option Handler) → slice_get f.handlers i ≡ o → CodeWithin (shape_of f) 32 (code_in f o)
+    variables : (o : Option Handler) → slice_get f.handlers i ≡ o → length (variables_in o) ≤ 32
+    variables None e = omega arith
+    variables (Some h) e = few_variables f h a.keeps (in_file f.handlers i h e)
+
+    within : (o : Option Handler) → slice_get f.handlers i ≡ o → CodeWithin (shape_of f) (length (variables_in o)) (code_in f o)
     within None e = tt
     within (Some h) e = handler_within f h a bounds (in_file f.handlers i h e)
 

@@ -15,7 +15,7 @@ use Rattle.syntax_trees.specs.declared.file.TableDecl.{TableDecl}
 use Rattle.check_rules.specs.declared.refusal.CheckRefusal.TheVariants.{Twice, Unknown, Arity, WrongTable, RepeatBound, TooManyTables, TooManyHandlers, TooManyVariables}
 use Rattle.check_rules.specs.FirstFault.{KeepsRules}
 use Rattle.check_rules.specs.Marks.{Mark, Declared, Mentioned, Operation, OnTable, Turns, declared, handler_marks, table_marks, name_marks}
-use Rattle.check_rules.specs.Rules.{Stands, IsPast, kind_of}
+use Rattle.check_rules.specs.Rules.{Stands, IsPast, IsTwice, kind_of}
 use Rattle.check_rules.specs.Scan.{is_same_kind}
 use Rattle.check_rules.proofs.Texts.{declared_append}
 use Rattle.handler_check.specs.Resolved.{number_in, variables_of, shape_of, table_names, StandsForTable}
@@ -119,12 +119,34 @@ module _ (f : File) (h : Handler) (keeps : KeepsRules f) (among : Contains f.han
         fit = kind_at f.tables name (home kind) kept;
       }
 
+-- ---- names in their order
+seam : (xs : List ℕ) (x : ℕ) (ys : List ℕ) → slice_get (xs ++ x ∷ ys) (length xs) ≡ Some x
+seam [] x ys = refl
+seam (y ∷ xs) x ys = seam xs x ys
+
+-- the number of a declared name is how many were declared before it
+in_order : (text before : List Mark) (name at : ℕ) → ((p : ℕ) → IsTwice text p → ⊥) → Stands text before (Declared name at) → number_in (declared text) name ≡ length (declared before)
+in_order text before name at never s =
+    let rest : List ℕ = declared s.after in
+    let whole : declared text ≡ declared before ++ name ∷ rest = ap declared s.is ∙ declared_append before (Declared name at ∷ s.after) in
+    let among : Contains (declared text) name = subst (λ (x : List ℕ). Contains x name) (sym whole) (Contains-append_right (declared before) (name ∷ rest) name (0, omega arith, refl)) in
+    let here : slice_get (declared text) (length (declared before)) ≡ Some name = subst (λ (x : List ℕ). slice_get x (length (declared before)) ≡ Some name) (sym whole) (seam (declared before) name rest) in
+    one_number (declared text) [] (number_in (declared text) name) (length (declared before)) name (fresh_text text [] text refl never) (named_at (declared text) name among.0 among.1 among.2) here
+
+pub variables_in_order : (f : File) (h : Handler) → KeepsRules f → Contains f.handlers h → (before : List Mark) (name at : ℕ) → Stands (handler_marks h) before (Declared name at) → number_in (variables_of h) name ≡ length (declared before)
+variables_in_order f h keeps among before name at s =
+    in_order (handler_marks h) before name at (λ p t. keeps (Twice p) (inr (inr (h, among, t)))) s
+
+pub tables_in_order : (f : File) → KeepsRules f → (before : List Mark) (name at : ℕ) → Stands (table_marks f.tables) before (Declared name at) → number_in (table_names f) name ≡ length (declared before)
+tables_in_order f keeps before name at s =
+    subst (λ (x : List ℕ). number_in x name ≡ length (declared before)) (tables_declared f.tables) (in_order (table_marks f.tables) before name at (λ p t. keeps (Twice p) (inl t)) s)
+
 -- ---- marks
 
--- a name is the number of one of 32 variables, an operation has its table and its arguments, and a block is done 1 to 1000 times
+-- a name is the number of one of the variables, an operation has its table and its arguments, and a block is done 1 to 1000 times
 abbrev pub IsFine : List TableKind → List ℕ → List ℕ → Mark → Type 0
-IsFine shape tables variables (Declared name at) = number_in variables name < 32
-IsFine shape tables variables (Mentioned name at visible) = number_in variables name < 32
+IsFine shape tables variables (Declared name at) = number_in variables name < length variables
+IsFine shape tables variables (Mentioned name at visible) = number_in variables name < length variables
 IsFine shape tables variables (Operation kind count at) = count ≡ arguments kind
 IsFine shape tables variables (OnTable kind name at) = slice_get shape (number_in tables name) ≡ Some (home kind)
 IsFine shape tables variables (Turns n at) = (0 < n) × (n ≤ 1000)
@@ -150,8 +172,8 @@ some_turns n h = (first (n == 0) refl, last (nat_lt 1000 n) refl)
     last false e = smaller e
 
 module _ (f : File) (h : Handler) (keeps : KeepsRules f) (among : Contains f.handlers h) where
-  below : (name : ℕ) → slice_get (variables_of h) (number_in (variables_of h) name) ≡ Some name → number_in (variables_of h) name < 32
-  below name e = (let l = slice_get_within (variables_of h) (number_in (variables_of h) name) name e in let few = few_variables f h keeps among in omega (arith, l, few))
+  below : (name : ℕ) → slice_get (variables_of h) (number_in (variables_of h) name) ≡ Some name → number_in (variables_of h) name < length (variables_of h)
+  below name e = slice_get_within (variables_of h) (number_in (variables_of h) name) name e
 
   fine_mark : (before : List Mark) (m : Mark) → Stands (handler_marks h) before m → IsFine (shape_of f) (table_names f) (variables_of h) m
   fine_mark before (Declared name at) s =

@@ -1,5 +1,5 @@
 -- Checked files.
-use Rattle.std.specs.Prelude.{◌≡◌, ℕ, ◌≤◌, List}
+use Rattle.std.specs.Prelude.{◌≡◌, ℕ, ◌≤◌, List, length}
 use Rattle.std.specs.List.{AllZip}
 use Rattle.session_limits.specs.Limits.{max_calls, max_variables, max_work}
 use Rattle.syntax_trees.specs.declared.file.File.{File}
@@ -10,13 +10,16 @@ use Rattle.check_meaning.specs.Within.{CodeWithin}
 use Rattle.check_rules.specs.Bounds.{KeepsBounds}
 use Rattle.handler_check.specs.declared.bounds.HandlerBounds.{HandlerBounds}
 use Rattle.handler_check.specs.Checking.{IsAccepted}
-use Rattle.handler_check.specs.Resolved.{IsResolved, code_at, params_at, shape_of, table_names}
+use Rattle.handler_check.specs.Resolved.{IsResolved, code_at, params_at, shape_of, table_names, variables_at}
 
 -- what holds of the handler of each number, in a file that is accepted and keeps its bounds
 pub record HandlerWithin (f : File) (h : ℕ) : Type 0 where
   -- the parameters are among the 32 variables that a handler may have
   pub params : params_at f h ≤ max_variables
   pub within : CodeWithin (shape_of f) max_variables (code_at f h)
+  -- of these it speaks of its own alone
+  pub variables : length (variables_at f h) ≤ max_variables
+  pub own : CodeWithin (shape_of f) (length (variables_at f h)) (code_at f h)
   pub numbered : IsNumbered (code_at f h) 1
   pub calls : calls_bound (code_at f h) ≤ max_calls
   pub work : work_bound (code_at f h) ≤ max_work

@@ -144,6 +144,14 @@ params_in (Some h) = length h.params
 abbrev pub params_at : File → ℕ → ℕ
 params_at f h = params_in (slice_get f.handlers h)
 
+abbrev pub variables_in : Option Handler → List ℕ
+variables_in None = []
+variables_in (Some h) = variables_of h
+
+-- the names of the variables of the handler of this number, by theirs
+abbrev pub variables_at : File → ℕ → List ℕ
+variables_at f h = variables_in (slice_get f.handlers h)
+
 -- ---- what a name stands for
 
 -- x is the number of the one variable of this name, which is declared among the marks before, and visible

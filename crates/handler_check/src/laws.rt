@@ -14,7 +14,7 @@ ghost use Rattle.check_rules.specs.Bounds.{KeepsBounds};
 ghost use Rattle.check_rules.specs.declared.refusal.CheckRefusal.{CheckRefusal};
 ghost use Rattle.check_rules.specs.declared.refusal.CheckRefusal.TheVariants as refusal;
 ghost use Rattle.check_rules.specs.FirstFault.{KeepsRules, PlacesRise};
-ghost use Rattle.check_rules.specs.Marks.{Mark, Mentioned, OnTable, handler_marks};
+ghost use Rattle.check_rules.specs.Marks.{Mark, Declared, Mentioned, OnTable, declared, handler_marks, table_marks};
 ghost use Rattle.check_rules.specs.Rules.{Stands};
 ghost use Rattle.check_rules.specs.Source.{block_source};
 
@@ -37,6 +37,19 @@ pub fn names_stand_for_declarations()
         → (before : List Mark) (kind : Kind) (name at : ℕ)
         → Stands (handler_marks h) before (OnTable kind name at)
         → StandsForTable f kind name (number_in (table_names f) name) }
+{}
+
+/// Names are numbered in the order of their declarations: where a file breaks no rule, the number
+/// of a handler's variable is how many variables of the handler are declared before it, its
+/// parameters first, and that of a table how many tables are.
+pub fn names_are_numbered_in_order()
+    ensures variables { (f : File) (h : Handler) → KeepsRules f → Contains f.handlers h
+        → (before : List Mark) (name at : ℕ)
+        → Stands (handler_marks h) before (Declared name at)
+        → number_in (variables_of h) name ≡ length (declared before) }
+    ensures tables { (f : File) → KeepsRules f → (before : List Mark) (name at : ℕ)
+        → Stands (table_marks f.tables) before (Declared name at)
+        → number_in (table_names f) name ≡ length (declared before) }
 {}
 
 /// What holds of each handler of a file that is accepted and keeps its bounds, and how many tables

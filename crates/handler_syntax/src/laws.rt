@@ -9,12 +9,14 @@ ghost use Rattle.syntax_trees.specs.declared.file.Handler.{Handler};
 ghost use Rattle.syntax_trees.specs.declared.expr.Calc.{Calc};
 ghost use Rattle.syntax_trees.specs.declared.expr.Expr.{Expr};
 ghost use Rattle.syntax_trees.specs.declared.expr.Expr.TheVariants as expr;
-ghost use Rattle.syntax_tokens.specs.Longest.{IsFirstToken};
+ghost use Rattle.syntax_tokens.specs.Longest.{IsFirstToken, IsQuotedNil};
 ghost use Rattle.syntax_tokens.specs.Scan.{scan};
 ghost use Rattle.syntax_tokens.specs.Spelled.{Spell, IsNext};
 ghost use Rattle.syntax_tokens.specs.Steps.{Gives};
 ghost use Rattle.syntax_tokens.specs.Tokens.{Piece, pieces, with_reserved};
 ghost use Rattle.syntax_tokens.specs.declared.token.Token.{Token};
+ghost use Rattle.syntax_tokens.specs.declared.token_kind.TokenKind.{TokenKind};
+ghost use Rattle.syntax_tokens.specs.declared.token_kind.TokenKind.TheVariants as token_kind;
 ghost use Rattle.syntax_tokens.specs.declared.tokens.Tokens.{Tokens};
 ghost use Rattle.syntax_grammar.specs.Limits.{FileFits, IsFileWithin};
 ghost use Rattle.syntax_grammar.specs.Marked.{all_fine, file_marked};
@@ -153,11 +155,16 @@ pub fn names_stay_readable()
         → Begins old new → IsNamedFile old file → IsNamedFile new file }
 {}
 
-/// The token at the front of a text is the longest front that is one.
+/// The token at the front of a text is the longest front that is one, and there is no other; where
+/// the longest run behind a quote is `nil`, it is the quote, a bad character, and no front of
+/// `'nil`.
 pub fn tokens_are_the_longest()
-    ensures { (b : ℕ) (bs : List ℕ)
+    ensures first { (b : ℕ) (bs : List ℕ)
         → IsFirstToken (b ∷ bs) (with_reserved (scan (b ∷ bs)).0 (take (scan (b ∷ bs)).1 (b ∷ bs)))
         (scan (b ∷ bs)).1 }
+    ensures one { (text : List ℕ) (k l : TokenKind) (n m : ℕ)
+        → IsFirstToken text k n → IsFirstToken text l m → (k ≡ l) × (n ≡ m) }
+    ensures nil { (text : List ℕ) → IsQuotedNil text → IsFirstToken text token_kind.Bad 1 }
 {}
 
 /// The tokens of a source, with the blanks and comments between them, are the source; and each

@@ -1,3 +1,4 @@
+pub mod Answered
 pub mod Arranged
 pub mod Different
 pub mod Finite
@@ -7,6 +8,7 @@ pub mod Literal
 pub mod LoopLemmas
 pub mod Members
 pub mod Numbers
+pub mod Own
 pub mod PlaceLemmas
 pub mod PointLemmas
 pub mod Records

@@ -103,6 +103,31 @@ counted (Counted m) n A e is =
     let same : m ≡ n = cc in
     (is.0, is.1, sym same ∙ is.2, (let a = is.2 in let b = is.3 in omega arith))
 
+-- ---- a list for each point
+
+module _ (code : Code) (short : (p : ℕ) → p < 1 + points code → IsShort code p) where
+  -- the lists of so many points
+  first_lists : (n : ℕ) → n ≤ 1 + points code → (lists : List (List Symbol)) × (length lists ≡ n) × ((p : ℕ) → p < n → IsLaterList code p (slice_index_or lists p []) × (length (slice_index_or lists p []) ≤ 256))
+  first_lists zero le = ([], refl, λ p lt. absurd (omega arith))
+  first_lists (suc n) le =
+      let before = first_lists n (omega arith) in
+      let here = short n (omega arith) in
+      (before.0 ++ here.0 ∷ [], omega (arith, length-append before.0 (here.0 ∷ []), before.1), λ p lt. at before.0 before.1 before.2 here.0 here.1 here.2 p lt (cases_lt p n))
+    where
+      at : (lists : List (List Symbol)) → length lists ≡ n → ((p : ℕ) → p < n → IsLaterList code p (slice_index_or lists p []) × (length (slice_index_or lists p []) ≤ 256)) → (list : List Symbol) → IsLaterList code n list → length list ≤ 256 → (p : ℕ) → p < suc n → (p < n) ⊎ (n ≤ p) → IsLaterList code p (slice_index_or (lists ++ list ∷ []) p []) × (length (slice_index_or (lists ++ list ∷ []) p []) ≤ 256)
+      at lists len each list is few p lt (inl h) =
+          subst (λ (l : List Symbol). IsLaterList code p l × (length l ≤ 256)) (sym (get_or_append_left lists (list ∷ []) [] p (omega arith))) (each p h)
+      at lists len each list is few p lt (inr h) =
+          let e : p ≡ length lists = omega arith in
+          let here : slice_index_or (lists ++ list ∷ []) p [] ≡ list = ap (λ (j : ℕ). get_or (lists ++ list ∷ []) j []) e ∙ get_or-append_seam lists list [] [] in
+          subst (λ (l : List Symbol). IsLaterList code p l × (length l ≤ 256)) (sym here) (subst (λ (j : ℕ). IsLaterList code j list) (sym (e ∙ len)) is, few)
+
+  -- where each point's list is short, these are the lists
+  pub lists_of_short : (lists : List (List Symbol)) × HasLists code lists
+  lists_of_short =
+      let all = first_lists (1 + points code) (omega arith) in
+      (all.0, record { count = all.1; each = λ p lt. (all.2 p lt).0; few = λ p lt. (all.2 p lt).1 })
+
 module _ (code : Code) (kept : List PointList) (are : ArePointLists code kept) where
   below : (p : ℕ) → p < 1 + points code → p < length kept
   below p lt = omega (arith, are.count)
@@ -118,26 +143,8 @@ module _ (code : Code) (kept : List PointList) (are : ArePointLists code kept) w
       at : (p : ℕ) → p < 1 + points code → Lists (list_in (point_list_at kept p)) (LaterAt code p) × (length (list_in (point_list_at kept p)) ≤ 256)
       at p lt = listed (point_list_at kept p) (LaterAt code p) (whole (length kept - (p + 1)) (omega (arith, below p lt))) (short p (below p lt)) (are.each p lt)
 
-  -- the lists of so many points
-  first_lists : AreShortBelow kept (length kept) → (n : ℕ) → n ≤ 1 + points code → (lists : List (List Symbol)) × (length lists ≡ n) × ((p : ℕ) → p < n → IsLaterList code p (slice_index_or lists p []) × (length (slice_index_or lists p []) ≤ 256))
-  first_lists short zero le = ([], refl, λ p lt. absurd (omega arith))
-  first_lists short (suc n) le =
-      let before = first_lists short n (omega arith) in
-      let here = short_list (point_list_at kept n) (LaterAt code n) (short n (below n (omega arith))) (are.each n (omega arith)) in
-      (before.0 ++ here.0 ∷ [], omega (arith, length-append before.0 (here.0 ∷ []), before.1), λ p lt. at before.0 before.1 before.2 here.0 here.1 here.2 p lt (cases_lt p n))
-    where
-      at : (lists : List (List Symbol)) → length lists ≡ n → ((p : ℕ) → p < n → IsLaterList code p (slice_index_or lists p []) × (length (slice_index_or lists p []) ≤ 256)) → (list : List Symbol) → IsLaterList code n list → length list ≤ 256 → (p : ℕ) → p < suc n → (p < n) ⊎ (n ≤ p) → IsLaterList code p (slice_index_or (lists ++ list ∷ []) p []) × (length (slice_index_or (lists ++ list ∷ []) p []) ≤ 256)
-      at lists len each list is few p lt (inl h) =
-          subst (λ (l : List Symbol). IsLaterList code p l × (length l ≤ 256)) (sym (get_or_append_left lists (list ∷ []) [] p (omega arith))) (each p h)
-      at lists len each list is few p lt (inr h) =
-          let e : p ≡ length lists = omega arith in
-          let here : slice_index_or (lists ++ list ∷ []) p [] ≡ list = ap (λ (j : ℕ). get_or (lists ++ list ∷ []) j []) e ∙ get_or-append_seam lists list [] [] in
-          subst (λ (l : List Symbol). IsLaterList code p l × (length l ≤ 256)) (sym here) (subst (λ (j : ℕ). IsLaterList code j list) (sym (e ∙ len)) is, few)
-
   pub short_lists : AreShortBelow kept (length kept) → (lists : List (List Symbol)) × HasLists code lists
-  short_lists short =
-      let all = first_lists short (1 + points code) (omega arith) in
-      (all.0, record { count = all.1; each = λ p lt. (all.2 p lt).0; few = λ p lt. (all.2 p lt).1 })
+  short_lists short = lists_of_short code (λ p lt. short_list (point_list_at kept p) (LaterAt code p) (short p (below p lt)) (are.each p lt))
 
 -- ---- files
 
@@ -243,6 +250,13 @@ module _ {X : Type 0} (see : X → List (List Symbol)) (d : X) (f : File) where
 -- the lists of all handlers
 pub lists_of_all : (f : File) (all : List (List (List Symbol))) (h : ℕ) → length f.handlers ≤ h → length all ≡ h → h ≤ length f.handlers → ((k : ℕ) → k < h → HasLists (code_at f k) (get_or all k [])) → HasLater f
 lists_of_all f all h whole len few each = (all, record { count = omega (arith, len); each = λ k lt. each k (omega arith) })
+
+-- what is kept of all handlers, where no list is too long
+pub lists_by_number : (f : File) (items : List (List PointList)) → length items ≡ length f.handlers → ((k : ℕ) → k < length items → HasLists (code_at f k) (by_number (get_or items k []))) → AreLater f (map by_number items)
+lists_by_number f items count each = record {
+  count = length-map items by_number ∙ count;
+  each = λ h lt. subst (HasLists (code_at f h)) (sym (get_or-map by_number items h [])) (each h (omega (arith, count, lt)));
+}
 
 -- ---- refusals
 

@@ -67,3 +67,9 @@ IsTooMany f NoMemory = ⊥
 -- each point of each handler has a list of at most 256 symbols
 abbrev pub HasLater : File → Type 0
 HasLater f = (all : List (List (List Symbol))) × AreLater f all
+
+-- ---- the answer to a file
+
+-- its lists, or its first point that has too many symbols
+abbrev pub HasAnswer : File → Type 0
+HasAnswer f = HasLater f ⊎ ((e : AnalysisRefusal) × IsTooMany f e)

@@ -2,6 +2,7 @@ pub mod Flow
 pub mod Later
 pub mod Numbered
 pub mod Ordered
+pub mod Own
 pub mod Places
 pub mod PointList
 pub mod Recorded

@@ -1,8 +1,9 @@
 // The operations that may still come at each point of each handler of a file.
 
-ghost use Rattle.std.specs.Prelude.{◌≡◌, ◌≢◌, ◌<◌, [], MatchResult, length, slice_index_or};
+ghost use Rattle.std.specs.Prelude.{◌≡◌, ◌≢◌, ◌<◌, [], IfOk, MatchResult, length, slice_index_or};
 ghost use Rattle.may_use_analysis.specs.declared.refusal.AnalysisRefusal.TheVariants as refusal;
 ghost use Rattle.may_use_analysis.specs.Later.{AreLater, IsTooMany};
+ghost use Rattle.may_use_analysis.specs.Own.{AreOfHandlers};
 
 use crate::handler::{first_excess, handler_lists};
 use crate::kept::{Keeping, PointLists};
@@ -34,9 +35,13 @@ impl Model for Later {
 /// For each point of each handler the symbols of all operations that may still come, in order. A
 /// file with more than 256 symbols at some point is refused.
 pub fn later_sets(alloc: Global, checked: &Checked) -> Result<Later, AnalysisRefusal>
-    ensures { MatchResult result (AreLater checked.now) (λ e. e ≢ refusal.NoMemory
+    ensures lists { MatchResult result (AreLater checked.now) (λ e. e ≢ refusal.NoMemory
         → IsTooMany checked.now e) }
+    // They speak of the variables of their handlers alone, and of tables that there are.
+    ensures own { IfOk result (AreOfHandlers checked.now) }
 {
+    // What the checker accepted speaks of its own names alone.
+    let _file = checked.file();
     let mut handlers = Vec::new(alloc);
     for h in 0..checked.handlers() {
         let handler = checked.handler(h);

@@ -29,7 +29,7 @@ pub record Going (names : List Text) (rs0 rs : List Row) (seen : ℕ) (m : MapVi
   pub asked_few : asked ≤ seen
   pub seen_few : seen ≤ 4000
 
-fault_step : (names : List Text) (seen : ℕ) (holds : Holds) (r : Row) (rs : List Row) → first_fault names seen holds (r ∷ rs)
+pub fault_step : (names : List Text) (seen : ℕ) (holds : Holds) (r : Row) (rs : List Row) → first_fault names seen holds (r ∷ rs)
     ≡ option_or (fault_of r.line seen holds r.name (words_in names r)) (first_fault names (seen + 1) (holds_after holds (step_of r.name (words_in names r))) rs)
 unfolding first_fault
 fault_step names seen holds r rs = refl

@@ -1,6 +1,7 @@
 //! Laws of range sessions: each is the contract of a function with an empty body.
 
-ghost use Rattle.std.specs.Prelude.{◌≡◌, List, ℕ, Some};
+ghost use Rattle.std.specs.Prelude.{◌≡◌, ◌≤◌, List, ℕ, None, Some, length};
+ghost use Rattle.session_limits.specs.Limits.{max_input};
 ghost use Rattle.range_session.specs.Faults.{text_fault};
 ghost use Rattle.range_session.specs.Session.{IsRangesText};
 ghost use Rattle.range_session.specs.declared.refusal.RangeRefusal.{RangeRefusal};
@@ -10,4 +11,10 @@ pub fn one_text()
     ensures same { (input t u : List ℕ) → IsRangesText input t → IsRangesText input u → t ≡ u }
     ensures fine { (input t : List ℕ) (e : RangeRefusal) → IsRangesText input t
         → text_fault input ≡ Some e → ⊥ }
+{}
+
+/// A text of lines, no longer than an input may be, writes a text where it has no fault.
+pub fn some_text()
+    ensures { (input : List ℕ) → length input ≤ max_input → text_fault input ≡ None
+        → (text : List ℕ) × IsRangesText input text }
 {}

@@ -58,7 +58,7 @@ printable old new f rs found a =
 
 -- ---- a program can hold what a word is
 
-number_held : (w : Text) (z : ℤ) → number w ≡ Some z → IsValue (Num z)
+pub number_held : (w : Text) (z : ℤ) → number w ≡ Some z → IsValue (Num z)
 unfolding number
 number_held w z e = go (is_number w) refl e
   where

@@ -29,11 +29,11 @@ pub rows_nil : (n : ℕ) → rows n [] ≡ []
 unfolding rows
 rows_nil n = refl
 
-rows_skip : (n : ℕ) (l : Text) (ls : List Text) → words l ≡ [] → rows n (l ∷ ls) ≡ rows (n + 1) ls
+pub rows_skip : (n : ℕ) (l : Text) (ls : List Text) → words l ≡ [] → rows n (l ∷ ls) ≡ rows (n + 1) ls
 unfolding rows
 rows_skip n l ls e = ap (λ ws. row_before n ws (rows (n + 1) ls)) e
 
-rows_more : (n : ℕ) (l : Text) (ls : List Text) (w : Text) (ws : List Text) → words l ≡ w ∷ ws → rows n (l ∷ ls) ≡ row_of n w ws ∷ rows (n + 1) ls
+pub rows_more : (n : ℕ) (l : Text) (ls : List Text) (w : Text) (ws : List Text) → words l ≡ w ∷ ws → rows n (l ∷ ls) ≡ row_of n w ws ∷ rows (n + 1) ls
 unfolding rows
 rows_more n l ls w ws e = ap (λ ws. row_before n ws (rows (n + 1) ls)) e
 

@@ -2,3 +2,4 @@ pub mod OneAnswer
 pub mod PrintableCode
 pub mod PrintableRuns
 pub mod PrintableTables
+pub mod SomeAnswer

@@ -137,3 +137,7 @@ CommandAnswers (Some command) bytes answer = Answers command (input_of command b
 
 abbrev pub IsAnswer : List (List ℕ) → List ℕ → Answer → Type 0
 IsAnswer words bytes answer = CommandAnswers (command_of words) bytes answer
+
+-- the command line has an answer to the input
+abbrev pub HasAnswer : List (List ℕ) → List ℕ → Type 0
+HasAnswer words bytes = (a : Answer) × IsAnswer words bytes a

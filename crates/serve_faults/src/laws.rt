@@ -6,13 +6,18 @@ ghost use Rattle.handler_syntax.specs.Language.{File, IsNamedFile};
 ghost use Rattle.request_files.specs.declared.request.Request.{Request};
 ghost use Rattle.request_files.specs.Requests.{ArePrintable};
 ghost use Rattle.request_files.specs.Session.{session};
-ghost use Rattle.serve_faults.specs.Answer.{Answer, IsAnswer};
+ghost use Rattle.serve_faults.specs.Answer.{Answer, HasAnswer, IsAnswer};
 ghost use Rattle.reply_writing.specs.Printable.{ArePrintableReplies};
 
 /// A command line and an input have one answer at most.
 pub fn one_answer()
     ensures { (words : List (List ℕ)) (bytes : List ℕ) (a b : Answer)
         → IsAnswer words bytes a → IsAnswer words bytes b → a ≡ b }
+{}
+
+/// A command line and an input have an answer: usage, a first broken rule, or a text.
+pub fn some_answer()
+    ensures { (words : List (List ℕ)) (bytes : List ℕ) → HasAnswer words bytes }
 {}
 
 /// Where the symbols of a session's handlers and requests have texts that a reply line has room

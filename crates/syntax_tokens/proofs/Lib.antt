@@ -4,6 +4,7 @@ pub mod WordKinds
 pub mod Longest
 pub mod NamesGrow
 pub mod NumberLemmas
+pub mod OneToken
 pub mod Pieces
 pub mod ReaderLemmas
 pub mod Reserved

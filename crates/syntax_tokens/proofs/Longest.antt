@@ -21,10 +21,10 @@ use Rattle.syntax_tokens.proofs.TextTokens.{run_of, name_letter, symbol_letter, 
 
 -- ---- runs
 
-abbrev AllPass : (ℕ → Bool) → List ℕ → Type 0
+abbrev pub AllPass : (ℕ → Bool) → List ℕ → Type 0
 AllPass p xs = AllByRecursion (λ b. p b ≡ true) xs
 
-clash : (b : Bool) → b ≡ true → b ≡ false → ⊥
+pub clash : (b : Bool) → b ≡ true → b ≡ false → ⊥
 clash b h k = let e : true ≡ false = sym h ∙ k in cc
 
 -- no longer front passes a test than the longest that does
@@ -37,41 +37,41 @@ longer_run p (x ∷ xs) (suc m) h l a =
 
 -- ---- the texts of the tables
 
-abbrev AllRows : (List ℕ → Type 0) → List (List ℕ × Sort) → Type 0
+abbrev pub AllRows : (List ℕ → Type 0) → List (List ℕ × Sort) → Type 0
 AllRows P [] = Unit {0}
 AllRows P (row ∷ rows) = P row.0 × AllRows P rows
 
-abbrev Among : (List ℕ → Type 0) → List ℕ → Option Sort → Type 0
+abbrev pub Among : (List ℕ → Type 0) → List ℕ → Option Sort → Type 0
 Among P t o = is_some o ≡ true → P t
 
-in_rows : (P : List ℕ → Type 0) (rows : List (List ℕ × Sort)) (t : List ℕ) → AllRows P rows → Among P t (sort_in rows t)
+pub in_rows : (P : List ℕ → Type 0) (rows : List (List ℕ × Sort)) (t : List ℕ) → AllRows P rows → Among P t (sort_in rows t)
 in_rows P [] t h = λ e. absurd (let f : false ≡ true = e in cc)
 in_rows P (row ∷ rows) t h =
     pick (Among P t) (bytes_eq t row.0) (Some row.1) (sort_in rows t) (λ same _. subst P (sym ((bytes_eq-Decides t row.0).0 same)) h.0) (λ _. in_rows P rows t h.1)
 
-in_either : (P : List ℕ → Type 0) (t : List ℕ) (o other : Option Sort) → Among P t o → Among P t other → Among P t (or_else o other)
+pub in_either : (P : List ℕ → Type 0) (t : List ℕ) (o other : Option Sort) → Among P t o → Among P t other → Among P t (or_else o other)
 in_either P t None other h k = k
 in_either P t (Some s) other h k = h
 
 -- a reserved word is letters
-record IsLetters (t : List ℕ) : Type 0 where
-  letter : is_ascii_alphabetic (get_or t 0 0) ≡ true
-  run : AllPass (is_in class.Name) t
+pub record IsLetters (t : List ℕ) : Type 0 where
+  pub letter : is_ascii_alphabetic (get_or t 0 0) ≡ true
+  pub run : AllPass (is_in class.Name) t
 
-key_letters : (t : List ℕ) → is_some (keyword_of t) ≡ true → IsLetters t
+pub key_letters : (t : List ℕ) → is_some (keyword_of t) ≡ true → IsLetters t
 unfolding keyword_of statement_word_of operation_of
 key_letters t = in_either IsLetters t (sort_in statement_words t) (sort_in operations t) (in_rows IsLetters statement_words t (search rules)) (in_rows IsLetters operations t (search rules))
 
 -- a sign is one byte or two
-abbrev is_pair : List ℕ → Bool
+abbrev pub is_pair : List ℕ → Bool
 is_pair t = begins_two (get_or t 0 0) && nat_eq (get_or t 1 0) 61
 
-record IsSigns (t : List ℕ) : Type 0 where
-  other : (is_ascii_alphabetic (get_or t 0 0) || is_ascii_digit (get_or t 0 0)) ≡ false
-  unquoted : nat_eq (get_or t 0 0) 39 ≡ false
-  form : ((length t ≡ 1) × (is_single (get_or t 0 0) ≡ true)) ⊎ ((length t ≡ 2) × (is_pair t ≡ true))
+pub record IsSigns (t : List ℕ) : Type 0 where
+  pub other : (is_ascii_alphabetic (get_or t 0 0) || is_ascii_digit (get_or t 0 0)) ≡ false
+  pub unquoted : nat_eq (get_or t 0 0) 39 ≡ false
+  pub form : ((length t ≡ 1) × (is_single (get_or t 0 0) ≡ true)) ⊎ ((length t ≡ 2) × (is_pair t ≡ true))
 
-sign_form : (t : List ℕ) → is_some (sign_of t) ≡ true → IsSigns t
+pub sign_form : (t : List ℕ) → is_some (sign_of t) ≡ true → IsSigns t
 unfolding sign_of
 sign_form t = in_rows IsSigns signs t (
   record { other = refl; unquoted = refl; form = inl (refl, refl) },
@@ -116,11 +116,11 @@ sign_form t = in_rows IsSigns signs t (
 
 -- ---- what the first byte excludes
 
-or_left : (x y : Bool) → (x || y) ≡ false → x ≡ false
+pub or_left : (x y : Bool) → (x || y) ≡ false → x ≡ false
 or_left true y h = h
 or_left false y h = refl
 
-or_right : (x y : Bool) → (x || y) ≡ false → y ≡ false
+pub or_right : (x y : Bool) → (x || y) ≡ false → y ≡ false
 or_right true y h = absurd (let f : true ≡ false = h in cc)
 or_right false y h = h
 
@@ -129,7 +129,7 @@ front_first : (b : ℕ) (r : List ℕ) (m : ℕ) → 0 < m → get_or (take m (b
 front_first b r zero h = absurd (omega (arith, h))
 front_first b r (suc m) h = refl
 
-digit_no_letter : (b : ℕ) → is_ascii_digit b ≡ true → is_ascii_alphabetic b ≡ false
+pub digit_no_letter : (b : ℕ) → is_ascii_digit b ≡ true → is_ascii_alphabetic b ≡ false
 digit_no_letter b h = grind (arith, nat_tests)
 
 digit_in_name : (b : ℕ) → is_ascii_digit b ≡ true → is_in class.Name b ≡ true
@@ -139,7 +139,7 @@ digits_in_name : (xs : List ℕ) → AllPass (is_in class.Digit) xs → AllPass 
 digits_in_name [] h = tt
 digits_in_name (x ∷ xs) h = (digit_in_name x h.0, digits_in_name xs h.1)
 
-first_digit : (xs : List ℕ) → IsDigits xs → is_ascii_digit (get_or xs 0 0) ≡ true
+pub first_digit : (xs : List ℕ) → IsDigits xs → is_ascii_digit (get_or xs 0 0) ≡ true
 first_digit [] h = absurd (omega (arith, h.some))
 first_digit (x ∷ xs) h = h.run.0
 
@@ -289,10 +289,16 @@ first_name b r letter =
     let n = prefix_len (is_in class.Name) bs in
     let longest = longest_name b r letter in
     pick (IsFirst bs) (nat_lt 64 n) _ _
-    (λ h. (inl (record { letter = run_letter; run = run_taken (is_in class.Name) bs; long = omega (arith, length-take n bs, prefix_le (is_in class.Name) bs, long h) }), longest))
-    (λ h. pick (λ k. IsFirstToken bs k n) (is_some (keyword_of (take n bs))) kind.Key kind.Name (λ key. (key, longest))
-    (λ free. (record { run = run_of class.Name name_letter bs letter (grind (arith, nat_tests)); free = not_some (keyword_of (take n bs)) free }, longest)))
+    (λ h. (inl (record { letter = run_letter; run = run_taken (is_in class.Name) bs; long = omega (arith, length-take n bs, prefix_le (is_in class.Name) bs, long h) }), longest, fits, unquoted))
+    (λ h. pick (λ k. IsFirstToken bs k n) (is_some (keyword_of (take n bs))) kind.Key kind.Name (λ key. (key, longest, fits, unquoted))
+    (λ free. (record { run = run_of class.Name name_letter bs letter (grind (arith, nat_tests)); free = not_some (keyword_of (take n bs)) free }, longest, fits, unquoted)))
   where
+    fits : prefix_len (is_in class.Name) (b ∷ r) ≤ length (b ∷ r)
+    fits = prefix_le (is_in class.Name) (b ∷ r)
+
+    unquoted : IsQuotedNil (b ∷ r) → ⊥
+    unquoted q = clash (is_ascii_alphabetic b) letter (ap is_ascii_alphabetic q.quote)
+
     long : nat_lt 64 (prefix_len (is_in class.Name) (b ∷ r)) ≡ true → 64 < prefix_len (is_in class.Name) (b ∷ r)
     long h = grind (arith, nat_tests)
 
@@ -308,12 +314,20 @@ first_symbol r =
     let cut : take (n + 1) bs ≡ 39 ∷ take n r = ap (λ i. take i bs) one in
     pick (IsFirst bs) (is_ascii_alphabetic (get_or r 0 0)) _ _
     (λ letter. pick (IsFirst bs) (nat_lt 64 n) _ _
-    (λ h. (inr (record { run = take n r; is = cut; good = record { letter = letter_of r letter; run = run_taken (is_in class.Symbol) r; long = omega (arith, length-take n r, prefix_le (is_in class.Symbol) r, long h) } }), longest_quoted r))
+    (λ h. (inr (record { run = take n r; is = cut; good = record { letter = letter_of r letter; run = run_taken (is_in class.Symbol) r; long = omega (arith, length-take n r, prefix_le (is_in class.Symbol) r, long h) } }), longest_quoted r, fits, λ q. short_nil q (long h)))
     (λ h. pick (IsFirst bs) (bytes_eq (take n r) (codes "nil")) _ _
     (λ nil. first_bad bs (inr (record { quote = refl; run = (bytes_eq-Decides (take n r) (codes "nil")).0 nil })))
-    (λ free. (record { run = take n r; is = cut; good = record { run = run_of class.Symbol symbol_letter r letter (grind (arith, nat_tests)); not_nil = free } }, longest_quoted r))))
+    (λ free. (record { run = take n r; is = cut; good = record { run = run_of class.Symbol symbol_letter r letter (grind (arith, nat_tests)); not_nil = free } }, longest_quoted r, fits, λ q. clash _ ((bytes_eq-Decides (take n r) (codes "nil")).1 q.run) free))))
     (λ off. first_bad bs (inl (none_quoted r off)))
   where
+    fits : prefix_len (is_in class.Symbol) r + 1 ≤ length (39 ∷ r)
+    fits = omega (arith, prefix_le (is_in class.Symbol) r)
+
+    short_nil : IsQuotedNil (39 ∷ r) → 64 < prefix_len (is_in class.Symbol) r → ⊥
+    short_nil q l =
+        let e : length (take (prefix_len (is_in class.Symbol) r) r) ≡ 3 = ap length q.run in
+        absurd (omega (arith, e, l, length-take (prefix_len (is_in class.Symbol) r) r, prefix_le (is_in class.Symbol) r))
+
     long : nat_lt 64 (prefix_len (is_in class.Symbol) r) ≡ true → 64 < prefix_len (is_in class.Symbol) r
     long h = grind (arith, nat_tests)
 
@@ -325,17 +339,24 @@ first_number : (b : ℕ) (r : List ℕ) → is_ascii_digit b ≡ true → IsFirs
 first_number b r digit =
     let n = prefix_len (is_in class.Digit) (b ∷ r) in
     let on : n ≡ 1 + prefix_len (is_in class.Digit) r = ap (λ t. cond t (1 + prefix_len (is_in class.Digit) r) 0) digit in
-    (record { some = omega (arith, length-take n (b ∷ r), prefix_le (is_in class.Digit) (b ∷ r), on); run = run_taken (is_in class.Digit) (b ∷ r) }, longest_number b r digit)
+    (record { some = omega (arith, length-take n (b ∷ r), prefix_le (is_in class.Digit) (b ∷ r), on); run = run_taken (is_in class.Digit) (b ∷ r) }, longest_number b r digit, prefix_le (is_in class.Digit) (b ∷ r), λ q. clash (is_ascii_digit b) digit (ap is_ascii_digit q.quote))
 
 first_sign : (b : ℕ) (r : List ℕ) → is_ascii_alphabetic b ≡ false → is_ascii_digit b ≡ false → nat_eq b 39 ≡ false → IsFirst (b ∷ r) (scan_sign (b ∷ r))
 unfolding scan_sign
 first_sign b r letter digit quote =
     pick (IsFirst (b ∷ r)) (begins_two b && nat_eq (get_or r 0 0) 61) _ _
-    (λ two. (told_two b r (and_first (begins_two b) _ two) (and_second (begins_two b) _ two), no_more 2 (λ m h f. omega (arith, h, f.0)) (λ m h f. omega (arith, h, f.0))))
+    (λ two. (told_two b r (and_first (begins_two b) _ two) (and_second (begins_two b) _ two), no_more 2 (λ m h f. omega (arith, h, f.0)) (λ m h f. omega (arith, h, f.0)), omega (arith, second r (and_second (begins_two b) _ two)), unquoted))
     (λ not_two. pick (IsFirst (b ∷ r)) (is_single b) _ _
-    (λ one. (one_sign b one, no_more 1 (λ m h f. omega (arith, h, f.0)) (λ m h f. clash _ f.1 not_two)))
+    (λ one. (one_sign b one, no_more 1 (λ m h f. omega (arith, h, f.0)) (λ m h f. clash _ f.1 not_two), omega arith, unquoted))
     (λ not_one. first_bad (b ∷ r) (inl (no_more 0 (λ m h f. clash _ f.1 not_one) (λ m h f. clash _ f.1 not_two)))))
   where
+    second : (r : List ℕ) → nat_eq (get_or r 0 0) 61 ≡ true → 0 < length r
+    second [] e = absurd (let f : false ≡ true = e in cc)
+    second (x ∷ r) e = omega arith
+
+    unquoted : IsQuotedNil (b ∷ r) → ⊥
+    unquoted q = let e : true ≡ false = ap (λ x. nat_eq x 39) (sym q.quote) ∙ quote in cc
+
     no_more : (n : ℕ) → ((m : ℕ) → n < m → (m ≡ 1) × (is_single b ≡ true) → ⊥) → ((m : ℕ) → n < m → (m ≡ 2) × (is_pair (b ∷ r) ≡ true) → ⊥) → IsLongest (b ∷ r) n
     no_more n f g k m h l s = by (at_sign b r m (omega (arith, h)) l letter digit quote k s)
       where

@@ -1,7 +1,7 @@
 use Rattle.std.proofs.Common.{◌∙◌, length, map, ap}
 use Rattle.check_meaning.specs.Dialogue.{env_of}
 use Rattle.declaration_insertion.specs.Promises.{symbol_at}
-use Rattle.declaration_insertion.proofs.Vars.{instantiated}
+use Rattle.declaration_insertion.proofs.Values.{instantiated}
 use Rattle.handler_machine.proofs.Served.{vars_more}
 use Rattle.handler_machine.proofs.narrowing.take_declaration.Goals as goal
 

@@ -1,13 +1,15 @@
-use Rattle.std.proofs.Common.{◌≡◌, ℕ, ◌<◌, List, [], ◌∷◌, length, get_or, length-append, ap, subst, arith}
+use Rattle.std.proofs.Common.{◌≡◌, ℕ, ◌<◌, List, [], ◌∷◌, length, map, get_or, length-append, ap, subst, arith}
 use Rattle.std.specs.Prelude.{Some, slice_get}
 use Rattle.check_meaning.specs.Code.{Code}
+use Rattle.handler_check.specs.Checked.{IsKept}
 use Rattle.handler_check.specs.Resolved.{code_at}
 use Rattle.may_use_analysis.specs.Numbered.{ArePointLists, by_number}
-use Rattle.may_use_analysis.proofs.TopLemmas.{all_listed, excess_found, more_lists, place_is, some_at}
+use Rattle.may_use_analysis.proofs.Own.{lists_within}
+use Rattle.may_use_analysis.proofs.TopLemmas.{all_listed, excess_found, lists_by_number, more_lists, place_is, some_at}
 use Rattle.may_use_analysis.proofs.later.later_sets.Goals as goal
 
-pub returns-in-Some : goal.returns-in-Some
-returns-in-Some c = λ _.
+pub returns-in-Some-clause-lists : goal.returns-in-Some-clause-lists
+returns-in-Some-clause-lists c = λ _.
     let f = c.args.checked.now in
     let h = c.loop-h.h in
     let e = c.in-Some.excess in
@@ -28,3 +30,11 @@ loop-h-preserved c =
       count = omega (arith, ap length c.in_ok-push-in-None.ensures.items, length-append c.loop-h.handlers.items (lists ∷ []), c.loop-h.invariant.count);
       each = more_lists by_number [] f c.loop-h.handlers.items c.push.new.self.items lists h c.loop-h.invariant.count c.in_ok-push-in-None.ensures.items c.loop-h.invariant.each (all_listed (code_at f h) lists are (rw c.if-not-are_kept.false at c.are_kept.ensures) c.in-None.ensures);
     }
+
+pub returns-clause-own : goal.returns-clause-own
+returns-clause-own c =
+    let f = c.args.checked.now in
+    let items = c.loop-h.handlers.items in
+    let len : length items ≡ c.loop-h.h = c.loop-h.invariant.count in
+    let kept : IsKept f = record { accepted = c.file-file.ensures.accepted; bounded = c.file-file.ensures.bounds } in
+    lists_within f (map by_number items) kept (lists_by_number f items (omega (arith, len)) (λ k lt. c.loop-h.invariant.each k (omega (arith, len, lt))))

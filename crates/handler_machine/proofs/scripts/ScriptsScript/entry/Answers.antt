@@ -8,7 +8,7 @@ use Rattle.request_files.specs.Servable.{IsRequestOf}
 use Rattle.request_files.specs.Session.{request_at}
 use Rattle.declaration_insertion.specs.Promises.{symbol_at}
 use Rattle.declaration_insertion.specs.Program.{declared_at}
-use Rattle.declaration_insertion.proofs.Vars.{instantiated}
+use Rattle.declaration_insertion.proofs.Values.{instantiated}
 use Rattle.handler_machine.specs.Scripts.{ScriptsView, meaning}
 use Rattle.handler_machine.proofs.Lawful.{request_is}
 use Rattle.handler_machine.proofs.scripts.ScriptsScript.entry.Goals as goal
