@@ -7,4 +7,4 @@ mod jobs;
 mod session;
 
 pub use desk::HallDesk;
-pub use session::serve_session;
+pub use session::{OpenSession, open_session, serve_session};
