@@ -60,15 +60,15 @@ pub(crate) fn open_program<'a>(
     })
 }
 
-/// Serves the requests of an open session. The block is as it was.
+/// Serves the requests of an open session, and gives the block back.
 pub(crate) fn serve_ready<'a, R: Threads + Wait + Sync, G: Gate + Sync>(
     rt: &R,
     ready: Ready<'a>,
     gate: &G,
 ) -> (Closed, Block)
-    ensures done { IsDone (meaning ready.session.script) result.0 }
-    ensures callers { result.0.callers ≡ ready.session.callers }
-    ensures shards { result.0.shards ≡ ready.session.shards }
+    ensures done { IsDone (meaning ready.entry.session.script) result.0 }
+    ensures callers { result.0.callers ≡ ready.entry.session.callers }
+    ensures shards { result.0.shards ≡ ready.entry.session.shards }
 {
     let Ready {
         session,
