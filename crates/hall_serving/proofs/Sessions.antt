@@ -1,6 +1,7 @@
 -- The callers of a hall, put into jobs and taken out of them.
-use Rattle.std.proofs.Common.{◌≡◌, ℕ, zero, suc, ◌<◌, List, [], ◌∷◌, Option, Some, length, map, slice_get, slice_index_or, get_or, option_map, refl, sym, ◌∙◌, ap, subst}
+use Rattle.std.proofs.Common.{◌≡◌, ℕ, zero, suc, ◌<◌, ◌≤◌, arith, List, [], ◌∷◌, Option, Some, length, map, slice_get, slice_index_or, get_or, option_map, refl, sym, ◌∙◌, ap, subst}
 use Rattle.std.specs.List.{AllByRecursion}
+use Rattle.std.proofs.lemmas.List.{length-map}
 use Rattle.std.proofs.lemmas.Option.{slice_get_within, slice_get-get_or, slice_get-map, get_or_from_slice_get}
 use Rattle.session_journal.specs.Script.{Meaning}
 use Rattle.session_hall.specs.declared.hall.Hall.{Hall}
@@ -9,6 +10,7 @@ use Rattle.session_hall.specs.Closings.{Opens, Leaves}
 use Rattle.session_hall.specs.Stages.{IsBetween}
 use Rattle.hall_serving.specs.declared.job.Job.{Job}
 use Rattle.hall_serving.specs.Jobs.{IsJobOf, HasRoom, HasServed, callers_of}
+use Rattle.hall_serving.specs.Sessions.{IsOpened}
 
 all_from : {X : Type 0} (P : X → Type 0) (xs : List X) → ((i : ℕ) (x : X) → slice_get xs i ≡ Some x → P x) → AllByRecursion P xs
 all_from P [] each = tt
@@ -33,6 +35,19 @@ module _ {S : Type 0} (meaning : S → Meaning) (h : Hall S) where
       let here : slice_get cs i ≡ Some j.caller = ap (λ l. slice_get l i) (sym same) ∙ slice_get-map (λ (x : Job S). x.caller) js i ∙ ap (option_map (λ (x : Job S). x.caller)) at in
       let o = opens i j.caller here in
       record { caller = o.caller; between = subst IsBetween (sym o.idle) tt; ready = at_place HasRoom js i j rooms at })
+
+  pub opened : (js : List (Job S)) (cs left : List (Caller S)) (callers room : ℕ) → callers_of js ≡ cs → AllByRecursion HasRoom js → ((i : ℕ) (c : Caller S) → slice_get cs i ≡ Some c → Opens meaning h i c) → length cs ≡ callers → h.sizes.callers ≡ callers → 1 ≤ callers → left ≡ []
+      → length cs ≤ room → IsOpened meaning h js left room
+  opened js cs left callers room same ready opens count sizes some none roomy =
+      let long : length js ≡ length cs = sym (length-map js (λ (x : Job S). x.caller)) ∙ ap (λ (l : List (Caller S)). length l) same in
+      record {
+        opens = λ i c at. opens i c (ap (λ l. slice_get l i) (sym same) ∙ at);
+        ready = ready;
+        all = long ∙ count ∙ sym sizes;
+        some = omega (arith, long, count, some);
+        none = none;
+        roomy = omega (arith, long, roomy);
+      }
 
   pub callers_leave : (js ks : List (Job S)) (cs ds : List (Caller S)) → callers_of js ≡ cs → ds ≡ callers_of ks → length ks ≡ length js → ((i : ℕ) (c : Caller S) → slice_get cs i ≡ Some c → Opens meaning h i c)
       → ((i : ℕ) (d : Job S) → i < length js → HasServed meaning h (slice_index_or js i d) (slice_index_or ks i d)) → (i : ℕ) (c : Caller S) → slice_get ds i ≡ Some c → Leaves meaning h i c

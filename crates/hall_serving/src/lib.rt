@@ -8,4 +8,4 @@ mod pause;
 mod session;
 
 pub use desk::HallDesk;
-pub use session::serve_session;
+pub use session::{OpenSession, open_session, serve_session};

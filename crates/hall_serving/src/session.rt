@@ -1,18 +1,49 @@
-// A session served from the opening of its hall to its closing.
+// A session: its hall is opened, and then it is served to its end.
 
-ghost use Rattle.std.specs.Prelude.{◌≡◌, ◌<◌, ◌≤◌, IfOk, length, vec_len};
+ghost use Rattle.std.specs.Prelude.{◌≡◌, ◌≤◌, IfOk, length, vec_len};
 ghost use Rattle.session_limits.specs.Limits.{max_callers, max_shards, max_tables};
 ghost use Rattle.session_hall.specs.Closings.{IsDone};
 ghost use Rattle.hall_serving.specs.Jobs.{AllReady};
 
+use crate::job::Job;
 use crate::jobs::{begin_jobs, end_jobs, serve_all};
-use session_hall::{Closed, Hall};
+use session_hall::{Caller, Closed, Hall};
+use session_journal::Script;
 use session_values::{Listed, NoMemory, TableKind};
 use std::alloc::Global;
+use std::marker::Model;
 use std::sync::Wait;
 use std::thread::Threads;
 use ticket_serving::{Scratch, Serves};
 use worker_gate::Gate;
+
+/// A session whose hall is open. Only `open_session` makes one. It has all the memory that serving
+/// its tickets and closing its hall take.
+#[derive(Drop)]
+pub struct OpenSession<S: Script + Drop> {
+    hall: Hall<S>,
+    /// One for each caller.
+    jobs: Vec<Job<S>>,
+    /// An empty list, with room for the callers when they are out.
+    left: Vec<Caller<S>>,
+}
+
+impl<S: Script + Drop> Model for OpenSession<S> {
+    ghost use Rattle.std.specs.Prelude.{vec_capacity};
+    ghost use Rattle.session_hall.specs.Names.{script_of};
+    ghost use Rattle.hall_serving.specs.Sessions.{IsOpened, SessionView};
+
+    ghost Value = { SessionView S };
+
+    ghost view = { λ s. record {
+      script = script_of s.hall;
+      callers = s.hall.sizes.callers;
+      shards = s.hall.sizes.shards;
+    } };
+
+    ghost invariant = { λ s. IsOpened S.meaning s.hall s.jobs.items s.left.items
+        (vec_capacity s.left) };
+}
 
 // Scratches for so many jobs.
 fn make_scratches(alloc: Global, count: u32) -> Result<Vec<Scratch>, NoMemory>
@@ -26,34 +57,51 @@ fn make_scratches(alloc: Global, count: u32) -> Result<Vec<Scratch>, NoMemory>
     Ok(scratches)
 }
 
-/// Serves all tickets of a script by so many callers of one hall, in as many threads where they can
-/// be made, and else one after another. `plan` is the script again, by which each ticket is
-/// served. Want of memory comes only before the hall is open.
-pub fn serve_session<R: Threads + Wait + Sync, S: Serves + Drop + Send + Sync, G: Gate + Sync>(
-    rt: &R,
+/// Opens the hall of a script, with so many callers and so many shards of each table, and takes all
+/// memory that the session needs.
+pub fn open_session<S: Script + Drop>(
     alloc: Global,
     script: S,
-    plan: &S,
     shape: &[TableKind],
     shards: u32,
     callers: u32,
-    gate: &G,
-) -> Result<Closed, NoMemory>
-    requires plan { plan.now ≡ script }
+) -> Result<OpenSession<S>, NoMemory>
     requires shape { shape.now ≡ (S.meaning script).shape }
     requires tables { length shape.now ≤ max_tables }
     requires shards { (1 ≤ shards) × (shards ≤ max_shards) }
     requires callers { (1 ≤ callers) × (callers ≤ max_callers) }
-    ensures done { IfOk result (IsDone (S.meaning script)) }
-    ensures callers { IfOk result (λ d. d.callers ≡ callers) }
-    ensures shards { IfOk result (λ d. d.shards ≡ shards) }
+    ensures script { IfOk result (λ s. s.script ≡ script) }
+    ensures callers { IfOk result (λ s. s.callers ≡ callers) }
+    ensures shards { IfOk result (λ s. s.shards ≡ shards) }
 {
     let mut scratches = make_scratches(alloc, callers)?;
     let mut jobs = Vec::with_capacity(alloc, callers as usize)?;
     let (hall, list) = Hall::open(alloc, script, shape, shards, callers)?;
-    let mut list = list.into_vec();
-    begin_jobs(&mut list, &mut scratches, &mut jobs);
+    let mut left = list.into_vec();
+    begin_jobs(&mut left, &mut scratches, &mut jobs);
+    Ok(OpenSession { hall, jobs, left })
+}
+
+/// Serves all tickets of an open session by its callers, in as many threads where they can be made,
+/// and else one after another, and closes its hall. `plan` is the script again, by which each ticket
+/// is served.
+pub fn serve_session<R: Threads + Wait + Sync, S: Serves + Drop + Send + Sync, G: Gate + Sync>(
+    rt: &R,
+    session: OpenSession<S>,
+    plan: &S,
+    gate: &G,
+) -> Closed
+    requires plan { plan.now ≡ session.script }
+    ensures done { IsDone (S.meaning session.script) result }
+    ensures callers { result.callers ≡ session.callers }
+    ensures shards { result.shards ≡ session.shards }
+{
+    let OpenSession {
+        hall,
+        mut jobs,
+        mut left,
+    } = session;
     serve_all(rt, plan, &hall, gate, &mut jobs);
-    end_jobs(jobs, &mut list);
-    Ok(hall.close(Listed::from_vec(list)))
+    end_jobs(jobs, &mut left);
+    hall.close(Listed::from_vec(left))
 }

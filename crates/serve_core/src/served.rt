@@ -8,8 +8,9 @@ ghost use Rattle.handler_machine.specs.Scripts.{meaning};
 ghost use Rattle.request_files.specs.Servable.{IsServable};
 
 use declaration_insertion::Program;
-use hall_serving::serve_session;
+use hall_serving::{OpenSession, open_session, serve_session};
 use handler_machine::Scripts;
+use reply_writing::Block;
 use request_files::Requests;
 use session_hall::Closed;
 use session_values::{NoMemory, TableKind};
@@ -19,38 +20,63 @@ use std::thread::Threads;
 use syntax_trees::File;
 use worker_gate::Gate;
 
-/// Serves the requests of a program by so many callers, over so many shards a table. Want of memory
-/// comes only before the hall is open.
-pub(crate) fn serve_program<R: Threads + Wait + Sync, G: Gate + Sync>(
-    rt: &R,
+/// All that serving a program's requests and writing their replies takes: no memory is wanted from
+/// here on.
+#[derive(Drop)]
+pub(crate) struct Ready<'a> {
+    pub(crate) session: OpenSession<Scripts<'a>>,
+    /// The session's script again, by which each ticket is served.
+    pub(crate) plan: Scripts<'a>,
+    /// Room for the lines of the replies.
+    pub(crate) block: Block,
+    ghost same: { plan ≡ session.script },
+}
+
+/// Opens a hall for the requests of a program, with so many callers and so many shards a table.
+pub(crate) fn open_program<'a>(
     alloc: Global,
     callers: u32,
     shards: u32,
-    program: &Program,
-    requests: &Requests,
-    gate: &G,
-) -> Result<Closed, NoMemory>
+    program: &'a Program,
+    requests: &'a Requests,
+) -> Result<Ready<'a>, NoMemory>
     requires servable { IsServable program.now.file requests.now }
     requires callers { (1 ≤ callers) × (callers ≤ max_callers) }
     requires shards { (1 ≤ shards) × (shards ≤ max_shards) }
-    ensures done { IfOk result
-        (IsDone (meaning (record { program = program.now; requests = requests.now }))) }
-    ensures callers { IfOk result (λ d. d.callers ≡ callers) }
-    ensures shards { IfOk result (λ d. d.shards ≡ shards) }
+    ensures script { IfOk result (λ r. r.session.script
+        ≡ record { program = program.now; requests = requests.now }) }
+    ensures callers { IfOk result (λ r. r.session.callers ≡ callers) }
+    ensures shards { IfOk result (λ r. r.session.shards ≡ shards) }
 {
+    let block = Block::new(alloc)?;
     let shape = shape_of(alloc, program)?;
     let script = Scripts::over(program, requests);
     let plan = Scripts::over(program, requests);
-    serve_session(
-        rt,
-        alloc,
-        script,
-        &plan,
-        shape.as_slice(),
-        shards,
-        callers,
-        gate,
-    )
+    let session = open_session(alloc, script, shape.as_slice(), shards, callers)?;
+    Ok(Ready {
+        session,
+        plan,
+        block,
+    })
+}
+
+/// Serves the requests of an open session, and gives the block back.
+pub(crate) fn serve_ready<'a, R: Threads + Wait + Sync, G: Gate + Sync>(
+    rt: &R,
+    ready: Ready<'a>,
+    gate: &G,
+) -> (Closed, Block)
+    ensures done { IsDone (meaning ready.entry.session.script) result.0 }
+    ensures callers { result.0.callers ≡ ready.entry.session.callers }
+    ensures shards { result.0.shards ≡ ready.entry.session.shards }
+{
+    let Ready {
+        session,
+        plan,
+        block,
+    } = ready;
+    let closed = serve_session(rt, session, &plan, gate);
+    (closed, block)
 }
 
 // The kinds of the tables of a program.

@@ -8,7 +8,7 @@ ghost use Rattle.request_files.specs.Servable.{IsServable};
 ghost use Rattle.serve_faults.specs.Input.{parts_of};
 ghost use Rattle.serve_core.specs.Serving.{IsSessionInput, IsInputReason, HasServed, script_of_loaded};
 
-use crate::served::serve_program;
+use crate::served::{open_program, serve_ready};
 use reply_writing::Block;
 use request_files::divide;
 use serve_faults::Fault;
@@ -60,7 +60,8 @@ pub(crate) fn serve_file<R: Threads + Wait + Sync, G: Gate + Sync>(
     }
 }
 
-// Serves what was loaded. Memory is taken before the hall is open.
+// Serves what was loaded. All memory is taken before the first ticket is begun: what serves is given
+// nothing to take any from.
 fn serve_loaded<R: Threads + Wait + Sync, G: Gate + Sync>(
     rt: &R,
     alloc: Global,
@@ -77,13 +78,13 @@ fn serve_loaded<R: Threads + Wait + Sync, G: Gate + Sync>(
     ensures callers { IfOk result (λ s. s.closed.callers ≡ callers) }
     ensures shards { IfOk result (λ s. s.closed.shards ≡ shards) }
 {
-    let block = Block::new(alloc)?;
     let Loaded {
         names,
         program,
         requests,
     } = loaded;
-    let closed = serve_program(rt, alloc, callers, shards, &program, &requests, gate)?;
+    let ready = open_program(alloc, callers, shards, &program, &requests)?;
+    let (closed, block) = serve_ready(rt, ready, gate);
     Ok(Served {
         names,
         closed,

@@ -7,6 +7,8 @@ mod ends;
 #[cfg(test)]
 mod held;
 #[cfg(test)]
+mod memory;
+#[cfg(test)]
 mod refusing;
 #[cfg(test)]
 mod reply_lines;

@@ -7,7 +7,7 @@ ghost use Rattle.session_limits.specs.Limits.{max_callers, max_shards, max_table
 ghost use Rattle.session_values.specs.declared.kind.TableKind.TheVariants.{Map};
 ghost use Rattle.session_values.specs.Tables.{Fits, kind_of};
 
-use hall_serving::serve_session;
+use hall_serving::{open_session, serve_session};
 use plain_desk::{DoneCall, PlainDesk};
 use plain_tables::PlainTables;
 use repeated_calls::{RepeatedCalls, RepeatedScript};
@@ -67,7 +67,8 @@ pub(crate) fn served_by<R: Threads + Wait + Abort + Sync>(
 {
     let script = RepeatedScript { list };
     let plan = RepeatedScript { list };
-    serve_session(rt, alloc, script, &plan, shape, shards, callers, &OpenGate).expect(rt, "memory")
+    let session = open_session(alloc, script, shape, shards, callers).expect(rt, "memory");
+    serve_session(rt, session, &plan, &OpenGate)
 }
 
 /// Appends a finished call.
