@@ -22,15 +22,6 @@ pub may_still : (m : Meaning) (late : Bool) (f g : List Symbol) (d : DeskView) �
 may_still m true f g d h k = record { covered = covered_through g f d.present k.covered (h refl).covered; foresight = k.foresight }
 may_still m false f g d h k = k
 
--- what holds of the told desk, where it hasn't been told, and where it has
-pub when_late : (late : Bool) (f : List Symbol) (d : DeskView) (P : DeskView → Type 0) → late ≡ true → P (once_told late f d) → P (with_present d f)
-when_late true f d P e p = p
-when_late false f d P e p = cc
-
-pub when_told : (late : Bool) (f : List Symbol) (d : DeskView) (P : DeskView → Type 0) → late ≡ false → P (once_told late f d) → P d
-when_told true f d P e p = cc
-when_told false f d P e p = p
-
 -- what is said of a reply that a desk gave
 answered_with : {E : Type 0} (r : Result Value E) (A P : Value → Type 0) (B Q : Type 0) → IfOk r IsValue → MatchResult r A (λ _. B) → ((v : Value) → IsValue v → A v → P v) → (B → Q) → MatchResult r P (λ _. Q)
 answered_with (Ok v) A P B Q is h p q = p v is h

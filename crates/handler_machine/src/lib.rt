@@ -1,13 +1,14 @@
 //! Handlers run on what answers their operations, and served at desks.
 #![tactic(auto)]
 
-pub mod laws;
+mod laws;
 mod narrowing;
 mod on_tables;
 mod running;
 mod scripts;
 mod serving;
 mod sums;
+mod telling;
 
 pub use on_tables::TablesAnswerer;
 pub use running::run_handler;

@@ -11,6 +11,7 @@ ghost use Rattle.check_meaning.specs.Dialogue.{env_of};
 ghost use Rattle.handler_machine.specs.Serving.{Halted, IsAwaiting, IsServing, IsSettled, MayTell, once_told};
 ghost use Rattle.handler_machine.specs.Serving.{course_of};
 
+use crate::telling::TellsLate;
 use declaration_insertion::Program;
 use machine_walk::Guide;
 use session_journal::Desk;
@@ -108,11 +109,8 @@ impl<'a, R: Threads + Wait + Sync, D: Desk> Guide<D> for Narrowing<'a, R> {
         n.program.now n.handler whole) (D.at now) n.next.room };
 
     fn call(&mut self, host: &mut D, op: Op) -> Result<Value, NoMemory> {
-        if self.late {
-            host.declare(self.rt, &self.next);
-            self.late = false;
-            return held(host.call(self.rt, op));
-        }
+        host.tell(self.rt, self.late, &self.next);
+        self.late = false;
         held(host.call(self.rt, op))
     }
 

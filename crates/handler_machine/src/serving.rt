@@ -11,9 +11,10 @@ ghost use Rattle.ticket_serving.specs.Served.{IsServed, IsStopped};
 ghost use Rattle.handler_check.specs.Resolved.{code_at, params_at};
 ghost use Rattle.declaration_insertion.specs.Promises.{list_at};
 ghost use Rattle.declaration_insertion.specs.Program.{declared_at};
-ghost use Rattle.handler_machine.specs.Serving.{Gives, IsSettled, MayTell, Promises, once_told};
+ghost use Rattle.handler_machine.specs.Serving.{Gives, IsSettled, Promises};
 
 use crate::narrowing::Narrowing;
+use crate::telling::TellsLate;
 use check_meaning::CheckedBlock;
 use declaration_insertion::Program;
 use machine_walk::{set_up, walk_body};
@@ -21,22 +22,7 @@ use session_journal::{Desk, Script};
 use session_values::{NoMemory, Value};
 use std::sync::Wait;
 use std::thread::Threads;
-use symbolic_ops::Foresight;
 use ticket_serving::{Room, Scratch};
-
-/// Tells a desk of a declaration, where it hasn't been told.
-fn tell<R: Threads + Wait + Sync, D: Desk>(rt: &R, host: &mut D, late: bool, list: &Foresight)
-    requires idle { (D.at host.old).waiting ≡ None }
-    requires going { (D.at host.old).ended ≡ false }
-    requires may { MayTell (D.Served.meaning (D.script host.old)) late list.now.symbols
-        (D.at host.old) }
-    ensures script { D.script host.new ≡ D.script host.old }
-    ensures told { D.at host.new ≡ once_told late list.now.symbols (D.at host.old) }
-{
-    if late {
-        host.declare(rt, list);
-    }
-}
 
 /// Serves the body of a handler at a desk, with these values of its variables, to its end.
 fn serve_body<R: Threads + Wait + Sync, D: Desk>(
@@ -69,7 +55,7 @@ fn serve_body<R: Threads + Wait + Sync, D: Desk>(
     ensures room { max_symbols ≤ guide.new.next.room }
 {
     let reply = walk_body(guide, desk, env, body)?;
-    tell(guide.rt, desk, guide.late, &guide.next);
+    desk.tell(guide.rt, guide.late, &guide.next);
     guide.late = false;
     desk.end(guide.rt, reply);
     Ok(())

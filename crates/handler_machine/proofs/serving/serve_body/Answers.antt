@@ -57,7 +57,7 @@ returns-in_err-reply-clause-room g c =
     h.1.roomy
 
 pub tell-requires-clause-idle : goal.tell-requires-clause-idle
-tell-requires-clause-idle g c κs within =
+tell-requires-clause-idle g c =
     let at = g.D.Desk.at in
     let r = c.requires in
     let start = c.args.desk.now in
@@ -70,7 +70,7 @@ tell-requires-clause-idle g c κs within =
     h.1.1.waits
 
 pub tell-requires-clause-going : goal.tell-requires-clause-going
-tell-requires-clause-going g c κs within =
+tell-requires-clause-going g c =
     let at = g.D.Desk.at in
     let r = c.requires in
     let start = c.args.desk.now in
@@ -83,7 +83,7 @@ tell-requires-clause-going g c κs within =
     h.1.1.going
 
 pub tell-requires-clause-may : goal.tell-requires-clause-may
-tell-requires-clause-may g c κs within =
+tell-requires-clause-may g c =
     let at = g.D.Desk.at in
     let r = c.requires in
     let start = c.args.desk.now in
@@ -106,7 +106,7 @@ end-requires-clause-idle g c =
     let s = serving_first course n.next.room (entry E) r.gives r.promises r.fresh r.idle r.going r.present r.room in
     let h = c.in_ok-reply.ensures course.whole start (refl, is_told n.late n.next.symbols (at start) (λ d. IsServing course d n.next.room course.whole) r.told s, is_told n.late n.next.symbols (at start) (IsSettled n.settled) r.told r.settled, nothing_to_tell course.meaning n.late n.next.symbols (at start) r.told) in
     let m = c.walk_body.new.guide in
-    let now = at c.tell.new.host in
+    let now = at c.tell.new.self in
     let late : Course = course_of course.meaning course.start m.program.now m.handler course.whole in
     let serving = subst (λ d. IsServing late d m.next.room h.0) (sym c.tell.ensures.told) h.1.1 in
     serving.waits
@@ -122,7 +122,7 @@ end-requires-clause-going g c =
     let s = serving_first course n.next.room (entry E) r.gives r.promises r.fresh r.idle r.going r.present r.room in
     let h = c.in_ok-reply.ensures course.whole start (refl, is_told n.late n.next.symbols (at start) (λ d. IsServing course d n.next.room course.whole) r.told s, is_told n.late n.next.symbols (at start) (IsSettled n.settled) r.told r.settled, nothing_to_tell course.meaning n.late n.next.symbols (at start) r.told) in
     let m = c.walk_body.new.guide in
-    let now = at c.tell.new.host in
+    let now = at c.tell.new.self in
     let late : Course = course_of course.meaning course.start m.program.now m.handler course.whole in
     let serving = subst (λ d. IsServing late d m.next.room h.0) (sym c.tell.ensures.told) h.1.1 in
     serving.going
@@ -138,7 +138,7 @@ end-requires-clause-answers g c =
     let s = serving_first course n.next.room (entry E) r.gives r.promises r.fresh r.idle r.going r.present r.room in
     let h = c.in_ok-reply.ensures course.whole start (refl, is_told n.late n.next.symbols (at start) (λ d. IsServing course d n.next.room course.whole) r.told s, is_told n.late n.next.symbols (at start) (IsSettled n.settled) r.told r.settled, nothing_to_tell course.meaning n.late n.next.symbols (at start) r.told) in
     let m = c.walk_body.new.guide in
-    let now = at c.tell.new.host in
+    let now = at c.tell.new.self in
     let late : Course = course_of course.meaning course.start m.program.now m.handler course.whole in
     let serving = subst (λ d. IsServing late d m.next.room h.0) (sym c.tell.ensures.told) h.1.1 in
     subst (λ z. next_of (g.D.Served.Script.meaning z) now ≡ Answers c.in_ok-reply.reply) (sym (c.tell.ensures.script ∙ h.1.0)) (end_answers late now m.next.room h.0 c.in_ok-reply.reply serving h.2.answers)
@@ -154,7 +154,7 @@ end-requires-clause-due g c =
     let s = serving_first course n.next.room (entry E) r.gives r.promises r.fresh r.idle r.going r.present r.room in
     let h = c.in_ok-reply.ensures course.whole start (refl, is_told n.late n.next.symbols (at start) (λ d. IsServing course d n.next.room course.whole) r.told s, is_told n.late n.next.symbols (at start) (IsSettled n.settled) r.told r.settled, nothing_to_tell course.meaning n.late n.next.symbols (at start) r.told) in
     let m = c.walk_body.new.guide in
-    let now = at c.tell.new.host in
+    let now = at c.tell.new.self in
     let late : Course = course_of course.meaning course.start m.program.now m.handler course.whole in
     let serving = subst (λ d. IsServing late d m.next.room h.0) (sym c.tell.ensures.told) h.1.1 in
     subst (λ z. now.present ≡ due_of (g.D.Served.Script.meaning z) now) (sym (c.tell.ensures.script ∙ h.1.0)) (end_due late now m.next.room h.0 c.in_ok-reply.reply serving h.2.answers h.2.passes)
@@ -170,7 +170,7 @@ returns-clause-script g c =
     let s = serving_first course n.next.room (entry E) r.gives r.promises r.fresh r.idle r.going r.present r.room in
     let h = c.in_ok-reply.ensures course.whole start (refl, is_told n.late n.next.symbols (at start) (λ d. IsServing course d n.next.room course.whole) r.told s, is_told n.late n.next.symbols (at start) (IsSettled n.settled) r.told r.settled, nothing_to_tell course.meaning n.late n.next.symbols (at start) r.told) in
     let m = c.walk_body.new.guide in
-    let now = at c.tell.new.host in
+    let now = at c.tell.new.self in
     let late : Course = course_of course.meaning course.start m.program.now m.handler course.whole in
     let serving = subst (λ d. IsServing late d m.next.room h.0) (sym c.tell.ensures.told) h.1.1 in
     c.end.ensures.script ∙ c.tell.ensures.script ∙ h.1.0
@@ -186,7 +186,7 @@ returns-clause-served g c =
     let s = serving_first course n.next.room (entry E) r.gives r.promises r.fresh r.idle r.going r.present r.room in
     let h = c.in_ok-reply.ensures course.whole start (refl, is_told n.late n.next.symbols (at start) (λ d. IsServing course d n.next.room course.whole) r.told s, is_told n.late n.next.symbols (at start) (IsSettled n.settled) r.told r.settled, nothing_to_tell course.meaning n.late n.next.symbols (at start) r.told) in
     let m = c.walk_body.new.guide in
-    let now = at c.tell.new.host in
+    let now = at c.tell.new.self in
     let late : Course = course_of course.meaning course.start m.program.now m.handler course.whole in
     let serving = subst (λ d. IsServing late d m.next.room h.0) (sym c.tell.ensures.told) h.1.1 in
     end_served late now m.next.room h.0 c.in_ok-reply.reply serving h.2.answers (at c.end.new.self) c.end.ensures.ended
@@ -202,7 +202,7 @@ returns-clause-room g c =
     let s = serving_first course n.next.room (entry E) r.gives r.promises r.fresh r.idle r.going r.present r.room in
     let h = c.in_ok-reply.ensures course.whole start (refl, is_told n.late n.next.symbols (at start) (λ d. IsServing course d n.next.room course.whole) r.told s, is_told n.late n.next.symbols (at start) (IsSettled n.settled) r.told r.settled, nothing_to_tell course.meaning n.late n.next.symbols (at start) r.told) in
     let m = c.walk_body.new.guide in
-    let now = at c.tell.new.host in
+    let now = at c.tell.new.self in
     let late : Course = course_of course.meaning course.start m.program.now m.handler course.whole in
     let serving = subst (λ d. IsServing late d m.next.room h.0) (sym c.tell.ensures.told) h.1.1 in
     serving.roomy
