@@ -51,7 +51,7 @@ calls_put [] op values e = let P : Op → Type 0 = λ o. StandsFor (exact_symbol
     inside a b e = cc
 calls_put (v ∷ more) op values e = absurd (no_calls more op values.1 e)
 
-put_is_nil : (ts : Tables) (k v : ℕ) → Nil ≡ reply ts (put_of k v)
+pub put_is_nil : (ts : Tables) (k v : ℕ) → Nil ≡ reply ts (put_of k v)
 unfolding reply
 put_is_nil ts k v = go (table ts 0)
   where

@@ -26,6 +26,12 @@ pub(crate) fn put_2() -> Op
     Op::new(Kind::Put, 0, Value::Num(2), Value::Num(7))
 }
 
+pub(crate) fn put_1() -> Op
+    ensures { result ≡ put_of 1 7 }
+{
+    Op::new(Kind::Put, 0, Value::Num(1), Value::Num(7))
+}
+
 pub(crate) fn get_1() -> Op
     ensures { result ≡ get_of 1 }
 {
@@ -54,7 +60,12 @@ fn three_tickets(alloc: Global) -> Result<ListScript, NoMemory>
 }
 
 /// Begins the next ticket with what it declares.
-fn begin_next<R: Abort>(rt: &R, book: &mut Book<ListScript>, caller: u32, scratch: &mut Foresight)
+pub(crate) fn begin_next<R: Abort>(
+    rt: &R,
+    book: &mut Book<ListScript>,
+    caller: u32,
+    scratch: &mut Foresight,
+)
     requires lawful { Lawful (meaning_of book.old.script) book.old.book }
     requires caller { caller < length book.old.book.records }
     requires idle { record_of book.old.book caller ≡ None }

@@ -12,7 +12,7 @@ ghost use Rattle.session_hall.specs.Stages.{IsBetween};
 ghost use Rattle.tests_desks.specs.BookRows.{get_of, list_entry, meaning_of, put_of};
 ghost use Rattle.tests_desks.specs.HallRows.{HasTwo, Stands, done, gets_and_puts};
 
-use crate::books::{are_nil, get_1, nil, put_2};
+use crate::books::{are_nil, get_1, nil, put_1, put_2};
 use hall_rule::Part;
 use session_hall::{Admitting, Applying, Caller, Closed, Hall};
 use session_journal::{Event, ListScript};
@@ -22,12 +22,6 @@ use std::alloc::Global;
 use std::process::Abort;
 use std::sync::Wait;
 use symbolic_ops::{Foresight, Symbol};
-
-fn put_1() -> Op
-    ensures { result ≡ put_of 1 7 }
-{
-    Op::new(Kind::Put, 0, Value::Num(1), Value::Num(7))
-}
 
 /// Its key is in one shard of two with that of `put_2`.
 fn get_4() -> Op

@@ -12,3 +12,5 @@ mod halls;
 mod journals;
 #[cfg(test)]
 mod map_ops;
+#[cfg(test)]
+mod two_puts;
