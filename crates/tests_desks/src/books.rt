@@ -44,15 +44,16 @@ fn get_2() -> Op
     Op::new(Kind::Get, 0, Value::Num(2), Value::Nil)
 }
 
-/// A ticket that may get two keys, one that may get the second one, and one that puts it.
+/// Two tickets that may get two keys, and one that puts the second key.
 fn three_tickets(alloc: Global) -> Result<ListScript, NoMemory>
     ensures { IfOk result (λ s. s ≡ gets_and_put) }
 {
-    let mut script = ListScript::with_room(alloc, &[TableKind::Map], 3, 1, 4)?;
+    let mut script = ListScript::with_room(alloc, &[TableKind::Map], 3, 1, 5)?;
     script.ticket(nil());
     script.allow(Symbol::exact(&get_1()));
     script.allow(Symbol::exact(&get_2()));
     script.ticket(nil());
+    script.allow(Symbol::exact(&get_1()));
     script.allow(Symbol::exact(&get_2()));
     script.ticket(nil());
     script.call(put_2());
