@@ -1,6 +1,6 @@
 -- A book over a list of tickets, where it is known what the book has: what a call asks there, and
 -- what it leaves.
-use Rattle.std.proofs.Common.{◌≡◌, ℕ, ◌<◌, List, Option, Some, None, sym, ◌∙◌, ap, subst}
+use Rattle.std.proofs.Common.{◌≡◌, ℕ, ◌<◌, List, Option, Some, None, sym, ◌∙◌, subst}
 use Rattle.session_values.specs.declared.op.Op.{Op}
 use Rattle.session_values.specs.declared.reply.Reply.{Reply}
 use Rattle.session_values.specs.declared.value.Value.{Value}
@@ -8,7 +8,6 @@ use Rattle.symbolic_ops.specs.declared.symbol.Symbol.{Symbol}
 use Rattle.std.specs.Option.{IsSome}
 use Rattle.session_journal.specs.Journal.{ended}
 use Rattle.session_journal.specs.Lists.{ListView}
-use Rattle.session_journal.specs.Script.{Meaning}
 use Rattle.admission_book.specs.declared.admission.Admission.{Admission}
 use Rattle.admission_book.specs.declared.admission.Admission.TheVariants.{Admitted, Delayed}
 use Rattle.admission_book.specs.Book.{Book, Serving, record_of, after_narrow, after_admit, after_delay, after_done, after_end}

@@ -1,12 +1,12 @@
 -- The calls on the book of a ticket that may get a key and one that puts it: each may be made.
-use Rattle.std.proofs.Common.{◌≡◌, ℕ, zero, suc, ◌<◌, ◌^◌, List, [], ◌∷◌, inl, inr, Some, None, refl, arith}
+use Rattle.std.proofs.Common.{ℕ, zero, suc, ◌<◌, List, [], inl, inr, refl, arith}
 use Rattle.std.specs.Option.{IsSome}
 use Rattle.session_values.specs.declared.value.Value.TheVariants.{Nil}
 use Rattle.symbolic_ops.specs.declared.symbol.Symbol.{Symbol}
 use Rattle.session_journal.specs.Journal.{ended}
 use Rattle.admission_book.specs.Methods.{MayBeginNext, MayAdmit, MayDo, MayEnd, MayNarrow}
 use Rattle.session_hall.specs.Stages.{flying, waiting}
-use Rattle.tests_desks.specs.BookRows.{get_of, meaning_of, nil_reply, put_of}
+use Rattle.tests_desks.specs.BookRows.{meaning_of, nil_reply, put_of}
 use Rattle.tests_desks.specs.TwoPuts.{both_begun, both_ended, first_admitted, first_put, get_or_puts, may_get, may_put, may_put_both, none_against, second_admitted, second_delayed, second_put, younger_ended}
 use Rattle.tests_desks.proofs.BookRows.{calls_put, no_calls, put_is_nil, put_stands}
 
