@@ -22,8 +22,8 @@ use std::thread::Threads;
 use ticket_serving::{Scratch, Serves};
 use worker_gate::OpenGate;
 
-/// Serves the ticket that the caller has begun, at a desk. The caller that the desk gives back begins
-/// the next ticket.
+/// Serves the ticket that the caller has begun, at a desk. The caller that the desk gives back
+/// begins the next ticket.
 fn serve_and_go_on<R: Threads + Wait + Abort + Sync, S: Serves + Drop>(
     rt: &R,
     plan: &S,
