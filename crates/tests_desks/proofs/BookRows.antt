@@ -51,7 +51,7 @@ calls_put [] op values e = let P : Op → Type 0 = λ o. StandsFor (exact_symbol
     inside a b e = cc
 calls_put (v ∷ more) op values e = absurd (no_calls more op values.1 e)
 
-put_is_nil : (ts : Tables) (k v : ℕ) → Nil ≡ reply ts (put_of k v)
+pub put_is_nil : (ts : Tables) (k v : ℕ) → Nil ≡ reply ts (put_of k v)
 unfolding reply
 put_is_nil ts k v = go (table ts 0)
   where
@@ -98,7 +98,7 @@ module _ (older : ℕ) (y : Symbol) (v w : BookView ListView) (s : StaysLawful L
   has_narrowed_one f a k n = step (delayed older y) (narrowed_one older y) v w a s (narrows (delayed older y) 0 (waiting 0 []) f a.book k n 0 (waiting 0 (exact_symbol (get_of 1) ∷ exact_symbol (get_of 2) ∷ [])) refl refl)
 
   pub has_narrowed : (f : List Symbol) → IsAt gets_and_put (narrowed_one older y) v → f ≡ [] → Narrowed v.book 1 f w.book → IsAt gets_and_put (narrowed older y) w
-  has_narrowed f a k n = step (narrowed_one older y) (narrowed older y) v w a s (narrows (narrowed_one older y) 1 (waiting 1 []) f a.book k n 1 (waiting 1 (exact_symbol (get_of 2) ∷ [])) refl refl)
+  has_narrowed f a k n = step (narrowed_one older y) (narrowed older y) v w a s (narrows (narrowed_one older y) 1 (waiting 1 []) f a.book k n 1 (waiting 1 (exact_symbol (get_of 1) ∷ exact_symbol (get_of 2) ∷ [])) refl refl)
 
   pub was_admitted : (r : Admission) → IsAt gets_and_put (narrowed older y) v → Admits v.book 2 (put_of 2 7) r w.book → r ≡ Admitted → IsAt gets_and_put (in_flight older y) w
   was_admitted r a h e =
@@ -128,7 +128,7 @@ module _ (older : ℕ) (y : Symbol) (v : BookView ListView) where
   may_narrow_one f a k = narrows_to (delayed older y) 0 f a k (record { caller = 0; serving = waiting 0 (exact_symbol (get_of 1) ∷ exact_symbol (get_of 2) ∷ []); is = refl; ticket = refl; idle = refl; covered = tt; covers = record { few = omega arith; known = tt; covers = record { each = no_calls } } })
 
   pub may_narrow : (f : List Symbol) → IsAt gets_and_put (narrowed_one older y) v → f ≡ [] → MayNarrow (meaning_of v.script) v.book 1 f
-  may_narrow f a k = narrows_to (narrowed_one older y) 1 f a k (record { caller = 1; serving = waiting 1 (exact_symbol (get_of 2) ∷ []); is = refl; ticket = refl; idle = refl; covered = tt; covers = record { few = omega arith; known = tt; covers = record { each = no_calls } } })
+  may_narrow f a k = narrows_to (narrowed_one older y) 1 f a k (record { caller = 1; serving = waiting 1 (exact_symbol (get_of 1) ∷ exact_symbol (get_of 2) ∷ []); is = refl; ticket = refl; idle = refl; covered = tt; covers = record { few = omega arith; known = tt; covers = record { each = no_calls } } })
 
   pub may_admit_now : IsAt gets_and_put (narrowed older y) v → MayAdmit (meaning_of v.script) v.book 2 (put_of 2 7)
   may_admit_now a = here (λ z b. MayAdmit (meaning_of z) b 2 (put_of 2 7)) (narrowed older y) v a

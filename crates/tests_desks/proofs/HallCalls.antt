@@ -37,7 +37,7 @@ use Rattle.tests_desks.proofs.BookRows.{calls_put, no_calls, put_stands}
 get_stands : Matches (exact_symbol (get_of 4) ∷ exact_symbol (get_of 1) ∷ []) (get_of 4)
 get_stands = inl (exact_stands (get_of 4) (record { key = omega arith; value = tt; unused = (λ h. absurd (omega (arith, h)), λ h. refl) }))
 
-of_flight : (st : Stage) (t : ℕ) (op : Op) (P : ℕ → Op → Type 0) → st ≡ InFlight t op → OnFlight st P → P t op
+pub of_flight : (st : Stage) (t : ℕ) (op : Op) (P : ℕ → Op → Type 0) → st ≡ InFlight t op → OnFlight st P → P t op
 of_flight st t op P e p = let Q : Stage → Type 0 = λ s. OnFlight s P in subst Q e p
 
 pub in_flight : (st : Stage) (t : ℕ) (op : Op) → st ≡ InFlight t op → IsInFlight st
@@ -50,68 +50,73 @@ between st e = let P : Stage → Type 0 = λ s. IsBetween s in subst P (sym e) t
 pub pushed : (f g : ForesightView) (s y : Symbol) (room : ℕ) → g ≡ record { symbols = []; room = room } → f ≡ record { symbols = g.symbols ++ s ∷ []; room = g.room } → s ≡ y → f.symbols ≡ y ∷ []
 pushed f g s y room e h k = ap (λ (x : ForesightView). x.symbols) h ∙ ap (λ (x : ForesightView). x.symbols ++ s ∷ []) e ∙ ap (λ (x : Symbol). x ∷ []) k
 
--- ---- what the calls ask, of a caller of a hall over the two tickets
-module _ (h : Hall ListView) (script : script_of h ≡ gets_and_puts) (c : Caller ListView) where
-  fact_at : (P : Meaning → List Symbol → List Entry → Type 0) (t : ℕ) (st : Stage) (f : List Symbol) (es : List Entry) → Stands h c t st f es → P (meaning_of gets_and_puts) f es → P (meaning_of (script_of h)) c.foresight.symbols (entries_of c t)
+-- ---- what the calls ask, of a caller of a hall over a list of tickets
+module _ (z : ListView) (h : Hall ListView) (script : script_of h ≡ z) (c : Caller ListView) where
+  fact_at : (P : Meaning → List Symbol → List Entry → Type 0) (t : ℕ) (st : Stage) (f : List Symbol) (es : List Entry) → Stands h c t st f es → P (meaning_of z) f es → P (meaning_of (script_of h)) c.foresight.symbols (entries_of c t)
   fact_at P t st f es s p =
-      let M : ListView → Type 0 = λ z. P (meaning_of z) c.foresight.symbols (entries_of c t) in
-      let F : List Symbol → Type 0 = λ g. P (meaning_of gets_and_puts) g (entries_of c t) in
-      let E : List Entry → Type 0 = λ l. P (meaning_of gets_and_puts) f l in
+      let M : ListView → Type 0 = λ y. P (meaning_of y) c.foresight.symbols (entries_of c t) in
+      let F : List Symbol → Type 0 = λ g. P (meaning_of z) g (entries_of c t) in
+      let E : List Entry → Type 0 = λ l. P (meaning_of z) f l in
       subst M (sym script) (subst F (sym s.foresight) (subst E (sym s.entries) p))
 
   -- with what the ticket declares at its beginning
-  pub begins : (t : ℕ) (f : List Symbol) → list_entry gets_and_puts t ≡ f → Stands h c t (Serves t) (list_entry (script_of h) t) [] → Stands h c t (Serves t) f []
-  begins t f e s = record { caller = s.caller; stage = s.stage; foresight = s.foresight ∙ ap (λ z. list_entry z t) script ∙ e; entries = s.entries }
+  pub begins : (t : ℕ) (f : List Symbol) → list_entry z t ≡ f → Stands h c t (Serves t) (list_entry (script_of h) t) [] → Stands h c t (Serves t) f []
+  begins t f e s = record { caller = s.caller; stage = s.stage; foresight = s.foresight ∙ ap (λ y. list_entry y t) script ∙ e; entries = s.entries }
 
-  may_call : (t : ℕ) (op : Op) (f : List Symbol) (es : List Entry) → Stands h c t (Serves t) f es → ((meaning_of gets_and_puts).next t (replies es) ≡ Calls op) × Matches f op → ByNote (meaning_of (script_of h)) c (MayCall c.foresight.symbols op)
+  pub may_call : (t : ℕ) (op : Op) (f : List Symbol) (es : List Entry) → Stands h c t (Serves t) f es → ((meaning_of z).next t (replies es) ≡ Calls op) × Matches f op → ByNote (meaning_of (script_of h)) c (MayCall c.foresight.symbols op)
   may_call t op f es s p = on_serving c.stage t (λ u. MayCall c.foresight.symbols op (meaning_of (script_of h)) (book_of c) u) s.stage (fact_at (λ m g l. (m.next t (replies l) ≡ Calls op) × Matches g op) t _ f es s p)
 
-  pub may_get : Stands h c 0 (Serves 0) (exact_symbol (get_of 4) ∷ exact_symbol (get_of 1) ∷ []) [] → ByNote (meaning_of (script_of h)) c (MayCall c.foresight.symbols (get_of 4))
-  may_get s = may_call 0 (get_of 4) _ _ s (refl, get_stands)
-
-  pub may_put_2 : Stands h c 1 (Serves 1) (exact_symbol (put_of 2 7) ∷ exact_symbol (put_of 1 7) ∷ []) [] → ByNote (meaning_of (script_of h)) c (MayCall c.foresight.symbols (put_of 2 7))
-  may_put_2 s = may_call 1 (put_of 2 7) _ _ s (refl, inl (put_stands 2 7 (omega arith) (omega arith)))
-
-  pub may_put_1 : (v : Value) → Stands h c 1 (Serves 1) (exact_symbol (put_of 1 7) ∷ []) (done (put_of 2 7) v ∷ []) → ByNote (meaning_of (script_of h)) c (MayCall c.foresight.symbols (put_of 1 7))
-  may_put_1 v s = may_call 1 (put_of 1 7) _ _ s (refl, inl (put_stands 1 7 (omega arith) (omega arith)))
-
-  may_enter : (t : ℕ) (op : Op) (v : Value) (f : List Symbol) (es : List Entry) (next g : List Symbol) → Stands h c t (Applied t op v) f es → next ≡ g → Covered g f × IsForesight (rest ((meaning_of gets_and_puts).next t) (replies (es ++ done op v ∷ []))) g × Covered g ((meaning_of gets_and_puts).told t (replies (es ++ done op v ∷ []))) → MayFinish (meaning_of (script_of h)) c next
+  pub may_enter : (t : ℕ) (op : Op) (v : Value) (f : List Symbol) (es : List Entry) (next g : List Symbol) → Stands h c t (Applied t op v) f es → next ≡ g → Covered g f × IsForesight (rest ((meaning_of z).next t) (replies (es ++ done op v ∷ []))) g × Covered g ((meaning_of z).told t (replies (es ++ done op v ∷ []))) → MayFinish (meaning_of (script_of h)) c next
   may_enter t op v f es next g s e p =
       let S : Stage → Type 0 = λ st. MayFinishAt (meaning_of (script_of h)) st c.foresight.symbols (book_of c) next in
       let N : List Symbol → Type 0 = λ l. MayFinishAt (meaning_of (script_of h)) (Applied t op v) c.foresight.symbols (book_of c) l in
       subst S (sym s.stage) (subst N (sym e) (fact_at (λ m k l. Covered g k × IsForesight (rest (m.next t) (replies (l ++ done op v ∷ []))) g × Covered g (m.told t (replies (l ++ done op v ∷ [])))) t _ f es s p))
 
+  pub may_end : (t : ℕ) (f : List Symbol) (es : List Entry) → Stands h c t (Serves t) f es → (meaning_of z).next t (replies es) ≡ Answers nil_reply → ByNote (meaning_of (script_of h)) c (MayAnswer nil_reply)
+  may_end t f es s p = on_serving c.stage t (λ u. MayAnswer nil_reply (meaning_of (script_of h)) (book_of c) u) s.stage (fact_at (λ m l k. m.next t (replies k) ≡ Answers nil_reply) t _ f es s p)
+
+  pub may_narrow : (t : ℕ) (next g f : List Symbol) (es : List Entry) → next ≡ g → Stands h c t (Serves t) f es → Covered g f × IsForesight (rest ((meaning_of z).next t) (replies es)) g → ByNote (meaning_of (script_of h)) c (MayDeclare c.foresight.symbols next)
+  may_narrow t next g f es e s p =
+      let N : List Symbol → Type 0 = λ l. MayDeclare c.foresight.symbols l (meaning_of (script_of h)) (book_of c) t in
+      on_serving c.stage t (λ u. MayDeclare c.foresight.symbols next (meaning_of (script_of h)) (book_of c) u) s.stage
+      (subst N (sym e) (fact_at (λ m l k. Covered g l × IsForesight (rest (m.next t) (replies k)) g) t _ f es s p))
+
+-- ---- of a caller of the hall over the two tickets
+module _ (h : Hall ListView) (script : script_of h ≡ gets_and_puts) (c : Caller ListView) where
+  pub may_get : Stands h c 0 (Serves 0) (exact_symbol (get_of 4) ∷ exact_symbol (get_of 1) ∷ []) [] → ByNote (meaning_of (script_of h)) c (MayCall c.foresight.symbols (get_of 4))
+  may_get s = may_call gets_and_puts h script c 0 (get_of 4) _ _ s (refl, get_stands)
+
+  pub may_put_2 : Stands h c 1 (Serves 1) (exact_symbol (put_of 2 7) ∷ exact_symbol (put_of 1 7) ∷ []) [] → ByNote (meaning_of (script_of h)) c (MayCall c.foresight.symbols (put_of 2 7))
+  may_put_2 s = may_call gets_and_puts h script c 1 (put_of 2 7) _ _ s (refl, inl (put_stands 2 7 (omega arith) (omega arith)))
+
+  pub may_put_1 : (v : Value) → Stands h c 1 (Serves 1) (exact_symbol (put_of 1 7) ∷ []) (done (put_of 2 7) v ∷ []) → ByNote (meaning_of (script_of h)) c (MayCall c.foresight.symbols (put_of 1 7))
+  may_put_1 v s = may_call gets_and_puts h script c 1 (put_of 1 7) _ _ s (refl, inl (put_stands 1 7 (omega arith) (omega arith)))
+
   pub may_enter_get : (v : Value) (next : List Symbol) → next ≡ exact_symbol (get_of 1) ∷ [] → Stands h c 0 (Applied 0 (get_of 4) v) (exact_symbol (get_of 4) ∷ exact_symbol (get_of 1) ∷ []) [] → MayFinish (meaning_of (script_of h)) c next
-  may_enter_get v next e s = may_enter 0 (get_of 4) v _ _ next _ s e (
+  may_enter_get v next e s = may_enter gets_and_puts h script c 0 (get_of 4) v _ _ next _ s e (
     (inr (inl (record { kind = refl; table = refl; key = refl; value = refl })), tt),
     record { few = omega arith; known = ((tt, tt), tt); covers = record { each = λ more op values e. absurd (no_calls more op values e) } },
     (inr (inl (record { kind = refl; table = refl; key = refl; value = refl })), tt),
   )
 
   pub may_enter_2 : (v : Value) (next : List Symbol) → next ≡ exact_symbol (put_of 1 7) ∷ [] → Stands h c 1 (Applied 1 (put_of 2 7) v) (exact_symbol (put_of 2 7) ∷ exact_symbol (put_of 1 7) ∷ []) [] → MayFinish (meaning_of (script_of h)) c next
-  may_enter_2 v next e s = may_enter 1 (put_of 2 7) v _ _ next _ s e (
+  may_enter_2 v next e s = may_enter gets_and_puts h script c 1 (put_of 2 7) v _ _ next _ s e (
     (inr (inl (record { kind = refl; table = refl; key = refl; value = refl })), tt),
     record { few = omega arith; known = ((tt, tt), tt); covers = record { each = calls_put } },
     (inr (inl (record { kind = refl; table = refl; key = refl; value = refl })), tt),
   )
 
   pub may_enter_1 : (u v : Value) (next : List Symbol) → next ≡ [] → Stands h c 1 (Applied 1 (put_of 1 7) v) (exact_symbol (put_of 1 7) ∷ []) (done (put_of 2 7) u ∷ []) → MayFinish (meaning_of (script_of h)) c next
-  may_enter_1 u v next e s = may_enter 1 (put_of 1 7) v _ _ next _ s e (tt, record { few = omega arith; known = tt; covers = record { each = no_calls } }, tt)
+  may_enter_1 u v next e s = may_enter gets_and_puts h script c 1 (put_of 1 7) v _ _ next _ s e (tt, record { few = omega arith; known = tt; covers = record { each = no_calls } }, tt)
 
   pub may_declare : (v : Value) (f : List Symbol) → f ≡ [] → Stands h c 0 (Serves 0) (exact_symbol (get_of 1) ∷ []) (done (get_of 4) v ∷ []) → ByNote (meaning_of (script_of h)) c (MayDeclare c.foresight.symbols f)
-  may_declare v f e s =
-      let N : List Symbol → Type 0 = λ g. MayDeclare c.foresight.symbols g (meaning_of (script_of h)) (book_of c) 0 in
-      on_serving c.stage 0 (λ u. MayDeclare c.foresight.symbols f (meaning_of (script_of h)) (book_of c) u) s.stage
-      (subst N (sym e) (fact_at (λ m l es. Covered [] l × IsForesight (rest (m.next 0) (replies es)) []) 0 _ _ _ s (tt, record { few = omega arith; known = tt; covers = record { each = no_calls } })))
-
-  may_end : (t : ℕ) (f : List Symbol) (es : List Entry) → Stands h c t (Serves t) f es → (meaning_of gets_and_puts).next t (replies es) ≡ Answers nil_reply → ByNote (meaning_of (script_of h)) c (MayAnswer nil_reply)
-  may_end t f es s p = on_serving c.stage t (λ u. MayAnswer nil_reply (meaning_of (script_of h)) (book_of c) u) s.stage (fact_at (λ m l k. m.next t (replies k) ≡ Answers nil_reply) t _ f es s p)
+  may_declare v f e s = may_narrow gets_and_puts h script c 0 f _ _ _ e s (tt, record { few = omega arith; known = tt; covers = record { each = no_calls } })
 
   pub may_end_0 : (v : Value) → Stands h c 0 (Serves 0) [] (done (get_of 4) v ∷ []) → ByNote (meaning_of (script_of h)) c (MayAnswer nil_reply)
-  may_end_0 v s = may_end 0 _ _ s refl
+  may_end_0 v s = may_end gets_and_puts h script c 0 _ _ s refl
 
   pub may_end_1 : (v w : Value) → Stands h c 1 (Serves 1) [] (done (put_of 2 7) v ∷ done (put_of 1 7) w ∷ []) → ByNote (meaning_of (script_of h)) c (MayAnswer nil_reply)
-  may_end_1 v w s = may_end 1 _ _ s refl
+  may_end_1 v w s = may_end gets_and_puts h script c 1 _ _ s refl
 
 -- ---- what the calls leave
 -- the operation in flight is this one

@@ -39,7 +39,7 @@ meaning_of s = list_meaning s.shape s.tickets
 abbrev pub list_entry : ListView → ℕ → List Symbol
 list_entry s t = (ticket_at s.tickets t).entry
 
--- a ticket that may get two keys, one that may get the second one, and one that puts it
+-- two tickets that may get two keys, and one that puts the second key
 abbrev pub gets_and_put : ListView
 gets_and_put = on_one_map (
     record {
@@ -47,7 +47,11 @@ gets_and_put = on_one_map (
       reply = nil_reply;
       entry = exact_symbol (get_of 1) ∷ exact_symbol (get_of 2) ∷ [];
     }
-    ∷ record { ops = []; reply = nil_reply; entry = exact_symbol (get_of 2) ∷ [] }
+    ∷ record {
+      ops = [];
+      reply = nil_reply;
+      entry = exact_symbol (get_of 1) ∷ exact_symbol (get_of 2) ∷ [];
+    }
     ∷ record { ops = put_of 2 7 ∷ []; reply = nil_reply; entry = exact_symbol (put_of 2 7) ∷ [] }
     ∷ []
     )
@@ -64,7 +68,7 @@ all_begun =
     after_begin
     (after_begin
     (after_begin (opened 3 3) 0 (exact_symbol (get_of 1) ∷ exact_symbol (get_of 2) ∷ []))
-    1 (exact_symbol (get_of 2) ∷ []))
+    1 (exact_symbol (get_of 1) ∷ exact_symbol (get_of 2) ∷ []))
     2 (exact_symbol (put_of 2 7) ∷ [])
 
 module _ (older : ℕ) (y : Symbol) where
@@ -83,7 +87,7 @@ module _ (older : ℕ) (y : Symbol) where
   abbrev pub narrowed : Book
   narrowed = after_narrow narrowed_one 1 (record {
     ticket = 1;
-    foresight = exact_symbol (get_of 2) ∷ [];
+    foresight = exact_symbol (get_of 1) ∷ exact_symbol (get_of 2) ∷ [];
     flight = None;
   }) []
 

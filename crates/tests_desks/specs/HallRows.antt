@@ -42,9 +42,9 @@ pub record Stands (h : Hall ListView) (c : Caller ListView) (t : ℕ) (st : Stag
   pub foresight : c.foresight.symbols ≡ f
   pub entries : entries_of c t ≡ es
 
--- a hall over these tickets as it is opened, with two callers
-pub record HasTwo (h : Hall ListView) (cs : List (Caller ListView)) : Type 0 where
-  pub script : script_of h ≡ gets_and_puts
+-- a hall over a list of tickets as it is opened, with two callers
+pub record HasTwo (s : ListView) (h : Hall ListView) (cs : List (Caller ListView)) : Type 0 where
+  pub script : script_of h ≡ s
   pub two : length cs ≡ 2
   pub callers_are : h.sizes.callers ≡ 2
   pub opens : (i : ℕ) (c : Caller ListView) → slice_get cs i ≡ Some c → Opens meaning_of h i c

@@ -26,6 +26,12 @@ pub(crate) fn put_2() -> Op
     Op::new(Kind::Put, 0, Value::Num(2), Value::Num(7))
 }
 
+pub(crate) fn put_1() -> Op
+    ensures { result ≡ put_of 1 7 }
+{
+    Op::new(Kind::Put, 0, Value::Num(1), Value::Num(7))
+}
+
 pub(crate) fn get_1() -> Op
     ensures { result ≡ get_of 1 }
 {
@@ -38,15 +44,16 @@ fn get_2() -> Op
     Op::new(Kind::Get, 0, Value::Num(2), Value::Nil)
 }
 
-/// A ticket that may get two keys, one that may get the second one, and one that puts it.
+/// Two tickets that may get two keys, and one that puts the second key.
 fn three_tickets(alloc: Global) -> Result<ListScript, NoMemory>
     ensures { IfOk result (λ s. s ≡ gets_and_put) }
 {
-    let mut script = ListScript::with_room(alloc, &[TableKind::Map], 3, 1, 4)?;
+    let mut script = ListScript::with_room(alloc, &[TableKind::Map], 3, 1, 5)?;
     script.ticket(nil());
     script.allow(Symbol::exact(&get_1()));
     script.allow(Symbol::exact(&get_2()));
     script.ticket(nil());
+    script.allow(Symbol::exact(&get_1()));
     script.allow(Symbol::exact(&get_2()));
     script.ticket(nil());
     script.call(put_2());
@@ -54,7 +61,12 @@ fn three_tickets(alloc: Global) -> Result<ListScript, NoMemory>
 }
 
 /// Begins the next ticket with what it declares.
-fn begin_next<R: Abort>(rt: &R, book: &mut Book<ListScript>, caller: u32, scratch: &mut Foresight)
+pub(crate) fn begin_next<R: Abort>(
+    rt: &R,
+    book: &mut Book<ListScript>,
+    caller: u32,
+    scratch: &mut Foresight,
+)
     requires lawful { Lawful (meaning_of book.old.script) book.old.book }
     requires caller { caller < length book.old.book.records }
     requires idle { record_of book.old.book caller ≡ None }

@@ -5,6 +5,7 @@ ghost use Rattle.std.specs.Prelude.{◌≡◌, ◌≤◌, [], ◌∷◌, ◌++�
 ghost use Rattle.session_limits.specs.Limits.{max_symbols};
 ghost use Rattle.symbolic_ops.specs.Matching.{exact_symbol};
 ghost use Rattle.session_values.specs.declared.value.Value.TheVariants.{Nil};
+ghost use Rattle.session_values.specs.declared.kind.TableKind.TheVariants.{Map};
 ghost use Rattle.session_hall.specs.declared.stage.Stage.TheVariants.{Idle, InFlight, Out, Serving};
 ghost use Rattle.session_hall.specs.Callers.{IsCallerOf};
 ghost use Rattle.session_hall.specs.Names.{script_of};
@@ -12,7 +13,7 @@ ghost use Rattle.session_hall.specs.Stages.{IsBetween};
 ghost use Rattle.tests_desks.specs.BookRows.{get_of, list_entry, meaning_of, put_of};
 ghost use Rattle.tests_desks.specs.HallRows.{HasTwo, Stands, done, gets_and_puts};
 
-use crate::books::{are_nil, get_1, nil, put_2};
+use crate::books::{are_nil, get_1, nil, put_1, put_2};
 use hall_rule::Part;
 use session_hall::{Admitting, Applying, Caller, Closed, Hall};
 use session_journal::{Event, ListScript};
@@ -22,12 +23,6 @@ use std::alloc::Global;
 use std::process::Abort;
 use std::sync::Wait;
 use symbolic_ops::{Foresight, Symbol};
-
-fn put_1() -> Op
-    ensures { result ≡ put_of 1 7 }
-{
-    Op::new(Kind::Put, 0, Value::Num(1), Value::Num(7))
-}
 
 /// Its key is in one shard of two with that of `put_2`.
 fn get_4() -> Op
@@ -50,13 +45,24 @@ fn two_tickets(alloc: Global) -> Result<ListScript, NoMemory>
     Ok(script)
 }
 
-/// A hall of two shards and two callers.
-fn open_hall(alloc: Global) -> Result<(Hall<ListScript>, Vec<Caller<ListScript>>), NoMemory>
-    ensures { IfOk result (λ r. HasTwo r.0 r.1.items) }
+/// A hall of two shards and two callers over a list of tickets on one map.
+pub(crate) fn open_two(
+    alloc: Global,
+    script: ListScript,
+) -> Result<(Hall<ListScript>, Vec<Caller<ListScript>>), NoMemory>
+    requires { script.shape ≡ Map ∷ [] }
+    ensures { IfOk result (λ r. HasTwo script r.0 r.1.items) }
 {
-    let script = two_tickets(alloc)?;
     let (hall, callers) = Hall::open(alloc, script, &[TableKind::Map], 2, 2)?;
     Ok((hall, callers.into_vec()))
+}
+
+/// The hall over both tickets.
+fn open_hall(alloc: Global) -> Result<(Hall<ListScript>, Vec<Caller<ListScript>>), NoMemory>
+    ensures { IfOk result (λ r. HasTwo gets_and_puts r.0 r.1.items) }
+{
+    let script = two_tickets(alloc)?;
+    open_two(alloc, script)
 }
 
 /// Ticket t begins.
@@ -290,7 +296,7 @@ fn bound_to(closed: &Closed, key: Value) -> Option<Value> {
 }
 
 /// The keys 1 and 2 are bound to 7, and both tickets have their replies.
-fn has_bindings<R: Abort>(rt: &R, closed: &Closed) {
+pub(crate) fn has_bindings<R: Abort>(rt: &R, closed: &Closed) {
     let value = Some(Value::Num(7));
     assert!(rt; bound_to(closed, Value::Num(1)) == value);
     assert!(rt; bound_to(closed, Value::Num(2)) == value);

@@ -7,8 +7,12 @@ mod books;
 #[cfg(test)]
 mod desks;
 #[cfg(test)]
+mod hall_tries;
+#[cfg(test)]
 mod halls;
 #[cfg(test)]
 mod journals;
 #[cfg(test)]
 mod map_ops;
+#[cfg(test)]
+mod two_puts;

@@ -1,1 +1,2 @@
+mod OneCaller
 pub mod OneMap

@@ -15,7 +15,7 @@ use std::process::Abort;
 const TICKETS: u32 = 20000;
 
 /// What a ticket calls: it adds its number to the one key.
-fn op_of(ticket: u32) -> Op
+pub(crate) fn op_of(ticket: u32) -> Op
     ensures { Fits (Map ∷ []) result }
 {
     Op::new(Kind::Bump, 0, Value::Num(0), Value::Num(i64::from(ticket)))
@@ -32,7 +32,7 @@ fn tickets(alloc: Global) -> Result<RepeatedCalls, NoMemory>
 }
 
 /// The one key and its value, in the first shard of a closed hall.
-fn first_entry<R: Abort>(rt: &R, closed: &Closed) -> (Value, Value) {
+pub(crate) fn first_entry<R: Abort>(rt: &R, closed: &Closed) -> (Value, Value) {
     if closed.parts().len() == 0 {
         rt.panic("no shard")
     }

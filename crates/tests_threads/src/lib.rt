@@ -5,4 +5,6 @@
 #[cfg(test)]
 mod bumps;
 #[cfg(test)]
+mod desk_callers;
+#[cfg(test)]
 mod four_callers;

@@ -1,11 +1,7 @@
-use Rattle.std.proofs.Common.{length, sym, ap, ◌∙◌}
-use Rattle.std.specs.Prelude.{slice_get}
+use Rattle.std.proofs.Common.{subst}
+use Rattle.std.specs.Prelude.{IfOk}
+use Rattle.tests_desks.specs.HallRows.{HasTwo}
 use Rattle.tests_desks.proofs.halls.open_hall.Goals as goal
 
 pub returns : goal.returns
-returns c = record {
-  script = c.in_ok-hall.ensures.script ∙ c.in_ok-script.ensures;
-  two = ap length c.into_vec.ensures ∙ c.in_ok-hall.ensures.count;
-  callers_are = c.in_ok-hall.ensures.sizes.2;
-  opens = λ i d e. c.in_ok-hall.ensures.callers i d (ap (λ l. slice_get l i) (sym c.into_vec.ensures) ∙ e);
-}
+returns c = subst (λ s. IfOk c.open_two.result (λ r. HasTwo s r.0 r.1.items)) c.in_ok-script.ensures c.open_two.ensures

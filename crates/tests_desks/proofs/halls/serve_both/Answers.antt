@@ -9,7 +9,7 @@ pub begin-requires-2-clause-stage : goal.begin-requires-2-clause-stage
 begin-requires-2-clause-stage g c = between _ c.requires.younger.1
 
 pub put_on_taken_shard-got-requires-clause-older : goal.put_on_taken_shard-got-requires-clause-older
-put_on_taken_shard-got-requires-clause-older g c = begins c.args.hall.now c.requires.script c.begin.new.caller 0 _ refl c.begin.ensures.begun
+put_on_taken_shard-got-requires-clause-older g c = begins _ c.args.hall.now c.requires.script c.begin.new.caller 0 _ refl c.begin.ensures.begun
 
 pub put_on_taken_shard-got-requires-clause-younger : goal.put_on_taken_shard-got-requires-clause-younger
-put_on_taken_shard-got-requires-clause-younger g c = begins c.args.hall.now c.requires.script c.begin-2.new.caller 1 _ refl c.begin-2.ensures.begun
+put_on_taken_shard-got-requires-clause-younger g c = begins _ c.args.hall.now c.requires.script c.begin-2.new.caller 1 _ refl c.begin-2.ensures.begun
