@@ -87,7 +87,19 @@ pub(crate) struct Narrowing<'a, R> {
     pub(crate) settled: bool,
     /// The desk has still to be told of `next`.
     pub(crate) late: bool,
+    /// No point behind the entry has been passed yet, so what is declared isn't `next`.
+    pub(crate) at_entry: bool,
     ghost exists: { handler < length program.now.file.handlers },
+}
+
+impl<'a, R> Narrowing<'a, R> {
+    /// How many kinds the last declaration that was passed names.
+    fn kinds_declared(&self) -> u32 {
+        if self.at_entry {
+            return kinds_named(self.program.entry(self.handler));
+        }
+        kinds_named(self.next.symbols())
+    }
 }
 
 impl<'a, R: Threads + Wait + Sync, D: Desk> Guide<D> for Narrowing<'a, R> {
@@ -118,6 +130,7 @@ impl<'a, R: Threads + Wait + Sync, D: Desk> Guide<D> for Narrowing<'a, R> {
         let nothing = take_declaration(self.program, self.handler, point, env, &mut self.next);
         host.finish(self.rt, &self.next);
         self.late = false;
+        self.at_entry = false;
         self.settled = nothing;
     }
 
@@ -125,9 +138,10 @@ impl<'a, R: Threads + Wait + Sync, D: Desk> Guide<D> for Narrowing<'a, R> {
         if self.settled {
             return;
         }
-        let before = kinds_named(self.next.symbols());
+        let before = self.kinds_declared();
         let nothing = take_declaration(self.program, self.handler, point, env, &mut self.next);
         let kinds = kinds_named(self.next.symbols());
+        self.at_entry = false;
         self.settled = nothing;
         if kinds == before {
             self.late = true;

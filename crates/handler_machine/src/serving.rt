@@ -102,6 +102,7 @@ fn serve_handler<R: Threads + Wait + Sync, D: Desk>(
         next: foresight,
         settled: false,
         late: false,
+        at_entry: true,
     };
     let env = values.as_mut_slice();
     set_up(env, args);
@@ -113,6 +114,7 @@ fn serve_handler<R: Threads + Wait + Sync, D: Desk>(
         next,
         settled: _,
         late: _,
+        at_entry: _,
     } = guide;
     scratch.put(Room {
         values,
