@@ -8,17 +8,14 @@ use Rattle.session_values.specs.Values.{value_cmp}
 use Rattle.session_values.specs.Tables.{Container, empty_of, size_of}
 use Rattle.session_values.specs.declared.kind.TableKind.TheVariants.{Map}
 use Rattle.shard_tables.specs.Shards.{MapView, ShardView, map_shard}
-use Rattle.request_files.specs.Text.{Text, lines}
-use Rattle.request_files.specs.Requests.{Row, row_of}
+use Rattle.text_lines.specs.Text.{Text}
+use Rattle.text_lines.specs.Rows.{Row}
 use Rattle.range_session.specs.declared.refusal.RangeRefusal.{RangeRefusal}
-use Rattle.range_session.specs.declared.step.Flaw.{Flaw}
-use Rattle.range_session.specs.declared.step.Step.{Step}
-use Rattle.range_session.specs.Faults.{Holds, fault_of, first_fault, holds_after, names_of, rows_of, text_fault, words_in}
+use Rattle.range_session.specs.Faults.{Holds, fault_of, first_fault, holds_after, names_of, rows_of, words_in}
 use Rattle.range_session.specs.Ready.{IsReadyHold}
-use Rattle.range_session.specs.Session.{Desk, Does, IsRangesText, Tells, WritesBy, first_desk}
+use Rattle.range_session.specs.Session.{Does, IsRangesText, Tells, first_desk}
 use Rattle.range_session.specs.Steps.{step_of}
-use Rattle.range_session.specs.Taking.{Takes, TakesLine, desk_of}
-use Rattle.range_session.specs.Words.{word_of}
+use Rattle.range_session.specs.Taking.{TakesLine, desk_of}
 
 pub record Going (names : List Text) (rs0 rs : List Row) (seen : ℕ) (m : MapView) (holds : Holds) (asked : ℕ) (out : Text) : Type 0 where
   pub faults : first_fault names seen holds rs ≡ first_fault names 0 [] rs0

@@ -19,10 +19,10 @@ use Rattle.range_tables.specs.declared.range_symbol.RangeSymbol.{RangeSymbol}
 use Rattle.range_tables.specs.declared.range_symbol.RangeSymbol.TheVariants as symbol
 use Rattle.range_tables.specs.Ranges.{AreEnds, IsHeldRange}
 use Rattle.range_tables.specs.Symbols.{IsHeldRangeSymbol, IsRangeSymbol}
-use Rattle.request_files.specs.Text.{Text}
-use Rattle.request_files.specs.Values.{as_value, is_nil, is_symbol, number, value_of}
-use Rattle.request_files.proofs.PrintableLemmas.{number_held}
-use Rattle.request_files.proofs.ValueLemmas.{value_by}
+use Rattle.text_lines.specs.Text.{Text}
+use Rattle.text_lines.specs.Values.{as_value, is_nil, is_symbol, number, value_of}
+use Rattle.text_lines.proofs.PrintableLemmas.{number_held}
+use Rattle.text_lines.proofs.ValueLemmas.{value_by}
 use Rattle.range_session.specs.declared.step.Flaw.{Flaw}
 use Rattle.range_session.specs.declared.step.Step.{Step}
 use Rattle.range_session.specs.declared.step.Step.TheVariants.{Hold, Free, Do}

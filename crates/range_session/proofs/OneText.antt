@@ -1,19 +1,18 @@
 -- A text of lines writes one text at most.
-use Rattle.std.proofs.Common.{◌≡◌, ℕ, zero, suc, ◌+◌, List, [], ◌∷◌, ◌++◌, Option, Some, None, Result, Ok, Err, ◌⊎◌, inl, inr, refl, sym, ap, ◌∙◌, subst}
+use Rattle.std.proofs.Common.{◌≡◌, ℕ, zero, suc, List, [], ◌∷◌, ◌++◌, Option, Some, None, Result, Ok, Err, ◌⊎◌, inl, inr, refl, sym, ap, ◌∙◌, subst}
 use Rattle.std.specs.List.{AllByRecursion}
 use Rattle.session_values.specs.Tables.{Tables}
-use Rattle.range_tables.specs.Ranges.{range_reply}
 use Rattle.range_tables.specs.declared.range_op.RangeOp.{RangeOp}
 use Rattle.range_tables.specs.declared.range_symbol.RangeSymbol.{RangeSymbol}
 use Rattle.range_tables.specs.Symbols.{RangeCommutesWith}
-use Rattle.request_files.specs.Text.{Text}
-use Rattle.request_files.specs.Requests.{Row}
+use Rattle.text_lines.specs.Text.{Text}
+use Rattle.text_lines.specs.Rows.{Row}
 use Rattle.range_session.specs.declared.refusal.RangeRefusal.{RangeRefusal}
 use Rattle.range_session.specs.declared.step.Flaw.{Flaw}
 use Rattle.range_session.specs.declared.step.Step.{Step}
 use Rattle.range_session.specs.declared.step.Step.TheVariants.{Hold, Free, Do}
-use Rattle.range_session.specs.Faults.{Holds, holds_after, names_of, rows_of, text_fault, words_in}
-use Rattle.range_session.specs.Session.{Delays, Desk, Does, IsDelayed, IsDone, IsFirstAgainst, IsKept, IsRangesText, Passes, Tells, Writes, WritesBy, delay_text, first_desk}
+use Rattle.range_session.specs.Faults.{Holds, names_of, rows_of, text_fault, words_in}
+use Rattle.range_session.specs.Session.{Delays, Desk, IsDelayed, IsDone, IsFirstAgainst, IsKept, IsRangesText, Passes, Tells, WritesBy, delay_text, first_desk}
 use Rattle.range_session.specs.Steps.{step_of}
 
 -- ---- what delays an operation

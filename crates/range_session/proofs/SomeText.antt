@@ -9,12 +9,12 @@ use Rattle.range_tables.specs.Ranges.{IsHeldRange, range_reply, range_step}
 use Rattle.range_tables.specs.Relation.{range_commutes_symbol}
 use Rattle.range_tables.specs.Symbols.{RangeCommutesWith}
 use Rattle.range_tables.proofs.Reduced.{Decides-range_commute_symbol}
-use Rattle.request_files.specs.Text.{Text, lines, words}
-use Rattle.request_files.specs.Values.{placed, placed_all}
-use Rattle.request_files.specs.Requests.{Row, names_behind, rows}
-use Rattle.request_files.proofs.RowLemmas.{behind_nil, behind_step, rows_more, rows_nil, rows_skip}
-use Rattle.request_files.proofs.TextLemmas.{total, total_le}
-use Rattle.request_files.proofs.ValueLemmas.{placed_all_nil, placed_all_step, placed_length}
+use Rattle.text_lines.specs.Text.{Text, lines, words}
+use Rattle.text_lines.specs.Values.{placed, placed_all}
+use Rattle.text_lines.specs.Rows.{Row, names_behind, rows}
+use Rattle.text_lines.proofs.RowLemmas.{behind_nil, behind_step, rows_more, rows_nil, rows_skip}
+use Rattle.text_lines.proofs.TextLemmas.{total, total_le}
+use Rattle.text_lines.proofs.ValueLemmas.{placed_all_nil, placed_all_step, placed_length}
 use Rattle.range_session.specs.declared.refusal.RangeRefusal.{RangeRefusal}
 use Rattle.range_session.specs.declared.refusal.RangeRefusal.TheVariants as refusal
 use Rattle.range_session.specs.declared.step.Flaw.{Flaw}

@@ -1,7 +1,6 @@
 -- What steps leave of a desk.
-use Rattle.std.proofs.Common.{◌≡◌, ℕ, zero, suc, pos, negsuc, ℤ, ◌+◌, ◌<◌, ◌≤◌, Bool, true, false, cond, ◌&&◌, eqb, List, [], ◌∷◌, ◌++◌, length, set, Option, Some, None, inl, inr, refl, sym, ap, ◌∙◌, subst, arith, append-nil}
+use Rattle.std.proofs.Common.{◌≡◌, ℕ, zero, suc, ℤ, ◌+◌, ◌<◌, ◌≤◌, Bool, true, false, ◌&&◌, eqb, List, [], ◌∷◌, ◌++◌, set, Some, None, inl, inr, refl, sym, ap, arith, append-nil}
 use Rattle.std.specs.List.{AllByRecursion}
-use Rattle.session_values.specs.declared.op.Op.{Op}
 use Rattle.session_values.specs.declared.value.Value.{Value}
 use Rattle.session_values.specs.Kinds.{is_adding}
 use Rattle.session_values.specs.Tables.{Tables, Container, size_of, step, table}
@@ -12,12 +11,11 @@ use Rattle.range_tables.specs.declared.range_op.RangeOp.TheVariants.{Plain, Betw
 use Rattle.range_tables.specs.declared.range_symbol.RangeSymbol.{RangeSymbol}
 use Rattle.range_tables.specs.Ranges.{range_reply, range_step}
 use Rattle.range_tables.specs.Tables.{HasRoomForRange}
-use Rattle.request_files.specs.Text.{Text}
-use Rattle.range_session.specs.declared.step.Step.{Step}
+use Rattle.text_lines.specs.Text.{Text}
 use Rattle.range_session.specs.declared.step.Step.TheVariants.{Hold, Free, Do}
 use Rattle.range_session.specs.Faults.{Holds, closed}
 use Rattle.range_session.specs.Ready.{IsReady, IsReadyHold}
-use Rattle.range_session.specs.Session.{Desk, Does, IsDelayed, Passes, delay_text, reply_text}
+use Rattle.range_session.specs.Session.{IsDelayed, Passes, delay_text, reply_text}
 use Rattle.range_session.specs.Taking.{Takes, desk_of}
 
 pub has_room : (op : RangeOp) (s : ShardView) → size_of s.container < s.room → HasRoomForRange op s

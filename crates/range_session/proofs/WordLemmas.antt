@@ -1,13 +1,13 @@
 -- Words as values and ranges.
-use Rattle.std.proofs.Common.{◌≡◌, ◌≢◌, ℕ, ℤ, ◌+◌, ◌<◌, ◌≤◌, Bool, true, false, cond, not, eqb, ltb, List, [], ◌∷◌, length, drop, Option, Some, None, refl, sym, ap, ◌∙◌, subst, arith}
+use Rattle.std.proofs.Common.{◌≡◌, ◌≢◌, ℕ, ℤ, ◌+◌, ◌≤◌, Bool, true, false, cond, eqb, ltb, List, [], ◌∷◌, length, Option, Some, None, refl, sym, ap, ◌∙◌, arith}
 use Rattle.std.proofs.lemmas.Bool.Decides.{nat_tests}
 use Rattle.std.proofs.lemmas.List.{drop_all}
 use Rattle.std.proofs.lemmas.List.Sums.{prefix_len-le-length}
 use Rattle.std.specs.List.{position, position_or_len, after_first, before_first}
 use Rattle.std.specs.Str.{bytes_eq}
 use Rattle.session_values.specs.Names.{place_of}
-use Rattle.request_files.specs.Text.{Text}
-use Rattle.request_files.specs.Values.{number}
+use Rattle.text_lines.specs.Text.{Text}
+use Rattle.text_lines.specs.Values.{number}
 use Rattle.range_session.specs.declared.word.Operand.{Operand}
 use Rattle.range_session.specs.Words.{after_point, range_by, range_of}
 

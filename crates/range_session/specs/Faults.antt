@@ -3,8 +3,8 @@ use Rattle.std.specs.Prelude.{ℕ, ℤ, pos, negsuc, ◌+◌, Bool, false, ◌&&
 use Rattle.std.specs.List.{count_by}
 use Rattle.std.specs.Option.{option_or}
 use Rattle.range_tables.specs.declared.range_symbol.RangeSymbol.{RangeSymbol}
-use Rattle.request_files.specs.Text.{Text, lines}
-use Rattle.request_files.specs.Requests.{Row, rows, names_behind}
+use Rattle.text_lines.specs.Text.{Text, lines}
+use Rattle.text_lines.specs.Rows.{Row, rows, names_behind}
 use Rattle.range_session.specs.declared.refusal.RangeRefusal.{RangeRefusal}
 use Rattle.range_session.specs.declared.refusal.RangeRefusal.TheVariants as refusal
 use Rattle.range_session.specs.declared.step.Flaw.{Flaw}

@@ -1,5 +1,5 @@
 -- What a text of lines is answered with: holds beside one map.
-use Rattle.std.specs.Prelude.{◌≡◌, ℕ, zero, suc, ◌+◌, ◌⊎◌, List, [], ◌∷◌, ◌++◌, codes, Option, Some, None, IfSome, Result, Ok, Err}
+use Rattle.std.specs.Prelude.{◌≡◌, ℕ, zero, suc, ◌+◌, ◌⊎◌, List, [], ◌∷◌, ◌++◌, codes, Option, Some, None, Result, Ok, Err}
 use Rattle.std.specs.Fmt.{decimal}
 use Rattle.std.specs.List.{AllByRecursion}
 use Rattle.session_values.specs.declared.kind.TableKind.TheVariants.{Map}
@@ -10,8 +10,8 @@ use Rattle.range_tables.specs.declared.range_op.RangeOp.{RangeOp}
 use Rattle.range_tables.specs.declared.range_symbol.RangeSymbol.{RangeSymbol}
 use Rattle.range_tables.specs.Ranges.{range_reply, range_step}
 use Rattle.range_tables.specs.Symbols.{RangeCommutesWith}
-use Rattle.request_files.specs.Text.{Text}
-use Rattle.request_files.specs.Requests.{Row}
+use Rattle.text_lines.specs.Text.{Text}
+use Rattle.text_lines.specs.Rows.{Row}
 use Rattle.range_session.specs.declared.step.Flaw.{Flaw}
 use Rattle.range_session.specs.declared.step.Step.{Step}
 use Rattle.range_session.specs.declared.step.Step.TheVariants.{Hold, Free, Do}

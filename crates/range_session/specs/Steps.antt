@@ -1,20 +1,16 @@
 -- What a line asks for, by its words alone.
-use Rattle.std.specs.Prelude.{◌≡◌, ℕ, ℤ, pos, Bool, true, ◌==◌, if◌then◌else◌, List, [], ◌∷◌, ◌++◌, map, codes, Option, Some, None, Result, Ok, Err}
+use Rattle.std.specs.Prelude.{ℕ, ℤ, Bool, if◌then◌else◌, List, [], ◌∷◌, ◌++◌, codes, Option, Some, None, Result, Ok, Err}
 use Rattle.std.specs.Str.{bytes_eq}
 use Rattle.session_values.specs.declared.kind.Kind.{Kind}
 use Rattle.session_values.specs.declared.kind.Kind.TheVariants as kind
-use Rattle.session_values.specs.declared.kind.TableKind.TheVariants.{Map}
-use Rattle.session_values.specs.declared.value.Value.{Value}
 use Rattle.session_values.specs.declared.value.Value.TheVariants.{Nil, Num, Sym}
-use Rattle.session_values.specs.Kinds.{home}
 use Rattle.symbolic_ops.specs.declared.arg.Arg.{Arg}
 use Rattle.symbolic_ops.specs.declared.arg.Arg.TheVariants as arg
-use Rattle.symbolic_ops.specs.declared.symbol.Symbol.{Symbol}
 use Rattle.range_tables.specs.declared.range_op.RangeOp.{RangeOp}
 use Rattle.range_tables.specs.declared.range_op.RangeOp.TheVariants as op
 use Rattle.range_tables.specs.declared.range_symbol.RangeSymbol.{RangeSymbol}
 use Rattle.range_tables.specs.declared.range_symbol.RangeSymbol.TheVariants as symbol
-use Rattle.request_files.specs.Text.{Text}
+use Rattle.text_lines.specs.Text.{Text}
 use Rattle.range_session.specs.declared.step.Flaw.{Flaw}
 use Rattle.range_session.specs.declared.step.Flaw.TheVariants.{UnknownWord, Arity, BadWord}
 use Rattle.range_session.specs.declared.step.Step.{Step}
@@ -24,7 +20,6 @@ use Rattle.range_session.specs.declared.word.Operand.TheVariants.{Known, Any, Ra
 use Rattle.range_session.specs.declared.word.Verb.{Verb}
 use Rattle.range_session.specs.declared.word.Verb.TheVariants as verb
 use Rattle.range_session.specs.declared.word.Word.{Word}
-use Rattle.range_session.specs.Words.{word_of}
 
 -- ---- one symbol
 

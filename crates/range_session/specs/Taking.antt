@@ -1,7 +1,7 @@
 -- What taking a step does to what a session holds.
 use Rattle.std.specs.Prelude.{◌≡◌, ℕ, List, [], ◌∷◌, ◌++◌, Ok, map}
 use Rattle.shard_tables.specs.Shards.{MapView, map_shard}
-use Rattle.request_files.specs.Text.{Text}
+use Rattle.text_lines.specs.Text.{Text}
 use Rattle.range_session.specs.declared.step.Step.{Step}
 use Rattle.range_session.specs.Faults.{Holds}
 use Rattle.range_session.specs.Session.{Desk, Does}

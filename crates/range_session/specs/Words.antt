@@ -1,11 +1,10 @@
 -- What a word of a line may be: the word of an operation, an operand, the mark between symbols.
-use Rattle.std.specs.Prelude.{ℕ, ℤ, ◌==◌, if◌then◌else◌, List, [], ◌∷◌, codes, Option, Some, None}
+use Rattle.std.specs.Prelude.{ℤ, ◌==◌, if◌then◌else◌, List, [], ◌∷◌, codes, Option, Some, None}
 use Rattle.std.specs.List.{before_first, after_first}
 use Rattle.std.specs.Str.{bytes_eq}
-use Rattle.session_values.specs.declared.kind.Kind.TheVariants.{Get, Put, Swap, Del, Size, Bump}
 use Rattle.session_values.specs.declared.value.Value.{Value}
-use Rattle.request_files.specs.Text.{Text}
-use Rattle.request_files.specs.Values.{number, value_of}
+use Rattle.text_lines.specs.Text.{Text}
+use Rattle.text_lines.specs.Values.{number, value_of}
 use Rattle.range_session.specs.declared.word.Operand.{Operand}
 use Rattle.range_session.specs.declared.word.Operand.TheVariants.{Known, Any, Range}
 use Rattle.range_session.specs.declared.word.Verb.{Verb}

@@ -1,14 +1,14 @@
 // The names of a text.
 
 ghost use Rattle.std.specs.Prelude.{◌≡◌, ◌+◌, ◌≤◌, [], length, IfOk, OnOk};
-ghost use Rattle.request_files.specs.Text.{words as words_of};
-ghost use Rattle.request_files.specs.Values.{placed_all};
+ghost use Rattle.text_lines.specs.Text.{words as words_of};
+ghost use Rattle.text_lines.specs.Values.{placed_all};
 ghost use Rattle.range_session.specs.Faults.{names_of as names_spec};
 
-use request_files::{Line, Lines, value};
 use session_values::{Names, NoMemory};
 use std::alloc::Global;
 use std::hash::{DefaultHasher, Hasher};
+use text_lines::{Line, Lines, value};
 
 /// No names yet. Their hashes begin from a hash of all that is read, so whoever changes a name
 /// changes all of them, and can't choose names that collide.

@@ -5,7 +5,7 @@ ghost use Rattle.std.specs.List.{AllByRecursion};
 ghost use Rattle.session_limits.specs.Limits.{max_input};
 ghost use Rattle.session_values.specs.Tables.{size_of};
 ghost use Rattle.shard_tables.specs.Shards.{map_shard};
-ghost use Rattle.request_files.specs.Text.{words as words_of};
+ghost use Rattle.text_lines.specs.Text.{words as words_of};
 ghost use Rattle.range_session.specs.Faults as spec;
 ghost use Rattle.range_session.specs.Ready.{IsReadyHold};
 ghost use Rattle.range_session.specs.Session.{IsRangesText};
@@ -19,9 +19,9 @@ use crate::naming::names_of;
 use crate::refusal::RangeRefusal;
 use crate::word::{Word, word_of};
 use range_tables::{RangeSymbol, RangeTable};
-use request_files::{Line, Lines};
 use session_values::{Listed, Names, NoMemory};
 use std::alloc::Global;
+use text_lines::{Line, Lines};
 
 /// All that the words may be that are left.
 fn words_of_line(alloc: Global, mut words: Line<'_>, names: &Names) -> Result<Vec<Word>, NoMemory>

@@ -3,10 +3,10 @@
 ghost use Rattle.std.specs.Prelude.{◌≡◌};
 ghost use Rattle.range_session.specs.Words as spec;
 ghost use Rattle.session_values.specs.Names.{place_of};
-ghost use Rattle.request_files.specs.Values as values;
+ghost use Rattle.text_lines.specs.Values as values;
 
-use request_files::{is_symbol, number};
 use session_values::{Names, Value};
+use text_lines::{is_symbol, number};
 
 /// The word of an operation.
 #[derive(Clone, Copy, Debug, PartialEq, Eq)]
@@ -73,7 +73,7 @@ fn place(word: &str, names: &Names) -> u32
 }
 
 /// The value of a word, if it is one.
-#[tactic(auto, unfolding(request_files::specs::Values::value_of))]
+#[tactic(auto, unfolding(text_lines::specs::Values::value_of))]
 fn value(word: &str, names: &Names) -> Option<Value>
     ensures { result ≡ values.value_of names.now word.now }
 {

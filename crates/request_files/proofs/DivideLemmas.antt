@@ -6,8 +6,8 @@ use Rattle.std.proofs.lemmas.List.Sums.{prefix_len_stops}
 use Rattle.std.proofs.lemmas.Str.{IsCharBoundary-start, IsCharBoundary-end, IsCharBoundary-after_ascii}
 use Rattle.std.specs.List.{list_any, position_or_len, prefix_len}
 use Rattle.std.specs.Str.{IsCharBoundary}
-use Rattle.request_files.specs.Text.{Text, lines, is_line_byte}
-use Rattle.request_files.proofs.TextLemmas.{lines_some, lines_nil, line_stop_is}
+use Rattle.text_lines.specs.Text.{Text, lines, is_line_byte}
+use Rattle.text_lines.proofs.TextLemmas.{lines_some, lines_nil, line_stop_is}
 use Rattle.request_files.specs.Divide.{is_dividing, head_size, mark_size, Divides}
 
 -- so many bytes are lines that don't divide, and this is the number of the next line

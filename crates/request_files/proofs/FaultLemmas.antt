@@ -10,9 +10,10 @@ use Rattle.handler_check.specs.Resolved.{params_at}
 use Rattle.request_files.specs.declared.tally.Tally.{Tally}
 use Rattle.request_files.specs.declared.refusal.RequestRefusal.{RequestRefusal}
 use Rattle.request_files.specs.declared.refusal.RequestRefusal.TheVariants.{TooManyRequests, UnknownHandler, Arity, BadWord, TooManyCalls, TooMuchWork, NoMemory}
-use Rattle.request_files.specs.Text.{Text}
-use Rattle.request_files.specs.Values.{is_value, values_of, placed_all}
-use Rattle.request_files.specs.Requests.{Row, AreKnown, handler_of, handler_fault, sum_fault, fault_of, with_request, request_of, IsWithin, Accepted}
+use Rattle.text_lines.specs.Text.{Text}
+use Rattle.text_lines.specs.Values.{is_value, values_of, placed_all}
+use Rattle.request_files.specs.Requests.{AreKnown, handler_of, handler_fault, sum_fault, fault_of, with_request, request_of, IsWithin, Accepted}
+use Rattle.text_lines.specs.Rows.{Row}
 use Rattle.request_files.proofs.HandlerLemmas.{handler_kept}
 
 module _ (names : List Text) (f : File) (t : Tally) (r : Row) where

@@ -11,9 +11,10 @@ use Rattle.request_files.specs.declared.tally.Tally.{Tally}
 use Rattle.request_files.specs.declared.refusal.RequestRefusal.{RequestRefusal}
 use Rattle.request_files.specs.declared.refusal.RequestRefusal.TheVariants.{TooManyRequests, UnknownHandler, Arity, BadWord, TooManyCalls, TooMuchWork}
 use Rattle.request_files.specs.Laws.{CallsPass, IsOneTooMany, IsWellFormed, calls_named}
-use Rattle.request_files.specs.Text.{Text}
-use Rattle.request_files.specs.Values.{is_value}
-use Rattle.request_files.specs.Requests.{Row, handler_of, fault_of, first_fault, with_request, no_requests}
+use Rattle.text_lines.specs.Text.{Text}
+use Rattle.text_lines.specs.Values.{is_value}
+use Rattle.request_files.specs.Requests.{handler_of, fault_of, first_fault, with_request, no_requests}
+use Rattle.text_lines.specs.Rows.{Row}
 use Rattle.request_files.proofs.FaultLemmas.{fault_many, fault_sums}
 use Rattle.request_files.proofs.RowLemmas.{fault_step, first_nil}
 

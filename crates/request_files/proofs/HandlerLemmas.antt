@@ -11,9 +11,9 @@ use Rattle.syntax_trees.specs.declared.file.File.{File}
 use Rattle.syntax_trees.specs.declared.file.Handler.{Handler}
 use Rattle.syntax_trees.specs.Mentions.{IsBelow, AreNamed, table_mentions, handler_mentions, file_mentions}
 use Rattle.syntax_trees.proofs.Mentions.{all_first}
-use Rattle.request_files.specs.Text.{Text}
+use Rattle.text_lines.specs.Text.{Text}
 use Rattle.request_files.specs.Requests.{AreKnown, handler_of, IsHandler}
-use Rattle.request_files.proofs.ValueLemmas.{known, place_kept}
+use Rattle.text_lines.proofs.ValueLemmas.{known, place_kept}
 
 abbrev named : ℕ → Handler → Bool
 named n h = h.name == n

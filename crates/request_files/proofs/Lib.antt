@@ -3,10 +3,6 @@ pub mod EntryLemmas
 pub mod FaultLemmas
 pub mod FirstFaults
 pub mod HandlerLemmas
-pub mod NumberLemmas
 pub mod PrintableLemmas
 pub mod RowLemmas
-pub mod TextLemmas
-pub mod ValueLemmas
-pub mod WholeLines
-pub mod WholeTexts
+pub mod WholeParts

@@ -2,8 +2,8 @@
 use Rattle.std.specs.Prelude.{◌≡◌, ℕ, ◌+◌, Bool, true, ◌&&◌, if◌then◌else◌, List, [], ◌∷◌, length, take, drop, codes}
 use Rattle.std.specs.List.{list_all, list_any, position_or_len}
 use Rattle.std.specs.Str.{bytes_eq}
-use Rattle.byte_classes.specs.Bytes.{is_blank}
-use Rattle.request_files.specs.Text.{Text, lines}
+use Rattle.text_lines.specs.Bytes.{is_blank}
+use Rattle.text_lines.specs.Text.{Text, lines}
 
 -- `%%`, and then blanks only
 unfoldable pub is_dividing : Text → Bool

@@ -4,6 +4,3 @@ pub mod Laws
 pub mod Requests
 pub mod Servable
 pub mod Session
-pub mod Steps
-pub mod Text
-pub mod Values

@@ -15,29 +15,9 @@ use Rattle.request_files.specs.declared.tally.Tally.{Tally}
 use Rattle.request_files.specs.declared.refusal.RequestRefusal.{RequestRefusal}
 use Rattle.request_files.specs.declared.refusal.RequestRefusal.TheVariants.{TooManyRequests, UnknownHandler, Arity, BadWord, TooManyCalls, TooMuchWork}
 use Rattle.request_files.specs.Servable.{IsRequestOf}
-use Rattle.request_files.specs.Text.{Text, words}
-use Rattle.request_files.specs.Values.{is_value, values_of, placed_all}
-
--- ---- rows: the lines with words
-
--- a line with words: its number, its first word, and the others
-pub record Row : Type 0 where
-  pub line : ℕ
-  pub name : Text
-  pub args : List Text
-
-abbrev pub row_of : ℕ → Text → List Text → Row
-row_of line name args = record { line = line; name = name; args = args }
-
--- the row of a line with these words, if there is one, before some rows
-abbrev pub row_before : ℕ → List Text → List Row → List Row
-row_before n [] rs = rs
-row_before n (w ∷ ws) rs = row_of n w ws ∷ rs
-
--- the lines with words, where the first of these lines has this number
-unfoldable pub rows : ℕ → List Text → List Row
-rows n [] = []
-rows n (l ∷ ls) = row_before n (words l) (rows (n + 1) ls)
+use Rattle.text_lines.specs.Rows.{Row, names_behind}
+use Rattle.text_lines.specs.Text.{Text}
+use Rattle.text_lines.specs.Values.{is_value, values_of, placed_all}
 
 -- ---- handlers
 
@@ -100,11 +80,6 @@ first_fault names f t (r ∷ rs) = option_or (fault_of names f t r)
 -- a row's request: handlers go by the names before all rows, symbols by those behind them
 unfoldable pub request_of : List Text → List Text → File → Row → Request
 request_of old new f r = record { handler = handler_of old f r.name; args = values_of new r.args }
-
--- the names behind all rows
-unfoldable pub names_behind : List Text → List Row → List Text
-names_behind names [] = names
-names_behind names (r ∷ rs) = names_behind (placed_all names r.args) rs
 
 -- ---- what is answered
 

@@ -3,12 +3,11 @@
 ghost use Rattle.std.specs.Prelude.{◌≡◌, ◌+◌, ◌++◌, ◌≤◌, length, true, IfOk};
 ghost use Rattle.std.specs.List.{list_all};
 ghost use Rattle.session_values.specs.Names.{Begins};
-ghost use Rattle.request_files.specs.Text.{words as words_of};
-ghost use Rattle.request_files.specs.Values as value_spec;
+ghost use Rattle.text_lines.specs.Text.{words as words_of};
+ghost use Rattle.text_lines.specs.Values as value_spec;
 
-use crate::line::Line;
-use crate::word_value::value;
 use session_values::{Names, NoMemory, Value};
+use text_lines::{Line, value};
 
 /// The number of words that are left.
 pub(crate) fn count(mut words: Line<'_>) -> usize

@@ -3,12 +3,11 @@
 ghost use Rattle.std.specs.Prelude.{◌≡◌, ◌≤◌, MatchOption, length, false};
 ghost use Rattle.std.specs.List.{list_any, list_all};
 ghost use Rattle.session_limits.specs.Limits.{max_input};
-ghost use Rattle.byte_classes.specs.Bytes as classes;
-ghost use Rattle.request_files.specs.Text.{lines};
+ghost use Rattle.text_lines.specs.Bytes as classes;
+ghost use Rattle.text_lines.specs.Text.{lines};
 ghost use Rattle.request_files.specs.Divide as spec;
 
-use crate::scan::line_len;
-use byte_classes::is_blank;
+use text_lines::{is_blank, line_len};
 
 /// The parts of a file that has a dividing line.
 #[derive(Clone, Copy, Debug)]

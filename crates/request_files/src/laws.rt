@@ -5,19 +5,10 @@ ghost use Rattle.session_limits.specs.Limits.{max_requests, max_session_calls};
 ghost use Rattle.syntax_trees.specs.declared.file.File.{File};
 ghost use Rattle.request_files.specs.declared.refusal.RequestRefusal.TheVariants.{TooManyCalls, TooManyRequests};
 ghost use Rattle.request_files.specs.Divide.{Divides};
-ghost use Rattle.request_files.specs.Laws.{AreLinesOf, AreParts, AreWordsOf, CallsPass, IsOneTooMany, IsWellFormed, calls_named};
-ghost use Rattle.request_files.specs.Requests.{Row, first_fault, no_requests};
-ghost use Rattle.request_files.specs.Text.{Text, lines, words};
-
-/// The lines of a text with their line feeds are the text.
-pub fn lines_of_text()
-    ensures { (text : Text) → AreLinesOf text (lines text) }
-{}
-
-/// The words of a line with their blanks are the line before its comment.
-pub fn words_of_line()
-    ensures { (line : Text) → AreWordsOf line (words line) }
-{}
+ghost use Rattle.request_files.specs.Laws.{AreParts, CallsPass, IsOneTooMany, IsWellFormed, calls_named};
+ghost use Rattle.request_files.specs.Requests.{first_fault, no_requests};
+ghost use Rattle.text_lines.specs.Rows.{Row};
+ghost use Rattle.text_lines.specs.Text.{Text};
 
 /// Head, dividing line and tail are the file.
 pub fn parts_of_file()

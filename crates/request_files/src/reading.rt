@@ -3,11 +3,11 @@
 ghost use Rattle.std.specs.Prelude.{◌≡◌, ◌≢◌, ◌+◌, ◌≤◌, length, Some, IfOk};
 ghost use Rattle.session_values.specs.Names.{Begins};
 ghost use Rattle.syntax_trees.specs.Mentions.{AreNamed, file_mentions};
-ghost use Rattle.request_files.specs.Text.{lines as lines_of};
+ghost use Rattle.text_lines.specs.Text.{lines as lines_of};
 ghost use Rattle.request_files.specs.Requests as spec;
+ghost use Rattle.text_lines.specs.Rows.{rows as rows_of};
 ghost use Rattle.request_files.specs.Servable.{IsServable};
 
-use crate::lines::Lines;
 use crate::refusal::RequestRefusal;
 use crate::request_line::request;
 use crate::requests::Requests;
@@ -15,6 +15,7 @@ use crate::tally::Tally;
 use handler_check::Checked;
 use session_values::Names;
 use std::alloc::Global;
+use text_lines::Lines;
 
 /// The requests of a text whose first line has the number `first`, in their order. The symbols
 /// among their arguments are placed behind the names that are there, which are those of the file.
@@ -29,12 +30,12 @@ pub fn read_requests(
     requires lines { first + length text.now ≤ 4294967295 }
     requires names { length names.old + length text.now ≤ 4294967295 }
     ensures ok { IfOk result (λ found. spec.AreRequests names.old names.new checked.now
-        (spec.rows first (lines_of text.now)) found) }
+        (rows_of first (lines_of text.now)) found) }
     ensures servable { IfOk result (λ found. IsServable checked.now found) }
     ensures printable { IfOk result (λ found. spec.ArePrintable names.new found) }
     ensures refused { (e : _) → result ≡ Err e → e ≢ RequestRefusal.NoMemory →
         spec.first_fault names.old checked.now spec.no_requests
-        (spec.rows first (lines_of text.now)) ≡ Some e }
+        (rows_of first (lines_of text.now)) ≡ Some e }
     ensures kept { Begins names.old names.new }
     // As many new names as bytes that were read, at most.
     ensures room { length names.new ≤ length names.old + length text.now }

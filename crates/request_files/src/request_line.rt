@@ -2,19 +2,20 @@
 
 ghost use Rattle.std.specs.Prelude.{◌≡◌, ◌≢◌, ◌+◌, ◌≤◌, ◌==◌, cond, length, Some, IfOk};
 ghost use Rattle.session_values.specs.Names.{Begins};
-ghost use Rattle.request_files.specs.Text.{words as words_of};
+ghost use Rattle.text_lines.specs.Text.{words as words_of};
 ghost use Rattle.request_files.specs.declared.refusal.RequestRefusal.TheVariants.{Arity, BadWord};
 ghost use Rattle.request_files.specs.Entries.{IsBehind, request_in};
 ghost use Rattle.request_files.specs.Requests as spec;
+ghost use Rattle.text_lines.specs.Rows.{row_of};
 
 use crate::arguments::{count, values};
 use crate::entry::Entry;
-use crate::line::Line;
 use crate::refusal::RequestRefusal;
 use crate::tally::{Tally, look_at_sums, with_request};
 use handler_check::Checked;
 use session_limits::MAX_REQUESTS;
 use session_values::{Names, Value};
+use text_lines::Line;
 
 /// The number of the handler with this name.
 fn handler(checked: &Checked, names: &Names, name: &str) -> Option<u32>
@@ -54,12 +55,12 @@ pub(crate) fn request(
     requires room { length names.old + length (words_of words.rest.now) ≤ 4294967295 }
     requires within { spec.IsWithin tally }
     ensures ok { IfOk result (λ p. spec.Accepted names.old names.new checked.now tally
-        (spec.row_of line name.now (words_of words.entry.rest.now))
+        (row_of line name.now (words_of words.entry.rest.now))
         (request_in list.new.items p.0) p.1) }
     ensures behind { IfOk result (λ p. IsBehind list.old.items list.new.items p.0) }
     ensures refused { (e : _) → result ≡ Err e → e ≢ RequestRefusal.NoMemory →
         spec.fault_of names.old checked.now tally
-        (spec.row_of line name.now (words_of words.entry.rest.now)) ≡ Some e }
+        (row_of line name.now (words_of words.entry.rest.now)) ≡ Some e }
     ensures kept { Begins names.old names.new }
     ensures room { length names.new ≤ length names.old + length (words_of words.entry.rest.now) }
 {

@@ -25,9 +25,10 @@ use Rattle.serve_faults.specs.Ways.{describing}
 use Rattle.serve_core.proofs.RunLemmas.{refused_answer, no_answer, fine_answer, front_answer, not_served}
 use Rattle.serve_reading.specs.declared.unserved.Unserved.{Unserved}
 use Rattle.serve_reading.specs.declared.unserved.Unserved.TheVariants.{Refused, NoMemory}
-use Rattle.serve_reading.specs.Reasons.{IsReason, IsSessionReason}
-use Rattle.serve_core.specs.declared.sessions.Served.{Served}
-use Rattle.serve_core.specs.Serving.{IsSessionInput, HasServed, IsInputReason, status_of, EndsBy}
+use Rattle.serve_reading.specs.Reasons.{IsInputReason, IsReason, IsSessionReason}
+use Rattle.serve_reading.specs.Sessions.{IsSessionInput}
+use Rattle.serve_core.specs.declared.writing.Writing.TheVariants as writing
+use Rattle.serve_core.specs.Serving.{EndsBy, EndsServed, EndsSession, HasServed, status_of}
 use Rattle.serve_core.proofs.CallLemmas.{calls_done}
 
 -- ---- a command that refuses, or wants memory
@@ -148,14 +149,14 @@ input_reason c input (Refused (fault.Request e)) has h = (session_input c input 
 input_reason c input (Refused (fault.Ranges e)) has h = absurd h.1
 
 -- the text of the replies of what was served
-served_text_is : (parts : Parts) (callers shards : ℕ) (s : Served) (h : HasServed parts callers shards s) → reply_text s.names 0 s.closed.replies ≡ replies_text parts h.file
-served_text_is parts callers shards s h =
-    ap (λ (ns : List (List ℕ)). reply_text ns 0 s.closed.replies) h.names_are
+served_text_is : (parts : Parts) (callers shards : ℕ) (names : List (List ℕ)) (d : ClosedView) (h : HasServed parts callers shards names d) → reply_text names 0 d.replies ≡ replies_text parts h.file
+served_text_is parts callers shards names d h =
+    ap (λ (ns : List (List ℕ)). reply_text ns 0 d.replies) h.names_are
     ∙ ap (λ (rs : List Reply). reply_text (all_names_of parts) 0 rs) h.done.replies
     ∙ ap (λ (z : Session). reply_text (all_names_of parts) 0 (serial_replies z z.requests)) h.session_is
 
-served_through : (c : Command) (input : List ℕ) (callers shards : ℕ) (s : Served) (h : HasServed (parts_of input) callers shards s) → s.closed.callers ≡ callers_of c → s.closed.shards ≡ shards_of c → IsServedThrough c input s.closed
-served_through c input callers shards s h a b = record {
+served_through : (c : Command) (input : List ℕ) (callers shards : ℕ) (names : List (List ℕ)) (d : ClosedView) (h : HasServed (parts_of input) callers shards names d) → d.callers ≡ callers_of c → d.shards ≡ shards_of c → IsServedThrough c input d
+served_through c input callers shards names d h a b = record {
   file = h.file;
   is_session = h.is_session;
   script = h.script;
@@ -166,9 +167,6 @@ served_through c input callers shards s h a b = record {
   shards_are = b;
 }
 
-holds_some : (c : Command) (bytes : List ℕ) (d : ClosedView) (closed : Option ClosedView) → closed ≡ Some d → IsServedThrough c (input_of c bytes) d → Holds (Some c) bytes closed
-holds_some c bytes d closed e h = subst (Holds (Some c) bytes) (sym e) h
-
 module _ {O : Type 0} (callers shards : ℕ) (bytes : List ℕ) (out : Change O) where
   ends_served : (s : Status) (text : List ℕ) → EndsBy text out s → true ≡ has_served (Some (Serve callers shards)) s
   ends_served status.Fine text e = refl
@@ -178,16 +176,21 @@ module _ {O : Type 0} (callers shards : ℕ) (bytes : List ℕ) (out : Change O)
   ends_served status.NoMemory text e = absurd e
   ends_served status.ReadFault text e = absurd e
 
-  pub served_to : (v : Served) (s : Status) (closed : Option ClosedView) → IsSessionInput bytes → HasServed (parts_of bytes) callers shards v → closed ≡ Some v.closed → EndsBy (reply_text v.names 0 v.closed.replies) out s
-      → AnswersTo (Serve callers shards) bytes out s closed
-  served_to v s closed i h is e =
-      let text = reply_text v.names 0 v.closed.replies in
-      ends_to (Serve callers shards) bytes out text (session_input (Serve callers shards) bytes refl i) (record { file = h.file; is_session = h.is_session; text_is = served_text_is (parts_of bytes) callers shards v h }) s closed e
-      (ap (λ (o : Option ClosedView). is_some o) is ∙ ends_served s text e)
-      (holds_some (Serve callers shards) bytes v.closed closed is (served_through (Serve callers shards) bytes callers shards v h h.callers_are h.shards_are))
+  served_to : (s : Status) (d : ClosedView) → EndsServed writing.Replies callers shards bytes out s d → AnswersTo (Serve callers shards) bytes out s (Some d)
+  served_to s d v =
+      let text = reply_text v.names 0 d.replies in
+      ends_to (Serve callers shards) bytes out text (session_input (Serve callers shards) bytes refl v.is_input)
+      (record { file = v.served.file; is_session = v.served.is_session; text_is = served_text_is (parts_of bytes) callers shards v.names d v.served }) s (Some d) v.ends
+      (ends_served s text v.ends)
+      (served_through (Serve callers shards) bytes callers shards v.names d v.served v.served.callers_are v.served.shards_are)
 
-  pub unserved_to : (e : Unserved) → IsUntouched out → IsInputReason bytes e → AnswersTo (Serve callers shards) bytes out (status_of e) None
+  unserved_to : (e : Unserved) → IsUntouched out → IsInputReason bytes e → AnswersTo (Serve callers shards) bytes out (status_of e) None
   unserved_to e same r = reason_to (Serve callers shards) bytes out same e (input_reason (Serve callers shards) bytes e refl r)
+
+  -- what becomes of the session is what `serve` answers
+  pub serve_answers : (s : Status) (closed : Option ClosedView) → EndsSession writing.Replies callers shards bytes out s closed → AnswersTo (Serve callers shards) bytes out s closed
+  serve_answers s None e = subst (λ (s : Status). AnswersTo (Serve callers shards) bytes out s None) (sym e.is) (unserved_to e.reason e.same e.why)
+  serve_answers s (Some d) e = served_to s d e
 
 -- ---- working
 module _ {O : Type 0} (requests start : ℕ) (bytes : List ℕ) (out : Change O) where
@@ -202,19 +205,24 @@ module _ {O : Type 0} (requests start : ℕ) (bytes : List ℕ) (out : Change O)
   ends_worked status.NoMemory text e = absurd e
   ends_worked status.ReadFault text e = absurd e
 
-  pub worked_to : (v : Served) (s : Status) (closed : Option ClosedView) → IsSessionInput made → HasServed (parts_of made) 4 4 v → closed ≡ Some v.closed
-      → EndsBy (summary requests (length (done_operations v.closed.journal)) (length (reply_text v.names 0 v.closed.replies))) out s → AnswersTo (Work requests start) bytes out s closed
-  worked_to v s closed i h is e =
-      let text = summary requests (length (done_operations v.closed.journal)) (length (reply_text v.names 0 v.closed.replies)) in
-      let calls = calls_done h.script v.closed h.done ∙ ap (λ (z : Session). serial_calls z z.requests) h.session_is in
-      let text_is = ap (λ (n : ℕ). summary requests n (length (reply_text v.names 0 v.closed.replies))) calls
-      ∙ ap (λ (t : List ℕ). summary requests (serial_calls (session_of_parts (parts_of made) h.file) (session_of_parts (parts_of made) h.file).requests) (length t)) (served_text_is (parts_of made) 4 4 v h) in
-      ends_to (Work requests start) bytes out text (session_input (Work requests start) made refl i) (record { file = h.file; is_session = h.is_session; text_is = text_is }) s closed e
-      (ap (λ (o : Option ClosedView). is_some o) is ∙ ends_worked s text e)
-      (holds_some (Work requests start) bytes v.closed closed is (served_through (Work requests start) made 4 4 v h h.callers_are h.shards_are))
+  worked_to : (s : Status) (d : ClosedView) → EndsServed (writing.Summary requests) 4 4 made out s d → AnswersTo (Work requests start) bytes out s (Some d)
+  worked_to s d v =
+      let h = v.served in
+      let text = summary requests (length (done_operations d.journal)) (length (reply_text v.names 0 d.replies)) in
+      let calls = calls_done h.script d h.done ∙ ap (λ (z : Session). serial_calls z z.requests) h.session_is in
+      let text_is = ap (λ (n : ℕ). summary requests n (length (reply_text v.names 0 d.replies))) calls
+      ∙ ap (λ (t : List ℕ). summary requests (serial_calls (session_of_parts (parts_of made) h.file) (session_of_parts (parts_of made) h.file).requests) (length t)) (served_text_is (parts_of made) 4 4 v.names d h) in
+      ends_to (Work requests start) bytes out text (session_input (Work requests start) made refl v.is_input) (record { file = h.file; is_session = h.is_session; text_is = text_is }) s (Some d) v.ends
+      (ends_worked s text v.ends)
+      (served_through (Work requests start) made 4 4 v.names d h h.callers_are h.shards_are)
 
-  pub unworked_to : (e : Unserved) → IsUntouched out → IsInputReason made e → AnswersTo (Work requests start) bytes out (status_of e) None
+  unworked_to : (e : Unserved) → IsUntouched out → IsInputReason made e → AnswersTo (Work requests start) bytes out (status_of e) None
   unworked_to e same r = reason_to (Work requests start) bytes out same e (input_reason (Work requests start) made e refl r)
+
+  -- what becomes of the made session is what `work` answers
+  pub work_answers : (s : Status) (closed : Option ClosedView) → EndsSession (writing.Summary requests) 4 4 made out s closed → AnswersTo (Work requests start) bytes out s closed
+  work_answers s None e = subst (λ (s : Status). AnswersTo (Work requests start) bytes out s None) (sym e.is) (unworked_to e.reason e.same e.why)
+  work_answers s (Some d) e = worked_to s d e
 
 -- ---- range sessions
 module _ {O : Type 0} (bytes : List ℕ) (out : Change O) where

@@ -1,60 +1,60 @@
 -- What serving a session file promises.
-use Rattle.std.specs.Prelude.{◌≡◌, ℕ, ◌≤◌, true, false, IsUtf8, List, length}
-use Rattle.session_limits.specs.Limits.{max_input, max_requests}
+use Rattle.std.specs.Prelude.{◌≡◌, ℕ, ◌≤◌, List, length, Option, Some, None}
+use Rattle.session_limits.specs.Limits.{max_requests}
+use Rattle.session_values.specs.ReplyText.{reply_text}
+use Rattle.session_journal.specs.Journal.{done_operations}
 use Rattle.session_journal.specs.Script.{Meaning, session_of}
-use Rattle.session_hall.specs.Closings.{IsDone}
-use Rattle.handler_syntax.specs.Language.{File}
-use Rattle.handler_machine.specs.Scripts.{ScriptsView}
-use Rattle.serve_faults.specs.declared.status.Fault.TheVariants as fault
+use Rattle.session_hall.specs.Closings.{ClosedView, IsDone}
+use Rattle.handler_syntax.specs.Language.{File, IsNamedFile}
+use Rattle.handler_machine.specs.Scripts.{ScriptsView, meaning}
+use Rattle.request_files.specs.Requests.{ArePrintable}
+use Rattle.request_files.specs.Servable.{IsServable}
+use Rattle.reply_writing.specs.Printable.{ArePrintableReplies}
+use Rattle.serve_made.specs.Summary.{summary}
 use Rattle.serve_faults.specs.declared.status.Status.{Status}
 use Rattle.serve_faults.specs.declared.status.Status.TheVariants as status
-use Rattle.serve_faults.specs.Input.{Parts, parts_of, is_divided}
-use Rattle.reply_writing.specs.Printable.{ArePrintableReplies}
-use Rattle.serve_faults.specs.Changes.{Change, Failed, Took, TookFront}
+use Rattle.serve_faults.specs.Input.{Parts, parts_of}
+use Rattle.serve_faults.specs.Changes.{Change, Failed, IsUntouched, Took, TookFront}
 use Rattle.serve_faults.specs.Session.{IsSession, all_names_of, session_of_parts}
-use Rattle.serve_reading.specs.Reasons.{IsSessionReason}
+use Rattle.serve_reading.specs.Reasons.{IsInputReason}
+use Rattle.serve_reading.specs.Sessions.{IsSessionInput}
 use Rattle.serve_reading.specs.declared.session.Loaded.{Loaded}
 use Rattle.serve_reading.specs.declared.unserved.Unserved.{Unserved}
 use Rattle.serve_reading.specs.declared.unserved.Unserved.TheVariants.{Refused, NoMemory}
 use Rattle.serve_core.specs.Runs.{script_of_session}
-use Rattle.serve_core.specs.declared.sessions.Served.{Served}
+use Rattle.serve_core.specs.declared.writing.Writing.{Writing}
+use Rattle.serve_core.specs.declared.writing.Writing.TheVariants.{Replies, Summary}
 
 -- the script of what was loaded
 abbrev pub script_of_loaded : Loaded → ScriptsView
 script_of_loaded l = record { program = l.program; requests = l.requests }
 
--- a session file
-pub record IsSessionInput (input : List ℕ) : Type 0 where
-  pub short : length input ≤ max_input
-  pub utf8 : IsUtf8 input
-  pub divided : is_divided input ≡ true
+-- its requests can be served, and its symbols have texts that a reply line has room for
+pub record CanServe (l : Loaded) : Type 0 where
+  pub servable : IsServable l.program.file l.requests
+  pub named : IsNamedFile l.names l.program.file
+  pub printable : ArePrintable l.names l.requests
 
--- The parts' session was served through a hall by so many callers, over so many shards a table, and
--- its replies can be printed.
-pub record HasServed (parts : Parts) (callers shards : ℕ) (s : Served) : Type 0 where
+-- whatever closed hall served this script, its replies can be printed
+abbrev pub CanPrint : List (List ℕ) → Meaning → Type 0
+CanPrint names m = (d : ClosedView) → IsDone m d
+    → ArePrintableReplies names d.replies × (length d.replies ≤ max_requests)
+
+-- The parts' session was served through a hall by so many callers, over so many shards a table; its
+-- names are these.
+pub record HasServed (parts : Parts) (callers shards : ℕ) (names : List (List ℕ))
+    (d : ClosedView) : Type 0 where
   pub file : File
   pub is_session : IsSession parts file
   pub script : Meaning
   pub script_is : script ≡ script_of_session parts file is_session.program.lists
   pub session_is : session_of script ≡ session_of_parts parts file
-  pub done : IsDone script s.closed
-  pub callers_are : s.closed.callers ≡ callers
-  pub shards_are : s.closed.shards ≡ shards
-  pub names_are : s.names ≡ all_names_of parts
-  pub printable : ArePrintableReplies s.names s.closed.replies
-  pub few : length s.closed.replies ≤ max_requests
+  pub done : IsDone script d
+  pub callers_are : d.callers ≡ callers
+  pub shards_are : d.shards ≡ shards
+  pub names_are : names ≡ all_names_of parts
 
--- why a session file isn't served: memory ran out, or this is the first broken rule
-abbrev pub IsInputReason : List ℕ → Unserved → Type 0
-IsInputReason input NoMemory = Unit {0}
-IsInputReason input (Refused fault.TooLarge) = ⊥
-IsInputReason input (Refused fault.NotText) = (length input ≤ max_input) × (IsUtf8 input → ⊥)
-IsInputReason input (Refused fault.NoRequests) = (length input ≤ max_input) × IsUtf8 input
-    × (is_divided input ≡ false)
-IsInputReason input (Refused fault.HasRequests) = ⊥
-IsInputReason input (Refused e) = IsSessionInput input
-    × IsSessionReason (parts_of input) (Refused e)
-
+-- how a run ends that serves nothing
 abbrev pub status_of : Unserved → Status
 status_of NoMemory = status.NoMemory
 status_of (Refused e) = status.Refused e
@@ -67,3 +67,46 @@ EndsBy text out (status.Refused e) = ⊥
 EndsBy text out status.Usage = ⊥
 EndsBy text out status.NoMemory = ⊥
 EndsBy text out status.ReadFault = ⊥
+
+-- what is written of a session that was served: its replies, or how many operations it made and how
+-- many bytes its replies take
+abbrev pub text_of : Writing → List (List ℕ) → ClosedView → List ℕ
+text_of Replies names d = reply_text names 0 d.replies
+text_of (Summary requests) names d = summary requests (length (done_operations d.journal))
+    (length (reply_text names 0 d.replies))
+
+-- a script was served through this hall, and what is asked of it was written
+pub record EndsAsServed {O : Type 0} (w : Writing) (names : List (List ℕ)) (m : Meaning)
+    (callers shards : ℕ) (out : Change O) (s : Status) (d : ClosedView) : Type 0 where
+  pub done : IsDone m d
+  pub callers_are : d.callers ≡ callers
+  pub shards_are : d.shards ≡ shards
+  pub ends : EndsBy (text_of w names d) out s
+
+-- what was loaded was served; or memory ran out before, and nothing was written
+abbrev pub EndsLoaded : {O : Type 0} → Writing → ℕ → ℕ → Loaded → Change O → Status
+    → Option ClosedView → Type 0
+EndsLoaded w callers shards l out s None = (s ≡ status.NoMemory) × IsUntouched out
+EndsLoaded w callers shards l out s (Some d) =
+    EndsAsServed w l.names (meaning (script_of_loaded l)) callers shards out s d
+
+-- nothing of an input was served, for this reason
+pub record EndsUnserved {O : Type 0} (input : List ℕ) (out : Change O) (s : Status) : Type 0 where
+  pub reason : Unserved
+  pub is : s ≡ status_of reason
+  pub why : IsInputReason input reason
+  pub same : IsUntouched out
+
+-- an input is a session file that was served, and what is asked of it was written
+pub record EndsServed {O : Type 0} (w : Writing) (callers shards : ℕ) (input : List ℕ)
+    (out : Change O) (s : Status) (d : ClosedView) : Type 0 where
+  pub is_input : IsSessionInput input
+  pub names : List (List ℕ)
+  pub served : HasServed (parts_of input) callers shards names d
+  pub ends : EndsBy (text_of w names d) out s
+
+-- one of both, by whether a hall is left
+abbrev pub EndsSession : {O : Type 0} → Writing → ℕ → ℕ → List ℕ → Change O → Status
+    → Option ClosedView → Type 0
+EndsSession w callers shards input out s None = EndsUnserved input out s
+EndsSession w callers shards input out s (Some d) = EndsServed w callers shards input out s d

@@ -11,6 +11,7 @@ mod serving;
 mod sessions;
 mod top;
 mod working;
+mod writing;
 
 pub use byte_ends::{Got, MemorySink, MemorySource, Put, Sink, Source, SureSink, SureSource};
 pub use outcome::Outcome;

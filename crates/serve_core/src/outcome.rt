@@ -1,5 +1,7 @@
 // What a run leaves.
 
+ghost use Rattle.std.specs.Prelude.{◌≡◌, None};
+
 use serve_faults::Status;
 use session_hall::Closed;
 
@@ -9,4 +11,14 @@ use session_hall::Closed;
 pub struct Outcome {
     pub status: Status,
     pub closed: Option<Closed>,
+}
+
+/// The end of a run that serves nothing.
+pub(crate) fn unserved(status: Status) -> Outcome
+    ensures { result ≡ record { status = status; closed = None } }
+{
+    Outcome {
+        status,
+        closed: None,
+    }
 }

@@ -1,18 +1,14 @@
 // Range sessions: from a source to what its lines write.
 
-ghost use Rattle.std.specs.Prelude.{◌≤◌, length, Some, None, IfOk, IfErr};
+ghost use Rattle.std.specs.Prelude.{◌≤◌, length, Some, None};
 ghost use Rattle.session_limits.specs.Limits.{max_input};
 ghost use Rattle.serve_words.specs.declared.command.Command.TheVariants.{Ranges};
-ghost use Rattle.serve_faults.specs.Answer.{IsTextOf};
-ghost use Rattle.serve_faults.specs.Input.{IsInput};
 ghost use Rattle.serve_faults.specs.Changes.{change};
 ghost use Rattle.serve_core.specs.Runs.{AnswersTo, Runs};
-ghost use Rattle.serve_reading.specs.Reasons.{IsReason};
 
 use byte_ends::{Sink, Source, write_all};
-use range_session::{RangeRefusal, ranges_text};
-use serve_faults::{Certain, Fault, Status};
-use serve_reading::{Unserved, read_input};
+use serve_faults::Status;
+use serve_reading::{Unserved, ranged_text, read_input};
 use std::alloc::Global;
 
 /// Reads lines, and writes what they answer.
@@ -33,7 +29,7 @@ fn range_input<O: Sink>(alloc: Global, bytes: Vec<u8>, out: &mut O) -> Status
     ensures { AnswersTo Ranges bytes.items
         (change O.held O.faults out.old out.new) result None }
 {
-    match text_of_bytes(alloc, bytes) {
+    match ranged_text(alloc, bytes) {
         Ok(text) => {
             if write_all(out, text.as_slice()) {
                 Status::Fine
@@ -43,32 +39,5 @@ fn range_input<O: Sink>(alloc: Global, bytes: Vec<u8>, out: &mut O) -> Status
         }
         Err(Unserved::Refused(fault)) => Status::Refused(fault),
         Err(Unserved::NoMemory) => Status::NoMemory,
-    }
-}
-
-// What the lines of an input answer. The bytes are freed.
-fn text_of_bytes(alloc: Global, bytes: Vec<u8>) -> Result<Vec<u8>, Unserved>
-    requires { length bytes.items ≤ max_input }
-    ensures input { IfOk result (λ _. IsInput Ranges bytes.items) }
-    ensures text { IfOk result (λ text. IsTextOf Ranges bytes.items text.items) }
-    ensures refused { IfErr result (IsReason Ranges bytes.items) }
-{
-    range_text(alloc, bytes.as_slice())
-}
-
-// What the lines of an input answer.
-fn range_text(alloc: Global, bytes: &[u8]) -> Result<Vec<u8>, Unserved>
-    requires { length bytes.now ≤ max_input }
-    ensures input { IfOk result (λ _. IsInput Ranges bytes.now) }
-    ensures text { IfOk result (λ text. IsTextOf Ranges bytes.now text.items) }
-    ensures refused { IfErr result (IsReason Ranges bytes.now) }
-{
-    let Ok(text) = std::str::from_utf8(bytes) else {
-        return Err(Unserved::Refused(Fault::NotText));
-    };
-    match ranges_text(alloc, text) {
-        Ok(text) => Ok(text),
-        Err(RangeRefusal::NoMemory) => Err(Unserved::NoMemory),
-        Err(e) => Err(Unserved::Refused(Fault::Ranges(Certain::new(e)))),
     }
 }

@@ -1,21 +1,16 @@
 // Serving: from a source to the lines of the replies.
 
-ghost use Rattle.std.specs.Prelude.{◌≡◌, ◌≤◌, length, Some};
-ghost use Rattle.session_limits.specs.Limits.{max_callers, max_input, max_requests, max_shards};
-ghost use Rattle.reply_writing.specs.Printable.{ArePrintableReplies};
+ghost use Rattle.std.specs.Prelude.{◌≤◌, length, Some};
+ghost use Rattle.session_limits.specs.Limits.{max_callers, max_input, max_shards};
 ghost use Rattle.serve_faults.specs.Changes.{change};
-ghost use Rattle.serve_core.specs.Runs.{Runs};
-ghost use Rattle.serve_core.specs.Runs.{AnswersTo};
-ghost use Rattle.session_values.specs.ReplyText.{reply_text};
+ghost use Rattle.serve_core.specs.Runs.{AnswersTo, Runs};
 ghost use Rattle.serve_words.specs.declared.command.Command.TheVariants.{Serve};
-ghost use Rattle.serve_core.specs.Serving.{EndsBy, status_of};
 
-use crate::outcome::Outcome;
-use crate::sessions::{Served, serve_file};
+use crate::outcome::{Outcome, unserved};
+use crate::sessions::serve_bytes;
+use crate::writing::Writing;
 use byte_ends::{Sink, Source};
-use reply_writing::write_replies;
-use serve_faults::Status;
-use serve_reading::{Unserved, read_input};
+use serve_reading::read_input;
 use std::alloc::Global;
 use std::sync::Wait;
 use std::thread::Threads;
@@ -39,10 +34,7 @@ pub(crate) fn serve_source<R: Threads + Wait + Sync, I: Source, O: Sink, G: Gate
 {
     match read_input(alloc, source) {
         Ok(bytes) => serve_input(rt, alloc, callers, shards, bytes.as_slice(), out, gate),
-        Err(status) => Outcome {
-            status,
-            closed: None,
-        },
+        Err(status) => unserved(status),
     }
 }
 
@@ -62,45 +54,14 @@ fn serve_input<R: Threads + Wait + Sync, O: Sink, G: Gate + Sync>(
     ensures { AnswersTo (Serve callers shards) bytes.now
         (change O.held O.faults out.old out.new) result.status result.closed }
 {
-    match serve_file(rt, alloc, callers, shards, bytes, gate) {
-        Ok(served) => write_served(served, out),
-        Err(e) => Outcome {
-            status: ended(e),
-            closed: None,
-        },
-    }
-}
-
-/// How a run ends that serves nothing.
-pub(crate) fn ended(e: Unserved) -> Status
-    ensures { result ≡ status_of e }
-{
-    match e {
-        Unserved::Refused(fault) => Status::Refused(fault),
-        Unserved::NoMemory => Status::NoMemory,
-    }
-}
-
-// Writes the replies of what was served.
-fn write_served<O: Sink>(served: Served, out: &mut O) -> Outcome
-    requires few { length served.closed.replies ≤ max_requests }
-    requires printable { ArePrintableReplies served.names served.closed.replies }
-    ensures closed { result.closed ≡ Some served.closed }
-    ensures ends { EndsBy (reply_text served.names 0 served.closed.replies)
-        (change O.held O.faults out.old out.new) result.status }
-{
-    let Served {
-        names,
-        closed,
-        mut block,
-    } = served;
-    let status = if write_replies(out, closed.replies().as_slice(), &names, &mut block) {
-        Status::Fine
-    } else {
-        Status::WriteFault
-    };
-    Outcome {
-        status,
-        closed: Some(closed),
-    }
+    serve_bytes(
+        rt,
+        alloc,
+        callers,
+        shards,
+        bytes,
+        Writing::Replies,
+        out,
+        gate,
+    )
 }

@@ -1,93 +1,102 @@
-// Sessions: from the bytes of a session file to the hall through which it was served.
+// Sessions: from the bytes of a session file to what is written of it.
 
-ghost use Rattle.std.specs.Prelude.{◌≡◌, ◌≤◌, length, IfOk, IfErr};
+ghost use Rattle.std.specs.Prelude.{◌≡◌, ◌≤◌, length};
 ghost use Rattle.session_limits.specs.Limits.{max_callers, max_input, max_shards};
-ghost use Rattle.session_hall.specs.Closings.{IsDone};
 ghost use Rattle.handler_machine.specs.Scripts.{meaning};
-ghost use Rattle.request_files.specs.Servable.{IsServable};
-ghost use Rattle.serve_faults.specs.Input.{parts_of};
-ghost use Rattle.serve_core.specs.Serving.{IsSessionInput, IsInputReason, HasServed, script_of_loaded};
+ghost use Rattle.serve_faults.specs.Changes.{change};
+ghost use Rattle.serve_core.specs.Serving.{CanPrint, CanServe, EndsAsServed, EndsLoaded, EndsSession, status_of};
 
-use crate::served::{open_program, serve_ready};
-use reply_writing::Block;
-use request_files::divide;
-use serve_faults::Fault;
-use serve_reading::{Loaded, Unserved, read_session};
+use crate::outcome::{Outcome, unserved};
+use crate::served::{Ready, open_program, serve_ready};
+use crate::writing::{Writing, write_session};
+use byte_ends::Sink;
+use serve_faults::Status;
+use serve_reading::{Loaded, Unserved, load_session};
 use session_hall::Closed;
-use session_values::{Names, NoMemory};
+use session_values::Names;
 use std::alloc::Global;
 use std::sync::Wait;
 use std::thread::Threads;
 use worker_gate::Gate;
 
-/// What is left of a session that was served, and room for its lines.
-#[derive(Drop)]
-pub(crate) struct Served {
-    pub names: Names,
-    pub closed: Closed,
-    /// Room for the lines of its replies.
-    pub block: Block,
-}
-
-/// Reads a session file, and serves its requests.
-pub(crate) fn serve_file<R: Threads + Wait + Sync, G: Gate + Sync>(
+/// Serves the requests of a session file, and writes what is asked of them.
+pub(crate) fn serve_bytes<R: Threads + Wait + Sync, O: Sink, G: Gate + Sync>(
     rt: &R,
     alloc: Global,
     callers: u32,
     shards: u32,
     bytes: &[u8],
+    writing: Writing,
+    out: &mut O,
     gate: &G,
-) -> Result<Served, Unserved>
+) -> Outcome
     requires short { length bytes.now ≤ max_input }
     requires callers { (1 ≤ callers) × (callers ≤ max_callers) }
     requires shards { (1 ≤ shards) × (shards ≤ max_shards) }
-    ensures input { IfOk result (λ _. IsSessionInput bytes.now) }
-    ensures served { IfOk result (HasServed (parts_of bytes.now) callers shards) }
-    ensures refused { IfErr result (IsInputReason bytes.now) }
+    ensures { EndsSession writing callers shards bytes.now
+        (change O.held O.faults out.old out.new) result.status result.closed }
 {
-    let Ok(text) = std::str::from_utf8(bytes) else {
-        return Err(Unserved::Refused(Fault::NotText));
-    };
-    let Some(parts) = divide(text) else {
-        return Err(Unserved::Refused(Fault::NoRequests));
-    };
-    match read_session(alloc, parts.handlers, parts.requests, parts.first) {
-        Ok(loaded) => match serve_loaded(rt, alloc, callers, shards, loaded, gate) {
-            Ok(served) => Ok(served),
-            Err(_) => Err(Unserved::NoMemory),
-        },
-        Err(e) => Err(e),
+    match load_session(alloc, bytes) {
+        Ok(loaded) => serve_loaded(rt, alloc, callers, shards, &loaded, writing, out, gate),
+        Err(e) => unserved(ended(e)),
     }
 }
 
-// Serves what was loaded. All memory is taken before the first ticket is begun: what serves is given
-// nothing to take any from.
-fn serve_loaded<R: Threads + Wait + Sync, G: Gate + Sync>(
+/// How a run ends that serves nothing.
+fn ended(e: Unserved) -> Status
+    ensures { result ≡ status_of e }
+{
+    match e {
+        Unserved::Refused(fault) => Status::Refused(fault),
+        Unserved::NoMemory => Status::NoMemory,
+    }
+}
+
+// Serves what was loaded. All memory is taken before the first ticket is begun.
+fn serve_loaded<R: Threads + Wait + Sync, O: Sink, G: Gate + Sync>(
     rt: &R,
     alloc: Global,
     callers: u32,
     shards: u32,
-    loaded: Loaded,
+    loaded: &Loaded,
+    writing: Writing,
+    out: &mut O,
     gate: &G,
-) -> Result<Served, NoMemory>
-    requires servable { IsServable loaded.program.file loaded.requests }
+) -> Outcome
+    requires can { CanServe loaded.now }
     requires callers { (1 ≤ callers) × (callers ≤ max_callers) }
     requires shards { (1 ≤ shards) × (shards ≤ max_shards) }
-    ensures names { IfOk result (λ s. s.names ≡ loaded.names) }
-    ensures done { IfOk result (λ s. IsDone (meaning (script_of_loaded loaded)) s.closed) }
-    ensures callers { IfOk result (λ s. s.closed.callers ≡ callers) }
-    ensures shards { IfOk result (λ s. s.closed.shards ≡ shards) }
+    ensures { EndsLoaded writing callers shards loaded.now
+        (change O.held O.faults out.old out.new) result.status result.closed }
 {
-    let Loaded {
-        names,
-        program,
-        requests,
-    } = loaded;
-    let ready = open_program(alloc, callers, shards, &program, &requests)?;
-    let (closed, block) = serve_ready(rt, ready, gate);
-    Ok(Served {
-        names,
-        closed,
-        block,
-    })
+    match open_program(alloc, callers, shards, &loaded.program, &loaded.requests) {
+        Ok(ready) => {
+            let (status, closed) = serve_open(rt, ready, &loaded.names, writing, out, gate);
+            Outcome {
+                status,
+                closed: Some(closed),
+            }
+        }
+        Err(_) => unserved(Status::NoMemory),
+    }
+}
+
+// Serves an open session to its end, and writes what is asked of it. From here on nothing is given
+// an allocator, and nothing can answer that memory is wanting.
+fn serve_open<'a, R: Threads + Wait + Sync, O: Sink, G: Gate + Sync>(
+    rt: &R,
+    ready: Ready<'a>,
+    names: &Names,
+    writing: Writing,
+    out: &mut O,
+    gate: &G,
+) -> (Status, Closed)
+    requires { CanPrint names.now (meaning ready.session.script) }
+    ensures { EndsAsServed writing names.now (meaning ready.entry.session.script)
+        ready.entry.session.callers ready.entry.session.shards
+        (change O.held O.faults out.old out.new) result.0 result.1 }
+{
+    let (closed, mut block) = serve_ready(rt, ready, gate);
+    let status = write_session(out, &closed, names, &mut block, writing);
+    (status, closed)
 }

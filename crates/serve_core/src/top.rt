@@ -8,7 +8,7 @@ ghost use Rattle.serve_core.specs.Runs.{Runs, Tells};
 ghost use Rattle.serve_faults.specs.Ways.{describing};
 
 use crate::describing::describe_source;
-use crate::outcome::Outcome;
+use crate::outcome::{Outcome, unserved};
 use crate::ranging::range_source;
 use crate::serving::serve_source;
 use crate::working::work;
@@ -68,16 +68,6 @@ fn answer<R: Threads + Wait + Sync, I: Source, O: Sink, G: Gate + Sync>(
         Some(Command::Work { requests, start }) => { work(rt, alloc, requests, start, out, gate) }
         Some(Command::Ranges) => unserved(range_source(alloc, source, out)),
         None => unserved(Status::Usage),
-    }
-}
-
-// The end of a run that serves nothing.
-fn unserved(status: Status) -> Outcome
-    ensures { result ≡ record { status = status; closed = None } }
-{
-    Outcome {
-        status,
-        closed: None,
     }
 }
 

@@ -2,7 +2,7 @@
 use Rattle.std.specs.Prelude.{◌≡◌, ℕ, ◌+◌, ◌≤◌, Bool, true, false, IsUtf8, List, [], length, take, drop, Option, Some, None}
 use Rattle.std.specs.List.{list_any, position_or_len}
 use Rattle.session_limits.specs.Limits.{max_input}
-use Rattle.request_files.specs.Text.{lines}
+use Rattle.text_lines.specs.Text.{lines}
 use Rattle.request_files.specs.Divide.{is_dividing, head_size, mark_size}
 use Rattle.serve_words.specs.declared.command.Command.{Command}
 use Rattle.serve_words.specs.declared.command.Command.TheVariants.{Check, Show, Serve, Work, Ranges}

@@ -8,8 +8,9 @@ use Rattle.handler_check.specs.Checking.{IsAccepted}
 use Rattle.may_use_analysis.specs.Later.{AreLater}
 use Rattle.request_files.specs.declared.refusal.RequestRefusal.{RequestRefusal}
 use Rattle.request_files.specs.declared.request.Request.{Request}
-use Rattle.request_files.specs.Text.{lines}
-use Rattle.request_files.specs.Requests.{Row, rows, first_fault, no_requests, request_of, names_behind}
+use Rattle.text_lines.specs.Text.{lines}
+use Rattle.request_files.specs.Requests.{first_fault, no_requests, request_of}
+use Rattle.text_lines.specs.Rows.{Row, rows, names_behind}
 use Rattle.request_files.specs.Session.{session}
 use Rattle.serve_faults.specs.Input.{Parts}
 

@@ -11,8 +11,9 @@ use Rattle.may_use_analysis.specs.Later.{AreLater, HasLater}
 use Rattle.declaration_insertion.specs.Program.{ProgramView}
 use Rattle.declaration_insertion.specs.Shown.{shown_of}
 use Rattle.request_files.specs.declared.request.Request.{Request}
-use Rattle.request_files.specs.Text.{lines}
-use Rattle.request_files.specs.Requests.{rows, request_of, AreRequests, ArePrintable}
+use Rattle.text_lines.specs.Text.{lines}
+use Rattle.request_files.specs.Requests.{request_of, AreRequests, ArePrintable}
+use Rattle.text_lines.specs.Rows.{rows}
 use Rattle.request_files.specs.Servable.{IsServable}
 use Rattle.serve_faults.specs.declared.status.Fault.{Fault}
 use Rattle.serve_faults.specs.declared.status.Fault.TheVariants as fault

@@ -1,12 +1,14 @@
 -- Why nothing is made of a text: memory ran out, or this is the first broken rule.
-use Rattle.std.specs.Prelude.{ℕ, List}
+use Rattle.std.specs.Prelude.{◌≡◌, ℕ, ◌≤◌, false, IsUtf8, List, length}
+use Rattle.session_limits.specs.Limits.{max_input}
 use Rattle.syntax_trees.specs.declared.file.File.{File}
 use Rattle.handler_check.specs.Checking.{IsAccepted, IsRefusal}
 use Rattle.may_use_analysis.specs.Later.{IsTooMany}
 use Rattle.serve_words.specs.declared.command.Command.{Command}
 use Rattle.serve_faults.specs.declared.status.Fault.TheVariants as fault
 use Rattle.serve_faults.specs.Answer.{HasSyntaxFault, HasCheckFault, HasAnalysisFault, HasRequestFault, IsRefused}
-use Rattle.serve_faults.specs.Input.{Parts}
+use Rattle.serve_faults.specs.Input.{Parts, parts_of, is_divided}
+use Rattle.serve_reading.specs.Sessions.{IsSessionInput}
 use Rattle.serve_reading.specs.declared.unserved.Unserved.{Unserved}
 use Rattle.serve_reading.specs.declared.unserved.Unserved.TheVariants.{Refused, NoMemory}
 
@@ -46,6 +48,18 @@ IsSessionReason parts (Refused (fault.Analysis e)) = HasAnalysisFault parts.hand
 IsSessionReason parts (Refused (fault.Request e)) = HasRequestFault parts e
 IsSessionReason parts (Refused e) = ⊥
 
+-- why a session file isn't served
+abbrev pub IsInputReason : List ℕ → Unserved → Type 0
+IsInputReason input NoMemory = Unit {0}
+IsInputReason input (Refused fault.TooLarge) = ⊥
+IsInputReason input (Refused fault.NotText) = (length input ≤ max_input) × (IsUtf8 input → ⊥)
+IsInputReason input (Refused fault.NoRequests) = (length input ≤ max_input) × IsUtf8 input
+    × (is_divided input ≡ false)
+IsInputReason input (Refused fault.HasRequests) = ⊥
+IsInputReason input (Refused e) = IsSessionInput input
+    × IsSessionReason (parts_of input) (Refused e)
+
+-- why a command's input isn't answered with a text
 abbrev pub IsReason : Command → List ℕ → Unserved → Type 0
 IsReason command input NoMemory = Unit {0}
 IsReason command input (Refused e) = IsRefused command input e

@@ -4,11 +4,10 @@ use Rattle.std.proofs.lemmas.Bool.Decides.{nat_tests}
 use Rattle.std.specs.Result.{OkIff, result_ok}
 use Rattle.std.specs.Str.{all_ascii_digits}
 use Rattle.std.specs.Str.Parse.{ParsesUnsigned}
-use Rattle.std.proofs.lemmas.Str.Parse.{IsNumeralModel, numerals_by_fold, parse_plain}
-use Rattle.serve_words.specs.Numbers.{number_from, size_of, is_number, number}
-
-own : IsNumeralModel (λ ds. all_ascii_digits ds ≡ true) (number_from 0)
-own = numerals_by_fold _ (search rules) number_from (search rules)
+use Rattle.std.proofs.lemmas.Str.Parse.{parse_plain}
+use Rattle.text_lines.specs.Values.{number_from}
+use Rattle.text_lines.proofs.NumberLemmas.{numerals}
+use Rattle.serve_words.specs.Numbers.{size_of, is_number, number}
 
 -- what `parse` asks of a text that doesn't begin with a plus
 abbrev Reads : List ℕ → Type 0
@@ -37,7 +36,7 @@ gives w (Err e) zeros h = gives_none w _ refl h
 -- what `parse` gives where neither a plus nor a leading zero stands first
 pub parsed : {E : Type 0} (w : List ℕ) (r : Result ℕ E) → get_or w 0 0 ≢ 43 → (get_or w 0 0 ≡ 48 → length w ≤ 1) → ParsesUnsigned 32 10 w r → number w ≡ result_ok r
 unfolding number
-parsed w r plus zeros h = gives w r zeros (parse_plain own 32 w r h plus)
+parsed w r plus zeros h = gives w r zeros (parse_plain numerals 32 w r h plus)
 
 plus_none : (w : List ℕ) (t : Bool) → test w ≡ t → get_or w 0 0 ≡ 43 → t ≡ false
 plus_none w false e h = refl

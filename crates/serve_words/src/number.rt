@@ -1,7 +1,9 @@
 // The numbers of a command line.
 
-ghost use Rattle.std.specs.Prelude.{◌≡◌, ◌≤◌, IfSome, slice_index};
+ghost use Rattle.std.specs.Prelude.{◌≡◌, ◌≤◌, IfSome};
 ghost use Rattle.serve_words.specs.Numbers as spec;
+
+use text_lines::first_byte;
 
 /// The number that the word says, if it is one from `low` to `high`.
 pub(crate) fn number_within(low: u32, high: u32, word: &str) -> Option<u32>
@@ -27,11 +29,4 @@ fn number(word: &str) -> Option<u32>
         return None;
     }
     word.parse::<u32>().ok()
-}
-
-/// The word's first byte, or 0 where it has none.
-fn first_byte(word: &str) -> u8
-    ensures { result ≡ slice_index word.now 0 }
-{
-    word.as_bytes().first().copied().unwrap_or(0)
 }

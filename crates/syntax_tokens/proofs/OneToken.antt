@@ -1,18 +1,15 @@
 -- A text has one first token at most.
-use Rattle.std.proofs.Common.{◌≡◌, ℕ, zero, suc, ◌<◌, ◌≤◌, ◌⊎◌, inl, inr, Bool, true, false, if◌then◌else◌, List, [], ◌∷◌, length, get_or, take, drop, Option, Some, None, refl, sym, ap, ◌∙◌, subst, arith, nat_lt, nat_le, nat_eq, rules}
-use Rattle.std.specs.Prelude.{codes, is_some}
+use Rattle.std.proofs.Common.{◌≡◌, ℕ, zero, suc, ◌<◌, ◌≤◌, ◌⊎◌, inl, inr, Bool, true, false, if◌then◌else◌, List, [], ◌∷◌, length, get_or, take, drop, refl, sym, ap, ◌∙◌, subst, arith, nat_lt, nat_eq, rules}
+use Rattle.std.specs.Prelude.{is_some}
 use Rattle.std.specs.Char.{is_ascii_digit, is_ascii_alphabetic}
 use Rattle.std.proofs.lemmas.Bool.{cases_order}
 use Rattle.std.proofs.lemmas.Bool.Decides.{nat_tests}
-use Rattle.syntax_tokens.specs.declared.scan.Class.{Class}
-use Rattle.syntax_tokens.specs.declared.scan.Class.TheVariants as class
 use Rattle.syntax_tokens.specs.declared.token_kind.TokenKind.{TokenKind}
 use Rattle.syntax_tokens.specs.declared.token_kind.TokenKind.TheVariants as kind
 use Rattle.syntax_tokens.specs.Keyword.{sort_in, keyword_of, sign_of, operation_of, statement_word_of, operations, statement_words}
-use Rattle.syntax_tokens.specs.Longest.{IsDigits, IsLongRun, IsQuoted, IsShape, IsLongest, IsQuotedNil, IsFirstToken}
+use Rattle.syntax_tokens.specs.Longest.{IsDigits, IsShape, IsLongest, IsQuotedNil, IsFirstToken}
 use Rattle.syntax_tokens.specs.Scan.{char_length, is_single}
-use Rattle.syntax_tokens.specs.Texts.{IsNameText, IsSymbolText}
-use Rattle.syntax_tokens.proofs.Longest.{AllRows, in_rows, is_pair, in_either, key_letters, sign_form, or_left, or_right, digit_no_letter, first_digit}
+use Rattle.syntax_tokens.proofs.Longest.{in_rows, is_pair, in_either, key_letters, sign_form, or_left, or_right, digit_no_letter, first_digit}
 
 -- ---- one kind
 

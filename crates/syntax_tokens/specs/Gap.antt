@@ -1,7 +1,7 @@
 -- What stands between tokens, in words of its own.
 use Rattle.std.specs.Prelude.{◌≡◌, ◌≢◌, ℕ, Bool, true, ◌||◌, ◌==◌, List, [], ◌∷◌, ◌++◌}
 use Rattle.std.specs.List.{AllByRecursion}
-use Rattle.byte_classes.specs.Bytes.{is_blank}
+use Rattle.text_lines.specs.Bytes.{is_blank}
 
 -- a blank or a line feed
 abbrev pub is_space : ℕ → Bool

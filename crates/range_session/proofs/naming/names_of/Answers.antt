@@ -1,9 +1,8 @@
 use Rattle.std.proofs.Common.{◌≡◌, ℕ, ◌∷◌, List, [], length, refl, sym, ap, ◌∙◌, arith}
-use Rattle.request_files.specs.Text.{Text, lines, words}
-use Rattle.request_files.specs.Values.{placed_all}
-use Rattle.request_files.specs.Requests.{Row, names_behind, row_of, rows}
-use Rattle.request_files.proofs.TextLemmas.{total, total_le}
-use Rattle.request_files.proofs.RowLemmas.{behind_nil, behind_step, rows_nil, rows_pass, rows_step}
+use Rattle.text_lines.specs.Text.{Text, lines, words}
+use Rattle.text_lines.specs.Rows.{names_behind, row_of, rows}
+use Rattle.text_lines.proofs.TextLemmas.{total, total_le}
+use Rattle.text_lines.proofs.RowLemmas.{behind_nil, behind_step, rows_nil, rows_pass, rows_step}
 use Rattle.range_session.proofs.naming.names_of.Goals as goal
 
 pub lines-init : goal.lines-init

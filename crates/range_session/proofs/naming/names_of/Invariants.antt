@@ -1,7 +1,7 @@
 use Rattle.std.proofs.Common.{◌≡◌, ◌+◌, ◌≤◌, length}
-use Rattle.request_files.specs.Text.{lines}
-use Rattle.request_files.specs.Requests.{names_behind, rows}
-use Rattle.request_files.proofs.TextLemmas.{total}
+use Rattle.text_lines.specs.Text.{lines}
+use Rattle.text_lines.specs.Rows.{names_behind, rows}
+use Rattle.text_lines.proofs.TextLemmas.{total}
 use Rattle.range_session.specs.Faults.{names_of}
 use Rattle.range_session.proofs.naming.names_of.Given as goal
 

@@ -1,7 +1,7 @@
-use Rattle.std.proofs.Common.{◌≡◌, ◌∷◌, List, length, sym, ap, ◌∙◌, arith}
-use Rattle.request_files.specs.Text.{Text, words}
-use Rattle.request_files.specs.Values.{placed, placed_all}
-use Rattle.request_files.proofs.ValueLemmas.{placed_all_nil, placed_all_step, placed_length}
+use Rattle.std.proofs.Common.{List, length, sym, ap, ◌∙◌, arith}
+use Rattle.text_lines.specs.Text.{Text, words}
+use Rattle.text_lines.specs.Values.{placed_all}
+use Rattle.text_lines.proofs.ValueLemmas.{placed_all_nil, placed_all_step, placed_length}
 use Rattle.range_session.proofs.naming.place_all.Goals as goal
 
 pub words-preserved : goal.words-preserved

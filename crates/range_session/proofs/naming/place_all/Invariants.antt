@@ -1,6 +1,6 @@
 use Rattle.std.proofs.Common.{◌≡◌, ◌+◌, ◌≤◌, length}
-use Rattle.request_files.specs.Text.{words}
-use Rattle.request_files.specs.Values.{placed_all}
+use Rattle.text_lines.specs.Text.{words}
+use Rattle.text_lines.specs.Values.{placed_all}
 use Rattle.range_session.proofs.naming.place_all.Given as goal
 
 abbrev pub invariant-words : goal.invariant-words

@@ -1,5 +1,5 @@
-use Rattle.std.proofs.Common.{◌≡◌, ◌∷◌, ◌++◌, [], List, map, sym, ap, ◌∙◌, append_assoc, append-nil}
-use Rattle.request_files.specs.Text.{Text, words}
+use Rattle.std.proofs.Common.{◌∷◌, ◌++◌, [], List, map, sym, ap, ◌∙◌, append_assoc, append-nil}
+use Rattle.text_lines.specs.Text.{Text, words}
 use Rattle.range_session.specs.declared.word.Word.{Word}
 use Rattle.range_session.specs.Words.{word_of}
 use Rattle.range_session.proofs.session.words_of_line.Goals as goal

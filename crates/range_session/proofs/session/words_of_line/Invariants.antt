@@ -1,5 +1,5 @@
 use Rattle.std.proofs.Common.{◌≡◌, ◌++◌, map}
-use Rattle.request_files.specs.Text.{words}
+use Rattle.text_lines.specs.Text.{words}
 use Rattle.range_session.specs.Words.{word_of}
 use Rattle.range_session.proofs.session.words_of_line.Given as goal
 

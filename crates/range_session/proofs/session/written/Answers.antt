@@ -1,8 +1,8 @@
-use Rattle.std.proofs.Common.{◌≡◌, ℕ, ◌∷◌, List, [], Err, sym, ap, ◌∙◌, subst, arith}
-use Rattle.request_files.specs.Text.{Text, lines, words}
-use Rattle.request_files.specs.Requests.{Row, row_of, rows}
-use Rattle.request_files.proofs.RowLemmas.{rows_nil, rows_pass, rows_step}
-use Rattle.range_session.specs.Faults.{first_fault, names_of, rows_of}
+use Rattle.std.proofs.Common.{◌≡◌, ℕ, ◌∷◌, List, [], Err, sym, ap, ◌∙◌, subst}
+use Rattle.text_lines.specs.Text.{Text, lines, words}
+use Rattle.text_lines.specs.Rows.{row_of, rows}
+use Rattle.text_lines.proofs.RowLemmas.{rows_nil, rows_pass, rows_step}
+use Rattle.range_session.specs.Faults.{first_fault, rows_of}
 use Rattle.range_session.proofs.Going.{Going, going_end, going_fault, going_start, going_turn}
 use Rattle.range_session.proofs.session.written.Goals as goal
 

@@ -1,5 +1,5 @@
-use Rattle.request_files.specs.Text.{lines}
-use Rattle.request_files.specs.Requests.{rows}
+use Rattle.text_lines.specs.Text.{lines}
+use Rattle.text_lines.specs.Rows.{rows}
 use Rattle.range_session.specs.Faults.{rows_of}
 use Rattle.range_session.proofs.Going.{Going}
 use Rattle.range_session.proofs.session.written.Given as goal

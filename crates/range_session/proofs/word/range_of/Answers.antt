@@ -1,6 +1,6 @@
 use Rattle.std.proofs.Common.{rules, ◌≡◌, arith}
 use Rattle.std.proofs.lemmas.Str.Pattern.{split_once_first}
-use Rattle.request_files.specs.Values.{number}
+use Rattle.text_lines.specs.Values.{number}
 use Rattle.range_session.specs.Words.{after_point, range_by}
 use Rattle.range_session.proofs.WordLemmas.{no_range, some_range}
 use Rattle.range_session.proofs.word.range_of.Goals as goal

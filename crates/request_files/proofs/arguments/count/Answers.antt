@@ -1,5 +1,5 @@
 use Rattle.std.proofs.Common.{length, ap, arith}
-use Rattle.request_files.proofs.TextLemmas.{words_le}
+use Rattle.text_lines.proofs.TextLemmas.{words_le}
 use Rattle.request_files.proofs.arguments.count.Goals as goal
 
 pub overflow_add-count : goal.overflow_add-count

@@ -1,5 +1,5 @@
 use Rattle.std.proofs.Common.{◌≡◌, ◌+◌, length}
-use Rattle.request_files.specs.Text.{words}
+use Rattle.text_lines.specs.Text.{words}
 use Rattle.request_files.proofs.arguments.count.Given as goal
 
 abbrev pub invariant-words : goal.invariant-words

@@ -1,8 +1,8 @@
 use Rattle.std.proofs.Common.{◌≡◌, length, Some, None, sym, ap, ◌∙◌, subst, arith}
-use Rattle.request_files.specs.Text.{words}
-use Rattle.request_files.specs.Values.{value_of, placed}
+use Rattle.text_lines.specs.Text.{words}
+use Rattle.text_lines.specs.Values.{value_of, placed}
 use Rattle.session_values.specs.Names.{Begins}
-use Rattle.request_files.proofs.ValueLemmas.{Behind, behind_start, behind_turn, behind_values, left_bad, left_kept, left_room, left_names}
+use Rattle.text_lines.proofs.ValueLemmas.{Behind, behind_start, behind_turn, behind_values, left_bad, left_kept, left_room, left_names}
 use Rattle.request_files.proofs.arguments.values.Goals as goal
 
 pub words-init : goal.words-init

@@ -1,5 +1,5 @@
-use Rattle.request_files.specs.Text.{words}
-use Rattle.request_files.proofs.ValueLemmas.{Behind}
+use Rattle.text_lines.specs.Text.{words}
+use Rattle.text_lines.proofs.ValueLemmas.{Behind}
 use Rattle.request_files.proofs.arguments.values.Given as goal
 
 abbrev pub invariant-words : goal.invariant-words

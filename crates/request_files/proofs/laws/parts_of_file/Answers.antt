@@ -1,4 +1,4 @@
-use Rattle.request_files.proofs.WholeTexts.{parts_are}
+use Rattle.request_files.proofs.WholeParts.{parts_are}
 use Rattle.request_files.proofs.laws.parts_of_file.Goals as goal
 
 pub returns : goal.returns

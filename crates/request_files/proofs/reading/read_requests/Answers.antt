@@ -1,10 +1,12 @@
 use Rattle.std.proofs.Common.{◌≡◌, ◌∷◌, [], length, sym, ap, ◌∙◌, subst, arith, Err}
-use Rattle.request_files.specs.Text.{lines, words}
+use Rattle.text_lines.specs.Text.{lines, words}
 use Rattle.request_files.specs.Entries.{AreWithin, request_in, requests_in}
-use Rattle.request_files.specs.Requests.{rows, row_of, AreRequests, ArePrintable, no_requests}
+use Rattle.request_files.specs.Requests.{AreRequests, ArePrintable, no_requests}
+use Rattle.text_lines.specs.Rows.{rows, row_of}
 use Rattle.request_files.specs.Servable.{IsServable}
-use Rattle.request_files.proofs.TextLemmas.{total, total_le}
-use Rattle.request_files.proofs.RowLemmas.{Going, going_start, going_turn, going_fault, going_end, going_served, known_kept, rows_step, rows_pass, rows_nil}
+use Rattle.text_lines.proofs.TextLemmas.{total, total_le}
+use Rattle.request_files.proofs.RowLemmas.{Going, going_start, going_turn, going_fault, going_end, going_served, known_kept}
+use Rattle.text_lines.proofs.RowLemmas.{rows_step, rows_pass, rows_nil}
 use Rattle.request_files.proofs.EntryLemmas.{requests_push, within_push, requests_long}
 use Rattle.request_files.proofs.HandlerLemmas.{named_known}
 use Rattle.request_files.proofs.PrintableLemmas.{printable}

@@ -1,8 +1,8 @@
 use Rattle.std.proofs.Common.{◌+◌, ◌≤◌, length}
-use Rattle.request_files.specs.Text.{lines}
+use Rattle.text_lines.specs.Text.{lines}
 use Rattle.request_files.specs.Entries.{AreWithin, requests_in}
-use Rattle.request_files.specs.Requests.{rows}
-use Rattle.request_files.proofs.TextLemmas.{total}
+use Rattle.text_lines.specs.Rows.{rows}
+use Rattle.text_lines.proofs.TextLemmas.{total}
 use Rattle.request_files.proofs.RowLemmas.{Going}
 use Rattle.request_files.proofs.reading.read_requests.Given as goal
 

@@ -1,28 +1,29 @@
 use Rattle.std.proofs.Common.{◌≡◌, ◌≢◌, ◌==◌, ◌+◌, ◌++◌, true, refl, subst, length-append, false, cond, Some, length, sym, ap, ◌∙◌, arith}
 use Rattle.handler_check.specs.Resolved.{params_at}
 use Rattle.std.specs.List.{list_all}
-use Rattle.request_files.specs.Text.{words}
-use Rattle.request_files.specs.Values.{is_value, values_of}
+use Rattle.text_lines.specs.Text.{words}
+use Rattle.text_lines.specs.Values.{is_value, values_of}
 use Rattle.request_files.specs.declared.refusal.RequestRefusal.{RequestRefusal}
 use Rattle.request_files.specs.declared.refusal.RequestRefusal.TheVariants.{Arity, BadWord}
 use Rattle.request_files.specs.Requests as spec
+use Rattle.text_lines.specs.Rows.{row_of}
 use Rattle.request_files.specs.declared.tally.Tally.{Tally}
 use Rattle.request_files.proofs.FaultLemmas.{told, values_long, fault_many, fault_unknown, fault_arity, fault_bad, fault_sums, accepted}
 use Rattle.request_files.proofs.EntryLemmas.{request_behind}
-use Rattle.request_files.proofs.PrintableLemmas.{values_held}
+use Rattle.text_lines.proofs.PrintableLemmas.{values_held}
 use Rattle.request_files.proofs.request_line.request.Goals as goal
 
 pub returns-then-tally-ge-MAX_REQUESTS-clause-refused : goal.returns-then-tally-ge-MAX_REQUESTS-clause-refused
 returns-then-tally-ge-MAX_REQUESTS-clause-refused c =
-    told _ _ (fault_many c.args.names.now c.args.checked.now c.args.tally (spec.row_of c.args.line c.args.name.now (words c.args.words.rest.now)) (omega arith))
+    told _ _ (fault_many c.args.names.now c.args.checked.now c.args.tally (row_of c.args.line c.args.name.now (words c.args.words.rest.now)) (omega arith))
 
 pub returns-in_default-clause-refused : goal.returns-in_default-clause-refused
 returns-in_default-clause-refused c =
-    told _ _ (fault_unknown c.args.names.now c.args.checked.now c.args.tally (spec.row_of c.args.line c.args.name.now (words c.args.words.rest.now)) (omega arith) c.in_default.ensures)
+    told _ _ (fault_unknown c.args.names.now c.args.checked.now c.args.tally (row_of c.args.line c.args.name.now (words c.args.words.rest.now)) (omega arith) c.in_default.ensures)
 
 pub returns-then-not-fine-clause-refused : goal.returns-then-not-fine-clause-refused
 returns-then-not-fine-clause-refused c =
-    let row = spec.row_of c.args.line c.args.name.now (words c.args.words.rest.now) in
+    let row = row_of c.args.line c.args.name.now (words c.args.words.rest.now) in
     let params = c.handler-2.ensures.params in
     let bad : list_all is_value row.args ≡ false = sym c.in-Ok.ensures.tests ∙ c.if-not-fine.true in
     told _ _ (fault_bad c.args.names.now c.args.checked.now c.args.tally row c.in-Some.number c.in-Some.ensures.0 (omega arith) c.in-Some.ensures.1 bad
@@ -30,7 +31,7 @@ returns-then-not-fine-clause-refused c =
 
 pub returns-then-len-first-clause-refused : goal.returns-then-len-first-clause-refused
 returns-then-len-first-clause-refused c =
-    let row = spec.row_of c.args.line c.args.name.now (words c.args.words.rest.now) in
+    let row = row_of c.args.line c.args.name.now (words c.args.words.rest.now) in
     let f = c.args.checked.now in
     let params = c.handler-2.ensures.params in
     let new = c.values.new.names in
@@ -43,7 +44,7 @@ returns-then-len-first-clause-refused c =
 
 pub returns-in-Err-clause-refused : goal.returns-in-Err-clause-refused
 returns-in-Err-clause-refused c =
-    let row = spec.row_of c.args.line c.args.name.now (words c.args.words.rest.now) in
+    let row = row_of c.args.line c.args.name.now (words c.args.words.rest.now) in
     let f = c.args.checked.now in
     let params = c.handler-2.ensures.params in
     let new = c.values.new.names in
@@ -57,7 +58,7 @@ returns-in-Err-clause-refused c =
 
 pub returns-in-Ok-look_at_sums-clause-ok : goal.returns-in-Ok-look_at_sums-clause-ok
 returns-in-Ok-look_at_sums-clause-ok c =
-    let row = spec.row_of c.args.line c.args.name.now (words c.args.words.rest.now) in
+    let row = row_of c.args.line c.args.name.now (words c.args.words.rest.now) in
     let f = c.args.checked.now in
     let params = c.handler-2.ensures.params in
     let new = c.values.new.names in

@@ -1,0 +1,7 @@
+pub mod NumberLemmas
+pub mod PrintableLemmas
+pub mod RowLemmas
+pub mod TextLemmas
+pub mod ValueLemmas
+pub mod WholeLines
+pub mod WholeTexts

@@ -1,0 +1,6 @@
+pub mod Bytes
+pub mod Laws
+pub mod Rows
+pub mod Steps
+pub mod Text
+pub mod Values

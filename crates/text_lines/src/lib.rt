@@ -1,0 +1,16 @@
+//! What is read by lines: classes of bytes, the lines of a text, the words of a line, and the values
+//! that words are.
+#![tactic(auto)]
+
+mod bytes;
+pub mod laws;
+mod line;
+mod lines;
+mod scan;
+mod word_value;
+
+pub use bytes::{is_blank, is_symbol_byte};
+pub use line::Line;
+pub use lines::Lines;
+pub use scan::line_len;
+pub use word_value::{first_byte, is_symbol, number, value};
