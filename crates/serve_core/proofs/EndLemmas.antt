@@ -15,11 +15,12 @@ use Rattle.serve_faults.specs.declared.status.Fault.{Fault}
 use Rattle.serve_faults.specs.declared.status.Fault.TheVariants as fault
 use Rattle.serve_faults.specs.declared.status.Status.{Status}
 use Rattle.serve_faults.specs.declared.status.Status.TheVariants as status
-use Rattle.serve_faults.specs.Input.{Parts, parts_of, input_of, has_handlers, has_requests, wants_divided, handlers_of, is_divided, IsInput}
+use Rattle.serve_faults.specs.Commands.{callers_of, has_handlers, has_requests, input_of, shards_of}
+use Rattle.serve_faults.specs.Input.{Parts, parts_of, wants_divided, handlers_of, is_divided, IsInput}
 use Rattle.serve_faults.specs.Session.{session_of_parts, all_names_of, replies_text, serial_calls}
 use Rattle.serve_faults.specs.Answer.{IsRefused, IsTextOf}
 use Rattle.serve_faults.specs.Changes.{Change, IsUntouched}
-use Rattle.serve_core.specs.Runs.{Answered, Written, has_served, Holds, IsServedThrough, callers_of, shards_of}
+use Rattle.serve_core.specs.Runs.{Answered, Written, has_served, Holds, IsServedThrough}
 use Rattle.serve_core.specs.Runs.{AnswersTo}
 use Rattle.serve_faults.specs.Ways.{describing}
 use Rattle.serve_core.proofs.RunLemmas.{refused_answer, no_answer, fine_answer, front_answer, not_served}
@@ -83,18 +84,8 @@ module _ {O : Type 0} (c : Command) (bytes : List ℕ) (out : Change O) (text : 
 
 -- ---- describing
 pub describing_served : (shown : Bool) (s : Status) → false ≡ has_served (Some (describing shown)) s
-describing_served true status.Fine = refl
-describing_served true (status.Refused f) = refl
-describing_served true status.Usage = refl
-describing_served true status.NoMemory = refl
-describing_served true status.ReadFault = refl
-describing_served true status.WriteFault = refl
-describing_served false status.Fine = refl
-describing_served false (status.Refused f) = refl
-describing_served false status.Usage = refl
-describing_served false status.NoMemory = refl
-describing_served false status.ReadFault = refl
-describing_served false status.WriteFault = refl
+describing_served true s = refl
+describing_served false s = refl
 
 describing_own : (shown : Bool) (bytes : List ℕ) → bytes ≡ input_of (describing shown) bytes
 describing_own true bytes = refl
@@ -226,16 +217,8 @@ module _ {O : Type 0} (requests start : ℕ) (bytes : List ℕ) (out : Change O)
 
 -- ---- range sessions
 module _ {O : Type 0} (bytes : List ℕ) (out : Change O) where
-  range_served : (s : Status) → false ≡ has_served (Some Ranges) s
-  range_served status.Fine = refl
-  range_served status.WriteFault = refl
-  range_served (status.Refused f) = refl
-  range_served status.Usage = refl
-  range_served status.NoMemory = refl
-  range_served status.ReadFault = refl
-
   pub ranged_to : (text : List ℕ) (s : Status) → IsInput Ranges bytes → IsTextOf Ranges bytes text → EndsBy text out s → AnswersTo Ranges bytes out s None
-  ranged_to text s i is e = ends_to Ranges bytes out text i is s None e (range_served s) tt
+  ranged_to text s i is e = ends_to Ranges bytes out text i is s None e refl tt
 
   pub unranged_to : (e : Unserved) → IsUntouched out → IsReason Ranges bytes e → AnswersTo Ranges bytes out (status_of e) None
   unranged_to e same r = reason_to Ranges bytes out same e r

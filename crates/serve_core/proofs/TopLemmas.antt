@@ -7,7 +7,7 @@ use Rattle.serve_words.specs.declared.command.Command.{Command}
 use Rattle.serve_words.specs.declared.command.Command.TheVariants.{Serve, Work, Ranges}
 use Rattle.serve_faults.specs.declared.status.Status.{Status}
 use Rattle.serve_faults.specs.declared.status.Status.TheVariants as status
-use Rattle.serve_faults.specs.Input.{is_reading}
+use Rattle.serve_faults.specs.Commands.{is_reading}
 use Rattle.serve_faults.specs.Changes.{Change, IsUntouched}
 use Rattle.serve_core.specs.Runs.{Runs}
 use Rattle.serve_core.specs.Runs.{AnswersTo}

@@ -1,9 +1,8 @@
 -- What a run promises, over its command, its input, its outputs and how it ended.
-use Rattle.std.specs.Prelude.{◌≡◌, ◌≢◌, ◌+◌, ◌⊎◌, ◌↔◌, ℕ, Bool, true, false, is_some, List, Option, Some, None, IfSome}
+use Rattle.std.specs.Prelude.{◌≡◌, ◌≢◌, ◌+◌, ◌⊎◌, ◌↔◌, ◌&&◌, ℕ, Bool, true, false, is_some, List, Option, Some, None, IfSome}
 use Rattle.session_limits.specs.Limits.{max_input}
 use Rattle.byte_ends.specs.Ends.{IsAtEnd, LostFirst, LostAtMost}
 use Rattle.serve_words.specs.declared.command.Command.{Command}
-use Rattle.serve_words.specs.declared.command.Command.TheVariants.{Check, Show, Serve, Work, Ranges}
 use Rattle.symbolic_ops.specs.declared.symbol.Symbol.{Symbol}
 use Rattle.session_journal.specs.Script.{Meaning, session_of}
 use Rattle.session_hall.specs.Closings.{ClosedView, IsDone}
@@ -16,20 +15,23 @@ use Rattle.serve_faults.specs.declared.status.Status.TheVariants as status
 use Rattle.serve_faults.specs.Answer.{CommandAnswers}
 use Rattle.serve_faults.specs.Answer as answer
 use Rattle.serve_faults.specs.Changes.{Change, Failed, IsUntouched, Took, TookFront}
-use Rattle.serve_faults.specs.Input.{Parts, parts_of, input_of, is_reading}
+use Rattle.serve_faults.specs.Commands.{callers_of, has_requests, input_of, is_reading, shards_of}
+use Rattle.serve_faults.specs.Input.{Parts, parts_of}
 use Rattle.serve_faults.specs.Session.{IsSession, requests_of, session_of_parts}
 use Rattle.serve_faults.specs.Message.{message_of}
 
 -- ---- what is told
 
--- This holds of the bytes that a source has, where it tells them; for a command that doesn't read, of whatever bytes.
+-- this holds of the bytes that a source has, where it is read and tells them, and else of whatever
+-- bytes
+abbrev pub ToldIf : {S : Type 0} → Bool → Change S → (List ℕ → Type 0) → Type 0
+ToldIf true c P = IfSome (c.bytes c.old) P
+ToldIf false c P = (bytes : List ℕ) → P bytes
+
+-- This holds of the bytes that a source has, where it tells them; for a command that doesn't read,
+-- of whatever bytes.
 abbrev pub Told : {S : Type 0} → Option Command → Change S → (List ℕ → Type 0) → Type 0
-Told None c P = (bytes : List ℕ) → P bytes
-Told (Some Check) c P = IfSome (c.bytes c.old) P
-Told (Some Show) c P = IfSome (c.bytes c.old) P
-Told (Some (Serve callers shards)) c P = IfSome (c.bytes c.old) P
-Told (Some (Work requests start)) c P = (bytes : List ℕ) → P bytes
-Told (Some Ranges) c P = IfSome (c.bytes c.old) P
+Told command c P = ToldIf (is_reading command) c P
 
 -- whether a run that reads, and that ended so, had read its source to the end
 abbrev pub has_read_all : Status → Bool
@@ -69,21 +71,6 @@ IsUnrefused command bytes =
 
 -- ---- the hall through which was served
 
--- how many callers and shards a command serves with; one that serves nothing has none
-abbrev pub callers_of : Command → ℕ
-callers_of Check = 0
-callers_of Show = 0
-callers_of (Serve callers shards) = callers
-callers_of (Work requests start) = 4
-callers_of Ranges = 0
-
-abbrev pub shards_of : Command → ℕ
-shards_of Check = 0
-shards_of Show = 0
-shards_of (Serve callers shards) = shards
-shards_of (Work requests start) = 4
-shards_of Ranges = 0
-
 -- what a file means with these lists and its part of requests, as a script: each request's dialogue
 -- and bounds, and what it declares at each point
 abbrev pub script_of_session : Parts → File → List (List (List Symbol)) → Meaning
@@ -119,11 +106,7 @@ has_begun_writing status.WriteFault = true
 -- whether a command that ended so has served through a hall
 abbrev pub has_served : Option Command → Status → Bool
 has_served None s = false
-has_served (Some Check) s = false
-has_served (Some Show) s = false
-has_served (Some (Serve callers shards)) s = has_begun_writing s
-has_served (Some (Work requests start)) s = has_begun_writing s
-has_served (Some Ranges) s = false
+has_served (Some command) s = has_requests command && has_begun_writing s
 
 -- what a hall that is left holds
 abbrev pub Holds : Option Command → List ℕ → Option ClosedView → Type 0

@@ -22,7 +22,8 @@ use Rattle.serve_words.specs.declared.command.Command.TheVariants.{Check, Show, 
 use Rattle.serve_words.specs.Commands.{command_of}
 use Rattle.serve_faults.specs.declared.status.Fault.{Fault}
 use Rattle.serve_faults.specs.declared.status.Fault.TheVariants as fault
-use Rattle.serve_faults.specs.Input.{parts_of, is_divided, input_of, has_requests, has_handlers, wants_divided, handlers_of, IsInput}
+use Rattle.serve_faults.specs.Commands.{input_of, has_requests, has_handlers}
+use Rattle.serve_faults.specs.Input.{parts_of, is_divided, wants_divided, handlers_of, IsInput}
 use Rattle.serve_faults.specs.Session.{IsProgram, request_fault}
 use Rattle.serve_faults.specs.Answer.{HasSyntaxFault, HasCheckFault, HasAnalysisFault, HasRequestFault, IsRefused, IsTextOf, Answer, Answers, CommandAnswers, IsAnswer}
 use Rattle.serve_faults.specs.Answer as answer

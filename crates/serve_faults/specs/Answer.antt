@@ -19,7 +19,8 @@ use Rattle.serve_words.specs.Commands.{command_of}
 use Rattle.serve_made.specs.Summary.{summary}
 use Rattle.serve_faults.specs.declared.status.Fault.{Fault}
 use Rattle.serve_faults.specs.declared.status.Fault.TheVariants as fault
-use Rattle.serve_faults.specs.Input.{Parts, parts_of, is_divided, input_of, has_requests, has_handlers, wants_divided, handlers_of, IsInput}
+use Rattle.serve_faults.specs.Commands.{input_of, has_requests, has_handlers}
+use Rattle.serve_faults.specs.Input.{Parts, parts_of, is_divided, wants_divided, handlers_of, IsInput}
 use Rattle.serve_faults.specs.Session.{IsProgram, IsSession, request_fault, session_of_parts, replies_text, serial_calls}
 
 -- ---- faults

@@ -1,5 +1,6 @@
 pub mod Answer
 pub mod Changes
+pub mod Commands
 pub mod ExitStatus
 pub mod Input
 pub mod Message
