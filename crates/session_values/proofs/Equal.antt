@@ -1,11 +1,13 @@
 -- Values, maps and sets that are the same.
-use Rattle.std.proofs.Common.{◌≡◌, Bool, true, false, sym, ◌∙◌, ap}
-use Rattle.std.specs.Cmp.{Equal-is, is_eq}
+use Rattle.std.proofs.Common.{◌≡◌, Bool, true, false, refl, sym, ◌∙◌, ap, subst}
+use Rattle.std.specs.Cmp.{Equal-is, tied_itself}
+use Rattle.std.specs.Ordering.{is_eq}
 use Rattle.std.specs.FinMap as map
 use Rattle.std.specs.FinSet as set
 use Rattle.session_values.specs.declared.value.Value.{Value}
 use Rattle.session_values.specs.Values.{value_cmp, value_eq, value_cmp_total, value_cmp-IsAntisymmetric}
 
+-- a value is the same as itself, and as no other
 pub same_value : (v w : Value) → value_eq v w ≡ true → v ≡ w
 same_value v w e = value_cmp-IsAntisymmetric v w ((Equal-is (value_cmp v w)).0 e)
 
