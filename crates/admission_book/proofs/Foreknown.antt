@@ -33,7 +33,7 @@ regrouped_lawful m b L = regrouped_replays (begun b.journal) (m.opening) (done_o
 Commute-sym : (a b : Op) → Commute a b → Commute b a
 Commute-sym a b c = record { at = λ ts. let s : Swaps ts a b = c.at ts in record { tables = sym s.tables; first = sym s.second; second = sym s.first } }
 
-no_more : (f : Dialogue) (r : Reply) (back : List Entry) → f [] ≡ Answers r → Follows f back → back ≡ []
+pub no_more : (f : Dialogue) (r : Reply) (back : List Entry) → f [] ≡ Answers r → Follows f back → back ≡ []
 no_more f r [] a w = refl
 no_more f r (e ∷ back) a w = absurd (differ f e.op r w.0 a)
 

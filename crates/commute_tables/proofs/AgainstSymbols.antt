@@ -17,10 +17,10 @@ use Rattle.commute_tables.specs.Relation.{same_bool, commutes, is_put, is_bump, 
 use Rattle.symbolic_ops.specs.Matching.{Agrees, IsNoVar, HasNoVar, StandsFor}
 use Rattle.commute_tables.specs.Symbols.{CommutesWith, DiffersFromSome}
 use Rattle.commute_tables.specs.Relation.{is_apart, is_same, commutes_symbol}
-use Rattle.commute_tables.proofs.Apart.{same_value, value_eq-self}
 use Rattle.commute_tables.proofs.Commutes.{and_both, not_true, same_kind, commutes-Commute}
 use Rattle.commute_tables.proofs.TellingApart.{or_false, not_false, commutes-Differ, not_commute}
 use Rattle.commute_tables.proofs.TellingApartPairs.{other, other_differs, other_number, other_not_zero, other_held}
+use Rattle.session_values.proofs.Equal.{same_value, value_eq-self}
 
 plain_keyed : (kind : Kind) → is_plain kind ≡ true → is_keyed kind ≡ true
 plain_keyed Get h = refl
@@ -63,7 +63,7 @@ or_weaker false false q true s f g h = join q s (g refl)
     join false s (inr h) = h
 or_weaker false false q false s f g h = cc
 
-and_three : (x y z : Bool) → x ≡ true → y ≡ true → z ≡ true → (x && y && z) ≡ true
+pub and_three : (x y z : Bool) → x ≡ true → y ≡ true → z ≡ true → (x && y && z) ≡ true
 and_three x y z p q r = cc (ap (λ (b : Bool). b && y && z) p, ap (λ (b : Bool). true && b && z) q, ap (λ (b : Bool). true && true && b) r)
 
 key_of : (a : Op) (arg : Arg) (v : Value) → Agrees arg v → is_apart a.key arg ≡ true → value_eq a.key v ≡ false

@@ -8,19 +8,7 @@ use Rattle.session_values.specs.declared.value.Value.{Value}
 use Rattle.session_values.specs.Values.{value_cmp, value_eq, value_cmp_total, value_cmp-IsAntisymmetric}
 use Rattle.session_values.specs.Tables.{bound_to, bumped}
 use Rattle.session_values.proofs.Bumps.{get-bound_to}
-
--- a value is the same as itself, and as no other
-pub same_value : (v w : Value) → value_eq v w ≡ true → v ≡ w
-same_value v w e = value_cmp-IsAntisymmetric v w ((Equal-is (value_cmp v w)).0 e)
-
-pub value_eq-self : (v : Value) → value_eq v v ≡ true
-value_eq-self v = ap is_eq (tied_itself value_cmp_total v)
-
-pub not_same : (v w : Value) → value_eq v w ≡ false → v ≡ w → ⊥
-not_same v w e h = let P : Value → Type 0 = λ x. value_eq v x ≡ false in let q : value_eq v v ≡ false = subst P (sym h) e in both_ways (value_eq v v) (value_eq-self v) q
-  where
-    both_ways : (b : Bool) → b ≡ true → b ≡ false → ⊥
-    both_ways b p q = cc
+use Rattle.session_values.proofs.Equal.{same_value, value_eq-self, not_same, same_map, same_set}
 
 module _ (M V E : Type 0) (get : M → Value → V) (act : E → Value → M → M) (put : E → V → V)
     (get-act : (e : E) (k : Value) (m : M) (q : Value) → get (act e k m) q ≡ cond (value_eq q k) (put e (get m q)) (get m q))
@@ -92,9 +80,6 @@ get-act_on_map (Sum v) k m q = get-bound_to m k (bumped v (map.get m k)) q ∙ g
     go true e = ap (λ (x : Value). bumped v (map.get m x)) (sym (same_value q k e))
     go false e = refl
 
-pub same_map : (m n : map.FinMap value_cmp Value) → ((q : Value) → map.get m q ≡ map.get n q) → m ≡ n
-same_map = map.same_map value_cmp_total value_cmp-IsAntisymmetric
-
 -- ---- of sets
 pub data SetAct : Type 0 where
   Stay : SetAct
@@ -123,6 +108,3 @@ contains-act_on_set Leave k s q = set.contains-remove value_cmp_total s k q ∙ 
     and_cond : (b c : Bool) → (not b && c) ≡ cond b false c
     and_cond true c = refl
     and_cond false c = refl
-
-pub same_set : (s t : set.FinSet value_cmp) → ((q : Value) → set.contains s q ≡ set.contains t q) → s ≡ t
-same_set = set.same_set value_cmp_total value_cmp-IsAntisymmetric

@@ -17,8 +17,9 @@ use Rattle.session_values.specs.Commuting.{Commute}
 use Rattle.session_values.specs.Kinds.{is_keyed, is_plain, kind_place, is_on_map, is_read}
 use Rattle.session_values.proofs.Bumps.{bound_to-same, fits_number}
 use Rattle.commute_tables.specs.Relation.{same_bool, commutes, is_put, is_bump, is_number, is_zero, sums}
-use Rattle.commute_tables.proofs.Apart.{same_value, not_same, get_apart, act_apart, act_any, MapAct, Keep, Bind, Unbind, Sum, act_on_map, bound_by, get-act_on_map, same_map, SetAct, Stay, Join, Leave, act_on_set, member_by, contains-act_on_set, same_set}
+use Rattle.commute_tables.proofs.Apart.{get_apart, act_apart, act_any, MapAct, Keep, Bind, Unbind, Sum, act_on_map, bound_by, get-act_on_map, SetAct, Stay, Join, Leave, act_on_set, member_by, contains-act_on_set}
 use Rattle.commute_tables.proofs.OneTable.{SwapsOn, commute_on, commute_apart}
+use Rattle.session_values.proofs.Equal.{same_value, not_same, same_map, same_set, value_eq-sym}
 
 -- ---- what each kind does to a map
 abbrev pub map_act : Kind → Value → MapAct
@@ -97,13 +98,6 @@ set_reply_is s Drop k h = refl
 set_reply_is s Count k h = cc
 
 -- ---- different keys
-value_eq-sym : (v w : Value) → value_eq v w ≡ false → value_eq w v ≡ false
-value_eq-sym v w h = go (value_eq w v) refl
-  where
-    go : (b : Bool) → value_eq w v ≡ b → value_eq w v ≡ false
-    go true e = absurd (not_same v w h (sym (same_value w v e)))
-    go false e = e
-
 keys_apart : (c : Container) (a b : Op) → is_keyed a.kind ≡ true → is_keyed b.kind ≡ true → value_eq a.key b.key ≡ false → SwapsOn c a b
 keys_apart (Bindings m) a b p q h =
     let e : MapAct = map_act a.kind a.value in

@@ -19,12 +19,13 @@ use Rattle.commute_tables.specs.Relation.{same_bool, commutes, is_put, is_bump, 
 use Rattle.session_values.specs.Tables.{kind_of}
 use Rattle.session_values.proofs.Starts.{kinds_of_start, start_length, values_of_start}
 use Rattle.commute_tables.specs.ToldApart.{ToldApart, Differ, CommuteAt}
-use Rattle.commute_tables.proofs.Apart.{same_value, value_eq-self}
 use Rattle.std.specs.List.{AllByRecursion}
 use Rattle.std.specs.Bool.{MatchBool, Decides}
 use Rattle.commute_tables.proofs.Commutes.{commutes-Commute}
 use Rattle.commute_tables.proofs.OneTable.{SwapsOn, SwapsAt, swaps_to, table_after, twice_after}
 use Rattle.commute_tables.proofs.TellingApartPairs.{op, Tells, turn, sees, binds, see_bind, see_del, put_put, bind_del, bind_size, del_size, bump_get, bump_put, bump_swap, bump_del, bump_size, joins, has_join, has_drop, add_join, join_drop, join_count, drop_count}
+use Rattle.session_values.proofs.Equal.{same_value, value_eq-self}
+use Rattle.session_values.proofs.Puts.{values_put}
 
 -- ---- every pair that doesn't commute
 -- what the test says where it says that they don't commute
@@ -159,7 +160,7 @@ tells Count Count i j k l v w h = absurd (let e : true ≡ false = h.reads in cc
 tells x y i j k l v w h = absurd (let e : false ≡ true = h.homes in cc)
 
 -- ---- in tables that both fit
-set_there : (shape : List TableKind) (i : ℕ) (kind : TableKind) → slice_get shape i ≡ Some kind → put_at shape i kind ≡ shape
+pub set_there : (shape : List TableKind) (i : ℕ) (kind : TableKind) → slice_get shape i ≡ Some kind → put_at shape i kind ≡ shape
 set_there [] i kind h = refl
 set_there (x ∷ shape) zero kind h = ap (λ (y : TableKind). y ∷ shape) (inside kind x (sym h))
   where
@@ -167,7 +168,7 @@ set_there (x ∷ shape) zero kind h = ap (λ (y : TableKind). y ∷ shape) (insi
     inside a b e = cc
 set_there (x ∷ shape) (suc i) kind h = ap (λ (s : List TableKind). x ∷ s) (set_there shape i kind h)
 
-there : (shape : List TableKind) (i : ℕ) (kind : TableKind) → slice_get shape i ≡ Some kind → i < length shape
+pub there : (shape : List TableKind) (i : ℕ) (kind : TableKind) → slice_get shape i ≡ Some kind → i < length shape
 there [] i kind h = absurd (none_some kind h)
   where
     none_some : (a : TableKind) → ◌≡◌ {A = Option TableKind} None (Some a) → ⊥
@@ -182,11 +183,6 @@ on_one i ts a b l s = record {
   second = ap (λ (c : Container). reply_on c b) (sym (table_after i ts a l)) ∙ s.second;
 }
 
-all_set : (ts : Tables) (i : ℕ) (c : Container) → AreValues c → AllByRecursion AreValues ts → AllByRecursion AreValues (put_at ts i c)
-all_set [] i c h a = tt
-all_set (x ∷ ts) zero c h a = (h, a.1)
-all_set (x ∷ ts) (suc i) c h a = (a.0, all_set ts i c h a.1)
-
 told : (a b : Op) (shape : List TableKind) → a.table ≡ b.table → slice_get shape a.table ≡ Some (home a.kind) → Tells a b → ToldApart shape a b
 told a b shape same f t =
     let ts : Tables = put_at (start shape) a.table t.container in
@@ -197,7 +193,7 @@ told a b shape same f t =
     record {
       tables = ts;
       kinds = map-set kind_of (start shape) a.table t.container ∙ ap (λ (s : List TableKind). put_at s a.table (kind_of t.container)) (kinds_of_start shape) ∙ ap (put_at shape a.table) t.kind ∙ set_there shape a.table (home a.kind) f;
-      values = λ p q. all_set (start shape) a.table t.container (t.values p q) (values_of_start shape);
+      values = λ p q. values_put (start shape) a.table t.container (t.values p q) (values_of_start shape);
       differ = λ s. t.differ (subst Q here (on_one a.table ts a b (omega (arith, l, length-set (start shape) a.table t.container)) (subst P (sym same) (swaps_to ts a b s))));
     }
 
@@ -231,7 +227,7 @@ commutes_tells a b v w f =
 pub commutes-Differ : (a b : Op) → IsValue a.value → IsValue b.value → commutes a b ≡ false → Differ a b
 commutes-Differ a b v w h = let p : (a.table ≡ b.table) × Tells a b = commutes_tells a b v w h in record { at = λ shape f g. told a b shape p.0 f.table p.1 }
 
-last_of : (n : ℕ) (kind : TableKind) → slice_get (replicate (suc n) kind) n ≡ Some kind
+pub last_of : (n : ℕ) (kind : TableKind) → slice_get (replicate (suc n) kind) n ≡ Some kind
 last_of zero kind = refl
 last_of (suc n) kind = last_of n kind
 

@@ -16,12 +16,12 @@ use Rattle.session_values.specs.Values.{value_cmp, value_eq, value_cmp_total, Is
 use Rattle.session_values.specs.Kinds.{home}
 use Rattle.session_values.specs.Tables.{Container, Bindings, Members, bound_to, bumped, sum_in_range, map_reply, map_after, set_after, bit, AreValues}
 use Rattle.session_values.specs.Tables.{kind_of}
-use Rattle.commute_tables.proofs.Apart.{same_value, value_eq-self, not_same}
 use Rattle.session_values.proofs.Bumps.{get-bound_to, fits_number}
 use Rattle.session_values.proofs.Starts.{values_none, members_none}
 use Rattle.commute_tables.specs.Relation.{is_number, is_zero}
 use Rattle.commute_tables.proofs.Commutes.{flip}
 use Rattle.commute_tables.proofs.OneTable.{SwapsOn}
+use Rattle.session_values.proofs.Equal.{same_value, value_eq-self, not_same}
 
 abbrev pub op : Kind → ℕ → Value → Value → Op
 op kind i k v = record { kind = kind; table = i; key = k; value = v }

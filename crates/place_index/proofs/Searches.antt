@@ -6,10 +6,11 @@ use Rattle.session_values.specs.declared.value.Value.{Value}
 use Rattle.session_values.specs.declared.value.Value.TheVariants.{Nil}
 use Rattle.session_values.specs.Values.{value_eq}
 use Rattle.place_index.specs.Slots.{distance, start_of, start_in, place_in, IsIndex}
-use Rattle.place_index.proofs.Values.{both_ways, some_none, is_false, same_value}
+use Rattle.place_index.proofs.Values.{both_ways, some_none, is_false}
 use Rattle.place_index.proofs.Distances.{same_distance}
 use Rattle.place_index.proofs.Masks.{start-lt}
 use Rattle.place_index.proofs.Changes.{taken_in}
+use Rattle.session_values.proofs.Equal.{same_value}
 
 -- a slot that holds no place is free
 pub is_free : (x : ℕ) → place_in x ≡ None → x ≡ 0

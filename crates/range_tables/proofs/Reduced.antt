@@ -19,10 +19,9 @@ use Rattle.symbolic_ops.specs.Symbol.{IsHeldArg, IsHeldSymbol}
 use Rattle.symbolic_ops.specs.Matching.{StandsFor, Agrees, IsNoVar, HasNoVar}
 use Rattle.commute_tables.specs.Relation.{add_up, same_bool, commutes, commutes_symbol, is_bump, is_number, is_zero, may_be_number}
 use Rattle.commute_tables.specs.Symbols.{CommutesWith, DiffersFromSome}
-use Rattle.commute_tables.proofs.Apart.{same_value}
 use Rattle.commute_tables.proofs.Commutes.{not_true, commutes-Commute, or_cases}
 use Rattle.commute_tables.proofs.TellingApart.{or_false, not_false, Decides-commute}
-use Rattle.commute_tables.proofs.AgainstSymbols.{symbol_commutes, symbol_differs, Decides-commute_symbol}
+use Rattle.commute_tables.proofs.AgainstSymbols.{symbol_commutes, symbol_differs, Decides-commute_symbol, and_three}
 use Rattle.range_tables.specs.declared.range_op.RangeOp.{RangeOp}
 use Rattle.range_tables.specs.declared.range_op.RangeOp.TheVariants.{Plain, Between}
 use Rattle.range_tables.specs.declared.range_symbol.RangeSymbol.{RangeSymbol}
@@ -33,6 +32,7 @@ use Rattle.range_tables.specs.Relation.{changes_nothing, commutes_count, has_val
 use Rattle.range_tables.specs.Symbols.{IsInSpan, IsWithin, RangeStandsFor, RangeCommutesWith, RangeDiffersFromSome, IsRangeSymbol, IsHeldRangeSymbol}
 use Rattle.range_tables.proofs.Counting.{count_beside, plain_beside, plain_only, turned, counts_beside}
 use Rattle.range_tables.proofs.Telling.{commutes-RangeDiffer, plain_differ, count_not_commute}
+use Rattle.session_values.proofs.Equal.{same_value}
 
 -- ---- numbers in ranges
 both_ways : (b : Bool) → b ≡ true → b ≡ false → ⊥
@@ -170,9 +170,6 @@ no_key_matters Add a b k l e h = cc
 no_key_matters Mark a b k l e h = cc
 no_key_matters Drop a b k l e h = cc
 no_key_matters Count a b k l e h = h
-
-and_three : (x y z : Bool) → x ≡ true → y ≡ true → z ≡ true → (x && y && z) ≡ true
-and_three x y z p q r = cc (ap (λ (b : Bool). b && y && z) p, ap (λ (b : Bool). true && b && z) q, ap (λ (b : Bool). true && true && b) r)
 
 module _ (a : Op) (kind : Kind) (i : ℕ) (low high : ℤ) (value : Arg) (ha : IsHeld a) (kk : is_keyed kind ≡ true) (nv : IsNoVar value) (ends : AreEnds low high) (hv : IsHeldArg value) where
   single : Symbol

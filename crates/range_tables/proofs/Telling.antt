@@ -23,7 +23,7 @@ use Rattle.session_values.proofs.Starts.{kinds_of_start, start_length, values_of
 use Rattle.commute_tables.specs.Relation.{commutes, is_number}
 use Rattle.commute_tables.specs.ToldApart.{ToldApart, Differ}
 use Rattle.commute_tables.proofs.OneTable.{step_at, table_after}
-use Rattle.commute_tables.proofs.TellingApart.{commutes-Differ, Decides-commute, or_false, not_false, not_commute}
+use Rattle.commute_tables.proofs.TellingApart.{commutes-Differ, Decides-commute, or_false, not_false, not_commute, set_there, there, last_of}
 use Rattle.commute_tables.proofs.TellingApartPairs.{no_map, got, len_one, len_none, values_one}
 use Rattle.shard_tables.proofs.PartSteps.{part_after, none_in_empty_map}
 use Rattle.range_tables.specs.declared.range_op.RangeOp.{RangeOp}
@@ -32,6 +32,7 @@ use Rattle.range_tables.specs.Ranges.{is_between, count_between, between_on, ran
 use Rattle.range_tables.specs.Commuting.{RangeSwaps, RangeCommute, RangeToldApart, RangeDiffer}
 use Rattle.range_tables.specs.Relation.{changes_nothing, commutes_count, range_commutes}
 use Rattle.range_tables.proofs.Counting.{commutes-RangeCommute, plain_only, plain_swaps, turned}
+use Rattle.session_values.proofs.Puts.{values_put}
 
 -- a map on which an operation changes a count
 record Changes (op : Op) (low high : ℤ) : Type 0 where
@@ -100,27 +101,6 @@ changes Drop i k v low high p q h = cc
 changes Count i k v low high p q h = cc
 
 -- ---- in tables that both fit
-set_there : (shape : List TableKind) (i : ℕ) (kind : TableKind) → slice_get shape i ≡ Some kind → put_at shape i kind ≡ shape
-set_there [] i kind h = refl
-set_there (x ∷ shape) zero kind h = ap (λ (y : TableKind). y ∷ shape) (inside kind x (sym h))
-  where
-    inside : (a b : TableKind) → ◌≡◌ {A = Option TableKind} (Some a) (Some b) → a ≡ b
-    inside a b e = cc
-set_there (x ∷ shape) (suc i) kind h = ap (λ (s : List TableKind). x ∷ s) (set_there shape i kind h)
-
-there : (shape : List TableKind) (i : ℕ) (kind : TableKind) → slice_get shape i ≡ Some kind → i < length shape
-there [] i kind h = absurd (none_some kind h)
-  where
-    none_some : (kind : TableKind) → ◌≡◌ {A = Option TableKind} None (Some kind) → ⊥
-    none_some kind e = cc
-there (x ∷ shape) zero kind h = omega arith
-there (x ∷ shape) (suc i) kind h = omega (arith, there shape i kind h)
-
-all_set : (ts : Tables) (i : ℕ) (c : Container) → AreValues c → AllByRecursion AreValues ts → AllByRecursion AreValues (put_at ts i c)
-all_set [] i c h a = tt
-all_set (x ∷ ts) zero c h a = (h, a.1)
-all_set (x ∷ ts) (suc i) c h a = (a.0, all_set ts i c h a.1)
-
 count_after : (ts : Tables) (op : Op) (low high : ℤ) → RangeSwaps ts (Plain op) (Between op.table low high) → between_on low high (table (step_at op.table ts op) op.table) ≡ between_on low high (table ts op.table)
 unfolding range_step range_reply step
 count_after ts op low high s = s.second
@@ -135,7 +115,7 @@ told_count shape op low high f l t =
     record {
       tables = ts;
       kinds = map-set kind_of (start shape) op.table c ∙ ap (λ (s : List TableKind). put_at s op.table Map) (kinds_of_start shape) ∙ set_there shape op.table Map f;
-      values = all_set (start shape) op.table c (t.values l) (values_of_start shape);
+      values = values_put (start shape) op.table c (t.values l) (values_of_start shape);
       differ = λ s. t.differ (sym (ap (λ (d : Container). between_on low high (after_on d op)) here) ∙ sym (ap (between_on low high) (table_after op.table ts op q)) ∙ count_after ts op low high s ∙ ap (between_on low high) here);
     }
 
@@ -190,11 +170,6 @@ commutes-RangeDiffer (Plain a) (Plain b) p q h = plain_differ a b p.key q.key (c
 commutes-RangeDiffer (Plain a) (Between i low high) p q h = count_differs a i low high p.key h
 commutes-RangeDiffer (Between i low high) (Plain b) p q h = other_order (Plain b) (Between i low high) (count_differs b i low high q.key h)
 commutes-RangeDiffer (Between i low high) (Between j l h) p q e = cc
-
--- there are tables of kinds that both fit
-last_of : (n : ℕ) (kind : TableKind) → slice_get (replicate (suc n) kind) n ≡ Some kind
-last_of zero kind = refl
-last_of (suc n) kind = last_of n kind
 
 pub count_not_commute : (op : Op) (i : ℕ) (low high : ℤ) → IsValue op.key → commutes_count op (eqb op.table i) low high ≡ false → RangeCommute (Plain op) (Between i low high) → ⊥
 count_not_commute op i low high l h k =

@@ -14,17 +14,10 @@ use Rattle.syntax_trees.proofs.Mentions.{all_first}
 use Rattle.text_lines.specs.Text.{Text}
 use Rattle.request_files.specs.Requests.{AreKnown, handler_of, IsHandler}
 use Rattle.text_lines.proofs.ValueLemmas.{known, place_kept}
+use Rattle.session_values.proofs.NamesLemmas.{choice, no_choice}
 
 abbrev named : ℕ → Handler → Bool
 named n h = h.name == n
-
-chose : (n m i : ℕ) (b : Bool) → ltb n m ≡ b → cond b (Some n) None ≡ Some i → (n ≡ i) × (n < m)
-chose n m i true e h = (cc, grind (arith, nat_tests))
-chose n m i false e h = absurd (cc)
-
-chose_none : (n m : ℕ) (b : Bool) → ltb n m ≡ b → cond b (Some n) None ≡ None → m ≤ n
-chose_none n m true e h = absurd (cc)
-chose_none n m false e h = grind (arith, nat_tests)
 
 one_not : (x : Handler) (xs : List Handler) (n : ℕ) → named n x ≡ false → length xs ≤ position_or_len (named n) xs → suc (length xs) ≤ position_or_len (named n) (x ∷ xs)
 one_not x xs n e h = let k : position_or_len (named n) (x ∷ xs) ≡ 1 + position_or_len (named n) xs = ap (λ b. cond (not b) (1 + position_or_len (named n) xs) 0) e in omega arith
@@ -39,7 +32,7 @@ not_named m n (x ∷ xs) k h =
 pub handler_none : (names : List Text) (f : File) (name : Text) → AreKnown names f → None ≡ position (bytes_eq name) names → length f.handlers ≤ handler_of names f name
 unfolding handler_of
 handler_none names f name k e =
-    not_named (length names) (place_of names name) f.handlers k (chose_none (place_of names name) (length names) _ refl (sym e))
+    not_named (length names) (place_of names name) f.handlers k (no_choice (place_of names name) (length names) _ refl (sym e))
 
 found_at : (p : Handler → Bool) (hs : List Handler) (b : Bool) → ltb (position_or_len p hs) (length hs) ≡ b
     → (length hs ≤ position_or_len p hs) × (position p hs ≡ None) ⊎ (position p hs ≡ Some (position_or_len p hs)) × (position_or_len p hs < length hs)
@@ -56,7 +49,7 @@ by_place names f name =
 
 pub handler_some : (names : List Text) (f : File) (name : Text) (place : ℕ) (o : Option ℕ) → Some place ≡ position (bytes_eq name) names → o ≡ position (λ (h : Handler). h.name == place) f.handlers → IsHandler names f name o
 handler_some names f name place o e is =
-    let c = chose (place_of names name) (length names) place _ refl (sym e) in
+    let c = choice (place_of names name) (length names) place _ refl (sym e) in
     subst (IsHandler names f name) (ap (λ n. position (named n) f.handlers) c.0 ∙ sym is) (by_place names f name)
 
 -- ---- the same handler among more names

@@ -17,6 +17,7 @@ use Rattle.session_journal.proofs.Serial.{serve-calls, serve-answers, differ}
 use Rattle.admission_book.proofs.Events.{only_begun}
 use Rattle.session_hall.specs.Closings.{ClosedView, IsDone}
 use Rattle.serve_faults.specs.Session.{serial_calls}
+use Rattle.admission_book.proofs.Foreknown.{no_more}
 
 -- ---- the entries of a serving are what its dialogue calls
 serve_stops : (f : Dialogue) (ts : Tables) (op : Op) → f [] ≡ Calls op → serve zero f ts ≡ record { entries = []; answer = None; after = ts }
@@ -35,10 +36,6 @@ serve_follows (suc n) f ts = elim (f []) as (λ x. f [] ≡ x → Follows f (ser
 follows_past : (f : Dialogue) (es back : List Entry) → Follows f (es ++ back) → Follows (rest f (replies es)) back
 follows_past f [] back h = h
 follows_past f (e ∷ es) back h = follows_past (rest f (e.reply ∷ [])) es back h.1
-
-no_more : (f : Dialogue) (r : Reply) (back : List Entry) → f [] ≡ Answers r → Follows f back → back ≡ []
-no_more f r [] a w = refl
-no_more f r (e ∷ back) a w = absurd (differ f e.op r w.0 a)
 
 append_nothing : (vs : List Value) → vs ++ [] ≡ vs
 append_nothing [] = refl

@@ -7,19 +7,13 @@ use Rattle.session_journal.specs.declared.event.Event.{Event}
 use Rattle.session_journal.specs.declared.event.Event.TheVariants.{Begin, Done, Delay, End}
 use Rattle.session_journal.specs.Journal.{DoneOperation, done_operations}
 use Rattle.serve_core.proofs.SheetLemmas.{text_more}
-
-pub done_operations_cut : (J K : List Event) → done_operations (J ++ K) ≡ done_operations J ++ done_operations K
-done_operations_cut [] K = refl
-done_operations_cut (Begin t c ∷ J) K = done_operations_cut J K
-done_operations_cut (Done t op r ∷ J) K = ap (λ ds. record { ticket = t; op = op; reply = r } ∷ ds) (done_operations_cut J K)
-done_operations_cut (Delay t op older y ∷ J) K = done_operations_cut J K
-done_operations_cut (End t r ∷ J) K = done_operations_cut J K
+use Rattle.admission_book.proofs.Events.{done_operations-append}
 
 -- one event more
 pub done_operations_more : (J : List Event) (i : ℕ) (e : Event) → i < length J → get_or J i e ≡ e → length (done_operations (take (i + 1) J)) ≡ length (done_operations (take i J)) + length (done_operations (e ∷ []))
 done_operations_more J i e h is =
     ap (λ (K : List Event). length (done_operations K)) (take_more J i e h ∙ ap (λ (x : Event). take i J ++ x ∷ []) is)
-    ∙ ap (λ (ds : List DoneOperation). length ds) (done_operations_cut (take i J) (e ∷ []))
+    ∙ ap (λ (ds : List DoneOperation). length ds) (done_operations-append (take i J) (e ∷ []))
     ∙ length-append (done_operations (take i J)) (done_operations (e ∷ []))
 
 -- one reply more

@@ -14,6 +14,7 @@ use Rattle.symbolic_ops.specs.Matching.{Matches}
 use Rattle.session_values.specs.Sums.{sum_below}
 use Rattle.session_journal.specs.Script.{HasValues, IsForesight, IsScript, adds_on}
 use Rattle.session_journal.specs.Lists.{Ticket, ticket_at, says, adding, IsTicket, list_meaning}
+use Rattle.session_values.proofs.Sums.{sum_first}
 
 calls_it : (o p : Op) → Calls o ≡ Calls p → o ≡ p
 calls_it o p e = cc
@@ -58,13 +59,9 @@ abbrev pub total : (Ticket → ℕ) → List Ticket → ℕ
 total g [] = 0
 total g (x ∷ xs) = g x + total g xs
 
-sum_shift : (n : ℕ) (f : ℕ → ℕ) → sum_below (suc n) f ≡ f 0 + sum_below n (λ t. f (suc t))
-sum_shift zero f = omega arith
-sum_shift (suc n) f = omega (arith, sum_shift n f)
-
 pub sum_tickets : (g : Ticket → ℕ) (xs : List Ticket) → sum_below (length xs) (λ t. g (ticket_at xs t)) ≡ total g xs
 sum_tickets g [] = refl
-sum_tickets g (x ∷ xs) = omega (arith, sum_shift (length xs) (λ t. g (ticket_at (x ∷ xs) t)), sum_tickets g xs)
+sum_tickets g (x ∷ xs) = omega (arith, sum_first (length xs) (λ t. g (ticket_at (x ∷ xs) t)), sum_tickets g xs)
 
 -- the operations of tickets are a list, one after another, of at most 200,000 operations
 pub record HasFew (xs : List Ticket) (ops : List Op) : Type 0 where

@@ -20,13 +20,12 @@ use Rattle.session_values.proofs.Sizes.{step_few}
 use Rattle.session_values.proofs.Starts.{values_none}
 use Rattle.session_journal.specs.Journal.{run}
 use Rattle.session_journal.specs.Script.{adds_on}
+use Rattle.session_values.proofs.Equal.{same_value}
+use Rattle.session_values.proofs.Puts.{values_put}
 
 -- a program can hold the replies
 abbrev pub AreReplies : List Entry → Type 0
 AreReplies es = AllByRecursion (λ e. IsValue e.reply) es
-
-same_value : (v w : Value) → value_eq v w ≡ true → v ≡ w
-same_value v w e = value_cmp-IsAntisymmetric v w ((Equal-is (value_cmp v w)).0 e)
 
 -- ---- one container
 map_insert_values : (m : map.FinMap value_cmp Value) (k v : Value) → AreValues (Bindings m) → IsValue k → IsValue v → AreValues (Bindings (map.insert m k v))
@@ -152,14 +151,9 @@ table_values [] i h = values_none
 table_values (c ∷ ts) zero h = h.0
 table_values (c ∷ ts) (suc i) h = table_values ts i h.1
 
-put_values : (ts : Tables) (i : ℕ) (c : Container) → AreValues c → AllByRecursion AreValues ts → AllByRecursion AreValues (put_at ts i c)
-put_values [] i c h a = tt
-put_values (x ∷ ts) zero c h a = (h, a.1)
-put_values (x ∷ ts) (suc i) c h a = (a.0, put_values ts i c h a.1)
-
 pub step_values : (ts : Tables) (op : Op) → AllByRecursion AreValues ts → IsHeld op → AllByRecursion AreValues (step ts op)
 unfolding step
-step_values ts op h g = put_values ts op.table (after_on (table ts op.table) op) (after_values (table ts op.table) op (table_values ts op.table h) g) h
+step_values ts op h g = values_put ts op.table (after_on (table ts op.table) op) (after_values (table ts op.table) op (table_values ts op.table h) g) h
 
 pub reply_values : (ts : Tables) (op : Op) → AllByRecursion AreValues ts → size_of (table ts op.table) < 2 ^ 63 → IsValue (reply ts op)
 unfolding reply

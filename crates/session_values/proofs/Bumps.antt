@@ -9,9 +9,7 @@ use Rattle.session_values.specs.declared.value.Value.{Value}
 use Rattle.session_values.specs.declared.value.Value.TheVariants.{Nil, Num, Sym}
 use Rattle.session_values.specs.Values.{value_cmp, value_eq, value_cmp_total, value_cmp-IsAntisymmetric, IsValue}
 use Rattle.session_values.specs.Tables.{bound_to, bumped, sum_in_range}
-
-same_value : (v w : Value) → value_eq v w ≡ true → v ≡ w
-same_value v w e = value_cmp-IsAntisymmetric v w ((Equal-is (value_cmp v w)).0 e)
+use Rattle.session_values.proofs.Equal.{same_value}
 
 -- ---- a map in which a key is bound anew
 pub get-bound_to : (m : map.FinMap value_cmp Value) (k : Value) (o : Option Value) (q : Value) → map.get (bound_to m k o) q ≡ cond (value_eq q k) o (map.get m q)

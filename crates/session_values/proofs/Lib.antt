@@ -1,7 +1,9 @@
 pub mod Bumps
 pub mod Congruent
+pub mod Equal
 pub mod Named
 pub mod NamesLemmas
+pub mod Puts
 pub mod Sizes
 pub mod Starts
 pub mod Sums

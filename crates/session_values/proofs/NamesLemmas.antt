@@ -51,7 +51,7 @@ lacks t (k ∷ ks) h = go (lacks t ks) (has_text t k) refl where
       let rest : length ks ≤ position_or_len (has_text t) ks = omega (arith, subst (λ b. suc (length ks) ≤ cond (not b) (1 + position_or_len (has_text t) ks) 0) e h) in
       ap (λ b. (b || list_any (bytes_eq t) (texts ks))) e ∙ again rest
 
-choice : (n m i : ℕ) (b : Bool) → ltb n m ≡ b → cond b (Some n) None ≡ Some i → (n ≡ i) × (n < m)
+pub choice : (n m i : ℕ) (b : Bool) → ltb n m ≡ b → cond b (Some n) None ≡ Some i → (n ≡ i) × (n < m)
 choice n m i true e h = (cc, grind (arith, nat_tests))
 choice n m i false e h = absurd (cc)
 
@@ -60,7 +60,7 @@ found t ks i h =
     let c = choice (position_or_len (has_text t) ks) (length ks) i _ refl h in
     subst (Stands t (texts ks)) c.0 (stands t ks c.1)
 
-no_choice : (n m : ℕ) (b : Bool) → ltb n m ≡ b → cond b (Some n) None ≡ None → m ≤ n
+pub no_choice : (n m : ℕ) (b : Bool) → ltb n m ≡ b → cond b (Some n) None ≡ None → m ≤ n
 no_choice n m true e h = absurd (cc)
 no_choice n m false e h = grind (arith, nat_tests)
 

@@ -26,7 +26,7 @@ sum_same zero f g h = refl
 sum_same (suc n) f g h = omega (arith, sum_same n f g h, h n)
 
 -- one ticket's part grows
-sum_none : (n u x : ℕ) (f : ℕ → ℕ) → n ≤ u → sum_below n (λ t. cond (eqb u t) (x + f t) (f t)) ≡ sum_below n f
+pub sum_none : (n u x : ℕ) (f : ℕ → ℕ) → n ≤ u → sum_below n (λ t. cond (eqb u t) (x + f t) (f t)) ≡ sum_below n f
 sum_none zero u x f h = refl
 sum_none (suc n) u x f h =
     let c : cond (eqb u n) (x + f n) (f n) ≡ f n = ap (λ (b : Bool). cond b (x + f n) (f n)) (apart u n h) in
@@ -48,3 +48,7 @@ sum_more (suc n) u x f h = by_last (eqb u n) refl (λ l. sum_more n u x f l)
     by_last : (b : Bool) → eqb u n ≡ b → (u < n → sum_below n (λ t. cond (eqb u t) (x + f t) (f t)) ≡ x + sum_below n f) → sum_below (suc n) (λ t. cond (eqb u t) (x + f t) (f t)) ≡ x + sum_below (suc n) f
     by_last true e k = let c : cond (eqb u n) (x + f n) (f n) ≡ x + f n = ap (λ (b : Bool). cond b (x + f n) (f n)) e in omega (arith, sum_none n u x f (itself u n e), c)
     by_last false e k = let c : cond (eqb u n) (x + f n) (f n) ≡ f n = ap (λ (b : Bool). cond b (x + f n) (f n)) e in omega (arith, k (less u n h e), c)
+
+pub sum_first : (n : ℕ) (f : ℕ → ℕ) → sum_below (suc n) f ≡ f 0 + sum_below n (λ t. f (suc t))
+sum_first zero f = omega arith
+sum_first (suc n) f = omega (arith, sum_first n f)

@@ -40,6 +40,21 @@ pub enum Kind {
 }
 
 impl Kind {
+    /// All kinds, in their order.
+    pub const ALL: [Kind; 11] = [
+        Kind::Get,
+        Kind::Put,
+        Kind::Swap,
+        Kind::Del,
+        Kind::Size,
+        Kind::Bump,
+        Kind::Has,
+        Kind::Add,
+        Kind::Mark,
+        Kind::Drop,
+        Kind::Count,
+    ];
+
     /// The reserved word of the handler language.
     pub fn word(self) -> &'static str
         ensures { result.now ≡ word_of self }

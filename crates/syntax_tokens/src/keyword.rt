@@ -8,20 +8,6 @@ use crate::word::Sort;
 use session_values::{Kind, TableKind};
 use syntax_trees::Compare;
 
-const KINDS: [Kind; 11] = [
-    Kind::Get,
-    Kind::Put,
-    Kind::Swap,
-    Kind::Del,
-    Kind::Size,
-    Kind::Bump,
-    Kind::Has,
-    Kind::Add,
-    Kind::Mark,
-    Kind::Drop,
-    Kind::Count,
-];
-
 /// Whether a reserved word may have this first byte and this length.
 fn may_begin(first: u8, len: usize) -> bool
     ensures { result ≡ spec.may_begin first len }
@@ -81,7 +67,7 @@ fn statement_word(text: &str) -> Option<Sort>
 fn operation(text: &str) -> Option<Sort>
     ensures { result ≡ spec.operation_of text.now }
 {
-    operation_among(&KINDS, text)
+    operation_among(&Kind::ALL, text)
 }
 
 /// The first of these operations whose word the text is.

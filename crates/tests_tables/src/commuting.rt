@@ -6,7 +6,6 @@ ghost use Rattle.session_values.specs.Kinds.{home};
 ghost use Rattle.session_values.specs.Tables.{kind_of};
 ghost use Rattle.symbolic_ops.specs.Symbol.{IsSymbol};
 
-use crate::kinds::KINDS;
 use commute_tables::{commute, commute_symbol};
 use plain_tables::PlainTables;
 use session_values::{Kind, Op, TableKind, Value};
@@ -121,7 +120,7 @@ fn told(a: &Op, b: &Op) -> [bool; 3] {
 fn is_right_beside<R: Abort>(rt: &R, alloc: Global, a: Op, key: i64, value: i64)
     requires { slice_get (Map ∷ Set ∷ []) a.table ≡ Some (home a.kind) }
 {
-    for kind in KINDS {
+    for kind in Kind::ALL {
         let b = op(kind, key, value);
         let swap = swap_everywhere(rt, alloc, a, b);
         assert!(rt; told(&a, &b) == [swap, swap, swap]);
@@ -130,7 +129,7 @@ fn is_right_beside<R: Abort>(rt: &R, alloc: Global, a: Op, key: i64, value: i64)
 
 // Each pair of kinds is told rightly, the second of which has this key and value.
 fn is_right<R: Abort>(rt: &R, alloc: Global, key: i64, value: i64) {
-    for kind in KINDS {
+    for kind in Kind::ALL {
         is_right_beside(rt, alloc, op(kind, 1, 5), key, value);
     }
 }

@@ -5,7 +5,6 @@
 #[cfg(test)]
 mod commuting;
 #[cfg(test)]
-mod kinds;
 #[cfg(test)]
 mod operations;
 #[cfg(test)]

@@ -6,7 +6,6 @@ ghost use Rattle.session_values.specs.Op.{IsOp};
 ghost use Rattle.session_values.specs.Kinds.{home};
 ghost use Rattle.session_values.specs.Tables.{kind_of};
 
-use crate::kinds::KINDS;
 use plain_tables::PlainTables;
 use session_values::Value::{Nil, Num, Sym};
 use session_values::{Kind, Op, TableKind, Value};
@@ -179,7 +178,7 @@ impl Made {
     fn op(&mut self) -> Op
         ensures { slice_get (Map ∷ Set ∷ []) result.table ≡ Some (home result.kind) }
     {
-        let kind = KINDS[self.number(11) as usize];
+        let kind = Kind::ALL[self.number(11) as usize];
         let key = self.value();
         let value = self.value();
         op_of(kind, key, value)

@@ -109,11 +109,11 @@ inside b bs = cond (in_word bs) (attach b (words bs)) ((b ∷ []) ∷ words bs)
 abbrev outside : ℕ → Text → List Text
 outside b bs = cond (is_blank b) (words bs) []
 
-words_more : (b : ℕ) (bs : Text) → is_word_byte b ≡ true → in_word bs ≡ true → words (b ∷ bs) ≡ attach b (words bs)
+pub words_more : (b : ℕ) (bs : Text) → is_word_byte b ≡ true → in_word bs ≡ true → words (b ∷ bs) ≡ attach b (words bs)
 unfolding words
 words_more b bs is e = ap (λ t. cond t (inside b bs) (outside b bs)) is ∙ ap (λ t. cond t (attach b (words bs)) ((b ∷ []) ∷ words bs)) e
 
-words_alone : (b : ℕ) (bs : Text) → is_word_byte b ≡ true → in_word bs ≡ false → words (b ∷ bs) ≡ (b ∷ []) ∷ words bs
+pub words_alone : (b : ℕ) (bs : Text) → is_word_byte b ≡ true → in_word bs ≡ false → words (b ∷ bs) ≡ (b ∷ []) ∷ words bs
 unfolding words
 words_alone b bs is e = ap (λ t. cond t (inside b bs) (outside b bs)) is ∙ ap (λ t. cond t (attach b (words bs)) ((b ∷ []) ∷ words bs)) e
 
@@ -121,7 +121,7 @@ words_blank : (b : ℕ) (bs : Text) → is_blank b ≡ true → words (b ∷ bs)
 unfolding words
 words_blank b bs e = ap (λ t. cond (not (t || b == 35)) (inside b bs) (cond t (words bs) [])) e
 
-words_end : (b : ℕ) (bs : Text) → is_word_byte b ≡ false → is_blank b ≡ false → words (b ∷ bs) ≡ []
+pub words_end : (b : ℕ) (bs : Text) → is_word_byte b ≡ false → is_blank b ≡ false → words (b ∷ bs) ≡ []
 unfolding words
 words_end b bs is e = ap (λ t. cond t (inside b bs) (outside b bs)) is ∙ ap (λ t. cond t (words bs) []) e
 

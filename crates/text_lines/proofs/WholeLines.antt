@@ -5,6 +5,7 @@ use Rattle.std.specs.List.{list_all}
 use Rattle.text_lines.specs.Bytes.{is_blank}
 use Rattle.text_lines.specs.Text.{Text, is_word_byte, attach, in_word, words}
 use Rattle.text_lines.specs.Laws.{before_comment, with_gaps, AreApart, AreWordsOf}
+use Rattle.text_lines.proofs.TextLemmas.{words_more, words_alone, words_end}
 
 -- ---- the four rules of `words`
 
@@ -12,21 +13,9 @@ words_none : words [] ≡ []
 unfolding words
 words_none = refl
 
-words_in : (b : ℕ) (bs : Text) → is_word_byte b ≡ true → in_word bs ≡ true → words (b ∷ bs) ≡ attach b (words bs)
-unfolding words
-words_in b bs e g = λ i. cond (e i) (cond (g i) (attach b (words bs)) ((b ∷ []) ∷ words bs)) (cond (is_blank b) (words bs) [])
-
-words_end : (b : ℕ) (bs : Text) → is_word_byte b ≡ true → in_word bs ≡ false → words (b ∷ bs) ≡ (b ∷ []) ∷ words bs
-unfolding words
-words_end b bs e g = λ i. cond (e i) (cond (g i) (attach b (words bs)) ((b ∷ []) ∷ words bs)) (cond (is_blank b) (words bs) [])
-
 words_blank : (b : ℕ) (bs : Text) → is_word_byte b ≡ false → is_blank b ≡ true → words (b ∷ bs) ≡ words bs
 unfolding words
 words_blank b bs e g = λ i. cond (e i) (cond (in_word bs) (attach b (words bs)) ((b ∷ []) ∷ words bs)) (cond (g i) (words bs) [])
-
-words_stop : (b : ℕ) (bs : Text) → is_word_byte b ≡ false → is_blank b ≡ false → words (b ∷ bs) ≡ []
-unfolding words
-words_stop b bs e g = λ i. cond (e i) (cond (in_word bs) (attach b (words bs)) ((b ∷ []) ∷ words bs)) (cond (g i) (words bs) [])
 
 no_mark : (b : ℕ) → is_word_byte b ≡ true → (b == 35) ≡ false
 no_mark b e = grind (arith, nat_tests)
@@ -131,10 +120,10 @@ spaced (b ∷ bs) = go (spaced bs) (is_word_byte b) (in_word bs) (is_blank b) re
         at w vs is s e none = subst (λ ws. (s : Spaced bs ws) → s.are.first ≡ [] → Spaced (b ∷ bs) (attach b ws)) (sym is) (λ s none. spaced_in b bs w vs e s.are none) s none
 
     go : Spaced bs (words bs) → (x y z : Bool) → is_word_byte b ≡ x → in_word bs ≡ y → is_blank b ≡ z → Spaced (b ∷ bs) (words (b ∷ bs))
-    go s true true z e g h = subst (Spaced (b ∷ bs)) (sym (words_in b bs e g)) (longer s e g)
-    go s true false z e g h = subst (Spaced (b ∷ bs)) (sym (words_end b bs e g)) (spaced_end b bs (words bs) e s g)
+    go s true true z e g h = subst (Spaced (b ∷ bs)) (sym (words_more b bs e g)) (longer s e g)
+    go s true false z e g h = subst (Spaced (b ∷ bs)) (sym (words_alone b bs e g)) (spaced_end b bs (words bs) e s g)
     go s false y true e g h = subst (Spaced (b ∷ bs)) (sym (words_blank b bs e h)) (spaced_blank b bs (words bs) e h s.are)
-    go s false y false e g h = subst (Spaced (b ∷ bs)) (sym (words_stop b bs e h)) (spaced_stop b bs e h)
+    go s false y false e g h = subst (Spaced (b ∷ bs)) (sym (words_end b bs e h)) (spaced_stop b bs e h)
 
 pub words_are : (line : Text) → AreWordsOf line (words line)
 words_are line = (spaced line).are

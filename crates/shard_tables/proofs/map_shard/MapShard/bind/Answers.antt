@@ -11,11 +11,11 @@ use Rattle.place_index.specs.Slots.{IndexView, IsIndexOf, IsSizedFor}
 use Rattle.place_index.proofs.Lists.{index_set, index_pushed}
 use Rattle.place_index.specs.Keys.{is_under, AreDifferent}
 use Rattle.shard_tables.specs.Shards.{MapView, ShardView, bindings}
-use Rattle.place_index.proofs.Values.{same_value}
 use Rattle.place_index.proofs.Places.{place_found, place_within, no_place}
 use Rattle.place_index.proofs.Different.{different_set, different_push}
 use Rattle.shard_tables.proofs.MapLemmas.{key_of, map_of, get_found, get_missed, len_pairs, same_key, set_pair, push_pair}
 use Rattle.shard_tables.proofs.map_shard.MapShard.bind.Goals as goal
+use Rattle.session_values.proofs.Equal.{same_value}
 
 abbrev shard : map.FinMap value_cmp Value → ℕ → ShardView
 shard m n = record { container = Bindings m; room = n }

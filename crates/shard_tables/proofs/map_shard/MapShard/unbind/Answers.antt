@@ -10,11 +10,11 @@ use Rattle.place_index.specs.Slots.{IsIndexOf, IsSizedFor}
 use Rattle.place_index.proofs.Lists.{keys_out}
 use Rattle.place_index.specs.Keys.{is_under, AreDifferent}
 use Rattle.shard_tables.specs.Shards.{MapView, ShardView, bindings}
-use Rattle.place_index.proofs.Values.{same_value}
 use Rattle.place_index.proofs.Places.{place_within, no_place}
 use Rattle.place_index.proofs.Different.{taken_out}
 use Rattle.shard_tables.proofs.MapLemmas.{key_of, map_of, out_pair, none_out}
 use Rattle.shard_tables.proofs.map_shard.MapShard.unbind.Goals as goal
+use Rattle.session_values.proofs.Equal.{same_value}
 
 abbrev shard : map.FinMap value_cmp Value → ℕ → ShardView
 shard m n = record { container = Bindings m; room = n }

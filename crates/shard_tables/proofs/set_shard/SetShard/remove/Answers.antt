@@ -10,11 +10,11 @@ use Rattle.place_index.specs.Slots.{IsIndexOf, IsSizedFor}
 use Rattle.place_index.proofs.Lists.{keys_out}
 use Rattle.place_index.specs.Keys.{is_under, AreDifferent}
 use Rattle.shard_tables.specs.Shards.{SetView, ShardView, members}
-use Rattle.place_index.proofs.Values.{same_value}
 use Rattle.place_index.proofs.Places.{place_within, no_place}
 use Rattle.place_index.proofs.Different.{taken_out}
 use Rattle.shard_tables.proofs.SetLemmas.{itself, set_of, out_key, none_out}
 use Rattle.shard_tables.proofs.set_shard.SetShard.remove.Goals as goal
+use Rattle.session_values.proofs.Equal.{same_value}
 
 abbrev shard : set.FinSet value_cmp → ℕ → ShardView
 shard m n = record { container = Members m; room = n }
