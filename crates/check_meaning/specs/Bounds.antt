@@ -26,9 +26,11 @@ every kind table = 1
 abbrev pub adding : ℕ → Weight
 adding t kind table = if is_adding kind && table == t then 1 else 0
 
+-- the bound on how many operations a block calls
 abbrev pub calls_bound : Code → ℕ
 calls_bound = bound every
 
+-- the bound on how many operations a block calls that may add a key to table t
 abbrev pub adds_bound : ℕ → Code → ℕ
 adds_bound t = bound (adding t)
 

@@ -59,6 +59,7 @@ stmt_step (CheckedStmt-F.Answer es) rest = Quit (map expr_term es) rest
 abbrev pub stmt_code : CheckedStmt → Code → Code
 stmt_code = fold-CheckedStmt (Code → Code) stmt_step
 
+-- the plain tree of a block with these statements
 abbrev pub block_code : List CheckedStmt → Code
 block_code stmts = joined (map stmt_code stmts)
 

@@ -142,6 +142,7 @@ next code env = λ replies. ended (run code env replies)
 
 -- ---- where a run stands
 
+-- the points that a part of a run passed, however it ends
 abbrev pub passed_by : Outcome → List Place
 passed_by (Calls passed op) = passed
 passed_by (Answers passed values) = passed

@@ -49,9 +49,12 @@ block_forms ss depth = forms_at depth (map stmt_forms ss)
 abbrev pub handler_forms : Handler → List Form
 handler_forms h = block_forms h.body 1
 
+-- the forms in all handlers of a file, in their order
 abbrev pub file_forms : File → List Form
 file_forms f = flat_map handler_forms f.handlers
 
+-- an operation has at most 2 arguments, a reply 1 to 4 values, and a statement with blocks of its
+-- own stands inside fewer than 16 blocks
 abbrev pub IsBoundedForm : Form → Type 0
 IsBoundedForm (a_call n) = n ≤ 2
 IsBoundedForm (a_reply n) = (1 ≤ n) × (n ≤ 4)
@@ -63,6 +66,7 @@ IsBoundedNumber (a_name place) = Unit {0}
 IsBoundedNumber (a_symbol place) = Unit {0}
 IsBoundedNumber (a_number z) = IsValue (Num z)
 
+-- a file's tree keeps the bounds on its forms, its numbers, and the places of its names and symbols
 pub record KeepsBounds (f : File) : Type 0 where
   pub forms : AllByRecursion IsBoundedForm (file_forms f)
   pub numbers : AllByRecursion IsBoundedNumber (file_mentions f)

@@ -102,6 +102,7 @@ abbrev pub handler_marks : Handler → List Mark
 handler_marks h = param_marks h.params ++ seeing (param_names h.params)
     (marks (block_source h.body))
 
+-- the declarations of the tables, in their order
 abbrev pub table_marks : List TableDecl → List Mark
 table_marks tables = map (λ (t : TableDecl). Declared t.name t.at) tables
 

@@ -98,6 +98,7 @@ scan_handlers tables earlier (h ∷ hs) =
     (or_else (scan of_variables tables [] [] (handler_marks h))
     (scan_handlers tables (earlier ++ h.name ∷ []) hs))
 
+-- the first fault that the walk finds in a file: of its tables, or else of its handlers
 abbrev pub file_fault : File → Fault
 file_fault f = or_else (scan of_tables [] [] [] (table_marks f.tables))
     (scan_handlers f.tables [] f.handlers)

@@ -19,6 +19,7 @@ arg_at env (Known v) = Known v
 arg_at env (Var x) = Known (env x)
 arg_at env Any = Any
 
+-- a symbol with each variable known to be its value
 abbrev pub symbol_at : Env → Symbol → Symbol
 symbol_at env s = record {
   kind = s.kind;
@@ -31,6 +32,7 @@ symbol_at env s = record {
 abbrev pub Declarations : Type 0
 Declarations = ℕ → List Symbol
 
+-- the list of each point by its number, and an empty list behind the last
 abbrev pub listed : List (List Symbol) → Declarations
 listed lists p = slice_index_or lists p []
 

@@ -116,6 +116,7 @@ code_of tables variables (Answer es rest) p = code.Quit (map (term_of variables)
 abbrev pub shape_of : File → List TableKind
 shape_of f = map (λ (t : TableDecl). t.kind) f.tables
 
+-- the names of the tables, by their numbers
 abbrev pub table_names : File → List ℕ
 table_names f = map (λ (t : TableDecl). t.name) f.tables
 

@@ -48,6 +48,8 @@ abbrev pub HasRoom : ℕ → ℕ → Option Entry → Type 0
 HasRoom count room None = Unit {0}
 HasRoom count room (Some e) = count < room
 
+-- each ended ticket is as in the serial run, an open one so far too, and the tables are those after
+-- them; there is room for any foresight, for all Replies, and for the entry of what waits
 pub record Keeps (m : Meaning) (d : DeskView) (tables : Tables) (symbol_room : ℕ) (all : List Entry)
     (entry_room first : ℕ) (ended : List EndedTicket) (reply_room : ℕ) : Type 0 where
   pub script : IsScript m

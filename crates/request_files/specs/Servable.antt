@@ -18,9 +18,12 @@ pub record IsRequestOf (f : File) (r : Request) : Type 0 where
 abbrev pub calls_in_all : File → List Request → ℕ
 calls_in_all f requests = sum_by (λ (r : Request). calls_bound (code_at f r.handler)) requests
 
+-- the bounds on the work of the requests' handlers, added up
 abbrev pub work_in_all : File → List Request → ℕ
 work_in_all f requests = sum_by (λ (r : Request). work_bound (code_at f r.handler)) requests
 
+-- the requests are few enough, each is a request of one of the file's handlers, and the bounds on
+-- their calls and on their work, added up, are within the limits
 pub record IsServable (f : File) (requests : List Request) : Type 0 where
   pub few : length requests ≤ max_requests
   pub each : AllByRecursion (IsRequestOf f) requests

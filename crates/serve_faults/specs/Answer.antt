@@ -117,6 +117,7 @@ IsTextOf Ranges input text = IsRangesText input text
 
 -- ---- the answer
 
+-- an answer: usage, a refusal for a fault, or a text
 pub data Answer : Type 0 where
   Usage : Answer
   Refused : Fault → Answer
@@ -135,6 +136,7 @@ CommandAnswers None bytes (Refused e) = ⊥
 CommandAnswers None bytes (Text text) = ⊥
 CommandAnswers (Some command) bytes answer = Answers command (input_of command bytes) answer
 
+-- what is answered to a command line of these words, where the source has these bytes
 abbrev pub IsAnswer : List (List ℕ) → List ℕ → Answer → Type 0
 IsAnswer words bytes answer = CommandAnswers (command_of words) bytes answer
 

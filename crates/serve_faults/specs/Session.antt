@@ -34,6 +34,8 @@ rows_of parts = rows parts.first (lines parts.requests)
 abbrev pub all_names_of : Parts → List (List ℕ)
 all_names_of parts = names_behind (handler_names_of parts) (rows_of parts)
 
+-- the requests of the lines that have words: handlers go by the names of the handlers' part,
+-- symbols by those of both parts
 abbrev pub requests_of : Parts → File → List Request
 requests_of parts file = map (request_of (handler_names_of parts) (all_names_of parts) file)
     (rows_of parts)

@@ -7,6 +7,7 @@ use Rattle.session_values.specs.Kinds.{arguments}
 use Rattle.symbolic_ops.specs.declared.arg.Arg.{Arg}
 use Rattle.symbolic_ops.specs.declared.arg.Arg.TheVariants.{Known, Var, Any}
 
+-- its kind, the number of its table, and its two arguments
 pub record SymbolView : Type 0 where
   pub kind : Kind
   pub table : ℕ

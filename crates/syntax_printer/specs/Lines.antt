@@ -29,6 +29,7 @@ line_text false (of_else t) rest = rest
 line_text true (of_point n t) rest = t rest
 line_text false (of_point n t) rest = rest
 
+-- lines are written one after another; where points have no lines, the file's own alone
 abbrev pub written : Bool → List Line → Text
 written shown lines rest = each (map (line_text shown) lines) rest
 
@@ -53,6 +54,7 @@ pub record Part : Type 0 where
   pub points : ℕ
   pub lines : (depth point : ℕ) → List Line
 
+-- how many points the statements of a block have together
 abbrev pub block_points : List Part → ℕ
 block_points [] = 0
 block_points (p ∷ ps) = p.points + block_points ps
@@ -148,9 +150,11 @@ stmt_step names at (Stmt-F.Answer p values) = record {
   lines = λ depth point. own_line depth (reply_text names values) ∷ [];
 }
 
+-- a statement, as its number of points and its lines
 abbrev pub stmt_part : List (List ℕ) → At → Stmt → Part
 stmt_part names at = fold-Stmt Part (stmt_step names at)
 
+-- the statements of a block, each as its number of points and its lines
 abbrev pub block_parts : List (List ℕ) → At → List Stmt → List Part
 block_parts names at block = map (stmt_part names at) block
 
@@ -171,6 +175,7 @@ handlers_lines names a n [] = []
 handlers_lines names a n (h ∷ hs) = handler_lines names (point_text names a n) h ++ handlers_lines
     names a (n + 1) hs
 
+-- the lines of a file: one for each table, then those of the handlers
 abbrev pub file_lines : List (List ℕ) → AtPoints → File → List Line
 file_lines names a file = map (λ (t : TableDecl). of_file (table_text names t))
     file.tables ++ handlers_lines names a 0 file.handlers
