@@ -1,4 +1,5 @@
--- The search for the least older open ticket that is against an operation.
+-- The search for the least older open ticket that is against an operation. Only this crate's own
+-- functions cite it.
 use Rattle.std.specs.Prelude.{◌≡◌, ℕ, ◌≤◌, ◌<◌, List, [], Option, Some, None, ◌⊎◌, slice_index_or}
 use Rattle.std.specs.List.{AllByRecursion}
 use Rattle.session_values.specs.declared.op.Op.{Op}

@@ -1,4 +1,4 @@
--- Which tables a list of symbols touches.
+-- Which tables a list of symbols touches. Only this crate's own functions cite it.
 use Rattle.std.specs.Prelude.{◌≡◌, ℕ, ◌+◌, ◌%◌, true, false, cond, slice_index_or}
 use Rattle.session_values.specs.declared.kind.Kind.{Kind}
 use Rattle.session_values.specs.Kinds.{is_read}

@@ -1,4 +1,5 @@
--- Which operations commute, told by kinds, tables, keys and values. Each rule is over whole operations.
+-- Which operations commute, told by kinds, tables, keys and values. Each rule is over whole
+-- operations. Only this crate's own functions and those of `range_tables` cite it.
 use Rattle.std.specs.Prelude.{pos, Bool, true, false, not, ◌&&◌, ◌||◌, ◌==◌}
 use Rattle.session_values.specs.declared.op.Op.{Op}
 use Rattle.session_values.specs.declared.kind.Kind.{Kind}

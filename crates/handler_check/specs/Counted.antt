@@ -1,4 +1,4 @@
--- Which operations a bound counts.
+-- Which operations a bound counts. Only this crate's own functions cite it.
 use Rattle.check_meaning.specs.Bounds.{Weight, every, adding}
 use Rattle.handler_check.specs.declared.bounds.Counted.{Counted}
 use Rattle.handler_check.specs.declared.bounds.Counted.TheVariants.{Every, Adding}

@@ -1,4 +1,5 @@
--- Lists at the heads of loops that are kept from an earlier walk, so that the next one begins with them.
+-- Lists at the heads of loops that are kept from an earlier walk, so that the next one begins with
+-- them. Only this crate's own functions cite it.
 use Rattle.std.specs.Prelude.{◌≡◌, ◌≢◌, ℕ, ◌<◌, ◌≤◌, ◌⊎◌, List, [], Contains, slice_index_or}
 use Rattle.symbolic_ops.specs.declared.symbol.Symbol.{Symbol}
 use Rattle.check_meaning.specs.Code.{Code, Finish, Move, Ask, Fork, Loop, Quit}

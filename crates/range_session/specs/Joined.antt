@@ -1,4 +1,5 @@
--- The symbols of a hold, while some parts are read and some are left.
+-- The symbols of a hold, while some parts are read and some are left. Only this crate's own
+-- functions cite it.
 use Rattle.std.specs.Prelude.{List, ◌++◌, Option, Some, None, Result, Ok, Err}
 use Rattle.range_tables.specs.declared.range_symbol.RangeSymbol.{RangeSymbol}
 use Rattle.range_session.specs.declared.step.Flaw.{Flaw}

@@ -1,4 +1,5 @@
--- Which operations commute, told by kinds, tables, keys, ranges and values.
+-- Which operations commute, told by kinds, tables, keys, ranges and values. Only this crate's own
+-- functions cite it.
 use Rattle.std.specs.Prelude.{ℕ, ℤ, Bool, true, false, not, ◌&&◌, ◌||◌, ◌==◌, cond, int_le, nat_lt}
 use Rattle.session_values.specs.declared.kind.Kind.{Kind}
 use Rattle.session_values.specs.declared.value.Value.{Value}

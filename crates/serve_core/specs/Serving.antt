@@ -1,4 +1,4 @@
--- What serving a session file promises.
+-- What serving a session file promises. Only this crate's own functions cite it.
 use Rattle.std.specs.Prelude.{◌≡◌, ℕ, ◌≤◌, true, false, IsUtf8, List, length}
 use Rattle.session_limits.specs.Limits.{max_input, max_requests}
 use Rattle.session_journal.specs.Script.{Meaning, session_of}

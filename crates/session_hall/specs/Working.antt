@@ -1,4 +1,4 @@
--- An operation on the shards in a caller's hands.
+-- An operation on the shards in a caller's hands. Only this crate's own functions cite it.
 use Rattle.std.specs.Prelude.{◌≡◌, ℕ, ◌+◌, ◌<◌, ◌≤◌, pos, true, List, [], ◌∷◌, ◌++◌, length, map}
 use Rattle.std.specs.List.{AllByRecursion}
 use Rattle.session_limits.specs.Limits.{max_session_calls}

@@ -1,4 +1,4 @@
--- Values on their way between their slots and the hands.
+-- Values on their way between their slots and the hands. Only this crate's own functions cite it.
 use Rattle.std.specs.Prelude.{◌≡◌, ℕ, ◌<◌, ◌≤◌, List, ◌++◌, length, map, Option, Some, None}
 use Rattle.std.specs.Int.{bit_at}
 use Rattle.turn_steps.specs.declared.view.Place.TheVariants.{Vacant, Lies}
