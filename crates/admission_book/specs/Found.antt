@@ -23,7 +23,8 @@ IsAgainst op None r = ⊥
 IsAgainst op (Some s) None = ⊥
 IsAgainst op (Some s) (Some b) = (s.ticket ≡ b.older) × IsFirstAgainst op s.foresight b.symbol
 
--- what was found stays where the record has nothing against the operation below it, and else the record's blocker takes its place
+-- what was found stays where the record has nothing against the operation below it, and else the
+-- record's blocker takes its place
 abbrev pub NextFound : ℕ → Op → Option Blocker → Option Serving → Option Blocker → Type 0
 NextFound t op found s r = ((r ≡ found) × IsPast (bound t found) op s)
     ⊎ ((bound t r < bound t found) × IsAgainst op s r)

@@ -27,9 +27,9 @@ pub record Grows (J K : List Event) : Type 0 where
   pub more : List Event
   pub is : K ≡ J ++ more
 
--- what each method of a book keeps, whatever else it changes: the script, that the book is lawful, that
--- what every begun ticket has done so far is what it does in the serial run, and the journal before as
--- the front of the journal after
+-- what each method of a book keeps, whatever else it changes: the script, that the book is lawful,
+-- that what every begun ticket has done so far is what it does in the serial run, and the journal
+-- before as the front of the journal after
 pub record StaysLawful (S : Type 0) (meaning : S → Meaning) (v w : BookView S) : Type 0 where
   pub script : w.script ≡ v.script
   pub lawful : Lawful (meaning w.script) w.book
@@ -86,7 +86,8 @@ pub record MayAdmit (m : Meaning) (b : Book) (t : ℕ) (op : Op) : Type 0 where
   pub calls : now m b.journal t ≡ Calls op
   pub matches : Matches serving.foresight op
 
--- admitted where no older open ticket is against the operation, else delayed by the least one that is
+-- admitted where no older open ticket is against the operation, else delayed by the least one that
+-- is
 abbrev pub Admits : Book → ℕ → Op → Admission → Book → Type 0
 Admits b t op Admitted d = IsFree b t op × ((c : ℕ) (s : Serving) → record_of b c ≡ Some s
     → s.ticket ≡ t → d ≡ after_admit b c s op)

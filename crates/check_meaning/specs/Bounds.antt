@@ -9,7 +9,8 @@ use Rattle.check_meaning.specs.Code.{Code, Finish, Move, Ask, Fork, Loop, Quit}
 abbrev pub Weight : Type 0
 Weight = Kind → ℕ → ℕ
 
--- The operations of a block: the larger side of a choice, n times the block of a loop, and the sum over a block. What stands behind a reply counts too.
+-- The operations of a block: the larger side of a choice, n times the block of a loop, and the sum
+-- over a block. What stands behind a reply counts too.
 abbrev pub bound : Weight → Code → ℕ
 bound w Finish = 0
 bound w (Move x e rest) = bound w rest
@@ -34,7 +35,8 @@ calls_bound = bound every
 abbrev pub adds_bound : ℕ → Code → ℕ
 adds_bound t = bound (adding t)
 
--- 1 for a simple statement, 1 and the larger side of a choice, and for a loop 1 and for each turn 1 and its block
+-- 1 for a simple statement, 1 and the larger side of a choice, and for a loop 1 and for each turn 1
+-- and its block
 abbrev pub work_bound : Code → ℕ
 work_bound Finish = 0
 work_bound (Move x e rest) = 1 + work_bound rest

@@ -21,7 +21,8 @@ pub record Test : Type 0 where
   pub left : Term
   pub right : Term
 
--- A block. Each `at` is a byte place; a point's number stands where the point is: behind an operation, at the start of either side of a choice, and behind a loop.
+-- A block. Each `at` is a byte place; a point's number stands where the point is: behind an
+-- operation, at the start of either side of a choice, and behind a loop.
 pub data Code : Type 0 where
   Finish : Code
   Move : (x : ℕ) (e : Term) (rest : Code) → Code

@@ -1,4 +1,5 @@
--- The first fault of a text as a walk finds it that keeps the names declared so far, and those visible outside the text.
+-- The first fault of a text as a walk finds it that keeps the names declared so far, and those
+-- visible outside the text.
 use Rattle.std.specs.Prelude.{◌≡◌, ◌≢◌, ℕ, ◌==◌, nat_lt, Bool, true, false, ◌||◌, if◌then◌else◌, List, [], ◌∷◌, ◌++◌, length, Option, Some, None, Result, MatchResult}
 use Rattle.std.specs.List.{list_any}
 use Rattle.session_limits.specs.Limits.{max_handlers, max_tables, max_turns, max_variables}

@@ -46,13 +46,15 @@ IsCoveredChain declared at [] = Unit {0}
 IsCoveredChain declared at (later ∷ passed) = Covered (list_at declared later)
     (list_at declared at) × IsCoveredChain declared later passed
 
--- whatever replies come that a program can hold, the list has a symbol for the operation that is called after them
+-- whatever replies come that a program can hold, the list has a symbol for the operation that is
+-- called after them
 abbrev pub CoversRest : Code → Env → List Value → List Symbol → Type 0
 CoversRest code env replies list =
     (more : List Value) (op : Op) → AllByRecursion IsValue more
     → next code env (replies ++ more) ≡ NextCalls op → Matches list op
 
--- What the declarations promise of each run from the handler's entry, with these values of the parameters.
+-- What the declarations promise of each run from the handler's entry, with these values of the
+-- parameters.
 pub record ArePromised (code : Code) (declared : Declarations) (env : Env) : Type 0 where
   -- each has at most 256 symbols, and no variable
   pub few : (at : Place) → length (list_at declared at) ≤ max_symbols

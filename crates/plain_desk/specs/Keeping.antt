@@ -19,7 +19,8 @@ pub record IsSerial (s : Session) (all : List Entry) (t : ℕ) (e : EndedTicket)
   pub entries : slice_range all e.from e.until ≡ (serial s t).entries
   pub answer : (serial s t).answer ≡ Some e.reply
 
--- an operation that waits is the one that the ticket calls, and its reply that of the tables after the entries
+-- an operation that waits is the one that the ticket calls, and its reply that of the tables after
+-- the entries
 abbrev pub Waits : Meaning → DeskView → Option Entry → Type 0
 Waits m d None = Unit {0}
 Waits m d (Some e) = (next_of m d ≡ Calls e.op) × (reply (tables_at m d) e.op ≡ e.reply)

@@ -10,7 +10,8 @@ abbrev pub flaw_with : Option Flaw → Flaw → Flaw
 flaw_with None g = g
 flaw_with (Some f) g = sooner f g
 
--- the outcome where these symbols were found, and this flaw, and the parts that are left have this outcome
+-- the outcome where these symbols were found, and this flaw, and the parts that are left have this
+-- outcome
 abbrev pub joined : List RangeSymbol → Option Flaw → Result (List RangeSymbol) Flaw
     → Result (List RangeSymbol) Flaw
 joined front None (Ok more) = Ok (front ++ more)

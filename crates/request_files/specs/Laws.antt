@@ -25,8 +25,8 @@ pub record EndsInLine (text : Text) : Type 0 where
   pub is : text ≡ front ++ last ∷ []
   pub no_feed : is_line_byte last ≡ true
 
--- no line has a line feed within, and with a line feed behind each they are the text; where its last
--- byte is none, the last line feed is one too many
+-- no line has a line feed within, and with a line feed behind each they are the text; where its
+-- last byte is none, the last line feed is one too many
 pub record AreLinesOf (text : Text) (ls : List Text) : Type 0 where
   pub each : AllByRecursion (λ l. list_all is_line_byte l ≡ true) ls
   pub whole : (with_feeds ls ≡ text) ⊎ ((with_feeds ls ≡ text ++ 10 ∷ []) × EndsInLine text)
@@ -50,8 +50,8 @@ AreApart [] gs = Unit {0}
 AreApart (w ∷ ws) [] = ws ≡ []
 AreApart (w ∷ ws) (g ∷ gs) = ((ws ≡ []) ⊎ (0 < length g)) × AreApart ws gs
 
--- neither blanks nor a `#` stand in a word, which isn't empty, and blanks alone stand between words;
--- so they are the line before its comment
+-- neither blanks nor a `#` stand in a word, which isn't empty, and blanks alone stand between
+-- words; so they are the line before its comment
 pub record AreWordsOf (line : Text) (ws : List Text) : Type 0 where
   pub first : Text
   pub gaps : List Text
@@ -63,8 +63,8 @@ pub record AreWordsOf (line : Text) (ws : List Text) : Type 0 where
 
 -- ---- the two parts of a file
 
--- the head, a dividing line and the tail are the file; the head is whole lines of which none divides,
--- and the tail's first line comes two behind its last
+-- the head, a dividing line and the tail are the file; the head is whole lines of which none
+-- divides, and the tail's first line comes two behind its last
 pub record AreParts (text head tail : Text) (first : ℕ) : Type 0 where
   pub line : Text
   pub divides : is_dividing line ≡ true

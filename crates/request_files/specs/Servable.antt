@@ -8,7 +8,8 @@ use Rattle.check_meaning.specs.Bounds.{calls_bound, work_bound}
 use Rattle.handler_check.specs.Resolved.{code_at, params_at}
 use Rattle.request_files.specs.declared.request.Request.{Request}
 
--- its handler exists, its arguments are as many as the handler's parameters, and a program can hold each
+-- its handler exists, its arguments are as many as the handler's parameters, and a program can hold
+-- each
 pub record IsRequestOf (f : File) (r : Request) : Type 0 where
   pub handler : r.handler < length f.handlers
   pub args : length r.args ≡ params_at f r.handler

@@ -22,7 +22,8 @@ use Rattle.serve_faults.specs.Message.{message_of}
 
 -- ---- what is told
 
--- This holds of the bytes that a source has, where it tells them; for a command that doesn't read, of whatever bytes.
+-- This holds of the bytes that a source has, where it tells them; for a command that doesn't read,
+-- of whatever bytes.
 abbrev pub Told : {S : Type 0} → Option Command → Change S → (List ℕ → Type 0) → Type 0
 Told None c P = (bytes : List ℕ) → P bytes
 Told (Some Check) c P = IfSome (c.bytes c.old) P
@@ -93,8 +94,8 @@ script_of_session parts file lists = meaning (record {
 })
 
 -- The session of the input was served through this hall to its end, with the declarations that its
--- points have: the journal is that of a lawful book in which all tickets have ended, the replies are
--- those of the serial run, and the shards are the parts of its final tables. There were as many
+-- points have: the journal is that of a lawful book in which all tickets have ended, the replies
+-- are those of the serial run, and the shards are the parts of its final tables. There were as many
 -- callers and shards as the command's words say.
 pub record IsServedThrough (command : Command) (input : List ℕ) (closed : ClosedView) : Type 0 where
   pub file : File

@@ -60,8 +60,8 @@ pub(crate) fn serve_file<R: Threads + Wait + Sync, G: Gate + Sync>(
     }
 }
 
-// Serves what was loaded. All memory is taken before the first ticket is begun: what serves is given
-// nothing to take any from.
+// Serves what was loaded. All memory is taken before the first ticket is begun: what serves is
+// given nothing to take any from.
 fn serve_loaded<R: Threads + Wait + Sync, G: Gate + Sync>(
     rt: &R,
     alloc: Global,

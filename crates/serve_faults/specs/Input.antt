@@ -39,7 +39,8 @@ is_reading (Some (Serve callers shards)) = true
 is_reading (Some (Work requests start)) = false
 is_reading (Some Ranges) = true
 
--- what a command answers to, where its source has these bytes: `work` answers to a session that it makes
+-- what a command answers to, where its source has these bytes: `work` answers to a session that it
+-- makes
 abbrev pub input_of : Command → List ℕ → List ℕ
 input_of Check bytes = bytes
 input_of Show bytes = bytes
@@ -63,7 +64,8 @@ has_handlers (Serve callers shards) = true
 has_handlers (Work requests start) = true
 has_handlers Ranges = false
 
--- whether a dividing line is wanted in an input: where a command answers to no handlers, one or none will do
+-- whether a dividing line is wanted in an input: where a command answers to no handlers, one or
+-- none will do
 abbrev pub wants_divided : Command → List ℕ → Bool
 wants_divided Check input = false
 wants_divided Show input = false

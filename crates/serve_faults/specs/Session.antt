@@ -13,7 +13,8 @@ use Rattle.request_files.specs.Requests.{Row, rows, first_fault, no_requests, re
 use Rattle.request_files.specs.Session.{session}
 use Rattle.serve_faults.specs.Input.{Parts}
 
--- the text of handlers has this tree, which breaks no rule, and at no point too many operations may still come
+-- the text of handlers has this tree, which breaks no rule, and at no point too many operations may
+-- still come
 pub record IsProgram (text : List ℕ) (file : File) : Type 0 where
   pub form : IsSourceOf [] text file
   pub accepted : IsAccepted file
@@ -46,7 +47,8 @@ request_fault parts file = first_fault (handler_names_of parts) file no_requests
 
 -- ---- sessions
 
--- the parts are those of a session with these handlers: no rule is broken, of the handlers or of the requests
+-- the parts are those of a session with these handlers: no rule is broken, of the handlers or of
+-- the requests
 pub record IsSession (parts : Parts) (file : File) : Type 0 where
   pub program : IsProgram parts.handlers file
   pub requests : request_fault parts file ≡ None

@@ -173,7 +173,8 @@ module _ {S : Type 0} (m : Meaning) (p q : Caller S) where
     pub asks_more : asks q.seat ≡ asks p.seat + 1
     pub givings_still : givings q.seat ≡ givings p.seat
 
-  -- One of the operation's turns was found taken. What was won of the others was given back in one step, and no step was made where nothing was.
+  -- One of the operation's turns was found taken. What was won of the others was given back in one
+  -- step, and no step was made where nothing was.
   pub record IsBusyAt (shards u t : ℕ) (op : Op) : Type 0 where
     pub after : ℕ
     pub busy : IsBusy u after

@@ -26,7 +26,8 @@ module _ {S : Type 0} where
   all_keys [] = 0
   all_keys (x ∷ xs) = keys_in x.1 + all_keys xs
 
-  -- it is a shard of the operation's kind, with room for one key more where the operation may add one
+  -- it is a shard of the operation's kind, with room for one key more where the operation may add
+  -- one
   abbrev pub CanDo : Op → Content S → Type 0
   CanDo op (Shard c room) = (kind_of c ≡ home op.kind)
       × (is_adding op.kind ≡ true → size_of c < room)

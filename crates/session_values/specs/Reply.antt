@@ -46,7 +46,8 @@ pub record IsHeldReply (r : ReplyView) : Type 0 where
 abbrev pub values_of : ReplyView → List Value
 values_of r = take r.count (r.a ∷ r.b ∷ r.c ∷ r.d ∷ [])
 
--- The reply of these values: nil alone where there are none, and the first four where there are more.
+-- The reply of these values: nil alone where there are none, and the first four where there are
+-- more.
 abbrev pub reply_of : List Value → ReplyView
 reply_of [] = record { count = 1; a = Nil; b = Nil; c = Nil; d = Nil }
 reply_of (a ∷ []) = record { count = 1; a = a; b = Nil; c = Nil; d = Nil }

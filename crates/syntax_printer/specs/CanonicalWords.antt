@@ -1,4 +1,5 @@
--- The words of a file's canonical text, places aside. Those of each part are followed by the given ones.
+-- The words of a file's canonical text, places aside. Those of each part are followed by the given
+-- ones.
 use Rattle.std.specs.Prelude.{ℕ, suc, ℤ, pos, negsuc, if◌then◌else◌, List, [], ◌∷◌, map}
 use Rattle.session_values.specs.declared.value.Value.{Value}
 use Rattle.session_values.specs.declared.value.Value.TheVariants as value

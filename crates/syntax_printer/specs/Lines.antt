@@ -1,4 +1,5 @@
--- The lines of a file's text, with those that stand at the points of its handlers. Points are counted in the order of the text.
+-- The lines of a file's text, with those that stand at the points of its handlers. Points are
+-- counted in the order of the text.
 use Rattle.std.specs.Prelude.{ℕ, zero, suc, ◌+◌, Bool, true, false, List, [], ◌∷◌, ◌++◌, map, codes}
 use Rattle.std.specs.Fmt.{decimal}
 use Rattle.syntax_trees.specs.declared.expr.Expr.{Expr}
@@ -15,7 +16,8 @@ use Rattle.syntax_printer.specs.Canonical.{assignment_text, call_text, cond_text
 use Rattle.syntax_printer.specs.Points.{AtPoints, point_text}
 use Rattle.syntax_printer.specs.Writing.{Text}
 
--- Whose line it is: the file's own, which its canonical text has too; the else part's of an `if` whose second block is empty; that of the point of this number.
+-- Whose line it is: the file's own, which its canonical text has too; the else part's of an `if`
+-- whose second block is empty; that of the point of this number.
 pub data Line : Type 0 where
   of_file : Text → Line
   of_else : Text → Line
@@ -42,14 +44,16 @@ own_line depth t = of_file (indented depth t)
 
 -- ---- statements
 
--- what stands at the points of a handler: the line inside so many blocks, at the point of this number
+-- what stands at the points of a handler: the line inside so many blocks, at the point of this
+-- number
 abbrev pub At : Type 0
 At = (depth point : ℕ) → Text
 
 abbrev pub point_line : At → (depth point : ℕ) → Line
 point_line at depth point = of_point point (at depth point)
 
--- a statement: how many points it has, and its lines inside so many blocks, where its first point has this number
+-- a statement: how many points it has, and its lines inside so many blocks, where its first point
+-- has this number
 pub record Part : Type 0 where
   pub points : ℕ
   pub lines : (depth point : ℕ) → List Line
