@@ -20,7 +20,8 @@ pub record Serving : Type 0 where
   pub foresight : List Symbol
   pub flight : Option Op
 
--- what a book holds beside its script: for each ticket the Reply that is kept, and for each caller its record
+-- what a book holds beside its script: for each ticket the Reply that is kept, and for each caller
+-- its record
 pub record Book : Type 0 where
   pub journal : List Event
   pub kept : List (Option Reply)
@@ -67,7 +68,8 @@ pub record IsFirstAgainst (op : Op) (foresight : List Symbol) (y : Symbol) : Typ
   pub before : AllByRecursion (λ x. CommutesWith op x) front
   pub against : CommutesWith op y → ⊥
 
--- older is the least open ticket below t that has a symbol with which the operation doesn't commute, and y is its first such symbol
+-- older is the least open ticket below t that has a symbol with which the operation doesn't
+-- commute, and y is its first such symbol
 pub record IsBlocker (b : Book) (t : ℕ) (op : Op) (older : ℕ) (y : Symbol) : Type 0 where
   pub caller : ℕ
   pub serving : Serving

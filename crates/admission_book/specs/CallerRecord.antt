@@ -30,6 +30,7 @@ idle_record = record {
   delayed = false;
 }
 
+-- the record of the caller of this number, or an idle one where there is none
 abbrev pub record_at : List CallerRecord → ℕ → CallerRecord
 record_at rs c = slice_index_or rs c idle_record
 

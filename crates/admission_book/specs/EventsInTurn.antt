@@ -98,8 +98,8 @@ events_of t [] = []
 events_of t (e ∷ J) = cond (ticket_of e == t) (e ∷ events_of t J) (events_of t J)
 
 -- after its Begin: for each call at most one Delay and then its Done; then at most one Delay of the
--- next call; last its End. f is the dialogue from here on, and `noted` says whether the present call
--- has its Delay
+-- next call; last its End. f is the dialogue from here on, and `noted` says whether the present
+-- call has its Delay
 abbrev pub TellsOn : Dialogue → Bool → List Event → Type 0
 TellsOn f noted [] = Unit {0}
 TellsOn f noted (Done t op r ∷ K) = (f [] ≡ Calls op) × TellsOn (rest f (r ∷ [])) false K

@@ -1,4 +1,5 @@
--- The search for the least older open ticket that is against an operation.
+-- The search for the least older open ticket that is against an operation. Only this crate's own
+-- functions cite it.
 use Rattle.std.specs.Prelude.{◌≡◌, ℕ, ◌≤◌, ◌<◌, List, [], Option, Some, None, ◌⊎◌, slice_index_or}
 use Rattle.std.specs.List.{AllByRecursion}
 use Rattle.session_values.specs.declared.op.Op.{Op}
@@ -22,7 +23,8 @@ IsAgainst op None r = ⊥
 IsAgainst op (Some s) None = ⊥
 IsAgainst op (Some s) (Some b) = (s.ticket ≡ b.older) × IsFirstAgainst op s.foresight b.symbol
 
--- what was found stays where the record has nothing against the operation below it, and else the record's blocker takes its place
+-- what was found stays where the record has nothing against the operation below it, and else the
+-- record's blocker takes its place
 abbrev pub NextFound : ℕ → Op → Option Blocker → Option Serving → Option Blocker → Type 0
 NextFound t op found s r = ((r ≡ found) × IsPast (bound t found) op s)
     ⊎ ((bound t r < bound t found) × IsAgainst op s r)

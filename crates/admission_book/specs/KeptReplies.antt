@@ -1,4 +1,4 @@
--- The replies that are kept of tickets.
+-- The replies that are kept of tickets. Only this crate's own functions cite it.
 use Rattle.std.specs.Prelude.{List, [], ◌∷◌, Option, Some, None, Bool, cond}
 use Rattle.session_values.specs.declared.reply.Reply.{Reply}
 

@@ -27,9 +27,9 @@ pub record Grows (J K : List Event) : Type 0 where
   pub more : List Event
   pub is : K ≡ J ++ more
 
--- what each method of a book keeps, whatever else it changes: the script, that the book is lawful, that
--- what every begun ticket has done so far is what it does in the serial run, and the journal before as
--- the front of the journal after
+-- what each method of a book keeps, whatever else it changes: the script, that the book is lawful,
+-- that what every begun ticket has done so far is what it does in the serial run, and the journal
+-- before as the front of the journal after
 pub record StaysLawful (S : Type 0) (meaning : S → Meaning) (v w : BookView S) : Type 0 where
   pub script : w.script ≡ v.script
   pub lawful : Lawful (meaning w.script) w.book
@@ -47,6 +47,8 @@ IsOldestOpen None J = (u : ℕ) → IsOpen J u → ⊥
 IsOldestOpen (Some t) J = IsOpen J t × ((u : ℕ) → IsOpen J u → t ≤ u)
 
 -- ---- what the calls ask and leave. The ticket stands in the record of some caller
+-- caller c serves no ticket, and where one is left to begin, f may be its foresight and is covered
+-- by what it declares at its beginning
 pub record MayBeginNext (m : Meaning) (b : Book) (c : ℕ) (f : List Symbol) : Type 0 where
   pub caller : c < length b.records
   pub idle : record_of b c ≡ None
@@ -58,6 +60,8 @@ abbrev pub Begins : Meaning → Book → ℕ → List Symbol → Option ℕ → 
 Begins m b c f None d = (m.requests ≤ begun b.journal) × (d ≡ b)
 Begins m b c f (Some t) d = (t < m.requests) × (t ≡ begun b.journal) × (d ≡ after_begin b c f)
 
+-- ticket t has no operation in flight, its foresight covers f, and f may be the foresight of what
+-- is left of it
 pub record MayNarrow (m : Meaning) (b : Book) (t : ℕ) (f : List Symbol) : Type 0 where
   pub caller : ℕ
   pub serving : Serving
@@ -67,10 +71,12 @@ pub record MayNarrow (m : Meaning) (b : Book) (t : ℕ) (f : List Symbol) : Type
   pub covered : Covered f serving.foresight
   pub covers : IsForesight (rest (m.next t) (replies (entries b.journal t))) f
 
+-- book d is book b after ticket t narrows to f
 abbrev pub Narrowed : Book → ℕ → List Symbol → Book → Type 0
 Narrowed b t f d = (c : ℕ) (s : Serving) → record_of b c ≡ Some s → s.ticket ≡ t
     → d ≡ after_narrow b c s f
 
+-- ticket t has no operation in flight, op is the one that it calls, and its foresight matches op
 pub record MayAdmit (m : Meaning) (b : Book) (t : ℕ) (op : Op) : Type 0 where
   pub caller : ℕ
   pub serving : Serving
@@ -80,12 +86,15 @@ pub record MayAdmit (m : Meaning) (b : Book) (t : ℕ) (op : Op) : Type 0 where
   pub calls : now m b.journal t ≡ Calls op
   pub matches : Matches serving.foresight op
 
--- admitted where no older open ticket is against the operation, else delayed by the least one that is
+-- admitted where no older open ticket is against the operation, else delayed by the least one that
+-- is
 abbrev pub Admits : Book → ℕ → Op → Admission → Book → Type 0
 Admits b t op Admitted d = IsFree b t op × ((c : ℕ) (s : Serving) → record_of b c ≡ Some s
     → s.ticket ≡ t → d ≡ after_admit b c s op)
 Admits b t op (Delayed older y) d = IsBlocker b t op older y × (d ≡ after_delay b t op older y)
 
+-- ticket t has an operation in flight, r is its reply at the tables after the journal, and f may be
+-- the foresight after it: covered by the present one, and by what t declares right after it
 pub record MayDo (m : Meaning) (b : Book) (t : ℕ) (r : Value) (f : List Symbol) : Type 0 where
   pub caller : ℕ
   pub serving : Serving
@@ -104,10 +113,13 @@ pub record MayDo (m : Meaning) (b : Book) (t : ℕ) (r : Value) (f : List Symbol
     reply = r;
   } ∷ [])))
 
+-- book d is book b after the operation in flight of ticket t is done with the reply r, and t
+-- narrows to f
 abbrev pub DidIt : Book → ℕ → Value → List Symbol → Book → Type 0
 DidIt b t r f d = (c : ℕ) (s : Serving) (op : Op) → record_of b c ≡ Some s → s.ticket ≡ t
     → s.flight ≡ Some op → d ≡ after_done b c s op r f
 
+-- ticket t has no operation in flight, and r is what it answers
 pub record MayEnd (m : Meaning) (b : Book) (t : ℕ) (r : Reply) : Type 0 where
   pub caller : ℕ
   pub serving : Serving
@@ -116,6 +128,7 @@ pub record MayEnd (m : Meaning) (b : Book) (t : ℕ) (r : Reply) : Type 0 where
   pub idle : serving.flight ≡ None
   pub answers : now m b.journal t ≡ Answers r
 
+-- book d is book b after ticket t ends with the reply r
 abbrev pub HasEnded : Book → ℕ → Reply → Book → Type 0
 HasEnded b t r d = (c : ℕ) (s : Serving) → record_of b c ≡ Some s → s.ticket ≡ t
     → d ≡ after_end b c s r

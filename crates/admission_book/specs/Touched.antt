@@ -1,11 +1,12 @@
--- Which tables a list of symbols touches.
+-- Which tables a list of symbols touches. Only this crate's own functions cite it.
 use Rattle.std.specs.Prelude.{◌≡◌, ℕ, ◌+◌, ◌%◌, true, false, cond, slice_index_or}
 use Rattle.session_values.specs.declared.kind.Kind.{Kind}
 use Rattle.session_values.specs.Kinds.{is_read}
 use Rattle.symbolic_ops.specs.declared.symbol.Symbol.{Symbol}
 use Rattle.admission_book.specs.declared.touched_tables.TouchedTables.{TouchedTables}
 
--- the place of a table's mark: the remainder of its number by 8, where it is read, and 8 more where it is changed
+-- the place of a table's mark: the remainder of its number by 8, where it is read, and 8 more where
+-- it is changed
 abbrev pub mark_of : Kind → ℕ → ℕ
 mark_of kind table = table % 8 + cond (is_read kind) 0 8
 

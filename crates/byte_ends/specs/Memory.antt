@@ -11,7 +11,8 @@ use Rattle.byte_ends.specs.Ends.{raised}
 abbrev pub is_listed : List ℕ → ℕ → Bool
 is_listed numbers n = list_any (λ m. nat_eq m n) numbers
 
--- a source: the bytes to come, the most of a call, the calls that fail, the calls and the faults so far
+-- a source: the bytes to come, the most of a call, the calls that fail, the calls and the faults so
+-- far
 pub record SourceView : Type 0 where
   pub left : List ℕ
   pub piece : ℕ
@@ -32,7 +33,8 @@ after_read s (got.Bytes n) = record s { left = drop n s.left; calls = raised s.c
 after_read s got.End = record s { calls = raised s.calls }
 after_read s got.Failed = record s { calls = raised s.calls; faults = raised s.faults }
 
--- a sink: the bytes taken, its room, the most of a call, the calls that fail, the calls and the faults so far
+-- a sink: the bytes taken, its room, the most of a call, the calls that fail, the calls and the
+-- faults so far
 pub record SinkView : Type 0 where
   pub held : List ℕ
   pub room : ℕ
@@ -56,7 +58,8 @@ after_write s bytes (put.Took n) = record s {
 }
 after_write s bytes put.Failed = record s { calls = raised s.calls; faults = raised s.faults }
 
--- what a read of a sure source answers, by how much is left and how much fits: a count is at most the largest u32
+-- what a read of a sure source answers, by how much is left and how much fits: a count is at most
+-- the largest u32
 abbrev pub sure_answer : ℕ → ℕ → Got
 sure_answer left asked = if nat_eq left 0 then got.End
     else (got.Bytes (min (min left asked) (2 ^ 32 - 1)))

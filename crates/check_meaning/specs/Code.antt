@@ -21,7 +21,8 @@ pub record Test : Type 0 where
   pub left : Term
   pub right : Term
 
--- A block. Each `at` is a byte place; a point's number stands where the point is: behind an operation, at the start of either side of a choice, and behind a loop.
+-- A block. Each `at` is a byte place; a point's number stands where the point is: behind an
+-- operation, at the start of either side of a choice, and behind a loop.
 pub data Code : Type 0 where
   Finish : Code
   Move : (x : ℕ) (e : Term) (rest : Code) → Code
@@ -59,6 +60,7 @@ stmt_step (CheckedStmt-F.Answer es) rest = Quit (map expr_term es) rest
 abbrev pub stmt_code : CheckedStmt → Code → Code
 stmt_code = fold-CheckedStmt (Code → Code) stmt_step
 
+-- the plain tree of a block with these statements
 abbrev pub block_code : List CheckedStmt → Code
 block_code stmts = joined (map stmt_code stmts)
 

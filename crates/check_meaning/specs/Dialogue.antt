@@ -1,4 +1,5 @@
--- What a handler does, as a dialogue with the tables: it calls operations and is told their replies.
+-- What a handler does, as a dialogue with the tables: it calls operations and is told their
+-- replies.
 use Rattle.std.specs.Prelude.{ℕ, zero, suc, ◌+◌, ◌==◌, Bool, true, false, not, if◌then◌else◌, ◌&&◌, ℤ, pos, negsuc, ◌+ℤ◌, ◌-ℤ◌, ◌*ℤ◌, int_lt, int_le, List, [], ◌∷◌, ◌++◌, map, Option, Some, None, slice_index_or}
 use Rattle.session_values.specs.declared.value.Value.{Value}
 use Rattle.session_values.specs.declared.value.Value.TheVariants.{Nil, Num}
@@ -82,7 +83,9 @@ pub record Place : Type 0 where
   pub env : Env
   pub replied : Bool
 
--- how a part of a run ends, with the points that it passed: it calls an operation and has no reply to it, it answers, or it goes on with these values of the variables and these replies not yet used
+-- how a part of a run ends, with the points that it passed: it calls an operation and has no reply
+-- to it, it answers, or it goes on with these values of the variables and these replies not yet
+-- used
 pub data Outcome : Type 0 where
   Calls : (passed : List Place) (op : Op) → Outcome
   Answers : (passed : List Place) (values : List Value) → Outcome
@@ -142,6 +145,7 @@ next code env = λ replies. ended (run code env replies)
 
 -- ---- where a run stands
 
+-- the points that a part of a run passed, however it ends
 abbrev pub passed_by : Outcome → List Place
 passed_by (Calls passed op) = passed
 passed_by (Answers passed values) = passed

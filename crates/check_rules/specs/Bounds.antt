@@ -1,5 +1,5 @@
--- What a reader of a file's tree may rely on: how many arguments operations have and how many values replies, how deep
--- blocks nest, and how large numbers and places of names are.
+-- What a reader of a file's tree may rely on: how many arguments operations have and how many
+-- values replies, how deep blocks nest, and how large numbers and places of names are.
 use Rattle.std.specs.Prelude.{ℕ, ◌+◌, ◌<◌, ◌≤◌, ◌^◌, List, [], ◌∷◌, ◌++◌, length, map}
 use Rattle.std.specs.List.{AllByRecursion, flat_map}
 use Rattle.session_limits.specs.Limits.{max_depth}
@@ -13,7 +13,8 @@ use Rattle.syntax_trees.specs.declared.file.Handler.{Handler}
 use Rattle.syntax_trees.specs.declared.file.File.{File}
 use Rattle.syntax_trees.specs.Mentions.{Mention, a_name, a_symbol, a_number, AreBelow, file_mentions}
 
--- an operation with so many arguments behind its table; a reply with so many values; a statement with blocks of its own inside so many blocks
+-- an operation with so many arguments behind its table; a reply with so many values; a statement
+-- with blocks of its own inside so many blocks
 pub data Form : Type 0 where
   a_call : ℕ → Form
   a_reply : ℕ → Form
@@ -49,9 +50,12 @@ block_forms ss depth = forms_at depth (map stmt_forms ss)
 abbrev pub handler_forms : Handler → List Form
 handler_forms h = block_forms h.body 1
 
+-- the forms in all handlers of a file, in their order
 abbrev pub file_forms : File → List Form
 file_forms f = flat_map handler_forms f.handlers
 
+-- an operation has at most 2 arguments, a reply 1 to 4 values, and a statement with blocks of its
+-- own stands inside fewer than 16 blocks
 abbrev pub IsBoundedForm : Form → Type 0
 IsBoundedForm (a_call n) = n ≤ 2
 IsBoundedForm (a_reply n) = (1 ≤ n) × (n ≤ 4)
@@ -63,6 +67,7 @@ IsBoundedNumber (a_name place) = Unit {0}
 IsBoundedNumber (a_symbol place) = Unit {0}
 IsBoundedNumber (a_number z) = IsValue (Num z)
 
+-- a file's tree keeps the bounds on its forms, its numbers, and the places of its names and symbols
 pub record KeepsBounds (f : File) : Type 0 where
   pub forms : AllByRecursion IsBoundedForm (file_forms f)
   pub numbers : AllByRecursion IsBoundedNumber (file_mentions f)

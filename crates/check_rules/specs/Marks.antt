@@ -1,4 +1,5 @@
--- What a rule can be broken at: the names, the operations and the numbers of turns of a text, in its order.
+-- What a rule can be broken at: the names, the operations and the numbers of turns of a text, in
+-- its order.
 use Rattle.std.specs.Prelude.{ℕ, List, [], ◌∷◌, ◌++◌, length, map}
 use Rattle.std.specs.List.{flat_map}
 use Rattle.session_values.specs.declared.kind.Kind.{Kind}
@@ -80,7 +81,8 @@ right_marks (right.Result c) = call_marks c
 abbrev pub cond_marks : Cond → List Mark
 cond_marks c = expr_marks c.left ++ expr_marks c.right
 
--- A variable of a `let` is visible behind its statement to the end of its block, a repeat's variable in its block.
+-- A variable of a `let` is visible behind its statement to the end of its block, a repeat's
+-- variable in its block.
 abbrev pub marks : Source → List Mark
 marks Finish = []
 marks (Let n at r rest) = Declared n at ∷ (right_marks r ++ seeing (n ∷ []) (marks rest))
@@ -102,6 +104,7 @@ abbrev pub handler_marks : Handler → List Mark
 handler_marks h = param_marks h.params ++ seeing (param_names h.params)
     (marks (block_source h.body))
 
+-- the declarations of the tables, in their order
 abbrev pub table_marks : List TableDecl → List Mark
 table_marks tables = map (λ (t : TableDecl). Declared t.name t.at) tables
 

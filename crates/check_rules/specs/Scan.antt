@@ -1,4 +1,5 @@
--- The first fault of a text as a walk finds it that keeps the names declared so far, and those visible outside the text.
+-- The first fault of a text as a walk finds it that keeps the names declared so far, and those
+-- visible outside the text.
 use Rattle.std.specs.Prelude.{◌≡◌, ◌≢◌, ℕ, ◌==◌, nat_lt, Bool, true, false, ◌||◌, if◌then◌else◌, List, [], ◌∷◌, ◌++◌, length, Option, Some, None, Result, MatchResult}
 use Rattle.std.specs.List.{list_any}
 use Rattle.session_limits.specs.Limits.{max_handlers, max_tables, max_turns, max_variables}
@@ -98,6 +99,7 @@ scan_handlers tables earlier (h ∷ hs) =
     (or_else (scan of_variables tables [] [] (handler_marks h))
     (scan_handlers tables (earlier ++ h.name ∷ []) hs))
 
+-- the first fault that the walk finds in a file: of its tables, or else of its handlers
 abbrev pub file_fault : File → Fault
 file_fault f = or_else (scan of_tables [] [] [] (table_marks f.tables))
     (scan_handlers f.tables [] f.handlers)

@@ -1,4 +1,5 @@
--- Which operations commute, told by kinds, tables, keys and values. Each rule is over whole operations.
+-- Which operations commute, told by kinds, tables, keys and values. Each rule is over whole
+-- operations. Only this crate's own functions and those of `range_tables` cite it.
 use Rattle.std.specs.Prelude.{pos, Bool, true, false, not, ◌&&◌, ◌||◌, ◌==◌}
 use Rattle.session_values.specs.declared.op.Op.{Op}
 use Rattle.session_values.specs.declared.kind.Kind.{Kind}
@@ -30,7 +31,9 @@ is_number (Sym p) = false
 abbrev pub is_zero : Value → Bool
 is_zero v = value_eq (Num (pos 0)) v
 
--- of two kinds, each with whether its value is a number and whether it is 0: both are bumps, or one is a bump by no number, or one is a put and the other a bump, where the bump is by 0 or what is put is no number
+-- of two kinds, each with whether its value is a number and whether it is 0: both are bumps, or one
+-- is a bump by no number, or one is a put and the other a bump, where the bump is by 0 or what is
+-- put is no number
 abbrev pub add_up : Kind → Bool → Bool → Kind → Bool → Bool → Bool
 add_up x number_x zero_x y number_y zero_y =
     (is_bump x && is_bump y)
@@ -44,7 +47,8 @@ sums a b = add_up a.kind (is_number a.value) (is_zero a.value) b.kind (is_number
     (is_zero b.value)
 
 -- ---- the rule
--- the operations are of different containers, or change nothing, or have different keys, or are one plain change, or add up
+-- the operations are of different containers, or change nothing, or have different keys, or are one
+-- plain change, or add up
 abbrev pub commutes : Op → Op → Bool
 commutes a b =
     not (a.table == b.table)
@@ -78,7 +82,8 @@ abbrev pub sums_symbol : Op → Symbol → Bool
 sums_symbol a s = add_up a.kind (is_number a.value) (is_zero a.value) s.kind (may_be_number s.value)
     (is_same (Num (pos 0)) s.value)
 
--- the symbol is of another container, or both change nothing, or the keys are known to differ, or both are one plain change whatever the key, or they add up whatever the key
+-- the symbol is of another container, or both change nothing, or the keys are known to differ, or
+-- both are one plain change whatever the key, or they add up whatever the key
 abbrev pub commutes_symbol : Op → Symbol → Bool
 commutes_symbol a s =
     not (a.table == s.table)

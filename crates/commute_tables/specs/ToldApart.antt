@@ -7,7 +7,8 @@ use Rattle.session_values.specs.Commuting.{Swaps}
 use Rattle.session_values.specs.Tables.{Tables, Fits, AreValues, kind_of}
 use Rattle.session_values.specs.Values.{IsValue}
 
--- tables of these kinds, whose values a program can hold if it can hold the keys, at which the two orders of a and b can be told apart
+-- tables of these kinds, whose values a program can hold if it can hold the keys, at which the two
+-- orders of a and b can be told apart
 pub record ToldApart (shape : List TableKind) (a b : Op) : Type 0 where
   pub tables : Tables
   pub kinds : map kind_of tables ≡ shape

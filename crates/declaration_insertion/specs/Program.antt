@@ -12,7 +12,8 @@ pub record ProgramView : Type 0 where
   pub file : File
   pub lists : List (List (List Symbol))
 
--- the file is accepted and keeps its bounds, and each point has the list of the operations that may still come
+-- the file is accepted and keeps its bounds, and each point has the list of the operations that may
+-- still come
 pub record IsProgram (p : ProgramView) : Type 0 where
   pub accepted : IsAccepted p.file
   pub bounds : KeepsBounds p.file

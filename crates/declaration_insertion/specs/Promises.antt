@@ -19,6 +19,7 @@ arg_at env (Known v) = Known v
 arg_at env (Var x) = Known (env x)
 arg_at env Any = Any
 
+-- a symbol with each variable known to be its value
 abbrev pub symbol_at : Env → Symbol → Symbol
 symbol_at env s = record {
   kind = s.kind;
@@ -31,6 +32,7 @@ symbol_at env s = record {
 abbrev pub Declarations : Type 0
 Declarations = ℕ → List Symbol
 
+-- the list of each point by its number, and an empty list behind the last
 abbrev pub listed : List (List Symbol) → Declarations
 listed lists p = slice_index_or lists p []
 
@@ -44,13 +46,15 @@ IsCoveredChain declared at [] = Unit {0}
 IsCoveredChain declared at (later ∷ passed) = Covered (list_at declared later)
     (list_at declared at) × IsCoveredChain declared later passed
 
--- whatever replies come that a program can hold, the list has a symbol for the operation that is called after them
+-- whatever replies come that a program can hold, the list has a symbol for the operation that is
+-- called after them
 abbrev pub CoversRest : Code → Env → List Value → List Symbol → Type 0
 CoversRest code env replies list =
     (more : List Value) (op : Op) → AllByRecursion IsValue more
     → next code env (replies ++ more) ≡ NextCalls op → Matches list op
 
--- What the declarations promise of each run from the handler's entry, with these values of the parameters.
+-- What the declarations promise of each run from the handler's entry, with these values of the
+-- parameters.
 pub record ArePromised (code : Code) (declared : Declarations) (env : Env) : Type 0 where
   -- each has at most 256 symbols, and no variable
   pub few : (at : Place) → length (list_at declared at) ≤ max_symbols

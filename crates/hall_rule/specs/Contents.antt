@@ -8,7 +8,8 @@ use Rattle.session_journal.specs.Script.{Meaning, room}
 use Rattle.shard_tables.specs.Parts.{part}
 use Rattle.admission_book.specs.Book.{Book, record_of}
 
--- of turn 0 the book with its script, of every other turn what a shard holds and for how many keys it has room
+-- of turn 0 the book with its script, of every other turn what a shard holds and for how many keys
+-- it has room
 pub data Content (S : Type 0) : Type 0 where
   Register : S → Book → Content S
   Shard : Container → ℕ → Content S
@@ -34,7 +35,8 @@ abbrev pub share : Meaning → ℕ → List Event → ℕ → Container
 share m turns J j = part (shards_in m turns) (j % shards_in m turns)
     (table (tables_after m J) (j / shards_in m turns))
 
--- for how many keys the shard behind turn j + 1 needs room: those that it opens with, and those that the script may add to its table
+-- for how many keys the shard behind turn j + 1 needs room: those that it opens with, and those
+-- that the script may add to its table
 abbrev pub needed : Meaning → ℕ → ℕ → ℕ
 needed m turns j = size_of (share m turns [] j) + room m (j / shards_in m turns)
 
@@ -51,7 +53,8 @@ pub record IsShard {S : Type 0} (m : Meaning) (turns : ℕ) (J : List Event) (j 
 abbrev pub IsOfOther : List Event → ℕ → Event → Type 0
 IsOfOther J c e = (d : ℕ) × (owner J (ticket_of e) ≡ Some d) × (d ≢ c)
 
--- the book since a caller gave it back: the caller's record is as it was, and the events since then are of tickets of other callers
+-- the book since a caller gave it back: the caller's record is as it was, and the events since then
+-- are of tickets of other callers
 pub record IsSince (noted book : Book) (c : ℕ) : Type 0 where
   pub own : record_of noted c ≡ record_of book c
   pub since : List Event

@@ -29,7 +29,8 @@ pub record IsOut {S : Type 0} (m : Meaning) (script : S) (c : ℕ) (x : Content 
   pub no_ticket : record_of book c ≡ None
   pub all : m.requests ≤ begun book.journal
 
--- all tickets have ended, and the shards are the parts of the tables after serving them one at a time
+-- all tickets have ended, and the shards are the parts of the tables after serving them one at a
+-- time
 pub record AllEnded {S : Type 0} (m : Meaning) (script : S) (contents : List (Content S))
     (turns : ℕ) : Type 0 where
   pub book : Book

@@ -211,6 +211,8 @@ module _ {S : Type 0} (meaning : S → Meaning) (contents notes : List (Content 
     ];
   }
 
+-- where the rule holds and a caller gives the book back as it may, the rule holds of the contents
+-- with the new ones in their places, and of the notes with the book as the caller's
 pub tie_kept : {S : Type 0} (meaning : S → Meaning) (contents notes : List (Content S))
     (caller : ℕ) (old new : ℕ → Option (Content S)) (book : Content S)
     → Tied meaning contents notes → FitsTurns contents old → SameTurns old new → new 0 ≡ Some book

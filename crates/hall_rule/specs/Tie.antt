@@ -9,7 +9,10 @@ use Rattle.admission_book.specs.Book.{Book, record_of}
 use Rattle.admission_book.specs.Lawful.{Lawful}
 use Rattle.hall_rule.specs.Contents.{Content, Register, Shard, IsShard, IsNote, share}
 
--- the rule, over the counted contents of all turns and the notes of all callers: the book is lawful and has a record for each caller, every shard is its part of the tables after the book's journal with room for all that may come, and each caller's note is the book as it was, but for what other callers did since
+-- the rule, over the counted contents of all turns and the notes of all callers: the book is lawful
+-- and has a record for each caller, every shard is its part of the tables after the book's journal
+-- with room for all that may come, and each caller's note is the book as it was, but for what other
+-- callers did since
 pub record Tied {S : Type 0} (meaning : S → Meaning)
     (contents notes : List (Content S)) : Type 0 where
   pub script : S
@@ -21,7 +24,10 @@ pub record Tied {S : Type 0} (meaning : S → Meaning)
       → IsShard (meaning script) (length contents) book.journal j x
   pub noted : (c : ℕ) (x : Content S) → slice_get notes c ≡ Some x → IsNote script book c x
 
--- what one giving back of the book by a caller may change, of the contents of the turns that it holds: the book stays lawful, other callers' records stay, and the journal grows by events of the caller's tickets; each shard that is held is its part of the tables after the new journal, and the parts of all other shards stay
+-- what one giving back of the book by a caller may change, of the contents of the turns that it
+-- holds: the book stays lawful, other callers' records stay, and the journal grows by events of the
+-- caller's tickets; each shard that is held is its part of the tables after the new journal, and
+-- the parts of all other shards stay
 pub record Moves {S : Type 0} (meaning : S → Meaning) (turns caller : ℕ)
     (old new : ℕ → Option (Content S)) : Type 0 where
   pub script : S

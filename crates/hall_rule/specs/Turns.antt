@@ -22,7 +22,9 @@ ChangedBy op (Some x) None = ⊥
 ChangedBy op (Some x) (Some y) = (c : Container) × (room : ℕ) × (x ≡ Shard c room)
     × (y ≡ Shard (after_on c op) room)
 
--- the operation was done on its shards: its turns and no others are held, and each has in hand what the operation makes of its counted content; v is its reply after every journal whose shards these are
+-- the operation was done on its shards: its turns and no others are held, and each has in hand what
+-- the operation makes of its counted content; v is its reply after every journal whose shards these
+-- are
 pub record WasDone {S : Type 0} (m : Meaning) (turns : ℕ) (op : Op) (v : Value)
     (held hands : ℕ → Option (Content S)) : Type 0 where
   pub no_book : held 0 ≡ None

@@ -17,6 +17,7 @@ abbrev pub IsServing : Stage → Type 0
 IsServing (Serving t) = Unit {0}
 IsServing _ = ⊥
 
+-- the ticket that the caller serves with no operation in flight, and 0 at every other stage
 abbrev pub ticket_of : Stage → ℕ
 ticket_of (Serving t) = t
 ticket_of _ = 0

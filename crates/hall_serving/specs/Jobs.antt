@@ -21,6 +21,7 @@ callers_of js = map (λ j. j.caller) js
 abbrev pub IsReady : ScratchView → Type 0
 IsReady s = s.ready ≡ true
 
+-- the job's scratch has its room
 abbrev pub HasRoom : {S : Type 0} → Job S → Type 0
 HasRoom j = j.scratch.ready ≡ true
 

@@ -7,10 +7,10 @@ const STEP: u32 = 32;
 
 const MOST: u32 = 2_000;
 
-/// The pause of a caller before it begins its next ticket. It is twice as long, and a little longer,
-/// after each ticket that had to wait, and half as long after each that had not. A caller without an
-/// open ticket delays nobody, so where tickets are in each other's way, one is served after the
-/// other, and elsewhere nobody pauses.
+/// The pause of a caller before it begins its next ticket. It is twice as long, and a little
+/// longer, after each ticket that had to wait, and half as long after each that had not. A caller
+/// without an open ticket delays nobody, so where tickets are in each other's way, one is served
+/// after the other, and elsewhere nobody pauses.
 #[derive(Debug, Clone, Copy)]
 pub(crate) struct Pause {
     yields: u32,

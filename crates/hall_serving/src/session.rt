@@ -83,8 +83,8 @@ pub fn open_session<S: Script + Drop>(
 }
 
 /// Serves all tickets of an open session by its callers, in as many threads where they can be made,
-/// and else one after another, and closes its hall. `plan` is the script again, by which each ticket
-/// is served.
+/// and else one after another, and closes its hall. `plan` is the script again, by which each
+/// ticket is served.
 pub fn serve_session<R: Threads + Wait + Sync, S: Serves + Drop + Send + Sync, G: Gate + Sync>(
     rt: &R,
     session: OpenSession<S>,

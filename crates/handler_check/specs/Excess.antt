@@ -1,4 +1,5 @@
--- The first handler that may do too much, as a walk over resolved handlers finds it.
+-- The first handler that may do too much, as a walk over resolved handlers finds it. Only this
+-- crate's own functions cite it.
 use Rattle.std.specs.Prelude.{◌≡◌, ℕ, nat_lt, List, [], ◌∷◌, None}
 use Rattle.std.specs.List.{AllZip}
 use Rattle.session_limits.specs.Limits.{max_calls, max_work}

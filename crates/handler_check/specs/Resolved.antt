@@ -1,4 +1,5 @@
--- The resolved handlers of a file: each name is the number of its declaration, and points are counted in the order of the text.
+-- The resolved handlers of a file: each name is the number of its declaration, and points are
+-- counted in the order of the text.
 use Rattle.std.specs.Prelude.{◌≡◌, ℕ, suc, ◌+◌, ◌<◌, ◌==◌, if◌then◌else◌, List, [], ◌∷◌, length, map, slice_get, Option, Some, None}
 use Rattle.std.specs.List.{Contains}
 use Rattle.session_values.specs.declared.value.Value.TheVariants.{Nil}
@@ -116,6 +117,7 @@ code_of tables variables (Answer es rest) p = code.Quit (map (term_of variables)
 abbrev pub shape_of : File → List TableKind
 shape_of f = map (λ (t : TableDecl). t.kind) f.tables
 
+-- the names of the tables, by their numbers
 abbrev pub table_names : File → List ℕ
 table_names f = map (λ (t : TableDecl). t.name) f.tables
 
@@ -154,7 +156,8 @@ variables_at f h = variables_in (slice_get f.handlers h)
 
 -- ---- what a name stands for
 
--- x is the number of the one variable of this name, which is declared among the marks before, and visible
+-- x is the number of the one variable of this name, which is declared among the marks before, and
+-- visible
 pub record StandsFor (h : Handler) (before : List Mark) (seen : List ℕ) (name x : ℕ) : Type 0 where
   pub named : slice_get (variables_of h) x ≡ Some name
   pub only : (y : ℕ) → slice_get (variables_of h) y ≡ Some name → y ≡ x

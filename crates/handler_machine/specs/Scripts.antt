@@ -21,8 +21,8 @@ pub record ScriptsView : Type 0 where
 abbrev pub declared_by : ProgramView → Request → Place → List Symbol
 declared_by p r at = list_at (declared_at p r.handler) at
 
--- Each request is a ticket. What it declares is what stands at its entry, at the point that its last
--- reply led to, and at the last point that it passed.
+-- Each request is a ticket. What it declares is what stands at its entry, at the point that its
+-- last reply led to, and at the last point that it passed.
 abbrev pub meaning : ScriptsView → Meaning
 meaning s = record {
   shape = shape_of s.program.file;

@@ -11,8 +11,9 @@ use Rattle.syntax_printer.specs.Canonical.{canonical_text}
 use Rattle.check_rules.specs.FirstFault.{PlacesRise}
 use Rattle.handler_syntax.specs.SameTree.{SameTree}
 
--- Some words within the limits have this tree. So its canonical text is within the limits too: operations have at most
--- two arguments, replies 1 to 4 values, and numbers, blocks, parentheses and operator signs are within theirs.
+-- Some words within the limits have this tree. So its canonical text is within the limits too:
+-- operations have at most two arguments, replies 1 to 4 values, and numbers, blocks, parentheses
+-- and operator signs are within theirs.
 abbrev pub KeepsLimits : File → Type 0
 KeepsLimits tree = (ws : List Word) × IsFileWithin ws tree
 
@@ -33,6 +34,6 @@ IsReadAs names tree text = (g : File) × IsSourceOf names text g × SameTree tre
 pub record Printed (names : List (List ℕ)) (file : File) (written : List ℕ) : Type 0 where
   -- It is the canonical text.
   pub text : written ≡ canonical_text names file
-  -- Where names and symbols have texts that the language can write, the text is read as the same tree, places aside,
-  -- with the same names, if it is no longer than a source may be.
+  -- Where names and symbols have texts that the language can write, the text is read as the same
+  -- tree, places aside, with the same names, if it is no longer than a source may be.
   pub back : IsNamedFile names file → IsReadAs names file written

@@ -22,12 +22,14 @@ is_sum None = false
 is_sum (Some calc.Times) = false
 is_sum (Some c) = true
 
--- the left operand of a product stands in parentheses where it is a sum or a difference, that of a sum or a difference never
+-- the left operand of a product stands in parentheses where it is a sum or a difference, that of a
+-- sum or a difference never
 abbrev pub is_left_grouped : Calc → Option Calc → Bool
 is_left_grouped calc.Times operand = is_sum operand
 is_left_grouped c operand = false
 
--- the right operand of a product does where it is a sum, a difference or a product, that of a sum or a difference where it is a sum or a difference
+-- the right operand of a product does where it is a sum, a difference or a product, that of a sum
+-- or a difference where it is a sum or a difference
 abbrev pub is_right_grouped : Calc → Option Calc → Bool
 is_right_grouped calc.Times operand = is_some operand
 is_right_grouped c operand = is_sum operand

@@ -1,4 +1,4 @@
--- Values as numbers.
+-- Values as numbers. Only this crate's own functions cite it.
 use Rattle.std.specs.Prelude.{ℤ, Option, Some, None}
 use Rattle.session_values.specs.declared.value.Value.{Value}
 use Rattle.session_values.specs.declared.value.Value.TheVariants.{Nil, Num, Sym}

@@ -8,5 +8,6 @@ use Rattle.check_meaning.specs.Within.{CallWithin, CodeWithin}
 abbrev pub IsCallWithin : ℕ → CheckedCall → Type 0
 IsCallWithin n c = (shape : List TableKind) × CallWithin shape n c
 
+-- the block is within the first n variables, and within tables of some kinds
 abbrev pub IsRunnable : ℕ → Code → Type 0
 IsRunnable n code = (shape : List TableKind) × CodeWithin shape n code

@@ -1,4 +1,5 @@
--- The same sets of symbols, made from the end of a block to its start.
+-- The same sets of symbols, made from the end of a block to its start. Only this crate's own
+-- functions cite it.
 use Rattle.std.specs.Prelude.{◌≡◌, ℕ, zero, suc, Option, Some, None, ◌⊎◌}
 use Rattle.check_meaning.specs.declared.tree.CheckedCall.{CheckedCall}
 use Rattle.check_meaning.specs.declared.tree.CheckedStmt.{CheckedStmt}

@@ -45,7 +45,8 @@ IsShort code p = (list : List Symbol) × IsLaterList code p list × (length list
 abbrev pub IsBefore : ℕ → ℕ → ℕ → ℕ → Type 0
 IsBefore h p g q = (h < g) ⊎ ((h ≡ g) × (p < q))
 
--- the first point in the text that has more than 256 symbols, by its place and the number of its symbols
+-- the first point in the text that has more than 256 symbols, by its place and the number of its
+-- symbols
 pub record IsExcess (f : File) (at count : ℕ) : Type 0 where
   pub handler : ℕ
   pub point : ℕ

@@ -14,7 +14,8 @@ Are list set = (s : Symbol) → Contains list s ↔ set s
 abbrev pub Lists : List Symbol → Symbols → Type 0
 Lists list set = IsStrictlySortedBy symbol_cmp list × Are list set
 
--- what a search in order found: that the symbol is there, or the place between the lesser ones and the greater ones
+-- what a search in order found: that the symbol is there, or the place between the lesser ones and
+-- the greater ones
 abbrev pub IsSearched : List Symbol → Symbol → Result ℕ ℕ → Type 0
 IsSearched list s (Ok i) = Contains list s
 IsSearched list s (Err i) = (i ≤ length list)

@@ -9,7 +9,8 @@ use Rattle.syntax_trees.specs.declared.file.File.{File}
 use Rattle.check_meaning.specs.Code.{points}
 use Rattle.handler_check.specs.Resolved.{code_at, shape_of, variables_at}
 
--- the symbol mentions none but the first so many variables, and its table is there and of its operation's kind
+-- the symbol mentions none but the first so many variables, and its table is there and of its
+-- operation's kind
 pub record SpeaksOf (shape : List TableKind) (variables : ℕ) (s : Symbol) : Type 0 where
   pub within : IsWithin variables s
   pub table : slice_get shape s.table ≡ Some (home s.kind)

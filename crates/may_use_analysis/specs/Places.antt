@@ -2,7 +2,8 @@
 use Rattle.std.specs.Prelude.{ℕ, List, [], ◌∷◌, ◌++◌}
 use Rattle.check_meaning.specs.Code.{Code, Finish, Move, Ask, Fork, Loop, Quit}
 
--- the places of the points of a block, in the order of the text: of an operation, of a choice for the start of either side, of a loop
+-- the places of the points of a block, in the order of the text: of an operation, of a choice for
+-- the start of either side, of a loop
 abbrev pub places : Code → List ℕ
 places Finish = []
 places (Move x e rest) = places rest

@@ -1,4 +1,5 @@
--- What a walk from the end of a block to its start keeps of the lists of its points.
+-- What a walk from the end of a block to its start keeps of the lists of its points. Only this
+-- crate's own functions cite it.
 use Rattle.std.specs.Prelude.{◌≡◌, List, [], ◌∷◌, ◌++◌}
 use Rattle.check_meaning.specs.declared.tree.CheckedStmt.{CheckedStmt}
 use Rattle.check_meaning.specs.Code.{Code, Finish, Move, Ask, Fork, Loop, Quit, stmt_code}

@@ -1,4 +1,4 @@
--- The stores that the program holds, as steps.
+-- The stores that the program holds, as steps. Only this crate's own functions cite it.
 use Rattle.may_use_analysis.specs.declared.stores.Store.{Store}
 use Rattle.may_use_analysis.specs.declared.stores.Store.TheVariants.{Copy, Constant, Other}
 use Rattle.may_use_analysis.specs.Steps as steps

@@ -1,4 +1,5 @@
--- Trails: the ways through a handler, whatever its conditions say, and the symbols of the operations on them.
+-- Trails: the ways through a handler, whatever its conditions say, and the symbols of the
+-- operations on them.
 use Rattle.std.specs.Prelude.{◌≡◌, ℕ, zero, suc, List, [], ◌∷◌, ◌++◌, Option, Some, None, ◌⊎◌}
 use Rattle.symbolic_ops.specs.declared.symbol.Symbol.{Symbol}
 use Rattle.check_meaning.specs.declared.tree.CheckedCall.{CheckedCall}
@@ -18,7 +19,8 @@ abbrev pub Replied : Option ℕ → Trails → Trails
 Replied None after = after
 Replied (Some x) after = Begins (Other x) after
 
--- this many turns of a loop, each with the store of the loop's variable first, and then one of these trails
+-- this many turns of a loop, each with the store of the loop's variable first, and then one of
+-- these trails
 abbrev pub Turns : ℕ → (Trails → Trails) → ℕ → Trails → Trails
 Turns x body zero after = after
 Turns x body (suc n) after = Begins (Other x) (body (Turns x body n after))

@@ -1,4 +1,5 @@
--- The variables that symbols mention, and code that changes none of them.
+-- The variables that symbols mention, and code that changes none of them. Only this crate's own
+-- functions cite it.
 use Rattle.std.specs.Prelude.{◌≡◌, ℕ, ◌≤◌, ◌⊎◌, List, Contains}
 use Rattle.std.specs.Int.{bit_at}
 use Rattle.symbolic_ops.specs.declared.arg.Arg.{Arg}

@@ -1,4 +1,5 @@
--- Lists at the heads of loops that are kept from an earlier walk, so that the next one begins with them.
+-- Lists at the heads of loops that are kept from an earlier walk, so that the next one begins with
+-- them. Only this crate's own functions cite it.
 use Rattle.std.specs.Prelude.{◌≡◌, ◌≢◌, ℕ, ◌<◌, ◌≤◌, ◌⊎◌, List, [], Contains, slice_index_or}
 use Rattle.symbolic_ops.specs.declared.symbol.Symbol.{Symbol}
 use Rattle.check_meaning.specs.Code.{Code, Finish, Move, Ask, Fork, Loop, Quit}
@@ -9,7 +10,8 @@ use Rattle.may_use_analysis.specs.Trails.{Symbols}
 abbrev pub HeadAt : List (List Symbol) → ℕ → Symbols
 HeadAt heads p = Contains (slice_index_or heads p [])
 
--- the kept list of each loop lies within the set at its head, and those of the loops inside it are kept from a walk that began with it or with less
+-- the kept list of each loop lies within the set at its head, and those of the loops inside it are
+-- kept from a walk that began with it or with less
 abbrev pub AreWarm : List (List Symbol) → Code → Symbols → Type 0
 AreWarm heads Finish after = Unit {0}
 AreWarm heads (Move x e rest) after = AreWarm heads rest after

@@ -61,6 +61,7 @@ pub record IndexView : Type 0 where
   pub bits : ℕ
   pub slots : List ℕ
 
+-- how many slots an index has
 abbrev pub slot_count : IndexView → ℕ
 slot_count index = 2 ^ index.bits
 

@@ -19,7 +19,8 @@ pub record IsSerial (s : Session) (all : List Entry) (t : ℕ) (e : EndedTicket)
   pub entries : slice_range all e.from e.until ≡ (serial s t).entries
   pub answer : (serial s t).answer ≡ Some e.reply
 
--- an operation that waits is the one that the ticket calls, and its reply that of the tables after the entries
+-- an operation that waits is the one that the ticket calls, and its reply that of the tables after
+-- the entries
 abbrev pub Waits : Meaning → DeskView → Option Entry → Type 0
 Waits m d None = Unit {0}
 Waits m d (Some e) = (next_of m d ≡ Calls e.op) × (reply (tables_at m d) e.op ≡ e.reply)
@@ -48,6 +49,8 @@ abbrev pub HasRoom : ℕ → ℕ → Option Entry → Type 0
 HasRoom count room None = Unit {0}
 HasRoom count room (Some e) = count < room
 
+-- each ended ticket is as in the serial run, an open one so far too, and the tables are those after
+-- them; there is room for any foresight, for all Replies, and for the entry of what waits
 pub record Keeps (m : Meaning) (d : DeskView) (tables : Tables) (symbol_room : ℕ) (all : List Entry)
     (entry_room first : ℕ) (ended : List EndedTicket) (reply_room : ℕ) : Type 0 where
   pub script : IsScript m

@@ -33,10 +33,12 @@ new_desk m = desk_of m.requests [] [] None true
 abbrev pub at_beginning : Meaning → ℕ → DeskView
 at_beginning m t = desk_of t [] (m.entry t) None false
 
--- how many tickets have ended: those before the desk's, and that one where it has ended; none where the desk is at no ticket
+-- how many tickets have ended: those before the desk's, and that one where it has ended; none where
+-- the desk is at no ticket
 abbrev pub ended_count : Meaning → DeskView → ℕ
 ended_count m d = cond (nat_lt d.ticket m.requests) (d.ticket + cond d.ended 1 0) 0
 
--- the tables after the entries so far: those of the serial run before the desk's ticket, after its entries
+-- the tables after the entries so far: those of the serial run before the desk's ticket, after its
+-- entries
 abbrev pub tables_at : Meaning → DeskView → Tables
 tables_at m d = run (tables_before (session_of m) d.ticket) d.entries

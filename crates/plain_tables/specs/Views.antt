@@ -1,4 +1,4 @@
--- What a kept map and a kept set stand for.
+-- What a kept map and a kept set stand for. Only this crate's own functions cite it.
 use Rattle.std.specs.Coded.{Coded}
 use Rattle.std.specs.FinMap as map
 use Rattle.std.specs.FinSet as set

@@ -96,5 +96,6 @@ rows_of text = rows 1 (lines text)
 abbrev pub names_of : Text → List Text
 names_of text = names_behind [] (rows_of text)
 
+-- the first fault of a text of lines, if it has one
 abbrev pub text_fault : Text → Option RangeRefusal
 text_fault text = first_fault (names_of text) 0 [] (rows_of text)

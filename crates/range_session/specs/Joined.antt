@@ -1,4 +1,5 @@
--- The symbols of a hold, while some parts are read and some are left.
+-- The symbols of a hold, while some parts are read and some are left. Only this crate's own
+-- functions cite it.
 use Rattle.std.specs.Prelude.{List, ◌++◌, Option, Some, None, Result, Ok, Err}
 use Rattle.range_tables.specs.declared.range_symbol.RangeSymbol.{RangeSymbol}
 use Rattle.range_session.specs.declared.step.Flaw.{Flaw}
@@ -9,7 +10,8 @@ abbrev pub flaw_with : Option Flaw → Flaw → Flaw
 flaw_with None g = g
 flaw_with (Some f) g = sooner f g
 
--- the outcome where these symbols were found, and this flaw, and the parts that are left have this outcome
+-- the outcome where these symbols were found, and this flaw, and the parts that are left have this
+-- outcome
 abbrev pub joined : List RangeSymbol → Option Flaw → Result (List RangeSymbol) Flaw
     → Result (List RangeSymbol) Flaw
 joined front None (Ok more) = Ok (front ++ more)

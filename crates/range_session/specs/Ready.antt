@@ -1,4 +1,4 @@
--- Symbols and steps that the one map can take.
+-- Symbols and steps that the one map can take. Only this crate's own functions cite it.
 use Rattle.std.specs.Prelude.{◌≡◌, true, List, Option, Some, None}
 use Rattle.std.specs.List.{AllByRecursion}
 use Rattle.session_values.specs.declared.kind.TableKind.TheVariants.{Map}

@@ -1,4 +1,5 @@
--- Which operations commute, told by kinds, tables, keys, ranges and values.
+-- Which operations commute, told by kinds, tables, keys, ranges and values. Only this crate's own
+-- functions cite it.
 use Rattle.std.specs.Prelude.{ℕ, ℤ, Bool, true, false, not, ◌&&◌, ◌||◌, ◌==◌, cond, int_le, nat_lt}
 use Rattle.session_values.specs.declared.kind.Kind.{Kind}
 use Rattle.session_values.specs.declared.value.Value.{Value}
@@ -15,11 +16,13 @@ use Rattle.range_tables.specs.declared.range_symbol.RangeSymbol.{RangeSymbol}
 use Rattle.range_tables.specs.declared.range_symbol.RangeSymbol.TheVariants.{Plain as PlainSymbol, Span, Within}
 use Rattle.range_tables.specs.Ranges.{is_between}
 
--- an operation of this kind, whose value is a number or isn't, changes nothing: it only reads, or is a bump by no number
+-- an operation of this kind, whose value is a number or isn't, changes nothing: it only reads, or
+-- is a bump by no number
 abbrev pub changes_nothing : Kind → Bool → Bool
 changes_nothing kind number = is_read kind || (is_bump kind && not number)
 
--- an operation and a count: of different containers, or the operation changes nothing, or its key isn't counted
+-- an operation and a count: of different containers, or the operation changes nothing, or its key
+-- isn't counted
 abbrev pub commutes_count : Op → Bool → ℤ → ℤ → Bool
 commutes_count op same low high =
     not same || not (is_on_map op.kind) || changes_nothing op.kind (is_number op.value)

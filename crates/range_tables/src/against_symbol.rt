@@ -209,8 +209,8 @@ fn test(a: &RangeOp, s: &RangeSymbol) -> bool
     }
 }
 
-/// Whether the operation commutes with each one that the symbol stands for. A symbol that stands for
-/// none, as a span whose `low` is above its `high`, commutes with all.
+/// Whether the operation commutes with each one that the symbol stands for. A symbol that stands
+/// for none, as a span whose `low` is above its `high`, commutes with all.
 pub fn range_commute_symbol(a: &RangeOp, s: &RangeSymbol) -> bool
     requires { IsRangeSymbol s.now }
     ensures exact { Decides result (RangeCommutesWith a.now s.now) }

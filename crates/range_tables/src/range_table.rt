@@ -54,8 +54,8 @@ impl RangeTable {
         Ok(RangeTable { shard, keys })
     }
 
-    /// Does one operation. The map is table 0, and where the operation may add a key that is absent,
-    /// `spare` is above 0.
+    /// Does one operation. The map is table 0, and where the operation may add a key that is
+    /// absent, `spare` is above 0.
     pub fn apply(&mut self, op: RangeOp) -> Value
         requires first { IsOnFirst op }
         requires room { HasRoomForRange op (map_shard self.old) }

@@ -25,7 +25,8 @@ repeated n op = record {
   entry = replicate n (exact_symbol op);
 }
 
--- what contracts see of such a list: the script, the operation of each ticket, and how often it is called
+-- what contracts see of such a list: the script, the operation of each ticket, and how often it is
+-- called
 pub record RepeatedView : Type 0 where
   pub list : ListView
   pub ops : List Op

@@ -12,6 +12,7 @@ request_in values e = record {
   args = take e.args (drop e.first values);
 }
 
+-- the requests of these entries, where these are the arguments of all requests
 abbrev pub requests_in : List Value → List Entry → List Request
 requests_in values entries = map (request_in values) entries
 

@@ -14,8 +14,8 @@ use Rattle.text_lines.specs.Values.{is_value}
 
 -- ---- the two parts of a file
 
--- the head, a dividing line and the tail are the file; the head is whole lines of which none divides,
--- and the tail's first line comes two behind its last
+-- the head, a dividing line and the tail are the file; the head is whole lines of which none
+-- divides, and the tail's first line comes two behind its last
 pub record AreParts (text head tail : Text) (first : ℕ) : Type 0 where
   pub line : Text
   pub divides : is_dividing line ≡ true

@@ -37,6 +37,7 @@ IsHandler names f name o = MatchOption o (length f.handlers ≤ handler_of names
 
 -- ---- the sums over requests
 
+-- the sums before any request
 abbrev pub no_requests : Tally
 no_requests = record { requests = 0; calls = 0; work = 0 }
 

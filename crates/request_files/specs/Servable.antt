@@ -8,7 +8,8 @@ use Rattle.check_meaning.specs.Bounds.{calls_bound, work_bound}
 use Rattle.handler_check.specs.Resolved.{code_at, params_at}
 use Rattle.request_files.specs.declared.request.Request.{Request}
 
--- its handler exists, its arguments are as many as the handler's parameters, and a program can hold each
+-- its handler exists, its arguments are as many as the handler's parameters, and a program can hold
+-- each
 pub record IsRequestOf (f : File) (r : Request) : Type 0 where
   pub handler : r.handler < length f.handlers
   pub args : length r.args ≡ params_at f r.handler
@@ -18,9 +19,12 @@ pub record IsRequestOf (f : File) (r : Request) : Type 0 where
 abbrev pub calls_in_all : File → List Request → ℕ
 calls_in_all f requests = sum_by (λ (r : Request). calls_bound (code_at f r.handler)) requests
 
+-- the bounds on the work of the requests' handlers, added up
 abbrev pub work_in_all : File → List Request → ℕ
 work_in_all f requests = sum_by (λ (r : Request). work_bound (code_at f r.handler)) requests
 
+-- the requests are few enough, each is a request of one of the file's handlers, and the bounds on
+-- their calls and on their work, added up, are within the limits
 pub record IsServable (f : File) (requests : List Request) : Type 0 where
   pub few : length requests ≤ max_requests
   pub each : AllByRecursion (IsRequestOf f) requests

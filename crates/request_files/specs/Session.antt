@@ -17,6 +17,8 @@ request_at requests t = slice_index_or requests t (record { handler = 0; args = 
 abbrev pub dialogue_of : File → Request → Dialogue
 dialogue_of f r = next (code_at f r.handler) (env_of r.args)
 
+-- what the serial run is made of: the kinds of the tables, all empty, and of each request its
+-- dialogue and the bound on its calls
 abbrev pub session : File → List Request → Session
 session f requests = record {
   shape = shape_of f;

@@ -80,8 +80,8 @@ script_of_session parts file lists = meaning (record {
 })
 
 -- The session of the input was served through this hall to its end, with the declarations that its
--- points have: the journal is that of a lawful book in which all tickets have ended, the replies are
--- those of the serial run, and the shards are the parts of its final tables. There were as many
+-- points have: the journal is that of a lawful book in which all tickets have ended, the replies
+-- are those of the serial run, and the shards are the parts of its final tables. There were as many
 -- callers and shards as the command's words say.
 pub record IsServedThrough (command : Command) (input : List ℕ) (closed : ClosedView) : Type 0 where
   pub file : File

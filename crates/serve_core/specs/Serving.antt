@@ -1,4 +1,4 @@
--- What serving a session file promises.
+-- What serving a session file promises. Only this crate's own functions cite it.
 use Rattle.std.specs.Prelude.{◌≡◌, ℕ, ◌≤◌, List, length, Option, Some, None}
 use Rattle.session_limits.specs.Limits.{max_requests}
 use Rattle.session_values.specs.ReplyText.{reply_text}

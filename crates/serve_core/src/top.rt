@@ -91,8 +91,8 @@ pub fn describe<I: Source, O: Sink, E: Sink>(
     status
 }
 
-/// Reads lines of holds and operations from `source`, writes what they answer to `out` and, where it
-/// doesn't end well, one line to `err`, as `run` does for `ranges`.
+/// Reads lines of holds and operations from `source`, writes what they answer to `out` and, where
+/// it doesn't end well, one line to `err`, as `run` does for `ranges`.
 pub fn ranges<I: Source, O: Sink, E: Sink>(
     alloc: Global,
     source: &mut I,

@@ -36,7 +36,8 @@ pub record HasCheckFault (text : List ℕ) (e : CheckRefusal) : Type 0 where
   pub form : IsSourceOf [] text file
   pub first : IsRefusal file e
 
--- the handlers' text has a tree, which breaks no rule, and this is the first point at which too many operations may still come
+-- the handlers' text has a tree, which breaks no rule, and this is the first point at which too
+-- many operations may still come
 pub record HasAnalysisFault (text : List ℕ) (e : AnalysisRefusal) : Type 0 where
   pub file : File
   pub form : IsSourceOf [] text file
@@ -49,7 +50,8 @@ pub record HasRequestFault (parts : Parts) (e : RequestRefusal) : Type 0 where
   pub program : IsProgram parts.handlers file
   pub first : request_fault parts file ≡ Some e
 
--- the first broken rule of an input, in the order too large, no text, no requests or requests, syntax, check, analysis, requests, or, of a range session, its lines
+-- the first broken rule of an input, in the order too large, no text, no requests or requests,
+-- syntax, check, analysis, requests, or, of a range session, its lines
 abbrev pub IsRefused : Command → List ℕ → Fault → Type 0
 IsRefused command input fault.TooLarge = max_input < length input
 IsRefused command input fault.NotText = (length input ≤ max_input) × (IsUtf8 input → ⊥)
@@ -80,7 +82,8 @@ abbrev pub shown_of : List ℕ → File → List (List (List Symbol)) → List �
 shown_of input file lists = shown_text (names_of [] input)
     (points_shown (record { file = file; lists = lists })) file
 
--- the text with what is declared at each point, which is the list of the operations that may still come there
+-- the text with what is declared at each point, which is the list of the operations that may still
+-- come there
 pub record IsShown (input text : List ℕ) : Type 0 where
   pub file : File
   pub program : IsProgram input file
@@ -96,7 +99,8 @@ pub record IsServed (input text : List ℕ) : Type 0 where
   pub is_session : IsSession (parts_of input) file
   pub text_is : text ≡ served_text input file
 
--- the summary of a session of so many requests: how many operations the serial run makes, and how many bytes its replies take
+-- the summary of a session of so many requests: how many operations the serial run makes, and how
+-- many bytes its replies take
 abbrev pub summary_of : ℕ → List ℕ → File → List ℕ
 summary_of requests input file =
     summary requests (serial_calls (session_of_parts (parts_of input) file)
@@ -118,6 +122,7 @@ IsTextOf Ranges input text = IsRangesText input text
 
 -- ---- the answer
 
+-- an answer: usage, a refusal for a fault, or a text
 pub data Answer : Type 0 where
   Usage : Answer
   Refused : Fault → Answer
@@ -136,6 +141,7 @@ CommandAnswers None bytes (Refused e) = ⊥
 CommandAnswers None bytes (Text text) = ⊥
 CommandAnswers (Some command) bytes answer = Answers command (input_of command bytes) answer
 
+-- what is answered to a command line of these words, where the source has these bytes
 abbrev pub IsAnswer : List (List ℕ) → List ℕ → Answer → Type 0
 IsAnswer words bytes answer = CommandAnswers (command_of words) bytes answer
 

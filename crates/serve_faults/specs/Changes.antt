@@ -9,6 +9,7 @@ pub record Change (S : Type 0) : Type 0 where
   pub old : S
   pub new : S
 
+-- the change from old to new, where these tell the bytes and how often it failed
 abbrev pub change : {S : Type 0} → (S → Option (List ℕ)) → (S → ℕ) → S → S → Change S
 change bytes faults old new = record { bytes = bytes; faults = faults; old = old; new = new }
 
@@ -24,5 +25,6 @@ IsUntouched c = c.new ≡ c.old
 abbrev pub Took : {S : Type 0} → Change S → List ℕ → Type 0
 Took c text = Grew (c.bytes c.old) (c.bytes c.new) text
 
+-- a sink took a front of the text
 abbrev pub TookFront : {S : Type 0} → Change S → List ℕ → Type 0
 TookFront c text = GrewByFront (c.bytes c.old) (c.bytes c.new) text

@@ -23,6 +23,7 @@ parts_of input = record {
   first = position_or_len is_dividing (lines input) + 2;
 }
 
+-- whether some line of an input is a dividing line
 abbrev pub is_divided : List ℕ → Bool
 is_divided input = list_any is_dividing (lines input)
 

@@ -14,7 +14,8 @@ use Rattle.text_lines.specs.Rows.{Row, rows, names_behind}
 use Rattle.request_files.specs.Session.{session}
 use Rattle.serve_faults.specs.Input.{Parts}
 
--- the text of handlers has this tree, which breaks no rule, and at no point too many operations may still come
+-- the text of handlers has this tree, which breaks no rule, and at no point too many operations may
+-- still come
 pub record IsProgram (text : List ℕ) (file : File) : Type 0 where
   pub form : IsSourceOf [] text file
   pub accepted : IsAccepted file
@@ -35,6 +36,8 @@ rows_of parts = rows parts.first (lines parts.requests)
 abbrev pub all_names_of : Parts → List (List ℕ)
 all_names_of parts = names_behind (handler_names_of parts) (rows_of parts)
 
+-- the requests of the lines that have words: handlers go by the names of the handlers' part,
+-- symbols by those of both parts
 abbrev pub requests_of : Parts → File → List Request
 requests_of parts file = map (request_of (handler_names_of parts) (all_names_of parts) file)
     (rows_of parts)
@@ -45,7 +48,8 @@ request_fault parts file = first_fault (handler_names_of parts) file no_requests
 
 -- ---- sessions
 
--- the parts are those of a session with these handlers: no rule is broken, of the handlers or of the requests
+-- the parts are those of a session with these handlers: no rule is broken, of the handlers or of
+-- the requests
 pub record IsSession (parts : Parts) (file : File) : Type 0 where
   pub program : IsProgram parts.handlers file
   pub requests : request_fault parts file ≡ None

@@ -28,6 +28,8 @@ StopsAs source status.Fine = ⊥
 StopsAs source status.Usage = ⊥
 StopsAs source status.WriteFault = ⊥
 
+-- a reading stopped for what this status says; of the source's first bytes at most one more than an
+-- input may have are gone, and no others, where they are told
 abbrev pub StoppedAs : {I : Type 0} → Change I → Status → Type 0
 StoppedAs source s = LostAtMost (source.bytes source.old) (source.bytes source.new) (max_input + 1)
     × StopsAs source s

@@ -33,6 +33,7 @@ IsFileReason file (Refused (fault.Check e)) = IsRefusal file e
 IsFileReason file (Refused (fault.Analysis e)) = IsAccepted file × IsTooMany file e
 IsFileReason file (Refused e) = ⊥
 
+-- memory ran out, or this is the first fault of the handlers' text: of syntax, check or analysis
 abbrev pub IsProgramReason : List ℕ → Unserved → Type 0
 IsProgramReason text NoMemory = Unit {0}
 IsProgramReason text (Refused (fault.Syntax e)) = HasSyntaxFault text e
@@ -40,6 +41,7 @@ IsProgramReason text (Refused (fault.Check e)) = HasCheckFault text e
 IsProgramReason text (Refused (fault.Analysis e)) = HasAnalysisFault text e
 IsProgramReason text (Refused e) = ⊥
 
+-- memory ran out, or this is the first fault of the handlers' text, or of the requests
 abbrev pub IsSessionReason : Parts → Unserved → Type 0
 IsSessionReason parts NoMemory = Unit {0}
 IsSessionReason parts (Refused (fault.Syntax e)) = HasSyntaxFault parts.handlers e
@@ -48,7 +50,7 @@ IsSessionReason parts (Refused (fault.Analysis e)) = HasAnalysisFault parts.hand
 IsSessionReason parts (Refused (fault.Request e)) = HasRequestFault parts e
 IsSessionReason parts (Refused e) = ⊥
 
--- why a session file isn't served
+-- memory ran out, or this is the first broken rule of a session file
 abbrev pub IsInputReason : List ℕ → Unserved → Type 0
 IsInputReason input NoMemory = Unit {0}
 IsInputReason input (Refused fault.TooLarge) = ⊥
@@ -59,7 +61,7 @@ IsInputReason input (Refused fault.HasRequests) = ⊥
 IsInputReason input (Refused e) = IsSessionInput input
     × IsSessionReason (parts_of input) (Refused e)
 
--- why a command's input isn't answered with a text
+-- memory ran out, or this is the first broken rule of the command's input
 abbrev pub IsReason : Command → List ℕ → Unserved → Type 0
 IsReason command input NoMemory = Unit {0}
 IsReason command input (Refused e) = IsRefused command input e

@@ -31,13 +31,15 @@ book_of c = book_in (note c.seat)
 abbrev pub entries_of : {S : Type 0} → Caller S → ℕ → List Entry
 entries_of c t = entries (book_of c).journal t
 
--- what a note tells: its journal replays, and regrouped by ticket too, and of each begun ticket the entries are the first of its serial ones, and the Reply is its serial one
+-- what a note tells: its journal replays, and regrouped by ticket too, and of each begun ticket the
+-- entries are the first of its serial ones, and the Reply is its serial one
 pub record IsTold (m : Meaning) (b : Book) : Type 0 where
   pub replays : Replays (opening_tables m) (in_order (done_operations b.journal))
   pub regrouped : Replays (opening_tables m) (regrouped b.journal)
   pub foreknown : (t : ℕ) → t < begun b.journal → Foreknown m b.journal t
 
--- its seat is of the hall's board, its note is a lawful book of the hall's script, and it holds what its stage says
+-- its seat is of the hall's board, its note is a lawful book of the hall's script, and it holds
+-- what its stage says
 pub record IsCallerIn {S : Type 0} (meaning : S → Meaning) (p : HallId) (script : S)
     (c : Caller S) : Type 0 where
   pub seat : IsSeated p.board c.seat.pass.token

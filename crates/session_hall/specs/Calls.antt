@@ -63,6 +63,7 @@ MayFinishAt m (Applied t op v) f b next = Covered next f
     } ∷ [])))
 MayFinishAt m _ f b next = ⊥
 
+-- the same of a caller, by its stage, its foresight and the book of its note
 abbrev pub MayFinish : {S : Type 0} → Meaning → Caller S → List Symbol → Type 0
 MayFinish m c next = MayFinishAt m c.stage c.foresight.symbols (book_of c) next
 
@@ -112,6 +113,7 @@ module _ {S : Type 0} (m : Meaning) (p q : Caller S) where
     pub all : m.requests ≤ begun found.journal
     pub stage_is : q.stage ≡ Out
 
+  -- what is answered and left: a ticket is begun, all are found begun, or the book is found taken
   abbrev pub BeganAs : Began → Type 0
   BeganAs (began.Ticket t) = BeganTicket t
   BeganAs began.AllBegun = FoundAllBegun
@@ -125,6 +127,7 @@ module _ {S : Type 0} (m : Meaning) (p q : Caller S) where
     pub foresight_is : q.foresight.symbols ≡ f
     pub entries_still : entries_of q t ≡ entries_of p t
 
+  -- what is answered and left: the list is declared, or the book is found taken
   abbrev pub DeclaredAs : List Symbol → Declared → Type 0
   DeclaredAs f declared.Yes = OnServing p.stage (DeclaredAt f)
   DeclaredAs f (declared.Busy u) = (u ≡ 0) × IsBusy u (givings p.seat)
@@ -148,6 +151,7 @@ module _ {S : Type 0} (m : Meaning) (p q : Caller S) where
     pub foresight_still : q.foresight ≡ p.foresight
     pub entries_still : entries_of q t ≡ entries_of p t
 
+  -- what is answered and left: the operation is admitted or delayed, or the book is found taken
   abbrev pub AdmittedAs : Op → Admitting → Type 0
   AdmittedAs op admitting.Admitted = OnServing p.stage (AdmittedAt op)
   AdmittedAs op (admitting.Delayed older y) = OnServing p.stage (DelayedAt op older y)
@@ -169,7 +173,8 @@ module _ {S : Type 0} (m : Meaning) (p q : Caller S) where
     pub asks_more : asks q.seat ≡ asks p.seat + 1
     pub givings_still : givings q.seat ≡ givings p.seat
 
-  -- One of the operation's turns was found taken. What was won of the others was given back in one step, and no step was made where nothing was.
+  -- One of the operation's turns was found taken. What was won of the others was given back in one
+  -- step, and no step was made where nothing was.
   pub record IsBusyAt (shards u t : ℕ) (op : Op) : Type 0 where
     pub after : ℕ
     pub busy : IsBusy u after
@@ -181,6 +186,7 @@ module _ {S : Type 0} (m : Meaning) (p q : Caller S) where
     pub none_won : ((j : ℕ) → IsTurnOf shards op j → lost q.seat (suc j) ≡ lost p.seat (suc j) + 1)
         → after ≡ givings p.seat
 
+  -- what is answered and left: the operation is done on its shards, or a turn of it is found taken
   abbrev pub AppliedAs : ℕ → ℕ → Applying → Type 0
   AppliedAs shards turns (applying.Applied v) = OnFlight p.stage (AppliedAt turns v)
   AppliedAs shards turns (applying.Busy u) = OnFlight p.stage (IsBusyAt shards u)
@@ -198,6 +204,7 @@ module _ {S : Type 0} (m : Meaning) (p q : Caller S) where
   FinishedFrom next (Applied t op v) = FinishedAt next t op v
   FinishedFrom next _ = ⊥
 
+  -- what is answered and left: the operation is entered, or the book is found taken
   abbrev pub FinishedAs : List Symbol → Finishing → Type 0
   FinishedAs next finishing.Done = FinishedFrom next p.stage
   FinishedAs next (finishing.Busy u) = (u ≡ 0) × IsBusy u (givings p.seat)
@@ -212,6 +219,7 @@ module _ {S : Type 0} (m : Meaning) (p q : Caller S) where
     pub is_begun : t < begun (book_of q).journal
     pub is_ended : ended (book_of q).journal t ≡ Some r
 
+  -- what is answered and left: the ticket is ended, or the book is found taken
   abbrev pub EndedAs : Reply → Ending → Type 0
   EndedAs r ending.Ended = OnServing p.stage (EndedAt r)
   EndedAs r (ending.Busy u) = (u ≡ 0) × IsBusy u (givings p.seat)

@@ -48,7 +48,8 @@ pub record Leaves {S : Type 0} (meaning : S → Meaning) (h : Hall S) (i : ℕ)
   pub number_is : c.number ≡ i
   pub out : c.stage ≡ Out
 
--- what contracts see of a closed hall: its journal, the replies by ticket, the shards by turn, how many each table has, and how many callers served
+-- what contracts see of a closed hall: its journal, the replies by ticket, the shards by turn, how
+-- many each table has, and how many callers served
 pub record ClosedView : Type 0 where
   pub journal : List Event
   pub replies : List Reply
@@ -56,7 +57,9 @@ pub record ClosedView : Type 0 where
   pub shards : ℕ
   pub callers : ℕ
 
--- the journal is that of a lawful book with a record for each caller, in which all tickets have ended; the replies are those of serving the tickets one at a time, and the shards are the parts of the tables after that
+-- the journal is that of a lawful book with a record for each caller, in which all tickets have
+-- ended; the replies are those of serving the tickets one at a time, and the shards are the parts
+-- of the tables after that
 pub record IsDone (m : Meaning) (d : ClosedView) : Type 0 where
   pub book : Book
   pub journal_is : d.journal ≡ book.journal

@@ -11,7 +11,9 @@ use Rattle.hall_rule.specs.Tie.{Tied}
 use Rattle.session_hall.specs.Callers.{book_in}
 use Rattle.session_hall.specs.Stages.{SeatOf}
 
--- the book that a caller finds: it is lawful and has a record for each of so many callers; the caller's own record is as in its note, and the journal is the note's, and then events of other callers' tickets
+-- the book that a caller finds: it is lawful and has a record for each of so many callers; the
+-- caller's own record is as in its note, and the journal is the note's, and then events of other
+-- callers' tickets
 pub record Finds (m : Meaning) (noted found : Book) (c callers : ℕ) : Type 0 where
   pub lawful : Lawful m found
   pub callers_are : length found.records ≡ callers
@@ -55,7 +57,8 @@ module _ {S : Type 0} (p q : SeatOf S) where
     pub givings_still : givings q ≡ givings p
     pub several : caller_count p ≢ 1
 
-  -- the book was taken, and each shard that is held is its part of the tables after the book's journal
+  -- the book was taken, and each shard that is held is its part of the tables after the book's
+  -- journal
   pub record HasBook (meaning : S → Meaning) (script : S) (turns : ℕ)
       (b : BookView S) : Type 0 where
     pub script_is : b.script ≡ script

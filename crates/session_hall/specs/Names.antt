@@ -4,7 +4,8 @@ use Rattle.turn_board.specs.Seated.{TableId}
 use Rattle.turn_board.specs.Passes as passes
 use Rattle.session_hall.specs.declared.hall.Hall.{Hall}
 
--- how many callers it has, how many tables, how many shards each of these, and the board on which they lie
+-- how many callers it has, how many tables, how many shards each of these, and the board on which
+-- they lie
 pub record HallId : Type 0 where
   pub callers : ℕ
   pub tables : ℕ

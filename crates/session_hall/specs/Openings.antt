@@ -1,4 +1,4 @@
--- What a hall is opened with.
+-- What a hall is opened with. Only this crate's own functions cite it.
 use Rattle.std.specs.Prelude.{◌≡◌, ℕ, ◌+◌, ◌*◌, ◌/◌, List, [], ◌++◌, Some, length, map, replicate, slice_get}
 use Rattle.session_limits.specs.Limits.{max_shards, max_symbols}
 use Rattle.session_values.specs.declared.kind.TableKind.{TableKind}

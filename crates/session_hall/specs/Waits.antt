@@ -74,6 +74,7 @@ module _ {S : Type 0} (m : Meaning) (shards : ℕ) where
     pub each : Tries IsVain tries p q
 
 module _ {S : Type 0} (m : Meaning) (p q : Caller S) where
+  -- after tries that found the book taken, ticket t is begun, or all are found begun
   abbrev pub BegunAfter : Option ℕ → Type 0
   BegunAfter (Some t) = (via : Caller S) × OnlyBookLost p via × BeganTicket m via q t
   BegunAfter None = (via : Caller S) × OnlyBookLost p via × FoundAllBegun m via q
@@ -83,10 +84,14 @@ module _ {S : Type 0} (m : Meaning) (p q : Caller S) where
   DeclaredAfter f = OnServing p.stage (λ t. (via : Caller S) × OnlyBookLost p via
       × DeclaredAt m via q f t × (entries_of q t ≡ entries_of p t))
 
+  -- after tries that found the book taken or the operation delayed, it is admitted, with the
+  -- foresight and the entries as the first caller has them
   abbrev pub AdmittedAfter : Op → Type 0
   AdmittedAfter op = OnServing p.stage (λ t. (via : Caller S) × OnlyDelayed p via t
       × AdmittedAt m via q op t × (q.foresight ≡ p.foresight) × (entries_of q t ≡ entries_of p t))
 
+  -- after tries that found one of the operation's turns taken, it is done on its shards, with the
+  -- foresight and the book of the note as the first caller has them
   abbrev pub AppliedAfter : ℕ → ℕ → Value → Type 0
   AppliedAfter shards turns v = OnFlight p.stage (λ t op. (via : Caller S)
       × OnlyShardLost m shards p via × AppliedAt m via q turns v t op × (q.foresight ≡ p.foresight)
@@ -100,9 +105,13 @@ module _ {S : Type 0} (m : Meaning) (p q : Caller S) where
       } ∷ [])
   FinishedAfterFrom next _ = ⊥
 
+  -- after tries that found the book taken, the operation is entered behind the entries that the
+  -- first caller has
   abbrev pub FinishedAfter : List Symbol → Type 0
   FinishedAfter next = FinishedAfterFrom next p.stage
 
+  -- after tries that found the book taken, the ticket is ended, with the foresight and the entries
+  -- as the first caller has them
   abbrev pub EndedAfter : Reply → Type 0
   EndedAfter r = OnServing p.stage (λ t. (via : Caller S) × OnlyBookLost p via × EndedAt m via q r t
       × (q.foresight ≡ p.foresight) × (entries_of q t ≡ entries_of p t))

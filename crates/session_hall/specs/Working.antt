@@ -1,4 +1,4 @@
--- An operation on the shards in a caller's hands.
+-- An operation on the shards in a caller's hands. Only this crate's own functions cite it.
 use Rattle.std.specs.Prelude.{◌≡◌, ℕ, ◌+◌, ◌<◌, ◌≤◌, pos, true, List, [], ◌∷◌, ◌++◌, length, map}
 use Rattle.std.specs.List.{AllByRecursion}
 use Rattle.session_limits.specs.Limits.{max_session_calls}
@@ -26,7 +26,8 @@ module _ {S : Type 0} where
   all_keys [] = 0
   all_keys (x ∷ xs) = keys_in x.1 + all_keys xs
 
-  -- it is a shard of the operation's kind, with room for one key more where the operation may add one
+  -- it is a shard of the operation's kind, with room for one key more where the operation may add
+  -- one
   abbrev pub CanDo : Op → Content S → Type 0
   CanDo op (Shard c room) = (kind_of c ≡ home op.kind)
       × (is_adding op.kind ≡ true → size_of c < room)

@@ -7,7 +7,9 @@ use Rattle.symbolic_ops.specs.declared.symbol.Symbol.{Symbol}
 use Rattle.symbolic_ops.specs.Matching.{Covered}
 use Rattle.session_journal.specs.Script.{Meaning, IsForesight}
 
--- what a desk is at: its ticket, the entries so far, the present foresight, the operation and reply that wait, whether it has ended, data that names what it stands over, and whether it never wants memory
+-- what a desk is at: its ticket, the entries so far, the present foresight, the operation and reply
+-- that wait, whether it has ended, data that names what it stands over, and whether it never wants
+-- memory
 pub record DeskView : Type 0 where
   pub ticket : ℕ
   pub entries : List Entry
@@ -79,7 +81,8 @@ with_end d = record {
   sure = d.sure;
 }
 
--- what finish asks: an operation waits, the list is the one told after it, and the ticket may narrow to it
+-- what finish asks: an operation waits, the list is the one told after it, and the ticket may
+-- narrow to it
 abbrev pub MayFinish : Meaning → DeskView → Option Entry → List Symbol → Type 0
 MayFinish m d None f = ⊥
 MayFinish m d (Some e) f = (f ≡ m.told d.ticket (replies (d.entries ++ e ∷ [])))

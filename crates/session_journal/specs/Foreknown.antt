@@ -12,7 +12,8 @@ pub record IsPrefixOf (es fs : List Entry) : Type 0 where
   pub back : List Entry
   pub is : es ++ back ≡ fs
 
--- the entries of a ticket are the first ones that it has when the tickets are served one at a time, and where it has ended, its Reply is the one that it has then
+-- the entries of a ticket are the first ones that it has when the tickets are served one at a time,
+-- and where it has ended, its Reply is the one that it has then
 pub record Foreknown (m : Meaning) (J : List Event) (t : ℕ) : Type 0 where
   pub entries : IsPrefixOf (entries J t) (serial (session_of m) t).entries
   pub answer : (r : Reply) → ended J t ≡ Some r → (serial (session_of m) t).answer ≡ Some r

@@ -16,6 +16,7 @@ ticket_of_row ops symbols r = record {
   entry = take r.symbols (drop r.first_symbol symbols);
 }
 
+-- the tickets of the rows, in their order
 abbrev pub tickets_of : List Op → List Symbol → List Row → List Ticket
 tickets_of ops symbols rows = map (ticket_of_row ops symbols) rows
 

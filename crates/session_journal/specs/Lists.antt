@@ -19,7 +19,8 @@ pub record Ticket : Type 0 where
   pub reply : Reply
   pub entry : List Symbol
 
--- a script that is a list of tickets, and the places that are left for tickets, operations and symbols
+-- a script that is a list of tickets, and the places that are left for tickets, operations and
+-- symbols
 pub record ListView : Type 0 where
   pub shape : List TableKind
   pub tickets : List Ticket

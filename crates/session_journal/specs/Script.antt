@@ -16,7 +16,8 @@ use Rattle.session_values.specs.Values.{IsValue}
 use Rattle.symbolic_ops.specs.declared.symbol.Symbol.{Symbol}
 use Rattle.symbolic_ops.specs.Matching.{Matches, HasNoVar}
 
--- whatever replies come that a program can hold, some symbol of the list stands for each operation that the dialogue calls
+-- whatever replies come that a program can hold, some symbol of the list stands for each operation
+-- that the dialogue calls
 pub record Covers (f : Dialogue) (foresight : List Symbol) : Type 0 where
   pub each : (more : List Value) (op : Op) → AllByRecursion IsValue more → f more ≡ Calls op
       → Matches foresight op
@@ -32,7 +33,9 @@ abbrev pub HasValues : Next → Type 0
 HasValues (Calls op) = IsHeld op
 HasValues (Answers r) = IsHeldReply r
 
--- what a script means: the kinds of its tables, the opening tables, the number of its tickets, and for each ticket its dialogue, the most calls, the most adding calls on each table, and what it declares at its beginning, right after an operation, and last before it calls or answers
+-- what a script means: the kinds of its tables, the opening tables, the number of its tickets, and
+-- for each ticket its dialogue, the most calls, the most adding calls on each table, and what it
+-- declares at its beginning, right after an operation, and last before it calls or answers
 pub record Meaning : Type 0 where
   pub shape : List TableKind
   pub opening : Tables

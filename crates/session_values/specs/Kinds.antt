@@ -1,4 +1,5 @@
--- What a kind of operation is. Each question has a line for each of the eleven kinds, so that another kind has to answer all of them.
+-- What a kind of operation is. Each question has a line for each of the eleven kinds, so that
+-- another kind has to answer all of them.
 use Rattle.std.specs.Prelude.{ℕ, List, Bool, true, false, not, ◌==◌, codes}
 use Rattle.std.specs.Ordering.{nat_cmp}
 use Rattle.std.specs.declared.cmp.Ordering.{Ordering}

@@ -8,6 +8,7 @@ use Rattle.session_values.specs.declared.kind.Kind.{Kind}
 use Rattle.session_values.specs.Kinds.{arguments, kind_place}
 use Rattle.session_values.specs.Values.{IsValue, value_cmp, value_cmp_total}
 
+-- its kind, the number of its table, its key and its value
 pub record OpView : Type 0 where
   pub kind : Kind
   pub table : ℕ
@@ -20,6 +21,8 @@ op_eq = eq_of_both (on (λ o. kind_place o.kind) ◌==◌) (eq_of_both (on (λ o
     (eq_of_both (on (λ o. o.key) (eq_by_cmp value_cmp))
     (on (λ o. o.value) (eq_by_cmp value_cmp))))
 
+-- each is the same as itself, it doesn't matter which of two is named first, and where two are the
+-- same, a third is the same as both or as neither
 pub op_eq_equiv : IsEquivalence op_eq
 op_eq_equiv = and_equiv (on_equiv (λ o. kind_place o.kind) nat_eq_equiv)
     (and_equiv (on_equiv (λ o. o.table) nat_eq_equiv)

@@ -6,6 +6,7 @@ use Rattle.session_values.specs.declared.value.Value.{Value}
 use Rattle.session_values.specs.declared.value.Value.TheVariants.{Nil}
 use Rattle.session_values.specs.Values.{IsValue, value_cmp, value_cmp_total}
 
+-- how many values it has, and the first to the fourth of them
 pub record ReplyView : Type 0 where
   pub count : ℕ
   pub a : Value
@@ -19,6 +20,8 @@ reply_eq = eq_of_both (eq_of_both (on (λ r. r.count) ◌==◌) (on (λ r. r.a) 
     (eq_of_both (on (λ r. r.b) (eq_by_cmp value_cmp))
     (eq_of_both (on (λ r. r.c) (eq_by_cmp value_cmp)) (on (λ r. r.d) (eq_by_cmp value_cmp))))
 
+-- each is the same as itself, it doesn't matter which of two is named first, and where two are the
+-- same, a third is the same as both or as neither
 pub reply_eq_equiv : IsEquivalence reply_eq
 reply_eq_equiv = and_equiv (and_equiv (on_equiv (λ r. r.count) nat_eq_equiv)
     (on_equiv (λ r. r.a) (eq_by_cmp_equiv value_cmp_total)))
@@ -43,7 +46,8 @@ pub record IsHeldReply (r : ReplyView) : Type 0 where
 abbrev pub values_of : ReplyView → List Value
 values_of r = take r.count (r.a ∷ r.b ∷ r.c ∷ r.d ∷ [])
 
--- The reply of these values: nil alone where there are none, and the first four where there are more.
+-- The reply of these values: nil alone where there are none, and the first four where there are
+-- more.
 abbrev pub reply_of : List Value → ReplyView
 reply_of [] = record { count = 1; a = Nil; b = Nil; c = Nil; d = Nil }
 reply_of (a ∷ []) = record { count = 1; a = a; b = Nil; c = Nil; d = Nil }

@@ -5,7 +5,8 @@ use Rattle.session_values.specs.declared.reply.Reply.{Reply}
 use Rattle.session_values.specs.Tables.{Tables, reply, step}
 use Rattle.session_values.specs.Dialogue.{Calls, Answers, Dialogue, rest, Entry}
 
--- what is to be served: the kinds of the tables, the opening tables, the number of tickets, and for each ticket its dialogue and the most calls that it makes
+-- what is to be served: the kinds of the tables, the opening tables, the number of tickets, and for
+-- each ticket its dialogue and the most calls that it makes
 pub record Session : Type 0 where
   pub shape : List TableKind
   pub opening : Tables
@@ -23,7 +24,8 @@ pub record Served : Type 0 where
 abbrev pub served_first : Entry → Served → Served
 served_first e s = record { entries = e ∷ s.entries; answer = s.answer; after = s.after }
 
--- serves one dialogue alone from these tables: asks what comes next, does it, and goes on with its reply, for at most so many operations
+-- serves one dialogue alone from these tables: asks what comes next, does it, and goes on with its
+-- reply, for at most so many operations
 abbrev pub serve : ℕ → Dialogue → Tables → Served
 serve zero f ts = elim (f []) [
   | Calls op ↦ record { entries = []; answer = None; after = ts }
@@ -35,7 +37,8 @@ serve (suc n) f ts = elim (f []) [
   | Answers r ↦ record { entries = []; answer = Some r; after = ts }
 ]
 
--- the tables when the tickets below t have been served one at a time, in order, from the opening tables
+-- the tables when the tickets below t have been served one at a time, in order, from the opening
+-- tables
 abbrev pub tables_before : Session → ℕ → Tables
 tables_before s zero = s.opening
 tables_before s (suc t) = (serve (s.length t) (s.next t) (tables_before s t)).after

@@ -29,7 +29,8 @@ payload_of Nil = pos 0
 payload_of (Num n) = n
 payload_of (Sym p) = pos p
 
--- the payload is the one of a value of this sort: 0 for nil, a place from 0 to 2^32 - 1 for a symbol
+-- the payload is the one of a value of this sort: 0 for nil, a place from 0 to 2^32 - 1 for a
+-- symbol
 abbrev pub IsPayload : Sort → ℤ → Type 0
 IsPayload sort.Nil n = n ≡ pos 0
 IsPayload sort.Num n = Unit {0}

@@ -41,7 +41,9 @@ bit b = if b then Num (pos 1) else Num (pos 0)
 abbrev pub sum_in_range : ℤ → ℤ → ℤ
 sum_in_range n d = int_wrap w64 (n +ℤ d)
 
--- what a key is bound to after a bump: by what isn't a number nothing changes. By a number it is that number where the key was unbound, the sum where it was bound to a number, and else what it was
+-- what a key is bound to after a bump: by what isn't a number nothing changes. By a number it is
+-- that number where the key was unbound, the sum where it was bound to a number, and else what it
+-- was
 abbrev pub bumped : Value → Option Value → Option Value
 bumped Nil o = o
 bumped (Sym p) o = o

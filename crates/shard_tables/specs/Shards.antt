@@ -30,6 +30,7 @@ pub record SetView : Type 0 where
 abbrev pub bindings : MapView → map.FinMap value_cmp Value
 bindings s = map.from_entries s.entries
 
+-- the keys that a set's shard holds
 abbrev pub members : SetView → set.FinSet value_cmp
 members s = set.from_list s.entries
 
@@ -38,9 +39,11 @@ pub record ShardView : Type 0 where
   pub container : Container
   pub room : ℕ
 
+-- a map's shard, seen as a shard of either
 abbrev pub map_shard : MapView → ShardView
 map_shard s = record { container = Bindings (bindings s); room = s.room }
 
+-- a set's shard, seen as a shard of either
 abbrev pub set_shard : SetView → ShardView
 set_shard s = record { container = Members (members s); room = s.room }
 
@@ -77,6 +80,7 @@ map_code =
     (λ s. (s.entries, (s.room, (s.index.bits, s.index.slots))))
     (λ p. record { entries = p.0; room = p.1.0; index = index_of p.1.1 }) (λ _. refl)
 
+-- how a set's shard is told from others
 abbrev pub set_code : Coded SetView
 set_code =
     code_by (List Value × (ℕ × (ℕ × List ℕ)))

@@ -32,7 +32,8 @@ arg_payload_of (Known (Sym p)) = pos p
 arg_payload_of (Var x) = pos x
 arg_payload_of Any = pos 0
 
--- the payload is the one of an argument of this sort: 0 for nil and for any, a number from 0 to 2^32 - 1 for a symbol and for a variable
+-- the payload is the one of an argument of this sort: 0 for nil and for any, a number from 0 to
+-- 2^32 - 1 for a symbol and for a variable
 abbrev pub IsArgPayload : ArgSort → ℤ → Type 0
 IsArgPayload sort.Nil n = n ≡ pos 0
 IsArgPayload sort.Num n = Unit {0}

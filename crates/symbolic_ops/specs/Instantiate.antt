@@ -12,6 +12,7 @@ ArgWithin variables (Var x) = x < variables
 ArgWithin variables (Known v) = Unit {0}
 ArgWithin variables Any = Unit {0}
 
+-- each variable of a symbol is one of so many
 abbrev pub IsWithin : ℕ → Symbol → Type 0
 IsWithin variables s = ArgWithin variables s.key × ArgWithin variables s.value
 

@@ -93,6 +93,8 @@ abbrev pub symbol_eq : Symbol → Symbol → Bool
 symbol_eq = eq_of_both (on (λ s. kind_place s.kind) ◌==◌) (eq_of_both (on (λ s. s.table) ◌==◌)
     (eq_of_both (on (λ s. s.key) (eq_by_cmp arg_cmp)) (on (λ s. s.value) (eq_by_cmp arg_cmp))))
 
+-- each is the same as itself, it doesn't matter which of two is named first, and where two are the
+-- same, a third is the same as both or as neither
 pub symbol_eq_equiv : IsEquivalence symbol_eq
 symbol_eq_equiv = and_equiv (on_equiv (λ s. kind_place s.kind) nat_eq_equiv)
     (and_equiv (on_equiv (λ s. s.table) nat_eq_equiv)

@@ -7,6 +7,7 @@ use Rattle.session_values.specs.Kinds.{arguments}
 use Rattle.symbolic_ops.specs.declared.arg.Arg.{Arg}
 use Rattle.symbolic_ops.specs.declared.arg.Arg.TheVariants.{Known, Var, Any}
 
+-- its kind, the number of its table, and its two arguments
 pub record SymbolView : Type 0 where
   pub kind : Kind
   pub table : ℕ
@@ -24,7 +25,8 @@ IsHeldArg (Known v) = IsValue v
 IsHeldArg (Var x) = Unit {0}
 IsHeldArg Any = Unit {0}
 
--- a program can hold it: what it knows are such values, and its unused arguments are known to be nil
+-- a program can hold it: what it knows are such values, and its unused arguments are known to be
+-- nil
 pub record IsHeldSymbol (s : SymbolView) : Type 0 where
   pub key : IsHeldArg s.key
   pub value : IsHeldArg s.value

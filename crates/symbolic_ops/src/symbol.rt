@@ -18,8 +18,8 @@ use std::cmp::Ordering;
 use std::marker::Model;
 
 /// The operations of one kind on one table whose arguments agree with these. An argument that the
-/// kind has no use for is known to be nil. Key and value are laid out side by side, each as its sort
-/// and its payload, so that a symbol takes 24 bytes.
+/// kind has no use for is known to be nil. Key and value are laid out side by side, each as its
+/// sort and its payload, so that a symbol takes 24 bytes.
 #[derive(Clone, Copy, Debug)]
 pub struct Symbol {
     /// The table's number, from 0 in the order of the file.

@@ -18,6 +18,7 @@ IsSourceOf names source file = IsFileWithin (words_of names source) file
 abbrev pub HasFault : List (List ℕ) → List ℕ → SyntaxRefusal → Type 0
 HasFault names source e = IsFirstFault (length source) (words_of names source) e
 
+-- a source is read behind the old names: what is answered, and the names that are left
 pub record Parsed (old : List (List ℕ)) (source : List ℕ) (result : Result File SyntaxRefusal)
     (new : List (List ℕ)) : Type 0 where
   -- The source is a file of the grammar, within its limits, and this is its tree.

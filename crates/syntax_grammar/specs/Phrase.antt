@@ -292,5 +292,6 @@ abbrev pub tables_words : TablesPhrase → List Word → List Word
 tables_words no_table rest = rest
 tables_words (more_tables t ts) rest = table_words t (tables_words ts rest)
 
+-- the words of a file, followed by the rest
 abbrev pub file_words : FilePhrase → List Word → List Word
 file_words (a_file ts hs) rest = tables_words ts (handlers_words hs rest)

@@ -28,6 +28,7 @@ abbrev pub call_start : Option Kind → Option Start
 call_start (Some k) = Some (start.Call k)
 call_start None = None
 
+-- the statement that a word begins
 abbrev pub statement_start : Sort → Option Start
 statement_start sort.Let = Some start.Let
 statement_start (sort.Name n) = Some (start.Assign n)

@@ -1,4 +1,4 @@
--- What a function of the parser does to its input.
+-- What a function of the parser does to its input. Only this crate's own functions cite it.
 use Rattle.std.specs.Prelude.{◌≡◌, ◌≢◌, ◌≤◌, length, List, ◌++◌, Option, Some, Result, Ok, Err}
 use Rattle.std.specs.List.{AllByRecursion}
 use Rattle.syntax_tokens.specs.declared.word.Sort.TheVariants as sort

@@ -1,4 +1,5 @@
--- The words of a file's canonical text, places aside. Those of each part are followed by the given ones.
+-- The words of a file's canonical text, places aside. Those of each part are followed by the given
+-- ones.
 use Rattle.std.specs.Prelude.{ℕ, suc, ℤ, pos, negsuc, if◌then◌else◌, List, [], ◌∷◌, map}
 use Rattle.session_values.specs.declared.value.Value.{Value}
 use Rattle.session_values.specs.declared.value.Value.TheVariants as value
@@ -140,6 +141,7 @@ handler_sorts h rest =
     sort.Handler ∷ sort.Name h.name ∷ sort.LeftParen ∷ listed_sorts (map param_sorts h.params)
     (sort.RightParen ∷ sort.LeftBrace ∷ block_sorts h.body (sort.RightBrace ∷ rest))
 
+-- the words of a file's canonical text: of its tables, then of its handlers
 abbrev pub canonical_words : File → List Sort
 canonical_words file = each_sorts (map table_sorts file.tables)
     (each_sorts (map handler_sorts file.handlers) [])

@@ -1,4 +1,5 @@
--- The lines of a file's text, with those that stand at the points of its handlers. Points are counted in the order of the text.
+-- The lines of a file's text, with those that stand at the points of its handlers. Points are
+-- counted in the order of the text.
 use Rattle.std.specs.Prelude.{ℕ, zero, suc, ◌+◌, Bool, true, false, List, [], ◌∷◌, ◌++◌, map, codes}
 use Rattle.std.specs.Fmt.{decimal}
 use Rattle.syntax_trees.specs.declared.expr.Expr.{Expr}
@@ -15,7 +16,8 @@ use Rattle.syntax_printer.specs.Canonical.{assignment_text, call_text, cond_text
 use Rattle.syntax_printer.specs.Points.{AtPoints, point_text}
 use Rattle.syntax_printer.specs.Writing.{Text}
 
--- Whose line it is: the file's own, which its canonical text has too; the else part's of an `if` whose second block is empty; that of the point of this number.
+-- Whose line it is: the file's own, which its canonical text has too; the else part's of an `if`
+-- whose second block is empty; that of the point of this number.
 pub data Line : Type 0 where
   of_file : Text → Line
   of_else : Text → Line
@@ -29,6 +31,7 @@ line_text false (of_else t) rest = rest
 line_text true (of_point n t) rest = t rest
 line_text false (of_point n t) rest = rest
 
+-- lines are written one after another; where points have no lines, the file's own alone
 abbrev pub written : Bool → List Line → Text
 written shown lines rest = each (map (line_text shown) lines) rest
 
@@ -41,18 +44,21 @@ own_line depth t = of_file (indented depth t)
 
 -- ---- statements
 
--- what stands at the points of a handler: the line inside so many blocks, at the point of this number
+-- what stands at the points of a handler: the line inside so many blocks, at the point of this
+-- number
 abbrev pub At : Type 0
 At = (depth point : ℕ) → Text
 
 abbrev pub point_line : At → (depth point : ℕ) → Line
 point_line at depth point = of_point point (at depth point)
 
--- a statement: how many points it has, and its lines inside so many blocks, where its first point has this number
+-- a statement: how many points it has, and its lines inside so many blocks, where its first point
+-- has this number
 pub record Part : Type 0 where
   pub points : ℕ
   pub lines : (depth point : ℕ) → List Line
 
+-- how many points the statements of a block have together
 abbrev pub block_points : List Part → ℕ
 block_points [] = 0
 block_points (p ∷ ps) = p.points + block_points ps
@@ -148,9 +154,11 @@ stmt_step names at (Stmt-F.Answer p values) = record {
   lines = λ depth point. own_line depth (reply_text names values) ∷ [];
 }
 
+-- a statement, as its number of points and its lines
 abbrev pub stmt_part : List (List ℕ) → At → Stmt → Part
 stmt_part names at = fold-Stmt Part (stmt_step names at)
 
+-- the statements of a block, each as its number of points and its lines
 abbrev pub block_parts : List (List ℕ) → At → List Stmt → List Part
 block_parts names at block = map (stmt_part names at) block
 
@@ -171,6 +179,7 @@ handlers_lines names a n [] = []
 handlers_lines names a n (h ∷ hs) = handler_lines names (point_text names a n) h ++ handlers_lines
     names a (n + 1) hs
 
+-- the lines of a file: one for each table, then those of the handlers
 abbrev pub file_lines : List (List ℕ) → AtPoints → File → List Line
 file_lines names a file = map (λ (t : TableDecl). of_file (table_text names t))
     file.tables ++ handlers_lines names a 0 file.handlers

@@ -1,4 +1,5 @@
--- What stands at the points of handlers: the line of a declaration, with the symbols of the operations that may still come.
+-- What stands at the points of handlers: the line of a declaration, with the symbols of the
+-- operations that may still come.
 use Rattle.std.specs.Prelude.{ℕ, Bool, false, List, [], ◌∷◌, ◌++◌, map, take, codes, slice_get, Option, Some, None}
 use Rattle.session_values.specs.Kinds.{arguments, word_of}
 use Rattle.symbolic_ops.specs.declared.arg.Arg.{Arg}

@@ -1,4 +1,5 @@
--- What is put at a spot: the lines of a part of a handler, where its declarations are given.
+-- What is put at a spot: the lines of a part of a handler, where its declarations are given. Only
+-- this crate's own functions cite it.
 use Rattle.std.specs.Prelude.{ℕ, List}
 use Rattle.syntax_trees.specs.declared.stmt.Cond.{Cond}
 use Rattle.syntax_trees.specs.declared.stmt.Right.{Right}

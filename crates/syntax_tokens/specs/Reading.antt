@@ -5,8 +5,8 @@ use Rattle.syntax_tokens.specs.declared.word.Word.{Word}
 use Rattle.syntax_tokens.specs.Tokens.{pieces}
 use Rattle.syntax_tokens.specs.Words.{words, names_behind}
 
--- The words still to come, the place of the end of the source, the names behind all of the words, and how many names
--- there are now.
+-- The words still to come, the place of the end of the source, the names behind all of the words,
+-- and how many names there are now.
 pub record Reading : Type 0 where
   pub words : List Word
   pub end : ℕ

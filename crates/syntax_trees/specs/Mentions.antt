@@ -79,6 +79,7 @@ abbrev pub handler_mentions : Handler → List Mention
 handler_mentions h = a_name h.name ∷ (flat_map param_mentions h.params ++ flat_map stmt_mentions
     h.body)
 
+-- those of a file: of its tables, then of its handlers
 abbrev pub file_mentions : File → List Mention
 file_mentions file = flat_map table_mentions file.tables ++ flat_map handler_mentions file.handlers
 
@@ -88,6 +89,7 @@ IsBelow count (a_name place) = place < count
 IsBelow count (a_symbol place) = place < count
 IsBelow count (a_number z) = Unit {0}
 
+-- the place of each name and each symbol is below a count
 abbrev pub AreBelow : ℕ → List Mention → Type 0
 AreBelow count mentions = AllByRecursion (IsBelow count) mentions
 

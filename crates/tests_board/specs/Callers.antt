@@ -1,4 +1,5 @@
--- Four callers that add to two counters: what a seat has between two additions, and what hands have.
+-- Four callers that add to two counters: what a seat has between two additions, and what hands
+-- have. Only this crate's own functions cite it.
 use Rattle.std.specs.Prelude.{◌≡◌, ◌≢◌, ℕ, ◌<◌, List, [], ◌∷◌, length, Some, slice_get, slice_index_or}
 use Rattle.turn_board.specs.declared.board.Board.{Board}
 use Rattle.turn_board.specs.declared.seat.Seat.{Seat}

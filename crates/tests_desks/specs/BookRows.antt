@@ -1,4 +1,5 @@
--- The session of the book's test, and what its book goes through.
+-- The session of the book's test, and what its book goes through. Only this crate's own functions
+-- cite it.
 use Rattle.std.specs.Prelude.{◌≡◌, ℕ, List, [], ◌∷◌, pos, Some, None}
 use Rattle.session_values.specs.declared.kind.Kind.TheVariants.{Get, Put}
 use Rattle.session_values.specs.declared.kind.TableKind.TheVariants.{Map}

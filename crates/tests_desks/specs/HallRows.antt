@@ -1,4 +1,5 @@
--- The session of the hall's test, and what its callers are at.
+-- The session of the hall's test, and what its callers are at. Only this crate's own functions
+-- cite it.
 use Rattle.std.specs.Prelude.{◌≡◌, ℕ, List, [], ◌∷◌, Some, length, slice_get}
 use Rattle.session_values.specs.declared.op.Op.{Op}
 use Rattle.session_values.specs.declared.value.Value.{Value}

@@ -1,4 +1,5 @@
 -- The session of a ticket that may get a key and one that puts it, and what its book goes through.
+-- Only this crate's own functions cite it.
 use Rattle.std.specs.Prelude.{ℕ, List, [], ◌∷◌}
 use Rattle.session_values.specs.declared.value.Value.TheVariants.{Nil}
 use Rattle.symbolic_ops.specs.declared.symbol.Symbol.{Symbol}

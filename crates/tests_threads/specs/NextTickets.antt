@@ -1,4 +1,5 @@
--- The hall of one caller, and what that caller is at once it has asked for the next ticket.
+-- The hall of one caller, and what that caller is at once it has asked for the next ticket. Only
+-- this crate's own functions cite it.
 use Rattle.std.specs.Prelude.{◌≡◌, ℕ, ◌<◌, List, [], Option, Some, None, length, slice_get}
 use Rattle.session_journal.specs.Script.{Meaning}
 use Rattle.session_hall.specs.declared.caller.Caller.{Caller}

@@ -2,6 +2,7 @@
 use Rattle.std.specs.Prelude.{ℕ, Bool, false, not, ◌||◌, ◌==◌, if◌then◌else◌, List, [], ◌∷◌}
 use Rattle.text_lines.specs.Bytes.{is_blank}
 
+-- the bytes of a text
 abbrev pub Text : Type 0
 Text = List ℕ
 

@@ -46,6 +46,7 @@ number w = if is_number w then Some (number_of w) else None
 abbrev pub is_nil : Text → Bool
 is_nil w = bytes_eq w (codes "nil")
 
+-- whether a word is a symbol: a letter and characters of symbols, 64 bytes at most, not `nil`
 unfoldable pub is_symbol : Text → Bool
 is_symbol w = not (is_nil w) && is_ascii_alphabetic (slice_index w 0) && nat_le (length w) max_name
     && list_all is_symbol_byte w

@@ -6,7 +6,8 @@ use Rattle.session_values.specs.Dialogue.{Answers, Calls, Follows, replies}
 use Rattle.session_journal.specs.Desks.{DeskView}
 use Rattle.session_journal.specs.Script.{Meaning}
 
--- the entries are the calls of the ticket's dialogue with the replies that the desk gave, then it answers, and the desk has ended; it is the same ticket at the same place
+-- the entries are the calls of the ticket's dialogue with the replies that the desk gave, then it
+-- answers, and the desk has ended; it is the same ticket at the same place
 pub record IsServed (m : Meaning) (start now : DeskView) : Type 0 where
   pub follows : Follows (m.next start.ticket) now.entries
   pub answer : Reply
@@ -17,9 +18,9 @@ pub record IsServed (m : Meaning) (start now : DeskView) : Type 0 where
   pub sure_is : now.sure ≡ start.sure
 
 -- A call wanted memory, and the desk stands as that call left it: the entries are calls of the
--- ticket's dialogue with the replies that the desk gave, the next thing that it does is a call, none
--- waits, what is present is the last declaration before that call, and the ticket hasn't ended. It
--- is the same ticket at the same place, and the desk isn't sure.
+-- ticket's dialogue with the replies that the desk gave, the next thing that it does is a call,
+-- none waits, what is present is the last declaration before that call, and the ticket hasn't
+-- ended. It is the same ticket at the same place, and the desk isn't sure.
 pub record IsStopped (m : Meaning) (start now : DeskView) : Type 0 where
   pub follows : Follows (m.next start.ticket) now.entries
   pub wanted : Op

@@ -214,6 +214,8 @@ module _ {V R C : Type 0} where
     Answered t (Here v) = Gained p q t (content v) × Tells holds turns q
     Answered t (Busy u) = (u ≡ t) × Missed p q t × (caller_count p ≢ 1) × Tells holds turns q
 
+    -- the same where all turns of a set are asked for: either all are gained, or none is and the
+    -- values stay
     abbrev pub AnsweredAll : ℕ → List (ℕ × V) → List (ℕ × V) → TookAll → Type 0
     AnsweredAll set before after all.Here = GainedAll p q content turns set before after
         × Tells holds turns q

@@ -1,4 +1,4 @@
--- What a closing needs of seats.
+-- What a closing needs of seats. Only this crate's own functions cite it.
 use Rattle.std.specs.Prelude.{ℕ, List, [], ◌∷◌, ◌++◌}
 use Rattle.turn_board.specs.declared.seat.Seat.{Seat}
 

@@ -1,6 +1,7 @@
 -- Turns with their values, as contracts see them, and the contents that they give to their turns.
 use Rattle.std.specs.Prelude.{◌≡◌, ℕ, zero, suc, ◌<◌, ◌==◌, cond, List, [], ◌∷◌, Option, Some, None}
 
+-- pairs of a turn and its value
 pub record HandsView (V : Type 0) : Type 0 where
   pub pairs : List (ℕ × V)
   -- for how many pairs memory is reserved

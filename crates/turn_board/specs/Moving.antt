@@ -1,4 +1,4 @@
--- Values on their way between their slots and the hands.
+-- Values on their way between their slots and the hands. Only this crate's own functions cite it.
 use Rattle.std.specs.Prelude.{◌≡◌, ℕ, ◌<◌, ◌≤◌, List, ◌++◌, length, map, Option, Some, None}
 use Rattle.std.specs.Int.{bit_at}
 use Rattle.turn_steps.specs.declared.view.Place.TheVariants.{Vacant, Lies}
@@ -25,7 +25,8 @@ pub record Emptied {V C : Type 0} (set n : ℕ) (p q : Token V C) : Type 0 where
   pub later : (u : ℕ) → n ≤ u → place q.me.0 u ≡ place p.me.0 u
   pub others : (u : ℕ) → bit_at set u ≡ 0 → place q.me.0 u ≡ place p.me.0 u
 
--- the values of the turns of a set below n were added, in rising order, with the contents that count
+-- the values of the turns of a set below n were added, in rising order, with the contents that
+-- count
 pub record TakenOut {V C : Type 0} (content : V → C) (set n : ℕ) (counts : ℕ → Option C)
     (before after : List (ℕ × V)) : Type 0 where
   pub new : List (ℕ × V)

@@ -1,4 +1,4 @@
--- A pass as a board is opened.
+-- A pass as a board is opened. Only this crate's own functions cite it.
 use Rattle.std.specs.Prelude.{◌≡◌, ℕ, List, [], ◌∷◌}
 use Rattle.turn_steps.specs.Seated.{TableId}
 use Rattle.turn_steps.specs.Steps.{lost_at}

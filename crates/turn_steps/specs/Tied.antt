@@ -66,6 +66,8 @@ module _ {V C : Type 0} (content : V → C) (caller_count : ℕ) (owner seat_of 
   TurnOk t (suc k) = (bit_at (slice_index s.words 7) t ≡ 1) × (k < caller_count)
       × ((v : View C) × (c : C) × (get_elem? s.views (seat_of k) ≡ some v) × (counted v t ≡ Some c))
 
+  -- the view of seat j: it speaks for callers of that seat, with their notes; each turn that it
+  -- holds has the content that it counts, lies where it says, and is owned by a caller of that seat
   pub record ViewOk (j : ℕ) (v : View C) : Type 0 where
     pub spoken : (i k : ℕ) (c : C) → get_elem? v.speaks i ≡ some (k, c)
         → (v.caller_count ≡ caller_count) × (k < caller_count) × (seat_of k ≡ j)
@@ -79,6 +81,8 @@ abbrev pub Heard : {C : Type 0} → (ℕ → ℕ) → List (View C) → ℕ → 
 Heard {C} seat_of views k = (v : View C) × (i : ℕ) × (c : C)
     × (get_elem? views (seat_of k) ≡ some v) × (get_elem? v.speaks i ≡ some (k, c))
 
+-- the rule of the table: its words, slots and views fit one list of contents and one of notes, of
+-- which the owner's rule holds
 pub record Tied {V C : Type 0} (content : V → C) (holds : List C → List C → Type 0)
     (caller_count : ℕ) (s : State (Option V) (View C)) : Type 0 where
   pub owner : ℕ → ℕ
