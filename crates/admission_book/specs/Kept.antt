@@ -34,7 +34,7 @@ pub record IsServed (rs : List CallerRecord) (t : ℕ) : Type 0 where
   pub caller : ℕ
   pub ticket : (record_at rs caller).ticket ≡ Some t
 
--- the least ticket of the first i records, where they have one
+-- there is a ticket, and it is at most this one
 abbrev pub IsAtMost : Option ℕ → ℕ → Type 0
 IsAtMost None u = ⊥
 IsAtMost (Some t) u = t ≤ u

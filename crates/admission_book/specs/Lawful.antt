@@ -15,7 +15,7 @@ pub record Lawful (m : Meaning) (b : Book) : Type 0 where
   pub follows : (t : ℕ) → Follows (m.next t) (entries b.journal t)
   pub answered : (t : ℕ) (r : Reply) → ended b.journal t ≡ Some r → now m b.journal t ≡ Answers r
   pub kept : (t : ℕ) → kept_for b t ≡ ended b.journal t
-  -- of two done_operations where the younger ticket's stands first, the operations commute
+  -- of two done operations of which the younger ticket's stands first, the operations commute
   pub inversions : InversionsCommute (done_operations b.journal)
   -- each record that isn't empty holds an open ticket, and each open ticket has one
   pub records : (c : ℕ) (s : Serving) → record_of b c ≡ Some s → Holds m b c s

@@ -38,7 +38,7 @@ number NoMemory = 11
 abbrev pub IsNoLater : CheckRefusal → CheckRefusal → Type 0
 IsNoLater e g = (place e < place g) ⊎ ((place e ≡ place g) × (number e ≤ number g))
 
--- the least of the faults that are broken
+-- the first of the broken rules
 pub record IsFirst (broken : CheckRefusal → Type 0) (e : CheckRefusal) : Type 0 where
   pub is_broken : broken e
   pub least : (g : CheckRefusal) → broken g → IsNoLater e g

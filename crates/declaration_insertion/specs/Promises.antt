@@ -13,7 +13,7 @@ use Rattle.symbolic_ops.specs.Matching.{Covered, HasNoVar, Matches}
 use Rattle.check_meaning.specs.Code.{Code}
 use Rattle.check_meaning.specs.Dialogue.{Env, Place, Calls, run, next, entry, last_place, due_place, told_place, passed_by}
 
--- a symbol with each variable known to be its value
+-- an argument, where a variable becomes known to be its value
 abbrev pub arg_at : Env → Arg → Arg
 arg_at env (Known v) = Known v
 arg_at env (Var x) = Known (env x)

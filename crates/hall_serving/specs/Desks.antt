@@ -12,7 +12,7 @@ use Rattle.session_hall.specs.declared.stage.Stage.TheVariants.{Idle, Serving, A
 use Rattle.session_hall.specs.Callers.{IsCallerOf, book_of, entries_of}
 use Rattle.session_hall.specs.Names.{hall_name, script_of}
 
--- the caller serves a ticket that has no operation in flight, and which
+-- the caller serves a ticket that has no operation in flight
 abbrev pub IsServing : Stage → Type 0
 IsServing (Serving t) = Unit {0}
 IsServing _ = ⊥
@@ -27,7 +27,7 @@ abbrev pub waiting_of : Stage → Option Entry
 waiting_of (Applied t op v) = Some (record { op = op; reply = v })
 waiting_of _ = None
 
--- whether the caller serves no ticket any more
+-- whether the caller is idle: between two tickets, and not out
 abbrev pub has_ended : Stage → Bool
 has_ended Idle = true
 has_ended _ = false
@@ -50,7 +50,8 @@ pub record HallView (S : Type 0) : Type 0 where
   pub desk : DeskView
   pub reply : Option Reply
 
--- the stage of the desk's caller
+-- the caller serves the ticket, or its operation waits, and no reply is known; or it is idle, and
+-- one is
 abbrev pub AtTicket : Stage → ℕ → Option Reply → Type 0
 AtTicket Idle t r = (x : Reply) × (r ≡ Some x)
 AtTicket (Serving u) t r = (u ≡ t) × (r ≡ None)

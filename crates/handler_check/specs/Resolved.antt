@@ -30,7 +30,7 @@ abbrev pub number_in : List ℕ → ℕ → ℕ
 number_in [] name = 0
 number_in (n ∷ ns) name = if n == name then 0 else suc (number_in ns name)
 
--- where the tables and the variables of a handler have these names
+-- an atom, where the variables of its handler have these names
 abbrev pub atom_of : List ℕ → Named → CheckedAtom
 atom_of variables (named.Lit v) = Lit v
 atom_of variables (named.Name name at) = Var (number_in variables name)

@@ -57,7 +57,7 @@ reply_text names n reply = decimal n ++ 32 ∷ value_text names reply ++ 10 ∷ 
 unfoldable pub delay_text : ℕ → ℕ → ℕ → Text
 delay_text n h i = decimal n ++ codes " delayed " ++ decimal h ++ 32 ∷ decimal i ++ 10 ∷ []
 
--- an operation with which all open holds commute is done; one that is delayed isn't
+-- an operation with which all open holds commute is done
 pub record IsDone (names : List Text) (d : Desk) (op : RangeOp) (line : Text)
     (tables : Tables) : Type 0 where
   pub free : AllByRecursion (Passes op) d.holds

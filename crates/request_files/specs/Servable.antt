@@ -15,7 +15,7 @@ pub record IsRequestOf (f : File) (r : Request) : Type 0 where
   pub args : length r.args ≡ params_at f r.handler
   pub values : AllByRecursion IsValue r.args
 
--- the bounds on the calls and on the work of some requests' handlers, added up
+-- the bounds on the calls of some requests' handlers, added up
 abbrev pub calls_in_all : File → List Request → ℕ
 calls_in_all f requests = sum_by (λ (r : Request). calls_bound (code_at f r.handler)) requests
 

@@ -21,7 +21,7 @@ Failed c = Rose (c.faults c.old) (c.faults c.new)
 abbrev pub IsUntouched : {S : Type 0} → Change S → Type 0
 IsUntouched c = c.new ≡ c.old
 
--- a sink took all of the text, or a front of it
+-- a sink took all of the text
 abbrev pub Took : {S : Type 0} → Change S → List ℕ → Type 0
 Took c text = Grew (c.bytes c.old) (c.bytes c.new) text
 

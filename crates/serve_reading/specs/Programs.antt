@@ -8,7 +8,7 @@ use Rattle.declaration_insertion.specs.Shown.{shown_of}
 use Rattle.serve_faults.specs.Input.{IsInput}
 use Rattle.serve_faults.specs.Ways.{describing}
 
--- they are those of the text, and their lists are those of their points
+-- they are those of the text and break no rule, and their lists are those of their points
 pub record IsProgramOf (text : List ℕ) (p : ProgramView) : Type 0 where
   pub form : IsSourceOf [] text p.file
   pub accepted : IsAccepted p.file

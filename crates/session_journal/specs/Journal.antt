@@ -55,7 +55,7 @@ abbrev pub Replays : Tables → List Entry → Type 0
 Replays ts [] = Unit {0}
 Replays ts (e ∷ es) = (reply ts e.op ≡ e.reply) × Replays (step ts e.op) es
 
--- of two done_operations where the younger ticket's stands first, the operations commute
+-- of two done operations of which the younger ticket's stands first, the operations commute
 abbrev pub InversionsCommute : List DoneOperation → Type 0
 InversionsCommute [] = Unit {0}
 InversionsCommute (d ∷ ds) = AllByRecursion (λ e. e.ticket < d.ticket → Commute d.op e.op) ds

@@ -45,7 +45,7 @@ max_calls = 10000
 abbrev pub max_work : ℕ
 max_work = 100000
 
--- the symbols that may still be called at a point
+-- the symbols of what may still be called at a point
 abbrev pub max_symbols : ℕ
 max_symbols = 256
 

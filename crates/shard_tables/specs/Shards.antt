@@ -26,7 +26,7 @@ pub record SetView : Type 0 where
   pub room : ℕ
   pub index : IndexView
 
--- what a shard holds
+-- what a map's shard holds
 abbrev pub bindings : MapView → map.FinMap value_cmp Value
 bindings s = map.from_entries s.entries
 
@@ -72,7 +72,7 @@ sizes_code = coded× coded_ℕ (coded× coded_ℕ (coded_list coded_ℕ))
 abbrev pub index_of : ℕ × List ℕ → IndexView
 index_of p = record { bits = p.0; slots = p.1 }
 
--- how a map's shard is told from others, and a set's
+-- how a map's shard is told from others
 abbrev pub map_code : Coded MapView
 map_code =
     code_by (List (Value × Value) × (ℕ × (ℕ × List ℕ)))

@@ -23,7 +23,7 @@ abbrev pub table_kind : Sort → Option TableKind
 table_kind (sort.Table k) = Some k
 table_kind _ = None
 
--- the statement that a word begins
+-- the statement that an operation's word begins
 abbrev pub call_start : Option Kind → Option Start
 call_start (Some k) = Some (start.Call k)
 call_start None = None

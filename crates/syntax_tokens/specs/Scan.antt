@@ -10,7 +10,7 @@ use Rattle.syntax_tokens.specs.declared.scan.Class.TheVariants as class
 use Rattle.syntax_tokens.specs.declared.token_kind.TokenKind.{TokenKind}
 use Rattle.syntax_tokens.specs.declared.token_kind.TokenKind.TheVariants as kind
 
--- a letter, a digit or `_`, or what a symbol is made of
+-- a letter, a digit or `_`; what a symbol is made of; or a digit
 abbrev pub is_in : Class → ℕ → Bool
 is_in class.Name b = is_ascii_alphanumeric b || b == 95
 is_in class.Symbol b = is_symbol_byte b

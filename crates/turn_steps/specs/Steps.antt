@@ -93,7 +93,7 @@ module _ {C : Type 0} where
   head [] = []
   head (x ∷ xs) = x ∷ []
 
-  -- a seat loses its first caller and keeps its counts, and a new seat has it with none
+  -- a seat loses its first caller and keeps its counts
   abbrev pub left_view : View C → View C
   left_view v = record {
     speaks = tail v.speaks;
