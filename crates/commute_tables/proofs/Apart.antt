@@ -1,14 +1,12 @@
 -- Changes at different keys.
-use Rattle.std.proofs.Common.{◌≡◌, Option, Some, None, Bool, true, false, cond, not, ◌&&◌, ◌||◌, refl, sym, ◌∙◌, ap, subst}
-use Rattle.std.specs.Ordering.{is_eq}
-use Rattle.std.specs.Cmp.{Equal-is, tied_itself}
+use Rattle.std.proofs.Common.{◌≡◌, Option, Some, None, Bool, true, false, cond, not, ◌&&◌, ◌||◌, refl, sym, ◌∙◌, ap}
 use Rattle.std.specs.FinMap as map
 use Rattle.std.specs.FinSet as set
 use Rattle.session_values.specs.declared.value.Value.{Value}
-use Rattle.session_values.specs.Values.{value_cmp, value_eq, value_cmp_total, value_cmp-IsAntisymmetric}
+use Rattle.session_values.specs.Values.{value_cmp, value_eq, value_cmp_total}
 use Rattle.session_values.specs.Tables.{bound_to, bumped}
 use Rattle.session_values.proofs.Bumps.{get-bound_to}
-use Rattle.session_values.proofs.Equal.{same_value, value_eq-self, not_same, same_map, same_set}
+use Rattle.session_values.proofs.Equal.{same_value, not_same}
 
 module _ (M V E : Type 0) (get : M → Value → V) (act : E → Value → M → M) (put : E → V → V)
     (get-act : (e : E) (k : Value) (m : M) (q : Value) → get (act e k m) q ≡ cond (value_eq q k) (put e (get m q)) (get m q))

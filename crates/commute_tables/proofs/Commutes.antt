@@ -19,7 +19,7 @@ use Rattle.session_values.proofs.Bumps.{bound_to-same, fits_number}
 use Rattle.commute_tables.specs.Relation.{same_bool, commutes, is_put, is_bump, is_number, is_zero, sums}
 use Rattle.commute_tables.proofs.Apart.{get_apart, act_apart, act_any, MapAct, Keep, Bind, Unbind, Sum, act_on_map, bound_by, get-act_on_map, SetAct, Stay, Join, Leave, act_on_set, member_by, contains-act_on_set}
 use Rattle.commute_tables.proofs.OneTable.{SwapsOn, commute_on, commute_apart}
-use Rattle.session_values.proofs.Equal.{same_value, not_same, same_map, same_set, value_eq-sym}
+use Rattle.session_values.proofs.Equal.{same_value, same_map, same_set, value_eq-sym}
 
 -- ---- what each kind does to a map
 abbrev pub map_act : Kind → Value → MapAct

@@ -12,14 +12,13 @@ use Rattle.session_values.specs.declared.op.Op.{Op}
 use Rattle.session_values.specs.declared.value.Value.{Value}
 use Rattle.session_values.specs.Values.{value_eq, IsValue}
 use Rattle.session_values.specs.Kinds.{home, is_keyed, is_plain, kind_place, is_on_map, is_read}
-use Rattle.session_values.specs.Tables.{Tables, Container, empty_of, start, table, reply_on, after_on, Fits, AreValues}
+use Rattle.session_values.specs.Tables.{Tables, Container, empty_of, start, table, reply_on, after_on, Fits}
 use Rattle.session_values.specs.Commuting.{Commute}
 use Rattle.session_values.specs.Op.{IsHeld}
 use Rattle.commute_tables.specs.Relation.{same_bool, commutes, is_put, is_bump, is_number, is_zero, add_up, sums}
 use Rattle.session_values.specs.Tables.{kind_of}
 use Rattle.session_values.proofs.Starts.{kinds_of_start, start_length, values_of_start}
 use Rattle.commute_tables.specs.ToldApart.{ToldApart, Differ, CommuteAt}
-use Rattle.std.specs.List.{AllByRecursion}
 use Rattle.std.specs.Bool.{MatchBool, Decides}
 use Rattle.commute_tables.proofs.Commutes.{commutes-Commute}
 use Rattle.commute_tables.proofs.OneTable.{SwapsOn, SwapsAt, swaps_to, table_after, twice_after}

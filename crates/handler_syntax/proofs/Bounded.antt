@@ -10,12 +10,12 @@ use Rattle.syntax_trees.specs.declared.stmt.Stmt.{Stmt, the_lemmas}
 use Rattle.syntax_trees.specs.declared.stmt.Stmt.TheVariants as stmt
 use Rattle.syntax_trees.specs.declared.file.File.{File}
 use Rattle.syntax_trees.specs.Mentions.{Mention, a_name, a_symbol, a_number, IsBelow, AreBelow, file_mentions}
-use Rattle.syntax_trees.proofs.Mentions.{all_join}
 use Rattle.syntax_grammar.specs.Phrase.{MoreAtoms, no_atom, more_atom, atom_count, operands, CallPhrase, a_call as call_phrase, RightPhrase, result_right, plain_right, a_turns, MoreValues, no_value, more_value, value_count, StmtPhrase, let_stmt, assign_stmt, call_stmt, if_stmt, repeat_stmt, reply_stmt, ElsePhrase, no_else, an_else, StmtsPhrase, no_stmt, more_stmts, block, HandlersPhrase, no_handler, more_handlers, a_handler, FilePhrase, a_file, file_words}
 use Rattle.syntax_grammar.specs.Tree.{atoms_trees, call_tree, right_tree, cond_tree, more_trees, values_trees, stmt_tree, else_trees, stmts_trees, handlers_trees, file_tree}
 use Rattle.syntax_grammar.specs.Limits.{StmtFits, ElseFits, StmtsFit, HandlersFit, FileFits, IsFileWithin}
 use Rattle.syntax_grammar.proofs.Said.{IsSaid, file_read, unasked}
 use Rattle.check_rules.specs.Bounds.{Form, a_call, a_reply, a_nest, right_forms, stmt_forms, block_forms, handler_forms, file_forms, IsBoundedForm, IsBoundedNumber, KeepsBounds}
+use Rattle.session_values.proofs.Lists.{all_join}
 
 abbrev Bounded : List Form → Type 0
 Bounded fs = AllByRecursion IsBoundedForm fs

@@ -6,9 +6,10 @@ use Rattle.std.proofs.lemmas.Option.{slice_get_within}
 use Rattle.session_values.specs.declared.kind.TableKind.{TableKind}
 use Rattle.session_values.specs.declared.op.Op.{Op}
 use Rattle.session_values.specs.Kinds.{home}
-use Rattle.session_values.specs.Tables.{Container, Bindings, Members, Tables, start, empty_of, table, reply, reply_on, step, after_on, kind_of}
+use Rattle.session_values.specs.Tables.{Tables, start, empty_of, table, reply, reply_on, step, after_on, kind_of}
 use Rattle.plain_tables.specs.declared.table.Table.{Table}
 use Rattle.plain_tables.specs.Containers.{container_of, tables_of}
+use Rattle.session_values.proofs.Puts.{kind_after}
 
 -- one more empty table
 start-push : (shape : List TableKind) (kind : TableKind) → start (shape ++ kind ∷ []) ≡ start shape ++ empty_of kind ∷ []
@@ -37,13 +38,9 @@ set-table [] i h = refl
 set-table (c ∷ all) zero h = refl
 set-table (c ∷ all) (suc i) h = ap (λ cs. c ∷ cs) (set-table all i (omega (arith, h)))
 
-kind-after : (c : Container) (op : Op) → kind_of (after_on c op) ≡ kind_of c
-kind-after (Bindings m) op = refl
-kind-after (Members s) op = refl
-
 kinds-after : (all : Tables) (i : ℕ) (op : Op) → map kind_of (set all i (after_on (table all i) op)) ≡ map kind_of all
 kinds-after [] i op = refl
-kinds-after (c ∷ all) zero op = ap (λ kind. kind ∷ map kind_of all) (kind-after c op)
+kinds-after (c ∷ all) zero op = ap (λ kind. kind ∷ map kind_of all) (kind_after c op)
 kinds-after (c ∷ all) (suc i) op = ap (λ kinds. kind_of c ∷ kinds) (kinds-after all i op)
 
 -- an operation leaves the kinds as they were

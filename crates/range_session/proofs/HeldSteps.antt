@@ -34,10 +34,7 @@ use Rattle.range_session.specs.declared.word.Word.{Word}
 use Rattle.range_session.specs.Words.{after_point, known_or, operand_of, range_by, range_of, word_of}
 use Rattle.range_session.specs.declared.step.Flaw.TheVariants.{UnknownWord}
 use Rattle.range_session.specs.Steps.{beside, do_by, do_of, do_with, free_by, free_of, hold_by, is_hold, number_in, op_of, op_with, parts, parts_behind, step_of, symbol_by, symbol_of, symbols_of, with_both, with_key, within_by}
-
-pub joined_all : {X : Type 0} (P : X → Type 0) (xs ys : List X) → AllByRecursion P xs → AllByRecursion P ys → AllByRecursion P (xs ++ ys)
-joined_all P [] ys h k = k
-joined_all P (x ∷ xs) ys h k = (h.0, joined_all P xs ys h.1 k)
+use Rattle.session_values.proofs.Lists.{all_join}
 
 -- ---- words
 
@@ -204,7 +201,7 @@ symbols_good (p ∷ ps) h = beside_good (symbol_of p) (symbols_of ps) (symbol_go
 parts_held : (front ws : List Word) → AllByRecursion HeldWord front → AllByRecursion HeldWord ws → AllByRecursion (λ p. AllByRecursion HeldWord p) (parts_behind front ws)
 parts_held front [] f h = (f, tt)
 parts_held front (w ∷ ws) f h =
-    go w.is_mark (parts_held [] ws tt h.1) (parts_held (front ++ w ∷ []) ws (joined_all HeldWord front (w ∷ []) f (h.0, tt)) h.1)
+    go w.is_mark (parts_held [] ws tt h.1) (parts_held (front ++ w ∷ []) ws (all_join HeldWord front (w ∷ []) f (h.0, tt)) h.1)
   where
     go : (b : Bool) → AllByRecursion (λ p. AllByRecursion HeldWord p) (parts_behind [] ws) → AllByRecursion (λ p. AllByRecursion HeldWord p) (parts_behind (front ++ w ∷ []) ws) → AllByRecursion (λ p. AllByRecursion HeldWord p) (cond b (front ∷ parts_behind [] ws) (parts_behind (front ++ w ∷ []) ws))
     go true x y = (f, x)

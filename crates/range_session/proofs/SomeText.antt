@@ -25,7 +25,8 @@ use Rattle.range_session.specs.Faults.{Holds, closed, fault_of, first_fault, hol
 use Rattle.range_session.specs.Session.{Delays, Desk, Does, IsDelayed, IsFirstAgainst, IsRangesText, Passes, Tells, delay_text, first_desk, reply_text}
 use Rattle.range_session.specs.Steps.{step_of}
 use Rattle.range_session.proofs.Going.{fault_step}
-use Rattle.range_session.proofs.HeldSteps.{IsGood, IsGoodStep, joined_all, step_good, words_held}
+use Rattle.range_session.proofs.HeldSteps.{IsGood, IsGoodStep, step_good, words_held}
+use Rattle.session_values.proofs.Lists.{all_join}
 
 -- ---- holds
 
@@ -87,7 +88,7 @@ taken names d line (Ok (Hold symbols)) s g e = record {
   line = [];
   next = record { tables = d.tables; holds = d.holds ++ Some symbols ∷ []; asked = d.asked };
   does = record { writes = (refl, refl, refl); holds = refl };
-  good = joined_all IsGoodHold d.holds (Some symbols ∷ []) g (s, tt);
+  good = all_join IsGoodHold d.holds (Some symbols ∷ []) g (s, tt);
 }
 taken names d line (Ok (Free n)) s g e = record {
   line = [];

@@ -1,8 +1,7 @@
 -- The tables that tell an operation and a count apart.
-use Rattle.std.proofs.Common.{◌≡◌, ℕ, ℤ, pos, zero, suc, ◌-◌, ◌<◌, List, [], ◌∷◌, length, length-set, Option, Some, None, is_some, Bool, true, false, cond, not, ◌||◌, eqb, refl, sym, ◌∙◌, ap, subst, arith, replicate, lit<}
+use Rattle.std.proofs.Common.{◌≡◌, ℕ, ℤ, pos, suc, ◌-◌, ◌<◌, List, length, length-set, Option, Some, is_some, Bool, true, false, cond, not, ◌||◌, eqb, refl, sym, ◌∙◌, ap, subst, arith, replicate, lit<}
 use Rattle.std.specs.Prelude.{slice_get}
 use Rattle.std.specs.Bool.{MatchBool, Decides}
-use Rattle.std.specs.List.{AllByRecursion}
 use Rattle.std.proofs.Math.ListN.{set as put_at}
 use Rattle.std.proofs.lemmas.List.{get_or-set_same, map-set}
 use Rattle.std.proofs.lemmas.Bool.Decides.{nat_tests, same_from_decides}

@@ -14,7 +14,6 @@ use Rattle.handler_check.specs.Resolved.{code_at}
 use Rattle.request_files.specs.declared.request.Request.{Request}
 use Rattle.request_files.specs.declared.tally.Tally.{Tally}
 use Rattle.request_files.specs.declared.refusal.RequestRefusal.{RequestRefusal}
-use Rattle.syntax_trees.proofs.Mentions.{all_join}
 use Rattle.request_files.specs.Servable.{IsRequestOf, IsServable, calls_in_all, work_in_all}
 use Rattle.text_lines.specs.Text.{Text, words}
 use Rattle.text_lines.specs.Values.{values_of, placed_all}
@@ -23,6 +22,7 @@ use Rattle.text_lines.specs.Rows.{Row, row_of, rows, row_before, names_behind}
 use Rattle.text_lines.proofs.ValueLemmas.{placed_all_begins, values_kept}
 use Rattle.request_files.proofs.HandlerLemmas.{handler_kept}
 use Rattle.request_files.proofs.FaultLemmas.{fault_kept}
+use Rattle.session_values.proofs.Lists.{all_join}
 
 -- ---- the same requests among more names
 

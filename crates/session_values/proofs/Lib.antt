@@ -1,6 +1,8 @@
 pub mod Bumps
 pub mod Congruent
+pub mod Entries
 pub mod Equal
+pub mod Lists
 pub mod Named
 pub mod NamesLemmas
 pub mod Puts

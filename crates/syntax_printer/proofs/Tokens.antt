@@ -18,8 +18,8 @@ use Rattle.syntax_tokens.specs.Keyword.{keyword_of, statement_word_of}
 use Rattle.syntax_tokens.specs.Words.{number_from, number_of, unquoted, names_by, sort_by}
 use Rattle.syntax_printer.specs.Canonical.{name_text}
 use Rattle.syntax_tokens.specs.Texts.{IsRun, IsNameText, IsSymbolText, text_at}
-use Rattle.syntax_trees.proofs.Mentions.{all_join}
 use Rattle.syntax_printer.proofs.Lexing.{behind, reading, token}
+use Rattle.session_values.proofs.Lists.{all_join}
 
 -- ---- what ends a token
 

@@ -12,7 +12,7 @@ use Rattle.syntax_trees.specs.declared.stmt.Right.{Right}
 use Rattle.syntax_trees.specs.declared.stmt.Stmt.{Stmt, the_lemmas as stmt_lemmas}
 use Rattle.syntax_trees.specs.declared.stmt.Stmt.TheVariants as stmt
 use Rattle.syntax_trees.specs.Alone.{alone}
-use Rattle.syntax_trees.specs.Mentions.{Mention, a_name, a_number, joined, atom_mentions, expr_mentions, call_mentions, right_mentions, cond_mentions, stmt_mentions}
+use Rattle.syntax_trees.specs.Mentions.{a_name, a_number, joined, atom_mentions, expr_mentions, call_mentions, right_mentions, cond_mentions, stmt_mentions}
 
 pub mentions_leaf : (a : Atom) → expr_mentions (alone a) ≡ atom_mentions a
 mentions_leaf (atom.Lit v) = search (rules, the_lemmas)
@@ -56,7 +56,3 @@ mentions_answer p values = search (rules, stmt_lemmas)
 pub all_first : {X : Type 0} (P : X → Type 0) (xs ys : List X) → AllByRecursion P (xs ++ ys) → AllByRecursion P xs × AllByRecursion P ys
 all_first P [] ys h = (tt, h)
 all_first P (x ∷ xs) ys h = let k = all_first P xs ys h.1 in ((h.0, k.0), k.1)
-
-pub all_join : {X : Type 0} (P : X → Type 0) (xs ys : List X) → AllByRecursion P xs → AllByRecursion P ys → AllByRecursion P (xs ++ ys)
-all_join P [] ys h k = k
-all_join P (x ∷ xs) ys h k = (h.0, all_join P xs ys h.1 k)
