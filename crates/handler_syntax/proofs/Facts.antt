@@ -11,7 +11,8 @@ use Rattle.syntax_grammar.proofs.Said as said
 use Rattle.syntax_trees.specs.Mentions.{a_name, a_symbol}
 use Rattle.syntax_tokens.specs.Texts.{HasText}
 use Rattle.session_values.specs.Names.{IsNamed}
-pub use Rattle.syntax_trees.proofs.Mentions.{mentions_leaf, mentions_binary, mentions_let, mentions_assign, mentions_perform, mentions_choose, mentions_repeat, mentions_answer, all_first, all_join}
+pub use Rattle.session_values.proofs.Lists.{all_join}
+pub use Rattle.syntax_trees.proofs.Mentions.{mentions_leaf, mentions_binary, mentions_let, mentions_assign, mentions_perform, mentions_choose, mentions_repeat, mentions_answer, all_first}
 pub use Rattle.syntax_grammar.proofs.SomeFile.{file_or_fault, fault_certain}
 use Rattle.syntax_grammar.proofs.UniqueFile.{same_file}
 
