@@ -1,8 +1,7 @@
 -- What contracts see of a desk over a caller of a hall.
-use Rattle.std.specs.Prelude.{◌≡◌, ℕ, ◌<◌, List, [], ◌∷◌, Option, Some, None, Bool, true, false}
+use Rattle.std.specs.Prelude.{◌≡◌, ℕ, ◌<◌, ◌∷◌, Option, Some, None, Bool, true, false}
 use Rattle.session_values.specs.declared.reply.Reply.{Reply}
 use Rattle.session_values.specs.Dialogue.{Entry}
-use Rattle.symbolic_ops.specs.declared.symbol.Symbol.{Symbol}
 use Rattle.session_journal.specs.Desks.{DeskView}
 use Rattle.session_journal.specs.Journal.{begun, ended}
 use Rattle.session_journal.specs.Script.{Meaning}
@@ -10,7 +9,7 @@ use Rattle.session_hall.specs.declared.hall.Hall.{Hall}
 use Rattle.session_hall.specs.declared.caller.Caller.{Caller}
 use Rattle.session_hall.specs.declared.stage.Stage.{Stage}
 use Rattle.session_hall.specs.declared.stage.Stage.TheVariants.{Idle, Serving, Applied}
-use Rattle.session_hall.specs.Callers.{IsCallerOf, book_of, entries_of}
+use Rattle.session_hall.specs.Callers.{IsCallerOf, book_of, entries_of, foresight_of}
 use Rattle.session_hall.specs.Names.{hall_name, script_of}
 
 -- the caller serves a ticket that has no operation in flight, and which
@@ -32,17 +31,12 @@ abbrev pub has_ended : Stage → Bool
 has_ended Idle = true
 has_ended _ = false
 
--- what a ticket with this foresight may still call at this stage of its caller: nothing once it has ended
-abbrev pub present_at : Stage → List Symbol → List Symbol
-present_at Idle f = []
-present_at _ f = f
-
 -- what a desk over the caller is at, while the caller is behind the reference of that name
 abbrev pub desk_at : {S : Type 0} → Hall S → Caller S → ℕ → ℕ → DeskView
 desk_at h c t name = record {
   ticket = t;
   entries = entries_of c t;
-  present = present_at c.stage c.foresight.symbols;
+  present = foresight_of c;
   waiting = waiting_of c.stage;
   ended = has_ended c.stage;
   home = name ∷ c.number ∷ hall_name h;

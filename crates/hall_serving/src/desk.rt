@@ -123,7 +123,7 @@ impl<'a, S: Script + Drop, G: Gate> Desk for HallDesk<'a, S, G> {
 
     fn finish_with<R: Threads + Wait + Sync>(&mut self, rt: &R, next: &mut Foresight) {
         self.caller
-            .finish_with(rt, self.hall, next, &mut self.waits);
+            .finish_taking(rt, self.hall, next, &mut self.waits);
         self.done = self.done.wrapping_add(1);
         self.gate.pass(rt, Place::Done(self.ticket, self.done));
     }
