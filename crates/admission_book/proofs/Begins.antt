@@ -4,11 +4,12 @@ use Rattle.std.proofs.Math.ListN.{set}
 use Rattle.std.proofs.lemmas.List.{length-map}
 use Rattle.session_values.specs.declared.reply.Reply.{Reply}
 use Rattle.symbolic_ops.specs.declared.symbol.Symbol.{Symbol}
+use Rattle.symbolic_ops.proofs.Above.{covered_itself}
 use Rattle.session_journal.specs.declared.event.Event.{Event}
 use Rattle.session_journal.specs.declared.event.Event.TheVariants.{Begin}
 use Rattle.session_journal.specs.Journal.{begun}
-use Rattle.session_journal.specs.Script.{Meaning}
-use Rattle.admission_book.specs.Book.{Serving, after_begin}
+use Rattle.session_journal.specs.Script.{Meaning, IsScript}
+use Rattle.admission_book.specs.Book.{Book, Serving, record_of, after_begin}
 use Rattle.admission_book.specs.EventsInTurn.{is_delayed}
 use Rattle.admission_book.specs.Lawful.{Lawful}
 use Rattle.admission_book.specs.declared.caller_record.CallerRecord.{CallerRecord}
@@ -21,6 +22,15 @@ use Rattle.admission_book.proofs.Shown.{shown, keeps_has, keeps_more, keeps_set,
 
 pub lines : (rs : List CallerRecord) → length (servings rs) ≡ length rs
 lines rs = length-map rs (λ (r : CallerRecord). serving_of r)
+
+-- what a ticket declares at its beginning may be its foresight then
+pub may_begin_next : (m : Meaning) (b : Book) (i : ℕ) → IsScript m → (i < length b.records) × (record_of b i ≡ None) → MayBeginNext m b i (m.entry (begun b.journal))
+may_begin_next m b i s near = record {
+  caller = near.0;
+  idle = near.1;
+  entry = λ l. s.entry (begun b.journal);
+  declared = λ l. covered_itself (m.entry (begun b.journal)) (s.entry (begun b.journal)).known;
+}
 
 module _ (m : Meaning) (J : List Event) (k : List (Option Reply)) (rs : List CallerRecord) (n i : ℕ) (f : List Symbol)
     (L : Lawful m (book_of J k rs)) (may : MayBeginNext m (book_of J k rs) i f) (left : n < m.requests) (counted : n ≡ begun J) where

@@ -1,5 +1,5 @@
 -- The fields of a book in which an operation is done.
-use Rattle.std.proofs.Common.{◌≡◌, ℕ, List, [], ◌∷◌, ◌++◌, Option, Some, None, false, refl, sym, ◌∙◌, ap, subst}
+use Rattle.std.proofs.Common.{◌≡◌, ℕ, ◌≤◌, List, [], ◌∷◌, ◌++◌, Option, Some, None, false, refl, sym, ◌∙◌, ap, subst}
 use Rattle.std.specs.Option.{IsSome}
 use Rattle.std.proofs.Math.ListN.{set}
 use Rattle.session_values.specs.declared.op.Op.{Op}
@@ -8,6 +8,7 @@ use Rattle.session_values.specs.declared.reply.Reply.{Reply}
 use Rattle.session_values.specs.Tables.{reply}
 use Rattle.session_values.specs.Dialogue.{rest, replies}
 use Rattle.symbolic_ops.specs.declared.symbol.Symbol.{Symbol}
+use Rattle.symbolic_ops.specs.Foresight.{ForesightView}
 use Rattle.symbolic_ops.specs.Matching.{Covered}
 use Rattle.session_journal.specs.declared.event.Event.{Event}
 use Rattle.session_journal.specs.declared.event.Event.TheVariants.{Done}
@@ -17,7 +18,7 @@ use Rattle.admission_book.specs.Book.{Serving, record_of, after_done}
 use Rattle.admission_book.specs.EventsInTurn.{is_delayed}
 use Rattle.admission_book.specs.Lawful.{Lawful}
 use Rattle.admission_book.specs.declared.caller_record.CallerRecord.{CallerRecord}
-use Rattle.admission_book.specs.CallerRecord.{serving_of, servings, record_at, after_flight}
+use Rattle.admission_book.specs.CallerRecord.{serving_of, servings, record_at, after_flight, after_flight_with}
 use Rattle.admission_book.specs.Methods.{MayDo, DidIt}
 use Rattle.admission_book.specs.Kept.{book_of, KeepsRecord}
 use Rattle.admission_book.proofs.Events.{begun_stays}
@@ -54,10 +55,14 @@ module _ (m : Meaning) (J : List Event) (k : List (Option Reply)) (rs : List Cal
         let Q : Op → Type 0 = λ o. IsForesight (rest (m.next t) (replies (entries J t ++ record { op = o; reply = r } ∷ []))) f in
         keeps_done m (book_of J k rs) i (served t old) op r f L at is (may.reply_is ∙ ap (reply (after m.opening J)) op_is) done_covered (subst Q op_is may.covers) (subst T op_is may.declared)
 
-    pub done_shown : (K : List Event) (new : CallerRecord) → K ≡ J ++ Done t op r ∷ [] → new ≡ after_flight old f → book_of K k (set rs i new) ≡ after_done (book_of J k rs) i (served t old) op r f
-    done_shown K new grown e =
-        shown K k rs i new (Some (record { ticket = t; foresight = f; flight = None })) (ap (λ (x : CallerRecord). serving_of x) e ∙ serving_is (after_flight old f) t p.has)
+    -- with the list that takes the place of the record's own
+    pub done_shown_with : (K : List Event) (new : CallerRecord) (g : ForesightView) → g.symbols ≡ f → K ≡ J ++ Done t op r ∷ [] → new ≡ after_flight_with old g → book_of K k (set rs i new) ≡ after_done (book_of J k rs) i (served t old) op r f
+    done_shown_with K new g list grown e =
+        shown K k rs i new (Some (record { ticket = t; foresight = f; flight = None })) (ap (λ (x : CallerRecord). serving_of x) e ∙ serving_is (after_flight_with old g) t p.has ∙ ap (λ (l : List Symbol). Some (record { ticket = t; foresight = l; flight = None })) list)
         ∙ ap (λ (H : List Event). record { journal = H; kept = k; records = set (servings rs) i (Some (record { ticket = t; foresight = f; flight = None })) }) grown
+
+    pub done_shown : (K : List Event) (new : CallerRecord) → K ≡ J ++ Done t op r ∷ [] → new ≡ after_flight old f → book_of K k (set rs i new) ≡ after_done (book_of J k rs) i (served t old) op r f
+    done_shown K new grown e = done_shown_with K new (record { symbols = f; room = old.foresight.room }) refl grown e
 
     pub did : DidIt (book_of J k rs) t r f (after_done (book_of J k rs) i (served t old) op r f)
     did c s o q e fl =
@@ -65,14 +70,18 @@ module _ (m : Meaning) (J : List Event) (k : List (Option Reply)) (rs : List Cal
         let same_op : op ≡ o = inside op o (sym is ∙ ap (λ (z : Serving). z.flight) h.1 ∙ fl) in
         λ j. after_done (book_of J k rs) (h.0 j) (h.1 j) (same_op j) r f
 
-    pub done_keeps : (new : CallerRecord) → new ≡ after_flight old f → ((c : ℕ) → KeepsRecord J (record_at rs c)) → (c : ℕ) → KeepsRecord (J ++ Done t op r ∷ []) (record_at (set rs i new) c)
-    done_keeps new e each =
-        let P : CallerRecord → Type 0 = λ x. KeepsRecord J x in
+    pub done_keeps_with : (new : CallerRecord) (g : ForesightView) → new ≡ after_flight_with old g → 256 ≤ g.room → ((c : ℕ) → KeepsRecord J (record_at rs c)) → (c : ℕ) → KeepsRecord (J ++ Done t op r ∷ []) (record_at (set rs i new) c)
+    done_keeps_with new g e roomy each =
         let Q : CallerRecord → Type 0 = λ x. KeepsRecord (J ++ Done t op r ∷ []) x in
-        let k_old : KeepsRecord J old = subst P p.is (each i) in
         keeps_set (J ++ Done t op r ∷ []) rs i new p.within
-        (subst Q (sym e) (keeps_has (J ++ Done t op r ∷ []) (after_flight old f) t p.has k_old.room (sym (is_delayed-push false J (Done t op r) t ∙ cond_same t false (is_delayed J t)))))
+        (subst Q (sym e) (keeps_has (J ++ Done t op r ∷ []) (after_flight_with old g) t p.has roomy (sym (is_delayed-push false J (Done t op r) t ∙ cond_same t false (is_delayed J t)))))
         (λ c apart. keeps_more J rs c (Done t op r) (others m (book_of J k rs) L i c (served t old) at apart) (each c))
+
+    pub old_room : ((c : ℕ) → KeepsRecord J (record_at rs c)) → 256 ≤ old.foresight.room
+    old_room each = let P : CallerRecord → Type 0 = λ x. 256 ≤ x.foresight.room in subst P p.is (each i).room
+
+    pub done_keeps : (new : CallerRecord) → new ≡ after_flight old f → ((c : ℕ) → KeepsRecord J (record_at rs c)) → (c : ℕ) → KeepsRecord (J ++ Done t op r ∷ []) (record_at (set rs i new) c)
+    done_keeps new e each = done_keeps_with new (record { symbols = f; room = old.foresight.room }) e (old_room each) each
 
     pub done_count : (n : ℕ) → n ≡ begun J → n ≡ begun (J ++ Done t op r ∷ [])
     done_count n e = e ∙ sym (begun_stays J (Done t op r) refl)

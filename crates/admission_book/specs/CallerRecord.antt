@@ -3,6 +3,7 @@ use Rattle.std.specs.Prelude.{ℕ, List, [], Option, Some, None, true, false, ma
 use Rattle.session_limits.specs.Limits.{max_symbols}
 use Rattle.session_values.specs.declared.op.Op.{Op}
 use Rattle.symbolic_ops.specs.declared.symbol.Symbol.{Symbol}
+use Rattle.symbolic_ops.specs.Foresight.{ForesightView}
 use Rattle.admission_book.specs.declared.caller_record.CallerRecord.{CallerRecord}
 use Rattle.admission_book.specs.Book.{Serving}
 
@@ -83,6 +84,10 @@ after_flight r f = record {
   flight = None;
   delayed = false;
 }
+
+-- the same with a list that is taken over with the room that it has
+abbrev pub after_flight_with : CallerRecord → ForesightView → CallerRecord
+after_flight_with r f = record { ticket = r.ticket; foresight = f; flight = None; delayed = false }
 
 abbrev pub after_ticket : CallerRecord → CallerRecord
 after_ticket r = record { ticket = None; foresight = r.foresight; flight = None; delayed = false }

@@ -1,11 +1,11 @@
 // Books.
 
-ghost use Rattle.std.specs.Prelude.{◌≡◌, ℕ, ◌+◌, ◌*◌, ◌<◌, ◌≤◌, Some, IsSome, IfOk, IfSome, length, map};
-ghost use Rattle.session_limits.specs.Limits.{max_callers};
+ghost use Rattle.std.specs.Prelude.{◌≡◌, ℕ, ◌+◌, ◌*◌, ◌<◌, ◌≤◌, None, Some, IsSome, IfOk, IfSome, length, map};
+ghost use Rattle.session_limits.specs.Limits.{max_callers, max_symbols};
 ghost use Rattle.session_values.specs.Serial.{serial, serial_replies, tables_before};
-ghost use Rattle.session_journal.specs.Journal.{after, ended};
+ghost use Rattle.session_journal.specs.Journal.{after, begun, ended};
 ghost use Rattle.session_journal.specs.Script.{IsScript, calls, session_of};
-ghost use Rattle.admission_book.specs.Book.{kept_for, opened};
+ghost use Rattle.admission_book.specs.Book.{kept_for, opened, record_of};
 ghost use Rattle.admission_book.specs.Lawful.{Lawful};
 ghost use Rattle.admission_book.specs.Methods.{Admits, Begins, DidIt, HasEnded, IfNext, IsOldestOpen, MayAdmit, MayBeginNext, MayDo, MayEnd, MayNarrow, Narrowed, StaysLawful};
 
@@ -124,6 +124,30 @@ impl<S: Script + Drop> Book<S> {
         Some(t)
     }
 
+    /// Begins the next ticket for a caller with what it declares at its beginning, or None where
+    /// all are begun. The declaration is made where it is kept.
+    pub fn begin_next(&mut self, caller: u32) -> Option<u32>
+        requires lawful { Lawful (S.meaning self.old.script) self.old.book }
+        requires caller { caller < length self.old.book.records }
+        requires idle { record_of self.old.book caller ≡ None }
+        ensures begins { Begins (S.meaning self.old.script) self.old.book caller
+            ((S.meaning self.old.script).entry (begun self.old.book.journal))
+            result self.new.book }
+        ensures stays { StaysLawful S S.meaning self.old self.new }
+    {
+        let inner = &mut *self.inner;
+        if inner.begun >= inner.script.requests() {
+            return None;
+        }
+        let t = inner.begun;
+        inner
+            .journal
+            .push_reserved(Event::Begin { ticket: t, caller });
+        inner.begun += 1;
+        inner.records[caller as usize].begin_entry(&inner.script, t);
+        Some(t)
+    }
+
     /// Makes a list that the ticket's foresight covers its foresight.
     pub fn narrow(&mut self, t: u32, f: &Foresight)
         requires lawful { Lawful (S.meaning self.old.script) self.old.book }
@@ -174,6 +198,27 @@ impl<S: Script + Drop> Book<S> {
         let inner = &mut *self.inner;
         let caller = place_of(inner.records.as_slice(), t);
         let op = inner.records[caller].finish(next);
+        let done = Event::Done {
+            ticket: t,
+            op,
+            reply,
+        };
+        inner.journal.push_reserved(done);
+    }
+
+    /// The same with a list that it takes over: what `next` then holds says nothing, and it keeps
+    /// room for 256 symbols.
+    pub fn done_with(&mut self, t: u32, reply: Value, next: &mut Foresight)
+        requires lawful { Lawful (S.meaning self.old.script) self.old.book }
+        requires may { MayDo (S.meaning self.old.script) self.old.book t reply next.old.symbols }
+        requires room { max_symbols ≤ next.old.room }
+        ensures did { DidIt self.old.book t reply next.old.symbols self.new.book }
+        ensures stays { StaysLawful S S.meaning self.old self.new }
+        ensures room { max_symbols ≤ next.new.room }
+    {
+        let inner = &mut *self.inner;
+        let caller = place_of(inner.records.as_slice(), t);
+        let op = inner.records[caller].finish_with(next);
         let done = Event::Done {
             ticket: t,
             op,

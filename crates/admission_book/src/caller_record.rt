@@ -1,11 +1,13 @@
 // What a book keeps of one caller.
 
-ghost use Rattle.std.specs.Prelude.{◌≡◌, ◌≤◌, Some, IsSome, IfOk, length};
+ghost use Rattle.std.specs.Prelude.{◌≡◌, ◌<◌, ◌≤◌, Some, IsSome, IfOk, length};
 ghost use Rattle.std.specs.Bool.{Decides};
+ghost use Rattle.session_limits.specs.Limits.{max_symbols};
 ghost use Rattle.symbolic_ops.specs.Matching.{Covered};
-ghost use Rattle.admission_book.specs.CallerRecord.{idle_record, with_ticket, with_symbols, with_flight, after_flight, after_ticket};
+ghost use Rattle.admission_book.specs.CallerRecord.{idle_record, with_ticket, with_symbols, with_flight, after_flight, after_flight_with, after_ticket};
 
 use crate::marked_foresight::MarkedForesight;
+use session_journal::Script;
 use session_limits::MAX_SYMBOLS;
 use session_values::{NoMemory, Op};
 use std::alloc::Global;
@@ -59,6 +61,18 @@ impl CallerRecord {
         self.foresight.take(entry);
     }
 
+    /// Takes over a ticket of a script with what it declares at its beginning, which is made here.
+    pub(crate) fn begin_entry<S: Script>(&mut self, script: &S, t: u32)
+        requires ticket { t < (S.meaning script.now).requests }
+        requires room { max_symbols ≤ self.old.foresight.room }
+        ensures { self.new ≡ with_ticket self.old t ((S.meaning script.now).entry t) }
+    {
+        self.ticket = Some(t);
+        self.flight = None;
+        self.delayed = false;
+        self.foresight.take_entry(script, t);
+    }
+
     /// Makes a list that its own covers the ticket's foresight.
     pub(crate) fn narrow(&mut self, f: &Foresight)
         requires room { length f.now.symbols ≤ self.old.foresight.room }
@@ -87,6 +101,21 @@ impl CallerRecord {
         self.flight = None;
         self.delayed = false;
         self.foresight.narrow(next);
+        op
+    }
+
+    /// The same with a list that it takes over, for which it leaves its own.
+    pub(crate) fn finish_with(&mut self, next: &mut Foresight) -> Op
+        requires flight { IsSome self.old.flight }
+        requires covered { Covered next.old.symbols self.old.foresight.symbols }
+        ensures op { self.old.flight ≡ Some result }
+        ensures finished { self.new ≡ after_flight_with self.old next.old }
+        ensures left { next.new ≡ self.old.foresight }
+    {
+        let op = self.flight.unwrap();
+        self.flight = None;
+        self.delayed = false;
+        self.foresight.narrow_with(next);
         op
     }
 

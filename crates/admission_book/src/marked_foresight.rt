@@ -1,16 +1,19 @@
 // A foresight with the tables that it touches.
 
-ghost use Rattle.std.specs.Prelude.{◌≡◌, ◌≤◌, [], MatchOption, IfOk, length};
+ghost use Rattle.std.specs.Prelude.{◌≡◌, ◌<◌, ◌≤◌, [], MatchOption, IfOk, length};
 ghost use Rattle.std.specs.List.{AllByRecursion};
+ghost use Rattle.session_limits.specs.Limits.{max_symbols};
 ghost use Rattle.symbolic_ops.specs.Matching.{Covered};
 ghost use Rattle.commute_tables.specs.Symbols.{CommutesWith};
 ghost use Rattle.admission_book.specs.Book.{IsFirstAgainst};
 
 use crate::blocker::first_against;
 use crate::touched_tables::TouchedTables;
+use session_journal::Script;
 use session_values::{NoMemory, Op};
 use std::alloc::Global;
 use std::marker::Model;
+use std::mem::swap;
 use symbolic_ops::{Foresight, Symbol};
 
 /// A foresight beside the tables that its symbols touch, so that a search passes it at once where
@@ -55,6 +58,19 @@ impl MarkedForesight {
         self.touched = TouchedTables::of(entry.symbols());
     }
 
+    /// Takes what a ticket of a script declares at its beginning in place of its own.
+    pub(crate) fn take_entry<S: Script>(&mut self, script: &S, t: u32)
+        requires ticket { t < (S.meaning script.now).requests }
+        requires room { max_symbols ≤ self.old.room }
+        ensures { self.new ≡ record {
+          symbols = (S.meaning script.now).entry t;
+          room = self.old.room;
+        } }
+    {
+        script.entry(t, &mut self.foresight);
+        self.touched = TouchedTables::of(self.foresight.symbols());
+    }
+
     /// Takes symbols that its own cover in their place.
     pub(crate) fn narrow(&mut self, next: &Foresight)
         requires room { length next.now.symbols ≤ self.old.room }
@@ -62,6 +78,15 @@ impl MarkedForesight {
         ensures { self.new ≡ record { symbols = next.now.symbols; room = self.old.room } }
     {
         self.foresight.replace(next);
+    }
+
+    /// Takes a list that its own covers over, and leaves its own for it.
+    pub(crate) fn narrow_with(&mut self, next: &mut Foresight)
+        requires { Covered next.old.symbols self.old.symbols }
+        ensures taken { self.new ≡ next.old }
+        ensures left { next.new ≡ self.old }
+    {
+        swap(&mut self.foresight, next);
     }
 
     /// The first symbol with which the operation doesn't commute.

@@ -1,7 +1,7 @@
 // Shards of either kind.
 
 ghost use Rattle.std.specs.Prelude.{◌≡◌};
-ghost use Rattle.session_values.specs.Tables.{kind_of, reply_on};
+ghost use Rattle.session_values.specs.Tables.{kind_of, reply_on, size_of};
 ghost use Rattle.session_values.specs.Kinds.{home};
 ghost use Rattle.shard_tables.specs.Shards.{HasRoomFor, shard_after};
 ghost use Rattle.hall_rule.specs.Shards.{shard_view};
@@ -17,6 +17,16 @@ pub enum Part {
 }
 
 impl Part {
+    /// How many keys it has.
+    pub fn len(&self) -> u32
+        ensures { result ≡ size_of (shard_view self.now).container }
+    {
+        match self {
+            Part::Bindings(shard) => shard.len(),
+            Part::Members(shard) => shard.len(),
+        }
+    }
+
     /// Does one operation on the part.
     pub fn apply(&mut self, op: Op) -> Value
         requires kind { kind_of (shard_view self.old).container ≡ home op.kind }

@@ -11,20 +11,20 @@ use Rattle.session_hall.specs.declared.caller.Caller.{Caller}
 use Rattle.session_hall.specs.declared.hall.Hall.{Hall}
 use Rattle.session_hall.specs.declared.stage.Stage.{Stage}
 use Rattle.session_hall.specs.declared.stage.Stage.TheVariants.{Idle, Serving, InFlight, Applied, Out}
-use Rattle.session_hall.specs.Callers.{book_of, entries_of}
+use Rattle.session_hall.specs.Callers.{book_of, entries_of, foresight_of}
 use Rattle.session_hall.specs.Calls.{MayFinishAt}
 use Rattle.session_hall.specs.Names.{script_of}
 use Rattle.hall_serving.specs.Desks.{AtTicket, DeskStands, HallView, IsCallerOfDesk, desk_at, waiting_of}
 
 -- what the desk is asked before it enters an operation
-pub may_finish : {S : Type 0} (meaning : S → Meaning) (h : Hall S) (c : Caller S) (t name : ℕ) (r : Option Reply) (stands : DeskStands meaning h c t r) (v : HallView S) → record { script = script_of h; desk = desk_at h c t name; reply = r } ≡ v → (next : List Symbol) → desks.MayFinish (meaning v.script) v.desk v.desk.waiting next → MayFinishAt (meaning (script_of h)) c.stage c.foresight.symbols (book_of c) next
+pub may_finish : {S : Type 0} (meaning : S → Meaning) (h : Hall S) (c : Caller S) (t name : ℕ) (r : Option Reply) (stands : DeskStands meaning h c t r) (v : HallView S) → record { script = script_of h; desk = desk_at h c t name; reply = r } ≡ v → (next : List Symbol) → desks.MayFinish (meaning v.script) v.desk v.desk.waiting next → MayFinishAt (meaning (script_of h)) c.stage (foresight_of c) (book_of c) next
 may_finish {S} meaning h c t name r stands v is next may =
     let P : HallView S → Type 0 = λ w. desks.MayFinish (meaning w.script) w.desk w.desk.waiting next in
     go c.stage stands.at (subst P (sym is) may)
   where
-    go : (st : Stage) → AtTicket st t r → desks.MayFinish (meaning (script_of h)) (desk_at h c t name) (waiting_of st) next → MayFinishAt (meaning (script_of h)) st c.foresight.symbols (book_of c) next
+    go : (st : Stage) → AtTicket st t r → desks.MayFinish (meaning (script_of h)) (desk_at h c t name) (waiting_of st) next → MayFinishAt (meaning (script_of h)) st (foresight_of c) (book_of c) next
     go (Applied u op w) at m =
-        let Q : ℕ → Type 0 = λ x. Covered next c.foresight.symbols
+        let Q : ℕ → Type 0 = λ x. Covered next (foresight_of c)
         × IsForesight (rest ((meaning (script_of h)).next x) (replies (entries_of c x ++ record { op = op; reply = w } ∷ []))) next
         × Covered next ((meaning (script_of h)).told x (replies (entries_of c x ++ record { op = op; reply = w } ∷ []))) in
         let T : List Symbol → Type 0 = λ l. Covered next l in

@@ -9,7 +9,7 @@ use Rattle.session_hall.specs.declared.hall.Hall.{Hall}
 use Rattle.session_hall.specs.declared.caller.Caller.{Caller}
 use Rattle.session_hall.specs.declared.stage.Stage.{Stage}
 use Rattle.session_hall.specs.declared.stage.Stage.TheVariants.{Idle, Serving, Applied}
-use Rattle.session_hall.specs.Callers.{IsCallerOf, book_of, entries_of}
+use Rattle.session_hall.specs.Callers.{IsCallerOf, book_of, entries_of, foresight_of}
 use Rattle.session_hall.specs.Names.{hall_name, script_of}
 
 -- the caller serves a ticket that has no operation in flight
@@ -37,7 +37,7 @@ abbrev pub desk_at : {S : Type 0} → Hall S → Caller S → ℕ → ℕ → De
 desk_at h c t name = record {
   ticket = t;
   entries = entries_of c t;
-  present = c.foresight.symbols;
+  present = foresight_of c;
   waiting = waiting_of c.stage;
   ended = has_ended c.stage;
   home = name ∷ c.number ∷ hall_name h;

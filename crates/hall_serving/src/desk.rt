@@ -121,6 +121,13 @@ impl<'a, S: Script + Drop, G: Gate> Desk for HallDesk<'a, S, G> {
         self.gate.pass(rt, Place::Done(self.ticket, self.done));
     }
 
+    fn finish_with<R: Threads + Wait + Sync>(&mut self, rt: &R, next: &mut Foresight) {
+        self.caller
+            .finish_taking(rt, self.hall, next, &mut self.waits);
+        self.done = self.done.wrapping_add(1);
+        self.gate.pass(rt, Place::Done(self.ticket, self.done));
+    }
+
     fn declare<R: Threads + Wait + Sync>(&mut self, rt: &R, f: &Foresight) {
         self.caller.declare_with(rt, self.hall, f, &mut self.waits);
     }

@@ -2,7 +2,7 @@
 
 ghost use Rattle.std.specs.Prelude.{◌≡◌, ◌<◌, [], Some, true};
 ghost use Rattle.session_journal.specs.Journal.{begun, ended};
-ghost use Rattle.session_hall.specs.Callers.{IsCallerOf, book_of, entries_of};
+ghost use Rattle.session_hall.specs.Callers.{IsCallerOf, book_of, entries_of, foresight_of};
 ghost use Rattle.session_hall.specs.Names.{script_of};
 ghost use Rattle.session_hall.specs.declared.stage.Stage.TheVariants.{Idle, Serving};
 ghost use Rattle.hall_serving.specs.Jobs.{IsJobOf, HasServed};
@@ -41,7 +41,7 @@ fn serve_ticket<R: Threads + Wait + Sync, S: Serves + Drop, G: Gate>(
     requires stage { caller.old.stage ≡ Serving ticket }
     requires within { ticket < (S.meaning plan.now).requests }
     requires fresh { entries_of caller.old ticket ≡ [] }
-    requires entry { caller.old.foresight.symbols ≡ (S.meaning plan.now).entry ticket }
+    requires entry { foresight_of caller.old ≡ (S.meaning plan.now).entry ticket }
     ensures caller { IsCallerOf S.meaning hall.now caller.new }
     ensures same { caller.new.number ≡ caller.old.number }
     ensures ready { scratch.new.ready ≡ true }

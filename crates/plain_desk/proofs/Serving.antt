@@ -220,19 +220,19 @@ whole_range all first =
     take-all (e ∷ es) = ap (λ (fs : List Entry). e ∷ fs) (take-all es)
 
 -- the ticket ends
-pub end_kept : (m : Meaning) (t : ℕ) (f : List Symbol) (w : Option Entry) (b : Bool) (ts : Tables) (symbols : ℕ) (all : List Entry) (room first : ℕ) (ended grown : List EndedTicket) (kept wider until : ℕ) (r : Reply)
+pub end_kept : (m : Meaning) (t : ℕ) (f g : List Symbol) (w : Option Entry) (b : Bool) (ts : Tables) (symbols roomy : ℕ) (all : List Entry) (room first : ℕ) (ended grown : List EndedTicket) (kept wider until : ℕ) (r : Reply)
     → w ≡ None → b ≡ false → next_of m (desk_of t (drop first all) f w b) ≡ Answers r
-    → grown ≡ ended ++ record { reply = r; from = first; until = until } ∷ [] → until ≡ length all → wider ≡ kept
+    → grown ≡ ended ++ record { reply = r; from = first; until = until } ∷ [] → until ≡ length all → wider ≡ kept → roomy ≡ symbols
     → Keeps m (desk_of t (drop first all) f w b) ts symbols all room first ended kept
-    → Keeps m (desk_of t (drop first all) f w true) ts symbols all room first grown wider
-end_kept m t f w b ts symbols all room first ended grown kept wider until r idle going answers more last same k =
-    let P : List EndedTicket → Type 0 = λ xs. Keeps m (desk_of t (drop first all) f w true) ts symbols all room first xs wider in
+    → Keeps m (desk_of t (drop first all) g w true) ts roomy all room first grown wider
+end_kept m t f g w b ts symbols roomy all room first ended grown kept wider until r idle going answers more last same roomier k =
+    let P : List EndedTicket → Type 0 = λ xs. Keeps m (desk_of t (drop first all) g w true) ts roomy all room first xs wider in
     let o : IsOpen m (desk_of t (drop first all) f w b) ts = k.is_open going in
     let s : EndsSerially m t (drop first all) r = ends_serially m t (drop first all) r k.script o.follows o.replays answers in
     let x : EndedTicket = record { reply = r; from = first; until = length all } in
     let at_last : grown ≡ ended ++ x ∷ [] = more ∙ ap (λ (n : ℕ). ended ++ record { reply = r; from = first; until = n } ∷ []) last in
     let n : length ended ≡ t = k.count ∙ counted t m.requests (t + cond b 1 0) o.ticket ∙ ap (λ (c : Bool). t + cond {A = ℕ} c 1 0) going ∙ plain t in
-    let count : suc t ≡ ended_count m (desk_of t (drop first all) f w true) = sym (counted t m.requests (t + 1) o.ticket ∙ one t) in
+    let count : suc t ≡ ended_count m (desk_of t (drop first all) g w true) = sym (counted t m.requests (t + 1) o.ticket ∙ one t) in
     let here : IsSerial (session_of m) all t x = record { order = k.within; within = omega arith; entries = whole_range all first ∙ s.entries; answer = s.answer } in
     subst P (sym at_last) (record {
       script = k.script;
@@ -247,7 +247,7 @@ end_kept m t f w b ts symbols all room first ended grown kept wider until r idle
       };
       within = k.within;
       room = k.room;
-      symbols = k.symbols;
+      symbols = omega (arith, k.symbols, roomier);
       replies = omega (arith, k.replies, same);
     })
   where

@@ -178,6 +178,14 @@ impl<S: Script + Drop> Desk for PlainDesk<S> {
         }
     }
 
+    fn finish_with<R: Threads + Wait + Sync>(&mut self, _rt: &R, next: &mut Foresight) {
+        if let Some(done) = self.waiting {
+            self.entries.push_reserved(done);
+            self.waiting = None;
+            self.present.replace(next);
+        }
+    }
+
     fn declare<R: Threads + Wait + Sync>(&mut self, _rt: &R, f: &Foresight) {
         self.present.replace(f);
     }
@@ -188,6 +196,7 @@ impl<S: Script + Drop> Desk for PlainDesk<S> {
             from: self.from,
             until: self.entries.len(),
         });
+        self.present.clear();
         self.is_ended = true;
     }
 }

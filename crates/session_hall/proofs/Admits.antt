@@ -27,34 +27,35 @@ use Rattle.hall_rule.specs.Law.{inside}
 use Rattle.session_hall.specs.declared.caller.Caller.{Caller}
 use Rattle.session_hall.specs.declared.hall.Hall.{Hall}
 use Rattle.session_hall.specs.declared.stage.Stage.TheVariants.{Serving as Serves, InFlight}
-use Rattle.session_hall.specs.Callers.{IsCallerOf}
+use Rattle.session_hall.specs.Callers.{IsCallerOf, foresight_of}
 use Rattle.session_hall.specs.Calls.{AdmittedAt, DelayedAt}
 use Rattle.session_hall.specs.Findings.{HasBook}
 use Rattle.session_hall.specs.Names.{script_of}
 use Rattle.session_hall.specs.Stages.{SeatOf, OnServing, waiting, flying}
-use Rattle.session_hall.proofs.Giving.{one_record, same_records, own_set, quiet_moves, left_is, who, holds_none, gave_back, caller_after}
+use Rattle.session_hall.proofs.Giving.{one_record, same_records, own_set, quiet_moves, left_is, who, holds_none, gave_back, caller_after, foresight_left}
 use Rattle.session_hall.proofs.Tickets.{on_serving, own_record, still, empty_hands, owner_more}
 
 module _ {S : Type 0} (meaning : S → Meaning) (h : Hall S) (c : Caller S) (k : IsCallerOf meaning h c) (q : SeatOf S) (b : BookView S) (v : SameNote c.seat q) (f : HasBook c.seat q meaning (script_of h) (turn_count h.board) b) (t : ℕ) (st : c.stage ≡ Serves t)
     (d : BookView S) (kept : d.script ≡ b.script) (lawful : Lawful (meaning d.script) d.book) (op : Op) where
   module _ (admits : books.Admits b.book t op admission.Admitted d.book) where
     abbrev after : Book
-    after = after_admit b.book (caller c.seat) (waiting t c.foresight.symbols) op
+    after = after_admit b.book (caller c.seat) (waiting t (foresight_of c)) op
 
     is_admitted : d.book ≡ after
-    is_admitted = admits.1 (caller c.seat) (waiting t c.foresight.symbols) (own_record meaning h c k q b v f t st) refl
+    is_admitted = admits.1 (caller c.seat) (waiting t (foresight_of c)) (own_record meaning h c k q b v f t st) refl
 
     pub admit_moves : Moves meaning (turn_count h.board) (caller q) (held q) (put_back content_of (value.Register d) c.hands.pairs)
     admit_moves = quiet_moves meaning h c k q b v f d kept lawful after is_admitted [] refl
-        (one_record (meaning (script_of h)) (caller c.seat) b.book after (Some (flying t c.foresight.symbols op)) [] refl (append-nil b.book.journal) tt) c.hands.pairs (empty_hands meaning h c k q b v f t st)
+        (one_record (meaning (script_of h)) (caller c.seat) b.book after (Some (flying t (foresight_of c) op)) [] refl (append-nil b.book.journal) tt) c.hands.pairs (empty_hands meaning h c k q b v f t st)
 
-    module _ (r : Caller S) (seat : IsSeatOf h.board r.seat) (bk : BookedAll q r.seat (Register d.script d.book)) (pairs : r.hands.pairs ≡ []) (reserved : r.hands.room ≡ c.hands.room) (number : r.number ≡ c.number) (fores : r.foresight ≡ c.foresight) (stage : r.stage ≡ InFlight t op) where
+    module _ (r : Caller S) (seat : IsSeatOf h.board r.seat) (bk : BookedAll q r.seat (Register d.script d.book)) (pairs : r.hands.pairs ≡ []) (reserved : r.hands.room ≡ c.hands.room) (number : r.number ≡ c.number) (stage : r.stage ≡ InFlight t op) where
+      admitted_here : record_of after (caller r.seat) ≡ Some (flying t (foresight_of c) op)
+      admitted_here = own_set meaning h c k q b v f (Some (flying t (foresight_of c) op)) (caller r.seat) (who meaning h c k q b v f d kept lawful after is_admitted r seat bk pairs reserved number)
+
       pub admitted_caller : IsCallerOf meaning h r
       admitted_caller =
-          let w : caller r.seat ≡ caller c.seat = who meaning h c k q b v f d kept lawful after is_admitted r seat bk pairs reserved number in
-          let room : 256 ≤ r.foresight.room = omega (arith, ap (λ (x : ForesightView). x.room) fores, k.room) in
-          caller_after meaning h c k q b v f d kept lawful after is_admitted r seat bk pairs reserved number room (InFlight t op) stage
-          (own_set meaning h c k q b v f (Some (flying t c.foresight.symbols op)) (caller r.seat) w ∙ ap (λ (x : ForesightView). Some (flying t x.symbols op)) (sym fores), holds_none meaning h c k q b v f d kept lawful after is_admitted r seat bk pairs reserved number)
+          caller_after meaning h c k q b v f d kept lawful after is_admitted r seat bk pairs reserved number (foresight_of c) (InFlight t op) stage
+          (admitted_here, holds_none meaning h c k q b v f d kept lawful after is_admitted r seat bk pairs reserved number)
 
       pub admitted_at : OnServing c.stage (AdmittedAt (meaning (script_of h)) c r op)
       admitted_at = on_serving c.stage t (AdmittedAt (meaning (script_of h)) c r op) st (record {
@@ -62,7 +63,7 @@ module _ {S : Type 0} (meaning : S → Meaning) (h : Hall S) (c : Caller S) (k :
         gave = gave_back meaning h c k q b v f d kept lawful after is_admitted r seat bk pairs reserved number;
         free = admits.0;
         stage_is = stage;
-        foresight_still = fores;
+        foresight_still = foresight_left meaning h c k q b v f d kept lawful after is_admitted r seat bk pairs reserved number (Some (flying t (foresight_of c) op)) admitted_here;
         entries_still = ap (λ (w : Book). entries w.journal t) (left_is meaning h c k q b v f d kept lawful after is_admitted r seat bk pairs reserved number) ∙ still meaning h c k q b v f t st;
       })
 
@@ -96,18 +97,21 @@ module _ {S : Type 0} (meaning : S → Meaning) (h : Hall S) (c : Caller S) (k :
         let z : IsBlocker b.book t op older y = delays.0 in
         let near : z.caller < length b.book.records = within b.book.records z.caller z.serving z.is in
         let e : z.caller ≡ caller c.seat = omega (arith, near, f.finds.callers_are, one, f.finds.near) in
-        let s : z.serving ≡ waiting t c.foresight.symbols = inside z.serving (waiting t c.foresight.symbols) (sym z.is ∙ ap (record_of b.book) e ∙ own_record meaning h c k q b v f t st) in
+        let s : z.serving ≡ waiting t (foresight_of c) = inside z.serving (waiting t (foresight_of c)) (sym z.is ∙ ap (record_of b.book) e ∙ own_record meaning h c k q b v f t st) in
         let u : z.serving.ticket ≡ t = ap (λ (x : Serving). x.ticket) s in
         omega (arith, u, z.ticket, z.is_older)
 
-    module _ (r : Caller S) (seat : IsSeatOf h.board r.seat) (bk : BookedAll q r.seat (Register d.script d.book)) (pairs : r.hands.pairs ≡ []) (reserved : r.hands.room ≡ c.hands.room) (number : r.number ≡ c.number) (fores : r.foresight ≡ c.foresight) (stage : r.stage ≡ c.stage) where
+    module _ (r : Caller S) (seat : IsSeatOf h.board r.seat) (bk : BookedAll q r.seat (Register d.script d.book)) (pairs : r.hands.pairs ≡ []) (reserved : r.hands.room ≡ c.hands.room) (number : r.number ≡ c.number) (stage : r.stage ≡ c.stage) where
+      delayed_here : record_of later (caller r.seat) ≡ Some (waiting t (foresight_of c))
+      delayed_here =
+          let w : caller r.seat ≡ caller c.seat = who meaning h c k q b v f d kept lawful later delays.1 r seat bk pairs reserved number in
+          let own : record_of later (caller c.seat) ≡ record_of b.book (caller c.seat) = ap (λ (l : List (Option Serving)). record_of (record { journal = []; kept = []; records = l }) (caller c.seat)) delay.records in
+          ap (record_of later) w ∙ own ∙ own_record meaning h c k q b v f t st
+
       pub delayed_caller : IsCallerOf meaning h r
       delayed_caller =
-          let w : caller r.seat ≡ caller c.seat = who meaning h c k q b v f d kept lawful later delays.1 r seat bk pairs reserved number in
-          let room : 256 ≤ r.foresight.room = omega (arith, ap (λ (x : ForesightView). x.room) fores, k.room) in
-          let own : record_of later (caller c.seat) ≡ record_of b.book (caller c.seat) = ap (λ (l : List (Option Serving)). record_of (record { journal = []; kept = []; records = l }) (caller c.seat)) delay.records in
-          caller_after meaning h c k q b v f d kept lawful later delays.1 r seat bk pairs reserved number room (Serves t) (stage ∙ st)
-          (ap (record_of later) w ∙ own ∙ own_record meaning h c k q b v f t st ∙ ap (λ (x : ForesightView). Some (waiting t x.symbols)) (sym fores), holds_none meaning h c k q b v f d kept lawful later delays.1 r seat bk pairs reserved number)
+          caller_after meaning h c k q b v f d kept lawful later delays.1 r seat bk pairs reserved number (foresight_of c) (Serves t) (stage ∙ st)
+          (delayed_here, holds_none meaning h c k q b v f d kept lawful later delays.1 r seat bk pairs reserved number)
 
       pub delayed_at : (IsOldestOpen (Some t) b.book.journal → ⊥) → OnServing c.stage (DelayedAt (meaning (script_of h)) c r op older y)
       delayed_at oldest = on_serving c.stage t (DelayedAt (meaning (script_of h)) c r op older y) st (record {
@@ -117,7 +121,7 @@ module _ {S : Type 0} (meaning : S → Meaning) (h : Hall S) (c : Caller S) (k :
         not_oldest = oldest;
         several = several;
         stage_is = stage ∙ st;
-        foresight_still = fores;
+        foresight_still = foresight_left meaning h c k q b v f d kept lawful later delays.1 r seat bk pairs reserved number (Some (waiting t (foresight_of c))) delayed_here;
         entries_still = ap (λ (w : Book). entries w.journal t) (left_is meaning h c k q b v f d kept lawful later delays.1 r seat bk pairs reserved number) ∙ delay.entries_still ∙ still meaning h c k q b v f t st;
       })
 

@@ -21,12 +21,12 @@ use Rattle.session_hall.specs.declared.caller.Caller.{Caller}
 use Rattle.session_hall.specs.declared.hall.Hall.{Hall}
 use Rattle.session_hall.specs.declared.stage.Stage.{Stage}
 use Rattle.session_hall.specs.declared.stage.Stage.TheVariants.{Idle, Serving as Serves, InFlight, Applied, Out}
-use Rattle.session_hall.specs.Callers.{IsCallerOf, book_of}
+use Rattle.session_hall.specs.Callers.{IsCallerOf, book_of, foresight_of}
 use Rattle.session_hall.specs.Calls.{BeganTicket, FoundAllBegun}
 use Rattle.session_hall.specs.Findings.{HasBook}
 use Rattle.session_hall.specs.Names.{script_of}
 use Rattle.session_hall.specs.Stages.{SeatOf, HoldsNone, Stands, IsBetween, waiting}
-use Rattle.session_hall.proofs.Giving.{Changes, one_record, same_records, at_script, near, own_set, left_is, who, holds_none, gave_back, caller_after}
+use Rattle.session_hall.proofs.Giving.{Changes, one_record, same_records, at_script, near, own_set, left_is, who, holds_none, gave_back, caller_after, foresight_left}
 
 other_test : (a b : ℕ) → a ≢ b → eqb a b ≡ false
 other_test a b e = grind (arith, nat_tests)
@@ -47,7 +47,7 @@ between m turns (Applied t op v) f b s xs i h = absurd i
 
 module _ {S : Type 0} (meaning : S → Meaning) (h : Hall S) (c : Caller S) (k : IsCallerOf meaning h c) (i : IsBetween c.stage) where
   stands_between : (record_of (book_of c) (caller c.seat) ≡ None) × HoldsNone c.seat c.hands.pairs
-  stands_between = between (meaning (script_of h)) (turn_count h.board) c.stage c.foresight.symbols (book_of c) c.seat c.hands.pairs i k.stands
+  stands_between = between (meaning (script_of h)) (turn_count h.board) c.stage (foresight_of c) (book_of c) c.seat c.hands.pairs i k.stands
 
   pub no_pairs : c.hands.pairs ≡ []
   no_pairs = stands_between.1.no_pairs
@@ -68,11 +68,10 @@ module _ {S : Type 0} (meaning : S → Meaning) (h : Hall S) (c : Caller S) (k :
           let Q : Book → Type 0 = λ w. (meaning (script_of h)).requests ≤ begun w.journal in
           subst Q same (subst P (kept ∙ f.script_is) all)
 
-      pub out_caller : r.foresight ≡ c.foresight → r.stage ≡ Out → IsCallerOf meaning h r
-      out_caller fores stage =
+      pub out_caller : r.stage ≡ Out → IsCallerOf meaning h r
+      out_caller stage =
           let w : caller r.seat ≡ caller c.seat = who meaning h c k q b v f d kept lawful b.book same r seat g pairs reserved number in
-          let room : 256 ≤ r.foresight.room = omega (arith, ap (λ (x : ForesightView). x.room) fores, k.room) in
-          caller_after meaning h c k q b v f d kept lawful b.book same r seat g pairs reserved number room Out stage
+          caller_after meaning h c k q b v f d kept lawful b.book same r seat g pairs reserved number [] Out stage
           (ap (record_of b.book) w ∙ no_record, all_begun, holds_none meaning h c k q b v f d kept lawful b.book same r seat g pairs reserved number)
 
       pub found_all_begun : r.stage ≡ Out → FoundAllBegun (meaning (script_of h)) c r
@@ -117,13 +116,13 @@ module _ {S : Type 0} (meaning : S → Meaning) (h : Hall S) (c : Caller S) (k :
         begin_changes = one_record (meaning (script_of h)) (caller c.seat) b.book after (Some (waiting (begun b.book.journal) ((meaning (script_of h)).entry t))) (Begin (begun b.book.journal) (caller c.seat) ∷ []) refl refl
             (owner_new b.book.journal (begun b.book.journal) (caller c.seat) (begun_only.owner (begun b.book.journal) (omega arith)), tt)
 
-        module _ (r : Caller S) (seat : IsSeatOf h.board r.seat) (g : BookedAll q r.seat (Register d.script d.book)) (pairs : r.hands.pairs ≡ []) (reserved : r.hands.room ≡ c.hands.room) (number : r.number ≡ c.number) (symbols : r.foresight.symbols ≡ entry) (stage : r.stage ≡ Serves t) where
-          pub begun_caller : 256 ≤ r.foresight.room → IsCallerOf meaning h r
-          begun_caller room =
+        module _ (r : Caller S) (seat : IsSeatOf h.board r.seat) (g : BookedAll q r.seat (Register d.script d.book)) (pairs : r.hands.pairs ≡ []) (reserved : r.hands.room ≡ c.hands.room) (number : r.number ≡ c.number) (stage : r.stage ≡ Serves t) where
+          pub begun_caller : IsCallerOf meaning h r
+          begun_caller =
               let w : caller r.seat ≡ caller c.seat = who meaning h c k q b v f d kept lawful after book_begun r seat g pairs reserved number in
               let x : Option Serving = Some (waiting (begun b.book.journal) ((meaning (script_of h)).entry t)) in
-              caller_after meaning h c k q b v f d kept lawful after book_begun r seat g pairs reserved number room (Serves t) stage
-              (own_set meaning h c k q b v f x (caller r.seat) w ∙ (λ i. Some (waiting (sym next i) (sym (symbols ∙ entry_here) i))), holds_none meaning h c k q b v f d kept lawful after book_begun r seat g pairs reserved number)
+              caller_after meaning h c k q b v f d kept lawful after book_begun r seat g pairs reserved number ((meaning (script_of h)).entry t) (Serves t) stage
+              (own_set meaning h c k q b v f x (caller r.seat) w ∙ (λ i. Some (waiting (sym next i) ((meaning (script_of h)).entry t))), holds_none meaning h c k q b v f d kept lawful after book_begun r seat g pairs reserved number)
 
           pub began_ticket : BeganTicket (meaning (script_of h)) c r t
           began_ticket =
@@ -136,6 +135,6 @@ module _ {S : Type 0} (meaning : S → Meaning) (h : Hall S) (c : Caller S) (k :
                 next = next;
                 within = subst P f.script_is left;
                 stage_is = stage;
-                foresight_is = symbols ∙ entry_here;
+                foresight_is = foresight_left meaning h c k q b v f d kept lawful after book_begun r seat g pairs reserved number (Some (waiting (begun b.book.journal) ((meaning (script_of h)).entry t))) (own_set meaning h c k q b v f (Some (waiting (begun b.book.journal) ((meaning (script_of h)).entry t))) (caller r.seat) (who meaning h c k q b v f d kept lawful after book_begun r seat g pairs reserved number));
                 no_entries = ap (λ (w : Book). entries w.journal t) l ∙ ap (of_ticket t) (done_operations_stay b.book.journal (Begin (begun b.book.journal) (caller c.seat)) refl) ∙ none_yet t (done_operations b.book.journal) (subst Q (sym next) begun_only.done_operations);
               }

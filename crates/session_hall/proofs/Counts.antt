@@ -1,5 +1,6 @@
 -- The contents of what is in the hands.
 use Rattle.std.proofs.Common.{◌≡◌, ℕ, zero, suc, ◌+◌, ◌<◌, ◌≤◌, List, [], ◌∷◌, ◌++◌, length, length-append, map, append_assoc, append-nil, Option, Some, None, Bool, cond, eqb, ℤ, pos, refl, sym, ◌∙◌, ap, subst, arith}
+use Rattle.std.specs.Prelude.{slice_get}
 use Rattle.std.specs.List.{AllByRecursion}
 use Rattle.session_values.specs.declared.kind.Kind.{Kind}
 use Rattle.session_values.specs.declared.kind.Kind.TheVariants.{Get, Put, Swap, Del, Size, Bump, Has, Add, Mark, Drop, Count}
@@ -15,10 +16,10 @@ use Rattle.session_values.specs.Sums.{sum_below}
 use Rattle.turn_board.specs.Hands.{in_hands, Once}
 use Rattle.hall_rule.specs.declared.held.Held.{Held}
 use Rattle.hall_rule.specs.Contents.{Content, Register, Shard}
-use Rattle.hall_rule.specs.Law.{none_some}
+use Rattle.hall_rule.specs.Law.{inside, none_some}
 use Rattle.hall_rule.specs.Shards.{content_of}
 use Rattle.hall_rule.proofs.Shares.{keyless_stays}
-use Rattle.session_hall.specs.Working.{AllCan, CanCount, CanDo, CountedFirst, Counting, FirstCan, FirstCounts, HasCounted, WorkedFirst, WorkedTo, all_keys, contents, keys_in}
+use Rattle.session_hall.specs.Working.{AllCan, AreShards, CanDo, Counting, FirstCan, HasKeysAt, HasShardAt, IsAnyShard, WorkedFirst, WorkedTo, all_keys, contents, keys_in}
 use Rattle.session_hall.proofs.TurnSets.{same_test, other_test, up, up_more, up_none}
 
 -- ---- the reply of an operation without a key
@@ -124,123 +125,104 @@ module _ {S : Type 0} where
   keys_within x xs ys = let e : all_keys (xs ++ x ∷ ys) ≡ all_keys xs + (keys_in x.1 + all_keys ys) = all_keys-append xs (x ∷ ys) in omega (arith, e)
 
   -- ---- the first shard
-  pub counted_length : (pairs now : List (ℕ × Held S)) (n : ℕ) → CountedFirst pairs now n → length now ≡ length pairs
-  counted_length [] now n c = absurd c
-  counted_length (x ∷ xs) now n c = let e : length (xs ++ (x.0, c.0) ∷ []) ≡ length xs + 1 = length-append xs ((x.0, c.0) ∷ []) in omega (arith, ap length c.1, e)
-
   pub first_can : (op : Op) (pairs rest : List (ℕ × Held S)) (turn : ℕ) (y : Held S) → pairs ≡ (turn, y) ∷ rest → FirstCan op pairs → CanDo op (content_of y)
   first_can op pairs rest turn y e can = let P : List (ℕ × Held S) → Type 0 = λ l. FirstCan op l in subst P e can
 
   pub worked_first : (op : Op) (pairs rest now : List (ℕ × Held S)) (turn : ℕ) (x y : Held S) (v : Value) → pairs ≡ (turn, x) ∷ rest → now ≡ rest ++ (turn, y) ∷ [] → WorkedTo op (content_of x) (content_of y) v → WorkedFirst op pairs now v
   worked_first op pairs rest now turn x y v e f w = let P : List (ℕ × Held S) → Type 0 = λ l. WorkedFirst op l now v in subst P (sym e) (y, f, w)
 
-  counts_can : (op : Op) (pairs : List (ℕ × Held S)) → FirstCounts op pairs → FirstCan op pairs
-  counts_can op [] c = c
-  counts_can op (x ∷ xs) c = c.0
-
-  counted_to : (op : Op) (x y : Content S) (v : Value) → arguments op.kind ≡ 0 → CanDo op x → WorkedTo op x y v → (y ≡ x) × (v ≡ Num (pos (keys_in x)))
-  counted_to op (Register s b) y v none can w = absurd w
-  counted_to op (Shard c room) y v none can w = (w.0 ∙ ap (λ (d : Container). Shard d room) (keyless_stays c op none), w.1 ∙ keyless_reply c op none can.0)
-
-  -- the reply is a number, and small
-  pub first_number : (op : Op) (pairs now : List (ℕ × Held S)) (v : Value) → arguments op.kind ≡ 0 → FirstCounts op pairs → WorkedFirst op pairs now v → (n : ℕ) × (v ≡ Num (pos n)) × (n ≤ 200000) × CountedFirst pairs now n
-  first_number op [] now v none can w = absurd w
-  first_number op (x ∷ xs) now v none can w =
-      let r : (content_of w.0 ≡ content_of x.1) × (v ≡ Num (pos (keys_in (content_of x.1)))) = counted_to op (content_of x.1) (content_of w.0) v none can.0 w.2 in
-      (keys_in (content_of x.1), r.1, can.1, (w.0, w.1, r.0, refl))
-
   -- ---- one shard after another
-  pub count_start : (op : Op) (xs : List (ℕ × Held S)) → CanCount op xs → Counting op xs xs 0 0
-  count_start op xs can = record { front = []; back = contents xs; whole = refl; turned = sym (append-nil (contents xs)); long = refl; counted = refl; can = can.0; few = can.1 }
+  pub count_start : (xs : List (ℕ × Held S)) → AreShards (contents xs) → all_keys (contents xs) ≤ 200000 → Counting xs 0 0
+  count_start xs shards few = record { front = []; back = contents xs; whole = refl; long = refl; counted = refl; shards = shards; few = few }
 
-  lengths : (first now : List (ℕ × Held S)) (op : Op) (done count : ℕ) (k : Counting op first now done count) → length first ≡ done + length k.back
-  lengths first now op done count k =
-      let a : length (contents first) ≡ length (k.front ++ k.back) = ap length k.whole in
-      let b : length (contents first) ≡ length first = length-contents first in
+  is_shard : (op : Op) (y : Content S) → CanDo op y → IsAnyShard y
+  is_shard op (Shard c room) x = tt
+  is_shard op (Register s b) x = x
+
+  pub are_shards : (op : Op) (xs : List (ℕ × Content S)) → AllCan op xs → AreShards xs
+  are_shards op [] a = tt
+  are_shards op (x ∷ xs) a = (is_shard op x.1 a.0, are_shards op xs a.1)
+
+  lengths : (pairs : List (ℕ × Held S)) (done count : ℕ) (k : Counting pairs done count) → length pairs ≡ done + length k.back
+  lengths pairs done count k =
+      let a : length (contents pairs) ≡ length (k.front ++ k.back) = ap length k.whole in
+      let b : length (contents pairs) ≡ length pairs = length-contents pairs in
       let d : length (k.front ++ k.back) ≡ length k.front + length k.back = length-append k.front k.back in
       omega (arith, a, b, d, k.long)
 
-  -- what stands first is counted next
-  record Next (op : Op) (first now : List (ℕ × Held S)) (k : List (ℕ × Content S)) (front : List (ℕ × Content S)) : Type 0 where
+  -- what stands at a place of the pairs stands there among their contents
+  content_at : (pairs : List (ℕ × Held S)) (i : ℕ) (x : ℕ × Held S) → slice_get pairs i ≡ Some x → slice_get (contents pairs) i ≡ Some (x.0, content_of x.1)
+  content_at [] zero x e = absurd (none_some x e)
+  content_at [] (suc i) x e = absurd (none_some x e)
+  content_at (y ∷ ys) zero x e = ap (λ (z : ℕ × Held S). let o : Option (ℕ × Content S) = Some (z.0, content_of z.1) in o) (inside y x e)
+  content_at (y ∷ ys) (suc i) x e = content_at ys i x e
+
+  -- what stands behind a front
+  behind : (front : List (ℕ × Content S)) (z : ℕ × Content S) (zs : List (ℕ × Content S)) → slice_get (front ++ z ∷ zs) (length front) ≡ Some z
+  behind [] z zs = refl
+  behind (y ∷ ys) z zs = behind ys z zs
+
+  -- what is counted next
+  record Next (k : List (ℕ × Content S)) : Type 0 where
     z : ℕ × Content S
     zs : List (ℕ × Content S)
     back_is : k ≡ z ∷ zs
 
-  next_of : (op : Op) (first now : List (ℕ × Held S)) (k front : List (ℕ × Content S)) → 0 < length k → Next op first now k front
-  next_of op first now [] front l = absurd (omega arith)
-  next_of op first now (z ∷ zs) front l = record { z = z; zs = zs; back_is = refl }
+  next_of : (k : List (ℕ × Content S)) → 0 < length k → Next k
+  next_of [] l = absurd (omega arith)
+  next_of (z ∷ zs) l = record { z = z; zs = zs; back_is = refl }
 
-  pub count_can : (op : Op) (first now : List (ℕ × Held S)) (done count : ℕ) → Counting op first now done count → done < length first → FirstCounts op now
-  count_can op first now done count k l =
-      let n : Next op first now k.back k.front = next_of op first now k.back k.front (omega (arith, l, lengths first now op done count k)) in
-      let turned : contents now ≡ n.z ∷ (n.zs ++ k.front) = k.turned ∙ ap (λ (b : List (ℕ × Content S)). b ++ k.front) n.back_is in
-      let P : List (ℕ × Content S) → Type 0 = λ b. AllCan op b in
-      let can : AllCan op (n.z ∷ n.zs) = subst P n.back_is k.can in
-      let whole : contents first ≡ k.front ++ n.z ∷ n.zs = k.whole ∙ ap (λ (b : List (ℕ × Content S)). k.front ++ b) n.back_is in
-      let small : keys_in n.z.1 ≤ 200000 = omega (arith, keys_within n.z k.front n.zs, ap all_keys whole, k.few) in
-      go now (n.zs ++ k.front) n.z turned can.0 small
-    where
-      head : (x z : ℕ × Content S) (xs zs : List (ℕ × Content S)) → ◌≡◌ {A = List (ℕ × Content S)} (x ∷ xs) (z ∷ zs) → z ≡ x
-      head x z xs zs e = cc
+  module _ (pairs : List (ℕ × Held S)) (done count : ℕ) (k : Counting pairs done count) (l : done < length pairs) where
+    next : Next k.back
+    next = next_of k.back (omega (arith, l, lengths pairs done count k))
 
-      nil_cons : (z : ℕ × Content S) (zs : List (ℕ × Content S)) → ◌≡◌ {A = List (ℕ × Content S)} [] (z ∷ zs) → ⊥
-      nil_cons z zs e = cc
+    whole : contents pairs ≡ k.front ++ next.z ∷ next.zs
+    whole = k.whole ∙ ap (λ (b : List (ℕ × Content S)). k.front ++ b) next.back_is
 
-      go : (xs : List (ℕ × Held S)) (rest : List (ℕ × Content S)) (z : ℕ × Content S) → contents xs ≡ z ∷ rest → CanDo op z.1 → keys_in z.1 ≤ 200000 → FirstCounts op xs
-      go [] rest z e can small = absurd (nil_cons z rest e)
-      go (x ∷ xs) rest z e can small =
-          let P : ℕ × Content S → Type 0 = λ y. CanDo op y.1 × (keys_in y.1 ≤ 200000) in
-          subst P (head (x.0, content_of x.1) z (contents xs) rest e) (can, small)
+    shards_next : AreShards (next.z ∷ next.zs)
+    shards_next = let P : List (ℕ × Content S) → Type 0 = λ b. AreShards b in subst P next.back_is k.shards
 
-  pub count_next : (op : Op) (first now later : List (ℕ × Held S)) (done count n : ℕ) → Counting op first now done count → done < length first → CountedFirst now later n → Counting op first later (done + 1) (count + n)
-  count_next op first now later done count n k l c =
-      let x : Next op first now k.back k.front = next_of op first now k.back k.front (omega (arith, l, lengths first now op done count k)) in
-      let turned : contents now ≡ x.z ∷ (x.zs ++ k.front) = k.turned ∙ ap (λ (b : List (ℕ × Content S)). b ++ k.front) x.back_is in
-      let P : List (ℕ × Content S) → Type 0 = λ b. AllCan op b in
-      let can : AllCan op (x.z ∷ x.zs) = subst P x.back_is k.can in
-      let moved : (contents later ≡ (x.zs ++ k.front) ++ x.z ∷ []) × (n ≡ keys_in x.z.1) = go now (x.zs ++ k.front) x.z turned c in
-      let more : all_keys (k.front ++ x.z ∷ []) ≡ all_keys k.front + (keys_in x.z.1 + 0) = all_keys-append k.front (x.z ∷ []) in
-      let long : length (k.front ++ x.z ∷ []) ≡ length k.front + 1 = length-append k.front (x.z ∷ []) in
-      record {
-        front = k.front ++ x.z ∷ [];
-        back = x.zs;
-        whole = k.whole ∙ ap (λ (b : List (ℕ × Content S)). k.front ++ b) x.back_is ∙ sym (append_assoc k.front (x.z ∷ []) x.zs);
-        turned = moved.0 ∙ append_assoc x.zs k.front (x.z ∷ []);
-        long = omega (arith, long, k.long);
-        counted = omega (arith, more, k.counted, moved.1);
-        can = can.1;
-        few = k.few;
-      }
-    where
-      head : (x z : ℕ × Content S) (xs zs : List (ℕ × Content S)) → ◌≡◌ {A = List (ℕ × Content S)} (x ∷ xs) (z ∷ zs) → x ≡ z
-      head x z xs zs e = cc
+    at : (x : ℕ × Held S) → slice_get pairs done ≡ Some x → next.z ≡ (x.0, content_of x.1)
+    at x e =
+        let here : slice_get (contents pairs) done ≡ Some next.z = ap (λ (b : List (ℕ × Content S)). slice_get b done) whole ∙ ap (slice_get (k.front ++ next.z ∷ next.zs)) (sym k.long) ∙ behind k.front next.z next.zs in
+        inside next.z (x.0, content_of x.1) (sym here ∙ content_at pairs done x e)
 
-      tail : (x z : ℕ × Content S) (xs zs : List (ℕ × Content S)) → ◌≡◌ {A = List (ℕ × Content S)} (x ∷ xs) (z ∷ zs) → xs ≡ zs
-      tail x z xs zs e = cc
+    pub count_can : HasShardAt done pairs
+    count_can x e = let P : ℕ × Content S → Type 0 = λ y. IsAnyShard y.1 in subst P (at x e) shards_next.0
 
-      nil_cons : (z : ℕ × Content S) (zs : List (ℕ × Content S)) → ◌≡◌ {A = List (ℕ × Content S)} [] (z ∷ zs) → ⊥
-      nil_cons z zs e = cc
+    pub count_next : (n : ℕ) → HasKeysAt done pairs n → Counting pairs (done + 1) (count + n)
+    count_next n keys =
+        let has : (x : ℕ × Held S) × (slice_get pairs done ≡ Some x) = some_at pairs done l in
+        let n_is : n ≡ keys_in next.z.1 = keys has.0 has.1 ∙ ap (λ (y : ℕ × Content S). keys_in y.1) (sym (at has.0 has.1)) in
+        let more : all_keys (k.front ++ next.z ∷ []) ≡ all_keys k.front + (keys_in next.z.1 + 0) = all_keys-append k.front (next.z ∷ []) in
+        let long : length (k.front ++ next.z ∷ []) ≡ length k.front + 1 = length-append k.front (next.z ∷ []) in
+        record {
+          front = k.front ++ next.z ∷ [];
+          back = next.zs;
+          whole = whole ∙ sym (append_assoc k.front (next.z ∷ []) next.zs);
+          long = omega (arith, long, k.long);
+          counted = omega (arith, more, k.counted, n_is);
+          shards = shards_next.1;
+          few = k.few;
+        }
+      where
+        some_at : (xs : List (ℕ × Held S)) (i : ℕ) → i < length xs → (x : ℕ × Held S) × (slice_get xs i ≡ Some x)
+        some_at [] i h = absurd (omega (arith, h))
+        some_at (x ∷ xs) zero h = (x, refl)
+        some_at (x ∷ xs) (suc i) h = some_at xs i (omega (arith, h))
 
-      go : (xs : List (ℕ × Held S)) (rest : List (ℕ × Content S)) (z : ℕ × Content S) → contents xs ≡ z ∷ rest → CountedFirst xs later n → (contents later ≡ rest ++ z ∷ []) × (n ≡ keys_in z.1)
-      go [] rest z e c = absurd (nil_cons z rest e)
-      go (y ∷ ys) rest z e c =
-          let h : ◌≡◌ {A = ℕ × Content S} (y.0, content_of y.1) z = head (y.0, content_of y.1) z (contents ys) rest e in
-          let t : contents ys ≡ rest = tail (y.0, content_of y.1) z (contents ys) rest e in
-          (ap contents c.1 ∙ contents-append ys ((y.0, c.0) ∷ []) ∙ ap (λ (d : Content S). contents ys ++ (y.0, d) ∷ []) c.2 ∙ (λ i. t i ++ h i ∷ []), c.3 ∙ ap (λ (w : ℕ × Content S). keys_in w.1) h)
-
-  pub count_end : (op : Op) (first now : List (ℕ × Held S)) (done count : ℕ) → Counting op first now done count → length first ≤ done → HasCounted first now count
-  count_end op first now done count k l =
-      let none : k.back ≡ [] = go k.back (omega (arith, l, lengths first now op done count k)) in
-      let whole : contents first ≡ k.front = k.whole ∙ ap (λ (b : List (ℕ × Content S)). k.front ++ b) none ∙ append-nil k.front in
-      let turned : contents now ≡ k.front = k.turned ∙ ap (λ (b : List (ℕ × Content S)). b ++ k.front) none in
-      (turned ∙ sym whole, k.counted ∙ ap all_keys (sym whole))
+  pub count_end : (pairs : List (ℕ × Held S)) (done count : ℕ) → Counting pairs done count → length pairs ≤ done → count ≡ all_keys (contents pairs)
+  count_end pairs done count k l =
+      let none : k.back ≡ [] = go k.back (omega (arith, l, lengths pairs done count k)) in
+      let whole : contents pairs ≡ k.front = k.whole ∙ ap (λ (b : List (ℕ × Content S)). k.front ++ b) none ∙ append-nil k.front in
+      k.counted ∙ ap all_keys (sym whole)
     where
       go : (zs : List (ℕ × Content S)) → length zs ≤ 0 → zs ≡ []
       go [] h = refl
       go (z ∷ zs) h = absurd (omega (arith, h))
 
-  pub count_few : (op : Op) (first now : List (ℕ × Held S)) (done count : ℕ) → Counting op first now done count → count ≤ 200000
-  count_few op first now done count k = omega (arith, k.counted, k.few, ap all_keys k.whole, all_keys-append k.front k.back)
+  pub count_few : (pairs : List (ℕ × Held S)) (done count : ℕ) → Counting pairs done count → count ≤ 200000
+  count_few pairs done count k = omega (arith, k.counted, k.few, ap all_keys k.whole, all_keys-append k.front k.back)
 
   -- ---- by turns
   pub keys_sum : (f : ℕ → ℕ) (zs : List (ℕ × Content S)) → AllByRecursion (λ z. keys_in z.1 ≡ f z.0) zs → all_keys zs ≡ sum_over f (map (λ (z : ℕ × Content S). z.0) zs)

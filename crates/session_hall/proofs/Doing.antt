@@ -34,11 +34,11 @@ use Rattle.session_hall.specs.declared.caller.Caller.{Caller}
 use Rattle.session_hall.specs.declared.hall.Hall.{Hall}
 use Rattle.session_hall.specs.declared.stage.Stage.{Stage}
 use Rattle.session_hall.specs.declared.stage.Stage.TheVariants.{InFlight, Applied}
-use Rattle.session_hall.specs.Callers.{IsCallerOf, book_of, entries_of}
+use Rattle.session_hall.specs.Callers.{IsCallerOf, book_in, book_of, entries_of, foresight_of}
 use Rattle.session_hall.specs.Calls.{AppliedAt}
 use Rattle.session_hall.specs.Findings.{Finds}
 use Rattle.session_hall.specs.Names.{script_of}
-use Rattle.session_hall.specs.Stages.{SeatOf, HoldsNone, Stands, OnFlight, flying}
+use Rattle.session_hall.specs.Stages.{SeatOf, HoldsNone, Stands, OnFlight, flying, foresight_in}
 use Rattle.session_hall.specs.Working.{CanDo, CanWork, HasWorked, WorkedFirst, WorkedTo, all_keys, contents, keys_in}
 use Rattle.session_hall.proofs.Counts.{each_of, find_in, found_once, in_find, keyless_reply, keys_sum, once_found, once_in, sum_over, sum_same, sum_up, turns_of}
 use Rattle.session_hall.proofs.Finding.{finds_book, is_tied, shard_at}
@@ -59,14 +59,14 @@ module _ {S : Type 0} (meaning : S → Meaning) (h : Hall S) (c : Caller S) (k :
   abbrev lo : ℕ
   lo = suc (place h.sizes.shards op)
 
-  stands_here : Stands (meaning (script_of h)) (turn_count h.board) (InFlight t op) c.foresight.symbols (book_of c) c.seat c.hands.pairs
-  stands_here = let P : Stage → Type 0 = λ s. Stands m turns s c.foresight.symbols (book_of c) c.seat c.hands.pairs in subst P st k.stands
+  stands_here : Stands (meaning (script_of h)) (turn_count h.board) (InFlight t op) (foresight_of c) (book_of c) c.seat c.hands.pairs
+  stands_here = let P : Stage → Type 0 = λ s. Stands m turns s (foresight_of c) (book_of c) c.seat c.hands.pairs in subst P st k.stands
 
   pub nothing : HoldsNone c.seat c.hands.pairs
   nothing = stands_here.1
 
-  noted_flight : Holds (meaning (script_of h)) (book_of c) (caller c.seat) (flying t c.foresight.symbols op)
-  noted_flight = k.lawful.records (caller c.seat) (flying t c.foresight.symbols op) stands_here.0
+  noted_flight : Holds (meaning (script_of h)) (book_of c) (caller c.seat) (flying t (foresight_of c) op)
+  noted_flight = k.lawful.records (caller c.seat) (flying t (foresight_of c) op) stands_here.0
 
   fits : Fits (meaning (script_of h)).shape op
   fits = k.script_kept.fits t (replies (entries_of c t)) op (noted_flight.flight op refl)
@@ -168,8 +168,8 @@ module _ {S : Type 0} (meaning : S → Meaning) (h : Hall S) (c : Caller S) (k :
       finds : Finds (meaning (script_of h)) (book_of c) told.tied.book (caller c.seat) (caller_count c.seat)
       finds = finds_book meaning (script_of h) turns c.seat q k.noted v told
 
-      flight_found : Holds (meaning (script_of h)) told.tied.book (caller c.seat) (flying t c.foresight.symbols op)
-      flight_found = finds.lawful.records (caller c.seat) (flying t c.foresight.symbols op) (sym finds.since.own ∙ stands_here.0)
+      flight_found : Holds (meaning (script_of h)) told.tied.book (caller c.seat) (flying t (foresight_of c) op)
+      flight_found = finds.lawful.records (caller c.seat) (flying t (foresight_of c) op) (sym finds.since.own ∙ stands_here.0)
 
       can_do : (u : ℕ) (x : Content S) → held q u ≡ Some x → CanDo op x
       can_do u x e =
@@ -350,24 +350,24 @@ module _ {S : Type 0} (meaning : S → Meaning) (h : Hall S) (c : Caller S) (k :
         -- the caller has the operation's turns, with what the operation made of them
         module _ (seat : IsSeatOf h.board q) (hands : HandsView (Held S)) (pairs : hands.pairs ≡ ys) (reserved : hands.room ≡ c.hands.room) where
           abbrev later : Caller S
-          later = record { seat = q; number = c.number; stage = Applied t op answer; foresight = c.foresight; hands = hands }
+          later = record { seat = q; number = c.number; stage = Applied t op answer; hands = hands }
 
           done_here : WasDone (meaning (script_of h)) (turn_count h.board) op answer (held q) (in_hands content_of hands.pairs)
           done_here = let P : List (ℕ × Held S) → Type 0 = λ l. WasDone m turns op answer (held q) (in_hands content_of l) in subst P (sym pairs) was_done
 
-          pub applied_caller : IsCallerOf meaning h (record { seat = q; number = c.number; stage = Applied t op answer; foresight = c.foresight; hands = hands })
+          pub applied_caller : IsCallerOf meaning h (record { seat = q; number = c.number; stage = Applied t op answer; hands = hands })
           applied_caller =
               let P : List (ℕ × Held S) → Type 0 = λ l. Once (content_of {S = S}) l in
-              caller_on meaning h c k later seat v refl k.room reserved (subst P (sym pairs) once_worked) (ap (record_of (book_of c)) v.caller_is ∙ stands_here.0, done_here)
+              caller_on meaning h c k later seat v refl reserved (subst P (sym pairs) once_worked) (foresight_of c) (ap (record_of (book_of c)) v.caller_is ∙ stands_here.0, done_here)
 
-          pub applied_at : OnFlight c.stage (AppliedAt (meaning (script_of h)) c (record { seat = q; number = c.number; stage = Applied t op answer; foresight = c.foresight; hands = hands }) (turn_count h.board) answer)
+          pub applied_at : OnFlight c.stage (AppliedAt (meaning (script_of h)) c (record { seat = q; number = c.number; stage = Applied t op answer; hands = hands }) (turn_count h.board) answer)
           applied_at =
               let P : Stage → Type 0 = λ s. OnFlight s (AppliedAt m c later turns answer) in
               subst P (sym st) (record {
                 rule = is_tied meaning (script_of h) turns c.seat q k.noted v told (ap (λ (i : TableId). i.slots) seat.placed.of_table);
                 done = done_here;
                 stage_is = refl;
-                foresight_still = refl;
+                foresight_still = ap (λ (x : Option (Content S)). foresight_in (record_of (book_in x) c.number)) v.note_is;
                 note_still = v.note_is;
                 given_still = v.given_is;
                 change_still = v.change_is;

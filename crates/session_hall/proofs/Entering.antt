@@ -31,12 +31,12 @@ use Rattle.session_hall.specs.declared.caller.Caller.{Caller}
 use Rattle.session_hall.specs.declared.hall.Hall.{Hall}
 use Rattle.session_hall.specs.declared.stage.Stage.{Stage}
 use Rattle.session_hall.specs.declared.stage.Stage.TheVariants.{Serving as Serves, Applied}
-use Rattle.session_hall.specs.Callers.{IsCallerOf, book_of, entries_of}
+use Rattle.session_hall.specs.Callers.{IsCallerOf, book_of, entries_of, foresight_of}
 use Rattle.session_hall.specs.Calls.{MayFinish, MayFinishAt, FinishedFrom}
 use Rattle.session_hall.specs.Findings.{HasBook}
 use Rattle.session_hall.specs.Names.{script_of}
 use Rattle.session_hall.specs.Stages.{SeatOf, Stands, waiting, flying}
-use Rattle.session_hall.proofs.Giving.{at_script, own_set, lawful_left, register_is, left_is, who, holds_none, gave_back, caller_after, opens}
+use Rattle.session_hall.proofs.Giving.{at_script, own_set, lawful_left, register_is, left_is, who, holds_none, gave_back, caller_after, foresight_left, opens}
 
 -- ---- what was in a turn and what is in the hands
 worked_held : {S : Type 0} (op : Op) (o k : Option (Content S)) (x : Content S) → ChangedBy op o k → k ≡ Some x → (c : Container) × (room : ℕ) × (o ≡ Some (Shard c room)) × (x ≡ Shard (after_on c op) room)
@@ -59,17 +59,17 @@ module _ {S : Type 0} (meaning : S → Meaning) (h : Hall S) (c : Caller S) (k :
   abbrev m : Meaning
   m = meaning (script_of h)
 
-  stands_here : Stands (meaning (script_of h)) (turn_count h.board) (Applied t op answer) c.foresight.symbols (book_of c) c.seat c.hands.pairs
-  stands_here = let P : Stage → Type 0 = λ s. Stands (meaning (script_of h)) (turn_count h.board) s c.foresight.symbols (book_of c) c.seat c.hands.pairs in subst P st k.stands
+  stands_here : Stands (meaning (script_of h)) (turn_count h.board) (Applied t op answer) (foresight_of c) (book_of c) c.seat c.hands.pairs
+  stands_here = let P : Stage → Type 0 = λ s. Stands (meaning (script_of h)) (turn_count h.board) s (foresight_of c) (book_of c) c.seat c.hands.pairs in subst P st k.stands
 
   worked : WasDone (meaning (script_of h)) (turn_count h.board) op answer (held c.seat) (in_hands content_of c.hands.pairs)
   worked = stands_here.1
 
-  own_record : record_of b.book (caller c.seat) ≡ Some (flying t c.foresight.symbols op)
+  own_record : record_of b.book (caller c.seat) ≡ Some (flying t (foresight_of c) op)
   own_record = sym f.finds.since.own ∙ stands_here.0
 
-  holds : Holds (meaning (script_of h)) b.book (caller c.seat) (flying t c.foresight.symbols op)
-  holds = f.finds.lawful.records (caller c.seat) (flying t c.foresight.symbols op) own_record
+  holds : Holds (meaning (script_of h)) b.book (caller c.seat) (flying t (foresight_of c) op)
+  holds = f.finds.lawful.records (caller c.seat) (flying t (foresight_of c) op) own_record
 
   still : entries b.book.journal t ≡ entries_of c t
   still = entries_since (book_of c) b.book (caller c.seat) t f.finds.since holds.owner
@@ -89,13 +89,13 @@ module _ {S : Type 0} (meaning : S → Meaning) (h : Hall S) (c : Caller S) (k :
 
   pub may_do : (next : List Symbol) → MayFinish (meaning (script_of h)) c next → MayDo (meaning b.script) b.book t answer next
   may_do next may =
-      let P : Stage → Type 0 = λ s. MayFinishAt m s c.foresight.symbols (book_of c) next in
-      let a : MayFinishAt m (Applied t op answer) c.foresight.symbols (book_of c) next = subst P st may in
+      let P : Stage → Type 0 = λ s. MayFinishAt m s (foresight_of c) (book_of c) next in
+      let a : MayFinishAt m (Applied t op answer) (foresight_of c) (book_of c) next = subst P st may in
       let T : List Entry → Type 0 = λ es. Covered next (m.told t (replies (es ++ record { op = op; reply = answer } ∷ []))) in
       let R : List Entry → Type 0 = λ es. IsForesight (rest (m.next t) (replies (es ++ record { op = op; reply = answer } ∷ []))) next in
       at_script meaning h c k q b v f (λ n. MayDo n b.book t answer next) (record {
         caller = caller c.seat;
-        serving = flying t c.foresight.symbols op;
+        serving = flying t (foresight_of c) op;
         op = op;
         is = own_record;
         ticket = refl;
@@ -119,10 +119,10 @@ module _ {S : Type 0} (meaning : S → Meaning) (h : Hall S) (c : Caller S) (k :
 
   module _ (next : List Symbol) (d : BookView S) (kept : d.script ≡ b.script) (lawful : Lawful (meaning d.script) d.book) (did : DidIt b.book t answer next d.book) where
     abbrev after : Book
-    after = after_done b.book (caller c.seat) (flying t c.foresight.symbols op) op answer next
+    after = after_done b.book (caller c.seat) (flying t (foresight_of c) op) op answer next
 
     is_done : d.book ≡ after
-    is_done = did (caller c.seat) (flying t c.foresight.symbols op) op own_record refl refl
+    is_done = did (caller c.seat) (flying t (foresight_of c) op) op own_record refl refl
 
     done_moves : Moves meaning (turn_count h.board) (caller c.seat) (held q) (put_back content_of (value.Register d) c.hands.pairs)
     done_moves = record {
@@ -152,16 +152,14 @@ module _ {S : Type 0} (meaning : S → Meaning) (h : Hall S) (c : Caller S) (k :
     pub finish_moves : Moves meaning (turn_count h.board) (caller q) (held q) (put_back content_of (value.Register d) c.hands.pairs)
     finish_moves = let P : ℕ → Type 0 = λ n. Moves meaning (turn_count h.board) n (held q) (put_back content_of (value.Register d) c.hands.pairs) in subst P (sym v.caller_is) done_moves
 
-    module _ (r : Caller S) (seat : IsSeatOf h.board r.seat) (bk : BookedAll q r.seat (Register d.script d.book)) (pairs : r.hands.pairs ≡ []) (reserved : r.hands.room ≡ c.hands.room) (number : r.number ≡ c.number) (fores : r.foresight ≡ record { symbols = next; room = c.foresight.room }) (stage : r.stage ≡ Serves t) where
-      symbols : r.foresight.symbols ≡ next
-      symbols = ap (λ (x : ForesightView). x.symbols) fores
+    module _ (r : Caller S) (seat : IsSeatOf h.board r.seat) (bk : BookedAll q r.seat (Register d.script d.book)) (pairs : r.hands.pairs ≡ []) (reserved : r.hands.room ≡ c.hands.room) (number : r.number ≡ c.number) (stage : r.stage ≡ Serves t) where
+      left_here : record_of after (caller r.seat) ≡ Some (waiting t next)
+      left_here = own_set meaning h c k q b v f (Some (waiting t next)) (caller r.seat) (who meaning h c k q b v f d kept lawful after is_done r seat bk pairs reserved number)
 
       pub finished_caller : IsCallerOf meaning h r
       finished_caller =
-          let w : caller r.seat ≡ caller c.seat = who meaning h c k q b v f d kept lawful after is_done r seat bk pairs reserved number in
-          let room : 256 ≤ r.foresight.room = omega (arith, ap (λ (x : ForesightView). x.room) fores, k.room) in
-          caller_after meaning h c k q b v f d kept lawful after is_done r seat bk pairs reserved number room (Serves t) stage
-          (own_set meaning h c k q b v f (Some (waiting t next)) (caller r.seat) w ∙ ap (λ (l : List Symbol). Some (waiting t l)) (sym symbols), holds_none meaning h c k q b v f d kept lawful after is_done r seat bk pairs reserved number)
+          caller_after meaning h c k q b v f d kept lawful after is_done r seat bk pairs reserved number next (Serves t) stage
+          (left_here, holds_none meaning h c k q b v f d kept lawful after is_done r seat bk pairs reserved number)
 
       pub finished_at : FinishedFrom (meaning (script_of h)) c r next c.stage
       finished_at =
@@ -170,6 +168,6 @@ module _ {S : Type 0} (meaning : S → Meaning) (h : Hall S) (c : Caller S) (k :
             found = b.book;
             gave = gave_back meaning h c k q b v f d kept lawful after is_done r seat bk pairs reserved number;
             stage_is = stage;
-            foresight_is = symbols;
+            foresight_is = foresight_left meaning h c k q b v f d kept lawful after is_done r seat bk pairs reserved number (Some (waiting t next)) left_here;
             entries_more = ap (λ (w : Book). entries w.journal t) (left_is meaning h c k q b v f d kept lawful after is_done r seat bk pairs reserved number) ∙ entries_more b.book.journal t op answer ∙ ap (λ (es : List Entry). es ++ record { op = op; reply = answer } ∷ []) still;
           })

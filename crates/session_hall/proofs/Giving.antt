@@ -27,11 +27,11 @@ use Rattle.session_hall.specs.declared.caller.Caller.{Caller}
 use Rattle.session_hall.specs.declared.hall.Hall.{Hall}
 use Rattle.session_hall.specs.declared.stage.Stage.{Stage}
 use Rattle.session_hall.specs.declared.stage.Stage.TheVariants.{Idle, Serving as Serves, InFlight, Applied, Out}
-use Rattle.session_hall.specs.Callers.{IsCallerOf, IsTold, book_in, book_of}
+use Rattle.session_hall.specs.Callers.{IsCallerOf, IsTold, book_in, book_of, foresight_of}
 use Rattle.session_hall.specs.Calls.{GaveBack}
 use Rattle.session_hall.specs.Findings.{HasBook}
 use Rattle.session_hall.specs.Names.{script_of}
-use Rattle.session_hall.specs.Stages.{SeatOf, HoldsNone, Stands}
+use Rattle.session_hall.specs.Stages.{SeatOf, HoldsNone, Stands, foresight_in, waiting, flying}
 
 -- ---- what a lawful book tells
 pub opens : (m : Meaning) → IsScript m → opening_tables m ≡ start m.shape
@@ -66,6 +66,20 @@ same_records m c b d more e grows own = record {
   grows = grows;
   own = own;
 }
+
+-- what a caller stands at says which list its record has
+pub stands_by_record : {S : Type 0} (m : Meaning) (turns : ℕ) (st : Stage) (g : List Symbol) (b : Book) (s : SeatOf S) (xs : List (ℕ × Held S)) (n : ℕ) → caller s ≡ n → Stands m turns st g b s xs → Stands m turns st (foresight_in (record_of b n)) b s xs
+stands_by_record m turns Idle g b s xs n e h = h
+stands_by_record m turns Out g b s xs n e h = h
+stands_by_record m turns (Serves t) g b s xs n e h =
+    let own : record_of b n ≡ Some (waiting t g) = ap (record_of b) (sym e) ∙ h.0 in
+    (h.0 ∙ ap (λ (l : List Symbol). Some (waiting t l)) (sym (ap foresight_in own)), h.1)
+stands_by_record m turns (InFlight t op) g b s xs n e h =
+    let own : record_of b n ≡ Some (flying t g op) = ap (record_of b) (sym e) ∙ h.0 in
+    (h.0 ∙ ap (λ (l : List Symbol). Some (flying t l op)) (sym (ap foresight_in own)), h.1)
+stands_by_record m turns (Applied t op v) g b s xs n e h =
+    let own : record_of b n ≡ Some (flying t g op) = ap (record_of b) (sym e) ∙ h.0 in
+    (h.0 ∙ ap (λ (l : List Symbol). Some (flying t l op)) (sym (ap foresight_in own)), h.1)
 
 -- ---- a caller that has the book, and gives back what it made of it
 module _ {S : Type 0} (meaning : S → Meaning) (h : Hall S) (c : Caller S) (k : IsCallerOf meaning h c) (q : SeatOf S) (b : BookView S) (v : SameNote c.seat q) (f : HasBook c.seat q meaning (script_of h) (turn_count h.board) b) where
@@ -148,10 +162,17 @@ module _ {S : Type 0} (meaning : S → Meaning) (h : Hall S) (c : Caller S) (k :
         givings_more = g.givings_is ∙ ap (λ (n : ℕ). n + 1) f.givings_still;
       }
 
-      pub caller_after : 256 ≤ r.foresight.room → (st : Stage) → r.stage ≡ st → Stands (meaning (script_of h)) (turn_count h.board) st r.foresight.symbols left r.seat r.hands.pairs → IsCallerOf meaning h r
-      caller_after room st stage stands =
-          let P : Stage → Type 0 = λ s. Stands m (turn_count h.board) s r.foresight.symbols left r.seat r.hands.pairs in
-          let Q : Book → Type 0 = λ w. Stands m (turn_count h.board) r.stage r.foresight.symbols w r.seat r.hands.pairs in
+      pub own_number : caller r.seat ≡ r.number
+      own_number = who ∙ k.number_is ∙ sym number
+
+      -- what the ticket may still call, by the record that was left
+      pub foresight_left : (x : Option Serving) → record_of left (caller r.seat) ≡ x → foresight_of r ≡ foresight_in x
+      foresight_left x e = ap (λ (w : Book). foresight_in (record_of w r.number)) left_is ∙ ap (λ (u : ℕ). foresight_in (record_of left u)) (sym own_number) ∙ ap foresight_in e
+
+      pub caller_after : (list : List Symbol) (st : Stage) → r.stage ≡ st → Stands (meaning (script_of h)) (turn_count h.board) st list left r.seat r.hands.pairs → IsCallerOf meaning h r
+      caller_after list st stage stands =
+          let P : Stage → Type 0 = λ s. Stands m (turn_count h.board) s (foresight_in (record_of left r.number)) left r.seat r.hands.pairs in
+          let Q : Book → Type 0 = λ w. Stands m (turn_count h.board) r.stage (foresight_in (record_of w r.number)) w r.seat r.hands.pairs in
           let L : Book → Type 0 = λ w. Lawful m w in
           let O : List (ℕ × Held S) → Type 0 = λ l. Once content_of l in
           let lawful_now : Lawful m (book_of r) = subst L (sym left_is) lawful_left in
@@ -168,19 +189,19 @@ module _ {S : Type 0} (meaning : S → Meaning) (h : Hall S) (c : Caller S) (k :
             few_shards = k.few_shards;
             turns_are = k.turns_are;
             few_turns = k.few_turns;
-            room = room;
             hands_room = omega (arith, k.hands_room, reserved);
             once = subst O (sym pairs) tt;
-            stands = subst Q (sym left_is) (subst P (sym stage) stands);
+            stands = subst Q (sym left_is) (subst P (sym stage) (stands_by_record m (turn_count h.board) st list left r.seat r.hands.pairs r.number own_number stands));
           }
 
 -- ---- a caller whose note stays
-pub caller_on : {S : Type 0} (meaning : S → Meaning) (h : Hall S) (c : Caller S) (k : IsCallerOf meaning h c) (d : Caller S) → IsSeatOf h.board d.seat → SameNote c.seat d.seat → d.number ≡ c.number → 256 ≤ d.foresight.room → d.hands.room ≡ c.hands.room → Once content_of d.hands.pairs → Stands (meaning (script_of h)) (turn_count h.board) d.stage d.foresight.symbols (book_of c) d.seat d.hands.pairs → IsCallerOf meaning h d
-caller_on {S} meaning h c k d seat v number room reserved once stands =
+pub caller_on : {S : Type 0} (meaning : S → Meaning) (h : Hall S) (c : Caller S) (k : IsCallerOf meaning h c) (d : Caller S) → IsSeatOf h.board d.seat → SameNote c.seat d.seat → d.number ≡ c.number → d.hands.room ≡ c.hands.room → Once content_of d.hands.pairs → (g : List Symbol) → Stands (meaning (script_of h)) (turn_count h.board) d.stage g (book_of c) d.seat d.hands.pairs → IsCallerOf meaning h d
+caller_on {S} meaning h c k d seat v number reserved once g stands =
     let e : book_of c ≡ book_of d = ap book_in (sym v.note_is) in
     let L : Book → Type 0 = λ w. Lawful (meaning (script_of h)) w in
     let T : Book → Type 0 = λ w. IsTold (meaning (script_of h)) w in
-    let Q : Book → Type 0 = λ w. Stands (meaning (script_of h)) (turn_count h.board) d.stage d.foresight.symbols w d.seat d.hands.pairs in
+    let Q : Book → Type 0 = λ w. Stands (meaning (script_of h)) (turn_count h.board) d.stage (foresight_in (record_of w d.number)) w d.seat d.hands.pairs in
+    let who : caller d.seat ≡ d.number = v.caller_is ∙ k.number_is ∙ sym number in
     record {
       seat = seat;
       number_is = v.caller_is ∙ k.number_is ∙ sym number;
@@ -194,10 +215,9 @@ caller_on {S} meaning h c k d seat v number room reserved once stands =
       few_shards = k.few_shards;
       turns_are = k.turns_are;
       few_turns = k.few_turns;
-      room = room;
       hands_room = omega (arith, k.hands_room, reserved);
       once = once;
-      stands = subst Q e stands;
+      stands = subst Q e (stands_by_record (meaning (script_of h)) (turn_count h.board) d.stage g (book_of c) d.seat d.hands.pairs d.number who stands);
     }
 
 -- what is said of its stage stays where nothing was taken
@@ -212,15 +232,15 @@ stands_still {S} m turns (Applied t op v) f b p q xs e h s =
     (ap (record_of b) e ∙ s.0, subst P (sym w) s.1)
 
 -- a caller that found a turn taken
-pub busy_caller : {S : Type 0} (meaning : S → Meaning) (h : Hall S) (c : Caller S) (k : IsCallerOf meaning h c) (q : SeatOf S) → IsSeatOf h.board q → SameNote c.seat q → ((u : ℕ) → held q u ≡ held c.seat u) → IsCallerOf meaning h (record { seat = q; number = c.number; stage = c.stage; foresight = c.foresight; hands = c.hands })
+pub busy_caller : {S : Type 0} (meaning : S → Meaning) (h : Hall S) (c : Caller S) (k : IsCallerOf meaning h c) (q : SeatOf S) → IsSeatOf h.board q → SameNote c.seat q → ((u : ℕ) → held q u ≡ held c.seat u) → IsCallerOf meaning h (record { seat = q; number = c.number; stage = c.stage; hands = c.hands })
 busy_caller meaning h c k q seat v same =
-    caller_on meaning h c k (record { seat = q; number = c.number; stage = c.stage; foresight = c.foresight; hands = c.hands }) seat v refl k.room refl k.once
-    (stands_still (meaning (script_of h)) (turn_count h.board) c.stage c.foresight.symbols (book_of c) c.seat q c.hands.pairs v.caller_is same k.stands)
+    caller_on meaning h c k (record { seat = q; number = c.number; stage = c.stage; hands = c.hands }) seat v refl refl k.once (foresight_of c)
+    (stands_still (meaning (script_of h)) (turn_count h.board) c.stage (foresight_of c) (book_of c) c.seat q c.hands.pairs v.caller_is same k.stands)
 
 -- the same with its hands, to which nothing was added
-pub busy_on : {S : Type 0} (meaning : S → Meaning) (h : Hall S) (c : Caller S) (k : IsCallerOf meaning h c) (q : SeatOf S) → IsSeatOf h.board q → SameNote c.seat q → ((u : ℕ) → held q u ≡ held c.seat u) → (hands : HandsView (Held S)) → hands.pairs ≡ c.hands.pairs → hands.room ≡ c.hands.room → IsCallerOf meaning h (record { seat = q; number = c.number; stage = c.stage; foresight = c.foresight; hands = hands })
+pub busy_on : {S : Type 0} (meaning : S → Meaning) (h : Hall S) (c : Caller S) (k : IsCallerOf meaning h c) (q : SeatOf S) → IsSeatOf h.board q → SameNote c.seat q → ((u : ℕ) → held q u ≡ held c.seat u) → (hands : HandsView (Held S)) → hands.pairs ≡ c.hands.pairs → hands.room ≡ c.hands.room → IsCallerOf meaning h (record { seat = q; number = c.number; stage = c.stage; hands = hands })
 busy_on {S} meaning h c k q seat v same hands pairs reserved =
     let O : List (ℕ × Held S) → Type 0 = λ l. Once content_of l in
-    let P : List (ℕ × Held S) → Type 0 = λ l. Stands (meaning (script_of h)) (turn_count h.board) c.stage c.foresight.symbols (book_of c) q l in
-    caller_on meaning h c k (record { seat = q; number = c.number; stage = c.stage; foresight = c.foresight; hands = hands }) seat v refl k.room reserved (subst O (sym pairs) k.once)
-    (subst P (sym pairs) (stands_still (meaning (script_of h)) (turn_count h.board) c.stage c.foresight.symbols (book_of c) c.seat q c.hands.pairs v.caller_is same k.stands))
+    let P : List (ℕ × Held S) → Type 0 = λ l. Stands (meaning (script_of h)) (turn_count h.board) c.stage (foresight_of c) (book_of c) q l in
+    caller_on meaning h c k (record { seat = q; number = c.number; stage = c.stage; hands = hands }) seat v refl reserved (subst O (sym pairs) k.once) (foresight_of c)
+    (subst P (sym pairs) (stands_still (meaning (script_of h)) (turn_count h.board) c.stage (foresight_of c) (book_of c) c.seat q c.hands.pairs v.caller_is same k.stands))

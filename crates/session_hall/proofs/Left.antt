@@ -27,7 +27,7 @@ use Rattle.session_hall.specs.declared.caller.Caller.{Caller}
 use Rattle.session_hall.specs.declared.hall.Hall.{Hall}
 use Rattle.session_hall.specs.declared.stage.Stage.{Stage}
 use Rattle.session_hall.specs.declared.stage.Stage.TheVariants.{Out}
-use Rattle.session_hall.specs.Callers.{IsCallerOf, book_in, book_of}
+use Rattle.session_hall.specs.Callers.{IsCallerOf, book_in, book_of, foresight_of}
 use Rattle.session_hall.specs.Closings.{HasLeft, IsDone, IsNotedBy, IsTable, Leaves}
 use Rattle.session_hall.specs.Names.{script_of}
 use Rattle.session_hall.specs.Stages.{SeatOf, Stands}
@@ -40,8 +40,8 @@ pub same_seats : {S : Type 0} (xs ys : List (Caller S)) → xs ≡ ys → map (�
 same_seats xs ys e = ap (map (λ c. c.seat)) e
 
 module _ {S : Type 0} (meaning : S → Meaning) (h : Hall S) (i : ℕ) (c : Caller S) (l : Leaves meaning h i c) where
-  stands_out : Stands (meaning (script_of h)) (turn_count h.board) Out c.foresight.symbols (book_of c) c.seat c.hands.pairs
-  stands_out = let P : Stage → Type 0 = λ s. Stands (meaning (script_of h)) (turn_count h.board) s c.foresight.symbols (book_of c) c.seat c.hands.pairs in subst P l.out l.caller.stands
+  stands_out : Stands (meaning (script_of h)) (turn_count h.board) Out (foresight_of c) (book_of c) c.seat c.hands.pairs
+  stands_out = let P : Stage → Type 0 = λ s. Stands (meaning (script_of h)) (turn_count h.board) s (foresight_of c) (book_of c) c.seat c.hands.pairs in subst P l.out l.caller.stands
 
   ends_here : Ends h.board h.sizes.callers i c.seat
   ends_here = record { seat = l.caller.seat; caller_is = l.caller.number_is ∙ l.number_is; caller_count_is = l.caller.caller_count_is; free = stands_out.2.free }

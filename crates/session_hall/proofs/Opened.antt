@@ -28,7 +28,7 @@ use Rattle.session_values.proofs.Starts.{start_none}
 use Rattle.session_hall.specs.declared.caller.Caller.{Caller}
 use Rattle.session_hall.specs.declared.hall.Hall.{Hall}
 use Rattle.session_hall.specs.declared.stage.Stage.{Stage}
-use Rattle.session_hall.specs.Callers.{book_in, book_of}
+use Rattle.session_hall.specs.Callers.{book_in, book_of, foresight_of}
 use Rattle.session_hall.specs.Closings.{Opens}
 use Rattle.session_hall.specs.Names.{script_of}
 use Rattle.session_hall.specs.Openings.{AllNew, FirstValues, IsNew, IsNewPart, NewParts, Rooms}
@@ -191,7 +191,7 @@ opened_caller {S} meaning h i c s b n kept tables some few turns few_turns =
     let book_is : book_of c ≡ first = ap book_in begins.note_is in
     let L : Book → Type 0 = λ w. Lawful (meaning (script_of h)) w in
     let lawful : Lawful (meaning (script_of h)) (book_of c) = subst L (sym book_is) (opened_lawful (meaning (script_of h)) h.sizes.callers) in
-    let P : Stage → Type 0 = λ z. Stands (meaning (script_of h)) (turn_count h.board) z c.foresight.symbols (book_of c) c.seat c.hands.pairs in
+    let P : Stage → Type 0 = λ z. Stands (meaning (script_of h)) (turn_count h.board) z (foresight_of c) (book_of c) c.seat c.hands.pairs in
     record {
       caller = record {
         seat = begins.seat;
@@ -206,7 +206,6 @@ opened_caller {S} meaning h i c s b n kept tables some few turns few_turns =
         few_shards = few;
         turns_are = turns;
         few_turns = few_turns;
-        room = omega (arith, n.room);
         hands_room = omega (arith, n.hands_room);
         once = (let O : List (ℕ × Held S) → Type 0 = λ l. Once content_of l in subst O (sym n.no_pairs) tt);
         stands = subst P (sym n.idle) (ap (λ (w : Book). record_of w (caller c.seat)) book_is ∙ none_at h.sizes.callers (caller c.seat), record { free = begins.free; no_pairs = n.no_pairs });

@@ -1,22 +1,24 @@
 -- A turn of an operation was found taken.
-use Rattle.std.proofs.Common.{◌≡◌, ◌≢◌, ℕ, suc, ◌+◌, ◌<◌, ◌≤◌, ◌⊎◌, inl, inr, refl, sym, ◌∙◌, ap, subst, arith}
+use Rattle.std.proofs.Common.{◌≡◌, ◌≢◌, ℕ, suc, ◌+◌, ◌<◌, ◌≤◌, ◌⊎◌, inl, inr, Option, refl, sym, ◌∙◌, ap, subst, arith}
 use Rattle.std.specs.Int.{bit_at}
 use Rattle.session_values.specs.declared.op.Op.{Op}
 use Rattle.session_journal.specs.Script.{Meaning}
+use Rattle.admission_book.specs.Book.{record_of}
 use Rattle.turn_board.specs.Seated.{TableId}
 use Rattle.turn_board.specs.Boards.{IsSeatOf, SameNote, MissedAll, Tells, turn_count, caller_count, lost, givings}
 use Rattle.turn_board.specs.Hands.{HandsView}
 use Rattle.hall_rule.specs.declared.held.Held.{Held}
+use Rattle.hall_rule.specs.Contents.{Content}
 use Rattle.hall_rule.specs.Tie.{Tied}
 use Rattle.hall_rule.specs.Turns.{IsTurnOf, place, span, turn_set}
 use Rattle.session_hall.specs.declared.caller.Caller.{Caller}
 use Rattle.session_hall.specs.declared.hall.Hall.{Hall}
 use Rattle.session_hall.specs.declared.stage.Stage.{Stage}
 use Rattle.session_hall.specs.declared.stage.Stage.TheVariants.{InFlight}
-use Rattle.session_hall.specs.Callers.{IsCallerOf}
+use Rattle.session_hall.specs.Callers.{IsCallerOf, book_in}
 use Rattle.session_hall.specs.Calls.{IsBusyAt}
 use Rattle.session_hall.specs.Names.{script_of}
-use Rattle.session_hall.specs.Stages.{SeatOf, OnFlight}
+use Rattle.session_hall.specs.Stages.{SeatOf, OnFlight, foresight_in}
 use Rattle.session_hall.proofs.TurnSets.{bit_inside, lower, turn_out}
 use Rattle.session_hall.proofs.Doing.{busy_turn}
 use Rattle.session_hall.proofs.Finding.{is_tied}
@@ -60,9 +62,9 @@ module _ {S : Type 0} (meaning : S → Meaning) (h : Hall S) (c : Caller S) (k :
           let Q : ℕ → Type 0 = λ a. lost q a ≡ lost c.seat a + 1 in
           subst Q (sym t.1) (each t.0 t.2)
 
-      pub busy_at : OnFlight c.stage (IsBusyAt (meaning (script_of h)) c (record { seat = q; number = c.number; stage = c.stage; foresight = c.foresight; hands = hands }) h.sizes.shards u)
+      pub busy_at : OnFlight c.stage (IsBusyAt (meaning (script_of h)) c (record { seat = q; number = c.number; stage = c.stage; hands = hands }) h.sizes.shards u)
       busy_at =
-          let later : Caller S = record { seat = q; number = c.number; stage = c.stage; foresight = c.foresight; hands = hands } in
+          let later : Caller S = record { seat = q; number = c.number; stage = c.stage; hands = hands } in
           let P : Stage → Type 0 = λ s. OnFlight s (IsBusyAt m c later n u) in
           let b : (j : ℕ) × (u ≡ suc j) × IsTurnOf n op j = busy_turn meaning h c k t op st set is u g.asked in
           subst P (sym st) (record {
@@ -76,7 +78,7 @@ module _ {S : Type 0} (meaning : S → Meaning) (h : Hall S) (c : Caller S) (k :
               asks_more = g.asks_is;
               change_still = v.change_is;
               stage_still = refl;
-              foresight_still = refl;
+              foresight_still = ap (λ (x : Option (Content S)). foresight_in (record_of (book_in x) c.number)) v.note_is;
               note_still = v.note_is;
               given_still = v.given_is;
               held_still = g.held_is;

@@ -18,7 +18,7 @@ use Rattle.session_hall.specs.declared.caller.Caller.{Caller}
 use Rattle.session_hall.specs.declared.hall.Hall.{Hall}
 use Rattle.session_hall.specs.declared.stage.Stage.{Stage}
 use Rattle.session_hall.specs.declared.stage.Stage.TheVariants.{Serving as Serves}
-use Rattle.session_hall.specs.Callers.{IsCallerOf, book_of, entries_of}
+use Rattle.session_hall.specs.Callers.{IsCallerOf, book_of, entries_of, foresight_of}
 use Rattle.session_hall.specs.Calls.{ByNote, MayDeclare, MayCall, MayAnswer}
 use Rattle.session_hall.specs.Findings.{HasBook}
 use Rattle.session_hall.specs.Names.{script_of}
@@ -33,17 +33,17 @@ of_serving st t P e p = let Q : Stage → Type 0 = λ s. OnServing s P in subst 
 
 -- ---- a caller that serves a ticket
 module _ {S : Type 0} (meaning : S → Meaning) (h : Hall S) (c : Caller S) (k : IsCallerOf meaning h c) (q : SeatOf S) (b : BookView S) (v : SameNote c.seat q) (f : HasBook c.seat q meaning (script_of h) (turn_count h.board) b) (t : ℕ) (st : c.stage ≡ Serves t) where
-  stands_here : Stands (meaning (script_of h)) (turn_count h.board) (Serves t) c.foresight.symbols (book_of c) c.seat c.hands.pairs
-  stands_here = let P : Stage → Type 0 = λ s. Stands (meaning (script_of h)) (turn_count h.board) s c.foresight.symbols (book_of c) c.seat c.hands.pairs in subst P st k.stands
+  stands_here : Stands (meaning (script_of h)) (turn_count h.board) (Serves t) (foresight_of c) (book_of c) c.seat c.hands.pairs
+  stands_here = let P : Stage → Type 0 = λ s. Stands (meaning (script_of h)) (turn_count h.board) s (foresight_of c) (book_of c) c.seat c.hands.pairs in subst P st k.stands
 
   pub empty_hands : c.hands.pairs ≡ []
   empty_hands = stands_here.1.no_pairs
 
-  pub own_record : record_of b.book (caller c.seat) ≡ Some (waiting t c.foresight.symbols)
+  pub own_record : record_of b.book (caller c.seat) ≡ Some (waiting t (foresight_of c))
   own_record = sym f.finds.since.own ∙ stands_here.0
 
-  pub holds : Holds (meaning (script_of h)) b.book (caller c.seat) (waiting t c.foresight.symbols)
-  holds = f.finds.lawful.records (caller c.seat) (waiting t c.foresight.symbols) own_record
+  pub holds : Holds (meaning (script_of h)) b.book (caller c.seat) (waiting t (foresight_of c))
+  holds = f.finds.lawful.records (caller c.seat) (waiting t (foresight_of c)) own_record
 
   pub still : entries b.book.journal t ≡ entries_of c t
   still = entries_since (book_of c) b.book (caller c.seat) t f.finds.since holds.owner
@@ -55,18 +55,18 @@ module _ {S : Type 0} (meaning : S → Meaning) (h : Hall S) (c : Caller S) (k :
       let R : List Entry → Type 0 = λ es. P (meaning b.script) es t in
       subst R (sym still) (at_script meaning h c k q b v f (λ m. P m (entries_of c t) t) a)
 
-  pub may_narrow : (g : List Symbol) → ByNote (meaning (script_of h)) c (MayDeclare c.foresight.symbols g) → books.MayNarrow (meaning b.script) b.book t g
+  pub may_narrow : (g : List Symbol) → ByNote (meaning (script_of h)) c (MayDeclare (foresight_of c) g) → books.MayNarrow (meaning b.script) b.book t g
   may_narrow g may =
-      let a : MayDeclare c.foresight.symbols g (meaning b.script) b.book t = by_note (λ m es u. Covered g c.foresight.symbols × IsForesight (rest (m.next u) (replies es)) g) may in
-      record { caller = caller c.seat; serving = waiting t c.foresight.symbols; is = own_record; ticket = refl; idle = refl; covered = a.0; covers = a.1 }
+      let a : MayDeclare (foresight_of c) g (meaning b.script) b.book t = by_note (λ m es u. Covered g (foresight_of c) × IsForesight (rest (m.next u) (replies es)) g) may in
+      record { caller = caller c.seat; serving = waiting t (foresight_of c); is = own_record; ticket = refl; idle = refl; covered = a.0; covers = a.1 }
 
-  pub may_admit : (op : Op) → ByNote (meaning (script_of h)) c (MayCall c.foresight.symbols op) → books.MayAdmit (meaning b.script) b.book t op
+  pub may_admit : (op : Op) → ByNote (meaning (script_of h)) c (MayCall (foresight_of c) op) → books.MayAdmit (meaning b.script) b.book t op
   may_admit op may =
-      let a : MayCall c.foresight.symbols op (meaning b.script) b.book t = by_note (λ m es u. (m.next u (replies es) ≡ Calls op) × Matches c.foresight.symbols op) may in
-      record { caller = caller c.seat; serving = waiting t c.foresight.symbols; is = own_record; ticket = refl; idle = refl; calls = a.0; matches = a.1 }
+      let a : MayCall (foresight_of c) op (meaning b.script) b.book t = by_note (λ m es u. (m.next u (replies es) ≡ Calls op) × Matches (foresight_of c) op) may in
+      record { caller = caller c.seat; serving = waiting t (foresight_of c); is = own_record; ticket = refl; idle = refl; calls = a.0; matches = a.1 }
 
   pub may_end : (r : Reply) → ByNote (meaning (script_of h)) c (MayAnswer r) → books.MayEnd (meaning b.script) b.book t r
-  may_end r may = record { caller = caller c.seat; serving = waiting t c.foresight.symbols; is = own_record; ticket = refl; idle = refl; answers = by_note (λ m es u. m.next u (replies es) ≡ Answers r) may }
+  may_end r may = record { caller = caller c.seat; serving = waiting t (foresight_of c); is = own_record; ticket = refl; idle = refl; answers = by_note (λ m es u. m.next u (replies es) ≡ Answers r) may }
 
   pub owner_more : (e : Event) → owner (b.book.journal ++ e ∷ []) t ≡ Some (caller c.seat)
   owner_more e = first_stays (caller_of t) b.book.journal (e ∷ []) (caller c.seat) holds.owner

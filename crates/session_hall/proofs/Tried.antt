@@ -11,7 +11,7 @@ use Rattle.session_hall.specs.declared.caller.Caller.{Caller}
 use Rattle.session_hall.specs.declared.hall.Hall.{Hall}
 use Rattle.session_hall.specs.declared.stage.Stage.{Stage}
 use Rattle.session_hall.specs.declared.stage.Stage.TheVariants.{Idle, Serving as Serves, InFlight, Applied, Out}
-use Rattle.session_hall.specs.Callers.{IsCallerOf, book_in, book_of}
+use Rattle.session_hall.specs.Callers.{IsCallerOf, book_in, book_of, foresight_of}
 use Rattle.session_hall.specs.Calls.{IsBusy, IsBusyAt}
 use Rattle.session_hall.specs.Names.{script_of}
 use Rattle.session_hall.specs.Stages.{HoldsNone, IsInFlight, OnFlight, OnServing, Stands}
@@ -44,11 +44,11 @@ module _ {S : Type 0} where
   }
 
   -- what is asked of stage, foresight and note goes on to hold
-  pub still_may : (m : Meaning) (P : Stage → List Symbol → Book → Type 0) (p q : Caller S) (u after : ℕ) → IsBusy m p q u after → P p.stage p.foresight.symbols (book_of p) → P q.stage q.foresight.symbols (book_of q)
+  pub still_may : (m : Meaning) (P : Stage → List Symbol → Book → Type 0) (p q : Caller S) (u after : ℕ) → IsBusy m p q u after → P p.stage (foresight_of p) (book_of p) → P q.stage (foresight_of q) (book_of q)
   still_may m P p q u after b x =
-      let A : Stage → Type 0 = λ s. P s p.foresight.symbols (book_of p) in
-      let B : ForesightView → Type 0 = λ f. P q.stage f.symbols (book_of p) in
-      let C : Book → Type 0 = λ w. P q.stage q.foresight.symbols w in
+      let A : Stage → Type 0 = λ s. P s (foresight_of p) (book_of p) in
+      let B : List Symbol → Type 0 = λ l. P q.stage l (book_of p) in
+      let C : Book → Type 0 = λ w. P q.stage (foresight_of q) w in
       let same : book_of p ≡ book_of q = ap book_in (sym b.note_still) in
       subst C same (subst B (sym b.foresight_still) (subst A (sym b.stage_still) x))
 
@@ -146,7 +146,7 @@ module _ {S : Type 0} where
   pub serving_holds : (meaning : S → Meaning) (h : Hall S) (c : Caller S) (k : IsCallerOf meaning h c) (P : ℕ → Type 0) → OnServing c.stage P → HoldsNone c.seat c.hands.pairs
   serving_holds meaning h c k P s = go c.stage k.stands s
     where
-      go : (st : Stage) → Stands (meaning (script_of h)) (turn_count h.board) st c.foresight.symbols (book_of c) c.seat c.hands.pairs → OnServing st P → HoldsNone c.seat c.hands.pairs
+      go : (st : Stage) → Stands (meaning (script_of h)) (turn_count h.board) st (foresight_of c) (book_of c) c.seat c.hands.pairs → OnServing st P → HoldsNone c.seat c.hands.pairs
       go (Serves t) x y = x.1
       go Idle x y = absurd y
       go Out x y = absurd y

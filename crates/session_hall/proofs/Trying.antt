@@ -14,7 +14,7 @@ use Rattle.admission_book.specs.Methods.{Grows}
 use Rattle.session_hall.specs.declared.caller.Caller.{Caller}
 use Rattle.session_hall.specs.declared.stage.Stage.{Stage}
 use Rattle.session_hall.specs.declared.stage.Stage.TheVariants.{Idle, Serving as Serves, InFlight, Applied, Out}
-use Rattle.session_hall.specs.Callers.{book_of}
+use Rattle.session_hall.specs.Callers.{book_of, foresight_of}
 use Rattle.session_hall.specs.Calls.{ByNote, MayCall, DelayedAt}
 use Rattle.session_hall.specs.Stages.{HoldsNone, OnServing}
 use Rattle.session_hall.specs.Waits.{OnlyDelayed}
@@ -80,14 +80,14 @@ module _ {S : Type 0} where
           givings_more = omega (arith, a.givings_more, x.gave.givings_more);
         })
 
-    pub delay_may : ByNote m via (MayCall via.foresight.symbols op) → ByNote m q (MayCall q.foresight.symbols op)
+    pub delay_may : ByNote m via (MayCall (foresight_of via) op) → ByNote m q (MayCall (foresight_of q) op)
     delay_may may = go via.stage d may
       where
-        go : (st : Stage) → OnServing st (DelayedAt m via q op older y) → OnServing st (λ t. MayCall via.foresight.symbols op m (book_of via) t) → ByNote m q (MayCall q.foresight.symbols op)
+        go : (st : Stage) → OnServing st (DelayedAt m via q op older y) → OnServing st (λ t. MayCall (foresight_of via) op m (book_of via) t) → ByNote m q (MayCall (foresight_of q) op)
         go (Serves t) x c =
             let P : List Entry → Type 0 = λ es. m.next t (replies es) ≡ Calls op in
-            let F : ForesightView → Type 0 = λ f. Matches f.symbols op in
-            let Q : Stage → Type 0 = λ z. OnServing z (λ w. MayCall q.foresight.symbols op m (book_of q) w) in
+            let F : List Symbol → Type 0 = λ l. Matches l op in
+            let Q : Stage → Type 0 = λ z. OnServing z (λ w. MayCall (foresight_of q) op m (book_of q) w) in
             subst Q (sym x.stage_is) (subst P (sym x.entries_still) c.0, subst F (sym x.foresight_still) c.1)
         go Idle x c = absurd x
         go Out x c = absurd x

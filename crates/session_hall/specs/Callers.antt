@@ -1,11 +1,12 @@
 -- A caller of a hall between two calls.
 use Rattle.std.specs.Prelude.{◌≡◌, ℕ, ◌+◌, ◌*◌, ◌<◌, ◌≤◌, List, Option, Some, None, length}
-use Rattle.session_limits.specs.Limits.{max_shards, max_symbols}
+use Rattle.session_limits.specs.Limits.{max_shards}
 use Rattle.session_values.specs.Dialogue.{Entry}
+use Rattle.symbolic_ops.specs.declared.symbol.Symbol.{Symbol}
 use Rattle.session_journal.specs.Foreknown.{Foreknown}
 use Rattle.session_journal.specs.Journal.{Replays, begun, done_operations, entries, in_order, regrouped}
 use Rattle.session_journal.specs.Script.{Meaning, IsScript}
-use Rattle.admission_book.specs.Book.{Book, opened}
+use Rattle.admission_book.specs.Book.{Book, opened, record_of}
 use Rattle.admission_book.specs.Lawful.{Lawful}
 use Rattle.turn_board.specs.Boards.{note, caller, caller_count}
 use Rattle.turn_board.specs.Hands.{Once}
@@ -15,7 +16,7 @@ use Rattle.hall_rule.specs.Shards.{content_of}
 use Rattle.session_hall.specs.declared.caller.Caller.{Caller}
 use Rattle.session_hall.specs.declared.hall.Hall.{Hall}
 use Rattle.session_hall.specs.Names.{HallId, id_of, hall_name, script_of}
-use Rattle.session_hall.specs.Stages.{Stands}
+use Rattle.session_hall.specs.Stages.{Stands, foresight_in}
 
 -- the book of a note
 abbrev pub book_in : {S : Type 0} → Option (Content S) → Book
@@ -30,6 +31,11 @@ book_of c = book_in (note c.seat)
 -- the entries of a ticket in the caller's note
 abbrev pub entries_of : {S : Type 0} → Caller S → ℕ → List Entry
 entries_of c t = entries (book_of c).journal t
+
+-- what the caller's ticket may still call: the foresight of the caller's record in the book of its
+-- note, and nothing while it serves no ticket
+abbrev pub foresight_of : {S : Type 0} → Caller S → List Symbol
+foresight_of c = foresight_in (record_of (book_of c) c.number)
 
 -- what a note tells: its journal replays, and regrouped by ticket too, and of each begun ticket the
 -- entries are the first of its serial ones, and the Reply is its serial one
@@ -54,10 +60,9 @@ pub record IsCallerIn {S : Type 0} (meaning : S → Meaning) (p : HallId) (scrip
   pub few_shards : p.shards ≤ max_shards
   pub turns_are : p.board.slots ≡ 1 + p.tables * p.shards
   pub few_turns : p.board.slots ≤ 57
-  pub room : max_symbols ≤ c.foresight.room
   pub hands_room : max_shards ≤ c.hands.room
   pub once : Once content_of c.hands.pairs
-  pub stands : Stands (meaning script) p.board.slots c.stage c.foresight.symbols (book_of c) c.seat
+  pub stands : Stands (meaning script) p.board.slots c.stage (foresight_of c) (book_of c) c.seat
       c.hands.pairs
 
 -- a caller of the hall of this name, which serves this script

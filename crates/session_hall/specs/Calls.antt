@@ -30,7 +30,7 @@ use Rattle.session_hall.specs.declared.answers.Finishing.TheVariants as finishin
 use Rattle.session_hall.specs.declared.caller.Caller.{Caller}
 use Rattle.session_hall.specs.declared.stage.Stage.{Stage}
 use Rattle.session_hall.specs.declared.stage.Stage.TheVariants.{Idle, Serving as Serves, InFlight, Applied, Out}
-use Rattle.session_hall.specs.Callers.{book_of, entries_of}
+use Rattle.session_hall.specs.Callers.{book_of, entries_of, foresight_of}
 use Rattle.session_hall.specs.Findings.{Finds, IsTied, IsTiedWith}
 use Rattle.session_hall.specs.Stages.{OnServing, OnFlight, waiting, flying}
 
@@ -65,7 +65,12 @@ MayFinishAt m _ f b next = ⊥
 
 -- the same of a caller, by its stage, its foresight and the book of its note
 abbrev pub MayFinish : {S : Type 0} → Meaning → Caller S → List Symbol → Type 0
-MayFinish m c next = MayFinishAt m c.stage c.foresight.symbols (book_of c) next
+MayFinish m c next = MayFinishAt m c.stage (foresight_of c) (book_of c) next
+
+-- the answer that the book was found taken
+abbrev pub IsBusyFinish : Finishing → Type 0
+IsBusyFinish finishing.Done = ⊥
+IsBusyFinish (finishing.Busy u) = Unit {0}
 
 module _ {S : Type 0} (m : Meaning) (p q : Caller S) where
   -- the caller took the book in one step of the call, found it so, and gave it back so in another
@@ -91,7 +96,7 @@ module _ {S : Type 0} (m : Meaning) (p q : Caller S) where
     pub givings_is : givings q.seat ≡ after
     pub change_still : last_change q.seat ≡ last_change p.seat
     pub stage_still : q.stage ≡ p.stage
-    pub foresight_still : q.foresight ≡ p.foresight
+    pub foresight_still : foresight_of q ≡ foresight_of p
     pub note_still : note q.seat ≡ note p.seat
     pub given_still : given q.seat ≡ given p.seat
     pub held_still : (w : ℕ) → held q.seat w ≡ held p.seat w
@@ -104,7 +109,7 @@ module _ {S : Type 0} (m : Meaning) (p q : Caller S) where
     pub next : t ≡ begun found.journal
     pub within : t < m.requests
     pub stage_is : q.stage ≡ Serves t
-    pub foresight_is : q.foresight.symbols ≡ m.entry t
+    pub foresight_is : foresight_of q ≡ m.entry t
     pub no_entries : entries_of q t ≡ []
 
   pub record FoundAllBegun : Type 0 where
@@ -122,9 +127,9 @@ module _ {S : Type 0} (m : Meaning) (p q : Caller S) where
   -- ---- declare
   pub record DeclaredAt (f : List Symbol) (t : ℕ) : Type 0 where
     pub found : Book
-    pub gave : GaveBack found (after_narrow found (caller p.seat) (waiting t p.foresight.symbols) f)
+    pub gave : GaveBack found (after_narrow found (caller p.seat) (waiting t (foresight_of p)) f)
     pub stage_is : q.stage ≡ Serves t
-    pub foresight_is : q.foresight.symbols ≡ f
+    pub foresight_is : foresight_of q ≡ f
     pub entries_still : entries_of q t ≡ entries_of p t
 
   -- what is answered and left: the list is declared, or the book is found taken
@@ -135,10 +140,10 @@ module _ {S : Type 0} (m : Meaning) (p q : Caller S) where
   -- ---- admit
   pub record AdmittedAt (op : Op) (t : ℕ) : Type 0 where
     pub found : Book
-    pub gave : GaveBack found (after_admit found (caller p.seat) (waiting t p.foresight.symbols) op)
+    pub gave : GaveBack found (after_admit found (caller p.seat) (waiting t (foresight_of p)) op)
     pub free : IsFree found t op
     pub stage_is : q.stage ≡ InFlight t op
-    pub foresight_still : q.foresight ≡ p.foresight
+    pub foresight_still : foresight_of q ≡ foresight_of p
     pub entries_still : entries_of q t ≡ entries_of p t
 
   pub record DelayedAt (op : Op) (older : ℕ) (y : Symbol) (t : ℕ) : Type 0 where
@@ -148,7 +153,7 @@ module _ {S : Type 0} (m : Meaning) (p q : Caller S) where
     pub not_oldest : IsOldestOpen (Some t) found.journal → ⊥
     pub several : caller_count p.seat ≢ 1
     pub stage_is : q.stage ≡ Serves t
-    pub foresight_still : q.foresight ≡ p.foresight
+    pub foresight_still : foresight_of q ≡ foresight_of p
     pub entries_still : entries_of q t ≡ entries_of p t
 
   -- what is answered and left: the operation is admitted or delayed, or the book is found taken
@@ -165,7 +170,7 @@ module _ {S : Type 0} (m : Meaning) (p q : Caller S) where
     pub rule : IsTied m q.seat
     pub done : WasDone m turns op v (held q.seat) (in_hands content_of q.hands.pairs)
     pub stage_is : q.stage ≡ Applied t op v
-    pub foresight_still : q.foresight ≡ p.foresight
+    pub foresight_still : foresight_of q ≡ foresight_of p
     pub note_still : note q.seat ≡ note p.seat
     pub given_still : given q.seat ≡ given p.seat
     pub change_still : last_change q.seat ≡ last_change p.seat
@@ -194,10 +199,10 @@ module _ {S : Type 0} (m : Meaning) (p q : Caller S) where
   -- ---- finish
   pub record FinishedAt (next : List Symbol) (t : ℕ) (op : Op) (v : Value) : Type 0 where
     pub found : Book
-    pub gave : GaveBack found (after_done found (caller p.seat) (flying t p.foresight.symbols op)
+    pub gave : GaveBack found (after_done found (caller p.seat) (flying t (foresight_of p) op)
         op v next)
     pub stage_is : q.stage ≡ Serves t
-    pub foresight_is : q.foresight.symbols ≡ next
+    pub foresight_is : foresight_of q ≡ next
     pub entries_more : entries_of q t ≡ entries_of p t ++ record { op = op; reply = v } ∷ []
 
   abbrev pub FinishedFrom : List Symbol → Stage → Type 0
@@ -212,9 +217,9 @@ module _ {S : Type 0} (m : Meaning) (p q : Caller S) where
   -- ---- end
   pub record EndedAt (r : Reply) (t : ℕ) : Type 0 where
     pub found : Book
-    pub gave : GaveBack found (after_end found (caller p.seat) (waiting t p.foresight.symbols) r)
+    pub gave : GaveBack found (after_end found (caller p.seat) (waiting t (foresight_of p)) r)
     pub stage_is : q.stage ≡ Idle
-    pub foresight_still : q.foresight ≡ p.foresight
+    pub foresight_is : foresight_of q ≡ []
     pub entries_still : entries_of q t ≡ entries_of p t
     pub is_begun : t < begun (book_of q).journal
     pub is_ended : ended (book_of q).journal t ≡ Some r

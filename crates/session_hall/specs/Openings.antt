@@ -1,6 +1,6 @@
 -- What a hall is opened with. Only this crate's own functions cite it.
 use Rattle.std.specs.Prelude.{◌≡◌, ℕ, ◌+◌, ◌*◌, ◌/◌, List, [], ◌++◌, Some, length, map, replicate, slice_get}
-use Rattle.session_limits.specs.Limits.{max_shards, max_symbols}
+use Rattle.session_limits.specs.Limits.{max_shards}
 use Rattle.session_values.specs.declared.kind.TableKind.{TableKind}
 use Rattle.session_values.specs.Tables.{empty_of}
 use Rattle.session_journal.specs.Script.{Meaning, IsScript, room}
@@ -52,7 +52,6 @@ pub record IsNew {S : Type 0} (seat : SeatOf S) (number : ℕ) (c : Caller S) : 
   pub idle : c.stage ≡ Idle
   pub no_pairs : c.hands.pairs ≡ []
   pub hands_room : c.hands.room ≡ max_shards
-  pub room : c.foresight.room ≡ max_symbols
 
 -- a caller for each of the first n seats
 pub record AllNew {S : Type 0} (seats : List (SeatOf S)) (n : ℕ)

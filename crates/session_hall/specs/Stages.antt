@@ -1,5 +1,5 @@
 -- What a caller has and holds at each stage.
-use Rattle.std.specs.Prelude.{◌≡◌, ℕ, ◌≤◌, List, [], Some, None}
+use Rattle.std.specs.Prelude.{◌≡◌, ℕ, ◌≤◌, List, [], Option, Some, None}
 use Rattle.session_values.specs.declared.op.Op.{Op}
 use Rattle.symbolic_ops.specs.declared.symbol.Symbol.{Symbol}
 use Rattle.session_journal.specs.Journal.{begun}
@@ -25,6 +25,11 @@ waiting t f = record { ticket = t; foresight = f; flight = None }
 
 abbrev pub flying : ℕ → List Symbol → Op → Serving
 flying t f op = record { ticket = t; foresight = f; flight = Some op }
+
+-- what the ticket of a record may still call, and nothing where there is none
+abbrev pub foresight_in : Option Serving → List Symbol
+foresight_in None = []
+foresight_in (Some s) = s.foresight
 
 -- no turn is held, and nothing is in the hands
 pub record HoldsNone {S : Type 0} (s : SeatOf S) (pairs : List (ℕ × Held S)) : Type 0 where

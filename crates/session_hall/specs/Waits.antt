@@ -11,7 +11,7 @@ use Rattle.turn_board.specs.Boards.{held, note, given, lost, asks, givings, last
 use Rattle.session_hall.specs.declared.caller.Caller.{Caller}
 use Rattle.session_hall.specs.declared.stage.Stage.{Stage}
 use Rattle.session_hall.specs.declared.stage.Stage.TheVariants.{Applied}
-use Rattle.session_hall.specs.Callers.{book_of, entries_of}
+use Rattle.session_hall.specs.Callers.{book_of, entries_of, foresight_of}
 use Rattle.session_hall.specs.Calls.{BeganTicket, FoundAllBegun, DeclaredAt, AdmittedAt, AppliedAt, FinishedAt, EndedAt, IsBusyAt}
 use Rattle.session_hall.specs.Stages.{OnServing, OnFlight}
 
@@ -21,7 +21,7 @@ module _ {S : Type 0} (p q : Caller S) where
   pub record OnlyLost (tries : ℕ) : Type 0 where
     pub number_still : q.number ≡ p.number
     pub stage_still : q.stage ≡ p.stage
-    pub foresight_still : q.foresight ≡ p.foresight
+    pub foresight_still : foresight_of q ≡ foresight_of p
     pub note_still : note q.seat ≡ note p.seat
     pub given_still : given q.seat ≡ given p.seat
     pub change_still : last_change q.seat ≡ last_change p.seat
@@ -42,7 +42,7 @@ module _ {S : Type 0} (p q : Caller S) where
   pub record OnlyDelayed (t : ℕ) : Type 0 where
     pub number_still : q.number ≡ p.number
     pub stage_still : q.stage ≡ p.stage
-    pub foresight_still : q.foresight ≡ p.foresight
+    pub foresight_still : foresight_of q ≡ foresight_of p
     pub journal_grows : Grows (book_of p).journal (book_of q).journal
     pub entries_still : entries_of q t ≡ entries_of p t
     pub given_grows : given p.seat ≤ given q.seat
@@ -88,13 +88,13 @@ module _ {S : Type 0} (m : Meaning) (p q : Caller S) where
   -- foresight and the entries as the first caller has them
   abbrev pub AdmittedAfter : Op → Type 0
   AdmittedAfter op = OnServing p.stage (λ t. (via : Caller S) × OnlyDelayed p via t
-      × AdmittedAt m via q op t × (q.foresight ≡ p.foresight) × (entries_of q t ≡ entries_of p t))
+      × AdmittedAt m via q op t × (foresight_of q ≡ foresight_of p) × (entries_of q t ≡ entries_of p t))
 
   -- after tries that found one of the operation's turns taken, it is done on its shards, with the
   -- foresight and the book of the note as the first caller has them
   abbrev pub AppliedAfter : ℕ → ℕ → Value → Type 0
   AppliedAfter shards turns v = OnFlight p.stage (λ t op. (via : Caller S)
-      × OnlyShardLost m shards p via × AppliedAt m via q turns v t op × (q.foresight ≡ p.foresight)
+      × OnlyShardLost m shards p via × AppliedAt m via q turns v t op × (foresight_of q ≡ foresight_of p)
       × (book_of q ≡ book_of p))
 
   abbrev pub FinishedAfterFrom : List Symbol → Stage → Type 0
@@ -114,4 +114,4 @@ module _ {S : Type 0} (m : Meaning) (p q : Caller S) where
   -- as the first caller has them
   abbrev pub EndedAfter : Reply → Type 0
   EndedAfter r = OnServing p.stage (λ t. (via : Caller S) × OnlyBookLost p via × EndedAt m via q r t
-      × (q.foresight ≡ p.foresight) × (entries_of q t ≡ entries_of p t))
+      × (foresight_of q ≡ []) × (entries_of q t ≡ entries_of p t))

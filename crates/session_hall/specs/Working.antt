@@ -1,5 +1,5 @@
 -- An operation on the shards in a caller's hands. Only this crate's own functions cite it.
-use Rattle.std.specs.Prelude.{◌≡◌, ℕ, ◌+◌, ◌<◌, ◌≤◌, pos, true, List, [], ◌∷◌, ◌++◌, length, map}
+use Rattle.std.specs.Prelude.{◌≡◌, ℕ, ◌+◌, ◌<◌, ◌≤◌, pos, true, List, [], ◌∷◌, ◌++◌, Some, length, map, slice_get}
 use Rattle.std.specs.List.{AllByRecursion}
 use Rattle.session_limits.specs.Limits.{max_session_calls}
 use Rattle.session_values.specs.declared.op.Op.{Op}
@@ -21,6 +21,10 @@ module _ {S : Type 0} where
   abbrev pub keys_in : Content S → ℕ
   keys_in (Shard c room) = size_of c
   keys_in (Register s b) = 0
+
+  abbrev pub IsAnyShard : Content S → Type 0
+  IsAnyShard (Shard c room) = Unit {0}
+  IsAnyShard (Register s b) = ⊥
 
   abbrev pub all_keys : List (ℕ × Content S) → ℕ
   all_keys [] = 0
@@ -48,26 +52,19 @@ module _ {S : Type 0} where
   WorkedFirst op (x ∷ xs) ys v = (y : Held S) × (ys ≡ xs ++ (x.0, y) ∷ [])
       × WorkedTo op (content_of x.1) (content_of y) v
 
-  abbrev pub FirstCounts : Op → List (ℕ × Held S) → Type 0
-  FirstCounts op [] = ⊥
-  FirstCounts op (x ∷ xs) = CanDo op (content_of x.1)
-      × (keys_in (content_of x.1) ≤ max_session_calls)
+  -- ---- the shard at a place
+  abbrev pub HasShardAt : ℕ → List (ℕ × Held S) → Type 0
+  HasShardAt i xs = (x : ℕ × Held S) → slice_get xs i ≡ Some x → IsAnyShard (content_of x.1)
 
-  abbrev pub CountedFirst : List (ℕ × Held S) → List (ℕ × Held S) → ℕ → Type 0
-  CountedFirst [] ys n = ⊥
-  CountedFirst (x ∷ xs) ys n = (y : Held S) × (ys ≡ xs ++ (x.0, y) ∷ [])
-      × (content_of y ≡ content_of x.1) × (n ≡ keys_in (content_of x.1))
+  abbrev pub HasKeysAt : ℕ → List (ℕ × Held S) → ℕ → Type 0
+  HasKeysAt i xs n = (x : ℕ × Held S) → slice_get xs i ≡ Some x → n ≡ keys_in (content_of x.1)
 
   -- ---- all shards
   abbrev pub AllCan : Op → List (ℕ × Content S) → Type 0
   AllCan op xs = AllByRecursion (λ x. CanDo op x.1) xs
 
-  abbrev pub CanCount : Op → List (ℕ × Held S) → Type 0
-  CanCount op xs = AllCan op (contents xs) × (all_keys (contents xs) ≤ max_session_calls)
-
-  -- nothing that counts has changed, and n is the number of keys
-  abbrev pub HasCounted : List (ℕ × Held S) → List (ℕ × Held S) → ℕ → Type 0
-  HasCounted xs ys n = (contents ys ≡ contents xs) × (n ≡ all_keys (contents xs))
+  abbrev pub AreShards : List (ℕ × Content S) → Type 0
+  AreShards xs = AllByRecursion (λ x. IsAnyShard x.1) xs
 
   -- with a key one shard is in the hands; else their keys are counted
   abbrev pub CanWork : Op → List (ℕ × Held S) → Type 0
@@ -79,13 +76,12 @@ module _ {S : Type 0} where
       → (contents ys ≡ contents xs) × (v ≡ Num (pos (all_keys (contents xs)))))
       × (0 < arguments op.kind → WorkedFirst op xs ys v)
 
-  -- so many shards have been counted: their contents stand behind the others
-  pub record Counting (op : Op) (first now : List (ℕ × Held S)) (done count : ℕ) : Type 0 where
+  -- so many shards have been counted
+  pub record Counting (pairs : List (ℕ × Held S)) (done count : ℕ) : Type 0 where
     pub front : List (ℕ × Content S)
     pub back : List (ℕ × Content S)
-    pub whole : contents first ≡ front ++ back
-    pub turned : contents now ≡ back ++ front
+    pub whole : contents pairs ≡ front ++ back
     pub long : length front ≡ done
     pub counted : count ≡ all_keys front
-    pub can : AllCan op back
-    pub few : all_keys (contents first) ≤ max_session_calls
+    pub shards : AreShards back
+    pub few : all_keys (contents pairs) ≤ max_session_calls

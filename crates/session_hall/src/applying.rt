@@ -1,7 +1,7 @@
 // Doing an operation on its shards.
 
 ghost use Rattle.std.specs.Prelude.{◌≡◌, ◌+◌, ◌*◌, ◌<◌, ◌≤◌, length};
-ghost use Rattle.session_limits.specs.Limits.{max_shards};
+ghost use Rattle.session_limits.specs.Limits.{max_session_calls, max_shards};
 ghost use Rattle.session_values.specs.Kinds.{arguments};
 ghost use Rattle.turn_board.specs.Boards.{turn_count};
 ghost use Rattle.hall_rule.specs.Turns.{place, span, turn_set};
@@ -9,7 +9,7 @@ ghost use Rattle.session_hall.specs.Callers.{IsCallerOf};
 ghost use Rattle.session_hall.specs.Calls.{AppliedAs};
 ghost use Rattle.session_hall.specs.Names.{script_of};
 ghost use Rattle.session_hall.specs.Stages.{IsInFlight};
-ghost use Rattle.session_hall.specs.Working.{CanCount, CanWork, CountedFirst, HasCounted, HasWorked, FirstCan, FirstCounts, WorkedFirst};
+ghost use Rattle.session_hall.specs.Working.{AreShards, CanWork, HasKeysAt, HasShardAt, HasWorked, FirstCan, WorkedFirst, all_keys, contents};
 
 use crate::answers::Applying;
 use crate::caller::Caller;
@@ -70,31 +70,28 @@ fn work_first<S: Script + Drop>(hands: &mut Hands<Held<S>>, op: Op) -> Value
     }
 }
 
-// The number of keys of the first shard in the hands, which is put behind the others.
-fn count_first<S: Script + Drop>(hands: &mut Hands<Held<S>>, op: Op) -> u32
-    requires keyless { arguments op.kind ≡ 0 }
-    requires can { FirstCounts op hands.old.pairs }
-    requires room { length hands.old.pairs ≤ hands.old.room }
-    ensures counted { CountedFirst hands.old.pairs hands.new.pairs result }
-    ensures room { hands.new.room ≡ hands.old.room }
+// The number of keys of a shard in the hands, by its place from 0.
+fn keys_at<S: Script + Drop>(hands: &Hands<Held<S>>, i: u32) -> u32
+    requires within { i < length hands.now.pairs }
+    requires shard { HasShardAt i hands.now.pairs }
+    ensures { HasKeysAt i hands.now.pairs result }
 {
-    match work_first(hands, op) {
-        Value::Num(n) => n as u32,
-        _ => unreachable!(),
+    let (_, held) = hands.get(i);
+    match held {
+        Held::Table(part) => part.len(),
+        Held::Register(_) => unreachable!(),
     }
 }
 
 // The number of keys of all shards in the hands.
-fn count_all<S: Script + Drop>(hands: &mut Hands<Held<S>>, op: Op) -> u32
-    requires keyless { arguments op.kind ≡ 0 }
-    requires can { CanCount op hands.old.pairs }
-    requires room { length hands.old.pairs ≤ hands.old.room }
-    ensures counted { HasCounted hands.old.pairs hands.new.pairs result }
-    ensures room { hands.new.room ≡ hands.old.room }
+fn count_all<S: Script + Drop>(hands: &Hands<Held<S>>) -> u32
+    requires shards { AreShards (contents hands.now.pairs) }
+    requires few { all_keys (contents hands.now.pairs) ≤ max_session_calls }
+    ensures { result ≡ all_keys (contents hands.now.pairs) }
 {
     let mut count = 0;
     for done in 0..hands.len() {
-        count += count_first(hands, op);
+        count += keys_at(hands, done);
     }
     count
 }
@@ -107,7 +104,7 @@ fn work<S: Script + Drop>(hands: &mut Hands<Held<S>>, op: Op) -> Value
     ensures room { hands.new.room ≡ hands.old.room }
 {
     if op.kind.arguments() == 0 {
-        Value::Num(count_all(hands, op) as i64)
+        Value::Num(count_all(hands) as i64)
     } else {
         work_first(hands, op)
     }

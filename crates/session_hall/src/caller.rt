@@ -6,7 +6,6 @@ use crate::stage::Stage;
 use hall_rule::{HallRule, Held};
 use session_journal::Script;
 use session_values::Listed;
-use symbolic_ops::Foresight;
 use turn_board::{Hands, Seat};
 
 /// Who serves one ticket at a time in a hall. It is made to move to a thread.
@@ -16,8 +15,6 @@ pub struct Caller<S: Script + Drop> {
     /// Its place among the hall's callers, from 0.
     pub(crate) number: u32,
     pub(crate) stage: Stage,
-    /// What its ticket may still call.
-    pub(crate) foresight: Foresight,
     /// The shards that it holds, by turn.
     pub(crate) hands: Hands<Held<S>>,
 }

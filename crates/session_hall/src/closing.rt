@@ -30,7 +30,6 @@ fn seats_of<S: Script + Drop>(
             seat,
             number: _,
             stage: _,
-            foresight: _,
             hands: _,
         } = left.remove(0);
         seats.push_reserved(seat);

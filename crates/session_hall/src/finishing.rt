@@ -1,8 +1,9 @@
 // Entering in the book what was done on its shards.
 
-ghost use Rattle.std.specs.Prelude.{◌≡◌};
+ghost use Rattle.std.specs.Prelude.{◌≡◌, ◌≤◌};
+ghost use Rattle.session_limits.specs.Limits.{max_symbols};
 ghost use Rattle.session_hall.specs.Callers.{IsCallerOf};
-ghost use Rattle.session_hall.specs.Calls.{MayFinish, FinishedAs};
+ghost use Rattle.session_hall.specs.Calls.{MayFinish, FinishedAs, IsBusyFinish};
 ghost use Rattle.session_hall.specs.Names.{script_of};
 
 use crate::answers::Finishing;
@@ -33,7 +34,34 @@ impl<S: Script + Drop> Caller<S> {
             None => return Finishing::Busy { turn: 0 },
         };
         book.done(t, reply, next);
-        self.foresight.replace(next);
+        hall.board
+            .give_all(&mut self.seat, Held::Register(book), &mut self.hands);
+        self.stage = Stage::Serving(t);
+        Finishing::Done
+    }
+
+    /// The same with a list that the book takes over: what `next` then holds says nothing, and it
+    /// keeps room for 256 symbols.
+    pub fn try_finish_with(&mut self, hall: &Hall<S>, next: &mut Foresight) -> Finishing
+        requires caller { IsCallerOf S.meaning hall.now self.old }
+        requires may { MayFinish (S.meaning (script_of hall.now)) self.old next.old.symbols }
+        requires room { max_symbols ≤ next.old.room }
+        ensures caller { IsCallerOf S.meaning hall.now self.new }
+        ensures same { self.new.number ≡ self.old.number }
+        ensures finished { FinishedAs (S.meaning (script_of hall.now)) self.old self.new
+            next.old.symbols result }
+        ensures busy { IsBusyFinish result → next.new ≡ next.old }
+        ensures room { max_symbols ≤ next.new.room }
+    {
+        let (t, reply) = match self.stage {
+            Stage::Applied(t, _, reply) => (t, reply),
+            _ => unreachable!(),
+        };
+        let mut book = match hall.take_book(&mut self.seat) {
+            Some(book) => book,
+            None => return Finishing::Busy { turn: 0 },
+        };
+        book.done_with(t, reply, next);
         hall.board
             .give_all(&mut self.seat, Held::Register(book), &mut self.hands);
         self.stage = Stage::Serving(t);

@@ -15,13 +15,12 @@ use crate::stage::Stage;
 use admission_book::Book;
 use hall_rule::{HallRule, Held, Part};
 use session_journal::Script;
-use session_limits::{MAX_CALLERS, MAX_SHARDS, MAX_SYMBOLS};
+use session_limits::{MAX_CALLERS, MAX_SHARDS};
 use session_values::{Listed, NoMemory, TableKind};
 use shard_tables::{MapShard, SetShard};
 use std::alloc::Global;
 use std::snapshot::Snapshot;
 use std::sync::Mutex;
-use symbolic_ops::Foresight;
 use turn_board::{Board, Hands, Seat};
 
 // The room of each table.
@@ -110,7 +109,6 @@ fn new_caller<S: Script + Drop>(
 ) -> Result<Caller<S>, NoMemory>
     ensures { IfOk result (λ c. IsNew seat number c) }
 {
-    let foresight = Foresight::with_room(alloc, MAX_SYMBOLS)?;
     let hands = match Hands::with_room(alloc, MAX_SHARDS) {
         Ok(hands) => hands,
         Err(_) => return Err(NoMemory),
@@ -119,7 +117,6 @@ fn new_caller<S: Script + Drop>(
         seat,
         number,
         stage: Stage::Idle,
-        foresight,
         hands,
     })
 }

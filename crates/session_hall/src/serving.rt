@@ -1,7 +1,7 @@
 // The try calls that take the book alone: begin, declare, admit and end.
 
 ghost use Rattle.std.specs.Prelude.{◌≡◌};
-ghost use Rattle.session_hall.specs.Callers.{IsCallerOf};
+ghost use Rattle.session_hall.specs.Callers.{IsCallerOf, foresight_of};
 ghost use Rattle.session_hall.specs.Calls.{ByNote, MayDeclare, MayCall, MayAnswer, BeganAs, DeclaredAs, AdmittedAs, EndedAs};
 ghost use Rattle.session_hall.specs.Names.{script_of};
 ghost use Rattle.session_hall.specs.Stages.{IsBetween};
@@ -38,8 +38,7 @@ impl<S: Script + Drop> Caller<S> {
                 return Began::AllBegun;
             }
         };
-        book.script().entry(t, &mut self.foresight);
-        book.begin(self.number, &self.foresight);
+        book.begin_next(self.number);
         hall.board
             .give_all(&mut self.seat, Held::Register(book), &mut self.hands);
         self.stage = Stage::Serving(t);
@@ -50,7 +49,7 @@ impl<S: Script + Drop> Caller<S> {
     pub fn try_declare(&mut self, hall: &Hall<S>, f: &Foresight) -> Declared
         requires caller { IsCallerOf S.meaning hall.now self.old }
         requires may { ByNote (S.meaning (script_of hall.now)) self.old
-            (MayDeclare self.old.foresight.symbols f.now.symbols) }
+            (MayDeclare (foresight_of self.old) f.now.symbols) }
         ensures caller { IsCallerOf S.meaning hall.now self.new }
         ensures same { self.new.number ≡ self.old.number }
         ensures declared { DeclaredAs (S.meaning (script_of hall.now)) self.old self.new
@@ -65,7 +64,6 @@ impl<S: Script + Drop> Caller<S> {
             None => return Declared::Busy { turn: 0 },
         };
         book.narrow(t, f);
-        self.foresight.replace(f);
         hall.board
             .give_all(&mut self.seat, Held::Register(book), &mut self.hands);
         Declared::Yes
@@ -75,7 +73,7 @@ impl<S: Script + Drop> Caller<S> {
     pub fn try_admit(&mut self, hall: &Hall<S>, op: Op) -> Admitting
         requires caller { IsCallerOf S.meaning hall.now self.old }
         requires may { ByNote (S.meaning (script_of hall.now)) self.old
-            (MayCall self.old.foresight.symbols op) }
+            (MayCall (foresight_of self.old) op) }
         ensures caller { IsCallerOf S.meaning hall.now self.new }
         ensures same { self.new.number ≡ self.old.number }
         ensures admitted { AdmittedAs (S.meaning (script_of hall.now)) self.old self.new op result }

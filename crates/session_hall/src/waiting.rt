@@ -1,8 +1,9 @@
 // The waiting calls: each repeats its try call, and waits between tries.
 
-ghost use Rattle.std.specs.Prelude.{◌≡◌};
+ghost use Rattle.std.specs.Prelude.{◌≡◌, ◌≤◌};
+ghost use Rattle.session_limits.specs.Limits.{max_symbols};
 ghost use Rattle.turn_board.specs.Boards.{turn_count};
-ghost use Rattle.session_hall.specs.Callers.{IsCallerOf};
+ghost use Rattle.session_hall.specs.Callers.{IsCallerOf, foresight_of};
 ghost use Rattle.session_hall.specs.Calls.{ByNote, MayDeclare, MayCall, MayAnswer, MayFinish};
 ghost use Rattle.session_hall.specs.Names.{script_of};
 ghost use Rattle.session_hall.specs.Stages.{IsBetween, IsInFlight};
@@ -53,7 +54,7 @@ impl<S: Script + Drop> Caller<S> {
     pub fn declare<R: Wait>(&mut self, rt: &R, hall: &Hall<S>, f: &Foresight)
         requires caller { IsCallerOf S.meaning hall.now self.old }
         requires may { ByNote (S.meaning (script_of hall.now)) self.old
-            (MayDeclare self.old.foresight.symbols f.now.symbols) }
+            (MayDeclare (foresight_of self.old) f.now.symbols) }
         ensures caller { IsCallerOf S.meaning hall.now self.new }
         ensures same { self.new.number ≡ self.old.number }
         ensures declared { DeclaredAfter (S.meaning (script_of hall.now)) self.old self.new
@@ -72,7 +73,7 @@ impl<S: Script + Drop> Caller<S> {
     )
         requires caller { IsCallerOf S.meaning hall.now self.old }
         requires may { ByNote (S.meaning (script_of hall.now)) self.old
-            (MayDeclare self.old.foresight.symbols f.now.symbols) }
+            (MayDeclare (foresight_of self.old) f.now.symbols) }
         ensures caller { IsCallerOf S.meaning hall.now self.new }
         ensures same { self.new.number ≡ self.old.number }
         ensures declared { DeclaredAfter (S.meaning (script_of hall.now)) self.old self.new
@@ -92,7 +93,7 @@ impl<S: Script + Drop> Caller<S> {
     pub fn admit<R: Wait>(&mut self, rt: &R, hall: &Hall<S>, op: Op)
         requires caller { IsCallerOf S.meaning hall.now self.old }
         requires may { ByNote (S.meaning (script_of hall.now)) self.old
-            (MayCall self.old.foresight.symbols op) }
+            (MayCall (foresight_of self.old) op) }
         ensures caller { IsCallerOf S.meaning hall.now self.new }
         ensures same { self.new.number ≡ self.old.number }
         ensures admitted { AdmittedAfter (S.meaning (script_of hall.now)) self.old self.new op }
@@ -104,7 +105,7 @@ impl<S: Script + Drop> Caller<S> {
     pub fn admit_with<R: Wait>(&mut self, rt: &R, hall: &Hall<S>, op: Op, waits: &mut Waits)
         requires caller { IsCallerOf S.meaning hall.now self.old }
         requires may { ByNote (S.meaning (script_of hall.now)) self.old
-            (MayCall self.old.foresight.symbols op) }
+            (MayCall (foresight_of self.old) op) }
         ensures caller { IsCallerOf S.meaning hall.now self.new }
         ensures same { self.new.number ≡ self.old.number }
         ensures admitted { AdmittedAfter (S.meaning (script_of hall.now)) self.old self.new op }
@@ -184,6 +185,34 @@ impl<S: Script + Drop> Caller<S> {
         waits.reset();
         for _ in rt.forever() {
             match self.try_finish(hall, next) {
+                Finishing::Done => return,
+                Finishing::Busy { turn } => waits.until_free(hall, turn),
+            }
+        }
+        unreachable!()
+    }
+
+    /// The same with a list that the book takes over: what `next` then holds says nothing, and it
+    /// keeps room for 256 symbols.
+    pub fn finish_taking<R: Wait>(
+        &mut self,
+        rt: &R,
+        hall: &Hall<S>,
+        next: &mut Foresight,
+        waits: &mut Waits,
+    )
+        requires caller { IsCallerOf S.meaning hall.now self.old }
+        requires may { MayFinish (S.meaning (script_of hall.now)) self.old next.old.symbols }
+        requires room { max_symbols ≤ next.old.room }
+        ensures caller { IsCallerOf S.meaning hall.now self.new }
+        ensures same { self.new.number ≡ self.old.number }
+        ensures finished { FinishedAfter (S.meaning (script_of hall.now)) self.old self.new
+            next.old.symbols }
+        ensures room { max_symbols ≤ next.new.room }
+    {
+        waits.reset();
+        for _ in rt.forever() {
+            match self.try_finish_with(hall, next) {
                 Finishing::Done => return,
                 Finishing::Busy { turn } => waits.until_free(hall, turn),
             }

@@ -69,12 +69,12 @@ with_present d f = record {
   sure = d.sure;
 }
 
--- the ticket has ended
+-- the ticket has ended, and nothing more may come of it
 abbrev pub with_end : DeskView → DeskView
 with_end d = record {
   ticket = d.ticket;
   entries = d.entries;
-  present = d.present;
+  present = [];
   waiting = d.waiting;
   ended = true;
   home = d.home;

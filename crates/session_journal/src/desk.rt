@@ -1,6 +1,7 @@
 // Desks.
 
-ghost use Rattle.std.specs.Prelude.{◌≡◌, None, false, MatchResult};
+ghost use Rattle.std.specs.Prelude.{◌≡◌, ◌≤◌, None, false, MatchResult};
+ghost use Rattle.session_limits.specs.Limits.{max_symbols};
 ghost use Rattle.session_values.specs.Dialogue.{Calls, Answers, replies};
 ghost use Rattle.symbolic_ops.specs.Matching.{Matches};
 ghost use Rattle.session_journal.specs.Desks.{DeskView, next_of, due_of, MayNarrow, MayFinish, finished, with_waiting, with_present, with_end};
@@ -42,6 +43,17 @@ pub trait Desk {
         ensures script { script self.new ≡ script self.old }
         ensures finished { at self.new
             ≡ finished (at self.old) (at self.old).waiting next.now.symbols };
+
+    /// The same, which may take the list over: what `next` then holds says nothing, and it keeps
+    /// room for 256 symbols.
+    fn finish_with<R: Threads + Wait + Sync>(&mut self, rt: &R, next: &mut Foresight)
+        requires may { MayFinish (Self.Served.meaning (script self.old)) (at self.old)
+            (at self.old).waiting next.old.symbols }
+        requires room { max_symbols ≤ next.old.room }
+        ensures script { script self.new ≡ script self.old }
+        ensures finished { at self.new
+            ≡ finished (at self.old) (at self.old).waiting next.old.symbols }
+        ensures room { max_symbols ≤ next.new.room };
 
     /// Narrows to a declaration of the ticket.
     fn declare<R: Threads + Wait + Sync>(&mut self, rt: &R, f: &Foresight)

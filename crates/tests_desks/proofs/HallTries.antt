@@ -25,7 +25,7 @@ use Rattle.session_hall.specs.declared.hall.Hall.{Hall}
 use Rattle.session_hall.specs.declared.stage.Stage.{Stage}
 use Rattle.session_hall.specs.declared.stage.Stage.TheVariants.{Idle, Serving as Serves, InFlight, Applied, Out}
 use Rattle.session_journal.specs.Journal.{entries}
-use Rattle.session_hall.specs.Callers.{IsCallerOf, book_in}
+use Rattle.session_hall.specs.Callers.{IsCallerOf, book_in, foresight_of}
 use Rattle.session_hall.specs.Calls.{AdmittedAs, AppliedAs, BeganAs, BeganTicket, ByNote, DeclaredAs, EndedAs, FinishedAs, FinishedFrom, MayAnswer, MayCall, MayDeclare, MayFinish}
 use Rattle.session_hall.specs.Names.{script_of}
 use Rattle.session_hall.proofs.Tickets.{of_serving}
@@ -37,7 +37,7 @@ use Rattle.tests_desks.proofs.HallCalls.{may_call, may_end, may_enter, may_narro
 
 -- ---- what the calls ask
 module _ (h : Hall ListView) (script : script_of h ≡ get_or_puts) (c : Caller ListView) where
-  pub calls_first : Stands h c 1 (Serves 1) may_put_both [] → ByNote (meaning_of (script_of h)) c (MayCall c.foresight.symbols (put_of 2 7))
+  pub calls_first : Stands h c 1 (Serves 1) may_put_both [] → ByNote (meaning_of (script_of h)) c (MayCall (foresight_of c) (put_of 2 7))
   calls_first s = may_call get_or_puts h script c 1 (put_of 2 7) _ _ s (refl, inl (put_stands 2 7 (omega arith) (omega arith)))
 
   pub enters_first : (v : Value) (next : List Symbol) → next ≡ may_put → Stands h c 1 (Applied 1 (put_of 2 7) v) may_put_both [] → MayFinish (meaning_of (script_of h)) c next
@@ -47,7 +47,7 @@ module _ (h : Hall ListView) (script : script_of h ≡ get_or_puts) (c : Caller 
     (inr (inl (record { kind = refl; table = refl; key = refl; value = refl })), tt),
   )
 
-  pub calls_second : (v : Value) → Stands h c 1 (Serves 1) may_put (done (put_of 2 7) v ∷ []) → ByNote (meaning_of (script_of h)) c (MayCall c.foresight.symbols (put_of 1 7))
+  pub calls_second : (v : Value) → Stands h c 1 (Serves 1) may_put (done (put_of 2 7) v ∷ []) → ByNote (meaning_of (script_of h)) c (MayCall (foresight_of c) (put_of 1 7))
   calls_second v s = may_call get_or_puts h script c 1 (put_of 1 7) _ _ s (refl, inl (put_stands 1 7 (omega arith) (omega arith)))
 
   pub enters_second : (u v : Value) (next : List Symbol) → next ≡ [] → Stands h c 1 (Applied 1 (put_of 1 7) v) may_put (done (put_of 2 7) u ∷ []) → MayFinish (meaning_of (script_of h)) c next
@@ -56,7 +56,7 @@ module _ (h : Hall ListView) (script : script_of h ≡ get_or_puts) (c : Caller 
   pub ends_second : (u v : Value) → Stands h c 1 (Serves 1) [] (done (put_of 2 7) u ∷ done (put_of 1 7) v ∷ []) → ByNote (meaning_of (script_of h)) c (MayAnswer nil_reply)
   ends_second u v s = may_end get_or_puts h script c 1 _ _ s refl
 
-  pub declares_none : (next : List Symbol) → next ≡ [] → Stands h c 0 (Serves 0) may_get [] → ByNote (meaning_of (script_of h)) c (MayDeclare c.foresight.symbols next)
+  pub declares_none : (next : List Symbol) → next ≡ [] → Stands h c 0 (Serves 0) may_get [] → ByNote (meaning_of (script_of h)) c (MayDeclare (foresight_of c) next)
   declares_none next e s = may_narrow get_or_puts h script c 0 next _ _ _ e s (tt, record { few = omega arith; known = tt; covers = record { each = no_calls } })
 
   pub ends_none : Stands h c 0 (Serves 0) [] [] → ByNote (meaning_of (script_of h)) c (MayAnswer nil_reply)
@@ -85,13 +85,13 @@ module _ (h : Hall ListView) (p q : Caller ListView) (t : ℕ) (f : List Symbol)
   admitted_so m op o r e n s a =
       let R : Admitting → Type 0 = λ z. AdmittedAs m p q op z in
       let x = of_serving p.stage t _ s.stage (subst R e a) in
-      record { caller = k; stage = x.stage_is ∙ ap (λ z. InFlight t z) n; foresight = ap (λ y. y.symbols) x.foresight_still ∙ s.foresight; entries = x.entries_still ∙ s.entries }
+      record { caller = k; stage = x.stage_is ∙ ap (λ z. InFlight t z) n; foresight = x.foresight_still ∙ s.foresight; entries = x.entries_still ∙ s.entries }
 
   pub applied_so : (m : Meaning) (op : Op) (shards turns : ℕ) (v : Value) (r : Applying) → r ≡ applying.Applied v → Stands h p t (InFlight t op) f es → AppliedAs m p q shards turns r → Stands h q t (Applied t op v) f es
   applied_so m op shards turns v r e s a =
       let R : Applying → Type 0 = λ z. AppliedAs m p q shards turns z in
       let x = of_flight p.stage t op _ s.stage (subst R e a) in
-      record { caller = k; stage = x.stage_is; foresight = ap (λ y. y.symbols) x.foresight_still ∙ s.foresight; entries = ap (λ n. entries (book_in n).journal t) x.note_still ∙ s.entries }
+      record { caller = k; stage = x.stage_is; foresight = x.foresight_still ∙ s.foresight; entries = ap (λ n. entries (book_in n).journal t) x.note_still ∙ s.entries }
 
   pub finished_so : (m : Meaning) (op : Op) (v : Value) (next g : List Symbol) (r : Finishing) → r ≡ finishing.Done → next ≡ g → Stands h p t (Applied t op v) f es → FinishedAs m p q next r → Stands h q t (Serves t) g (es ++ done op v ∷ [])
   finished_so m op v next g r e n s a =

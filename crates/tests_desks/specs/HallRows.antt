@@ -10,7 +10,7 @@ use Rattle.session_journal.specs.Lists.{ListView}
 use Rattle.session_hall.specs.declared.caller.Caller.{Caller}
 use Rattle.session_hall.specs.declared.hall.Hall.{Hall}
 use Rattle.session_hall.specs.declared.stage.Stage.{Stage}
-use Rattle.session_hall.specs.Callers.{IsCallerOf, entries_of}
+use Rattle.session_hall.specs.Callers.{IsCallerOf, entries_of, foresight_of}
 use Rattle.session_hall.specs.Closings.{Opens}
 use Rattle.session_hall.specs.Names.{script_of}
 use Rattle.tests_desks.specs.BookRows.{get_of, meaning_of, nil_reply, on_one_map, put_of}
@@ -40,7 +40,7 @@ pub record Stands (h : Hall ListView) (c : Caller ListView) (t : ℕ) (st : Stag
     (es : List Entry) : Type 0 where
   pub caller : IsCallerOf meaning_of h c
   pub stage : c.stage ≡ st
-  pub foresight : c.foresight.symbols ≡ f
+  pub foresight : foresight_of c ≡ f
   pub entries : entries_of c t ≡ es
 
 -- a hall over a list of tickets as it is opened, with two callers

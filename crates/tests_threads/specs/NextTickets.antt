@@ -5,7 +5,7 @@ use Rattle.session_journal.specs.Script.{Meaning}
 use Rattle.session_hall.specs.declared.caller.Caller.{Caller}
 use Rattle.session_hall.specs.declared.hall.Hall.{Hall}
 use Rattle.session_hall.specs.declared.stage.Stage.TheVariants.{Out, Serving}
-use Rattle.session_hall.specs.Callers.{entries_of}
+use Rattle.session_hall.specs.Callers.{entries_of, foresight_of}
 use Rattle.session_hall.specs.Closings.{Opens}
 use Rattle.session_hall.specs.Names.{script_of}
 
@@ -14,7 +14,7 @@ pub record IsFresh {S : Type 0} (m : Meaning) (c : Caller S) (t : ℕ) : Type 0 
   pub stage : c.stage ≡ Serving t
   pub within : t < m.requests
   pub fresh : entries_of c t ≡ []
-  pub entry : c.foresight.symbols ≡ m.entry t
+  pub entry : foresight_of c ≡ m.entry t
 
 -- it serves the ticket that it got, or is out
 abbrev pub GoesOn : {S : Type 0} → Meaning → Caller S → Option ℕ → Type 0

@@ -1,4 +1,4 @@
-use Rattle.session_hall.specs.Callers.{IsCallerOf}
+use Rattle.session_hall.specs.Callers.{IsCallerOf, foresight_of}
 use Rattle.session_hall.specs.Calls.{ByNote, MayDeclare}
 use Rattle.session_hall.specs.Names.{script_of}
 use Rattle.session_hall.specs.Waits.{OnlyBookLost}
@@ -7,6 +7,6 @@ use Rattle.session_hall.proofs.caller.Caller.declare_with.Given as goal
 abbrev pub invariant-loop : goal.invariant-loop
 invariant-loop g l = record {
   caller : IsCallerOf g.S.Script.meaning l.hall l.self;
-  may : ByNote (g.S.Script.meaning (script_of l.hall)) l.self (MayDeclare l.self.foresight.symbols l.f.symbols);
+  may : ByNote (g.S.Script.meaning (script_of l.hall)) l.self (MayDeclare (foresight_of l.self) l.f.symbols);
   since : OnlyBookLost l.fn.self l.self;
 }

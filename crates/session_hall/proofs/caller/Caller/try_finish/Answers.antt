@@ -30,11 +30,11 @@ returns-clause-caller g c =
     finished_caller g.S.Script.meaning c.args.hall.now c.args.self.now c.requires.caller c.take_book.new.seat c.in-Some.book c.take_book.ensures.seat.1 c.in-Some.ensures.took
     c.in-Applied.t c.in-Applied.field-1 c.in-Applied.reply c.in-Applied.is
     c.args.next.now.symbols c.done.new.self c.done.ensures.stays.script c.done.ensures.stays.lawful c.done.ensures.did
-    _ c.give_all.ensures.seat c.give_all.ensures.booked c.give_all.ensures.hands.0 c.give_all.ensures.hands.1 refl c.replace.ensures refl
+    _ c.give_all.ensures.seat c.give_all.ensures.booked c.give_all.ensures.hands.0 c.give_all.ensures.hands.1 refl refl
 
 pub returns-clause-finished : goal.returns-clause-finished
 returns-clause-finished g c =
     finished_at g.S.Script.meaning c.args.hall.now c.args.self.now c.requires.caller c.take_book.new.seat c.in-Some.book c.take_book.ensures.seat.1 c.in-Some.ensures.took
     c.in-Applied.t c.in-Applied.field-1 c.in-Applied.reply c.in-Applied.is
     c.args.next.now.symbols c.done.new.self c.done.ensures.stays.script c.done.ensures.stays.lawful c.done.ensures.did
-    _ c.give_all.ensures.seat c.give_all.ensures.booked c.give_all.ensures.hands.0 c.give_all.ensures.hands.1 refl c.replace.ensures refl
+    _ c.give_all.ensures.seat c.give_all.ensures.booked c.give_all.ensures.hands.0 c.give_all.ensures.hands.1 refl refl

@@ -1,0 +1,19 @@
+use Rattle.std.proofs.Common.{refl, ◌∙◌}
+use Rattle.session_hall.specs.Calls.{MayFinishAt}
+use Rattle.session_hall.specs.Names.{script_of}
+use Rattle.session_hall.proofs.Tried.{none_tried, one_tried, still_may}
+use Rattle.session_hall.proofs.caller.Caller.finish_taking.Goals as goal
+
+pub loop-init : goal.loop-init
+loop-init g c = record { caller = c.requires.caller; may = c.requires.may; since = none_tried c.args.self.now; list = refl }
+
+pub loop-preserved : goal.loop-preserved
+loop-preserved g c =
+    let inv = c.loop.invariant in
+    let m = g.S.Script.meaning (script_of c.args.hall.now) in
+    record {
+      caller = c.in-Busy.ensures.caller;
+      may = still_may m (λ s l b. MayFinishAt m s l b c.args.next.now.symbols) c.loop.self c.try_finish_with.new.self _ _ c.in-Busy.ensures.finished.1 inv.may;
+      since = one_tried m c.args.self.now c.loop.self c.try_finish_with.new.self _ inv.since c.in-Busy.ensures.same c.in-Busy.ensures.finished;
+      list = c.in-Busy.ensures.busy tt ∙ inv.list;
+    }
