@@ -1,5 +1,6 @@
 pub mod Counts
 pub mod Crossing
+pub mod Kept
 pub mod Late
 pub mod Lawful
 pub mod Places

@@ -95,6 +95,26 @@ module _ (c : Course) (now : DeskView) (room : ℕ) (es : List Entry) (w : Optio
       let places : passed_by (c.whole (replies es)) ≡ s.passed ++ (at ∷ qs) = places_of c s.first s.gives s.promises (replies es) s.passed at next s.is_ahead in
       middle (λ (p : Place). p.point < c.points) s.passed qs at (subst (AllByRecursion (λ (p : Place). p.point < c.points)) places (s.promises.within (replies es)))
 
+-- another list may take the place of the one with the room
+pub roomed : (c : Course) (now : DeskView) (room same : ℕ) (es : List Entry) (w : Option Entry) (ahead : Ahead) → 256 ≤ same → Serving c now room es w ahead → Serving c now same es w ahead
+roomed c now room same es w ahead roomy s = record {
+  first = s.first;
+  gives = s.gives;
+  promises = s.promises;
+  passed = s.passed;
+  is_ahead = s.is_ahead;
+  follows = s.follows;
+  values = s.values;
+  counts = s.counts;
+  present = s.present;
+  waits = s.waits;
+  going = s.going;
+  ticket = s.ticket;
+  home = s.home;
+  sure = s.sure;
+  roomy = roomy;
+}
+
 -- ---- the calls
 module _ (c : Course) (now : DeskView) (room : ℕ) where
   module _ (op : Op) (next : Value → Ahead) (s : IsServing c now room (asked op next)) where

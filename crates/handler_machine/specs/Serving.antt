@@ -1,5 +1,5 @@
 -- A handler's run at a desk.
-use Rattle.std.specs.Prelude.{◌≡◌, ℕ, ◌+◌, ◌<◌, ◌≤◌, ◌++◌, List, [], ◌∷◌, Option, Some, None, Bool, true, false, if◌then◌else◌, length}
+use Rattle.std.specs.Prelude.{◌≡◌, ℕ, ◌+◌, ◌<◌, ◌≤◌, ◌++◌, List, [], ◌∷◌, Option, Some, None, Bool, true, false, if◌then◌else◌, length, map}
 use Rattle.std.specs.List.{AllByRecursion}
 use Rattle.session_limits.specs.Limits.{max_symbols}
 use Rattle.session_values.specs.declared.op.Op.{Op}
@@ -14,9 +14,9 @@ use Rattle.ticket_serving.specs.Served.{IsStopped}
 use Rattle.check_meaning.specs.Ahead.{Ahead}
 use Rattle.check_meaning.specs.Code.{points}
 use Rattle.handler_check.specs.Resolved.{code_at}
-use Rattle.check_meaning.specs.Dialogue.{Place, Calls, after, ended, last_place, last_replied, passed_by}
+use Rattle.check_meaning.specs.Dialogue.{Place, Calls, after, ended, env_of, last_place, last_replied, passed_by}
 use Rattle.declaration_insertion.specs.Program.{ProgramView, declared_at}
-use Rattle.declaration_insertion.specs.Promises.{Declarations, IsCoveredChain, list_at}
+use Rattle.declaration_insertion.specs.Promises.{Declarations, IsCoveredChain, list_at, symbol_at}
 
 -- how many of these places a reply led to
 abbrev pub replied_count : List Place → ℕ
@@ -99,6 +99,10 @@ IsAwaiting c now room ahead =
 -- where nothing is declared any more, nothing more may come of the ticket
 abbrev pub IsSettled : Bool → DeskView → Type 0
 IsSettled settled now = settled ≡ true → now.present ≡ []
+
+-- what is declared at a point, where the variables have these values
+abbrev pub list_with : Declarations → ℕ → List Value → List Symbol
+list_with declared point values = map (symbol_at (env_of values)) (declared point)
 
 -- the desk as it is once it is told of this list, where it hasn't been
 abbrev pub once_told : Bool → List Symbol → DeskView → DeskView

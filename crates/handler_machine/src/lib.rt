@@ -1,6 +1,7 @@
 //! Handlers run on what answers their operations, and served at desks.
 #![tactic(auto)]
 
+mod kind_counts;
 mod laws;
 mod narrowing;
 mod on_tables;

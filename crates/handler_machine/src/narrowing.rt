@@ -1,16 +1,18 @@
 // A walk at a desk, which is told of each declaration that is passed.
 
-ghost use Rattle.std.specs.Prelude.{◌≡◌, ◌+◌, ◌<◌, ◌≤◌, [], true, IfOk, length, map};
+ghost use Rattle.std.specs.Prelude.{◌≡◌, ℕ, ◌+◌, ◌<◌, ◌≤◌, [], true, IfOk, length, map, slice_index_or, vec_len};
 ghost use Rattle.session_limits.specs.Limits.{max_symbols, max_variables};
+ghost use Rattle.session_values.specs.declared.value.Value.TheVariants.{Nil};
 ghost use Rattle.session_values.specs.Values.{IsValue};
 ghost use Rattle.declaration_insertion.specs.Program.{declared_at};
 ghost use Rattle.declaration_insertion.specs.Promises.{symbol_at};
-ghost use Rattle.handler_check.specs.Resolved.{code_at};
+ghost use Rattle.handler_check.specs.Resolved.{code_at, variables_at};
 ghost use Rattle.check_meaning.specs.Code.{points};
 ghost use Rattle.check_meaning.specs.Dialogue.{env_of};
 ghost use Rattle.handler_machine.specs.Serving.{Halted, IsAwaiting, IsServing, IsSettled, MayTell, once_told};
-ghost use Rattle.handler_machine.specs.Serving.{course_of};
+ghost use Rattle.handler_machine.specs.Serving.{course_of, list_with};
 
+use crate::kind_counts::KindCounts;
 use crate::telling::TellsLate;
 use declaration_insertion::Program;
 use machine_walk::Guide;
@@ -18,7 +20,7 @@ use session_journal::Desk;
 use session_values::{NoMemory, Op, Value};
 use std::sync::Wait;
 use std::thread::Threads;
-use symbolic_ops::{Foresight, Symbol, instantiate};
+use symbolic_ops::{Foresight, instantiate};
 
 /// Takes the declaration of a point of a handler, with these values of the variables, and tells
 /// whether nothing is declared there.
@@ -33,8 +35,7 @@ fn take_declaration(
     requires point { point < 1 + points (code_at program.now.file h) }
     requires variables { max_variables ≤ length env.now }
     requires room { max_symbols ≤ next.old.room }
-    ensures symbols { next.new.symbols
-        ≡ map (symbol_at (env_of env.now)) (declared_at program.now h point) }
+    ensures symbols { next.new.symbols ≡ list_with (declared_at program.now h) point env.now }
     ensures room { next.new.room ≡ next.old.room }
     ensures nothing { result ≡ true → next.new.symbols ≡ [] }
 {
@@ -42,18 +43,39 @@ fn take_declaration(
     next.len() == 0
 }
 
-/// How many kinds of operations a declaration names, each on each of its tables; it is in order.
-fn kinds_named(list: &[Symbol]) -> u32 {
-    let mut count = 0u32;
-    let mut last = None;
-    for s in list {
-        let named = Some((s.kind, s.table));
-        if named != last {
-            count = count.wrapping_add(1);
-            last = named;
-        }
+/// Takes the declaration of a point, with the values that are kept for it, where the desk hasn't been
+/// told of it.
+#[inline(always)]
+pub(crate) fn take_late(
+    late: bool,
+    program: &Program,
+    h: u32,
+    point: u32,
+    values: &[Value],
+    next: &mut Foresight,
+)
+    requires handler { h < length program.now.file.handlers }
+    requires point { point < 1 + points (code_at program.now.file h) }
+    requires variables { max_variables ≤ length values.now }
+    requires room { max_symbols ≤ next.old.room }
+    ensures symbols { late ≡ true → next.new.symbols
+        ≡ list_with (declared_at program.now h) point values.now }
+    ensures room { next.new.room ≡ next.old.room }
+{
+    if late {
+        let _nothing = take_declaration(program, h, point, values, next);
     }
-    count
+}
+
+/// Keeps the values of so many variables.
+#[inline(always)]
+fn keep_values(values: &mut [Value], env: &[Value], variables: usize)
+    requires room { variables ≤ length values.old }
+    requires variables { variables ≤ length env.now }
+    ensures { (x : ℕ) → x < variables
+        → slice_index_or values.new x Nil ≡ slice_index_or env.now x Nil }
+{
+    values[..variables].copy_from_slice(&env[..variables]);
 }
 
 /// A reply that a desk gave, which is a value that a program can hold.
@@ -73,33 +95,32 @@ fn held(reply: Result<Value, NoMemory>) -> Result<Value, NoMemory>
 
 /// Leads a walk over a handler of a program at a desk: at each point it narrows to the declaration
 /// there. Behind an operation the desk is told of it at once. At a branch and behind a loop it is
-/// told at once where a kind is named no more on some table, since that may free others; else right
-/// before the next operation or the end, so that a handler that computes takes no turn.
+/// told at once where the number of kinds that are named changes, since that may free others; else
+/// right before the next operation or the end. So a handler that computes takes no turn, and makes
+/// no list: the point is kept and the values that its variables have there.
 #[derive(Drop)]
 pub(crate) struct Narrowing<'a, R> {
     pub(crate) rt: &'a R,
     pub(crate) program: &'a Program,
     pub(crate) handler: u32,
-    /// The declaration of the last point, in room for 256 symbols.
+    /// How many variables the handler has.
+    pub(crate) variables: usize,
+    /// Room for a declaration with its values, for 256 symbols.
     pub(crate) next: Foresight,
+    /// The point that was passed last.
+    pub(crate) point: u32,
+    /// The values of the variables at that point, where the desk has still to be told of it.
+    pub(crate) values: Vec<Value>,
     /// Nothing is declared any more. What is declared later is covered by that, so it is nothing
     /// too, and the desk needn't be told.
     pub(crate) settled: bool,
-    /// The desk has still to be told of `next`.
+    /// The desk has still to be told of the last point's declaration.
     pub(crate) late: bool,
-    /// No point behind the entry has been passed yet, so what is declared isn't `next`.
-    pub(crate) at_entry: bool,
+    pub(crate) kinds: KindCounts,
     ghost exists: { handler < length program.now.file.handlers },
-}
-
-impl<'a, R> Narrowing<'a, R> {
-    /// How many kinds the last declaration that was passed names.
-    fn kinds_declared(&self) -> u32 {
-        if self.at_entry {
-            return kinds_named(self.program.entry(self.handler));
-        }
-        kinds_named(self.next.symbols())
-    }
+    ghost counted: { variables ≡ length (variables_at program.now.file handler) },
+    ghost room: { vec_len values ≡ max_variables },
+    ghost within: { point < 1 + points (code_at program.now.file handler) },
 }
 
 impl<'a, R: Threads + Wait + Sync, D: Desk> Guide<D> for Narrowing<'a, R> {
@@ -107,10 +128,12 @@ impl<'a, R: Threads + Wait + Sync, D: Desk> Guide<D> for Narrowing<'a, R> {
 
     ghost Serves = { λ n whole start now ahead. (D.script now ≡ D.script start)
         × IsServing (course_of (D.Served.meaning (D.script start)) (D.at start)
-        n.program.now n.handler whole) (once_told n.late n.next.symbols (D.at now))
-        n.next.room ahead
-        × IsSettled n.settled (once_told n.late n.next.symbols (D.at now))
-        × MayTell (D.Served.meaning (D.script start)) n.late n.next.symbols (D.at now) };
+        n.program.now n.handler whole) (once_told n.late (list_with (declared_at n.program.now
+        n.handler) n.point n.values.items) (D.at now)) n.next.room ahead
+        × IsSettled n.settled (once_told n.late (list_with (declared_at n.program.now n.handler)
+        n.point n.values.items) (D.at now))
+        × MayTell (D.Served.meaning (D.script start)) n.late (list_with (declared_at n.program.now
+        n.handler) n.point n.values.items) (D.at now) };
 
     ghost Waits = { λ n whole start now ahead. (D.script now ≡ D.script start)
         × IsAwaiting (course_of (D.Served.meaning (D.script start)) (D.at start)
@@ -121,6 +144,14 @@ impl<'a, R: Threads + Wait + Sync, D: Desk> Guide<D> for Narrowing<'a, R> {
         n.program.now n.handler whole) (D.at now) n.next.room };
 
     fn call(&mut self, host: &mut D, op: Op) -> Result<Value, NoMemory> {
+        take_late(
+            self.late,
+            self.program,
+            self.handler,
+            self.point,
+            self.values.as_slice(),
+            &mut self.next,
+        );
         host.tell(self.rt, self.late, &self.next);
         self.late = false;
         held(host.call(self.rt, op))
@@ -128,9 +159,9 @@ impl<'a, R: Threads + Wait + Sync, D: Desk> Guide<D> for Narrowing<'a, R> {
 
     fn replied(&mut self, host: &mut D, point: u32, env: &[Value]) {
         let nothing = take_declaration(self.program, self.handler, point, env, &mut self.next);
-        host.finish(self.rt, &self.next);
+        host.finish_with(self.rt, &mut self.next);
         self.late = false;
-        self.at_entry = false;
+        self.point = point;
         self.settled = nothing;
     }
 
@@ -138,15 +169,20 @@ impl<'a, R: Threads + Wait + Sync, D: Desk> Guide<D> for Narrowing<'a, R> {
         if self.settled {
             return;
         }
-        let before = self.kinds_declared();
-        let nothing = take_declaration(self.program, self.handler, point, env, &mut self.next);
-        let kinds = kinds_named(self.next.symbols());
-        self.at_entry = false;
-        self.settled = nothing;
-        if kinds == before {
+        let before = self.point;
+        self.point = point;
+        if self
+            .kinds
+            .are_as_many(self.program, self.handler, before, point)
+        {
+            // What a program declares hangs on its handler's own variables alone.
+            let _checked = self.program.checked();
+            keep_values(self.values.as_mut_slice(), env, self.variables);
             self.late = true;
             return;
         }
+        let nothing = take_declaration(self.program, self.handler, point, env, &mut self.next);
+        self.settled = nothing;
         host.declare(self.rt, &self.next);
         self.late = false;
     }

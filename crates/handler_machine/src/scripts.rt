@@ -7,7 +7,7 @@ use crate::serving::serve_one;
 use crate::sums::{args_of, count_adds, count_calls, handler_of};
 use declaration_insertion::Program;
 use handler_check::Checked;
-use machine_walk::set_up;
+use machine_walk::put_args;
 use request_files::Requests;
 use session_journal::{Desk, Script};
 use session_limits::MAX_VARIABLES;
@@ -70,7 +70,8 @@ impl<'a> Script for Scripts<'a> {
     fn entry(&self, t: u32, out: &mut Foresight) {
         let list = self.program.entry(handler_of(self.requests, t));
         let mut env = [Value::Nil; MAX_VARIABLES];
-        set_up(&mut env, args_of(self.requests, t));
+        // The variables behind the arguments are nil already.
+        put_args(&mut env, args_of(self.requests, t));
         instantiate(list, &env, out);
     }
 

@@ -8,14 +8,15 @@ ghost use Rattle.check_meaning.specs.Code.{block_code, points};
 ghost use Rattle.check_meaning.specs.Dialogue.{entry, env_of, run};
 ghost use Rattle.machine_walk.specs.Runnable.{IsRunnable};
 ghost use Rattle.ticket_serving.specs.Served.{IsServed, IsStopped};
-ghost use Rattle.handler_check.specs.Resolved.{code_at, params_at};
+ghost use Rattle.handler_check.specs.Resolved.{code_at, params_at, variables_at};
 ghost use Rattle.declaration_insertion.specs.Promises.{list_at};
 ghost use Rattle.declaration_insertion.specs.Program.{declared_at};
 ghost use Rattle.handler_machine.specs.Serving.{Gives, IsSettled, Promises};
 
-use crate::narrowing::Narrowing;
+use crate::kind_counts::KindCounts;
+use crate::narrowing::{Narrowing, take_late};
 use crate::telling::TellsLate;
-use check_meaning::CheckedBlock;
+use check_meaning::{CheckedBlock, CheckedHandler};
 use declaration_insertion::Program;
 use machine_walk::{set_up, walk_body};
 use session_journal::{Desk, Script};
@@ -55,6 +56,14 @@ fn serve_body<R: Threads + Wait + Sync, D: Desk>(
     ensures room { max_symbols ≤ guide.new.next.room }
 {
     let reply = walk_body(guide, desk, env, body)?;
+    take_late(
+        guide.late,
+        guide.program,
+        guide.handler,
+        guide.point,
+        guide.values.as_slice(),
+        &mut guide.next,
+    );
     desk.tell(guide.rt, guide.late, &guide.next);
     guide.late = false;
     desk.end(guide.rt, reply);
@@ -66,15 +75,16 @@ fn serve_handler<R: Threads + Wait + Sync, D: Desk>(
     rt: &R,
     program: &Program,
     h: u32,
-    body: &CheckedBlock,
+    handler: &CheckedHandler,
     args: &[Value],
     scratch: &mut Scratch,
     desk: &mut D,
 ) -> Result<(), NoMemory>
     requires handler { h < length program.now.file.handlers }
+    requires own { length handler.now.variables ≡ length (variables_at program.now.file h) }
     requires args { length args.now ≤ max_variables }
     requires ready { scratch.old.ready ≡ true }
-    requires within { IsRunnable max_variables (block_code body.now) }
+    requires within { IsRunnable max_variables (block_code handler.now.body) }
     requires fresh { (D.at desk.old).entries ≡ [] }
     requires idle { (D.at desk.old).waiting ≡ None }
     requires going { (D.at desk.old).ended ≡ false }
@@ -82,10 +92,10 @@ fn serve_handler<R: Threads + Wait + Sync, D: Desk>(
         (entry (env_of args.now)) }
     requires gives { Gives (D.Served.meaning (D.script desk.old)) (D.at desk.old).ticket
         (declared_at program.now h) (entry (env_of args.now))
-        (run (block_code body.now) (env_of args.now)) }
+        (run (block_code handler.now.body) (env_of args.now)) }
     requires promises { AllByRecursion IsValue args.now → Promises
         (1 + points (code_at program.now.file h)) (declared_at program.now h)
-        (entry (env_of args.now)) (run (block_code body.now) (env_of args.now)) }
+        (entry (env_of args.now)) (run (block_code handler.now.body) (env_of args.now)) }
     ensures ready { scratch.new.ready ≡ true }
     ensures script { D.script desk.new ≡ D.script desk.old }
     ensures served { IfOk result (λ _. IsServed (D.Served.meaning (D.script desk.old))
@@ -93,31 +103,42 @@ fn serve_handler<R: Threads + Wait + Sync, D: Desk>(
     ensures stopped { OnErr result (IsStopped (D.Served.meaning (D.script desk.old))
         (D.at desk.old) (D.at desk.new)) }
 {
-    let Room { values, foresight } = scratch.take();
+    let Room {
+        values,
+        kept,
+        foresight,
+    } = scratch.take();
     let mut values = values;
     let mut guide = Narrowing {
         rt,
         program,
         handler: h,
+        variables: handler.variables.len() as usize,
         next: foresight,
+        point: 0,
+        values: kept,
         settled: false,
         late: false,
-        at_entry: true,
+        kinds: KindCounts::new(),
     };
     let env = values.as_mut_slice();
     set_up(env, args);
-    let result = serve_body(&mut guide, desk, env, body);
+    let result = serve_body(&mut guide, desk, env, &handler.body);
     let Narrowing {
         rt: _,
         program: _,
         handler: _,
+        variables: _,
         next,
+        point: _,
+        values: kept,
         settled: _,
         late: _,
-        at_entry: _,
+        kinds: _,
     } = guide;
     scratch.put(Room {
         values,
+        kept,
         foresight: next,
     });
     result
@@ -154,6 +175,6 @@ pub fn serve_one<R: Threads + Wait + Sync, D: Desk>(
     ensures stopped { OnErr result (IsStopped (D.Served.meaning (D.script desk.old))
         (D.at desk.old) (D.at desk.new)) }
 {
-    let body = &program.checked().handler(h).body;
-    serve_handler(rt, program, h, body, args, scratch, desk)
+    let handler = program.checked().handler(h);
+    serve_handler(rt, program, h, handler, args, scratch, desk)
 }

@@ -11,5 +11,5 @@ mod walk;
 
 pub use answerer::{Answerer, run_body};
 pub use guide::Guide;
-pub use variables::set_up;
+pub use variables::{put_args, set_up};
 pub use walk::walk_body;

@@ -10,11 +10,13 @@ ghost use Rattle.check_meaning.specs.Within.{VarWithin};
 
 use session_values::Value;
 
-/// Puts the arguments first.
-fn put_args(env: &mut [Value], args: &[Value])
+/// Puts the arguments first, and leaves the others.
+pub fn put_args(env: &mut [Value], args: &[Value])
     requires { length args.now ≤ length env.old }
     ensures values { (k : ℕ) → k < length args.now
         → slice_index_or env.new k Nil ≡ slice_index_or args.now k Nil }
+    ensures kept { (k : ℕ) → length args.now ≤ k
+        → slice_index_or env.new k Nil ≡ slice_index_or env.old k Nil }
     // A program holds them.
     ensures held { AllByRecursion IsValue args.now }
 {

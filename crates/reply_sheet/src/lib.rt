@@ -3,6 +3,8 @@
 
 mod line_buf;
 mod reply_line;
+mod text_room;
 
 pub use line_buf::LineBuf;
-pub use reply_line::line;
+pub use reply_line::{line, push_line};
+pub use text_room::TextRoom;

@@ -2,6 +2,7 @@
 
 ghost use Rattle.std.specs.Prelude.{◌≡◌, ◌+◌, ◌≤◌, [], ◌++◌, length};
 
+use crate::text_room::TextRoom;
 use std::marker::Model;
 
 /// The longest line: a ticket of 5 digits, a space and 64 bytes for each of 4 values, a line feed.
@@ -55,11 +56,17 @@ impl LineBuf {
     {
         self.len = 0;
     }
+}
 
-    pub(crate) fn push(&mut self, text: &[u8])
-        requires { length self.old + length text.now ≤ 266 }
-        ensures { self.new ≡ self.old ++ text.now }
-    {
+impl TextRoom for LineBuf {
+    ghost use Rattle.std.specs.Prelude.{◌-◌, length};
+
+    ghost held = { λ b. b };
+
+    ghost spare = { λ b. 266 - length b };
+
+    #[inline(always)]
+    fn push(&mut self, text: &[u8]) {
         let end = self.len + text.len();
         self.room[self.len..end].copy_from_slice(text);
         self.len = end;

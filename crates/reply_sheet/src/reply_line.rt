@@ -7,6 +7,7 @@ ghost use Rattle.session_values.specs.Reply.{values_of};
 ghost use Rattle.session_values.specs.ReplyText.{IsPrintable, value_text, values_text, line_text};
 
 use crate::line_buf::LineBuf;
+use crate::text_room::TextRoom;
 use itoa::Buffer;
 use session_values::{Names, Reply, Value};
 
@@ -16,21 +17,31 @@ pub fn line(ticket: u32, reply: &Reply, names: &Names, out: &mut LineBuf)
     requires printable { AllByRecursion (IsPrintable names.now) (values_of reply.now) }
     ensures { out.new ≡ line_text names.now ticket reply.now }
 {
+    out.clear();
+    push_line(ticket, reply, names, out);
+}
+
+/// Appends the line of a ticket and its reply.
+pub fn push_line<T: TextRoom>(ticket: u32, reply: &Reply, names: &Names, out: &mut T)
+    requires ticket { ticket < max_requests }
+    requires printable { AllByRecursion (IsPrintable names.now) (values_of reply.now) }
+    requires room { 266 ≤ T.spare out.old }
+    ensures { T.held out.new ≡ T.held out.old ++ line_text names.now ticket reply.now }
+{
     let count = reply.count as usize;
     let values = [reply.a(), reply.b(), reply.c(), reply.d()];
     let mut buffer = Buffer::new();
-    out.clear();
     out.push(buffer.format(ticket).as_bytes());
     push_values(&values[..count], names, out);
     out.push(b"\n");
 }
 
 /// Appends a space and the text of each value.
-fn push_values(values: &[Value], names: &Names, out: &mut LineBuf)
+fn push_values<T: TextRoom>(values: &[Value], names: &Names, out: &mut T)
     requires printable { AllByRecursion (IsPrintable names.now) values.now }
-    requires room { length out.old + 65 * length values.now ≤ 266 }
-    ensures text { out.new ≡ out.old ++ values_text names.now values.now }
-    ensures len { length out.new ≤ length out.old + 65 * length values.now }
+    requires room { 65 * length values.now ≤ T.spare out.old }
+    ensures text { T.held out.new ≡ T.held out.old ++ values_text names.now values.now }
+    ensures len { T.spare out.old ≤ T.spare out.new + 65 * length values.now }
 {
     'values: for value in values {
         out.push(b" ");
@@ -39,11 +50,11 @@ fn push_values(values: &[Value], names: &Names, out: &mut LineBuf)
 }
 
 /// Appends the text of a value.
-fn push_value(value: Value, names: &Names, out: &mut LineBuf)
+fn push_value<T: TextRoom>(value: Value, names: &Names, out: &mut T)
     requires printable { IsPrintable names.now value }
-    requires room { length out.old + 64 ≤ 266 }
-    ensures text { out.new ≡ out.old ++ value_text names.now value }
-    ensures len { length out.new ≤ length out.old + 64 }
+    requires room { 64 ≤ T.spare out.old }
+    ensures text { T.held out.new ≡ T.held out.old ++ value_text names.now value }
+    ensures len { T.spare out.old ≤ T.spare out.new + 64 }
 {
     match value {
         Value::Nil => out.push(b"nil"),

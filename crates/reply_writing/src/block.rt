@@ -2,6 +2,7 @@
 
 ghost use Rattle.std.specs.Prelude.{◌≡◌, ◌+◌, ◌≤◌, [], ◌++◌, length, IfOk};
 
+use reply_sheet::TextRoom;
 use session_values::NoMemory;
 use std::alloc::Global;
 use std::marker::Model;
@@ -12,17 +13,18 @@ const ROOM: usize = 65536;
 /// Lines that wait to be written, in room for 65,536 bytes that is taken once.
 #[derive(Drop)]
 pub struct Block {
-    bytes: Vec<u8>,
+    room: Vec<u8>,
+    len: usize,
 }
 
 impl Model for Block {
-    ghost use Rattle.std.specs.Prelude.{List, ℕ, ◌≤◌, vec_len, vec_capacity};
+    ghost use Rattle.std.specs.Prelude.{List, ℕ, ◌≡◌, ◌≤◌, take, vec_len};
 
     ghost Value = { List ℕ };
 
-    ghost view = { λ b. b.bytes.items };
+    ghost view = { λ b. take b.len b.room.items };
 
-    ghost invariant = { λ b. (vec_len b.bytes ≤ 65536) × (65536 ≤ vec_capacity b.bytes) };
+    ghost invariant = { λ b. (vec_len b.room ≡ 65536) × (b.len ≤ 65536) };
 }
 
 impl Block {
@@ -30,35 +32,42 @@ impl Block {
     pub fn new(alloc: Global) -> Result<Block, NoMemory>
         ensures { IfOk result (λ block. block ≡ []) }
     {
-        Ok(Block {
-            bytes: Vec::with_capacity(alloc, ROOM)?,
-        })
+        let room = vec![in alloc; 0; ROOM]?;
+        Ok(Block { room, len: 0 })
     }
 
     /// The bytes that wait.
     pub(crate) fn bytes(&self) -> &[u8]
         ensures { result.now ≡ self.now }
     {
-        self.bytes.as_slice()
+        &self.room[..self.len]
     }
 
     /// How many bytes more it has room for.
     pub(crate) fn spare(&self) -> usize
         ensures { result + length self.now ≡ 65536 }
     {
-        ROOM - self.bytes.len()
+        ROOM - self.len
     }
 
     pub(crate) fn clear(&mut self)
         ensures { self.new ≡ [] }
     {
-        self.bytes.clear();
+        self.len = 0;
     }
+}
 
-    pub(crate) fn push(&mut self, line: &[u8])
-        requires { length self.old + length line.now ≤ 65536 }
-        ensures { self.new ≡ self.old ++ line.now }
-    {
-        self.bytes.extend_from_slice(line).unwrap();
+impl TextRoom for Block {
+    ghost use Rattle.std.specs.Prelude.{◌-◌, length};
+
+    ghost held = { λ b. b };
+
+    ghost spare = { λ b. 65536 - length b };
+
+    #[inline(always)]
+    fn push(&mut self, text: &[u8]) {
+        let end = self.len + text.len();
+        self.room[self.len..end].copy_from_slice(text);
+        self.len = end;
     }
 }

@@ -8,11 +8,14 @@ ghost use Rattle.reply_writing.specs.Printable.{ArePrintableReplies};
 
 use crate::block::Block;
 use byte_ends::{Sink, write_all};
-use reply_sheet::{LineBuf, line};
+use reply_sheet::push_line;
 use session_values::{Names, Reply};
 
+/// How many bytes a line has at most.
+const LONGEST: usize = 266;
+
 /// Writes the lines of the replies, of which the first is ticket 0's. Whole lines are gathered in
-/// the block, in place of what it held, and written when the next line has no room. It answers
+/// the block, in place of what it held, and written when the next one may have no room. It answers
 /// `false` after a fault.
 pub fn write_replies<O: Sink>(
     out: &mut O,
@@ -30,16 +33,14 @@ pub fn write_replies<O: Sink>(
     ensures later { O.faults out.old ≤ O.faults out.new }
 {
     block.clear();
-    let mut text = LineBuf::new();
     for (ticket, reply) in replies.iter().enumerate() {
-        line(ticket as u32, reply, names, &mut text);
-        if block.spare() < text.len() {
+        if block.spare() < LONGEST {
             if !write_all(out, block.bytes()) {
                 return false;
             }
             block.clear();
         }
-        block.push(text.bytes());
+        push_line(ticket as u32, reply, names, block);
     }
     write_all(out, block.bytes())
 }

@@ -12,11 +12,14 @@ use symbolic_ops::Foresight;
 /// Room for the variables of a handler and for a declaration with their values.
 #[derive(Drop)]
 pub struct Room {
-    /// The variables, 32 of them.
+    /// The values of the variables, 32 of them.
     pub values: Vec<Value>,
+    /// The values that they had at a point, as many.
+    pub kept: Vec<Value>,
     /// Room for 256 symbols.
     pub foresight: Foresight,
     ghost variables: { vec_len values ≡ max_variables },
+    ghost kept_variables: { vec_len kept ≡ max_variables },
     ghost symbols: { max_symbols ≤ foresight.room },
 }
 
@@ -65,9 +68,14 @@ impl Scratch {
     }
 }
 
-// Room for 32 variables, which are nil, and 256 symbols.
+// Room for 32 variables, twice, which are nil, and 256 symbols.
 fn new_room(alloc: Global) -> Result<Room, NoMemory> {
     let foresight = Foresight::with_room(alloc, MAX_SYMBOLS)?;
     let values = vec![in alloc; Value::Nil; MAX_VARIABLES]?;
-    Ok(Room { values, foresight })
+    let kept = vec![in alloc; Value::Nil; MAX_VARIABLES]?;
+    Ok(Room {
+        values,
+        kept,
+        foresight,
+    })
 }

@@ -1,10 +1,12 @@
-use Rattle.std.proofs.Common.{◌≡◌, ◌∙◌, refl, sym, subst}
+use Rattle.std.proofs.Common.{◌≡◌, ◌∙◌, List, ap, refl, sym, subst}
+use Rattle.session_values.specs.declared.value.Value.{Value}
 use Rattle.session_values.specs.Dialogue.{Answers}
 use Rattle.session_journal.specs.Desks.{due_of, next_of}
 use Rattle.check_meaning.specs.Code.{block_code}
 use Rattle.check_meaning.specs.Dialogue.{entry, env_of, run}
-use Rattle.handler_machine.specs.Serving.{Course, IsServing, IsSettled, MayTell, course_of}
-use Rattle.handler_machine.proofs.Late.{is_told, nothing_to_tell}
+use Rattle.declaration_insertion.specs.Program.{declared_at}
+use Rattle.handler_machine.specs.Serving.{Course, IsServing, IsSettled, MayTell, course_of, list_with}
+use Rattle.handler_machine.proofs.Late.{is_told, may_same, nothing_to_tell, serving_told}
 use Rattle.handler_machine.proofs.Places.{on_err}
 use Rattle.handler_machine.proofs.Served.{serving_first, end_answers, end_due, end_served}
 use Rattle.handler_machine.proofs.serving.serve_body.Goals as goal
@@ -16,9 +18,10 @@ walk_body-requires-clause-serves g c =
     let start = c.args.desk.now in
     let n = c.args.guide.now in
     let E = env_of c.args.env.now in
+    let first = list_with (declared_at n.program.now n.handler) n.point n.values.items in
     let course : Course = course_of (g.D.Served.Script.meaning (g.D.Desk.script start)) (at start) n.program.now n.handler (run (block_code c.args.body.now) E) in
     let s = serving_first course n.next.room (entry E) r.gives r.promises r.fresh r.idle r.going r.present r.room in
-    (course.whole, start, (refl, is_told n.late n.next.symbols (at start) (λ d. IsServing course d n.next.room course.whole) r.told s, is_told n.late n.next.symbols (at start) (IsSettled n.settled) r.told r.settled, nothing_to_tell course.meaning n.late n.next.symbols (at start) r.told))
+    (course.whole, start, (refl, is_told n.late first (at start) (λ d. IsServing course d n.next.room course.whole) r.told s, is_told n.late first (at start) (IsSettled n.settled) r.told r.settled, nothing_to_tell course.meaning n.late first (at start) r.told))
 
 pub returns-in_err-reply-clause-script : goal.returns-in_err-reply-clause-script
 returns-in_err-reply-clause-script g c =
@@ -27,9 +30,10 @@ returns-in_err-reply-clause-script g c =
     let start = c.args.desk.now in
     let n = c.args.guide.now in
     let E = env_of c.args.env.now in
+    let first = list_with (declared_at n.program.now n.handler) n.point n.values.items in
     let course : Course = course_of (g.D.Served.Script.meaning (g.D.Desk.script start)) (at start) n.program.now n.handler (run (block_code c.args.body.now) E) in
     let s = serving_first course n.next.room (entry E) r.gives r.promises r.fresh r.idle r.going r.present r.room in
-    let h = c.in_err-reply.ensures course.whole start (refl, is_told n.late n.next.symbols (at start) (λ d. IsServing course d n.next.room course.whole) r.told s, is_told n.late n.next.symbols (at start) (IsSettled n.settled) r.told r.settled, nothing_to_tell course.meaning n.late n.next.symbols (at start) r.told) in
+    let h = c.in_err-reply.ensures course.whole start (refl, is_told n.late first (at start) (λ d. IsServing course d n.next.room course.whole) r.told s, is_told n.late first (at start) (IsSettled n.settled) r.told r.settled, nothing_to_tell course.meaning n.late first (at start) r.told) in
     h.0
 
 pub returns-in_err-reply-clause-stopped : goal.returns-in_err-reply-clause-stopped
@@ -39,9 +43,10 @@ returns-in_err-reply-clause-stopped g c =
     let start = c.args.desk.now in
     let n = c.args.guide.now in
     let E = env_of c.args.env.now in
+    let first = list_with (declared_at n.program.now n.handler) n.point n.values.items in
     let course : Course = course_of (g.D.Served.Script.meaning (g.D.Desk.script start)) (at start) n.program.now n.handler (run (block_code c.args.body.now) E) in
     let s = serving_first course n.next.room (entry E) r.gives r.promises r.fresh r.idle r.going r.present r.room in
-    let h = c.in_err-reply.ensures course.whole start (refl, is_told n.late n.next.symbols (at start) (λ d. IsServing course d n.next.room course.whole) r.told s, is_told n.late n.next.symbols (at start) (IsSettled n.settled) r.told r.settled, nothing_to_tell course.meaning n.late n.next.symbols (at start) r.told) in
+    let h = c.in_err-reply.ensures course.whole start (refl, is_told n.late first (at start) (λ d. IsServing course d n.next.room course.whole) r.told s, is_told n.late first (at start) (IsSettled n.settled) r.told r.settled, nothing_to_tell course.meaning n.late first (at start) r.told) in
     on_err c.from_residual.result _ h.1.stopped
 
 pub returns-in_err-reply-clause-room : goal.returns-in_err-reply-clause-room
@@ -51,10 +56,24 @@ returns-in_err-reply-clause-room g c =
     let start = c.args.desk.now in
     let n = c.args.guide.now in
     let E = env_of c.args.env.now in
+    let first = list_with (declared_at n.program.now n.handler) n.point n.values.items in
     let course : Course = course_of (g.D.Served.Script.meaning (g.D.Desk.script start)) (at start) n.program.now n.handler (run (block_code c.args.body.now) E) in
     let s = serving_first course n.next.room (entry E) r.gives r.promises r.fresh r.idle r.going r.present r.room in
-    let h = c.in_err-reply.ensures course.whole start (refl, is_told n.late n.next.symbols (at start) (λ d. IsServing course d n.next.room course.whole) r.told s, is_told n.late n.next.symbols (at start) (IsSettled n.settled) r.told r.settled, nothing_to_tell course.meaning n.late n.next.symbols (at start) r.told) in
+    let h = c.in_err-reply.ensures course.whole start (refl, is_told n.late first (at start) (λ d. IsServing course d n.next.room course.whole) r.told s, is_told n.late first (at start) (IsSettled n.settled) r.told r.settled, nothing_to_tell course.meaning n.late first (at start) r.told) in
     h.1.roomy
+
+pub take_late-requires-clause-room : goal.take_late-requires-clause-room
+take_late-requires-clause-room g c =
+    let at = g.D.Desk.at in
+    let r = c.requires in
+    let start = c.args.desk.now in
+    let n = c.args.guide.now in
+    let E = env_of c.args.env.now in
+    let first = list_with (declared_at n.program.now n.handler) n.point n.values.items in
+    let course : Course = course_of (g.D.Served.Script.meaning (g.D.Desk.script start)) (at start) n.program.now n.handler (run (block_code c.args.body.now) E) in
+    let s = serving_first course n.next.room (entry E) r.gives r.promises r.fresh r.idle r.going r.present r.room in
+    let h = c.in_ok-reply.ensures course.whole start (refl, is_told n.late first (at start) (λ d. IsServing course d n.next.room course.whole) r.told s, is_told n.late first (at start) (IsSettled n.settled) r.told r.settled, nothing_to_tell course.meaning n.late first (at start) r.told) in
+    h.1.1.roomy
 
 pub tell-requires-clause-idle : goal.tell-requires-clause-idle
 tell-requires-clause-idle g c =
@@ -63,10 +82,10 @@ tell-requires-clause-idle g c =
     let start = c.args.desk.now in
     let n = c.args.guide.now in
     let E = env_of c.args.env.now in
+    let first = list_with (declared_at n.program.now n.handler) n.point n.values.items in
     let course : Course = course_of (g.D.Served.Script.meaning (g.D.Desk.script start)) (at start) n.program.now n.handler (run (block_code c.args.body.now) E) in
     let s = serving_first course n.next.room (entry E) r.gives r.promises r.fresh r.idle r.going r.present r.room in
-    let h = c.in_ok-reply.ensures course.whole start (refl, is_told n.late n.next.symbols (at start) (λ d. IsServing course d n.next.room course.whole) r.told s, is_told n.late n.next.symbols (at start) (IsSettled n.settled) r.told r.settled, nothing_to_tell course.meaning n.late n.next.symbols (at start) r.told) in
-    let m = c.walk_body.new.guide in
+    let h = c.in_ok-reply.ensures course.whole start (refl, is_told n.late first (at start) (λ d. IsServing course d n.next.room course.whole) r.told s, is_told n.late first (at start) (IsSettled n.settled) r.told r.settled, nothing_to_tell course.meaning n.late first (at start) r.told) in
     h.1.1.waits
 
 pub tell-requires-clause-going : goal.tell-requires-clause-going
@@ -76,10 +95,10 @@ tell-requires-clause-going g c =
     let start = c.args.desk.now in
     let n = c.args.guide.now in
     let E = env_of c.args.env.now in
+    let first = list_with (declared_at n.program.now n.handler) n.point n.values.items in
     let course : Course = course_of (g.D.Served.Script.meaning (g.D.Desk.script start)) (at start) n.program.now n.handler (run (block_code c.args.body.now) E) in
     let s = serving_first course n.next.room (entry E) r.gives r.promises r.fresh r.idle r.going r.present r.room in
-    let h = c.in_ok-reply.ensures course.whole start (refl, is_told n.late n.next.symbols (at start) (λ d. IsServing course d n.next.room course.whole) r.told s, is_told n.late n.next.symbols (at start) (IsSettled n.settled) r.told r.settled, nothing_to_tell course.meaning n.late n.next.symbols (at start) r.told) in
-    let m = c.walk_body.new.guide in
+    let h = c.in_ok-reply.ensures course.whole start (refl, is_told n.late first (at start) (λ d. IsServing course d n.next.room course.whole) r.told s, is_told n.late first (at start) (IsSettled n.settled) r.told r.settled, nothing_to_tell course.meaning n.late first (at start) r.told) in
     h.1.1.going
 
 pub tell-requires-clause-may : goal.tell-requires-clause-may
@@ -89,11 +108,15 @@ tell-requires-clause-may g c =
     let start = c.args.desk.now in
     let n = c.args.guide.now in
     let E = env_of c.args.env.now in
+    let first = list_with (declared_at n.program.now n.handler) n.point n.values.items in
     let course : Course = course_of (g.D.Served.Script.meaning (g.D.Desk.script start)) (at start) n.program.now n.handler (run (block_code c.args.body.now) E) in
     let s = serving_first course n.next.room (entry E) r.gives r.promises r.fresh r.idle r.going r.present r.room in
-    let h = c.in_ok-reply.ensures course.whole start (refl, is_told n.late n.next.symbols (at start) (λ d. IsServing course d n.next.room course.whole) r.told s, is_told n.late n.next.symbols (at start) (IsSettled n.settled) r.told r.settled, nothing_to_tell course.meaning n.late n.next.symbols (at start) r.told) in
+    let h = c.in_ok-reply.ensures course.whole start (refl, is_told n.late first (at start) (λ d. IsServing course d n.next.room course.whole) r.told s, is_told n.late first (at start) (IsSettled n.settled) r.told r.settled, nothing_to_tell course.meaning n.late first (at start) r.told) in
     let m = c.walk_body.new.guide in
-    subst (λ z. MayTell (g.D.Served.Script.meaning z) m.late m.next.symbols (at c.walk_body.new.host)) (sym h.1.0) h.1.3
+    let last = list_with (declared_at m.program.now m.handler) m.point m.values.items in
+    let f = c.take_late.new.next.symbols in
+    subst (λ z. MayTell (g.D.Served.Script.meaning z) m.late f (at c.walk_body.new.host)) (sym h.1.0)
+    (may_same course.meaning m.late f last (at c.walk_body.new.host) (λ e. c.take_late.ensures.symbols e ∙ ap (λ (vs : List Value). list_with (declared_at m.program.now m.handler) m.point vs) c.as_slice.ensures.value) h.1.3)
 
 pub end-requires-clause-idle : goal.end-requires-clause-idle
 end-requires-clause-idle g c =
@@ -102,13 +125,17 @@ end-requires-clause-idle g c =
     let start = c.args.desk.now in
     let n = c.args.guide.now in
     let E = env_of c.args.env.now in
+    let first = list_with (declared_at n.program.now n.handler) n.point n.values.items in
     let course : Course = course_of (g.D.Served.Script.meaning (g.D.Desk.script start)) (at start) n.program.now n.handler (run (block_code c.args.body.now) E) in
     let s = serving_first course n.next.room (entry E) r.gives r.promises r.fresh r.idle r.going r.present r.room in
-    let h = c.in_ok-reply.ensures course.whole start (refl, is_told n.late n.next.symbols (at start) (λ d. IsServing course d n.next.room course.whole) r.told s, is_told n.late n.next.symbols (at start) (IsSettled n.settled) r.told r.settled, nothing_to_tell course.meaning n.late n.next.symbols (at start) r.told) in
+    let h = c.in_ok-reply.ensures course.whole start (refl, is_told n.late first (at start) (λ d. IsServing course d n.next.room course.whole) r.told s, is_told n.late first (at start) (IsSettled n.settled) r.told r.settled, nothing_to_tell course.meaning n.late first (at start) r.told) in
     let m = c.walk_body.new.guide in
+    let last = list_with (declared_at m.program.now m.handler) m.point m.values.items in
     let now = at c.tell.new.self in
+    let room = c.take_late.new.next.room in
+    let f = c.take_late.new.next.symbols in
     let late : Course = course_of course.meaning course.start m.program.now m.handler course.whole in
-    let serving = subst (λ d. IsServing late d m.next.room h.0) (sym c.tell.ensures.told) h.1.1 in
+    let serving : IsServing late now room h.0 = serving_told late m.late f last (at c.walk_body.new.host) now m.next.room room h.0 (λ e. c.take_late.ensures.symbols e ∙ ap (λ (vs : List Value). list_with (declared_at m.program.now m.handler) m.point vs) c.as_slice.ensures.value) c.tell.ensures.told c.take_late.ensures.room h.1.1 in
     serving.waits
 
 pub end-requires-clause-going : goal.end-requires-clause-going
@@ -118,13 +145,17 @@ end-requires-clause-going g c =
     let start = c.args.desk.now in
     let n = c.args.guide.now in
     let E = env_of c.args.env.now in
+    let first = list_with (declared_at n.program.now n.handler) n.point n.values.items in
     let course : Course = course_of (g.D.Served.Script.meaning (g.D.Desk.script start)) (at start) n.program.now n.handler (run (block_code c.args.body.now) E) in
     let s = serving_first course n.next.room (entry E) r.gives r.promises r.fresh r.idle r.going r.present r.room in
-    let h = c.in_ok-reply.ensures course.whole start (refl, is_told n.late n.next.symbols (at start) (λ d. IsServing course d n.next.room course.whole) r.told s, is_told n.late n.next.symbols (at start) (IsSettled n.settled) r.told r.settled, nothing_to_tell course.meaning n.late n.next.symbols (at start) r.told) in
+    let h = c.in_ok-reply.ensures course.whole start (refl, is_told n.late first (at start) (λ d. IsServing course d n.next.room course.whole) r.told s, is_told n.late first (at start) (IsSettled n.settled) r.told r.settled, nothing_to_tell course.meaning n.late first (at start) r.told) in
     let m = c.walk_body.new.guide in
+    let last = list_with (declared_at m.program.now m.handler) m.point m.values.items in
     let now = at c.tell.new.self in
+    let room = c.take_late.new.next.room in
+    let f = c.take_late.new.next.symbols in
     let late : Course = course_of course.meaning course.start m.program.now m.handler course.whole in
-    let serving = subst (λ d. IsServing late d m.next.room h.0) (sym c.tell.ensures.told) h.1.1 in
+    let serving : IsServing late now room h.0 = serving_told late m.late f last (at c.walk_body.new.host) now m.next.room room h.0 (λ e. c.take_late.ensures.symbols e ∙ ap (λ (vs : List Value). list_with (declared_at m.program.now m.handler) m.point vs) c.as_slice.ensures.value) c.tell.ensures.told c.take_late.ensures.room h.1.1 in
     serving.going
 
 pub end-requires-clause-answers : goal.end-requires-clause-answers
@@ -134,14 +165,18 @@ end-requires-clause-answers g c =
     let start = c.args.desk.now in
     let n = c.args.guide.now in
     let E = env_of c.args.env.now in
+    let first = list_with (declared_at n.program.now n.handler) n.point n.values.items in
     let course : Course = course_of (g.D.Served.Script.meaning (g.D.Desk.script start)) (at start) n.program.now n.handler (run (block_code c.args.body.now) E) in
     let s = serving_first course n.next.room (entry E) r.gives r.promises r.fresh r.idle r.going r.present r.room in
-    let h = c.in_ok-reply.ensures course.whole start (refl, is_told n.late n.next.symbols (at start) (λ d. IsServing course d n.next.room course.whole) r.told s, is_told n.late n.next.symbols (at start) (IsSettled n.settled) r.told r.settled, nothing_to_tell course.meaning n.late n.next.symbols (at start) r.told) in
+    let h = c.in_ok-reply.ensures course.whole start (refl, is_told n.late first (at start) (λ d. IsServing course d n.next.room course.whole) r.told s, is_told n.late first (at start) (IsSettled n.settled) r.told r.settled, nothing_to_tell course.meaning n.late first (at start) r.told) in
     let m = c.walk_body.new.guide in
+    let last = list_with (declared_at m.program.now m.handler) m.point m.values.items in
     let now = at c.tell.new.self in
+    let room = c.take_late.new.next.room in
+    let f = c.take_late.new.next.symbols in
     let late : Course = course_of course.meaning course.start m.program.now m.handler course.whole in
-    let serving = subst (λ d. IsServing late d m.next.room h.0) (sym c.tell.ensures.told) h.1.1 in
-    subst (λ z. next_of (g.D.Served.Script.meaning z) now ≡ Answers c.in_ok-reply.reply) (sym (c.tell.ensures.script ∙ h.1.0)) (end_answers late now m.next.room h.0 c.in_ok-reply.reply serving h.2.answers)
+    let serving : IsServing late now room h.0 = serving_told late m.late f last (at c.walk_body.new.host) now m.next.room room h.0 (λ e. c.take_late.ensures.symbols e ∙ ap (λ (vs : List Value). list_with (declared_at m.program.now m.handler) m.point vs) c.as_slice.ensures.value) c.tell.ensures.told c.take_late.ensures.room h.1.1 in
+    subst (λ z. next_of (g.D.Served.Script.meaning z) now ≡ Answers c.in_ok-reply.reply) (sym (c.tell.ensures.script ∙ h.1.0)) (end_answers late now room h.0 c.in_ok-reply.reply serving h.2.answers)
 
 pub end-requires-clause-due : goal.end-requires-clause-due
 end-requires-clause-due g c =
@@ -150,30 +185,18 @@ end-requires-clause-due g c =
     let start = c.args.desk.now in
     let n = c.args.guide.now in
     let E = env_of c.args.env.now in
+    let first = list_with (declared_at n.program.now n.handler) n.point n.values.items in
     let course : Course = course_of (g.D.Served.Script.meaning (g.D.Desk.script start)) (at start) n.program.now n.handler (run (block_code c.args.body.now) E) in
     let s = serving_first course n.next.room (entry E) r.gives r.promises r.fresh r.idle r.going r.present r.room in
-    let h = c.in_ok-reply.ensures course.whole start (refl, is_told n.late n.next.symbols (at start) (λ d. IsServing course d n.next.room course.whole) r.told s, is_told n.late n.next.symbols (at start) (IsSettled n.settled) r.told r.settled, nothing_to_tell course.meaning n.late n.next.symbols (at start) r.told) in
+    let h = c.in_ok-reply.ensures course.whole start (refl, is_told n.late first (at start) (λ d. IsServing course d n.next.room course.whole) r.told s, is_told n.late first (at start) (IsSettled n.settled) r.told r.settled, nothing_to_tell course.meaning n.late first (at start) r.told) in
     let m = c.walk_body.new.guide in
+    let last = list_with (declared_at m.program.now m.handler) m.point m.values.items in
     let now = at c.tell.new.self in
+    let room = c.take_late.new.next.room in
+    let f = c.take_late.new.next.symbols in
     let late : Course = course_of course.meaning course.start m.program.now m.handler course.whole in
-    let serving = subst (λ d. IsServing late d m.next.room h.0) (sym c.tell.ensures.told) h.1.1 in
-    subst (λ z. now.present ≡ due_of (g.D.Served.Script.meaning z) now) (sym (c.tell.ensures.script ∙ h.1.0)) (end_due late now m.next.room h.0 c.in_ok-reply.reply serving h.2.answers h.2.passes)
-
-pub returns-clause-script : goal.returns-clause-script
-returns-clause-script g c =
-    let at = g.D.Desk.at in
-    let r = c.requires in
-    let start = c.args.desk.now in
-    let n = c.args.guide.now in
-    let E = env_of c.args.env.now in
-    let course : Course = course_of (g.D.Served.Script.meaning (g.D.Desk.script start)) (at start) n.program.now n.handler (run (block_code c.args.body.now) E) in
-    let s = serving_first course n.next.room (entry E) r.gives r.promises r.fresh r.idle r.going r.present r.room in
-    let h = c.in_ok-reply.ensures course.whole start (refl, is_told n.late n.next.symbols (at start) (λ d. IsServing course d n.next.room course.whole) r.told s, is_told n.late n.next.symbols (at start) (IsSettled n.settled) r.told r.settled, nothing_to_tell course.meaning n.late n.next.symbols (at start) r.told) in
-    let m = c.walk_body.new.guide in
-    let now = at c.tell.new.self in
-    let late : Course = course_of course.meaning course.start m.program.now m.handler course.whole in
-    let serving = subst (λ d. IsServing late d m.next.room h.0) (sym c.tell.ensures.told) h.1.1 in
-    c.end.ensures.script ∙ c.tell.ensures.script ∙ h.1.0
+    let serving : IsServing late now room h.0 = serving_told late m.late f last (at c.walk_body.new.host) now m.next.room room h.0 (λ e. c.take_late.ensures.symbols e ∙ ap (λ (vs : List Value). list_with (declared_at m.program.now m.handler) m.point vs) c.as_slice.ensures.value) c.tell.ensures.told c.take_late.ensures.room h.1.1 in
+    subst (λ z. now.present ≡ due_of (g.D.Served.Script.meaning z) now) (sym (c.tell.ensures.script ∙ h.1.0)) (end_due late now room h.0 c.in_ok-reply.reply serving h.2.answers h.2.passes)
 
 pub returns-clause-served : goal.returns-clause-served
 returns-clause-served g c =
@@ -182,14 +205,18 @@ returns-clause-served g c =
     let start = c.args.desk.now in
     let n = c.args.guide.now in
     let E = env_of c.args.env.now in
+    let first = list_with (declared_at n.program.now n.handler) n.point n.values.items in
     let course : Course = course_of (g.D.Served.Script.meaning (g.D.Desk.script start)) (at start) n.program.now n.handler (run (block_code c.args.body.now) E) in
     let s = serving_first course n.next.room (entry E) r.gives r.promises r.fresh r.idle r.going r.present r.room in
-    let h = c.in_ok-reply.ensures course.whole start (refl, is_told n.late n.next.symbols (at start) (λ d. IsServing course d n.next.room course.whole) r.told s, is_told n.late n.next.symbols (at start) (IsSettled n.settled) r.told r.settled, nothing_to_tell course.meaning n.late n.next.symbols (at start) r.told) in
+    let h = c.in_ok-reply.ensures course.whole start (refl, is_told n.late first (at start) (λ d. IsServing course d n.next.room course.whole) r.told s, is_told n.late first (at start) (IsSettled n.settled) r.told r.settled, nothing_to_tell course.meaning n.late first (at start) r.told) in
     let m = c.walk_body.new.guide in
+    let last = list_with (declared_at m.program.now m.handler) m.point m.values.items in
     let now = at c.tell.new.self in
+    let room = c.take_late.new.next.room in
+    let f = c.take_late.new.next.symbols in
     let late : Course = course_of course.meaning course.start m.program.now m.handler course.whole in
-    let serving = subst (λ d. IsServing late d m.next.room h.0) (sym c.tell.ensures.told) h.1.1 in
-    end_served late now m.next.room h.0 c.in_ok-reply.reply serving h.2.answers (at c.end.new.self) c.end.ensures.ended
+    let serving : IsServing late now room h.0 = serving_told late m.late f last (at c.walk_body.new.host) now m.next.room room h.0 (λ e. c.take_late.ensures.symbols e ∙ ap (λ (vs : List Value). list_with (declared_at m.program.now m.handler) m.point vs) c.as_slice.ensures.value) c.tell.ensures.told c.take_late.ensures.room h.1.1 in
+    end_served late now room h.0 c.in_ok-reply.reply serving h.2.answers (at c.end.new.self) c.end.ensures.ended
 
 pub returns-clause-room : goal.returns-clause-room
 returns-clause-room g c =
@@ -198,11 +225,28 @@ returns-clause-room g c =
     let start = c.args.desk.now in
     let n = c.args.guide.now in
     let E = env_of c.args.env.now in
+    let first = list_with (declared_at n.program.now n.handler) n.point n.values.items in
     let course : Course = course_of (g.D.Served.Script.meaning (g.D.Desk.script start)) (at start) n.program.now n.handler (run (block_code c.args.body.now) E) in
     let s = serving_first course n.next.room (entry E) r.gives r.promises r.fresh r.idle r.going r.present r.room in
-    let h = c.in_ok-reply.ensures course.whole start (refl, is_told n.late n.next.symbols (at start) (λ d. IsServing course d n.next.room course.whole) r.told s, is_told n.late n.next.symbols (at start) (IsSettled n.settled) r.told r.settled, nothing_to_tell course.meaning n.late n.next.symbols (at start) r.told) in
+    let h = c.in_ok-reply.ensures course.whole start (refl, is_told n.late first (at start) (λ d. IsServing course d n.next.room course.whole) r.told s, is_told n.late first (at start) (IsSettled n.settled) r.told r.settled, nothing_to_tell course.meaning n.late first (at start) r.told) in
     let m = c.walk_body.new.guide in
+    let last = list_with (declared_at m.program.now m.handler) m.point m.values.items in
     let now = at c.tell.new.self in
+    let room = c.take_late.new.next.room in
+    let f = c.take_late.new.next.symbols in
     let late : Course = course_of course.meaning course.start m.program.now m.handler course.whole in
-    let serving = subst (λ d. IsServing late d m.next.room h.0) (sym c.tell.ensures.told) h.1.1 in
+    let serving : IsServing late now room h.0 = serving_told late m.late f last (at c.walk_body.new.host) now m.next.room room h.0 (λ e. c.take_late.ensures.symbols e ∙ ap (λ (vs : List Value). list_with (declared_at m.program.now m.handler) m.point vs) c.as_slice.ensures.value) c.tell.ensures.told c.take_late.ensures.room h.1.1 in
     serving.roomy
+
+pub returns-clause-script : goal.returns-clause-script
+returns-clause-script g c =
+    let at = g.D.Desk.at in
+    let r = c.requires in
+    let start = c.args.desk.now in
+    let n = c.args.guide.now in
+    let E = env_of c.args.env.now in
+    let first = list_with (declared_at n.program.now n.handler) n.point n.values.items in
+    let course : Course = course_of (g.D.Served.Script.meaning (g.D.Desk.script start)) (at start) n.program.now n.handler (run (block_code c.args.body.now) E) in
+    let s = serving_first course n.next.room (entry E) r.gives r.promises r.fresh r.idle r.going r.present r.room in
+    let h = c.in_ok-reply.ensures course.whole start (refl, is_told n.late first (at start) (λ d. IsServing course d n.next.room course.whole) r.told s, is_told n.late first (at start) (IsSettled n.settled) r.told r.settled, nothing_to_tell course.meaning n.late first (at start) r.told) in
+    c.end.ensures.script ∙ c.tell.ensures.script ∙ h.1.0

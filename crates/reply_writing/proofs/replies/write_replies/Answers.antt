@@ -2,7 +2,7 @@ use Rattle.std.proofs.Common.{[], refl, rules, sym, ap, ◌∙◌, subst, arith}
 use Rattle.session_values.specs.ReplyText.{reply_text}
 use Rattle.byte_ends.specs.Ends.{Grew, GrewByFront}
 use Rattle.reply_writing.proofs.TextLemmas.{waits_none, waits_same, waits_written, broke_off, no_text, text_at, line_waits}
-use Rattle.reply_writing.proofs.replies.write_replies.Goals.{then-spare-len+else-not-write_all, else-spare-len}
+use Rattle.reply_writing.proofs.replies.write_replies.Goals.{then-spare-lt-LONGEST+else-not-write_all, else-spare-lt-LONGEST}
 use Rattle.reply_writing.proofs.replies.write_replies.Goals as goal
 
 pub loop-ticket-init : goal.loop-ticket-init
@@ -19,17 +19,17 @@ returns-then-not-write_all-clause-front g c _ =
 
 pub loop-ticket-preserved : goal.loop-ticket-preserved
 loop-ticket-preserved g c = record {
-  waits = line_waits c.args.names.now c.args.replies.now c.loop-ticket.ticket c.index-replies-ticket.result (g.O.Sink.held c.args.out.now) (g.O.Sink.held c.if-spare-len.out) c.if-spare-len.block c.push.new.self c.bytes-in-loop-ticket.result.now
-      c.loop-ticket-test.true (sym c.index-replies-ticket.is) (c.bytes-in-loop-ticket.ensures ∙ c.line.ensures) c.push.ensures
-      (elim c.if-spare-len.branch [
-        | then-spare-len+else-not-write_all w ↦ waits_same _ _ _ _ _ _ (ap g.O.Sink.held w.out-is) (w.block-is ∙ w.clear-then-spare-len.ensures)
+  waits = line_waits c.args.names.now c.args.replies.now c.loop-ticket.ticket c.index-replies-ticket.result (g.O.Sink.held c.args.out.now) (g.O.Sink.held c.if-spare-lt-LONGEST.out) c.if-spare-lt-LONGEST.block c.push_line.new.out _
+      c.loop-ticket-test.true (sym c.index-replies-ticket.is) refl c.push_line.ensures
+      (elim c.if-spare-lt-LONGEST.branch [
+        | then-spare-lt-LONGEST+else-not-write_all w ↦ waits_same _ _ _ _ _ _ (ap g.O.Sink.held w.out-is) (w.block-is ∙ w.clear-then-spare-lt-LONGEST.ensures)
             (waits_written (g.O.Sink.held c.args.out.now) (g.O.Sink.held c.loop-ticket.out) (g.O.Sink.held w.write_all.new.out) c.loop-ticket.block [] _ c.loop-ticket.invariant.waits
             (subst (Grew (g.O.Sink.held c.loop-ticket.out) (g.O.Sink.held w.write_all.new.out)) w.bytes.ensures (w.write_all.ensures.all w.if-not-write_all.false)) refl)
-        | else-spare-len w ↦ waits_same _ _ _ _ _ _ (ap g.O.Sink.held w.out-is) w.block-is c.loop-ticket.invariant.waits
+        | else-spare-lt-LONGEST w ↦ waits_same _ _ _ _ _ _ (ap g.O.Sink.held w.out-is) w.block-is c.loop-ticket.invariant.waits
       ]);
-  later = elim c.if-spare-len.branch [
-    | then-spare-len+else-not-write_all w ↦ omega (arith, ap g.O.Sink.faults w.out-is, w.write_all.ensures.later, c.loop-ticket.invariant.later)
-    | else-spare-len w ↦ omega (arith, ap g.O.Sink.faults w.out-is, c.loop-ticket.invariant.later)
+  later = elim c.if-spare-lt-LONGEST.branch [
+    | then-spare-lt-LONGEST+else-not-write_all w ↦ omega (arith, ap g.O.Sink.faults w.out-is, w.write_all.ensures.later, c.loop-ticket.invariant.later)
+    | else-spare-lt-LONGEST w ↦ omega (arith, ap g.O.Sink.faults w.out-is, c.loop-ticket.invariant.later)
   ];
 }
 
