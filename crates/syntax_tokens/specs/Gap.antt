@@ -17,7 +17,8 @@ abbrev pub EndsLine : List ℕ → Type 0
 EndsLine [] = Unit {0}
 EndsLine (b ∷ bs) = b ≡ 10
 
--- the text is a comment, which has no line feed, and then what stands after it, from the end of the line on
+-- the text is a comment, which has no line feed, and then what stands after it, from the end of the
+-- line on
 pub record IsComment (comment text after : List ℕ) : Type 0 where
   pub whole : text ≡ 35 ∷ comment ++ after
   pub one_line : AllByRecursion (λ b. b ≢ 10) comment

@@ -47,8 +47,9 @@ pub record IsQuotedNil (text : List ℕ) : Type 0 where
   pub quote : slice_index text 0 ≡ 39
   pub run : take (prefix_len (is_in class.Symbol) (drop 1 text)) (drop 1 text) ≡ codes "nil"
 
--- The token at the front of a text that isn't empty: the longest front that is one; or, where none is or a quote stands
--- before `nil`, one bad character. A front of a quote with `nil` is no token there.
+-- The token at the front of a text that isn't empty: the longest front that is one; or, where none
+-- is or a quote stands before `nil`, one bad character. A front of a quote with `nil` is no token
+-- there.
 abbrev pub IsFirstToken : List ℕ → TokenKind → ℕ → Type 0
 IsFirstToken text kind.Bad n = (n ≡ char_length (slice_index text 0))
     × (IsLongest text 0 ⊎ IsQuotedNil text)

@@ -5,13 +5,14 @@ use Rattle.syntax_tokens.specs.declared.word.Word.{Word}
 use Rattle.syntax_tokens.specs.Tokens.{pieces}
 use Rattle.syntax_tokens.specs.Words.{words, names_behind}
 
--- The words still to come, the place of the end of the source, the names behind all of the words, and how many names
--- there are now.
+-- The words still to come, the place of the end of the source, the names behind all of the words,
+-- how many names there are now, and which list they stand in.
 pub record Reading : Type 0 where
   pub words : List Word
   pub end : ℕ
   pub names : List (List ℕ)
   pub count : ℕ
+  pub home : ℕ
 
 -- the words, behind one that was looked at, if one was
 abbrev pub with_ahead : Option Word → List Word → List Word

@@ -78,7 +78,8 @@ unfoldable pub scan : List ℕ → Scanned
 scan [] = (kind.End, 0)
 scan (b ∷ bs) = scan_by (b ∷ bs) b
 
--- The length of the blanks, line feeds and comments at the front. The test says whether a comment has begun.
+-- The length of the blanks, line feeds and comments at the front. The test says whether a comment
+-- has begun.
 abbrev pub gap : Bool → List ℕ → ℕ
 gap commented [] = 0
 gap commented (b ∷ bs) =

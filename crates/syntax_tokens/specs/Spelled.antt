@@ -6,7 +6,8 @@ use Rattle.syntax_tokens.specs.declared.tokens.Tokens.{Tokens}
 use Rattle.syntax_tokens.specs.Gap.{IsGap}
 use Rattle.syntax_tokens.specs.Tokens.{Piece, piece_of, pieces}
 
--- the text is these tokens, in order, with blanks, line feeds and comments before each and behind the last
+-- the text is these tokens, in order, with blanks, line feeds and comments before each and behind
+-- the last
 abbrev pub Spell : List Piece → List ℕ → Type 0
 Spell [] text = IsGap text []
 Spell (p ∷ ps) text = (rest : List ℕ) × IsGap text (p.text ++ rest) × Spell ps rest

@@ -7,8 +7,8 @@ use Rattle.syntax_tokens.specs.Gap.{IsGap}
 use Rattle.syntax_tokens.specs.Scan.{gap}
 use Rattle.syntax_tokens.specs.Tokens.{Cuts}
 
--- The token is the first behind the gap, where only blanks, line feeds and comments stand, and what is new goes on
--- behind it, or has ended where it is End.
+-- The token is the first behind the gap, where only blanks, line feeds and comments stand, and what
+-- is new goes on behind it, or has ended where it is End.
 pub record Gives (old : Tokens) (token : Token) (new : Tokens) : Type 0 where
   pub more : old.ended ≡ false
   pub cut : Cuts old.rest.now token.kind token.text.now new.rest.now

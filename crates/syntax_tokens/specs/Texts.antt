@@ -42,6 +42,7 @@ IsReadable names (a_name place) = IsNameText (text_at names place)
 IsReadable names (a_symbol place) = IsSymbolText (text_at names place)
 IsReadable names (a_number z) = IsValue (Num z)
 
+-- the same of each of these
 abbrev pub AreReadable : List (List ℕ) → List Mention → Type 0
 AreReadable names mentions = AllByRecursion (IsReadable names) mentions
 

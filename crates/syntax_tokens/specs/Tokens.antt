@@ -38,7 +38,8 @@ abbrev pub behind_gap : ℕ → ℕ → List ℕ → (ℕ → List Piece) → Li
 behind_gap zero at text rest = first_piece at text ∷ rest ((scan text).1 - 1)
 behind_gap (suc g) at text rest = rest g
 
--- The tokens of a text that stands at a place, where its first bytes are passed over. End is not among them.
+-- The tokens of a text that stands at a place, where its first bytes are passed over. End is not
+-- among them.
 abbrev pub pieces : ℕ → ℕ → List ℕ → List Piece
 pieces skipped at [] = []
 pieces zero at (b ∷ bs) = behind_gap (gap false (b ∷ bs)) at (b ∷ bs) (λ n. pieces n (at + 1) bs)
