@@ -3,7 +3,8 @@ use Rattle.std.specs.Prelude.{ℕ, Bool, true, false, Option, Some, None}
 use Rattle.syntax_grammar.specs.declared.refusals.SyntaxRefusal.{SyntaxRefusal}
 use Rattle.syntax_grammar.specs.declared.refusals.SyntaxRefusal.TheVariants.{NumberTooLarge, TooDeep}
 
--- a literal's number, or how often a repeat runs; blocks in blocks; groups in groups; the operators of an expression
+-- a literal's number, or how often a repeat runs; blocks in blocks; groups in groups; the operators
+-- of an expression
 pub data Limit : Type 0 where
   number_size : Limit
   block_depth : Limit

@@ -32,7 +32,8 @@ BeginsFileWithin ws = (p : FilePhrase) × (more : List Word) × (ws ++ more ≡ 
 
 -- ---- limits
 
--- A text of the grammar begins with these words, none of which breaks a limit, and goes on with marked ones.
+-- A text of the grammar begins with these words, none of which breaks a limit, and goes on with
+-- marked ones.
 pub record GoesOn (before : List Word) (more : List Marked) : Type 0 where
   pub phrase : FilePhrase
   pub marked : file_marked phrase ≡ all_fine before more

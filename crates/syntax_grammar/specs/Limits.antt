@@ -114,6 +114,7 @@ abbrev pub HandlersFit : HandlersPhrase → Type 0
 HandlersFit no_handler = Unit {0}
 HandlersFit (more_handlers (a_handler p n l ps r b) hs) = BlockFits b 0 × HandlersFit hs
 
+-- the same of a file: each handler stands inside no block
 abbrev pub FileFits : FilePhrase → Type 0
 FileFits (a_file ts hs) = HandlersFit hs
 

@@ -1,5 +1,5 @@
--- The words of a phrase in the order of the text, each with the limit that it breaks, if it breaks one. Those of each
--- phrase are followed by a given rest.
+-- The words of a phrase in the order of the text, each with the limit that it breaks, if it breaks
+-- one. Those of each phrase are followed by a given rest.
 use Rattle.std.specs.Prelude.{ℕ, ◌+◌, Bool, nat_lt, nat_le, List, [], ◌∷◌, Option, None}
 use Rattle.session_limits.specs.Limits.{max_depth, max_open, max_signs}
 use Rattle.syntax_tokens.specs.declared.word.Sort.{Sort}
@@ -159,5 +159,6 @@ handlers_marked (more_handlers (a_handler p n l ps r b) hs) =
     ∷ name_marked n (fine (word sort.LeftParen l) ∷ all_fine (params_words ps [])
     (fine (word sort.RightParen r) ∷ block_marked b 0 (handlers_marked hs)))
 
+-- those of a whole file, in which tables break no limit
 abbrev pub file_marked : FilePhrase → List Marked
 file_marked (a_file ts hs) = all_fine (tables_words ts []) (handlers_marked hs)

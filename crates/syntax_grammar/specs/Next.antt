@@ -1,4 +1,5 @@
 -- What may come next: the parts that are still to come, the words that each takes, and the limits.
+-- Only private functions of the parser cite this.
 use Rattle.std.specs.Prelude.{◌≡◌, ℕ, suc, ◌+◌, Bool, true, false, List, [], ◌∷◌, ◌++◌, Option, Some, None, nat_lt, nat_le, if◌then◌else◌}
 use Rattle.session_limits.specs.Limits.{max_depth, max_open, max_signs}
 use Rattle.session_values.specs.declared.kind.Kind.{Kind}
@@ -15,8 +16,8 @@ use Rattle.syntax_grammar.specs.declared.refusals.SyntaxRefusal.{SyntaxRefusal}
 use Rattle.syntax_grammar.specs.Bounds.{Limit, number_size, block_depth, open_parentheses, operator_signs, where_over, limit_refusal, max_number, max_negative}
 use Rattle.syntax_grammar.specs.Refusal.{refusal}
 
--- A part that is still to come. A mark is one given word, and closing is the parenthesis that ends a group of an
--- expression.
+-- A part that is still to come. A mark is one given word, and closing is the parenthesis that ends
+-- a group of an expression.
 pub data Part : Type 0 where
   tables : Part
   handlers : Part
@@ -46,6 +47,7 @@ abbrev pub name_row : Sort → Option (List Part)
 name_row (sort.Name n) = Some []
 name_row _ = None
 
+-- a mark takes one given word
 abbrev pub mark_row : Sort → Sort → Option (List Part)
 mark_row sort.Semicolon sort.Semicolon = Some []
 mark_row sort.Assign sort.Assign = Some []
@@ -204,7 +206,8 @@ abbrev pub at_top : Part → List Part → Option (List Part) → Option Taken �
 at_top p under (Some left) below = Some (record { part = p; left = left; under = under })
 at_top p under None below = or_below (may_be_empty p) below
 
--- Where no row of a part that may be empty has the word, the part is empty, and the next one takes it.
+-- Where no row of a part that may be empty has the word, the part is empty, and the next one takes
+-- it.
 abbrev pub taking : List Part → Sort → Option Taken
 taking [] s = None
 taking (p ∷ ps) s = at_top p ps (row p s) (taking ps s)
@@ -246,7 +249,8 @@ operand_over under (sort.Number n) = where_over number_size (nat_lt max_number n
 operand_over under sort.LeftParen = where_over open_parentheses (nat_le max_open (open_in under))
 operand_over under _ = None
 
--- the limit that a word breaks in the part that takes it, over these other parts, behind so many operator signs
+-- the limit that a word breaks in the part that takes it, over these other parts, behind so many
+-- operator signs
 abbrev pub broken : Part → List Part → ℕ → Sort → Option Limit
 broken a_block under signs s = where_over block_depth (nat_le max_depth (depth_of under))
 broken a_count under signs s = number_over max_number s
@@ -281,7 +285,8 @@ after_taking w signs rest None = Some (refusal w)
 after_taking w signs rest (Some t) = go_on w (broken t.part t.under signs w.sort)
     (rest (t.left ++ t.under) (signs_after t.part signs))
 
--- the first fault of words that end at a byte place, where these parts are to come, behind so many operator signs
+-- the first fault of words that end at a byte place, where these parts are to come, behind so many
+-- operator signs
 abbrev pub fault : ℕ → List Part → ℕ → List Word → Option SyntaxRefusal
 fault end ps signs [] = at_end end (may_end ps)
 fault end ps signs (w ∷ ws) = after_taking w signs (λ qs n. fault end qs n ws) (taking ps w.sort)

@@ -18,6 +18,7 @@ IsSourceOf names source file = IsFileWithin (words_of names source) file
 abbrev pub HasFault : List (List ℕ) → List ℕ → SyntaxRefusal → Type 0
 HasFault names source e = IsFirstFault (length source) (words_of names source) e
 
+-- what reading a source behind these names answers, and the names that it leaves
 pub record Parsed (old : List (List ℕ)) (source : List ℕ) (result : Result File SyntaxRefusal)
     (new : List (List ℕ)) : Type 0 where
   -- The source is a file of the grammar, within its limits, and this is its tree.

@@ -13,5 +13,6 @@ refusal_of sort.Bad at = BadByte at
 refusal_of sort.Long at = NameTooLong at
 refusal_of s at = Unexpected at (kind_of s)
 
+-- the same of a word
 abbrev pub refusal : Word → SyntaxRefusal
 refusal w = refusal_of w.sort w.at

@@ -23,11 +23,12 @@ abbrev pub table_kind : Sort → Option TableKind
 table_kind (sort.Table k) = Some k
 table_kind _ = None
 
--- the statement that a word begins
+-- an operation begins a call
 abbrev pub call_start : Option Kind → Option Start
 call_start (Some k) = Some (start.Call k)
 call_start None = None
 
+-- the statement that a word begins
 abbrev pub statement_start : Sort → Option Start
 statement_start sort.Let = Some start.Let
 statement_start (sort.Name n) = Some (start.Assign n)
