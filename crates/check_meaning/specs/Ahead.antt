@@ -1,4 +1,5 @@
--- What is ahead of a run, and the run of a block with what comes after it: the form in which a walk over the tree keeps it.
+-- What is ahead of a run, and the run of a block with what comes after it: the form in which a walk
+-- over the tree keeps it.
 use Rattle.std.specs.Prelude.{ℕ, zero, suc, ◌+◌, Bool, true, false, if◌then◌else◌, pos, List, [], ◌∷◌, map}
 use Rattle.session_values.specs.declared.value.Value.{Value}
 use Rattle.session_values.specs.declared.value.Value.TheVariants.{Num}

@@ -9,7 +9,8 @@ use Rattle.check_meaning.specs.Code.{Code, Finish, Move, Ask, Fork, Loop, Quit}
 abbrev pub Weight : Type 0
 Weight = Kind → ℕ → ℕ
 
--- The operations of a block: the larger side of a choice, n times the block of a loop, and the sum over a block. What stands behind a reply counts too.
+-- The operations of a block: the larger side of a choice, n times the block of a loop, and the sum
+-- over a block. What stands behind a reply counts too.
 abbrev pub bound : Weight → Code → ℕ
 bound w Finish = 0
 bound w (Move x e rest) = bound w rest
@@ -26,13 +27,16 @@ every kind table = 1
 abbrev pub adding : ℕ → Weight
 adding t kind table = if is_adding kind && table == t then 1 else 0
 
+-- the bound on the operations of a block
 abbrev pub calls_bound : Code → ℕ
 calls_bound = bound every
 
+-- the bound on those that may add a key to this table
 abbrev pub adds_bound : ℕ → Code → ℕ
 adds_bound t = bound (adding t)
 
--- 1 for a simple statement, 1 and the larger side of a choice, and for a loop 1 and for each turn 1 and its block
+-- 1 for a simple statement, 1 and the larger side of a choice, and for a loop 1 and for each turn 1
+-- and its block
 abbrev pub work_bound : Code → ℕ
 work_bound Finish = 0
 work_bound (Move x e rest) = 1 + work_bound rest

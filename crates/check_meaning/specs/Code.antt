@@ -21,7 +21,8 @@ pub record Test : Type 0 where
   pub left : Term
   pub right : Term
 
--- A block. Each `at` is a byte place; a point's number stands where the point is: behind an operation, at the start of either side of a choice, and behind a loop.
+-- A block. Each `at` is a byte place; a point's number stands where the point is: behind an
+-- operation, at the start of either side of a choice, and behind a loop.
 pub data Code : Type 0 where
   Finish : Code
   Move : (x : ℕ) (e : Term) (rest : Code) → Code
@@ -35,9 +36,11 @@ abbrev pub expr_step : CheckedExpr-F Term → Term
 expr_step (CheckedExpr-F.Leaf a) = Atom a
 expr_step (CheckedExpr-F.Binary calc l r) = Calculate calc l r
 
+-- an expression
 abbrev pub expr_term : CheckedExpr → Term
 expr_term = fold-CheckedExpr Term expr_step
 
+-- a condition
 abbrev pub cond_test : CheckedCond → Test
 cond_test c = record { compare = c.compare; left = expr_term c.left; right = expr_term c.right }
 
@@ -59,6 +62,7 @@ stmt_step (CheckedStmt-F.Answer es) rest = Quit (map expr_term es) rest
 abbrev pub stmt_code : CheckedStmt → Code → Code
 stmt_code = fold-CheckedStmt (Code → Code) stmt_step
 
+-- a whole block
 abbrev pub block_code : List CheckedStmt → Code
 block_code stmts = joined (map stmt_code stmts)
 

@@ -1,4 +1,5 @@
--- What a handler does, as a dialogue with the tables: it calls operations and is told their replies.
+-- What a handler does, as a dialogue with the tables: it calls operations and is told their
+-- replies.
 use Rattle.std.specs.Prelude.{ℕ, zero, suc, ◌+◌, ◌==◌, Bool, true, false, not, if◌then◌else◌, ◌&&◌, ℤ, pos, negsuc, ◌+ℤ◌, ◌-ℤ◌, ◌*ℤ◌, int_lt, int_le, List, [], ◌∷◌, ◌++◌, map, Option, Some, None, slice_index_or}
 use Rattle.session_values.specs.declared.value.Value.{Value}
 use Rattle.session_values.specs.declared.value.Value.TheVariants.{Nil, Num}
@@ -46,10 +47,12 @@ calculated Minus (Num a) (Num b) = in_range (a -ℤ b)
 calculated Times (Num a) (Num b) = in_range (a *ℤ b)
 calculated calc v w = Nil
 
+-- a literal's value, or that of a variable
 abbrev pub atom_value : CheckedAtom → Env → Value
 atom_value (Lit v) env = v
 atom_value (Var x) env = env x
 
+-- the value of an expression
 abbrev pub value_of : Term → Env → Value
 value_of (Atom a) env = atom_value a env
 value_of (Calculate calc l r) env = calculated calc (value_of l env) (value_of r env)
@@ -62,6 +65,7 @@ compared Less (Num a) (Num b) = int_lt a b
 compared LessOrSame (Num a) (Num b) = int_le a b
 compared order v w = false
 
+-- whether a condition holds
 abbrev pub holds : Test → Env → Bool
 holds test env = compared test.compare (value_of test.left env) (value_of test.right env)
 
@@ -82,7 +86,9 @@ pub record Place : Type 0 where
   pub env : Env
   pub replied : Bool
 
--- how a part of a run ends, with the points that it passed: it calls an operation and has no reply to it, it answers, or it goes on with these values of the variables and these replies not yet used
+-- how a part of a run ends, with the points that it passed: it calls an operation and has no reply
+-- to it, it answers, or it goes on with these values of the variables and these replies not yet
+-- used
 pub data Outcome : Type 0 where
   Calls : (passed : List Place) (op : Op) → Outcome
   Answers : (passed : List Place) (values : List Value) → Outcome

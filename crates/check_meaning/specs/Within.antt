@@ -16,11 +16,13 @@ abbrev pub AtomWithin : ℕ → CheckedAtom → Type 0
 AtomWithin n (Lit v) = IsValue v
 AtomWithin n (Var x) = x < n
 
+-- the same of each literal and each variable of an expression
 abbrev pub TermWithin : ℕ → Term → Type 0
 TermWithin n (Atom a) = AtomWithin n a
 TermWithin n (Calculate calc l r) = TermWithin n l × TermWithin n r
 
--- the table exists and has the operation's kind of container, arguments are within, and those that the kind doesn't have are nil
+-- the table exists and has the operation's kind of container, arguments are within, and those that
+-- the kind doesn't have are nil
 pub record CallWithin (shape : List TableKind) (n : ℕ) (c : CheckedCall) : Type 0 where
   pub table : slice_get shape c.table ≡ Some (home c.kind)
   pub key : AtomWithin n c.key
@@ -28,11 +30,13 @@ pub record CallWithin (shape : List TableKind) (n : ℕ) (c : CheckedCall) : Typ
   pub no_key : arguments c.kind < 1 → c.key ≡ Lit Nil
   pub no_value : arguments c.kind < 2 → c.value ≡ Lit Nil
 
+-- the variable that takes a reply, if one does, is below n
 abbrev pub VarWithin : ℕ → Option ℕ → Type 0
 VarWithin n None = Unit {0}
 VarWithin n (Some x) = x < n
 
--- each variable of the block is below n, each operation fits the tables, each loop has 1 to 1000 turns, and each reply has 1 to 4 values
+-- each variable of the block is below n, each operation fits the tables, each loop has 1 to 1000
+-- turns, and each reply has 1 to 4 values
 abbrev pub CodeWithin : List TableKind → ℕ → Code → Type 0
 CodeWithin shape n Finish = Unit {0}
 CodeWithin shape n (Move x e rest) = (x < n) × TermWithin n e × CodeWithin shape n rest

@@ -1,5 +1,5 @@
--- What a reader of a file's tree may rely on: how many arguments operations have and how many values replies, how deep
--- blocks nest, and how large numbers and places of names are.
+-- What a reader of a file's tree may rely on: how many arguments operations have and how many
+-- values replies, how deep blocks nest, and how large numbers and places of names are.
 use Rattle.std.specs.Prelude.{ℕ, ◌+◌, ◌<◌, ◌≤◌, ◌^◌, List, [], ◌∷◌, ◌++◌, length, map}
 use Rattle.std.specs.List.{AllByRecursion, flat_map}
 use Rattle.session_limits.specs.Limits.{max_depth}
@@ -13,7 +13,8 @@ use Rattle.syntax_trees.specs.declared.file.Handler.{Handler}
 use Rattle.syntax_trees.specs.declared.file.File.{File}
 use Rattle.syntax_trees.specs.Mentions.{Mention, a_name, a_symbol, a_number, AreBelow, file_mentions}
 
--- an operation with so many arguments behind its table; a reply with so many values; a statement with blocks of its own inside so many blocks
+-- an operation with so many arguments behind its table; a reply with so many values; a statement
+-- with blocks of its own inside so many blocks
 pub data Form : Type 0 where
   a_call : ℕ → Form
   a_reply : ℕ → Form
@@ -63,6 +64,7 @@ IsBoundedNumber (a_name place) = Unit {0}
 IsBoundedNumber (a_symbol place) = Unit {0}
 IsBoundedNumber (a_number z) = IsValue (Num z)
 
+-- What each file keeps that was read from a text.
 pub record KeepsBounds (f : File) : Type 0 where
   pub forms : AllByRecursion IsBoundedForm (file_forms f)
   pub numbers : AllByRecursion IsBoundedNumber (file_mentions f)

@@ -43,6 +43,7 @@ pub record IsFirst (broken : CheckRefusal → Type 0) (e : CheckRefusal) : Type 
   pub is_broken : broken e
   pub least : (g : CheckRefusal) → broken g → IsNoLater e g
 
+-- the first rule that a file breaks, by its place and then by its number
 abbrev pub IsFirstFault : File → CheckRefusal → Type 0
 IsFirstFault f = IsFirst (IsBroken f)
 
@@ -62,5 +63,6 @@ abbrev pub AreRising : List ℕ → Type 0
 AreRising [] = Unit {0}
 AreRising (n ∷ ns) = AllByRecursion (λ (m : ℕ). n < m) ns × AreRising ns
 
+-- the marks of a file stand in the order of their places
 abbrev pub PlacesRise : File → Type 0
 PlacesRise f = AreRising (map mark_at (file_marks f))

@@ -1,4 +1,5 @@
--- What a rule can be broken at: the names, the operations and the numbers of turns of a text, in its order.
+-- What a rule can be broken at: the names, the operations and the numbers of turns of a text, in
+-- its order.
 use Rattle.std.specs.Prelude.{ℕ, List, [], ◌∷◌, ◌++◌, length, map}
 use Rattle.std.specs.List.{flat_map}
 use Rattle.session_values.specs.declared.kind.Kind.{Kind}
@@ -57,6 +58,7 @@ declared (Turns n at ∷ ms) = declared ms
 
 -- ---- the marks of a text. Those of a block see the block's own variables alone
 
+-- a name that stands for a value is mentioned; a literal is nothing that a rule is on
 abbrev pub atom_marks : Atom → List Mark
 atom_marks (atom.Lit v) = []
 atom_marks (atom.Name name at) = Mentioned name at [] ∷ []
@@ -66,21 +68,26 @@ expr_step (Expr-F.Lit v) = atom_marks (atom.Lit v)
 expr_step (Expr-F.Name name at) = atom_marks (atom.Name name at)
 expr_step (Expr-F.Binary calc sides) = sides.0 ++ sides.1
 
+-- the names in an expression, from left to right
 abbrev pub expr_marks : Expr → List Mark
 expr_marks = fold-Expr (List Mark) expr_step
 
+-- an operation, its table, and its arguments
 abbrev pub call_marks : Call → List Mark
 call_marks c = Operation c.kind (length c.args) c.at ∷ OnTable c.kind c.table c.table_at ∷ flat_map
     atom_marks c.args
 
+-- what a variable is given
 abbrev pub right_marks : Right → List Mark
 right_marks (right.Plain e) = expr_marks e
 right_marks (right.Result c) = call_marks c
 
+-- the two sides of a condition
 abbrev pub cond_marks : Cond → List Mark
 cond_marks c = expr_marks c.left ++ expr_marks c.right
 
--- A variable of a `let` is visible behind its statement to the end of its block, a repeat's variable in its block.
+-- A variable of a `let` is visible behind its statement to the end of its block, a repeat's
+-- variable in its block.
 abbrev pub marks : Source → List Mark
 marks Finish = []
 marks (Let n at r rest) = Declared n at ∷ (right_marks r ++ seeing (n ∷ []) (marks rest))
@@ -91,9 +98,11 @@ marks (Repeat at n n_at name name_at body rest) = Turns n n_at ∷ Declared name
     name_at ∷ (seeing (name ∷ []) (marks body) ++ marks rest)
 marks (Answer es rest) = flat_map expr_marks es ++ marks rest
 
+-- the names of parameters are declared
 abbrev pub param_marks : List Param → List Mark
 param_marks params = map (λ (p : Param). Declared p.name p.at) params
 
+-- the names of parameters
 abbrev pub param_names : List Param → List ℕ
 param_names params = map (λ (p : Param). p.name) params
 
@@ -102,6 +111,7 @@ abbrev pub handler_marks : Handler → List Mark
 handler_marks h = param_marks h.params ++ seeing (param_names h.params)
     (marks (block_source h.body))
 
+-- the names of tables are declared
 abbrev pub table_marks : List TableDecl → List Mark
 table_marks tables = map (λ (t : TableDecl). Declared t.name t.at) tables
 

@@ -1,4 +1,5 @@
--- The rules of the checker, each as a condition on the whole text. (The two on calls and work are looked at only where none of these is broken.)
+-- The rules of the checker, each as a condition on the whole text. (The two on calls and work are
+-- looked at only where none of these is broken.)
 use Rattle.std.specs.Prelude.{◌≡◌, ℕ, ◌<◌, ◌==◌, if◌then◌else◌, ◌⊎◌, List, [], ◌∷◌, ◌++◌, length, Option, Some, None}
 use Rattle.std.specs.List.{Contains}
 use Rattle.session_limits.specs.Limits.{max_handlers, max_tables, max_turns, max_variables}

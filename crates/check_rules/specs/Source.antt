@@ -36,5 +36,6 @@ stmt_step (Stmt-F.Answer at es) rest = Answer es rest
 abbrev pub stmt_source : Stmt → Source → Source
 stmt_source = fold-Stmt (Source → Source) stmt_step
 
+-- a whole block
 abbrev pub block_source : List Stmt → Source
 block_source stmts = joined (map stmt_source stmts)

@@ -1,4 +1,5 @@
--- The resolved handlers of a file: each name is the number of its declaration, and points are counted in the order of the text.
+-- The resolved handlers of a file: each name is the number of its declaration, and points are
+-- counted in the order of the text.
 use Rattle.std.specs.Prelude.{◌≡◌, ℕ, suc, ◌+◌, ◌<◌, ◌==◌, if◌then◌else◌, List, [], ◌∷◌, length, map, slice_get, Option, Some, None}
 use Rattle.std.specs.List.{Contains}
 use Rattle.session_values.specs.declared.value.Value.TheVariants.{Nil}
@@ -39,9 +40,11 @@ term_step variables (Expr-F.Lit v) = code.Atom (atom_of variables (named.Lit v))
 term_step variables (Expr-F.Name name at) = code.Atom (atom_of variables (named.Name name at))
 term_step variables (Expr-F.Binary calc sides) = code.Calculate calc sides.0 sides.1
 
+-- an expression, whose names are the numbers of variables
 abbrev pub term_of : List ℕ → Expr → code.Term
 term_of variables = fold-Expr code.Term (term_step variables)
 
+-- a condition
 abbrev pub test_of : List ℕ → Cond → code.Test
 test_of variables c = record {
   compare = c.compare;
@@ -54,11 +57,13 @@ abbrev pub key_of : List ℕ → List Named → CheckedAtom
 key_of variables [] = Lit Nil
 key_of variables (a ∷ more) = atom_of variables a
 
+-- the second argument
 abbrev pub value_of : List ℕ → List Named → CheckedAtom
 value_of variables [] = Lit Nil
 value_of variables (a ∷ []) = Lit Nil
 value_of variables (a ∷ b ∷ more) = atom_of variables b
 
+-- an operation, whose table has its number
 abbrev pub call_of : List ℕ → List ℕ → Call → CheckedCall
 call_of tables variables c = record {
   kind = c.kind;
@@ -116,6 +121,7 @@ code_of tables variables (Answer es rest) p = code.Quit (map (term_of variables)
 abbrev pub shape_of : File → List TableKind
 shape_of f = map (λ (t : TableDecl). t.kind) f.tables
 
+-- the names of a file's tables, by their numbers
 abbrev pub table_names : File → List ℕ
 table_names f = map (λ (t : TableDecl). t.name) f.tables
 
@@ -154,7 +160,8 @@ variables_at f h = variables_in (slice_get f.handlers h)
 
 -- ---- what a name stands for
 
--- x is the number of the one variable of this name, which is declared among the marks before, and visible
+-- x is the number of the one variable of this name, which is declared among the marks before, and
+-- visible
 pub record StandsFor (h : Handler) (before : List Mark) (seen : List ℕ) (name x : ℕ) : Type 0 where
   pub named : slice_get (variables_of h) x ≡ Some name
   pub only : (y : ℕ) → slice_get (variables_of h) y ≡ Some name → y ≡ x

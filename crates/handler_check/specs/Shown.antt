@@ -1,4 +1,4 @@
--- The variable that a statement makes visible behind it.
+-- The variable that a statement makes visible behind it. Only a private function cites this.
 use Rattle.std.specs.Prelude.{ℕ, List, [], ◌∷◌}
 use Rattle.check_rules.specs.Source.{Source, Finish, Let, Assign, Do, Choose, Repeat, Answer, stmt_source}
 use Rattle.syntax_trees.specs.declared.stmt.Stmt.{Stmt}
@@ -12,5 +12,6 @@ first_shown (Choose at c a b rest) = []
 first_shown (Repeat at n n_at name name_at body rest) = []
 first_shown (Answer es rest) = []
 
+-- the variable that a statement makes visible, if it makes one
 abbrev pub shown : Stmt → List ℕ
 shown s = first_shown (stmt_source s Finish)
