@@ -10,27 +10,32 @@ use Rattle.serve_faults.specs.Input.{Parts}
 use Rattle.serve_reading.specs.declared.unserved.Unserved.{Unserved}
 use Rattle.serve_reading.specs.declared.unserved.Unserved.TheVariants.{Refused, NoMemory}
 
+-- why a text is no file
 abbrev pub IsSyntaxReason : List ℕ → Unserved → Type 0
 IsSyntaxReason text NoMemory = Unit {0}
 IsSyntaxReason text (Refused (fault.Syntax e)) = HasSyntaxFault text e
 IsSyntaxReason text (Refused e) = ⊥
 
+-- why a file isn't accepted
 abbrev pub IsCheckReason : File → Unserved → Type 0
 IsCheckReason file NoMemory = Unit {0}
 IsCheckReason file (Refused (fault.Check e)) = IsRefusal file e
 IsCheckReason file (Refused e) = ⊥
 
+-- why an accepted file has no lists
 abbrev pub IsAnalysisReason : File → Unserved → Type 0
 IsAnalysisReason file NoMemory = Unit {0}
 IsAnalysisReason file (Refused (fault.Analysis e)) = IsTooMany file e
 IsAnalysisReason file (Refused e) = ⊥
 
+-- why a file that was read has no text to print
 abbrev pub IsFileReason : File → Unserved → Type 0
 IsFileReason file NoMemory = Unit {0}
 IsFileReason file (Refused (fault.Check e)) = IsRefusal file e
 IsFileReason file (Refused (fault.Analysis e)) = IsAccepted file × IsTooMany file e
 IsFileReason file (Refused e) = ⊥
 
+-- why a text is no program
 abbrev pub IsProgramReason : List ℕ → Unserved → Type 0
 IsProgramReason text NoMemory = Unit {0}
 IsProgramReason text (Refused (fault.Syntax e)) = HasSyntaxFault text e
@@ -38,6 +43,7 @@ IsProgramReason text (Refused (fault.Check e)) = HasCheckFault text e
 IsProgramReason text (Refused (fault.Analysis e)) = HasAnalysisFault text e
 IsProgramReason text (Refused e) = ⊥
 
+-- why two parts are no session
 abbrev pub IsSessionReason : Parts → Unserved → Type 0
 IsSessionReason parts NoMemory = Unit {0}
 IsSessionReason parts (Refused (fault.Syntax e)) = HasSyntaxFault parts.handlers e
@@ -46,6 +52,7 @@ IsSessionReason parts (Refused (fault.Analysis e)) = HasAnalysisFault parts.hand
 IsSessionReason parts (Refused (fault.Request e)) = HasRequestFault parts e
 IsSessionReason parts (Refused e) = ⊥
 
+-- why an input has no answer to this command
 abbrev pub IsReason : Command → List ℕ → Unserved → Type 0
 IsReason command input NoMemory = Unit {0}
 IsReason command input (Refused e) = IsRefused command input e
