@@ -15,6 +15,8 @@ use Rattle.syntax_trees.specs.declared.stmt.Stmt.TheFolds.{ind-Stmt}
 use Rattle.syntax_trees.specs.declared.stmt.Stmt.TheOpen.{Stmt-F}
 use Rattle.syntax_trees.specs.declared.stmt.Stmt.TheVariants as stmt
 use Rattle.syntax_trees.specs.Alone.{alone}
+-- the equations of statements, which stand with the rules
+pub use Rattle.check_rules.proofs.Statements.{source_let, source_assign, source_call, source_choose, source_repeat, source_reply}
 
 module _ (P : Expr → Type 0) (leaf : (a : Atom) → P (alone a)) (binary : (c : Calc) (l r : Expr) → P l → P r → P (expr.Binary c (l, r))) where
   expr_rolled : (y : Expr-F ((e : Expr) × P e)) → P (roll-Expr (map-Expr ((e : Expr) × P e) Expr (λ e. e.0) y))
