@@ -28,7 +28,7 @@ then_same (Calls qs op) f g h = refl
 then_same (Answers qs vs) f g h = refl
 then_same (Goes qs env left) f g h = ap (after qs) (h env left)
 
-after_none : (o : Outcome) → after [] o ≡ o
+pub after_none : (o : Outcome) → after [] o ≡ o
 after_none (Calls rs op) = refl
 after_none (Answers rs vs) = refl
 after_none (Goes rs env left) = refl
@@ -83,7 +83,7 @@ next_whole code env = λ i rs. ended (run_whole code env rs i)
 pub run_goes : (code : Code) (env : Env) → run_then code goes env ≡ run code env
 run_goes code env = λ i rs. run_whole code env rs i
 
-ended_after : (ps : List Place) (o : Outcome) → ended (after ps o) ≡ ended o
+pub ended_after : (ps : List Place) (o : Outcome) → ended (after ps o) ≡ ended o
 ended_after ps (Calls qs op) = refl
 ended_after ps (Answers qs vs) = refl
 ended_after ps (Goes qs env left) = refl

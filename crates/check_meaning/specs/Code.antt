@@ -36,9 +36,11 @@ abbrev pub expr_step : CheckedExpr-F Term → Term
 expr_step (CheckedExpr-F.Leaf a) = Atom a
 expr_step (CheckedExpr-F.Binary calc l r) = Calculate calc l r
 
+-- an expression
 abbrev pub expr_term : CheckedExpr → Term
 expr_term = fold-CheckedExpr Term expr_step
 
+-- a condition
 abbrev pub cond_test : CheckedCond → Test
 cond_test c = record { compare = c.compare; left = expr_term c.left; right = expr_term c.right }
 

@@ -47,10 +47,12 @@ calculated Minus (Num a) (Num b) = in_range (a -ℤ b)
 calculated Times (Num a) (Num b) = in_range (a *ℤ b)
 calculated calc v w = Nil
 
+-- a literal's value, or that of a variable
 abbrev pub atom_value : CheckedAtom → Env → Value
 atom_value (Lit v) env = v
 atom_value (Var x) env = env x
 
+-- the value of an expression
 abbrev pub value_of : Term → Env → Value
 value_of (Atom a) env = atom_value a env
 value_of (Calculate calc l r) env = calculated calc (value_of l env) (value_of r env)
@@ -63,6 +65,7 @@ compared Less (Num a) (Num b) = int_lt a b
 compared LessOrSame (Num a) (Num b) = int_le a b
 compared order v w = false
 
+-- whether a condition holds
 abbrev pub holds : Test → Env → Bool
 holds test env = compared test.compare (value_of test.left env) (value_of test.right env)
 

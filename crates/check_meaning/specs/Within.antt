@@ -16,6 +16,7 @@ abbrev pub AtomWithin : ℕ → CheckedAtom → Type 0
 AtomWithin n (Lit v) = IsValue v
 AtomWithin n (Var x) = x < n
 
+-- the same of each literal and each variable of an expression
 abbrev pub TermWithin : ℕ → Term → Type 0
 TermWithin n (Atom a) = AtomWithin n a
 TermWithin n (Calculate calc l r) = TermWithin n l × TermWithin n r
@@ -29,6 +30,7 @@ pub record CallWithin (shape : List TableKind) (n : ℕ) (c : CheckedCall) : Typ
   pub no_key : arguments c.kind < 1 → c.key ≡ Lit Nil
   pub no_value : arguments c.kind < 2 → c.value ≡ Lit Nil
 
+-- the variable that takes a reply, if one does, is below n
 abbrev pub VarWithin : ℕ → Option ℕ → Type 0
 VarWithin n None = Unit {0}
 VarWithin n (Some x) = x < n

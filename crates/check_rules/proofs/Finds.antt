@@ -45,10 +45,10 @@ finds_unless true P e bad good = λ g s. bad refl s.0
 finds_unless false P e bad good = record { is_broken = (good refl, refl); least = λ g s. same_later e g s.1 }
 
 -- ---- names
-eq_true : (a b : ℕ) → (a == b) ≡ true → a ≡ b
+pub eq_true : (a b : ℕ) → (a == b) ≡ true → a ≡ b
 eq_true a b e = grind (arith, nat_tests)
 
-true_eq : (a b : ℕ) → a ≡ b → (a == b) ≡ true
+pub true_eq : (a b : ℕ) → a ≡ b → (a == b) ≡ true
 true_eq a b e = grind (arith, nat_tests)
 
 or_left : (a b : Bool) → a ≡ true → (a || b) ≡ true
@@ -94,13 +94,13 @@ pub record IsFair (l : Limit) : Type 0 where
   pub here : (at : ℕ) → place (l.past at) ≡ at
   pub behind : (at : ℕ) → 1 ≤ number (l.past at)
 
-kind_true : (a b : TableKind) → is_same_kind a b ≡ true → a ≡ b
+pub kind_true : (a b : TableKind) → is_same_kind a b ≡ true → a ≡ b
 kind_true Map Map e = refl
 kind_true Set Set e = refl
 kind_true Map Set e = cc
 kind_true Set Map e = cc
 
-kind_false : (a b : TableKind) → is_same_kind a b ≡ false → a ≡ b → ⊥
+pub kind_false : (a b : TableKind) → is_same_kind a b ≡ false → a ≡ b → ⊥
 kind_false Map Map e h = cc
 kind_false Set Set e h = cc
 kind_false Map Set e h = cc

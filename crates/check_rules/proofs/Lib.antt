@@ -1,4 +1,5 @@
 pub mod Files
 pub mod Finds
 pub mod Firsts
+pub mod Statements
 pub mod Texts

@@ -58,6 +58,7 @@ declared (Turns n at ∷ ms) = declared ms
 
 -- ---- the marks of a text. Those of a block see the block's own variables alone
 
+-- a name that stands for a value is mentioned; a literal is nothing that a rule is on
 abbrev pub atom_marks : Atom → List Mark
 atom_marks (atom.Lit v) = []
 atom_marks (atom.Name name at) = Mentioned name at [] ∷ []
@@ -67,17 +68,21 @@ expr_step (Expr-F.Lit v) = atom_marks (atom.Lit v)
 expr_step (Expr-F.Name name at) = atom_marks (atom.Name name at)
 expr_step (Expr-F.Binary calc sides) = sides.0 ++ sides.1
 
+-- the names in an expression, from left to right
 abbrev pub expr_marks : Expr → List Mark
 expr_marks = fold-Expr (List Mark) expr_step
 
+-- an operation, its table, and its arguments
 abbrev pub call_marks : Call → List Mark
 call_marks c = Operation c.kind (length c.args) c.at ∷ OnTable c.kind c.table c.table_at ∷ flat_map
     atom_marks c.args
 
+-- what a variable is given
 abbrev pub right_marks : Right → List Mark
 right_marks (right.Plain e) = expr_marks e
 right_marks (right.Result c) = call_marks c
 
+-- the two sides of a condition
 abbrev pub cond_marks : Cond → List Mark
 cond_marks c = expr_marks c.left ++ expr_marks c.right
 
@@ -93,9 +98,11 @@ marks (Repeat at n n_at name name_at body rest) = Turns n n_at ∷ Declared name
     name_at ∷ (seeing (name ∷ []) (marks body) ++ marks rest)
 marks (Answer es rest) = flat_map expr_marks es ++ marks rest
 
+-- the names of parameters are declared
 abbrev pub param_marks : List Param → List Mark
 param_marks params = map (λ (p : Param). Declared p.name p.at) params
 
+-- the names of parameters
 abbrev pub param_names : List Param → List ℕ
 param_names params = map (λ (p : Param). p.name) params
 

@@ -24,10 +24,12 @@ abbrev pub or_else : Fault → Fault → Fault
 or_else None w = w
 or_else (Some e) w = Some e
 
+-- this fault where the test holds
 abbrev pub fault_if : Bool → CheckRefusal → Fault
 fault_if true e = Some e
 fault_if false e = None
 
+-- the name is one of these
 abbrev pub is_among : List ℕ → ℕ → Bool
 is_among names name = list_any (λ y. y == name) names
 
@@ -36,12 +38,15 @@ abbrev pub declared_fault : ℕ → (ℕ → CheckRefusal) → List ℕ → ℕ 
 declared_fault limit past earlier name at = or_else (fault_if (is_among earlier name) (Twice at))
     (fault_if (length earlier == limit) (past at))
 
+-- the fault of a variable that isn't one of the visible ones
 abbrev pub unseen_fault : List ℕ → ℕ → ℕ → Fault
 unseen_fault visible name at = if is_among visible name then None else Some (Unknown at)
 
+-- the fault of an operation with so many arguments
 abbrev pub count_fault : Kind → ℕ → ℕ → Fault
 count_fault kind count at = if count == arguments kind then None else Some (Arity at)
 
+-- the two kinds of table are one
 abbrev pub is_same_kind : TableKind → TableKind → Bool
 is_same_kind Map Map = true
 is_same_kind Set Set = true
@@ -53,9 +58,11 @@ found_fault None kind at = Some (Unknown at)
 found_fault (Some found) kind at = if is_same_kind found (home kind) then None else Some
     (WrongTable at)
 
+-- the fault of an operation on the table of this name
 abbrev pub table_fault : List TableDecl → Kind → ℕ → ℕ → Fault
 table_fault tables kind name at = found_fault (kind_of tables name) kind at
 
+-- the fault of a repeat that runs so often
 abbrev pub turns_fault : ℕ → ℕ → Fault
 turns_fault n at = fault_if (n == 0 || nat_lt max_turns n) (RepeatBound at)
 
@@ -64,12 +71,15 @@ pub record Limit : Type 0 where
   pub limit : ℕ
   pub past : ℕ → CheckRefusal
 
+-- the limit of tables
 abbrev pub of_tables : Limit
 of_tables = record { limit = max_tables; past = λ at. TooManyTables at }
 
+-- that of handlers
 abbrev pub of_handlers : Limit
 of_handlers = record { limit = max_handlers; past = λ at. TooManyHandlers at }
 
+-- that of the variables of a handler
 abbrev pub of_variables : Limit
 of_variables = record { limit = max_variables; past = λ at. TooManyVariables at }
 

@@ -1,22 +1,22 @@
--- Inductions over expressions, cases of statements, and the equations of what is defined over them.
-use Rattle.std.proofs.Common.{◌≡◌, ℕ, List, ◌++◌, subst, rules}
+-- Inductions over expressions, and cases of statements.
+use Rattle.std.proofs.Common.{ℕ, List, subst}
 use Rattle.syntax_trees.specs.declared.expr.Atom.{Atom}
 use Rattle.syntax_trees.specs.declared.expr.Atom.TheVariants as atom
 use Rattle.syntax_trees.specs.declared.expr.Calc.{Calc}
-use Rattle.syntax_trees.specs.declared.expr.Expr.{Expr, roll-Expr, map-Expr, the_lemmas}
+use Rattle.syntax_trees.specs.declared.expr.Expr.{Expr, roll-Expr, map-Expr}
 use Rattle.syntax_trees.specs.declared.expr.Expr.TheFolds.{ind-Expr}
 use Rattle.syntax_trees.specs.declared.expr.Expr.TheOpen.{Expr-F}
 use Rattle.syntax_trees.specs.declared.expr.Expr.TheVariants as expr
 use Rattle.syntax_trees.specs.declared.stmt.Call.{Call}
 use Rattle.syntax_trees.specs.declared.stmt.Cond.{Cond}
 use Rattle.syntax_trees.specs.declared.stmt.Right.{Right}
-use Rattle.syntax_trees.specs.declared.stmt.Stmt.{Stmt, roll-Stmt, map-Stmt, the_lemmas as stmt_lemmas}
+use Rattle.syntax_trees.specs.declared.stmt.Stmt.{Stmt, roll-Stmt, map-Stmt}
 use Rattle.syntax_trees.specs.declared.stmt.Stmt.TheFolds.{ind-Stmt}
 use Rattle.syntax_trees.specs.declared.stmt.Stmt.TheOpen.{Stmt-F}
 use Rattle.syntax_trees.specs.declared.stmt.Stmt.TheVariants as stmt
 use Rattle.syntax_trees.specs.Alone.{alone}
-use Rattle.check_rules.specs.Marks.{atom_marks, expr_marks}
-use Rattle.check_rules.specs.Source.{Source, Let, Assign, Do, Choose, Repeat, Answer, stmt_source, block_source}
+-- the equations of statements, which stand with the rules
+pub use Rattle.check_rules.proofs.Statements.{source_let, source_assign, source_call, source_choose, source_repeat, source_reply}
 
 module _ (P : Expr → Type 0) (leaf : (a : Atom) → P (alone a)) (binary : (c : Calc) (l r : Expr) → P l → P r → P (expr.Binary c (l, r))) where
   expr_rolled : (y : Expr-F ((e : Expr) × P e)) → P (roll-Expr (map-Expr ((e : Expr) × P e) Expr (λ e. e.0) y))
@@ -49,29 +49,3 @@ module _ (P : Stmt → Type 0) (each : EachKind P) where
 
   pub stmt_cases : (s : Stmt) → P s
   stmt_cases = ind-Stmt P (λ x y is. subst (λ z. P (roll-Stmt z)) is (stmt_rolled y))
-
--- ---- equations
-pub marks_leaf : (a : Atom) → expr_marks (alone a) ≡ atom_marks a
-marks_leaf (atom.Lit v) = search (rules, the_lemmas)
-marks_leaf (atom.Name n p) = search (rules, the_lemmas)
-
-pub marks_binary : (c : Calc) (l r : Expr) → expr_marks (expr.Binary c (l, r)) ≡ expr_marks l ++ expr_marks r
-marks_binary c l r = search (rules, the_lemmas)
-
-pub source_let : (n p : ℕ) (r : Right) (rest : Source) → stmt_source (stmt.Let n p r) rest ≡ Let n p r rest
-source_let n p r rest = search (rules, stmt_lemmas)
-
-pub source_assign : (n p : ℕ) (r : Right) (rest : Source) → stmt_source (stmt.Assign n p r) rest ≡ Assign n p r rest
-source_assign n p r rest = search (rules, stmt_lemmas)
-
-pub source_call : (call : Call) (rest : Source) → stmt_source (stmt.Perform call) rest ≡ Do call rest
-source_call call rest = search (rules, stmt_lemmas)
-
-pub source_choose : (p : ℕ) (cond : Cond) (first second : List Stmt) (rest : Source) → stmt_source (stmt.Choose p cond first second) rest ≡ Choose p cond (block_source first) (block_source second) rest
-source_choose p cond first second rest = search (rules, stmt_lemmas)
-
-pub source_repeat : (p turns q n r : ℕ) (body : List Stmt) (rest : Source) → stmt_source (stmt.Repeat p turns q n r body) rest ≡ Repeat p turns q n r (block_source body) rest
-source_repeat p turns q n r body rest = search (rules, stmt_lemmas)
-
-pub source_reply : (p : ℕ) (values : List Expr) (rest : Source) → stmt_source (stmt.Answer p values) rest ≡ Answer values rest
-source_reply p values rest = search (rules, stmt_lemmas)

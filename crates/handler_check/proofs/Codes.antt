@@ -31,7 +31,8 @@ use Rattle.check_rules.specs.Source.{Source, Finish, Let, Assign, Do, Choose, Re
 use Rattle.handler_check.specs.Checked.{HandlerWithin}
 use Rattle.handler_check.specs.Checking.{IsAccepted}
 use Rattle.handler_check.specs.Resolved.{number_in, atom_of, term_of, key_of, value_of, call_of, stored, right_points, code_of, points_of, handler_code, code_at, code_in, params_in, shape_of, table_names, variables_at, variables_in, variables_of}
-use Rattle.handler_check.proofs.Cases.{expr_induction, marks_leaf, marks_binary}
+use Rattle.check_rules.proofs.Statements.{marks_leaf, marks_binary}
+use Rattle.handler_check.proofs.Cases.{expr_induction}
 use Rattle.handler_check.proofs.Fine.{IsFine, AreFine, all_fine, few_variables}
 use Rattle.handler_check.proofs.Held.{IsSmall, AreSmall, IsHeldBlock, held_handler}
 use Rattle.handler_check.proofs.Numbers.{numbered}
@@ -39,11 +40,11 @@ use Rattle.handler_check.proofs.Scans.{params_declared}
 use Rattle.handler_check.proofs.Within.{few_calls, little_work, in_file}
 use Rattle.check_rules.proofs.Texts.{declared_append}
 
-term_leaf : (variables : List ℕ) (a : Atom) → term_of variables (alone a) ≡ code.Atom (atom_of variables a)
+pub term_leaf : (variables : List ℕ) (a : Atom) → term_of variables (alone a) ≡ code.Atom (atom_of variables a)
 term_leaf variables (atom.Lit v) = search (rules, the_lemmas)
 term_leaf variables (atom.Name n p) = search (rules, the_lemmas)
 
-term_binary : (variables : List ℕ) (c : Calc) (l r : Expr) → term_of variables (expr.Binary c (l, r)) ≡ Calculate c (term_of variables l) (term_of variables r)
+pub term_binary : (variables : List ℕ) (c : Calc) (l r : Expr) → term_of variables (expr.Binary c (l, r)) ≡ Calculate c (term_of variables l) (term_of variables r)
 term_binary variables c l r = search (rules, the_lemmas)
 
 module _ (shape : List TableKind) (tables variables : List ℕ) where

@@ -20,6 +20,7 @@ use Rattle.check_rules.proofs.Firsts.{one_first}
 use Rattle.handler_check.specs.Checking.{IsAccepted, IsBeyond, IsRefusal}
 use Rattle.handler_check.specs.Excess.{code_excess, own_excess, excess}
 use Rattle.handler_check.specs.Resolved.{IsResolved, table_names, handler_code}
+use Rattle.handler_check.proofs.Scans.{or_none, or_assoc}
 
 is_more : (n b : ℕ) → nat_lt n b ≡ true → n < b
 is_more n b e = grind (arith, nat_tests)
@@ -172,17 +173,9 @@ pub excess_turn : (cs : List CheckedHandler) (i : ℕ) (c d : CheckedHandler) �
 excess_turn cs i c d h is = ap excess (drop_more cs i d h) ∙ ap (λ (x : CheckedHandler). or_else (own_excess x) (excess (drop (i + 1) cs))) (sym is)
 
 -- one more handler behind these
-or_none : (w : Fault) → or_else w None ≡ w
-or_none None = refl
-or_none (Some e) = refl
-
-or_again : (u v w : Fault) → or_else u (or_else v w) ≡ or_else (or_else u v) w
-or_again None v w = refl
-or_again (Some e) v w = refl
-
 pub excess_push : (cs : List CheckedHandler) (c : CheckedHandler) → excess (cs ++ c ∷ []) ≡ or_else (excess cs) (own_excess c)
 excess_push [] c = or_none (own_excess c)
-excess_push (x ∷ cs) c = ap (or_else (own_excess x)) (excess_push cs c) ∙ or_again (own_excess x) (excess cs) (own_excess c)
+excess_push (x ∷ cs) c = ap (or_else (own_excess x)) (excess_push cs c) ∙ sym (or_assoc (own_excess x) (excess cs) (own_excess c))
 
 -- ---- what the walk's answer means
 pub refused_by : (f : File) (cs seen : List CheckedHandler) (e : CheckRefusal) → PlacesRise f → AllZip (IsResolved (table_names f)) f.handlers cs → seen ≡ cs → KeepsRules f → excess seen ≡ Some e → IsRefusal f e

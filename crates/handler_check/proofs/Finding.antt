@@ -3,21 +3,16 @@ use Rattle.std.proofs.Common.{◌≡◌, ℕ, zero, suc, ◌+◌, ◌<◌, Bool,
 use Rattle.std.proofs.lemmas.Bool.Decides.{nat_tests}
 use Rattle.std.specs.List.{position, position_or_len}
 use Rattle.syntax_trees.specs.declared.file.Handler.{Handler}
+use Rattle.check_rules.proofs.Finds.{eq_true, true_eq}
 
 abbrev named : ℕ → Handler → Bool
 named name h = h.name == name
 
-is_named : (a b : ℕ) → a ≡ b → (a == b) ≡ true
-is_named a b e = grind (arith, nat_tests)
-
-not_named : (a b : ℕ) → (a ≡ b → ⊥) → (a == b) ≡ false
+pub not_named : (a b : ℕ) → (a ≡ b → ⊥) → (a == b) ≡ false
 not_named a b never = go (a == b) refl
   where
-    same : (a == b) ≡ true → a ≡ b
-    same e = grind (arith, nat_tests)
-
     go : (t : Bool) → (a == b) ≡ t → t ≡ false
-    go true e = absurd (never (same e))
+    go true e = absurd (never (eq_true a b e))
     go false e = refl
 
 passes : (x : Handler) (hs : List Handler) (name : ℕ) → named name x ≡ true → position_or_len (named name) (x ∷ hs) ≡ 0
@@ -29,7 +24,7 @@ fails x hs name e = ap (λ (b : Bool). cond (not b) (1 + position_or_len (named 
 first_at : (hs : List Handler) (name i : ℕ) (h : Handler) → ((k : ℕ) (source : Handler) → k < i → slice_get hs k ≡ Some source → source.name ≡ name → ⊥) → slice_get hs i ≡ Some h → h.name ≡ name
     → position_or_len (named name) hs ≡ i
 first_at [] name i h before e is = cc
-first_at (x ∷ hs) name zero h before e is = (let same : x ≡ h = cc in passes x hs name (is_named x.name name (ap (λ (z : Handler). z.name) same ∙ is)))
+first_at (x ∷ hs) name zero h before e is = (let same : x ≡ h = cc in passes x hs name (true_eq x.name name (ap (λ (z : Handler). z.name) same ∙ is)))
 first_at (x ∷ hs) name (suc i) h before e is =
     let rest = first_at hs name i h (λ k source l. before (suc k) source (omega (arith, l))) e is in
     let one = fails x hs name (not_named x.name name (before 0 x (omega arith) refl)) in

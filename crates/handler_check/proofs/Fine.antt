@@ -7,7 +7,6 @@ use Rattle.std.proofs.lemmas.Option.{slice_get_within}
 use Rattle.std.specs.List.{AllByRecursion, Contains}
 use Rattle.session_values.specs.declared.kind.Kind.{Kind}
 use Rattle.session_values.specs.declared.kind.TableKind.{TableKind}
-use Rattle.session_values.specs.declared.kind.TableKind.TheVariants.{Map, Set}
 use Rattle.session_values.specs.Kinds.{arguments, home}
 use Rattle.syntax_trees.specs.declared.file.File.{File}
 use Rattle.syntax_trees.specs.declared.file.Handler.{Handler}
@@ -17,9 +16,10 @@ use Rattle.check_rules.specs.FirstFault.{KeepsRules}
 use Rattle.check_rules.specs.Marks.{Mark, Declared, Mentioned, Operation, OnTable, Turns, declared, handler_marks, table_marks, name_marks}
 use Rattle.check_rules.specs.Rules.{Stands, IsPast, IsTwice, kind_of}
 use Rattle.check_rules.specs.Scan.{is_same_kind}
+use Rattle.check_rules.proofs.Finds.{eq_true, kind_true, kind_false}
 use Rattle.check_rules.proofs.Texts.{declared_append}
 use Rattle.handler_check.specs.Resolved.{number_in, variables_of, shape_of, table_names, StandsForTable}
-use Rattle.handler_check.proofs.Meaning.{is_eq, eq_is, named_at, moved, same_names, Fresh, fresh_text, one_number, stands_for}
+use Rattle.handler_check.proofs.Meaning.{eq_is, named_at, moved, same_names, Fresh, fresh_text, one_number, stands_for}
 
 -- ---- how many are declared
 module _ (limit : ℕ) (text : List Mark) (never : (at : ℕ) → IsPast limit text at → ⊥) where
@@ -30,7 +30,7 @@ module _ (limit : ℕ) (text : List Mark) (never : (at : ℕ) → IsPast limit t
       more = ap length (declared_append pre (Declared name at ∷ [])) ∙ length_push (declared pre) name
 
       go : (b : Bool) → (length (declared pre) == limit) ≡ b → length (declared (pre ++ Declared name at ∷ [])) ≤ limit
-      go true t = absurd (never at (pre, name, record { after = ms; is = e }, is_eq (length (declared pre)) limit t))
+      go true t = absurd (never at (pre, name, record { after = ms; is = e }, eq_true (length (declared pre)) limit t))
       go false t = (let ne : length (declared pre) ≢ limit = eq_is (length (declared pre)) limit t in omega (arith, more, ne, l))
   few_more pre ms (Mentioned name at visible) e l = subst (λ (x : List ℕ). length x ≤ limit) (sym (same_names pre (Mentioned name at visible) refl)) l
   few_more pre ms (Operation kind count at) e l = subst (λ (x : List ℕ). length x ≤ limit) (sym (same_names pre (Operation kind count at) refl)) l
@@ -66,18 +66,6 @@ pub few_variables : (f : File) (h : Handler) → KeepsRules f → Contains f.han
 few_variables f h keeps among = few_declared 32 (handler_marks h) (λ at p. keeps (TooManyVariables at) (h, among, p))
 
 -- ---- tables
-same_kind : (a b : TableKind) → is_same_kind a b ≡ true → a ≡ b
-same_kind Map Map e = refl
-same_kind Map Set e = cc
-same_kind Set Map e = cc
-same_kind Set Set e = refl
-
-other_kind : (a b : TableKind) → is_same_kind a b ≡ false → a ≡ b → ⊥
-other_kind Map Map e same = cc
-other_kind Map Set e same = cc
-other_kind Set Map e same = cc
-other_kind Set Set e same = cc
-
 kind_at : (ts : List TableDecl) (name : ℕ) (k : TableKind) → kind_of ts name ≡ Some k → slice_get (map (λ (t : TableDecl). t.kind) ts) (number_in (map (λ (t : TableDecl). t.name) ts) name) ≡ Some k
 kind_at [] name k e = cc
 kind_at (t ∷ ts) name k e = go (t.name == name) e (λ e. kind_at ts name k e)
@@ -92,7 +80,7 @@ table_in [] name k e = cc
 table_in (t ∷ ts) name k e = go (t.name == name) refl e (λ e. table_in ts name k e)
   where
     go : (b : Bool) → (t.name == name) ≡ b → (if b then Some t.kind else kind_of ts name) ≡ Some k → (kind_of ts name ≡ Some k → Contains (map (λ (t : TableDecl). t.name) ts) name) → Contains (map (λ (t : TableDecl). t.name) (t ∷ ts)) name
-    go true is e more = (0, omega arith, is_eq t.name name is)
+    go true is e more = (0, omega arith, eq_true t.name name is)
     go false is e more = (let c = more e in (suc c.0, (let l = c.1 in omega arith), c.2))
 
 module _ (f : File) (h : Handler) (keeps : KeepsRules f) (among : Contains f.handlers h) where
@@ -100,8 +88,8 @@ module _ (f : File) (h : Handler) (keeps : KeepsRules f) (among : Contains f.han
   found_kind before kind name at s = go (kind_of f.tables name) refl
     where
       same : (found : TableKind) → kind_of f.tables name ≡ Some found → (b : Bool) → is_same_kind found (home kind) ≡ b → kind_of f.tables name ≡ Some (home kind)
-      same found e true t = e ∙ ap (λ (k : TableKind). Some k) (same_kind found (home kind) t)
-      same found e false t = absurd (keeps (WrongTable at) (h, among, (before, kind, name, found, s, e, other_kind found (home kind) t)))
+      same found e true t = e ∙ ap (λ (k : TableKind). Some k) (kind_true found (home kind) t)
+      same found e false t = absurd (keeps (WrongTable at) (h, among, (before, kind, name, found, s, e, kind_false found (home kind) t)))
 
       go : (o : Option TableKind) → kind_of f.tables name ≡ o → kind_of f.tables name ≡ Some (home kind)
       go None e = absurd (keeps (Unknown at) (h, among, inr (before, kind, name, s, e)))
@@ -164,7 +152,7 @@ some_turns n h = (first (n == 0) refl, last (nat_lt 1000 n) refl)
     smaller e = grind (arith, nat_tests)
 
     first : (b : Bool) → (n == 0) ≡ b → 0 < n
-    first true e = absurd (h (inl (is_eq n 0 e)))
+    first true e = absurd (h (inl (eq_true n 0 e)))
     first false e = (let ne : n ≢ 0 = eq_is n 0 e in omega (arith, ne))
 
     last : (b : Bool) → nat_lt 1000 n ≡ b → n ≤ 1000
@@ -185,7 +173,7 @@ module _ (f : File) (h : Handler) (keeps : KeepsRules f) (among : Contains f.han
   fine_mark before (Operation kind count at) s = go (count == arguments kind) refl
     where
       go : (b : Bool) → (count == arguments kind) ≡ b → count ≡ arguments kind
-      go true e = is_eq count (arguments kind) e
+      go true e = eq_true count (arguments kind) e
       go false e = absurd (keeps (Arity at) (h, among, (before, kind, count, s, eq_is count (arguments kind) e)))
   fine_mark before (OnTable kind name at) s = (let stands = stands_for_table f h keeps among before kind name at s in stands.fit)
   fine_mark before (Turns n at) s = some_turns n (λ b. keeps (RepeatBound at) (h, among, (before, n, s, b)))

@@ -1,17 +1,17 @@
 -- What the literals and the replies of a block keep, read off the bounds of its file.
-use Rattle.std.proofs.Common.{◌≡◌, ℕ, zero, suc, ◌+◌, ◌<◌, ◌≤◌, ◌^◌, List, [], ◌∷◌, ◌++◌, length, slice_index_or, sym, subst, rules, arith}
+use Rattle.std.proofs.Common.{◌≡◌, ℕ, zero, suc, ◌+◌, ◌<◌, ◌≤◌, ◌^◌, List, [], ◌∷◌, ◌++◌, length, slice_index_or, sym, subst, arith}
 use Rattle.std.specs.List.{AllByRecursion, Contains, flat_map}
 use Rattle.syntax_trees.specs.declared.expr.Expr.{Expr}
 use Rattle.syntax_trees.specs.declared.stmt.Cond.{Cond}
-use Rattle.syntax_trees.specs.declared.stmt.Stmt.{Stmt, the_lemmas}
+use Rattle.syntax_trees.specs.declared.stmt.Stmt.{Stmt}
 use Rattle.syntax_trees.specs.declared.stmt.Stmt.TheVariants as stmt
 use Rattle.syntax_trees.specs.declared.file.File.{File}
 use Rattle.syntax_trees.specs.declared.file.Handler.{Handler}
 use Rattle.syntax_trees.specs.Mentions.{Mention, IsBelow, expr_mentions, call_mentions, right_mentions, cond_mentions, stmt_mentions, table_mentions, param_mentions, handler_mentions, file_mentions}
 use Rattle.syntax_trees.proofs.Mentions.{mentions_let, mentions_assign, mentions_perform, mentions_choose, mentions_repeat, mentions_answer, all_first}
-use Rattle.check_rules.specs.Bounds.{Form, a_reply, a_nest, stmt_forms, block_forms, handler_forms, IsBoundedForm, IsBoundedNumber, KeepsBounds}
+use Rattle.check_rules.specs.Bounds.{Form, stmt_forms, block_forms, handler_forms, IsBoundedForm, IsBoundedNumber, KeepsBounds}
 use Rattle.check_rules.specs.Source.{Source, Finish, Let, Assign, Do, Choose, Repeat, Answer, stmt_source, block_source}
-use Rattle.handler_check.proofs.Cases.{source_let, source_assign, source_call, source_choose, source_repeat, source_reply}
+use Rattle.check_rules.proofs.Statements.{source_let, source_assign, source_call, source_choose, source_repeat, source_reply, forms_choose, forms_repeat, forms_reply}
 use Rattle.handler_check.proofs.Inductions.{stmt_induction}
 
 -- a number and a place that a program can hold
@@ -30,15 +30,6 @@ IsHeldBlock (Do c rest) = AreSmall (call_mentions c) × IsHeldBlock rest
 IsHeldBlock (Choose at c a b rest) = AreSmall (cond_mentions c) × IsHeldBlock a × IsHeldBlock b × IsHeldBlock rest
 IsHeldBlock (Repeat at n n_at name name_at body rest) = IsHeldBlock body × IsHeldBlock rest
 IsHeldBlock (Answer es rest) = (0 < length es) × (length es ≤ 4) × AreSmall (flat_map expr_mentions es) × IsHeldBlock rest
-
-forms_choose : (p : ℕ) (cond : Cond) (first second : List Stmt) (d : ℕ) → stmt_forms (stmt.Choose p cond first second) d ≡ a_nest d ∷ (block_forms first (d + 1) ++ block_forms second (d + 1))
-forms_choose p cond first second d = search (rules, the_lemmas)
-
-forms_repeat : (p turns q n r : ℕ) (body : List Stmt) (d : ℕ) → stmt_forms (stmt.Repeat p turns q n r body) d ≡ a_nest d ∷ block_forms body (d + 1)
-forms_repeat p turns q n r body d = search (rules, the_lemmas)
-
-forms_reply : (p : ℕ) (values : List Expr) (d : ℕ) → stmt_forms (stmt.Answer p values) d ≡ a_reply (length values) ∷ []
-forms_reply p values d = search (rules, the_lemmas)
 
 abbrev Bounded : List Form → Type 0
 Bounded fs = AllByRecursion IsBoundedForm fs

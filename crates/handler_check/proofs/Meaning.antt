@@ -19,16 +19,14 @@ use Rattle.check_rules.specs.Marks.{Mark, Declared, Mentioned, Operation, OnTabl
 use Rattle.check_rules.specs.Rules.{Stands, IsTwice}
 use Rattle.check_rules.specs.Scan.{is_among}
 use Rattle.check_rules.specs.Source.{Source, Finish, Let, Assign, Do, Choose, Repeat, Answer, block_source}
-use Rattle.check_rules.proofs.Finds.{among_in, in_among}
+use Rattle.check_rules.proofs.Finds.{among_in, eq_true, in_among}
 use Rattle.check_rules.proofs.Texts.{declared_append}
 use Rattle.handler_check.specs.Resolved.{number_in, variables_of, StandsFor}
-use Rattle.handler_check.proofs.Cases.{expr_induction, marks_leaf, marks_binary}
+use Rattle.check_rules.proofs.Statements.{marks_leaf, marks_binary}
+use Rattle.handler_check.proofs.Cases.{expr_induction}
 use Rattle.handler_check.proofs.Scans.{params_declared, expr_declares, right_declares, call_declares, cond_declares, all_declare}
 
 -- ---- numbers of names
-pub is_eq : (a b : ℕ) → (a == b) ≡ true → a ≡ b
-is_eq a b e = grind (arith, nat_tests)
-
 pub eq_is : (a b : ℕ) → (a == b) ≡ false → a ≡ b → ⊥
 eq_is a b f e = grind (arith, nat_tests)
 
@@ -38,7 +36,7 @@ named_at (n ∷ ns) name k l e = go (n == name) refl k l e (λ j l e. named_at n
   where
     go : (b : Bool) → (n == name) ≡ b → (k : ℕ) → k < length (n ∷ ns) → slice_index_or (n ∷ ns) k name ≡ name → ((j : ℕ) → j < length ns → slice_index_or ns j name ≡ name → slice_get ns (number_in ns name) ≡ Some name)
         → slice_get (n ∷ ns) (if b then 0 else suc (number_in ns name)) ≡ Some name
-    go true t k l e more = ap (λ (x : ℕ). Some x) (is_eq n name t)
+    go true t k l e more = ap (λ (x : ℕ). Some x) (eq_true n name t)
     go false t zero l e more = absurd (eq_is n name t e)
     go false t (suc k) l e more = more k (omega arith) e
 

@@ -1,6 +1,7 @@
 -- Scans of texts, part by part.
 use Rattle.std.proofs.Common.{◌≡◌, ◌≢◌, ℕ, List, [], ◌∷◌, ◌++◌, append-nil, append_assoc, Some, None, Result, Err, refl, sym, ap, ◌∙◌, subst}
 use Rattle.std.specs.List.{flat_map}
+use Rattle.std.specs.Option.{option_or}
 use Rattle.syntax_trees.specs.declared.expr.Atom.{Atom}
 use Rattle.syntax_trees.specs.declared.expr.Atom.TheVariants as atom
 use Rattle.syntax_trees.specs.declared.expr.Expr.{Expr}
@@ -20,16 +21,22 @@ use Rattle.check_rules.specs.Source.{Source, Finish, Let, Assign, Do, Choose, Re
 use Rattle.check_rules.proofs.Finds.{sees_none}
 use Rattle.check_rules.proofs.Texts.{declared_append}
 use Rattle.handler_check.specs.Shown.{first_shown, shown}
-use Rattle.handler_check.proofs.Cases.{expr_induction, stmt_cases, marks_leaf, marks_binary, source_let, source_assign, source_call, source_choose, source_repeat, source_reply}
+use Rattle.check_rules.proofs.Statements.{marks_leaf, marks_binary, source_let, source_assign, source_call, source_choose, source_repeat, source_reply}
+use Rattle.handler_check.proofs.Cases.{expr_induction, stmt_cases}
 
 -- ---- faults
 pub or_none : (w : Fault) → or_else w None ≡ w
 or_none None = refl
 or_none (Some e) = refl
 
-or_assoc : (a b c : Fault) → or_else (or_else a b) c ≡ or_else a (or_else b c)
+pub or_assoc : (a b c : Fault) → or_else (or_else a b) c ≡ or_else a (or_else b c)
 or_assoc None b c = refl
 or_assoc (Some e) b c = refl
+
+-- as the program says it
+pub or_is : (a b : Fault) → or_else a b ≡ option_or a b
+or_is None b = refl
+or_is (Some e) b = refl
 
 -- a walk that finds nothing first and goes on, and one that stops
 pub goes_on : {X : Type 0} (whole a b : Fault) (r : Result X CheckRefusal) → whole ≡ or_else a b → a ≡ None → Found b r → Found whole r

@@ -19,8 +19,8 @@ use Rattle.check_rules.specs.Scan.{Fault, or_else, declared_fault, turns_fault, 
 use Rattle.check_rules.specs.Source.{Finish, stmt_source, block_source}
 use Rattle.check_rules.proofs.Texts.{declared_append}
 use Rattle.handler_check.specs.Shown.{first_shown, shown}
-use Rattle.handler_check.proofs.Cases.{marks_binary, source_let, source_assign, source_call, source_choose, source_repeat, source_reply}
-use Rattle.handler_check.proofs.Scans.{scan_append, scan_seeing, declared_seeing, expr_declares, right_declares, call_declares, cond_declares, all_declare, params_declared, scan_stmt, declared_stmt}
+use Rattle.check_rules.proofs.Statements.{marks_binary, source_let, source_assign, source_call, source_choose, source_repeat, source_reply}
+use Rattle.handler_check.proofs.Scans.{or_assoc, scan_append, scan_seeing, declared_seeing, expr_declares, right_declares, call_declares, cond_declares, all_declare, params_declared, scan_stmt, declared_stmt}
 
 -- what is left of a list begins with its next element
 next : {X : Type 0} (xs : List X) (i : ℕ) (x d : X) → i < length xs → x ≡ get_or xs i d → drop i xs ≡ x ∷ drop (i + 1) xs
@@ -78,6 +78,11 @@ kind_end ts i name h = ap (λ (x : List TableDecl). kind_of x name) (drop_all i 
 pub handler_turn : (tables : List TableDecl) (hs : List Handler) (i : ℕ) (x d : Handler) (earlier : List ℕ) → i < length hs → x ≡ get_or hs i d
     → scan_handlers tables earlier (drop i hs) ≡ or_else (declared_fault of_handlers.limit of_handlers.past earlier x.name x.at) (or_else (scan of_variables tables [] [] (handler_marks x)) (scan_handlers tables (earlier ++ x.name ∷ []) (drop (i + 1) hs)))
 handler_turn tables hs i x d earlier h is = ap (scan_handlers tables earlier) (next hs i x d h is)
+
+-- the same, where a handler's name and what stands behind it are looked at together
+pub next_turn : (tables : List TableDecl) (hs : List Handler) (i : ℕ) (x d : Handler) (earlier : List ℕ) → i < length hs → x ≡ get_or hs i d
+    → scan_handlers tables earlier (drop i hs) ≡ or_else (or_else (declared_fault of_handlers.limit of_handlers.past earlier x.name x.at) (scan of_variables tables [] [] (handler_marks x))) (scan_handlers tables (earlier ++ x.name ∷ []) (drop (i + 1) hs))
+next_turn tables hs i x d earlier h is = handler_turn tables hs i x d earlier h is ∙ sym (or_assoc (declared_fault of_handlers.limit of_handlers.past earlier x.name x.at) (scan of_variables tables [] [] (handler_marks x)) (scan_handlers tables (earlier ++ x.name ∷ []) (drop (i + 1) hs)))
 
 pub handler_end : (tables : List TableDecl) (hs : List Handler) (i : ℕ) (earlier : List ℕ) → length hs ≤ i → scan_handlers tables earlier (drop i hs) ≡ None
 handler_end tables hs i earlier h = ap (scan_handlers tables earlier) (drop_all i hs h)

@@ -35,11 +35,11 @@ few_calls f i h a e = no_more 10000 (calls_bound (handler_code f h)) (λ l. a.wi
 pub little_work : (f : File) (i : ℕ) (h : Handler) → IsAccepted f → slice_get f.handlers i ≡ Some h → work_bound (handler_code f h) ≤ 100000
 little_work f i h a e = no_more 100000 (work_bound (handler_code f h)) (λ l. a.within (TooMuchWork h.at) (h, in_file f.handlers i h e, refl, l))
 
-one_at_most : (b : Bool) → (if b then 1 else 0) ≤ 1
+pub one_at_most : (b : Bool) → (if b then 1 else 0) ≤ 1
 one_at_most true = omega arith
 one_at_most false = omega arith
 
-adds_fewer : (t : ℕ) (c : Code) → adds_bound t c ≤ calls_bound c
+pub adds_fewer : (t : ℕ) (c : Code) → adds_bound t c ≤ calls_bound c
 adds_fewer t Finish = omega arith
 adds_fewer t (Move x e rest) = adds_fewer t rest
 adds_fewer t (Ask at p x c rest) = (let a : (if is_adding c.kind && c.table == t then 1 else 0) ≤ 1 = one_at_most (is_adding c.kind && c.table == t) in let b = adds_fewer t rest in omega arith)

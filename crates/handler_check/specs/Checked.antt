@@ -34,6 +34,11 @@ pub record IsKept (f : File) : Type 0 where
   pub accepted : IsAccepted f
   pub bounded : KeepsBounds f
 
+-- the same of a file whose tables have these names
+pub record IsAcceptedWith (f : File) (tables : List ℕ) : Type 0 where
+  pub kept : IsKept f
+  pub names : tables ≡ table_names f
+
 -- the file breaks no rule and keeps its bounds, and these are its handlers and their bounds
 pub record IsChecked (f : File) (handlers : List CheckedHandler)
     (bounds : List HandlerBounds) : Type 0 where

@@ -11,13 +11,16 @@ use Rattle.check_rules.specs.declared.refusal.CheckRefusal.TheVariants.{TooManyC
 use Rattle.check_rules.specs.Scan.{Fault, or_else, fault_if}
 use Rattle.handler_check.specs.Resolved.{IsResolved}
 
+-- a handler with this code, at this place: its calls are looked at before its work
 abbrev pub code_excess : Code → ℕ → Fault
 code_excess code at = or_else (fault_if (nat_lt max_calls (calls_bound code)) (TooManyCalls at))
     (fault_if (nat_lt max_work (work_bound code)) (TooMuchWork at))
 
+-- the same of a resolved handler
 abbrev pub own_excess : CheckedHandler → Fault
 own_excess c = code_excess (block_code c.body) c.at
 
+-- the first of these that may do too much
 abbrev pub excess : List CheckedHandler → Fault
 excess [] = None
 excess (c ∷ cs) = or_else (own_excess c) (excess cs)

@@ -40,9 +40,11 @@ term_step variables (Expr-F.Lit v) = code.Atom (atom_of variables (named.Lit v))
 term_step variables (Expr-F.Name name at) = code.Atom (atom_of variables (named.Name name at))
 term_step variables (Expr-F.Binary calc sides) = code.Calculate calc sides.0 sides.1
 
+-- an expression, whose names are the numbers of variables
 abbrev pub term_of : List ℕ → Expr → code.Term
 term_of variables = fold-Expr code.Term (term_step variables)
 
+-- a condition
 abbrev pub test_of : List ℕ → Cond → code.Test
 test_of variables c = record {
   compare = c.compare;
@@ -55,11 +57,13 @@ abbrev pub key_of : List ℕ → List Named → CheckedAtom
 key_of variables [] = Lit Nil
 key_of variables (a ∷ more) = atom_of variables a
 
+-- the second argument
 abbrev pub value_of : List ℕ → List Named → CheckedAtom
 value_of variables [] = Lit Nil
 value_of variables (a ∷ []) = Lit Nil
 value_of variables (a ∷ b ∷ more) = atom_of variables b
 
+-- an operation, whose table has its number
 abbrev pub call_of : List ℕ → List ℕ → Call → CheckedCall
 call_of tables variables c = record {
   kind = c.kind;

@@ -12,5 +12,6 @@ first_shown (Choose at c a b rest) = []
 first_shown (Repeat at n n_at name name_at body rest) = []
 first_shown (Answer es rest) = []
 
+-- the variable that a statement makes visible, if it makes one
 abbrev pub shown : Stmt → List ℕ
 shown s = first_shown (stmt_source s Finish)

@@ -1,6 +1,6 @@
 // Accepted files.
 
-ghost use Rattle.std.specs.Prelude.{◌≡◌, ◌≢◌, ◌<◌, ◌≤◌, IfOk, MatchResult, Some, length, slice_get};
+ghost use Rattle.std.specs.Prelude.{◌≡◌, ◌≢◌, ◌<◌, IfOk, MatchResult, Some, length, slice_get};
 ghost use Rattle.syntax_trees.specs.declared.file.Handler.{Handler};
 ghost use Rattle.handler_check.specs.Checked.{HandlerWithin};
 ghost use Rattle.handler_check.specs.Checking.{IsAccepted, IsRefusal};
@@ -10,10 +10,11 @@ ghost use Rattle.check_rules.specs.Bounds.{KeepsBounds};
 ghost use Rattle.check_rules.specs.declared.refusal.CheckRefusal.TheVariants as refusal;
 ghost use Rattle.check_rules.specs.FirstFault.{PlacesRise};
 
-use crate::looking::{look, resolve_one};
+use crate::looking::look;
+use crate::resolution::resolve_handler;
 use check_meaning::CheckedHandler;
 use check_rules::CheckRefusal;
-use session_values::NoMemory;
+use session_values::{Listed, NoMemory};
 use std::alloc::Global;
 use std::marker::Model;
 use syntax_trees::File;
@@ -23,13 +24,15 @@ use syntax_trees::File;
 #[derive(Drop)]
 pub struct Accepted {
     file: File,
+    // The names of its tables, in their order.
+    tables: Listed<u32>,
 }
 
 impl Model for Accepted {
     ghost use Rattle.std.specs.Coded.{codes};
     ghost use Rattle.syntax_trees.specs.contracts.stmt.Stmt as stmt;
     ghost use Rattle.syntax_trees.specs.declared.file.File.{File as Tree};
-    ghost use Rattle.handler_check.specs.Checked.{IsKept};
+    ghost use Rattle.handler_check.specs.Checked.{IsAcceptedWith};
 
     ghost Value = { Tree };
 
@@ -37,7 +40,7 @@ impl Model for Accepted {
 
     ghost view = { λ a. a.file };
 
-    ghost invariant = { λ a. IsKept a.file };
+    ghost invariant = { λ a. IsAcceptedWith a.file a.tables };
 }
 
 /// Checks a file as `check` does, handler by handler.
@@ -48,9 +51,12 @@ pub fn accept(alloc: Global, file: File) -> Result<Accepted, CheckRefusal>
     ensures rules { MatchResult result (λ _. IsAccepted file) (λ e. e ≢ refusal.NoMemory
         → IsRefusal file e) }
 {
-    let beyond = look(alloc, &file)?;
-    match beyond {
-        None => Ok(Accepted { file }),
+    let looked = look(alloc, &file)?;
+    match looked.beyond {
+        None => Ok(Accepted {
+            file,
+            tables: looked.tables,
+        }),
         Some(e) => Err(e),
     }
 }
@@ -81,7 +87,9 @@ impl Accepted {
         ensures body { IfOk result (λ c. block_code c.body ≡ code_at self.now h) }
         ensures within { HandlerWithin self.now h }
     {
-        match resolve_one(alloc, &self.file, h) {
+        let declared = self.file.tables.as_slice();
+        let handler = self.file.handlers.get(h);
+        match resolve_handler(alloc, declared, &self.tables, handler) {
             Ok(c) => Ok(c),
             // An accepted file has no fault.
             Err(_) => Err(NoMemory),

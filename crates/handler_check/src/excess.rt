@@ -2,6 +2,7 @@
 
 ghost use Rattle.std.specs.Prelude.{◌≡◌, IfOk};
 ghost use Rattle.std.specs.List.{AllZip};
+ghost use Rattle.std.specs.Result.{result_err};
 ghost use Rattle.handler_check.specs.Checked.{AreBoundsOf};
 ghost use Rattle.handler_check.specs.Excess as spec;
 ghost use Rattle.check_rules.specs.Scan.{Found};
@@ -32,8 +33,10 @@ pub(crate) fn bound_all(
     Ok(listed(found)?)
 }
 
-fn bound_handler(handler: &CheckedHandler) -> Result<HandlerBounds, CheckRefusal>
-    ensures found { Found (spec.own_excess handler.now) result }
+/// The bounds of a handler, or that it may make too many calls, before that its work may be too
+/// much.
+pub(crate) fn bound_handler(handler: &CheckedHandler) -> Result<HandlerBounds, CheckRefusal>
+    ensures excess { result_err result ≡ spec.own_excess handler.now }
     ensures bounds { IfOk result (AreBoundsOf handler.now) }
 {
     let body = handler.body.as_slice();
@@ -46,19 +49,4 @@ fn bound_handler(handler: &CheckedHandler) -> Result<HandlerBounds, CheckRefusal
         return Err(CheckRefusal::TooMuchWork { at: handler.at });
     }
     Ok(HandlerBounds { calls, work })
-}
-
-/// Whether a handler may do too much: that it may make too many calls, before that its work may be
-/// too much.
-pub(crate) fn excess(handler: &CheckedHandler) -> Option<CheckRefusal>
-    ensures { result ≡ spec.own_excess handler.now }
-{
-    let body = handler.body.as_slice();
-    if count_calls(Counted::Every, body) > MAX_CALLS {
-        return Some(CheckRefusal::TooManyCalls { at: handler.at });
-    }
-    if count_work(body) > MAX_WORK {
-        return Some(CheckRefusal::TooMuchWork { at: handler.at });
-    }
-    None
 }

@@ -14,24 +14,27 @@ ghost use Rattle.check_rules.specs.Scan.{Found, of_tables, of_variables, scan};
 pub(crate) use self::names::declare;
 use self::names::declare_variable;
 use self::stmt::find_in_block;
+use crate::resolution::listed;
 use check_rules::CheckRefusal;
 use session_limits::MAX_TABLES;
-use session_values::NoMemory;
+use session_values::{Listed, NoMemory};
 use std::alloc::Global;
 use syntax_trees::{Handler, Param, TableDecl};
 
 /// Finds the first fault among the names of tables; where there is none, the names.
-pub(crate) fn find_in_tables(alloc: Global, tables: &[TableDecl]) -> Result<Vec<u32>, CheckRefusal>
+pub(crate) fn find_in_tables(
+    alloc: Global,
+    tables: &[TableDecl],
+) -> Result<Listed<u32>, CheckRefusal>
     ensures found { Found (scan of_tables [] [] [] (table_marks tables.now)) result }
-    ensures names { IfOk result (λ names. names.items
-        ≡ map (λ (t : TableDecl). t.name) tables.now) }
+    ensures names { IfOk result (λ names. names ≡ map (λ (t : TableDecl). t.name) tables.now) }
 {
     let mut earlier = Vec::new(alloc);
     for table in tables {
         let past = CheckRefusal::TooManyTables { at: table.at };
         declare(&mut earlier, MAX_TABLES, past, table.name, table.at)?;
     }
-    Ok(earlier)
+    Ok(listed(earlier)?)
 }
 
 /// Finds the first fault of a handler; where there is none, the names of its variables.
@@ -39,16 +42,16 @@ pub(crate) fn find_in_handler(
     alloc: Global,
     tables: &[TableDecl],
     handler: &Handler,
-) -> Result<Vec<u32>, CheckRefusal>
+) -> Result<Listed<u32>, CheckRefusal>
     ensures found { Found (scan of_variables tables.now [] [] (handler_marks handler.now)) result }
-    ensures names { IfOk result (λ names. names.items ≡ variables_of handler.now) }
+    ensures names { IfOk result (λ names. names ≡ variables_of handler.now) }
 {
     let params = handler.params.as_slice();
     let mut names = find_in_params(alloc, params)?;
     let mut visible = copied(alloc, names.as_slice())?;
     let body = handler.body.as_slice();
     find_in_block(tables, &mut names, &mut visible, body)?;
-    Ok(names)
+    Ok(listed(names)?)
 }
 
 fn copied(alloc: Global, names: &[u32]) -> Result<Vec<u32>, NoMemory>

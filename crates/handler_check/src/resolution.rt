@@ -2,14 +2,14 @@
 
 mod expr;
 
-ghost use Rattle.std.specs.Prelude.{◌≡◌, ◌≢◌, ◌+◌, ◌<◌, ◌^◌, [], IfOk, MatchResult, OnOk, length};
+ghost use Rattle.std.specs.Prelude.{◌≡◌, ◌≢◌, ◌+◌, ◌++◌, ◌∷◌, [], IfOk, MatchResult, OnOk};
 ghost use Rattle.std.specs.List.{AllZip};
 ghost use Rattle.handler_check.specs.Resolved as spec;
 ghost use Rattle.check_meaning.specs.Code.{Code, Ask, block_code, stmt_code};
 ghost use Rattle.check_rules.specs.declared.refusal.CheckRefusal.TheVariants as refusal;
 ghost use Rattle.check_rules.specs.FirstFault.{IsFirstFault, KeepsRules, PlacesRise};
 ghost use Rattle.check_rules.specs.Marks.{handler_marks};
-ghost use Rattle.check_rules.specs.Scan.{Found, file_fault, of_variables, scan, scan_handlers};
+ghost use Rattle.check_rules.specs.Scan.{Found, declared_fault, file_fault, of_handlers, of_variables, or_else, scan, scan_handlers};
 ghost use Rattle.check_rules.specs.Source.{Source, block_source, stmt_source};
 
 pub(crate) use self::expr::listed;
@@ -39,14 +39,12 @@ fn next_point(points: &mut u32) -> Result<u32, NoMemory>
 }
 
 fn resolve_perform(
-    tables: &[u32],
-    variables: &[u32],
+    tables: &Listed<u32>,
+    variables: &Listed<u32>,
     var: Option<u32>,
     call: &Call,
     points: &mut u32,
 ) -> Result<CheckedStmt, NoMemory>
-    requires tables { length tables.now < 2 ^ 32 }
-    requires variables { length variables.now < 2 ^ 32 }
     ensures code { IfOk result (λ found. (rest : Code) → stmt_code found rest
         ≡ Ask call.now.at points.old var (spec.call_of tables.now variables.now call.now) rest) }
     ensures points { OnOk result (points.new ≡ points.old + 1) }
@@ -63,14 +61,12 @@ fn resolve_perform(
 /// A variable is given its right side.
 fn resolve_store(
     alloc: Global,
-    tables: &[u32],
-    variables: &[u32],
+    tables: &Listed<u32>,
+    variables: &Listed<u32>,
     name: u32,
     right: &Right,
     points: &mut u32,
 ) -> Result<CheckedStmt, NoMemory>
-    requires tables { length tables.now < 2 ^ 32 }
-    requires variables { length variables.now < 2 ^ 32 }
     ensures code { IfOk result (λ found. (rest : Code) → stmt_code found rest
         ≡ spec.stored tables.now variables.now name right.now points.old rest) }
     ensures points { OnOk result (points.new ≡ points.old + spec.right_points right.now) }
@@ -99,13 +95,11 @@ fn counted(turns: u64) -> Result<u32, NoMemory>
 #[cycle(resolution)]
 fn resolve_stmt(
     alloc: Global,
-    tables: &[u32],
-    variables: &[u32],
+    tables: &Listed<u32>,
+    variables: &Listed<u32>,
     s: &Stmt,
     points: &mut u32,
 ) -> Result<CheckedStmt, NoMemory>
-    requires tables { length tables.now < 2 ^ 32 }
-    requires variables { length variables.now < 2 ^ 32 }
     ensures code { IfOk result (λ found. (rest : Source)
         → stmt_code found (spec.code_of tables.now variables.now rest points.new)
         ≡ spec.code_of tables.now variables.now (stmt_source s.now rest) points.old) }
@@ -164,13 +158,11 @@ fn resolve_stmt(
 #[cycle(resolution)]
 fn resolve_block(
     alloc: Global,
-    tables: &[u32],
-    variables: &[u32],
+    tables: &Listed<u32>,
+    variables: &Listed<u32>,
     block: &[Stmt],
     points: &mut u32,
 ) -> Result<CheckedBlock, NoMemory>
-    requires tables { length tables.now < 2 ^ 32 }
-    requires variables { length variables.now < 2 ^ 32 }
     ensures code { IfOk result (λ found. block_code found
         ≡ spec.code_of tables.now variables.now (block_source block.now) points.old) }
     ensures points { OnOk result (points.new
@@ -188,19 +180,17 @@ fn resolve_block(
 pub(crate) fn resolve_handler(
     alloc: Global,
     declared: &[TableDecl],
-    tables: &[u32],
+    tables: &Listed<u32>,
     handler: &Handler,
 ) -> Result<CheckedHandler, CheckRefusal>
-    requires { length tables.now < 2 ^ 32 }
     ensures found { Found (scan of_variables declared.now [] [] (handler_marks handler.now))
         result }
     ensures handler { IfOk result (spec.IsResolved tables.now handler.now) }
 {
-    let names = find_in_handler(alloc, declared, handler)?;
-    let variables = listed(names)?;
+    let variables = find_in_handler(alloc, declared, handler)?;
     let mut points: u32 = 1;
     let source = handler.body.as_slice();
-    let body = resolve_block(alloc, tables, variables.as_slice(), source, &mut points)?;
+    let body = resolve_block(alloc, tables, &variables, source, &mut points)?;
     Ok(CheckedHandler {
         name: handler.name,
         at: handler.at,
@@ -211,23 +201,39 @@ pub(crate) fn resolve_handler(
     })
 }
 
+/// The next handler, behind those that have these names, or its first fault.
+pub(crate) fn resolve_next(
+    alloc: Global,
+    declared: &[TableDecl],
+    tables: &Listed<u32>,
+    earlier: &mut Vec<u32>,
+    handler: &Handler,
+) -> Result<CheckedHandler, CheckRefusal>
+    ensures found { Found (or_else
+        (declared_fault of_handlers.limit of_handlers.past earlier.old.items handler.now.name handler.now.at)
+        (scan of_variables declared.now [] [] (handler_marks handler.now))) result }
+    ensures names { OnOk result (earlier.new.items ≡ earlier.old.items ++ handler.now.name ∷ []) }
+    ensures handler { IfOk result (spec.IsResolved tables.now handler.now) }
+{
+    let past = CheckRefusal::TooManyHandlers { at: handler.at };
+    declare(earlier, MAX_HANDLERS, past, handler.name, handler.at)?;
+    resolve_handler(alloc, declared, tables, handler)
+}
+
 /// All handlers, or the first fault among them.
 fn resolve_handlers(
     alloc: Global,
     declared: &[TableDecl],
-    tables: &[u32],
+    tables: &Listed<u32>,
     handlers: &[Handler],
 ) -> Result<Listed<CheckedHandler>, CheckRefusal>
-    requires { length tables.now < 2 ^ 32 }
     ensures found { Found (scan_handlers declared.now [] handlers.now) result }
     ensures handlers { IfOk result (AllZip (spec.IsResolved tables.now) handlers.now) }
 {
     let mut earlier = Vec::new(alloc);
     let mut found = Vec::new(alloc);
     for handler in handlers {
-        let past = CheckRefusal::TooManyHandlers { at: handler.at };
-        declare(&mut earlier, MAX_HANDLERS, past, handler.name, handler.at)?;
-        let one = resolve_handler(alloc, declared, tables, handler)?;
+        let one = resolve_next(alloc, declared, tables, &mut earlier, handler)?;
         found.push(one)?;
     }
     Ok(listed(found)?)
@@ -239,9 +245,8 @@ fn resolve_file(alloc: Global, file: &File) -> Result<Listed<CheckedHandler>, Ch
         (spec.table_names file.now)) file.now.handlers) }
 {
     let declared = file.tables.as_slice();
-    let names = find_in_tables(alloc, declared)?;
-    let tables = listed(names)?;
-    resolve_handlers(alloc, declared, tables.as_slice(), file.handlers.as_slice())
+    let tables = find_in_tables(alloc, declared)?;
+    resolve_handlers(alloc, declared, &tables, file.handlers.as_slice())
 }
 
 /// The resolved handlers of a file, in its order, or the first place where it breaks a rule on

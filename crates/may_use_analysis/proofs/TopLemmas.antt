@@ -1,6 +1,6 @@
 -- The lists of a whole handler, and of a file.
 use Rattle.std.proofs.Common.{◌≡◌, ℕ, zero, suc, refl, ◌+◌, ◌-◌, ◌<◌, ◌≤◌, List, [], ◌∷◌, ◌++◌, length, map, get_or, sym, ap, ◌∙◌, subst, inl, inr, ◌⊎◌, Contains, arith, length-append}
-use Rattle.std.specs.Prelude.{Some, None, slice_get, slice_index_or}
+use Rattle.std.specs.Prelude.{◌≢◌, Some, None, slice_get, slice_index_or}
 use Rattle.std.proofs.Math.ListN.{get_or-map}
 use Rattle.std.proofs.Math.Seq.{get_or-append_seam}
 use Rattle.std.proofs.lemmas.Bool.{cases_lt, cases_order}
@@ -20,7 +20,7 @@ use Rattle.may_use_analysis.specs.declared.refusal.AnalysisRefusal.TheVariants.{
 use Rattle.may_use_analysis.specs.Trails.{Symbols, LaterAt}
 use Rattle.may_use_analysis.specs.Flow.{Flow, FlowPoint}
 use Rattle.may_use_analysis.specs.Later.{IsLaterList, HasLists, HasLater, AreLater, places_in, places_at, IsShort, IsBefore, IsExcess, IsTooMany}
-use Rattle.may_use_analysis.specs.Numbered.{point_list_at, by_number, ArePointLists, AreShortBelow, IsFirstExcess}
+use Rattle.may_use_analysis.specs.Numbered.{point_list_at, by_number, ArePointLists, AreShortBelow, IsFirstExcess, IsTooLong}
 use Rattle.may_use_analysis.specs.Ordered.{Lists}
 use Rattle.may_use_analysis.specs.Places.{places}
 use Rattle.may_use_analysis.specs.Recorded.{Recorded}
@@ -148,13 +148,13 @@ module _ (code : Code) (kept : List PointList) (are : ArePointLists code kept) w
 
 -- ---- files
 
-pub place_is : (f : File) (h : ℕ) (source : Handler) (c : CheckedHandler) → slice_get f.handlers h ≡ Some source → IsResolved (table_names f) source c → block_code c.body ≡ code_at f h → c.at ∷ places (block_code c.body) ≡ places_at f h
+place_is : (f : File) (h : ℕ) (source : Handler) (c : CheckedHandler) → slice_get f.handlers h ≡ Some source → IsResolved (table_names f) source c → block_code c.body ≡ code_at f h → c.at ∷ places (block_code c.body) ≡ places_at f h
 place_is f h source c e r b =
     ap (λ (z : ℕ). z ∷ places (block_code c.body)) r.at
     ∙ ap (λ (z : Code). source.at ∷ places z) (b ∙ ap (code_in f) e)
     ∙ sym (ap (places_in f) e)
 
-pub excess_found : (f : File) (h at : ℕ) (kept : List PointList) (e : Excess) (lists : ℕ → List (List Symbol)) → h < length f.handlers → ArePointLists (code_at f h) kept → IsFirstExcess kept (Some e) → slice_get (places_at f h) e.point ≡ Some at → ((k : ℕ) → k < h → HasLists (code_at f k) (lists k)) → IsExcess f at e.count
+excess_found : (f : File) (h at : ℕ) (kept : List PointList) (e : Excess) (lists : ℕ → List (List Symbol)) → h < length f.handlers → ArePointLists (code_at f h) kept → IsFirstExcess kept (Some e) → slice_get (places_at f h) e.point ≡ Some at → ((k : ℕ) → k < h → HasLists (code_at f k) (lists k)) → IsExcess f at e.count
 excess_found f h at kept e lists inside are found place before =
     let code = code_at f h in
     let lt : e.point < 1 + points code = omega (arith, found.0, are.count) in
@@ -233,6 +233,14 @@ same_later f a b x y =
 pub some_at : {X : Type 0} (xs : List X) (i : ℕ) → i < length xs → (x : X) × (slice_get xs i ≡ Some x)
 some_at [] i lt = absurd (omega arith)
 some_at (x ∷ xs) i lt = (get_or (x ∷ xs) i x, slice_get-get_or (x ∷ xs) i x lt)
+
+-- the first point of a handler that has too many symbols is that of the file, where the handlers before it have lists
+pub long_found : (f : File) (h : ℕ) (c : CheckedHandler) (e : AnalysisRefusal) (lists : ℕ → List (List Symbol)) → h < length f.handlers → ((source : Handler) → slice_get f.handlers h ≡ Some source → IsResolved (table_names f) source c) → block_code c.body ≡ code_at f h → ((k : ℕ) → k < h → HasLists (code_at f k) (lists k)) → IsTooLong c e → e ≢ NoMemory → IsTooMany f e
+long_found f h c NoMemory lists inside resolved body before long some = absurd (some refl)
+long_found f h c (TooManySymbols at count) lists inside resolved body before long some =
+    let source = some_at f.handlers h inside in
+    let place = place_is f h source.0 c source.1 (resolved source.0 source.1) body in
+    subst (IsExcess f at) (sym long.count_is) (excess_found f h at long.kept long.excess lists inside (subst (λ (z : Code). ArePointLists z long.kept) body long.lists) long.first (subst (λ (z : List ℕ). slice_get z long.excess.point ≡ Some at) place long.place) before)
 
 module _ {X : Type 0} (see : X → List (List Symbol)) (d : X) (f : File) where
   pub more_lists : (items new : List X) (lists : X) (h : ℕ) → length items ≡ h → new ≡ items ++ lists ∷ [] → ((k : ℕ) → k < h → HasLists (code_at f k) (see (get_or items k d))) → HasLists (code_at f h) (see lists) → (k : ℕ) → k < h + 1 → HasLists (code_at f k) (see (get_or new k d))

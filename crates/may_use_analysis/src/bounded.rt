@@ -4,9 +4,8 @@ ghost use Rattle.std.specs.Prelude.{◌≢◌, MatchResult};
 ghost use Rattle.may_use_analysis.specs.declared.refusal.AnalysisRefusal.TheVariants as refusal;
 ghost use Rattle.may_use_analysis.specs.Later.{HasLater, IsTooMany};
 
-use crate::handler::{first_excess, handler_lists};
+use crate::handler::short_lists;
 use crate::kept::Keeping;
-use crate::places::place_of;
 use crate::refusal::AnalysisRefusal;
 use handler_check::Accepted;
 use std::alloc::Global;
@@ -19,15 +18,7 @@ pub fn bound_later_sets(alloc: Global, accepted: &Accepted) -> Result<(), Analys
 {
     for h in 0..accepted.handlers() {
         let handler = accepted.resolved(alloc, h)?;
-        let lists = handler_lists(alloc, &handler, Keeping::Counts)?;
-        match first_excess(&lists) {
-            None => {}
-            Some(excess) => {
-                let at = place_of(alloc, &handler, excess.point)?;
-                let count = excess.count;
-                return Err(AnalysisRefusal::TooManySymbols { at, count });
-            }
-        }
+        short_lists(alloc, &handler, Keeping::Counts)?;
     }
     Ok(())
 }

@@ -5,9 +5,8 @@ ghost use Rattle.may_use_analysis.specs.declared.refusal.AnalysisRefusal.TheVari
 ghost use Rattle.may_use_analysis.specs.Later.{AreLater, IsTooMany};
 ghost use Rattle.may_use_analysis.specs.Own.{AreOfHandlers};
 
-use crate::handler::{first_excess, handler_lists};
+use crate::handler::short_lists;
 use crate::kept::{Keeping, PointLists};
-use crate::places::place_of;
 use crate::refusal::AnalysisRefusal;
 use handler_check::Checked;
 use std::alloc::Global;
@@ -44,19 +43,11 @@ pub fn later_sets(alloc: Global, checked: &Checked) -> Result<Later, AnalysisRef
     let _file = checked.file();
     let mut handlers = Vec::new(alloc);
     for h in 0..checked.handlers() {
-        let handler = checked.handler(h);
-        let lists = handler_lists(alloc, handler, Keeping::Lists)?;
+        let lists = short_lists(alloc, checked.handler(h), Keeping::Lists)?;
         if !lists.are_kept() {
             return Err(AnalysisRefusal::NoMemory);
         }
-        match first_excess(&lists) {
-            None => handlers.push(lists)?,
-            Some(excess) => {
-                let at = place_of(alloc, handler, excess.point)?;
-                let count = excess.count;
-                return Err(AnalysisRefusal::TooManySymbols { at, count });
-            }
-        }
+        handlers.push(lists)?;
     }
     Ok(Later { handlers })
 }

@@ -12,21 +12,25 @@ use Rattle.serve_reading.specs.Sessions.{IsSessionInput}
 use Rattle.serve_reading.specs.declared.unserved.Unserved.{Unserved}
 use Rattle.serve_reading.specs.declared.unserved.Unserved.TheVariants.{Refused, NoMemory}
 
+-- why a text is no file
 abbrev pub IsSyntaxReason : List ℕ → Unserved → Type 0
 IsSyntaxReason text NoMemory = Unit {0}
 IsSyntaxReason text (Refused (fault.Syntax e)) = HasSyntaxFault text e
 IsSyntaxReason text (Refused e) = ⊥
 
+-- why a file isn't accepted
 abbrev pub IsCheckReason : File → Unserved → Type 0
 IsCheckReason file NoMemory = Unit {0}
 IsCheckReason file (Refused (fault.Check e)) = IsRefusal file e
 IsCheckReason file (Refused e) = ⊥
 
+-- why an accepted file has no lists
 abbrev pub IsAnalysisReason : File → Unserved → Type 0
 IsAnalysisReason file NoMemory = Unit {0}
 IsAnalysisReason file (Refused (fault.Analysis e)) = IsTooMany file e
 IsAnalysisReason file (Refused e) = ⊥
 
+-- why a file that was read has no text to print
 abbrev pub IsFileReason : File → Unserved → Type 0
 IsFileReason file NoMemory = Unit {0}
 IsFileReason file (Refused (fault.Check e)) = IsRefusal file e

@@ -18,3 +18,4 @@ pub mod Fits
 pub mod FitsFile
 pub mod SomeFile
 pub mod Taken
+pub mod OneMore

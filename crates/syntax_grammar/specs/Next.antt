@@ -47,6 +47,7 @@ abbrev pub name_row : Sort → Option (List Part)
 name_row (sort.Name n) = Some []
 name_row _ = None
 
+-- a mark takes one given word
 abbrev pub mark_row : Sort → Sort → Option (List Part)
 mark_row sort.Semicolon sort.Semicolon = Some []
 mark_row sort.Assign sort.Assign = Some []

@@ -167,15 +167,19 @@ pub data FilePhrase : Type 0 where
 abbrev pub word : Sort → ℕ → Word
 word s at = record { sort = s; at = at }
 
+-- a name
 abbrev pub name_words : NamePhrase → List Word → List Word
 name_words (named n p) rest = word (sort.Name n) p ∷ rest
 
+-- one given word
 abbrev pub mark_words : Sort → ℕ → List Word → List Word
 mark_words s p rest = word s p ∷ rest
 
+-- a number
 abbrev pub number_words : NumberPhrase → List Word → List Word
 number_words (digits v p) rest = word (sort.Number v) p ∷ rest
 
+-- a value that stands alone
 abbrev pub atom_words : AtomPhrase → List Word → List Word
 atom_words (name_atom n p) rest = word (sort.Name n) p ∷ rest
 atom_words (nil_atom p) rest = word sort.Nil p ∷ rest
@@ -208,9 +212,11 @@ abbrev pub atoms_words : MoreAtoms → List Word → List Word
 atoms_words no_atom rest = rest
 atoms_words (more_atom p a xs) rest = word sort.Comma p ∷ atom_words a (atoms_words xs rest)
 
+-- the arguments behind an operation's table
 abbrev pub arguments_words : ArgumentsPhrase → List Word → List Word
 arguments_words xs rest = atoms_words xs.atoms rest
 
+-- what stands behind the word of an operation
 abbrev pub operands_words : OperandsPhrase → List Word → List Word
 operands_words (operands l t xs r) rest = word sort.LeftParen l ∷ name_words t
     (arguments_words xs (word sort.RightParen r ∷ rest))
@@ -218,6 +224,7 @@ operands_words (operands l t xs r) rest = word sort.LeftParen l ∷ name_words t
 abbrev pub call_words : CallPhrase → List Word → List Word
 call_words (a_call k p o) rest = word (sort.Do k) p ∷ operands_words o rest
 
+-- what stands behind `=`
 abbrev pub right_words : RightPhrase → List Word → List Word
 right_words (result_right c) rest = call_words c rest
 right_words (plain_right e) rest = expr_words e rest
@@ -226,9 +233,11 @@ right_words (plain_right e) rest = expr_words e rest
 abbrev pub compare_words : Compare × ℕ → List Word → List Word
 compare_words c rest = word (sort.Compare c.0) c.1 ∷ rest
 
+-- two expressions with a comparison between them
 abbrev pub cond_words : CondPhrase → List Word → List Word
 cond_words (a_cond a c p b) rest = expr_words a (word (sort.Compare c) p ∷ expr_words b rest)
 
+-- what stands between `repeat` and its block
 abbrev pub turns_words : TurnsPhrase → List Word → List Word
 turns_words (a_turns d a n) rest = number_words d (word sort.As a ∷ name_words n rest)
 
@@ -236,6 +245,7 @@ abbrev pub more_words : MoreValues → List Word → List Word
 more_words no_value rest = rest
 more_words (more_value p e vs) rest = word sort.Comma p ∷ expr_words e (more_words vs rest)
 
+-- the values of a reply
 abbrev pub values_words : ValuesPhrase → List Word → List Word
 values_words v rest = expr_words v.first (more_words v.more rest)
 
@@ -269,25 +279,31 @@ more_params_words no_more rest = rest
 more_params_words (more_param p n ns) rest = word sort.Comma p ∷ name_words n
     (more_params_words ns rest)
 
+-- a parameter, and those behind it
 abbrev pub some_params_words : SomeParams → List Word → List Word
 some_params_words ps rest = name_words ps.first (more_params_words ps.more rest)
 
+-- the parameters of a handler
 abbrev pub params_words : ParamsPhrase → List Word → List Word
 params_words no_param rest = rest
 params_words (some_params ps) rest = some_params_words ps rest
 
+-- a handler
 abbrev pub handler_words : HandlerPhrase → List Word → List Word
 handler_words (a_handler p n l ps r b) rest = word sort.Handler p ∷ name_words n
     (word sort.LeftParen l ∷ params_words ps (word sort.RightParen r ∷ block_words b rest))
 
+-- handlers
 abbrev pub handlers_words : HandlersPhrase → List Word → List Word
 handlers_words no_handler rest = rest
 handlers_words (more_handlers h hs) rest = handler_words h (handlers_words hs rest)
 
+-- a table
 abbrev pub table_words : TablePhrase → List Word → List Word
 table_words (a_table k p n e) rest = word (sort.Table k) p ∷ name_words n
     (word sort.Semicolon e ∷ rest)
 
+-- tables
 abbrev pub tables_words : TablesPhrase → List Word → List Word
 tables_words no_table rest = rest
 tables_words (more_tables t ts) rest = table_words t (tables_words ts rest)

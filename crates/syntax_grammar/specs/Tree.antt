@@ -36,9 +36,11 @@ minus_ℕ (suc n) = negsuc n
 abbrev pub number_of : NumberPhrase → ℤ
 number_of (digits v p) = pos v
 
+-- the number behind a minus
 abbrev pub negative_of : NumberPhrase → ℤ
 negative_of (digits v p) = minus_ℕ v
 
+-- a value that stands alone
 abbrev pub atom_tree : AtomPhrase → Atom
 atom_tree (name_atom n p) = atom.Name n p
 atom_tree (nil_atom p) = atom.Lit value.Nil
@@ -71,9 +73,11 @@ abbrev pub atoms_trees : MoreAtoms → List Atom
 atoms_trees no_atom = []
 atoms_trees (more_atom p a xs) = atom_tree a ∷ atoms_trees xs
 
+-- the arguments of an operation
 abbrev pub arguments_trees : ArgumentsPhrase → List Atom
 arguments_trees xs = atoms_trees xs.atoms
 
+-- an operation of this kind at this place, by what stands behind its word
 abbrev pub call_of : Kind → ℕ → OperandsPhrase → Call
 call_of k p (operands l t xs r) = record {
   kind = k;
@@ -86,13 +90,16 @@ call_of k p (operands l t xs r) = record {
 abbrev pub call_tree : CallPhrase → Call
 call_tree (a_call k p o) = call_of k p o
 
+-- what a variable is given
 abbrev pub right_tree : RightPhrase → Right
 right_tree (result_right c) = right.Result (call_tree c)
 right_tree (plain_right e) = right.Plain (expr_tree e)
 
+-- a condition
 abbrev pub cond_tree : CondPhrase → Cond
 cond_tree (a_cond a c p b) = record { compare = c; left = expr_tree a; right = expr_tree b }
 
+-- how often a repeat runs, and its variable
 abbrev pub turns_of : TurnsPhrase → Turns
 turns_of (a_turns d a n) = record {
   turns = (count_of d).0;
@@ -105,6 +112,7 @@ abbrev pub more_trees : MoreValues → List Expr
 more_trees no_value = []
 more_trees (more_value p e vs) = expr_tree e ∷ more_trees vs
 
+-- the values of a reply
 abbrev pub values_trees : ValuesPhrase → List Expr
 values_trees v = expr_tree v.first ∷ more_trees v.more
 
@@ -138,13 +146,16 @@ abbrev pub more_params_trees : MoreParams → List Param
 more_params_trees no_more = []
 more_params_trees (more_param p n ns) = param_of n ∷ more_params_trees ns
 
+-- a parameter, and those behind it
 abbrev pub some_params_trees : SomeParams → List Param
 some_params_trees ps = param_of ps.first ∷ more_params_trees ps.more
 
+-- the parameters of a handler
 abbrev pub params_trees : ParamsPhrase → List Param
 params_trees no_param = []
 params_trees (some_params ps) = some_params_trees ps
 
+-- a handler
 abbrev pub handler_tree : HandlerPhrase → Handler
 handler_tree (a_handler p n l ps r b) =
     record {
@@ -154,16 +165,20 @@ handler_tree (a_handler p n l ps r b) =
       body = block_trees b;
     }
 
+-- handlers
 abbrev pub handlers_trees : HandlersPhrase → List Handler
 handlers_trees no_handler = []
 handlers_trees (more_handlers h hs) = handler_tree h ∷ handlers_trees hs
 
+-- a table
 abbrev pub table_tree : TablePhrase → TableDecl
 table_tree (a_table k p n e) = record { kind = k; name = (name_of n).0; at = (name_of n).1 }
 
+-- tables
 abbrev pub tables_trees : TablesPhrase → List TableDecl
 tables_trees no_table = []
 tables_trees (more_tables t ts) = table_tree t ∷ tables_trees ts
 
+-- a whole file
 abbrev pub file_tree : FilePhrase → File
 file_tree (a_file ts hs) = record { tables = tables_trees ts; handlers = handlers_trees hs }

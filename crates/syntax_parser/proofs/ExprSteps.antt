@@ -15,7 +15,7 @@ use Rattle.syntax_grammar.specs.Bounds.{operator_signs, where_over}
 use Rattle.syntax_grammar.specs.Next.{Part, row, broken, Opened, expression, operand, more_factors, more_terms, an_atom, fault}
 use Rattle.syntax_grammar.specs.Phrase.{word, expr_words}
 use Rattle.syntax_grammar.specs.Tree.{expr_tree}
-use Rattle.syntax_parser.specs.Reads.{Refused, Passed, Reads}
+use Rattle.syntax_parser.specs.Reads.{Refused, Passed, Outcome}
 use Rattle.syntax_grammar.proofs.Taken.{expression_same}
 use Rattle.syntax_parser.proofs.Steps.{in_front, refused_is, refused_limit}
 
@@ -39,7 +39,7 @@ passed_atom U ps qs a b off f = record {
 pub refused_atom : (U : List Part → Type 0) (ps : List Part) (a : Input) (e : SyntaxRefusal) → ((first_word a.reader.end a.reader.words).sort ≡ sort.LeftParen → ⊥) → Refused U (an_atom ∷ ps) a e → Refused U (operand ∷ ps) a e
 refused_atom U ps a e off f = record { fault_is = λ under h. operand_same a.reader.end (ps ++ under) a.signs a.reader.words off ∙ f.fault_is under h }
 
-pub whole_reads : (a b : Input) (r : Result Expr SyntaxRefusal) → Reads expr_words expr_tree (Opened 0) (operand ∷ more_factors ∷ more_terms ∷ []) [] (record a { signs = 0 }) r b → Reads expr_words expr_tree (Opened 0) (expression ∷ []) [] a r b
+pub whole_reads : (a b : Input) (r : Result Expr SyntaxRefusal) → Outcome expr_words expr_tree (Opened 0) (operand ∷ more_factors ∷ more_terms ∷ []) [] (record a { signs = 0 }) r b → Outcome expr_words expr_tree (Opened 0) (expression ∷ []) [] a r b
 whole_reads a b (Ok v) f = (
   f.0,
   record {

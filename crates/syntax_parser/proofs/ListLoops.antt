@@ -10,7 +10,7 @@ use Rattle.syntax_parser.specs.declared.input.Input.{Input}
 use Rattle.syntax_grammar.specs.Next.{Anywhere, Inside, statements, a_name, more_params, handlers, tables}
 use Rattle.syntax_grammar.specs.Phrase.{word, NamePhrase, name_words, StmtPhrase, StmtsPhrase, no_stmt, more_stmts, stmt_words, stmts_words, MoreParams, no_more, more_param, more_params_words, HandlerPhrase, HandlersPhrase, no_handler, more_handlers, handler_words, handlers_words, TablePhrase, TablesPhrase, no_table, more_tables, table_words, tables_words}
 use Rattle.syntax_grammar.specs.Tree.{stmt_tree, stmts_trees, param_of, more_params_trees, handler_tree, handlers_trees, table_tree, tables_trees}
-use Rattle.syntax_parser.specs.Reads.{Passed}
+use Rattle.syntax_parser.specs.Reads.{NamesStay, Passed}
 
 -- ---- the statements of a block
 
@@ -20,8 +20,7 @@ pub record StatementsSoFar (depth : ℕ) (start now : Input) (items : List Stmt)
   pub value : items ≡ stmts_trees so_far
   pub room : length items + length now.reader.words ≤ length start.reader.words
   pub passed : Passed (Inside depth) (statements ∷ []) (statements ∷ []) start now
-  pub names : now.reader.names ≡ start.reader.names
-  pub grown : start.reader.count ≤ now.reader.count
+  pub kept : NamesStay start.reader now.reader
 
 pub and_stmt : StmtsPhrase → StmtPhrase → StmtsPhrase
 and_stmt no_stmt s = more_stmts s no_stmt
@@ -46,8 +45,7 @@ pub record ParamsSoFar (start now : Input) (items : List Param) : Type 0 where
   pub value : items ≡ param_of first ∷ more_params_trees more
   pub room : length items + length now.reader.words ≤ length start.reader.words
   pub passed : Passed Anywhere (a_name ∷ more_params ∷ []) (more_params ∷ []) start now
-  pub names : now.reader.names ≡ start.reader.names
-  pub grown : start.reader.count ≤ now.reader.count
+  pub kept : NamesStay start.reader now.reader
 
 pub and_param : MoreParams → ℕ → NamePhrase → MoreParams
 and_param no_more p n = more_param p n no_more
@@ -71,8 +69,7 @@ pub record HandlersSoFar (start now : Input) (items : List Handler) : Type 0 whe
   pub value : items ≡ handlers_trees so_far
   pub room : length items + length now.reader.words ≤ length start.reader.words
   pub passed : Passed (Inside 0) (handlers ∷ []) (handlers ∷ []) start now
-  pub names : now.reader.names ≡ start.reader.names
-  pub grown : start.reader.count ≤ now.reader.count
+  pub kept : NamesStay start.reader now.reader
 
 pub and_handler : HandlersPhrase → HandlerPhrase → HandlersPhrase
 and_handler no_handler h = more_handlers h no_handler
@@ -96,8 +93,7 @@ pub record TablesSoFar (start now : Input) (items : List TableDecl) : Type 0 whe
   pub value : items ≡ tables_trees so_far
   pub room : length items + length now.reader.words ≤ length start.reader.words
   pub passed : Passed Anywhere (tables ∷ []) (tables ∷ []) start now
-  pub names : now.reader.names ≡ start.reader.names
-  pub grown : start.reader.count ≤ now.reader.count
+  pub kept : NamesStay start.reader now.reader
 
 pub and_table : TablesPhrase → TablePhrase → TablesPhrase
 and_table no_table t = more_tables t no_table

@@ -5,13 +5,11 @@ use Rattle.syntax_trees.specs.declared.expr.Atom.{Atom}
 use Rattle.syntax_tokens.specs.declared.word.Word.{Word}
 use Rattle.syntax_tokens.specs.declared.word.Sort.TheVariants as sort
 use Rattle.syntax_trees.specs.declared.expr.Expr.{Expr}
-use Rattle.syntax_trees.specs.declared.expr.Expr.TheVariants as expr
-use Rattle.syntax_trees.specs.declared.expr.Calc.TheVariants as calc
 use Rattle.syntax_parser.specs.declared.input.Input.{Input}
 use Rattle.syntax_grammar.specs.Next.{Anywhere, Opened, an_atom, more_arguments, expression, more_values, operand, more_factors, more_terms}
-use Rattle.syntax_grammar.specs.Phrase.{word, AtomPhrase, atom_words, MoreAtoms, no_atom, more_atom, atom_count, atoms_words, ExprPhrase, expr_words, MoreValues, no_value, more_value, value_count, more_words, FactorPhrase, MoreFactors, no_factor, times, TermPhrase, MoreTerms, no_term, plus, minus, factor_words, factors_words, term_words, terms_words}
+use Rattle.syntax_grammar.specs.Phrase.{word, AtomPhrase, atom_words, MoreAtoms, no_atom, more_atom, atom_count, atoms_words, ExprPhrase, expr_words, MoreValues, no_value, more_value, value_count, more_words, FactorPhrase, MoreFactors, TermPhrase, MoreTerms, factor_words, factors_words, term_words, terms_words}
 use Rattle.syntax_grammar.specs.Tree.{atom_tree, atoms_trees, expr_tree, more_trees, factor_tree, factors_tree, term_tree, terms_tree}
-use Rattle.syntax_parser.specs.Reads.{Passed}
+use Rattle.syntax_parser.specs.Reads.{NamesStay, Passed}
 use Rattle.syntax_parser.proofs.Steps.{took_seen, passed_then, passed_one}
 
 -- ---- the factors of a term
@@ -22,22 +20,7 @@ pub record FactorsSoFar (opened : ℕ) (start now : Input) (left : Expr) : Type 
   pub read : start.reader.words ≡ factor_words first (factors_words more now.reader.words)
   pub value : left ≡ factors_tree more (factor_tree first)
   pub passed : Passed (Opened opened) (operand ∷ more_factors ∷ []) (more_factors ∷ []) start now
-  pub names : now.reader.names ≡ start.reader.names
-  pub grown : start.reader.count ≤ now.reader.count
-
-pub and_factor : MoreFactors → ℕ → FactorPhrase → MoreFactors
-and_factor no_factor p g = times p g no_factor
-and_factor (times q f fs) p g = times q f (and_factor fs p g)
-
-pub and_factor-words : (fs : MoreFactors) (p : ℕ) (g : FactorPhrase) (rest : List Word) → factors_words (and_factor fs p g) rest ≡ factors_words fs (word sort.Times p ∷ factor_words g rest)
-unfolding and_factor
-and_factor-words no_factor p g rest = refl
-and_factor-words (times q f fs) p g rest = ap (λ l. word sort.Times q ∷ factor_words f l) (and_factor-words fs p g rest)
-
-pub and_factor-tree : (fs : MoreFactors) (p : ℕ) (g : FactorPhrase) (left : Expr) → factors_tree (and_factor fs p g) left ≡ expr.Binary calc.Times (factors_tree fs left, factor_tree g)
-unfolding and_factor
-and_factor-tree no_factor p g left = refl
-and_factor-tree (times q f fs) p g left = and_factor-tree fs p g (expr.Binary calc.Times (left, factor_tree f))
+  pub kept : NamesStay start.reader now.reader
 
 -- ---- the terms of an expression
 
@@ -47,42 +30,7 @@ pub record TermsSoFar (opened : ℕ) (start now : Input) (left : Expr) : Type 0 
   pub read : start.reader.words ≡ term_words first (terms_words more now.reader.words)
   pub value : left ≡ terms_tree more (term_tree first)
   pub passed : Passed (Opened opened) (operand ∷ more_factors ∷ more_terms ∷ []) (more_terms ∷ []) start now
-  pub names : now.reader.names ≡ start.reader.names
-  pub grown : start.reader.count ≤ now.reader.count
-
-pub and_plus : MoreTerms → ℕ → TermPhrase → MoreTerms
-and_plus no_term p t = plus p t no_term
-and_plus (plus q s ts) p t = plus q s (and_plus ts p t)
-and_plus (minus q s ts) p t = minus q s (and_plus ts p t)
-
-pub and_minus : MoreTerms → ℕ → TermPhrase → MoreTerms
-and_minus no_term p t = minus p t no_term
-and_minus (plus q s ts) p t = plus q s (and_minus ts p t)
-and_minus (minus q s ts) p t = minus q s (and_minus ts p t)
-
-pub and_plus-words : (ts : MoreTerms) (p : ℕ) (t : TermPhrase) (rest : List Word) → terms_words (and_plus ts p t) rest ≡ terms_words ts (word sort.Plus p ∷ term_words t rest)
-unfolding and_plus
-and_plus-words no_term p t rest = refl
-and_plus-words (plus q s ts) p t rest = ap (λ l. word sort.Plus q ∷ term_words s l) (and_plus-words ts p t rest)
-and_plus-words (minus q s ts) p t rest = ap (λ l. word sort.Minus q ∷ term_words s l) (and_plus-words ts p t rest)
-
-pub and_minus-words : (ts : MoreTerms) (p : ℕ) (t : TermPhrase) (rest : List Word) → terms_words (and_minus ts p t) rest ≡ terms_words ts (word sort.Minus p ∷ term_words t rest)
-unfolding and_minus
-and_minus-words no_term p t rest = refl
-and_minus-words (plus q s ts) p t rest = ap (λ l. word sort.Plus q ∷ term_words s l) (and_minus-words ts p t rest)
-and_minus-words (minus q s ts) p t rest = ap (λ l. word sort.Minus q ∷ term_words s l) (and_minus-words ts p t rest)
-
-pub and_plus-tree : (ts : MoreTerms) (p : ℕ) (t : TermPhrase) (left : Expr) → terms_tree (and_plus ts p t) left ≡ expr.Binary calc.Plus (terms_tree ts left, term_tree t)
-unfolding and_plus
-and_plus-tree no_term p t left = refl
-and_plus-tree (plus q s ts) p t left = and_plus-tree ts p t (expr.Binary calc.Plus (left, term_tree s))
-and_plus-tree (minus q s ts) p t left = and_plus-tree ts p t (expr.Binary calc.Minus (left, term_tree s))
-
-pub and_minus-tree : (ts : MoreTerms) (p : ℕ) (t : TermPhrase) (left : Expr) → terms_tree (and_minus ts p t) left ≡ expr.Binary calc.Minus (terms_tree ts left, term_tree t)
-unfolding and_minus
-and_minus-tree no_term p t left = refl
-and_minus-tree (plus q s ts) p t left = and_minus-tree ts p t (expr.Binary calc.Plus (left, term_tree s))
-and_minus-tree (minus q s ts) p t left = and_minus-tree ts p t (expr.Binary calc.Minus (left, term_tree s))
+  pub kept : NamesStay start.reader now.reader
 
 -- ---- the arguments of an operation
 
@@ -93,8 +41,7 @@ pub record ArgumentsSoFar (turn : ℕ) (start now : Input) (items : List Atom) :
   pub value : items ≡ atoms_trees so_far
   pub long : length items ≡ turn
   pub passed : Passed Anywhere (more_arguments 2 ∷ []) (more_arguments (2 - turn) ∷ []) start now
-  pub names : now.reader.names ≡ start.reader.names
-  pub grown : start.reader.count ≤ now.reader.count
+  pub kept : NamesStay start.reader now.reader
 
 pub and_atom : MoreAtoms → ℕ → AtomPhrase → MoreAtoms
 and_atom no_atom p a = more_atom p a no_atom
@@ -136,8 +83,7 @@ pub record ValuesSoFar (turn : ℕ) (start now : Input) (items : List Expr) : Ty
   pub value : items ≡ expr_tree first ∷ more_trees more
   pub long : length items ≡ turn + 1
   pub passed : Passed (Opened 0) (expression ∷ more_values 3 ∷ []) (more_values (3 - turn) ∷ []) start now
-  pub names : now.reader.names ≡ start.reader.names
-  pub grown : start.reader.count ≤ now.reader.count
+  pub kept : NamesStay start.reader now.reader
 
 pub and_value : MoreValues → ℕ → ExprPhrase → MoreValues
 and_value no_value p a = more_value p a no_value

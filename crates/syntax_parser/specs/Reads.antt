@@ -1,8 +1,9 @@
 -- What a function of the parser does to its input. Only this crate's own functions cite it.
-use Rattle.std.specs.Prelude.{◌≡◌, ◌≢◌, ◌≤◌, length, List, ◌++◌, Option, Some, Result, Ok, Err}
+use Rattle.std.specs.Prelude.{◌≡◌, ◌≢◌, ◌≤◌, ◌<◌, length, List, [], ◌∷◌, ◌++◌, Option, Some, Result, Ok, Err, OnOk}
 use Rattle.std.specs.List.{AllByRecursion}
 use Rattle.syntax_tokens.specs.declared.word.Sort.TheVariants as sort
 use Rattle.syntax_tokens.specs.declared.word.Word.{Word}
+use Rattle.syntax_tokens.specs.Reading.{Reading}
 use Rattle.syntax_parser.specs.declared.input.Input.{Input}
 use Rattle.syntax_grammar.specs.declared.refusals.SyntaxRefusal.{SyntaxRefusal}
 use Rattle.syntax_grammar.specs.declared.refusals.SyntaxRefusal.TheVariants.{NoMemory}
@@ -37,8 +38,29 @@ pub record Found {P T : Type 0} (words : P → List Word → List Word) (tree : 
   pub value : t ≡ tree phrase
 
 -- the tree of a phrase whose words were read, or the first fault
-abbrev pub Reads : {P T : Type 0} → (P → List Word → List Word) → (P → T) → (List Part → Type 0)
-    → List Part → List Part → Input → Result T SyntaxRefusal → Input → Type 0
-Reads words tree U ps qs old (Ok t) new = Found words tree old.reader.words new.reader.words t
-    × Passed U ps qs old new
-Reads words tree U ps qs old (Err e) new = e ≢ NoMemory → Refused U ps old e
+abbrev pub Outcome : {P T : Type 0} → (P → List Word → List Word) → (P → T)
+    → (List Part → Type 0) → List Part → List Part → Input → Result T SyntaxRefusal → Input → Type 0
+Outcome words tree U ps qs old (Ok t) new =
+    Found words tree old.reader.words new.reader.words t × Passed U ps qs old new
+Outcome words tree U ps qs old (Err e) new = e ≢ NoMemory → Refused U ps old e
+
+-- The names behind all words stay those that they are, and their list the same one, from which no
+-- name that was placed is taken back.
+pub record NamesStay (old new : Reading) : Type 0 where
+  pub same : new.names ≡ old.names
+  pub no_fewer : old.count ≤ new.count
+  pub home : new.home ≡ old.home
+
+-- A phrase is read, or the first fault is found; and the names stay, also by a refusal.
+pub record Reads {P T : Type 0} (words : P → List Word → List Word) (tree : P → T)
+    (U : List Part → Type 0) (ps qs : List Part) (old : Input) (r : Result T SyntaxRefusal)
+    (new : Input) : Type 0 where
+  pub outcome : Outcome words tree U ps qs old r new
+  pub kept : NamesStay old.reader new.reader
+
+-- One more phrase is read where a part stands for any number of them. It takes a word at least.
+pub record ReadsOneMore {P T : Type 0} (words : P → List Word → List Word) (tree : P → T)
+    (U : List Part → Type 0) (p : Part) (old : Input) (r : Result T SyntaxRefusal)
+    (new : Input) : Type 0 where
+  pub reads : Reads words tree U (p ∷ []) (p ∷ []) old r new
+  pub shorter : OnOk r (length new.reader.words < length old.reader.words)

@@ -2,14 +2,12 @@
 
 ghost use Rattle.std.specs.Prelude.{◌≡◌, ◌≢◌, ◌≤◌, ◌<◌, ◌+◌, ◌^◌, [], length, None, Some, IfOk, OnOk, IfErr};
 ghost use Rattle.session_limits.specs.Limits.{max_input};
-ghost use Rattle.session_values.specs.Names.{Begins};
-ghost use Rattle.syntax_tokens.specs.Words.{words_of, names_of};
 ghost use Rattle.syntax_grammar.specs.FirstFault.{IsFile};
 ghost use Rattle.syntax_grammar.specs.Next.{Inside, fault, whole_file};
 ghost use Rattle.syntax_grammar.specs.Phrase as spec;
 ghost use Rattle.syntax_grammar.specs.Tree as tree;
 ghost use Rattle.syntax_grammar.specs.Parsed.{Parsed};
-ghost use Rattle.syntax_parser.specs.Reads.{HasNoEnd, Reads};
+ghost use Rattle.syntax_parser.specs.Reads.{HasNoEnd, NamesStay, Reads};
 ghost use Rattle.syntax_grammar.specs.declared.refusals.SyntaxRefusal.TheVariants as syntax_refusal;
 ghost use Rattle.syntax_trees.specs.declared.file.File.{File};
 
@@ -24,10 +22,8 @@ use syntax_trees::File;
 
 fn file(alloc: Global, input: &mut Input<'_>) -> Result<File, SyntaxRefusal>
     requires { length input.old.reader.words < 2 ^ 32 }
-    ensures reads { Reads spec.file_words tree.file_tree (Inside 0) whole_file [] input.old result
+    ensures { Reads spec.file_words tree.file_tree (Inside 0) whole_file [] input.old result
         input.new }
-    ensures names { input.new.reader.names ≡ input.old.reader.names }
-    ensures count { input.old.reader.count ≤ input.new.reader.count }
 {
     let tables = tables(alloc, input)?;
     let handlers = handlers(alloc, input)?;
@@ -45,8 +41,7 @@ fn whole(alloc: Global, input: &mut Input<'_>) -> Result<File, SyntaxRefusal>
     ensures exact { IfErr result (λ e. e ≢ syntax_refusal.NoMemory
         → fault input.old.reader.end whole_file 0 input.old.reader.words ≡ Some e) }
     ensures finished { OnOk result (input.new.reader.words ≡ []) }
-    ensures names { input.new.reader.names ≡ input.old.reader.names }
-    ensures count { input.old.reader.count ≤ input.new.reader.count }
+    ensures kept { NamesStay input.old.reader input.new.reader }
 {
     let file = file(alloc, input)?;
     let word = input.peek()?;
@@ -56,28 +51,6 @@ fn whole(alloc: Global, input: &mut Input<'_>) -> Result<File, SyntaxRefusal>
     }
 }
 
-/// The file that a source is, and the names behind what was read of it.
-fn read_source(alloc: Global, source: &str, names: Names) -> (Result<File, SyntaxRefusal>, Names)
-    requires short { length source.now ≤ max_input }
-    requires room { length names ≤ 4000000000 }
-    ensures ok { IfOk result.0 (λ file. IsFile (words_of names source.now) file) }
-    ensures within { OnOk result.0 (fault (length source.now) whole_file 0
-        (words_of names source.now) ≡ None) }
-    ensures exact { IfErr result.0 (λ e. e ≢ syntax_refusal.NoMemory
-        → fault (length source.now) whole_file 0 (words_of names source.now) ≡ Some e) }
-    ensures names { OnOk result.0 (result.1 ≡ names_of names source.now) }
-    ensures kept { Begins names result.1 }
-    ensures few { length result.1 ≤ length names + length source.now }
-{
-    let mut input = Input {
-        reader: Reader::over(source, names),
-        signs: 0,
-    };
-    let found = whole(alloc, &mut input);
-    let Input { reader, signs: _ } = input;
-    (found, reader.into_names())
-}
-
 /// The file that a source is. `names` then has the names and symbols of the source too; after a
 /// refusal, perhaps some of them.
 pub fn parse(alloc: Global, source: &str, names: &mut Names) -> Result<File, SyntaxRefusal>
@@ -85,8 +58,12 @@ pub fn parse(alloc: Global, source: &str, names: &mut Names) -> Result<File, Syn
     requires room { length names.old ≤ 4000000000 }
     ensures { Parsed names.old source.now result names.new }
 {
-    let own = std::mem::replace(names, Names::new(alloc)?);
-    let (found, own) = read_source(alloc, source, own);
-    *names = own;
+    let mut input = Input {
+        reader: Reader::over(source, names),
+        signs: 0,
+    };
+    let found = whole(alloc, &mut input);
+    let Input { reader, signs: _ } = input;
+    let _names = reader.into_names();
     found
 }

@@ -4,6 +4,7 @@ ghost use Rattle.std.specs.Prelude.{◌≡◌, ◌≤◌, ◌+◌, length, drop,
 ghost use Rattle.session_limits.specs.Limits.{max_signs};
 ghost use Rattle.syntax_tokens.specs.Words.{first_word};
 ghost use Rattle.syntax_grammar.specs.declared.refusals.SyntaxRefusal.TheVariants as refusal;
+ghost use Rattle.syntax_parser.specs.Reads.{NamesStay};
 
 use session_limits::MAX_SIGNS;
 use session_values::NoMemory;
@@ -24,8 +25,7 @@ impl<'a> Input<'a> {
         ensures words { self.new.reader.words ≡ self.old.reader.words }
         ensures end { self.new.reader.end ≡ self.old.reader.end }
         ensures signs { self.new.signs ≡ self.old.signs }
-        ensures names { self.new.reader.names ≡ self.old.reader.names }
-        ensures count { self.old.reader.count ≤ self.new.reader.count }
+        ensures kept { NamesStay self.old.reader self.new.reader }
     {
         self.reader.peek()
     }
@@ -36,8 +36,7 @@ impl<'a> Input<'a> {
         ensures words { OnOk result (self.new.reader.words ≡ drop 1 self.old.reader.words) }
         ensures end { self.new.reader.end ≡ self.old.reader.end }
         ensures signs { self.new.signs ≡ self.old.signs }
-        ensures names { self.new.reader.names ≡ self.old.reader.names }
-        ensures count { self.old.reader.count ≤ self.new.reader.count }
+        ensures kept { NamesStay self.old.reader self.new.reader }
     {
         self.reader.take()
     }
@@ -48,8 +47,7 @@ impl<'a> Input<'a> {
         ensures words { OnOk result (self.new.reader.words ≡ drop 1 self.old.reader.words) }
         ensures end { self.new.reader.end ≡ self.old.reader.end }
         ensures signs { OnOk result (self.new.signs ≡ self.old.signs + 1) }
-        ensures names { self.new.reader.names ≡ self.old.reader.names }
-        ensures count { self.old.reader.count ≤ self.new.reader.count }
+        ensures kept { NamesStay self.old.reader self.new.reader }
         ensures room { OnOk result (self.old.signs + 1 ≤ max_signs) }
         ensures deep { IfErr result (λ e.
             (e ≡ refusal.NoMemory → ⊥)

@@ -18,10 +18,8 @@ const MAX_NEGATIVE: u64 = 9_223_372_036_854_775_808;
 
 /// The number behind a literal's minus.
 fn negative(input: &mut Input<'_>) -> Result<i64, SyntaxRefusal>
-    ensures reads { Reads spec.number_words negative_of Anywhere (after_minus ∷ []) [] input.old
+    ensures { Reads spec.number_words negative_of Anywhere (after_minus ∷ []) [] input.old
         result input.new }
-    ensures names { input.new.reader.names ≡ input.old.reader.names }
-    ensures count { input.old.reader.count ≤ input.new.reader.count }
 {
     let word = input.take()?;
     match word.sort {
@@ -40,10 +38,8 @@ fn negative(input: &mut Input<'_>) -> Result<i64, SyntaxRefusal>
 }
 
 pub(crate) fn atom(input: &mut Input<'_>) -> Result<Atom, SyntaxRefusal>
-    ensures reads { Reads spec.atom_words atom_tree Anywhere (an_atom ∷ []) [] input.old result
+    ensures { Reads spec.atom_words atom_tree Anywhere (an_atom ∷ []) [] input.old result
         input.new }
-    ensures names { input.new.reader.names ≡ input.old.reader.names }
-    ensures count { input.old.reader.count ≤ input.new.reader.count }
 {
     let word = input.take()?;
     match word.sort {

@@ -8,7 +8,7 @@ ghost use Rattle.syntax_grammar.specs.Next.{Inside, a_block, or_else, statements
 ghost use Rattle.syntax_grammar.specs.Phrase as spec;
 ghost use Rattle.syntax_grammar.specs.Sorts as sorts;
 ghost use Rattle.syntax_grammar.specs.Tree as tree;
-ghost use Rattle.syntax_parser.specs.Reads.{Reads};
+ghost use Rattle.syntax_parser.specs.Reads.{Reads, ReadsOneMore};
 
 use crate::input::Input;
 use crate::list::list;
@@ -31,10 +31,8 @@ pub(crate) fn block(
 ) -> Result<Block, SyntaxRefusal>
     requires few { length input.old.reader.words < 2 ^ 32 }
     requires depth { depth ≤ max_depth }
-    ensures reads { Reads spec.block_words tree.block_trees (Inside depth) (a_block ∷ []) []
+    ensures { Reads spec.block_words tree.block_trees (Inside depth) (a_block ∷ []) []
         input.old result input.new }
-    ensures names { input.new.reader.names ≡ input.old.reader.names }
-    ensures count { input.old.reader.count ≤ input.new.reader.count }
 {
     let word = input.take()?;
     match word.sort {
@@ -55,10 +53,8 @@ pub(crate) fn block(
 fn otherwise(alloc: Global, input: &mut Input<'_>, depth: u32) -> Result<Block, SyntaxRefusal>
     requires few { length input.old.reader.words < 2 ^ 32 }
     requires depth { depth ≤ max_depth }
-    ensures reads { Reads spec.else_words tree.else_trees (Inside depth) (or_else ∷ []) []
+    ensures { Reads spec.else_words tree.else_trees (Inside depth) (or_else ∷ []) []
         input.old result input.new }
-    ensures names { input.new.reader.names ≡ input.old.reader.names }
-    ensures count { input.old.reader.count ≤ input.new.reader.count }
 {
     match input.peek()?.sort {
         Sort::Else => {
@@ -76,11 +72,8 @@ fn choice(alloc: Global, input: &mut Input<'_>, depth: u32) -> Result<Stmt, Synt
     requires few { length input.old.reader.words < 2 ^ 32 }
     requires depth { depth ≤ max_depth }
     requires first { (first_word input.old.reader.end input.old.reader.words).sort ≡ sort.If }
-    ensures reads { Reads spec.stmt_words tree.stmt_tree (Inside depth) (statements ∷ [])
-        (statements ∷ []) input.old result input.new }
-    ensures names { input.new.reader.names ≡ input.old.reader.names }
-    ensures count { input.old.reader.count ≤ input.new.reader.count }
-    ensures shorter { OnOk result (length input.new.reader.words < length input.old.reader.words) }
+    ensures { ReadsOneMore spec.stmt_words tree.stmt_tree (Inside depth) statements
+        input.old result input.new }
 {
     let word = input.take()?;
     let cond = Boxed::new(alloc, condition(alloc, input)?)?;
@@ -100,11 +93,8 @@ fn repetition(alloc: Global, input: &mut Input<'_>, depth: u32) -> Result<Stmt, 
     requires few { length input.old.reader.words < 2 ^ 32 }
     requires depth { depth ≤ max_depth }
     requires first { (first_word input.old.reader.end input.old.reader.words).sort ≡ sort.Repeat }
-    ensures reads { Reads spec.stmt_words tree.stmt_tree (Inside depth) (statements ∷ [])
-        (statements ∷ []) input.old result input.new }
-    ensures names { input.new.reader.names ≡ input.old.reader.names }
-    ensures count { input.old.reader.count ≤ input.new.reader.count }
-    ensures shorter { OnOk result (length input.new.reader.words < length input.old.reader.words) }
+    ensures { ReadsOneMore spec.stmt_words tree.stmt_tree (Inside depth) statements
+        input.old result input.new }
 {
     let word = input.take()?;
     let head = repeat_head(input)?;
@@ -131,11 +121,8 @@ fn statement(
     requires depth { depth ≤ max_depth }
     requires first { sorts.statement_start (first_word input.old.reader.end
         input.old.reader.words).sort ≡ Some start }
-    ensures reads { Reads spec.stmt_words tree.stmt_tree (Inside depth) (statements ∷ [])
-        (statements ∷ []) input.old result input.new }
-    ensures names { input.new.reader.names ≡ input.old.reader.names }
-    ensures count { input.old.reader.count ≤ input.new.reader.count }
-    ensures shorter { OnOk result (length input.new.reader.words < length input.old.reader.words) }
+    ensures { ReadsOneMore spec.stmt_words tree.stmt_tree (Inside depth) statements
+        input.old result input.new }
 {
     match start {
         Start::Let => let_statement(alloc, input, depth),
@@ -152,10 +139,8 @@ fn statement(
 fn statements(alloc: Global, input: &mut Input<'_>, depth: u32) -> Result<Block, SyntaxRefusal>
     requires few { length input.old.reader.words < 2 ^ 32 }
     requires depth { depth ≤ max_depth }
-    ensures reads { Reads spec.stmts_words tree.stmts_trees (Inside depth) (statements ∷ []) []
+    ensures { Reads spec.stmts_words tree.stmts_trees (Inside depth) (statements ∷ []) []
         input.old result input.new }
-    ensures names { input.new.reader.names ≡ input.old.reader.names }
-    ensures count { input.old.reader.count ≤ input.new.reader.count }
 {
     let mut items = Vec::new(alloc);
     'statements: loop {

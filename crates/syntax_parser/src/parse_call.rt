@@ -20,10 +20,8 @@ use syntax_trees::{Atoms, Call, Compare, Cond, Right};
 
 /// At most two arguments, each behind a comma.
 fn arguments(alloc: Global, input: &mut Input<'_>) -> Result<Atoms, SyntaxRefusal>
-    ensures reads { Reads spec.arguments_words tree.arguments_trees Anywhere
+    ensures { Reads spec.arguments_words tree.arguments_trees Anywhere
         (more_arguments 2 ∷ []) [] input.old result input.new }
-    ensures names { input.new.reader.names ≡ input.old.reader.names }
-    ensures count { input.old.reader.count ≤ input.new.reader.count }
 {
     let mut items = Vec::with_capacity(alloc, 2)?;
     for turn in 0..2u32 {
@@ -46,10 +44,8 @@ pub(crate) fn operands(
     kind: Kind,
     at: u32,
 ) -> Result<Call, SyntaxRefusal>
-    ensures reads { Reads spec.operands_words (tree.call_of kind at) Anywhere call_parts []
+    ensures { Reads spec.operands_words (tree.call_of kind at) Anywhere call_parts []
         input.old result input.new }
-    ensures names { input.new.reader.names ≡ input.old.reader.names }
-    ensures count { input.old.reader.count ≤ input.new.reader.count }
 {
     mark(input, Sort::LeftParen)?;
     let (table, table_at) = name(input)?;
@@ -66,10 +62,8 @@ pub(crate) fn operands(
 
 /// What stands behind `=`.
 pub(crate) fn right_side(alloc: Global, input: &mut Input<'_>) -> Result<Right, SyntaxRefusal>
-    ensures reads { Reads spec.right_words tree.right_tree (Opened 0) (a_right ∷ []) [] input.old
+    ensures { Reads spec.right_words tree.right_tree (Opened 0) (a_right ∷ []) [] input.old
         result input.new }
-    ensures names { input.new.reader.names ≡ input.old.reader.names }
-    ensures count { input.old.reader.count ≤ input.new.reader.count }
 {
     let word = input.peek()?;
     match operation(word.sort) {
@@ -89,10 +83,8 @@ pub(crate) fn right_side(alloc: Global, input: &mut Input<'_>) -> Result<Right, 
 
 /// A comparison's sign, with its place.
 fn compare_sign(input: &mut Input<'_>) -> Result<(Compare, u32), SyntaxRefusal>
-    ensures reads { Reads spec.compare_words (λ c. c) Anywhere (a_compare ∷ []) [] input.old result
+    ensures { Reads spec.compare_words (λ c. c) Anywhere (a_compare ∷ []) [] input.old result
         input.new }
-    ensures names { input.new.reader.names ≡ input.old.reader.names }
-    ensures count { input.old.reader.count ≤ input.new.reader.count }
 {
     let word = input.take()?;
     match comparison(word.sort) {
@@ -103,10 +95,8 @@ fn compare_sign(input: &mut Input<'_>) -> Result<(Compare, u32), SyntaxRefusal>
 
 /// Two expressions that are compared.
 pub(crate) fn condition(alloc: Global, input: &mut Input<'_>) -> Result<Cond, SyntaxRefusal>
-    ensures reads { Reads spec.cond_words tree.cond_tree (Opened 0)
+    ensures { Reads spec.cond_words tree.cond_tree (Opened 0)
         (expression ∷ a_compare ∷ expression ∷ []) [] input.old result input.new }
-    ensures names { input.new.reader.names ≡ input.old.reader.names }
-    ensures count { input.old.reader.count ≤ input.new.reader.count }
 {
     let left = expression(alloc, input)?;
     let (compare, _) = compare_sign(input)?;
@@ -120,10 +110,8 @@ pub(crate) fn condition(alloc: Global, input: &mut Input<'_>) -> Result<Cond, Sy
 
 /// How often a repeat runs, with the number's place.
 fn turn_count(input: &mut Input<'_>) -> Result<(u64, u32), SyntaxRefusal>
-    ensures reads { Reads spec.number_words tree.count_of Anywhere (a_count ∷ []) [] input.old
+    ensures { Reads spec.number_words tree.count_of Anywhere (a_count ∷ []) [] input.old
         result input.new }
-    ensures names { input.new.reader.names ≡ input.old.reader.names }
-    ensures count { input.old.reader.count ≤ input.new.reader.count }
 {
     let word = input.take()?;
     match word.sort {
@@ -139,10 +127,8 @@ fn turn_count(input: &mut Input<'_>) -> Result<(u64, u32), SyntaxRefusal>
 
 /// What stands between `repeat` and its block.
 pub(crate) fn repeat_head(input: &mut Input<'_>) -> Result<Turns, SyntaxRefusal>
-    ensures reads { Reads spec.turns_words tree.turns_of Anywhere
+    ensures { Reads spec.turns_words tree.turns_of Anywhere
         (a_count ∷ mark sort.As ∷ a_name ∷ []) [] input.old result input.new }
-    ensures names { input.new.reader.names ≡ input.old.reader.names }
-    ensures count { input.old.reader.count ≤ input.new.reader.count }
 {
     let (turns, turns_at) = turn_count(input)?;
     mark(input, Sort::As)?;

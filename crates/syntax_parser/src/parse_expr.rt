@@ -27,10 +27,8 @@ fn binary(alloc: Global, calc: Calc, left: Expr, right: Expr) -> Result<Expr, No
 
 /// The parenthesis that ends a group.
 fn close(input: &mut Input<'_>) -> Result<u32, SyntaxRefusal>
-    ensures reads { Reads (spec.mark_words sort.RightParen) (λ at. at) Anywhere (closing ∷ []) []
+    ensures { Reads (spec.mark_words sort.RightParen) (λ at. at) Anywhere (closing ∷ []) []
         input.old result input.new }
-    ensures names { input.new.reader.names ≡ input.old.reader.names }
-    ensures count { input.old.reader.count ≤ input.new.reader.count }
 {
     let word = input.take()?;
     match word.sort {
@@ -42,10 +40,8 @@ fn close(input: &mut Input<'_>) -> Result<u32, SyntaxRefusal>
 #[cycle(expression)]
 fn factor(alloc: Global, input: &mut Input<'_>, opened: u32) -> Result<Expr, SyntaxRefusal>
     requires { opened ≤ max_open }
-    ensures reads { Reads spec.factor_words factor_tree (Opened opened) (operand ∷ []) [] input.old
+    ensures { Reads spec.factor_words factor_tree (Opened opened) (operand ∷ []) [] input.old
         result input.new }
-    ensures names { input.new.reader.names ≡ input.old.reader.names }
-    ensures count { input.old.reader.count ≤ input.new.reader.count }
 {
     let word = input.peek()?;
     match word.sort {
@@ -68,10 +64,8 @@ fn factor(alloc: Global, input: &mut Input<'_>, opened: u32) -> Result<Expr, Syn
 #[cycle(expression)]
 fn term(alloc: Global, input: &mut Input<'_>, opened: u32) -> Result<Expr, SyntaxRefusal>
     requires { opened ≤ max_open }
-    ensures reads { Reads spec.term_words term_tree (Opened opened)
+    ensures { Reads spec.term_words term_tree (Opened opened)
         (operand ∷ more_factors ∷ []) [] input.old result input.new }
-    ensures names { input.new.reader.names ≡ input.old.reader.names }
-    ensures count { input.old.reader.count ≤ input.new.reader.count }
 {
     let mut left = factor(alloc, input, opened)?;
     'factors: loop {
@@ -89,10 +83,8 @@ fn term(alloc: Global, input: &mut Input<'_>, opened: u32) -> Result<Expr, Synta
 #[cycle(expression)]
 fn sum(alloc: Global, input: &mut Input<'_>, opened: u32) -> Result<Expr, SyntaxRefusal>
     requires { opened ≤ max_open }
-    ensures reads { Reads spec.expr_words expr_tree (Opened opened)
+    ensures { Reads spec.expr_words expr_tree (Opened opened)
         (operand ∷ more_factors ∷ more_terms ∷ []) [] input.old result input.new }
-    ensures names { input.new.reader.names ≡ input.old.reader.names }
-    ensures count { input.old.reader.count ≤ input.new.reader.count }
 {
     let mut left = term(alloc, input, opened)?;
     'terms: loop {
@@ -109,10 +101,8 @@ fn sum(alloc: Global, input: &mut Input<'_>, opened: u32) -> Result<Expr, Syntax
 
 /// A whole expression.
 pub(crate) fn expression(alloc: Global, input: &mut Input<'_>) -> Result<Expr, SyntaxRefusal>
-    ensures reads { Reads spec.expr_words expr_tree (Opened 0) (expression ∷ []) [] input.old
+    ensures { Reads spec.expr_words expr_tree (Opened 0) (expression ∷ []) [] input.old
         result input.new }
-    ensures names { input.new.reader.names ≡ input.old.reader.names }
-    ensures count { input.old.reader.count ≤ input.new.reader.count }
 {
     input.signs = 0;
     sum(alloc, input, 0)

@@ -6,7 +6,7 @@ ghost use Rattle.syntax_tokens.specs.declared.word.Sort.TheVariants as sort;
 ghost use Rattle.syntax_grammar.specs.Next.{Anywhere, Inside, a_name, first_param, more_params, handlers};
 ghost use Rattle.syntax_grammar.specs.Phrase as spec;
 ghost use Rattle.syntax_grammar.specs.Tree as tree;
-ghost use Rattle.syntax_parser.specs.Reads.{Reads};
+ghost use Rattle.syntax_parser.specs.Reads.{Reads, ReadsOneMore};
 
 use crate::input::Input;
 use crate::list::list;
@@ -21,10 +21,8 @@ use syntax_trees::{Handler, Handlers, Param, Params};
 /// One parameter, and those behind it.
 fn some_params(alloc: Global, input: &mut Input<'_>) -> Result<Params, SyntaxRefusal>
     requires { length input.old.reader.words < 2 ^ 32 }
-    ensures reads { Reads spec.some_params_words tree.some_params_trees Anywhere
+    ensures { Reads spec.some_params_words tree.some_params_trees Anywhere
         (a_name ∷ more_params ∷ []) [] input.old result input.new }
-    ensures names { input.new.reader.names ≡ input.old.reader.names }
-    ensures count { input.old.reader.count ≤ input.new.reader.count }
 {
     let (first, first_at) = name(input)?;
     let mut params = vec![in alloc;
@@ -47,10 +45,8 @@ fn some_params(alloc: Global, input: &mut Input<'_>) -> Result<Params, SyntaxRef
 
 fn params(alloc: Global, input: &mut Input<'_>) -> Result<Params, SyntaxRefusal>
     requires { length input.old.reader.words < 2 ^ 32 }
-    ensures reads { Reads spec.params_words tree.params_trees Anywhere (first_param ∷ []) []
+    ensures { Reads spec.params_words tree.params_trees Anywhere (first_param ∷ []) []
         input.old result input.new }
-    ensures names { input.new.reader.names ≡ input.old.reader.names }
-    ensures count { input.old.reader.count ≤ input.new.reader.count }
 {
     match input.peek()?.sort {
         Sort::Name(_) => {
@@ -65,11 +61,8 @@ fn params(alloc: Global, input: &mut Input<'_>) -> Result<Params, SyntaxRefusal>
 fn handler(alloc: Global, input: &mut Input<'_>) -> Result<Handler, SyntaxRefusal>
     requires few { length input.old.reader.words < 2 ^ 32 }
     requires first { (first_word input.old.reader.end input.old.reader.words).sort ≡ sort.Handler }
-    ensures reads { Reads spec.handler_words tree.handler_tree (Inside 0) (handlers ∷ [])
-        (handlers ∷ []) input.old result input.new }
-    ensures names { input.new.reader.names ≡ input.old.reader.names }
-    ensures count { input.old.reader.count ≤ input.new.reader.count }
-    ensures shorter { OnOk result (length input.new.reader.words < length input.old.reader.words) }
+    ensures { ReadsOneMore spec.handler_words tree.handler_tree (Inside 0) handlers
+        input.old result input.new }
 {
     input.take()?;
     let (name, at) = name(input)?;
@@ -88,10 +81,8 @@ fn handler(alloc: Global, input: &mut Input<'_>) -> Result<Handler, SyntaxRefusa
 /// The handlers of a file.
 pub(crate) fn handlers(alloc: Global, input: &mut Input<'_>) -> Result<Handlers, SyntaxRefusal>
     requires { length input.old.reader.words < 2 ^ 32 }
-    ensures reads { Reads spec.handlers_words tree.handlers_trees (Inside 0) (handlers ∷ []) []
+    ensures { Reads spec.handlers_words tree.handlers_trees (Inside 0) (handlers ∷ []) []
         input.old result input.new }
-    ensures names { input.new.reader.names ≡ input.old.reader.names }
-    ensures count { input.old.reader.count ≤ input.new.reader.count }
 {
     let mut items = Vec::new(alloc);
     'handlers: loop {

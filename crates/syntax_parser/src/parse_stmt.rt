@@ -7,7 +7,7 @@ ghost use Rattle.syntax_grammar.specs.Next.{Opened, Inside, expression, more_val
 ghost use Rattle.syntax_grammar.specs.Phrase as spec;
 ghost use Rattle.syntax_grammar.specs.Sorts as sorts;
 ghost use Rattle.syntax_grammar.specs.Tree as tree;
-ghost use Rattle.syntax_parser.specs.Reads.{Reads};
+ghost use Rattle.syntax_parser.specs.Reads.{Reads, ReadsOneMore};
 
 use crate::input::Input;
 use crate::list::list;
@@ -27,11 +27,8 @@ pub(crate) fn let_statement(
     depth: u32,
 ) -> Result<Stmt, SyntaxRefusal>
     requires { (first_word input.old.reader.end input.old.reader.words).sort ≡ sort.Let }
-    ensures reads { Reads spec.stmt_words tree.stmt_tree (Inside depth) (statements ∷ [])
-        (statements ∷ []) input.old result input.new }
-    ensures names { input.new.reader.names ≡ input.old.reader.names }
-    ensures count { input.old.reader.count ≤ input.new.reader.count }
-    ensures shorter { OnOk result (length input.new.reader.words < length input.old.reader.words) }
+    ensures { ReadsOneMore spec.stmt_words tree.stmt_tree (Inside depth) statements
+        input.old result input.new }
 {
     input.take()?;
     let (name, at) = name(input)?;
@@ -49,11 +46,8 @@ pub(crate) fn assignment(
     name: u32,
 ) -> Result<Stmt, SyntaxRefusal>
     requires { (first_word input.old.reader.end input.old.reader.words).sort ≡ sort.Name name }
-    ensures reads { Reads spec.stmt_words tree.stmt_tree (Inside depth) (statements ∷ [])
-        (statements ∷ []) input.old result input.new }
-    ensures names { input.new.reader.names ≡ input.old.reader.names }
-    ensures count { input.old.reader.count ≤ input.new.reader.count }
-    ensures shorter { OnOk result (length input.new.reader.words < length input.old.reader.words) }
+    ensures { ReadsOneMore spec.stmt_words tree.stmt_tree (Inside depth) statements
+        input.old result input.new }
 {
     let word = input.take()?;
     mark(input, Sort::Assign)?;
@@ -75,11 +69,8 @@ pub(crate) fn call_statement(
 ) -> Result<Stmt, SyntaxRefusal>
     requires { sorts.operation (first_word input.old.reader.end input.old.reader.words).sort ≡ Some
         kind }
-    ensures reads { Reads spec.stmt_words tree.stmt_tree (Inside depth) (statements ∷ [])
-        (statements ∷ []) input.old result input.new }
-    ensures names { input.new.reader.names ≡ input.old.reader.names }
-    ensures count { input.old.reader.count ≤ input.new.reader.count }
-    ensures shorter { OnOk result (length input.new.reader.words < length input.old.reader.words) }
+    ensures { ReadsOneMore spec.stmt_words tree.stmt_tree (Inside depth) statements
+        input.old result input.new }
 {
     let word = input.take()?;
     let call = operands(alloc, input, kind, word.at)?;
@@ -89,10 +80,8 @@ pub(crate) fn call_statement(
 
 /// The one to four values of a reply.
 fn values(alloc: Global, input: &mut Input<'_>) -> Result<Exprs, SyntaxRefusal>
-    ensures reads { Reads spec.values_words tree.values_trees (Opened 0)
+    ensures { Reads spec.values_words tree.values_trees (Opened 0)
         (expression ∷ more_values 3 ∷ []) [] input.old result input.new }
-    ensures names { input.new.reader.names ≡ input.old.reader.names }
-    ensures count { input.old.reader.count ≤ input.new.reader.count }
 {
     let first = expression(alloc, input)?;
     let mut values = vec![in alloc; first]?;
@@ -116,11 +105,8 @@ pub(crate) fn reply_statement(
     depth: u32,
 ) -> Result<Stmt, SyntaxRefusal>
     requires { (first_word input.old.reader.end input.old.reader.words).sort ≡ sort.Reply }
-    ensures reads { Reads spec.stmt_words tree.stmt_tree (Inside depth) (statements ∷ [])
-        (statements ∷ []) input.old result input.new }
-    ensures names { input.new.reader.names ≡ input.old.reader.names }
-    ensures count { input.old.reader.count ≤ input.new.reader.count }
-    ensures shorter { OnOk result (length input.new.reader.words < length input.old.reader.words) }
+    ensures { ReadsOneMore spec.stmt_words tree.stmt_tree (Inside depth) statements
+        input.old result input.new }
 {
     let word = input.take()?;
     let values = values(alloc, input)?;

@@ -6,7 +6,7 @@ ghost use Rattle.syntax_grammar.specs.Next.{Anywhere, tables};
 ghost use Rattle.syntax_grammar.specs.Phrase as spec;
 ghost use Rattle.syntax_grammar.specs.Sorts as sorts;
 ghost use Rattle.syntax_grammar.specs.Tree as tree;
-ghost use Rattle.syntax_parser.specs.Reads.{Reads};
+ghost use Rattle.syntax_parser.specs.Reads.{Reads, ReadsOneMore};
 
 use crate::input::Input;
 use crate::list::list;
@@ -21,11 +21,8 @@ use syntax_trees::{TableDecl, TableDecls};
 fn table(input: &mut Input<'_>, kind: TableKind) -> Result<TableDecl, SyntaxRefusal>
     requires { sorts.table_kind (first_word input.old.reader.end input.old.reader.words).sort
         ≡ Some kind }
-    ensures reads { Reads spec.table_words tree.table_tree Anywhere (tables ∷ []) (tables ∷ [])
+    ensures { ReadsOneMore spec.table_words tree.table_tree Anywhere tables
         input.old result input.new }
-    ensures names { input.new.reader.names ≡ input.old.reader.names }
-    ensures count { input.old.reader.count ≤ input.new.reader.count }
-    ensures shorter { OnOk result (length input.new.reader.words < length input.old.reader.words) }
 {
     input.take()?;
     let (name, at) = name(input)?;
@@ -36,10 +33,8 @@ fn table(input: &mut Input<'_>, kind: TableKind) -> Result<TableDecl, SyntaxRefu
 /// The tables of a file.
 pub(crate) fn tables(alloc: Global, input: &mut Input<'_>) -> Result<TableDecls, SyntaxRefusal>
     requires { length input.old.reader.words < 2 ^ 32 }
-    ensures reads { Reads spec.tables_words tree.tables_trees Anywhere (tables ∷ []) [] input.old
+    ensures { Reads spec.tables_words tree.tables_trees Anywhere (tables ∷ []) [] input.old
         result input.new }
-    ensures names { input.new.reader.names ≡ input.old.reader.names }
-    ensures count { input.old.reader.count ≤ input.new.reader.count }
 {
     let mut items = Vec::new(alloc);
     'tables: loop {

@@ -28,10 +28,8 @@ fn is_mark(sort: Sort, mark: Sort) -> bool
 /// The place of one given word.
 pub(crate) fn mark(input: &mut Input<'_>, sort: Sort) -> Result<u32, SyntaxRefusal>
     requires { mark_row sort sort ≡ Some [] }
-    ensures reads { Reads (spec.mark_words sort) (λ at. at) Anywhere (mark sort ∷ []) [] input.old
+    ensures { Reads (spec.mark_words sort) (λ at. at) Anywhere (mark sort ∷ []) [] input.old
         result input.new }
-    ensures names { input.new.reader.names ≡ input.old.reader.names }
-    ensures count { input.old.reader.count ≤ input.new.reader.count }
 {
     let word = input.take()?;
     if is_mark(word.sort, sort) {
@@ -43,10 +41,8 @@ pub(crate) fn mark(input: &mut Input<'_>, sort: Sort) -> Result<u32, SyntaxRefus
 
 /// A name's place in the list of names, and its place in the source.
 pub(crate) fn name(input: &mut Input<'_>) -> Result<(u32, u32), SyntaxRefusal>
-    ensures reads { Reads spec.name_words name_of Anywhere (a_name ∷ []) [] input.old result
+    ensures { Reads spec.name_words name_of Anywhere (a_name ∷ []) [] input.old result
         input.new }
-    ensures names { input.new.reader.names ≡ input.old.reader.names }
-    ensures count { input.old.reader.count ≤ input.new.reader.count }
 {
     let word = input.take()?;
     match word.sort {

@@ -13,7 +13,7 @@ use Rattle.syntax_tokens.proofs.Longest.{in_rows, is_pair, in_either, key_letter
 
 -- ---- one kind
 
-not_long : (n : ℕ) → n ≤ 64 → nat_lt 64 n ≡ false
+pub not_long : (n : ℕ) → n ≤ 64 → nat_lt 64 n ≡ false
 not_long n h = grind (arith, nat_tests)
 
 is_long : (n : ℕ) → 64 < n → nat_lt 64 n ≡ true

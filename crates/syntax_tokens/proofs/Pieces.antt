@@ -90,7 +90,7 @@ pieces_skip (suc n) at (b ∷ bs) =
     pieces_skip n (at + 1) bs ∙ ap (λ k. pieces 0 k (drop n bs)) e
 
 -- the gap is passed over
-gap_skipped : (bs : List ℕ) (at : ℕ) → pieces 0 at bs ≡ pieces (gap false bs) at bs
+pub gap_skipped : (bs : List ℕ) (at : ℕ) → pieces 0 at bs ≡ pieces (gap false bs) at bs
 gap_skipped [] at = refl
 gap_skipped (b ∷ bs) at = by (gap false (b ∷ bs)) refl
   where

@@ -16,6 +16,7 @@ use Rattle.syntax_tokens.specs.Scan.{Scanned, begins_two, is_single, is_in, gap,
 use Rattle.syntax_tokens.specs.Tokens.{Piece, with_reserved, behind_gap, pieces}
 use Rattle.syntax_tokens.specs.Words.{unquoted}
 use Rattle.syntax_tokens.proofs.Cut.{pick}
+use Rattle.syntax_tokens.proofs.WordsNamed.{short_take}
 use Rattle.syntax_tokens.specs.Texts.{IsRun, IsNameText, IsSymbolText}
 
 -- ---- runs
@@ -53,9 +54,6 @@ pub run_begins : (p : ℕ → Bool) (x : ℕ) (xs : List ℕ) → p x ≡ true �
 run_begins p x xs h =
     let on : 1 + prefix_len p xs ≡ suc (prefix_len p xs) = omega arith in
     ap (λ t. get_or (take (cond t (1 + prefix_len p xs) 0) (x ∷ xs)) 0 0) h ∙ rw on refl
-
-short_take : (n : ℕ) (bs : List ℕ) → n ≤ 64 → length (take n bs) ≤ 64
-short_take n bs h = omega (arith, length-take n bs)
 
 pub run_of : (c : Class) → ((b : ℕ) → is_ascii_alphabetic b ≡ true → is_in c b ≡ true) → (bs : List ℕ) → is_ascii_alphabetic (get_or bs 0 0) ≡ true → prefix_len (is_in c) bs ≤ 64 → IsRun c (take (prefix_len (is_in c) bs) bs)
 run_of c letters [] letter short = absurd (let e : false ≡ true = letter in cc)

@@ -17,37 +17,7 @@ use Rattle.syntax_tokens.proofs.Cut.{pick}
 use Rattle.syntax_tokens.proofs.NamesGrow.{begins_behind}
 use Rattle.syntax_tokens.specs.Texts.{IsNameText, IsSymbolText, text_at, IsReadableSort, IsReadableWord}
 use Rattle.syntax_tokens.proofs.TextTokens.{IsGood, AllGood, all_good}
-
--- ---- the sorts of reserved words and signs
-
--- a sort that is neither a name nor a symbol
-abbrev is_plain : Sort → Bool
-is_plain (sort.Name place) = false
-is_plain (sort.Symbol place) = false
-is_plain s = true
-
-abbrev AllPlain : List (List ℕ × Sort) → Type 0
-AllPlain [] = Unit {0}
-AllPlain (row ∷ rows) = (is_plain row.1 ≡ true) × AllPlain rows
-
-abbrev IsPlain : Option Sort → Type 0
-IsPlain o = is_plain (or_bad o) ≡ true
-
-plain_in : (rows : List (List ℕ × Sort)) (text : List ℕ) → AllPlain rows → IsPlain (sort_in rows text)
-plain_in [] text h = refl
-plain_in (row ∷ rows) text h = pick IsPlain (bytes_eq text row.0) (Some row.1) (sort_in rows text) (λ _. h.0) (λ _. plain_in rows text h.1)
-
-plain_else : (o other : Option Sort) → IsPlain o → IsPlain other → IsPlain (or_else o other)
-plain_else None other h k = k
-plain_else (Some s) other h k = h
-
-plain_sign : (text : List ℕ) → IsPlain (sign_of text)
-unfolding sign_of
-plain_sign text = plain_in signs text (search rules)
-
-plain_keyword : (text : List ℕ) → IsPlain (keyword_of text)
-unfolding keyword_of statement_word_of operation_of
-plain_keyword text = plain_else (sort_in statement_words text) (sort_in operations text) (plain_in statement_words text (search rules)) (plain_in operations text (search rules))
+use Rattle.syntax_tokens.proofs.WordsNamed.{is_plain, plain_keyword, plain_sign}
 
 -- ---- places with such a text
 

@@ -23,7 +23,7 @@ use Rattle.syntax_tokens.proofs.NamesGrow.{begins_behind}
 -- ---- the sorts of reserved words and signs
 
 -- a sort that is neither a name, a symbol nor the end
-abbrev is_plain : Sort → Bool
+abbrev pub is_plain : Sort → Bool
 is_plain (sort.Name place) = false
 is_plain (sort.Symbol place) = false
 is_plain sort.End = false
@@ -33,7 +33,7 @@ abbrev AllPlain : List (List ℕ × Sort) → Type 0
 AllPlain [] = Unit {0}
 AllPlain (row ∷ rows) = (is_plain row.1 ≡ true) × AllPlain rows
 
-abbrev IsPlain : Option Sort → Type 0
+abbrev pub IsPlain : Option Sort → Type 0
 IsPlain o = is_plain (or_bad o) ≡ true
 
 plain_in : (rows : List (List ℕ × Sort)) (text : List ℕ) → AllPlain rows → IsPlain (sort_in rows text)
@@ -44,11 +44,11 @@ plain_else : (o other : Option Sort) → IsPlain o → IsPlain other → IsPlain
 plain_else None other h k = k
 plain_else (Some s) other h k = h
 
-plain_sign : (text : List ℕ) → IsPlain (sign_of text)
+pub plain_sign : (text : List ℕ) → IsPlain (sign_of text)
 unfolding sign_of
 plain_sign text = plain_in signs text (search rules)
 
-plain_keyword : (text : List ℕ) → IsPlain (keyword_of text)
+pub plain_keyword : (text : List ℕ) → IsPlain (keyword_of text)
 unfolding keyword_of statement_word_of operation_of
 plain_keyword text = plain_else (sort_in statement_words text) (sort_in operations text) (plain_in statement_words text (search rules)) (plain_in operations text (search rules))
 
@@ -72,7 +72,7 @@ IsShort k text = Unit {0}
 abbrev CutsShort : List ℕ → Scanned → Type 0
 CutsShort bs s = IsShort (with_reserved s.0 (take s.1 bs)) (take s.1 bs)
 
-short_take : (n : ℕ) (bs : List ℕ) → n ≤ 64 → length (take n bs) ≤ 64
+pub short_take : (n : ℕ) (bs : List ℕ) → n ≤ 64 → length (take n bs) ≤ 64
 short_take n bs h = omega (arith, length-take n bs)
 
 short_unquoted : (n b : ℕ) (r : List ℕ) → b ≡ 39 → n ≤ 64 → length (unquoted (take (n + 1) (b ∷ r))) ≤ 64

@@ -19,6 +19,7 @@ abbrev pub kinds : List Kind
 kinds = kind.Get ∷ kind.Put ∷ kind.Swap ∷ kind.Del ∷ kind.Size ∷ kind.Bump ∷ kind.Has ∷ kind.Add
     ∷ kind.Mark ∷ kind.Drop ∷ kind.Count ∷ []
 
+-- the word of an operation
 abbrev pub operation_row : Kind → List ℕ × Sort
 operation_row k = (word_of k, sort.Do k)
 

@@ -12,6 +12,7 @@ pub record Reading : Type 0 where
   pub end : ℕ
   pub names : List (List ℕ)
   pub count : ℕ
+  pub home : ℕ
 
 -- the words, behind one that was looked at, if one was
 abbrev pub with_ahead : Option Word → List Word → List Word

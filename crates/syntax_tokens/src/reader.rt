@@ -15,12 +15,12 @@ use crate::words::word;
 use session_values::{Names, NoMemory};
 use std::marker::Model;
 
-/// The words of a source that are still to come, and the names so far. A name is placed when its
-/// word is looked at.
+/// The words of a source that are still to come, and the list of names, in which a name is placed
+/// when its word is looked at.
 #[derive(Drop)]
 pub struct Reader<'a> {
     tokens: Tokens<'a>,
-    names: Names,
+    names: &'a mut Names,
     ahead: Option<Word>,
 }
 
@@ -38,14 +38,15 @@ impl<'a> Model for Reader<'a> {
 
 impl<'a> Reader<'a> {
     #[tactic(auto, unfolding(crate::specs::Words::words_of, crate::specs::Words::names_of))]
-    pub fn over(source: &'a str, names: Names) -> Reader<'a>
+    pub fn over(source: &'a str, names: &'a mut Names) -> Reader<'a>
         requires short { length source.now ≤ max_input }
-        requires room { length names ≤ 4000000000 }
-        ensures words { result.words ≡ words_of names source.now }
+        requires room { length names.old ≤ 4000000000 }
+        ensures words { result.words ≡ words_of names.old source.now }
         ensures end { result.end ≡ length source.now }
-        ensures names { result.names ≡ names_of names source.now }
-        ensures count { result.count ≡ length names }
-        ensures front { Begins names result.names }
+        ensures names { result.names ≡ names_of names.old source.now }
+        ensures count { result.count ≡ length names.old }
+        ensures home { result.home ≡ names.entry.ghost_name }
+        ensures front { Begins names.old result.names }
         ensures named { AllByRecursion (IsNamedWord result.names) result.words }
         ensures no_end { AllByRecursion (λ w. w.sort ≢ sort.End) result.words }
     {
@@ -63,8 +64,9 @@ impl<'a> Reader<'a> {
         ensures end { self.new.end ≡ self.old.end }
         ensures names { self.new.names ≡ self.old.names }
         ensures count { self.old.count ≤ self.new.count }
+        ensures home { self.new.home ≡ self.old.home }
     {
-        load(&mut self.tokens, &mut self.names, &mut self.ahead)
+        load(&mut self.tokens, self.names, &mut self.ahead)
     }
 
     /// Goes on to the next word. The end stays.
@@ -76,16 +78,19 @@ impl<'a> Reader<'a> {
         ensures end { self.new.end ≡ self.old.end }
         ensures names { self.new.names ≡ self.old.names }
         ensures count { self.old.count ≤ self.new.count }
+        ensures home { self.new.home ≡ self.old.home }
     {
-        let word = load(&mut self.tokens, &mut self.names, &mut self.ahead)?;
+        let word = load(&mut self.tokens, self.names, &mut self.ahead)?;
         self.ahead = None;
         Ok(word)
     }
 
-    pub fn into_names(self) -> Names
-        ensures count { length result ≡ self.entry.count }
-        ensures front { Begins result self.entry.names }
-        ensures all { self.entry.words ≡ [] → result ≡ self.entry.names }
+    /// Gives the list of names back.
+    pub fn into_names(self) -> &'a mut Names
+        ensures home { result.ghost_name ≡ self.entry.home }
+        ensures count { length result.now ≡ self.entry.count }
+        ensures front { Begins result.now self.entry.names }
+        ensures all { self.entry.words ≡ [] → result.now ≡ self.entry.names }
     {
         let Reader {
             tokens: _,

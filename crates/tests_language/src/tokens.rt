@@ -115,7 +115,8 @@ fn one_name(alloc: Global) -> Result<Names, Fail>
 fn has_words(alloc: Global, source: &str, want: &str, count: u32) -> Result<bool, Fail>
     requires { length source.now ≤ 1000 }
 {
-    let mut reader = Reader::over(source, one_name(alloc)?);
+    let mut names = one_name(alloc)?;
+    let mut reader = Reader::over(source, &mut names);
     let is_so = are_words(alloc, &mut reader, want)?;
     let found = reader.into_names().len();
     Ok(is_so && found == count)

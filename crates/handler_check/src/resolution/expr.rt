@@ -1,6 +1,6 @@
 // Expressions, conditions and operations with their names resolved.
 
-ghost use Rattle.std.specs.Prelude.{◌≡◌, ◌<◌, ◌^◌, IfOk, length, map};
+ghost use Rattle.std.specs.Prelude.{◌≡◌, IfOk, map};
 ghost use Rattle.handler_check.specs.Resolved as spec;
 ghost use Rattle.check_meaning.specs.Code.{cond_test, expr_term};
 
@@ -13,22 +13,19 @@ use syntax_trees::{Atom, Call, Cond, Expr};
 const NIL: CheckedAtom = CheckedAtom::Lit(Value::Nil);
 
 /// The number of a name's first declaration, or how many there are where it is none of them.
-pub(super) fn number_in(names: &[u32], name: u32) -> u32
-    requires { length names.now < 2 ^ 32 }
+pub(super) fn number_in(names: &Listed<u32>, name: u32) -> u32
     ensures { result ≡ spec.number_in names.now name }
 {
-    let mut number: u32 = 0;
-    for n in names {
-        if *n == name {
+    let count = names.len();
+    for number in 0..count {
+        if *names.get(number) == name {
             return number;
         }
-        number += 1;
     }
-    number
+    count
 }
 
-fn resolve_atom(variables: &[u32], atom: &Atom) -> CheckedAtom
-    requires { length variables.now < 2 ^ 32 }
+fn resolve_atom(variables: &Listed<u32>, atom: &Atom) -> CheckedAtom
     ensures { result ≡ spec.atom_of variables.now atom.now }
 {
     match atom {
@@ -39,10 +36,9 @@ fn resolve_atom(variables: &[u32], atom: &Atom) -> CheckedAtom
 
 pub(super) fn resolve_expr(
     alloc: Global,
-    variables: &[u32],
+    variables: &Listed<u32>,
     e: &Expr,
 ) -> Result<CheckedExpr, NoMemory>
-    requires { length variables.now < 2 ^ 32 }
     ensures { IfOk result (λ found. expr_term found ≡ spec.term_of variables.now e.now) }
 {
     match e {
@@ -67,10 +63,9 @@ pub(super) fn resolve_expr(
 
 pub(super) fn resolve_values(
     alloc: Global,
-    variables: &[u32],
+    variables: &Listed<u32>,
     values: &[Expr],
 ) -> Result<CheckedExprs, NoMemory>
-    requires { length variables.now < 2 ^ 32 }
     ensures { IfOk result (λ found. map expr_term found
         ≡ map (spec.term_of variables.now) values.now) }
 {
@@ -95,10 +90,9 @@ pub(crate) fn listed<T: Drop>(items: Vec<T>) -> Result<Listed<T>, NoMemory>
 
 pub(super) fn resolve_cond(
     alloc: Global,
-    variables: &[u32],
+    variables: &Listed<u32>,
     cond: &Cond,
 ) -> Result<CheckedCond, NoMemory>
-    requires { length variables.now < 2 ^ 32 }
     ensures { IfOk result (λ found. cond_test found ≡ spec.test_of variables.now cond.now) }
 {
     let left = resolve_expr(alloc, variables, &cond.left)?;
@@ -110,8 +104,7 @@ pub(super) fn resolve_cond(
     })
 }
 
-fn resolve_key(variables: &[u32], args: &[Atom]) -> CheckedAtom
-    requires { length variables.now < 2 ^ 32 }
+fn resolve_key(variables: &Listed<u32>, args: &[Atom]) -> CheckedAtom
     ensures { result ≡ spec.key_of variables.now args.now }
 {
     if args.len() < 1 {
@@ -121,8 +114,7 @@ fn resolve_key(variables: &[u32], args: &[Atom]) -> CheckedAtom
     }
 }
 
-fn resolve_value(variables: &[u32], args: &[Atom]) -> CheckedAtom
-    requires { length variables.now < 2 ^ 32 }
+fn resolve_value(variables: &Listed<u32>, args: &[Atom]) -> CheckedAtom
     ensures { result ≡ spec.value_of variables.now args.now }
 {
     if args.len() < 2 {
@@ -132,9 +124,11 @@ fn resolve_value(variables: &[u32], args: &[Atom]) -> CheckedAtom
     }
 }
 
-pub(super) fn resolve_call(tables: &[u32], variables: &[u32], call: &Call) -> CheckedCall
-    requires tables { length tables.now < 2 ^ 32 }
-    requires variables { length variables.now < 2 ^ 32 }
+pub(super) fn resolve_call(
+    tables: &Listed<u32>,
+    variables: &Listed<u32>,
+    call: &Call,
+) -> CheckedCall
     ensures { result ≡ spec.call_of tables.now variables.now call.now }
 {
     CheckedCall {

@@ -29,4 +29,4 @@ returns-clause-found c =
 
 pub returns-clause-names : goal.returns-clause-names
 returns-clause-names c =
-    handler_names c.args.handler.now c.as_slice-params.result.now c.as_slice-body.result.now c.in_ok-names.names.items _ c.as_slice-params.ensures c.as_slice-body.ensures c.in_ok-names.ensures.names c.in_ok-find_in_block.ensures.names
+    c.in_ok-listed.ensures ∙ handler_names c.args.handler.now c.as_slice-params.result.now c.as_slice-body.result.now c.in_ok-names.names.items _ c.as_slice-params.ensures c.as_slice-body.ensures c.in_ok-names.ensures.names c.in_ok-find_in_block.ensures.names

@@ -7,7 +7,7 @@ use Rattle.syntax_grammar.specs.Phrase.{word, named, assign_stmt, right_words}
 use Rattle.syntax_parser.proofs.Steps.{took, passed_one, passed_then, passed_framed, refused_after, refused_framed}
 use Rattle.syntax_parser.proofs.parse_stmt.assignment.Goals as goal
 use Rattle.syntax_parser.proofs.parse_stmt.assignment.Goals.{In_ok-word}
-use Rattle.syntax_parser.proofs.Exits.{passed_on, no_memory, none_read, grown, fewer}
+use Rattle.syntax_parser.proofs.Exits.{passed_on, no_memory, none_read, grown, fewer, stays, stays_then}
 
 -- the first word was taken
 first_word_is : (c : In_ok-word) → c.args.input.now.reader.words ≡ word (sort.Name c.args.name) c.in_ok-word.word.at ∷ c.take.new.self.reader.words
@@ -19,62 +19,68 @@ begun : (c : In_ok-word) → Passed (Inside c.args.depth) (statements ∷ []) (m
 begun c = passed_one (Inside c.args.depth) _ _ statements (mark sort.Assign ∷ a_right ∷ mark sort.Semicolon ∷ statements ∷ []) _ (first_word_is c) c.take.ensures.end c.take.ensures.signs refl (λ under h. refl)
 
 pub returns-in_err-word : goal.returns-in_err-word
-returns-in_err-word c = record {
-  reads = no_memory _ _ _ _ _ _ _ c.from_residual.result c.from_residual.ensures.1;
-  names = c.in_err-word.ensures.names;
-  count = c.in_err-word.ensures.count;
-  shorter = none_read _ _ c.from_residual.result c.from_residual.ensures.1;
-}
+returns-in_err-word c =
+    record {
+      reads = record {
+        outcome = no_memory _ _ _ _ _ _ _ c.from_residual.result c.from_residual.ensures.1;
+        kept = c.in_err-word.ensures.kept;
+      };
+      shorter = none_read _ _ c.from_residual.result c.from_residual.ensures.1;
+    }
 
 pub returns-in_err-mark : goal.returns-in_err-mark
-returns-in_err-mark c = record {
-  reads = passed_on _ _ _ _ c.from_residual-in_err-mark.result c.from_residual-in_err-mark.ensures.1 (λ some. refused_after (begun (goal.at.returns-in_err-mark c).In_ok-word) (refused_framed (a_right ∷ mark sort.Semicolon ∷ statements ∷ []) (λ under h. tt) (c.in_err-mark.ensures.reads some)));
-  names = c.in_err-mark.ensures.names ∙ c.in_ok-word.ensures.names;
-  count = grown c.in_ok-word.ensures.count c.in_err-mark.ensures.count;
-  shorter = none_read _ _ c.from_residual-in_err-mark.result c.from_residual-in_err-mark.ensures.1;
-}
+returns-in_err-mark c =
+    record {
+      reads = record {
+        outcome = passed_on _ _ _ _ c.from_residual-in_err-mark.result c.from_residual-in_err-mark.ensures.1 (λ some. refused_after (begun (goal.at.returns-in_err-mark c).In_ok-word) (refused_framed (a_right ∷ mark sort.Semicolon ∷ statements ∷ []) (λ under h. tt) (c.in_err-mark.ensures.outcome some)));
+        kept = stays_then c.in_ok-word.ensures.kept c.in_err-mark.ensures.kept;
+      };
+      shorter = none_read _ _ c.from_residual-in_err-mark.result c.from_residual-in_err-mark.ensures.1;
+    }
 
 pub returns-in_err-right : goal.returns-in_err-right
-returns-in_err-right c = record {
-  reads = passed_on _ _ _ _ c.from_residual-in_err-right.result c.from_residual-in_err-right.ensures.1 (λ some. refused_after (begun (goal.at.returns-in_err-right c).In_ok-word) (refused_after (passed_framed (a_right ∷ mark sort.Semicolon ∷ statements ∷ []) (λ under h. tt) c.in_ok-mark.ensures.reads.1) (refused_framed (mark sort.Semicolon ∷ statements ∷ []) (λ under h. h.none_open) (c.in_err-right.ensures.reads some))));
-  names = c.in_err-right.ensures.names ∙ c.in_ok-mark.ensures.names ∙ c.in_ok-word.ensures.names;
-  count = grown c.in_ok-word.ensures.count (grown c.in_ok-mark.ensures.count c.in_err-right.ensures.count);
-  shorter = none_read _ _ c.from_residual-in_err-right.result c.from_residual-in_err-right.ensures.1;
-}
+returns-in_err-right c =
+    record {
+      reads = record {
+        outcome = passed_on _ _ _ _ c.from_residual-in_err-right.result c.from_residual-in_err-right.ensures.1 (λ some. refused_after (begun (goal.at.returns-in_err-right c).In_ok-word) (refused_after (passed_framed (a_right ∷ mark sort.Semicolon ∷ statements ∷ []) (λ under h. tt) c.in_ok-mark.ensures.outcome.1) (refused_framed (mark sort.Semicolon ∷ statements ∷ []) (λ under h. h.none_open) (c.in_err-right.ensures.outcome some))));
+        kept = stays_then c.in_ok-word.ensures.kept (stays_then c.in_ok-mark.ensures.kept c.in_err-right.ensures.kept);
+      };
+      shorter = none_read _ _ c.from_residual-in_err-right.result c.from_residual-in_err-right.ensures.1;
+    }
 
 pub returns-in_err-mark-2 : goal.returns-in_err-mark-2
-returns-in_err-mark-2 c = record {
-  reads = passed_on _ _ _ _ c.from_residual-in_err-mark-2.result c.from_residual-in_err-mark-2.ensures.1 (λ some. refused_after (begun (goal.at.returns-in_err-mark-2 c).In_ok-word) (refused_after (passed_framed (a_right ∷ mark sort.Semicolon ∷ statements ∷ []) (λ under h. tt) c.in_ok-mark.ensures.reads.1) (refused_after (passed_framed (mark sort.Semicolon ∷ statements ∷ []) (λ under h. h.none_open) c.in_ok-right.ensures.reads.1) (refused_framed (statements ∷ []) (λ under h. tt) (c.in_err-mark-2.ensures.reads some)))));
-  names = c.in_err-mark-2.ensures.names ∙ c.in_ok-right.ensures.names ∙ c.in_ok-mark.ensures.names ∙ c.in_ok-word.ensures.names;
-  count = grown c.in_ok-word.ensures.count (grown c.in_ok-mark.ensures.count (grown c.in_ok-right.ensures.count c.in_err-mark-2.ensures.count));
-  shorter = none_read _ _ c.from_residual-in_err-mark-2.result c.from_residual-in_err-mark-2.ensures.1;
-}
+returns-in_err-mark-2 c =
+    record {
+      reads = record {
+        outcome = passed_on _ _ _ _ c.from_residual-in_err-mark-2.result c.from_residual-in_err-mark-2.ensures.1 (λ some. refused_after (begun (goal.at.returns-in_err-mark-2 c).In_ok-word) (refused_after (passed_framed (a_right ∷ mark sort.Semicolon ∷ statements ∷ []) (λ under h. tt) c.in_ok-mark.ensures.outcome.1) (refused_after (passed_framed (mark sort.Semicolon ∷ statements ∷ []) (λ under h. h.none_open) c.in_ok-right.ensures.outcome.1) (refused_framed (statements ∷ []) (λ under h. tt) (c.in_err-mark-2.ensures.outcome some)))));
+        kept = stays_then c.in_ok-word.ensures.kept (stays_then c.in_ok-mark.ensures.kept (stays_then c.in_ok-right.ensures.kept c.in_err-mark-2.ensures.kept));
+      };
+      shorter = none_read _ _ c.from_residual-in_err-mark-2.result c.from_residual-in_err-mark-2.ensures.1;
+    }
 
-pub returns-clause-names : goal.returns-clause-names
-returns-clause-names c = c.in_ok-mark-2.ensures.names ∙ c.in_ok-right.ensures.names ∙ c.in_ok-mark.ensures.names ∙ c.in_ok-word.ensures.names
-
-pub returns-clause-count : goal.returns-clause-count
-returns-clause-count c = grown c.in_ok-word.ensures.count (grown c.in_ok-mark.ensures.count (grown c.in_ok-right.ensures.count c.in_ok-mark-2.ensures.count))
-
-pub returns-clause-shorter : goal.returns-clause-shorter
-returns-clause-shorter c = fewer _ (first_word_is (goal.at.returns-clause-shorter c).In_ok-word) (grown c.in_ok-mark-2.ensures.reads.1.no_longer (grown c.in_ok-right.ensures.reads.1.no_longer c.in_ok-mark.ensures.reads.1.no_longer))
-
-pub returns-clause-reads : goal.returns-clause-reads
-returns-clause-reads c =
-    let w = c.in_ok-word.ensures.word in
-    let at = c.in_ok-word.word.at in
-    let n = c.args.name in
-    let first = took _ _ _ _ (sort.Name n) w (ap (λ x. x.sort) w ∙ c.requires) (λ e. cc) c.in_ok-word.ensures.words in
-    let a = c.in_ok-mark.ensures.reads in
-    let r = c.in_ok-right.ensures.reads in
-    let s = c.in_ok-mark-2.ensures.reads in (
-      record {
-        phrase = assign_stmt (named n at) a.0.phrase r.0.phrase s.0.phrase;
-        read = first ∙ ap (λ l. word (sort.Name n) at ∷ l) (a.0.read ∙ ap (λ l. word sort.Assign a.0.phrase ∷ l) (r.0.read ∙ ap (right_words r.0.phrase) s.0.read));
-        value = ap (stmt.Assign n at) r.0.value;
-      },
-      passed_then (passed_one (Inside c.args.depth) _ _ statements (mark sort.Assign ∷ a_right ∷ mark sort.Semicolon ∷ statements ∷ []) _ first c.take.ensures.end c.take.ensures.signs refl (λ under h. refl))
-          (passed_then (passed_framed (a_right ∷ mark sort.Semicolon ∷ statements ∷ []) (λ under h. tt) a.1)
-          (passed_then (passed_framed (mark sort.Semicolon ∷ statements ∷ []) (λ under h. h.none_open) r.1)
-          (passed_framed (statements ∷ []) (λ under h. tt) s.1))),
-    )
+pub returns : goal.returns
+returns c =
+    record {
+      reads = record {
+        outcome =
+            let w = c.in_ok-word.ensures.word in
+            let at = c.in_ok-word.word.at in
+            let n = c.args.name in
+            let first = took _ _ _ _ (sort.Name n) w (ap (λ x. x.sort) w ∙ c.requires) (λ e. cc) c.in_ok-word.ensures.words in
+            let a = c.in_ok-mark.ensures.outcome in
+            let r = c.in_ok-right.ensures.outcome in
+            let s = c.in_ok-mark-2.ensures.outcome in (
+              record {
+                phrase = assign_stmt (named n at) a.0.phrase r.0.phrase s.0.phrase;
+                read = first ∙ ap (λ l. word (sort.Name n) at ∷ l) (a.0.read ∙ ap (λ l. word sort.Assign a.0.phrase ∷ l) (r.0.read ∙ ap (right_words r.0.phrase) s.0.read));
+                value = ap (stmt.Assign n at) r.0.value;
+              },
+              passed_then (passed_one (Inside c.args.depth) _ _ statements (mark sort.Assign ∷ a_right ∷ mark sort.Semicolon ∷ statements ∷ []) _ first c.take.ensures.end c.take.ensures.signs refl (λ under h. refl))
+                  (passed_then (passed_framed (a_right ∷ mark sort.Semicolon ∷ statements ∷ []) (λ under h. tt) a.1)
+                  (passed_then (passed_framed (mark sort.Semicolon ∷ statements ∷ []) (λ under h. h.none_open) r.1)
+                  (passed_framed (statements ∷ []) (λ under h. tt) s.1))),
+            );
+        kept = stays_then c.in_ok-word.ensures.kept (stays_then c.in_ok-mark.ensures.kept (stays_then c.in_ok-right.ensures.kept c.in_ok-mark-2.ensures.kept));
+      };
+      shorter = fewer _ (first_word_is (goal.at.returns c).In_ok-word) (grown c.in_ok-mark-2.ensures.outcome.1.no_longer (grown c.in_ok-right.ensures.outcome.1.no_longer c.in_ok-mark.ensures.outcome.1.no_longer));
+    }

@@ -7,12 +7,12 @@ use Rattle.syntax_grammar.specs.Tree.{expr_tree, more_trees}
 use Rattle.syntax_parser.proofs.Loops.{and_value, and_value-words, and_value-trees, and_value-count, value_step}
 use Rattle.syntax_parser.proofs.Steps.{passed_then, passed_framed, passed_empty, passed_over, refused_after, refused_framed}
 use Rattle.syntax_grammar.proofs.Rows.{values_none, values_full}
-use Rattle.syntax_parser.proofs.Exits.{passed_on, no_memory, grown}
+use Rattle.syntax_parser.proofs.Exits.{passed_on, no_memory, grown, stays, stays_then}
 use Rattle.syntax_parser.proofs.parse_stmt.values.Goals as goal
 
 pub loop-turn-init : goal.loop-turn-init
 loop-turn-init c =
-    let f = c.in_ok-first.ensures.reads in
+    let f = c.in_ok-first.ensures.outcome in
     record {
       first = f.0.phrase;
       more = no_value;
@@ -21,24 +21,27 @@ loop-turn-init c =
       value = c.in_ok-values.ensures.items ∙ ap (λ a. a ∷ []) f.0.value;
       long = ap length c.in_ok-values.ensures.items;
       passed = passed_framed (more_values 3 ∷ []) (λ under h. h) f.1;
-      names = c.in_ok-first.ensures.names;
-      grown = c.in_ok-first.ensures.count;
+      kept = c.in_ok-first.ensures.kept;
     }
 
-pub returns-in_err-value-in-Comma-clause-reads : goal.returns-in_err-value-in-Comma-clause-reads
-returns-in_err-value-in-Comma-clause-reads c =
-    let seen = c.in_ok-peek.ensures in
-    let taken = c.in_ok-take-in-Comma.ensures in
-    let s = value_step _ _ _ c.peek.new.self _ _ _ c.loop-turn.invariant c.loop-turn-test.true seen.word seen.words seen.end seen.signs c.in-Comma.is taken.words taken.end taken.signs in
-    let p = err_from_is_err_and c.from_residual-in_err-value-in-Comma.result c.from_residual-in_err-value-in-Comma.ensures.1 in
-    rw (p.1, p.2) (λ some. refused_after s.1 (refused_framed (more_values (3 - (c.loop-turn.turn + 1)) ∷ []) (λ under h. h) (c.in_err-value-in-Comma.ensures.reads some)))
+pub returns-in_err-value-in-Comma : goal.returns-in_err-value-in-Comma
+returns-in_err-value-in-Comma c =
+    record {
+      outcome =
+          let seen = c.in_ok-peek.ensures in
+          let taken = c.in_ok-take-in-Comma.ensures in
+          let s = value_step _ _ _ c.peek.new.self _ _ _ c.loop-turn.invariant c.loop-turn-test.true seen.word seen.words seen.end seen.signs c.in-Comma.is taken.words taken.end taken.signs in
+          let p = err_from_is_err_and c.from_residual-in_err-value-in-Comma.result c.from_residual-in_err-value-in-Comma.ensures.1 in
+          rw (p.1, p.2) (λ some. refused_after s.1 (refused_framed (more_values (3 - (c.loop-turn.turn + 1)) ∷ []) (λ under h. h) (c.in_err-value-in-Comma.ensures.outcome some)));
+      kept = stays_then c.loop-turn.invariant.kept (stays_then c.in_ok-peek.ensures.kept (stays_then c.in_ok-take-in-Comma.ensures.kept c.in_err-value-in-Comma.ensures.kept));
+    }
 
 pub returns-in_default : goal.returns-in_default
 returns-in_default c =
     let so_far = c.loop-turn.invariant in
     let seen = c.in_ok-peek.ensures in
     record {
-      reads = (
+      outcome = (
         record {
           phrase = record { first = so_far.first; more = so_far.more; few = omega (arith, so_far.few, c.loop-turn-test.true) };
           read = so_far.read ∙ ap (λ l. expr_words so_far.first (more_words so_far.more l)) (sym seen.words);
@@ -46,8 +49,7 @@ returns-in_default c =
         },
         passed_then so_far.passed (passed_over _ (more_values (3 - c.loop-turn.turn)) [] _ _ _ seen.word seen.words seen.end seen.signs refl (values_none _ _ c.in_default.not-Comma)),
       );
-      names = seen.names ∙ so_far.names;
-      count = omega (arith, seen.count, so_far.grown);
+      kept = stays_then so_far.kept seen.kept;
     }
 
 pub loop-turn-preserved : goal.loop-turn-preserved
@@ -60,70 +62,61 @@ loop-turn-preserved c =
     let f = c.in_ok-value-in-Comma.ensures in
     record {
       first = so_far.first;
-      more = and_value so_far.more at f.reads.0.phrase;
-      read = so_far.read ∙ ap (λ l. expr_words so_far.first (more_words so_far.more l)) (s.0 ∙ ap (λ l. word sort.Comma at ∷ l) f.reads.0.read) ∙ ap (expr_words so_far.first) (sym (and_value-words so_far.more at f.reads.0.phrase _));
-      few = and_value-count so_far.more at f.reads.0.phrase ∙ ap (λ n. n + 1) so_far.few;
-      value = c.in_ok-push-in-Comma.ensures.items ∙ ap (λ l. l ++ c.in_ok-value-in-Comma.value ∷ []) so_far.value ∙ ap (λ a. expr_tree so_far.first ∷ (more_trees so_far.more ++ a ∷ [])) f.reads.0.value ∙ ap (λ l. expr_tree so_far.first ∷ l) (sym (and_value-trees so_far.more at f.reads.0.phrase));
+      more = and_value so_far.more at f.outcome.0.phrase;
+      read = so_far.read ∙ ap (λ l. expr_words so_far.first (more_words so_far.more l)) (s.0 ∙ ap (λ l. word sort.Comma at ∷ l) f.outcome.0.read) ∙ ap (expr_words so_far.first) (sym (and_value-words so_far.more at f.outcome.0.phrase _));
+      few = and_value-count so_far.more at f.outcome.0.phrase ∙ ap (λ n. n + 1) so_far.few;
+      value = c.in_ok-push-in-Comma.ensures.items ∙ ap (λ l. l ++ c.in_ok-value-in-Comma.value ∷ []) so_far.value ∙ ap (λ a. expr_tree so_far.first ∷ (more_trees so_far.more ++ a ∷ [])) f.outcome.0.value ∙ ap (λ l. expr_tree so_far.first ∷ l) (sym (and_value-trees so_far.more at f.outcome.0.phrase));
       long = ap length c.in_ok-push-in-Comma.ensures.items ∙ length-append c.loop-turn.values.items _ ∙ ap (λ n. n + 1) so_far.long;
-      passed = passed_then s.1 (passed_framed (more_values (3 - (c.loop-turn.turn + 1)) ∷ []) (λ under h. h) f.reads.1);
-      names = f.names ∙ taken.names ∙ seen.names ∙ so_far.names;
-      grown = omega (arith, f.count, taken.count, seen.count, so_far.grown);
+      passed = passed_then s.1 (passed_framed (more_values (3 - (c.loop-turn.turn + 1)) ∷ []) (λ under h. h) f.outcome.1);
+      kept = stays_then so_far.kept (stays_then seen.kept (stays_then taken.kept f.kept));
     }
 
-pub returns-clause-reads : goal.returns-clause-reads
-returns-clause-reads c =
-    let so_far = c.loop-turn.invariant in (
-      record {
-        phrase = record { first = so_far.first; more = so_far.more; few = omega (arith, so_far.few, c.loop-turn.auto.turn-end) };
-        read = so_far.read;
-        value = c.list-2.ensures ∙ so_far.value;
-      },
-      passed_then so_far.passed (passed_empty _ (more_values (3 - c.loop-turn.turn)) [] _ _ refl refl (values_full _ _ (omega (arith, c.loop-turn-test.false)))),
-    )
+pub returns : goal.returns
+returns c =
+    record {
+      outcome =
+          let so_far = c.loop-turn.invariant in (
+            record {
+              phrase = record { first = so_far.first; more = so_far.more; few = omega (arith, so_far.few, c.loop-turn.auto.turn-end) };
+              read = so_far.read;
+              value = c.list-2.ensures ∙ so_far.value;
+            },
+            passed_then so_far.passed (passed_empty _ (more_values (3 - c.loop-turn.turn)) [] _ _ refl refl (values_full _ _ (omega (arith, c.loop-turn-test.false)))),
+          );
+      kept = c.loop-turn.invariant.kept;
+    }
 
 pub returns-in_err-first : goal.returns-in_err-first
-returns-in_err-first c = record {
-  reads = passed_on _ _ _ _ c.from_residual.result c.from_residual.ensures.1 (λ some. refused_framed (more_values 3 ∷ []) (λ under h. h) (c.in_err-first.ensures.reads some));
-  names = c.in_err-first.ensures.names;
-  count = c.in_err-first.ensures.count;
-}
+returns-in_err-first c =
+    record {
+      outcome = passed_on _ _ _ _ c.from_residual.result c.from_residual.ensures.1 (λ some. refused_framed (more_values 3 ∷ []) (λ under h. h) (c.in_err-first.ensures.outcome some));
+      kept = c.in_err-first.ensures.kept;
+    }
 
 pub returns-in_err-values : goal.returns-in_err-values
-returns-in_err-values c = record {
-  reads = no_memory _ _ _ _ _ _ _ c.from_residual-in_err-values.result c.from_residual-in_err-values.ensures.1;
-  names = c.in_ok-first.ensures.names;
-  count = c.in_ok-first.ensures.count;
-}
+returns-in_err-values c =
+    record {
+      outcome = no_memory _ _ _ _ _ _ _ c.from_residual-in_err-values.result c.from_residual-in_err-values.ensures.1;
+      kept = c.in_ok-first.ensures.kept;
+    }
 
 pub returns-in_err-peek : goal.returns-in_err-peek
-returns-in_err-peek c = record {
-  reads = no_memory _ _ _ _ _ _ _ c.from_residual-in_err-peek.result c.from_residual-in_err-peek.ensures.1;
-  names = c.in_err-peek.ensures.names ∙ c.loop-turn.invariant.names;
-  count = grown c.loop-turn.invariant.grown c.in_err-peek.ensures.count;
-}
+returns-in_err-peek c =
+    record {
+      outcome = no_memory _ _ _ _ _ _ _ c.from_residual-in_err-peek.result c.from_residual-in_err-peek.ensures.1;
+      kept = stays_then c.loop-turn.invariant.kept c.in_err-peek.ensures.kept;
+    }
 
 pub returns-in_err-take-in-Comma : goal.returns-in_err-take-in-Comma
-returns-in_err-take-in-Comma c = record {
-  reads = no_memory _ _ _ _ _ _ _ c.from_residual-in_err-take-in-Comma.result c.from_residual-in_err-take-in-Comma.ensures.1;
-  names = c.in_err-take-in-Comma.ensures.names ∙ c.in_ok-peek.ensures.names ∙ c.loop-turn.invariant.names;
-  count = grown c.loop-turn.invariant.grown (grown c.in_ok-peek.ensures.count c.in_err-take-in-Comma.ensures.count);
-}
-
-pub returns-in_err-value-in-Comma-clause-names : goal.returns-in_err-value-in-Comma-clause-names
-returns-in_err-value-in-Comma-clause-names c = c.in_err-value-in-Comma.ensures.names ∙ c.in_ok-take-in-Comma.ensures.names ∙ c.in_ok-peek.ensures.names ∙ c.loop-turn.invariant.names
-
-pub returns-in_err-value-in-Comma-clause-count : goal.returns-in_err-value-in-Comma-clause-count
-returns-in_err-value-in-Comma-clause-count c = grown c.loop-turn.invariant.grown (grown c.in_ok-peek.ensures.count (grown c.in_ok-take-in-Comma.ensures.count c.in_err-value-in-Comma.ensures.count))
+returns-in_err-take-in-Comma c =
+    record {
+      outcome = no_memory _ _ _ _ _ _ _ c.from_residual-in_err-take-in-Comma.result c.from_residual-in_err-take-in-Comma.ensures.1;
+      kept = stays_then c.loop-turn.invariant.kept (stays_then c.in_ok-peek.ensures.kept c.in_err-take-in-Comma.ensures.kept);
+    }
 
 pub returns-in_err-push-in-Comma : goal.returns-in_err-push-in-Comma
-returns-in_err-push-in-Comma c = record {
-  reads = no_memory _ _ _ _ _ _ _ c.from_residual-in_err-push-in-Comma.result c.from_residual-in_err-push-in-Comma.ensures.1;
-  names = c.in_ok-value-in-Comma.ensures.names ∙ c.in_ok-take-in-Comma.ensures.names ∙ c.in_ok-peek.ensures.names ∙ c.loop-turn.invariant.names;
-  count = grown c.loop-turn.invariant.grown (grown c.in_ok-peek.ensures.count (grown c.in_ok-take-in-Comma.ensures.count c.in_ok-value-in-Comma.ensures.count));
-}
-
-pub returns-clause-names : goal.returns-clause-names
-returns-clause-names c = c.loop-turn.invariant.names
-
-pub returns-clause-count : goal.returns-clause-count
-returns-clause-count c = c.loop-turn.invariant.grown
+returns-in_err-push-in-Comma c =
+    record {
+      outcome = no_memory _ _ _ _ _ _ _ c.from_residual-in_err-push-in-Comma.result c.from_residual-in_err-push-in-Comma.ensures.1;
+      kept = stays_then c.loop-turn.invariant.kept (stays_then c.in_ok-peek.ensures.kept (stays_then c.in_ok-take-in-Comma.ensures.kept c.in_ok-value-in-Comma.ensures.kept));
+    }

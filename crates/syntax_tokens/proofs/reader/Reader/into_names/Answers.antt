@@ -3,8 +3,8 @@ use Rattle.syntax_tokens.proofs.reader.Reader.into_names.Goals as goal
 
 pub returns-clause-front : goal.returns-clause-front
 returns-clause-front c =
-    rw (← c.self.view_is) (begins_left c.self.inside.names c.self.inside.tokens)
+    rw (← c.self.view_is) (begins_left c.self.inside.names.now c.self.inside.tokens)
 
 pub returns-clause-all : goal.returns-clause-all
 returns-clause-all c =
-    rw (← c.self.view_is) (all_left c.self.inside.ahead c.self.inside.names c.self.inside.tokens)
+    rw (← c.self.view_is) (all_left c.self.inside.ahead c.self.inside.names.now c.self.inside.tokens)
