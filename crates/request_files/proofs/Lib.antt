@@ -3,6 +3,7 @@ pub mod EntryLemmas
 pub mod FaultLemmas
 pub mod FirstFaults
 pub mod HandlerLemmas
+pub mod LightRows
 pub mod NumberLemmas
 pub mod PrintableLemmas
 pub mod RowLemmas
@@ -10,3 +11,4 @@ pub mod TextLemmas
 pub mod ValueLemmas
 pub mod WholeLines
 pub mod WholeTexts
+pub mod WorkFaults

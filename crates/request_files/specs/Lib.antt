@@ -7,3 +7,4 @@ pub mod Session
 pub mod Steps
 pub mod Text
 pub mod Values
+pub mod WorkSums
