@@ -1,5 +1,5 @@
 -- The handlers of a made session: what stands in their texts, and their code.
-use Rattle.std.proofs.Common.{◌≡◌, ℕ, zero, suc, ◌<◌, ◌≤◌, Bool, true, List, [], ◌∷◌, ◌++◌, length, refl, sym, ap, ◌∙◌, subst, arith}
+use Rattle.std.proofs.Common.{◌≡◌, ℕ, zero, suc, ◌<◌, ◌≤◌, true, List, [], ◌∷◌, ◌++◌, length, refl, sym, ap, ◌∙◌, subst, arith}
 use Rattle.std.specs.List.{AllByRecursion}
 use Rattle.session_values.specs.declared.kind.Kind.{Kind}
 use Rattle.session_values.specs.declared.kind.Kind.TheVariants as kind
@@ -15,7 +15,7 @@ use Rattle.check_rules.specs.Marks.{Mark, Declared, Mentioned, declared, seeing,
 use Rattle.check_rules.specs.Source.{Source, Finish, Let, Do, Answer, block_source}
 use Rattle.check_meaning.specs.Bounds.{calls_bound, work_bound}
 use Rattle.check_meaning.specs.Code.{Code}
-use Rattle.handler_check.specs.Resolved.{code_of, handler_code, code_at, table_names}
+use Rattle.handler_check.specs.Resolved.{code_of, handler_code, code_at}
 use Rattle.handler_check.proofs.Cases.{marks_leaf, source_let, source_call, source_reply}
 use Rattle.made_sessions.proofs.Phrases.{made_file, login, logout, seen, crowd}
 use Rattle.made_sessions.proofs.Symbols.{is_straight, all_list}

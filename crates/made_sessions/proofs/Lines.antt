@@ -1,12 +1,12 @@
 -- The lines of a made session's requests.
-use Rattle.std.proofs.Common.{◌≡◌, ℕ, zero, suc, ◌+◌, ◌*◌, ◌%◌, ◌<◌, ◌≤◌, Bool, true, false, ◌==◌, ◌&&◌, cond, nat_lt, List, [], ◌∷◌, ◌++◌, length, refl, sym, ap, ◌∙◌, subst, arith, append_assoc, length-append}
+use Rattle.std.proofs.Common.{◌≡◌, ℕ, zero, suc, ◌+◌, ◌*◌, ◌%◌, ◌<◌, ◌≤◌, Bool, true, false, ◌==◌, cond, nat_lt, List, [], ◌∷◌, ◌++◌, length, refl, sym, ap, ◌∙◌, arith, append_assoc, length-append}
 use Rattle.std.specs.Prelude.{codes, decimal, IsUtf8}
 use Rattle.std.specs.List.{list_all, AllByRecursion}
 use Rattle.std.proofs.lemmas.Bool.Decides.{nat_tests}
 use Rattle.std.proofs.lemmas.List.Elements.{All-from_recursion}
 use Rattle.std.proofs.lemmas.Str.{IsUtf8-from_ascii}
 use Rattle.std.proofs.lemmas.Str.Ascii.{IsAscii-from_all}
-use Rattle.request_files.specs.Text.{Text, is_word_byte, is_line_byte, words}
+use Rattle.request_files.specs.Text.{Text, is_line_byte}
 use Rattle.request_files.specs.Values.{is_value}
 use Rattle.request_files.specs.Laws.{with_feeds}
 use Rattle.request_files.specs.Requests.{handler_of}
@@ -16,7 +16,7 @@ use Rattle.made_sessions.proofs.Handlers.{small_at}
 use Rattle.made_sessions.proofs.Numbers.{is_plain_byte, IsNumber, small_number, user_value}
 use Rattle.made_sessions.proofs.Parts.{and_left, and_right, and_both, all_joined, all_weaker, is_line}
 use Rattle.made_sessions.proofs.Phrases.{made_file}
-use Rattle.request_files.proofs.LightRows.{IsLight, HasLight}
+use Rattle.request_files.proofs.LightRows.{HasLight}
 use Rattle.made_sessions.proofs.Tokens.{made_names}
 use Rattle.made_sessions.proofs.Words.{word_then, only_word}
 

@@ -1,13 +1,13 @@
 -- A made session breaks no rule.
-use Rattle.std.proofs.Common.{◌≡◌, ℕ, ◌+◌, ◌*◌, ◌<◌, ◌≤◌, Bool, true, false, List, [], ◌∷◌, ◌++◌, length, None, refl, sym, ap, ◌∙◌, subst, arith, append_assoc, append-nil, length-append}
+use Rattle.std.proofs.Common.{◌≡◌, ℕ, ◌*◌, ◌≤◌, true, false, List, [], ◌∷◌, ◌++◌, length, None, refl, sym, ap, ◌∙◌, subst, arith, append_assoc, append-nil, length-append}
 use Rattle.std.specs.Prelude.{codes, IsUtf8}
 use Rattle.std.specs.List.{list_all, list_any, AllByRecursion}
 use Rattle.std.proofs.lemmas.Str.{IsUtf8-append, IsUtf8-nil}
-use Rattle.session_limits.specs.Limits.{max_input, max_requests}
+use Rattle.session_limits.specs.Limits.{max_requests}
 use Rattle.request_files.specs.Text.{Text, lines}
 use Rattle.request_files.specs.Divide.{is_dividing}
 use Rattle.request_files.specs.Laws.{with_feeds}
-use Rattle.request_files.specs.Requests.{Row, rows, first_fault, no_requests}
+use Rattle.request_files.specs.Requests.{rows, first_fault, no_requests}
 use Rattle.request_files.proofs.TextLemmas.{lines_nil}
 use Rattle.serve_words.specs.declared.command.Command.TheVariants.{Work}
 use Rattle.serve_made.specs.Session.{handlers_text, lines_of, session_text}
@@ -15,13 +15,13 @@ use Rattle.serve_faults.specs.declared.status.Fault.{Fault}
 use Rattle.serve_faults.specs.Answer.{IsRefused}
 use Rattle.serve_faults.specs.Answer as answer
 use Rattle.serve_faults.specs.Input.{Parts, parts_of, is_divided, IsInput}
-use Rattle.serve_faults.specs.Session.{IsSession, request_fault}
+use Rattle.serve_faults.specs.Session.{IsSession}
 use Rattle.serve_faults.proofs.OneAnswer.{text_or_refused}
 use Rattle.made_sessions.proofs.Accepted.{made_program}
 use Rattle.made_sessions.proofs.Lines.{IsMade, made_lines, lines_count, lines_made, lines_are, utf8_of, utf8_plain, are_lines, have_light, feeds_length}
 use Rattle.made_sessions.proofs.Parts.{is_line, lines_behind, divided, parts_are}
 use Rattle.made_sessions.proofs.Phrases.{made_file}
-use Rattle.request_files.proofs.LightRows.{IsLight, none_found, rows_light}
+use Rattle.request_files.proofs.LightRows.{none_found, rows_light}
 use Rattle.made_sessions.proofs.Tokens.{made_names, names_are}
 
 -- ---- the handlers' part

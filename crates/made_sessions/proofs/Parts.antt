@@ -1,12 +1,11 @@
 -- The two parts of a text whose first part has these lines.
-use Rattle.std.proofs.Common.{◌≡◌, ℕ, suc, ◌+◌, ◌<◌, Bool, true, false, not, ◌&&◌, ◌||◌, cond, nat_lt, List, [], ◌∷◌, ◌++◌, length, take, drop, refl, sym, ap, ◌∙◌, subst, arith, append_assoc, length-append}
+use Rattle.std.proofs.Common.{◌≡◌, ℕ, ◌+◌, Bool, true, false, not, ◌&&◌, ◌||◌, cond, List, [], ◌∷◌, ◌++◌, length, take, drop, refl, ap, ◌∙◌, arith, append_assoc, length-append}
 use Rattle.std.specs.Prelude.{codes}
 use Rattle.std.proofs.Math.Seq.{take-append_seam, drop-append-add}
 use Rattle.std.specs.List.{list_all, list_any, position_or_len}
 use Rattle.request_files.specs.Text.{Text, is_line_byte, lines}
 use Rattle.request_files.specs.Divide.{is_dividing, head_size, mark_size}
 use Rattle.request_files.specs.Laws.{with_feeds}
-use Rattle.request_files.proofs.TextLemmas.{lines_nil}
 use Rattle.request_files.proofs.WholeTexts.{line_joined}
 use Rattle.serve_faults.specs.Input.{Parts, parts_of, is_divided}
 

@@ -1,5 +1,5 @@
 -- The phrase of the handlers of a made session, with the places of its words.
-use Rattle.std.proofs.Common.{◌≡◌, ℕ, ◌≤◌, List, [], ◌∷◌, arith}
+use Rattle.std.proofs.Common.{arith}
 use Rattle.session_values.specs.declared.kind.Kind.TheVariants as kind
 use Rattle.session_values.specs.declared.kind.TableKind.TheVariants as table
 use Rattle.syntax_trees.specs.declared.file.File.{File}

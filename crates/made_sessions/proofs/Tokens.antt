@@ -4,8 +4,8 @@ use Rattle.std.specs.Prelude.{codes}
 use Rattle.syntax_tokens.specs.Scan.{scan, scan_name, scan_bad, scan_symbol, scan_sign}
 use Rattle.syntax_tokens.specs.Keyword.{keyword_of, statement_word_of, operation_of, sign_of}
 use Rattle.syntax_tokens.specs.Words.{words_of, names_of, word_after, names_after, number_of, unquoted}
-use Rattle.syntax_grammar.specs.Phrase.{ExprPhrase, file_words}
-use Rattle.syntax_grammar.specs.Limits.{ExprFits, FileFits}
+use Rattle.syntax_grammar.specs.Phrase.{file_words}
+use Rattle.syntax_grammar.specs.Limits.{FileFits}
 use Rattle.handler_syntax.specs.Language.{IsSourceOf}
 use Rattle.serve_made.specs.Session.{handlers_text}
 use Rattle.made_sessions.proofs.Phrases.{made_phrase, made_file}

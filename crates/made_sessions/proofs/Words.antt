@@ -1,5 +1,5 @@
 -- The words of a line that is made of words, with one blank between two.
-use Rattle.std.proofs.Common.{◌≡◌, ℕ, ◌<◌, Bool, true, false, ◌==◌, ◌||◌, not, cond, List, [], ◌∷◌, ◌++◌, length, refl, ap, ◌∙◌, arith}
+use Rattle.std.proofs.Common.{◌≡◌, ℕ, ◌<◌, true, false, cond, List, [], ◌∷◌, ◌++◌, length, refl, ap, ◌∙◌, arith}
 use Rattle.std.specs.List.{list_all}
 use Rattle.byte_classes.specs.Bytes.{is_blank}
 use Rattle.request_files.specs.Text.{Text, is_word_byte, in_word, attach, words}
