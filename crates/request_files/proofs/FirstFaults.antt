@@ -19,22 +19,22 @@ use Rattle.request_files.proofs.FaultLemmas.{fault_many, fault_sums}
 use Rattle.request_files.proofs.RowLemmas.{fault_step, first_nil}
 
 module _ (names : List Text) (f : File) where
-  abbrev after : Tally → Row → Tally
+  abbrev pub after : Tally → Row → Tally
   after t r = with_request f (handler_of names f r.name) t
 
   abbrev calls_of : Row → ℕ
   calls_of r = calls_bound (code_at f (handler_of names f r.name))
 
   -- the sums behind some rows
-  abbrev behind : Tally → List Row → Tally
+  abbrev pub behind : Tally → List Row → Tally
   behind t [] = t
   behind t (r ∷ rs) = behind (after t r) rs
 
-  behind_requests : (t : Tally) (rs : List Row) → (behind t rs).requests ≡ t.requests + length rs
+  pub behind_requests : (t : Tally) (rs : List Row) → (behind t rs).requests ≡ t.requests + length rs
   behind_requests t [] = omega arith
   behind_requests t (r ∷ rs) = omega (arith, behind_requests (after t r) rs)
 
-  behind_calls : (t : Tally) (rs : List Row) → (behind t rs).calls ≡ t.calls + calls_named names f rs
+  pub behind_calls : (t : Tally) (rs : List Row) → (behind t rs).calls ≡ t.calls + calls_named names f rs
   behind_calls t [] = omega arith
   behind_calls t (r ∷ rs) =
       let sum : calls_named names f (r ∷ rs) ≡ calls_of r + calls_named names f rs = sum_by-cons calls_of r rs in
@@ -42,11 +42,11 @@ module _ (names : List Text) (f : File) where
       omega (arith, sum, step, behind_calls (after t r) rs)
 
   -- ---- the tests of one row, in their order
-  abbrev tried : Row → Bool → Bool → Bool → Bool → Bool → Bool → Option RequestRefusal
+  abbrev pub tried : Row → Bool → Bool → Bool → Bool → Bool → Bool → Option RequestRefusal
   tried r many unknown arity values calls work =
       cond many (Some (TooManyRequests r.line)) (cond unknown (Some (UnknownHandler r.line)) (cond (not arity) (Some (Arity r.line)) (cond (not values) (Some (BadWord r.line)) (cond calls (Some (TooManyCalls r.line)) (cond work (Some (TooMuchWork r.line)) None)))))
 
-  tried_is : (t : Tally) (r : Row) → fault_of names f t r ≡ tried r (nat_le 20000 t.requests) (nat_le (length f.handlers) (handler_of names f r.name)) (params_at f (handler_of names f r.name) == length r.args) (list_all is_value r.args) (nat_lt 200000 (after t r).calls) (nat_lt 10000000 (after t r).work)
+  pub tried_is : (t : Tally) (r : Row) → fault_of names f t r ≡ tried r (nat_le 20000 t.requests) (nat_le (length f.handlers) (handler_of names f r.name)) (params_at f (handler_of names f r.name) == length r.args) (list_all is_value r.args) (nat_lt 200000 (after t r).calls) (nat_lt 10000000 (after t r).work)
   unfolding fault_of
   tried_is t r = refl
 
@@ -90,7 +90,7 @@ module _ (names : List Text) (f : File) where
 
   -- ---- rows without a fault
   -- the row at the front of such rows has none, and the others have none behind it
-  front_fine : (t : Tally) (r : Row) (rs : List Row) → first_fault names f t (r ∷ rs) ≡ None → (fault_of names f t r ≡ None) × (first_fault names f (after t r) rs ≡ None)
+  pub front_fine : (t : Tally) (r : Row) (rs : List Row) → first_fault names f t (r ∷ rs) ≡ None → (fault_of names f t r ≡ None) × (first_fault names f (after t r) rs ≡ None)
   front_fine t r rs h = go (fault_of names f t r) refl (sym (fault_step names f t r rs) ∙ h)
     where
       go : (o : Option RequestRefusal) → fault_of names f t r ≡ o → option_or o (first_fault names f (after t r) rs) ≡ None → (fault_of names f t r ≡ None) × (first_fault names f (after t r) rs ≡ None)
@@ -112,21 +112,21 @@ module _ (names : List Text) (f : File) where
       let p : (fault_of names f t r ≡ None) × (first_fault names f (after t r) front ≡ None) = front_fine t r front h in
       fault_step names f t r (front ++ rs) ∙ ap (λ o. option_or o (first_fault names f (after t r) (front ++ rs))) p.0 ∙ passed (after t r) front rs p.1
 
-  refused_at : (front : List Row) (row : Row) (back : List Row) (e : RequestRefusal) → first_fault names f no_requests front ≡ None → fault_of names f (behind no_requests front) row ≡ Some e → first_fault names f no_requests (front ++ row ∷ back) ≡ Some e
+  pub refused_at : (front : List Row) (row : Row) (back : List Row) (e : RequestRefusal) → first_fault names f no_requests front ≡ None → fault_of names f (behind no_requests front) row ≡ Some e → first_fault names f no_requests (front ++ row ∷ back) ≡ Some e
   refused_at front row back e h w =
       passed no_requests front (row ∷ back) h ∙ fault_step names f (behind no_requests front) row back
       ∙ ap (λ o. option_or o (first_fault names f (after (behind no_requests front) row) back)) w
 
   -- ---- the first row with a fault
-  record At (t : Tally) (rs : List Row) (e : RequestRefusal) : Type 0 where
-    front : List Row
-    row : Row
-    back : List Row
-    is : rs ≡ front ++ row ∷ back
-    fine : first_fault names f t front ≡ None
-    fault : fault_of names f (behind t front) row ≡ Some e
+  pub record At (t : Tally) (rs : List Row) (e : RequestRefusal) : Type 0 where
+    pub front : List Row
+    pub row : Row
+    pub back : List Row
+    pub is : rs ≡ front ++ row ∷ back
+    pub fine : first_fault names f t front ≡ None
+    pub fault : fault_of names f (behind t front) row ≡ Some e
 
-  found : (t : Tally) (rs : List Row) (e : RequestRefusal) → first_fault names f t rs ≡ Some e → At t rs e
+  pub found : (t : Tally) (rs : List Row) (e : RequestRefusal) → first_fault names f t rs ≡ Some e → At t rs e
   found t [] e h = absurd (nothing (sym (first_nil names f t) ∙ h))
     where
       nothing : ◌≡◌ {A = Option RequestRefusal} None (Some e) → ⊥
@@ -146,7 +146,7 @@ module _ (names : List Text) (f : File) where
             fault = a.fault;
           }
 
-  calls_pushed : (front : List Row) (row : Row) → calls_named names f (front ++ row ∷ []) ≡ calls_named names f front + calls_of row
+  pub calls_pushed : (front : List Row) (row : Row) → calls_named names f (front ++ row ∷ []) ≡ calls_named names f front + calls_of row
   calls_pushed front row = sum_by_push calls_of front row
 
   pub calls_pass : (rs : List Row) (line : ℕ) → first_fault names f no_requests rs ≡ Some (TooManyCalls line) → CallsPass names f rs line

@@ -3,6 +3,8 @@ pub mod EntryLemmas
 pub mod FaultLemmas
 pub mod FirstFaults
 pub mod HandlerLemmas
+pub mod LightRows
 pub mod PrintableLemmas
 pub mod RowLemmas
 pub mod WholeParts
+pub mod WorkFaults

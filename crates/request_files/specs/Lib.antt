@@ -4,3 +4,4 @@ pub mod Laws
 pub mod Requests
 pub mod Servable
 pub mod Session
+pub mod WorkSums

@@ -1,14 +1,15 @@
 //! Laws of the definitions: each is the contract of a function with an empty body.
 
-ghost use Rattle.std.specs.Prelude.{◌≡◌, ℕ, ◌<◌, List, [], ◌∷◌, ◌++◌, length, None, Some};
-ghost use Rattle.session_limits.specs.Limits.{max_requests, max_session_calls};
+ghost use Rattle.std.specs.Prelude.{◌≡◌, ℕ, ◌<◌, ◌≤◌, List, [], ◌∷◌, ◌++◌, length, None, Some};
+ghost use Rattle.session_limits.specs.Limits.{max_requests, max_session_calls, max_session_work};
 ghost use Rattle.syntax_trees.specs.declared.file.File.{File};
-ghost use Rattle.request_files.specs.declared.refusal.RequestRefusal.TheVariants.{TooManyCalls, TooManyRequests};
+ghost use Rattle.request_files.specs.declared.refusal.RequestRefusal.TheVariants.{TooManyCalls, TooManyRequests, TooMuchWork};
 ghost use Rattle.request_files.specs.Divide.{Divides};
 ghost use Rattle.request_files.specs.Laws.{AreParts, CallsPass, IsOneTooMany, IsWellFormed, calls_named};
 ghost use Rattle.request_files.specs.Requests.{first_fault, no_requests};
 ghost use Rattle.text_lines.specs.Rows.{Row};
 ghost use Rattle.text_lines.specs.Text.{Text};
+ghost use Rattle.request_files.specs.WorkSums.{WorkPasses, work_named};
 
 /// Head, dividing line and tail are the file.
 pub fn parts_of_file()
@@ -36,4 +37,18 @@ pub fn requests_within_limit()
         (back : List Row) → first_fault names f no_requests front ≡ None →
         length front ≡ max_requests →
         first_fault names f no_requests (front ++ row ∷ back) ≡ Some (TooManyRequests row.line) }
+{}
+
+/// The row that is refused for too much work is the first with which its sum passes the limit, where
+/// the sum of calls doesn't pass its own.
+pub fn work_within_limit()
+    ensures told { (names : List Text) (f : File) (rs : List Row) (line : ℕ) →
+        first_fault names f no_requests rs ≡ Some (TooMuchWork line) →
+        WorkPasses names f rs line }
+    ensures refused { (names : List Text) (f : File) (front : List Row) (row : Row)
+        (back : List Row) → first_fault names f no_requests front ≡ None →
+        length front < max_requests → IsWellFormed names f row →
+        calls_named names f (front ++ row ∷ []) ≤ max_session_calls →
+        max_session_work < work_named names f (front ++ row ∷ []) →
+        first_fault names f no_requests (front ++ row ∷ back) ≡ Some (TooMuchWork row.line) }
 {}

@@ -1,0 +1,10 @@
+pub mod Accepted
+pub mod Handlers
+pub mod Lines
+pub mod MadeSession
+pub mod Numbers
+pub mod Parts
+pub mod Phrases
+pub mod Symbols
+pub mod Tokens
+pub mod Words

@@ -1,0 +1,113 @@
+-- The two parts of a text whose first part has these lines.
+use Rattle.std.proofs.Common.{◌≡◌, ℕ, ◌+◌, Bool, true, false, not, ◌&&◌, ◌||◌, cond, List, [], ◌∷◌, ◌++◌, length, take, drop, refl, ap, ◌∙◌, arith, append_assoc, length-append}
+use Rattle.std.specs.Prelude.{codes}
+use Rattle.std.proofs.Math.Seq.{take-append_seam, drop-append-add}
+use Rattle.std.specs.List.{list_all, list_any, position_or_len}
+use Rattle.text_lines.specs.Text.{Text, is_line_byte, lines}
+use Rattle.request_files.specs.Divide.{is_dividing, head_size, mark_size}
+use Rattle.text_lines.specs.Laws.{with_feeds}
+use Rattle.text_lines.proofs.WholeTexts.{line_joined}
+use Rattle.serve_faults.specs.Input.{Parts, parts_of, is_divided}
+
+-- ---- tests of all elements
+
+pub and_left : (a b : Bool) → (a && b) ≡ true → a ≡ true
+and_left true b h = refl
+and_left false b h = h
+
+pub and_right : (a b : Bool) → (a && b) ≡ true → b ≡ true
+and_right true b h = h
+and_right false b h = absurd (cc)
+
+pub and_both : (a b : Bool) → a ≡ true → b ≡ true → (a && b) ≡ true
+and_both a b e f = ap (λ x. x && b) e ∙ f
+
+or_left : (a b : Bool) → (a || b) ≡ false → a ≡ false
+or_left false b h = refl
+or_left true b h = h
+
+or_right : (a b : Bool) → (a || b) ≡ false → b ≡ false
+or_right false b h = h
+or_right true b h = absurd (cc)
+
+pub all_joined : {X : Type 0} (p : X → Bool) (xs ys : List X) → list_all p xs ≡ true → list_all p ys ≡ true → list_all p (xs ++ ys) ≡ true
+all_joined p [] ys h k = k
+all_joined p (x ∷ xs) ys h k = and_both (p x) (list_all p (xs ++ ys)) (and_left (p x) (list_all p xs) h) (all_joined p xs ys (and_right (p x) (list_all p xs) h) k)
+
+pub all_weaker : {X : Type 0} (p q : X → Bool) → ((x : X) → p x ≡ true → q x ≡ true) → (xs : List X) → list_all p xs ≡ true → list_all q xs ≡ true
+all_weaker p q f [] h = refl
+all_weaker p q f (x ∷ xs) h = and_both (q x) (list_all q xs) (f x (and_left (p x) (list_all p xs) h)) (all_weaker p q f xs (and_right (p x) (list_all p xs) h))
+
+-- ---- lines
+
+abbrev pub is_line : Text → Bool
+is_line l = list_all is_line_byte l
+
+pub lines_behind : (ls : List Text) (rest : Text) → list_all is_line ls ≡ true → lines (with_feeds ls ++ rest) ≡ ls ++ lines rest
+lines_behind [] rest h = refl
+lines_behind (l ∷ ls) rest h =
+    ap lines (append_assoc l (10 ∷ with_feeds ls) rest) ∙ line_joined l (with_feeds ls ++ rest) (and_left (is_line l) (list_all is_line ls) h)
+    ∙ ap (λ t. l ∷ t) (lines_behind ls rest (and_right (is_line l) (list_all is_line ls) h))
+
+-- ---- what a dividing line behind lines that divide nothing tells
+
+module _ (d : Text) (more : List Text) (divides : is_dividing d ≡ true) where
+  head_behind : (ls : List Text) → list_any is_dividing ls ≡ false → head_size (ls ++ d ∷ more) ≡ length (with_feeds ls)
+  unfolding head_size
+  head_behind [] h = ap (λ b. cond b 0 (length d + 1 + head_size more)) divides
+  head_behind (l ∷ ls) h =
+      let rest : head_size (ls ++ d ∷ more) ≡ length (with_feeds ls) = head_behind ls (or_right (is_dividing l) (list_any is_dividing ls) h) in
+      ap (λ b. cond b 0 (length l + 1 + head_size (ls ++ d ∷ more))) (or_left (is_dividing l) (list_any is_dividing ls) h)
+      ∙ omega (arith, rest, length-append l (10 ∷ with_feeds ls))
+
+  mark_behind : (ls : List Text) → list_any is_dividing ls ≡ false → mark_size (ls ++ d ∷ more) ≡ length (with_feeds ls) + (length d + 1)
+  unfolding mark_size
+  mark_behind [] h =
+      ap (λ b. cond b (length d + 1) (length d + 1 + mark_size more)) divides ∙ omega arith
+  mark_behind (l ∷ ls) h =
+      let rest : mark_size (ls ++ d ∷ more) ≡ length (with_feeds ls) + (length d + 1) = mark_behind ls (or_right (is_dividing l) (list_any is_dividing ls) h) in
+      ap (λ b. cond b (length l + 1) (length l + 1 + mark_size (ls ++ d ∷ more))) (or_left (is_dividing l) (list_any is_dividing ls) h)
+      ∙ omega (arith, rest, length-append l (10 ∷ with_feeds ls))
+
+  place_behind : (ls : List Text) → list_any is_dividing ls ≡ false → position_or_len is_dividing (ls ++ d ∷ more) ≡ length ls
+  place_behind [] h = ap (λ b. cond (not b) (1 + position_or_len is_dividing more) 0) divides
+  place_behind (l ∷ ls) h =
+      let rest : position_or_len is_dividing (ls ++ d ∷ more) ≡ length ls = place_behind ls (or_right (is_dividing l) (list_any is_dividing ls) h) in
+      ap (λ b. cond (not b) (1 + position_or_len is_dividing (ls ++ d ∷ more)) 0) (or_left (is_dividing l) (list_any is_dividing ls) h)
+      ∙ omega (arith, rest)
+
+  any_behind : (ls : List Text) → list_any is_dividing (ls ++ d ∷ more) ≡ true
+  any_behind [] = ap (λ b. b || list_any is_dividing more) divides
+  any_behind (l ∷ ls) = go (is_dividing l) (any_behind ls)
+    where
+      go : (b : Bool) → list_any is_dividing (ls ++ d ∷ more) ≡ true → (b || list_any is_dividing (ls ++ d ∷ more)) ≡ true
+      go true k = refl
+      go false k = k
+
+-- ---- a text of such lines, a dividing line and others
+
+module _ (ls : List Text) (plain : list_all is_line ls ≡ true) (none : list_any is_dividing ls ≡ false) (rest : Text) where
+  divides : is_dividing (codes "%%") ≡ true
+  unfolding is_dividing
+  divides = refl
+
+  whole_lines : lines (with_feeds ls ++ (codes "%%\n" ++ rest)) ≡ ls ++ codes "%%" ∷ lines rest
+  whole_lines = lines_behind ls (codes "%%\n" ++ rest) plain ∙ ap (λ t. ls ++ t) (line_joined (codes "%%") rest refl)
+
+  pub divided : is_divided (with_feeds ls ++ (codes "%%\n" ++ rest)) ≡ true
+  divided = ap (list_any is_dividing) whole_lines ∙ any_behind (codes "%%") (lines rest) divides ls
+
+  abbrev parts_by : ℕ → ℕ → ℕ → Parts
+  parts_by h m p = record { handlers = take h (with_feeds ls ++ (codes "%%\n" ++ rest)); requests = drop m (with_feeds ls ++ (codes "%%\n" ++ rest)); first = p + 2 }
+
+  abbrev made : Text → Text → Parts
+  made h r = record { handlers = h; requests = r; first = length ls + 2 }
+
+  pub parts_are : parts_of (with_feeds ls ++ (codes "%%\n" ++ rest)) ≡ made (with_feeds ls) rest
+  parts_are =
+      ap (λ (l : List Text). parts_by (head_size l) (mark_size l) (position_or_len is_dividing l)) whole_lines
+      ∙ ap (λ h. parts_by h (mark_size (ls ++ codes "%%" ∷ lines rest)) (position_or_len is_dividing (ls ++ codes "%%" ∷ lines rest))) (head_behind (codes "%%") (lines rest) divides ls none)
+      ∙ ap (λ m. parts_by (length (with_feeds ls)) m (position_or_len is_dividing (ls ++ codes "%%" ∷ lines rest))) (mark_behind (codes "%%") (lines rest) divides ls none)
+      ∙ ap (parts_by (length (with_feeds ls)) (length (with_feeds ls) + 3)) (place_behind (codes "%%") (lines rest) divides ls none)
+      ∙ ap (λ h. made h (drop (length (with_feeds ls) + 3) (with_feeds ls ++ (codes "%%\n" ++ rest)))) (take-append_seam (with_feeds ls) (codes "%%\n" ++ rest))
+      ∙ ap (made (with_feeds ls)) (drop-append-add (with_feeds ls) (codes "%%\n" ++ rest) 3)
