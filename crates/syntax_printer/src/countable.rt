@@ -48,8 +48,8 @@ fn are_countable(handlers: &[Handler]) -> bool
     true
 }
 
-/// Whether the text of a file can be put with counters of 32 bits. Any file that a program can hold
-/// in less than 64 GB is.
+/// Whether the text of a file can be put with counters of 32 bits. No source is long enough for a
+/// file that is not.
 pub fn is_countable(file: &File) -> bool
     ensures { result ≡ true → IsCountable file.now }
 {
