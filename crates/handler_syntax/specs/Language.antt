@@ -24,6 +24,7 @@ pub use Rattle.syntax_grammar.specs.Parsed.{Parsed, IsSourceOf, HasFault}
 pub use Rattle.syntax_grammar.specs.declared.refusals.SyntaxRefusal.{SyntaxRefusal}
 pub use Rattle.syntax_grammar.specs.declared.refusals.SyntaxRefusal.TheVariants as syntax_refusal
 pub use Rattle.syntax_printer.specs.Canonical.{canonical_text}
+pub use Rattle.syntax_printer.specs.Countable.{IsCountable}
 pub use Rattle.syntax_printer.specs.Lines.{Line, of_file, of_else, of_point, file_lines, shown_text, written}
 pub use Rattle.syntax_printer.specs.Points.{AtPoints}
 pub use Rattle.handler_syntax.specs.Keeps.{KeepsLimits, IsKept, IsReadAs, Printed}

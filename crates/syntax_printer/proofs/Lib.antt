@@ -1,4 +1,5 @@
 pub mod Chunks
+pub mod Counted
 pub mod Inductions
 pub mod Lexing
 pub mod Loops

@@ -1,5 +1,6 @@
 pub mod Canonical
 pub mod CanonicalWords
+pub mod Countable
 pub mod Points
 pub mod Lines
 pub mod Put

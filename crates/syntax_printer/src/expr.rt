@@ -1,13 +1,14 @@
 // Expressions.
 
-ghost use Rattle.std.specs.Prelude.{◌≡◌, OnOk, map, string_bytes};
+ghost use Rattle.std.specs.Prelude.{◌≡◌, map};
 ghost use Rattle.std.specs.List.{flat_map};
 ghost use Rattle.syntax_printer.specs.Canonical as spec;
 ghost use Rattle.syntax_trees.specs.Mentions.{AreNamed, expr_mentions};
-ghost use Rattle.syntax_printer.specs.Writing.{Adds};
+ghost use Rattle.byte_ends.specs.Texts.{Adds};
 
-use crate::piece::{put, put_literal, put_name};
-use session_values::{Names, NoMemory};
+use crate::piece::{put_literal, put_name};
+use byte_ends::TextSink;
+use session_values::Names;
 use syntax_trees::{Calc, Expr};
 
 /// How an expression stands in another one, in the terms of the grammar.
@@ -75,57 +76,51 @@ fn operator(calc: Calc) -> &'static str
 }
 
 /// Appends an expression.
-pub(crate) fn put_expr(
-    e: &Expr,
-    level: Level,
-    names: &Names,
-    out: &mut String,
-) -> Result<(), NoMemory>
+pub(crate) fn put_expr<T: TextSink>(e: &Expr, level: Level, names: &Names, out: &mut T)
     requires { AreNamed names.now (expr_mentions e.now) }
-    ensures { OnOk result (Adds
+    ensures { Adds T.IsDue
         (spec.expr_text names.now e.now level)
-        (string_bytes out.old) (string_bytes out.new)) }
+        out.old out.new }
 {
     match e {
         Expr::Lit(literal) => put_literal(literal.value(), names, out),
         Expr::Name { name, .. } => put_name(*name, names, out),
         Expr::Binary { calc, sides } => {
             let (left, right) = sides.get();
-            put(level.opening(*calc), out)?;
-            put_expr(left, left_level(*calc), names, out)?;
-            put(operator(*calc), out)?;
-            put_expr(right, right_level(*calc), names, out)?;
-            put(level.closing(*calc), out)
+            out.put(level.opening(*calc));
+            put_expr(left, left_level(*calc), names, out);
+            out.put(operator(*calc));
+            put_expr(right, right_level(*calc), names, out);
+            out.put(level.closing(*calc))
         }
     }
 }
 
 /// Appends expressions that stand alone, with a comma and a space between them.
-pub(crate) fn put_values(values: &[Expr], names: &Names, out: &mut String) -> Result<(), NoMemory>
+pub(crate) fn put_values<T: TextSink>(values: &[Expr], names: &Names, out: &mut T)
     requires { AreNamed names.now (flat_map expr_mentions values.now) }
-    ensures { OnOk result (Adds
+    ensures { Adds T.IsDue
         (spec.listed (map (spec.whole_text names.now) values.now))
-        (string_bytes out.old) (string_bytes out.new)) }
+        out.old out.new }
 {
     match values {
-        [] => Ok(()),
+        [] => {}
         [first, more @ ..] => {
-            put_expr(first, Level::Whole, names, out)?;
+            put_expr(first, Level::Whole, names, out);
             put_more_values(more, names, out)
         }
     }
 }
 
 /// Appends a comma, a space and the expression, for each expression.
-fn put_more_values(values: &[Expr], names: &Names, out: &mut String) -> Result<(), NoMemory>
+fn put_more_values<T: TextSink>(values: &[Expr], names: &Names, out: &mut T)
     requires { AreNamed names.now (flat_map expr_mentions values.now) }
-    ensures { OnOk result (Adds
+    ensures { Adds T.IsDue
         (spec.further (map (spec.whole_text names.now) values.now))
-        (string_bytes out.old) (string_bytes out.new)) }
+        out.old out.new }
 {
     for value in values {
-        put(", ", out)?;
-        put_expr(value, Level::Whole, names, out)?;
+        out.put(", ");
+        put_expr(value, Level::Whole, names, out);
     }
-    Ok(())
 }

@@ -1,6 +1,7 @@
 //! The canonical text of a file of handlers.
 #![tactic(auto)]
 
+mod countable;
 mod declarations;
 mod expr;
 mod file;
@@ -10,5 +11,6 @@ mod point;
 mod spot;
 mod stmt;
 
+pub use countable::is_countable;
 pub use declarations::Declarations;
-pub use file::{print, print_with_declarations};
+pub use file::{print, print_with_declarations, put_canonical, put_with_declarations};

@@ -1,96 +1,84 @@
 // Texts, names, literals and calls.
 
-ghost use Rattle.std.specs.Prelude.{◌<◌, ◌++◌, OnOk, length, map, string_bytes};
+ghost use Rattle.std.specs.Prelude.{◌<◌, ◌++◌, length, map};
 ghost use Rattle.std.specs.List.{flat_map};
 ghost use Rattle.syntax_printer.specs.Canonical.{name_text, literal_text, atom_text, call_text, further, indent};
 ghost use Rattle.syntax_trees.specs.Mentions.{AreNamed, atom_mentions, call_mentions};
 ghost use Rattle.syntax_printer.specs.Points.{named_text};
-ghost use Rattle.syntax_printer.specs.Writing.{Adds};
+ghost use Rattle.byte_ends.specs.Texts.{Adds};
 
+use byte_ends::TextSink;
 use itoa::Buffer;
-use session_values::{Names, NoMemory, Value};
+use session_values::{Names, Value};
 use syntax_trees::{Atom, Call};
 
-/// Appends a text.
-pub(crate) fn put(text: &str, out: &mut String) -> Result<(), NoMemory>
-    ensures { OnOk result (Adds
-        (λ rest. text.now ++ rest)
-        (string_bytes out.old) (string_bytes out.new)) }
-{
-    out.push_str(text)?;
-    Ok(())
-}
-
 /// Appends two spaces for each block around the line.
-pub(crate) fn put_indent(depth: u32, out: &mut String) -> Result<(), NoMemory>
-    ensures { OnOk result (Adds (indent depth) (string_bytes out.old) (string_bytes out.new)) }
+pub(crate) fn put_indent<T: TextSink>(depth: u32, out: &mut T)
+    ensures { Adds T.IsDue (indent depth) out.old out.new }
 {
     'blocks: for _ in 0..depth {
-        put("  ", out)?;
+        out.put("  ");
     }
-    Ok(())
 }
 
 /// Appends the text at a place.
-pub(crate) fn put_name(place: u32, names: &Names, out: &mut String) -> Result<(), NoMemory>
+pub(crate) fn put_name<T: TextSink>(place: u32, names: &Names, out: &mut T)
     requires { place < length names.now }
-    ensures { OnOk result (Adds
+    ensures { Adds T.IsDue
         (name_text names.now place)
-        (string_bytes out.old) (string_bytes out.new)) }
+        out.old out.new }
 {
-    put(names.text(place), out)
+    out.put(names.text(place))
 }
 
 /// Appends the text at a place, if the list has the place.
-fn put_place(place: u32, names: &Names, out: &mut String) -> Result<(), NoMemory>
-    ensures { OnOk result (Adds
+fn put_place<T: TextSink>(place: u32, names: &Names, out: &mut T)
+    ensures { Adds T.IsDue
         (name_text names.now place)
-        (string_bytes out.old) (string_bytes out.new)) }
+        out.old out.new }
 {
     if place < names.len() {
         put_name(place, names, out)
-    } else {
-        Ok(())
     }
 }
 
 /// Appends a name, if there is one.
-pub(crate) fn put_named(place: Option<u32>, names: &Names, out: &mut String) -> Result<(), NoMemory>
-    ensures { OnOk result (Adds
+pub(crate) fn put_named<T: TextSink>(place: Option<u32>, names: &Names, out: &mut T)
+    ensures { Adds T.IsDue
         (named_text names.now place)
-        (string_bytes out.old) (string_bytes out.new)) }
+        out.old out.new }
 {
     match place {
         Some(place) => put_place(place, names, out),
-        None => Ok(()),
+        None => {}
     }
 }
 
 /// Appends a literal.
-pub(crate) fn put_literal(value: Value, names: &Names, out: &mut String) -> Result<(), NoMemory>
-    ensures { OnOk result (Adds
+pub(crate) fn put_literal<T: TextSink>(value: Value, names: &Names, out: &mut T)
+    ensures { Adds T.IsDue
         (literal_text names.now value)
-        (string_bytes out.old) (string_bytes out.new)) }
+        out.old out.new }
 {
     match value {
-        Value::Nil => put("nil", out),
+        Value::Nil => out.put("nil"),
         Value::Num(n) => {
             let mut buffer = Buffer::new();
-            put(buffer.format(n), out)
+            out.put(buffer.format(n))
         }
         Value::Sym(place) => {
-            put("'", out)?;
+            out.put("'");
             put_place(place, names, out)
         }
     }
 }
 
 /// Appends what stands alone in an expression.
-pub(crate) fn put_atom(atom: &Atom, names: &Names, out: &mut String) -> Result<(), NoMemory>
+pub(crate) fn put_atom<T: TextSink>(atom: &Atom, names: &Names, out: &mut T)
     requires { AreNamed names.now (atom_mentions atom.now) }
-    ensures { OnOk result (Adds
+    ensures { Adds T.IsDue
         (atom_text names.now atom.now)
-        (string_bytes out.old) (string_bytes out.new)) }
+        out.old out.new }
 {
     match atom {
         Atom::Lit(literal) => put_literal(literal.value(), names, out),
@@ -99,29 +87,28 @@ pub(crate) fn put_atom(atom: &Atom, names: &Names, out: &mut String) -> Result<(
 }
 
 /// Appends an operation with its table and arguments.
-pub(crate) fn put_call(call: &Call, names: &Names, out: &mut String) -> Result<(), NoMemory>
+pub(crate) fn put_call<T: TextSink>(call: &Call, names: &Names, out: &mut T)
     requires { AreNamed names.now (call_mentions call.now) }
-    ensures { OnOk result (Adds
+    ensures { Adds T.IsDue
         (call_text names.now call.now)
-        (string_bytes out.old) (string_bytes out.new)) }
+        out.old out.new }
 {
-    put(call.kind.word(), out)?;
-    put("(", out)?;
-    put_name(call.table, names, out)?;
-    put_arguments(call.args.as_slice(), names, out)?;
-    put(")", out)
+    out.put(call.kind.word());
+    out.put("(");
+    put_name(call.table, names, out);
+    put_arguments(call.args.as_slice(), names, out);
+    out.put(")")
 }
 
 /// Appends a comma, a space and the argument, for each argument.
-fn put_arguments(args: &[Atom], names: &Names, out: &mut String) -> Result<(), NoMemory>
+fn put_arguments<T: TextSink>(args: &[Atom], names: &Names, out: &mut T)
     requires { AreNamed names.now (flat_map atom_mentions args.now) }
-    ensures { OnOk result (Adds
+    ensures { Adds T.IsDue
         (further (map (atom_text names.now) args.now))
-        (string_bytes out.old) (string_bytes out.new)) }
+        out.old out.new }
 {
     'args: for atom in args {
-        put(", ", out)?;
-        put_atom(atom, names, out)?;
+        out.put(", ");
+        put_atom(atom, names, out);
     }
-    Ok(())
 }

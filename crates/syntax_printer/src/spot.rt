@@ -1,8 +1,6 @@
 // Spots in the text of a handler.
 
-ghost use Rattle.std.specs.Prelude.{◌≡◌, ◌+◌, IfOk};
-
-use session_values::NoMemory;
+ghost use Rattle.std.specs.Prelude.{◌≡◌, ◌+◌, ◌<◌, ◌^◌};
 
 /// A spot in the text of a handler of this number: inside so many blocks, before the point of this
 /// number.
@@ -25,18 +23,16 @@ impl Spot {
         }
     }
 
-    /// The same in the next handler. For 2^32 of them there is no room.
-    pub(crate) fn next_handler(self) -> Result<Spot, NoMemory>
-        ensures { IfOk result (λ spot.
-            spot ≡ record { handler = self.handler + 1; depth = self.depth; point = self.point }) }
+    /// The same in the next handler.
+    pub(crate) fn next_handler(self) -> Spot
+        requires { self.handler + 1 < 2 ^ 32 }
+        ensures { result
+            ≡ record { handler = self.handler + 1; depth = self.depth; point = self.point } }
     {
-        match self.handler.checked_add(1) {
-            Some(handler) => Ok(Spot {
-                handler,
-                depth: self.depth,
-                point: self.point,
-            }),
-            None => Err(NoMemory),
+        Spot {
+            handler: self.handler + 1,
+            depth: self.depth,
+            point: self.point,
         }
     }
 
@@ -51,28 +47,24 @@ impl Spot {
         }
     }
 
-    /// Inside one block more. For 2^32 of them there is no room.
-    pub(crate) fn inside(self) -> Result<Spot, NoMemory>
-        ensures { IfOk result (λ spot.
-            spot ≡ record { handler = self.handler; depth = self.depth + 1; point = self.point }) }
+    /// Inside one block more.
+    pub(crate) fn inside(self) -> Spot
+        requires { self.depth + 1 < 2 ^ 32 }
+        ensures { result
+            ≡ record { handler = self.handler; depth = self.depth + 1; point = self.point } }
     {
-        match self.depth.checked_add(1) {
-            Some(depth) => Ok(Spot {
-                handler: self.handler,
-                depth,
-                point: self.point,
-            }),
-            None => Err(NoMemory),
+        Spot {
+            handler: self.handler,
+            depth: self.depth + 1,
+            point: self.point,
         }
     }
 
-    /// The number of the point behind the next one. For 2^32 of them there is no room.
-    pub(crate) fn next(self) -> Result<u32, NoMemory>
-        ensures { IfOk result (λ next. next ≡ self.point + 1) }
+    /// The number of the point behind the next one.
+    pub(crate) fn next(self) -> u32
+        requires { self.point + 1 < 2 ^ 32 }
+        ensures { result ≡ self.point + 1 }
     {
-        match self.point.checked_add(1) {
-            Some(next) => Ok(next),
-            None => Err(NoMemory),
-        }
+        self.point + 1
     }
 }

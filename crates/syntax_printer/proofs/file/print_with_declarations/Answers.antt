@@ -1,9 +1,4 @@
-use Rattle.syntax_printer.proofs.Parts.{named_handlers}
-use Rattle.syntax_printer.proofs.Written.{file_written}
 use Rattle.syntax_printer.proofs.file.print_with_declarations.Goals as goal
 
-pub put_handlers-requires : goal.put_handlers-requires
-put_handlers-requires g c = named_handlers c.args.names.now c.args.file.now _ c.as_slice-2.ensures c.requires
-
 pub returns : goal.returns
-returns g c = file_written c.args.names.now (g.D.Declarations.at_points c.args.at.now) c.args.file.now _ _ c.in_ok-out.ensures.bytes c.as_slice.ensures c.as_slice-2.ensures c.in_ok-put_tables.ensures c.in_ok-put_handlers.ensures
+returns g c = c.text_in_memory.ensures

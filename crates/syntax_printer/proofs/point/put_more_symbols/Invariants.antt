@@ -1,4 +1,4 @@
-use Rattle.std.proofs.Common.{map, drop, string_bytes}
+use Rattle.std.proofs.Common.{map, drop}
 use Rattle.syntax_printer.specs.Canonical.{further}
 use Rattle.syntax_printer.specs.Points.{symbol_text}
 use Rattle.syntax_printer.proofs.Loops.{Owes}
@@ -8,4 +8,4 @@ abbrev pub invariant-loop-symbol : goal.invariant-loop-symbol
 invariant-loop-symbol g l =
     let a = g.D.Declarations.at_points l.at in
     let text = symbol_text l.names a.tables (a.variables l.handler) in
-    Owes (further (map text l.symbols)) (further (map text (drop l.symbol-index l.symbols))) (string_bytes l.fn.out) (string_bytes l.out)
+    Owes g.T.TextSink.IsDue (further (map text l.symbols)) (further (map text (drop l.symbol-index l.symbols))) l.fn.out l.out

@@ -1,4 +1,4 @@
-use Rattle.std.proofs.Common.{◌≡◌, ◌+◌, drop, string_bytes}
+use Rattle.std.proofs.Common.{◌≡◌, ◌+◌, ◌≤◌, drop}
 use Rattle.std.specs.List.{flat_map}
 use Rattle.syntax_printer.specs.Lines.{block_lines, block_points, written}
 use Rattle.syntax_printer.specs.Put.{parts_of}
@@ -28,7 +28,8 @@ invariant-put_block-loop-s g l =
     let all = parts_of l.names a l.spot l.block in
     let left = parts_of l.names a l.spot (drop l.s-index l.block) in
     record {
-      text : Owes (written a.shown (block_lines all l.spot.depth l.spot.point)) (written a.shown (block_lines left l.spot.depth l.next)) (string_bytes l.fn.out) (string_bytes l.out);
+      text : Owes g.T.TextSink.IsDue (written a.shown (block_lines all l.spot.depth l.spot.point)) (written a.shown (block_lines left l.spot.depth l.next)) l.fn.out l.out;
       next : l.next + block_points left ≡ l.spot.point + block_points all;
+      fits : l.next + block_size (drop l.s-index l.block) ≤ l.spot.point + block_size l.block;
       named : AreNamed l.names (flat_map stmt_mentions (drop l.s-index l.block));
     }

@@ -1,0 +1,5 @@
+use Rattle.syntax_printer.proofs.Loops.{adds_both}
+use Rattle.syntax_printer.proofs.line.put_if.Goals as goal
+
+pub returns : goal.returns
+returns g c = adds_both c.put_indent.ensures (adds_both c.put.ensures (adds_both c.put_cond.ensures c.put-2.ensures))
