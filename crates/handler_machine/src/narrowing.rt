@@ -43,8 +43,8 @@ fn take_declaration(
     next.len() == 0
 }
 
-/// Takes the declaration of a point, with the values that are kept for it, where the desk hasn't been
-/// told of it.
+/// Takes the declaration of a point, with the values that are kept for it, where the desk hasn't
+/// been told of it.
 #[inline(always)]
 pub(crate) fn take_late(
     late: bool,
