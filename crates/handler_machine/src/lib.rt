@@ -2,7 +2,7 @@
 #![tactic(auto)]
 
 mod kind_counts;
-mod laws;
+pub mod laws;
 mod narrowing;
 mod on_tables;
 mod running;
