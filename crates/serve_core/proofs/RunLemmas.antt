@@ -92,13 +92,14 @@ module _ {I O : Type 0} (c : Command) (source : Change I) (out : Change O) (clos
   abbrev rest : Option (List ℕ)
   rest = source.bytes source.new
 
-  pub runs_of : (s : Status) → Ends s → (is_reading (Some c) ≡ false → IsUntouched source × (s ≢ status.ReadFault)) → Told (Some c) source (λ bytes. Answered (Some c) bytes out s)
+  pub runs_of : (s : Status) → Ends s → (is_reading (Some c) ≡ false → IsUntouched source × (s ≢ status.ReadFault)) → (is_reading (Some c) ≡ false → (fault : Fault) → s ≢ status.Refused fault) → Told (Some c) source (λ bytes. Answered (Some c) bytes out s)
       → (is_reading (Some c) ≡ true → has_read_all s ≡ true → IsAtEnd left rest) → (is_reading (Some c) ≡ true → s ≡ status.Refused TooLarge → LostFirst left rest (max_input + 1)) → LostAtMost left rest (max_input + 1)
       → is_some closed ≡ has_served (Some c) s → Told (Some c) source (λ bytes. Holds (Some c) bytes closed)
       → Runs (Some c) source out s closed
-  runs_of s h unread answered end gone lost served hall = record {
+  runs_of s h unread made answered end gone lost served hall = record {
     usage = (λ e. absurd (h.usage e), λ e. absurd (cc));
     unread = unread;
+    made = made;
     answered = answered;
     refusing = told_map c source (λ bytes. Answered (Some c) bytes out s) _ (λ bytes a f r ok. refuses bytes s f h a r ok) answered;
     complete = λ e. told_map c source (λ bytes. Answered (Some c) bytes out s) _ (λ bytes a u ok ok'. completes bytes s h a u ok ok') answered;
@@ -152,11 +153,14 @@ module _ {I O : Type 0} (c : Command) (reads : is_reading (Some c) ≡ true) (so
   unread_none : (s : Status) → is_reading (Some c) ≡ false → IsUntouched source × (s ≢ status.ReadFault)
   unread_none s e = absurd (cc)
 
+  made_none : (s : Status) → is_reading (Some c) ≡ false → (fault : Fault) → s ≢ status.Refused fault
+  made_none s e = absurd (cc)
+
   -- reading stopped
   pub stopped_run : (s : Status) → StoppedAs source s → IsUntouched out → Runs (Some c) source out s None
   stopped_run (status.Refused TooLarge) h same =
       runs_of c source out None (status.Refused TooLarge) (record { usage = λ e. cc; read_fault = λ e. absurd (cc); written = record { write_fault = λ e. absurd (cc); unwritten = λ _ _. same } })
-      (unread_none (status.Refused TooLarge))
+      (unread_none (status.Refused TooLarge)) (made_none (status.Refused TooLarge))
       (told_some c source (λ bytes. Answered (Some c) bytes out (status.Refused TooLarge)) reads
       (if_some (λ all. max_input < length all) _ (source.bytes source.old) (λ bytes l. refused_answer c bytes out TooLarge (subst (λ (bs : List ℕ). max_input < length bs) (sym (reading_input c bytes reads)) l)) h.1.0))
       (λ _ e. absurd (cc)) (λ _ _. h.1.1) h.0 (not_served c (status.Refused TooLarge) (λ e. cc) (λ e. cc)) (nothing_held c source)
@@ -166,13 +170,13 @@ module _ {I O : Type 0} (c : Command) (reads : is_reading (Some c) ≡ true) (so
   stopped_run status.WriteFault h same = absurd h.1
   stopped_run status.ReadFault h same =
       runs_of c source out None status.ReadFault (record { usage = λ e. cc; read_fault = λ _. h.1; written = record { write_fault = λ e. absurd (cc); unwritten = λ _ _. same } })
-      (unread_none status.ReadFault)
+      (unread_none status.ReadFault) (made_none status.ReadFault)
       (told_some c source (λ bytes. Answered (Some c) bytes out status.ReadFault) reads
       (if_some (λ all. Unit {0}) _ (source.bytes source.old) (λ bytes _. no_answer c bytes out status.ReadFault (λ e. cc) (λ f e. cc) (λ e. cc)) (untold (source.bytes source.old))))
       (λ _ e. absurd (cc)) (λ _ e. absurd (cc)) h.0 (not_served c status.ReadFault (λ e. cc) (λ e. cc)) (nothing_held c source)
   stopped_run status.NoMemory h same =
       runs_of c source out None status.NoMemory (record { usage = λ e. cc; read_fault = λ e. absurd (cc); written = record { write_fault = λ e. absurd (cc); unwritten = λ _ _. same } })
-      (unread_none status.NoMemory)
+      (unread_none status.NoMemory) (made_none status.NoMemory)
       (told_some c source (λ bytes. Answered (Some c) bytes out status.NoMemory) reads
       (if_some (λ all. Unit {0}) _ (source.bytes source.old) (λ bytes _. no_answer c bytes out status.NoMemory (λ e. cc) (λ f e. cc) (λ e. cc)) (untold (source.bytes source.old))))
       (λ _ e. absurd (cc)) (λ _ e. absurd (cc)) h.0 (not_served c status.NoMemory (λ e. cc) (λ e. cc)) (nothing_held c source)
@@ -181,7 +185,7 @@ module _ {I O : Type 0} (c : Command) (reads : is_reading (Some c) ≡ true) (so
   pub read_run : (bytes : List ℕ) (s : Status) (closed : Option ClosedView) → HasRead source bytes → AnswersTo c bytes out s closed → Runs (Some c) source out s closed
   read_run bytes s closed h a =
       runs_of c source out closed s (record { usage = a.usage; read_fault = λ e. absurd (a.read_fault e); written = a.written })
-      (unread_none s)
+      (unread_none s) (made_none s)
       (told_some c source (λ bs. Answered (Some c) bs out s) reads (if_some (λ all. bytes ≡ all) _ (source.bytes source.old) (λ all e. subst (λ bs. Answered (Some c) bs out s) e a.answered) h.all))
       (λ _ _. h.end)
       (λ _ e. (let r : max_input < length bytes = subst (λ (bs : List ℕ). max_input < length bs) (reading_input c bytes reads) (a.answered.refused TooLarge e) in let short = h.short in absurd (omega (arith, short, r))))

@@ -1,14 +1,16 @@
 -- Whole runs, from what their parts say.
-use Rattle.std.proofs.Common.{◌≡◌, ◌≢◌, ℕ, zero, ◌+◌, ◌≤◌, Bool, true, false, is_some, List, [], ap, length, drop, Option, Some, None, IfSome, refl, arith}
-use Rattle.session_limits.specs.Limits.{max_input}
+use Rattle.std.proofs.Common.{◌≡◌, ◌≢◌, ℕ, zero, ◌+◌, ◌≤◌, Bool, true, false, is_some, List, [], ap, length, drop, Option, Some, None, IfSome, refl, subst, arith}
+use Rattle.session_limits.specs.Limits.{max_input, max_requests}
 use Rattle.byte_ends.specs.Ends.{LostAtMost}
 use Rattle.session_hall.specs.Closings.{ClosedView}
 use Rattle.serve_words.specs.declared.command.Command.{Command}
 use Rattle.serve_words.specs.declared.command.Command.TheVariants.{Serve, Work, Ranges}
+use Rattle.serve_words.specs.Commands.{IsWithinBounds}
 use Rattle.serve_faults.specs.declared.status.Status.{Status}
 use Rattle.serve_faults.specs.declared.status.Status.TheVariants as status
 use Rattle.serve_faults.specs.Commands.{is_reading}
 use Rattle.serve_faults.specs.Changes.{Change, IsUntouched}
+use Rattle.made_sessions.proofs.MadeSession.{unrefused}
 use Rattle.serve_core.specs.Runs.{Runs}
 use Rattle.serve_core.specs.Runs.{AnswersTo}
 use Rattle.serve_faults.specs.Ways.{HasRead, StoppedAs, describing}
@@ -19,6 +21,10 @@ nothing_lost : (o p : Option (List ℕ)) → p ≡ o → LostAtMost o p (max_inp
 nothing_lost None p e = tt
 nothing_lost (Some bytes) p e = (0, omega arith, omega arith, e)
 
+-- the words of `work` are within their bounds
+pub few_requests : (o : Option Command) (requests start : ℕ) → o ≡ Some (Work requests start) → IfSome o IsWithinBounds → requests ≤ max_requests
+few_requests o requests start is within = (let bounds : IsWithinBounds (Work requests start) = subst (λ (c : Option Command). IfSome c IsWithinBounds) is within in bounds.1)
+
 module _ {I O : Type 0} (source : Change I) (out : Change O) where
   abbrev same_bytes : IsUntouched source → source.bytes source.new ≡ source.bytes source.old
   same_bytes e = (let f : I → Option (List ℕ) = source.bytes in ap f e)
@@ -28,6 +34,7 @@ module _ {I O : Type 0} (source : Change I) (out : Change O) where
   usage_run still same = record {
     usage = (λ e. refl, λ e. refl);
     unread = λ e. (still, λ x. cc);
+    made = λ e f x. cc;
     answered = λ bytes. record { fine = λ e. absurd (cc); refused = λ f e. absurd (cc); front = λ e. absurd (cc) };
     refusing = λ bytes f h ok. absurd h;
     complete = λ e. absurd (cc);
@@ -41,11 +48,12 @@ module _ {I O : Type 0} (source : Change I) (out : Change O) where
   }
 
   -- a made session
-  pub work_run : (requests start : ℕ) (s : Status) (closed : Option ClosedView) → IsUntouched source → ((bytes : List ℕ) → AnswersTo (Work requests start) bytes out s closed) → Runs (Some (Work requests start)) source out s closed
-  work_run requests start s closed still a =
+  pub work_run : (requests start : ℕ) → requests ≤ max_requests → (s : Status) (closed : Option ClosedView) → IsUntouched source → ((bytes : List ℕ) → AnswersTo (Work requests start) bytes out s closed) → Runs (Some (Work requests start)) source out s closed
+  work_run requests start few s closed still a =
       let one = a [] in
       runs_of (Work requests start) source out closed s (record { usage = one.usage; read_fault = λ e. absurd (one.read_fault e); written = one.written })
       (λ e. (still, one.read_fault))
+      (λ e fault is. unrefused requests start few fault (one.answered.refused fault is))
       (λ bytes. (a bytes).answered)
       (λ e. absurd (cc))
       (λ e. absurd (cc))

@@ -132,6 +132,8 @@ pub record Runs {I O : Type 0} (command : Option Command) (source : Change I) (o
   pub usage : (s ≡ status.Usage) ↔ (is_some command ≡ false)
   -- Without a command, and for `work`, nothing is read.
   pub unread : is_reading command ≡ false → IsUntouched source × (s ≢ status.ReadFault)
+  -- And nothing is refused: the session that `work` makes breaks no rule.
+  pub made : is_reading command ≡ false → (fault : Fault) → s ≢ status.Refused fault
   -- The text, the refusal, or a front of the text: its clauses are `fine`, `refused` and `front`.
   pub answered : Told command source (λ bytes. Answered command bytes out s)
   -- The first broken rule is refused, unless a read fails or memory runs out.

@@ -23,7 +23,7 @@ use worker_gate::Gate;
 /// All that the program does: `words` are those after the program's name. It reads an input from
 /// `source`, writes the command's text to `out` and, where it doesn't end well, one line to `err`;
 /// callers that serve pass the gate at each of its places. Its promises stand by name in
-/// `specs/Runs.antt`: usage and unread; fine, refused and front; refusing
+/// `specs/Runs.antt`: usage, unread and made; fine, refused and front; refusing
 /// and complete; read_fault, write_fault and unwritten; end, gone and lost; served and hall; and,
 /// of the line, line and line_front.
 pub fn run<R: Threads + Wait + Sync, I: Source, O: Sink, E: Sink, G: Gate + Sync>(

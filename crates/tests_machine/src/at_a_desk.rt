@@ -1,0 +1,74 @@
+// The requests of a program, served one at a time at a desk that may want memory.
+
+ghost use Rattle.std.specs.Prelude.{◌≡◌, true};
+ghost use Rattle.handler_check.specs.Resolved.{shape_of as shape_spec};
+ghost use Rattle.request_files.specs.Servable.{IsServable};
+
+use crate::sessions::{kinds_of, reply_of, session};
+use declaration_insertion::Program;
+use handler_machine::Scripts;
+use plain_desk::PlainDesk;
+use request_files::Requests;
+use session_values::{Reply, TableKind, Value};
+use std::alloc::Global;
+use std::process::Abort;
+use std::sync::Wait;
+use std::thread::Threads;
+use ticket_serving::{Scratch, Serves};
+
+/// Serves the next ticket at the desk.
+fn serve_next<'a, R: Threads + Wait + Abort + Sync>(
+    rt: &R,
+    plan: &Scripts<'a>,
+    scratch: &mut Scratch,
+    desk: &mut PlainDesk<Scripts<'a>>,
+) -> Option<Reply>
+    requires ready { scratch.old.ready ≡ true }
+    requires plan { desk.old.script ≡ plan.now }
+    requires ended { desk.old.desk.ended ≡ true }
+    ensures ready { scratch.new.ready ≡ true }
+    ensures plan { desk.new.script ≡ plan.now }
+    ensures ended { desk.new.desk.ended ≡ true }
+{
+    let Some(ticket) = desk.start() else {
+        rt.panic("no ticket")
+    };
+    plan.serve(rt, ticket, scratch, desk).expect(rt, "memory");
+    desk.reply(ticket)
+}
+
+/// The replies of three requests.
+fn three_replies<'a, R: Threads + Wait + Abort + Sync>(
+    rt: &R,
+    alloc: Global,
+    program: &'a Program,
+    requests: &'a Requests,
+    shape: &[TableKind],
+) -> [Option<Reply>; 3]
+    requires servable { IsServable program.now.file requests.now }
+    requires shape { shape.now ≡ shape_spec program.now.file }
+{
+    let plan = Scripts::over(program, requests);
+    let script = Scripts::over(program, requests);
+    let mut scratch = Scratch::new(alloc).expect(rt, "memory");
+    let mut desk = PlainDesk::new(alloc, script, shape).expect(rt, "memory");
+    let first = serve_next(rt, &plan, &mut scratch, &mut desk);
+    let second = serve_next(rt, &plan, &mut scratch, &mut desk);
+    let third = serve_next(rt, &plan, &mut scratch, &mut desk);
+    [first, second, third]
+}
+
+/// With ample memory each ticket is served, and replies as it does in the serial run.
+#[test]
+fn requests_at_a_plain_desk(rt: HostRuntime) {
+    let loaded = session(&rt, rt.alloc());
+    let shape = kinds_of(rt.alloc(), loaded.program.checked().file()).expect(&rt, "memory");
+    let (program, requests) = (&loaded.program, &loaded.requests);
+    let replies = three_replies(&rt, rt.alloc(), program, requests, shape.as_slice());
+    let wanted = [
+        Some(reply_of(Value::Nil, 1)),
+        Some(reply_of(Value::Nil, 2)),
+        Some(reply_of(Value::Num(10), 2)),
+    ];
+    assert!(rt; replies == wanted);
+}
