@@ -1,17 +1,19 @@
 // The text of a program.
 
-ghost use Rattle.std.specs.Prelude.{◌≡◌, IfOk, slice_get, string_bytes};
+ghost use Rattle.std.specs.Prelude.{◌≡◌, slice_get};
+ghost use Rattle.byte_ends.specs.Texts.{Ends};
 ghost use Rattle.handler_check.specs.Resolved.{table_names, variables_at};
+ghost use Rattle.syntax_printer.specs.Countable.{IsCountable};
 ghost use Rattle.syntax_printer.specs.Lines.{shown_text};
 ghost use Rattle.syntax_trees.specs.Mentions.{AreNamed, file_mentions};
 ghost use Rattle.declaration_insertion.specs.Program.{declared_at};
 ghost use Rattle.declaration_insertion.specs.Shown.{shown_of};
 
 use crate::program::Program;
-use session_values::{Names, NoMemory};
-use std::alloc::Global;
+use byte_ends::TextSink;
+use session_values::Names;
 use symbolic_ops::Symbol;
-use syntax_printer::{Declarations, print_with_declarations};
+use syntax_printer::{Declarations, put_with_declarations};
 
 /// The declaration of a point; nothing where there is no such point.
 fn symbols_at(program: &Program, handler: u32, point: u32) -> &[Symbol]
@@ -75,17 +77,13 @@ impl Declarations for Program {
     }
 }
 
-/// The canonical text with the declarations: a line `mayuse ..;` at each point, and an else part of
-/// each `if`. So many bytes are reserved for it ahead; it may be longer.
-pub fn show(
-    alloc: Global,
-    room: usize,
-    program: &Program,
-    names: &Names,
-) -> Result<String, NoMemory>
-    requires { AreNamed names.now (file_mentions program.now.file) }
-    ensures { IfOk result (λ text. string_bytes text
-        ≡ shown_text names.now (shown_of program.now) program.now.file) }
+/// Puts the canonical text with the declarations: a line `mayuse ..;` at each point, and an else
+/// part of each `if`.
+pub fn show<T: TextSink>(program: &Program, names: &Names, out: &mut T)
+    requires named { AreNamed names.now (file_mentions program.now.file) }
+    requires countable { IsCountable program.now.file }
+    ensures { Ends T.IsDue (shown_text names.now (shown_of program.now) program.now.file)
+        out.old out.new }
 {
-    print_with_declarations(alloc, room, program.checked().file(), program, names)
+    put_with_declarations(program.checked().file(), program, names, out)
 }

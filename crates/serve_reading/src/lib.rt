@@ -1,4 +1,4 @@
-//! Reading: from a source to its bytes, and from these to checked handlers and their text.
+//! Reading: from a source to its bytes, and from these to checked handlers.
 #![tactic(auto)]
 
 mod describing;
@@ -8,7 +8,7 @@ mod reading;
 mod session;
 mod unserved;
 
-pub use describing::described_text;
+pub use describing::{DescribedFile, Description, read_description};
 pub use program::read_program;
 pub use reading::read_input;
 pub use session::{Loaded, read_session};
