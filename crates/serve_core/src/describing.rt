@@ -7,9 +7,9 @@ ghost use Rattle.serve_core.specs.Runs.{Runs};
 ghost use Rattle.serve_core.specs.Runs.{AnswersTo};
 ghost use Rattle.serve_faults.specs.Ways.{describing};
 
-use byte_ends::{Sink, Source, write_all};
+use byte_ends::{Page, Sink, Source, write_text};
 use serve_faults::Status;
-use serve_reading::{Unserved, described_text, read_input};
+use serve_reading::{Unserved, read_description, read_input};
 use std::alloc::Global;
 
 /// Reads a file of handlers, and writes its text.
@@ -35,14 +35,17 @@ fn describe_input<O: Sink>(alloc: Global, shown: bool, bytes: Vec<u8>, out: &mut
     ensures { AnswersTo (describing shown) bytes.items
         (change O.held O.faults out.old out.new) result None }
 {
-    match described_text(alloc, shown, bytes) {
-        Ok(text) => {
-            if write_all(out, text.as_bytes()) {
-                Status::Fine
-            } else {
-                Status::WriteFault
+    match read_description(alloc, shown, bytes) {
+        Ok(description) => match Page::new(alloc) {
+            Ok(page) => {
+                if write_text(out, &description, page) {
+                    Status::Fine
+                } else {
+                    Status::WriteFault
+                }
             }
-        }
+            Err(_) => Status::NoMemory,
+        },
         Err(Unserved::Refused(fault)) => Status::Refused(fault),
         Err(Unserved::NoMemory) => Status::NoMemory,
     }

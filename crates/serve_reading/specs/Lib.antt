@@ -1,3 +1,4 @@
 pub mod Programs
 pub mod Reasons
 pub mod Sessions
+pub mod Described

@@ -1,38 +1,70 @@
-// Describing: from the bytes of a file of handlers to its text.
+// Describing: from the bytes of a file of handlers to what is printed of it.
 
-ghost use Rattle.std.specs.Prelude.{◌≡◌, ◌≤◌, [], Bool, true, false, length, string_bytes, IfOk, IfErr};
+ghost use Rattle.std.specs.Prelude.{◌≡◌, ◌≤◌, [], Bool, true, false, length, IfOk, IfErr};
 ghost use Rattle.session_limits.specs.Limits.{max_input};
 ghost use Rattle.handler_syntax.specs.Language.{AreNamed, IsSourceOf, file_mentions, names_of};
 ghost use Rattle.serve_faults.specs.Input.{IsInput};
 ghost use Rattle.serve_faults.specs.Answer.{IsTextOf};
 ghost use Rattle.serve_faults.specs.Ways.{describing};
+ghost use Rattle.serve_reading.specs.Described.{IsPrintable, IsPrintableWith, text_of, text_with};
 ghost use Rattle.serve_reading.specs.Programs.{Describes, IsParsed};
 ghost use Rattle.serve_reading.specs.Reasons.{IsFileReason, IsReason, IsSyntaxReason};
 
 use crate::naming::names_of_input;
 use crate::program::{accepted_file, bounded_file, checked_file, read_file, with_declarations};
 use crate::unserved::Unserved;
-use declaration_insertion::show;
-use handler_syntax::{File, print_tree};
+use byte_ends::{PutsText, TextSink};
+use declaration_insertion::{Program, put_shown};
+use handler_check::Accepted;
+use handler_syntax::{File, is_countable, put_canonical};
 use request_files::divide;
 use serve_faults::Fault;
 use session_values::Names;
 use std::alloc::Global;
 
-/// The canonical text of a file of handlers; with `shown`, with its declarations. The bytes are
-/// freed as soon as they are parsed.
-pub fn described_text(alloc: Global, shown: bool, bytes: Vec<u8>) -> Result<String, Unserved>
+/// A file of handlers with what is printed of it, and the names of its text. To print it takes no
+/// memory.
+#[derive(Drop)]
+pub struct Description {
+    pub names: Names,
+    pub file: DescribedFile,
+}
+
+/// A file of which the canonical text is printed, or the text with its declarations.
+#[derive(Drop)]
+pub enum DescribedFile {
+    Canonical(Accepted),
+    Declared(Program),
+}
+
+impl PutsText for Description {
+    ghost use Rattle.serve_reading.specs.Described.{IsPrintable, text_of};
+
+    ghost text = { text_of };
+
+    ghost CanPut = { IsPrintable };
+
+    fn put_text<T: TextSink>(&self, out: &mut T) {
+        match &self.file {
+            DescribedFile::Canonical(accepted) => put_canonical(accepted.file(), &self.names, out),
+            DescribedFile::Declared(program) => put_shown(program, &self.names, out),
+        }
+    }
+}
+
+/// Reads a file of handlers of which the canonical text is to be printed; with `shown`, the text
+/// with its declarations. The bytes are freed as soon as they are parsed.
+pub fn read_description(alloc: Global, shown: bool, bytes: Vec<u8>) -> Result<Description, Unserved>
     requires { length bytes.items ≤ max_input }
     ensures input { IfOk result (λ _. IsInput (describing shown) bytes.items) }
     ensures text { IfOk result
-        (λ text. IsTextOf (describing shown) bytes.items (string_bytes text)) }
+        (λ found. IsTextOf (describing shown) bytes.items (text_of found)) }
+    ensures printable { IfOk result IsPrintable }
     ensures refused { IfErr result (IsReason (describing shown) bytes.items) }
 {
-    // Texts of usual files are at most twice as long as their sources.
-    let room = 2 * bytes.len();
     match parsed_bytes(alloc, bytes) {
-        Ok((file, names)) => match text_of_file(alloc, shown, room, file, &names) {
-            Ok(text) => Ok(text),
+        Ok((file, names)) => match described_file(alloc, shown, file, &names) {
+            Ok(file) => Ok(Description { names, file }),
             Err(e) => Err(e),
         },
         Err(e) => Err(e),
@@ -81,47 +113,54 @@ fn named_file(alloc: Global, text: &str) -> Result<(File, Names), Unserved>
     Ok((file, names))
 }
 
-// The text of a file.
-fn text_of_file(
+// A file that breaks no rule, with what is printed of it.
+fn described_file(
     alloc: Global,
     shown: bool,
-    room: usize,
     file: File,
     names: &Names,
-) -> Result<String, Unserved>
+) -> Result<DescribedFile, Unserved>
     requires { AreNamed names.now (file_mentions file) }
-    ensures text { IfOk result (λ text. Describes shown names.now file (string_bytes text)) }
+    ensures text { IfOk result
+        (λ found. Describes shown names.now file (text_with names.now found)) }
+    ensures printable { IfOk result (IsPrintableWith names.now) }
     ensures refused { IfErr result (IsFileReason file) }
 {
     if shown {
-        declared_text(alloc, room, file, names)
+        declared_file(alloc, file, names)
     } else {
-        canonical_text(alloc, room, file, names)
+        canonical_file(alloc, file, names)
     }
 }
 
-// The canonical text of a file. One handler is resolved at a time.
-fn canonical_text(alloc: Global, room: usize, file: File, names: &Names) -> Result<String, Unserved>
+// A file of which the canonical text is printed. One handler is resolved at a time.
+fn canonical_file(alloc: Global, file: File, names: &Names) -> Result<DescribedFile, Unserved>
     requires { AreNamed names.now (file_mentions file) }
-    ensures text { IfOk result (λ text. Describes false names.now file (string_bytes text)) }
+    ensures text { IfOk result
+        (λ found. Describes false names.now file (text_with names.now found)) }
+    ensures printable { IfOk result (IsPrintableWith names.now) }
     ensures refused { IfErr result (IsFileReason file) }
 {
     let accepted = bounded_file(alloc, accepted_file(alloc, file)?)?;
-    match print_tree(alloc, room, accepted.file(), names) {
-        Ok(text) => Ok(text),
-        Err(_) => Err(Unserved::NoMemory),
+    if is_countable(accepted.file()) {
+        Ok(DescribedFile::Canonical(accepted))
+    } else {
+        Err(Unserved::NoMemory)
     }
 }
 
-// The text of a file with its declarations.
-fn declared_text(alloc: Global, room: usize, file: File, names: &Names) -> Result<String, Unserved>
+// A file of which the text with its declarations is printed.
+fn declared_file(alloc: Global, file: File, names: &Names) -> Result<DescribedFile, Unserved>
     requires { AreNamed names.now (file_mentions file) }
-    ensures text { IfOk result (λ text. Describes true names.now file (string_bytes text)) }
+    ensures text { IfOk result
+        (λ found. Describes true names.now file (text_with names.now found)) }
+    ensures printable { IfOk result (IsPrintableWith names.now) }
     ensures refused { IfErr result (IsFileReason file) }
 {
     let program = with_declarations(alloc, checked_file(alloc, file)?)?;
-    match show(alloc, room, &program, names) {
-        Ok(text) => Ok(text),
-        Err(_) => Err(Unserved::NoMemory),
+    if is_countable(program.checked().file()) {
+        Ok(DescribedFile::Declared(program))
+    } else {
+        Err(Unserved::NoMemory)
     }
 }

@@ -1,4 +1,4 @@
-//! Reading: from a source to its bytes, and from these to a text, or to a session that can be served.
+//! Reading: from a source to its bytes, and from these to what can be printed or served.
 #![tactic(auto)]
 
 mod describing;
@@ -9,7 +9,7 @@ mod reading;
 mod session;
 mod unserved;
 
-pub use describing::described_text;
+pub use describing::{DescribedFile, Description, read_description};
 pub use program::read_program;
 pub use ranging::ranged_text;
 pub use reading::read_input;
