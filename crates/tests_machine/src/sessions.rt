@@ -4,20 +4,20 @@ ghost use Rattle.std.specs.Prelude.{◌≡◌, IfOk};
 ghost use Rattle.handler_check.specs.Resolved.{shape_of as shape_spec};
 ghost use Rattle.request_files.specs.Servable.{IsServable};
 
-use serve_reading::{Loaded, read_session};
+use serve_reading::{Loaded, load_session};
 use session_values::{NoMemory, Reply, TableKind, Value};
 use std::alloc::Global;
 use std::process::Abort;
 use syntax_trees::File;
 
-const HANDLERS: &str =
-    "map m;\nhandler take(k, v) {\n  let old = swap(m, k, v);\n  let n = size(m);\n  reply old, n;\n}\n";
+const SESSION: &str =
+    "map m;\nhandler take(k, v) {\n  let old = swap(m, k, v);\n  let n = size(m);\n  reply old, n;\n}\n%%\ntake 1 10\ntake 2 20\ntake 1 30\n";
 
 /// The session, as it is read.
 pub(crate) fn session<R: Abort>(rt: &R, alloc: Global) -> Loaded
     ensures { IsServable result.program.file result.requests }
 {
-    let Ok(loaded) = read_session(alloc, HANDLERS, "take 1 10\ntake 2 20\ntake 1 30\n", 1) else {
+    let Ok(loaded) = load_session(alloc, SESSION.as_bytes()) else {
         rt.panic("the session isn't read")
     };
     loaded
