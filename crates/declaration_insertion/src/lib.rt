@@ -5,5 +5,5 @@ pub mod laws;
 mod printing;
 mod program;
 
-pub use printing::show;
+pub use printing::{put_shown, show};
 pub use program::{Program, insert};

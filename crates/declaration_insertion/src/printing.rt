@@ -1,17 +1,20 @@
 // The text of a program.
 
 ghost use Rattle.std.specs.Prelude.{◌≡◌, IfOk, slice_get, string_bytes};
+ghost use Rattle.byte_ends.specs.Texts.{Ends};
 ghost use Rattle.handler_check.specs.Resolved.{table_names, variables_at};
+ghost use Rattle.syntax_printer.specs.Countable.{IsCountable};
 ghost use Rattle.syntax_printer.specs.Lines.{shown_text};
 ghost use Rattle.syntax_trees.specs.Mentions.{AreNamed, file_mentions};
 ghost use Rattle.declaration_insertion.specs.Program.{declared_at};
 ghost use Rattle.declaration_insertion.specs.Shown.{shown_of};
 
 use crate::program::Program;
+use byte_ends::TextSink;
 use session_values::{Names, NoMemory};
 use std::alloc::Global;
 use symbolic_ops::Symbol;
-use syntax_printer::{Declarations, print_with_declarations};
+use syntax_printer::{Declarations, print_with_declarations, put_with_declarations};
 
 /// The declaration of a point; nothing where there is no such point.
 fn symbols_at(program: &Program, handler: u32, point: u32) -> &[Symbol]
@@ -88,4 +91,14 @@ pub fn show(
         ≡ shown_text names.now (shown_of program.now) program.now.file) }
 {
     print_with_declarations(alloc, room, program.checked().file(), program, names)
+}
+
+/// Puts the same text at a sink.
+pub fn put_shown<T: TextSink>(program: &Program, names: &Names, out: &mut T)
+    requires named { AreNamed names.now (file_mentions program.now.file) }
+    requires countable { IsCountable program.now.file }
+    ensures { Ends T.IsDue (shown_text names.now (shown_of program.now) program.now.file)
+        out.old out.new }
+{
+    put_with_declarations(program.checked().file(), program, names, out)
 }
