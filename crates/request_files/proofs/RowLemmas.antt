@@ -20,6 +20,7 @@ use Rattle.text_lines.specs.Values.{values_of, placed_all}
 use Rattle.request_files.specs.Requests.{AreKnown, handler_of, fault_of, with_request, first_fault, no_requests, request_of, IsWithin, Accepted, AreRequests}
 use Rattle.text_lines.specs.Rows.{Row, row_of, rows, row_before, names_behind}
 use Rattle.text_lines.proofs.ValueLemmas.{placed_all_begins, values_kept}
+use Rattle.text_lines.proofs.RowLemmas.{behind_begins, behind_nil, behind_step}
 use Rattle.request_files.proofs.HandlerLemmas.{handler_kept}
 use Rattle.request_files.proofs.FaultLemmas.{fault_kept}
 use Rattle.session_values.proofs.Lists.{all_join}
