@@ -16,7 +16,7 @@ use Rattle.check_rules.specs.Source.{Source, Finish, Let, Do, Answer, block_sour
 use Rattle.check_meaning.specs.Bounds.{calls_bound, work_bound}
 use Rattle.check_meaning.specs.Code.{Code}
 use Rattle.handler_check.specs.Resolved.{code_of, handler_code, code_at}
-use Rattle.handler_check.proofs.Cases.{marks_leaf, source_let, source_call, source_reply}
+use Rattle.check_rules.proofs.Statements.{marks_leaf, source_let, source_call, source_reply}
 use Rattle.made_sessions.proofs.Phrases.{made_file, login, logout, seen, crowd}
 use Rattle.made_sessions.proofs.Symbols.{is_straight, all_list}
 
