@@ -8,5 +8,5 @@ pub returns-in-Ok-described_file-clause-text : goal.returns-in-Ok-described_file
 returns-in-Ok-described_file-clause-text c =
     described_by c.args.shown c.args.bytes.items _ _ _ _ _ c.in-Ok.ensures.parsed c.in-Ok-described_file.ensures.text (let a = c.in-Ok.file-is in cc) (let b = c.in-Ok.names-is in cc)
 
-pub returns-clause-refused : goal.returns-clause-refused
-returns-clause-refused c = reason_of c.args.shown c.args.bytes.items c.in-Err.e _ c.in-Err.ensures.refused (let a = c.in-Err.e-is in cc)
+pub returns-in-Err-clause-refused : goal.returns-in-Err-clause-refused
+returns-in-Err-clause-refused c = reason_of c.args.shown c.args.bytes.items c.in-Err.e _ c.in-Err.ensures.refused (let a = c.in-Err.e-is in cc)
