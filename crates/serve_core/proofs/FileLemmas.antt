@@ -15,16 +15,18 @@ use Rattle.request_files.specs.declared.request.Request.{Request}
 use Rattle.request_files.specs.Session.{session}
 use Rattle.handler_machine.specs.Scripts.{meaning}
 use Rattle.serve_faults.specs.declared.status.Status.{Status}
-use Rattle.serve_faults.specs.Changes.{Change}
+use Rattle.serve_faults.specs.Changes.{Change, IsUntouched}
 use Rattle.serve_faults.specs.Input.{Parts, parts_of}
 use Rattle.reply_writing.specs.Printable.{ArePrintableReplies}
 use Rattle.serve_faults.proofs.PrintableRuns.{replies_said}
 use Rattle.serve_reading.specs.declared.session.Loaded.{Loaded}
+use Rattle.serve_reading.specs.declared.unserved.Unserved.{Unserved}
 use Rattle.serve_reading.specs.declared.unserved.Unserved.TheVariants.{NoMemory}
+use Rattle.serve_reading.specs.Reasons.{IsInputReason}
 use Rattle.serve_reading.specs.Sessions.{IsLoaded, IsSessionInput}
 use Rattle.serve_reading.proofs.Loading.{as_program}
 use Rattle.serve_core.specs.declared.writing.Writing.{Writing}
-use Rattle.serve_core.specs.Serving.{CanPrint, CanServe, EndsLoaded, EndsSession, HasServed, script_of_loaded}
+use Rattle.serve_core.specs.Serving.{CanPrint, CanServe, EndsLoaded, EndsSession, HasServed, script_of_loaded, status_of}
 
 -- ---- tables
 pub few_kinds : (f : File) (shape : List TableKind) → IsAccepted f → shape ≡ shape_of f → length shape ≤ 7
@@ -78,3 +80,8 @@ loaded_ends w callers shards input l out s (Some d) i h e = record {
   served = has_served (parts_of input) callers shards l d h e.done e.callers_are e.shards_are;
   ends = e.ends;
 }
+
+-- where it isn't read, nothing is written, for this reason
+pub unserved_ends : {O : Type 0} (w : Writing) (callers shards : ℕ) (input : List ℕ) (out : Change O) (e : Unserved) → IsInputReason input e → IsUntouched out
+    → EndsSession w callers shards input out (status_of e) None
+unserved_ends w callers shards input out e why same = record { reason = e; is = refl; why = why; same = same }

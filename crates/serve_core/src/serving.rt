@@ -6,7 +6,7 @@ ghost use Rattle.serve_faults.specs.Changes.{change};
 ghost use Rattle.serve_core.specs.Runs.{AnswersTo, Runs};
 ghost use Rattle.serve_words.specs.declared.command.Command.TheVariants.{Serve};
 
-use crate::outcome::{Outcome, unserved};
+use crate::outcome::Outcome;
 use crate::sessions::serve_bytes;
 use crate::writing::Writing;
 use byte_ends::{Sink, Source};
@@ -34,7 +34,10 @@ pub(crate) fn serve_source<R: Threads + Wait + Sync, I: Source, O: Sink, G: Gate
 {
     match read_input(alloc, source) {
         Ok(bytes) => serve_input(rt, alloc, callers, shards, bytes.as_slice(), out, gate),
-        Err(status) => unserved(status),
+        Err(status) => Outcome {
+            status,
+            closed: None,
+        },
     }
 }
 

@@ -6,7 +6,7 @@ ghost use Rattle.handler_machine.specs.Scripts.{meaning};
 ghost use Rattle.serve_faults.specs.Changes.{change};
 ghost use Rattle.serve_core.specs.Serving.{CanPrint, CanServe, EndsAsServed, EndsLoaded, EndsSession, status_of};
 
-use crate::outcome::{Outcome, unserved};
+use crate::outcome::Outcome;
 use crate::served::{Ready, open_program, serve_ready};
 use crate::writing::{Writing, write_session};
 use byte_ends::Sink;
@@ -38,7 +38,10 @@ pub(crate) fn serve_bytes<R: Threads + Wait + Sync, O: Sink, G: Gate + Sync>(
 {
     match load_session(alloc, bytes) {
         Ok(loaded) => serve_loaded(rt, alloc, callers, shards, &loaded, writing, out, gate),
-        Err(e) => unserved(ended(e)),
+        Err(e) => Outcome {
+            status: ended(e),
+            closed: None,
+        },
     }
 }
 
@@ -77,7 +80,10 @@ fn serve_loaded<R: Threads + Wait + Sync, O: Sink, G: Gate + Sync>(
                 closed: Some(closed),
             }
         }
-        Err(_) => unserved(Status::NoMemory),
+        Err(_) => Outcome {
+            status: Status::NoMemory,
+            closed: None,
+        },
     }
 }
 

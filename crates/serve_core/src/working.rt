@@ -6,7 +6,7 @@ ghost use Rattle.serve_words.specs.declared.command.Command.TheVariants.{Work};
 ghost use Rattle.serve_faults.specs.Changes.{change};
 ghost use Rattle.serve_core.specs.Runs.{AnswersTo};
 
-use crate::outcome::{Outcome, unserved};
+use crate::outcome::Outcome;
 use crate::sessions::serve_bytes;
 use crate::writing::Writing;
 use byte_ends::Sink;
@@ -35,6 +35,9 @@ pub(crate) fn work<R: Threads + Wait + Sync, O: Sink, G: Gate + Sync>(
             let writing = Writing::Summary { requests };
             serve_bytes(rt, alloc, 4, 4, text.as_bytes(), writing, out, gate)
         }
-        Err(_) => unserved(Status::NoMemory),
+        Err(_) => Outcome {
+            status: Status::NoMemory,
+            closed: None,
+        },
     }
 }
