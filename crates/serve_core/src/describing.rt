@@ -7,9 +7,10 @@ ghost use Rattle.serve_core.specs.Runs.{Runs};
 ghost use Rattle.serve_core.specs.Runs.{AnswersTo};
 ghost use Rattle.serve_faults.specs.Ways.{describing};
 
+use crate::sessions::ended;
 use byte_ends::{Page, Sink, Source, write_text};
 use serve_faults::Status;
-use serve_reading::{Unserved, read_description, read_input};
+use serve_reading::{read_description, read_input};
 use std::alloc::Global;
 
 /// Reads a file of handlers, and writes its text.
@@ -46,7 +47,6 @@ fn describe_input<O: Sink>(alloc: Global, shown: bool, bytes: Vec<u8>, out: &mut
             }
             Err(_) => Status::NoMemory,
         },
-        Err(Unserved::Refused(fault)) => Status::Refused(fault),
-        Err(Unserved::NoMemory) => Status::NoMemory,
+        Err(e) => ended(e),
     }
 }

@@ -45,8 +45,8 @@ pub(crate) fn serve_bytes<R: Threads + Wait + Sync, O: Sink, G: Gate + Sync>(
     }
 }
 
-/// How a run ends that serves nothing.
-fn ended(e: Unserved) -> Status
+/// How a run ends that answers no text.
+pub(crate) fn ended(e: Unserved) -> Status
     ensures { result ≡ status_of e }
 {
     match e {
