@@ -29,7 +29,7 @@ use Rattle.serve_reading.specs.declared.unserved.Unserved.TheVariants.{Refused, 
 use Rattle.serve_reading.specs.Reasons.{IsInputReason, IsReason, IsSessionReason}
 use Rattle.serve_reading.specs.Sessions.{IsSessionInput}
 use Rattle.serve_core.specs.declared.writing.Writing.TheVariants as writing
-use Rattle.serve_core.specs.Serving.{EndsBy, EndsServed, EndsSession, HasServed, status_of}
+use Rattle.serve_core.specs.Serving.{EndsBy, EndsOrWants, EndsServed, EndsSession, HasServed, status_of}
 use Rattle.serve_core.proofs.CallLemmas.{calls_done}
 
 -- ---- a command that refuses, or wants memory
@@ -98,6 +98,22 @@ module _ {O : Type 0} (shown : Bool) (bytes : List ℕ) (out : Change O) where
 
   pub undescribed_to : (e : Unserved) → IsUntouched out → IsReason (describing shown) bytes e → AnswersTo (describing shown) bytes out (status_of e) None
   undescribed_to e same r = reason_to (describing shown) bytes out same e (subst (λ (b : List ℕ). IsReason (describing shown) b e) (describing_own shown bytes) r)
+
+  pub described_or_wants : (text : List ℕ) (s : Status) → IsInput (describing shown) bytes → IsTextOf (describing shown) bytes text → EndsOrWants text out s → AnswersTo (describing shown) bytes out s None
+  described_or_wants text status.Fine i is e = described_to text status.Fine i is e
+  described_or_wants text status.WriteFault i is e = described_to text status.WriteFault i is e
+  described_or_wants text status.NoMemory i is e = memory_to (describing shown) bytes out e
+  described_or_wants text (status.Refused f) i is e = absurd e
+  described_or_wants text status.Usage i is e = absurd e
+  described_or_wants text status.ReadFault i is e = absurd e
+
+pub ends_or_wants : {O : Type 0} (text : List ℕ) (out : Change O) (s : Status) → EndsBy text out s → EndsOrWants text out s
+ends_or_wants text out status.Fine e = e
+ends_or_wants text out status.WriteFault e = e
+ends_or_wants text out status.NoMemory e = absurd e
+ends_or_wants text out (status.Refused f) e = absurd e
+ends_or_wants text out status.Usage e = absurd e
+ends_or_wants text out status.ReadFault e = absurd e
 
 -- ---- serving
 handlers_same : (c : Command) (input : List ℕ) → has_requests c ≡ true → handlers_of c input ≡ (parts_of input).handlers

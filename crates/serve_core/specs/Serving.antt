@@ -68,6 +68,15 @@ EndsBy text out status.Usage = ⊥
 EndsBy text out status.NoMemory = ⊥
 EndsBy text out status.ReadFault = ⊥
 
+-- the same, where memory may have run out before anything was written
+abbrev pub EndsOrWants : {O : Type 0} → List ℕ → Change O → Status → Type 0
+EndsOrWants text out status.Fine = Took out text
+EndsOrWants text out status.WriteFault = Failed out × TookFront out text
+EndsOrWants text out status.NoMemory = IsUntouched out
+EndsOrWants text out (status.Refused e) = ⊥
+EndsOrWants text out status.Usage = ⊥
+EndsOrWants text out status.ReadFault = ⊥
+
 -- what is written of a session that was served: its replies, or how many operations it made and how
 -- many bytes its replies take
 abbrev pub text_of : Writing → List (List ℕ) → ClosedView → List ℕ

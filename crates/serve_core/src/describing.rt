@@ -5,12 +5,14 @@ ghost use Rattle.session_limits.specs.Limits.{max_input};
 ghost use Rattle.serve_faults.specs.Changes.{change};
 ghost use Rattle.serve_core.specs.Runs.{Runs};
 ghost use Rattle.serve_core.specs.Runs.{AnswersTo};
+ghost use Rattle.serve_core.specs.Serving.{EndsBy, EndsOrWants};
 ghost use Rattle.serve_faults.specs.Ways.{describing};
+ghost use Rattle.serve_reading.specs.Described.{IsPrintable, text_of};
 
 use crate::sessions::ended;
 use byte_ends::{Page, Sink, Source, write_text};
 use serve_faults::Status;
-use serve_reading::{read_description, read_input};
+use serve_reading::{Description, read_description, read_input};
 use std::alloc::Global;
 
 /// Reads a file of handlers, and writes its text.
@@ -37,16 +39,31 @@ fn describe_input<O: Sink>(alloc: Global, shown: bool, bytes: Vec<u8>, out: &mut
         (change O.held O.faults out.old out.new) result None }
 {
     match read_description(alloc, shown, bytes) {
-        Ok(description) => match Page::new(alloc) {
-            Ok(page) => {
-                if write_text(out, &description, page) {
-                    Status::Fine
-                } else {
-                    Status::WriteFault
-                }
-            }
-            Err(_) => Status::NoMemory,
-        },
+        Ok(description) => write_description(alloc, &description, out),
         Err(e) => ended(e),
+    }
+}
+
+// Writes the text of what was read, where there is memory for a page. From then on none is wanted.
+fn write_description<O: Sink>(alloc: Global, description: &Description, out: &mut O) -> Status
+    requires { IsPrintable description.now }
+    ensures { EndsOrWants (text_of description.now)
+        (change O.held O.faults out.old out.new) result }
+{
+    match Page::new(alloc) {
+        Ok(page) => write_paged(out, description, page),
+        Err(_) => Status::NoMemory,
+    }
+}
+
+// Writes the text of what was read, page by page.
+fn write_paged<O: Sink>(out: &mut O, description: &Description, page: Page) -> Status
+    requires { IsPrintable description.now }
+    ensures { EndsBy (text_of description.now) (change O.held O.faults out.old out.new) result }
+{
+    if write_text(out, description, page) {
+        Status::Fine
+    } else {
+        Status::WriteFault
     }
 }
