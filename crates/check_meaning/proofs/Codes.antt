@@ -1,5 +1,5 @@
 -- The code of each kind of statement, and cases of statements.
-use Rattle.std.proofs.Common.{◌≡◌, ℕ, List, map, Option, sym, subst, rules}
+use Rattle.std.proofs.Common.{◌≡◌, ℕ, List, map, Option, subst, rules}
 use Rattle.check_meaning.specs.declared.tree.CheckedCall.{CheckedCall}
 use Rattle.check_meaning.specs.declared.tree.CheckedCond.{CheckedCond}
 use Rattle.check_meaning.specs.declared.tree.CheckedExpr.{CheckedExpr}

@@ -2,6 +2,7 @@
 use Rattle.std.proofs.Common.{◌≡◌, ℕ, zero, suc, ◌+◌, ◌<◌, ◌≤◌, ◌^◌, Bool, true, false, if◌then◌else◌, ◌&&◌, List, [], ◌∷◌, length, map, Option, Some, None, refl, sym, ap, subst, arith}
 use Rattle.std.specs.Prelude.{ℤ, pos, negsuc, ◌+ℤ◌, ◌-ℤ◌, ◌*ℤ◌, int_le, ◌==◌}
 use Rattle.std.specs.List.{AllByRecursion}
+use Rattle.std.proofs.lemmas.Bool.{and_parts}
 use Rattle.std.proofs.lemmas.Int.{ints}
 use Rattle.session_values.specs.declared.value.Value.{Value}
 use Rattle.session_values.specs.declared.value.Value.TheVariants.{Nil, Num, Sym}
@@ -26,11 +27,6 @@ picked : (b : Bool) (v : Value) → (b ≡ true → IsValue v) → IsValue (if b
 picked true v h = h refl
 picked false v h = tt
 
-and_both : (a b : Bool) → (a && b) ≡ true → (a ≡ true) × (b ≡ true)
-and_both true true e = (refl, refl)
-and_both true false e = cc
-and_both false b e = cc
-
 low_enough : (n : ℕ) → int_le (pos n) (pos 9223372036854775807) ≡ true → n < 2 ^ 63
 low_enough n e = grind (arith, ints)
 
@@ -41,11 +37,11 @@ is_number : (z : ℤ) → IsValue (in_range z)
 is_number (pos n) =
     let a : Bool = int_le (negsuc 9223372036854775807) (pos n) in
     let b : Bool = int_le (pos n) (pos 9223372036854775807) in
-    picked (a && b) (Num (pos n)) (λ e. low_enough n (and_both a b e).1)
+    picked (a && b) (Num (pos n)) (λ e. low_enough n (and_parts a b e).1)
 is_number (negsuc n) =
     let a : Bool = int_le (negsuc 9223372036854775807) (negsuc n) in
     let b : Bool = int_le (negsuc n) (pos 9223372036854775807) in
-    picked (a && b) (Num (negsuc n)) (λ e. high_enough n (and_both a b e).0)
+    picked (a && b) (Num (negsuc n)) (λ e. high_enough n (and_parts a b e).0)
 
 is_calculated : (calc : Calc) (v w : Value) → IsValue (calculated calc v w)
 is_calculated Plus (Num a) (Num b) = is_number (a +ℤ b)

@@ -5,7 +5,7 @@ use Rattle.session_values.specs.declared.value.Value.{Value}
 use Rattle.session_values.specs.declared.value.Value.TheVariants.{Num}
 use Rattle.session_values.specs.Dialogue.{Dialogue}
 use Rattle.check_meaning.specs.Code.{Code, Finish, Move, Ask, Fork, Loop, Quit}
-use Rattle.check_meaning.specs.Dialogue.{Env, with_value, value_of, holds, Place, Outcome, Calls, Answers, Goes, after, then_do, pass, with_reply, turns, run, ended, next}
+use Rattle.check_meaning.specs.Dialogue.{Env, with_value, value_of, holds, Place, Outcome, Calls, Answers, Goes, after, then_do, pass, with_reply, turns, run, passed_by, ended, next}
 use Rattle.check_meaning.specs.Ahead.{Ahead, passing, goes, turns_then, run_then}
 
 after_after : (ps qs : List Place) (o : Outcome) → after ps (after qs o) ≡ after (ps ++ qs) o
@@ -82,6 +82,11 @@ next_whole code env = λ i rs. ended (run_whole code env rs i)
 
 pub run_goes : (code : Code) (env : Env) → run_then code goes env ≡ run code env
 run_goes code env = λ i rs. run_whole code env rs i
+
+pub passed_after : (ps : List Place) (o : Outcome) → passed_by (after ps o) ≡ ps ++ passed_by o
+passed_after ps (Calls qs op) = refl
+passed_after ps (Answers qs vs) = refl
+passed_after ps (Goes qs env left) = refl
 
 pub ended_after : (ps : List Place) (o : Outcome) → ended (after ps o) ≡ ended o
 ended_after ps (Calls qs op) = refl

@@ -1,5 +1,6 @@
 -- The faults of a file, text by text, and the rules that are broken in it.
-use Rattle.std.proofs.Common.{◌≡◌, ℕ, suc, zero, ◌<◌, ◌⊎◌, inl, inr, List, [], ◌∷◌, ◌++◌, length, map, slice_index_or, refl, sym, ap, subst, arith}
+use Rattle.std.proofs.Common.{◌≡◌, ℕ, suc, zero, ◌<◌, ◌⊎◌, inl, inr, List, [], ◌∷◌, ◌++◌, length, map, slice_index_or, refl, sym, subst, arith}
+use Rattle.std.proofs.lemmas.List.{map-append}
 use Rattle.std.specs.List.{Contains, AllByRecursion, flat_map}
 use Rattle.syntax_trees.specs.declared.file.File.{File}
 use Rattle.syntax_trees.specs.declared.file.Handler.{Handler}
@@ -38,10 +39,6 @@ rising_parts (x ∷ xs) ys h =
     let p = all_first (λ (m : ℕ). x < m) xs ys h.0 in
     ((p.0, k.0), (p.1, k.1), k.2)
 
-pub map_append : {X Y : Type 0} (f : X → Y) (xs ys : List X) → map f (xs ++ ys) ≡ map f xs ++ map f ys
-map_append f [] ys = refl
-map_append f (x ∷ xs) ys = ap (λ zs. f x ∷ zs) (map_append f xs ys)
-
 -- ---- handlers
 abbrev marks_of : List Handler → List Mark
 marks_of hs = flat_map (λ (h : Handler). Declared h.name h.at ∷ handler_marks h) hs
@@ -55,7 +52,7 @@ module _ (tables : List TableDecl) where
   handlers_above : (P : ℕ → Type 0) (hs : List Handler) (earlier : List ℕ) (g : CheckRefusal) → AllByRecursion P (map mark_at (marks_of hs)) → HandlersBroken earlier hs g → P (place g)
   handlers_above P [] earlier g h b = absurd b
   handlers_above P (x ∷ hs) earlier g h b =
-      let parts = all_first P (map mark_at (handler_marks x)) (map mark_at (marks_of hs)) (subst (AllByRecursion P) (map_append mark_at (handler_marks x) (marks_of hs)) h.1) in
+      let parts = all_first P (map mark_at (handler_marks x)) (map mark_at (marks_of hs)) (subst (AllByRecursion P) (map-append mark_at (handler_marks x) (marks_of hs)) h.1) in
       elim b [
         | inl c ↦ subst P (sym (stands_at of_handlers fair_handlers tables earlier (Declared x.name x.at) g c)) h.0
         | inr s ↦ elim s [ inl c ↦ above_all of_variables fair_variables tables P (handler_marks x) [] g parts.0 c | inr c ↦ handlers_above P hs (earlier ++ x.name ∷ []) g parts.1 c ]
@@ -63,7 +60,7 @@ module _ (tables : List TableDecl) where
 
   rest_above : (P : ℕ → Type 0) (x : Handler) (hs : List Handler) (earlier : List ℕ) (g : CheckRefusal) → AllByRecursion P (map mark_at (handler_marks x ++ marks_of hs)) → BrokenFrom of_variables tables [] (handler_marks x) g ⊎ HandlersBroken earlier hs g → P (place g)
   rest_above P x hs earlier g h b =
-      let parts = all_first P (map mark_at (handler_marks x)) (map mark_at (marks_of hs)) (subst (AllByRecursion P) (map_append mark_at (handler_marks x) (marks_of hs)) h) in
+      let parts = all_first P (map mark_at (handler_marks x)) (map mark_at (marks_of hs)) (subst (AllByRecursion P) (map-append mark_at (handler_marks x) (marks_of hs)) h) in
       elim b [ inl c ↦ above_all of_variables fair_variables tables P (handler_marks x) [] g parts.0 c | inr c ↦ handlers_above P hs earlier g parts.1 c ]
 
   finds_handlers : (hs : List Handler) (earlier : List ℕ) → AreRising (map mark_at (marks_of hs)) → Finds (scan_handlers tables earlier hs) (HandlersBroken earlier hs)
@@ -71,7 +68,7 @@ module _ (tables : List TableDecl) where
   finds_handlers (x ∷ hs) earlier r =
       let inner = map mark_at (handler_marks x) in
       let outer = map mark_at (marks_of hs) in
-      let rises : AreRising (inner ++ outer) = subst AreRising (map_append mark_at (handler_marks x) (marks_of hs)) r.1 in
+      let rises : AreRising (inner ++ outer) = subst AreRising (map-append mark_at (handler_marks x) (marks_of hs)) r.1 in
       let parts = rising_parts inner outer rises in
       let more : List ℕ = earlier ++ x.name ∷ [] in
       finds_both (declared_fault of_handlers.limit of_handlers.past earlier x.name x.at) (or_else (scan of_variables tables [] [] (handler_marks x)) (scan_handlers tables more hs)) (Breaks of_handlers tables earlier (Declared x.name x.at))
@@ -195,7 +192,7 @@ pub finds_file : (f : File) → PlacesRise f → Finds (file_fault f) (IsBroken 
 finds_file f rise =
     let tables = map mark_at (table_marks f.tables) in
     let outer = map mark_at (marks_of f.handlers) in
-    let rises : AreRising (tables ++ outer) = subst AreRising (map_append mark_at (table_marks f.tables) (marks_of f.handlers)) rise in
+    let rises : AreRising (tables ++ outer) = subst AreRising (map-append mark_at (table_marks f.tables) (marks_of f.handlers)) rise in
     let parts = rising_parts tables outer rises in
     finds_same (file_fault f) (FileBroken f) (IsBroken f) (to_rule f) (from_rules f)
     (finds_both (scan of_tables [] [] [] (table_marks f.tables)) (scan_handlers f.tables [] f.handlers) (BrokenFrom of_tables [] [] (table_marks f.tables)) (HandlersBroken f.tables [] f.handlers)

@@ -1,5 +1,6 @@
 -- What a walk finds: the first of some faults.
 use Rattle.std.proofs.Common.{◌≡◌, ℕ, suc, zero, ◌<◌, ◌≤◌, ◌==◌, Bool, true, false, ◌||◌, nat_lt, ◌⊎◌, inl, inr, if◌then◌else◌, List, [], ◌∷◌, ◌++◌, length, map, slice_index_or, Option, Some, None, refl, sym, ap, ◌∙◌, subst, arith}
+use Rattle.std.proofs.lemmas.Bool.{or_cases, or_left, or_right}
 use Rattle.std.proofs.lemmas.Bool.Decides.{nat_tests}
 use Rattle.std.specs.List.{Contains, AllByRecursion}
 use Rattle.session_values.specs.declared.kind.Kind.{Kind}
@@ -50,18 +51,6 @@ eq_true a b e = grind (arith, nat_tests)
 
 pub true_eq : (a b : ℕ) → a ≡ b → (a == b) ≡ true
 true_eq a b e = grind (arith, nat_tests)
-
-or_left : (a b : Bool) → a ≡ true → (a || b) ≡ true
-or_left true b e = refl
-or_left false b e = cc
-
-or_right : (a b : Bool) → b ≡ true → (a || b) ≡ true
-or_right true b e = refl
-or_right false b e = e
-
-or_cases : (a b : Bool) → (a || b) ≡ true → (a ≡ true) ⊎ (b ≡ true)
-or_cases true b e = inl refl
-or_cases false b e = inr e
 
 pub among_in : (ns : List ℕ) (n : ℕ) → is_among ns n ≡ true → Contains ns n
 among_in [] n e = cc

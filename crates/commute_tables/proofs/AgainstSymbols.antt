@@ -17,7 +17,8 @@ use Rattle.commute_tables.specs.Relation.{same_bool, commutes, is_put, is_bump, 
 use Rattle.symbolic_ops.specs.Matching.{Agrees, IsNoVar, HasNoVar, StandsFor}
 use Rattle.commute_tables.specs.Symbols.{CommutesWith, DiffersFromSome}
 use Rattle.commute_tables.specs.Relation.{is_apart, is_same, commutes_symbol}
-use Rattle.commute_tables.proofs.Commutes.{and_both, not_true, same_kind, commutes-Commute}
+use Rattle.std.proofs.lemmas.Bool.{and_parts}
+use Rattle.commute_tables.proofs.Commutes.{not_true, same_kind, commutes-Commute}
 use Rattle.commute_tables.proofs.TellingApart.{or_false, not_false, commutes-Differ, not_commute}
 use Rattle.commute_tables.proofs.TellingApartPairs.{other, other_differs, other_number, other_not_zero, other_held}
 use Rattle.session_values.proofs.Equal.{same_value, value_eq-self}
@@ -119,7 +120,7 @@ commutes_each a s b st h = or_more _ (add_up a.kind (is_number a.value) (is_zero
 
     by_key : (is_keyed a.kind && is_keyed b.kind && is_apart a.key s.key) ≡ true → ((is_keyed a.kind && is_keyed b.kind && not (value_eq a.key b.key)) ≡ true) ⊎ ((is_plain a.kind && eqb (kind_place a.kind) (kind_place b.kind) && value_eq a.key b.key && (not (eqb (kind_place a.kind) 1) || value_eq a.value b.value)) ≡ true)
     by_key h =
-        let p : ((is_keyed a.kind && is_keyed b.kind) ≡ true) × (is_apart a.key s.key ≡ true) = and_both _ _ h in
+        let p : ((is_keyed a.kind && is_keyed b.kind) ≡ true) × (is_apart a.key s.key ≡ true) = and_parts _ _ h in
         inl (ap (λ (x : Bool). x && not (value_eq a.key b.key)) p.0 ∙ ap not (key_of a s.key b.key st.key p.1))
 
     same_kinds : (x y : Kind) → eqb (kind_place x) (kind_place y) ≡ true → is_plain x ≡ true → is_keyed y ≡ true
@@ -127,8 +128,8 @@ commutes_each a s b st h = or_more _ (add_up a.kind (is_number a.value) (is_zero
 
     by_change : (is_plain a.kind && eqb (kind_place a.kind) (kind_place b.kind) && (not (eqb (kind_place a.kind) 1) || is_same a.value s.value)) ≡ true → ((is_keyed a.kind && is_keyed b.kind && not (value_eq a.key b.key)) ≡ true) ⊎ ((is_plain a.kind && eqb (kind_place a.kind) (kind_place b.kind) && value_eq a.key b.key && (not (eqb (kind_place a.kind) 1) || value_eq a.value b.value)) ≡ true)
     by_change h =
-        let p : ((is_plain a.kind && eqb (kind_place a.kind) (kind_place b.kind)) ≡ true) × ((not (eqb (kind_place a.kind) 1) || is_same a.value s.value) ≡ true) = and_both _ _ h in
-        let q : (is_plain a.kind ≡ true) × (eqb (kind_place a.kind) (kind_place b.kind) ≡ true) = and_both _ _ p.0 in
+        let p : ((is_plain a.kind && eqb (kind_place a.kind) (kind_place b.kind)) ≡ true) × ((not (eqb (kind_place a.kind) 1) || is_same a.value s.value) ≡ true) = and_parts _ _ h in
+        let q : (is_plain a.kind ≡ true) × (eqb (kind_place a.kind) (kind_place b.kind) ≡ true) = and_parts _ _ p.0 in
         by_same_key (value_eq a.key b.key) refl p.0 p.1 (plain_keyed a.kind q.0) (same_kinds a.kind b.kind q.1 q.0)
       where
         values : (not (eqb (kind_place a.kind) 1) || is_same a.value s.value) ≡ true → (not (eqb (kind_place a.kind) 1) || value_eq a.value b.value) ≡ true

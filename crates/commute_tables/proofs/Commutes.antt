@@ -1,8 +1,9 @@
 -- Which operations commute.
-use Rattle.std.proofs.Common.{◌≡◌, ℕ, ℤ, pos, zero, suc, ◌+ℤ◌, ◌≢◌, ◌⊎◌, inl, inr, Option, Some, None, Bool, true, false, cond, not, ◌&&◌, ◌||◌, eqb, refl, sym, ◌∙◌, ap, subst, arith}
+use Rattle.std.proofs.Common.{◌≡◌, ℕ, ℤ, pos, zero, suc, ◌+ℤ◌, ◌≢◌, inl, inr, Option, Some, None, Bool, true, false, cond, not, ◌&&◌, ◌||◌, eqb, refl, sym, ◌∙◌, ap, subst, arith}
 use Rattle.std.specs.Int.{int_wrap, w64}
 use Rattle.std.proofs.lemmas.Int.{ints, int_wrap-add_left, int_wrap_fits}
 use Rattle.std.specs.Option.{unwrap_or}
+use Rattle.std.proofs.lemmas.Bool.{and_parts, or_cases}
 use Rattle.std.proofs.lemmas.Bool.Decides.{nat_tests}
 use Rattle.std.specs.FinMap as map
 use Rattle.std.specs.FinSet as set
@@ -397,14 +398,6 @@ bump_put_swap c a b held p q h =
     pair_swaps c a b (ap is_on_map (bump_kind a.kind p)) (ap is_on_map (put_kind b.kind q)) (λ d. bump_reply d a p) (λ d. plain_reply d b (ap is_plain (put_kind b.kind q))) (subst P (sym (bump_kind a.kind p)) (subst Q (sym (put_kind b.kind q)) (λ o. sym (bumped_put a.value b.value held h))))
 
 -- ---- the test is right where it says that they commute
-pub or_cases : (x y : Bool) → (x || y) ≡ true → (x ≡ true) ⊎ (y ≡ true)
-or_cases true y e = inl refl
-or_cases false y e = inr e
-
-pub and_both : (x y : Bool) → (x && y) ≡ true → (x ≡ true) × (y ≡ true)
-and_both true y e = (refl, e)
-and_both false y e = cc
-
 pub not_true : (x : Bool) → not x ≡ true → x ≡ false
 not_true true e = cc
 not_true false e = refl
@@ -423,17 +416,17 @@ sums_swap c a b u v h = elim (or_cases _ _ h) [
   | inl x ↦ elim (or_cases _ _ x) [
     | inl y ↦ elim (or_cases _ _ y) [
       | inl z ↦ elim (or_cases _ _ z) [
-        | inl w ↦ let p : (is_bump a.kind ≡ true) × (is_bump b.kind ≡ true) = and_both _ _ w in bumps_swap c a b p.0 p.1
-        | inr w ↦ let p : (is_bump a.kind ≡ true) × (not (is_number a.value) ≡ true) = and_both _ _ w in flip c a b (idle_swaps c b a p.0 (not_true _ p.1))
+        | inl w ↦ let p : (is_bump a.kind ≡ true) × (is_bump b.kind ≡ true) = and_parts _ _ w in bumps_swap c a b p.0 p.1
+        | inr w ↦ let p : (is_bump a.kind ≡ true) × (not (is_number a.value) ≡ true) = and_parts _ _ w in flip c a b (idle_swaps c b a p.0 (not_true _ p.1))
       ]
-      | inr z ↦ let p : (is_bump b.kind ≡ true) × (not (is_number b.value) ≡ true) = and_both _ _ z in idle_swaps c a b p.0 (not_true _ p.1)
+      | inr z ↦ let p : (is_bump b.kind ≡ true) × (not (is_number b.value) ≡ true) = and_parts _ _ z in idle_swaps c a b p.0 (not_true _ p.1)
     ]
-    | inr y ↦ let p : ((is_bump a.kind && is_put b.kind) ≡ true) × ((is_zero a.value || not (is_number b.value)) ≡ true) = and_both _ _ y in
-        let q : (is_bump a.kind ≡ true) × (is_put b.kind ≡ true) = and_both _ _ p.0 in
+    | inr y ↦ let p : ((is_bump a.kind && is_put b.kind) ≡ true) × ((is_zero a.value || not (is_number b.value)) ≡ true) = and_parts _ _ y in
+        let q : (is_bump a.kind ≡ true) × (is_put b.kind ≡ true) = and_parts _ _ p.0 in
         bump_put_swap c a b v q.0 q.1 p.1
   ]
-  | inr x ↦ let p : ((is_put a.kind && is_bump b.kind) ≡ true) × ((not (is_number a.value) || is_zero b.value) ≡ true) = and_both _ _ x in
-      let q : (is_put a.kind ≡ true) × (is_bump b.kind ≡ true) = and_both _ _ p.0 in
+  | inr x ↦ let p : ((is_put a.kind && is_bump b.kind) ≡ true) × ((not (is_number a.value) || is_zero b.value) ≡ true) = and_parts _ _ x in
+      let q : (is_put a.kind ≡ true) × (is_bump b.kind ≡ true) = and_parts _ _ p.0 in
       flip c a b (bump_put_swap c b a u q.1 q.0 (turned (is_number a.value) (is_zero b.value) p.1))
 ]
   where
@@ -452,9 +445,9 @@ commutes-Commute a b u v h = tables (eqb a.table b.table) refl
 
     last : a.table ≡ b.table → (is_plain a.kind && eqb (kind_place a.kind) (kind_place b.kind) && value_eq a.key b.key && (not (eqb (kind_place a.kind) 1) || value_eq a.value b.value)) ≡ true → Commute a b
     last t h =
-        let x : ((is_plain a.kind && eqb (kind_place a.kind) (kind_place b.kind) && value_eq a.key b.key) ≡ true) × ((not (eqb (kind_place a.kind) 1) || value_eq a.value b.value) ≡ true) = and_both _ _ h in
-        let y : ((is_plain a.kind && eqb (kind_place a.kind) (kind_place b.kind)) ≡ true) × (value_eq a.key b.key ≡ true) = and_both _ _ x.0 in
-        let z : (is_plain a.kind ≡ true) × (eqb (kind_place a.kind) (kind_place b.kind) ≡ true) = and_both _ _ y.0 in
+        let x : ((is_plain a.kind && eqb (kind_place a.kind) (kind_place b.kind) && value_eq a.key b.key) ≡ true) × ((not (eqb (kind_place a.kind) 1) || value_eq a.value b.value) ≡ true) = and_parts _ _ h in
+        let y : ((is_plain a.kind && eqb (kind_place a.kind) (kind_place b.kind)) ≡ true) × (value_eq a.key b.key ≡ true) = and_parts _ _ x.0 in
+        let z : (is_plain a.kind ≡ true) × (eqb (kind_place a.kind) (kind_place b.kind) ≡ true) = and_parts _ _ y.0 in
         commute_on a b t (λ c. one_change c a b (same_kind a.kind b.kind z.1) (same_value a.key b.key y.1) z.0 (λ p. same_value a.value b.value (put_same _ _ x.1 p)))
 
     most : a.table ≡ b.table → (not (same_bool (is_on_map a.kind) (is_on_map b.kind)) || (is_read a.kind && is_read b.kind) || (is_keyed a.kind && is_keyed b.kind && not (value_eq a.key b.key)) || (is_plain a.kind && eqb (kind_place a.kind) (kind_place b.kind) && value_eq a.key b.key && (not (eqb (kind_place a.kind) 1) || value_eq a.value b.value))) ≡ true → Commute a b
@@ -462,10 +455,10 @@ commutes-Commute a b u v h = tables (eqb a.table b.table) refl
       | inl x ↦ elim (or_cases _ _ x) [
         | inl y ↦ elim (or_cases _ _ y) [
           | inl z ↦ commute_on a b t (homes a b (not_true _ z))
-          | inr z ↦ let w : (is_read a.kind ≡ true) × (is_read b.kind ≡ true) = and_both _ _ z in commute_on a b t (λ c. both_leave c a b (read_leaves c a w.0) (read_leaves c b w.1))
+          | inr z ↦ let w : (is_read a.kind ≡ true) × (is_read b.kind ≡ true) = and_parts _ _ z in commute_on a b t (λ c. both_leave c a b (read_leaves c a w.0) (read_leaves c b w.1))
         ]
-        | inr y ↦ let w : ((is_keyed a.kind && is_keyed b.kind) ≡ true) × (not (value_eq a.key b.key) ≡ true) = and_both _ _ y in
-            let u : (is_keyed a.kind ≡ true) × (is_keyed b.kind ≡ true) = and_both _ _ w.0 in
+        | inr y ↦ let w : ((is_keyed a.kind && is_keyed b.kind) ≡ true) × (not (value_eq a.key b.key) ≡ true) = and_parts _ _ y in
+            let u : (is_keyed a.kind ≡ true) × (is_keyed b.kind ≡ true) = and_parts _ _ w.0 in
             commute_on a b t (λ c. keys_apart c a b u.0 u.1 (not_true _ w.1))
       ]
       | inr x ↦ last t x

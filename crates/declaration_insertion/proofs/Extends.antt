@@ -5,17 +5,13 @@ use Rattle.session_values.specs.declared.value.Value.{Value}
 use Rattle.session_values.specs.declared.value.Value.TheVariants.{Num}
 use Rattle.check_meaning.specs.Code.{Code, Finish, Move, Ask, Fork, Loop, Quit}
 use Rattle.check_meaning.specs.Dialogue.{Env, with_value, value_of, holds, Place, Outcome, Calls, Answers, Goes, after, then_do, pass, with_reply, turns, run, passed_by}
+use Rattle.check_meaning.proofs.Runs.{passed_after}
 
 -- the outcome with more replies
 abbrev pub Extends : List Value → Outcome → Outcome → Type 0
 Extends more (Calls passed op) o = (rest : List Place) × (passed_by o ≡ passed ++ rest)
 Extends more (Answers passed values) o = o ≡ Answers passed values
 Extends more (Goes passed env left) o = o ≡ Goes passed env (left ++ more)
-
-passed_after : (ps : List Place) (o : Outcome) → passed_by (after ps o) ≡ ps ++ passed_by o
-passed_after ps (Calls qs op) = refl
-passed_after ps (Answers qs values) = refl
-passed_after ps (Goes qs env left) = refl
 
 extends_after : (more : List Value) (ps : List Place) (o u : Outcome) → Extends more o u → Extends more (after ps o) (after ps u)
 extends_after more ps (Calls qs op) u h = (h.0, passed_after ps u ∙ ap (λ z. ps ++ z) h.1 ∙ sym (append_assoc ps qs h.0))

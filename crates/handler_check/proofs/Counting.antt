@@ -1,10 +1,8 @@
 -- Bounds of statements, and of what follows them in their block.
-use Rattle.std.proofs.Common.{◌≡◌, ℕ, zero, suc, ◌+◌, ◌*◌, ◌<◌, ◌≤◌, max, min, Bool, true, false, nat_lt, ◌⊎◌, inl, inr, List, [], ◌∷◌, map, length, get_or, drop, Option, refl, sym, ap, ◌∙◌, subst, rules, arith}
+use Rattle.std.proofs.Common.{◌≡◌, ℕ, zero, suc, ◌+◌, ◌*◌, ◌<◌, ◌≤◌, max, min, Bool, true, false, nat_lt, ◌⊎◌, inl, inr, List, [], ◌∷◌, map, length, get_or, drop, refl, sym, ap, ◌∙◌, rules, arith}
 use Rattle.std.proofs.lemmas.List.{drop_more, drop_all}
 use Rattle.std.proofs.lemmas.Bool.Decides.{nat_tests}
-use Rattle.check_meaning.specs.declared.tree.CheckedCall.{CheckedCall}
 use Rattle.check_meaning.specs.declared.tree.CheckedCond.{CheckedCond}
-use Rattle.check_meaning.specs.declared.tree.CheckedExpr.{CheckedExpr}
 use Rattle.check_meaning.specs.declared.tree.CheckedStmt.{CheckedStmt, fold-CheckedStmt, the_lemmas}
 use Rattle.check_meaning.specs.declared.tree.CheckedStmt.TheOpen.{CheckedStmt-F}
 use Rattle.check_meaning.specs.declared.tree.CheckedStmt.TheVariants as stmt

@@ -1,7 +1,7 @@
 -- The first handler that may do too much is the first fault of what handlers may do.
 use Rattle.std.proofs.Common.{◌≡◌, ℕ, suc, zero, ◌+◌, ◌<◌, true, nat_lt, ◌⊎◌, inl, inr, List, [], ◌∷◌, ◌++◌, length, map, get_or, drop, slice_index_or, Some, None, refl, sym, ap, ◌∙◌, subst, arith}
 use Rattle.std.proofs.lemmas.Bool.Decides.{nat_tests}
-use Rattle.std.proofs.lemmas.List.{drop_more}
+use Rattle.std.proofs.lemmas.List.{drop_more, map-append}
 use Rattle.std.specs.List.{AllZip, AllByRecursion, Contains, flat_map}
 use Rattle.syntax_trees.specs.declared.file.File.{File}
 use Rattle.syntax_trees.specs.declared.file.Handler.{Handler}
@@ -15,7 +15,7 @@ use Rattle.check_rules.specs.Marks.{Mark, Declared, mark_at, handler_marks, tabl
 use Rattle.check_rules.specs.Rules.{IsBroken}
 use Rattle.check_rules.specs.Scan.{Fault, or_else, fault_if, file_fault}
 use Rattle.check_rules.proofs.Finds.{Faults, Finds, finds_same, finds_both, finds_if}
-use Rattle.check_rules.proofs.Files.{all_first, rising_parts, map_append, finds_file}
+use Rattle.check_rules.proofs.Files.{all_first, rising_parts, finds_file}
 use Rattle.check_rules.proofs.Firsts.{one_first}
 use Rattle.handler_check.specs.Checking.{IsAccepted, IsBeyond, IsRefusal}
 use Rattle.handler_check.specs.Excess.{code_excess, own_excess, excess}
@@ -123,21 +123,21 @@ marks_of hs = flat_map (λ (h : Handler). Declared h.name h.at ∷ handler_marks
 
 all_names : (P : ℕ → Type 0) (hs : List Handler) → AllByRecursion P (map mark_at (marks_of hs)) → AllByRecursion P (map (λ (h : Handler). h.at) hs)
 all_names P [] a = tt
-all_names P (h ∷ hs) a = (a.0, all_names P hs (all_first P (map mark_at (handler_marks h)) (map mark_at (marks_of hs)) (subst (AllByRecursion P) (map_append mark_at (handler_marks h) (marks_of hs)) a.1)).1)
+all_names P (h ∷ hs) a = (a.0, all_names P hs (all_first P (map mark_at (handler_marks h)) (map mark_at (marks_of hs)) (subst (AllByRecursion P) (map-append mark_at (handler_marks h) (marks_of hs)) a.1)).1)
 
 names_rise : (hs : List Handler) → AreRising (map mark_at (marks_of hs)) → AreRising (map (λ (h : Handler). h.at) hs)
 names_rise [] r = tt
 names_rise (h ∷ hs) r =
     let inner : List ℕ = map mark_at (handler_marks h) in
     let outer : List ℕ = map mark_at (marks_of hs) in
-    let both : map mark_at (handler_marks h ++ marks_of hs) ≡ inner ++ outer = map_append mark_at (handler_marks h) (marks_of hs) in
+    let both : map mark_at (handler_marks h ++ marks_of hs) ≡ inner ++ outer = map-append mark_at (handler_marks h) (marks_of hs) in
     (all_names (λ (m : ℕ). h.at < m) hs (all_first (λ (m : ℕ). h.at < m) inner outer (subst (AllByRecursion (λ (m : ℕ). h.at < m)) both r.0)).1, names_rise hs (rising_parts inner outer (subst AreRising both r.1)).2)
 
 finds_first : (f : File) → PlacesRise f → Finds (handlers_excess f f.handlers) (IsBeyond f)
 finds_first f rise =
     let tables : List ℕ = map mark_at (table_marks f.tables) in
     let outer : List ℕ = map mark_at (marks_of f.handlers) in
-    let parts = rising_parts tables outer (subst AreRising (map_append mark_at (table_marks f.tables) (marks_of f.handlers)) rise) in
+    let parts = rising_parts tables outer (subst AreRising (map-append mark_at (table_marks f.tables) (marks_of f.handlers)) rise) in
     finds_same (handlers_excess f f.handlers) (BeyondFrom f f.handlers) (IsBeyond f) (to_beyond f) (from_beyond f) (finds_excess f f.handlers (names_rise f.handlers parts.2))
 
 finds_beyond : (f : File) (cs : List CheckedHandler) → PlacesRise f → AllZip (IsResolved (table_names f)) f.handlers cs → Finds (excess cs) (IsBeyond f)

@@ -210,7 +210,8 @@ pub(crate) fn resolve_next(
     handler: &Handler,
 ) -> Result<CheckedHandler, CheckRefusal>
     ensures found { Found (or_else
-        (declared_fault of_handlers.limit of_handlers.past earlier.old.items handler.now.name handler.now.at)
+        (declared_fault of_handlers.limit of_handlers.past earlier.old.items
+        handler.now.name handler.now.at)
         (scan of_variables declared.now [] [] (handler_marks handler.now))) result }
     ensures names { OnOk result (earlier.new.items ≡ earlier.old.items ++ handler.now.name ∷ []) }
     ensures handler { IfOk result (spec.IsResolved tables.now handler.now) }

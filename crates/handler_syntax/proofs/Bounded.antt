@@ -15,30 +15,11 @@ use Rattle.syntax_grammar.specs.Tree.{atoms_trees, call_tree, right_tree, cond_t
 use Rattle.syntax_grammar.specs.Limits.{StmtFits, ElseFits, StmtsFit, HandlersFit, FileFits, IsFileWithin}
 use Rattle.syntax_grammar.proofs.Said.{IsSaid, file_read, unasked}
 use Rattle.check_rules.specs.Bounds.{Form, a_call, a_reply, a_nest, right_forms, stmt_forms, block_forms, handler_forms, file_forms, IsBoundedForm, IsBoundedNumber, KeepsBounds}
+use Rattle.check_rules.proofs.Statements.{forms_let, forms_assign, forms_perform, forms_choose, forms_repeat, forms_reply}
 use Rattle.session_values.proofs.Lists.{all_join}
 
 abbrev Bounded : List Form → Type 0
 Bounded fs = AllByRecursion IsBoundedForm fs
-
--- ---- the forms of each kind of statement
-
-forms_let : (n p : ℕ) (r : Right) (d : ℕ) → stmt_forms (stmt.Let n p r) d ≡ right_forms r
-forms_let n p r d = search (rules, the_lemmas)
-
-forms_assign : (n p : ℕ) (r : Right) (d : ℕ) → stmt_forms (stmt.Assign n p r) d ≡ right_forms r
-forms_assign n p r d = search (rules, the_lemmas)
-
-forms_perform : (call : Call) (d : ℕ) → stmt_forms (stmt.Perform call) d ≡ a_call (length call.args) ∷ []
-forms_perform call d = search (rules, the_lemmas)
-
-forms_choose : (p : ℕ) (cond : Cond) (first second : List Stmt) (d : ℕ) → stmt_forms (stmt.Choose p cond first second) d ≡ a_nest d ∷ (block_forms first (d + 1) ++ block_forms second (d + 1))
-forms_choose p cond first second d = search (rules, the_lemmas)
-
-forms_repeat : (p turns q n r : ℕ) (body : List Stmt) (d : ℕ) → stmt_forms (stmt.Repeat p turns q n r body) d ≡ a_nest d ∷ block_forms body (d + 1)
-forms_repeat p turns q n r body d = search (rules, the_lemmas)
-
-forms_reply : (p : ℕ) (values : List Expr) (d : ℕ) → stmt_forms (stmt.Answer p values) d ≡ a_reply (length values) ∷ []
-forms_reply p values d = search (rules, the_lemmas)
 
 -- ---- phrases
 

@@ -1,5 +1,5 @@
--- Terms with one more factor, and expressions with one more term.
-use Rattle.std.proofs.Common.{◌≡◌, ℕ, ◌+◌, ◌≤◌, List, ◌∷◌, refl, ap, arith}
+-- What fits with one more factor or one more term, and where fewer parentheses are open.
+use Rattle.std.proofs.Common.{◌≡◌, ℕ, ◌+◌, ◌≤◌, List, ◌∷◌, refl, sym, ap, arith}
 use Rattle.syntax_tokens.specs.declared.word.Sort.TheVariants as sort
 use Rattle.syntax_tokens.specs.declared.word.Word.{Word}
 use Rattle.syntax_trees.specs.declared.expr.Calc.TheVariants as calc
@@ -8,20 +8,9 @@ use Rattle.syntax_trees.specs.declared.expr.Expr.TheVariants as expr
 use Rattle.syntax_grammar.specs.Phrase.{word, FactorPhrase, plain, grouped, MoreFactors, no_factor, times, TermPhrase, term, MoreTerms, no_term, plus, minus, ExprPhrase, sum, factor_words, factors_words, term_words, terms_words, expr_words}
 use Rattle.syntax_grammar.specs.Tree.{factor_tree, factors_tree, term_tree, terms_tree, expr_tree}
 use Rattle.syntax_grammar.specs.Limits.{factor_signs, factors_signs, term_signs, terms_signs, expr_signs, FactorFits, FactorsFit, TermFits, TermsFit, GroupFits}
+use Rattle.syntax_grammar.proofs.OneMore.{and_factor, and_factor-words, and_factor-tree, and_plus, and_plus-words, and_plus-tree, and_minus, and_minus-words, and_minus-tree}
 
 -- ---- one more factor
-
-abbrev and_factor : MoreFactors → ℕ → FactorPhrase → MoreFactors
-and_factor no_factor p g = times p g no_factor
-and_factor (times q f fs) p g = times q f (and_factor fs p g)
-
-factors_read : (fs : MoreFactors) (p : ℕ) (g : FactorPhrase) (rest : List Word) → factors_words fs (word sort.Times p ∷ factor_words g rest) ≡ factors_words (and_factor fs p g) rest
-factors_read no_factor p g rest = refl
-factors_read (times q f fs) p g rest = ap (λ l. word sort.Times q ∷ factor_words f l) (factors_read fs p g rest)
-
-factors_value : (fs : MoreFactors) (p : ℕ) (g : FactorPhrase) (left : Expr) → factors_tree (and_factor fs p g) left ≡ expr.Binary calc.Times (factors_tree fs left, factor_tree g)
-factors_value no_factor p g left = refl
-factors_value (times q f fs) p g left = factors_value fs p g (expr.Binary calc.Times (left, factor_tree f))
 
 factors_within : (fs : MoreFactors) (p : ℕ) (g : FactorPhrase) (o : ℕ) → FactorsFit fs o → FactorFits g o → FactorsFit (and_factor fs p g) o
 factors_within no_factor p g o h k = (k, tt)
@@ -35,10 +24,10 @@ abbrev pub with_factor : TermPhrase → ℕ → FactorPhrase → TermPhrase
 with_factor (term f fs) p g = term f (and_factor fs p g)
 
 pub with_factor-words : (t : TermPhrase) (p : ℕ) (g : FactorPhrase) (rest : List Word) → term_words t (word sort.Times p ∷ factor_words g rest) ≡ term_words (with_factor t p g) rest
-with_factor-words (term f fs) p g rest = ap (factor_words f) (factors_read fs p g rest)
+with_factor-words (term f fs) p g rest = ap (factor_words f) (sym (and_factor-words fs p g rest))
 
 pub with_factor-tree : (t : TermPhrase) (p : ℕ) (g : FactorPhrase) → term_tree (with_factor t p g) ≡ expr.Binary calc.Times (term_tree t, factor_tree g)
-with_factor-tree (term f fs) p g = factors_value fs p g (factor_tree f)
+with_factor-tree (term f fs) p g = and_factor-tree fs p g (factor_tree f)
 
 pub with_factor-fits : (t : TermPhrase) (p : ℕ) (g : FactorPhrase) (o : ℕ) → TermFits t o → FactorFits g o → TermFits (with_factor t p g) o
 with_factor-fits (term f fs) p g o h k = (h.0, factors_within fs p g o h.1 k)
@@ -47,21 +36,6 @@ pub with_factor-signs : (t : TermPhrase) (p : ℕ) (g : FactorPhrase) → term_s
 with_factor-signs (term f fs) p g = omega (arith, factors_counted fs p g)
 
 -- ---- one more term, added or taken off
-
-abbrev and_plus : MoreTerms → ℕ → TermPhrase → MoreTerms
-and_plus no_term p t = plus p t no_term
-and_plus (plus q s ts) p t = plus q s (and_plus ts p t)
-and_plus (minus q s ts) p t = minus q s (and_plus ts p t)
-
-plus_read : (ts : MoreTerms) (p : ℕ) (t : TermPhrase) (rest : List Word) → terms_words ts (word sort.Plus p ∷ term_words t rest) ≡ terms_words (and_plus ts p t) rest
-plus_read no_term p t rest = refl
-plus_read (plus q s ts) p t rest = ap (λ l. word sort.Plus q ∷ term_words s l) (plus_read ts p t rest)
-plus_read (minus q s ts) p t rest = ap (λ l. word sort.Minus q ∷ term_words s l) (plus_read ts p t rest)
-
-plus_value : (ts : MoreTerms) (p : ℕ) (t : TermPhrase) (left : Expr) → terms_tree (and_plus ts p t) left ≡ expr.Binary calc.Plus (terms_tree ts left, term_tree t)
-plus_value no_term p t left = refl
-plus_value (plus q s ts) p t left = plus_value ts p t (expr.Binary calc.Plus (left, term_tree s))
-plus_value (minus q s ts) p t left = plus_value ts p t (expr.Binary calc.Minus (left, term_tree s))
 
 plus_within : (ts : MoreTerms) (p : ℕ) (t : TermPhrase) (o : ℕ) → TermsFit ts o → TermFits t o → TermsFit (and_plus ts p t) o
 plus_within no_term p t o h k = (k, tt)
@@ -77,31 +51,16 @@ abbrev pub with_plus : ExprPhrase → ℕ → TermPhrase → ExprPhrase
 with_plus (sum s ts) p t = sum s (and_plus ts p t)
 
 pub with_plus-words : (e : ExprPhrase) (p : ℕ) (t : TermPhrase) (rest : List Word) → expr_words e (word sort.Plus p ∷ term_words t rest) ≡ expr_words (with_plus e p t) rest
-with_plus-words (sum s ts) p t rest = ap (term_words s) (plus_read ts p t rest)
+with_plus-words (sum s ts) p t rest = ap (term_words s) (sym (and_plus-words ts p t rest))
 
 pub with_plus-tree : (e : ExprPhrase) (p : ℕ) (t : TermPhrase) → expr_tree (with_plus e p t) ≡ expr.Binary calc.Plus (expr_tree e, term_tree t)
-with_plus-tree (sum s ts) p t = plus_value ts p t (term_tree s)
+with_plus-tree (sum s ts) p t = and_plus-tree ts p t (term_tree s)
 
 pub with_plus-fits : (e : ExprPhrase) (p : ℕ) (t : TermPhrase) (o : ℕ) → GroupFits e o → TermFits t o → GroupFits (with_plus e p t) o
 with_plus-fits (sum s ts) p t o h k = (h.0, plus_within ts p t o h.1 k)
 
 pub with_plus-signs : (e : ExprPhrase) (p : ℕ) (t : TermPhrase) → expr_signs (with_plus e p t) ≡ expr_signs e + (1 + term_signs t)
 with_plus-signs (sum s ts) p t = omega (arith, plus_counted ts p t)
-
-abbrev and_minus : MoreTerms → ℕ → TermPhrase → MoreTerms
-and_minus no_term p t = minus p t no_term
-and_minus (plus q s ts) p t = plus q s (and_minus ts p t)
-and_minus (minus q s ts) p t = minus q s (and_minus ts p t)
-
-minus_read : (ts : MoreTerms) (p : ℕ) (t : TermPhrase) (rest : List Word) → terms_words ts (word sort.Minus p ∷ term_words t rest) ≡ terms_words (and_minus ts p t) rest
-minus_read no_term p t rest = refl
-minus_read (plus q s ts) p t rest = ap (λ l. word sort.Plus q ∷ term_words s l) (minus_read ts p t rest)
-minus_read (minus q s ts) p t rest = ap (λ l. word sort.Minus q ∷ term_words s l) (minus_read ts p t rest)
-
-minus_value : (ts : MoreTerms) (p : ℕ) (t : TermPhrase) (left : Expr) → terms_tree (and_minus ts p t) left ≡ expr.Binary calc.Minus (terms_tree ts left, term_tree t)
-minus_value no_term p t left = refl
-minus_value (plus q s ts) p t left = minus_value ts p t (expr.Binary calc.Plus (left, term_tree s))
-minus_value (minus q s ts) p t left = minus_value ts p t (expr.Binary calc.Minus (left, term_tree s))
 
 minus_within : (ts : MoreTerms) (p : ℕ) (t : TermPhrase) (o : ℕ) → TermsFit ts o → TermFits t o → TermsFit (and_minus ts p t) o
 minus_within no_term p t o h k = (k, tt)
@@ -117,10 +76,10 @@ abbrev pub with_minus : ExprPhrase → ℕ → TermPhrase → ExprPhrase
 with_minus (sum s ts) p t = sum s (and_minus ts p t)
 
 pub with_minus-words : (e : ExprPhrase) (p : ℕ) (t : TermPhrase) (rest : List Word) → expr_words e (word sort.Minus p ∷ term_words t rest) ≡ expr_words (with_minus e p t) rest
-with_minus-words (sum s ts) p t rest = ap (term_words s) (minus_read ts p t rest)
+with_minus-words (sum s ts) p t rest = ap (term_words s) (sym (and_minus-words ts p t rest))
 
 pub with_minus-tree : (e : ExprPhrase) (p : ℕ) (t : TermPhrase) → expr_tree (with_minus e p t) ≡ expr.Binary calc.Minus (expr_tree e, term_tree t)
-with_minus-tree (sum s ts) p t = minus_value ts p t (term_tree s)
+with_minus-tree (sum s ts) p t = and_minus-tree ts p t (term_tree s)
 
 pub with_minus-fits : (e : ExprPhrase) (p : ℕ) (t : TermPhrase) (o : ℕ) → GroupFits e o → TermFits t o → GroupFits (with_minus e p t) o
 with_minus-fits (sum s ts) p t o h k = (h.0, minus_within ts p t o h.1 k)

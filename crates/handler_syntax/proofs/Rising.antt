@@ -26,7 +26,8 @@ use Rattle.syntax_grammar.specs.Tree.{atom_tree, factor_tree, factors_tree, term
 use Rattle.syntax_grammar.specs.Limits.{IsFileWithin}
 use Rattle.check_rules.specs.FirstFault.{AreRising, PlacesRise, file_marks}
 use Rattle.check_rules.specs.Marks.{Mark, Declared, Mentioned, Operation, OnTable, Turns, mark_at, sees, seeing, atom_marks, expr_marks, call_marks, right_marks, cond_marks, marks, param_marks, param_names, handler_marks, table_marks}
-use Rattle.check_rules.specs.Source.{Source, Let, Assign, Do, Choose, Repeat, Answer, stmt_source, block_source}
+use Rattle.check_rules.specs.Source.{Source, stmt_source, block_source}
+use Rattle.check_rules.proofs.Statements.{marks_leaf, marks_binary, source_let, source_assign, source_call, source_choose, source_repeat, source_reply}
 
 -- ---- numbers of a list that rises from one on
 
@@ -123,13 +124,6 @@ stand_as xs ys f e h = subst (λ ms. Stand ms f) (sym e) h
 
 -- ---- expressions
 
-marks_leaf : (a : Atom) → expr_marks (alone a) ≡ atom_marks a
-marks_leaf (atom.Lit v) = search (rules, expr_lemmas)
-marks_leaf (atom.Name n p) = search (rules, expr_lemmas)
-
-marks_binary : (c : Calc) (l r : Expr) → expr_marks (expr.Binary c (l, r)) ≡ expr_marks l ++ expr_marks r
-marks_binary c l r = search (rules, expr_lemmas)
-
 atom_stands : (a : AtomPhrase) → Stand (atom_marks (atom_tree a)) (atom_words a)
 atom_stands (name_atom n p) ns rest s = taken p s
 atom_stands (nil_atom p) ns rest s = passed p s
@@ -188,24 +182,6 @@ more_stand (more_value p e vs) ns rest s =
     passed p (stand_both (expr_marks (expr_tree e)) (flat_map expr_marks (more_trees vs)) (expr_words e) (more_words vs) (expr_stands e) (more_stand vs) ns rest s)
 
 -- ---- statements, each before what follows it in its block
-
-source_let : (n p : ℕ) (r : Right) (rest : Source) → stmt_source (stmt.Let n p r) rest ≡ Let n p r rest
-source_let n p r rest = search (rules, the_lemmas)
-
-source_assign : (n p : ℕ) (r : Right) (rest : Source) → stmt_source (stmt.Assign n p r) rest ≡ Assign n p r rest
-source_assign n p r rest = search (rules, the_lemmas)
-
-source_call : (call : Call) (rest : Source) → stmt_source (stmt.Perform call) rest ≡ Do call rest
-source_call call rest = search (rules, the_lemmas)
-
-source_choose : (p : ℕ) (cond : Cond) (first second : List Stmt) (rest : Source) → stmt_source (stmt.Choose p cond first second) rest ≡ Choose p cond (block_source first) (block_source second) rest
-source_choose p cond first second rest = search (rules, the_lemmas)
-
-source_repeat : (p turns q n r : ℕ) (body : List Stmt) (rest : Source) → stmt_source (stmt.Repeat p turns q n r body) rest ≡ Repeat p turns q n r (block_source body) rest
-source_repeat p turns q n r body rest = search (rules, the_lemmas)
-
-source_reply : (p : ℕ) (values : List Expr) (rest : Source) → stmt_source (stmt.Answer p values) rest ≡ Answer values rest
-source_reply p values rest = search (rules, the_lemmas)
 
 -- before what follows, a semicolon
 ended : (e : ℕ) (ms : List Mark) (f : Front) → Stand ms f → Stand ms (λ rest. word sort.Semicolon e ∷ f rest)

@@ -3,7 +3,7 @@ use Rattle.std.proofs.Common.{◌≡◌, ℕ, zero, suc, ◌+◌, ◌<◌, ◌�
 use Rattle.std.proofs.Math.ListN.{get_or-map}
 use Rattle.std.proofs.Math.Seq.{get_or-append_seam}
 use Rattle.std.proofs.lemmas.Bool.{cases_lt}
-use Rattle.std.proofs.lemmas.List.{get_or-take, length-take}
+use Rattle.std.proofs.lemmas.List.{get_or-take, length-take, map-append}
 use Rattle.may_use_analysis.specs.declared.kept.Kept.{Kept}
 use Rattle.may_use_analysis.specs.declared.kept.Kept.TheVariants.{Own, Same, Short, Count}
 use Rattle.may_use_analysis.specs.PointList.{PointList, Listed, IsHeld, IsKept, AreKept, own_list, point_list_of, point_lists, RefersBack, AllReferBack}
@@ -33,10 +33,6 @@ map_agree xs ys [] n i same le r = refl
 map_agree xs ys (e ∷ es) n i same le r =
     ap (λ (z : PointList). z ∷ map (point_list_of xs) es) (stored_agree xs ys n i e same (omega arith) r.0) ∙ ap (λ (zs : List PointList). point_list_of ys e ∷ zs) (map_agree xs ys es n (suc i) same (omega arith) r.1)
 
-map_append : {X Y : Type 0} (f : X → Y) (xs ys : List X) → map f (xs ++ ys) ≡ map f xs ++ map f ys
-map_append f [] ys = refl
-map_append f (x ∷ xs) ys = ap (λ zs. f x ∷ zs) (map_append f xs ys)
-
 map_take : {X Y : Type 0} (f : X → Y) (n : ℕ) (xs : List X) → map f (take n xs) ≡ take n (map f xs)
 map_take f zero xs = refl
 map_take f (suc n) [] = refl
@@ -52,7 +48,7 @@ pub pushed : (xs ys : List Kept) (e : Kept) → ys ≡ xs ++ e ∷ [] → AllRef
 pushed xs ys e is all r =
     let zs = xs ++ e ∷ [] in
     ap point_lists is
-    ∙ map_append (point_list_of zs) xs (e ∷ [])
+    ∙ map-append (point_list_of zs) xs (e ∷ [])
     ∙ ap (λ (l : List PointList). l ++ point_list_of zs e ∷ []) (map_agree zs xs xs (length xs) 0 (at_front xs e) (omega arith) (refer_from 0 xs (λ k d lt. subst (λ (j : ℕ). RefersBack j (get_or xs k d)) (omega arith) (all k d lt))))
     ∙ ap (λ (s : PointList). point_lists xs ++ s ∷ []) (stored_agree zs xs (length xs) (length xs) e (at_front xs e) (omega arith) r)
 

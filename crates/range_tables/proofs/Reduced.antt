@@ -2,6 +2,7 @@
 use Rattle.std.proofs.Common.{◌≡◌, ℕ, ℤ, ◌<◌, ◌≤ℤ◌, int_le, inl, inr, Bool, true, false, cond, not, ◌&&◌, ◌||◌, eqb, ltb, refl, sym, ◌∙◌, ap, subst, arith, pos, lit<}
 use Rattle.std.specs.Bool.{MatchBool, Decides}
 use Rattle.std.proofs.lemmas.Int.{ints}
+use Rattle.std.proofs.lemmas.Bool.{or_cases, or_left, or_right}
 use Rattle.std.proofs.lemmas.Bool.Decides.{nat_tests, same_from_decides}
 use Rattle.session_values.specs.declared.kind.Kind.{Kind}
 use Rattle.session_values.specs.declared.kind.Kind.TheVariants.{Get, Put, Swap, Del, Size, Bump, Has, Add, Mark, Drop, Count}
@@ -19,7 +20,7 @@ use Rattle.symbolic_ops.specs.Symbol.{IsHeldArg, IsHeldSymbol}
 use Rattle.symbolic_ops.specs.Matching.{StandsFor, Agrees, IsNoVar, HasNoVar}
 use Rattle.commute_tables.specs.Relation.{add_up, same_bool, commutes, commutes_symbol, is_bump, is_number, is_zero, may_be_number}
 use Rattle.commute_tables.specs.Symbols.{CommutesWith, DiffersFromSome}
-use Rattle.commute_tables.proofs.Commutes.{not_true, commutes-Commute, or_cases}
+use Rattle.commute_tables.proofs.Commutes.{not_true, commutes-Commute}
 use Rattle.commute_tables.proofs.TellingApart.{or_false, not_false, Decides-commute}
 use Rattle.commute_tables.proofs.AgainstSymbols.{symbol_commutes, symbol_differs, Decides-commute_symbol, and_three}
 use Rattle.range_tables.specs.declared.range_op.RangeOp.{RangeOp}
@@ -37,14 +38,6 @@ use Rattle.session_values.proofs.Equal.{same_value}
 -- ---- numbers in ranges
 both_ways : (b : Bool) → b ≡ true → b ≡ false → ⊥
 both_ways b p q = cc
-
-or_left : (x y : Bool) → x ≡ true → (x || y) ≡ true
-or_left true y e = refl
-or_left false y e = cc
-
-or_right : (x y : Bool) → y ≡ true → (x || y) ≡ true
-or_right true y e = refl
-or_right false y e = e
 
 lowest_in : (low high : ℤ) → int_le low high ≡ true → is_between low high (Num low) ≡ true
 lowest_in low high h = grind (arith, ints)

@@ -39,8 +39,8 @@ pub fn requests_within_limit()
         first_fault names f no_requests (front ++ row ∷ back) ≡ Some (TooManyRequests row.line) }
 {}
 
-/// The row that is refused for too much work is the first with which its sum passes the limit, where
-/// the sum of calls doesn't pass its own.
+/// The row that is refused for too much work is the first with which its sum passes the limit,
+/// where the sum of calls doesn't pass its own.
 pub fn work_within_limit()
     ensures told { (names : List Text) (f : File) (rs : List Row) (line : ℕ) →
         first_fault names f no_requests rs ≡ Some (TooMuchWork line) →

@@ -9,7 +9,7 @@ use Rattle.syntax_trees.specs.declared.stmt.Right.{Right}
 use Rattle.syntax_trees.specs.declared.stmt.Right.TheVariants as right
 use Rattle.syntax_trees.specs.declared.stmt.Stmt.{Stmt, the_lemmas}
 use Rattle.syntax_trees.specs.declared.stmt.Stmt.TheVariants as stmt
-use Rattle.syntax_trees.proofs.Sizes.{block_size, stmt_size}
+use Rattle.syntax_trees.proofs.Sizes.{block_size, stmt_size, size_choose, size_repeat}
 use Rattle.syntax_printer.specs.declared.spot.Spot.{Spot}
 use Rattle.syntax_printer.specs.Countable.{FitsAt}
 use Rattle.syntax_printer.specs.Lines.{At, Part, block_parts, block_points, right_points, stmt_part}
@@ -29,12 +29,6 @@ size_call call = search (rules, the_lemmas)
 
 pub size_reply : (p : ℕ) (values : List Expr) → stmt_size (stmt.Answer p values) ≡ 1
 size_reply p values = search (rules, the_lemmas)
-
-pub size_choose : (p : ℕ) (cond : Cond) (first second : List Stmt) → stmt_size (stmt.Choose p cond first second) ≡ 3 + (block_size first + block_size second)
-size_choose p cond first second = search (rules, the_lemmas)
-
-pub size_repeat : (p turns q n r : ℕ) (body : List Stmt) → stmt_size (stmt.Repeat p turns q n r body) ≡ 2 + block_size body
-size_repeat p turns q n r body = search (rules, the_lemmas)
 
 pub block_some : (ss : List Stmt) → 0 < block_size ss
 block_some [] = omega arith

@@ -1,5 +1,5 @@
 -- What a text reads as: the sorts of its words, and the names behind them.
-use Rattle.std.proofs.Common.{◌≡◌, ℕ, zero, suc, ◌+◌, ◌-◌, false, List, [], ◌∷◌, ◌++◌, map, length, take, drop, refl, sym, ap, ◌∙◌, arith}
+use Rattle.std.proofs.Common.{◌≡◌, ℕ, zero, suc, ◌+◌, ◌-◌, false, List, [], ◌∷◌, ◌++◌, map, length, take, refl, sym, ap, ◌∙◌, arith}
 use Rattle.std.proofs.Math.Seq.{take_at, drop_at}
 use Rattle.syntax_tokens.specs.declared.token_kind.TokenKind.{TokenKind}
 use Rattle.syntax_tokens.specs.declared.word.Sort.{Sort}
@@ -7,6 +7,7 @@ use Rattle.syntax_tokens.specs.declared.word.Word.{Word}
 use Rattle.syntax_tokens.specs.Scan.{Scanned, gap, scan}
 use Rattle.syntax_tokens.specs.Tokens.{Piece, with_reserved, first_piece, behind_gap, pieces}
 use Rattle.syntax_tokens.specs.Words.{names_by, sort_by, names_after, word_after, words, names_behind}
+use Rattle.syntax_tokens.proofs.Pieces.{pieces_skip, gap_skipped}
 
 abbrev pub Reading : Type 0
 Reading = List Sort × List (List ℕ)
@@ -42,22 +43,6 @@ placed names zero at to (b ∷ bs) = front_placed names b bs at to (λ ns n. pla
 placed names (suc n) at to (b ∷ bs) = placed names n (at + 1) (to + 1) bs
 
 -- ---- blanks are passed over
-
-pieces_skip : (n at : ℕ) (bs : List ℕ) → pieces n at bs ≡ pieces 0 (at + n) (drop n bs)
-pieces_skip zero at [] = refl
-pieces_skip (suc n) at [] = refl
-pieces_skip zero at (b ∷ bs) = let e : at ≡ at + 0 = omega arith in ap (λ k. pieces 0 k (b ∷ bs)) e
-pieces_skip (suc n) at (b ∷ bs) =
-    let e : at + 1 + n ≡ at + suc n = omega arith in
-    pieces_skip n (at + 1) bs ∙ ap (λ k. pieces 0 k (drop n bs)) e
-
-gap_skipped : (bs : List ℕ) (at : ℕ) → pieces 0 at bs ≡ pieces (gap false bs) at bs
-gap_skipped [] at = refl
-gap_skipped (b ∷ bs) at = by (gap false (b ∷ bs)) refl
-  where
-    by : (g : ℕ) → gap false (b ∷ bs) ≡ g → behind_gap (gap false (b ∷ bs)) at (b ∷ bs) (λ n. pieces n (at + 1) bs) ≡ pieces (gap false (b ∷ bs)) at (b ∷ bs)
-    by zero e = sym (ap (λ k. pieces k at (b ∷ bs)) e)
-    by (suc g) e = ap (λ k. behind_gap k at (b ∷ bs) (λ n. pieces n (at + 1) bs)) e ∙ sym (ap (λ k. pieces k at (b ∷ bs)) e)
 
 pieces_blank : (b : ℕ) (rest : List ℕ) (at : ℕ) → gap false (b ∷ rest) ≡ 1 + gap false rest → pieces 0 at (b ∷ rest) ≡ pieces 0 (at + 1) rest
 pieces_blank b rest at is =

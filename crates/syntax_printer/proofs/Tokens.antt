@@ -6,6 +6,7 @@ use Rattle.std.specs.Fmt.{decimal}
 use Rattle.std.specs.List.{prefix_len, AllByRecursion}
 use Rattle.std.specs.Str.{bytes_eq}
 use Rattle.std.proofs.Math.Seq.{take_at}
+use Rattle.std.proofs.lemmas.Bool.{both_ways, cond-true, cond-false}
 use Rattle.std.proofs.lemmas.Bool.Decides.{nat_tests}
 use Rattle.std.proofs.lemmas.Fmt.{decimal_by_steps}
 use Rattle.session_values.specs.Names.{AreDistinct, place_of, with_text}
@@ -16,6 +17,8 @@ use Rattle.syntax_tokens.specs.declared.word.Sort.TheVariants as sort
 use Rattle.syntax_tokens.specs.Scan.{is_in, gap, scan, scan_name, scan_symbol, name_of_length, symbol_of_length}
 use Rattle.syntax_tokens.specs.Keyword.{keyword_of, statement_word_of}
 use Rattle.syntax_tokens.specs.Words.{number_from, number_of, unquoted, names_by, sort_by}
+use Rattle.syntax_tokens.proofs.Longest.{digit_no_letter}
+use Rattle.syntax_tokens.proofs.OneToken.{not_long}
 use Rattle.syntax_printer.specs.Canonical.{name_text}
 use Rattle.syntax_tokens.specs.Texts.{IsRun, IsNameText, IsSymbolText, text_at}
 use Rattle.syntax_printer.proofs.Lexing.{behind, reading, token}
@@ -66,15 +69,12 @@ prefix_all p (x ∷ xs) rest h s = ap (λ t. cond t (1 + prefix_len p (xs ++ res
 
 -- ---- what begins a token is no blank
 
-true_false : (t : Bool) → t ≡ true → t ≡ false → ⊥
-true_false t a b = let e : true ≡ false = sym a ∙ b in cc
-
 other : (p : ℕ → Bool) (b c : ℕ) → p b ≡ true → p c ≡ false → nat_eq b c ≡ false
 other p b c yes_b no_c = by (nat_eq b c) refl
   where
     by : (t : Bool) → nat_eq b c ≡ t → t ≡ false
     by false e = refl
-    by true e = let same : b ≡ c = grind (arith, nat_tests) in absurd (true_false (p b) yes_b (ap p same ∙ no_c))
+    by true e = let same : b ≡ c = grind (arith, nat_tests) in absurd (both_ways (p b) (ap p same ∙ no_c) yes_b)
 
 no_gap : (p : ℕ → Bool) (b : ℕ) (bs : List ℕ) → p b ≡ true → p 10 ≡ false → p 35 ≡ false → p 32 ≡ false → p 9 ≡ false → p 13 ≡ false → gap false (b ∷ bs) ≡ 0
 no_gap p b bs h a c d e f =
@@ -87,21 +87,10 @@ no_gap p b bs h a c d e f =
 
 -- ---- names
 
-on_true : {A : Type 0} (t : Bool) (x y : A) → t ≡ true → cond t x y ≡ x
-on_true true x y h = refl
-on_true false x y h = absurd (true_false false h refl)
-
-on_false : {A : Type 0} (t : Bool) (x y : A) → t ≡ false → cond t x y ≡ y
-on_false false x y h = refl
-on_false true x y h = absurd (true_false true refl h)
-
-within : (n : ℕ) → n ≤ 64 → nat_lt 64 n ≡ false
-within n h = grind (arith, nat_tests)
-
 scan_run : (b : ℕ) (bs rest : List ℕ) → IsRun class.Name (b ∷ bs) → Ends rest → scan ((b ∷ bs) ++ rest) ≡ (kind.Name, length (b ∷ bs))
 unfolding scan scan_name
 scan_run b bs rest r ends =
-    on_true (is_ascii_alphabetic b) _ _ r.letter ∙ ap name_of_length (prefix_all (is_in class.Name) (b ∷ bs) rest r.run (stops_name rest ends)) ∙ on_false (nat_lt 64 (length (b ∷ bs))) _ _ (within _ r.short)
+    cond-true (is_ascii_alphabetic b) _ _ r.letter ∙ ap name_of_length (prefix_all (is_in class.Name) (b ∷ bs) rest r.run (stops_name rest ends)) ∙ cond-false (nat_lt 64 (length (b ∷ bs))) _ _ (not_long _ r.short)
 
 -- the list has the text at the place
 record At (names : List (List ℕ)) (place : ℕ) (text : List ℕ) : Type 0 where
@@ -115,12 +104,12 @@ pub name : (names : List (List ℕ)) (place : ℕ) (rest : List ℕ) → AreDist
 name names place rest d is ends = by (slice_get names place) refl is
   where
     by : (o : Option (List ℕ)) → slice_get names place ≡ o → IsNameText (unwrap_or o []) → reading names (unwrap_or o [] ++ rest) ≡ behind (λ ss. sort.Name place ∷ ss) (reading names rest)
-    by None e t = absurd (true_false false t.run.letter refl)
-    by (Some []) e t = absurd (true_false false t.run.letter refl)
+    by None e t = absurd (both_ways false refl t.run.letter)
+    by (Some []) e t = absurd (both_ways false refl t.run.letter)
     by (Some (b ∷ bs)) e t =
         let a = at names place (b ∷ bs) d e in
         let plain : is_some (keyword_of (b ∷ bs)) ≡ false = ap is_some t.free in
-        let k = on_false (is_some (keyword_of (b ∷ bs))) kind.Key kind.Name plain in
+        let k = cond-false (is_some (keyword_of (b ∷ bs))) kind.Key kind.Name plain in
         token names b bs rest kind.Name (sort.Name place) (no_gap is_ascii_alphabetic b (bs ++ rest) t.run.letter refl refl refl refl refl) (scan_run b bs rest t.run ends)
         (ap (λ x. names_by x (b ∷ bs) names) k ∙ a.known) (ap (λ x. sort_by x (b ∷ bs) names) k ∙ ap sort.Name a.place_of_text)
 
@@ -139,8 +128,8 @@ scan_quoted b bs rest t ends =
     let run = (b ∷ bs) ++ rest in
     let n = length (b ∷ bs) in
     let same : take n run ≡ b ∷ bs = take_at (b ∷ bs) rest n refl in
-    on_true (is_ascii_alphabetic b) _ _ t.run.letter ∙ ap (symbol_of_length whole run) (prefix_all (is_in class.Symbol) (b ∷ bs) rest t.run.run (stops_symbol rest ends))
-    ∙ on_false (nat_lt 64 n) _ _ (within n t.run.short) ∙ on_false (bytes_eq (take n run) (codes "nil")) _ _ (ap (λ x. bytes_eq x (codes "nil")) same ∙ t.not_nil)
+    cond-true (is_ascii_alphabetic b) _ _ t.run.letter ∙ ap (symbol_of_length whole run) (prefix_all (is_in class.Symbol) (b ∷ bs) rest t.run.run (stops_symbol rest ends))
+    ∙ cond-false (nat_lt 64 n) _ _ (not_long n t.run.short) ∙ cond-false (bytes_eq (take n run) (codes "nil")) _ _ (ap (λ x. bytes_eq x (codes "nil")) same ∙ t.not_nil)
     ∙ (let e : n + 1 ≡ suc n = omega arith in λ i. (kind.Symbol, e i))
 
 pub symbol : (names : List (List ℕ)) (place : ℕ) (rest : List ℕ) → AreDistinct names → IsSymbolText (text_at names place) → Ends rest → reading names (codes "'" ++ name_text names place rest) ≡ behind (λ ss. sort.Symbol place ∷ ss) (reading names rest)
@@ -148,8 +137,8 @@ unfolding unquoted
 symbol names place rest d is ends = by (slice_get names place) refl is
   where
     by : (o : Option (List ℕ)) → slice_get names place ≡ o → IsSymbolText (unwrap_or o []) → reading names (39 ∷ unwrap_or o [] ++ rest) ≡ behind (λ ss. sort.Symbol place ∷ ss) (reading names rest)
-    by None e t = absurd (true_false false t.run.letter refl)
-    by (Some []) e t = absurd (true_false false t.run.letter refl)
+    by None e t = absurd (both_ways false refl t.run.letter)
+    by (Some []) e t = absurd (both_ways false refl t.run.letter)
     by (Some (b ∷ bs)) e t =
         let a = at names place (b ∷ bs) d e in
         token names 39 (b ∷ bs) rest kind.Symbol (sort.Symbol place) refl (scan_quoted b bs rest t ends) a.known (ap sort.Symbol a.place_of_text)
@@ -178,9 +167,6 @@ digits_more n ds h d = record {
   value = number_last 0 ds (48 + n % 10) ∙ (let v = d.value in omega arith);
 }
 
-letter_or_digit : (b : ℕ) → is_ascii_digit b ≡ true → is_ascii_alphabetic b ≡ false
-letter_or_digit b h = grind (arith, nat_tests)
-
 number_is : (n : ℕ) (ds : List ℕ) → n < 2 ^ 64 → number_from 0 ds ≡ n → number_of ds ≡ n
 unfolding number_of
 number_is n ds h e = omega (arith, e)
@@ -188,7 +174,7 @@ number_is n ds h e = omega (arith, e)
 scan_digits : (b : ℕ) (bs rest : List ℕ) → AllPass (is_in class.Digit) (b ∷ bs) → Ends rest → scan ((b ∷ bs) ++ rest) ≡ (kind.Number, length (b ∷ bs))
 unfolding scan
 scan_digits b bs rest run ends =
-    on_false (is_ascii_alphabetic b) _ _ (letter_or_digit b run.0) ∙ on_true (is_ascii_digit b) _ _ run.0
+    cond-false (is_ascii_alphabetic b) _ _ (digit_no_letter b run.0) ∙ cond-true (is_ascii_digit b) _ _ run.0
     ∙ ap (λ (m : ℕ). (kind.Number, m)) (prefix_all (is_in class.Digit) (b ∷ bs) rest run (stops_digit rest ends))
 
 pub number : (names : List (List ℕ)) (n : ℕ) (rest : List ℕ) → n < 2 ^ 64 → Ends rest → reading names (decimal n ++ rest) ≡ behind (λ ss. sort.Number n ∷ ss) (reading names rest)

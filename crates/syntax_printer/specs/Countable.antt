@@ -6,7 +6,8 @@ use Rattle.syntax_trees.specs.declared.file.Handler.{Handler}
 use Rattle.syntax_trees.proofs.Sizes.{block_size}
 use Rattle.syntax_printer.specs.declared.spot.Spot.{Spot}
 
--- A part of so many statements and blocks goes on at the spot: it has no more points, and nests no deeper.
+-- A part of so many statements and blocks goes on at the spot: it has no more points, and nests no
+-- deeper.
 abbrev pub FitsAt : Spot → ℕ → Type 0
 FitsAt spot size = (spot.depth + size < 2 ^ 32) × (spot.point + size < 2 ^ 32)
 

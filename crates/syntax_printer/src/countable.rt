@@ -1,6 +1,6 @@
 // How many statements and blocks a file has.
 
-ghost use Rattle.std.specs.Prelude.{◌≡◌, min, true};
+ghost use Rattle.std.specs.Prelude.{◌≡◌, ◌↔◌, min, true};
 ghost use Rattle.std.specs.List.{AllByRecursion};
 ghost use Rattle.syntax_trees.proofs.Sizes.{block_size, stmt_size};
 ghost use Rattle.syntax_printer.specs.Countable.{IsCountable, IsCountableHandler};
@@ -38,10 +38,10 @@ fn size_of_block(block: &[Stmt]) -> u32
 
 /// Whether all handlers are countable.
 fn are_countable(handlers: &[Handler]) -> bool
-    ensures { result ≡ true → AllByRecursion IsCountableHandler handlers.now }
+    ensures { (result ≡ true) ↔ AllByRecursion IsCountableHandler handlers.now }
 {
     for handler in handlers {
-        if size_of_block(handler.body.as_slice()) >= u32::MAX - 1 {
+        if size_of_block(handler.body.as_slice()) == u32::MAX {
             return false;
         }
     }
@@ -51,7 +51,7 @@ fn are_countable(handlers: &[Handler]) -> bool
 /// Whether the text of a file can be put with counters of 32 bits. No source is long enough for a
 /// file that is not.
 pub fn is_countable(file: &File) -> bool
-    ensures { result ≡ true → IsCountable file.now }
+    ensures { (result ≡ true) ↔ IsCountable file.now }
 {
     let _few = file.handlers.len();
     are_countable(file.handlers.as_slice())

@@ -34,7 +34,8 @@ fn put_statement<D: Declarations, T: TextSink>(
         (put_part_text (D.at_points at.now) spot
         (part_at names.now (D.at_points at.now) spot s.now))
         out.old out.new }
-    ensures next { result ≡ spot.point + (part_at names.now (D.at_points at.now) spot s.now).points }
+    ensures next { result ≡ spot.point
+        + (part_at names.now (D.at_points at.now) spot s.now).points }
 {
     match s {
         Stmt::Let { name, right, .. } => {
@@ -187,7 +188,8 @@ fn put_block<D: Declarations, T: TextSink>(
     ensures text { Adds T.IsDue
         (put_block_text names.now (D.at_points at.now) spot block.now)
         out.old out.new }
-    ensures next { result ≡ spot.point + block_points (parts_of names.now (D.at_points at.now) spot block.now) }
+    ensures next { result ≡ spot.point
+        + block_points (parts_of names.now (D.at_points at.now) spot block.now) }
 {
     let mut next = spot.point;
     for s in block {

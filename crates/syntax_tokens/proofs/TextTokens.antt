@@ -1,10 +1,11 @@
 -- The token of a name or a symbol has a text that is read so.
-use Rattle.std.proofs.Common.{◌≡◌, ℕ, zero, suc, ◌+◌, ◌-◌, ◌≤◌, Bool, true, false, cond, List, [], ◌∷◌, length, get_or, take, Option, Some, None, refl, ap, ◌∙◌, arith, nat_lt, nat_eq, length-take}
+use Rattle.std.proofs.Common.{◌≡◌, ℕ, zero, suc, ◌+◌, ◌-◌, ◌≤◌, Bool, true, false, cond, List, [], ◌∷◌, get_or, take, Option, Some, None, refl, ap, ◌∙◌, arith, nat_lt, nat_eq}
 use Rattle.std.specs.Prelude.{◌||◌, ◌&&◌, codes, is_some}
 use Rattle.std.specs.Char.{is_ascii_digit, is_ascii_alphabetic, is_ascii_alphanumeric}
 use Rattle.std.specs.Int.{is_in_range}
 use Rattle.std.specs.List.{prefix_len, AllByRecursion}
 use Rattle.std.specs.Str.{bytes_eq}
+use Rattle.std.proofs.lemmas.Bool.{or_left}
 use Rattle.std.proofs.lemmas.Bool.Decides.{nat_tests}
 use Rattle.syntax_tokens.specs.declared.scan.Class.{Class}
 use Rattle.syntax_tokens.specs.declared.scan.Class.TheVariants as class
@@ -27,10 +28,6 @@ letter_or_digit true b false h = refl
 letter_or_digit false true true h = refl
 letter_or_digit false true false h = refl
 letter_or_digit false false d h = absurd (cc)
-
-or_left : (a b : Bool) → a ≡ true → (a || b) ≡ true
-or_left true b h = refl
-or_left false b h = absurd (let e : false ≡ true = h in cc)
 
 -- a letter is in each class of names and symbols
 alphanumeric : (b : ℕ) → is_ascii_alphabetic b ≡ true → is_ascii_alphanumeric b ≡ true

@@ -1,5 +1,5 @@
 -- Each name and each symbol of a source has a text that is read so.
-use Rattle.std.proofs.Common.{◌≡◌, ℕ, Bool, true, false, List, [], ◌∷◌, ◌++◌, length, Option, Some, None, slice_get, refl, sym, subst, rules}
+use Rattle.std.proofs.Common.{◌≡◌, ℕ, Bool, true, false, List, [], ◌∷◌, ◌++◌, length, Option, Some, slice_get, refl, sym, subst}
 use Rattle.std.specs.Prelude.{unwrap_or}
 use Rattle.std.specs.List.{list_any, AllByRecursion}
 use Rattle.std.specs.Str.{bytes_eq}
@@ -10,10 +10,8 @@ use Rattle.syntax_tokens.specs.declared.token_kind.TokenKind.{TokenKind}
 use Rattle.syntax_tokens.specs.declared.token_kind.TokenKind.TheVariants as kind
 use Rattle.syntax_tokens.specs.declared.word.Sort.{Sort}
 use Rattle.syntax_tokens.specs.declared.word.Sort.TheVariants as sort
-use Rattle.syntax_tokens.specs.Keyword.{sort_in, keyword_of, sign_of, operation_of, statement_word_of, operations, statement_words, signs, or_else}
 use Rattle.syntax_tokens.specs.Tokens.{Piece, pieces}
-use Rattle.syntax_tokens.specs.Words.{unquoted, or_bad, names_by, sort_by, names_after, word_after, words, names_behind, words_of, names_of}
-use Rattle.syntax_tokens.proofs.Cut.{pick}
+use Rattle.syntax_tokens.specs.Words.{unquoted, names_by, sort_by, names_after, word_after, words, names_behind, words_of, names_of}
 use Rattle.syntax_tokens.proofs.NamesGrow.{begins_behind}
 use Rattle.syntax_tokens.specs.Texts.{IsNameText, IsSymbolText, text_at, IsReadableSort, IsReadableWord}
 use Rattle.syntax_tokens.proofs.TextTokens.{IsGood, AllGood, all_good}

@@ -42,10 +42,10 @@ stmt_size = fold-Stmt ℕ stmt_weight
 abbrev pub block_size : List Stmt → ℕ
 block_size ss = weights (map stmt_size ss)
 
-size_choose : (p : ℕ) (cond : Cond) (first second : List Stmt) → stmt_size (stmt.Choose p cond first second) ≡ 3 + (block_size first + block_size second)
+pub size_choose : (p : ℕ) (cond : Cond) (first second : List Stmt) → stmt_size (stmt.Choose p cond first second) ≡ 3 + (block_size first + block_size second)
 size_choose p cond first second = search (rules, stmt_lemmas)
 
-size_repeat : (p turns q n r : ℕ) (body : List Stmt) → stmt_size (stmt.Repeat p turns q n r body) ≡ 2 + block_size body
+pub size_repeat : (p turns q n r : ℕ) (body : List Stmt) → stmt_size (stmt.Repeat p turns q n r body) ≡ 2 + block_size body
 size_repeat p turns q n r body = search (rules, stmt_lemmas)
 
 pub first_smaller : (s : Stmt) (p : ℕ) (cond : Cond) (xs first second : List Stmt) → s ≡ stmt.Choose p cond first second → xs ≡ first → block_size xs < stmt_size s

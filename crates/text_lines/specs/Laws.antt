@@ -18,8 +18,8 @@ pub record EndsInLine (text : Text) : Type 0 where
   pub is : text ≡ front ++ last ∷ []
   pub no_feed : is_line_byte last ≡ true
 
--- no line has a line feed within, and with a line feed behind each they are the text; where its last
--- byte is none, the last line feed is one too many
+-- no line has a line feed within, and with a line feed behind each they are the text; where its
+-- last byte is none, the last line feed is one too many
 pub record AreLinesOf (text : Text) (ls : List Text) : Type 0 where
   pub each : AllByRecursion (λ l. list_all is_line_byte l ≡ true) ls
   pub whole : (with_feeds ls ≡ text) ⊎ ((with_feeds ls ≡ text ++ 10 ∷ []) × EndsInLine text)
@@ -43,8 +43,8 @@ AreApart [] gs = Unit {0}
 AreApart (w ∷ ws) [] = ws ≡ []
 AreApart (w ∷ ws) (g ∷ gs) = ((ws ≡ []) ⊎ (0 < length g)) × AreApart ws gs
 
--- neither blanks nor a `#` stand in a word, which isn't empty, and blanks alone stand between words;
--- so they are the line before its comment
+-- neither blanks nor a `#` stand in a word, which isn't empty, and blanks alone stand between
+-- words; so they are the line before its comment
 pub record AreWordsOf (line : Text) (ws : List Text) : Type 0 where
   pub first : Text
   pub gaps : List Text
