@@ -21,7 +21,8 @@ use Rattle.admission_book.specs.declared.blocker.Blocker.{Blocker}
 use Rattle.admission_book.specs.Kept.{book_of, KeepsRecord}
 use Rattle.admission_book.proofs.Events.{begun_stays}
 use Rattle.admission_book.proofs.Keep.{keeps_admit, keeps_delay}
-use Rattle.admission_book.proofs.Shown.{served, serving_is, servings_at, shown, keeps_has, keeps_more, keeps_set, is_delayed-push, cond_same, room_for, one, others, Place, served_at}
+use Rattle.admission_book.proofs.Room.{is_delayed-append}
+use Rattle.admission_book.proofs.Shown.{served, serving_is, servings_at, shown, keeps_has, keeps_more, keeps_set, cond_same, room_for, one, others, Place, served_at}
 
 -- what the search found, at the records of the book
 pub free_here : (J : List Event) (k : List (Option Reply)) (xs rs : List CallerRecord) (t : ℕ) (op : Op) (r : Option Blocker) → xs ≡ rs → r ≡ None → Found (servings xs) t op r → IsFree (book_of J k rs) t op
@@ -124,7 +125,7 @@ module _ (m : Meaning) (J : List Event) (k : List (Option Reply)) (rs : List Cal
         go false is =
             let Q : CallerRecord → Type 0 = λ r. KeepsRecord (J ++ Delay t op older y ∷ []) r in
             keeps_set (J ++ Delay t op older y ∷ []) rs i new p.within
-            (subst Q (sym e) (keeps_has (J ++ Delay t op older y ∷ []) (with_delay old) t p.has k_old.room (sym (is_delayed-push false J (Delay t op older y) t ∙ cond_same t true (is_delayed J t)))))
+            (subst Q (sym e) (keeps_has (J ++ Delay t op older y ∷ []) (with_delay old) t p.has k_old.room (sym (is_delayed-append false J (Delay t op older y) t ∙ cond_same t true (is_delayed J t)))))
             (λ c apart. keeps_more J rs c (Delay t op older y) (others m (book_of J k rs) L i c (served t old) at apart) (each c))
 
     pub delay_count : (n : ℕ) → n ≡ begun J → n ≡ begun (cond old.delayed J (J ++ Delay t op older y ∷ []))

@@ -18,7 +18,8 @@ use Rattle.admission_book.specs.Methods.{MayBeginNext, Begins}
 use Rattle.admission_book.specs.Kept.{book_of, KeepsRecord}
 use Rattle.admission_book.proofs.Events.{begun_more}
 use Rattle.admission_book.proofs.Keep.{keeps_begin}
-use Rattle.admission_book.proofs.Shown.{shown, keeps_has, keeps_more, keeps_set, is_delayed-push, cond_same}
+use Rattle.admission_book.proofs.Room.{is_delayed-append}
+use Rattle.admission_book.proofs.Shown.{shown, keeps_has, keeps_more, keeps_set, cond_same}
 
 pub lines : (rs : List CallerRecord) → length (servings rs) ≡ length rs
 lines rs = length-map rs (λ (r : CallerRecord). serving_of r)
@@ -58,7 +59,7 @@ module _ (m : Meaning) (J : List Event) (k : List (Option Reply)) (rs : List Cal
       let Q : CallerRecord → Type 0 = λ r. KeepsRecord (J ++ Begin n i ∷ []) r in
       let k_old : KeepsRecord J old = subst P is (each i) in
       keeps_set (J ++ Begin n i ∷ []) rs i new within
-      (subst Q (sym e) (keeps_has (J ++ Begin n i ∷ []) (with_ticket old n f) n refl k_old.room (sym (is_delayed-push false J (Begin n i) n ∙ cond_same n false (is_delayed J n)))))
+      (subst Q (sym e) (keeps_has (J ++ Begin n i ∷ []) (with_ticket old n f) n refl k_old.room (sym (is_delayed-append false J (Begin n i) n ∙ cond_same n false (is_delayed J n)))))
       (λ c _. keeps_more J rs c (Begin n i) (apart c) (each c))
 
   pub begin_count : n + 1 ≡ begun (J ++ Begin n i ∷ [])

@@ -23,7 +23,8 @@ use Rattle.admission_book.specs.Methods.{MayDo, DidIt}
 use Rattle.admission_book.specs.Kept.{book_of, KeepsRecord}
 use Rattle.admission_book.proofs.Events.{begun_stays}
 use Rattle.admission_book.proofs.Keep.{keeps_done}
-use Rattle.admission_book.proofs.Shown.{served, serving_is, shown, keeps_has, keeps_more, keeps_set, is_delayed-push, cond_same, one, others, Place, served_at}
+use Rattle.admission_book.proofs.Room.{is_delayed-append}
+use Rattle.admission_book.proofs.Shown.{served, serving_is, shown, keeps_has, keeps_more, keeps_set, cond_same, one, others, Place, served_at}
 
 inside : (x y : Op) → ◌≡◌ {A = Option Op} (Some x) (Some y) → x ≡ y
 inside x y h = cc
@@ -74,7 +75,7 @@ module _ (m : Meaning) (J : List Event) (k : List (Option Reply)) (rs : List Cal
     done_keeps_with new g e roomy each =
         let Q : CallerRecord → Type 0 = λ x. KeepsRecord (J ++ Done t op r ∷ []) x in
         keeps_set (J ++ Done t op r ∷ []) rs i new p.within
-        (subst Q (sym e) (keeps_has (J ++ Done t op r ∷ []) (after_flight_with old g) t p.has roomy (sym (is_delayed-push false J (Done t op r) t ∙ cond_same t false (is_delayed J t)))))
+        (subst Q (sym e) (keeps_has (J ++ Done t op r ∷ []) (after_flight_with old g) t p.has roomy (sym (is_delayed-append false J (Done t op r) t ∙ cond_same t false (is_delayed J t)))))
         (λ c apart. keeps_more J rs c (Done t op r) (others m (book_of J k rs) L i c (served t old) at apart) (each c))
 
     pub old_room : ((c : ℕ) → KeepsRecord J (record_at rs c)) → 256 ≤ old.foresight.room

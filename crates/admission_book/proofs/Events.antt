@@ -11,7 +11,6 @@ use Rattle.session_journal.specs.declared.event.Event.TheVariants.{Begin, Done, 
 use Rattle.session_values.specs.Commuting.{Commute}
 use Rattle.session_values.specs.Dialogue.{Entry}
 use Rattle.session_journal.specs.Journal.{DoneOperation, entry_of, done_operations, of_ticket, in_order, InversionsCommute, entries, begun, first, end_of, caller_of, ended, owner}
-use Rattle.session_values.specs.Dialogue.{Calls, Dialogue, rest, replies, Follows}
 use Rattle.session_journal.specs.Script.{Meaning}
 use Rattle.admission_book.specs.Book.{Book}
 use Rattle.admission_book.specs.EventsInTurn.{MayBeDelayed, MayCome, ComeInTurn}
@@ -65,10 +64,6 @@ first_same {X} f J e h =
       | Some x ↦ refl
       | None ↦ ap (λ (v : Option X). elim v as (λ _. Option X) [ Some y ↦ Some y | None ↦ None ]) h
     ])
-
-pub Follows-push : (f : Dialogue) (es : List Entry) (e : Entry) → Follows f es → f (replies es) ≡ Calls e.op → Follows f (es ++ e ∷ [])
-Follows-push f [] e w c = (c, tt)
-Follows-push f (x ∷ es) e w c = (w.0, Follows-push (rest f (x.reply ∷ [])) es e w.1 c)
 
 pub All-push : (P : DoneOperation → Type 0) (ds : List DoneOperation) (d : DoneOperation) → AllByRecursion P ds → P d → AllByRecursion P (ds ++ d ∷ [])
 All-push P [] d a p = (p, tt)

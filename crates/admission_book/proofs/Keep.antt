@@ -23,7 +23,8 @@ use Rattle.admission_book.specs.Book.{Serving, Book, record_of, kept_for, Holds,
 use Rattle.admission_book.specs.EventsInTurn.{IsForeseen, IsOpen, declared_after, now, is_delayed, ComeInTurn}
 use Rattle.admission_book.specs.Lawful.{Lawful}
 use Rattle.session_journal.proofs.Replay.{Replays-append}
-use Rattle.admission_book.proofs.Events.{done_operations-append, in_order-append, done_operations_stay, begun_stays, begun_more, first_same, owner_other, owner_new, ended_other, ended_new, entries_other, entries_more, Follows-push, All-push, All-weaker, InversionsCommute-push, ComeInTurn-push, OnlyBegun, only_begun}
+use Rattle.session_values.proofs.Entries.{follows_more}
+use Rattle.admission_book.proofs.Events.{done_operations-append, in_order-append, done_operations_stay, begun_stays, begun_more, first_same, owner_other, owner_new, ended_other, ended_new, entries_other, entries_more, All-push, All-weaker, InversionsCommute-push, ComeInTurn-push, OnlyBegun, only_begun}
 use Rattle.admission_book.proofs.Records.{within, at_set, set_other, CommutesWithAll-narrow, CommutesWithAll-each}
 
 -- what younger tickets have in flight, after one record is replaced
@@ -272,7 +273,7 @@ keeps_done m b c s op r f L at flying is cov fore told =
           subst P (sym ds) (subst Q (sym (in_order-append (done_operations J) (new ∷ []))) (Replays-append (m.opening) (in_order (done_operations J)) (record { op = op; reply = r } ∷ []) L.replays (sym is, tt)));
       follows = λ u. elim (same_or u t) [
         | inl e ↦ let P : ℕ → Type 0 = λ j. Follows (m.next j) (entries (J ++ v ∷ []) j) in let Q : List Entry → Type 0 = λ es. Follows (m.next t) es in
-            subst P (sym e) (subst Q (sym (entries_more J t op r)) (Follows-push (m.next t) (entries J t) (record { op = op; reply = r }) (L.follows t) calls))
+            subst P (sym e) (subst Q (sym (entries_more J t op r)) (follows_more (m.next t) (entries J t) (record { op = op; reply = r }) (L.follows t) calls))
         | inr n ↦ let Q : List Entry → Type 0 = λ es. Follows (m.next u) es in subst Q (sym (entries_other J t op r u n)) (L.follows u)
       ];
       answered = λ u a h. let k : ended J u ≡ Some a = sym (first_same (end_of u) J v refl) ∙ h in

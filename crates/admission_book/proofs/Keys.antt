@@ -16,7 +16,8 @@ use Rattle.session_journal.specs.Script.{Meaning, IsScript, adds_on, room}
 use Rattle.admission_book.specs.Book.{Book}
 use Rattle.admission_book.specs.EventsInTurn.{IsOpen, now}
 use Rattle.admission_book.specs.Lawful.{Lawful}
-use Rattle.admission_book.proofs.Events.{Follows-push, OnlyBegun, only_begun}
+use Rattle.session_values.proofs.Entries.{follows_more}
+use Rattle.admission_book.proofs.Events.{OnlyBegun, only_begun}
 use Rattle.admission_book.proofs.Room.{few_begun}
 
 -- ---- by ticket
@@ -71,7 +72,7 @@ keys_fewer m b S L t op opened calls adding =
     let all : AllByRecursion (λ d. d.ticket < n) ds = wider ds o.done_operations in
     let e : Entry = record { op = op; reply = op.key } in
     let one : one_if (is_adding op.kind && eqb op.table i) ≡ 1 = ap (λ (b : Bool). one_if (b && eqb op.table i)) adding ∙ ap one_if (itself op.table) in
-    let more : adds_on i (of_ticket t ds) < m.adds t i = omega (arith, adds_push i (of_ticket t ds) e, one, S.adds t i (of_ticket t ds ++ e ∷ []) (Follows-push (m.next t) (of_ticket t ds) e (L.follows t) calls)) in
+    let more : adds_on i (of_ticket t ds) < m.adds t i = omega (arith, adds_push i (of_ticket t ds) e, one, S.adds t i (of_ticket t ds ++ e ∷ []) (follows_more (m.next t) (of_ticket t ds) e (L.follows t) calls)) in
     let within : t < n = omega (arith, opened.begun, few_begun m (length b.records) b.journal L.turns) in
     omega (arith, run_few m.opening (in_order ds) i, adds_by_ticket n i ds all, sum_less n t (λ u. adds_on i (of_ticket u ds)) (λ u. m.adds u i) (λ u. S.adds u i (of_ticket u ds) (L.follows u)) within more)
   where

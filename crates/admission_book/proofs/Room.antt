@@ -49,7 +49,7 @@ mine_own J e = mine-append (ticket_of e) J e ∙ ap (λ (b : Bool). mine (ticket
     itself : (u : ℕ) → eqb u u ≡ true
     itself u = grind (arith, nat_tests)
 
-is_delayed-append : (b : Bool) (J : List Event) (e : Event) (t : ℕ) → is_delayed_from b (J ++ e ∷ []) t ≡ delayed_after t e (is_delayed_from b J t)
+pub is_delayed-append : (b : Bool) (J : List Event) (e : Event) (t : ℕ) → is_delayed_from b (J ++ e ∷ []) t ≡ delayed_after t e (is_delayed_from b J t)
 is_delayed-append b [] e t = refl
 is_delayed-append b (x ∷ J) e t = is_delayed-append (delayed_after t x b) J e t
 

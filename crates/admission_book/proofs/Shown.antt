@@ -9,14 +9,14 @@ use Rattle.session_journal.specs.declared.event.Event.TheVariants.{Begin, Done, 
 use Rattle.session_journal.specs.Journal.{JournalView, begun, ticket_of}
 use Rattle.session_journal.specs.Script.{Meaning, IsScript, calls}
 use Rattle.admission_book.specs.Book.{Book, Serving, kept_for, record_of}
-use Rattle.admission_book.specs.EventsInTurn.{delayed_after, is_delayed, is_delayed_from}
+use Rattle.admission_book.specs.EventsInTurn.{delayed_after, is_delayed}
 use Rattle.admission_book.specs.Lawful.{Lawful}
 use Rattle.admission_book.specs.declared.caller_record.CallerRecord.{CallerRecord}
 use Rattle.admission_book.specs.CallerRecord.{serving_at, serving_of, servings, record_at, idle_record}
 use Rattle.admission_book.specs.Methods.{BookView}
 use Rattle.admission_book.specs.Kept.{book_of, Keeps, KeepsRecord}
 use Rattle.admission_book.proofs.Keep.{one_caller}
-use Rattle.admission_book.proofs.Room.{few_events}
+use Rattle.admission_book.proofs.Room.{few_events, is_delayed-append}
 
 -- ---- between the fields and what contracts see of them
 pub here : {S : Type 0} (P : Meaning → Book → Type 0) (meaning : S → Meaning) (s : S) (b : Book) (v : BookView S) → record { script = s; book = b } ≡ v → P (meaning v.script) v.book → P (meaning s) b
@@ -99,9 +99,6 @@ keeps_set J rs i new within this others c =
     same_or a b = grind (arith, nat_tests)
 
 -- ---- one event more
-pub is_delayed-push : (b : Bool) (J : List Event) (e : Event) (t : ℕ) → is_delayed_from b (J ++ e ∷ []) t ≡ delayed_after t e (is_delayed_from b J t)
-is_delayed-push b [] e t = refl
-is_delayed-push b (x ∷ J) e t = is_delayed-push (delayed_after t x b) J e t
 
 cond_other : (u t : ℕ) (x b : Bool) → u ≢ t → cond (eqb t u) x b ≡ b
 cond_other u t x b h = elim (eqb t u) as (λ v. eqb t u ≡ v → cond v x b ≡ b) [ true ↦ λ e. absurd (h (grind (arith, nat_tests))) | false ↦ λ e. refl ] refl
@@ -119,7 +116,7 @@ after_other (End t r) b u h = cond_other u t false b h
 pub keeps_more : (J : List Event) (rs : List CallerRecord) (c : ℕ) (e : Event) → ((s : Serving) → get_or (servings rs) c None ≡ Some s → s.ticket ≢ ticket_of e) → KeepsRecord J (record_at rs c) → KeepsRecord (J ++ e ∷ []) (record_at rs c)
 keeps_more J rs c e apart k = record {
   room = k.room;
-  noted = λ s p. k.noted s p ∙ sym (is_delayed-push false J e s.ticket ∙ after_other e (is_delayed J s.ticket) s.ticket (apart s (servings_at rs c ∙ p)));
+  noted = λ s p. k.noted s p ∙ sym (is_delayed-append false J e s.ticket ∙ after_other e (is_delayed J s.ticket) s.ticket (apart s (servings_at rs c ∙ p)));
 }
 
 -- the fields with one event more

@@ -18,7 +18,7 @@ use Rattle.hall_rule.specs.Contents.{Content, Register, Shard, IsNote, IsOfOther
 use Rattle.hall_rule.specs.Counted.{ReplaysByTicket}
 use Rattle.hall_rule.specs.Tie.{Tied}
 use Rattle.hall_rule.specs.Law.{inside, none_some, same_script, same_book}
-use Rattle.hall_rule.proofs.Halls.{reads}
+use Rattle.turn_board.proofs.Rows.{get-within}
 
 -- ---- the last of a list
 abbrev last_or : {X : Type 0} → X → List X → X
@@ -95,7 +95,7 @@ module _ {S : Type 0} (meaning : S → Meaning) (contents notes : List (Content 
   -- who made the journal's last event has the whole journal in its note
   pub whole_note : 0 < length notes → (c : ℕ) × (noted : Book) × (slice_get notes c ≡ Some (Register t.script noted)) × (noted.journal ≡ t.book.journal)
   whole_note some =
-      let x : (x : Content S) × (slice_get notes 0 ≡ Some x) = reads notes 0 some in
+      let x : (x : Content S) × (slice_get notes 0 ≡ Some x) = get-within notes 0 some in
       let n : IsNote t.script t.book 0 x.0 = t.noted 0 x.0 x.1 in
       elim (ends n.since.since) [
         | inl e ↦ no_more 0 x.0 x.1 n e
@@ -103,7 +103,7 @@ module _ {S : Type 0} (meaning : S → Meaning) (contents notes : List (Content 
       ]
     where
       first : (x : Content S) × (slice_get notes 0 ≡ Some x)
-      first = reads notes 0 some
+      first = get-within notes 0 some
 
       first_note : IsNote t.script t.book 0 first.0
       first_note = t.noted 0 first.0 first.1
@@ -111,7 +111,7 @@ module _ {S : Type 0} (meaning : S → Meaning) (contents notes : List (Content 
       made : (l : HasLast first_note.since.since) → IsOfOther t.book.journal 0 l.last → (c : ℕ) × (noted : Book) × (slice_get notes c ≡ Some (Register t.script noted)) × (noted.journal ≡ t.book.journal)
       made l o =
           let near : o.0 < length notes = omega (arith, owned (meaning t.script) (length t.book.records) t.book.journal t.lawful.turns (ticket_of l.last) o.0 o.1, t.callers) in
-          let y : (y : Content S) × (slice_get notes o.0 ≡ Some y) = reads notes o.0 near in
+          let y : (y : Content S) × (slice_get notes o.0 ≡ Some y) = get-within notes o.0 near in
           let k : IsNote t.script t.book o.0 y.0 = t.noted o.0 y.0 y.1 in
           elim (ends k.since.since) [
             | inl e ↦ no_more o.0 y.0 y.1 k e

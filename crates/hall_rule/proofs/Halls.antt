@@ -1,6 +1,7 @@
 -- A hall as it is opened and as it is closed.
 use Rattle.std.proofs.Common.{◌≡◌, ℕ, zero, suc, ◌<◌, ◌≤◌, ◌/◌, ◌%◌, List, [], ◌∷◌, ◌++◌, length, replicate, Option, Some, None, refl, sym, ◌∙◌, ap, subst, arith}
 use Rattle.std.specs.Prelude.{slice_get}
+use Rattle.std.proofs.lemmas.List.{length-replicate}
 use Rattle.session_values.specs.declared.reply.Reply.{Reply}
 use Rattle.session_values.specs.Serial.{tables_before}
 use Rattle.session_values.specs.Tables.{Container, Tables, table}
@@ -15,16 +16,13 @@ use Rattle.admission_book.proofs.Foreknown.{opened_lawful}
 use Rattle.admission_book.proofs.Foreknown as book
 use Rattle.admission_book.proofs.Records.{within}
 use Rattle.admission_book.proofs.Room.{few_begun}
+use Rattle.turn_board.proofs.Rows.{get-within}
 use Rattle.hall_rule.specs.Contents.{Content, Register, Shard, shards_in, share, tables_after, IsShard, IsNote}
 use Rattle.hall_rule.specs.Tie.{Tied}
 use Rattle.hall_rule.specs.Halls.{AllEnded, IsFresh, IsOut, first_content}
 use Rattle.hall_rule.specs.Law.{none_some, inside, same_script, same_book, just_now}
 
 -- ---- opening
-length-replicate : {X : Type 0} (n : ℕ) (x : X) → length (replicate n x) ≡ n
-length-replicate zero x = refl
-length-replicate (suc n) x = ap suc (length-replicate n x)
-
 got_replicate : {X : Type 0} (n : ℕ) (x y : X) (i : ℕ) → slice_get (replicate n x) i ≡ Some y → y ≡ x
 got_replicate zero x y i e = absurd (none_some y e)
 got_replicate (suc n) x y zero e = sym (inside x y e)
@@ -36,7 +34,7 @@ opened_tied {S} meaning script callers shards fresh = record {
   book = opened (meaning script).requests callers;
   register = refl;
   lawful = opened_lawful (meaning script) callers;
-  callers = length-replicate {X = Option Serving} callers None ∙ sym (length-replicate callers (first_content meaning script callers));
+  callers = length-replicate {A = Option Serving} callers None ∙ sym (length-replicate callers (first_content meaning script callers));
   shards = λ j x e.
       let f : IsFresh (meaning script) (suc (length shards)) j x = fresh j x e in
       record { container = share (meaning script) (suc (length shards)) [] j; room = f.room; is = f.is; share_is = refl; enough = f.enough };
@@ -44,17 +42,12 @@ opened_tied {S} meaning script callers shards fresh = record {
 }
 
 -- ---- closing
-pub reads : {X : Type 0} (l : List X) (i : ℕ) → i < length l → (x : X) × (slice_get l i ≡ Some x)
-reads [] i h = absurd (omega arith)
-reads (x ∷ l) zero h = (x, refl)
-reads (x ∷ l) (suc i) h = reads l i (omega arith)
-
 module _ {S : Type 0} (meaning : S → Meaning) (script : S) (contents notes : List (Content S)) (lawful : IsScript (meaning script)) (t : Tied meaning contents notes) (some : 0 < length notes) (out : (c : ℕ) (x : Content S) → slice_get notes c ≡ Some x → IsOut (meaning script) script c x) where
   abbrev m : Meaning
   m = meaning script
 
   first : (x : Content S) × (slice_get notes 0 ≡ Some x)
-  first = reads notes 0 some
+  first = get-within notes 0 some
 
   first_note : IsNote t.script t.book 0 first.0
   first_note = t.noted 0 first.0 first.1
@@ -68,7 +61,7 @@ module _ {S : Type 0} (meaning : S → Meaning) (script : S) (contents notes : L
   -- a caller's record in the book is empty
   no_record : (c : ℕ) → c < length notes → record_of t.book c ≡ None
   no_record c l =
-      let r : (x : Content S) × (slice_get notes c ≡ Some x) = reads notes c l in
+      let r : (x : Content S) × (slice_get notes c ≡ Some x) = get-within notes c l in
       let n : IsNote t.script t.book c r.0 = t.noted c r.0 r.1 in
       let o : IsOut m script c r.0 = out c r.0 r.1 in
       sym n.since.own ∙ ap (λ (d : Book). record_of d c) (same_book t.script script n.noted o.book (sym n.is ∙ o.is)) ∙ o.no_ticket

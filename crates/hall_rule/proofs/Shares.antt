@@ -5,6 +5,7 @@ use Rattle.std.specs.FinMap as map
 use Rattle.std.specs.FinSet as set
 use Rattle.std.proofs.lemmas.List.{get_or-set_same, get_or-set_other, length-set}
 use Rattle.std.proofs.lemmas.Bool.Decides.{nat_tests}
+use Rattle.session_values.proofs.Puts.{kind_after}
 use Rattle.session_values.specs.declared.kind.Kind.{Kind}
 use Rattle.session_values.specs.declared.kind.Kind.TheVariants.{Get, Put, Swap, Del, Size, Bump, Has, Add, Mark, Drop, Count}
 use Rattle.session_values.specs.declared.kind.TableKind.{TableKind}
@@ -117,9 +118,6 @@ unfolding reply
 reply-is ts op = refl
 
 -- ---- the kind of a share is its table's
-kind_after : (c : Container) (op : Op) → kind_of (after_on c op) ≡ kind_of c
-kind_after (Bindings m) op = refl
-kind_after (Members s) op = refl
 
 kind_step : (ts : Tables) (op : Op) (i : ℕ) → i < length ts → kind_of (table (step ts op) i) ≡ kind_of (table ts i)
 kind_step ts op i l = go (eqb i op.table) refl

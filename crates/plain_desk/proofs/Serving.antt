@@ -6,8 +6,9 @@ use Rattle.std.proofs.lemmas.Option.{slice_get_read}
 use Rattle.session_values.specs.declared.op.Op.{Op}
 use Rattle.session_values.specs.declared.reply.Reply.{Reply}
 use Rattle.session_values.specs.declared.value.Value.{Value}
-use Rattle.session_values.specs.Dialogue.{Calls, Answers, Dialogue, Entry, Follows, rest, replies}
+use Rattle.session_values.specs.Dialogue.{Calls, Answers, Dialogue, Entry, Follows, replies}
 use Rattle.session_values.specs.Serial.{Session, serial, tables_before}
+use Rattle.session_values.proofs.Entries.{follows_more}
 use Rattle.session_values.specs.Tables.{Tables, reply, step, kind_of}
 use Rattle.symbolic_ops.specs.declared.symbol.Symbol.{Symbol}
 use Rattle.symbolic_ops.specs.Matching.{Matches}
@@ -21,10 +22,6 @@ use Rattle.plain_desk.specs.PlainDesks.{desk_of, ended_count, tables_at}
 use Rattle.plain_desk.specs.Keeping.{HasRoom, IsIdle, IsOpen, IsSerial, Keeps, after_waiting}
 
 -- ---- entries at the end of others
-Follows-append : (f : Dialogue) (es : List Entry) (e : Entry) → Follows f es → f (replies es) ≡ Calls e.op → Follows f (es ++ e ∷ [])
-Follows-append f [] e w c = (c, tt)
-Follows-append f (x ∷ es) e w c = (w.0, Follows-append (rest f (x.reply ∷ [])) es e w.1 c)
-
 append_nil : (es : List Entry) → es ++ [] ≡ es
 append_nil [] = refl
 append_nil (e ∷ es) = ap (λ (fs : List Entry). e ∷ fs) (append_nil es)
@@ -145,7 +142,7 @@ open_entered m t es f g b ts e o =
     let before : Tables = tables_before (session_of m) t in
     record {
       ticket = o.ticket;
-      follows = Follows-append (m.next t) es e o.follows o.waits.0;
+      follows = follows_more (m.next t) es e o.follows o.waits.0;
       replays = Replays-append before es (e ∷ []) o.replays (o.waits.1, tt);
       waits = tt;
       kept = o.kept ∙ sym (run-append before es (e ∷ []));

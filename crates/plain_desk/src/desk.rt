@@ -178,12 +178,8 @@ impl<S: Script + Drop> Desk for PlainDesk<S> {
         }
     }
 
-    fn finish_with<R: Threads + Wait + Sync>(&mut self, _rt: &R, next: &mut Foresight) {
-        if let Some(done) = self.waiting {
-            self.entries.push_reserved(done);
-            self.waiting = None;
-            self.present.replace(next);
-        }
+    fn finish_with<R: Threads + Wait + Sync>(&mut self, rt: &R, next: &mut Foresight) {
+        self.finish(rt, next);
     }
 
     fn declare<R: Threads + Wait + Sync>(&mut self, _rt: &R, f: &Foresight) {

@@ -3,7 +3,6 @@ use Rattle.std.proofs.Common.{◌≡◌, ◌≢◌, ℕ, ◌<◌, ◌≤◌, Lis
 use Rattle.std.specs.List.{AllByRecursion}
 use Rattle.std.proofs.lemmas.Bool.Decides.{nat_tests}
 use Rattle.symbolic_ops.specs.declared.symbol.Symbol.{Symbol}
-use Rattle.symbolic_ops.specs.Foresight.{ForesightView}
 use Rattle.symbolic_ops.specs.Matching.{Covered, HasNoVar}
 use Rattle.symbolic_ops.proofs.Above.{covered_itself}
 use Rattle.session_journal.specs.declared.event.Event.TheVariants.{Begin}

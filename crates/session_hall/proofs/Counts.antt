@@ -18,8 +18,7 @@ use Rattle.hall_rule.specs.declared.held.Held.{Held}
 use Rattle.hall_rule.specs.Contents.{Content, Register, Shard}
 use Rattle.hall_rule.specs.Law.{inside, none_some}
 use Rattle.hall_rule.specs.Shards.{content_of}
-use Rattle.hall_rule.proofs.Shares.{keyless_stays}
-use Rattle.session_hall.specs.Working.{AllCan, AreShards, CanDo, Counting, FirstCan, HasKeysAt, HasShardAt, IsAnyShard, WorkedFirst, WorkedTo, all_keys, contents, keys_in}
+use Rattle.session_hall.specs.Working.{AllCan, AreShards, CanDo, Counting, HasKeysAt, HasShardAt, IsAnyShard, all_keys, contents, keys_in}
 use Rattle.session_hall.proofs.TurnSets.{same_test, other_test, up, up_more, up_none}
 
 -- ---- the reply of an operation without a key
@@ -123,13 +122,6 @@ module _ {S : Type 0} where
   -- ---- the number of keys
   pub keys_within : (x : ℕ × Content S) (xs ys : List (ℕ × Content S)) → keys_in x.1 ≤ all_keys (xs ++ x ∷ ys)
   keys_within x xs ys = let e : all_keys (xs ++ x ∷ ys) ≡ all_keys xs + (keys_in x.1 + all_keys ys) = all_keys-append xs (x ∷ ys) in omega (arith, e)
-
-  -- ---- the first shard
-  pub first_can : (op : Op) (pairs rest : List (ℕ × Held S)) (turn : ℕ) (y : Held S) → pairs ≡ (turn, y) ∷ rest → FirstCan op pairs → CanDo op (content_of y)
-  first_can op pairs rest turn y e can = let P : List (ℕ × Held S) → Type 0 = λ l. FirstCan op l in subst P e can
-
-  pub worked_first : (op : Op) (pairs rest now : List (ℕ × Held S)) (turn : ℕ) (x y : Held S) (v : Value) → pairs ≡ (turn, x) ∷ rest → now ≡ rest ++ (turn, y) ∷ [] → WorkedTo op (content_of x) (content_of y) v → WorkedFirst op pairs now v
-  worked_first op pairs rest now turn x y v e f w = let P : List (ℕ × Held S) → Type 0 = λ l. WorkedFirst op l now v in subst P (sym e) (y, f, w)
 
   -- ---- one shard after another
   pub count_start : (xs : List (ℕ × Held S)) → AreShards (contents xs) → all_keys (contents xs) ≤ 200000 → Counting xs 0 0

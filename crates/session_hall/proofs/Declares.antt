@@ -1,7 +1,6 @@
 -- A caller narrows its ticket's foresight.
-use Rattle.std.proofs.Common.{◌≡◌, ℕ, ◌≤◌, List, [], Some, refl, sym, ◌∙◌, ap, append-nil, arith}
+use Rattle.std.proofs.Common.{◌≡◌, ℕ, List, [], Some, refl, ◌∙◌, ap, append-nil}
 use Rattle.symbolic_ops.specs.declared.symbol.Symbol.{Symbol}
-use Rattle.symbolic_ops.specs.Foresight.{ForesightView}
 use Rattle.session_journal.specs.Journal.{entries}
 use Rattle.session_journal.specs.Script.{Meaning}
 use Rattle.admission_book.specs.Book.{Book, record_of, after_narrow}

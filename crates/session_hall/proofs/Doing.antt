@@ -133,9 +133,6 @@ module _ {S : Type 0} (meaning : S → Meaning) (h : Hall S) (c : Caller S) (k :
           long [] = refl
           long (x ∷ l) = ap suc (long l)
 
-      pub hands_fit : length xs ≤ c.hands.room
-      hands_fit = omega (arith, as_many, few_span n op k.some_shards k.few_shards, k.hands_room)
-
       -- what is in the hands is what is held
       hold : (u : ℕ) → in_hands (content_of {S = S}) xs u ≡ held q u
       hold u =

@@ -1,7 +1,6 @@
 -- A caller ends its ticket.
-use Rattle.std.proofs.Common.{◌≡◌, ℕ, ◌<◌, ◌≤◌, [], ◌∷◌, None, refl, sym, ◌∙◌, ap, subst, arith}
+use Rattle.std.proofs.Common.{◌≡◌, ℕ, ◌<◌, [], ◌∷◌, None, refl, sym, ◌∙◌, ap, subst, arith}
 use Rattle.session_values.specs.declared.reply.Reply.{Reply}
-use Rattle.symbolic_ops.specs.Foresight.{ForesightView}
 use Rattle.session_journal.specs.declared.event.Event.TheVariants.{End}
 use Rattle.session_journal.specs.Journal.{of_ticket, entries, begun, ended}
 use Rattle.session_journal.specs.Script.{Meaning}

@@ -1,5 +1,5 @@
 -- An operation that was done on its shards is entered in the book.
-use Rattle.std.proofs.Common.{◌≡◌, ℕ, zero, suc, ◌<◌, ◌≤◌, List, [], ◌∷◌, ◌++◌, length, Option, Some, None, refl, sym, ◌∙◌, ap, subst, arith}
+use Rattle.std.proofs.Common.{◌≡◌, ℕ, zero, suc, ◌<◌, List, [], ◌∷◌, ◌++◌, length, Option, Some, None, refl, sym, ◌∙◌, ap, subst, arith}
 use Rattle.std.proofs.lemmas.List.{length-set, get_or-set_other}
 use Rattle.session_values.specs.declared.op.Op.{Op}
 use Rattle.session_values.specs.declared.value.Value.{Value}
@@ -7,7 +7,6 @@ use Rattle.session_values.specs.Dialogue.{Entry, rest, replies}
 use Rattle.session_values.specs.Tables.{Container, Fits, after_on, reply}
 use Rattle.session_values.specs.Kinds.{home}
 use Rattle.symbolic_ops.specs.declared.symbol.Symbol.{Symbol}
-use Rattle.symbolic_ops.specs.Foresight.{ForesightView}
 use Rattle.symbolic_ops.specs.Matching.{Covered}
 use Rattle.session_journal.specs.declared.event.Event.TheVariants.{Done}
 use Rattle.session_journal.specs.Journal.{entries, caller_of}
@@ -30,13 +29,21 @@ use Rattle.hall_rule.proofs.Shares.{share_worked, share_still}
 use Rattle.session_hall.specs.declared.caller.Caller.{Caller}
 use Rattle.session_hall.specs.declared.hall.Hall.{Hall}
 use Rattle.session_hall.specs.declared.stage.Stage.{Stage}
-use Rattle.session_hall.specs.declared.stage.Stage.TheVariants.{Serving as Serves, Applied}
+use Rattle.session_hall.specs.declared.stage.Stage.TheVariants.{Idle, Serving as Serves, InFlight, Applied, Out}
 use Rattle.session_hall.specs.Callers.{IsCallerOf, book_of, entries_of, foresight_of}
 use Rattle.session_hall.specs.Calls.{MayFinish, MayFinishAt, FinishedFrom}
 use Rattle.session_hall.specs.Findings.{HasBook}
 use Rattle.session_hall.specs.Names.{script_of}
-use Rattle.session_hall.specs.Stages.{SeatOf, Stands, waiting, flying}
+use Rattle.session_hall.specs.Stages.{IsApplied, SeatOf, Stands, waiting, flying}
 use Rattle.session_hall.proofs.Giving.{at_script, own_set, lawful_left, register_is, left_is, who, holds_none, gave_back, caller_after, foresight_left, opens}
+
+-- ---- the stage
+pub is_applied : (m : Meaning) (s : Stage) (f : List Symbol) (b : Book) (next : List Symbol) → MayFinishAt m s f b next → IsApplied s
+is_applied m Idle f b next may = may
+is_applied m (Serves t) f b next may = may
+is_applied m (InFlight t op) f b next may = may
+is_applied m (Applied t op v) f b next may = tt
+is_applied m Out f b next may = may
 
 -- ---- what was in a turn and what is in the hands
 worked_held : {S : Type 0} (op : Op) (o k : Option (Content S)) (x : Content S) → ChangedBy op o k → k ≡ Some x → (c : Container) × (room : ℕ) × (o ≡ Some (Shard c room)) × (x ≡ Shard (after_on c op) room)

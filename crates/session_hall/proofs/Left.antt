@@ -1,6 +1,7 @@
 -- A hall whose callers are all out.
 use Rattle.std.proofs.Common.{◌≡◌, ℕ, zero, suc, ◌+◌, ◌*◌, ◌/◌, ◌%◌, ◌<◌, ◌≤◌, List, [], ◌∷◌, ◌++◌, length, map, drop, get_or, append_assoc, append-nil, Option, Some, IsSome, is_some, refl, sym, ◌∙◌, ap, subst, arith}
 use Rattle.std.specs.Prelude.{slice_get}
+use Rattle.std.proofs.lemmas.List.{length-map, map-append}
 use Rattle.std.specs.List.{AllByRecursion}
 use Rattle.session_values.specs.declared.reply.Reply.{Reply}
 use Rattle.session_values.specs.Serial.{serial_replies, tables_before}
@@ -33,7 +34,8 @@ use Rattle.session_hall.specs.Names.{script_of}
 use Rattle.session_hall.specs.Stages.{SeatOf, Stands}
 use Rattle.session_hall.proofs.OneShard.{shards_are}
 use Rattle.session_hall.proofs.Giving.{is_told}
-use Rattle.session_hall.proofs.Moving.{first_of, get_in, length-map, map-get, map-read}
+use Rattle.turn_board.proofs.Rows.{get-within, map-get, map-read}
+use Rattle.session_hall.proofs.Moving.{first_of}
 
 -- ---- the callers' seats
 pub same_seats : {S : Type 0} (xs ys : List (Caller S)) → xs ≡ ys → map (λ (c : Caller S). c.seat) xs ≡ map (λ (c : Caller S). c.seat) ys
@@ -59,7 +61,7 @@ module _ {S : Type 0} (meaning : S → Meaning) (h : Hall S) (callers : List (Ca
   seat_at i s e = map-read (λ (c : Caller S). c.seat) callers i s (ap (λ (l : List (SeatOf S)). slice_get l i) (sym seats_are) ∙ e)
 
   as_many : length seats ≡ h.sizes.callers
-  as_many = ap length seats_are ∙ length-map (λ (c : Caller S). c.seat) callers ∙ all
+  as_many = ap length seats_are ∙ length-map callers (λ (c : Caller S). c.seat) ∙ all
 
   pub all_end : AllEnd h.board (length seats) seats
   all_end = λ i s e.
@@ -72,14 +74,14 @@ module _ {S : Type 0} (meaning : S → Meaning) (h : Hall S) (callers : List (Ca
   some_seats = omega (arith, as_many, some)
 
   pub first : (c : Caller S) × (slice_get callers 0 ≡ Some c)
-  first = get_in callers 0 (omega (arith, all, some))
+  first = get-within callers 0 (omega (arith, all, some))
 
   pub first_caller : IsCallerOf meaning h first.0
   first_caller = (leave 0 first.0 first.1).caller
 
   module _ (values : List (Held S)) (turns : length values ≡ turn_count h.board) (notes : List (Content S)) (noted : map Some notes ≡ map note seats) (tied : Tied meaning (map content_of values) notes) where
     notes_many : length notes ≡ length seats
-    notes_many = sym (length-map (λ (x : Content S). Some x) notes) ∙ ap length noted ∙ length-map note seats
+    notes_many = sym (length-map notes (λ (x : Content S). Some x)) ∙ ap length noted ∙ length-map seats note
 
     -- whose note it is
     noted_at : (c : ℕ) (x : Content S) → slice_get notes c ≡ Some x → (d : Caller S) × (slice_get callers c ≡ Some d) × (note d.seat ≡ Some x)
@@ -133,7 +135,7 @@ module _ {S : Type 0} (meaning : S → Meaning) (h : Hall S) (callers : List (Ca
     pub has_left : HasLeft meaning h callers values
     has_left =
         let P : ℕ → Type 0 = λ a. AllEnded (meaning (script_of h)) (script_of h) (map content_of values) a in
-        let all : AllEnded (meaning (script_of h)) (script_of h) (map content_of values) (length values) = subst P (length-map content_of values) (all_ended meaning (script_of h) (map content_of values) notes first_caller.script_kept tied (omega (arith, notes_many, some_seats)) notes_out) in
+        let all : AllEnded (meaning (script_of h)) (script_of h) (map content_of values) (length values) = subst P (length-map values content_of) (all_ended meaning (script_of h) (map content_of values) notes first_caller.script_kept tied (omega (arith, notes_many, some_seats)) notes_out) in
         record {
           script_kept = first_caller.script_kept;
           long = turns_are;
@@ -207,7 +209,7 @@ module _ {S : Type 0} (meaning : S → Meaning) (h : Hall S) (callers : List (Ca
 
       parts_many : length parts ≡ length m.shape * h.sizes.shards
       parts_many =
-          let e : length values ≡ suc (length parts) = ap length is ∙ ap suc (sym (ap length parts_are) ∙ length-map value.Table parts) in
+          let e : length values ≡ suc (length parts) = ap length is ∙ ap suc (sym (ap length parts_are) ∙ length-map parts value.Table) in
           omega (arith, e, l.long)
 
       part_is : (j : ℕ) (x : Part) → slice_get parts j ≡ Some x → (shard_view x).container ≡ part h.sizes.shards (j % h.sizes.shards) (table (tables_before (session_of m) m.requests) (j / h.sizes.shards))
@@ -245,18 +247,14 @@ module _ {S : Type 0} (meaning : S → Meaning) (h : Hall S) (callers : List (Ca
       }
 
 -- ---- the shards are moved out
-map-end : {A B : Type 0} (f : A → B) (xs : List A) (a : A) → map f (xs ++ a ∷ []) ≡ map f xs ++ f a ∷ []
-map-end f [] a = refl
-map-end {A} {B} f (x ∷ xs) a = ap (λ (l : List B). f x ∷ l) (map-end f xs a)
-
 module _ {S : Type 0} where
   pub parts_long : (parts : List Part) (rest : List (Held S)) → map value.Table parts ≡ rest → length parts ≡ length rest
-  parts_long parts rest e = sym (length-map {B = Held S} value.Table parts) ∙ ap length e
+  parts_long parts rest e = sym (length-map {B = Held S} parts value.Table) ∙ ap length e
 
   pub parts_next : (xs ys : List (Held S)) (a : Held S) (p : Part) (parts later : List Part) (all : List (Held S)) → 0 < length xs → a ≡ get_or xs 0 a → ys ≡ drop 1 xs → a ≡ value.Table p → later ≡ parts ++ p ∷ [] → map value.Table parts ++ xs ≡ all → map value.Table later ++ ys ≡ all
   parts_next xs ys a p parts later all h e rest at is m =
       (λ i. map value.Table (is i) ++ rest i)
-      ∙ ap (λ (l : List (Held S)). l ++ drop 1 xs) (map-end value.Table parts p)
+      ∙ ap (λ (l : List (Held S)). l ++ drop 1 xs) (map-append value.Table parts (p ∷ []))
       ∙ append_assoc (map value.Table parts) (value.Table p ∷ []) (drop 1 xs)
       ∙ ap (λ (l : List (Held S)). map value.Table parts ++ l) (ap (λ (z : Held S). z ∷ drop 1 xs) (sym at) ∙ sym (first_of xs a h e))
       ∙ m

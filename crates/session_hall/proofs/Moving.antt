@@ -1,7 +1,7 @@
 -- Lists whose first elements are moved to another list.
-use Rattle.std.proofs.Common.{◌≡◌, ℕ, zero, suc, ◌<◌, ◌≤◌, List, [], ◌∷◌, ◌++◌, length, map, drop, get_or, append_assoc, append-nil, refl, sym, ap, ◌∙◌, arith}
+use Rattle.std.proofs.Common.{◌≡◌, ℕ, suc, ◌<◌, ◌≤◌, List, [], ◌∷◌, ◌++◌, length, map, drop, get_or, append_assoc, append-nil, refl, sym, ap, ◌∙◌, arith}
 use Rattle.std.specs.Prelude.{Some, slice_get}
-use Rattle.hall_rule.specs.Law.{none_some, inside}
+use Rattle.hall_rule.specs.Law.{none_some}
 
 module _ {A : Type 0} where
   -- the first element, and the others
@@ -16,11 +16,6 @@ module _ {A : Type 0} where
   shifted [] i a e = absurd (none_some a e)
   shifted (x ∷ xs) i a e = e
 
-  pub get_in : (xs : List A) (i : ℕ) → i < length xs → (a : A) × (slice_get xs i ≡ Some a)
-  get_in [] i l = absurd (omega (arith, l))
-  get_in (x ∷ xs) zero l = (x, refl)
-  get_in (x ∷ xs) (suc i) l = get_in xs i (omega (arith, l))
-
 -- one more was moved
 pub moved_on : {A B : Type 0} (f : A → B) (xs : List A) (a : A) (front all : List B) → 0 < length xs → a ≡ get_or xs 0 a → front ++ map f xs ≡ all → (front ++ f a ∷ []) ++ map f (drop 1 xs) ≡ all
 moved_on f xs a front all h e m = append_assoc front (f a ∷ []) (map f (drop 1 xs)) ∙ ap (λ l. front ++ map f l) (sym (first_of xs a h e)) ∙ m
@@ -28,21 +23,6 @@ moved_on f xs a front all h e m = append_assoc front (f a ∷ []) (map f (drop 1
 map_map : {A B C : Type 0} (f : A → B) (g : B → C) (xs : List A) → map g (map f xs) ≡ map (λ (x : A). g (f x)) xs
 map_map f g [] = refl
 map_map {A} {B} {C} f g (x ∷ xs) = ap (λ (l : List C). g (f x) ∷ l) (map_map f g xs)
-
-pub length-map : {A B : Type 0} (f : A → B) (xs : List A) → length (map f xs) ≡ length xs
-length-map f [] = refl
-length-map f (x ∷ xs) = ap suc (length-map f xs)
-
--- what stands in a mapped list
-pub map-read : {A B : Type 0} (f : A → B) (xs : List A) (i : ℕ) (b : B) → slice_get (map f xs) i ≡ Some b → (a : A) × (slice_get xs i ≡ Some a) × (f a ≡ b)
-map-read f [] i b e = absurd (none_some b e)
-map-read f (x ∷ xs) zero b e = (x, refl, inside (f x) b e)
-map-read f (x ∷ xs) (suc i) b e = map-read f xs i b e
-
-pub map-get : {A B : Type 0} (f : A → B) (xs : List A) (i : ℕ) (a : A) → slice_get xs i ≡ Some a → slice_get (map f xs) i ≡ Some (f a)
-map-get {A} {B} f [] i a e = absurd (none_some a e)
-map-get {A} {B} f (x ∷ xs) zero a e = ap (λ (y : A). Some (f y)) (inside x a e)
-map-get f (x ∷ xs) (suc i) a e = map-get f xs i a e
 
 -- ---- one of a list is moved to the end of another
 module _ {A B : Type 0} (f : A → B) where

@@ -1,6 +1,7 @@
 -- A hall as it is opened.
 use Rattle.std.proofs.Common.{◌≡◌, ℕ, zero, suc, ◌+◌, ◌*◌, ◌-◌, ◌/◌, ◌%◌, ◌<◌, ◌≤◌, inl, inr, List, [], ◌∷◌, ◌++◌, length, length-append, map, replicate, Option, Some, None, get_or, drop, mul-le-mul, append_assoc, append-nil, refl, sym, ◌∙◌, ap, subst, div-lt_iff_lt-mul, arith}
 use Rattle.std.specs.Prelude.{slice_get}
+use Rattle.std.proofs.lemmas.List.{length-map, map-append}
 use Rattle.std.proofs.lemmas.Nat.{div-mul-add}
 use Rattle.session_values.specs.declared.kind.TableKind.{TableKind}
 use Rattle.session_values.specs.Tables.{Container, Tables, empty_of, start, table, size_of}
@@ -14,7 +15,7 @@ use Rattle.admission_book.specs.Lawful.{Lawful}
 use Rattle.admission_book.proofs.Foreknown.{opened_lawful}
 use Rattle.turn_board.specs.Boards.{Begins, caller, turn_count}
 use Rattle.turn_board.specs.Hands.{Once}
-use Rattle.turn_board.proofs.Rows.{get-snoc}
+use Rattle.turn_board.proofs.Rows.{get-snoc, map-read}
 use Rattle.hall_rule.specs.declared.held.Held.{Held}
 use Rattle.hall_rule.specs.declared.held.Held.TheVariants as value
 use Rattle.hall_rule.specs.declared.part.Part.{Part}
@@ -34,7 +35,7 @@ use Rattle.session_hall.specs.Names.{script_of}
 use Rattle.session_hall.specs.Openings.{AllNew, FirstValues, IsNew, IsNewPart, NewParts, Rooms}
 use Rattle.session_hall.specs.Stages.{SeatOf, Stands}
 use Rattle.session_hall.proofs.Giving.{is_told, opens}
-use Rattle.session_hall.proofs.Moving.{first_at, length-map, map-read, shifted}
+use Rattle.session_hall.proofs.Moving.{first_at, shifted}
 
 -- ---- rooms
 pub rooms_more : (m : Meaning) (n r : ℕ) (rooms : List ℕ) → Rooms m n rooms → r ≡ room m n → Rooms m (n + 1) (rooms ++ r ∷ [])
@@ -61,14 +62,10 @@ part_place j tables shards some l = (div-lt_iff_lt-mul some).1 l
 pub no_parts : {S : Type 0} (shape : List TableKind) (rooms : List ℕ) (shards : ℕ) (before : List (Held S)) → NewParts shape rooms shards 0 before before
 no_parts shape rooms shards before = record { parts = []; added = sym (append-nil before); long = refl; each = λ j p e. absurd (none_some p e) }
 
-map-end : {A B : Type 0} (f : A → B) (xs : List A) (a : A) → map f (xs ++ a ∷ []) ≡ map f xs ++ f a ∷ []
-map-end f [] a = refl
-map-end {A} {B} f (x ∷ xs) a = ap (λ (l : List B). f x ∷ l) (map-end f xs a)
-
 pub parts_more : {S : Type 0} (shape : List TableKind) (rooms : List ℕ) (shards n : ℕ) (before after later : List (Held S)) (p : Part) → NewParts shape rooms shards n before after → IsNewPart shape rooms shards n p → later ≡ after ++ value.Table p ∷ [] → NewParts shape rooms shards (n + 1) before later
 parts_more {S} shape rooms shards n before after later p k new is = record {
   parts = k.parts ++ p ∷ [];
-  added = is ∙ ap (λ (l : List (Held S)). l ++ value.Table p ∷ []) k.added ∙ append_assoc before (map value.Table k.parts) (value.Table p ∷ []) ∙ ap (λ (l : List (Held S)). before ++ l) (sym (map-end value.Table k.parts p));
+  added = is ∙ ap (λ (l : List (Held S)). l ++ value.Table p ∷ []) k.added ∙ append_assoc before (map value.Table k.parts) (value.Table p ∷ []) ∙ ap (λ (l : List (Held S)). before ++ l) (sym (map-append value.Table k.parts (p ∷ [])));
   long = length-append k.parts (p ∷ []) ∙ (let l : length k.parts ≡ n = k.long in omega (arith, l));
   each = λ j x at. elim (get-snoc k.parts p x j at) [
     | inl h ↦ k.each j x h
@@ -126,7 +123,7 @@ module _ {S : Type 0} (meaning : S → Meaning) (script : S) (shards callers : �
   contents_are = ap (map content_of) n.added ∙ (λ i. Register (script_is i) (book_is i) ∷ shard_contents)
 
   as_many : length shard_contents ≡ length m.shape * shards
-  as_many = length-map content_of (map value.Table n.parts) ∙ length-map value.Table n.parts ∙ n.long ∙ ap (λ (l : List TableKind). length l * shards) shape_is
+  as_many = length-map (map value.Table n.parts) content_of ∙ length-map n.parts value.Table ∙ n.long ∙ ap (λ (l : List TableKind). length l * shards) shape_is
 
   fresh : (j : ℕ) (x : Content S) → slice_get shard_contents j ≡ Some x → IsFresh (meaning script) (suc (length shard_contents)) j x
   fresh j x at =
@@ -152,7 +149,7 @@ module _ {S : Type 0} (meaning : S → Meaning) (script : S) (shards callers : �
       let P : List (Content S) → Type 0 = λ l. Tied meaning l (replicate callers (first_content meaning script callers)) in
       record {
         script_kept = script_here;
-        long = ap length n.added ∙ ap suc (length-map value.Table n.parts ∙ n.long) ∙ ap (λ (l : List TableKind). suc (length l * shards)) shape_is ∙ one_more (length m.shape * shards);
+        long = ap length n.added ∙ ap suc (length-map n.parts value.Table ∙ n.long) ∙ ap (λ (l : List TableKind). suc (length l * shards)) shape_is ∙ one_more (length m.shape * shards);
         first = ap (λ (l : List (Content S)). slice_get l 0) contents_are;
         tied = subst P (sym contents_are) (opened_tied meaning script callers shard_contents fresh);
       }

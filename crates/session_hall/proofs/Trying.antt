@@ -3,7 +3,6 @@ use Rattle.std.proofs.Common.{◌≡◌, ℕ, ◌+◌, List, [], ◌∷◌, ◌+
 use Rattle.session_values.specs.declared.op.Op.{Op}
 use Rattle.session_values.specs.Dialogue.{Calls, Entry, replies}
 use Rattle.symbolic_ops.specs.declared.symbol.Symbol.{Symbol}
-use Rattle.symbolic_ops.specs.Foresight.{ForesightView}
 use Rattle.symbolic_ops.specs.Matching.{Matches}
 use Rattle.session_journal.specs.declared.event.Event.{Event}
 use Rattle.session_journal.specs.declared.event.Event.TheVariants.{Delay}

@@ -10,6 +10,7 @@ use Rattle.admission_book.specs.Book.{Book, opened, record_of}
 use Rattle.admission_book.specs.Lawful.{Lawful}
 use Rattle.turn_board.specs.Boards.{note, caller, caller_count}
 use Rattle.turn_board.specs.Hands.{Once}
+use Rattle.turn_board.specs.Limits.{max_board_turns}
 use Rattle.turn_board.specs.Passes.{IsSeated}
 use Rattle.hall_rule.specs.Contents.{Content, Register, Shard, opening_tables}
 use Rattle.hall_rule.specs.Shards.{content_of}
@@ -59,7 +60,7 @@ pub record IsCallerIn {S : Type 0} (meaning : S → Meaning) (p : HallId) (scrip
   pub some_shards : 0 < p.shards
   pub few_shards : p.shards ≤ max_shards
   pub turns_are : p.board.slots ≡ 1 + p.tables * p.shards
-  pub few_turns : p.board.slots ≤ 57
+  pub few_turns : p.board.slots ≤ max_board_turns
   pub hands_room : max_shards ≤ c.hands.room
   pub once : Once content_of c.hands.pairs
   pub stands : Stands (meaning script) p.board.slots c.stage (foresight_of c) (book_of c) c.seat
@@ -72,3 +73,7 @@ IsCallerAt meaning name script c = IsCallerIn meaning (id_of name) script c
 -- a caller of this hall
 abbrev pub IsCallerOf : {S : Type 0} → (S → Meaning) → Hall S → Caller S → Type 0
 IsCallerOf meaning h c = IsCallerAt meaning (hall_name h) (script_of h) c
+
+-- q is a caller of this hall with the number of p
+abbrev pub StaysCaller : {S : Type 0} → (S → Meaning) → Hall S → Caller S → Caller S → Type 0
+StaysCaller meaning h p q = IsCallerOf meaning h q × (q.number ≡ p.number)

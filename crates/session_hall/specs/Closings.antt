@@ -11,6 +11,7 @@ use Rattle.admission_book.specs.Book.{Book, opened}
 use Rattle.admission_book.specs.Lawful.{Lawful}
 use Rattle.admission_book.specs.Methods.{Grows}
 use Rattle.turn_board.specs.Boards.{asks, given, givings, lost}
+use Rattle.turn_board.specs.Limits.{max_board_turns}
 use Rattle.hall_rule.specs.declared.held.Held.{Held}
 use Rattle.hall_rule.specs.declared.held.Held.TheVariants.{Register, Table}
 use Rattle.hall_rule.specs.declared.part.Part.{Part}
@@ -95,7 +96,7 @@ pub record HasLeft {S : Type 0} (meaning : S → Meaning) (h : Hall S) (served :
     (values : List (Held S)) : Type 0 where
   pub script_kept : IsScript (meaning (script_of h))
   pub long : length values ≡ 1 + length (meaning (script_of h)).shape * h.sizes.shards
-  pub few : length values ≤ 57
+  pub few : length values ≤ max_board_turns
   pub ended : AllEnded (meaning (script_of h)) (script_of h) (map content_of values) (length values)
   pub callers : length ended.book.records ≡ h.sizes.callers
   pub noted : IsNotedBy served ended.book.journal

@@ -59,6 +59,11 @@ abbrev pub IsInFlight : Stage → Type 0
 IsInFlight (InFlight t op) = Unit {0}
 IsInFlight _ = ⊥
 
+-- an operation was done on its shards, and isn't entered yet
+abbrev pub IsApplied : Stage → Type 0
+IsApplied (Applied t op v) = Unit {0}
+IsApplied _ = ⊥
+
 -- it serves a ticket with no operation in flight, and this is so of the ticket
 abbrev pub OnServing : Stage → (ℕ → Type 0) → Type 0
 OnServing (Serves t) P = P t

@@ -49,7 +49,7 @@ module _ {S : Type 0} where
 
   abbrev pub WorkedFirst : Op → List (ℕ × Held S) → List (ℕ × Held S) → Value → Type 0
   WorkedFirst op [] ys v = ⊥
-  WorkedFirst op (x ∷ xs) ys v = (y : Held S) × (ys ≡ xs ++ (x.0, y) ∷ [])
+  WorkedFirst op (x ∷ xs) ys v = (y : Held S) × (ys ≡ (x.0, y) ∷ xs)
       × WorkedTo op (content_of x.1) (content_of y) v
 
   -- ---- the shard at a place

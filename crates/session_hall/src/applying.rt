@@ -4,12 +4,14 @@ ghost use Rattle.std.specs.Prelude.{◌≡◌, ◌+◌, ◌*◌, ◌<◌, ◌≤
 ghost use Rattle.session_limits.specs.Limits.{max_session_calls, max_shards};
 ghost use Rattle.session_values.specs.Kinds.{arguments};
 ghost use Rattle.turn_board.specs.Boards.{turn_count};
+ghost use Rattle.turn_board.specs.Limits.{max_board_turns};
+ghost use Rattle.hall_rule.specs.Shards.{content_of};
 ghost use Rattle.hall_rule.specs.Turns.{place, span, turn_set};
-ghost use Rattle.session_hall.specs.Callers.{IsCallerOf};
+ghost use Rattle.session_hall.specs.Callers.{IsCallerOf, StaysCaller};
 ghost use Rattle.session_hall.specs.Calls.{AppliedAs};
 ghost use Rattle.session_hall.specs.Names.{script_of};
 ghost use Rattle.session_hall.specs.Stages.{IsInFlight};
-ghost use Rattle.session_hall.specs.Working.{AreShards, CanWork, HasKeysAt, HasShardAt, HasWorked, FirstCan, WorkedFirst, all_keys, contents};
+ghost use Rattle.session_hall.specs.Working.{AreShards, CanDo, CanWork, HasKeysAt, HasShardAt, HasWorked, FirstCan, WorkedFirst, WorkedTo, all_keys, contents};
 
 use crate::answers::Applying;
 use crate::caller::Caller;
@@ -24,7 +26,7 @@ use turn_board::{Hands, TookAll};
 // The first turn of an operation, less one.
 fn place_of(op: Op, shards: u32) -> u32
     requires some { 0 < shards }
-    requires few { (shards ≤ max_shards) × (op.table ≤ 57) }
+    requires few { (shards ≤ max_shards) × (op.table ≤ max_board_turns) }
     ensures { result ≡ place shards op }
 {
     let within = if op.kind.arguments() == 0 {
@@ -45,29 +47,32 @@ fn span_of(op: Op, shards: u32) -> u32
 // The turns of an operation, as a set.
 fn turns_of(op: Op, shards: u32) -> u64
     requires some { 0 < shards }
-    requires few { (shards ≤ max_shards) × (op.table ≤ 57)
-        × (place shards op + span shards op ≤ 57) }
+    requires few { (shards ≤ max_shards) × (op.table ≤ max_board_turns)
+        × (place shards op + span shards op ≤ max_board_turns) }
     ensures { result ≡ turn_set shards op }
 {
     let first = 1 + place_of(op, shards);
     (1u64 << (first + span_of(op, shards))) - (1u64 << first)
 }
 
-// Does the operation on the first shard in the hands, and puts that behind the others.
+// Does the operation on a shard.
+fn work_on<S: Script + Drop>(held: &mut Held<S>, op: Op) -> Value
+    requires { CanDo op (content_of held.old) }
+    ensures { WorkedTo op (content_of held.old) (content_of held.new) result }
+{
+    match held {
+        Held::Table(part) => part.apply(op),
+        Held::Register(_) => unreachable!(),
+    }
+}
+
+// Does the operation on the first shard in the hands, where it lies.
 fn work_first<S: Script + Drop>(hands: &mut Hands<Held<S>>, op: Op) -> Value
-    requires can { FirstCan op hands.old.pairs }
-    requires room { length hands.old.pairs ≤ hands.old.room }
+    requires { FirstCan op hands.old.pairs }
     ensures worked { WorkedFirst op hands.old.pairs hands.new.pairs result }
     ensures room { hands.new.room ≡ hands.old.room }
 {
-    match hands.take_first() {
-        Some((turn, Held::Table(mut part))) => {
-            let reply = part.apply(op);
-            hands.push(turn, Held::Table(part));
-            reply
-        }
-        _ => unreachable!(),
-    }
+    work_on(hands.value_mut(0), op)
 }
 
 // The number of keys of a shard in the hands, by its place from 0.
@@ -98,8 +103,7 @@ fn count_all<S: Script + Drop>(hands: &Hands<Held<S>>) -> u32
 
 // Does the operation on the shards in the hands.
 fn work<S: Script + Drop>(hands: &mut Hands<Held<S>>, op: Op) -> Value
-    requires can { CanWork op hands.old.pairs }
-    requires room { length hands.old.pairs ≤ hands.old.room }
+    requires { CanWork op hands.old.pairs }
     ensures worked { HasWorked op hands.old.pairs hands.new.pairs result }
     ensures room { hands.new.room ≡ hands.old.room }
 {
@@ -115,8 +119,7 @@ impl<S: Script + Drop> Caller<S> {
     pub fn try_apply(&mut self, hall: &Hall<S>) -> Applying
         requires caller { IsCallerOf S.meaning hall.now self.old }
         requires stage { IsInFlight self.old.stage }
-        ensures caller { IsCallerOf S.meaning hall.now self.new }
-        ensures same { self.new.number ≡ self.old.number }
+        ensures caller { StaysCaller S.meaning hall.now self.old self.new }
         ensures applied { AppliedAs (S.meaning (script_of hall.now)) self.old self.new
             hall.now.sizes.shards (turn_count hall.now.board) result }
     {

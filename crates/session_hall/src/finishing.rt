@@ -2,14 +2,14 @@
 
 ghost use Rattle.std.specs.Prelude.{◌≡◌, ◌≤◌};
 ghost use Rattle.session_limits.specs.Limits.{max_symbols};
-ghost use Rattle.session_hall.specs.Callers.{IsCallerOf};
+ghost use Rattle.session_hall.specs.Callers.{IsCallerOf, StaysCaller};
 ghost use Rattle.session_hall.specs.Calls.{MayFinish, FinishedAs, IsBusyFinish};
 ghost use Rattle.session_hall.specs.Names.{script_of};
 
 use crate::answers::Finishing;
 use crate::caller::Caller;
 use crate::hall::Hall;
-use crate::stage::Stage;
+use crate::stage::{Stage, applied};
 use hall_rule::Held;
 use session_journal::Script;
 use symbolic_ops::Foresight;
@@ -20,15 +20,11 @@ impl<S: Script + Drop> Caller<S> {
     pub fn try_finish(&mut self, hall: &Hall<S>, next: &Foresight) -> Finishing
         requires caller { IsCallerOf S.meaning hall.now self.old }
         requires may { MayFinish (S.meaning (script_of hall.now)) self.old next.now.symbols }
-        ensures caller { IsCallerOf S.meaning hall.now self.new }
-        ensures same { self.new.number ≡ self.old.number }
+        ensures caller { StaysCaller S.meaning hall.now self.old self.new }
         ensures finished { FinishedAs (S.meaning (script_of hall.now)) self.old self.new
             next.now.symbols result }
     {
-        let (t, reply) = match self.stage {
-            Stage::Applied(t, _, reply) => (t, reply),
-            _ => unreachable!(),
-        };
+        let (t, _, reply) = applied(self.stage);
         let mut book = match hall.take_book(&mut self.seat) {
             Some(book) => book,
             None => return Finishing::Busy { turn: 0 },
@@ -46,17 +42,13 @@ impl<S: Script + Drop> Caller<S> {
         requires caller { IsCallerOf S.meaning hall.now self.old }
         requires may { MayFinish (S.meaning (script_of hall.now)) self.old next.old.symbols }
         requires room { max_symbols ≤ next.old.room }
-        ensures caller { IsCallerOf S.meaning hall.now self.new }
-        ensures same { self.new.number ≡ self.old.number }
+        ensures caller { StaysCaller S.meaning hall.now self.old self.new }
         ensures finished { FinishedAs (S.meaning (script_of hall.now)) self.old self.new
             next.old.symbols result }
         ensures busy { IsBusyFinish result → next.new ≡ next.old }
         ensures room { max_symbols ≤ next.new.room }
     {
-        let (t, reply) = match self.stage {
-            Stage::Applied(t, _, reply) => (t, reply),
-            _ => unreachable!(),
-        };
+        let (t, _, reply) = applied(self.stage);
         let mut book = match hall.take_book(&mut self.seat) {
             Some(book) => book,
             None => return Finishing::Busy { turn: 0 },

@@ -2,6 +2,7 @@
 
 ghost use Rattle.std.specs.Prelude.{◌≡◌, ◌<◌, ◌≤◌, [], vec_capacity};
 ghost use Rattle.session_limits.specs.Limits.{max_callers};
+ghost use Rattle.turn_board.specs.Limits.{max_board_turns};
 
 use hall_rule::{HallRule, Held, Part};
 use session_journal::Script;
@@ -17,7 +18,7 @@ pub(crate) struct Spare<A, B> {
     ghost no_seats: { seats.items ≡ [] },
     ghost no_parts: { parts.items ≡ [] },
     ghost seats_room: { 32 ≤ vec_capacity seats },
-    ghost parts_room: { 57 ≤ vec_capacity parts },
+    ghost parts_room: { max_board_turns ≤ vec_capacity parts },
 }
 
 /// How many tables, shards of each table, and callers a hall has.

@@ -2,6 +2,7 @@
 
 ghost use Rattle.std.specs.Prelude.{◌≡◌, ℕ, ◌+◌, ◌*◌, ◌<◌, ◌≤◌, [], Some, IfOk, length, slice_get, vec_len, vec_capacity};
 ghost use Rattle.session_limits.specs.Limits.{max_callers, max_shards, max_tables};
+ghost use Rattle.turn_board.specs.Limits.{max_board_turns};
 ghost use Rattle.hall_rule.specs.Shards.{shard_view};
 ghost use Rattle.session_values.specs.Tables.{empty_of};
 ghost use Rattle.session_hall.specs.declared.caller.Caller.{Caller as CallerOf};
@@ -21,7 +22,7 @@ use shard_tables::{MapShard, SetShard};
 use std::alloc::Global;
 use std::snapshot::Snapshot;
 use std::sync::Mutex;
-use turn_board::{Board, Hands, Seat};
+use turn_board::{Board, Hands, MAX_BOARD_TURNS, Seat};
 
 // The room of each table.
 fn rooms_of<S: Script>(alloc: Global, script: &S, tables: u32) -> Result<Vec<u32>, NoMemory>
@@ -59,7 +60,7 @@ fn add_parts<S: Script + Drop>(
     requires some { 0 < shards }
     requires sizes { (shards ≤ max_shards) × (length shape.now ≤ max_tables) }
     requires one { vec_len values.old ≡ 1 }
-    requires room { 57 ≤ vec_capacity values.old }
+    requires room { max_board_turns ≤ vec_capacity values.old }
     ensures { IfOk result (λ _. NewParts shape.now rooms.now shards
         (length shape.now * shards) values.old.items values.new.items) }
 {
@@ -84,7 +85,7 @@ fn first_values<S: Script + Drop>(
     requires callers { (1 ≤ callers) × (callers ≤ max_callers) }
     ensures { IfOk result (λ v. FirstValues S.meaning script shards callers v.items) }
 {
-    let mut values = Vec::with_capacity(alloc, 57)?;
+    let mut values = Vec::with_capacity(alloc, MAX_BOARD_TURNS)?;
     let book = Book::open(alloc, script, callers)?;
     let rooms = rooms_of(alloc, book.script(), shape.len() as u32)?;
     values.push_reserved(Held::Register(book));
@@ -97,7 +98,7 @@ fn spare_lists<S: Script + Drop>(
     alloc: Global,
 ) -> Result<Spare<Seat<Held<S>, HallRule<S>>, Part>, NoMemory> {
     let seats = Vec::with_capacity(alloc, MAX_CALLERS as usize)?;
-    let parts = Vec::with_capacity(alloc, 57)?;
+    let parts = Vec::with_capacity(alloc, MAX_BOARD_TURNS)?;
     Ok(Spare { seats, parts })
 }
 

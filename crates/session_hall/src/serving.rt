@@ -1,7 +1,7 @@
 // The try calls that take the book alone: begin, declare, admit and end.
 
 ghost use Rattle.std.specs.Prelude.{◌≡◌};
-ghost use Rattle.session_hall.specs.Callers.{IsCallerOf, foresight_of};
+ghost use Rattle.session_hall.specs.Callers.{IsCallerOf, StaysCaller, foresight_of};
 ghost use Rattle.session_hall.specs.Calls.{ByNote, MayDeclare, MayCall, MayAnswer, BeganAs, DeclaredAs, AdmittedAs, EndedAs};
 ghost use Rattle.session_hall.specs.Names.{script_of};
 ghost use Rattle.session_hall.specs.Stages.{IsBetween};
@@ -21,8 +21,7 @@ impl<S: Script + Drop> Caller<S> {
     pub fn try_begin(&mut self, hall: &Hall<S>) -> Began
         requires caller { IsCallerOf S.meaning hall.now self.old }
         requires stage { IsBetween self.old.stage }
-        ensures caller { IsCallerOf S.meaning hall.now self.new }
-        ensures same { self.new.number ≡ self.old.number }
+        ensures caller { StaysCaller S.meaning hall.now self.old self.new }
         ensures began { BeganAs (S.meaning (script_of hall.now)) self.old self.new result }
     {
         let mut book = match hall.take_book(&mut self.seat) {
@@ -50,8 +49,7 @@ impl<S: Script + Drop> Caller<S> {
         requires caller { IsCallerOf S.meaning hall.now self.old }
         requires may { ByNote (S.meaning (script_of hall.now)) self.old
             (MayDeclare (foresight_of self.old) f.now.symbols) }
-        ensures caller { IsCallerOf S.meaning hall.now self.new }
-        ensures same { self.new.number ≡ self.old.number }
+        ensures caller { StaysCaller S.meaning hall.now self.old self.new }
         ensures declared { DeclaredAs (S.meaning (script_of hall.now)) self.old self.new
             f.now.symbols result }
     {
@@ -74,8 +72,7 @@ impl<S: Script + Drop> Caller<S> {
         requires caller { IsCallerOf S.meaning hall.now self.old }
         requires may { ByNote (S.meaning (script_of hall.now)) self.old
             (MayCall (foresight_of self.old) op) }
-        ensures caller { IsCallerOf S.meaning hall.now self.new }
-        ensures same { self.new.number ≡ self.old.number }
+        ensures caller { StaysCaller S.meaning hall.now self.old self.new }
         ensures admitted { AdmittedAs (S.meaning (script_of hall.now)) self.old self.new op result }
     {
         let t = match self.stage {
@@ -105,8 +102,7 @@ impl<S: Script + Drop> Caller<S> {
     pub fn try_end(&mut self, hall: &Hall<S>, reply: Reply) -> Ending
         requires caller { IsCallerOf S.meaning hall.now self.old }
         requires may { ByNote (S.meaning (script_of hall.now)) self.old (MayAnswer reply) }
-        ensures caller { IsCallerOf S.meaning hall.now self.new }
-        ensures same { self.new.number ≡ self.old.number }
+        ensures caller { StaysCaller S.meaning hall.now self.old self.new }
         ensures ended { EndedAs (S.meaning (script_of hall.now)) self.old self.new reply result }
     {
         let t = match self.stage {

@@ -1,8 +1,8 @@
 // What a caller is at.
 
 ghost use Rattle.std.specs.Prelude.{◌≡◌};
-ghost use Rattle.session_hall.specs.Stages.{IsInFlight};
-ghost use Rattle.session_hall.specs.declared.stage.Stage.TheVariants.{InFlight};
+ghost use Rattle.session_hall.specs.Stages.{IsApplied, IsInFlight};
+ghost use Rattle.session_hall.specs.declared.stage.Stage.TheVariants.{Applied, InFlight};
 
 use session_values::{Op, Value};
 
@@ -28,6 +28,17 @@ pub(crate) fn in_flight(stage: Stage) -> (u32, Op)
 {
     match stage {
         Stage::InFlight(t, op) => (t, op),
+        _ => unreachable!(),
+    }
+}
+
+// The ticket, its operation that was done on its shards, and the reply.
+pub(crate) fn applied(stage: Stage) -> (u32, Op, Value)
+    requires { IsApplied stage }
+    ensures { stage ≡ Applied result.0 result.1 result.2 }
+{
+    match stage {
+        Stage::Applied(t, op, reply) => (t, op, reply),
         _ => unreachable!(),
     }
 }

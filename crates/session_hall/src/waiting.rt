@@ -3,7 +3,7 @@
 ghost use Rattle.std.specs.Prelude.{◌≡◌, ◌≤◌};
 ghost use Rattle.session_limits.specs.Limits.{max_symbols};
 ghost use Rattle.turn_board.specs.Boards.{turn_count};
-ghost use Rattle.session_hall.specs.Callers.{IsCallerOf, foresight_of};
+ghost use Rattle.session_hall.specs.Callers.{IsCallerOf, StaysCaller, foresight_of};
 ghost use Rattle.session_hall.specs.Calls.{ByNote, MayDeclare, MayCall, MayAnswer, MayFinish};
 ghost use Rattle.session_hall.specs.Names.{script_of};
 ghost use Rattle.session_hall.specs.Stages.{IsBetween, IsInFlight};
@@ -23,8 +23,7 @@ impl<S: Script + Drop> Caller<S> {
     pub fn begin<R: Wait>(&mut self, rt: &R, hall: &Hall<S>) -> Option<u32>
         requires caller { IsCallerOf S.meaning hall.now self.old }
         requires stage { IsBetween self.old.stage }
-        ensures caller { IsCallerOf S.meaning hall.now self.new }
-        ensures same { self.new.number ≡ self.old.number }
+        ensures caller { StaysCaller S.meaning hall.now self.old self.new }
         ensures begun { BegunAfter (S.meaning (script_of hall.now)) self.old self.new result }
     {
         self.begin_with(rt, hall, &mut Waits::none())
@@ -34,8 +33,7 @@ impl<S: Script + Drop> Caller<S> {
     pub fn begin_with<R: Wait>(&mut self, rt: &R, hall: &Hall<S>, waits: &mut Waits) -> Option<u32>
         requires caller { IsCallerOf S.meaning hall.now self.old }
         requires stage { IsBetween self.old.stage }
-        ensures caller { IsCallerOf S.meaning hall.now self.new }
-        ensures same { self.new.number ≡ self.old.number }
+        ensures caller { StaysCaller S.meaning hall.now self.old self.new }
         ensures begun { BegunAfter (S.meaning (script_of hall.now)) self.old self.new result }
     {
         waits.reset();
@@ -55,8 +53,7 @@ impl<S: Script + Drop> Caller<S> {
         requires caller { IsCallerOf S.meaning hall.now self.old }
         requires may { ByNote (S.meaning (script_of hall.now)) self.old
             (MayDeclare (foresight_of self.old) f.now.symbols) }
-        ensures caller { IsCallerOf S.meaning hall.now self.new }
-        ensures same { self.new.number ≡ self.old.number }
+        ensures caller { StaysCaller S.meaning hall.now self.old self.new }
         ensures declared { DeclaredAfter (S.meaning (script_of hall.now)) self.old self.new
             f.now.symbols }
     {
@@ -74,8 +71,7 @@ impl<S: Script + Drop> Caller<S> {
         requires caller { IsCallerOf S.meaning hall.now self.old }
         requires may { ByNote (S.meaning (script_of hall.now)) self.old
             (MayDeclare (foresight_of self.old) f.now.symbols) }
-        ensures caller { IsCallerOf S.meaning hall.now self.new }
-        ensures same { self.new.number ≡ self.old.number }
+        ensures caller { StaysCaller S.meaning hall.now self.old self.new }
         ensures declared { DeclaredAfter (S.meaning (script_of hall.now)) self.old self.new
             f.now.symbols }
     {
@@ -94,8 +90,7 @@ impl<S: Script + Drop> Caller<S> {
         requires caller { IsCallerOf S.meaning hall.now self.old }
         requires may { ByNote (S.meaning (script_of hall.now)) self.old
             (MayCall (foresight_of self.old) op) }
-        ensures caller { IsCallerOf S.meaning hall.now self.new }
-        ensures same { self.new.number ≡ self.old.number }
+        ensures caller { StaysCaller S.meaning hall.now self.old self.new }
         ensures admitted { AdmittedAfter (S.meaning (script_of hall.now)) self.old self.new op }
     {
         self.admit_with(rt, hall, op, &mut Waits::none());
@@ -106,8 +101,7 @@ impl<S: Script + Drop> Caller<S> {
         requires caller { IsCallerOf S.meaning hall.now self.old }
         requires may { ByNote (S.meaning (script_of hall.now)) self.old
             (MayCall (foresight_of self.old) op) }
-        ensures caller { IsCallerOf S.meaning hall.now self.new }
-        ensures same { self.new.number ≡ self.old.number }
+        ensures caller { StaysCaller S.meaning hall.now self.old self.new }
         ensures admitted { AdmittedAfter (S.meaning (script_of hall.now)) self.old self.new op }
     {
         waits.reset();
@@ -128,8 +122,7 @@ impl<S: Script + Drop> Caller<S> {
     pub fn apply<R: Wait>(&mut self, rt: &R, hall: &Hall<S>) -> Value
         requires caller { IsCallerOf S.meaning hall.now self.old }
         requires stage { IsInFlight self.old.stage }
-        ensures caller { IsCallerOf S.meaning hall.now self.new }
-        ensures same { self.new.number ≡ self.old.number }
+        ensures caller { StaysCaller S.meaning hall.now self.old self.new }
         ensures applied { AppliedAfter (S.meaning (script_of hall.now)) self.old self.new
             hall.now.sizes.shards (turn_count hall.now.board) result }
     {
@@ -140,8 +133,7 @@ impl<S: Script + Drop> Caller<S> {
     pub fn apply_with<R: Wait>(&mut self, rt: &R, hall: &Hall<S>, waits: &mut Waits) -> Value
         requires caller { IsCallerOf S.meaning hall.now self.old }
         requires stage { IsInFlight self.old.stage }
-        ensures caller { IsCallerOf S.meaning hall.now self.new }
-        ensures same { self.new.number ≡ self.old.number }
+        ensures caller { StaysCaller S.meaning hall.now self.old self.new }
         ensures applied { AppliedAfter (S.meaning (script_of hall.now)) self.old self.new
             hall.now.sizes.shards (turn_count hall.now.board) result }
     {
@@ -159,8 +151,7 @@ impl<S: Script + Drop> Caller<S> {
     pub fn finish<R: Wait>(&mut self, rt: &R, hall: &Hall<S>, next: &Foresight)
         requires caller { IsCallerOf S.meaning hall.now self.old }
         requires may { MayFinish (S.meaning (script_of hall.now)) self.old next.now.symbols }
-        ensures caller { IsCallerOf S.meaning hall.now self.new }
-        ensures same { self.new.number ≡ self.old.number }
+        ensures caller { StaysCaller S.meaning hall.now self.old self.new }
         ensures finished { FinishedAfter (S.meaning (script_of hall.now)) self.old self.new
             next.now.symbols }
     {
@@ -177,8 +168,7 @@ impl<S: Script + Drop> Caller<S> {
     )
         requires caller { IsCallerOf S.meaning hall.now self.old }
         requires may { MayFinish (S.meaning (script_of hall.now)) self.old next.now.symbols }
-        ensures caller { IsCallerOf S.meaning hall.now self.new }
-        ensures same { self.new.number ≡ self.old.number }
+        ensures caller { StaysCaller S.meaning hall.now self.old self.new }
         ensures finished { FinishedAfter (S.meaning (script_of hall.now)) self.old self.new
             next.now.symbols }
     {
@@ -204,8 +194,7 @@ impl<S: Script + Drop> Caller<S> {
         requires caller { IsCallerOf S.meaning hall.now self.old }
         requires may { MayFinish (S.meaning (script_of hall.now)) self.old next.old.symbols }
         requires room { max_symbols ≤ next.old.room }
-        ensures caller { IsCallerOf S.meaning hall.now self.new }
-        ensures same { self.new.number ≡ self.old.number }
+        ensures caller { StaysCaller S.meaning hall.now self.old self.new }
         ensures finished { FinishedAfter (S.meaning (script_of hall.now)) self.old self.new
             next.old.symbols }
         ensures room { max_symbols ≤ next.new.room }
@@ -224,8 +213,7 @@ impl<S: Script + Drop> Caller<S> {
     pub fn end<R: Wait>(&mut self, rt: &R, hall: &Hall<S>, reply: Reply)
         requires caller { IsCallerOf S.meaning hall.now self.old }
         requires may { ByNote (S.meaning (script_of hall.now)) self.old (MayAnswer reply) }
-        ensures caller { IsCallerOf S.meaning hall.now self.new }
-        ensures same { self.new.number ≡ self.old.number }
+        ensures caller { StaysCaller S.meaning hall.now self.old self.new }
         ensures ended { EndedAfter (S.meaning (script_of hall.now)) self.old self.new reply }
     {
         self.end_with(rt, hall, reply, &mut Waits::none());
@@ -235,8 +223,7 @@ impl<S: Script + Drop> Caller<S> {
     pub fn end_with<R: Wait>(&mut self, rt: &R, hall: &Hall<S>, reply: Reply, waits: &mut Waits)
         requires caller { IsCallerOf S.meaning hall.now self.old }
         requires may { ByNote (S.meaning (script_of hall.now)) self.old (MayAnswer reply) }
-        ensures caller { IsCallerOf S.meaning hall.now self.new }
-        ensures same { self.new.number ≡ self.old.number }
+        ensures caller { StaysCaller S.meaning hall.now self.old self.new }
         ensures ended { EndedAfter (S.meaning (script_of hall.now)) self.old self.new reply }
     {
         waits.reset();

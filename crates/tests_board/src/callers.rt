@@ -75,10 +75,10 @@ fn add_at_once<R: Abort>(
 {
     let book = take(rt, board, seat, 0);
     take_both(rt, board, seat, hands);
-    let Some(even) = hands.take_first() else {
+    let Some(odd) = hands.take_last() else {
         unreachable!()
     };
-    let Some(odd) = hands.take_first() else {
+    let Some(even) = hands.take_last() else {
         unreachable!()
     };
     hands.push(1, even.1.wrapping_add(1));
@@ -105,7 +105,7 @@ fn add<R: Abort>(
     let counter = take(rt, board, seat, turn);
     hands.push(turn, counter.wrapping_add(1));
     board.give_book(seat, book.wrapping_add(1), hands);
-    let Some(pair) = hands.take_first() else {
+    let Some(pair) = hands.take_last() else {
         unreachable!()
     };
     board.give(seat, pair.0, pair.1);

@@ -1,6 +1,7 @@
 // Boards of a few turns, under the rule that asks nothing.
 ghost use Rattle.std.specs.Prelude.{◌≡◌, ℕ, ◌+◌, ◌<◌, ◌≤◌, [], None, IfOk, vec_len};
 ghost use Rattle.session_limits.specs.Limits.{max_callers};
+ghost use Rattle.turn_board.specs.Limits.{max_board_turns};
 ghost use Rattle.turn_board.specs.Boards.{turn_count, held, IsSeatOf, SameNote, Gained, Ends, AllEnd};
 
 use owned_lists::NoMemory;
@@ -31,7 +32,7 @@ pub fn open_board(
     values: Vec<u64>,
     callers: u32,
 ) -> Result<(Board<u64, Anything>, Row), NoMemory>
-    requires values { (0 < vec_len values) × (vec_len values ≤ 57) }
+    requires values { (0 < vec_len values) × (vec_len values ≤ max_board_turns) }
     requires callers { (0 < callers) × (callers ≤ max_callers) }
     ensures turns { IfOk result (λ r. turn_count r.0 ≡ vec_len values) }
     ensures len { IfOk result (λ r. vec_len r.1 ≡ callers) }

@@ -1,6 +1,7 @@
 -- All callers in one seat, and the notes of all.
 use Rattle.std.proofs.Common.{◌≡◌, ℕ, zero, suc, ◌+◌, ◌<◌, List, [], ◌∷◌, ◌++◌, length, map, refl, sym, ap, ◌∙◌, arith, append_assoc}
 use Rattle.std.specs.Prelude.{Option, Some, None, slice_get}
+use Rattle.std.proofs.lemmas.List.{length-map}
 use Rattle.std.proofs.lemmas.Option.{none-some, same_Some}
 use mathlib.Core.Option.{some, some-injective}
 use lib.ListN.{get_elem?}
@@ -12,7 +13,7 @@ use Rattle.turn_board.specs.declared.board.Board.{Board}
 use Rattle.turn_board.specs.declared.seat.Seat.{Seat}
 use Rattle.turn_board.specs.Boards.{Ends}
 use Rattle.turn_board.specs.Closings.{all_notes}
-use Rattle.turn_steps.proofs.Rows.{length-map, map-get, get-within, same-lists}
+use Rattle.turn_steps.proofs.Rows.{map-get, get-within, same-lists}
 
 module _ {V R C : Type 0} where
   pub spoken_notes-snoc : (xs : List (Seat V R C)) (s : Seat V R C) (ys : List (ℕ × C)) → all_notes (xs ++ s ∷ []) ++ ys ≡ all_notes xs ++ (s.pass.token.me.0.speaks ++ ys)
@@ -38,8 +39,8 @@ module _ {V R C : Type 0} where
 -- notes that are those of the callers by number are those of the seats
 pub final-notes : {C : Type 0} (notes : List C) (speaks : List (ℕ × C)) (n : ℕ) → length notes ≡ n → ((k : ℕ) (c : C) → k < n → get_elem? speaks k ≡ some (k, c) → slice_get notes k ≡ Some c) → ((k : ℕ) → k < n → (c : C) × (get_elem? speaks k ≡ some (k, c)))
     → (notes' : List (Option C)) → length notes' ≡ n → ((k : ℕ) → k < n → (c : C) → get_elem? speaks k ≡ some (k, c) → slice_get notes' k ≡ Some (Some c)) → map Some notes ≡ notes'
-final-notes notes speaks n long each spoken notes' long' got = same-lists (map Some notes) notes' (length-map Some notes ∙ long ∙ sym long')
-    (λ k h. let near : k < n = (let l = length-map Some notes in omega arith) in let c = spoken k near in
+final-notes notes speaks n long each spoken notes' long' got = same-lists (map Some notes) notes' (length-map notes Some ∙ long ∙ sym long')
+    (λ k h. let near : k < n = (let l = length-map notes Some in omega arith) in let c = spoken k near in
     map-get Some notes k c.0 (each k c.0 near c.1) ∙ sym (got k near c.0 c.1))
 
 pub all-here : {V R C : Type 0} (b : Board V R C) (l : List (Seat V R C)) → ((i : ℕ) (s : Seat V R C) → slice_get l i ≡ Some s → Ends b (length l) i s) → (i : ℕ) (s : Seat V R C) → slice_get l i ≡ Some s → IsSeated b.words.table.shared.table_id s.pass.token × (caller_of s.pass.token.me.0.speaks ≡ i) × (s.pass.token.me.0.caller_count ≡ length l) × ((t : ℕ) → counted s.pass.token.me.0 t ≡ None)

@@ -1,5 +1,5 @@
 -- Moving the values of the hands into their slots, one after another.
-use Rattle.std.proofs.Common.{◌≡◌, ◌≢◌, ℕ, zero, suc, ◌+◌, ◌^◌, ◌<◌, ◌≤◌, List, [], ◌∷◌, length, get_or, cond, max, refl, sym, ap, ap₂, ◌∙◌, subst, arith, length-set, get_or-set_same, get_or-set_other}
+use Rattle.std.proofs.Common.{◌≡◌, ◌≢◌, ℕ, zero, suc, ◌+◌, ◌^◌, ◌<◌, ◌≤◌, List, [], ◌∷◌, ◌++◌, length, get_or, cond, max, refl, sym, ap, ap₂, ◌∙◌, subst, arith, length-set, get_or-set_same, get_or-set_other}
 use Rattle.std.specs.Prelude.{Some, None, ◌==◌, bit_or}
 use Rattle.std.proofs.lemmas.Nat.Bits.{bit_at_or, bit_at-lt, bit_at-pow_same, bit_at-pow_other, bit_at-zero, bit_at_not}
 use Rattle.std.proofs.lemmas.Option.{none-some}
@@ -19,7 +19,7 @@ use Rattle.turn_board.specs.Boards.{BookedAll}
 use Rattle.turn_board.proofs.AtSeat.{at}
 use Rattle.turn_steps.proofs.Rows.{two, row-length, row-here, row-past}
 use Rattle.turn_steps.proofs.Gives.{cases}
-use Rattle.turn_board.proofs.Several.{here-in, else-in}
+use Rattle.turn_board.proofs.Several.{else-in, once-last, last-in, else-last}
 use Rattle.turn_board.proofs.Returns.{held-near, has-book}
 
 -- the values that stood in xs and stand no more in rest were moved, and the set has their turns
@@ -81,13 +81,19 @@ module _ {V C : Type 0} (content : V → C) where
     others = λ u z. let o = f.others u z in (o.0 ∙ none-in rest u e, o.1);
   }
 
-  module _ (xs rest more : List (ℕ × V)) (set t : ℕ) (x : V) (p q r : Token V C) (f : Filling content xs rest set p q) (is : rest ≡ (t, x) ∷ more) (once : Once content rest) (near : t < length p.me.0.places) (nothing : p.me.1 ≡ [])
+  module _ (xs rest more : List (ℕ × V)) (set t : ℕ) (x : V) (p q r : Token V C) (f : Filling content xs rest set p q) (is : rest ≡ more ++ (t, x) ∷ []) (once : Once content rest) (near : t < length p.me.0.places) (nothing : p.me.1 ≡ [])
       (r-table : r.table_id ≡ q.table_id) (r-id : r.id ≡ q.id) (r-is : r.me ≡ (put_place t (Lies (content x)) q.me.0, [])) where
     once-of : (0 < t) × (in_hands content more t ≡ None) × Once content more
-    once-of = subst (Once content) is once
+    once-of = once-last content more t x (subst (Once content) is once)
+
+    here : in_hands content rest t ≡ Some (content x)
+    here = ap (λ l. in_hands content l t) is ∙ last-in content more t x once-of.1
+
+    else-rest : (u : ℕ) → u ≢ t → in_hands content rest u ≡ in_hands content more u
+    else-rest u ne = ap (λ l. in_hands content l u) is ∙ else-last content more t u x (λ s. ne (sym s))
 
     unset : bit_at set t ≡ 0
-    unset = f.waits t (content x) (ap (λ l. in_hands content l t) is ∙ here-in content t x more)
+    unset = f.waits t (content x) here
 
     set-here : bit_at (bit_or set (2 ^ t)) t ≡ 1
     set-here = bit_at_or set (2 ^ t) t ∙ ap₂ max unset (bit_at-pow_same t)
@@ -117,13 +123,13 @@ module _ {V C : Type 0} (content : V → C) where
       long = ap (λ m. length m.0.places) r-is ∙ length-set q.me.0.places t (Lies (content x)) ∙ f.long;
       waits = λ u c e. dite (ℕ_discrete u t)
           (λ s. absurd (none-some c (sym (ap (in_hands content more) s ∙ once-of.1) ∙ e)))
-          (λ ne. set-else u ne ∙ f.waits u c (ap (λ l. in_hands content l u) is ∙ else-in content t u x more (λ s. ne (sym s)) ∙ e));
+          (λ ne. set-else u ne ∙ f.waits u c (else-rest u ne ∙ e));
       there = λ u o. dite (ℕ_discrete u t)
-          (λ s. (content x, ap (in_hands content xs) s ∙ (f.others t unset).0 ∙ ap (λ l. in_hands content l t) is ∙ here-in content t x more, ap (place r.me.0) s ∙ place-here))
+          (λ s. (content x, ap (in_hands content xs) s ∙ (f.others t unset).0 ∙ here, ap (place r.me.0) s ∙ place-here))
           (λ ne. let h = f.there u (sym (set-else u ne) ∙ o) in (h.0, h.1, place-else u ne ∙ h.2));
       others = λ u z. dite (ℕ_discrete u t)
           (λ s. absurd (let k = ap (bit_at (bit_or set (2 ^ t))) s in let j = set-here in omega arith))
-          (λ ne. let h = f.others u (sym (set-else u ne) ∙ z) in (h.0 ∙ ap (λ l. in_hands content l u) is ∙ else-in content t u x more (λ s. ne (sym s)), place-else u ne ∙ h.1));
+          (λ ne. let h = f.others u (sym (set-else u ne) ∙ z) in (h.0 ∙ else-rest u ne, place-else u ne ∙ h.1));
     }
 
     pub rest-once : Once content more

@@ -1,6 +1,7 @@
 -- Walking the turns of a set, from the least on.
-use Rattle.std.proofs.Common.{◌≡◌, ◌≢◌, ℕ, zero, suc, ◌+◌, ◌^◌, ◌<◌, ◌≤◌, ◌-◌, List, [], ◌∷◌, ◌++◌, length, map, Bool, true, false, cond, min, refl, sym, ap, ◌∙◌, arith, eq-eqb, ne_eqb, append_assoc, append-nil, length-append, length-set, get_or-set_same, get_or-set_other}
+use Rattle.std.proofs.Common.{◌≡◌, ◌≢◌, ℕ, zero, suc, ◌+◌, ◌^◌, ◌<◌, ◌≤◌, ◌-◌, List, [], ◌∷◌, ◌++◌, length, Bool, true, false, cond, min, refl, sym, ap, ◌∙◌, arith, eq-eqb, ne_eqb, append_assoc, append-nil, length-append, length-set, get_or-set_same, get_or-set_other}
 use Rattle.std.specs.Prelude.{Option, Some, None, ◌==◌, bit_and}
+use Rattle.std.proofs.lemmas.List.{map-append}
 use Rattle.std.proofs.lemmas.Nat.{and_le_l}
 use Rattle.std.proofs.lemmas.Nat.Bits.{bit_at-lt, bit_at_and, bit_at-zero, bit_at-trailing_zeros}
 use Rattle.std.proofs.lemmas.Option.{none-some}
@@ -12,6 +13,7 @@ use Rattle.turn_steps.specs.Maps.{bits_of}
 use Rattle.turn_steps.specs.Tied.{place}
 use Rattle.turn_steps.specs.Steps.{put_place}
 use Rattle.turn_steps.specs.Passes.{Token}
+use Rattle.turn_steps.proofs.Gives.{cases}
 use Rattle.turn_board.specs.Hands.{in_hands, Once}
 use Rattle.turn_board.specs.Moving.{Emptied, TakenOut}
 use Rattle.turn_board.proofs.Returns.{cleared-here, cleared-else}
@@ -33,10 +35,6 @@ more-one set n = grows (bit_at set n == 1) (bits_of set n) n
 pub more-bits : (set n m : ℕ) → length (bits_of set n) ≤ length (bits_of set (m + n))
 more-bits set n zero = let g : 0 + n ≡ n = omega arith in let q = ap (λ (i : ℕ). length (bits_of set i)) g in omega arith
 more-bits set n (suc m) = let h = more-bits set n m in let k = more-one set (m + n) in let g : suc m + n ≡ suc (m + n) = omega arith in let q = ap (λ (i : ℕ). length (bits_of set i)) g in omega arith
-
-pub map-snoc : {A B : Type 0} (f : A → B) (l : List A) (a : A) → map f (l ++ a ∷ []) ≡ map f l ++ f a ∷ []
-map-snoc f [] a = refl
-map-snoc f (x ∷ xs) a = ap (λ y. f x ∷ y) (map-snoc f xs a)
 
 -- no turn of the set stands between
 pub bits-gap : (set t k : ℕ) → ((u : ℕ) → t ≤ u → u < k + t → bit_at set u ≡ 0) → bits_of set (k + t) ≡ bits_of set t
@@ -172,6 +170,25 @@ module _ {V C : Type 0} (content : V → C) where
       (λ s. absurd (none-some (content x.1) (sym e ∙ ap (in_hands content (x ∷ xs)) (sym s) ∙ here-in x.0 x.1 xs)))
       (λ ne. (o.0, in-end xs ((t, v) ∷ []) x.0 o.1 ∙ else-in t x.0 v [] (λ s. ne (sym s)), once-end xs t v o.2 h (sym (else-in x.0 t x.1 xs ne) ∙ e)))
 
+  -- ---- the last pair of hands in which each turn stands once
+
+  none-front : (xs ys : List (ℕ × V)) (u : ℕ) → in_hands content (xs ++ ys) u ≡ None → in_hands content xs u ≡ None
+  none-front xs ys u e = cases (in_hands content xs u) (in_hands content xs u ≡ None) (λ n. n) (λ c s. absurd (none-some c (sym e ∙ in-longer xs ys u c s)))
+
+  pub last-in : (xs : List (ℕ × V)) (t : ℕ) (x : V) → in_hands content xs t ≡ None → in_hands content (xs ++ (t, x) ∷ []) t ≡ Some (content x)
+  last-in xs t x e = in-end xs ((t, x) ∷ []) t e ∙ here-in t x []
+
+  pub else-last : (xs : List (ℕ × V)) (t u : ℕ) (x : V) → t ≢ u → in_hands content (xs ++ (t, x) ∷ []) u ≡ in_hands content xs u
+  else-last xs t u x ne = cases (in_hands content xs u) (in_hands content (xs ++ (t, x) ∷ []) u ≡ in_hands content xs u)
+      (λ n. in-end xs ((t, x) ∷ []) u n ∙ else-in t u x [] ne ∙ sym n) (λ c s. in-longer xs ((t, x) ∷ []) u c s ∙ sym s)
+
+  pub once-last : (xs : List (ℕ × V)) (t : ℕ) (x : V) → Once content (xs ++ (t, x) ∷ []) → (0 < t) × (in_hands content xs t ≡ None) × Once content xs
+  once-last [] t x o = (o.0, refl, tt)
+  once-last (y ∷ ys) t x o =
+      let r = once-last ys t x o.2 in
+      let ne : y.0 ≢ t = λ s. none-some (content x) (sym o.1 ∙ ap (in_hands content (ys ++ (t, x) ∷ [])) s ∙ last-in ys t x r.1) in
+      (r.0, else-in y.0 t y.1 ys ne ∙ r.1, (o.0, none-front ys ((t, x) ∷ []) y.0 o.1, r.2))
+
 module _ {V C : Type 0} (content : V → C) (set : ℕ) (counts : ℕ → Option C) (before : List (ℕ × V)) where
   pub taken_out-start : TakenOut content set 0 counts before before
   taken_out-start = record { new = []; added = sym (append-nil before); rising = refl; once = tt; here = λ u h. absurd (omega arith); others = λ u z. refl; later = λ u h. refl }
@@ -192,7 +209,7 @@ module _ {V C : Type 0} (content : V → C) (set : ℕ) (counts : ℕ → Option
     taken_out-one v bit pos is = record {
       new = l.new ++ (t, v) ∷ [];
       added = ap (λ (y : List (ℕ × V)). y ++ (t, v) ∷ []) l.added ∙ append_assoc before l.new ((t, v) ∷ []);
-      rising = map-snoc (λ (x : ℕ × V). x.0) l.new (t, v) ∙ ap (λ (y : List ℕ). y ++ t ∷ []) l.rising ∙ sym (with-bit set t bit);
+      rising = map-append (λ (x : ℕ × V). x.0) l.new ((t, v) ∷ []) ∙ ap (λ (y : List ℕ). y ++ t ∷ []) l.rising ∙ sym (with-bit set t bit);
       once = once-end content l.new t v l.once pos (l.later t (omega arith));
       here = λ u near o. dite (ℕ_discrete u t)
           (λ e. (content v, ap counts e ∙ is, ap (in_hands content (l.new ++ (t, v) ∷ [])) e ∙ in-end content l.new ((t, v) ∷ []) t (l.later t (omega arith)) ∙ here-in content t v []))

@@ -1,11 +1,15 @@
 -- Turns with their values, as contracts see them, and the contents that they give to their turns.
-use Rattle.std.specs.Prelude.{◌≡◌, ℕ, zero, suc, ◌<◌, ◌==◌, cond, List, [], ◌∷◌, Option, Some, None}
+use Rattle.std.specs.Prelude.{◌≡◌, ℕ, zero, suc, ◌<◌, ◌==◌, cond, map, slice_index, List, [], ◌∷◌, Option, Some, None}
 
 -- pairs of a turn and its value
 pub record HandsView (V : Type 0) : Type 0 where
   pub pairs : List (ℕ × V)
   -- for how many pairs memory is reserved
   pub room : ℕ
+
+-- the turn at a place
+abbrev pub turn_at : {V : Type 0} → List (ℕ × V) → ℕ → ℕ
+turn_at pairs i = slice_index (map (λ x. x.0) pairs) i
 
 module _ {V C : Type 0} (content : V → C) where
   -- the content of the value that stands first under a turn

@@ -1,8 +1,10 @@
+pub use Rattle.turn_steps.specs.Limits
 pub use Rattle.turn_steps.specs.Seated
 pub use Rattle.turn_steps.specs.Maps
 pub use Rattle.turn_steps.specs.Tied
 pub use Rattle.turn_steps.specs.Passes
 pub mod Hands
+pub mod Lending
 pub mod Changes
 pub mod Moving
 pub mod Openings

@@ -1,5 +1,6 @@
 // The board, and how many turns it has.
 ghost use Rattle.std.specs.Prelude.{◌≡◌, ◌≤◌, [], vec_capacity};
+ghost use Rattle.turn_board.specs.Limits.{max_board_turns};
 
 use std::sync::Mutex;
 use turn_steps::{TieRule, Words};
@@ -9,7 +10,7 @@ use turn_steps::{TieRule, Words};
 pub(crate) struct Spare<V> {
     pub(crate) list: Vec<V>,
     ghost empty: { list.items ≡ [] },
-    ghost roomy: { 57 ≤ vec_capacity list },
+    ghost roomy: { max_board_turns ≤ vec_capacity list },
 }
 
 /// Values, each behind a turn, for callers that take turns, use the values and give them back.
@@ -37,7 +38,7 @@ impl<V, R: TieRule<V>> Board<V, R> {
     /// The number of turns.
     pub fn turns(&self) -> u32
         ensures turns { result ≡ turn_count self.now }
-        ensures range { (0 < turn_count self.now) × (turn_count self.now ≤ 57) }
+        ensures range { (0 < turn_count self.now) × (turn_count self.now ≤ max_board_turns) }
     {
         self.words.turns()
     }

@@ -3,50 +3,52 @@ ghost use Rattle.std.specs.Prelude.{◌≡◌, ◌<◌, [], ◌∷◌, ◌++◌,
 
 use owned_lists::NoMemory;
 use std::alloc::Global;
-use std::collections::VecDeque;
 use std::marker::Model;
 
 /// Turns with their values, in a list with reserved room.
 pub struct Hands<V> {
-    queue: VecDeque<(u32, V)>,
+    list: Vec<(u32, V)>,
 }
 
 impl<V> Model for Hands<V> {
-    ghost use Rattle.std.specs.Prelude.{◌<◌, ◌^◌};
-    ghost use Rattle.std.specs.VecDeque.{deque_capacity};
+    ghost use Rattle.std.specs.Prelude.{◌<◌, ◌^◌, vec_capacity};
     ghost use Rattle.turn_board.specs.Hands.{HandsView};
 
     ghost Value = { HandsView V };
 
     ghost view = { λ hands. record {
-      pairs = hands.queue.items;
-      room = deque_capacity hands.queue;
+      pairs = hands.list.items;
+      room = vec_capacity hands.list;
     } };
 
-    ghost invariant = { λ hands. deque_capacity hands.queue < 2 ^ 32 };
+    ghost invariant = { λ hands. vec_capacity hands.list < 2 ^ 32 };
 }
 
 impl<V: Drop> Drop for Hands<V> {
     fn drop(self) {
-        let Hands { queue } = self;
-        drop(queue);
+        let Hands { list } = self;
+        drop(list);
     }
 }
 
 impl<V> Hands<V> {
+    ghost use Rattle.std.specs.Borrow.{sem};
+    ghost use Rattle.turn_board.specs.Hands.{turn_at};
+    ghost use Rattle.turn_board.specs.Lending.{LendsValue};
+
     /// Empty hands with room for so many values.
     pub fn with_room(alloc: Global, room: u32) -> Result<Hands<V>, NoMemory>
         ensures { IfOk result (λ hands. (hands.pairs ≡ []) × (hands.room ≡ room)) }
     {
-        let queue = VecDeque::with_capacity(alloc, room as usize)?;
-        Ok(Hands { queue })
+        let list = Vec::with_capacity(alloc, room as usize)?;
+        Ok(Hands { list })
     }
 
     /// How many values there are.
     pub fn len(&self) -> u32
         ensures { result ≡ length self.now.pairs }
     {
-        self.queue.len() as u32
+        self.list.len() as u32
     }
 
     /// A turn and its value, by its place from 0.
@@ -54,7 +56,17 @@ impl<V> Hands<V> {
         requires { i < length self.now.pairs }
         ensures { slice_get self.now.pairs i ≡ Some result.now }
     {
-        &self.queue[i as usize]
+        &self.list[i as usize]
+    }
+
+    /// The value at a place, from 0, to be changed there. Its turn stays.
+    pub fn value_mut(&mut self, i: u32) -> &mut V
+        requires { i < length self.old.pairs }
+        ensures* writes_back { sem 𝓛 (LendsValue V.row self.entry i result) }
+        ensures value { slice_get self.old.pairs i ≡ Some (turn_at self.old.pairs i, result.now) }
+    {
+        let pair = &mut self.list[i as usize];
+        &mut pair.1
     }
 
     /// Puts a turn's value behind the others, in the room that there is.
@@ -63,15 +75,15 @@ impl<V> Hands<V> {
         ensures pairs { self.new.pairs ≡ self.old.pairs ++ (turn, value) ∷ [] }
         ensures room { self.new.room ≡ self.old.room }
     {
-        self.queue.push_back_reserved((turn, value));
+        self.list.push_reserved((turn, value));
     }
 
-    /// Takes the first pair out, and keeps its room.
-    pub fn take_first(&mut self) -> Option<(u32, V)>
+    /// Takes the last pair out, and keeps its room.
+    pub fn take_last(&mut self) -> Option<(u32, V)>
         ensures pairs { MatchOption result ((self.old.pairs ≡ []) × (self.new.pairs ≡ []))
-            (λ p. self.old.pairs ≡ p ∷ self.new.pairs) }
+            (λ p. self.old.pairs ≡ self.new.pairs ++ p ∷ []) }
         ensures room { self.new.room ≡ self.old.room }
     {
-        self.queue.pop_front()
+        self.list.pop()
     }
 }

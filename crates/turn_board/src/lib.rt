@@ -21,4 +21,4 @@ pub use lists::{Seats, Values};
 pub use owned_lists::NoMemory;
 pub use seat::Seat;
 pub use taken::{Taken, TookAll};
-pub use turn_steps::TieRule;
+pub use turn_steps::{MAX_BOARD_TURNS, TieRule};

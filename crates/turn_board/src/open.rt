@@ -1,6 +1,7 @@
 // Opening a board.
 ghost use Rattle.std.specs.Prelude.{◌≡◌, ◌<◌, ◌≤◌, [], IfOk, map, Some, vec_len, vec_capacity};
 ghost use Rattle.session_limits.specs.Limits.{max_callers};
+ghost use Rattle.turn_board.specs.Limits.{max_board_turns};
 
 use crate::board::{Board, Spare};
 use crate::lists::Seats;
@@ -8,7 +9,7 @@ use crate::seat::Seat;
 use owned_lists::NoMemory;
 use std::alloc::Global;
 use std::sync::Mutex;
-use turn_steps::{TieRule, Words};
+use turn_steps::{MAX_BOARD_TURNS, TieRule, Words};
 
 impl<V, R: TieRule<V>> Board<V, R> {
     ghost use Rattle.std.specs.Prelude.{ℕ, suc, ◌∷◌, length, slice_get};
@@ -70,7 +71,7 @@ impl<V: Drop, R: TieRule<V>> Board<V, R> {
         values: Vec<V>,
         callers: u32,
     ) -> Result<(Board<V, R>, Seats<V, R>), NoMemory>
-        requires turns { vec_len values ≤ 57 }
+        requires turns { vec_len values ≤ max_board_turns }
         requires callers { (0 < callers) × (callers ≤ max_callers) }
         requires rule { CanOpen R.content R.holds values.items callers }
         ensures sizes { IfOk result (λ r. (turn_count r.0 ≡ vec_len values)
@@ -80,7 +81,7 @@ impl<V: Drop, R: TieRule<V>> Board<V, R> {
         ensures opened { IfOk result (λ r. AllOpened (map R.content values.items) r.1) }
     {
         let mut list = Vec::with_capacity(alloc, callers as usize)?;
-        let kept = Vec::with_capacity(alloc, 57)?;
+        let kept = Vec::with_capacity(alloc, MAX_BOARD_TURNS)?;
         match Words::open(alloc, values, callers) {
             Ok((words, pass)) => {
                 let kept = Mutex::new(Spare { list: kept });

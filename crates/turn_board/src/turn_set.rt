@@ -104,7 +104,7 @@ impl<V, R: TieRule<V>> Board<V, R> {
         ensures hands { (hands.new.pairs ≡ []) × (hands.new.room ≡ hands.old.room) }
     {
         let mut mask = 0u64;
-        while let Some((turn, value)) = hands.take_first() {
+        while let Some((turn, value)) = hands.take_last() {
             self.lower(seat, turn, value);
             mask |= 1u64 << turn;
         }

@@ -1,6 +1,7 @@
 -- A table at its end, where one pass speaks for all callers and holds no turn.
 use Rattle.std.proofs.Common.{◌≡◌, ℕ, zero, suc, ◌<◌, List, length, map, sym, ap, ◌∙◌, arith}
 use Rattle.std.specs.Prelude.{Option, Some, None, slice_get}
+use Rattle.std.proofs.lemmas.List.{length-map}
 use Rattle.std.proofs.lemmas.Option.{none-some, same_Some}
 use mathlib.Core.Option.{some, some-injective}
 use lib.ListN.{get_elem?}
@@ -8,7 +9,7 @@ use Rattle.atomic_table.specs.Table.{State}
 use Rattle.turn_steps.specs.declared.view.View.{View}
 use Rattle.turn_steps.specs.Tied.{Tied, TurnOk, Lying, counted}
 use Rattle.turn_steps.specs.Closings.{SpeaksForAll}
-use Rattle.turn_steps.proofs.Rows.{length-map, map-get, same-lists}
+use Rattle.turn_steps.proofs.Rows.{map-get, same-lists}
 
 module _ {V C : Type 0} (content : V → C) (holds : List C → List C → Type 0) (caller_count : ℕ) (s : State (Option V) (View C)) (r : Tied content holds caller_count s) (id : ℕ) (v : View C) (at : get_elem? s.views id ≡ some v)
     (none' : (t : ℕ) → counted v t ≡ None) (all : SpeaksForAll v) where
@@ -32,7 +33,7 @@ module _ {V C : Type 0} (content : V → C) (holds : List C → List C → Type 
     lies-at t h = let f = free t (r.owner t) (r.each_turn t (omega arith)) in (f.2.0, there' t (Some f.2.0) f.2.1, f.1 ∙ ap Some (sym f.2.2))
 
     pub final-contents : (ys : List V) → length ys ≡ length xs → ((t : ℕ) → t < length xs → (x : V) × (get_elem? xs t ≡ some (Some x)) × (slice_get ys t ≡ Some x)) → map content ys ≡ r.contents
-    final-contents ys as-long got = same-lists (map content ys) r.contents (length-map content ys ∙ as-long ∙ sym long ∙ sym r.turns)
-        (λ t h. let near : t < length xs = (let l = length-map content ys in omega arith) in let a = lies-at t near in let b = got t near in
+    final-contents ys as-long got = same-lists (map content ys) r.contents (length-map ys content ∙ as-long ∙ sym long ∙ sym r.turns)
+        (λ t h. let near : t < length xs = (let l = length-map ys content in omega arith) in let a = lies-at t near in let b = got t near in
         let same : b.0 ≡ a.0 = same_Some b.0 a.0 (some-injective (Some b.0) (Some a.0) (sym b.1 ∙ a.1)) in
         map-get content ys t b.0 b.2 ∙ ap (λ (x : V). Some (content x)) same ∙ sym a.2)

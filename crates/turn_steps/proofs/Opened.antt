@@ -1,6 +1,7 @@
 -- A table over all values meets the rule, and its first view has all callers.
 use Rattle.std.proofs.Common.{◌≡◌, ℕ, zero, suc, ◌+◌, ◌<◌, ◌≤◌, List, [], ◌∷◌, length, get_or, map, replicate, refl, sym, ap, ◌∙◌, subst, arith}
 use Rattle.std.specs.Prelude.{Option, Some, None, slice_get}
+use Rattle.std.proofs.lemmas.List.{length-map, length-replicate}
 use Rattle.std.proofs.lemmas.Option.{none-some, same_Some}
 use Rattle.std.proofs.lemmas.Nat.Bits.{bit_at-zero}
 use mathlib.Core.Option.{some, some-injective, some-ne-none}
@@ -8,17 +9,12 @@ use lib.ListN.{get_elem?}
 use Rattle.atomic_table.specs.Table.{State, opening}
 use Rattle.turn_steps.specs.declared.view.View.{View}
 use Rattle.turn_steps.specs.Tied.{Tied, ViewOk, Left, first_view, all_speak}
-use Rattle.turn_steps.proofs.Rows.{length-map}
 use Rattle.turn_steps.proofs.CallerCounts.{none-at}
 
 same-note : {C : Type 0} (n k : ℕ) (c : C) → k < n → slice_get (replicate n c) k ≡ Some c
 same-note zero k c h = absurd (omega arith)
 same-note (suc n) zero c h = refl
 same-note (suc n) (suc k) c h = same-note n k c (omega arith)
-
-length-notes : {C : Type 0} (n : ℕ) (c : C) → length (replicate n c) ≡ n
-length-notes zero c = refl
-length-notes (suc n) c = ap suc (length-notes n c)
 
 spoken-in : {C : Type 0} (note : C) (n from i k : ℕ) (c : C) → get_elem? (all_speak from n note) i ≡ some (k, c) → (k < from + n) × (note ≡ c)
 spoken-in note zero from i k c e = absurd (some-ne-none {A = ℕ × _} (k, c) (sym e))
@@ -58,7 +54,7 @@ module _ {V C : Type 0} (content : V → C) where
     each-left (suc j) v e = absurd (some-ne-none v (sym e))
 
     homes-long : length (map some (map Some values)) ≡ length values
-    homes-long = length-map some (map Some values) ∙ length-map Some values
+    homes-long = length-map (map Some values) some ∙ length-map values Some
 
     pub opened : length values ≤ 57 → holds (map content values) (replicate caller_count note) → Tied content holds caller_count start
     opened few ok = record {
@@ -68,9 +64,9 @@ module _ {V C : Type 0} (content : V → C) where
       notes = replicate caller_count note;
       now = 1;
       words = refl;
-      turns = length-map content values ∙ sym homes-long;
+      turns = length-map values content ∙ sym homes-long;
       small = (let h = homes-long in omega arith);
-      callers = length-notes caller_count note;
+      callers = length-replicate caller_count note;
       tied = ok;
       each_turn = λ t h. (bit_at-zero t, lies-in values t (let q = homes-long in omega arith));
       each_view = each-ok;

@@ -1,7 +1,7 @@
 -- Rows, overlays and cases.
-use Rattle.std.proofs.lemmas.Option.{none-some, same_Some}
+use Rattle.std.proofs.lemmas.Option.{none-some, same_Some, slice_get-map}
 use Rattle.std.proofs.Common.{◌≡◌, ◌≢◌, ℕ, zero, suc, ◌+◌, ◌<◌, ◌≤◌, ◌⊎◌, inl, inr, ⊎_elim, ◌++◌, List, [], ◌∷◌, length, map, get_or, set, Bool, true, false, cond, refl, sym, ap, ◌∙◌, arith}
-use Rattle.std.specs.Prelude.{Option, Some, None, slice_get}
+use Rattle.std.specs.Prelude.{Option, Some, None, option_map, slice_get}
 use mathlib.Core.Logic.{dite}
 use native.Mathlib.Decide.{dec_lt}
 use Rattle.turn_steps.specs.Maps.{row, overlay_from, in_place_of}
@@ -24,14 +24,14 @@ two (suc (suc n)) P h p q = absurd (omega arith)
 pub few-turns : (t n : ℕ) → n ≤ 57 → t < n → t < 64
 few-turns t n a b = omega arith
 
-pub length-map : {A B : Type 0} (f : A → B) (l : List A) → length (map f l) ≡ length l
-length-map f [] = refl
-length-map f (x ∷ xs) = ap suc (length-map f xs)
-
 pub map-get : {A B : Type 0} (f : A → B) (l : List A) (i : ℕ) (a : A) → slice_get l i ≡ Some a → slice_get (map f l) i ≡ Some (f a)
-map-get f [] i a e = absurd (none-some a e)
-map-get f (x ∷ xs) zero a e = ap (λ y. Some (f y)) (same_Some x a e)
-map-get f (x ∷ xs) (suc i) a e = map-get f xs i a e
+map-get f l i a e = slice_get-map f l i ∙ ap (option_map f) e
+
+-- what stands in a mapped list
+pub map-read : {A B : Type 0} (f : A → B) (l : List A) (i : ℕ) (b : B) → slice_get (map f l) i ≡ Some b → (a : A) × (slice_get l i ≡ Some a) × (f a ≡ b)
+map-read f [] i b e = absurd (none-some b e)
+map-read f (x ∷ xs) zero b e = (x, refl, same_Some (f x) b e)
+map-read f (x ∷ xs) (suc i) b e = map-read f xs i b e
 
 module _ {A : Type 0} where
   pub row-length : (i n : ℕ) (f : ℕ → A) → length (row i n f) ≡ n

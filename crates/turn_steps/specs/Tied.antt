@@ -8,6 +8,7 @@ use Rattle.atomic_table.specs.Table.{State}
 use Rattle.turn_steps.specs.declared.view.View.{View}
 use Rattle.turn_steps.specs.declared.view.Place.{Place}
 use Rattle.turn_steps.specs.declared.view.Place.TheVariants.{Vacant, Away, Lies}
+use Rattle.turn_steps.specs.Limits.{max_board_turns}
 use Rattle.turn_steps.specs.Maps.{row}
 
 module _ {C : Type 0} where
@@ -93,7 +94,7 @@ pub record Tied {V C : Type 0} (content : V → C) (holds : List C → List C �
   pub now : ℕ
   pub words : length s.words ≡ 15
   pub turns : length contents ≡ length s.homes
-  pub small : length s.homes ≤ 57
+  pub small : length s.homes ≤ max_board_turns
   pub callers : length notes ≡ caller_count
   pub tied : holds contents notes
   pub each_turn : (t : ℕ) → t < length s.homes

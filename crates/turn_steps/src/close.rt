@@ -4,6 +4,7 @@ ghost use mathlib.Core.Option.{some};
 ghost use lib.ListN.{get_elem?};
 ghost use Rattle.std.specs.Mem.Slots.{slots_items, slots_filled, slots_len, IsFull};
 ghost use Rattle.turn_steps.specs.Closings.{AllSome};
+ghost use Rattle.turn_steps.specs.Limits.{max_board_turns};
 
 use crate::pass::Pass;
 use crate::tie_rule::TieRule;
@@ -42,7 +43,7 @@ impl<V, R: TieRule<V>> Words<V, R> {
     pub fn close(self, pass: Pass<V, R::Content>, kept: &mut Vec<V>)
         requires pass { IdleFirst (id_of self) pass.token }
         requires all { SpeaksForAll pass.token.me.0 }
-        requires room { (kept.old.items ≡ []) × (57 ≤ vec_capacity kept.old) }
+        requires room { (kept.old.items ≡ []) × (max_board_turns ≤ vec_capacity kept.old) }
         ensures turns { vec_len kept.new ≡ turns_of self }
         ensures rule { (notes : List R.Content)
             × (length notes ≡ pass.token.me.0.caller_count)

@@ -16,4 +16,4 @@ pub use owned_lists::NoMemory;
 pub use pass::Pass;
 pub use plays::Change;
 pub use tie_rule::TieRule;
-pub use words::Words;
+pub use words::{MAX_BOARD_TURNS, Words};

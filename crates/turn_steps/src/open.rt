@@ -1,5 +1,6 @@
 // Opening the words.
 ghost use Rattle.std.specs.Prelude.{◌≡◌, ◌<◌, ◌≤◌, [], IfOk, map, Some, vec_len};
+ghost use Rattle.turn_steps.specs.Limits.{max_board_turns};
 
 use crate::pass::Pass;
 use crate::tie_rule::TieRule;
@@ -29,7 +30,7 @@ impl<V: Drop, R: TieRule<V>> Words<V, R> {
         values: Vec<V>,
         callers: u32,
     ) -> Result<(Words<V, R>, Pass<V, R::Content>), NoMemory>
-        requires turns { vec_len values ≤ 57 }
+        requires turns { vec_len values ≤ max_board_turns }
         requires rule { (b : R.Content) × (slice_get (map R.content values.items) 0 ≡ Some b)
             × R.holds (map R.content values.items) (replicate callers b) }
         ensures turns { IfOk result (λ r. turns_of r.0 ≡ vec_len values) }

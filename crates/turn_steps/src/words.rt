@@ -1,11 +1,15 @@
 // The table of words and slots, and how many turns it has.
 ghost use Rattle.std.specs.Prelude.{◌≡◌, ◌<◌, ◌≤◌};
+ghost use Rattle.turn_steps.specs.Limits.{max_board_turns};
 
 use crate::tie::Tie;
 use crate::tie_rule::TieRule;
 use crate::view::{Opening, View};
 use atomic_table::Table;
 use std::alloc::Global;
+
+/// The turns of a board: the book's, and one for each shard of each table.
+pub const MAX_BOARD_TURNS: usize = 57;
 
 /// The words of the table. All turns stand in the one in the middle, and the others are never
 /// written, so that nothing else that changes lies in its cache line of 64 bytes.
@@ -25,7 +29,7 @@ pub struct Words<V, R: TieRule<V>> {
     pub(crate) table: Table<Option<V>, View<R::Content>, Opening<V>, Tie<R>, Global>,
     ghost words: { table.shared.table_id.words ≡ 15 },
     ghost some: { 0 < table.shared.table_id.slots },
-    ghost few: { table.shared.table_id.slots ≤ 57 },
+    ghost few: { table.shared.table_id.slots ≤ max_board_turns },
 }
 
 impl<V: Drop, R: TieRule<V>> Drop for Words<V, R> {
@@ -42,7 +46,7 @@ impl<V, R: TieRule<V>> Words<V, R> {
     /// The number of turns.
     pub fn turns(&self) -> u32
         ensures turns { result ≡ turns_of self.now }
-        ensures range { (0 < turns_of self.now) × (turns_of self.now ≤ 57) }
+        ensures range { (0 < turns_of self.now) × (turns_of self.now ≤ max_board_turns) }
     {
         self.table.slot_count() as u32
     }

@@ -1,4 +1,4 @@
-use Rattle.std.proofs.Common.{◌+◌, ◌<◌, length, arith}
+use Rattle.std.proofs.Common.{◌+◌, arith}
 use Rattle.session_hall.proofs.Counts.{count_start, count_can, count_next, count_few, count_end}
 use Rattle.session_hall.proofs.applying.count_all.Goals as goal
 

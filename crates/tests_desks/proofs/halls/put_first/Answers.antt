@@ -8,10 +8,10 @@ apply-put-requires-clause-stage g c = in_flight _ _ _ c.requires.younger.stage
 
 pub finish-requires-clause-may : goal.finish-requires-clause-may
 finish-requires-clause-may g c =
-    let b = has_applied c.args.hall.now c.args.younger.now c.apply-put.new.self 1 _ _ c.apply-put.ensures.caller _ _ _ _ _ c.requires.younger c.apply-put.ensures.applied in
+    let b = has_applied c.args.hall.now c.args.younger.now c.apply-put.new.self 1 _ _ c.apply-put.ensures.caller.0 _ _ _ _ _ c.requires.younger c.apply-put.ensures.applied in
     may_enter_2 c.args.hall.now c.requires.script c.apply-put.new.self c.apply-put.result _ (pushed _ _ _ _ _ c.clear.ensures c.push.ensures (c.exact.ensures ∙ ap exact_symbol c.put_1.ensures)) b
 
 pub returns-clause-younger : goal.returns-clause-younger
 returns-clause-younger g c =
-    let b = has_applied c.args.hall.now c.args.younger.now c.apply-put.new.self 1 _ _ c.apply-put.ensures.caller _ _ _ _ _ c.requires.younger c.apply-put.ensures.applied in
-    has_entered c.args.hall.now c.apply-put.new.self c.finish.new.self 1 _ _ c.finish.ensures.caller _ _ _ _ _ (pushed _ _ _ _ _ c.clear.ensures c.push.ensures (c.exact.ensures ∙ ap exact_symbol c.put_1.ensures)) b c.finish.ensures.finished
+    let b = has_applied c.args.hall.now c.args.younger.now c.apply-put.new.self 1 _ _ c.apply-put.ensures.caller.0 _ _ _ _ _ c.requires.younger c.apply-put.ensures.applied in
+    has_entered c.args.hall.now c.apply-put.new.self c.finish.new.self 1 _ _ c.finish.ensures.caller.0 _ _ _ _ _ (pushed _ _ _ _ _ c.clear.ensures c.push.ensures (c.exact.ensures ∙ ap exact_symbol c.put_1.ensures)) b c.finish.ensures.finished

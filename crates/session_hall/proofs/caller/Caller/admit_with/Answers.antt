@@ -22,12 +22,12 @@ loop-preserved-in-Delayed g c =
     let m = g.S.Script.meaning (script_of c.args.hall.now) in
     let may = delay_may m c.args.self.now c.loop.self c.try_admit.new.self c.args.op inv.since c.in-Delayed.older c.in-Delayed.symbol c.in-Delayed.ensures.admitted inv.may in
     record {
-      caller = c.in-Delayed.ensures.caller;
+      caller = c.in-Delayed.ensures.caller.0;
       may = may;
-      number_still = c.in-Delayed.ensures.same ∙ inv.number_still;
-      since = delay_more m c.args.self.now c.loop.self c.try_admit.new.self c.args.op inv.since c.in-Delayed.older c.in-Delayed.symbol c.in-Delayed.ensures.admitted c.in-Delayed.ensures.same
+      number_still = c.in-Delayed.ensures.caller.1 ∙ inv.number_still;
+      since = delay_more m c.args.self.now c.loop.self c.try_admit.new.self c.args.op inv.since c.in-Delayed.older c.in-Delayed.symbol c.in-Delayed.ensures.admitted c.in-Delayed.ensures.caller.1
           (serving_holds g.S.Script.meaning c.args.hall.now c.loop.self inv.caller _ inv.may)
-          (serving_holds g.S.Script.meaning c.args.hall.now c.try_admit.new.self c.in-Delayed.ensures.caller _ may);
+          (serving_holds g.S.Script.meaning c.args.hall.now c.try_admit.new.self c.in-Delayed.ensures.caller.0 _ may);
     }
 
 pub loop-preserved : goal.loop-preserved
@@ -35,8 +35,8 @@ loop-preserved g c =
     let inv = c.loop.invariant in
     let m = g.S.Script.meaning (script_of c.args.hall.now) in
     record {
-      caller = c.in-Busy.ensures.caller;
+      caller = c.in-Busy.ensures.caller.0;
       may = still_may m (λ s l b. OnServing s (λ t. MayCall l c.args.op m b t)) c.loop.self c.try_admit.new.self _ _ c.in-Busy.ensures.admitted.1 inv.may;
-      number_still = c.in-Busy.ensures.same ∙ inv.number_still;
-      since = one_lost m c.args.self.now c.loop.self c.try_admit.new.self _ inv.since c.in-Busy.ensures.same c.in-Busy.ensures.admitted;
+      number_still = c.in-Busy.ensures.caller.1 ∙ inv.number_still;
+      since = one_lost m c.args.self.now c.loop.self c.try_admit.new.self _ inv.since c.in-Busy.ensures.caller.1 c.in-Busy.ensures.admitted;
     }

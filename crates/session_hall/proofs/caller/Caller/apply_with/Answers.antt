@@ -11,7 +11,7 @@ loop-preserved g c =
     let m = g.S.Script.meaning (script_of c.args.hall.now) in
     let shards = c.args.hall.now.sizes.shards in
     record {
-      caller = c.in-Busy.ensures.caller;
+      caller = c.in-Busy.ensures.caller.0;
       stage = flight_still m shards c.loop.self c.try_apply.new.self c.in-Busy.turn c.in-Busy.ensures.applied;
-      since = one_shard_tried m shards c.args.self.now c.loop.self c.try_apply.new.self c.in-Busy.turn inv.since c.in-Busy.ensures.same c.in-Busy.ensures.applied;
+      since = one_shard_tried m shards c.args.self.now c.loop.self c.try_apply.new.self c.in-Busy.turn inv.since c.in-Busy.ensures.caller.1 c.in-Busy.ensures.applied;
     }

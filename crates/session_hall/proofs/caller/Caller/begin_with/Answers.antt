@@ -12,7 +12,7 @@ loop-preserved g c =
     let inv = c.loop.invariant in
     let m = g.S.Script.meaning (script_of c.args.hall.now) in
     record {
-      caller = c.in-Busy.ensures.caller;
+      caller = c.in-Busy.ensures.caller.0;
       stage = subst (λ s. IsBetween s) (sym c.in-Busy.ensures.began.1.stage_still) inv.stage;
-      since = one_tried m c.args.self.now c.loop.self c.try_begin.new.self _ inv.since c.in-Busy.ensures.same c.in-Busy.ensures.began;
+      since = one_tried m c.args.self.now c.loop.self c.try_begin.new.self _ inv.since c.in-Busy.ensures.caller.1 c.in-Busy.ensures.began;
     }

@@ -12,7 +12,7 @@ loop-preserved g c =
     let inv = c.loop.invariant in
     let m = g.S.Script.meaning (script_of c.args.hall.now) in
     record {
-      caller = c.in-Busy.ensures.caller;
+      caller = c.in-Busy.ensures.caller.0;
       may = still_may m (λ s l b. OnServing s (λ t. MayAnswer c.args.reply m b t)) c.loop.self c.try_end.new.self _ _ c.in-Busy.ensures.ended.1 inv.may;
-      since = one_tried m c.args.self.now c.loop.self c.try_end.new.self _ inv.since c.in-Busy.ensures.same c.in-Busy.ensures.ended;
+      since = one_tried m c.args.self.now c.loop.self c.try_end.new.self _ inv.since c.in-Busy.ensures.caller.1 c.in-Busy.ensures.ended;
     }

@@ -12,8 +12,8 @@ loop-preserved g c =
     let inv = c.loop.invariant in
     let m = g.S.Script.meaning (script_of c.args.hall.now) in
     record {
-      caller = c.in-Busy.ensures.caller;
+      caller = c.in-Busy.ensures.caller.0;
       may = still_may m (λ s l b. MayFinishAt m s l b c.args.next.now.symbols) c.loop.self c.try_finish_with.new.self _ _ c.in-Busy.ensures.finished.1 inv.may;
-      since = one_tried m c.args.self.now c.loop.self c.try_finish_with.new.self _ inv.since c.in-Busy.ensures.same c.in-Busy.ensures.finished;
+      since = one_tried m c.args.self.now c.loop.self c.try_finish_with.new.self _ inv.since c.in-Busy.ensures.caller.1 c.in-Busy.ensures.finished;
       list = c.in-Busy.ensures.busy tt ∙ inv.list;
     }

@@ -19,10 +19,12 @@ give_all-requires-in-Delayed-clause-moves g c =
     c.admit.new.self c.admit.ensures.stays.script c.admit.ensures.stays.lawful c.args.op c.in-Delayed.older c.in-Delayed.symbol c.in-Delayed.ensures.admits
 
 pub returns-in-Admitted-clause-caller : goal.returns-in-Admitted-clause-caller
-returns-in-Admitted-clause-caller g c =
-    admitted_caller g.S.Script.meaning c.args.hall.now c.args.self.now c.requires.caller c.take_book.new.seat c.in-Some.book c.take_book.ensures.seat.1 c.in-Some.ensures.took c.in-Serving.t c.in-Serving.is
-    c.admit.new.self c.admit.ensures.stays.script c.admit.ensures.stays.lawful c.args.op c.in-Admitted.ensures.admits
-    _ c.give_all.ensures.seat c.give_all.ensures.booked c.give_all.ensures.hands.0 c.give_all.ensures.hands.1 refl refl
+returns-in-Admitted-clause-caller g c = (
+  admitted_caller g.S.Script.meaning c.args.hall.now c.args.self.now c.requires.caller c.take_book.new.seat c.in-Some.book c.take_book.ensures.seat.1 c.in-Some.ensures.took c.in-Serving.t c.in-Serving.is
+      c.admit.new.self c.admit.ensures.stays.script c.admit.ensures.stays.lawful c.args.op c.in-Admitted.ensures.admits
+      _ c.give_all.ensures.seat c.give_all.ensures.booked c.give_all.ensures.hands.0 c.give_all.ensures.hands.1 refl refl,
+  refl,
+)
 
 pub returns-in-Admitted-clause-admitted : goal.returns-in-Admitted-clause-admitted
 returns-in-Admitted-clause-admitted g c =
@@ -31,10 +33,12 @@ returns-in-Admitted-clause-admitted g c =
     _ c.give_all.ensures.seat c.give_all.ensures.booked c.give_all.ensures.hands.0 c.give_all.ensures.hands.1 refl refl
 
 pub returns-in-Delayed-clause-caller : goal.returns-in-Delayed-clause-caller
-returns-in-Delayed-clause-caller g c =
-    delayed_caller g.S.Script.meaning c.args.hall.now c.args.self.now c.requires.caller c.take_book.new.seat c.in-Some.book c.take_book.ensures.seat.1 c.in-Some.ensures.took c.in-Serving.t c.in-Serving.is
-    c.admit.new.self c.admit.ensures.stays.script c.admit.ensures.stays.lawful c.args.op c.in-Delayed.older c.in-Delayed.symbol c.in-Delayed.ensures.admits
-    _ c.give_all-in-Delayed.ensures.seat c.give_all-in-Delayed.ensures.booked c.give_all-in-Delayed.ensures.hands.0 c.give_all-in-Delayed.ensures.hands.1 refl refl
+returns-in-Delayed-clause-caller g c = (
+  delayed_caller g.S.Script.meaning c.args.hall.now c.args.self.now c.requires.caller c.take_book.new.seat c.in-Some.book c.take_book.ensures.seat.1 c.in-Some.ensures.took c.in-Serving.t c.in-Serving.is
+      c.admit.new.self c.admit.ensures.stays.script c.admit.ensures.stays.lawful c.args.op c.in-Delayed.older c.in-Delayed.symbol c.in-Delayed.ensures.admits
+      _ c.give_all-in-Delayed.ensures.seat c.give_all-in-Delayed.ensures.booked c.give_all-in-Delayed.ensures.hands.0 c.give_all-in-Delayed.ensures.hands.1 refl refl,
+  refl,
+)
 
 pub returns-in-Delayed-clause-admitted : goal.returns-in-Delayed-clause-admitted
 returns-in-Delayed-clause-admitted g c =

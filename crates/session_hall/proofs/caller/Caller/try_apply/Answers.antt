@@ -1,5 +1,5 @@
-use Rattle.std.proofs.Common.{refl, ◌∙◌, arith}
-use Rattle.session_hall.proofs.Doing.{few, can_ask, asks_some, ask_room, can_work, hands_fit, applied_caller, applied_at}
+use Rattle.std.proofs.Common.{refl, ◌∙◌}
+use Rattle.session_hall.proofs.Doing.{few, can_ask, asks_some, ask_room, can_work, applied_caller, applied_at}
 use Rattle.session_hall.proofs.Giving.{busy_on}
 use Rattle.session_hall.proofs.Taken.{busy_at}
 use Rattle.session_hall.proofs.caller.Caller.try_apply.Goals as goal
@@ -17,9 +17,11 @@ pub try_take_all-requires-clause-room : goal.try_take_all-requires-clause-room
 try_take_all-requires-clause-room g c = ask_room g.S.Script.meaning c.args.hall.now c.args.self.now c.requires.caller c.in_flight-t.result.0 c.in_flight-t.result.1 c.in_flight-t.ensures c.turns_of-turns.result c.turns_of-turns.ensures
 
 pub returns-in-Busy-clause-caller : goal.returns-in-Busy-clause-caller
-returns-in-Busy-clause-caller g c =
-    busy_on g.S.Script.meaning c.args.hall.now c.args.self.now c.requires.caller c.try_take_all.new.seat c.try_take_all.ensures.seat.0 c.try_take_all.ensures.seat.1 c.in-Busy.ensures.answer.1.held_is
-    c.try_take_all.new.hands c.in-Busy.ensures.answer.0 c.try_take_all.ensures.room
+returns-in-Busy-clause-caller g c = (
+  busy_on g.S.Script.meaning c.args.hall.now c.args.self.now c.requires.caller c.try_take_all.new.seat c.try_take_all.ensures.seat.0 c.try_take_all.ensures.seat.1 c.in-Busy.ensures.answer.1.held_is
+      c.try_take_all.new.hands c.in-Busy.ensures.answer.0 c.try_take_all.ensures.room,
+  refl,
+)
 
 pub returns-in-Busy-clause-applied : goal.returns-in-Busy-clause-applied
 returns-in-Busy-clause-applied g c =
@@ -27,22 +29,18 @@ returns-in-Busy-clause-applied g c =
     c.try_take_all.new.seat c.try_take_all.ensures.seat.1 c.in-Busy.turn c.in-Busy.ensures.answer.1 c.in-Busy.ensures.answer.2 c.try_take_all.new.hands c.in-Busy.ensures.answer.0
     c.try_take_all.ensures.seat.0 c.in-Busy.ensures.answer.3
 
-pub work-reply-requires-clause-can : goal.work-reply-requires-clause-can
-work-reply-requires-clause-can g c =
+pub work-reply-requires : goal.work-reply-requires
+work-reply-requires g c =
     can_work g.S.Script.meaning c.args.hall.now c.args.self.now c.requires.caller c.in_flight-t.result.0 c.in_flight-t.result.1 c.in_flight-t.ensures c.turns_of-turns.result c.turns_of-turns.ensures
     c.try_take_all.new.seat c.try_take_all.new.hands.pairs c.try_take_all.ensures.seat.1 c.in-Here.ensures.answer.0 c.in-Here.ensures.answer.1
 
-pub work-reply-requires-clause-room : goal.work-reply-requires-clause-room
-work-reply-requires-clause-room g c =
-    let fit = hands_fit g.S.Script.meaning c.args.hall.now c.args.self.now c.requires.caller c.in_flight-t.result.0 c.in_flight-t.result.1 c.in_flight-t.ensures c.turns_of-turns.result c.turns_of-turns.ensures
-    c.try_take_all.new.seat c.try_take_all.new.hands.pairs c.try_take_all.ensures.seat.1 c.in-Here.ensures.answer.0 c.in-Here.ensures.answer.1 in
-    omega (arith, fit, c.try_take_all.ensures.room)
-
 pub returns-clause-caller : goal.returns-clause-caller
-returns-clause-caller g c =
-    applied_caller g.S.Script.meaning c.args.hall.now c.args.self.now c.requires.caller c.in_flight-t.result.0 c.in_flight-t.result.1 c.in_flight-t.ensures c.turns_of-turns.result c.turns_of-turns.ensures
-    c.try_take_all.new.seat c.try_take_all.new.hands.pairs c.try_take_all.ensures.seat.1 c.in-Here.ensures.answer.0 c.in-Here.ensures.answer.1
-    c.work-reply.new.hands.pairs c.work-reply.result c.work-reply.ensures.worked c.try_take_all.ensures.seat.0 c.work-reply.new.hands refl (c.work-reply.ensures.room ∙ c.try_take_all.ensures.room)
+returns-clause-caller g c = (
+  applied_caller g.S.Script.meaning c.args.hall.now c.args.self.now c.requires.caller c.in_flight-t.result.0 c.in_flight-t.result.1 c.in_flight-t.ensures c.turns_of-turns.result c.turns_of-turns.ensures
+      c.try_take_all.new.seat c.try_take_all.new.hands.pairs c.try_take_all.ensures.seat.1 c.in-Here.ensures.answer.0 c.in-Here.ensures.answer.1
+      c.work-reply.new.hands.pairs c.work-reply.result c.work-reply.ensures.worked c.try_take_all.ensures.seat.0 c.work-reply.new.hands refl (c.work-reply.ensures.room ∙ c.try_take_all.ensures.room),
+  refl,
+)
 
 pub returns-clause-applied : goal.returns-clause-applied
 returns-clause-applied g c =

@@ -14,10 +14,12 @@ give_all-requires-clause-moves g c =
     c.narrow.new.self c.narrow.ensures.stays.script c.narrow.ensures.stays.lawful c.args.f.now.symbols c.narrow.ensures.narrowed
 
 pub returns-clause-caller : goal.returns-clause-caller
-returns-clause-caller g c =
-    declared_caller g.S.Script.meaning c.args.hall.now c.args.self.now c.requires.caller c.take_book.new.seat c.in-Some.book c.take_book.ensures.seat.1 c.in-Some.ensures.took c.in-Serving.t c.in-Serving.is
-    c.narrow.new.self c.narrow.ensures.stays.script c.narrow.ensures.stays.lawful c.args.f.now.symbols c.narrow.ensures.narrowed
-    _ c.give_all.ensures.seat c.give_all.ensures.booked c.give_all.ensures.hands.0 c.give_all.ensures.hands.1 refl refl
+returns-clause-caller g c = (
+  declared_caller g.S.Script.meaning c.args.hall.now c.args.self.now c.requires.caller c.take_book.new.seat c.in-Some.book c.take_book.ensures.seat.1 c.in-Some.ensures.took c.in-Serving.t c.in-Serving.is
+      c.narrow.new.self c.narrow.ensures.stays.script c.narrow.ensures.stays.lawful c.args.f.now.symbols c.narrow.ensures.narrowed
+      _ c.give_all.ensures.seat c.give_all.ensures.booked c.give_all.ensures.hands.0 c.give_all.ensures.hands.1 refl refl,
+  refl,
+)
 
 pub returns-clause-declared : goal.returns-clause-declared
 returns-clause-declared g c =

@@ -14,10 +14,12 @@ give_all-requires-clause-moves g c =
     c.end.new.self c.end.ensures.stays.script c.end.ensures.stays.lawful c.args.reply c.end.ensures.ended
 
 pub returns-clause-caller : goal.returns-clause-caller
-returns-clause-caller g c =
-    ended_caller g.S.Script.meaning c.args.hall.now c.args.self.now c.requires.caller c.take_book.new.seat c.in-Some.book c.take_book.ensures.seat.1 c.in-Some.ensures.took c.in-Serving.t c.in-Serving.is
-    c.end.new.self c.end.ensures.stays.script c.end.ensures.stays.lawful c.args.reply c.end.ensures.ended
-    _ c.give_all.ensures.seat c.give_all.ensures.booked c.give_all.ensures.hands.0 c.give_all.ensures.hands.1 refl refl
+returns-clause-caller g c = (
+  ended_caller g.S.Script.meaning c.args.hall.now c.args.self.now c.requires.caller c.take_book.new.seat c.in-Some.book c.take_book.ensures.seat.1 c.in-Some.ensures.took c.in-Serving.t c.in-Serving.is
+      c.end.new.self c.end.ensures.stays.script c.end.ensures.stays.lawful c.args.reply c.end.ensures.ended
+      _ c.give_all.ensures.seat c.give_all.ensures.booked c.give_all.ensures.hands.0 c.give_all.ensures.hands.1 refl refl,
+  refl,
+)
 
 pub returns-clause-ended : goal.returns-clause-ended
 returns-clause-ended g c =

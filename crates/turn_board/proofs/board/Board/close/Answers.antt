@@ -3,7 +3,8 @@ use Rattle.std.specs.Prelude.{slice_get, option_to_list}
 use mathlib.Core.Option.{some}
 use lib.ListN.{get_elem?}
 use Rattle.turn_steps.specs.Passes.{IdleFirst, id_of}
-use Rattle.turn_steps.proofs.Rows.{length-map, get-last, get-longer}
+use Rattle.std.proofs.lemmas.List.{length-map}
+use Rattle.turn_steps.proofs.Rows.{get-last, get-longer}
 use Rattle.turn_board.proofs.Closes.{all-here, idle-of, gathered, spoken_notes-in, notes-in, final-notes}
 use Rattle.turn_board.proofs.board.Board.close.Goals as goal
 
@@ -21,7 +22,7 @@ returns-clause-rule g c =
     let spoken : (k : ℕ) → k < length l → (x : g.row.R-Content.Denot) × (get_elem? v.speaks k ≡ some (k, x)) = λ k h. let x = spoken_notes-in {R = g.row.R.Denot} id l all k h in (x.0, ap (λ y. get_elem? y k) speaks ∙ x.1) in
     let r = c.close.ensures.rule in (
       r.0,
-      final-notes r.0 v.speaks (length l) (r.1 ∙ callers) (λ k x h f. r.2 k x (let q = callers in omega arith) f) spoken _ (length-map _ l)
+      final-notes r.0 v.speaks (length l) (r.1 ∙ callers) (λ k x h f. r.2 k x (let q = callers in omega arith) f) spoken _ (length-map l _)
           (λ k h b a. notes-in {R = g.row.R.Denot} id l all k h b (ap (λ y. get_elem? y k) (sym speaks) ∙ a)),
       subst (λ xs. g.R.TieRule.holds (map g.R.TieRule.content xs) r.0) (sym c.from_vec.ensures) r.3,
     )

@@ -1,11 +1,11 @@
 use Rattle.std.proofs.Common.{arith, refl, sym, ap, ◌∙◌, subst, ◌≡◌, ℕ, ◌+◌, ◌-◌, ◌<◌, ◌∷◌, [], None, length, get_or, length-append}
 use Rattle.std.specs.Prelude.{bit_and}
+use Rattle.std.proofs.lemmas.List.{length-map}
 use Rattle.std.proofs.lemmas.Nat.{one_shl}
 use Rattle.std.specs.Int.{bit_not, trailing_zeros, w64}
 use Rattle.turn_steps.specs.Maps.{bits_of}
 use Rattle.turn_board.specs.Moving.{TakenOut}
 use Rattle.turn_steps.specs.Passes.{held}
-use Rattle.turn_steps.proofs.Rows.{length-map}
 use Rattle.turn_board.proofs.Returns.{held-near}
 use Rattle.turn_board.proofs.Several.{Walk, walk-start, walk-end, walk-next, low-near, low-from, low-set, low-gap, less-left, with-bit, more-bits, emptied-to, emptied-one, taken_out-start, taken_out-to, taken_out-one}
 use Rattle.turn_board.proofs.board.Board.take_out_all.Goals as goal
@@ -46,7 +46,7 @@ push-requires g c =
     let more = more-bits c.args.set (t + 1) (n - (t + 1)) in
     let all = ap (λ i. length (bits_of c.args.set i)) (let q : n - (t + 1) + (t + 1) ≡ n = omega arith in q) in
     let one = ap length (with-bit c.args.set t bit) ∙ length-append (bits_of c.args.set t) (t ∷ []) in
-    let so-far = sym (length-map (λ y. y.0) l.new) ∙ ap length l.rising in
+    let so-far = sym (length-map l.new (λ y. y.0)) ∙ ap length l.rising in
     let long = ap length l.added ∙ length-append c.args.hands.now.pairs l.new in
     let room = c.requires.room in
     let same = inv.room in
