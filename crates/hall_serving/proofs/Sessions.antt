@@ -1,5 +1,5 @@
 -- The callers of a hall, put into jobs and taken out of them.
-use Rattle.std.proofs.Common.{◌≡◌, ℕ, zero, suc, ◌<◌, ◌≤◌, arith, List, [], ◌∷◌, Option, Some, length, map, slice_get, slice_index_or, get_or, option_map, refl, sym, ◌∙◌, ap, subst}
+use Rattle.std.proofs.Common.{◌≡◌, ℕ, zero, suc, ◌<◌, ◌≤◌, arith, List, [], ◌∷◌, Some, length, slice_get, slice_index_or, get_or, option_map, refl, sym, ◌∙◌, ap, subst}
 use Rattle.std.specs.List.{AllByRecursion}
 use Rattle.std.proofs.lemmas.List.{length-map}
 use Rattle.std.proofs.lemmas.Option.{slice_get_within, slice_get-get_or, slice_get-map, get_or_from_slice_get}
@@ -8,41 +8,28 @@ use Rattle.session_hall.specs.declared.hall.Hall.{Hall}
 use Rattle.session_hall.specs.declared.caller.Caller.{Caller}
 use Rattle.session_hall.specs.Closings.{Opens, Leaves}
 use Rattle.session_hall.specs.Stages.{IsBetween}
+use Rattle.turn_board.proofs.Rows.{map-read}
 use Rattle.hall_serving.specs.declared.job.Job.{Job}
-use Rattle.hall_serving.specs.Jobs.{IsJobOf, HasRoom, HasServed, callers_of}
+use Rattle.hall_serving.specs.Jobs.{IsJobOf, HasServed, callers_of}
 use Rattle.hall_serving.specs.Sessions.{IsOpened}
 
 all_from : {X : Type 0} (P : X → Type 0) (xs : List X) → ((i : ℕ) (x : X) → slice_get xs i ≡ Some x → P x) → AllByRecursion P xs
 all_from P [] each = tt
 all_from P (x ∷ xs) each = (each 0 x refl, all_from P xs (λ i. each (suc i)))
 
-at_place : {X : Type 0} (P : X → Type 0) (xs : List X) (i : ℕ) (x : X) → AllByRecursion P xs → slice_get xs i ≡ Some x → P x
-at_place P [] i x all e = cc
-at_place P (y ∷ xs) zero x all e = subst P (head_is e) all.0
-  where
-    head_is : ◌≡◌ {A = Option _} (Some y) (Some x) → y ≡ x
-    head_is h = cc
-at_place P (y ∷ xs) (suc i) x all e = at_place P xs i x all.1 e
-
-at_map : {X Y : Type 0} (f : X → Y) (xs : List X) (i : ℕ) (y : Y) → slice_get (map f xs) i ≡ Some y → (x : X) × (slice_get xs i ≡ Some x) × (f x ≡ y)
-at_map f [] i y e = cc
-at_map f (x ∷ xs) zero y e = (x, refl, cc)
-at_map f (x ∷ xs) (suc i) y e = at_map f xs i y e
-
 module _ {S : Type 0} (meaning : S → Meaning) (h : Hall S) where
-  pub jobs_begin : (js : List (Job S)) (cs : List (Caller S)) → callers_of js ≡ cs → AllByRecursion HasRoom js → ((i : ℕ) (c : Caller S) → slice_get cs i ≡ Some c → Opens meaning h i c) → AllByRecursion (IsJobOf meaning h) js
-  jobs_begin js cs same rooms opens = all_from (IsJobOf meaning h) js (λ i j at.
+  pub jobs_begin : (js : List (Job S)) (cs : List (Caller S)) → callers_of js ≡ cs → ((i : ℕ) (c : Caller S) → slice_get cs i ≡ Some c → Opens meaning h i c) → AllByRecursion (IsJobOf meaning h) js
+  jobs_begin js cs same opens = all_from (IsJobOf meaning h) js (λ i j at.
       let here : slice_get cs i ≡ Some j.caller = ap (λ l. slice_get l i) (sym same) ∙ slice_get-map (λ (x : Job S). x.caller) js i ∙ ap (option_map (λ (x : Job S). x.caller)) at in
       let o = opens i j.caller here in
-      record { caller = o.caller; between = subst IsBetween (sym o.idle) tt; ready = at_place HasRoom js i j rooms at })
+      record { caller = o.caller; between = subst IsBetween (sym o.idle) tt })
 
-  pub opened : (js : List (Job S)) (cs left : List (Caller S)) (callers room : ℕ) → callers_of js ≡ cs → AllByRecursion HasRoom js → ((i : ℕ) (c : Caller S) → slice_get cs i ≡ Some c → Opens meaning h i c) → length cs ≡ callers → h.sizes.callers ≡ callers → 1 ≤ callers → left ≡ []
+  pub opened : (js : List (Job S)) (cs left : List (Caller S)) (callers room : ℕ) → callers_of js ≡ cs → ((i : ℕ) (c : Caller S) → slice_get cs i ≡ Some c → Opens meaning h i c) → length cs ≡ callers → h.sizes.callers ≡ callers → 1 ≤ callers → left ≡ []
       → length cs ≤ room → IsOpened meaning h js left room
-  opened js cs left callers room same ready opens count sizes some none roomy =
+  opened js cs left callers room same opens count sizes some none roomy =
       let long : length js ≡ length cs = sym (length-map js (λ (x : Job S). x.caller)) ∙ ap (λ (l : List (Caller S)). length l) same in
       record {
         opens = λ i c at. opens i c (ap (λ l. slice_get l i) (sym same) ∙ at);
-        ready = ready;
         all = long ∙ count ∙ sym sizes;
         some = omega (arith, long, count, some);
         none = none;
@@ -52,7 +39,7 @@ module _ {S : Type 0} (meaning : S → Meaning) (h : Hall S) where
   pub callers_leave : (js ks : List (Job S)) (cs ds : List (Caller S)) → callers_of js ≡ cs → ds ≡ callers_of ks → length ks ≡ length js → ((i : ℕ) (c : Caller S) → slice_get cs i ≡ Some c → Opens meaning h i c)
       → ((i : ℕ) (d : Job S) → i < length js → HasServed meaning h (slice_index_or js i d) (slice_index_or ks i d)) → (i : ℕ) (c : Caller S) → slice_get ds i ≡ Some c → Leaves meaning h i c
   callers_leave js ks cs ds same back len opens served i c e =
-      let there = at_map (λ (x : Job S). x.caller) ks i c (ap (λ l. slice_get l i) (sym back) ∙ e) in
+      let there = map-read (λ (x : Job S). x.caller) ks i c (ap (λ l. slice_get l i) (sym back) ∙ e) in
       let k = there.0 in
       let low : i < length js = subst (λ n. i < n) len (slice_get_within ks i k there.1) in
       let j : Job S = get_or js i k in

@@ -1,13 +1,11 @@
 -- What contracts say of the jobs of a session.
-use Rattle.std.specs.Prelude.{◌≡◌, List, map, true}
-use Rattle.std.specs.List.{AllByRecursion}
+use Rattle.std.specs.Prelude.{◌≡◌, List, map}
 use Rattle.session_journal.specs.Script.{Meaning}
 use Rattle.session_hall.specs.declared.hall.Hall.{Hall}
 use Rattle.session_hall.specs.declared.caller.Caller.{Caller}
 use Rattle.session_hall.specs.declared.stage.Stage.TheVariants.{Out}
 use Rattle.session_hall.specs.Callers.{IsCallerOf}
 use Rattle.session_hall.specs.Stages.{IsBetween}
-use Rattle.ticket_serving.specs.Scratches.{ScratchView}
 use Rattle.hall_serving.specs.declared.job.Job.{Job}
 
 abbrev pub JobOf : Type 0 → Type 0
@@ -17,22 +15,10 @@ JobOf S = Job S
 abbrev pub callers_of : {S : Type 0} → List (Job S) → List (Caller S)
 callers_of js = map (λ j. j.caller) js
 
--- the scratch has its room
-abbrev pub IsReady : ScratchView → Type 0
-IsReady s = s.ready ≡ true
-
--- the job's scratch has its room
-abbrev pub HasRoom : {S : Type 0} → Job S → Type 0
-HasRoom j = j.scratch.ready ≡ true
-
-abbrev pub AllReady : List ScratchView → Type 0
-AllReady ss = AllByRecursion IsReady ss
-
 -- its caller is one of the hall's, and serves nothing
 pub record IsJobOf {S : Type 0} (meaning : S → Meaning) (h : Hall S) (j : Job S) : Type 0 where
   pub caller : IsCallerOf meaning h j.caller
   pub between : IsBetween j.caller.stage
-  pub ready : j.scratch.ready ≡ true
 
 -- its caller is the same one of the hall, and is out
 pub record HasServed {S : Type 0} (meaning : S → Meaning) (h : Hall S) (p q : Job S) : Type 0 where

@@ -1,8 +1,8 @@
 // A job: a caller that serves tickets until none is left.
 
-ghost use Rattle.std.specs.Prelude.{◌≡◌, ◌<◌, [], Some, true};
+ghost use Rattle.std.specs.Prelude.{◌≡◌, ◌<◌, [], Some};
 ghost use Rattle.session_journal.specs.Journal.{begun, ended};
-ghost use Rattle.session_hall.specs.Callers.{IsCallerOf, book_of, entries_of, foresight_of};
+ghost use Rattle.session_hall.specs.Callers.{IsCallerOf, StaysCaller, book_of, entries_of, foresight_of};
 ghost use Rattle.session_hall.specs.Names.{script_of};
 ghost use Rattle.session_hall.specs.declared.stage.Stage.TheVariants.{Idle, Serving};
 ghost use Rattle.hall_serving.specs.Jobs.{IsJobOf, HasServed};
@@ -10,11 +10,10 @@ ghost use Rattle.hall_serving.specs.Jobs.{IsJobOf, HasServed};
 use crate::desk::HallDesk;
 use crate::pause::Pause;
 use session_hall::{Caller, Hall};
-use session_journal::Script;
+use session_journal::{Scratch, Script, Serves};
 use session_values::Reply;
 use std::sync::Wait;
 use std::thread::Threads;
-use ticket_serving::{Scratch, Serves};
 use worker_gate::{Gate, Place};
 
 /// A caller and the room that it serves with.
@@ -37,14 +36,11 @@ fn serve_ticket<R: Threads + Wait + Sync, S: Serves + Drop, G: Gate>(
 ) -> Reply
     requires caller { IsCallerOf S.meaning hall.now caller.old }
     requires plan { script_of hall.now ≡ plan.now }
-    requires ready { scratch.old.ready ≡ true }
     requires stage { caller.old.stage ≡ Serving ticket }
     requires within { ticket < (S.meaning plan.now).requests }
     requires fresh { entries_of caller.old ticket ≡ [] }
     requires entry { foresight_of caller.old ≡ (S.meaning plan.now).entry ticket }
-    ensures caller { IsCallerOf S.meaning hall.now caller.new }
-    ensures same { caller.new.number ≡ caller.old.number }
-    ensures ready { scratch.new.ready ≡ true }
+    ensures caller { StaysCaller S.meaning hall.now caller.old caller.new }
     ensures idle { caller.new.stage ≡ Idle }
     ensures known { (ticket < begun (book_of caller.new).journal)
         × (ended (book_of caller.new).journal ticket ≡ Some result) }

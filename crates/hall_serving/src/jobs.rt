@@ -3,15 +3,14 @@
 ghost use Rattle.std.specs.Prelude.{◌≡◌, ℕ, ◌<◌, ◌≤◌, [], length, slice_index_or, vec_len, vec_capacity};
 ghost use Rattle.std.specs.List.{AllByRecursion};
 ghost use Rattle.session_hall.specs.Names.{script_of};
-ghost use Rattle.hall_serving.specs.Jobs.{IsJobOf, HasServed, HasRoom, JobOf, callers_of, AllReady};
+ghost use Rattle.hall_serving.specs.Jobs.{IsJobOf, HasServed, JobOf, callers_of};
 
 use crate::job::{Job, serve_tickets};
 use session_hall::{Caller, Hall};
-use session_journal::Script;
+use session_journal::{Scratch, Script, Serves};
 use std::sync::Wait;
 use std::thread;
 use std::thread::Threads;
-use ticket_serving::{Scratch, Serves};
 use worker_gate::Gate;
 
 // Gives each caller a scratch.
@@ -21,11 +20,9 @@ pub(crate) fn begin_jobs<S: Script + Drop>(
     jobs: &mut Vec<Job<S>>,
 )
     requires same { vec_len scratches.old ≡ vec_len callers.old }
-    requires ready { AllReady scratches.old.items }
     requires empty { jobs.old.items ≡ [] }
     requires room { vec_len callers.old ≤ vec_capacity jobs.old }
     ensures jobs { callers_of jobs.new.items ≡ callers.old.items }
-    ensures ready { AllByRecursion HasRoom jobs.new.items }
     ensures callers { (callers.new.items ≡ [])
         × (vec_capacity callers.new ≡ vec_capacity callers.old) }
 {

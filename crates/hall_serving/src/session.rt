@@ -3,18 +3,16 @@
 ghost use Rattle.std.specs.Prelude.{◌≡◌, ◌≤◌, IfOk, length, vec_len};
 ghost use Rattle.session_limits.specs.Limits.{max_callers, max_shards, max_tables};
 ghost use Rattle.session_hall.specs.Closings.{IsDone};
-ghost use Rattle.hall_serving.specs.Jobs.{AllReady};
 
 use crate::job::Job;
 use crate::jobs::{begin_jobs, end_jobs, serve_all};
 use session_hall::{Caller, Closed, Hall};
-use session_journal::Script;
+use session_journal::{Scratch, Script, Serves};
 use session_values::{Listed, NoMemory, TableKind};
 use std::alloc::Global;
 use std::marker::Model;
 use std::sync::Wait;
 use std::thread::Threads;
-use ticket_serving::{Scratch, Serves};
 use worker_gate::Gate;
 
 /// A session whose hall is open. Only `open_session` makes one. It has all the memory that serving
@@ -48,7 +46,6 @@ impl<S: Script + Drop> Model for OpenSession<S> {
 // Scratches for so many jobs.
 fn make_scratches(alloc: Global, count: u32) -> Result<Vec<Scratch>, NoMemory>
     ensures len { IfOk result (λ v. vec_len v ≡ count) }
-    ensures ready { IfOk result (λ v. AllReady v.items) }
 {
     let mut scratches = Vec::with_capacity(alloc, count as usize)?;
     for made in 0..count {

@@ -2,7 +2,6 @@
 use Rattle.std.proofs.Common.{◌≡◌, ℕ, zero, suc, ◌+◌, ◌<◌, ◌≤◌, ◌==◌, arith, Bool, true, false, ◌&&◌, if◌then◌else◌, cond, List, [], ◌∷◌, length, nat_lt, Option, None, slice_get, refl, sym, ap, ◌∙◌, subst}
 use Rattle.std.specs.Prelude.{slice_index_or}
 use Rattle.std.specs.List.{AllByRecursion, sum_by}
-use Rattle.std.proofs.Math.Nat.{mul-le-mul_left}
 use Rattle.std.proofs.lemmas.Bool.Decides.{nat_tests}
 use Rattle.std.proofs.lemmas.List.{get_or_past}
 use Rattle.std.proofs.lemmas.List.Sums.{sum_by-cons}
@@ -12,10 +11,11 @@ use Rattle.session_values.specs.Dialogue.{Next, Calls, Answers, Entry, rest}
 use Rattle.session_values.specs.Kinds.{is_adding}
 use Rattle.session_values.specs.Sums.{sum_below}
 use Rattle.session_values.specs.Values.{IsValue}
+use Rattle.session_values.proofs.Sums.{sum_below_le, sum_first}
 use Rattle.symbolic_ops.specs.declared.symbol.Symbol.{Symbol}
 use Rattle.session_journal.specs.Script.{HasValues, IsForesight, IsScript, adds_on, calls, room}
 use Rattle.check_meaning.specs.Bounds.{adding, adds_bound, calls_bound, weight_of}
-use Rattle.check_meaning.specs.Code.{Code, Finish, Move, Ask, Fork, Loop, Quit}
+use Rattle.check_meaning.specs.Code.{Code, Finish}
 use Rattle.check_meaning.specs.Dialogue.{Env, Place, entry, env_of, next, run, told_place, due_place}
 use Rattle.check_meaning.specs.Keeps.{IsHeldNext}
 use Rattle.check_meaning.proofs.Bounded.{counted, ends_by}
@@ -23,6 +23,7 @@ use Rattle.check_meaning.proofs.Held.{calls_fit, keeps_values}
 use Rattle.handler_check.specs.Checked.{HandlerWithin}
 use Rattle.handler_check.specs.Resolved.{code_at, code_in, shape_of}
 use Rattle.handler_check.proofs.Codes.{all_within}
+use Rattle.handler_check.proofs.Within.{adds_fewer}
 use Rattle.syntax_trees.specs.declared.file.File.{File}
 use Rattle.syntax_trees.specs.declared.file.Handler.{Handler}
 use Rattle.request_files.specs.declared.request.Request.{Request}
@@ -37,14 +38,6 @@ use Rattle.handler_machine.specs.Serving.{Gives}
 -- ---- sums over tickets
 pub sum_more : (n : ℕ) (f : ℕ → ℕ) → sum_below (n + 1) f ≡ sum_below n f + f n
 sum_more n f = (let e : n + 1 ≡ suc n = omega arith in ap (λ (k : ℕ). sum_below k f) e)
-
-sum_first : (n : ℕ) (f : ℕ → ℕ) → sum_below (suc n) f ≡ f 0 + sum_below n (λ t. f (suc t))
-sum_first zero f = omega arith
-sum_first (suc n) f = (let h = sum_first n f in omega arith)
-
-pub sum_less : (n : ℕ) (f g : ℕ → ℕ) → ((t : ℕ) → f t ≤ g t) → sum_below n f ≤ sum_below n g
-sum_less zero f g h = omega arith
-sum_less (suc n) f g h = (let l = sum_less n f g h in let k = h n in omega arith)
 
 sum_listed : (g : Request → ℕ) (rs : List Request) → sum_below (length rs) (λ t. g (request_at rs t)) ≡ sum_by g rs
 sum_listed g [] = refl
@@ -62,18 +55,6 @@ request_is f (r ∷ rs) zero l h = h.0
 request_is f (r ∷ rs) (suc t) l h = request_is f rs t (omega arith) h.1
 
 -- ---- bounds
-one_at_most : (b : Bool) → (if b then 1 else 0) ≤ 1
-one_at_most true = omega arith
-one_at_most false = omega arith
-
-adds_fewer : (t : ℕ) (c : Code) → adds_bound t c ≤ calls_bound c
-adds_fewer t Finish = omega arith
-adds_fewer t (Move x e rest) = adds_fewer t rest
-adds_fewer t (Ask at p x c rest) = (let a : (if is_adding c.kind && c.table == t then 1 else 0) ≤ 1 = one_at_most (is_adding c.kind && c.table == t) in let b = adds_fewer t rest in omega arith)
-adds_fewer t (Fork at p q test a b rest) = (let x = adds_fewer t a in let y = adds_fewer t b in let z = adds_fewer t rest in omega arith)
-adds_fewer t (Loop at p n x body rest) = (let y = mul-le-mul_left n (adds_fewer t body) in let z = adds_fewer t rest in omega arith)
-adds_fewer t (Quit es rest) = adds_fewer t rest
-
 same_bit : (b : Bool) → cond {A = ℕ} b 1 0 ≡ (if b then 1 else 0)
 same_bit true = refl
 same_bit false = refl
@@ -151,7 +132,7 @@ module _ (s : ScriptsView) (k : KeepsScripts s.program s.requests) where
 
   few_adds : (i : ℕ) → room (meaning s) i ≤ 200000
   few_adds i =
-      let h : room (meaning s) i ≤ calls (meaning s) = sum_less (length s.requests) (λ t. adds_bound i (code t)) (λ t. calls_bound (code t)) (λ t. adds_fewer i (code t)) in
+      let h : room (meaning s) i ≤ calls (meaning s) = sum_below_le (length s.requests) (λ t. adds_bound i (code t)) (λ t. calls_bound (code t)) (λ t. adds_fewer i (code t)) in
       let l = few_calls in
       omega arith
 

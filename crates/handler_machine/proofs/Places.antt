@@ -1,23 +1,12 @@
 -- The places of a run.
-use Rattle.std.proofs.Common.{◌≡◌, suc, ◌+◌, arith, Bool, true, false, if◌then◌else◌, List, [], ◌∷◌, ◌++◌, length, append_assoc, Result, Ok, Err, OnErr, refl, sym, ap}
-use Rattle.session_values.specs.Dialogue.{Entry, replies}
-use Rattle.check_meaning.specs.Dialogue.{Place, Outcome, Calls, Answers, Goes, after, ended, last_place, last_replied, passed_by}
+use Rattle.std.proofs.Common.{◌≡◌, ◌+◌, arith, Bool, true, false, if◌then◌else◌, List, [], ◌∷◌, ◌++◌, append_assoc, Result, Ok, Err, OnErr, refl, sym, ap}
+use Rattle.check_meaning.specs.Dialogue.{Place, Outcome, Calls, Answers, Goes, after, last_place, last_replied, passed_by}
 use Rattle.handler_machine.specs.Serving.{replied_count}
-
-pub after_none : (o : Outcome) → after [] o ≡ o
-after_none (Calls rs op) = refl
-after_none (Answers rs vs) = refl
-after_none (Goes rs env left) = refl
 
 pub passed_after : (ps : List Place) (o : Outcome) → passed_by (after ps o) ≡ ps ++ passed_by o
 passed_after ps (Calls qs op) = refl
 passed_after ps (Answers qs vs) = refl
 passed_after ps (Goes qs env left) = refl
-
-pub ended_after : (ps : List Place) (o : Outcome) → ended (after ps o) ≡ ended o
-ended_after ps (Calls qs op) = refl
-ended_after ps (Answers qs vs) = refl
-ended_after ps (Goes qs env left) = refl
 
 pub after_snoc : (ps : List Place) (p : Place) (o : Outcome) → after ps (after (p ∷ []) o) ≡ after (ps ++ p ∷ []) o
 after_snoc ps p (Calls qs op) = ap (λ (zs : List Place). Calls zs op) (sym (append_assoc ps (p ∷ []) qs))
@@ -44,10 +33,6 @@ picks false p at ps h more = more at (omega (arith, h))
 pub none_replied : (at : Place) (ps : List Place) → replied_count ps ≡ 0 → last_replied at ps ≡ at
 none_replied at [] h = refl
 none_replied at (p ∷ ps) h = picks p.replied p at ps h (λ q k. none_replied q ps k)
-
-pub length_replies : (es : List Entry) → length (replies es) ≡ length es
-length_replies [] = refl
-length_replies (e ∷ es) = ap suc (length_replies es)
 
 -- ---- results
 pub on_err : {X E : Type 0} (r : Result X E) (P : Type 0) → P → OnErr r P

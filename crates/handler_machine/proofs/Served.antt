@@ -7,18 +7,20 @@ use Rattle.session_values.specs.declared.value.Value.{Value}
 use Rattle.session_values.specs.Dialogue.{Calls as NextCalls, Answers as NextAnswers, Dialogue, Entry, Follows, replies}
 use Rattle.session_values.specs.Values.{IsValue}
 use Rattle.symbolic_ops.specs.declared.arg.Arg.{Arg}
+use Rattle.session_values.proofs.Entries.{follows_more, length_replies}
 use Rattle.symbolic_ops.specs.declared.arg.Arg.TheVariants.{Known, Var, Any}
 use Rattle.symbolic_ops.specs.declared.symbol.Symbol.{Symbol}
 use Rattle.symbolic_ops.specs.Instantiate.{ArgWithin, IsWithin}
 use Rattle.symbolic_ops.specs.Matching.{Covered, Matches}
 use Rattle.session_journal.specs.Desks.{DeskView, MayFinish, MayNarrow, due_of, finished, next_of, with_end, with_entry, with_present, with_waiting}
-use Rattle.ticket_serving.specs.Served.{IsServed}
+use Rattle.session_journal.specs.Served.{IsServed}
 use Rattle.check_meaning.specs.Ahead.{Ahead, asked, passing}
 use Rattle.check_meaning.specs.Dialogue.{Env, Place, Outcome, Calls, after, ended, last_place, last_replied, pass, passed_by}
-use Rattle.machine_walk.proofs.Asked.{follows_more, replies_more}
+use Rattle.check_meaning.proofs.Runs.{after_none, ended_after}
+use Rattle.machine_walk.proofs.Asked.{replies_more}
 use Rattle.declaration_insertion.specs.Promises.{Declarations, IsCoveredChain, list_at}
 use Rattle.handler_machine.specs.Serving.{Course, Gives, Halted, IsAwaiting, IsServing, Promises, Serving, replied_count}
-use Rattle.handler_machine.proofs.Places.{after_none, after_snoc, count_append, ended_after, last_append, length_replies, none_replied, passed_after, replied_append}
+use Rattle.handler_machine.proofs.Places.{after_snoc, count_append, last_append, none_replied, passed_after, replied_append}
 
 values_more : (es : List Entry) (e : Entry) → AllByRecursion IsValue (replies es) → IsValue e.reply → AllByRecursion IsValue (replies (es ++ e ∷ []))
 values_more [] e h v = (v, tt)

@@ -10,7 +10,7 @@ use Rattle.symbolic_ops.specs.declared.symbol.Symbol.{Symbol}
 use Rattle.symbolic_ops.specs.Matching.{HasNoVar, Matches}
 use Rattle.session_journal.specs.Desks.{DeskView, MayNarrow, with_present}
 use Rattle.session_journal.specs.Script.{Meaning}
-use Rattle.ticket_serving.specs.Served.{IsStopped}
+use Rattle.session_journal.specs.Served.{IsStopped}
 use Rattle.check_meaning.specs.Ahead.{Ahead}
 use Rattle.check_meaning.specs.Code.{points}
 use Rattle.handler_check.specs.Resolved.{code_at}

@@ -1,6 +1,6 @@
 // A walk at a desk, which is told of each declaration that is passed.
 
-ghost use Rattle.std.specs.Prelude.{◌≡◌, ℕ, ◌+◌, ◌<◌, ◌≤◌, [], true, IfOk, length, map, slice_index_or, vec_len};
+ghost use Rattle.std.specs.Prelude.{◌≡◌, ℕ, ◌+◌, ◌<◌, ◌≤◌, [], true, IfOk, length, map, slice_index_or};
 ghost use Rattle.session_limits.specs.Limits.{max_symbols, max_variables};
 ghost use Rattle.session_values.specs.declared.value.Value.TheVariants.{Nil};
 ghost use Rattle.session_values.specs.Values.{IsValue};
@@ -106,11 +106,11 @@ pub(crate) struct Narrowing<'a, R> {
     /// How many variables the handler has.
     pub(crate) variables: usize,
     /// Room for a declaration with its values, for 256 symbols.
-    pub(crate) next: Foresight,
+    pub(crate) next: &'a mut Foresight,
     /// The point that was passed last.
     pub(crate) point: u32,
     /// The values of the variables at that point, where the desk has still to be told of it.
-    pub(crate) values: Vec<Value>,
+    pub(crate) values: &'a mut [Value],
     /// Nothing is declared any more. What is declared later is covered by that, so it is nothing
     /// too, and the desk needn't be told.
     pub(crate) settled: bool,
@@ -119,29 +119,35 @@ pub(crate) struct Narrowing<'a, R> {
     pub(crate) kinds: KindCounts,
     ghost exists: { handler < length program.now.file.handlers },
     ghost counted: { variables ≡ length (variables_at program.now.file handler) },
-    ghost room: { vec_len values ≡ max_variables },
+    ghost room: { length values.now ≡ max_variables },
     ghost within: { point < 1 + points (code_at program.now.file handler) },
 }
 
 impl<'a, R: Threads + Wait + Sync, D: Desk> Guide<D> for Narrowing<'a, R> {
     ghost variables = { max_variables };
 
-    ghost Serves = { λ n whole start now ahead. (D.script now ≡ D.script start)
-        × IsServing (course_of (D.Served.meaning (D.script start)) (D.at start)
+    ghost Serves = { λ n whole start now ahead. (D.script now ≡ D.script start.1)
+        × IsServing (course_of (D.Served.meaning (D.script start.1)) (D.at start.1)
         n.program.now n.handler whole) (once_told n.late (list_with (declared_at n.program.now
-        n.handler) n.point n.values.items) (D.at now)) n.next.room ahead
+        n.handler) n.point n.values.now) (D.at now)) n.next.now.room ahead
         × IsSettled n.settled (once_told n.late (list_with (declared_at n.program.now n.handler)
-        n.point n.values.items) (D.at now))
-        × MayTell (D.Served.meaning (D.script start)) n.late (list_with (declared_at n.program.now
-        n.handler) n.point n.values.items) (D.at now) };
+        n.point n.values.now) (D.at now))
+        × MayTell (D.Served.meaning (D.script start.1)) n.late (list_with (declared_at n.program.now
+        n.handler) n.point n.values.now) (D.at now)
+        × (n.next.ghost_name ≡ start.0.next.ghost_name)
+        × (n.values.ghost_name ≡ start.0.values.ghost_name) };
 
-    ghost Waits = { λ n whole start now ahead. (D.script now ≡ D.script start)
-        × IsAwaiting (course_of (D.Served.meaning (D.script start)) (D.at start)
-        n.program.now n.handler whole) (D.at now) n.next.room ahead };
+    ghost Waits = { λ n whole start now ahead. (D.script now ≡ D.script start.1)
+        × IsAwaiting (course_of (D.Served.meaning (D.script start.1)) (D.at start.1)
+        n.program.now n.handler whole) (D.at now) n.next.now.room ahead
+        × (n.next.ghost_name ≡ start.0.next.ghost_name)
+        × (n.values.ghost_name ≡ start.0.values.ghost_name) };
 
-    ghost Stops = { λ n whole start now. (D.script now ≡ D.script start)
-        × Halted (course_of (D.Served.meaning (D.script start)) (D.at start)
-        n.program.now n.handler whole) (D.at now) n.next.room };
+    ghost Stops = { λ n whole start now. (D.script now ≡ D.script start.1)
+        × Halted (course_of (D.Served.meaning (D.script start.1)) (D.at start.1)
+        n.program.now n.handler whole) (D.at now) n.next.now.room
+        × (n.next.ghost_name ≡ start.0.next.ghost_name)
+        × (n.values.ghost_name ≡ start.0.values.ghost_name) };
 
     fn call(&mut self, host: &mut D, op: Op) -> Result<Value, NoMemory> {
         take_late(
@@ -149,17 +155,17 @@ impl<'a, R: Threads + Wait + Sync, D: Desk> Guide<D> for Narrowing<'a, R> {
             self.program,
             self.handler,
             self.point,
-            self.values.as_slice(),
-            &mut self.next,
+            self.values,
+            self.next,
         );
-        host.tell(self.rt, self.late, &self.next);
+        host.tell(self.rt, self.late, self.next);
         self.late = false;
         held(host.call(self.rt, op))
     }
 
     fn replied(&mut self, host: &mut D, point: u32, env: &[Value]) {
-        let nothing = take_declaration(self.program, self.handler, point, env, &mut self.next);
-        host.finish_with(self.rt, &mut self.next);
+        let nothing = take_declaration(self.program, self.handler, point, env, self.next);
+        host.finish_with(self.rt, self.next);
         self.late = false;
         self.point = point;
         self.settled = nothing;
@@ -177,13 +183,13 @@ impl<'a, R: Threads + Wait + Sync, D: Desk> Guide<D> for Narrowing<'a, R> {
         {
             // What a program declares hangs on its handler's own variables alone.
             let _checked = self.program.checked();
-            keep_values(self.values.as_mut_slice(), env, self.variables);
+            keep_values(self.values, env, self.variables);
             self.late = true;
             return;
         }
-        let nothing = take_declaration(self.program, self.handler, point, env, &mut self.next);
+        let nothing = take_declaration(self.program, self.handler, point, env, self.next);
         self.settled = nothing;
-        host.declare(self.rt, &self.next);
+        host.declare(self.rt, self.next);
         self.late = false;
     }
 }

@@ -1,14 +1,14 @@
 // Running a handler on what answers its operations.
 
-ghost use Rattle.std.specs.Prelude.{◌≡◌, ◌<◌, true, false, length, IfOk, OnErr};
+ghost use Rattle.std.specs.Prelude.{◌≡◌, ◌<◌, false, length, IfOk, OnErr};
 ghost use Rattle.check_meaning.specs.Dialogue.{env_of, next};
 ghost use Rattle.handler_check.specs.Resolved.{code_at, params_at, shape_of};
 ghost use Rattle.machine_walk.specs.Asking.{Breaks, Runs, Stays};
 
 use handler_check::Checked;
 use machine_walk::{Answerer, run_body};
+use session_journal::Scratch;
 use session_values::{NoMemory, Reply, Value};
-use ticket_serving::Scratch;
 
 /// Runs a handler of a checked file with these arguments. Want of memory comes only where what
 /// answers isn't sure.
@@ -22,8 +22,6 @@ pub fn run_handler<A: Answerer>(
     requires handler { h < length checked.now.handlers }
     requires args { length args.now ≡ params_at checked.now h }
     requires shape { A.shape who.old ≡ shape_of checked.now }
-    requires ready { scratch.old.ready ≡ true }
-    ensures ready { scratch.new.ready ≡ true }
     // The exact list of calls: each is the one that the handler calls after the replies before it.
     ensures runs { IfOk result (λ reply. Runs A.Step
         (next (code_at checked.now h) (env_of args.now)) who.old who.new reply) }
@@ -33,9 +31,5 @@ pub fn run_handler<A: Answerer>(
     ensures stays { Stays A.shape A.sure who.old who.new }
 {
     let body = &checked.handler(h).body;
-    let room = scratch.take();
-    let mut room = room;
-    let result = run_body(body, args, room.values.as_mut_slice(), who);
-    scratch.put(room);
-    result
+    run_body(body, args, scratch.values.as_mut_slice(), who)
 }

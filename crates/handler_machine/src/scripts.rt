@@ -9,14 +9,13 @@ use declaration_insertion::Program;
 use handler_check::Checked;
 use machine_walk::put_args;
 use request_files::Requests;
-use session_journal::{Desk, Script};
+use session_journal::{Desk, Scratch, Script, Serves};
 use session_limits::MAX_VARIABLES;
 use session_values::{NoMemory, Value};
 use std::marker::Model;
 use std::sync::Wait;
 use std::thread::Threads;
 use symbolic_ops::{Foresight, instantiate};
-use ticket_serving::{Scratch, Serves};
 
 /// A program and the requests that were read for it: each request is a ticket.
 #[derive(Drop)]

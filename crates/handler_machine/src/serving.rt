@@ -1,13 +1,13 @@
 // Serving a handler at a desk.
 
-ghost use Rattle.std.specs.Prelude.{◌≡◌, ◌+◌, ◌≤◌, ◌<◌, [], None, true, false, length, IfOk, OnErr};
+ghost use Rattle.std.specs.Prelude.{◌≡◌, ◌+◌, ◌≤◌, ◌<◌, [], None, false, length, IfOk, OnErr};
 ghost use Rattle.std.specs.List.{AllByRecursion};
 ghost use Rattle.session_limits.specs.Limits.{max_symbols, max_variables};
 ghost use Rattle.session_values.specs.Values.{IsValue};
 ghost use Rattle.check_meaning.specs.Code.{block_code, points};
 ghost use Rattle.check_meaning.specs.Dialogue.{entry, env_of, run};
 ghost use Rattle.machine_walk.specs.Runnable.{IsRunnable};
-ghost use Rattle.ticket_serving.specs.Served.{IsServed, IsStopped};
+ghost use Rattle.session_journal.specs.Served.{IsServed, IsStopped};
 ghost use Rattle.handler_check.specs.Resolved.{code_at, params_at, variables_at};
 ghost use Rattle.declaration_insertion.specs.Promises.{list_at};
 ghost use Rattle.declaration_insertion.specs.Program.{declared_at};
@@ -19,11 +19,11 @@ use crate::telling::TellsLate;
 use check_meaning::{CheckedBlock, CheckedHandler};
 use declaration_insertion::Program;
 use machine_walk::{set_up, walk_body};
-use session_journal::{Desk, Script};
+use session_journal::{Desk, Scratch, Script};
 use session_values::{NoMemory, Value};
 use std::sync::Wait;
 use std::thread::Threads;
-use ticket_serving::{Room, Scratch};
+use symbolic_ops::Foresight;
 
 /// Serves the body of a handler at a desk, with these values of its variables, to its end.
 fn serve_body<R: Threads + Wait + Sync, D: Desk>(
@@ -45,7 +45,7 @@ fn serve_body<R: Threads + Wait + Sync, D: Desk>(
     requires promises { Promises (1 + points (code_at guide.old.program.now.file guide.old.handler))
         (declared_at guide.old.program.now guide.old.handler) (entry (env_of env.old))
         (run (block_code body.now) (env_of env.old)) }
-    requires room { max_symbols ≤ guide.old.next.room }
+    requires room { max_symbols ≤ guide.old.next.now.room }
     requires settled { IsSettled guide.old.settled (D.at desk.old) }
     requires told { guide.old.late ≡ false }
     ensures script { D.script desk.new ≡ D.script desk.old }
@@ -53,7 +53,9 @@ fn serve_body<R: Threads + Wait + Sync, D: Desk>(
         (D.at desk.old) (D.at desk.new)) }
     ensures stopped { OnErr result (IsStopped (D.Served.meaning (D.script desk.old))
         (D.at desk.old) (D.at desk.new)) }
-    ensures room { max_symbols ≤ guide.new.next.room }
+    ensures next { guide.new.next.ghost_name ≡ guide.old.next.ghost_name }
+    ensures values { guide.new.values.ghost_name ≡ guide.old.values.ghost_name }
+    ensures room { max_symbols ≤ guide.new.next.now.room }
 {
     let reply = walk_body(guide, desk, env, body)?;
     take_late(
@@ -61,13 +63,64 @@ fn serve_body<R: Threads + Wait + Sync, D: Desk>(
         guide.program,
         guide.handler,
         guide.point,
-        guide.values.as_slice(),
-        &mut guide.next,
+        guide.values,
+        guide.next,
     );
-    desk.tell(guide.rt, guide.late, &guide.next);
+    desk.tell(guide.rt, guide.late, guide.next);
     guide.late = false;
     desk.end(guide.rt, reply);
     Ok(())
+}
+
+/// Serves a handler whose variables have these values at a desk, from its entry to its end, in room
+/// for their values at a point and for a declaration with them.
+fn serve_in_room<R: Threads + Wait + Sync, D: Desk>(
+    rt: &R,
+    program: &Program,
+    h: u32,
+    handler: &CheckedHandler,
+    env: &mut [Value],
+    kept: &mut [Value],
+    next: &mut Foresight,
+    desk: &mut D,
+) -> Result<(), NoMemory>
+    requires handler { h < length program.now.file.handlers }
+    requires own { length handler.now.variables ≡ length (variables_at program.now.file h) }
+    requires variables { max_variables ≤ length env.old }
+    requires kept { length kept.old ≡ max_variables }
+    requires room { max_symbols ≤ next.old.room }
+    requires within { IsRunnable (length env.old) (block_code handler.now.body) }
+    requires fresh { (D.at desk.old).entries ≡ [] }
+    requires idle { (D.at desk.old).waiting ≡ None }
+    requires going { (D.at desk.old).ended ≡ false }
+    requires present { (D.at desk.old).present ≡ list_at (declared_at program.now h)
+        (entry (env_of env.old)) }
+    requires gives { Gives (D.Served.meaning (D.script desk.old)) (D.at desk.old).ticket
+        (declared_at program.now h) (entry (env_of env.old))
+        (run (block_code handler.now.body) (env_of env.old)) }
+    requires promises { Promises (1 + points (code_at program.now.file h))
+        (declared_at program.now h) (entry (env_of env.old))
+        (run (block_code handler.now.body) (env_of env.old)) }
+    ensures script { D.script desk.new ≡ D.script desk.old }
+    ensures served { IfOk result (λ _. IsServed (D.Served.meaning (D.script desk.old))
+        (D.at desk.old) (D.at desk.new)) }
+    ensures stopped { OnErr result (IsStopped (D.Served.meaning (D.script desk.old))
+        (D.at desk.old) (D.at desk.new)) }
+    ensures room { max_symbols ≤ next.new.room }
+{
+    let mut guide = Narrowing {
+        rt,
+        program,
+        handler: h,
+        variables: handler.variables.len() as usize,
+        next,
+        point: 0,
+        values: kept,
+        settled: false,
+        late: false,
+        kinds: KindCounts::new(),
+    };
+    serve_body(&mut guide, desk, env, &handler.body)
 }
 
 /// Serves a handler with these arguments at a desk, from its entry to its end.
@@ -83,7 +136,6 @@ fn serve_handler<R: Threads + Wait + Sync, D: Desk>(
     requires handler { h < length program.now.file.handlers }
     requires own { length handler.now.variables ≡ length (variables_at program.now.file h) }
     requires args { length args.now ≤ max_variables }
-    requires ready { scratch.old.ready ≡ true }
     requires within { IsRunnable max_variables (block_code handler.now.body) }
     requires fresh { (D.at desk.old).entries ≡ [] }
     requires idle { (D.at desk.old).waiting ≡ None }
@@ -96,52 +148,24 @@ fn serve_handler<R: Threads + Wait + Sync, D: Desk>(
     requires promises { AllByRecursion IsValue args.now → Promises
         (1 + points (code_at program.now.file h)) (declared_at program.now h)
         (entry (env_of args.now)) (run (block_code handler.now.body) (env_of args.now)) }
-    ensures ready { scratch.new.ready ≡ true }
     ensures script { D.script desk.new ≡ D.script desk.old }
     ensures served { IfOk result (λ _. IsServed (D.Served.meaning (D.script desk.old))
         (D.at desk.old) (D.at desk.new)) }
     ensures stopped { OnErr result (IsStopped (D.Served.meaning (D.script desk.old))
         (D.at desk.old) (D.at desk.new)) }
 {
-    let Room {
-        values,
-        kept,
-        foresight,
-    } = scratch.take();
-    let mut values = values;
-    let mut guide = Narrowing {
+    let env = scratch.values.as_mut_slice();
+    set_up(env, args);
+    serve_in_room(
         rt,
         program,
-        handler: h,
-        variables: handler.variables.len() as usize,
-        next: foresight,
-        point: 0,
-        values: kept,
-        settled: false,
-        late: false,
-        kinds: KindCounts::new(),
-    };
-    let env = values.as_mut_slice();
-    set_up(env, args);
-    let result = serve_body(&mut guide, desk, env, &handler.body);
-    let Narrowing {
-        rt: _,
-        program: _,
-        handler: _,
-        variables: _,
-        next,
-        point: _,
-        values: kept,
-        settled: _,
-        late: _,
-        kinds: _,
-    } = guide;
-    scratch.put(Room {
-        values,
-        kept,
-        foresight: next,
-    });
-    result
+        h,
+        handler,
+        env,
+        scratch.kept.as_mut_slice(),
+        &mut scratch.foresight,
+        desk,
+    )
 }
 
 /// Serves a handler of a program with these arguments at a desk, from its entry to its end. At each
@@ -158,7 +182,6 @@ pub fn serve_one<R: Threads + Wait + Sync, D: Desk>(
 ) -> Result<(), NoMemory>
     requires handler { h < length program.now.file.handlers }
     requires args { length args.now ≡ params_at program.now.file h }
-    requires ready { scratch.old.ready ≡ true }
     requires fresh { (D.at desk.old).entries ≡ [] }
     requires idle { (D.at desk.old).waiting ≡ None }
     requires going { (D.at desk.old).ended ≡ false }
@@ -168,7 +191,6 @@ pub fn serve_one<R: Threads + Wait + Sync, D: Desk>(
     requires gives { Gives (D.Served.meaning (D.script desk.old)) (D.at desk.old).ticket
         (declared_at program.now h) (entry (env_of args.now))
         (run (code_at program.now.file h) (env_of args.now)) }
-    ensures ready { scratch.new.ready ≡ true }
     ensures script { D.script desk.new ≡ D.script desk.old }
     ensures served { IfOk result (λ _. IsServed (D.Served.meaning (D.script desk.old))
         (D.at desk.old) (D.at desk.new)) }

@@ -4,8 +4,9 @@ use Rattle.session_values.specs.declared.kind.TableKind.{TableKind}
 use Rattle.session_values.specs.declared.op.Op.{Op}
 use Rattle.session_values.specs.declared.reply.Reply.{Reply}
 use Rattle.session_values.specs.declared.value.Value.{Value}
-use Rattle.session_values.specs.Dialogue.{Calls, Answers, Dialogue, Entry, Follows, replies, rest}
+use Rattle.session_values.specs.Dialogue.{Calls, Answers, Dialogue, Entry, replies}
 use Rattle.session_values.specs.Tables.{Fits}
+use Rattle.session_values.proofs.Entries.{follows_more}
 use Rattle.check_meaning.specs.Ahead.{Ahead, asked, passing}
 use Rattle.check_meaning.specs.Dialogue.{Env, ended}
 use Rattle.check_meaning.specs.Keeps.{CallsFit}
@@ -20,10 +21,6 @@ match_map (Err e) P Q A B f h m = h e m
 pub replies_more : (es : List Entry) (e : Entry) (more : List Value) → replies (es ++ e ∷ []) ++ more ≡ replies es ++ (e.reply ∷ more)
 replies_more [] e more = refl
 replies_more (x ∷ es) e more = ap (λ (vs : List Value). x.reply ∷ vs) (replies_more es e more)
-
-pub follows_more : (f : Dialogue) (es : List Entry) (e : Entry) → Follows f es → f (replies es) ≡ Calls e.op → Follows f (es ++ e ∷ [])
-follows_more f [] e h c = (c, tt)
-follows_more f (x ∷ es) e h c = (h.0, follows_more (rest f (x.reply ∷ [])) es e h.1 c)
 
 module _ {H : Type 0} (step : H → Op → Value → H → Type 0) where
   steps_more : (es : List Entry) (start mid new : H) (e : Entry) → Steps step start es mid → step mid e.op e.reply new → Steps step start (es ++ e ∷ []) new

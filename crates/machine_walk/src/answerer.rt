@@ -44,11 +44,11 @@ struct Asking;
 impl<A: Answerer> Guide<A> for Asking {
     ghost variables = { 0 };
 
-    ghost Serves = { λ _ whole start now ahead. Asked A.Step A.shape A.sure whole start now ahead };
+    ghost Serves = { λ _ whole start now ahead. Asked A.Step A.shape A.sure whole start.1 now ahead };
 
-    ghost Waits = { λ _ whole start now ahead. Asked A.Step A.shape A.sure whole start now ahead };
+    ghost Waits = { λ _ whole start now ahead. Asked A.Step A.shape A.sure whole start.1 now ahead };
 
-    ghost Stops = { λ _ whole start now. Stopped A.Step A.shape A.sure whole start now };
+    ghost Stops = { λ _ whole start now. Stopped A.Step A.shape A.sure whole start.1 now };
 
     fn call(&mut self, host: &mut A, op: Op) -> Result<Value, NoMemory> {
         host.answer(op)

@@ -32,9 +32,9 @@ pub fn walk_body<H, G: Guide<H>>(
 ) -> Result<Reply, NoMemory>
     requires variables { G.variables ≤ length env.old }
     requires within { IsRunnable (length env.old) (block_code body.now) }
-    requires serves { (whole : Ahead) × (start : H)
+    requires serves { (whole : Ahead) × (start : G × H)
         × G.Serves guide.old whole start host.old (run (block_code body.now) (env_of env.old)) }
-    ensures { (whole : Ahead) (start : H)
+    ensures { (whole : Ahead) (start : G × H)
         → G.Serves guide.old whole start host.old (run (block_code body.now) (env_of env.old))
         → Ends (G.Serves guide.new whole start host.new) (G.Stops guide.new whole start host.new)
         result }
@@ -57,10 +57,10 @@ fn walk_block<H, G: Guide<H>>(
 ) -> Result<Flow, NoMemory>
     requires variables { G.variables ≤ length env.old }
     requires within { IsRunnable (length env.old) (block_code block.now) }
-    requires serves { (whole : Ahead) × (start : H) × (k : Env → Ahead)
+    requires serves { (whole : Ahead) × (start : G × H) × (k : Env → Ahead)
         × G.Serves guide.old whole start host.old
         (run_then (block_code block.now) k (env_of env.old)) }
-    ensures { (whole : Ahead) (start : H) (k : Env → Ahead)
+    ensures { (whole : Ahead) (start : G × H) (k : Env → Ahead)
         → G.Serves guide.old whole start host.old
         (run_then (block_code block.now) k (env_of env.old))
         → Leads (G.Serves guide.new whole start host.new)
@@ -88,10 +88,10 @@ fn walk_stmt<H, G: Guide<H>>(
 ) -> Result<Flow, NoMemory>
     requires variables { G.variables ≤ length env.old }
     requires within { IsRunnable (length env.old) (stmt_code stmt.now Finish) }
-    requires serves { (whole : Ahead) × (start : H) × (k : Env → Ahead)
+    requires serves { (whole : Ahead) × (start : G × H) × (k : Env → Ahead)
         × G.Serves guide.old whole start host.old
         (run_then (stmt_code stmt.now Finish) k (env_of env.old)) }
-    ensures { (whole : Ahead) (start : H) (k : Env → Ahead)
+    ensures { (whole : Ahead) (start : G × H) (k : Env → Ahead)
         → G.Serves guide.old whole start host.old
         (run_then (stmt_code stmt.now Finish) k (env_of env.old))
         → Leads (G.Serves guide.new whole start host.new)
@@ -169,10 +169,10 @@ fn walk_turns<H, G: Guide<H>>(
     requires var { var < length env.old }
     requires variables { G.variables ≤ length env.old }
     requires within { IsRunnable (length env.old) (block_code body.now) }
-    requires serves { (whole : Ahead) × (start : H) × (k : Env → Ahead)
+    requires serves { (whole : Ahead) × (start : G × H) × (k : Env → Ahead)
         × G.Serves guide.old whole start host.old
         (turns_then (run_then (block_code body.now)) var turns 0 k (env_of env.old)) }
-    ensures { (whole : Ahead) (start : H) (k : Env → Ahead)
+    ensures { (whole : Ahead) (start : G × H) (k : Env → Ahead)
         → G.Serves guide.old whole start host.old
         (turns_then (run_then (block_code body.now)) var turns 0 k (env_of env.old))
         → Leads (G.Serves guide.new whole start host.new)

@@ -1,6 +1,7 @@
 -- A ticket that calls an operation n times, at a desk.
 use Rattle.std.proofs.Common.{◌≡◌, ℕ, zero, suc, ◌+◌, ◌<◌, ◌≤◌, List, [], ◌∷◌, ◌++◌, None, false, length, Result, Ok, Err, OnErr, refl, sym, ap, ◌∙◌, subst, arith, inl}
 use Rattle.std.specs.Prelude.{replicate}
+use Rattle.std.proofs.lemmas.List.{length-append, length-replicate}
 use Rattle.session_values.specs.declared.op.Op.{Op}
 use Rattle.session_values.specs.declared.reply.Reply.{Reply}
 use Rattle.session_values.specs.declared.value.Value.{Value}
@@ -10,24 +11,16 @@ use Rattle.std.specs.List.{AllByRecursion}
 use Rattle.session_values.specs.Op.{IsHeld}
 use Rattle.symbolic_ops.specs.Matching.{Covered, HasNoVar, Matches, exact_symbol}
 use Rattle.symbolic_ops.proofs.Above.{covered_itself, exact_stands}
-use Rattle.repeated_calls.proofs.Lasts.{long_replicate}
+use Rattle.session_values.proofs.Entries.{follows_more, length_replies}
 use Rattle.session_journal.specs.Desks.{DeskView, MayFinish, finished, next_of, with_end, with_waiting}
 use Rattle.session_journal.specs.Lists.{ListView, Ticket, list_meaning, says, ticket_at}
 use Rattle.session_journal.specs.Script.{IsForesight, Meaning}
-use Rattle.ticket_serving.specs.Served.{IsServed, IsStopped}
+use Rattle.session_journal.specs.Served.{IsServed, IsStopped}
 use Rattle.repeated_calls.specs.Repeated.{Called, IsPlan, no_value, repeated}
 
 pub on_err : {X E : Type 0} (r : Result X E) (P : Type 0) → P → OnErr r P
 on_err (Ok x) P h = tt
 on_err (Err e) P h = h
-
-pub long_replies : (es : List Entry) → length (replies es) ≡ length es
-long_replies [] = refl
-long_replies (e ∷ es) = ap suc (long_replies es)
-
-pub follows_more : (f : Dialogue) (es : List Entry) (e : Entry) → Follows f es → f (replies es) ≡ Calls e.op → Follows f (es ++ e ∷ [])
-follows_more f [] e h n = (n, tt)
-follows_more f (x ∷ es) e h n = (h.0, follows_more (rest f (x.reply ∷ [])) es e h.1 n)
 
 module _ (op : Op) (r : Reply) where
   pub calls_within : (n : ℕ) (rs : List Value) → length rs < n → says (replicate n op) r rs ≡ Calls op
@@ -63,10 +56,6 @@ follows_same : (f g : Dialogue) (es : List Entry) → ((rs : List Value) → f r
 follows_same f g [] same h = tt
 follows_same f g (e ∷ es) same h = (same [] ∙ h.0, follows_same (rest f (e.reply ∷ [])) (rest g (e.reply ∷ [])) es (λ rs. same (e.reply ∷ rs)) h.1)
 
-replies_more : (es : List Entry) (e : Entry) → length (es ++ e ∷ []) ≡ length es + 1
-replies_more [] e = refl
-replies_more (x ∷ es) e = let h : length (es ++ e ∷ []) ≡ length es + 1 = replies_more es e in omega (arith, h)
-
 module _ (m : Meaning) (op : Op) (n : ℕ) (list : List Symbol) (start : DeskView) (plan : IsPlan m start.ticket op n list) where
   pub begins : start.entries ≡ [] → start.present ≡ list → start.waiting ≡ None → start.ended ≡ false → Called n op list start start 0
   begins fresh present idle going = record {
@@ -85,7 +74,7 @@ module _ (m : Meaning) (op : Op) (n : ℕ) (list : List Symbol) (start : DeskVie
     says_now = ap (λ u. m.next u (replies now.entries)) at.ticket_is ∙ plan.next (replies now.entries)
 
     made : length (replies now.entries) ≡ done
-    made = long_replies now.entries ∙ at.long
+    made = length_replies now.entries ∙ at.long
 
     pub calls_next : done < n → next_of m now ≡ Calls op
     calls_next low = says_now ∙ calls_within op no_value n (replies now.entries) (subst (λ k. k < n) (sym made) low)
@@ -126,7 +115,7 @@ module _ (m : Meaning) (op : Op) (n : ℕ) (list : List Symbol) (start : DeskVie
         let P : DeskView → Type 0 = λ d. Called n op list start d (done + 1) in
         subst P (sym (made_it ∙ ap (λ (d : DeskView). finished d d.waiting list) is)) (record {
           follows = follows_more (says (replicate n op) no_value) now.entries (record { op = op; reply = v }) at.follows (sym says_now ∙ calls_next low);
-          long = replies_more now.entries (record { op = op; reply = v }) ∙ ap (λ k. k + 1) at.long;
+          long = length-append now.entries (record { op = op; reply = v } ∷ []) ∙ ap (λ k. k + 1) at.long;
           present = refl;
           idle = refl;
           going = at.going;
@@ -162,7 +151,7 @@ plan_of l t u op n list at same is held few =
     let e : list ≡ replicate n (exact_symbol op) = is ∙ ap (λ (x : Ticket). x.entry) at in
     let P : ℕ → Type 0 = λ x. IsPlan (list_meaning l.shape l.tickets) x op n list in
     let Q : List Symbol → Type 0 = λ x. (length x ≤ 256) × AllByRecursion HasNoVar x × (0 < n → Matches x op) in
-    let q = subst Q (sym e) (subst (λ k. k ≤ 256) (sym (long_replicate n (exact_symbol op))) few, all_replicate HasNoVar n (exact_symbol op) (tt, tt), matched_by n op held) in
+    let q = subst Q (sym e) (subst (λ k. k ≤ 256) (sym (length-replicate n (exact_symbol op))) few, all_replicate HasNoVar n (exact_symbol op) (tt, tt), matched_by n op held) in
     subst P (sym same) (record {
       next = λ rs. ap (λ (x : Ticket). says x.ops x.reply rs) at;
       told = λ rs. sym is;

@@ -1,6 +1,7 @@
 -- The last ticket of a list.
 use Rattle.std.proofs.Common.{◌≡◌, ℕ, zero, suc, ◌+◌, ◌<◌, List, [], ◌∷◌, ◌++◌, ◌-◌, ◌*◌, length, map, refl, sym, ap, ◌∙◌, subst, arith}
 use Rattle.std.specs.Prelude.{replicate, slice_index_or}
+use Rattle.std.proofs.lemmas.List.{length-append, length-map, length-replicate, map-append}
 use Rattle.session_values.specs.declared.op.Op.{Op}
 use Rattle.session_values.specs.declared.reply.Reply.{Reply}
 use Rattle.symbolic_ops.specs.Matching.{exact_symbol}
@@ -51,10 +52,6 @@ at_mapped n [] t d l = absurd (omega (arith, l))
 at_mapped n (op ∷ ops) zero d l = refl
 at_mapped n (op ∷ ops) (suc t) d l = at_mapped n ops t d (omega (arith, l))
 
-pub long_replicate : {X : Type 0} (n : ℕ) (x : X) → length (replicate n x) ≡ n
-long_replicate zero x = refl
-long_replicate (suc n) x = ap suc (long_replicate n x)
-
 -- the list with another last ticket, and fewer places
 abbrev pub after : ListView → Op → ℕ → ListView
 after l op k = record {
@@ -78,7 +75,7 @@ place_for first op k l some low is =
     let P : List Ticket → Type 0 = λ x. HasPlace x in
     subst P (sym (ap (λ (v : ListView). v.tickets) is)) (record {
       some = subst (λ n. 0 < n) (sym (long_with first.tickets (repeated k op))) some;
-      few = subst (λ n. n < 256) (sym (ap (λ (z : Ticket). length z.entry) (last_of_with first.tickets (repeated k op) some) ∙ long_replicate k (exact_symbol op))) low;
+      few = subst (λ n. n < 256) (sym (ap (λ (z : Ticket). length z.entry) (last_of_with first.tickets (repeated k op) some) ∙ length-replicate k (exact_symbol op))) low;
     })
 
 -- the list after one call more
@@ -102,14 +99,6 @@ calls_again first op k l new some is made =
     made ∙ ap (λ v. one_more v op) is ∙ cc (e, a, b, c)
 
 -- ---- a ticket is added
-map_more : (f : Op → Ticket) (ops : List Op) (op : Op) → map f (ops ++ op ∷ []) ≡ map f ops ++ f op ∷ []
-map_more f [] op = refl
-map_more f (x ∷ ops) op = ap (λ l. f x ∷ l) (map_more f ops op)
-
-long_more : {X : Type 0} (xs : List X) (x : X) → length (xs ++ x ∷ []) ≡ length xs + 1
-long_more [] x = refl
-long_more (y ∷ xs) x = let h : length (xs ++ x ∷ []) ≡ length xs + 1 = long_more xs x in omega (arith, h)
-
 one_less : (a n : ℕ) → 0 < a → a * n - n ≡ (a - 1) * n
 one_less zero n l = absurd (omega (arith, l))
 one_less (suc a) n l = grind arith
@@ -138,10 +127,10 @@ listed l one two n op is made =
 
 pub kept_more : (l new : ListView) (ops more : List Op) (n places same : ℕ) (op : Op) → Keeps l ops n places → 0 < l.tickets_left → new ≡ list_more l n op → more ≡ ops ++ op ∷ [] → same ≡ places → Keeps new more n same
 kept_more l new ops more n places same op k left is grown e =
-    let long : length more ≡ length ops + 1 = ap length grown ∙ long_more ops op in
+    let long : length more ≡ length ops + 1 = ap length grown ∙ length-append ops (op ∷ []) in
     let P : ListView → Type 0 = λ v. Keeps v more n same in
     subst P (sym is) (record {
-      tickets = ap (λ t. t ++ repeated n op ∷ []) k.tickets ∙ sym (map_more (repeated n) ops op) ∙ ap (map (repeated n)) (sym grown);
+      tickets = ap (λ t. t ++ repeated n op ∷ []) k.tickets ∙ sym (map-append (repeated n) ops (op ∷ [])) ∙ ap (map (repeated n)) (sym grown);
       few = k.few;
       calls = ap (λ c. c - n) k.calls ∙ one_less l.tickets_left n left;
       symbols = ap (λ c. c - n) k.symbols ∙ one_less l.tickets_left n left;
@@ -154,12 +143,8 @@ view_more v now l ops op same a b =
     let P : ListView → List Op → RepeatedView = λ x y. record { list = x; ops = y; times = v.times } in
     ap (λ x. P x ops) a ∙ ap (λ y. P (list_more v.list v.times op) y) b ∙ ap (λ x. with_repeated x op) same
 
-long_map : (f : Op → Ticket) (ops : List Op) → length (map f ops) ≡ length ops
-long_map f [] = refl
-long_map f (x ∷ ops) = ap suc (long_map f ops)
-
 pub op_at : (v now : RepeatedView) (places t : ℕ) (op : Op) → v ≡ now → Keeps v.list v.ops v.times places → t < length now.list.tickets → op ≡ slice_index_or v.ops t op → ticket_at now.list.tickets t ≡ repeated now.times op
 op_at v now places t op same k low is =
     let P : RepeatedView → Type 0 = λ x. ticket_at x.list.tickets t ≡ repeated x.times op in
-    let long : length now.list.tickets ≡ length v.ops = ap (λ (x : RepeatedView). length x.list.tickets) (sym same) ∙ ap length k.tickets ∙ long_map (repeated v.times) v.ops in
+    let long : length now.list.tickets ≡ length v.ops = ap (λ (x : RepeatedView). length x.list.tickets) (sym same) ∙ ap length k.tickets ∙ length-map v.ops (repeated v.times) in
     subst P same (ap (λ l. ticket_at l t) k.tickets ∙ at_mapped v.times v.ops t op (omega (arith, low, long)) ∙ ap (repeated v.times) (sym is))

@@ -2,12 +2,11 @@
 
 use crate::list::RepeatedCalls;
 use crate::serving::call_all;
-use session_journal::{Desk, Script};
+use session_journal::{Desk, Scratch, Script, Serves};
 use session_values::NoMemory;
 use std::sync::Wait;
 use std::thread::Threads;
 use symbolic_ops::Foresight;
-use ticket_serving::{Scratch, Serves};
 
 /// The script of such a list, which it borrows.
 #[derive(Drop)]
@@ -47,10 +46,7 @@ impl<'a> Serves for RepeatedScript<'a> {
     ) -> Result<(), NoMemory> {
         let op = self.list.op_of(ticket);
         let times = self.list.times();
-        let mut room = scratch.take();
-        self.list.script().entry(ticket, &mut room.foresight);
-        let called = call_all(rt, op, times, &room.foresight, desk);
-        scratch.put(room);
-        called
+        self.list.script().entry(ticket, &mut scratch.foresight);
+        call_all(rt, op, times, &scratch.foresight, desk)
     }
 }

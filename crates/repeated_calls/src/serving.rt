@@ -1,7 +1,7 @@
 // Serving a ticket that repeats an operation.
 
 ghost use Rattle.std.specs.Prelude.{◌≡◌, [], None, false, IfOk, OnErr};
-ghost use Rattle.ticket_serving.specs.Served.{IsServed, IsStopped};
+ghost use Rattle.session_journal.specs.Served.{IsServed, IsStopped};
 ghost use Rattle.repeated_calls.specs.Repeated.{IsPlan};
 
 use crate::list::nil;

@@ -4,3 +4,4 @@ pub mod Journal
 pub mod ListRows
 pub mod Lists
 pub mod Script
+pub mod Served

@@ -1,5 +1,5 @@
-//! The journal of finished operations, what a script of tickets means, and desks at which tickets
-//! are served.
+//! The journal of finished operations, what a script of tickets means, desks at which tickets are
+//! served, and the room that this takes.
 #![tactic(auto)]
 
 mod desk;
@@ -7,10 +7,14 @@ mod event;
 mod journal;
 pub mod laws;
 mod list_script;
+mod scratch;
 mod script;
+mod serves;
 
 pub use desk::Desk;
 pub use event::Event;
 pub use journal::Journal;
 pub use list_script::ListScript;
+pub use scratch::Scratch;
 pub use script::Script;
+pub use serves::Serves;

@@ -9,12 +9,12 @@ use declaration_insertion::Program;
 use handler_machine::Scripts;
 use plain_desk::PlainDesk;
 use request_files::Requests;
+use session_journal::{Scratch, Serves};
 use session_values::{Reply, TableKind, Value};
 use std::alloc::Global;
 use std::process::Abort;
 use std::sync::Wait;
 use std::thread::Threads;
-use ticket_serving::{Scratch, Serves};
 
 /// Serves the next ticket at the desk.
 fn serve_next<'a, R: Threads + Wait + Abort + Sync>(
@@ -23,10 +23,8 @@ fn serve_next<'a, R: Threads + Wait + Abort + Sync>(
     scratch: &mut Scratch,
     desk: &mut PlainDesk<Scripts<'a>>,
 ) -> Option<Reply>
-    requires ready { scratch.old.ready ≡ true }
     requires plan { desk.old.script ≡ plan.now }
     requires ended { desk.old.desk.ended ≡ true }
-    ensures ready { scratch.new.ready ≡ true }
     ensures plan { desk.new.script ≡ plan.now }
     ensures ended { desk.new.desk.ended ≡ true }
 {

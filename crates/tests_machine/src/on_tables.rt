@@ -1,6 +1,6 @@
 // A handler run on plain tables.
 
-ghost use Rattle.std.specs.Prelude.{◌≡◌, map, true};
+ghost use Rattle.std.specs.Prelude.{◌≡◌, map};
 ghost use Rattle.handler_check.specs.Resolved.{shape_of as shape_spec};
 ghost use Rattle.session_values.specs.Tables.{kind_of};
 
@@ -8,9 +8,9 @@ use crate::sessions::{kinds_of, reply_of, session};
 use handler_check::Checked;
 use handler_machine::{TablesAnswerer, run_handler};
 use plain_tables::PlainTables;
+use session_journal::Scratch;
 use session_values::{Reply, Value};
 use std::process::Abort;
-use ticket_serving::Scratch;
 
 /// Runs the first handler with two arguments.
 fn run_first<R: Abort>(
@@ -20,9 +20,7 @@ fn run_first<R: Abort>(
     scratch: &mut Scratch,
     tables: &mut TablesAnswerer,
 ) -> Reply
-    requires ready { scratch.old.ready ≡ true }
     requires shape { map kind_of tables.old.tables ≡ shape_spec checked.now }
-    ensures ready { scratch.new.ready ≡ true }
     ensures shape { map kind_of tables.new.tables ≡ shape_spec checked.now }
 {
     if checked.handlers() == 0 || checked.handler(0).params != 2 {

@@ -1,7 +1,7 @@
 // One caller serves each of two tickets at a desk of its own, takes itself back from the desk, and
 // goes on: it begins the next ticket, or is told that all are begun.
 
-ghost use Rattle.std.specs.Prelude.{◌≡◌, ◌≤◌, ◌∷◌, [], IfOk, length, true};
+ghost use Rattle.std.specs.Prelude.{◌≡◌, ◌≤◌, ◌∷◌, [], IfOk, length};
 ghost use Rattle.session_limits.specs.Limits.{max_tables};
 ghost use Rattle.session_values.specs.declared.kind.TableKind.TheVariants.{Map};
 ghost use Rattle.session_hall.specs.declared.stage.Stage.TheVariants.{Out};
@@ -14,12 +14,12 @@ use crate::bumps::{first_entry, op_of};
 use hall_serving::HallDesk;
 use repeated_calls::{RepeatedCalls, RepeatedScript};
 use session_hall::{Caller, Closed, Hall};
+use session_journal::{Scratch, Serves};
 use session_values::{Listed, NoMemory, TableKind, Value};
 use std::alloc::Global;
 use std::process::Abort;
 use std::sync::Wait;
 use std::thread::Threads;
-use ticket_serving::{Scratch, Serves};
 use worker_gate::OpenGate;
 
 /// Serves the ticket that the caller has begun, at a desk. The caller that the desk gives back
@@ -34,9 +34,7 @@ fn serve_and_go_on<R: Threads + Wait + Abort + Sync, S: Serves + Drop>(
 ) -> Option<u32>
     requires caller { IsCallerOf S.meaning hall.now caller.old }
     requires plan { script_of hall.now ≡ plan.now }
-    requires ready { scratch.old.ready ≡ true }
     requires begun { IsFresh (S.meaning plan.now) caller.old ticket }
-    ensures ready { scratch.new.ready ≡ true }
     ensures caller { IsCallerOf S.meaning hall.now caller.new }
     ensures same { caller.new.number ≡ caller.old.number }
     ensures next { GoesOn (S.meaning plan.now) caller.new result }
@@ -60,7 +58,6 @@ fn serve_both<R: Threads + Wait + Abort + Sync, S: Serves + Drop>(
     requires caller { IsCallerOf S.meaning hall.now caller.old }
     requires stage { IsBetween caller.old.stage }
     requires plan { script_of hall.now ≡ plan.now }
-    requires ready { scratch.old.ready ≡ true }
     ensures caller { IsCallerOf S.meaning hall.now caller.new }
     ensures same { caller.new.number ≡ caller.old.number }
     ensures out { caller.new.stage ≡ Out }

@@ -12,13 +12,12 @@ use plain_desk::{DoneCall, PlainDesk};
 use plain_tables::PlainTables;
 use repeated_calls::{RepeatedCalls, RepeatedScript};
 use session_hall::Closed;
-use session_journal::{Event, Journal};
+use session_journal::{Event, Journal, Scratch, Serves};
 use session_values::{Kind, NoMemory, Op, TableKind, Value};
 use std::alloc::Global;
 use std::process::Abort;
 use std::sync::Wait;
 use std::thread::Threads;
-use ticket_serving::{Scratch, Serves};
 use worker_gate::OpenGate;
 
 const TICKETS: u32 = 4000;
@@ -141,10 +140,8 @@ fn serve_next<'a, R: Threads + Wait + Abort + Sync>(
     scratch: &mut Scratch,
     desk: &mut PlainDesk<RepeatedScript<'a>>,
 )
-    requires ready { scratch.old.ready ≡ true }
     requires plan { desk.old.script ≡ plan.now }
     requires ended { desk.old.desk.ended ≡ true }
-    ensures ready { scratch.new.ready ≡ true }
     ensures plan { desk.new.script ≡ plan.now }
     ensures ended { desk.new.desk.ended ≡ true }
 {
@@ -175,7 +172,6 @@ fn serve_all<'a, R: Threads + Wait + Abort + Sync>(
     desk: &mut PlainDesk<RepeatedScript<'a>>,
     calls: &mut Vec<DoneCall>,
 )
-    requires ready { scratch.old.ready ≡ true }
     requires plan { desk.old.script ≡ plan.now }
     requires ended { desk.old.desk.ended ≡ true }
 {

@@ -10,5 +10,5 @@ invariant_of-result g c =
     let within = left.ok.1 in
     let same = c.begin_jobs.ensures.callers.1 in
     opened g.S.Script.meaning c.in_ok-hall.hall c.begin_jobs.new.jobs.items left.items c.begin_jobs.new.callers.items c.args.callers (vec_capacity c.begin_jobs.new.callers)
-    c.begin_jobs.ensures.jobs c.begin_jobs.ensures.ready (λ i x at. c.in_ok-hall.ensures.callers i x (ap (λ l. slice_get l i) (sym list) ∙ at))
+    c.begin_jobs.ensures.jobs (λ i x at. c.in_ok-hall.ensures.callers i x (ap (λ l. slice_get l i) (sym list) ∙ at))
     (ap (λ l. length l) list ∙ c.in_ok-hall.ensures.count) c.in_ok-hall.ensures.sizes.2 c.requires.callers.0 c.begin_jobs.ensures.callers.0 (omega (arith, long, within, same))

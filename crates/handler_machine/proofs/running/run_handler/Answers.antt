@@ -8,15 +8,15 @@ use Rattle.check_meaning.proofs.Held.{calls_fit}
 use Rattle.handler_check.specs.Resolved.{code_at, shape_of}
 use Rattle.handler_machine.proofs.running.run_handler.Goals as goal
 
-pub run_body-result-requires-clause-within : goal.run_body-result-requires-clause-within
-run_body-result-requires-clause-within g c =
+pub run_body-requires-clause-within : goal.run_body-requires-clause-within
+run_body-requires-clause-within g c =
     let shape : List TableKind = shape_of c.args.checked.now in
-    let long : length c.as_mut_slice.result.now ≡ 32 = (let n = c.take-room.result.variables in omega arith) in
+    let long : length c.as_mut_slice.result.now ≡ 32 = (let n = c.args.scratch.now.variables in omega arith) in
     let body : CodeWithin shape 32 (block_code c.handler.result.now.body) = subst (CodeWithin shape 32) (sym c.handler.ensures.body) c.handler.ensures.within.within in
     (shape, subst (λ (n : ℕ). CodeWithin shape n (block_code c.handler.result.now.body)) (sym long) body)
 
-pub run_body-result-requires-clause-fits : goal.run_body-result-requires-clause-fits
-run_body-result-requires-clause-fits g c =
+pub run_body-requires-clause-fits : goal.run_body-requires-clause-fits
+run_body-requires-clause-fits g c =
     let f = c.args.checked.now in
     let env = env_of c.args.args.now in
     let fits : CallsFit (shape_of f) (next (code_at f c.args.h) env) = calls_fit (shape_of f) 32 (code_at f c.args.h) env c.handler.ensures.within.within in

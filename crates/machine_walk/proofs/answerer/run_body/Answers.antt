@@ -11,7 +11,7 @@ walk_body-requires-clause-serves g c =
     let A = g.A.Answerer in
     let code = block_code c.args.body.now in
     let whole = run code (env_of c.set_up.new.env) in
-    (whole, c.args.who.now, asked_first A.Step A.shape A.sure whole c.args.who.now (subst (λ (e : Env). CallsFit (A.shape c.args.who.now) (next code e)) (sym c.set_up.ensures.values) c.requires.fits))
+    (whole, (record {}, c.args.who.now), asked_first A.Step A.shape A.sure whole c.args.who.now (subst (λ (e : Env). CallsFit (A.shape c.args.who.now) (next code e)) (sym c.set_up.ensures.values) c.requires.fits))
 
 pub returns : goal.returns
 returns g c =
@@ -21,7 +21,7 @@ returns g c =
     let new = c.walk_body.new.host in
     let r = c.walk_body.result in
     let whole = run code (env_of c.set_up.new.env) in
-    let led = c.walk_body.ensures whole old (asked_first A.Step A.shape A.sure whole old (subst (λ (e : Env). CallsFit (A.shape old) (next code e)) (sym c.set_up.ensures.values) c.requires.fits)) in
+    let led = c.walk_body.ensures whole (record {}, old) (asked_first A.Step A.shape A.sure whole old (subst (λ (e : Env). CallsFit (A.shape old) (next code e)) (sym c.set_up.ensures.values) c.requires.fits)) in
     record {
       runs = subst (λ (e : Env). IfOk r (λ reply. Runs A.Step (next code e) old new reply)) c.set_up.ensures.values (whole_runs A.Step A.shape A.sure whole old new r led);
       breaks = subst (λ (e : Env). OnErr r (Breaks A.Step (next code e) old new)) c.set_up.ensures.values (whole_breaks A.Step A.shape A.sure whole old new r led);

@@ -1,5 +1,4 @@
-use Rattle.std.proofs.Common.{◌≡◌, ◌∙◌, List, ap, sym, subst}
-use Rattle.session_values.specs.declared.value.Value.{Value}
+use Rattle.std.proofs.Common.{◌≡◌, ◌∙◌, sym, subst}
 use Rattle.session_values.specs.Dialogue.{Calls}
 use Rattle.session_journal.specs.Desks.{due_of, next_of}
 use Rattle.check_meaning.specs.Ahead.{asked}
@@ -29,10 +28,10 @@ tell-requires-clause-may g c =
     let s = c.requires in
     let n = c.args.self.now in
     let now = g.D.Desk.at c.args.host.now in
-    let last = list_with (declared_at n.program.now n.handler) n.point n.values.items in
+    let last = list_with (declared_at n.program.now n.handler) n.point n.values.now in
     let f = c.take_late.new.next.symbols in
     subst (λ z. MayTell (g.D.Served.Script.meaning z) n.late f now) (sym s.3.0)
-    (may_same (g.D.Served.Script.meaning (g.D.Desk.script s.1)) n.late f last now (λ e. c.take_late.ensures.symbols e ∙ ap (λ (vs : List Value). list_with (declared_at n.program.now n.handler) n.point vs) c.as_slice.ensures.value) s.3.3)
+    (may_same (g.D.Served.Script.meaning (g.D.Desk.script s.1.1)) n.late f last now c.take_late.ensures.symbols s.3.3)
 
 pub call-requires-clause-next : goal.call-requires-clause-next
 call-requires-clause-next g c =
@@ -41,10 +40,10 @@ call-requires-clause-next g c =
     let now = at c.tell.new.self in
     let n = c.args.self.now in
     let room = c.take_late.new.next.room in
-    let last = list_with (declared_at n.program.now n.handler) n.point n.values.items in
+    let last = list_with (declared_at n.program.now n.handler) n.point n.values.now in
     let f = c.take_late.new.next.symbols in
-    let course : Course = course_of (g.D.Served.Script.meaning (g.D.Desk.script s.1)) (at s.1) n.program.now n.handler s.0 in
-    let told : IsServing course now room (asked c.args.op s.2) = serving_told course n.late f last (at c.args.host.now) now n.next.room room (asked c.args.op s.2) (λ e. c.take_late.ensures.symbols e ∙ ap (λ (vs : List Value). list_with (declared_at n.program.now n.handler) n.point vs) c.as_slice.ensures.value) c.tell.ensures.told c.take_late.ensures.room s.3.1 in
+    let course : Course = course_of (g.D.Served.Script.meaning (g.D.Desk.script s.1.1)) (at s.1.1) n.program.now n.handler s.0 in
+    let told : IsServing course now room (asked c.args.op s.2) = serving_told course n.late f last (at c.args.host.now) now n.next.now.room room (asked c.args.op s.2) c.take_late.ensures.symbols c.tell.ensures.told c.take_late.ensures.room s.3.1 in
     subst (λ z. next_of (g.D.Served.Script.meaning z) now ≡ Calls c.args.op) (sym (c.tell.ensures.script ∙ s.3.0)) (call_next course now room c.args.op s.2 told)
 
 pub call-requires-clause-due : goal.call-requires-clause-due
@@ -54,10 +53,10 @@ call-requires-clause-due g c =
     let now = at c.tell.new.self in
     let n = c.args.self.now in
     let room = c.take_late.new.next.room in
-    let last = list_with (declared_at n.program.now n.handler) n.point n.values.items in
+    let last = list_with (declared_at n.program.now n.handler) n.point n.values.now in
     let f = c.take_late.new.next.symbols in
-    let course : Course = course_of (g.D.Served.Script.meaning (g.D.Desk.script s.1)) (at s.1) n.program.now n.handler s.0 in
-    let told : IsServing course now room (asked c.args.op s.2) = serving_told course n.late f last (at c.args.host.now) now n.next.room room (asked c.args.op s.2) (λ e. c.take_late.ensures.symbols e ∙ ap (λ (vs : List Value). list_with (declared_at n.program.now n.handler) n.point vs) c.as_slice.ensures.value) c.tell.ensures.told c.take_late.ensures.room s.3.1 in
+    let course : Course = course_of (g.D.Served.Script.meaning (g.D.Desk.script s.1.1)) (at s.1.1) n.program.now n.handler s.0 in
+    let told : IsServing course now room (asked c.args.op s.2) = serving_told course n.late f last (at c.args.host.now) now n.next.now.room room (asked c.args.op s.2) c.take_late.ensures.symbols c.tell.ensures.told c.take_late.ensures.room s.3.1 in
     subst (λ z. now.present ≡ due_of (g.D.Served.Script.meaning z) now) (sym (c.tell.ensures.script ∙ s.3.0)) (call_due course now room c.args.op s.2 told)
 
 pub call-requires-clause-matches : goal.call-requires-clause-matches
@@ -67,10 +66,10 @@ call-requires-clause-matches g c =
     let now = at c.tell.new.self in
     let n = c.args.self.now in
     let room = c.take_late.new.next.room in
-    let last = list_with (declared_at n.program.now n.handler) n.point n.values.items in
+    let last = list_with (declared_at n.program.now n.handler) n.point n.values.now in
     let f = c.take_late.new.next.symbols in
-    let course : Course = course_of (g.D.Served.Script.meaning (g.D.Desk.script s.1)) (at s.1) n.program.now n.handler s.0 in
-    let told : IsServing course now room (asked c.args.op s.2) = serving_told course n.late f last (at c.args.host.now) now n.next.room room (asked c.args.op s.2) (λ e. c.take_late.ensures.symbols e ∙ ap (λ (vs : List Value). list_with (declared_at n.program.now n.handler) n.point vs) c.as_slice.ensures.value) c.tell.ensures.told c.take_late.ensures.room s.3.1 in
+    let course : Course = course_of (g.D.Served.Script.meaning (g.D.Desk.script s.1.1)) (at s.1.1) n.program.now n.handler s.0 in
+    let told : IsServing course now room (asked c.args.op s.2) = serving_told course n.late f last (at c.args.host.now) now n.next.now.room room (asked c.args.op s.2) c.take_late.ensures.symbols c.tell.ensures.told c.take_late.ensures.room s.3.1 in
     call_matches course now room c.args.op s.2 told
 
 pub returns : goal.returns
@@ -79,11 +78,11 @@ returns g c whole start next so_far =
     let now = at c.tell.new.self in
     let n = c.args.self.now in
     let room = c.take_late.new.next.room in
-    let last = list_with (declared_at n.program.now n.handler) n.point n.values.items in
+    let last = list_with (declared_at n.program.now n.handler) n.point n.values.now in
     let f = c.take_late.new.next.symbols in
-    let course : Course = course_of (g.D.Served.Script.meaning (g.D.Desk.script start)) (at start) n.program.now n.handler whole in
-    let told : IsServing course now room (asked c.args.op next) = serving_told course n.late f last (at c.args.host.now) now n.next.room room (asked c.args.op next) (λ e. c.take_late.ensures.symbols e ∙ ap (λ (vs : List Value). list_with (declared_at n.program.now n.handler) n.point vs) c.as_slice.ensures.value) c.tell.ensures.told c.take_late.ensures.room so_far.1 in
+    let course : Course = course_of (g.D.Served.Script.meaning (g.D.Desk.script start.1)) (at start.1) n.program.now n.handler whole in
+    let told : IsServing course now room (asked c.args.op next) = serving_told course n.late f last (at c.args.host.now) now n.next.now.room room (asked c.args.op next) c.take_late.ensures.symbols c.tell.ensures.told c.take_late.ensures.room so_far.1 in
     let script = c.call.ensures.script ∙ c.tell.ensures.script ∙ so_far.0 in
     answered c.call.result c.held.result c.held.ensures.same c.held.ensures.held _ _ _ _ c.call.ensures.waits
-    (λ v is h. (script, call_waits course now room c.args.op next told (at c.call.new.self) v is h))
-    (λ h. (script, call_halts course now room c.args.op next told (at c.call.new.self) h.0 h.1))
+    (λ v is h. (script, call_waits course now room c.args.op next told (at c.call.new.self) v is h, so_far.4, so_far.5))
+    (λ h. (script, call_halts course now room c.args.op next told (at c.call.new.self) h.0 h.1, so_far.4, so_far.5))

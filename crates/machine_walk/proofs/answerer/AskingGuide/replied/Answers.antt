@@ -6,4 +6,4 @@ use Rattle.machine_walk.proofs.answerer.AskingGuide.replied.Goals as goal
 pub returns : goal.returns
 returns g c whole start next now =
     let A = g.A.Answerer in
-    asked_passed A.Step A.shape A.sure whole start c.args._host.now c.args._point (env_of c.args._env.now) true next now
+    asked_passed A.Step A.shape A.sure whole start.1 c.args._host.now c.args._point (env_of c.args._env.now) true next now

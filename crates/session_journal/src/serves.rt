@@ -1,11 +1,12 @@
 // Scripts whose tickets can be served.
 
-ghost use Rattle.std.specs.Prelude.{◌≡◌, ◌<◌, [], None, true, false, IfOk, OnErr};
+ghost use Rattle.std.specs.Prelude.{◌≡◌, ◌<◌, [], None, false, IfOk, OnErr};
 ghost use denote.Param.Send.{IsSync};
-ghost use Rattle.ticket_serving.specs.Served.{IsServed, IsStopped};
+ghost use Rattle.session_journal.specs.Served.{IsServed, IsStopped};
 
+use crate::desk::Desk;
 use crate::scratch::Scratch;
-use session_journal::{Desk, Script};
+use crate::script::Script;
 use session_values::NoMemory;
 use std::sync::Wait;
 use std::thread::Threads;
@@ -23,7 +24,6 @@ pub trait Serves: Script {
     ) -> Result<(), NoMemory>
         // In an impl the bound alone isn't known.
         requires shared { IsSync R.row }
-        requires ready { scratch.old.ready ≡ true }
         requires plan { D.script desk.old ≡ self.now }
         requires ticket { (D.at desk.old).ticket ≡ ticket }
         requires within { ticket < (Self.meaning self.now).requests }
@@ -31,7 +31,6 @@ pub trait Serves: Script {
         requires idle { (D.at desk.old).waiting ≡ None }
         requires going { (D.at desk.old).ended ≡ false }
         requires present { (D.at desk.old).present ≡ (Self.meaning self.now).entry ticket }
-        ensures ready { scratch.new.ready ≡ true }
         ensures script { D.script desk.new ≡ D.script desk.old }
         ensures served { IfOk result
             (λ _. IsServed (Self.meaning self.now) (D.at desk.old) (D.at desk.new)) }

@@ -1,2 +1,0 @@
-pub mod Scratches
-pub mod Served
