@@ -5,7 +5,6 @@
 mod calls;
 mod memory_sink;
 mod memory_source;
-mod page;
 mod page_writer;
 mod reading;
 mod sink;
@@ -14,11 +13,11 @@ mod sure_sink;
 mod sure_source;
 mod text_buffer;
 mod text_sink;
+mod write_buffer;
 mod writing;
 
 pub use memory_sink::MemorySink;
 pub use memory_source::MemorySource;
-pub use page::Page;
 pub use page_writer::write_text;
 pub use reading::{Unread, read_all};
 pub use sink::{Put, Sink};
@@ -27,4 +26,5 @@ pub use sure_sink::SureSink;
 pub use sure_source::SureSource;
 pub use text_buffer::text_in_memory;
 pub use text_sink::{PutsText, TextSink};
+pub use write_buffer::WriteBuffer;
 pub use writing::write_all;

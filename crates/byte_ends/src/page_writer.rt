@@ -4,16 +4,16 @@ ghost use Rattle.std.specs.Prelude.{◌≡◌, ◌≤◌, [], true, false};
 ghost use Rattle.byte_ends.specs.Ends.{Rose, Grew, GrewByFront};
 ghost use Rattle.byte_ends.specs.Texts.{IsPut};
 
-use crate::page::Page;
 use crate::sink::Sink;
 use crate::text_sink::{PutsText, TextSink};
+use crate::write_buffer::WriteBuffer;
 use crate::writing::write_all;
 
 /// Takes a text to a sink of bytes, in pages. Once the sink has failed, nothing more is written.
 #[derive(Drop)]
 struct PageWriter<'a, O: Sink> {
     out: &'a mut O,
-    page: Page,
+    page: WriteBuffer,
     broken: bool,
 }
 
@@ -23,16 +23,16 @@ impl<'a, O: Sink> TextSink for PageWriter<'a, O> {
 
     ghost IsDue = { λ start whole now rest. (now.out.ghost_name ≡ start.out.ghost_name)
         × IsPaged (O.held start.out.now) (O.held now.out.now)
-        (O.faults start.out.now) (O.faults now.out.now) now.broken now.page whole rest };
+        (O.faults start.out.now) (O.faults now.out.now) now.broken now.page.held whole rest };
 
     fn put(&mut self, text: &str) {
         let bytes = text.as_bytes();
-        if bytes.len() <= self.page.spare() {
+        if self.page.reserve(bytes.len()) {
             self.page.push(bytes);
             return;
         }
         self.flush();
-        if bytes.len() <= self.page.spare() {
+        if self.page.reserve(bytes.len()) {
             self.page.push(bytes);
             return;
         }
@@ -42,10 +42,10 @@ impl<'a, O: Sink> TextSink for PageWriter<'a, O> {
 
 impl<'a, O: Sink> PageWriter<'a, O> {
     // A writer by way of the page, in place of what that held.
-    fn over(out: &'a mut O, mut page: Page) -> PageWriter<'a, O>
+    fn over(out: &'a mut O, mut page: WriteBuffer) -> PageWriter<'a, O>
         ensures name { result.out.ghost_name ≡ out.entry.ghost_name }
         ensures out { result.out.now ≡ out.old }
-        ensures page { result.page ≡ [] }
+        ensures page { result.page.held ≡ [] }
         ensures sound { result.broken ≡ false }
     {
         page.clear();
@@ -59,10 +59,10 @@ impl<'a, O: Sink> PageWriter<'a, O> {
     // Writes what waits, and empties the page.
     fn flush(&mut self)
         ensures name { self.new.out.ghost_name ≡ self.old.out.ghost_name }
-        ensures page { self.new.page ≡ [] }
+        ensures page { self.new.page.held ≡ [] }
         ensures put { IsPut (O.held self.old.out.now) (O.held self.new.out.now)
             (O.faults self.old.out.now) (O.faults self.new.out.now)
-            self.old.broken self.new.broken self.old.page }
+            self.old.broken self.new.broken self.old.page.held }
     {
         self.broken = write_unless(self.broken, self.out, self.page.bytes());
         self.page.clear();
@@ -93,7 +93,7 @@ fn write_unless<O: Sink>(broken: bool, out: &mut O, bytes: &[u8]) -> bool
 
 /// Writes a text, in pages: by way of the page, in place of what that held. It answers `false`
 /// after a fault.
-pub fn write_text<O: Sink, P: PutsText>(out: &mut O, text: &P, page: Page) -> bool
+pub fn write_text<O: Sink, P: PutsText>(out: &mut O, text: &P, page: WriteBuffer) -> bool
     requires { P.CanPut text.now }
     ensures all { result ≡ true → Grew (O.held out.old) (O.held out.new) (P.text text.now) }
     ensures fault { result ≡ false → Rose (O.faults out.old) (O.faults out.new) }

@@ -3,21 +3,8 @@ use Rattle.std.proofs.Common.{◌≡◌, ℕ, ◌<◌, true, false, cond, List, 
 use Rattle.std.specs.List.{list_all}
 use Rattle.text_lines.specs.Bytes.{is_blank}
 use Rattle.text_lines.specs.Text.{Text, is_word_byte, in_word, attach, words}
+use Rattle.text_lines.proofs.TextLemmas.{words_more, words_alone}
 use Rattle.made_sessions.proofs.Parts.{and_left, and_right}
-
-abbrev inside : ℕ → Text → List Text
-inside b bs = cond (in_word bs) (attach b (words bs)) ((b ∷ []) ∷ words bs)
-
-abbrev outside : ℕ → Text → List Text
-outside b bs = cond (is_blank b) (words bs) []
-
-words_more : (b : ℕ) (bs : Text) → is_word_byte b ≡ true → in_word bs ≡ true → words (b ∷ bs) ≡ attach b (words bs)
-unfolding words
-words_more b bs is e = ap (λ t. cond t (inside b bs) (outside b bs)) is ∙ ap (λ t. cond t (attach b (words bs)) ((b ∷ []) ∷ words bs)) e
-
-words_alone : (b : ℕ) (bs : Text) → is_word_byte b ≡ true → in_word bs ≡ false → words (b ∷ bs) ≡ (b ∷ []) ∷ words bs
-unfolding words
-words_alone b bs is e = ap (λ t. cond t (inside b bs) (outside b bs)) is ∙ ap (λ t. cond t (attach b (words bs)) ((b ∷ []) ∷ words bs)) e
 
 words_blank : (bs : Text) → words (32 ∷ bs) ≡ words bs
 unfolding words

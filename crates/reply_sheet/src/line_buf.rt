@@ -2,11 +2,9 @@
 
 ghost use Rattle.std.specs.Prelude.{◌≡◌, ◌+◌, ◌≤◌, [], ◌++◌, length};
 
+use crate::reply_line::LONGEST;
 use crate::text_room::TextRoom;
 use std::marker::Model;
-
-/// The longest line: a ticket of 5 digits, a space and 64 bytes for each of 4 values, a line feed.
-const LONGEST: usize = 266;
 
 /// A line's bytes, in room for 266 of them.
 #[derive(Drop)]

@@ -11,6 +11,9 @@ use crate::text_room::TextRoom;
 use itoa::Buffer;
 use session_values::{Names, Reply, Value};
 
+/// The longest line: a ticket of 5 digits, a space and 64 bytes for each of 4 values, a line feed.
+pub(crate) const LONGEST: usize = 266;
+
 /// The line of a ticket and its reply, in place of what the buffer held.
 pub fn line(ticket: u32, reply: &Reply, names: &Names, out: &mut LineBuf)
     requires ticket { ticket < max_requests }

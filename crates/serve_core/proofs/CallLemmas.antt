@@ -1,9 +1,8 @@
 -- A closed hall's journal has as many operations as the serial run makes.
-use Rattle.std.proofs.Common.{◌≡◌, ◌≢◌, ℕ, zero, suc, ◌+◌, ◌<◌, ◌≤◌, ◌⊎◌, inl, inr, Bool, true, false, cond, List, [], ◌∷◌, ◌++◌, length, Some, None, refl, sym, ap, ◌∙◌, subst, arith, length-append}
+use Rattle.std.proofs.Common.{◌≡◌, ◌≢◌, ℕ, zero, suc, ◌+◌, ◌<◌, ◌≤◌, ◌⊎◌, inl, inr, Bool, true, false, cond, List, [], ◌∷◌, ◌++◌, length, Some, None, refl, sym, ap, ◌∙◌, subst, arith, append-nil, length-append}
 use Rattle.std.specs.Prelude.{◌==◌}
 use Rattle.std.specs.List.{AllByRecursion}
 use Rattle.std.proofs.lemmas.Bool.Decides.{nat_tests}
-use Rattle.session_values.specs.declared.value.Value.{Value}
 use Rattle.session_values.specs.declared.op.Op.{Op}
 use Rattle.session_values.specs.declared.reply.Reply.{Reply}
 use Rattle.session_values.specs.Dialogue.{Next, Calls, Answers, Dialogue, Entry, rest, replies, Follows}
@@ -37,15 +36,11 @@ follows_past : (f : Dialogue) (es back : List Entry) → Follows f (es ++ back) 
 follows_past f [] back h = h
 follows_past f (e ∷ es) back h = follows_past (rest f (e.reply ∷ [])) es back h.1
 
-append_nothing : (vs : List Value) → vs ++ [] ≡ vs
-append_nothing [] = refl
-append_nothing (v ∷ vs) = ap (λ (us : List Value). v ∷ us) (append_nothing vs)
-
 -- nothing follows entries after which the dialogue answers
 nothing_behind : (f : Dialogue) (es back all : List Entry) (r : Reply) → es ++ back ≡ all → Follows f all → f (replies es) ≡ Answers r → length es ≡ length all
 nothing_behind f es back all r is h a =
     let past : Follows (rest f (replies es)) back = follows_past f es back (subst (Follows f) (sym is) h) in
-    let none : back ≡ [] = no_more (rest f (replies es)) r back (ap f (append_nothing (replies es)) ∙ a) past in
+    let none : back ≡ [] = no_more (rest f (replies es)) r back (ap f (append-nil (replies es)) ∙ a) past in
     let whole : length es + length back ≡ length all = sym (length-append es back) ∙ ap (λ (xs : List Entry). length xs) is in
     let short : length back ≡ 0 = ap (λ (xs : List Entry). length xs) none in
     omega (arith, whole, short)

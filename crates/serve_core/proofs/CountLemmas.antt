@@ -6,7 +6,7 @@ use Rattle.session_values.specs.ReplyText.{line_text, reply_text}
 use Rattle.session_journal.specs.declared.event.Event.{Event}
 use Rattle.session_journal.specs.declared.event.Event.TheVariants.{Begin, Done, Delay, End}
 use Rattle.session_journal.specs.Journal.{DoneOperation, done_operations}
-use Rattle.serve_core.proofs.SheetLemmas.{text_more}
+use Rattle.reply_sheet.proofs.TextLemmas.{text_more}
 use Rattle.admission_book.proofs.Events.{done_operations-append}
 
 -- one event more

@@ -20,7 +20,8 @@ use Rattle.serve_faults.specs.Input.{Parts, parts_of, wants_divided, handlers_of
 use Rattle.serve_faults.specs.Session.{session_of_parts, all_names_of, replies_text, serial_calls}
 use Rattle.serve_faults.specs.Answer.{IsRefused, IsTextOf}
 use Rattle.serve_faults.specs.Changes.{Change, IsUntouched}
-use Rattle.serve_core.specs.Runs.{Answered, Written, has_served, Holds, IsServedThrough}
+use Rattle.serve_core.specs.Commands.{has_served}
+use Rattle.serve_core.specs.Runs.{Answered, Written, Holds, IsServedThrough}
 use Rattle.serve_core.specs.Runs.{AnswersTo}
 use Rattle.serve_faults.specs.Ways.{describing}
 use Rattle.serve_core.proofs.RunLemmas.{refused_answer, no_answer, fine_answer, front_answer, not_served}

@@ -17,7 +17,7 @@ use Rattle.handler_machine.specs.Scripts.{meaning}
 use Rattle.serve_faults.specs.declared.status.Status.{Status}
 use Rattle.serve_faults.specs.Changes.{Change, IsUntouched}
 use Rattle.serve_faults.specs.Input.{Parts, parts_of}
-use Rattle.reply_writing.specs.Printable.{ArePrintableReplies}
+use Rattle.reply_sheet.specs.Printable.{ArePrintableReplies}
 use Rattle.serve_faults.proofs.PrintableRuns.{replies_said}
 use Rattle.serve_reading.specs.declared.session.Loaded.{Loaded}
 use Rattle.serve_reading.specs.declared.unserved.Unserved.{Unserved}

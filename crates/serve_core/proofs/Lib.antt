@@ -3,5 +3,4 @@ pub mod CountLemmas
 pub mod EndLemmas
 pub mod FileLemmas
 pub mod RunLemmas
-pub mod SheetLemmas
 pub mod TopLemmas

@@ -1,5 +1,5 @@
 -- What a run promises, from what its parts say.
-use Rattle.std.proofs.Common.{◌≡◌, ◌≢◌, ℕ, ◌+◌, ◌<◌, ◌≤◌, ◌⊎◌, inl, inr, Bool, true, false, ◌&&◌, is_some, List, length, drop, Option, Some, None, IfSome, refl, sym, ap, subst, ◌∙◌, arith}
+use Rattle.std.proofs.Common.{◌≡◌, ◌≢◌, ℕ, ◌+◌, ◌<◌, ◌≤◌, ◌⊎◌, inl, inr, true, false, is_some, List, length, drop, Option, Some, None, IfSome, refl, sym, ap, subst, ◌∙◌, arith}
 use Rattle.session_limits.specs.Limits.{max_input}
 use Rattle.byte_ends.specs.Ends.{IsAtEnd, LostFirst, LostAtMost}
 use Rattle.session_hall.specs.Closings.{ClosedView}
@@ -10,10 +10,11 @@ use Rattle.serve_faults.specs.declared.status.Fault.TheVariants.{TooLarge}
 use Rattle.serve_faults.specs.declared.status.Status.{Status}
 use Rattle.serve_faults.specs.declared.status.Status.TheVariants as status
 use Rattle.serve_faults.specs.Answer.{IsRefused, IsTextOf}
-use Rattle.serve_faults.specs.Commands.{has_requests, input_of, is_reading}
+use Rattle.serve_faults.specs.Commands.{input_of, is_reading}
 use Rattle.serve_faults.specs.Input.{IsInput}
 use Rattle.serve_faults.specs.Changes.{Change, Failed, IsUntouched, Took, TookFront}
-use Rattle.serve_core.specs.Runs.{Told, ToldIf, has_read_all, Answered, Written, IsUnrefused, IsServedThrough, has_served, Holds, Runs}
+use Rattle.serve_core.specs.Commands.{Told, has_begun_writing, has_served}
+use Rattle.serve_core.specs.Runs.{has_read_all, Answered, Written, IsUnrefused, IsServedThrough, Holds, Runs}
 use Rattle.serve_core.specs.Runs.{AnswersTo}
 use Rattle.serve_faults.specs.Ways.{HasRead, StoppedAs}
 use Rattle.serve_faults.proofs.OneAnswer.{refused_once, text_or_refused}
@@ -52,15 +53,16 @@ module _ {O : Type 0} (c : Command) (bytes : List ℕ) (out : Change O) where
 
 -- ---- of what is told
 
-told_map : {S : Type 0} (c : Command) (s : Change S) (P Q : List ℕ → Type 0) → ((bytes : List ℕ) → P bytes → Q bytes) → Told (Some c) s P → Told (Some c) s Q
-told_map {S} c s P Q f = at (is_reading (Some c)) where
-  some : (o : Option (List ℕ)) → IfSome o P → IfSome o Q
-  some None h = tt
-  some (Some x) h = f x h
+if_some : {X : Type 0} (P Q : X → Type 0) (o : Option X) → ((x : X) → P x → Q x) → IfSome o P → IfSome o Q
+if_some P Q None f h = tt
+if_some P Q (Some x) f h = f x h
 
-  at : (reads : Bool) → ToldIf reads s P → ToldIf reads s Q
-  at true h = some (s.bytes s.old) h
-  at false h = λ bytes. f bytes (h bytes)
+told_map : {S : Type 0} (c : Command) (s : Change S) (P Q : List ℕ → Type 0) → ((bytes : List ℕ) → P bytes → Q bytes) → Told (Some c) s P → Told (Some c) s Q
+told_map Check s P Q f h = if_some P Q (s.bytes s.old) f h
+told_map Show s P Q f h = if_some P Q (s.bytes s.old) f h
+told_map (Serve callers shards) s P Q f h = if_some P Q (s.bytes s.old) f h
+told_map (Work requests start) s P Q f h = λ bytes. f bytes (h bytes)
+told_map Ranges s P Q f h = if_some P Q (s.bytes s.old) f h
 
 -- ---- a whole run
 module _ {I O : Type 0} (c : Command) (source : Change I) (out : Change O) (closed : Option ClosedView) where
@@ -121,33 +123,37 @@ reading_input (Work requests start) bytes e = absurd (cc)
 reading_input Ranges bytes e = refl
 
 told_some : {S : Type 0} (c : Command) (s : Change S) (P : List ℕ → Type 0) → is_reading (Some c) ≡ true → IfSome (s.bytes s.old) P → Told (Some c) s P
-told_some {S} c s P e h = subst (λ (reads : Bool). ToldIf reads s P) (sym e) h
-
-if_some : {X : Type 0} (P Q : X → Type 0) (o : Option X) → ((x : X) → P x → Q x) → IfSome o P → IfSome o Q
-if_some P Q None f h = tt
-if_some P Q (Some x) f h = f x h
+told_some Check s P e h = h
+told_some Show s P e h = h
+told_some (Serve callers shards) s P e h = h
+told_some (Work requests start) s P e h = absurd (cc)
+told_some Ranges s P e h = h
 
 untold : {X : Type 0} (o : Option X) → IfSome o (λ _. Unit {0})
 untold None = tt
 untold (Some x) = tt
 
 nothing_held : {S : Type 0} (c : Command) (s : Change S) → Told (Some c) s (λ bytes. Holds (Some c) bytes None)
-nothing_held {S} c s = at (is_reading (Some c)) where
-  at : (reads : Bool) → ToldIf reads s (λ bytes. Holds (Some c) bytes None)
-  at true = untold (s.bytes s.old)
-  at false = λ bytes. tt
+nothing_held Check s = untold (s.bytes s.old)
+nothing_held Show s = untold (s.bytes s.old)
+nothing_held (Serve callers shards) s = untold (s.bytes s.old)
+nothing_held (Work requests start) s = λ bytes. tt
+nothing_held Ranges s = untold (s.bytes s.old)
 
-and_none : (b : Bool) → false ≡ (b && false)
-and_none true = refl
-and_none false = refl
+unwritten : (s : Status) → s ≢ status.Fine → s ≢ status.WriteFault → false ≡ has_begun_writing s
+unwritten status.Fine f w = absurd (f refl)
+unwritten status.WriteFault f w = absurd (w refl)
+unwritten (status.Refused e) f w = refl
+unwritten status.Usage f w = refl
+unwritten status.NoMemory f w = refl
+unwritten status.ReadFault f w = refl
 
 pub not_served : (c : Command) (s : Status) → s ≢ status.Fine → s ≢ status.WriteFault → false ≡ has_served (Some c) s
-not_served c status.Fine f w = absurd (f refl)
-not_served c status.WriteFault f w = absurd (w refl)
-not_served c (status.Refused e) f w = and_none (has_requests c)
-not_served c status.Usage f w = and_none (has_requests c)
-not_served c status.NoMemory f w = and_none (has_requests c)
-not_served c status.ReadFault f w = and_none (has_requests c)
+not_served Check s f w = refl
+not_served Show s f w = refl
+not_served (Serve callers shards) s f w = unwritten s f w
+not_served (Work requests start) s f w = unwritten s f w
+not_served Ranges s f w = refl
 
 module _ {I O : Type 0} (c : Command) (reads : is_reading (Some c) ≡ true) (source : Change I) (out : Change O) where
   unread_none : (s : Status) → is_reading (Some c) ≡ false → IsUntouched source × (s ≢ status.ReadFault)

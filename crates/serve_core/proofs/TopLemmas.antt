@@ -1,7 +1,8 @@
 -- Whole runs, from what their parts say.
 use Rattle.std.proofs.Common.{◌≡◌, ◌≢◌, ℕ, zero, ◌+◌, ◌≤◌, Bool, true, false, is_some, List, [], ap, length, drop, Option, Some, None, IfSome, refl, subst, arith}
 use Rattle.session_limits.specs.Limits.{max_input, max_requests}
-use Rattle.byte_ends.specs.Ends.{LostAtMost}
+use Rattle.byte_ends.specs.Ends.{Grew, GrewByFront, LostAtMost}
+use Rattle.byte_ends.proofs.EndsLemmas.{front_of_all}
 use Rattle.session_hall.specs.Closings.{ClosedView}
 use Rattle.serve_words.specs.declared.command.Command.{Command}
 use Rattle.serve_words.specs.declared.command.Command.TheVariants.{Serve, Work, Ranges}
@@ -20,6 +21,11 @@ use Rattle.serve_core.proofs.RunLemmas.{runs_of, read_run, stopped_run}
 nothing_lost : (o p : Option (List ℕ)) → p ≡ o → LostAtMost o p (max_input + 1)
 nothing_lost None p e = tt
 nothing_lost (Some bytes) p e = (0, omega arith, omega arith, e)
+
+-- all of a text was written, or a front of it
+pub front_either : (b : Bool) (old new : Option (List ℕ)) (text : List ℕ) → (b ≡ true → Grew old new text) → (b ≡ false → GrewByFront old new text) → GrewByFront old new text
+front_either true old new text h k = front_of_all old new text (h refl)
+front_either false old new text h k = k refl
 
 -- the words of `work` are within their bounds
 pub few_requests : (o : Option Command) (requests start : ℕ) → o ≡ Some (Work requests start) → IfSome o IsWithinBounds → requests ≤ max_requests

@@ -1,5 +1,5 @@
 -- What a run promises, over its command, its input, its outputs and how it ended.
-use Rattle.std.specs.Prelude.{◌≡◌, ◌≢◌, ◌+◌, ◌⊎◌, ◌↔◌, ◌&&◌, ℕ, Bool, true, false, is_some, List, Option, Some, None, IfSome}
+use Rattle.std.specs.Prelude.{◌≡◌, ◌≢◌, ◌+◌, ◌⊎◌, ◌↔◌, ℕ, Bool, true, false, is_some, List, Option, Some, None, IfSome}
 use Rattle.session_limits.specs.Limits.{max_input}
 use Rattle.byte_ends.specs.Ends.{IsAtEnd, LostFirst, LostAtMost}
 use Rattle.serve_words.specs.declared.command.Command.{Command}
@@ -15,23 +15,13 @@ use Rattle.serve_faults.specs.declared.status.Status.TheVariants as status
 use Rattle.serve_faults.specs.Answer.{CommandAnswers}
 use Rattle.serve_faults.specs.Answer as answer
 use Rattle.serve_faults.specs.Changes.{Change, Failed, IsUntouched, Took, TookFront}
-use Rattle.serve_faults.specs.Commands.{callers_of, has_requests, input_of, is_reading, shards_of}
+use Rattle.serve_faults.specs.Commands.{callers_of, input_of, is_reading, shards_of}
 use Rattle.serve_faults.specs.Input.{Parts, parts_of}
 use Rattle.serve_faults.specs.Session.{IsSession, requests_of, session_of_parts}
 use Rattle.serve_faults.specs.Message.{message_of}
+use Rattle.serve_core.specs.Commands.{Told, has_served}
 
--- ---- what is told
-
--- this holds of the bytes that a source has, where it is read and tells them, and else of whatever
--- bytes
-abbrev pub ToldIf : {S : Type 0} → Bool → Change S → (List ℕ → Type 0) → Type 0
-ToldIf true c P = IfSome (c.bytes c.old) P
-ToldIf false c P = (bytes : List ℕ) → P bytes
-
--- This holds of the bytes that a source has, where it tells them; for a command that doesn't read,
--- of whatever bytes.
-abbrev pub Told : {S : Type 0} → Option Command → Change S → (List ℕ → Type 0) → Type 0
-Told command c P = ToldIf (is_reading command) c P
+-- ---- what is read
 
 -- whether a run that reads, and that ended so, had read its source to the end
 abbrev pub has_read_all : Status → Bool
@@ -93,20 +83,6 @@ pub record IsServedThrough (command : Command) (input : List ℕ) (closed : Clos
   pub done : IsDone script closed
   pub callers_are : closed.callers ≡ callers_of command
   pub shards_are : closed.shards ≡ shards_of command
-
--- whether a run that ended so has come to its output
-abbrev pub has_begun_writing : Status → Bool
-has_begun_writing status.Fine = true
-has_begun_writing (status.Refused fault) = false
-has_begun_writing status.Usage = false
-has_begun_writing status.NoMemory = false
-has_begun_writing status.ReadFault = false
-has_begun_writing status.WriteFault = true
-
--- whether a command that ended so has served through a hall
-abbrev pub has_served : Option Command → Status → Bool
-has_served None s = false
-has_served (Some command) s = has_requests command && has_begun_writing s
 
 -- what a hall that is left holds
 abbrev pub Holds : Option Command → List ℕ → Option ClosedView → Type 0

@@ -9,7 +9,7 @@ use Rattle.handler_syntax.specs.Language.{File, IsNamedFile}
 use Rattle.handler_machine.specs.Scripts.{ScriptsView, meaning}
 use Rattle.request_files.specs.Requests.{ArePrintable}
 use Rattle.request_files.specs.Servable.{IsServable}
-use Rattle.reply_writing.specs.Printable.{ArePrintableReplies}
+use Rattle.reply_sheet.specs.Printable.{ArePrintableReplies}
 use Rattle.serve_made.specs.Summary.{summary}
 use Rattle.serve_faults.specs.declared.status.Status.{Status}
 use Rattle.serve_faults.specs.declared.status.Status.TheVariants as status

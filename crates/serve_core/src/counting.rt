@@ -4,7 +4,7 @@ ghost use Rattle.std.specs.Prelude.{◌≡◌, ◌≤◌, [], ◌∷◌, length}
 ghost use Rattle.session_limits.specs.Limits.{max_requests};
 ghost use Rattle.session_journal.specs.Journal.{done_operations};
 ghost use Rattle.session_values.specs.ReplyText.{reply_text};
-ghost use Rattle.reply_writing.specs.Printable.{ArePrintableReplies};
+ghost use Rattle.reply_sheet.specs.Printable.{ArePrintableReplies};
 
 use reply_sheet::{LineBuf, line};
 use session_journal::Event;

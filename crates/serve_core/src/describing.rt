@@ -10,7 +10,7 @@ ghost use Rattle.serve_faults.specs.Ways.{describing};
 ghost use Rattle.serve_reading.specs.Described.{IsPrintable, text_of};
 
 use crate::sessions::ended;
-use byte_ends::{Page, Sink, Source, write_text};
+use byte_ends::{Sink, Source, WriteBuffer, write_text};
 use serve_faults::Status;
 use serve_reading::{Description, read_description, read_input};
 use std::alloc::Global;
@@ -50,14 +50,14 @@ fn write_description<O: Sink>(alloc: Global, description: &Description, out: &mu
     ensures { EndsOrWants (text_of description.now)
         (change O.held O.faults out.old out.new) result }
 {
-    match Page::new(alloc) {
+    match WriteBuffer::new(alloc) {
         Ok(page) => write_paged(out, description, page),
         Err(_) => Status::NoMemory,
     }
 }
 
 // Writes the text of what was read, page by page.
-fn write_paged<O: Sink>(out: &mut O, description: &Description, page: Page) -> Status
+fn write_paged<O: Sink>(out: &mut O, description: &Description, page: WriteBuffer) -> Status
     requires { IsPrintable description.now }
     ensures { EndsBy (text_of description.now) (change O.held O.faults out.old out.new) result }
 {

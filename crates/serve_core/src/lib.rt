@@ -9,6 +9,7 @@ mod ranging;
 mod served;
 mod serving;
 mod sessions;
+mod sizes;
 mod top;
 mod working;
 mod writing;

@@ -1,16 +1,17 @@
 // A program whose requests are served through a hall.
 
 ghost use Rattle.std.specs.Prelude.{◌≡◌, ◌≤◌, length, map, IfOk};
-ghost use Rattle.session_limits.specs.Limits.{max_callers, max_shards, max_tables};
+ghost use Rattle.session_limits.specs.Limits.{max_tables};
 ghost use Rattle.handler_check.specs.Resolved.{shape_of as shape_spec};
 ghost use Rattle.session_hall.specs.Closings.{IsDone};
 ghost use Rattle.handler_machine.specs.Scripts.{meaning};
 ghost use Rattle.request_files.specs.Servable.{IsServable};
 
+use crate::sizes::Sizes;
+use byte_ends::WriteBuffer;
 use declaration_insertion::Program;
 use hall_serving::{OpenSession, open_session, serve_session};
 use handler_machine::Scripts;
-use reply_writing::Block;
 use request_files::Requests;
 use session_hall::Closed;
 use session_values::{NoMemory, TableKind};
@@ -28,44 +29,41 @@ pub(crate) struct Ready<'a> {
     /// The session's script again, by which each ticket is served.
     pub(crate) plan: Scripts<'a>,
     /// Room for the lines of the replies.
-    pub(crate) block: Block,
+    pub(crate) buffer: WriteBuffer,
     ghost same: { plan ≡ session.script },
 }
 
-/// Opens a hall for the requests of a program, with so many callers and so many shards a table.
+/// Opens a hall for the requests of a program, of these sizes.
 pub(crate) fn open_program<'a>(
     alloc: Global,
-    callers: u32,
-    shards: u32,
+    sizes: Sizes,
     program: &'a Program,
     requests: &'a Requests,
 ) -> Result<Ready<'a>, NoMemory>
     requires servable { IsServable program.now.file requests.now }
-    requires callers { (1 ≤ callers) × (callers ≤ max_callers) }
-    requires shards { (1 ≤ shards) × (shards ≤ max_shards) }
     ensures script { IfOk result (λ r. r.session.script
         ≡ record { program = program.now; requests = requests.now }) }
-    ensures callers { IfOk result (λ r. r.session.callers ≡ callers) }
-    ensures shards { IfOk result (λ r. r.session.shards ≡ shards) }
+    ensures callers { IfOk result (λ r. r.session.callers ≡ sizes.callers) }
+    ensures shards { IfOk result (λ r. r.session.shards ≡ sizes.shards) }
 {
-    let block = Block::new(alloc)?;
+    let buffer = WriteBuffer::new(alloc)?;
     let shape = shape_of(alloc, program)?;
     let script = Scripts::over(program, requests);
     let plan = Scripts::over(program, requests);
-    let session = open_session(alloc, script, shape.as_slice(), shards, callers)?;
+    let session = open_session(alloc, script, shape.as_slice(), sizes.shards, sizes.callers)?;
     Ok(Ready {
         session,
         plan,
-        block,
+        buffer,
     })
 }
 
-/// Serves the requests of an open session, and gives the block back.
+/// Serves the requests of an open session, and gives the buffer back.
 pub(crate) fn serve_ready<'a, R: Threads + Wait + Sync, G: Gate + Sync>(
     rt: &R,
     ready: Ready<'a>,
     gate: &G,
-) -> (Closed, Block)
+) -> (Closed, WriteBuffer)
     ensures done { IsDone (meaning ready.entry.session.script) result.0 }
     ensures callers { result.0.callers ≡ ready.entry.session.callers }
     ensures shards { result.0.shards ≡ ready.entry.session.shards }
@@ -73,10 +71,10 @@ pub(crate) fn serve_ready<'a, R: Threads + Wait + Sync, G: Gate + Sync>(
     let Ready {
         session,
         plan,
-        block,
+        buffer,
     } = ready;
     let closed = serve_session(rt, session, &plan, gate);
-    (closed, block)
+    (closed, buffer)
 }
 
 // The kinds of the tables of a program.

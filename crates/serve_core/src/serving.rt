@@ -1,13 +1,14 @@
 // Serving: from a source to the lines of the replies.
 
 ghost use Rattle.std.specs.Prelude.{◌≤◌, length, Some};
-ghost use Rattle.session_limits.specs.Limits.{max_callers, max_input, max_shards};
+ghost use Rattle.session_limits.specs.Limits.{max_input};
 ghost use Rattle.serve_faults.specs.Changes.{change};
 ghost use Rattle.serve_core.specs.Runs.{AnswersTo, Runs};
 ghost use Rattle.serve_words.specs.declared.command.Command.TheVariants.{Serve};
 
 use crate::outcome::Outcome;
 use crate::sessions::serve_bytes;
+use crate::sizes::Sizes;
 use crate::writing::Writing;
 use byte_ends::{Sink, Source};
 use serve_reading::read_input;
@@ -20,20 +21,17 @@ use worker_gate::Gate;
 pub(crate) fn serve_source<R: Threads + Wait + Sync, I: Source, O: Sink, G: Gate + Sync>(
     rt: &R,
     alloc: Global,
-    callers: u32,
-    shards: u32,
+    sizes: Sizes,
     source: &mut I,
     out: &mut O,
     gate: &G,
 ) -> Outcome
-    requires callers { (1 ≤ callers) × (callers ≤ max_callers) }
-    requires shards { (1 ≤ shards) × (shards ≤ max_shards) }
-    ensures { Runs (Some (Serve callers shards))
+    ensures { Runs (Some (Serve sizes.callers sizes.shards))
         (change I.left I.faults source.old source.new)
         (change O.held O.faults out.old out.new) result.status result.closed }
 {
     match read_input(alloc, source) {
-        Ok(bytes) => serve_input(rt, alloc, callers, shards, bytes.as_slice(), out, gate),
+        Ok(bytes) => serve_input(rt, alloc, sizes, bytes.as_slice(), out, gate),
         Err(status) => Outcome {
             status,
             closed: None,
@@ -45,26 +43,14 @@ pub(crate) fn serve_source<R: Threads + Wait + Sync, I: Source, O: Sink, G: Gate
 fn serve_input<R: Threads + Wait + Sync, O: Sink, G: Gate + Sync>(
     rt: &R,
     alloc: Global,
-    callers: u32,
-    shards: u32,
+    sizes: Sizes,
     bytes: &[u8],
     out: &mut O,
     gate: &G,
 ) -> Outcome
     requires short { length bytes.now ≤ max_input }
-    requires callers { (1 ≤ callers) × (callers ≤ max_callers) }
-    requires shards { (1 ≤ shards) × (shards ≤ max_shards) }
-    ensures { AnswersTo (Serve callers shards) bytes.now
+    ensures { AnswersTo (Serve sizes.callers sizes.shards) bytes.now
         (change O.held O.faults out.old out.new) result.status result.closed }
 {
-    serve_bytes(
-        rt,
-        alloc,
-        callers,
-        shards,
-        bytes,
-        Writing::Replies,
-        out,
-        gate,
-    )
+    serve_bytes(rt, alloc, sizes, bytes, Writing::Replies, out, gate)
 }

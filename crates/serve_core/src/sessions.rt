@@ -1,13 +1,14 @@
 // Sessions: from the bytes of a session file to what is written of it.
 
 ghost use Rattle.std.specs.Prelude.{◌≡◌, ◌≤◌, length};
-ghost use Rattle.session_limits.specs.Limits.{max_callers, max_input, max_shards};
+ghost use Rattle.session_limits.specs.Limits.{max_input};
 ghost use Rattle.handler_machine.specs.Scripts.{meaning};
 ghost use Rattle.serve_faults.specs.Changes.{change};
 ghost use Rattle.serve_core.specs.Serving.{CanPrint, CanServe, EndsAsServed, EndsLoaded, EndsSession, status_of};
 
 use crate::outcome::Outcome;
 use crate::served::{Ready, open_program, serve_ready};
+use crate::sizes::Sizes;
 use crate::writing::{Writing, write_session};
 use byte_ends::Sink;
 use serve_faults::Status;
@@ -23,21 +24,18 @@ use worker_gate::Gate;
 pub(crate) fn serve_bytes<R: Threads + Wait + Sync, O: Sink, G: Gate + Sync>(
     rt: &R,
     alloc: Global,
-    callers: u32,
-    shards: u32,
+    sizes: Sizes,
     bytes: &[u8],
     writing: Writing,
     out: &mut O,
     gate: &G,
 ) -> Outcome
     requires short { length bytes.now ≤ max_input }
-    requires callers { (1 ≤ callers) × (callers ≤ max_callers) }
-    requires shards { (1 ≤ shards) × (shards ≤ max_shards) }
-    ensures { EndsSession writing callers shards bytes.now
+    ensures { EndsSession writing sizes.callers sizes.shards bytes.now
         (change O.held O.faults out.old out.new) result.status result.closed }
 {
     match load_session(alloc, bytes) {
-        Ok(loaded) => serve_loaded(rt, alloc, callers, shards, &loaded, writing, out, gate),
+        Ok(loaded) => serve_loaded(rt, alloc, sizes, &loaded, writing, out, gate),
         Err(e) => Outcome {
             status: ended(e),
             closed: None,
@@ -59,20 +57,17 @@ pub(crate) fn ended(e: Unserved) -> Status
 fn serve_loaded<R: Threads + Wait + Sync, O: Sink, G: Gate + Sync>(
     rt: &R,
     alloc: Global,
-    callers: u32,
-    shards: u32,
+    sizes: Sizes,
     loaded: &Loaded,
     writing: Writing,
     out: &mut O,
     gate: &G,
 ) -> Outcome
     requires can { CanServe loaded.now }
-    requires callers { (1 ≤ callers) × (callers ≤ max_callers) }
-    requires shards { (1 ≤ shards) × (shards ≤ max_shards) }
-    ensures { EndsLoaded writing callers shards loaded.now
+    ensures { EndsLoaded writing sizes.callers sizes.shards loaded.now
         (change O.held O.faults out.old out.new) result.status result.closed }
 {
-    match open_program(alloc, callers, shards, &loaded.program, &loaded.requests) {
+    match open_program(alloc, sizes, &loaded.program, &loaded.requests) {
         Ok(ready) => {
             let (status, closed) = serve_open(rt, ready, &loaded.names, writing, out, gate);
             Outcome {
@@ -102,7 +97,7 @@ fn serve_open<'a, R: Threads + Wait + Sync, O: Sink, G: Gate + Sync>(
         ready.entry.session.callers ready.entry.session.shards
         (change O.held O.faults out.old out.new) result.0 result.1 }
 {
-    let (closed, mut block) = serve_ready(rt, ready, gate);
-    let status = write_session(out, &closed, names, &mut block, writing);
+    let (closed, mut buffer) = serve_ready(rt, ready, gate);
+    let status = write_session(out, &closed, names, &mut buffer, writing);
     (status, closed)
 }

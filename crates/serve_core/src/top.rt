@@ -11,6 +11,7 @@ use crate::describing::describe_source;
 use crate::outcome::{Outcome, unserved};
 use crate::ranging::range_source;
 use crate::serving::serve_source;
+use crate::sizes::Sizes;
 use crate::working::work;
 use byte_ends::{Sink, Source, write_all};
 use serve_faults::{Status, message_of};
@@ -63,7 +64,8 @@ fn answer<R: Threads + Wait + Sync, I: Source, O: Sink, G: Gate + Sync>(
         Some(Command::Check) => unserved(describe_source(alloc, false, source, out)),
         Some(Command::Show) => unserved(describe_source(alloc, true, source, out)),
         Some(Command::Serve { callers, shards }) => {
-            serve_source(rt, alloc, callers, shards, source, out, gate)
+            let sizes = Sizes { callers, shards };
+            serve_source(rt, alloc, sizes, source, out, gate)
         }
         Some(Command::Work { requests, start }) => { work(rt, alloc, requests, start, out, gate) }
         Some(Command::Ranges) => unserved(range_source(alloc, source, out)),
@@ -113,5 +115,5 @@ pub fn ranges<I: Source, O: Sink, E: Sink>(
 pub fn tell<E: Sink>(status: &Status, err: &mut E)
     ensures { Tells (change E.held E.faults err.old err.new) status.now }
 {
-    let _told = write_all(err, message_of(status).bytes());
+    let _told = write_all(err, message_of(status).as_str().as_bytes());
 }

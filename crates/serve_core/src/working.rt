@@ -8,6 +8,7 @@ ghost use Rattle.serve_core.specs.Runs.{AnswersTo};
 
 use crate::outcome::Outcome;
 use crate::sessions::serve_bytes;
+use crate::sizes::Sizes;
 use crate::writing::Writing;
 use byte_ends::Sink;
 use serve_faults::Status;
@@ -32,8 +33,12 @@ pub(crate) fn work<R: Threads + Wait + Sync, O: Sink, G: Gate + Sync>(
 {
     match session_text(alloc, requests, start) {
         Ok(text) => {
+            let sizes = Sizes {
+                callers: 4,
+                shards: 4,
+            };
             let writing = Writing::Summary { requests };
-            serve_bytes(rt, alloc, 4, 4, text.as_bytes(), writing, out, gate)
+            serve_bytes(rt, alloc, sizes, text.as_bytes(), writing, out, gate)
         }
         Err(_) => Outcome {
             status: Status::NoMemory,

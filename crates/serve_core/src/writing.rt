@@ -5,13 +5,13 @@ ghost use Rattle.session_limits.specs.Limits.{max_requests};
 ghost use Rattle.session_journal.specs.Journal.{done_operations};
 ghost use Rattle.session_values.specs.ReplyText.{reply_text};
 ghost use Rattle.serve_made.specs.Summary.{summary};
-ghost use Rattle.reply_writing.specs.Printable.{ArePrintableReplies};
+ghost use Rattle.reply_sheet.specs.Printable.{ArePrintableReplies};
 ghost use Rattle.serve_faults.specs.Changes.{change};
 ghost use Rattle.serve_core.specs.Serving.{EndsBy, text_of};
 
 use crate::counting::{count_bytes, count_calls};
-use byte_ends::{Sink, write_all};
-use reply_writing::{Block, write_replies};
+use byte_ends::{Sink, WriteBuffer, write_all};
+use reply_sheet::write_replies;
 use serve_faults::Status;
 use serve_made::summary_text;
 use session_hall::Closed;
@@ -31,7 +31,7 @@ pub(crate) fn write_session<O: Sink>(
     out: &mut O,
     closed: &Closed,
     names: &Names,
-    block: &mut Block,
+    buffer: &mut WriteBuffer,
     writing: Writing,
 ) -> Status
     requires few { length closed.now.replies ≤ max_requests }
@@ -40,19 +40,24 @@ pub(crate) fn write_session<O: Sink>(
         (change O.held O.faults out.old out.new) result }
 {
     match writing {
-        Writing::Replies => write_lines(out, closed, names, block),
+        Writing::Replies => write_lines(out, closed, names, buffer),
         Writing::Summary { requests } => write_summary(out, closed, names, requests),
     }
 }
 
 // Writes the lines of the replies.
-fn write_lines<O: Sink>(out: &mut O, closed: &Closed, names: &Names, block: &mut Block) -> Status
+fn write_lines<O: Sink>(
+    out: &mut O,
+    closed: &Closed,
+    names: &Names,
+    buffer: &mut WriteBuffer,
+) -> Status
     requires few { length closed.now.replies ≤ max_requests }
     requires printable { ArePrintableReplies names.now closed.now.replies }
     ensures { EndsBy (reply_text names.now 0 closed.now.replies)
         (change O.held O.faults out.old out.new) result }
 {
-    if write_replies(out, closed.replies().as_slice(), names, block) {
+    if write_replies(out, closed.replies().as_slice(), names, buffer) {
         Status::Fine
     } else {
         Status::WriteFault
@@ -70,7 +75,7 @@ fn write_summary<O: Sink>(out: &mut O, closed: &Closed, names: &Names, requests:
     let calls = count_calls(closed.journal().events());
     let bytes = count_bytes(closed.replies().as_slice(), names);
     let text = summary_text(requests, calls, bytes);
-    if write_all(out, text.bytes()) {
+    if write_all(out, text.as_str().as_bytes()) {
         Status::Fine
     } else {
         Status::WriteFault

@@ -6,9 +6,8 @@ use Rattle.session_limits.specs.Limits.{max_input}
 use Rattle.handler_syntax.specs.Language.{names_of, File, SyntaxRefusal, IsSourceOf, canonical_text}
 use Rattle.handler_syntax.proofs.Facts.{one_tree, one_fault, no_fault}
 use Rattle.check_rules.specs.declared.refusal.CheckRefusal.{CheckRefusal}
-use Rattle.check_rules.specs.Rules.{IsBroken}
-use Rattle.check_rules.proofs.Firsts.{one_first}
-use Rattle.handler_check.specs.Checking.{IsAccepted, IsBeyond, IsRefusal}
+use Rattle.handler_check.specs.Checking.{IsAccepted, IsRefusal}
+use Rattle.handler_check.proofs.ExcessLemmas.{one_answer, not_both}
 use Rattle.symbolic_ops.specs.declared.symbol.Symbol.{Symbol}
 use Rattle.may_use_analysis.specs.declared.refusal.AnalysisRefusal.{AnalysisRefusal}
 use Rattle.may_use_analysis.specs.Later.{AreLater, IsTooMany}
@@ -29,19 +28,9 @@ use Rattle.serve_faults.specs.Answer.{HasSyntaxFault, HasCheckFault, HasAnalysis
 use Rattle.serve_faults.specs.Answer as answer
 
 -- ---- handlers
-one_check : (f : File) (d e : CheckRefusal) → IsRefusal f d → IsRefusal f e → d ≡ e
-one_check f d e (inl a) (inl b) = one_first (IsBroken f) d e a b
-one_check f d e (inl a) (inr b) = absurd (b.0 d a.is_broken)
-one_check f d e (inr a) (inl b) = absurd (a.0 e b.is_broken)
-one_check f d e (inr a) (inr b) = one_first (IsBeyond f) d e a.1 b.1
-
-not_both : (f : File) (e : CheckRefusal) → IsRefusal f e → IsAccepted f → ⊥
-not_both f e (inl a) k = k.keeps e a.is_broken
-not_both f e (inr a) k = k.within e a.1.is_broken
-
 module _ (text : List ℕ) where
   same_check : (d e : CheckRefusal) → HasCheckFault text d → HasCheckFault text e → d ≡ e
-  same_check d e h k = one_check k.file d e (subst (λ (f : File). IsRefusal f d) (one_tree [] text h.file k.file h.form k.form) h.first) k.first
+  same_check d e h k = one_answer k.file d e (subst (λ (f : File). IsRefusal f d) (one_tree [] text h.file k.file h.form k.form) h.first) k.first
 
   no_syntax : (d : SyntaxRefusal) (f : File) → HasSyntaxFault text d → IsSourceOf [] text f → ⊥
   no_syntax d f h k = no_fault [] text f d k h.first

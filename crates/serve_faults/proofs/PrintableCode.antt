@@ -28,14 +28,8 @@ use Rattle.check_meaning.specs.Code as code
 use Rattle.check_rules.specs.Source.{Source, Finish as NoMore, Let, Assign, Do, Choose, Repeat, Answer, stmt_source, block_source}
 use Rattle.handler_check.specs.Resolved.{atom_of, term_of, key_of, value_of, call_of, stored, right_points, points_of, code_of, code_at, code_in, table_names, variables_of}
 use Rattle.handler_check.proofs.Cases.{expr_induction, source_let, source_assign, source_call, source_choose, source_repeat, source_reply}
+use Rattle.handler_check.proofs.Codes.{term_leaf, term_binary}
 use Rattle.handler_check.proofs.Inductions.{stmt_induction}
-
-term_leaf : (variables : List ℕ) (a : Atom) → term_of variables (alone a) ≡ code.Atom (atom_of variables a)
-term_leaf variables (atom.Lit v) = search (rules, the_lemmas)
-term_leaf variables (atom.Name n p) = search (rules, the_lemmas)
-
-term_binary : (variables : List ℕ) (c : Calc) (l r : Expr) → term_of variables (expr.Binary c (l, r)) ≡ Calculate c (term_of variables l) (term_of variables r)
-term_binary variables c l r = search (rules, the_lemmas)
 
 -- ---- blocks whose literals can be printed
 module _ (names : List (List ℕ)) where

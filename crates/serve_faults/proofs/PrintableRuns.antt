@@ -24,7 +24,7 @@ use Rattle.check_meaning.specs.Dialogue.{Env, env_of, with_value, in_range, calc
 use Rattle.handler_check.specs.Resolved.{code_at}
 use Rattle.request_files.specs.declared.request.Request.{Request}
 use Rattle.request_files.specs.Requests.{ArePrintable}
-use Rattle.reply_writing.specs.Printable.{ArePrintableReplies}
+use Rattle.reply_sheet.specs.Printable.{ArePrintableReplies}
 use Rattle.request_files.specs.Session.{session, request_at}
 use Rattle.serve_faults.proofs.PrintableCode.{AtomPrints, TermPrints, CodePrints, file_prints}
 use Rattle.serve_faults.proofs.PrintableTables.{Holds as TableHolds, start_holds, reply_printable, step_holds}

@@ -1,4 +1,5 @@
--- What is asked of a command: each question has a line for each command.
+-- What is asked of a command: each question has a line for each command. What is asked of its input
+-- too stands in `Input`.
 use Rattle.std.specs.Prelude.{ℕ, Bool, true, false, List, Option, Some, None}
 use Rattle.serve_words.specs.declared.command.Command.{Command}
 use Rattle.serve_words.specs.declared.command.Command.TheVariants.{Check, Show, Serve, Work, Ranges}

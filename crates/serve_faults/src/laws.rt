@@ -7,7 +7,7 @@ ghost use Rattle.request_files.specs.declared.request.Request.{Request};
 ghost use Rattle.request_files.specs.Requests.{ArePrintable};
 ghost use Rattle.request_files.specs.Session.{session};
 ghost use Rattle.serve_faults.specs.Answer.{Answer, HasAnswer, IsAnswer};
-ghost use Rattle.reply_writing.specs.Printable.{ArePrintableReplies};
+ghost use Rattle.reply_sheet.specs.Printable.{ArePrintableReplies};
 
 /// A command line and an input have one answer at most.
 pub fn one_answer()

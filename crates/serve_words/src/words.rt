@@ -12,10 +12,10 @@ use session_limits::{MAX_CALLERS, MAX_REQUESTS, MAX_SHARDS};
 const USUAL: u32 = 4;
 
 /// The line that tells the command lines, with its line feed.
-pub fn usage_line() -> &'static [u8]
+pub fn usage_line() -> &'static str
     ensures { result.now ≡ spec.usage_line }
 {
-    b"usage: foresight check | show | serve [--callers N] [--shards S] | work N START | ranges\n"
+    "usage: foresight check | show | serve [--callers N] [--shards S] | work N START | ranges\n"
 }
 
 /// The command of a command line, if it is one; the words are those after the program's name.

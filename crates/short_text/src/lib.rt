@@ -1,6 +1,6 @@
 //! Short lines that take no memory: messages and summaries.
 #![tactic(auto)]
 
-mod short_text;
+mod short_texts;
 
-pub use short_text::ShortText;
+pub use short_texts::{ShortText, push_number, short_text};

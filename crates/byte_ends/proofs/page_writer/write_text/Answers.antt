@@ -2,38 +2,11 @@ use Rattle.std.proofs.Common.{◌∙◌, refl, rules}
 use Rattle.byte_ends.proofs.Paged.{closed_at, ended, paged_end, paged_flush, paged_none}
 use Rattle.byte_ends.proofs.page_writer.write_text.Goals as goal
 
-pub returns-clause-all : goal.returns-clause-all
-returns-clause-all g c =
+pub returns : goal.returns
+returns g c =
     let over = c.over-writer.ensures in
     let due = ended c.put_text.ensures (refl, paged_none over.page over.sound) in
     let paged = paged_end _ (paged_flush _ _ due.1 c.flush.ensures.put) in
     let name = c.flush.ensures.name ∙ due.0 ∙ over.name in
-    let same = closed_at g.O.Sink.held g.O.Sink.faults _ _ c.flush.new.self.out.now _ over.out (search rules) paged in
-    same.all
-
-pub returns-clause-fault : goal.returns-clause-fault
-returns-clause-fault g c =
-    let over = c.over-writer.ensures in
-    let due = ended c.put_text.ensures (refl, paged_none over.page over.sound) in
-    let paged = paged_end _ (paged_flush _ _ due.1 c.flush.ensures.put) in
-    let name = c.flush.ensures.name ∙ due.0 ∙ over.name in
-    let same = closed_at g.O.Sink.held g.O.Sink.faults _ _ c.flush.new.self.out.now _ over.out (search rules) paged in
-    same.fault
-
-pub returns-clause-front : goal.returns-clause-front
-returns-clause-front g c =
-    let over = c.over-writer.ensures in
-    let due = ended c.put_text.ensures (refl, paged_none over.page over.sound) in
-    let paged = paged_end _ (paged_flush _ _ due.1 c.flush.ensures.put) in
-    let name = c.flush.ensures.name ∙ due.0 ∙ over.name in
-    let same = closed_at g.O.Sink.held g.O.Sink.faults _ _ c.flush.new.self.out.now _ over.out (search rules) paged in
-    same.front
-
-pub returns-clause-later : goal.returns-clause-later
-returns-clause-later g c =
-    let over = c.over-writer.ensures in
-    let due = ended c.put_text.ensures (refl, paged_none over.page over.sound) in
-    let paged = paged_end _ (paged_flush _ _ due.1 c.flush.ensures.put) in
-    let name = c.flush.ensures.name ∙ due.0 ∙ over.name in
-    let same = closed_at g.O.Sink.held g.O.Sink.faults _ _ c.flush.new.self.out.now _ over.out (search rules) paged in
-    same.later
+    let closed = closed_at g.O.Sink.held g.O.Sink.faults _ _ c.flush.new.self.out.now _ over.out (search rules) paged in
+    record { all = closed.all; fault = closed.fault; front = closed.front; later = closed.later }

@@ -1,6 +1,6 @@
 use Rattle.std.proofs.Common.{ap, sym, ◌∙◌, arith, ℕ, List, length}
+use Rattle.reply_sheet.proofs.TextLemmas.{no_text}
 use Rattle.serve_core.proofs.CountLemmas.{bytes_more}
-use Rattle.serve_core.proofs.SheetLemmas.{no_text}
 use Rattle.serve_core.proofs.counting.count_bytes.Goals as goal
 
 pub loop-ticket-init : goal.loop-ticket-init

@@ -3,4 +3,4 @@ use Rattle.serve_core.proofs.EndLemmas.{serve_answers}
 use Rattle.serve_core.proofs.serving.serve_input.Goals as goal
 
 pub returns : goal.returns
-returns g c = serve_answers c.args.callers c.args.shards c.args.bytes.now (change g.O.Sink.held g.O.Sink.faults c.args.out.now c.serve_bytes.new.out) c.serve_bytes.result.status c.serve_bytes.result.closed c.serve_bytes.ensures
+returns g c = serve_answers c.args.sizes.callers c.args.sizes.shards c.args.bytes.now (change g.O.Sink.held g.O.Sink.faults c.args.out.now c.serve_bytes.new.out) c.serve_bytes.result.status c.serve_bytes.result.closed c.serve_bytes.ensures

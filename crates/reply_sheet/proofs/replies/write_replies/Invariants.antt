@@ -1,10 +1,10 @@
 use Rattle.std.proofs.Common.{◌≤◌, take}
 use Rattle.session_values.specs.ReplyText.{reply_text}
-use Rattle.reply_writing.proofs.TextLemmas.{Waits}
-use Rattle.reply_writing.proofs.replies.write_replies.Given as goal
+use Rattle.reply_sheet.proofs.TextLemmas.{Waits}
+use Rattle.reply_sheet.proofs.replies.write_replies.Given as goal
 
 abbrev pub invariant-loop-ticket : goal.invariant-loop-ticket
 invariant-loop-ticket g l = record {
-  waits : Waits (g.O.Sink.held l.fn.out) (g.O.Sink.held l.out) l.block (reply_text l.names 0 (take l.ticket l.replies));
+  waits : Waits (g.O.Sink.held l.fn.out) (g.O.Sink.held l.out) l.buffer.held (reply_text l.names 0 (take l.ticket l.replies));
   later : g.O.Sink.faults l.fn.out ≤ g.O.Sink.faults l.out;
 }

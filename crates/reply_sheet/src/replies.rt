@@ -4,24 +4,20 @@ ghost use Rattle.std.specs.Prelude.{◌≡◌, ◌≤◌, length, true, false};
 ghost use Rattle.session_limits.specs.Limits.{max_requests};
 ghost use Rattle.byte_ends.specs.Ends.{Rose, Grew, GrewByFront};
 ghost use Rattle.session_values.specs.ReplyText.{reply_text};
-ghost use Rattle.reply_writing.specs.Printable.{ArePrintableReplies};
+ghost use Rattle.reply_sheet.specs.Printable.{ArePrintableReplies};
 
-use crate::block::Block;
-use byte_ends::{Sink, write_all};
-use reply_sheet::push_line;
+use crate::reply_line::{LONGEST, push_line};
+use byte_ends::{Sink, WriteBuffer, write_all};
 use session_values::{Names, Reply};
 
-/// How many bytes a line has at most.
-const LONGEST: usize = 266;
-
 /// Writes the lines of the replies, of which the first is ticket 0's. Whole lines are gathered in
-/// the block, in place of what it held, and written when the next one may have no room. It answers
+/// the buffer, in place of what it held, and written when the next one may have no room. It answers
 /// `false` after a fault.
 pub fn write_replies<O: Sink>(
     out: &mut O,
     replies: &[Reply],
     names: &Names,
-    block: &mut Block,
+    buffer: &mut WriteBuffer,
 ) -> bool
     requires few { length replies.now ≤ max_requests }
     requires printable { ArePrintableReplies names.now replies.now }
@@ -32,15 +28,15 @@ pub fn write_replies<O: Sink>(
         → GrewByFront (O.held out.old) (O.held out.new) (reply_text names.now 0 replies.now) }
     ensures later { O.faults out.old ≤ O.faults out.new }
 {
-    block.clear();
+    buffer.clear();
     for (ticket, reply) in replies.iter().enumerate() {
-        if block.spare() < LONGEST {
-            if !write_all(out, block.bytes()) {
+        if !buffer.reserve(LONGEST) {
+            if !write_all(out, buffer.bytes()) {
                 return false;
             }
-            block.clear();
+            buffer.clear();
         }
-        push_line(ticket as u32, reply, names, block);
+        push_line(ticket as u32, reply, names, buffer);
     }
-    write_all(out, block.bytes())
+    write_all(out, buffer.bytes())
 }

@@ -1,0 +1,42 @@
+use Rattle.std.proofs.Common.{[], refl, rules, sym, ap, ◌∙◌, subst, arith}
+use Rattle.session_values.specs.ReplyText.{reply_text}
+use Rattle.byte_ends.specs.Ends.{Grew, GrewByFront}
+use Rattle.reply_sheet.proofs.TextLemmas.{waits_none, waits_same, waits_written, broke_off, no_text, text_at, line_waits}
+use Rattle.reply_sheet.proofs.replies.write_replies.Goals.{then-not-reserve+else-not-write_all, else-not-reserve}
+use Rattle.reply_sheet.proofs.replies.write_replies.Goals as goal
+
+pub loop-ticket-init : goal.loop-ticket-init
+loop-ticket-init g c = record {
+  waits = waits_none (g.O.Sink.held c.args.out.now) c.clear.new.self.held (reply_text c.args.names.now 0 []) c.clear.ensures.held (no_text c.args.names.now 0);
+  later = search rules;
+}
+
+pub returns-then-not-write_all-clause-front : goal.returns-then-not-write_all-clause-front
+returns-then-not-write_all-clause-front g c _ =
+    let waits = waits_same _ _ _ _ _ _ refl c.reserve.ensures.held c.loop-ticket.invariant.waits in
+    broke_off (g.O.Sink.held c.args.out.now) (g.O.Sink.held c.loop-ticket.out) (g.O.Sink.held c.write_all.new.out) c.reserve.new.self.held _ _ _ waits
+    (subst (GrewByFront (g.O.Sink.held c.loop-ticket.out) (g.O.Sink.held c.write_all.new.out)) c.bytes.ensures (c.write_all.ensures.front c.if-not-write_all.true))
+    (text_at c.args.names.now c.args.replies.now c.loop-ticket.ticket)
+
+pub loop-ticket-preserved : goal.loop-ticket-preserved
+loop-ticket-preserved g c = record {
+  waits = line_waits c.args.names.now c.args.replies.now c.loop-ticket.ticket c.index-replies-ticket.result (g.O.Sink.held c.args.out.now) (g.O.Sink.held c.if-not-reserve.out) c.if-not-reserve.buffer.held c.push_line.new.out.held _
+      c.loop-ticket-test.true (sym c.index-replies-ticket.is) refl c.push_line.ensures
+      (elim c.if-not-reserve.branch [
+        | then-not-reserve+else-not-write_all w ↦ waits_same _ _ _ _ _ _ (ap g.O.Sink.held w.out-is) (ap (λ b. b.held) w.buffer-is ∙ w.clear-then-not-reserve.ensures.held)
+            (waits_written (g.O.Sink.held c.args.out.now) (g.O.Sink.held c.loop-ticket.out) (g.O.Sink.held w.write_all.new.out) c.reserve.new.self.held [] _
+            (waits_same _ _ _ _ _ _ refl c.reserve.ensures.held c.loop-ticket.invariant.waits)
+            (subst (Grew (g.O.Sink.held c.loop-ticket.out) (g.O.Sink.held w.write_all.new.out)) w.bytes.ensures (w.write_all.ensures.all w.if-not-write_all.false)) refl)
+        | else-not-reserve w ↦ waits_same _ _ _ _ _ _ (ap g.O.Sink.held w.out-is) (ap (λ b. b.held) w.buffer-is ∙ c.reserve.ensures.held) c.loop-ticket.invariant.waits
+      ]);
+  later = elim c.if-not-reserve.branch [
+    | then-not-reserve+else-not-write_all w ↦ omega (arith, ap g.O.Sink.faults w.out-is, w.write_all.ensures.later, c.loop-ticket.invariant.later)
+    | else-not-reserve w ↦ omega (arith, ap g.O.Sink.faults w.out-is, c.loop-ticket.invariant.later)
+  ];
+}
+
+pub returns-clause-front : goal.returns-clause-front
+returns-clause-front g c e =
+    broke_off (g.O.Sink.held c.args.out.now) (g.O.Sink.held c.loop-ticket.out) (g.O.Sink.held c.write_all-2.new.out) c.loop-ticket.buffer.held _ _ _ c.loop-ticket.invariant.waits
+    (subst (GrewByFront (g.O.Sink.held c.loop-ticket.out) (g.O.Sink.held c.write_all-2.new.out)) c.bytes-2.ensures (c.write_all-2.ensures.front e))
+    (text_at c.args.names.now c.args.replies.now c.loop-ticket.ticket)
