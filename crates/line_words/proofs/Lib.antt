@@ -1,0 +1,3 @@
+pub mod NumbersBack
+pub mod ValuesBack
+pub mod WordsBack
