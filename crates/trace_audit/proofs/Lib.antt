@@ -1,0 +1,16 @@
+pub mod Allowed
+pub mod Audits
+pub mod FromBook
+pub mod FrontSteps
+pub mod Fronts
+pub mod Gathered
+pub mod Judged
+pub mod Judges
+pub mod Keeps
+pub mod OneVerdict
+pub mod Replayed
+pub mod Runs
+pub mod Same
+pub mod Serial
+pub mod Taking
+pub mod Tickets

@@ -1,0 +1,8 @@
+pub mod Accepted
+pub mod Desk
+pub mod Judging
+pub mod Keeping
+pub mod Noted
+pub mod Replaying
+pub mod Traces
+pub mod Verdicts

@@ -1,0 +1,102 @@
+// What is judged of a trace whose tickets were run.
+
+ghost use Rattle.std.specs.Prelude.{◌≡◌, ◌<◌, ◌≤◌, IfOk, List, length};
+ghost use Rattle.session_journal.specs.declared.event.Event.{Event as SpecEvent};
+ghost use Rattle.session_journal.specs.Script.{Meaning};
+ghost use Rattle.trace_audit.specs.Traces.{max_events};
+ghost use Rattle.trace_audit.specs.Judging.{IsAgainst, IsFront, IsWhole, Judged, MayJudge, WereRun, front_of};
+ghost use Rattle.trace_audit.specs.Replaying.{TicketsFit, TicketsJudged};
+ghost use Rattle.trace_audit.specs.Verdicts as verdicts;
+ghost use Rattle.trace_audit.specs.Verdicts.{IsVerdict};
+
+use crate::front::Front;
+use crate::judging::first_against;
+use crate::replaying::first_unreplayed;
+use crate::ticket_replay::TicketReplay;
+use crate::verdict::Verdict;
+use plain_tables::PlainTables;
+use session_journal::Event;
+use session_values::{NoMemory, TableKind};
+use std::alloc::Global;
+
+/// The number of the rule that an event of this kind breaks.
+fn rule_of(e: Event) -> u32
+    ensures { result ≡ verdicts.rule_of e }
+{
+    match e {
+        Event::Begin { .. } => 1,
+        Event::Done { .. } => 2,
+        Event::Delay { .. } => 3,
+        Event::End { .. } => 4,
+    }
+}
+
+/// The verdict on the tickets one after another, where all events are allowed and all tickets have
+/// ended.
+fn judge_tickets(
+    alloc: Global,
+    shape: &[TableKind],
+    replays: &[TicketReplay],
+) -> Result<Verdict, NoMemory>
+    requires { TicketsFit shape.now replays.now }
+    ensures { IfOk result (λ v. TicketsJudged shape.now replays.now v) }
+{
+    let mut tables = PlainTables::new(alloc, shape)?;
+    match first_unreplayed(&mut tables, replays)? {
+        Some(t) => Ok(Verdict::Ticket {
+            rule: 6,
+            ticket: t as u32,
+        }),
+        None => Ok(Verdict::Accepted),
+    }
+}
+
+/// The verdict where this event is the first that isn't allowed.
+fn judge_event(events: &[Event], at: usize) -> Verdict
+    requires few { length events.now ≤ max_events }
+    requires at { at < length events.now }
+    ensures { (m : Meaning) → IsAgainst m events.now at → IsVerdict m events.now result }
+{
+    Verdict::Event {
+        rule: rule_of(events[at]),
+        at: at as u32,
+    }
+}
+
+/// The verdict where all events are allowed.
+fn judge_whole(
+    alloc: Global,
+    shape: &[TableKind],
+    replays: &[TicketReplay],
+    front: &Front,
+) -> Result<Verdict, NoMemory>
+    requires { IsWhole shape.now replays.now (front_of front.now) }
+    ensures { IfOk result (λ v. (m : Meaning) (J : List SpecEvent) → m.shape ≡ shape.now
+        → WereRun m J replays.now → IsFront m replays.now J (front_of front.now)
+        → IsVerdict m J v) }
+{
+    match front.first_open() {
+        Some(t) => Ok(Verdict::Ticket {
+            rule: 5,
+            ticket: t as u32,
+        }),
+        None => judge_tickets(alloc, shape, replays),
+    }
+}
+
+/// The verdict on a trace whose tickets were run.
+pub(crate) fn judge_trace(
+    alloc: Global,
+    shape: &[TableKind],
+    replays: &[TicketReplay],
+    events: &[Event],
+) -> Result<Verdict, NoMemory>
+    requires { MayJudge shape.now replays.now events.now }
+    ensures { IfOk result (λ v. Judged shape.now replays.now events.now v) }
+{
+    let mut front = Front::new(alloc, shape, replays.len() as u32)?;
+    match first_against(&mut front, replays, events)? {
+        Some(at) => Ok(judge_event(events, at)),
+        None => judge_whole(alloc, shape, replays, &front),
+    }
+}

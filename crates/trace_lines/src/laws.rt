@@ -1,0 +1,32 @@
+//! Laws of the lines of traces: what is written of an event reads back.
+
+ghost use Rattle.std.specs.Prelude.{◌≡◌, ℕ, List, Some, map};
+ghost use Rattle.std.specs.List.{AllByRecursion};
+ghost use Rattle.session_values.specs.Names.{AreDistinct};
+ghost use Rattle.session_values.specs.declared.kind.TableKind.{TableKind};
+ghost use Rattle.text_lines.specs.Text.{lines, words};
+ghost use Rattle.line_words.specs.Words.{IsWord};
+ghost use Rattle.trace_lines.specs.EventText.{event_words, events_text};
+ghost use Rattle.trace_lines.specs.EventWords.{IsReadableEvent, as_read, event_of, table_names};
+
+use session_journal::Event;
+
+/// The words of an event are this event again, with Any for each argument of a symbol that was
+/// written as `any`.
+pub fn event_reads_back()
+    ensures { (names : List (List ℕ)) (tables : List ℕ) (shape : List TableKind) (e : Event)
+        → AreDistinct names → AreDistinct (table_names names tables)
+        → IsReadableEvent names tables shape e
+        → event_of names tables shape (event_words names tables e) ≡ Some (as_read names e) }
+{}
+
+/// The lines of some events are these events again, in their order, where the tables' names are
+/// words.
+pub fn events_read_back()
+    ensures { (names : List (List ℕ)) (tables : List ℕ) (shape : List TableKind)
+        (es : List Event) → AreDistinct names → AreDistinct (table_names names tables)
+        → AllByRecursion IsWord (table_names names tables)
+        → AllByRecursion (IsReadableEvent names tables shape) es
+        → map (event_of names tables shape) (map words (lines (events_text names tables es)))
+        ≡ map Some (map (as_read names) es) }
+{}
