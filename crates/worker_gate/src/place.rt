@@ -1,6 +1,6 @@
 // Places.
 
-/// Where the caller that serves a ticket has come to.
+/// Where the caller that serves a ticket has come to, or who feeds a client's requests.
 #[derive(Clone, Copy, Debug, PartialEq, Eq)]
 pub enum Place {
     /// The ticket is begun.
@@ -15,4 +15,6 @@ pub enum Place {
     Ending(u32),
     /// The ticket has ended.
     Ended(u32),
+    /// The request of this client with this place among its own was sent.
+    Sent(u32, u32),
 }
