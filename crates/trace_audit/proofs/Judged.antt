@@ -17,10 +17,10 @@ use Rattle.trace_audit.specs.declared.standing.Standing.{Standing}
 use Rattle.trace_audit.specs.declared.verdict.Verdict.{Verdict}
 use Rattle.trace_audit.specs.declared.verdict.Verdict.TheVariants.{Accepted as IsFine, Event as AtEvent, Ticket as AtTicket}
 use Rattle.trace_audit.specs.Accepted.{HaveEnded}
-use Rattle.trace_audit.specs.Desk.{AuditView, ReplayView, fresh, replay_at}
+use Rattle.trace_audit.specs.Desk.{AreAnswered, AuditView, ReplayView, fresh, replay_at}
 use Rattle.trace_audit.specs.Keeping.{KeepsAudit, KeepsReplay}
 use Rattle.trace_audit.specs.Traces.{HasKnownSymbol, max_events}
-use Rattle.trace_audit.specs.Judging.{AreAnswered, FindsOpen, FrontView, IsAgainst, IsFirst, IsFront, IsLatest, IsStanding, Judged, JudgesEvents, MayJudge, WasRun, WereRun, no_standing, opened, standing_at}
+use Rattle.trace_audit.specs.Judging.{FindsOpen, FrontView, IsAgainst, IsFirst, IsFront, IsLatest, IsStanding, Judged, JudgesEvents, MayJudge, WasRun, WereRun, no_standing, opened, standing_at}
 use Rattle.trace_audit.specs.Replaying.{AllFit, EntriesFit, TicketsFit, TicketsJudged, joined}
 use Rattle.trace_audit.specs.Verdicts.{IsVerdict, rule_of}
 use Rattle.trace_audit.proofs.Allowed.{only_begun}

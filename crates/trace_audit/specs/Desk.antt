@@ -1,5 +1,5 @@
 -- What an audit keeps of the tickets while their handlers are run on the replies of a trace.
-use Rattle.std.specs.Prelude.{◌≡◌, ◌≢◌, ℕ, ◌+◌, ◌-◌, ◌<◌, ◌≤◌, ◌==◌, nat_lt, if◌then◌else◌, ◌⊎◌, List, [], ◌++◌, Option, Some, None, cond, length, take, slice_get, slice_index_or, slice_set, replicate}
+use Rattle.std.specs.Prelude.{◌≡◌, ◌≢◌, ℕ, ◌+◌, ◌-◌, ◌<◌, ◌≤◌, ◌==◌, nat_lt, if◌then◌else◌, ◌⊎◌, List, [], ◌++◌, Option, Some, None, IsSome, cond, length, take, slice_get, slice_index_or, slice_set, replicate}
 use Rattle.std.specs.Option.{option_map}
 use Rattle.session_values.specs.declared.op.Op.{Op}
 use Rattle.session_values.specs.declared.reply.Reply.{Reply}
@@ -142,6 +142,10 @@ pub record KeepsOthers {S : Type 0} (old new : AuditView S) (t : ℕ) : Type 0 w
 pub record AreGathered (n : ℕ) (J : List Event) (rs : List ReplayView) : Type 0 where
   pub count : length rs ≡ n
   pub each : (t : ℕ) → t < n → replay_at rs t ≡ fresh (entries J t)
+
+-- each ticket has answered
+abbrev pub AreAnswered : ℕ → List ReplayView → Type 0
+AreAnswered n rs = (t : ℕ) → t < n → IsSome (replay_at rs t).answer
 
 -- what may be kept as a ticket's Reply: a ticket is set, its count isn't at its end, and what was
 -- kept of it is a run of its dialogue that ends with this Reply

@@ -229,7 +229,3 @@ pub record IsWhole (shape : List TableKind) (rs : List ReplayView) (f : FrontVie
 -- the verdict is that on the trace, whatever session of these kinds the tickets were run in
 abbrev pub Judged : List TableKind → List ReplayView → List Event → Verdict → Type 0
 Judged shape rs J v = (m : Meaning) → m.shape ≡ shape → WereRun m J rs → IsVerdict m J v
-
--- each ticket has answered
-abbrev pub AreAnswered : ℕ → List ReplayView → Type 0
-AreAnswered n rs = (t : ℕ) → t < n → IsSome (replay_at rs t).answer

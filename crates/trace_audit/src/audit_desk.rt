@@ -2,8 +2,7 @@
 
 ghost use Rattle.std.specs.Prelude.{◌≡◌, ◌<◌, IfOk, None, Some};
 ghost use Rattle.session_journal.specs.Journal.{entries};
-ghost use Rattle.trace_audit.specs.Desk.{AreGathered, AuditStep, MayAnswer, fresh, replay_at, tickets_answered};
-ghost use Rattle.trace_audit.specs.Judging.{AreAnswered};
+ghost use Rattle.trace_audit.specs.Desk.{AreAnswered, AreGathered, AuditStep, MayAnswer, fresh, replay_at, tickets_answered};
 ghost use Rattle.trace_audit.specs.Verdicts.{IsVerdict};
 
 use crate::gathering::gather;
