@@ -1,4 +1,5 @@
 pub mod NumberLemmas
+pub mod DigitLemmas
 pub mod PrintableLemmas
 pub mod RowLemmas
 pub mod TextLemmas

@@ -1,5 +1,7 @@
 -- What `parse` says of a number.
-use Rattle.std.proofs.Common.{◌≡◌, ◌≢◌, ℕ, ◌-◌, ◌^◌, ◌<◌, ◌≤◌, Bool, true, false, cond, ◌&&◌, ◌==◌, nat_lt, nat_le, [], ◌∷◌, length, drop, get_or, Option, Some, None, Result, Ok, Err, refl, sym, ap, ◌∙◌, rules, arith, ℤ, pos, neg_ℤ}
+use Rattle.std.proofs.Common.{◌≡◌, ◌≢◌, ℕ, ◌-◌, ◌^◌, ◌<◌, ◌≤◌, Bool, true, false, cond, ◌&&◌, ◌==◌, nat_lt, nat_le, [], ◌∷◌, length, drop, get_or, Option, Some, None, Result, Ok, Err, refl, sym, ap, ◌∙◌, subst, rules, arith, ℤ, pos, neg_ℤ}
+use Rattle.std.specs.Prelude.{IfSome}
+use Rattle.std.specs.Char.{is_ascii_digit}
 use Rattle.std.proofs.lemmas.Bool.Decides.{nat_tests}
 use Rattle.std.specs.Result.{OkIff, result_ok}
 use Rattle.std.specs.Str.{all_ascii_digits}
@@ -76,3 +78,29 @@ pub number_plus : (w : Text) → get_or w 0 0 ≡ 43 → number w ≡ None
 number_plus w h =
     let e : has_minus w ≡ false = ap (λ b. b == 45) h in
     number_by w false e ∙ ap (λ t. by_test t (pos (number_from 0 w))) (plus_none w _ refl h)
+
+-- ---- a word that begins with a digit and is short
+
+abbrev pub counted : Option ℕ → Option ℤ
+counted None = None
+counted (Some n) = Some (pos n)
+
+digit_first : (w : Text) → is_ascii_digit (get_or w 0 0) ≡ true → (has_minus w ≡ false) × (0 < length w)
+digit_first [] h = absurd (grind (arith, nat_tests, h))
+digit_first (b ∷ bs) h = (grind (arith, nat_tests, h), omega arith)
+
+by_digits : (w : Text) (t : Bool) → all_ascii_digits w ≡ t → 0 < length w → (t ≡ true → number_from 0 w < 1000000000000000000) → by_test (reads w (2 ^ 63 - 1)) (pos (number_from 0 w)) ≡ counted (cond t (Some (number_from 0 w)) None)
+by_digits w true e l small = ap (λ t. by_test t (pos (number_from 0 w))) (reads_true w (2 ^ 63 - 1) (e, l, omega (arith, small refl)))
+by_digits w false e l small = gives_none w (2 ^ 63 - 1) (pos (number_from 0 w)) (reads w (2 ^ 63 - 1)) refl (λ r. true_is_false (sym r.0 ∙ e))
+  where
+    true_is_false : true ≡ false → ⊥
+    true_is_false p = cc
+
+-- a few digits are read in one go
+pub few_number : (w : Text) (o : Option ℕ) → is_ascii_digit (get_or w 0 0) ≡ true → o ≡ cond (all_ascii_digits w) (Some (number_from 0 w)) None → IfSome o (λ n. n < 1000000000000000000) → number w ≡ counted o
+few_number w o h is small =
+    let d : (has_minus w ≡ false) × (0 < length w) = digit_first w h in
+    number_by w false d.0 ∙ by_digits w (all_ascii_digits w) refl d.1 (λ e. below o (number_from 0 w) (is ∙ ap (λ t. cond t (Some (number_from 0 w)) None) e) small) ∙ ap counted (sym is)
+  where
+    below : (o : Option ℕ) (n : ℕ) → o ≡ Some n → IfSome o (λ m. m < 1000000000000000000) → n < 1000000000000000000
+    below o n e s = subst (λ p. IfSome p (λ m. m < 1000000000000000000)) e s

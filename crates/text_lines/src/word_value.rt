@@ -1,7 +1,8 @@
 // Words as values.
 
-ghost use Rattle.std.specs.Prelude.{◌≡◌, ◌<◌, length, slice_index, IfOk, OnOk, OnErr};
+ghost use Rattle.std.specs.Prelude.{◌≡◌, ◌<◌, ◌≤◌, length, slice_index, cond, Some, None, IfOk, IfSome, OnOk, OnErr};
 ghost use Rattle.std.specs.List.{list_all};
+ghost use Rattle.std.specs.Str.{all_ascii_digits};
 ghost use Rattle.text_lines.specs.Bytes as classes;
 ghost use Rattle.text_lines.specs.Values as spec;
 
@@ -17,11 +18,38 @@ pub fn first_byte(word: &str) -> u8
     word.as_bytes().first().copied().unwrap_or(0)
 }
 
+/// The most digits whose number is within 64 bits whatever they are.
+const FEW_DIGITS: usize = 18;
+
+/// The number that a few digits say, or None where a byte is no digit.
+fn few_digits(digits: &[u8]) -> Option<u64>
+    requires { length digits.now ≤ 18 }
+    ensures number { result ≡ cond (all_ascii_digits digits.now)
+        (Some (spec.number_from 0 digits.now)) None }
+    ensures small { IfSome result (λ n. n < 1000000000000000000) }
+{
+    let mut number = 0;
+    for b in digits {
+        if !b.is_ascii_digit() {
+            return None;
+        }
+        number = number * 10 + (*b - b'0') as u64;
+    }
+    Some(number)
+}
+
 /// The number that the word is, if it is one: an optional minus, then digits, within 64 bits.
 pub fn number(word: &str) -> Option<i64>
     ensures { result ≡ spec.number word.now }
 {
     let first = first_byte(word);
+    let bytes = word.as_bytes();
+    if first.is_ascii_digit() && bytes.len() <= FEW_DIGITS {
+        return match few_digits(bytes) {
+            Some(number) => Some(number as i64),
+            None => None,
+        };
+    }
     // `parse` takes a plus sign, which a session's numbers don't have
     if first == b'+' {
         return None;

@@ -1,9 +1,24 @@
-use Rattle.std.proofs.Common.{refl, sym, ◌∙◌}
-use Rattle.text_lines.proofs.NumberLemmas.{parsed, number_plus}
+use Rattle.std.proofs.Common.{◌≡◌, Option, Some, None, cond, true, refl, sym, ap, ◌∙◌, get_or, w64, arith}
+use Rattle.std.proofs.lemmas.Int.{to_z_pos}
+use Rattle.std.specs.Char.{is_ascii_digit}
+use Rattle.std.specs.Str.{all_ascii_digits}
+use Rattle.text_lines.specs.Values.{number, number_from}
+use Rattle.text_lines.proofs.NumberLemmas.{parsed, number_plus, few_number, counted}
 use Rattle.text_lines.proofs.word_value.number.Goals as goal
+use Rattle.text_lines.proofs.word_value.number.Goals.{in-Some, in-None}
 
 pub returns-then-first-eq43 : goal.returns-then-first-eq43
 returns-then-first-eq43 c = sym (number_plus c.args.word.now (sym c.first_byte-first.ensures ∙ c.if-first-eq43.true))
 
 pub returns : goal.returns
 returns c = c.ok.ensures.value ∙ sym (parsed c.args.word.now c.parse.result _ refl (λ e. c.if-first-eq43.false (c.first_byte-first.ensures ∙ e)) c.parse.ensures.value.0)
+
+-- the value of a word that begins with a digit and is short
+pub returns-then-bytes-le-FEW_DIGITS : goal.returns-then-bytes-le-FEW_DIGITS
+returns-then-bytes-le-FEW_DIGITS c =
+    let digit : is_ascii_digit (get_or c.args.word.now 0 0) ≡ true = ap is_ascii_digit (sym c.first_byte-first.ensures) ∙ sym c.is_ascii_digit.ensures.value ∙ c.if-is_ascii_digit.true in
+    let is : number c.args.word.now ≡ counted c.few_digits.result = few_number c.args.word.now c.few_digits.result digit (c.few_digits.ensures.number ∙ ap (λ w. cond (all_ascii_digits w) (Some (number_from 0 w)) None) c.as_bytes-bytes.ensures.value) c.few_digits.ensures.small in
+    elim c.match-few_digits.branch [
+      | in-Some w ↦ w.result-is ∙ ap Some (to_z_pos w64 w.in-Some.number (omega (arith, w.in-Some.ensures.small))) ∙ sym (is ∙ ap counted w.in-Some.is)
+      | in-None w ↦ w.result-is ∙ sym (is ∙ ap counted w.in-None.is)
+    ]
