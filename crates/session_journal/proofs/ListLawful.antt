@@ -1,5 +1,6 @@
 -- A list of tickets is a script.
-use Rattle.std.proofs.Common.{◌≡◌, ℕ, zero, suc, ◌+◌, ◌≤◌, List, [], ◌∷◌, ◌++◌, length, cond, ◌&&◌, eqb, Bool, true, false, refl, ap, subst, arith, lit<}
+use Rattle.std.proofs.Common.{◌≡◌, ℕ, zero, suc, ◌+◌, ◌<◌, ◌≤◌, List, [], ◌∷◌, ◌++◌, length, cond, ◌&&◌, eqb, Some, Bool, true, false, refl, sym, ap, subst, arith, lit<}
+use Rattle.std.specs.Prelude.{slice_get}
 use Rattle.std.specs.List.{AllByRecursion}
 use Rattle.session_values.specs.declared.value.Value.{Value}
 use Rattle.session_values.specs.declared.value.Value.TheVariants.{Nil}
@@ -15,6 +16,8 @@ use Rattle.session_values.specs.Sums.{sum_below}
 use Rattle.session_journal.specs.Script.{HasValues, IsForesight, IsScript, adds_on}
 use Rattle.session_journal.specs.Lists.{Ticket, ticket_at, says, adding, IsTicket, list_meaning}
 use Rattle.session_values.proofs.Sums.{sum_first}
+use Rattle.opening_tables.specs.Opening.{Pair, entries_of, no_entries}
+use Rattle.opening_tables.proofs.Openings.{start_is, no_opening}
 
 calls_it : (o p : Op) → Calls o ≡ Calls p → o ≡ p
 calls_it o p e = cc
@@ -80,7 +83,8 @@ adding_le i (o ∷ ops) = let h : cond {A = ℕ} (is_adding o.kind && eqb o.tabl
 
 pub list_lawful : (shape : List TableKind) (xs : List Ticket) (ops : List Op) → AllByRecursion (IsTicket shape) xs → HasFew xs ops → IsScript (list_meaning shape xs)
 list_lawful shape xs ops a few = record {
-  opening = refl;
+  opening = start_is shape;
+  opened = no_opening shape;
   fits = λ t replies op e. called (λ o. Fits shape o) (ticket_at xs t).ops (ticket_at xs t).reply replies op (at_ticket shape xs t a).fits e;
   values = λ t replies h. has_values (ticket_at xs t).ops (ticket_at xs t).reply replies (at_ticket shape xs t a).values (at_ticket shape xs t a).answer;
   ends = λ t. record { answers = λ replies h. ((ticket_at xs t).reply, ends (ticket_at xs t).ops (ticket_at xs t).reply replies h) };
@@ -99,3 +103,15 @@ list_lawful shape xs ops a few = record {
       known = (at_ticket shape xs t a).known;
       covers = record { each = λ more op h e. called (λ o. Matches (ticket_at xs t).entry o) (ticket_at xs t).ops (ticket_at xs t).reply (replies ++ more) op (at_ticket shape xs t a).matched e };
     }
+
+-- ---- a list of tickets opens with empty tables
+none_at : (shape : List TableKind) (i : ℕ) → entries_of (no_entries shape) i ≡ []
+none_at [] i = refl
+none_at (kind ∷ shape) zero = refl
+none_at (kind ∷ shape) (suc i) = none_at shape i
+
+pub none_there : (shape : List TableKind) (i : ℕ) → 0 ≡ length (entries_of (no_entries shape) i)
+none_there shape i = ap (λ (es : List Pair). length es) (sym (none_at shape i))
+
+pub nothing_there : (shape : List TableKind) (i k : ℕ) (e : Pair) → k < length (entries_of (no_entries shape) i) → slice_get (entries_of (no_entries shape) i) k ≡ Some e
+nothing_there shape i k e l = absurd (omega (arith, l, none_there shape i))

@@ -1,5 +1,5 @@
 -- The replies of the serial run are values that a program can hold.
-use Rattle.std.proofs.Common.{◌≡◌, ℕ, zero, suc, ◌+◌, ◌-◌, ◌<◌, ◌≤◌, ◌^◌, List, [], ◌∷◌, ◌&&◌, eqb, Some, None, refl, sym, ◌∙◌, ap, subst, arith}
+use Rattle.std.proofs.Common.{◌≡◌, ℕ, zero, suc, ◌+◌, ◌-◌, ◌<◌, ◌≤◌, ◌^◌, List, [], ◌∷◌, ◌&&◌, eqb, Some, None, refl, sym, ap, subst, arith}
 use Rattle.std.specs.List.{AllByRecursion}
 use Rattle.session_values.specs.declared.value.Value.{Value}
 use Rattle.session_values.specs.declared.op.Op.{Op}
@@ -12,8 +12,9 @@ use Rattle.session_values.specs.Sums.{sum_below}
 use Rattle.session_values.specs.Tables.{AreValues, Tables, reply, size_of, step, table}
 use Rattle.session_values.specs.Values.{IsValue}
 use Rattle.session_values.proofs.Sizes.{one_if, step_few}
-use Rattle.session_values.proofs.Starts.{start_none, values_of_start}
 use Rattle.session_values.proofs.Sums.{sum_below_up}
+use Rattle.opening_tables.specs.Opening.{tables_of}
+use Rattle.opening_tables.proofs.Openings.{entries_few, opening_size, opening_values}
 use Rattle.session_journal.specs.Script.{HasValues, IsScript, Meaning, adds_on, session_of}
 use Rattle.session_journal.proofs.Serial.{serve-answers, serve-calls}
 use Rattle.session_journal.proofs.Values.{AreReplies, reply_values, step_values}
@@ -75,15 +76,19 @@ serve_values (suc n) f ts a v l h b = elim (f []) as (λ x. f [] ≡ x → Keeps
 -- before each ticket
 record IsSmall (m : Meaning) (t : ℕ) : Type 0 where
   values : AllByRecursion AreValues (tables_before (session_of m) t)
-  few : (i : ℕ) → size_of (table (tables_before (session_of m) t) i) ≤ sum_below t (λ u. m.adds u i)
+  few : (i : ℕ) → size_of (table (tables_before (session_of m) t) i) ≤ size_of (table m.opening i) + sum_below t (λ u. m.adds u i)
+
+-- a table opens with few keys
+pub opening_few : (m : Meaning) → IsScript m → (i : ℕ) → size_of (table m.opening i) ≤ 1000000
+opening_few m S i = let e : size_of (table m.opening i) ≡ size_of (table (tables_of m.shape m.opened) i) = ap (λ ts. size_of (table ts i)) S.opening in omega (arith, e, opening_size m.shape m.opened i, entries_few m.opened i, S.opened.few)
 
 ticket_values : (m : Meaning) → IsScript m → (t : ℕ) → t < m.requests → IsSmall m t → KeepsValues (m.adds t) (tables_before (session_of m) t) (serial (session_of m) t)
-ticket_values m S t l k = serve_values (m.length t) (m.next t) (tables_before (session_of m) t) (m.adds t) (S.values t) (S.adds t) k.values (λ i. omega (arith, k.few i, sum_below_up (suc t) m.requests (λ u. m.adds u i) (omega (arith, l)), S.few_adds i))
+ticket_values m S t l k = serve_values (m.length t) (m.next t) (tables_before (session_of m) t) (m.adds t) (S.values t) (S.adds t) k.values (λ i. omega (arith, k.few i, opening_few m S i, sum_below_up (suc t) m.requests (λ u. m.adds u i) (omega (arith, l)), S.few_adds i))
 
 before_values : (m : Meaning) → IsScript m → (t : ℕ) → t ≤ m.requests → IsSmall m t
 before_values m S zero l = record {
-  values = subst (AllByRecursion AreValues) (sym S.opening) (values_of_start m.shape);
-  few = λ i. let e : size_of (table m.opening i) ≡ 0 = ap (λ ts. size_of (table ts i)) S.opening ∙ start_none m.shape i in omega (arith, e);
+  values = subst (AllByRecursion AreValues) (sym S.opening) (opening_values m.shape m.opened S.opened.entries);
+  few = λ i. omega arith;
 }
 before_values m S (suc t) l =
     let k : IsSmall m t = before_values m S t (omega (arith, l)) in

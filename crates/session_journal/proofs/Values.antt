@@ -4,8 +4,6 @@ use Rattle.std.specs.Prelude.{unwrap_or, if◌then◌else◌}
 use Rattle.std.specs.List.{AllByRecursion}
 use Rattle.std.specs.FinMap as map
 use Rattle.std.specs.FinSet as set
-use Rattle.std.specs.Cmp.{Equal-is}
-use Rattle.std.proofs.Math.ListN.{set as put_at}
 use Rattle.session_values.specs.declared.kind.Kind.{Kind}
 use Rattle.session_values.specs.declared.kind.Kind.TheVariants.{Get, Put, Swap, Del, Size, Bump, Has, Add, Mark, Drop, Count}
 use Rattle.session_values.specs.declared.value.Value.{Value}
@@ -13,7 +11,7 @@ use Rattle.session_values.specs.declared.value.Value.TheVariants.{Nil, Num}
 use Rattle.session_values.specs.declared.op.Op.{Op}
 use Rattle.session_values.specs.Dialogue.{Entry}
 use Rattle.session_values.specs.Op.{IsHeld}
-use Rattle.session_values.specs.Values.{value_cmp, value_eq, value_cmp_total, value_cmp-IsAntisymmetric, IsValue}
+use Rattle.session_values.specs.Values.{value_cmp, value_eq, value_cmp_total, IsValue}
 use Rattle.session_values.specs.Tables.{AreValues, Bindings, Container, Members, Tables, after_on, bit, bound_to, bumped, map_after, map_reply, reply, reply_on, set_after, set_reply, size_of, step, table}
 use Rattle.session_values.proofs.Bumps.{bumped_value}
 use Rattle.session_values.proofs.Sizes.{step_few}

@@ -9,6 +9,7 @@ use Rattle.session_values.specs.declared.reply.Reply.{Reply}
 use Rattle.session_values.specs.Dialogue.{Calls, Answers, Dialogue}
 use Rattle.session_values.specs.Kinds.{is_adding}
 use Rattle.session_values.specs.Tables.{Fits, start}
+use Rattle.opening_tables.specs.Opening.{no_entries}
 use Rattle.symbolic_ops.specs.declared.symbol.Symbol.{Symbol}
 use Rattle.symbolic_ops.specs.Matching.{Matches, HasNoVar, exact_symbol}
 use Rattle.session_journal.specs.Script.{Meaning, HasValues}
@@ -61,11 +62,13 @@ pub record IsTicket (shape : List TableKind) (x : Ticket) : Type 0 where
   pub known : AllByRecursion HasNoVar x.entry
   pub matched : AllByRecursion (λ op. Matches x.entry op) x.ops
 
--- what a list of tickets means. Each declares all that it calls, from its beginning to its end
+-- what a list of tickets means: its tables open empty, and each ticket declares all that it calls,
+-- from its beginning to its end, as a list of its own; at its sites, one a part, nothing is declared
 abbrev pub list_meaning : List TableKind → List Ticket → Meaning
 list_meaning shape tickets = record {
   shape = shape;
   opening = start shape;
+  opened = no_entries shape;
   requests = length tickets;
   next = λ t. says (ticket_at tickets t).ops (ticket_at tickets t).reply;
   length = λ t. length (ticket_at tickets t).ops;
@@ -73,6 +76,8 @@ list_meaning shape tickets = record {
   entry = λ t. (ticket_at tickets t).entry;
   told = λ t replies. (ticket_at tickets t).entry;
   due = λ t replies. (ticket_at tickets t).entry;
+  points = λ part. 1;
+  declared = λ part point. [];
 }
 
 -- ---- what is added

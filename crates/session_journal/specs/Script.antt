@@ -1,7 +1,7 @@
 -- What a script of tickets means.
-use Rattle.std.specs.Prelude.{◌≡◌, ℕ, ◌+◌, ◌≤◌, List, [], ◌∷◌, length, cond, ◌&&◌, ◌==◌}
+use Rattle.std.specs.Prelude.{◌≡◌, ℕ, ◌+◌, ◌<◌, ◌≤◌, List, [], ◌∷◌, length, map, cond, ◌&&◌, ◌==◌}
 use Rattle.std.specs.List.{AllByRecursion}
-use Rattle.session_limits.specs.Limits.{max_requests, max_session_calls, max_symbols}
+use Rattle.session_limits.specs.Limits.{max_requests, max_session_calls, max_symbols, max_variables}
 use Rattle.session_values.specs.declared.value.Value.{Value}
 use Rattle.session_values.specs.declared.kind.TableKind.{TableKind}
 use Rattle.session_values.specs.declared.op.Op.{Op}
@@ -11,10 +11,13 @@ use Rattle.session_values.specs.Kinds.{is_adding}
 use Rattle.session_values.specs.Op.{IsHeld}
 use Rattle.session_values.specs.Reply.{IsHeldReply}
 use Rattle.session_values.specs.Sums.{sum_below}
-use Rattle.session_values.specs.Tables.{Tables, Fits, start}
+use Rattle.session_values.specs.Tables.{Tables, Fits}
 use Rattle.session_values.specs.Values.{IsValue}
+use Rattle.opening_tables.specs.Opening.{Pair, IsOpening, tables_of}
 use Rattle.symbolic_ops.specs.declared.symbol.Symbol.{Symbol}
+use Rattle.symbolic_ops.specs.Instantiate.{IsWithin, symbol_in}
 use Rattle.symbolic_ops.specs.Matching.{Matches, HasNoVar}
+use Rattle.session_journal.specs.declared.site.Site.{Site}
 
 -- whatever replies come that a program can hold, some symbol of the list stands for each operation
 -- that the dialogue calls
@@ -33,12 +36,15 @@ abbrev pub HasValues : Next → Type 0
 HasValues (Calls op) = IsHeld op
 HasValues (Answers r) = IsHeldReply r
 
--- what a script means: the kinds of its tables, the opening tables, the number of its tickets, and
--- for each ticket its dialogue, the most calls, the most adding calls on each table, and what it
--- declares at its beginning, right after an operation, and last before it calls or answers
+-- what a script means: the kinds of its tables, the opening tables, their entries by table in the
+-- order in which they are told, the number of its tickets, and for each ticket its dialogue, the most
+-- calls, the most adding calls on each table, and what it declares at its beginning, right after an
+-- operation, and last before it calls or answers; beside these how many points each of its parts has
+-- and what is declared at each, with variables
 pub record Meaning : Type 0 where
   pub shape : List TableKind
   pub opening : Tables
+  pub opened : List (List Pair)
   pub requests : ℕ
   pub next : ℕ → Dialogue
   pub length : ℕ → ℕ
@@ -46,6 +52,19 @@ pub record Meaning : Type 0 where
   pub entry : ℕ → List Symbol
   pub told : ℕ → List Value → List Symbol
   pub due : ℕ → List Value → List Symbol
+  pub points : ℕ → ℕ
+  pub declared : ℕ → ℕ → List Symbol
+
+-- what is declared at a site where its variables have these values
+abbrev pub declared_with : Meaning → Site → List Value → List Symbol
+declared_with m s values = map (symbol_in values) (m.declared s.part s.point)
+
+-- the script has this site, and so many values are enough for its variables and no more than a
+-- handler has
+pub record HasSite (m : Meaning) (s : Site) (values : ℕ) : Type 0 where
+  pub there : s.point < m.points s.part
+  pub few : values ≤ max_variables
+  pub within : AllByRecursion (λ y. IsWithin values y) (m.declared s.part s.point)
 
 -- what the serial run is made of
 abbrev pub session_of : Meaning → Session
@@ -72,8 +91,9 @@ room m i = sum_below m.requests (λ t. m.adds t i)
 
 -- what every script's meaning keeps
 pub record IsScript (m : Meaning) : Type 0 where
-  -- the opening tables are of its kinds, and all are empty
-  pub opening : m.opening ≡ start m.shape
+  -- the opening tables are of its kinds, and hold the entries that are told
+  pub opening : m.opening ≡ tables_of m.shape m.opened
+  pub opened : IsOpening m.shape m.opened
   -- each operation fits the tables, and where the replies are values, so are the values that come
   pub fits : (t : ℕ) (replies : List Value) (op : Op) → m.next t replies ≡ Calls op
       → Fits m.shape op

@@ -1,12 +1,13 @@
 // Desks.
 
-ghost use Rattle.std.specs.Prelude.{◌≡◌, ◌≤◌, None, false, MatchResult};
-ghost use Rattle.session_limits.specs.Limits.{max_symbols};
+ghost use Rattle.std.specs.Prelude.{◌≡◌, None, false, length, MatchResult};
 ghost use Rattle.session_values.specs.Dialogue.{Calls, Answers, replies};
 ghost use Rattle.symbolic_ops.specs.Matching.{Matches};
 ghost use Rattle.session_journal.specs.Desks.{DeskView, next_of, due_of, MayNarrow, MayFinish, finished, with_waiting, with_present, with_end};
+ghost use Rattle.session_journal.specs.Script.{HasSite, declared_with};
 
 use crate::script::Script;
+use crate::site::Site;
 use session_values::{NoMemory, Op, Reply, Value};
 use std::sync::Wait;
 use std::thread::Threads;
@@ -44,16 +45,15 @@ pub trait Desk {
         ensures finished { at self.new
             ≡ finished (at self.old) (at self.old).waiting next.now.symbols };
 
-    /// The same, which may take the list over: what `next` then holds says nothing, and it keeps
-    /// room for 256 symbols.
-    fn finish_with<R: Threads + Wait + Sync>(&mut self, rt: &R, next: &mut Foresight)
+    /// The same, where the list is what the script declares at a site with these values.
+    fn finish_at<R: Threads + Wait + Sync>(&mut self, rt: &R, site: Site, values: &[Value])
+        requires site { HasSite (Self.Served.meaning (script self.old)) site (length values.now) }
         requires may { MayFinish (Self.Served.meaning (script self.old)) (at self.old)
-            (at self.old).waiting next.old.symbols }
-        requires room { max_symbols ≤ next.old.room }
+            (at self.old).waiting
+            (declared_with (Self.Served.meaning (script self.old)) site values.now) }
         ensures script { script self.new ≡ script self.old }
-        ensures finished { at self.new
-            ≡ finished (at self.old) (at self.old).waiting next.old.symbols }
-        ensures room { max_symbols ≤ next.new.room };
+        ensures finished { at self.new ≡ finished (at self.old) (at self.old).waiting
+            (declared_with (Self.Served.meaning (script self.old)) site values.now) };
 
     /// Narrows to a declaration of the ticket.
     fn declare<R: Threads + Wait + Sync>(&mut self, rt: &R, f: &Foresight)
@@ -63,6 +63,18 @@ pub trait Desk {
             (at self.old).entries (at self.old).present f.now.symbols }
         ensures script { script self.new ≡ script self.old }
         ensures narrowed { at self.new ≡ with_present (at self.old) f.now.symbols };
+
+    /// The same, where the list is what the script declares at a site with these values.
+    fn declare_at<R: Threads + Wait + Sync>(&mut self, rt: &R, site: Site, values: &[Value])
+        requires site { HasSite (Self.Served.meaning (script self.old)) site (length values.now) }
+        requires idle { (at self.old).waiting ≡ None }
+        requires going { (at self.old).ended ≡ false }
+        requires narrows { MayNarrow (Self.Served.meaning (script self.old)) (at self.old).ticket
+            (at self.old).entries (at self.old).present
+            (declared_with (Self.Served.meaning (script self.old)) site values.now) }
+        ensures script { script self.new ≡ script self.old }
+        ensures narrowed { at self.new ≡ with_present (at self.old)
+            (declared_with (Self.Served.meaning (script self.old)) site values.now) };
 
     /// Ends the ticket with what it answers.
     fn end<R: Threads + Wait + Sync>(&mut self, rt: &R, reply: Reply)

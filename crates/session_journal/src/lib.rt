@@ -3,6 +3,7 @@
 #![tactic(auto)]
 
 mod desk;
+mod entering;
 mod event;
 mod journal;
 pub mod laws;
@@ -10,11 +11,14 @@ mod list_script;
 mod scratch;
 mod script;
 mod serves;
+mod site;
 
 pub use desk::Desk;
+pub use entering::opening_op;
 pub use event::Event;
 pub use journal::Journal;
 pub use list_script::ListScript;
 pub use scratch::Scratch;
 pub use script::Script;
 pub use serves::Serves;
+pub use site::Site;

@@ -9,7 +9,8 @@ ghost use Rattle.symbolic_ops.specs.Matching.{HasNoVar};
 ghost use Rattle.session_journal.specs.Lists.{HasPlace, adding, answers_only, allows_more, calls_more, last_ticket, with_last};
 
 use crate::script::Script;
-use session_values::{NoMemory, Op, Reply, TableKind};
+use crate::site::Site;
+use session_values::{NoMemory, Op, Reply, TableKind, Value};
 use std::alloc::Global;
 use std::marker::Model;
 use symbolic_ops::{Foresight, Symbol};
@@ -206,5 +207,22 @@ impl Script for ListScript {
 
     fn room(&self, table: u32) -> u32 {
         count_adding(self.ops.as_slice(), table)
+    }
+
+    fn entry_site(&self, _t: u32, _values: &mut [Value]) -> Option<Site> {
+        None
+    }
+
+    fn declaration(&self, _site: Site) -> &[Symbol] {
+        &[]
+    }
+
+    #[tactic(auto, using(crate::proofs::ListLawful::none_there))]
+    fn opening_len(&self, _table: u32) -> u32 {
+        0
+    }
+
+    fn opening_entry(&self, _table: u32, _i: u32) -> (Value, Value) {
+        (Value::Nil, Value::Nil)
     }
 }
