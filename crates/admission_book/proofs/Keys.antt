@@ -50,21 +50,21 @@ adds_push : (i : ℕ) (es : List Entry) (e : Entry) → adds_on i (es ++ e ∷ [
 adds_push i [] e = omega arith
 adds_push i (x ∷ es) e = omega (arith, adds_push i es e)
 
--- a table has no more keys than its room, and fewer while an adding call of an open ticket is still to come
-pub keys_few : (m : Meaning) (b : Book) → IsScript m → Lawful m b → (i : ℕ) → size_of (table (after m.opening b.journal) i) ≤ size_of (table m.opening i) + room m i
-keys_few m b S L i =
+-- no more adding operations are done on a table than its room, and fewer while an adding call of an open ticket is still to come
+pub adds_few : (m : Meaning) (b : Book) → IsScript m → Lawful m b → (i : ℕ) → adds_on i (in_order (done_operations b.journal)) ≤ room m i
+adds_few m b S L i =
     let ds : List DoneOperation = done_operations b.journal in
     let n : ℕ = m.requests in
     let o : OnlyBegun b.journal = only_begun m (length b.records) b.journal L.turns in
     let all : AllByRecursion (λ d. d.ticket < n) ds = wider ds o.done_operations in
-    omega (arith, run_few m.opening (in_order ds) i, adds_by_ticket n i ds all, sum_below_le n (λ t. adds_on i (of_ticket t ds)) (λ t. m.adds t i) (λ t. S.adds t i (of_ticket t ds) (L.follows t)))
+    omega (arith, adds_by_ticket n i ds all, sum_below_le n (λ t. adds_on i (of_ticket t ds)) (λ t. m.adds t i) (λ t. S.adds t i (of_ticket t ds) (L.follows t)))
   where
     wider : (ds : List DoneOperation) → AllByRecursion (λ d. d.ticket < begun b.journal) ds → AllByRecursion (λ d. d.ticket < m.requests) ds
     wider [] a = tt
     wider (d ∷ ds) a = (omega (arith, a.0, few_begun m (length b.records) b.journal L.turns), wider ds a.1)
 
-pub keys_fewer : (m : Meaning) (b : Book) → IsScript m → Lawful m b → (t : ℕ) (op : Op) → IsOpen b.journal t → now m b.journal t ≡ Calls op → is_adding op.kind ≡ true → size_of (table (after m.opening b.journal) op.table) < size_of (table m.opening op.table) + room m op.table
-keys_fewer m b S L t op opened calls adding =
+pub adds_fewer : (m : Meaning) (b : Book) → IsScript m → Lawful m b → (t : ℕ) (op : Op) → IsOpen b.journal t → now m b.journal t ≡ Calls op → is_adding op.kind ≡ true → adds_on op.table (in_order (done_operations b.journal)) < room m op.table
+adds_fewer m b S L t op opened calls adding =
     let i : ℕ = op.table in
     let ds : List DoneOperation = done_operations b.journal in
     let n : ℕ = m.requests in
@@ -74,7 +74,7 @@ keys_fewer m b S L t op opened calls adding =
     let one : one_if (is_adding op.kind && eqb op.table i) ≡ 1 = ap (λ (b : Bool). one_if (b && eqb op.table i)) adding ∙ ap one_if (itself op.table) in
     let more : adds_on i (of_ticket t ds) < m.adds t i = omega (arith, adds_push i (of_ticket t ds) e, one, S.adds t i (of_ticket t ds ++ e ∷ []) (follows_more (m.next t) (of_ticket t ds) e (L.follows t) calls)) in
     let within : t < n = omega (arith, opened.begun, few_begun m (length b.records) b.journal L.turns) in
-    omega (arith, run_few m.opening (in_order ds) i, adds_by_ticket n i ds all, sum_less n t (λ u. adds_on i (of_ticket u ds)) (λ u. m.adds u i) (λ u. S.adds u i (of_ticket u ds) (L.follows u)) within more)
+    omega (arith, adds_by_ticket n i ds all, sum_less n t (λ u. adds_on i (of_ticket u ds)) (λ u. m.adds u i) (λ u. S.adds u i (of_ticket u ds) (L.follows u)) within more)
   where
     itself : (u : ℕ) → eqb u u ≡ true
     itself u = grind (arith, nat_tests)
@@ -82,3 +82,10 @@ keys_fewer m b S L t op opened calls adding =
     wider : (ds : List DoneOperation) → AllByRecursion (λ d. d.ticket < begun b.journal) ds → AllByRecursion (λ d. d.ticket < m.requests) ds
     wider [] a = tt
     wider (d ∷ ds) a = (omega (arith, a.0, few_begun m (length b.records) b.journal L.turns), wider ds a.1)
+
+-- a table has no more keys than it opens with and its room together, and fewer while such a call is still to come
+pub keys_few : (m : Meaning) (b : Book) → IsScript m → Lawful m b → (i : ℕ) → size_of (table (after m.opening b.journal) i) ≤ size_of (table m.opening i) + room m i
+keys_few m b S L i = omega (arith, run_few m.opening (in_order (done_operations b.journal)) i, adds_few m b S L i)
+
+pub keys_fewer : (m : Meaning) (b : Book) → IsScript m → Lawful m b → (t : ℕ) (op : Op) → IsOpen b.journal t → now m b.journal t ≡ Calls op → is_adding op.kind ≡ true → size_of (table (after m.opening b.journal) op.table) < size_of (table m.opening op.table) + room m op.table
+keys_fewer m b S L t op opened calls adding = omega (arith, run_few m.opening (in_order (done_operations b.journal)) op.table, adds_fewer m b S L t op opened calls adding)

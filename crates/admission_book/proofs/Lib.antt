@@ -10,6 +10,7 @@ mod Inside
 pub mod Keep
 pub mod KeptLists
 pub mod Keys
+pub mod Known
 pub mod Narrows
 pub mod Oldest
 pub mod Records

@@ -60,15 +60,15 @@ least_more rs i found r x l is s (inr h) =
     ]
 
 -- in a lawful book it is the least open ticket
-pub oldest : (m : Meaning) (J : List Event) (k : List (Option Reply)) (xs rs : List CallerRecord) (r : Option ℕ) → xs ≡ rs → Lawful m (book_of J k rs) → IsLeastTicket xs (length xs) r → IsOldestOpen r J
+pub oldest : (m : Meaning) (J : List Event) (k : List (Option Reply)) (xs rs : List CallerRecord) (r : Option ℕ) → xs ≡ rs → Lawful m (book_of m J k rs) → IsLeastTicket xs (length xs) r → IsOldestOpen r J
 oldest m J k xs rs r same L h = go r (let P : List CallerRecord → Type 0 = λ l. IsLeastTicket l (length l) r in subst P same h)
   where
     least : (r : Option ℕ) → IsLeastTicket rs (length rs) r → (u : ℕ) → IsOpen J u → IsAtMost r u
     least r s u o =
-        let x : (c : ℕ) × (z : Serving) × (get_or (servings rs) c None ≡ Some z) × (z.ticket ≡ u) = L.placed u o in
-        let l : x.0 < length rs = omega (arith, within (servings rs) x.0 x.1 x.2, length-map rs (λ (q : CallerRecord). serving_of q)) in
-        s.each x.0 u l (ticket_is (record_at rs x.0) x.1 (sym (servings_at rs x.0) ∙ x.2) ∙ ap (λ (t : ℕ). Some t) x.3)
+        let x : (c : ℕ) × (z : Serving) × (get_or (servings m rs) c None ≡ Some z) × (z.ticket ≡ u) = L.placed u o in
+        let l : x.0 < length rs = omega (arith, within (servings m rs) x.0 x.1 x.2, length-map rs (λ (q : CallerRecord). serving_of m q)) in
+        s.each x.0 u l (ticket_is m (record_at rs x.0) x.1 (sym (servings_at m rs x.0) ∙ x.2) ∙ ap (λ (t : ℕ). Some t) x.3)
 
     go : (r : Option ℕ) → IsLeastTicket rs (length rs) r → IsOldestOpen r J
     go None s = λ u o. least None s u o
-    go (Some t) s = ((L.records s.at.caller (served t (record_at rs s.at.caller)) (servings_at rs s.at.caller ∙ serving_is (record_at rs s.at.caller) t s.at.ticket)).is_open, λ u o. least (Some t) s u o)
+    go (Some t) s = ((L.records s.at.caller (served m t (record_at rs s.at.caller)) (servings_at m rs s.at.caller ∙ serving_is m (record_at rs s.at.caller) t s.at.ticket)).is_open, λ u o. least (Some t) s u o)

@@ -87,6 +87,6 @@ module _ (m : Meaning) (b : Book) (S : IsScript m) (L : Lawful m b) (done : (t :
       sym (first_serial rs is m.requests (omega arith) (omega arith) ∙ take_all m.requests rs (omega arith))
 
 -- ---- an opened book shows no record
-pub none_served : (n : ℕ) → servings (replicate n idle_record) ≡ replicate n None
-none_served zero = refl
-none_served (suc n) = ap (λ (us : List (Option Serving)). None ∷ us) (none_served n)
+pub none_served : (m : Meaning) (n : ℕ) → servings m (replicate n idle_record) ≡ replicate n None
+none_served m zero = refl
+none_served m (suc n) = ap (λ (us : List (Option Serving)). None ∷ us) (none_served m n)

@@ -5,6 +5,7 @@ use Rattle.std.proofs.lemmas.List.{get_or_past}
 use Rattle.std.specs.List.{AllByRecursion}
 use Rattle.session_values.specs.declared.op.Op.{Op}
 use Rattle.commute_tables.specs.Symbols.{CommutesWith}
+use Rattle.session_journal.specs.Script.{Meaning}
 use Rattle.admission_book.specs.Book.{Serving, IsFree}
 use Rattle.admission_book.specs.declared.blocker.Blocker.{Blocker}
 use Rattle.admission_book.specs.declared.caller_record.CallerRecord.{CallerRecord}
@@ -77,11 +78,11 @@ scan_all rs t op i (Some b) l s = record {
 }
 
 -- the record of a line
-pub record_is : (ls : List CallerRecord) (i : ℕ) (x : CallerRecord) → i < length ls → x ≡ get_or ls i x → get_or (map (λ (l : CallerRecord). serving_of l) ls) i None ≡ serving_of x
-record_is [] i x h e = absurd (omega arith)
-record_is (l ∷ ls) ℕ.zero x h e = ap (λ (y : CallerRecord). serving_of y) (sym e)
-record_is (l ∷ ls) (suc i) x h e = record_is ls i x (omega arith) e
+pub record_is : (m : Meaning) (ls : List CallerRecord) (i : ℕ) (x : CallerRecord) → i < length ls → x ≡ get_or ls i x → get_or (map (λ (l : CallerRecord). serving_of m l) ls) i None ≡ serving_of m x
+record_is m [] i x h e = absurd (omega arith)
+record_is m (l ∷ ls) ℕ.zero x h e = ap (λ (y : CallerRecord). serving_of m y) (sym e)
+record_is m (l ∷ ls) (suc i) x h e = record_is m ls i x (omega arith) e
 
-pub records_length : (ls : List CallerRecord) → length (map (λ (l : CallerRecord). serving_of l) ls) ≡ length ls
-records_length [] = refl
-records_length (l ∷ ls) = ap suc (records_length ls)
+pub records_length : (m : Meaning) (ls : List CallerRecord) → length (map (λ (l : CallerRecord). serving_of m l) ls) ≡ length ls
+records_length m [] = refl
+records_length m (l ∷ ls) = ap suc (records_length m ls)

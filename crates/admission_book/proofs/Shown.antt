@@ -3,7 +3,9 @@ use Rattle.std.proofs.Common.{◌≡◌, ◌≢◌, ℕ, zero, suc, ◌+◌, ◌
 use Rattle.std.proofs.Math.ListN.{set}
 use Rattle.std.proofs.lemmas.List.{map-set, get_or-set_same, get_or-set_other, get_or_default}
 use Rattle.std.proofs.lemmas.Bool.Decides.{nat_tests}
+use Rattle.session_values.specs.declared.op.Op.{Op}
 use Rattle.session_values.specs.declared.reply.Reply.{Reply}
+use Rattle.symbolic_ops.specs.declared.symbol.Symbol.{Symbol}
 use Rattle.session_journal.specs.declared.event.Event.{Event}
 use Rattle.session_journal.specs.declared.event.Event.TheVariants.{Begin, Done, Delay, End}
 use Rattle.session_journal.specs.Journal.{JournalView, begun, ticket_of}
@@ -12,7 +14,8 @@ use Rattle.admission_book.specs.Book.{Book, Serving, kept_for, record_of}
 use Rattle.admission_book.specs.EventsInTurn.{delayed_after, is_delayed}
 use Rattle.admission_book.specs.Lawful.{Lawful}
 use Rattle.admission_book.specs.declared.caller_record.CallerRecord.{CallerRecord}
-use Rattle.admission_book.specs.CallerRecord.{serving_at, serving_of, servings, record_at, idle_record}
+use Rattle.admission_book.specs.CallerRecord.{IsRecord, serving_at, serving_of, servings, record_at, idle_record}
+use Rattle.admission_book.specs.Foresights.{KeepsForesight, symbols_of}
 use Rattle.admission_book.specs.Methods.{BookView}
 use Rattle.admission_book.specs.Kept.{book_of, Keeps, KeepsRecord}
 use Rattle.admission_book.proofs.Keep.{one_caller}
@@ -43,14 +46,18 @@ events_are j K room e = ap (λ (x : JournalView). x.events) e
 
 -- ---- one record
 -- what a record shows that has the ticket t
-abbrev pub served : ℕ → CallerRecord → Serving
-served t r = record { ticket = t; foresight = r.foresight.symbols; flight = r.flight }
+abbrev pub served : Meaning → ℕ → CallerRecord → Serving
+served m t r = record { ticket = t; foresight = symbols_of m r.foresight; flight = r.flight }
 
-pub serving_is : (r : CallerRecord) (t : ℕ) → r.ticket ≡ Some t → serving_of r ≡ Some (served t r)
-serving_is r t e = ap (λ (o : Option ℕ). serving_at o r.foresight.symbols r.flight) e
+pub serving_is : (m : Meaning) (r : CallerRecord) (t : ℕ) → r.ticket ≡ Some t → serving_of m r ≡ Some (served m t r)
+serving_is m r t e = ap (λ (o : Option ℕ). serving_at o (symbols_of m r.foresight) r.flight) e
 
-pub ticket_is : (r : CallerRecord) (s : Serving) → serving_of r ≡ Some s → r.ticket ≡ Some s.ticket
-ticket_is r s e = go r.ticket refl
+-- what a record shows of which all is known
+pub serving_so : (m : Meaning) (r : CallerRecord) (t : ℕ) (f : List Symbol) (w : Option Op) (d : Bool) → IsRecord m r (Some t) f w d → serving_of m r ≡ Some (record { ticket = t; foresight = f; flight = w })
+serving_so m r t f w d h = (λ i. serving_at (h.ticket i) (h.foresight.is i) (h.flight i))
+
+pub ticket_is : (m : Meaning) (r : CallerRecord) (s : Serving) → serving_of m r ≡ Some s → r.ticket ≡ Some s.ticket
+ticket_is m r s e = go r.ticket refl
   where
     inside : (x y : Serving) → ◌≡◌ {A = Option Serving} (Some x) (Some y) → x ≡ y
     inside x y h = cc
@@ -59,39 +66,39 @@ ticket_is r s e = go r.ticket refl
     none h = cc
 
     go : (o : Option ℕ) → r.ticket ≡ o → r.ticket ≡ Some s.ticket
-    go None p = none (sym (ap (λ (x : Option ℕ). serving_at x r.foresight.symbols r.flight) p) ∙ e)
-    go (Some u) p = p ∙ ap (λ (z : Serving). Some z.ticket) (inside (served u r) s (sym (serving_is r u p) ∙ e))
+    go None p = none (sym (ap (λ (x : Option ℕ). serving_at x (symbols_of m r.foresight) r.flight) p) ∙ e)
+    go (Some u) p = p ∙ ap (λ (z : Serving). Some z.ticket) (inside (served m u r) s (sym (serving_is m r u p) ∙ e))
 
-pub keeps_has : (J : List Event) (r : CallerRecord) (t : ℕ) → r.ticket ≡ Some t → 256 ≤ r.foresight.room → r.delayed ≡ is_delayed J t → KeepsRecord J r
-keeps_has J r t has room noted = record { room = room; noted = λ s e. noted ∙ ap (is_delayed J) (inside t s.ticket (sym has ∙ ticket_is r s e)) }
+pub keeps_has : (m : Meaning) (J : List Event) (r : CallerRecord) (t : ℕ) → r.ticket ≡ Some t → KeepsForesight m r.foresight → r.delayed ≡ is_delayed J t → KeepsRecord m J r
+keeps_has m J r t has kept noted = record { foresight = kept; noted = λ s e. noted ∙ ap (is_delayed J) (inside t s.ticket (sym has ∙ ticket_is m r s e)) }
   where
     inside : (x y : ℕ) → ◌≡◌ {A = Option ℕ} (Some x) (Some y) → x ≡ y
     inside x y h = cc
 
-pub keeps_none : (J : List Event) (r : CallerRecord) → r.ticket ≡ None → 256 ≤ r.foresight.room → KeepsRecord J r
-keeps_none J r has room = record { room = room; noted = λ s e. none s (sym has ∙ ticket_is r s e) }
+pub keeps_none : (m : Meaning) (J : List Event) (r : CallerRecord) → r.ticket ≡ None → KeepsForesight m r.foresight → KeepsRecord m J r
+keeps_none m J r has kept = record { foresight = kept; noted = λ s e. none s (sym has ∙ ticket_is m r s e) }
   where
     none : {A : Type 0} (s : Serving) → ◌≡◌ {A = Option ℕ} None (Some s.ticket) → A
     none s h = cc
 
 -- ---- all records
-pub servings_at : (rs : List CallerRecord) (c : ℕ) → get_or (servings rs) c None ≡ serving_of (record_at rs c)
-servings_at [] c = refl
-servings_at (r ∷ rs) zero = refl
-servings_at (r ∷ rs) (suc c) = servings_at rs c
+pub servings_at : (m : Meaning) (rs : List CallerRecord) (c : ℕ) → get_or (servings m rs) c None ≡ serving_of m (record_at rs c)
+servings_at m [] c = refl
+servings_at m (r ∷ rs) zero = refl
+servings_at m (r ∷ rs) (suc c) = servings_at m rs c
 
 pub record_here : (rs : List CallerRecord) (i : ℕ) (old : CallerRecord) → i < length rs → old ≡ get_or rs i old → record_at rs i ≡ old
 record_here rs i old within is = get_or_default rs i idle_record old within ∙ sym is
 
 -- the book that the fields show after one record is replaced
-pub shown : (K : List Event) (k : List (Option Reply)) (rs : List CallerRecord) (i : ℕ) (new : CallerRecord) (x : Option Serving) → serving_of new ≡ x → book_of K k (set rs i new) ≡ record { journal = K; kept = k; records = set (servings rs) i x }
-shown K k rs i new x e = ap (λ (us : List (Option Serving)). record { journal = K; kept = k; records = us }) (map-set (λ (r : CallerRecord). serving_of r) rs i new ∙ ap (λ (o : Option Serving). set (servings rs) i o) e)
+pub shown : (m : Meaning) (K : List Event) (k : List (Option Reply)) (rs : List CallerRecord) (i : ℕ) (new : CallerRecord) (x : Option Serving) → serving_of m new ≡ x → book_of m K k (set rs i new) ≡ record { journal = K; kept = k; records = set (servings m rs) i x }
+shown m K k rs i new x e = ap (λ (us : List (Option Serving)). record { journal = K; kept = k; records = us }) (map-set (λ (r : CallerRecord). serving_of m r) rs i new ∙ ap (λ (o : Option Serving). set (servings m rs) i o) e)
 
-pub keeps_set : (J : List Event) (rs : List CallerRecord) (i : ℕ) (new : CallerRecord) → i < length rs → KeepsRecord J new → ((c : ℕ) → c ≢ i → KeepsRecord J (record_at rs c)) → (c : ℕ) → KeepsRecord J (record_at (set rs i new) c)
-keeps_set J rs i new within this others c =
-    let P : CallerRecord → Type 0 = λ r. KeepsRecord J r in
+pub keeps_set : (m : Meaning) (J : List Event) (rs : List CallerRecord) (i : ℕ) (new : CallerRecord) → i < length rs → KeepsRecord m J new → ((c : ℕ) → c ≢ i → KeepsRecord m J (record_at rs c)) → (c : ℕ) → KeepsRecord m J (record_at (set rs i new) c)
+keeps_set m J rs i new within this others c =
+    let P : CallerRecord → Type 0 = λ r. KeepsRecord m J r in
     elim (same_or c i) [
-      | inl e ↦ let Q : ℕ → Type 0 = λ j. KeepsRecord J (record_at (set rs i new) j) in subst Q (sym e) (subst P (sym (get_or-set_same rs i new idle_record within)) this)
+      | inl e ↦ let Q : ℕ → Type 0 = λ j. KeepsRecord m J (record_at (set rs i new) j) in subst Q (sym e) (subst P (sym (get_or-set_same rs i new idle_record within)) this)
       | inr e ↦ subst P (sym (get_or-set_other rs i c new idle_record e)) (others c e)
     ]
   where
@@ -113,15 +120,15 @@ after_other (Delay t op o y) b u h = cond_other u t true b h
 after_other (End t r) b u h = cond_other u t false b h
 
 -- a record of another ticket is kept
-pub keeps_more : (J : List Event) (rs : List CallerRecord) (c : ℕ) (e : Event) → ((s : Serving) → get_or (servings rs) c None ≡ Some s → s.ticket ≢ ticket_of e) → KeepsRecord J (record_at rs c) → KeepsRecord (J ++ e ∷ []) (record_at rs c)
-keeps_more J rs c e apart k = record {
-  room = k.room;
-  noted = λ s p. k.noted s p ∙ sym (is_delayed-append false J e s.ticket ∙ after_other e (is_delayed J s.ticket) s.ticket (apart s (servings_at rs c ∙ p)));
+pub keeps_more : (m : Meaning) (J : List Event) (rs : List CallerRecord) (c : ℕ) (e : Event) → ((s : Serving) → get_or (servings m rs) c None ≡ Some s → s.ticket ≢ ticket_of e) → KeepsRecord m J (record_at rs c) → KeepsRecord m (J ++ e ∷ []) (record_at rs c)
+keeps_more m J rs c e apart k = record {
+  foresight = k.foresight;
+  noted = λ s p. k.noted s p ∙ sym (is_delayed-append false J e s.ticket ∙ after_other e (is_delayed J s.ticket) s.ticket (apart s (servings_at m rs c ∙ p)));
 }
 
 -- the fields with one event more
 pub keeps_with : (m : Meaning) (count count2 : ℕ) (journal journal2 : JournalView) (k k2 : List (Option Reply)) (rs rs2 : List CallerRecord) (K : List Event)
-    → Keeps m count journal k rs → journal2 ≡ record { events = K; room = journal.room } → count2 ≡ begun K → length k2 ≡ length k → ((c : ℕ) → KeepsRecord K (record_at rs2 c)) → Keeps m count2 journal2 k2 rs2
+    → Keeps m count journal k rs → journal2 ≡ record { events = K; room = journal.room } → count2 ≡ begun K → length k2 ≡ length k → ((c : ℕ) → KeepsRecord m K (record_at rs2 c)) → Keeps m count2 journal2 k2 rs2
 keeps_with m count count2 journal journal2 k k2 rs rs2 K keeps is counted same each =
     let P : JournalView → Type 0 = λ j. Keeps m count2 j k2 rs2 in
     subst P (sym is) (record { script = keeps.script; counted = counted; events = keeps.events; one_each = same ∙ keeps.one_each; each = each })
@@ -154,5 +161,9 @@ place xs rs i t old same within has is =
     let Q : List CallerRecord → Type 0 = λ l. (record_at l i).ticket ≡ Some t in
     record { within = here; is = at; has = sym (ap (λ (r : CallerRecord). r.ticket) at) ∙ subst Q same has }
 
-pub served_at : (J : List Event) (k : List (Option Reply)) (rs : List CallerRecord) (i t : ℕ) (old : CallerRecord) → Place rs i t old → record_of (book_of J k rs) i ≡ Some (served t old)
-served_at J k rs i t old p = servings_at rs i ∙ ap (λ (r : CallerRecord). serving_of r) p.is ∙ serving_is old t p.has
+pub served_at : (m : Meaning) (J : List Event) (k : List (Option Reply)) (rs : List CallerRecord) (i t : ℕ) (old : CallerRecord) → Place rs i t old → record_of (book_of m J k rs) i ≡ Some (served m t old)
+served_at m J k rs i t old p = servings_at m rs i ∙ ap (λ (r : CallerRecord). serving_of m r) p.is ∙ serving_is m old t p.has
+
+-- its foresight is one that it can have
+pub foresight_at : (m : Meaning) (J : List Event) (rs : List CallerRecord) (i t : ℕ) (old : CallerRecord) → Place rs i t old → ((c : ℕ) → KeepsRecord m J (record_at rs c)) → KeepsForesight m old.foresight
+foresight_at m J rs i t old p each = let P : CallerRecord → Type 0 = λ r. KeepsForesight m r.foresight in subst P p.is (each i).foresight

@@ -6,7 +6,6 @@ use Rattle.session_values.specs.declared.op.Op.{Op}
 use Rattle.session_values.specs.Kinds.{is_on_map, is_read}
 use Rattle.session_values.specs.Op.{IsHeld}
 use Rattle.symbolic_ops.specs.declared.symbol.Symbol.{Symbol}
-use Rattle.symbolic_ops.specs.Foresight.{ForesightView}
 use Rattle.symbolic_ops.specs.Matching.{Covered, IsBelowSome}
 use Rattle.commute_tables.specs.Relation.{commutes_symbol, same_bool}
 use Rattle.commute_tables.specs.Symbols.{CommutesWith}
@@ -29,14 +28,9 @@ below_touched t g [] b a = absurd b
 below_touched t g (s ∷ f) (inl b) a = (λ i. get_or t.marks (mark_of (b.kind i) (b.table i)) false) ∙ a.0
 below_touched t g (s ∷ f) (inr b) a = below_touched t g f b a.1
 
-covered_touched : (t : TouchedTables) (g f : List Symbol) → Covered g f → AllByRecursion (λ y. IsTouched t y) f → AllByRecursion (λ y. IsTouched t y) g
+pub covered_touched : (t : TouchedTables) (g f : List Symbol) → Covered g f → AllByRecursion (λ y. IsTouched t y) f → AllByRecursion (λ y. IsTouched t y) g
 covered_touched t [] f c a = tt
 covered_touched t (x ∷ g) f c a = (below_touched t x f c.0 a, covered_touched t g f c.1 a)
-
-pub narrowed_touched : (t : TouchedTables) (new old seen : ForesightView) (g : List Symbol) (room : ℕ) → new ≡ record { symbols = g; room = room } → old ≡ seen → Covered g seen.symbols → AllByRecursion (λ y. IsTouched t y) old.symbols → AllByRecursion (λ y. IsTouched t y) new.symbols
-narrowed_touched t new old seen g room is same c a =
-    let P : ForesightView → Type 0 = λ f. AllByRecursion (λ y. IsTouched t y) f.symbols in
-    subst P (sym is) (covered_touched t g seen.symbols c (subst P same a))
 
 -- ---- what it says of an operation
 first_told : (a b c d e f : Bool) → a ≡ false → (not a || b || c || d || e || f) ≡ true
@@ -81,3 +75,10 @@ apart op t table reads at read held none_changed none_read s touched = symbol_co
     by_table : (b : Bool) → eqb op.table s.table ≡ b → commutes_symbol op s ≡ true
     by_table false e = first_told (eqb op.table s.table) _ _ _ _ _ e
     by_table true e = by_read (is_read s.kind) (is_read op.kind) refl refl (same op.table s.table e)
+
+-- an operation commutes with a symbol of another table
+pub other_table : (op : Op) (s : Symbol) → IsHeld op → (s.table ≡ op.table → ⊥) → CommutesWith op s
+other_table op s held differ = symbol_commutes op s held (first_told (eqb op.table s.table) _ _ _ _ _ (apart_tables op.table s.table differ))
+  where
+    apart_tables : (a b : ℕ) → (b ≡ a → ⊥) → eqb a b ≡ false
+    apart_tables a b h = grind (arith, nat_tests)

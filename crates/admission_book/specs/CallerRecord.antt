@@ -1,11 +1,13 @@
 -- The record of a caller as fields, and as a book shows it.
-use Rattle.std.specs.Prelude.{ℕ, List, [], Option, Some, None, true, false, map, slice_index_or}
-use Rattle.session_limits.specs.Limits.{max_symbols}
+use Rattle.std.specs.Prelude.{◌≡◌, ℕ, List, Option, Some, None, Bool, true, false, map, slice_index_or}
 use Rattle.session_values.specs.declared.op.Op.{Op}
+use Rattle.session_values.specs.declared.value.Value.{Value}
 use Rattle.symbolic_ops.specs.declared.symbol.Symbol.{Symbol}
-use Rattle.symbolic_ops.specs.Foresight.{ForesightView}
+use Rattle.session_journal.specs.declared.site.Site.{Site}
+use Rattle.session_journal.specs.Script.{Meaning}
 use Rattle.admission_book.specs.declared.caller_record.CallerRecord.{CallerRecord}
 use Rattle.admission_book.specs.Book.{Serving}
+use Rattle.admission_book.specs.Foresights.{IsKnown, at_site, no_foresight, symbols_of}
 
 abbrev pub serving_at : Option ℕ → List Symbol → Option Op → Option Serving
 serving_at None foresight flight = None
@@ -16,44 +18,34 @@ serving_at (Some t) foresight flight = Some (record {
 })
 
 -- what a book shows of the record: none where it has no ticket
-abbrev pub serving_of : CallerRecord → Option Serving
-serving_of r = serving_at r.ticket r.foresight.symbols r.flight
+abbrev pub serving_of : Meaning → CallerRecord → Option Serving
+serving_of m r = serving_at r.ticket (symbols_of m r.foresight) r.flight
 
-abbrev pub servings : List CallerRecord → List (Option Serving)
-servings rs = map (λ r. serving_of r) rs
+abbrev pub servings : Meaning → List CallerRecord → List (Option Serving)
+servings m rs = map (λ r. serving_of m r) rs
 
 -- that of a caller that serves no ticket
 abbrev pub idle_record : CallerRecord
-idle_record = record {
-  ticket = None;
-  foresight = record { symbols = []; room = max_symbols };
-  flight = None;
-  delayed = false;
-}
+idle_record = record { ticket = None; foresight = no_foresight; flight = None; delayed = false }
 
 -- the record of the caller of this number, or an idle one where there is none
 abbrev pub record_at : List CallerRecord → ℕ → CallerRecord
 record_at rs c = slice_index_or rs c idle_record
 
 -- ---- what its calls leave
-abbrev pub with_ticket : CallerRecord → ℕ → List Symbol → CallerRecord
-with_ticket r t f = record {
-  ticket = Some t;
-  foresight = record {
-    symbols = f;
-    room = r.foresight.room;
-  };
-  flight = None;
-  delayed = false;
-}
+-- the record has this ticket, these symbols as its foresight, this operation in flight, and knows
+-- whether the last event of the ticket is a Delay
+pub record IsRecord (m : Meaning) (r : CallerRecord) (t : Option ℕ) (f : List Symbol)
+    (op : Option Op) (d : Bool) : Type 0 where
+  pub ticket : r.ticket ≡ t
+  pub foresight : IsKnown m r.foresight f
+  pub flight : r.flight ≡ op
+  pub delayed : r.delayed ≡ d
 
-abbrev pub with_symbols : CallerRecord → List Symbol → CallerRecord
-with_symbols r f = record {
+abbrev pub with_site : CallerRecord → Site → List Value → CallerRecord
+with_site r s values = record {
   ticket = r.ticket;
-  foresight = record {
-    symbols = f;
-    room = r.foresight.room;
-  };
+  foresight = at_site r.foresight s values;
   flight = r.flight;
   delayed = r.delayed;
 }
@@ -74,20 +66,13 @@ with_delay r = record {
   delayed = true;
 }
 
-abbrev pub after_flight : CallerRecord → List Symbol → CallerRecord
-after_flight r f = record {
+abbrev pub after_flight_at : CallerRecord → Site → List Value → CallerRecord
+after_flight_at r s values = record {
   ticket = r.ticket;
-  foresight = record {
-    symbols = f;
-    room = r.foresight.room;
-  };
+  foresight = at_site r.foresight s values;
   flight = None;
   delayed = false;
 }
-
--- the same with a list that is taken over with the room that it has
-abbrev pub after_flight_with : CallerRecord → ForesightView → CallerRecord
-after_flight_with r f = record { ticket = r.ticket; foresight = f; flight = None; delayed = false }
 
 abbrev pub after_ticket : CallerRecord → CallerRecord
 after_ticket r = record { ticket = None; foresight = r.foresight; flight = None; delayed = false }

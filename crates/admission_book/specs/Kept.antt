@@ -1,23 +1,24 @@
 -- What the fields of a book keep.
 use Rattle.std.specs.Prelude.{◌≡◌, ℕ, ◌<◌, ◌≤◌, ◌+◌, ◌*◌, ◌⊎◌, List, Option, Some, None, length}
-use Rattle.session_limits.specs.Limits.{max_symbols}
 use Rattle.session_values.specs.declared.reply.Reply.{Reply}
 use Rattle.session_journal.specs.declared.event.Event.{Event}
 use Rattle.session_journal.specs.Journal.{JournalView, begun}
 use Rattle.session_journal.specs.Script.{Meaning, IsScript, calls}
 use Rattle.admission_book.specs.Book.{Book, Serving}
 use Rattle.admission_book.specs.EventsInTurn.{is_delayed}
+use Rattle.admission_book.specs.Foresights.{KeepsForesight}
 use Rattle.admission_book.specs.declared.caller_record.CallerRecord.{CallerRecord}
 use Rattle.admission_book.specs.CallerRecord.{serving_of, servings, record_at}
 
 -- the book that the fields show
-abbrev pub book_of : List Event → List (Option Reply) → List CallerRecord → Book
-book_of J kept rs = record { journal = J; kept = kept; records = servings rs }
+abbrev pub book_of : Meaning → List Event → List (Option Reply) → List CallerRecord → Book
+book_of m J kept rs = record { journal = J; kept = kept; records = servings m rs }
 
--- a record has room for any foresight, and knows whether the last event of its ticket is a Delay
-pub record KeepsRecord (J : List Event) (r : CallerRecord) : Type 0 where
-  pub room : max_symbols ≤ r.foresight.room
-  pub noted : (s : Serving) → serving_of r ≡ Some s → r.delayed ≡ is_delayed J s.ticket
+-- a record's foresight is one that it can have, and it knows whether the last event of its ticket is
+-- a Delay
+pub record KeepsRecord (m : Meaning) (J : List Event) (r : CallerRecord) : Type 0 where
+  pub foresight : KeepsForesight m r.foresight
+  pub noted : (s : Serving) → serving_of m r ≡ Some s → r.delayed ≡ is_delayed J s.ticket
 
 -- the begun tickets are counted, and there is room for all that the script can make of the book
 pub record Keeps (m : Meaning) (count : ℕ) (journal : JournalView) (kept : List (Option Reply))
@@ -26,7 +27,7 @@ pub record Keeps (m : Meaning) (count : ℕ) (journal : JournalView) (kept : Lis
   pub counted : count ≡ begun journal.events
   pub events : 2 * m.requests + 2 * calls m ≤ journal.room
   pub one_each : length kept ≡ m.requests
-  pub each : (c : ℕ) → KeepsRecord journal.events (record_at records c)
+  pub each : (c : ℕ) → KeepsRecord m journal.events (record_at records c)
 
 -- ---- parts of the calls
 -- the record of some caller has the ticket

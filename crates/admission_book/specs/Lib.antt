@@ -2,6 +2,7 @@ pub mod Book
 pub mod Methods
 pub mod CallerRecord
 pub mod EventsInTurn
+pub mod Foresights
 pub mod Found
 pub mod Kept
 pub mod KeptReplies

@@ -1,5 +1,5 @@
 -- Which tables a list of symbols touches. Only this crate's own functions cite it.
-use Rattle.std.specs.Prelude.{◌≡◌, ℕ, ◌+◌, ◌%◌, true, false, cond, slice_index_or}
+use Rattle.std.specs.Prelude.{◌≡◌, ℕ, ◌+◌, ◌%◌, true, false, cond, replicate, slice_index_or}
 use Rattle.session_values.specs.declared.kind.Kind.{Kind}
 use Rattle.session_values.specs.Kinds.{is_read}
 use Rattle.symbolic_ops.specs.declared.symbol.Symbol.{Symbol}
@@ -9,6 +9,10 @@ use Rattle.admission_book.specs.declared.touched_tables.TouchedTables.{TouchedTa
 -- it is changed
 abbrev pub mark_of : Kind → ℕ → ℕ
 mark_of kind table = table % 8 + cond (is_read kind) 0 8
+
+-- no mark is set
+abbrev pub no_tables : TouchedTables
+no_tables = record { marks = replicate 16 false }
 
 -- the mark of the symbol's table is set
 abbrev pub IsTouched : TouchedTables → Symbol → Type 0

@@ -1,15 +1,17 @@
 // Who delays an operation.
 
-ghost use Rattle.std.specs.Prelude.{◌≡◌, ◌<◌, MatchOption};
+ghost use Rattle.std.specs.Prelude.{◌≡◌, ℕ, ◌<◌, MatchOption};
 ghost use Rattle.std.specs.List.{AllByRecursion};
 ghost use Rattle.symbolic_ops.specs.Matching.{HasNoVar};
 ghost use Rattle.commute_tables.specs.Symbols.{CommutesWith};
 ghost use Rattle.admission_book.specs.Book.{IsFirstAgainst};
-ghost use Rattle.admission_book.specs.CallerRecord.{serving_of, servings};
+ghost use Rattle.admission_book.specs.CallerRecord.{record_at, serving_of, servings};
+ghost use Rattle.admission_book.specs.Foresights.{KeepsForesight};
 ghost use Rattle.admission_book.specs.Found.{Found, NextFound, bound};
 
 use crate::caller_record::CallerRecord;
 use commute_tables::commute_symbol;
+use session_journal::Script;
 use session_values::Op;
 use symbolic_ops::Symbol;
 
@@ -47,8 +49,15 @@ fn limit(found: &Option<Blocker>, t: u32) -> u32
 }
 
 /// The blocker of one record, where it is older than the one that was found before.
-fn older_blocker(found: Option<Blocker>, r: &CallerRecord, t: u32, op: &Op) -> Option<Blocker>
-    ensures { NextFound t op.now found (serving_of r.now) result }
+fn older_blocker<S: Script>(
+    script: &S,
+    found: Option<Blocker>,
+    r: &CallerRecord,
+    t: u32,
+    op: &Op,
+) -> Option<Blocker>
+    requires { KeepsForesight (S.meaning script.now) r.now.foresight }
+    ensures { NextFound t op.now found (serving_of (S.meaning script.now) r.now) result }
 {
     let Some(u) = r.ticket else {
         return found;
@@ -56,19 +65,26 @@ fn older_blocker(found: Option<Blocker>, r: &CallerRecord, t: u32, op: &Op) -> O
     if u >= limit(&found, t) {
         return found;
     }
-    match r.foresight.first_against(op) {
+    match r.foresight.first_against(script, op) {
         Some(symbol) => Some(Blocker { older: u, symbol }),
         None => found,
     }
 }
 
 /// The least older open ticket with a symbol against the operation, and its first one.
-pub(crate) fn least_against(records: &[CallerRecord], t: u32, op: &Op) -> Option<Blocker>
-    ensures { Found (servings records.now) t op.now result }
+pub(crate) fn least_against<S: Script>(
+    script: &S,
+    records: &[CallerRecord],
+    t: u32,
+    op: &Op,
+) -> Option<Blocker>
+    requires { (c : ℕ) →
+        KeepsForesight (S.meaning script.now) (record_at records.now c).foresight }
+    ensures { Found (servings (S.meaning script.now) records.now) t op.now result }
 {
     let mut found = None;
     for r in records {
-        found = older_blocker(found, r, t, op);
+        found = older_blocker(script, found, r, t, op);
     }
     found
 }

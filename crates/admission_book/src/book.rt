@@ -1,10 +1,10 @@
 // Books.
 
 ghost use Rattle.std.specs.Prelude.{◌≡◌, ℕ, ◌+◌, ◌*◌, ◌<◌, ◌≤◌, None, Some, IsSome, IfOk, IfSome, length, map};
-ghost use Rattle.session_limits.specs.Limits.{max_callers, max_symbols};
+ghost use Rattle.session_limits.specs.Limits.{max_callers};
 ghost use Rattle.session_values.specs.Serial.{serial, serial_replies, tables_before};
 ghost use Rattle.session_journal.specs.Journal.{after, begun, ended};
-ghost use Rattle.session_journal.specs.Script.{IsScript, calls, session_of};
+ghost use Rattle.session_journal.specs.Script.{HasSite, IsScript, calls, declared_with, session_of};
 ghost use Rattle.admission_book.specs.Book.{kept_for, opened, record_of};
 ghost use Rattle.admission_book.specs.Lawful.{Lawful};
 ghost use Rattle.admission_book.specs.Methods.{Admits, Begins, DidIt, HasEnded, IfNext, IsOldestOpen, MayAdmit, MayBeginNext, MayDo, MayEnd, MayNarrow, Narrowed, StaysLawful};
@@ -14,7 +14,7 @@ use crate::blocker::least_against;
 use crate::caller_record::CallerRecord;
 use crate::fields::{idle_records, least_ticket, note_delay, place_of};
 use crate::kept_replies::{KeptReplies, Replies};
-use session_journal::{Event, Journal, Script};
+use session_journal::{Event, Journal, Script, Site};
 use session_values::{NoMemory, Op, Reply, Value};
 use std::alloc::Global;
 use std::marker::Model;
@@ -50,7 +50,8 @@ impl<S: Script + Drop> Model for Book<S> {
 
     ghost view = { λ b. let inner = b.inner.value in record {
       script = inner.script;
-      book = book_of inner.journal.events inner.kept inner.records.items;
+      book = book_of (S.meaning inner.script)
+          inner.journal.events inner.kept inner.records.items;
     } };
 
     ghost invariant = { λ b. let inner = b.inner.value in Keeps
@@ -125,7 +126,7 @@ impl<S: Script + Drop> Book<S> {
     }
 
     /// Begins the next ticket for a caller with what it declares at its beginning, or None where
-    /// all are begun. The declaration is made where it is kept.
+    /// all are begun. Where the script tells the declaration by a site, no list of it is made.
     pub fn begin_next(&mut self, caller: u32) -> Option<u32>
         requires lawful { Lawful (S.meaning self.old.script) self.old.book }
         requires caller { caller < length self.old.book.records }
@@ -160,6 +161,22 @@ impl<S: Script + Drop> Book<S> {
         inner.records[caller].narrow(f);
     }
 
+    /// Makes what the script declares at a site with these values the ticket's foresight, which
+    /// covers it. Site and values are kept, and no list is made.
+    pub fn narrow_at(&mut self, t: u32, site: Site, values: &[Value])
+        requires lawful { Lawful (S.meaning self.old.script) self.old.book }
+        requires site { HasSite (S.meaning self.old.script) site (length values.now) }
+        requires may { MayNarrow (S.meaning self.old.script) self.old.book t
+            (declared_with (S.meaning self.old.script) site values.now) }
+        ensures narrowed { Narrowed self.old.book t
+            (declared_with (S.meaning self.old.script) site values.now) self.new.book }
+        ensures stays { StaysLawful S S.meaning self.old self.new }
+    {
+        let inner = &mut *self.inner;
+        let caller = place_of(inner.records.as_slice(), t);
+        inner.records[caller].narrow_at(site, values);
+    }
+
     /// Puts the operation in flight, unless an older open ticket may still call one with which it
     /// doesn't commute. The first such answer about an operation is noted in the journal.
     pub fn admit(&mut self, t: u32, op: Op) -> Admission
@@ -171,7 +188,7 @@ impl<S: Script + Drop> Book<S> {
     {
         let inner = &mut *self.inner;
         let caller = place_of(inner.records.as_slice(), t);
-        let Some(b) = least_against(inner.records.as_slice(), t, &op) else {
+        let Some(b) = least_against(&inner.script, inner.records.as_slice(), t, &op) else {
             inner.records[caller].launch(op);
             return Admission::Admitted;
         };
@@ -206,19 +223,19 @@ impl<S: Script + Drop> Book<S> {
         inner.journal.push_reserved(done);
     }
 
-    /// The same with a list that it takes over: what `next` then holds says nothing, and it keeps
-    /// room for 256 symbols.
-    pub fn done_with(&mut self, t: u32, reply: Value, next: &mut Foresight)
+    /// The same, where the list is what the script declares at a site with these values.
+    pub fn done_at(&mut self, t: u32, reply: Value, site: Site, values: &[Value])
         requires lawful { Lawful (S.meaning self.old.script) self.old.book }
-        requires may { MayDo (S.meaning self.old.script) self.old.book t reply next.old.symbols }
-        requires room { max_symbols ≤ next.old.room }
-        ensures did { DidIt self.old.book t reply next.old.symbols self.new.book }
+        requires site { HasSite (S.meaning self.old.script) site (length values.now) }
+        requires may { MayDo (S.meaning self.old.script) self.old.book t reply
+            (declared_with (S.meaning self.old.script) site values.now) }
+        ensures did { DidIt self.old.book t reply
+            (declared_with (S.meaning self.old.script) site values.now) self.new.book }
         ensures stays { StaysLawful S S.meaning self.old self.new }
-        ensures room { max_symbols ≤ next.new.room }
     {
         let inner = &mut *self.inner;
         let caller = place_of(inner.records.as_slice(), t);
-        let op = inner.records[caller].finish_with(next);
+        let op = inner.records[caller].finish_at(site, values);
         let done = Event::Done {
             ticket: t,
             op,

@@ -1,15 +1,14 @@
 // What a book keeps of one caller.
 
-ghost use Rattle.std.specs.Prelude.{◌≡◌, ◌<◌, ◌≤◌, Some, IsSome, IfOk, length};
+ghost use Rattle.std.specs.Prelude.{◌≡◌, ◌<◌, ◌≤◌, None, Some, IsSome, IfOk, false, length};
 ghost use Rattle.std.specs.Bool.{Decides};
-ghost use Rattle.session_limits.specs.Limits.{max_symbols};
-ghost use Rattle.symbolic_ops.specs.Matching.{Covered};
-ghost use Rattle.admission_book.specs.CallerRecord.{idle_record, with_ticket, with_symbols, with_flight, after_flight, after_flight_with, after_ticket};
+ghost use Rattle.session_limits.specs.Limits.{max_symbols, max_variables};
+ghost use Rattle.session_journal.specs.Script.{Meaning};
+ghost use Rattle.admission_book.specs.CallerRecord.{IsRecord, idle_record, with_flight, with_site, after_flight_at, after_ticket};
 
 use crate::marked_foresight::MarkedForesight;
-use session_journal::Script;
-use session_limits::MAX_SYMBOLS;
-use session_values::{NoMemory, Op};
+use session_journal::{Script, Site};
+use session_values::{NoMemory, Op, Value};
 use std::alloc::Global;
 use symbolic_ops::Foresight;
 
@@ -18,7 +17,7 @@ use symbolic_ops::Foresight;
 pub(crate) struct CallerRecord {
     /// The open ticket, or None while the caller serves none.
     pub(crate) ticket: Option<u32>,
-    /// What the ticket may still call, in room for 256 symbols. Without a ticket it says nothing.
+    /// What the ticket may still call. Without a ticket it says nothing.
     pub(crate) foresight: MarkedForesight,
     /// The operation that was admitted and isn't done yet.
     pub(crate) flight: Option<Op>,
@@ -27,11 +26,11 @@ pub(crate) struct CallerRecord {
 }
 
 impl CallerRecord {
-    /// One of a caller that serves no ticket, with room for the symbols of any foresight.
+    /// One of a caller that serves no ticket, with room for any foresight.
     pub(crate) fn idle(alloc: Global) -> Result<CallerRecord, NoMemory>
         ensures { IfOk result (λ r. r ≡ idle_record) }
     {
-        let foresight = MarkedForesight::with_room(alloc, MAX_SYMBOLS)?;
+        let foresight = MarkedForesight::empty(alloc)?;
         Ok(CallerRecord {
             ticket: None,
             foresight,
@@ -52,8 +51,9 @@ impl CallerRecord {
 
     /// Takes over a ticket with what it declares at its beginning.
     pub(crate) fn begin(&mut self, t: u32, entry: &Foresight)
-        requires { length entry.now.symbols ≤ self.old.foresight.room }
-        ensures { self.new ≡ with_ticket self.old t entry.now.symbols }
+        requires room { max_symbols ≤ self.old.foresight.list.room }
+        requires few { length entry.now.symbols ≤ max_symbols }
+        ensures { (m : Meaning) → IsRecord m self.new (Some t) entry.now.symbols None false }
     {
         self.ticket = Some(t);
         self.flight = None;
@@ -61,11 +61,12 @@ impl CallerRecord {
         self.foresight.take(entry);
     }
 
-    /// Takes over a ticket of a script with what it declares at its beginning, which is made here.
+    /// Takes over a ticket of a script with what it declares at its beginning.
     pub(crate) fn begin_entry<S: Script>(&mut self, script: &S, t: u32)
         requires ticket { t < (S.meaning script.now).requests }
-        requires room { max_symbols ≤ self.old.foresight.room }
-        ensures { self.new ≡ with_ticket self.old t ((S.meaning script.now).entry t) }
+        requires room { max_symbols ≤ self.old.foresight.list.room }
+        ensures { IsRecord (S.meaning script.now)
+            self.new (Some t) ((S.meaning script.now).entry t) None false }
     {
         self.ticket = Some(t);
         self.flight = None;
@@ -73,13 +74,23 @@ impl CallerRecord {
         self.foresight.take_entry(script, t);
     }
 
-    /// Makes a list that its own covers the ticket's foresight.
+    /// Makes a list the ticket's foresight.
     pub(crate) fn narrow(&mut self, f: &Foresight)
-        requires room { length f.now.symbols ≤ self.old.foresight.room }
-        requires covered { Covered f.now.symbols self.old.foresight.symbols }
-        ensures { self.new ≡ with_symbols self.old f.now.symbols }
+        requires room { max_symbols ≤ self.old.foresight.list.room }
+        requires few { length f.now.symbols ≤ max_symbols }
+        ensures { (m : Meaning) → IsRecord m
+            self.new self.old.ticket f.now.symbols self.old.flight self.old.delayed }
     {
-        self.foresight.narrow(f);
+        self.foresight.take(f);
+    }
+
+    /// Makes what is declared at a site with these values, which its own covers, the ticket's
+    /// foresight.
+    pub(crate) fn narrow_at(&mut self, site: Site, values: &[Value])
+        requires { length values.now ≤ max_variables }
+        ensures { self.new ≡ with_site self.old site values.now }
+    {
+        self.foresight.narrow_at(site, values);
     }
 
     /// Puts an operation in flight.
@@ -89,33 +100,34 @@ impl CallerRecord {
         self.flight = Some(op);
     }
 
-    /// Takes the operation out of flight, and narrows.
+    /// Takes the operation out of flight, and makes a list the ticket's foresight.
     pub(crate) fn finish(&mut self, next: &Foresight) -> Op
         requires flight { IsSome self.old.flight }
-        requires room { length next.now.symbols ≤ self.old.foresight.room }
-        requires covered { Covered next.now.symbols self.old.foresight.symbols }
+        requires room { max_symbols ≤ self.old.foresight.list.room }
+        requires few { length next.now.symbols ≤ max_symbols }
         ensures op { self.old.flight ≡ Some result }
-        ensures finished { self.new ≡ after_flight self.old next.now.symbols }
+        ensures finished { (m : Meaning) →
+            IsRecord m self.new self.old.ticket next.now.symbols None false }
     {
         let op = self.flight.unwrap();
         self.flight = None;
         self.delayed = false;
-        self.foresight.narrow(next);
+        self.foresight.take(next);
         op
     }
 
-    /// The same with a list that it takes over, for which it leaves its own.
-    pub(crate) fn finish_with(&mut self, next: &mut Foresight) -> Op
+    /// The same, where the list is what is declared at a site with these values, which its own
+    /// covers.
+    pub(crate) fn finish_at(&mut self, site: Site, values: &[Value]) -> Op
         requires flight { IsSome self.old.flight }
-        requires covered { Covered next.old.symbols self.old.foresight.symbols }
+        requires few { length values.now ≤ max_variables }
         ensures op { self.old.flight ≡ Some result }
-        ensures finished { self.new ≡ after_flight_with self.old next.old }
-        ensures left { next.new ≡ self.old.foresight }
+        ensures finished { self.new ≡ after_flight_at self.old site values.now }
     {
         let op = self.flight.unwrap();
         self.flight = None;
         self.delayed = false;
-        self.foresight.narrow_with(next);
+        self.foresight.narrow_at(site, values);
         op
     }
 

@@ -9,6 +9,7 @@ mod fields;
 mod kept_replies;
 pub mod laws;
 mod marked_foresight;
+mod site_symbols;
 mod touched_tables;
 
 pub use admission::Admission;

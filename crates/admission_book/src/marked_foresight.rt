@@ -1,102 +1,135 @@
 // A foresight with the tables that it touches.
 
-ghost use Rattle.std.specs.Prelude.{◌≡◌, ◌<◌, ◌≤◌, [], MatchOption, IfOk, length};
+ghost use Rattle.std.specs.Prelude.{◌≡◌, ◌<◌, ◌≤◌, MatchOption, IfOk, length};
 ghost use Rattle.std.specs.List.{AllByRecursion};
-ghost use Rattle.session_limits.specs.Limits.{max_symbols};
-ghost use Rattle.symbolic_ops.specs.Matching.{Covered};
+ghost use Rattle.session_limits.specs.Limits.{max_symbols, max_variables};
+ghost use Rattle.session_journal.specs.Script.{Meaning};
 ghost use Rattle.commute_tables.specs.Symbols.{CommutesWith};
 ghost use Rattle.admission_book.specs.Book.{IsFirstAgainst};
+ghost use Rattle.admission_book.specs.Foresights.{IsKnown, KeepsForesight, at_site, no_foresight, symbols_of, with_values};
 
 use crate::blocker::first_against;
+use crate::site_symbols::first_at_site;
 use crate::touched_tables::TouchedTables;
-use session_journal::Script;
-use session_values::{NoMemory, Op};
+use session_journal::{Script, Site};
+use session_limits::{MAX_SYMBOLS, MAX_VARIABLES};
+use session_values::{NoMemory, Op, Value};
 use std::alloc::Global;
 use std::marker::Model;
-use std::mem::swap;
 use symbolic_ops::{Foresight, Symbol};
 
-/// A foresight beside the tables that its symbols touch, so that a search passes it at once where
-/// none of them is the operation's. Contracts see the foresight alone.
+/// What a ticket may still call: the symbols of a list, or those that the script declares at a site
+/// with some values. The latter are made only where an operation is held against them. Beside them
+/// stand the tables that they touch, so that a search passes them at once where none of these is
+/// the operation's.
 #[derive(Drop)]
 pub(crate) struct MarkedForesight {
-    foresight: Foresight,
-    /// Those of the list that was taken, which every narrower one keeps to.
+    /// The list, in room for 256 symbols. It says nothing where there is a site.
+    list: Foresight,
+    /// The site, where it was told by one.
+    site: Option<Site>,
+    /// The values of the site's variables, then others that say nothing, 32 in all.
+    values: Vec<Value>,
+    /// Those of what was taken, which all that is narrower keeps to.
     touched: TouchedTables,
 }
 
 impl Model for MarkedForesight {
-    ghost use Rattle.std.specs.List.{AllByRecursion};
-    ghost use Rattle.symbolic_ops.specs.Foresight.{ForesightView};
-    ghost use Rattle.admission_book.specs.Touched.{IsTouched};
+    ghost use Rattle.std.specs.Prelude.{◌≡◌, length};
+    ghost use Rattle.session_limits.specs.Limits.{max_variables};
+    ghost use Rattle.admission_book.specs.Foresights.{MarkedView};
 
-    ghost Value = { ForesightView };
+    ghost Value = { MarkedView };
 
-    ghost view = { λ f. f.foresight };
+    ghost view = { λ f. record {
+      list = f.list;
+      site = f.site;
+      values = f.values.items;
+      touched = f.touched;
+    } };
 
-    ghost invariant = { λ f. AllByRecursion (λ s. IsTouched f.touched s) f.foresight.symbols };
+    ghost invariant = { λ f. length f.values.items ≡ max_variables };
+}
+
+/// Puts values in place of the first ones.
+#[inline(always)]
+fn put_first(held: &mut [Value], values: &[Value])
+    requires { length values.now ≤ length held.old }
+    ensures { held.new ≡ with_values held.old values.now }
+{
+    held[..values.len()].copy_from_slice(values);
 }
 
 impl MarkedForesight {
-    /// An empty one with room for so many symbols.
-    pub(crate) fn with_room(alloc: Global, room: u32) -> Result<MarkedForesight, NoMemory>
-        ensures { IfOk result (λ f. f ≡ record { symbols = []; room = room }) }
+    /// An empty one, with room for any foresight.
+    pub(crate) fn empty(alloc: Global) -> Result<MarkedForesight, NoMemory>
+        ensures { IfOk result (λ f. f ≡ no_foresight) }
     {
-        let foresight = Foresight::with_room(alloc, room)?;
+        let list = Foresight::with_room(alloc, MAX_SYMBOLS)?;
+        let values = vec![in alloc; Value::Nil; MAX_VARIABLES]?;
         Ok(MarkedForesight {
-            foresight,
+            list,
+            site: None,
+            values,
             touched: TouchedTables::none(),
         })
     }
 
-    /// Takes any symbols in place of its own.
+    /// Takes a list in place of its own symbols.
     pub(crate) fn take(&mut self, entry: &Foresight)
-        requires { length entry.now.symbols ≤ self.old.room }
-        ensures { self.new ≡ record { symbols = entry.now.symbols; room = self.old.room } }
+        requires room { max_symbols ≤ self.old.list.room }
+        requires few { length entry.now.symbols ≤ max_symbols }
+        ensures { (m : Meaning) → IsKnown m self.new entry.now.symbols }
     {
-        self.foresight.replace(entry);
+        self.list.replace(entry);
+        self.site = None;
         self.touched = TouchedTables::of(entry.symbols());
     }
 
-    /// Takes what a ticket of a script declares at its beginning in place of its own.
+    /// Takes what a ticket of a script declares at its beginning in place of its own symbols.
     pub(crate) fn take_entry<S: Script>(&mut self, script: &S, t: u32)
         requires ticket { t < (S.meaning script.now).requests }
-        requires room { max_symbols ≤ self.old.room }
-        ensures { self.new ≡ record {
-          symbols = (S.meaning script.now).entry t;
-          room = self.old.room;
-        } }
+        requires room { max_symbols ≤ self.old.list.room }
+        ensures { IsKnown (S.meaning script.now) self.new ((S.meaning script.now).entry t) }
     {
-        script.entry(t, &mut self.foresight);
-        self.touched = TouchedTables::of(self.foresight.symbols());
+        match script.entry_site(t, self.values.as_mut_slice()) {
+            Some(site) => {
+                self.site = Some(site);
+                self.touched = TouchedTables::of(script.declaration(site));
+            }
+            None => {
+                script.entry(t, &mut self.list);
+                self.site = None;
+                self.touched = TouchedTables::of(self.list.symbols());
+            }
+        }
     }
 
-    /// Takes symbols that its own cover in their place.
-    pub(crate) fn narrow(&mut self, next: &Foresight)
-        requires room { length next.now.symbols ≤ self.old.room }
-        requires covered { Covered next.now.symbols self.old.symbols }
-        ensures { self.new ≡ record { symbols = next.now.symbols; room = self.old.room } }
+    /// Takes what is declared at a site with these values in place of its own symbols, which cover
+    /// that.
+    #[inline(always)]
+    pub(crate) fn narrow_at(&mut self, site: Site, values: &[Value])
+        requires { length values.now ≤ max_variables }
+        ensures { self.new ≡ at_site self.old site values.now }
     {
-        self.foresight.replace(next);
-    }
-
-    /// Takes a list that its own covers over, and leaves its own for it.
-    pub(crate) fn narrow_with(&mut self, next: &mut Foresight)
-        requires { Covered next.old.symbols self.old.symbols }
-        ensures taken { self.new ≡ next.old }
-        ensures left { next.new ≡ self.old }
-    {
-        swap(&mut self.foresight, next);
+        self.site = Some(site);
+        put_first(self.values.as_mut_slice(), values);
     }
 
     /// The first symbol with which the operation doesn't commute.
-    pub(crate) fn first_against(&self, op: &Op) -> Option<Symbol>
-        ensures { MatchOption result (AllByRecursion (λ y. CommutesWith op.now y) self.now.symbols)
-            (λ y. IsFirstAgainst op.now self.now.symbols y) }
+    pub(crate) fn first_against<S: Script>(&self, script: &S, op: &Op) -> Option<Symbol>
+        requires { KeepsForesight (S.meaning script.now) self.now }
+        ensures { MatchOption result
+            (AllByRecursion (λ y. CommutesWith op.now y)
+            (symbols_of (S.meaning script.now) self.now))
+            (λ y. IsFirstAgainst op.now (symbols_of (S.meaning script.now) self.now) y) }
     {
         if !self.touched.may_be_against(op) {
             return None;
         }
-        first_against(op, self.foresight.symbols())
+        match self.site {
+            Some(site) => first_at_site(op, script.declaration(site), self.values.as_slice()),
+            None => first_against(op, self.list.symbols()),
+        }
     }
 }

@@ -4,7 +4,7 @@ ghost use Rattle.std.specs.Prelude.{◌≡◌, ◌<◌, false};
 ghost use Rattle.std.specs.List.{AllByRecursion};
 ghost use Rattle.symbolic_ops.specs.declared.symbol.Symbol.{Symbol as AnySymbol};
 ghost use Rattle.commute_tables.specs.Symbols.{CommutesWith};
-ghost use Rattle.admission_book.specs.Touched.{IsTouched, mark_of};
+ghost use Rattle.admission_book.specs.Touched.{IsTouched, mark_of, no_tables};
 
 use session_values::{Kind, Op};
 use symbolic_ops::Symbol;
@@ -29,7 +29,9 @@ fn mark_of(kind: Kind, table: u32) -> usize
 
 impl TouchedTables {
     /// Those of no symbol.
-    pub(crate) fn none() -> TouchedTables {
+    pub(crate) fn none() -> TouchedTables
+        ensures { result ≡ no_tables }
+    {
         TouchedTables { marks: [false; 16] }
     }
 

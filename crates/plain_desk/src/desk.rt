@@ -11,15 +11,16 @@ ghost use Rattle.plain_desk.specs.PlainDesks.{new_desk, at_beginning, ended_coun
 
 use crate::done_call::DoneCall;
 use crate::ended_ticket::EndedTicket;
+use crate::opening::fill_tables;
 use plain_tables::PlainTables;
-use session_journal::{Desk, Script};
+use session_journal::{Desk, Script, Site};
 use session_limits::MAX_SYMBOLS;
 use session_values::{NoMemory, Op, Reply, TableKind, Value};
 use std::alloc::Global;
 use std::marker::Model;
 use std::sync::Wait;
 use std::thread::Threads;
-use symbolic_ops::Foresight;
+use symbolic_ops::{Foresight, instantiate};
 
 /// A desk over tables of its own, for one caller: the tickets of its script are served one at a
 /// time, in order. While none is open it counts as ended.
@@ -65,15 +66,16 @@ impl<S: Script + Drop> Model for PlainDesk<S> {
 }
 
 impl<S: Script + Drop> PlainDesk<S> {
-    /// A desk at which no ticket has begun, with room for the Replies of all tickets and for a
-    /// foresight of 256 symbols.
+    /// A desk at which no ticket has begun, over tables with what they open with. It has room for
+    /// the Replies of all tickets and for a foresight of 256 symbols.
     pub fn new(alloc: Global, script: S, shape: &[TableKind]) -> Result<PlainDesk<S>, NoMemory>
         requires { shape.now ≡ (S.meaning script).shape }
         ensures script { IfOk result (λ d. d.script ≡ script) }
         ensures desk { IfOk result (λ d. d.desk ≡ new_desk (S.meaning script)) }
     {
         let ticket = script.requests();
-        let tables = PlainTables::new(alloc, shape)?;
+        let mut tables = PlainTables::new(alloc, shape)?;
+        fill_tables(&script, shape, &mut tables)?;
         let present = Foresight::with_room(alloc, MAX_SYMBOLS)?;
         let ended = Vec::with_capacity(alloc, ticket as usize)?;
         Ok(PlainDesk {
@@ -178,12 +180,20 @@ impl<S: Script + Drop> Desk for PlainDesk<S> {
         }
     }
 
-    fn finish_with<R: Threads + Wait + Sync>(&mut self, rt: &R, next: &mut Foresight) {
-        self.finish(rt, next);
+    fn finish_at<R: Threads + Wait + Sync>(&mut self, _rt: &R, site: Site, values: &[Value]) {
+        if let Some(done) = self.waiting {
+            self.entries.push_reserved(done);
+            self.waiting = None;
+            instantiate(self.script.declaration(site), values, &mut self.present);
+        }
     }
 
     fn declare<R: Threads + Wait + Sync>(&mut self, _rt: &R, f: &Foresight) {
         self.present.replace(f);
+    }
+
+    fn declare_at<R: Threads + Wait + Sync>(&mut self, _rt: &R, site: Site, values: &[Value]) {
+        instantiate(self.script.declaration(site), values, &mut self.present);
     }
 
     fn end<R: Threads + Wait + Sync>(&mut self, _rt: &R, reply: Reply) {

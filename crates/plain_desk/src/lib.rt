@@ -4,6 +4,7 @@
 mod desk;
 mod done_call;
 mod ended_ticket;
+mod opening;
 
 pub use desk::PlainDesk;
 pub use done_call::DoneCall;

@@ -2,11 +2,11 @@
 
 use crate::list::RepeatedCalls;
 use crate::serving::call_all;
-use session_journal::{Desk, Scratch, Script, Serves};
-use session_values::NoMemory;
+use session_journal::{Desk, Scratch, Script, Serves, Site};
+use session_values::{NoMemory, Value};
 use std::sync::Wait;
 use std::thread::Threads;
-use symbolic_ops::Foresight;
+use symbolic_ops::{Foresight, Symbol};
 
 /// The script of such a list, which it borrows.
 #[derive(Drop)]
@@ -33,6 +33,22 @@ impl<'a> Script for RepeatedScript<'a> {
 
     fn room(&self, table: u32) -> u32 {
         self.list.script().room(table)
+    }
+
+    fn entry_site(&self, _t: u32, _values: &mut [Value]) -> Option<Site> {
+        None
+    }
+
+    fn declaration(&self, _site: Site) -> &[Symbol] {
+        &[]
+    }
+
+    fn opening_len(&self, table: u32) -> u32 {
+        self.list.script().opening_len(table)
+    }
+
+    fn opening_entry(&self, table: u32, i: u32) -> (Value, Value) {
+        self.list.script().opening_entry(table, i)
     }
 }
 

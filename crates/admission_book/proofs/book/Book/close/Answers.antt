@@ -12,7 +12,7 @@ use Rattle.admission_book.proofs.book.Book.close.Goals as goal
 
 pub all-requires : goal.all-requires
 all-requires g c =
-    let seen = view_lent _ _ _ c.into_inner-journal.ensures c.self.view_is in
+    let seen = view_lent g.S.Script.meaning _ _ _ c.into_inner-journal.ensures c.self.view_is in
     let keeps = keeps_lent g.S.Script.meaning _ _ c.into_inner-journal.ensures c.self.invariant in
     let L = here Lawful g.S.Script.meaning _ _ _ seen c.requires.lawful in
     let done = here (λ (m : Meaning) (b : Book). (t : ℕ) → t < m.requests → IsSome (ended b.journal t)) g.S.Script.meaning _ _ _ seen c.requires.ended in
@@ -20,7 +20,7 @@ all-requires g c =
 
 pub returns-clause-tables : goal.returns-clause-tables
 returns-clause-tables g c =
-    let seen = view_lent _ _ _ c.into_inner-journal.ensures c.self.view_is in
+    let seen = view_lent g.S.Script.meaning _ _ _ c.into_inner-journal.ensures c.self.view_is in
     let keeps = keeps_lent g.S.Script.meaning _ _ c.into_inner-journal.ensures c.self.invariant in
     let L = here Lawful g.S.Script.meaning _ _ _ seen c.requires.lawful in
     let done = here (λ (m : Meaning) (b : Book). (t : ℕ) → t < m.requests → IsSome (ended b.journal t)) g.S.Script.meaning _ _ _ seen c.requires.ended in
@@ -28,7 +28,7 @@ returns-clause-tables g c =
 
 pub returns-clause-serial : goal.returns-clause-serial
 returns-clause-serial g c =
-    let seen = view_lent _ _ _ c.into_inner-journal.ensures c.self.view_is in
+    let seen = view_lent g.S.Script.meaning _ _ _ c.into_inner-journal.ensures c.self.view_is in
     let keeps = keeps_lent g.S.Script.meaning _ _ c.into_inner-journal.ensures c.self.invariant in
     let L = here Lawful g.S.Script.meaning _ _ _ seen c.requires.lawful in
     let done = here (λ (m : Meaning) (b : Book). (t : ℕ) → t < m.requests → IsSome (ended b.journal t)) g.S.Script.meaning _ _ _ seen c.requires.ended in

@@ -12,7 +12,7 @@ use Rattle.admission_book.proofs.book.Book.end.Goals as goal
 
 pub push_reserved-requires : goal.push_reserved-requires
 push_reserved-requires g c =
-    let seen = view_lent _ _ _ c.deref_mut-inner.ensures.value c.self.view_is in
+    let seen = view_lent g.S.Script.meaning _ _ _ c.deref_mut-inner.ensures.value c.self.view_is in
     let keeps = keeps_lent g.S.Script.meaning _ _ c.deref_mut-inner.ensures.value c.self.invariant in
     let p = place _ _ _ _ _ c.as_slice.ensures.value c.place_of-caller.ensures.within c.place_of-caller.ensures.serves c.index_mut.ensures.value in
     let L = here Lawful g.S.Script.meaning _ _ _ seen c.requires.lawful in
@@ -21,7 +21,7 @@ push_reserved-requires g c =
 
 pub keep-requires : goal.keep-requires
 keep-requires g c =
-    let seen = view_lent _ _ _ c.deref_mut-inner.ensures.value c.self.view_is in
+    let seen = view_lent g.S.Script.meaning _ _ _ c.deref_mut-inner.ensures.value c.self.view_is in
     let keeps = keeps_lent g.S.Script.meaning _ _ c.deref_mut-inner.ensures.value c.self.invariant in
     let p = place _ _ _ _ _ c.as_slice.ensures.value c.place_of-caller.ensures.within c.place_of-caller.ensures.serves c.index_mut.ensures.value in
     let L = here Lawful g.S.Script.meaning _ _ _ seen c.requires.lawful in
@@ -30,7 +30,7 @@ keep-requires g c =
 
 pub invariant_of-self : goal.invariant_of-self
 invariant_of-self g c =
-    let seen = view_lent _ _ _ c.deref_mut-inner.ensures.value c.self.view_is in
+    let seen = view_lent g.S.Script.meaning _ _ _ c.deref_mut-inner.ensures.value c.self.view_is in
     let keeps = keeps_lent g.S.Script.meaning _ _ c.deref_mut-inner.ensures.value c.self.invariant in
     let p = place _ _ _ _ _ c.as_slice.ensures.value c.place_of-caller.ensures.within c.place_of-caller.ensures.serves c.index_mut.ensures.value in
     let L = here Lawful g.S.Script.meaning _ _ _ seen c.requires.lawful in
@@ -41,7 +41,7 @@ invariant_of-self g c =
 
 pub returns-clause-ended : goal.returns-clause-ended
 returns-clause-ended g c =
-    let seen = view_lent _ _ _ c.deref_mut-inner.ensures.value c.self.view_is in
+    let seen = view_lent g.S.Script.meaning _ _ _ c.deref_mut-inner.ensures.value c.self.view_is in
     let keeps = keeps_lent g.S.Script.meaning _ _ c.deref_mut-inner.ensures.value c.self.invariant in
     let p = place _ _ _ _ _ c.as_slice.ensures.value c.place_of-caller.ensures.within c.place_of-caller.ensures.serves c.index_mut.ensures.value in
     let L = here Lawful g.S.Script.meaning _ _ _ seen c.requires.lawful in
@@ -53,7 +53,7 @@ returns-clause-ended g c =
 
 pub returns-clause-stays : goal.returns-clause-stays
 returns-clause-stays g c =
-    let seen = view_lent _ _ _ c.deref_mut-inner.ensures.value c.self.view_is in
+    let seen = view_lent g.S.Script.meaning _ _ _ c.deref_mut-inner.ensures.value c.self.view_is in
     let keeps = keeps_lent g.S.Script.meaning _ _ c.deref_mut-inner.ensures.value c.self.invariant in
     let p = place _ _ _ _ _ c.as_slice.ensures.value c.place_of-caller.ensures.within c.place_of-caller.ensures.serves c.index_mut.ensures.value in
     let L = here Lawful g.S.Script.meaning _ _ _ seen c.requires.lawful in

@@ -7,7 +7,7 @@ use Rattle.admission_book.proofs.Replies.{serial_if}
 use Rattle.admission_book.proofs.book.Book.reply.Goals as goal
 
 pub returns-clause-kept : goal.returns-clause-kept
-returns-clause-kept g c = c.reply.ensures ∙ kept_there _ _ _ c.args.t (view_lent _ _ _ c.deref.ensures c.self.view_is)
+returns-clause-kept g c = c.reply.ensures ∙ kept_there _ _ _ c.args.t (view_lent g.S.Script.meaning _ _ _ c.deref.ensures c.self.view_is)
 
 pub returns-clause-serial : goal.returns-clause-serial
 returns-clause-serial g c = λ lawful.
