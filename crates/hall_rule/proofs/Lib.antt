@@ -1,4 +1,6 @@
+pub mod Filling
 pub mod Shares
+pub mod Wholes
 pub mod Entries
 pub mod Halls
 pub mod Counting

@@ -1,25 +1,26 @@
 -- What an operation that is done changes of the shares.
-use Rattle.std.proofs.Common.{◌≡◌, ◌≢◌, ℕ, zero, suc, ◌/◌, ◌%◌, ◌<◌, List, [], ◌∷◌, ◌++◌, length, Some, Bool, true, false, eqb, refl, sym, ◌∙◌, ap, subst, append-nil, arith}
+use Rattle.std.proofs.Common.{◌≡◌, ◌≢◌, ℕ, zero, suc, ◌+◌, ◌/◌, ◌%◌, ◌<◌, ◌≤◌, ◌⊎◌, inl, inr, ◌&&◌, List, [], ◌∷◌, ◌++◌, length, map as map_list, Some, Bool, true, false, eqb, refl, sym, ◌∙◌, ap, subst, append-nil, arith}
 use Rattle.std.specs.Prelude.{slice_get}
 use Rattle.std.specs.FinMap as map
 use Rattle.std.specs.FinSet as set
-use Rattle.std.proofs.lemmas.List.{get_or-set_same, get_or-set_other, length-set}
+use Rattle.std.proofs.lemmas.List.{get_or-set_same, get_or-set_other, length-map, length-set, set_past}
 use Rattle.std.proofs.lemmas.Bool.Decides.{nat_tests}
 use Rattle.session_values.proofs.Puts.{kind_after}
 use Rattle.session_values.specs.declared.kind.Kind.{Kind}
 use Rattle.session_values.specs.declared.kind.Kind.TheVariants.{Get, Put, Swap, Del, Size, Bump, Has, Add, Mark, Drop, Count}
 use Rattle.session_values.specs.declared.kind.TableKind.{TableKind}
-use Rattle.session_values.specs.declared.kind.TableKind.TheVariants.{Map, Set}
+use Rattle.session_values.specs.declared.kind.TableKind.TheVariants.{Map}
 use Rattle.session_values.specs.declared.op.Op.{Op}
 use Rattle.session_values.specs.declared.value.Value.{Value}
 use Rattle.session_values.specs.Dialogue.{Entry}
-use Rattle.session_values.specs.Kinds.{arguments}
-use Rattle.session_values.specs.Tables.{Container, Bindings, Members, Tables, empty_of, start, table, reply, step, reply_on, after_on, map_after, set_after, kind_of}
+use Rattle.session_values.specs.Kinds.{arguments, is_adding}
+use Rattle.session_values.specs.Tables.{Container, Bindings, Members, Tables, empty_of, table, reply, step, reply_on, after_on, map_after, set_after, kind_of, size_of}
 use Rattle.session_values.specs.Values.{value_cmp}
 use Rattle.session_journal.specs.declared.event.Event.{Event}
 use Rattle.session_journal.specs.declared.event.Event.TheVariants.{Done}
 use Rattle.session_journal.specs.Journal.{DoneOperation, done_operations, in_order, run}
-use Rattle.session_journal.specs.Script.{Meaning}
+use Rattle.session_values.proofs.Sizes.{on_few, one_if}
+use Rattle.session_journal.specs.Script.{Meaning, adds_on}
 use Rattle.session_journal.proofs.Replay.{run-append}
 use Rattle.shard_tables.specs.Parts.{part, shard_of}
 use Rattle.shard_tables.proofs.PartSteps.{part_after, part_stays, part_reply, part_kind}
@@ -28,10 +29,10 @@ use Rattle.hall_rule.specs.Contents.{shards_in, share, opening_tables, tables_af
 use Rattle.hall_rule.specs.Turns.{IsTurnOf}
 use Rattle.hall_rule.specs.Law.{none_some, inside, lies_within}
 
-same_test : (a b : ℕ) → a ≡ b → eqb a b ≡ true
+pub same_test : (a b : ℕ) → a ≡ b → eqb a b ≡ true
 same_test a b e = grind (arith, nat_tests)
 
-other_test : (a b : ℕ) → a ≢ b → eqb a b ≡ false
+pub other_test : (a b : ℕ) → a ≢ b → eqb a b ≡ false
 other_test a b e = grind (arith, nat_tests)
 
 pub same : (a b : ℕ) → eqb a b ≡ true → a ≡ b
@@ -95,14 +96,10 @@ length-run : (ts : Tables) (es : List Entry) → length (run ts es) ≡ length t
 length-run ts [] = refl
 length-run ts (e ∷ es) = length-run (step ts e.op) es ∙ length-step ts e.op
 
-length-start : (shape : List TableKind) → length (start shape) ≡ length shape
-length-start [] = refl
-length-start (kind ∷ shape) = ap suc (length-start shape)
+pub length-opening : (m : Meaning) → map_list kind_of (opening_tables m) ≡ m.shape → length (opening_tables m) ≡ length m.shape
+length-opening m o = sym (length-map (opening_tables m) kind_of) ∙ ap length o
 
-pub length-opening : (m : Meaning) → opening_tables m ≡ start m.shape → length (opening_tables m) ≡ length m.shape
-length-opening m o = ap length o ∙ length-start m.shape
-
-pub length-after : (m : Meaning) → opening_tables m ≡ start m.shape → (J : List Event) → length (tables_after m J) ≡ length m.shape
+pub length-after : (m : Meaning) → map_list kind_of (opening_tables m) ≡ m.shape → (J : List Event) → length (tables_after m J) ≡ length m.shape
 length-after m o J = length-run (opening_tables m) (in_order (done_operations J)) ∙ length-opening m o
 
 table-step : (ts : Tables) (op : Op) → op.table < length ts → table (step ts op) op.table ≡ after_on (table ts op.table) op
@@ -132,31 +129,72 @@ kind_run : (ts : Tables) (es : List Entry) (i : ℕ) → i < length ts → kind_
 kind_run ts [] i l = refl
 kind_run ts (e ∷ es) i l = kind_run (step ts e.op) es i (omega (arith, l, length-step ts e.op)) ∙ kind_step ts e.op i l
 
-kind_empty : (k : TableKind) → kind_of (empty_of k) ≡ k
-kind_empty Map = refl
-kind_empty Set = refl
+kind_at : (ts : Tables) (i : ℕ) (k : TableKind) → slice_get (map_list kind_of ts) i ≡ Some k → kind_of (table ts i) ≡ k
+kind_at [] i k e = absurd (none_some k e)
+kind_at (c ∷ ts) zero k e = inside (kind_of c) k e
+kind_at (c ∷ ts) (suc i) k e = kind_at ts i k e
 
-pub kind_start : (shape : List TableKind) (i : ℕ) (k : TableKind) → slice_get shape i ≡ Some k → kind_of (table (start shape) i) ≡ k
-kind_start [] i k e = absurd (none_some k e)
-kind_start (x ∷ shape) zero k e = kind_empty x ∙ inside x k e
-kind_start (x ∷ shape) (suc i) k e = kind_start shape i k e
-
-pub kind_table : (m : Meaning) → opening_tables m ≡ start m.shape → (J : List Event) (i : ℕ) (k : TableKind) → slice_get m.shape i ≡ Some k → kind_of (table (tables_after m J) i) ≡ k
+pub kind_table : (m : Meaning) → map_list kind_of (opening_tables m) ≡ m.shape → (J : List Event) (i : ℕ) (k : TableKind) → slice_get m.shape i ≡ Some k → kind_of (table (tables_after m J) i) ≡ k
 kind_table m o J i k e =
     let l : i < length (opening_tables m) = omega (arith, lies_within m.shape i k e, length-opening m o) in
-    kind_run (opening_tables m) (in_order (done_operations J)) i l ∙ ap (λ (ts : Tables). kind_of (table ts i)) o ∙ kind_start m.shape i k e
+    kind_run (opening_tables m) (in_order (done_operations J)) i l ∙ kind_at (opening_tables m) i k (ap (λ (ks : List TableKind). slice_get ks i) o ∙ e)
 
-pub kind_share : (m : Meaning) → opening_tables m ≡ start m.shape → (turns : ℕ) (J : List Event) (j i : ℕ) (k : TableKind) → j / shards_in m turns ≡ i → slice_get m.shape i ≡ Some k → kind_of (share m turns J j) ≡ k
+pub kind_share : (m : Meaning) → map_list kind_of (opening_tables m) ≡ m.shape → (turns : ℕ) (J : List Event) (j i : ℕ) (k : TableKind) → j / shards_in m turns ≡ i → slice_get m.shape i ≡ Some k → kind_of (share m turns J j) ≡ k
 kind_share m o turns J j i k at e =
     part_kind (shards_in m turns) (j % shards_in m turns) (table (tables_after m J) (j / shards_in m turns))
     ∙ ap (λ (a : ℕ). kind_of (table (tables_after m J) a)) at
     ∙ kind_table m o J i k e
 
+-- ---- how many keys a part has after a list of operations
+one_part : (n j : ℕ) (c : Container) (op : Op) → size_of (part n j (after_on c op)) ≤ size_of (part n j c) + one_if (is_adding op.kind)
+one_part n j c op = go (eqb (shard_of n op.key) j) refl
+  where
+    go : (b : Bool) → eqb (shard_of n op.key) j ≡ b → size_of (part n j (after_on c op)) ≤ size_of (part n j c) + one_if (is_adding op.kind)
+    go true e = let q : size_of (part n j (after_on c op)) ≡ size_of (after_on (part n j c) op) = ap size_of (part_after (λ k. eqb (shard_of n k) j) c op e) in omega (arith, q, on_few (part n j c) op)
+    go false e = let q : size_of (part n j (after_on c op)) ≡ size_of (part n j c) = ap size_of (part_stays (λ k. eqb (shard_of n k) j) c op e) in omega (arith, q)
+
+step_past : (ts : Tables) (op : Op) → length ts ≤ op.table → step ts op ≡ ts
+unfolding step
+step_past ts op l = set_past ts op.table (after_on (table ts op.table) op) l
+
+part_step_few : (n j : ℕ) (ts : Tables) (op : Op) (i : ℕ) → size_of (part n j (table (step ts op) i)) ≤ size_of (part n j (table ts i)) + one_if (is_adding op.kind && eqb op.table i)
+part_step_few n j ts op i = by_table (eqb op.table i) refl
+  where
+    lt_or : (a b : ℕ) → (a < b) ⊎ (b ≤ a)
+    lt_or a b = grind arith
+
+    and_true : (b : Bool) → (b && true) ≡ b
+    and_true true = refl
+    and_true false = refl
+
+    here : i ≡ op.table → size_of (part n j (table (step ts op) i)) ≤ size_of (part n j (table ts i)) + one_if (is_adding op.kind)
+    here e = elim (lt_or op.table (length ts)) [
+      | inl l ↦
+          let P : ℕ → Type 0 = λ k. size_of (part n j (table (step ts op) k)) ≤ size_of (part n j (table ts k)) + one_if (is_adding op.kind) in
+          let q : size_of (part n j (table (step ts op) op.table)) ≡ size_of (part n j (after_on (table ts op.table) op)) = ap (λ (c : Container). size_of (part n j c)) (table-step ts op l) in
+          subst P (sym e) (omega (arith, q, one_part n j (table ts op.table) op))
+      | inr g ↦ let q : size_of (part n j (table (step ts op) i)) ≡ size_of (part n j (table ts i)) = ap (λ (us : Tables). size_of (part n j (table us i))) (step_past ts op g) in omega (arith, q)
+    ]
+
+    by_table : (b : Bool) → eqb op.table i ≡ b → size_of (part n j (table (step ts op) i)) ≤ size_of (part n j (table ts i)) + one_if (is_adding op.kind && eqb op.table i)
+    by_table true e =
+        let q : one_if (is_adding op.kind && eqb op.table i) ≡ one_if (is_adding op.kind) = ap (λ (b : Bool). one_if (is_adding op.kind && b)) e ∙ ap one_if (and_true (is_adding op.kind)) in
+        omega (arith, q, here (sym (same op.table i e)))
+    by_table false e = let q : size_of (part n j (table (step ts op) i)) ≡ size_of (part n j (table ts i)) = ap (λ (c : Container). size_of (part n j c)) (table-step_other ts op i (λ z. differs op.table i e (sym z))) in omega (arith, q)
+
+part_run_few : (n j : ℕ) (ts : Tables) (es : List Entry) (i : ℕ) → size_of (part n j (table (run ts es) i)) ≤ size_of (part n j (table ts i)) + adds_on i es
+part_run_few n j ts [] i = omega arith
+part_run_few n j ts (e ∷ es) i = omega (arith, part_run_few n j (step ts e.op) es i, part_step_few n j ts e.op i)
+
+-- a share has no more keys than it opens with and adding operations were done on its table
+pub share_few : (m : Meaning) (turns : ℕ) (J : List Event) (j : ℕ) → size_of (share m turns J j) ≤ size_of (share m turns [] j) + adds_on (j / shards_in m turns) (in_order (done_operations J))
+share_few m turns J j = part_run_few (shards_in m turns) (j % shards_in m turns) (opening_tables m) (in_order (done_operations J)) (j / shards_in m turns)
+
 -- ---- the shares after the operation
 pub share_quiet : (m : Meaning) (turns : ℕ) (J more : List Event) (j : ℕ) → done_operations more ≡ [] → share m turns J j ≡ share m turns (J ++ more) j
 share_quiet m turns J more j e = ap (λ (ts : Tables). part (shards_in m turns) (j % shards_in m turns) (table ts (j / shards_in m turns))) (sym (after-quiet m J more e))
 
-module _ (m : Meaning) (o : opening_tables m ≡ start m.shape) (turns : ℕ) (J : List Event) (t : ℕ) (op : Op) (r : Value) (l : op.table < length m.shape) where
+module _ (m : Meaning) (o : map_list kind_of (opening_tables m) ≡ m.shape) (turns : ℕ) (J : List Event) (t : ℕ) (op : Op) (r : Value) (l : op.table < length m.shape) where
   abbrev n : ℕ
   n = shards_in m turns
 

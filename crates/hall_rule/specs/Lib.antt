@@ -1,6 +1,8 @@
 pub mod Contents
+pub mod Filling
 pub mod Tie
 pub mod Shards
+pub mod Listing
 pub mod Turns
 pub mod Halls
 pub mod Counted

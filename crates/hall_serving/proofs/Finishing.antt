@@ -1,12 +1,14 @@
 -- What a desk shows, said of its caller.
 use Rattle.std.proofs.Common.{◌≡◌, ℕ, List, [], ◌∷◌, ◌++◌, Option, refl, sym, subst}
 use Rattle.session_values.specs.declared.reply.Reply.{Reply}
+use Rattle.session_values.specs.declared.value.Value.{Value}
 use Rattle.session_values.specs.Dialogue.{rest, replies}
 use Rattle.symbolic_ops.specs.declared.symbol.Symbol.{Symbol}
 use Rattle.symbolic_ops.specs.Matching.{Covered}
 use Rattle.symbolic_ops.proofs.Above.{covered_itself}
 use Rattle.session_journal.specs.Desks as desks
-use Rattle.session_journal.specs.Script.{Meaning, IsForesight}
+use Rattle.session_journal.specs.Script.{Meaning, HasSite, IsForesight, declared_with}
+use Rattle.session_journal.specs.declared.site.Site.{Site}
 use Rattle.session_hall.specs.declared.caller.Caller.{Caller}
 use Rattle.session_hall.specs.declared.hall.Hall.{Hall}
 use Rattle.session_hall.specs.declared.stage.Stage.{Stage}
@@ -33,6 +35,15 @@ may_finish {S} meaning h c t name r stands v is next may =
     go (Serving u) at m = absurd m
     go (InFlight u op) at m = absurd m
     go Out at m = absurd m
+
+-- ---- the same of a site of the desk's script, which is the hall's
+pub has_site : {S : Type 0} (meaning : S → Meaning) (h : Hall S) (c : Caller S) (t name : ℕ) (r : Option Reply) (v : HallView S) → record { script = script_of h; desk = desk_at h c t name; reply = r } ≡ v → (s : Site) (n : ℕ) → HasSite (meaning v.script) s n → HasSite (meaning (script_of h)) s n
+has_site {S} meaning h c t name r v is s n has = let P : HallView S → Type 0 = λ w. HasSite (meaning w.script) s n in subst P (sym is) has
+
+pub may_finish_at : {S : Type 0} (meaning : S → Meaning) (h : Hall S) (c : Caller S) (t name : ℕ) (r : Option Reply) (stands : DeskStands meaning h c t r) (v : HallView S) → record { script = script_of h; desk = desk_at h c t name; reply = r } ≡ v → (s : Site) (values : List Value) → desks.MayFinish (meaning v.script) v.desk v.desk.waiting (declared_with (meaning v.script) s values) → MayFinishAt (meaning (script_of h)) c.stage (foresight_of c) (book_of c) (declared_with (meaning (script_of h)) s values)
+may_finish_at {S} meaning h c t name r stands v is s values may =
+    let P : HallView S → Type 0 = λ w. MayFinishAt (meaning (script_of h)) c.stage (foresight_of c) (book_of c) (declared_with (meaning w.script) s values) in
+    subst P (sym is) (may_finish meaning h c t name r stands v is (declared_with (meaning v.script) s values) may)
 
 -- the caller that a desk gives back
 pub leaves_desk : {S : Type 0} (meaning : S → Meaning) (h : Hall S) (c : Caller S) (t name : ℕ) (r : Option Reply) (stands : DeskStands meaning h c t r) (v : HallView S) → record { script = script_of h; desk = desk_at h c t name; reply = r } ≡ v → IsCallerOfDesk meaning v c name

@@ -6,7 +6,7 @@ ghost use Rattle.session_hall.specs.Names.{script_of};
 ghost use Rattle.hall_serving.specs.Desks.{IsCallerOfDesk, IsServing, desk_at, ticket_of};
 
 use session_hall::{Caller, Hall, Stage, Waits};
-use session_journal::{Desk, Script};
+use session_journal::{Desk, Script, Site};
 use session_values::{NoMemory, Op, Reply, Value};
 use std::marker::Model;
 use std::sync::Wait;
@@ -121,15 +121,20 @@ impl<'a, S: Script + Drop, G: Gate> Desk for HallDesk<'a, S, G> {
         self.gate.pass(rt, Place::Done(self.ticket, self.done));
     }
 
-    fn finish_with<R: Threads + Wait + Sync>(&mut self, rt: &R, next: &mut Foresight) {
+    fn finish_at<R: Threads + Wait + Sync>(&mut self, rt: &R, site: Site, values: &[Value]) {
         self.caller
-            .finish_taking(rt, self.hall, next, &mut self.waits);
+            .finish_at(rt, self.hall, site, values, &mut self.waits);
         self.done = self.done.wrapping_add(1);
         self.gate.pass(rt, Place::Done(self.ticket, self.done));
     }
 
     fn declare<R: Threads + Wait + Sync>(&mut self, rt: &R, f: &Foresight) {
         self.caller.declare_with(rt, self.hall, f, &mut self.waits);
+    }
+
+    fn declare_at<R: Threads + Wait + Sync>(&mut self, rt: &R, site: Site, values: &[Value]) {
+        self.caller
+            .declare_at(rt, self.hall, site, values, &mut self.waits);
     }
 
     fn end<R: Threads + Wait + Sync>(&mut self, rt: &R, reply: Reply) {

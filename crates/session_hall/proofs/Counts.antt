@@ -124,7 +124,7 @@ module _ {S : Type 0} where
   keys_within x xs ys = let e : all_keys (xs ++ x ∷ ys) ≡ all_keys xs + (keys_in x.1 + all_keys ys) = all_keys-append xs (x ∷ ys) in omega (arith, e)
 
   -- ---- one shard after another
-  pub count_start : (xs : List (ℕ × Held S)) → AreShards (contents xs) → all_keys (contents xs) ≤ 200000 → Counting xs 0 0
+  pub count_start : (xs : List (ℕ × Held S)) → AreShards (contents xs) → all_keys (contents xs) ≤ 1200000 → Counting xs 0 0
   count_start xs shards few = record { front = []; back = contents xs; whole = refl; long = refl; counted = refl; shards = shards; few = few }
 
   is_shard : (op : Op) (y : Content S) → CanDo op y → IsAnyShard y
@@ -213,7 +213,7 @@ module _ {S : Type 0} where
       go [] h = refl
       go (z ∷ zs) h = absurd (omega (arith, h))
 
-  pub count_few : (pairs : List (ℕ × Held S)) (done count : ℕ) → Counting pairs done count → count ≤ 200000
+  pub count_few : (pairs : List (ℕ × Held S)) (done count : ℕ) → Counting pairs done count → count ≤ 1200000
   count_few pairs done count k = omega (arith, k.counted, k.few, ap all_keys k.whole, all_keys-append k.front k.back)
 
   -- ---- by turns

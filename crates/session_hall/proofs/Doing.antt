@@ -1,5 +1,5 @@
 -- An operation is done on its shards.
-use Rattle.std.proofs.Common.{◌≡◌, ◌≢◌, ℕ, suc, ◌+◌, ◌*◌, ◌-◌, ◌/◌, ◌%◌, ◌<◌, ◌≤◌, List, [], ◌∷◌, ◌++◌, length, map, Option, Some, None, Bool, true, false, cond, eqb, pos, refl, sym, ◌∙◌, ap, subst, mod-lt, arith}
+use Rattle.std.proofs.Common.{◌≡◌, ◌≢◌, ℕ, suc, ◌+◌, ◌*◌, ◌-◌, ◌/◌, ◌%◌, ◌<◌, ◌≤◌, List, [], ◌∷◌, ◌++◌, length, map, Option, Some, None, Bool, true, false, cond, eqb, pos, refl, sym, ◌∙◌, ap, subst, arith}
 use Rattle.std.specs.Int.{bit_at}
 use Rattle.std.proofs.lemmas.Nat.{div-mul-add, mod-mul-add}
 use Rattle.std.proofs.lemmas.Nat.Bits.{bit_at-lt, bit_at_mask_below}
@@ -8,17 +8,18 @@ use Rattle.session_values.specs.declared.value.Value.{Value}
 use Rattle.session_values.specs.declared.value.Value.TheVariants.{Num}
 use Rattle.session_values.specs.Dialogue.{replies}
 use Rattle.session_values.specs.Kinds.{arguments}
-use Rattle.session_values.specs.Tables.{Container, Fits, Tables, after_on, kind_of, reply, reply_on, size_of, table}
+use Rattle.session_values.specs.Tables.{Container, Fits, after_on, kind_of, reply, reply_on, size_of, table}
 use Rattle.session_values.specs.Kinds.{home}
-use Rattle.session_values.proofs.Starts.{start_none}
 use Rattle.session_journal.specs.declared.event.Event.{Event}
-use Rattle.session_journal.specs.Script.{Meaning, room}
+use Rattle.session_journal.specs.Journal.{done_operations, in_order}
+use Rattle.session_journal.specs.Script.{Meaning, adds_on, room}
+use Rattle.session_journal.proofs.Serving.{opening_few}
 use Rattle.session_values.specs.Sums.{sum_below}
 use Rattle.turn_board.specs.Seated.{TableId}
 use Rattle.shard_tables.specs.Parts.{part, shard_of}
-use Rattle.shard_tables.proofs.PartSizes.{part_few, part_sizes}
+use Rattle.shard_tables.proofs.PartSizes.{part_sizes}
 use Rattle.admission_book.specs.Book.{Holds, record_of}
-use Rattle.admission_book.proofs.Keys.{keys_few, keys_fewer}
+use Rattle.admission_book.proofs.Keys.{adds_fewer, keys_few}
 use Rattle.turn_board.specs.Boards.{IsSeatOf, SameNote, Tells, GainedAll, turn_count, held, caller, caller_count}
 use Rattle.turn_board.specs.Hands.{HandsView, in_hands, Once}
 use Rattle.turn_board.specs.Maps.{bits_of}
@@ -29,7 +30,7 @@ use Rattle.hall_rule.specs.Law.{none_some, lies_within, same_container}
 use Rattle.hall_rule.specs.Shards.{content_of}
 use Rattle.hall_rule.specs.Tie.{Tied}
 use Rattle.hall_rule.specs.Turns.{ChangedBy, IsTurnOf, WasDone, place, span, turn_set}
-use Rattle.hall_rule.proofs.Shares.{keyless_stays, kind_share, kind_table, reply-is, share_reply}
+use Rattle.hall_rule.proofs.Shares.{keyless_stays, kind_share, kind_table, reply-is, share_few, share_reply}
 use Rattle.session_hall.specs.declared.caller.Caller.{Caller}
 use Rattle.session_hall.specs.declared.hall.Hall.{Hall}
 use Rattle.session_hall.specs.declared.stage.Stage.{Stage}
@@ -176,18 +177,14 @@ module _ {S : Type 0} (meaning : S → Meaning) (h : Hall S) (c : Caller S) (k :
           let at : b.place_of / sh ≡ op.table = at_table b.place_of b.of_operation in
           let P : Content S → Type 0 = λ y. CanDo op y in
           let kind : kind_of s.container ≡ home op.kind = ap kind_of s.share_is ∙ kind_share m (opens m k.script_kept) turns J b.place_of op.table (home op.kind) at fits.table in
-          let some : 0 < sh = omega (arith, shards_known, k.some_shards) in
-          let within : b.place_of % sh < sh = mod-lt b.place_of some in
-          let is_part : size_of s.container ≡ size_of (part sh (b.place_of % sh) (table (tables_after m J) (b.place_of / sh))) = ap size_of s.share_is in
-          let part_of : size_of (part sh (b.place_of % sh) (table (tables_after m J) (b.place_of / sh))) ≤ size_of (table (tables_after m J) (b.place_of / sh)) = part_few sh (b.place_of % sh) (table (tables_after m J) (b.place_of / sh)) within in
-          let whole : size_of (table (tables_after m J) (b.place_of / sh)) ≡ size_of (table (tables_after m J) op.table) = ap (λ (a : ℕ). size_of (table (tables_after m J) a)) at in
+          let keys : size_of s.container ≡ size_of (share m turns J b.place_of) = ap size_of s.share_is in
+          let adds : adds_on (b.place_of / sh) (in_order (done_operations J)) ≡ adds_on op.table (in_order (done_operations J)) = ap (λ (a : ℕ). adds_on a (in_order (done_operations J))) at in
           let need : room m (b.place_of / sh) ≡ room m op.table = ap (room m) at in
-          let open_none : size_of (table m.opening op.table) ≡ 0 = ap (λ (ts : Tables). size_of (table ts op.table)) (opens m k.script_kept) ∙ start_none m.shape op.table in
           subst P (sym s.is) (
             kind,
             λ adding.
-                let less : size_of (table (tables_after m J) op.table) < size_of (table m.opening op.table) + room m op.table = keys_fewer m told.tied.book k.script_kept finds.lawful t op flight_found.is_open (flight_found.flight op refl) adding in
-                omega (arith, is_part, part_of, whole, less, need, open_none, s.enough),
+                let less : adds_on op.table (in_order (done_operations J)) < room m op.table = adds_fewer m told.tied.book k.script_kept finds.lawful t op flight_found.is_open (flight_found.flight op refl) adding in
+                omega (arith, keys, adds, share_few m turns J b.place_of, less, need, s.enough),
           )
 
       -- the keys of the shard behind a turn after a journal
@@ -240,10 +237,9 @@ module _ {S : Type 0} (meaning : S → Meaning) (h : Hall S) (c : Caller S) (k :
         omega (arith, as_many, some_span n op k.some_shards),
         λ none.
             let e : all_keys (contents xs) ≡ size_of (table (tables_after m J) op.table) = total none J share_now in
-            let open_none : size_of (table m.opening op.table) ≡ 0 = ap (λ (ts : Tables). size_of (table ts op.table)) (opens m k.script_kept) ∙ start_none m.shape op.table in
             let less : size_of (table (tables_after m J) op.table) ≤ size_of (table m.opening op.table) + room m op.table = keys_few m told.tied.book k.script_kept finds.lawful op.table in
             let small : room m op.table ≤ 200000 = k.script_kept.few_adds op.table in
-            omega (arith, e, less, small, open_none),
+            omega (arith, e, less, small, opening_few m k.script_kept op.table),
       )
 
       -- ---- the operation was done

@@ -1,10 +1,11 @@
 -- A caller gives the book back.
-use Rattle.std.proofs.Common.{◌≡◌, ◌≢◌, ℕ, suc, ◌+◌, ◌<◌, List, [], ◌++◌, length, Option, Some, None, refl, sym, ◌∙◌, ap, subst, arith}
+use Rattle.std.proofs.Common.{◌≡◌, ◌≢◌, ℕ, suc, ◌+◌, ◌<◌, List, [], ◌++◌, length, map, Option, Some, None, refl, sym, ◌∙◌, ap, subst, arith}
 use Rattle.std.specs.Prelude.{slice_get}
 use Rattle.std.specs.List.{AllByRecursion}
 use Rattle.turn_board.specs.Seated.{TableId}
 use Rattle.std.proofs.lemmas.List.{length-set, get_or-set_other, get_or-set_same}
-use Rattle.session_values.specs.Tables.{start}
+use Rattle.session_values.specs.Tables.{kind_of}
+use Rattle.opening_tables.proofs.Openings.{opening_kinds}
 use Rattle.symbolic_ops.specs.declared.symbol.Symbol.{Symbol}
 use Rattle.session_journal.specs.declared.event.Event.{Event}
 use Rattle.session_journal.specs.Journal.{done_operations, owner, ticket_of}
@@ -34,8 +35,8 @@ use Rattle.session_hall.specs.Names.{script_of}
 use Rattle.session_hall.specs.Stages.{SeatOf, HoldsNone, Stands, foresight_in, waiting, flying}
 
 -- ---- what a lawful book tells
-pub opens : (m : Meaning) → IsScript m → opening_tables m ≡ start m.shape
-opens m s = s.opening
+pub opens : (m : Meaning) → IsScript m → map kind_of (opening_tables m) ≡ m.shape
+opens m s = ap (map kind_of) s.opening ∙ opening_kinds m.shape m.opened
 
 pub is_told : (m : Meaning) (b : Book) → IsScript m → Lawful m b → IsTold m b
 is_told m b s l = record { replays = l.replays; regrouped = (regrouped_lawful m b l).replays; foreknown = λ t near. foreknown m b s l t near }

@@ -138,6 +138,7 @@ module _ {S : Type 0} (meaning : S → Meaning) (h : Hall S) (callers : List (Ca
         let all : AllEnded (meaning (script_of h)) (script_of h) (map content_of values) (length values) = subst P (length-map values content_of) (all_ended meaning (script_of h) (map content_of values) notes first_caller.script_kept tied (omega (arith, notes_many, some_seats)) notes_out) in
         record {
           script_kept = first_caller.script_kept;
+          some_shards = first_caller.some_shards;
           long = turns_are;
           few = omega (arith, turns, first_caller.few_turns);
           ended = all;
@@ -233,6 +234,7 @@ module _ {S : Type 0} (meaning : S → Meaning) (h : Hall S) (callers : List (Ca
 
       pub is_done : IsDone m (record { journal = J; replies = replies; parts = parts; shards = h.sizes.shards; callers = h.sizes.callers })
       is_done = record {
+        script_kept = l.script_kept;
         book = l.ended.book;
         journal_is = J_is;
         callers_are = l.callers;
@@ -242,6 +244,7 @@ module _ {S : Type 0} (meaning : S → Meaning) (h : Hall S) (callers : List (Ca
         all_ended = λ t near. let e : (r : Reply) × (ended l.ended.book.journal t ≡ Some r) = l.ended.all_ended t near in (e.0, ap (λ (K : List Event). ended K t) J_is ∙ e.1);
         replies = serial ∙ ap (λ (s : S). serial_replies (session_of (meaning s)) (meaning s).requests) script_is;
         tables = ap (λ (s : S). after (meaning s).opening J) (sym script_is) ∙ tables ∙ ap (λ (s : S). tables_before (session_of (meaning s)) (meaning s).requests) script_is;
+        some_shards = l.some_shards;
         parts_are = parts_many;
         parts = part_is;
       }

@@ -2,6 +2,7 @@ pub mod Finding
 pub mod Giving
 pub mod Between
 pub mod Tickets
+pub mod Sites
 pub mod Declares
 pub mod Admits
 pub mod Ends
@@ -13,6 +14,8 @@ pub mod Doing
 pub mod Taken
 pub mod Trying
 pub mod Moving
+pub mod Filled
 pub mod Opened
 pub mod Left
+pub mod Listed
 pub mod Tried

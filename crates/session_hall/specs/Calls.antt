@@ -67,11 +67,6 @@ MayFinishAt m _ f b next = ⊥
 abbrev pub MayFinish : {S : Type 0} → Meaning → Caller S → List Symbol → Type 0
 MayFinish m c next = MayFinishAt m c.stage (foresight_of c) (book_of c) next
 
--- the answer that the book was found taken
-abbrev pub IsBusyFinish : Finishing → Type 0
-IsBusyFinish finishing.Done = ⊥
-IsBusyFinish (finishing.Busy u) = Unit {0}
-
 module _ {S : Type 0} (m : Meaning) (p q : Caller S) where
   -- the caller took the book in one step of the call, found it so, and gave it back so in another
   -- one, with all that it held: that is its note now. Where it found the book, the hall's rule held

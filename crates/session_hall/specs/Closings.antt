@@ -58,10 +58,11 @@ pub record ClosedView : Type 0 where
   pub shards : ℕ
   pub callers : ℕ
 
--- the journal is that of a lawful book with a record for each caller, in which all tickets have
--- ended; the replies are those of serving the tickets one at a time, and the shards are the parts
--- of the tables after that
+-- of a script: the journal is that of a lawful book with a record for each caller, in which all
+-- tickets have ended; the replies are those of serving the tickets one at a time, and the shards,
+-- of which each table has some, are the parts of the tables after that
 pub record IsDone (m : Meaning) (d : ClosedView) : Type 0 where
+  pub script_kept : IsScript m
   pub book : Book
   pub journal_is : d.journal ≡ book.journal
   pub callers_are : length book.records ≡ d.callers
@@ -71,6 +72,7 @@ pub record IsDone (m : Meaning) (d : ClosedView) : Type 0 where
   pub all_ended : (t : ℕ) → t < m.requests → (r : Reply) × (ended d.journal t ≡ Some r)
   pub replies : d.replies ≡ serial_replies (session_of m) m.requests
   pub tables : tables_after m d.journal ≡ tables_before (session_of m) m.requests
+  pub some_shards : 0 < d.shards
   pub parts_are : length d.parts ≡ length m.shape * d.shards
   pub parts : (j : ℕ) (x : Part) → slice_get d.parts j ≡ Some x
       → (shard_view x).container ≡ part d.shards (j % d.shards)
@@ -95,6 +97,7 @@ IsTable (Register b) = ⊥
 pub record HasLeft {S : Type 0} (meaning : S → Meaning) (h : Hall S) (served : List (Caller S))
     (values : List (Held S)) : Type 0 where
   pub script_kept : IsScript (meaning (script_of h))
+  pub some_shards : 0 < h.sizes.shards
   pub long : length values ≡ 1 + length (meaning (script_of h)).shape * h.sizes.shards
   pub few : length values ≤ max_board_turns
   pub ended : AllEnded (meaning (script_of h)) (script_of h) (map content_of values) (length values)

@@ -7,3 +7,4 @@ pub mod Waits
 pub mod Working
 pub mod Openings
 pub mod Closings
+pub mod Listings

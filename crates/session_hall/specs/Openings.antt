@@ -1,12 +1,14 @@
 -- What a hall is opened with. Only this crate's own functions cite it.
-use Rattle.std.specs.Prelude.{◌≡◌, ℕ, ◌+◌, ◌*◌, ◌/◌, List, [], ◌++◌, Some, length, map, replicate, slice_get}
+use Rattle.std.specs.Prelude.{◌≡◌, ℕ, ◌+◌, ◌*◌, ◌/◌, ◌%◌, List, [], Some, length, map, replicate, slice_get}
 use Rattle.session_limits.specs.Limits.{max_shards}
 use Rattle.session_values.specs.declared.kind.TableKind.{TableKind}
-use Rattle.session_values.specs.Tables.{empty_of}
+use Rattle.opening_tables.specs.Opening.{container_of, entries_of}
 use Rattle.session_journal.specs.Script.{Meaning, IsScript, room}
+use Rattle.shard_tables.specs.Parts.{part}
 use Rattle.hall_rule.specs.declared.held.Held.{Held}
 use Rattle.hall_rule.specs.declared.held.Held.TheVariants.{Table}
 use Rattle.hall_rule.specs.declared.part.Part.{Part}
+use Rattle.hall_rule.specs.Filling.{count_in}
 use Rattle.hall_rule.specs.Halls.{first_content}
 use Rattle.hall_rule.specs.Shards.{content_of, shard_view}
 use Rattle.hall_rule.specs.Tie.{Tied}
@@ -14,27 +16,25 @@ use Rattle.session_hall.specs.declared.caller.Caller.{Caller}
 use Rattle.session_hall.specs.declared.stage.Stage.TheVariants.{Idle}
 use Rattle.session_hall.specs.Stages.{SeatOf}
 
--- the room of each of the first n tables
-pub record Rooms (m : Meaning) (n : ℕ) (rooms : List ℕ) : Type 0 where
-  pub long : length rooms ≡ n
-  pub each : (i r : ℕ) → slice_get rooms i ≡ Some r → r ≡ room m i
-
--- an empty shard of the table that stands behind turn j + 1, with the table's room
-pub record IsNewPart (shape : List TableKind) (rooms : List ℕ) (shards j : ℕ)
-    (p : Part) : Type 0 where
+-- the shard that stands behind turn j + 1, with its part of what its table opens with, in room for
+-- these entries and for all keys that may be added to the table
+pub record IsNewPart (m : Meaning) (shards j : ℕ) (p : Part) : Type 0 where
   pub kind : TableKind
+  pub kind_is : slice_get m.shape (j / shards) ≡ Some kind
   pub space : ℕ
-  pub kind_is : slice_get shape (j / shards) ≡ Some kind
-  pub space_is : slice_get rooms (j / shards) ≡ Some space
-  pub is : shard_view p ≡ record { container = empty_of kind; room = space }
+  pub space_is : space ≡ room m (j / shards)
+      + count_in shards (j % shards) (entries_of m.opened (j / shards))
+  pub is : shard_view p ≡ record {
+    container = part shards (j % shards) (container_of kind (entries_of m.opened (j / shards)));
+    room = space;
+  }
 
--- the shards of the first n turns behind the book were added
-pub record NewParts {S : Type 0} (shape : List TableKind) (rooms : List ℕ) (shards n : ℕ)
-    (before after : List (Held S)) : Type 0 where
+-- the values are the shards of the first n turns behind the book
+pub record NewParts {S : Type 0} (m : Meaning) (shards n : ℕ) (values : List (Held S)) : Type 0 where
   pub parts : List Part
-  pub added : after ≡ before ++ map Table parts
+  pub are : values ≡ map Table parts
   pub long : length parts ≡ n
-  pub each : (j : ℕ) (p : Part) → slice_get parts j ≡ Some p → IsNewPart shape rooms shards j p
+  pub each : (j : ℕ) (p : Part) → slice_get parts j ≡ Some p → IsNewPart m shards j p
 
 -- the values of a hall's turns before any ticket is begun: of them the rule holds
 pub record FirstValues {S : Type 0} (meaning : S → Meaning) (script : S) (shards callers : ℕ)

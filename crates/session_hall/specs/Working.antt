@@ -1,7 +1,7 @@
 -- An operation on the shards in a caller's hands. Only this crate's own functions cite it.
 use Rattle.std.specs.Prelude.{◌≡◌, ℕ, ◌+◌, ◌<◌, ◌≤◌, pos, true, List, [], ◌∷◌, ◌++◌, Some, length, map, slice_get}
 use Rattle.std.specs.List.{AllByRecursion}
-use Rattle.session_limits.specs.Limits.{max_session_calls}
+use Rattle.opening_tables.specs.Limits.{max_keys}
 use Rattle.session_values.specs.declared.op.Op.{Op}
 use Rattle.session_values.specs.declared.value.Value.{Value}
 use Rattle.session_values.specs.declared.value.Value.TheVariants.{Num}
@@ -69,7 +69,7 @@ module _ {S : Type 0} where
   -- with a key one shard is in the hands; else their keys are counted
   abbrev pub CanWork : Op → List (ℕ × Held S) → Type 0
   CanWork op xs = AllCan op (contents xs) × (0 < length xs)
-      × (arguments op.kind ≡ 0 → all_keys (contents xs) ≤ max_session_calls)
+      × (arguments op.kind ≡ 0 → all_keys (contents xs) ≤ max_keys)
 
   abbrev pub HasWorked : Op → List (ℕ × Held S) → List (ℕ × Held S) → Value → Type 0
   HasWorked op xs ys v = (arguments op.kind ≡ 0
@@ -84,4 +84,4 @@ module _ {S : Type 0} where
     pub long : length front ≡ done
     pub counted : count ≡ all_keys front
     pub shards : AreShards back
-    pub few : all_keys (contents pairs) ≤ max_session_calls
+    pub few : all_keys (contents pairs) ≤ max_keys

@@ -1,7 +1,8 @@
 // Doing an operation on its shards.
 
 ghost use Rattle.std.specs.Prelude.{◌≡◌, ◌+◌, ◌*◌, ◌<◌, ◌≤◌, length};
-ghost use Rattle.session_limits.specs.Limits.{max_session_calls, max_shards};
+ghost use Rattle.opening_tables.specs.Limits.{max_keys};
+ghost use Rattle.session_limits.specs.Limits.{max_shards};
 ghost use Rattle.session_values.specs.Kinds.{arguments};
 ghost use Rattle.turn_board.specs.Boards.{turn_count};
 ghost use Rattle.turn_board.specs.Limits.{max_board_turns};
@@ -24,10 +25,10 @@ use shard_tables::shard_of;
 use turn_board::{Hands, TookAll};
 
 // The first turn of an operation, less one.
-fn place_of(op: Op, shards: u32) -> u32
+fn place_of(op: &Op, shards: u32) -> u32
     requires some { 0 < shards }
-    requires few { (shards ≤ max_shards) × (op.table ≤ max_board_turns) }
-    ensures { result ≡ place shards op }
+    requires few { (shards ≤ max_shards) × (op.now.table ≤ max_board_turns) }
+    ensures { result ≡ place shards op.now }
 {
     let within = if op.kind.arguments() == 0 {
         0
@@ -38,38 +39,38 @@ fn place_of(op: Op, shards: u32) -> u32
 }
 
 // How many turns an operation takes.
-fn span_of(op: Op, shards: u32) -> u32
-    ensures { result ≡ span shards op }
+fn span_of(op: &Op, shards: u32) -> u32
+    ensures { result ≡ span shards op.now }
 {
     if op.kind.arguments() == 0 { shards } else { 1 }
 }
 
 // The turns of an operation, as a set.
-fn turns_of(op: Op, shards: u32) -> u64
+fn turns_of(op: &Op, shards: u32) -> u64
     requires some { 0 < shards }
-    requires few { (shards ≤ max_shards) × (op.table ≤ max_board_turns)
-        × (place shards op + span shards op ≤ max_board_turns) }
-    ensures { result ≡ turn_set shards op }
+    requires few { (shards ≤ max_shards) × (op.now.table ≤ max_board_turns)
+        × (place shards op.now + span shards op.now ≤ max_board_turns) }
+    ensures { result ≡ turn_set shards op.now }
 {
     let first = 1 + place_of(op, shards);
     (1u64 << (first + span_of(op, shards))) - (1u64 << first)
 }
 
 // Does the operation on a shard.
-fn work_on<S: Script + Drop>(held: &mut Held<S>, op: Op) -> Value
-    requires { CanDo op (content_of held.old) }
-    ensures { WorkedTo op (content_of held.old) (content_of held.new) result }
+fn work_on<S: Script + Drop>(held: &mut Held<S>, op: &Op) -> Value
+    requires { CanDo op.now (content_of held.old) }
+    ensures { WorkedTo op.now (content_of held.old) (content_of held.new) result }
 {
     match held {
-        Held::Table(part) => part.apply(op),
+        Held::Table(part) => part.apply(*op),
         Held::Register(_) => unreachable!(),
     }
 }
 
 // Does the operation on the first shard in the hands, where it lies.
-fn work_first<S: Script + Drop>(hands: &mut Hands<Held<S>>, op: Op) -> Value
-    requires { FirstCan op hands.old.pairs }
-    ensures worked { WorkedFirst op hands.old.pairs hands.new.pairs result }
+fn work_first<S: Script + Drop>(hands: &mut Hands<Held<S>>, op: &Op) -> Value
+    requires { FirstCan op.now hands.old.pairs }
+    ensures worked { WorkedFirst op.now hands.old.pairs hands.new.pairs result }
     ensures room { hands.new.room ≡ hands.old.room }
 {
     work_on(hands.value_mut(0), op)
@@ -91,7 +92,7 @@ fn keys_at<S: Script + Drop>(hands: &Hands<Held<S>>, i: u32) -> u32
 // The number of keys of all shards in the hands.
 fn count_all<S: Script + Drop>(hands: &Hands<Held<S>>) -> u32
     requires shards { AreShards (contents hands.now.pairs) }
-    requires few { all_keys (contents hands.now.pairs) ≤ max_session_calls }
+    requires few { all_keys (contents hands.now.pairs) ≤ max_keys }
     ensures { result ≡ all_keys (contents hands.now.pairs) }
 {
     let mut count = 0;
@@ -102,9 +103,9 @@ fn count_all<S: Script + Drop>(hands: &Hands<Held<S>>) -> u32
 }
 
 // Does the operation on the shards in the hands.
-fn work<S: Script + Drop>(hands: &mut Hands<Held<S>>, op: Op) -> Value
-    requires { CanWork op hands.old.pairs }
-    ensures worked { HasWorked op hands.old.pairs hands.new.pairs result }
+fn work<S: Script + Drop>(hands: &mut Hands<Held<S>>, op: &Op) -> Value
+    requires { CanWork op.now hands.old.pairs }
+    ensures worked { HasWorked op.now hands.old.pairs hands.new.pairs result }
     ensures room { hands.new.room ≡ hands.old.room }
 {
     if op.kind.arguments() == 0 {
@@ -123,7 +124,7 @@ impl<S: Script + Drop> Caller<S> {
         ensures applied { AppliedAs (S.meaning (script_of hall.now)) self.old self.new
             hall.now.sizes.shards (turn_count hall.now.board) result }
     {
-        let (t, op) = in_flight(self.stage);
+        let (t, op) = in_flight(&self.stage);
         let turns = turns_of(op, hall.sizes.shards);
         match hall
             .board
@@ -133,7 +134,7 @@ impl<S: Script + Drop> Caller<S> {
             TookAll::Here => {}
         }
         let reply = work(&mut self.hands, op);
-        self.stage = Stage::Applied(t, op, reply);
+        self.stage = Stage::Applied(t, *op, reply);
         Applying::Applied(reply)
     }
 }

@@ -1,12 +1,15 @@
 // Closed halls.
 
-ghost use Rattle.std.specs.Prelude.{◌≡◌};
-ghost use Rattle.session_hall.specs.Closings.{IsClosed};
+ghost use Rattle.std.specs.Prelude.{◌≡◌, ◌*◌, ◌<◌, Some, length, slice_get};
+ghost use Rattle.session_journal.specs.Script.{Meaning};
+ghost use Rattle.session_hall.specs.Closings.{IsClosed, IsDone};
+ghost use Rattle.session_hall.specs.Listings.{AreLeft, listed, shards_at};
 
+use crate::listing::{count_entries, entry_at};
 use admission_book::Replies;
 use hall_rule::Part;
 use session_journal::Journal;
-use session_values::Listed;
+use session_values::{Listed, Value};
 use std::marker::Model;
 
 /// The shards of a hall, by turn.
@@ -81,5 +84,36 @@ impl Closed {
         ensures { result ≡ self.now.callers }
     {
         self.callers
+    }
+
+    // The shards of a table.
+    fn shards_at(&self, table: u32) -> &[Part]
+        requires { table * self.now.shards < length self.now.parts }
+        ensures shards { result.now ≡ shards_at self.now table }
+        ensures closed { IsClosed self.now }
+    {
+        let parts = self.parts.as_slice();
+        let first = table as usize * self.shards as usize;
+        &parts[first..first + self.shards as usize]
+    }
+
+    /// How many entries a table was left with.
+    pub fn len(&self, table: u32) -> u32
+        requires { table * self.now.shards < length self.now.parts }
+        ensures count { result ≡ length (listed self.now table) }
+        ensures left { (m : Meaning) → IsDone m self.now
+            → AreLeft m table (listed self.now table) }
+    {
+        count_entries(self.shards_at(table))
+    }
+
+    /// An entry that a table was left with: a key and what it is bound to, or a member and nil.
+    /// Nothing is searched for: it looks at the lengths of the table's shards.
+    pub fn entry(&self, table: u32, i: u32) -> (Value, Value)
+        requires table { table * self.now.shards < length self.now.parts }
+        requires entry { i < length (listed self.now table) }
+        ensures { slice_get (listed self.now table) i ≡ Some result }
+    {
+        entry_at(self.shards_at(table), i)
     }
 }

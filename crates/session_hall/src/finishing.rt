@@ -1,9 +1,9 @@
 // Entering in the book what was done on its shards.
 
-ghost use Rattle.std.specs.Prelude.{◌≡◌, ◌≤◌};
-ghost use Rattle.session_limits.specs.Limits.{max_symbols};
+ghost use Rattle.std.specs.Prelude.{length};
+ghost use Rattle.session_journal.specs.Script.{HasSite, declared_with};
 ghost use Rattle.session_hall.specs.Callers.{IsCallerOf, StaysCaller};
-ghost use Rattle.session_hall.specs.Calls.{MayFinish, FinishedAs, IsBusyFinish};
+ghost use Rattle.session_hall.specs.Calls.{MayFinish, FinishedAs};
 ghost use Rattle.session_hall.specs.Names.{script_of};
 
 use crate::answers::Finishing;
@@ -11,7 +11,8 @@ use crate::caller::Caller;
 use crate::hall::Hall;
 use crate::stage::{Stage, applied};
 use hall_rule::Held;
-use session_journal::Script;
+use session_journal::{Script, Site};
+use session_values::Value;
 use symbolic_ops::Foresight;
 
 impl<S: Script + Drop> Caller<S> {
@@ -24,7 +25,7 @@ impl<S: Script + Drop> Caller<S> {
         ensures finished { FinishedAs (S.meaning (script_of hall.now)) self.old self.new
             next.now.symbols result }
     {
-        let (t, _, reply) = applied(self.stage);
+        let (t, _, reply) = applied(&self.stage);
         let mut book = match hall.take_book(&mut self.seat) {
             Some(book) => book,
             None => return Finishing::Busy { turn: 0 },
@@ -36,24 +37,22 @@ impl<S: Script + Drop> Caller<S> {
         Finishing::Done
     }
 
-    /// The same with a list that the book takes over: what `next` then holds says nothing, and it
-    /// keeps room for 256 symbols.
-    pub fn try_finish_with(&mut self, hall: &Hall<S>, next: &mut Foresight) -> Finishing
+    /// The same, where the list is what the script declares at a site with these values.
+    pub fn try_finish_at(&mut self, hall: &Hall<S>, site: Site, values: &[Value]) -> Finishing
         requires caller { IsCallerOf S.meaning hall.now self.old }
-        requires may { MayFinish (S.meaning (script_of hall.now)) self.old next.old.symbols }
-        requires room { max_symbols ≤ next.old.room }
+        requires site { HasSite (S.meaning (script_of hall.now)) site (length values.now) }
+        requires may { MayFinish (S.meaning (script_of hall.now)) self.old
+            (declared_with (S.meaning (script_of hall.now)) site values.now) }
         ensures caller { StaysCaller S.meaning hall.now self.old self.new }
         ensures finished { FinishedAs (S.meaning (script_of hall.now)) self.old self.new
-            next.old.symbols result }
-        ensures busy { IsBusyFinish result → next.new ≡ next.old }
-        ensures room { max_symbols ≤ next.new.room }
+            (declared_with (S.meaning (script_of hall.now)) site values.now) result }
     {
-        let (t, _, reply) = applied(self.stage);
+        let (t, _, reply) = applied(&self.stage);
         let mut book = match hall.take_book(&mut self.seat) {
             Some(book) => book,
             None => return Finishing::Busy { turn: 0 },
         };
-        book.done_with(t, reply, next);
+        book.done_at(t, reply, site, values);
         hall.board
             .give_all(&mut self.seat, Held::Register(book), &mut self.hands);
         self.stage = Stage::Serving(t);

@@ -1,6 +1,7 @@
 // The try calls that take the book alone: begin, declare, admit and end.
 
-ghost use Rattle.std.specs.Prelude.{◌≡◌};
+ghost use Rattle.std.specs.Prelude.{◌≡◌, length};
+ghost use Rattle.session_journal.specs.Script.{HasSite, declared_with};
 ghost use Rattle.session_hall.specs.Callers.{IsCallerOf, StaysCaller, foresight_of};
 ghost use Rattle.session_hall.specs.Calls.{ByNote, MayDeclare, MayCall, MayAnswer, BeganAs, DeclaredAs, AdmittedAs, EndedAs};
 ghost use Rattle.session_hall.specs.Names.{script_of};
@@ -12,8 +13,8 @@ use crate::hall::Hall;
 use crate::stage::Stage;
 use admission_book::Admission;
 use hall_rule::Held;
-use session_journal::Script;
-use session_values::{Op, Reply};
+use session_journal::{Script, Site};
+use session_values::{Op, Reply, Value};
 use symbolic_ops::Foresight;
 
 impl<S: Script + Drop> Caller<S> {
@@ -62,6 +63,31 @@ impl<S: Script + Drop> Caller<S> {
             None => return Declared::Busy { turn: 0 },
         };
         book.narrow(t, f);
+        hall.board
+            .give_all(&mut self.seat, Held::Register(book), &mut self.hands);
+        Declared::Yes
+    }
+
+    /// The same, where the list is what the script declares at a site with these values.
+    pub fn try_declare_at(&mut self, hall: &Hall<S>, site: Site, values: &[Value]) -> Declared
+        requires caller { IsCallerOf S.meaning hall.now self.old }
+        requires site { HasSite (S.meaning (script_of hall.now)) site (length values.now) }
+        requires may { ByNote (S.meaning (script_of hall.now)) self.old
+            (MayDeclare (foresight_of self.old)
+            (declared_with (S.meaning (script_of hall.now)) site values.now)) }
+        ensures caller { StaysCaller S.meaning hall.now self.old self.new }
+        ensures declared { DeclaredAs (S.meaning (script_of hall.now)) self.old self.new
+            (declared_with (S.meaning (script_of hall.now)) site values.now) result }
+    {
+        let t = match self.stage {
+            Stage::Serving(t) => t,
+            _ => unreachable!(),
+        };
+        let mut book = match hall.take_book(&mut self.seat) {
+            Some(book) => book,
+            None => return Declared::Busy { turn: 0 },
+        };
+        book.narrow_at(t, site, values);
         hall.board
             .give_all(&mut self.seat, Held::Register(book), &mut self.hands);
         Declared::Yes

@@ -22,23 +22,23 @@ pub enum Stage {
 }
 
 // The ticket and its operation in flight.
-pub(crate) fn in_flight(stage: Stage) -> (u32, Op)
-    requires { IsInFlight stage }
-    ensures { stage ≡ InFlight result.0 result.1 }
+pub(crate) fn in_flight(stage: &Stage) -> (u32, &Op)
+    requires { IsInFlight stage.now }
+    ensures { stage.now ≡ InFlight result.0 result.1.now }
 {
     match stage {
-        Stage::InFlight(t, op) => (t, op),
+        Stage::InFlight(t, op) => (*t, op),
         _ => unreachable!(),
     }
 }
 
 // The ticket, its operation that was done on its shards, and the reply.
-pub(crate) fn applied(stage: Stage) -> (u32, Op, Value)
-    requires { IsApplied stage }
-    ensures { stage ≡ Applied result.0 result.1 result.2 }
+pub(crate) fn applied(stage: &Stage) -> (u32, &Op, Value)
+    requires { IsApplied stage.now }
+    ensures { stage.now ≡ Applied result.0 result.1.now result.2 }
 {
     match stage {
-        Stage::Applied(t, op, reply) => (t, op, reply),
+        Stage::Applied(t, op, reply) => (*t, op, *reply),
         _ => unreachable!(),
     }
 }

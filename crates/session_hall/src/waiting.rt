@@ -1,7 +1,7 @@
 // The waiting calls: each repeats its try call, and waits between tries.
 
-ghost use Rattle.std.specs.Prelude.{◌≡◌, ◌≤◌};
-ghost use Rattle.session_limits.specs.Limits.{max_symbols};
+ghost use Rattle.std.specs.Prelude.{◌≡◌, length};
+ghost use Rattle.session_journal.specs.Script.{HasSite, declared_with};
 ghost use Rattle.turn_board.specs.Boards.{turn_count};
 ghost use Rattle.session_hall.specs.Callers.{IsCallerOf, StaysCaller, foresight_of};
 ghost use Rattle.session_hall.specs.Calls.{ByNote, MayDeclare, MayCall, MayAnswer, MayFinish};
@@ -13,7 +13,7 @@ use crate::answers::{Admitting, Applying, Began, Declared, Ending, Finishing};
 use crate::caller::Caller;
 use crate::hall::Hall;
 use crate::waits::Waits;
-use session_journal::Script;
+use session_journal::{Script, Site};
 use session_values::{Op, Reply, Value};
 use std::sync::Wait;
 use symbolic_ops::Foresight;
@@ -78,6 +78,34 @@ impl<S: Script + Drop> Caller<S> {
         waits.reset();
         for _ in rt.forever() {
             match self.try_declare(hall, f) {
+                Declared::Yes => return,
+                Declared::Busy { turn } => waits.until_free(hall, turn),
+            }
+        }
+        unreachable!()
+    }
+
+    /// The same, where the list is what the script declares at a site with these values.
+    pub fn declare_at<R: Wait>(
+        &mut self,
+        rt: &R,
+        hall: &Hall<S>,
+        site: Site,
+        values: &[Value],
+        waits: &mut Waits,
+    )
+        requires caller { IsCallerOf S.meaning hall.now self.old }
+        requires site { HasSite (S.meaning (script_of hall.now)) site (length values.now) }
+        requires may { ByNote (S.meaning (script_of hall.now)) self.old
+            (MayDeclare (foresight_of self.old)
+            (declared_with (S.meaning (script_of hall.now)) site values.now)) }
+        ensures caller { StaysCaller S.meaning hall.now self.old self.new }
+        ensures declared { DeclaredAfter (S.meaning (script_of hall.now)) self.old self.new
+            (declared_with (S.meaning (script_of hall.now)) site values.now) }
+    {
+        waits.reset();
+        for _ in rt.forever() {
+            match self.try_declare_at(hall, site, values) {
                 Declared::Yes => return,
                 Declared::Busy { turn } => waits.until_free(hall, turn),
             }
@@ -182,26 +210,26 @@ impl<S: Script + Drop> Caller<S> {
         unreachable!()
     }
 
-    /// The same with a list that the book takes over: what `next` then holds says nothing, and it
-    /// keeps room for 256 symbols.
-    pub fn finish_taking<R: Wait>(
+    /// The same, where the list is what the script declares at a site with these values.
+    pub fn finish_at<R: Wait>(
         &mut self,
         rt: &R,
         hall: &Hall<S>,
-        next: &mut Foresight,
+        site: Site,
+        values: &[Value],
         waits: &mut Waits,
     )
         requires caller { IsCallerOf S.meaning hall.now self.old }
-        requires may { MayFinish (S.meaning (script_of hall.now)) self.old next.old.symbols }
-        requires room { max_symbols ≤ next.old.room }
+        requires site { HasSite (S.meaning (script_of hall.now)) site (length values.now) }
+        requires may { MayFinish (S.meaning (script_of hall.now)) self.old
+            (declared_with (S.meaning (script_of hall.now)) site values.now) }
         ensures caller { StaysCaller S.meaning hall.now self.old self.new }
         ensures finished { FinishedAfter (S.meaning (script_of hall.now)) self.old self.new
-            next.old.symbols }
-        ensures room { max_symbols ≤ next.new.room }
+            (declared_with (S.meaning (script_of hall.now)) site values.now) }
     {
         waits.reset();
         for _ in rt.forever() {
-            match self.try_finish_with(hall, next) {
+            match self.try_finish_at(hall, site, values) {
                 Finishing::Done => return,
                 Finishing::Busy { turn } => waits.until_free(hall, turn),
             }

@@ -7,7 +7,7 @@ pub overflow_sub-result : goal.overflow_sub-result
 overflow_sub-result c =
     let first = c.place_of-first.ensures in
     let many = c.span_of.ensures in
-    let few : place c.args.shards c.args.op + span c.args.shards c.args.op ≤ 57 = c.requires.few.2 in
+    let few : place c.args.shards c.args.op.now + span c.args.shards c.args.op.now ≤ 57 = c.requires.few.2 in
     let low : 1 + c.place_of-first.result < 64 = omega (arith, first, few) in
     let high : 1 + c.place_of-first.result + c.span_of.result < 64 = omega (arith, first, many, few) in
     let rises : 1 + c.place_of-first.result ≤ 1 + c.place_of-first.result + c.span_of.result = omega arith in
