@@ -1,5 +1,6 @@
 pub mod Carry
 pub mod Extends
+pub mod FactLemmas
 pub mod Law
 pub mod Programs
 pub mod SamePoints

@@ -1,3 +1,4 @@
+pub mod Facts
 pub mod Program
 pub mod Promises
 pub mod Shown

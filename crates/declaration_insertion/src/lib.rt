@@ -1,6 +1,7 @@
 //! Handlers with a declaration at each point: what they may still call.
 #![tactic(auto)]
 
+mod facts;
 pub mod laws;
 mod printing;
 mod program;

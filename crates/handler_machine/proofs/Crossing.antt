@@ -2,6 +2,7 @@
 use denote.Ref.{NamedLft}
 use denote.Param.Send.{IsSend, IsSync, sendable}
 use denote.Param.SendFields.{as_row_sync}
+use Rattle.std.proofs.Crossing.{Vec-sync}
 use Rattle.session_values.proofs.Listed.TheSendSync as lists
 use Rattle.session_values.proofs.Boxed.TheSendSync as boxes
 use Rattle.syntax_trees.specs.contracts.expr.Expr as expr
@@ -30,7 +31,9 @@ use Rattle.handler_check.specs.contracts.checked.Checked as checked
 use Rattle.handler_check.proofs.bounds.HandlerBounds.TheSendSync as handler_bounds
 use Rattle.may_use_analysis.proofs.later.Later.TheSendSync as later
 use Rattle.declaration_insertion.specs.contracts.program.Program as program
+use Rattle.declaration_insertion.proofs.facts.PointFacts.TheSendSync as point_facts
 use Rattle.request_files.proofs.requests.Requests.TheSendSync as requests
+use Rattle.opening_tables.proofs.opening.Opening.TheSendSync as opening
 use Rattle.handler_machine.specs.contracts.scripts.Scripts as scripts
 
 expr_field : IsSync (expr.the_field).row
@@ -91,10 +94,10 @@ pub checked_sync : IsSync checked.the_row
 checked_sync = search (sendable, lists.the_sync, file_field, checked_handler_sync, handler_bounds.the_sync) depth 20
 
 pub program_sync : IsSync program.the_row
-program_sync = search (sendable, checked_sync, later.the_sync) depth 20
+program_sync = search (sendable, checked_sync, later.the_sync, Vec-sync, lists.the_sync, point_facts.the_sync) depth 20
 
 pub scripts_send : (κ : NamedLft) → IsSend (scripts.the_row κ)
-scripts_send κ = search (sendable, checked_sync, program_sync, requests.the_sync) depth 20
+scripts_send κ = search (sendable, checked_sync, program_sync, opening.the_sync, requests.the_sync) depth 20
 
 pub scripts_sync : (κ : NamedLft) → IsSync (scripts.the_row κ)
-scripts_sync κ = search (sendable, checked_sync, program_sync, requests.the_sync) depth 20
+scripts_sync κ = search (sendable, checked_sync, program_sync, opening.the_sync, requests.the_sync) depth 20

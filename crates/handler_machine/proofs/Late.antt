@@ -1,10 +1,10 @@
 -- A desk that is told of a declaration later than its point is passed.
-use Rattle.std.proofs.Common.{◌≡◌, ◌∙◌, ℕ, Bool, true, false, List, Result, Ok, Err, IfOk, MatchResult, refl, sym, ap, subst}
+use Rattle.std.proofs.Common.{◌≡◌, ◌∙◌, Bool, true, false, List, Result, Ok, Err, IfOk, MatchResult, refl, sym, ap, subst}
 use Rattle.session_values.specs.declared.value.Value.{Value}
 use Rattle.session_values.specs.Values.{IsValue}
 use Rattle.symbolic_ops.specs.declared.symbol.Symbol.{Symbol}
 use Rattle.symbolic_ops.proofs.Above.{covered_through}
-use Rattle.session_journal.specs.Desks.{DeskView, MayNarrow, with_present}
+use Rattle.session_journal.specs.Desks.{DeskView, MayNarrow}
 use Rattle.session_journal.specs.Script.{Meaning}
 use Rattle.check_meaning.specs.Ahead.{Ahead}
 use Rattle.handler_machine.specs.Serving.{Course, IsServing, MayTell, once_told}
@@ -14,19 +14,9 @@ pub is_told : (late : Bool) (f : List Symbol) (d : DeskView) (P : DeskView → T
 is_told true f d P e p = cc
 is_told false f d P e p = p
 
--- a list that is the same where the desk hasn't been told of it
-pub told_same : (late : Bool) (f g : List Symbol) (d : DeskView) → (late ≡ true → f ≡ g) → once_told late f d ≡ once_told late g d
-told_same true f g d e = ap (λ (l : List Symbol). with_present d l) (e refl)
-told_same false f g d e = refl
-
-pub may_same : (m : Meaning) (late : Bool) (f g : List Symbol) (d : DeskView) → (late ≡ true → f ≡ g) → MayTell m late g d → MayTell m late f d
-may_same m true f g d e h = λ k. subst (λ (l : List Symbol). MayNarrow m d.ticket d.entries d.present l) (sym (e refl)) (h k)
-may_same m false f g d e h = λ k. cc
-
--- a walk that has told its desk of such a list goes on with that list
-pub serving_told : (c : Course) (late : Bool) (f g : List Symbol) (d new : DeskView) (room same : ℕ) (ahead : Ahead) → (late ≡ true → f ≡ g) → new ≡ once_told late f d → same ≡ room → IsServing c (once_told late g d) room ahead → IsServing c new same ahead
-serving_told c late f g d new room same ahead e told r s =
-    subst (λ (z : DeskView). IsServing c z same ahead) (sym (told ∙ told_same late f g d e)) (subst (λ (n : ℕ). IsServing c (once_told late g d) n ahead) (sym r) s)
+-- a walk that has told its desk of the list that it kept goes on with it
+pub serving_told : (c : Course) (late : Bool) (f g : List Symbol) (d new : DeskView) (ahead : Ahead) → f ≡ g → new ≡ once_told late f d → IsServing c (once_told late g d) ahead → IsServing c new ahead
+serving_told c late f g d new ahead e told s = subst (λ (z : DeskView). IsServing c z ahead) (sym (told ∙ ap (λ (l : List Symbol). once_told late l d) e)) s
 
 pub nothing_to_tell : (m : Meaning) (late : Bool) (f : List Symbol) (d : DeskView) → late ≡ false → MayTell m late f d
 nothing_to_tell m true f d e = cc

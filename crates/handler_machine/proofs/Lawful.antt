@@ -100,7 +100,7 @@ every_handler p is h args held = go (nat_lt h (length p.file.handlers)) refl
         (subst (λ (l : List (List Symbol)). ArePromised Finish (listed l) (env_of args)) (sym lists) (nothing_promised (env_of args)))
 
 -- ---- the script
-module _ (s : ScriptsView) (k : KeepsScripts s.program s.requests) where
+module _ (s : ScriptsView) (k : KeepsScripts s) where
   abbrev file : File
   file = s.program.file
 
@@ -139,6 +139,7 @@ module _ (s : ScriptsView) (k : KeepsScripts s.program s.requests) where
   pub is_script : IsScript (meaning s)
   is_script = record {
     opening = refl;
+    opened = k.opening;
     fits = λ t replies op is. calls_fit (shape_of file) 32 (code t) (env t) (within (request_at s.requests t).handler).within replies op is;
     values = λ t replies held. held_next (next (code t) (env t) replies) (keeps_values (shape_of file) 32 (code t) (request_at s.requests t).args (within (request_at s.requests t).handler).within (values_at file s.requests t k.servable.each) replies held);
     ends = λ t. ends_by (code t) (env t);

@@ -6,3 +6,5 @@ pub mod Lawful
 pub mod Places
 pub mod Promised
 pub mod Served
+pub mod Sites
+pub mod Unchanged

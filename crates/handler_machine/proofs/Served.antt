@@ -6,20 +6,17 @@ use Rattle.session_values.specs.declared.reply.Reply.{Reply}
 use Rattle.session_values.specs.declared.value.Value.{Value}
 use Rattle.session_values.specs.Dialogue.{Calls as NextCalls, Answers as NextAnswers, Dialogue, Entry, Follows, replies}
 use Rattle.session_values.specs.Values.{IsValue}
-use Rattle.symbolic_ops.specs.declared.arg.Arg.{Arg}
 use Rattle.session_values.proofs.Entries.{follows_more, length_replies}
-use Rattle.symbolic_ops.specs.declared.arg.Arg.TheVariants.{Known, Var, Any}
 use Rattle.symbolic_ops.specs.declared.symbol.Symbol.{Symbol}
-use Rattle.symbolic_ops.specs.Instantiate.{ArgWithin, IsWithin}
 use Rattle.symbolic_ops.specs.Matching.{Covered, Matches}
 use Rattle.session_journal.specs.Desks.{DeskView, MayFinish, MayNarrow, due_of, finished, next_of, with_end, with_entry, with_present, with_waiting}
-use Rattle.session_journal.specs.Served.{IsServed}
+use Rattle.session_journal.specs.Served.{IsServed, IsStopped}
 use Rattle.check_meaning.specs.Ahead.{Ahead, asked, passing}
 use Rattle.check_meaning.specs.Dialogue.{Env, Place, Outcome, Calls, after, ended, last_place, last_replied, pass, passed_by}
 use Rattle.check_meaning.proofs.Runs.{after_none, ended_after}
 use Rattle.machine_walk.proofs.Asked.{replies_more}
 use Rattle.declaration_insertion.specs.Promises.{Declarations, IsCoveredChain, list_at}
-use Rattle.handler_machine.specs.Serving.{Course, Gives, Halted, IsAwaiting, IsServing, Promises, Serving, replied_count}
+use Rattle.handler_machine.specs.Serving.{Course, Declares, Gives, IsAwaiting, IsServing, Promises, Serving, replied_count}
 use Rattle.handler_machine.proofs.Places.{after_snoc, count_append, last_append, none_replied, passed_after, replied_append}
 
 values_more : (es : List Entry) (e : Entry) → AllByRecursion IsValue (replies es) → IsValue e.reply → AllByRecursion IsValue (replies (es ++ e ∷ []))
@@ -76,20 +73,11 @@ module _ (c : Course) (first : Place) (g : Gives c.meaning c.start.ticket c.decl
       sym (g.told rs ∙ ap (λ (zs : List Place). list_at c.declared (last_replied first zs)) e ∙ ap (list_at c.declared) last)
 
 -- ---- a point that is passed
-more_arg : (a : Arg) (n m : ℕ) → n ≤ m → ArgWithin n a → ArgWithin m a
-more_arg (Known v) n m l h = tt
-more_arg (Var x) n m l h = omega arith
-more_arg Any n m l h = tt
-
-pub vars_more : (list : List Symbol) (n m : ℕ) → n ≤ m → AllByRecursion (λ s. IsWithin n s) list → AllByRecursion (λ s. IsWithin m s) list
-vars_more [] n m l h = tt
-vars_more (s ∷ list) n m l h = ((more_arg s.key n m l h.0.0, more_arg s.value n m l h.0.1), vars_more list n m l h.1)
-
 middle : (P : Place → Type 0) (ps qs : List Place) (at : Place) → AllByRecursion P (ps ++ (at ∷ qs)) → P at
 middle P [] qs at h = h.0
 middle P (p ∷ ps) qs at h = middle P ps qs at h.1
 
-module _ (c : Course) (now : DeskView) (room : ℕ) (es : List Entry) (w : Option Entry) (point : ℕ) (env : Env) (replied : Bool) (next : Ahead) (s : Serving c now room es w (passing point env replied next)) where
+module _ (c : Course) (now : DeskView) (es : List Entry) (w : Option Entry) (point : ℕ) (env : Env) (replied : Bool) (next : Ahead) (s : Serving c now es w (passing point env replied next)) where
   pub point_within : point < c.points
   point_within =
       let at : Place = record { point = point; env = env; replied = replied } in
@@ -97,29 +85,9 @@ module _ (c : Course) (now : DeskView) (room : ℕ) (es : List Entry) (w : Optio
       let places : passed_by (c.whole (replies es)) ≡ s.passed ++ (at ∷ qs) = places_of c s.first s.gives s.promises (replies es) s.passed at next s.is_ahead in
       middle (λ (p : Place). p.point < c.points) s.passed qs at (subst (AllByRecursion (λ (p : Place). p.point < c.points)) places (s.promises.within (replies es)))
 
--- another list may take the place of the one with the room
-pub roomed : (c : Course) (now : DeskView) (room same : ℕ) (es : List Entry) (w : Option Entry) (ahead : Ahead) → 256 ≤ same → Serving c now room es w ahead → Serving c now same es w ahead
-roomed c now room same es w ahead roomy s = record {
-  first = s.first;
-  gives = s.gives;
-  promises = s.promises;
-  passed = s.passed;
-  is_ahead = s.is_ahead;
-  follows = s.follows;
-  values = s.values;
-  counts = s.counts;
-  present = s.present;
-  waits = s.waits;
-  going = s.going;
-  ticket = s.ticket;
-  home = s.home;
-  sure = s.sure;
-  roomy = roomy;
-}
-
 -- ---- the calls
-module _ (c : Course) (now : DeskView) (room : ℕ) where
-  module _ (op : Op) (next : Value → Ahead) (s : IsServing c now room (asked op next)) where
+module _ (c : Course) (now : DeskView) where
+  module _ (op : Op) (next : Value → Ahead) (s : IsServing c now (asked op next)) where
     whole_calls : c.whole (replies now.entries) ≡ Calls s.passed op
     whole_calls = ap c.whole (sym (append-nil (replies now.entries))) ∙ s.is_ahead [] ∙ ap (λ (zs : List Place). Calls zs op) (append-nil s.passed)
 
@@ -132,10 +100,10 @@ module _ (c : Course) (now : DeskView) (room : ℕ) where
     pub call_matches : Matches now.present op
     call_matches = subst (λ (f : List Symbol). Matches f op) (sym s.present) (s.promises.matched (replies now.entries) s.passed op s.values whole_calls)
 
-    pub call_waits : (new : DeskView) (v : Value) → IsValue v → new ≡ with_waiting now op v → IsAwaiting c new room (next v)
+    pub call_waits : (new : DeskView) (v : Value) → IsValue v → new ≡ with_waiting now op v → IsAwaiting c new (next v)
     call_waits new v held is =
         let e : Entry = record { op = op; reply = v } in
-        subst (λ (d : DeskView). IsAwaiting c d room (next v)) (sym is) (
+        subst (λ (d : DeskView). IsAwaiting c d (next v)) (sym is) (
           e,
           record {
             first = s.first;
@@ -152,40 +120,37 @@ module _ (c : Course) (now : DeskView) (room : ℕ) where
             ticket = s.ticket;
             home = s.home;
             sure = s.sure;
-            roomy = s.roomy;
+            declares = s.declares;
           },
         )
 
-    pub call_halts : (new : DeskView) → new ≡ now → now.sure ≡ false → Halted c new room
+    pub call_halts : (new : DeskView) → new ≡ now → now.sure ≡ false → IsStopped c.meaning c.start new
     call_halts new is unsure =
-        subst (λ (d : DeskView). Halted c d room) (sym is) (record {
-          stopped = record {
-            follows = subst (λ (f : Dialogue). Follows f now.entries) (λ i rs. sym (s.gives.next rs) i) s.follows;
-            wanted = op;
-            calls = s.gives.next (replies now.entries) ∙ ap ended whole_calls;
-            due = s.present ∙ sym (s.gives.due (replies now.entries) ∙ ap (λ (o : Outcome). list_at c.declared (last_place s.first (passed_by o))) whole_calls);
-            idle = s.waits;
-            going = s.going;
-            ticket_is = s.ticket;
-            home_is = s.home;
-            sure_is = s.sure;
-            unsure = sym s.sure ∙ unsure;
-          };
-          roomy = s.roomy;
+        subst (λ (d : DeskView). IsStopped c.meaning c.start d) (sym is) (record {
+          follows = subst (λ (f : Dialogue). Follows f now.entries) (λ i rs. sym (s.gives.next rs) i) s.follows;
+          wanted = op;
+          calls = s.gives.next (replies now.entries) ∙ ap ended whole_calls;
+          due = s.present ∙ sym (s.gives.due (replies now.entries) ∙ ap (λ (o : Outcome). list_at c.declared (last_place s.first (passed_by o))) whole_calls);
+          idle = s.waits;
+          going = s.going;
+          ticket_is = s.ticket;
+          home_is = s.home;
+          sure_is = s.sure;
+          unsure = sym s.sure ∙ unsure;
         })
 
   module _ (point : ℕ) (env : Env) (next : Ahead) (f : List Symbol) where
-    module _ (s : IsServing c now room (passing point env false next)) (is_list : f ≡ list_at c.declared (record { point = point; env = env; replied = false })) where
+    module _ (s : IsServing c now (passing point env false next)) (is_list : f ≡ list_at c.declared (record { point = point; env = env; replied = false })) where
       pub declare_may : MayNarrow c.meaning now.ticket now.entries now.present f
       declare_may =
           let at : Place = record { point = point; env = env; replied = false } in
           let h : MayNarrow c.meaning c.start.ticket now.entries now.present (list_at c.declared at) = may_narrow c s.first s.gives s.promises now.entries now.present s.passed at next s.values s.is_ahead s.present in
           subst (λ (t : ℕ). MayNarrow c.meaning t now.entries now.present f) (sym s.ticket) (subst (λ (g : List Symbol). MayNarrow c.meaning c.start.ticket now.entries now.present g) (sym is_list) h)
 
-      pub declare_serves : (new : DeskView) → new ≡ with_present now f → IsServing c new room next
+      pub declare_serves : (new : DeskView) → new ≡ with_present now f → IsServing c new next
       declare_serves new is =
           let at : Place = record { point = point; env = env; replied = false } in
-          subst (λ (d : DeskView). IsServing c d room next) (sym is) (record {
+          subst (λ (d : DeskView). IsServing c d next) (sym is) (record {
             first = s.first;
             gives = s.gives;
             promises = s.promises;
@@ -200,10 +165,10 @@ module _ (c : Course) (now : DeskView) (room : ℕ) where
             ticket = s.ticket;
             home = s.home;
             sure = s.sure;
-            roomy = s.roomy;
+            declares = s.declares;
           })
 
-    module _ (w : IsAwaiting c now room (passing point env true next)) (is_list : f ≡ list_at c.declared (record { point = point; env = env; replied = true })) where
+    module _ (w : IsAwaiting c now (passing point env true next)) (is_list : f ≡ list_at c.declared (record { point = point; env = env; replied = true })) where
       pub finish_may : MayFinish c.meaning now now.waiting f
       finish_may =
           let s = w.1 in
@@ -218,12 +183,12 @@ module _ (c : Course) (now : DeskView) (room : ℕ) where
       pub finish_present : (new : DeskView) → new ≡ finished now now.waiting f → new.present ≡ f
       finish_present new is = ap (λ (d : DeskView). d.present) (is ∙ ap (λ (x : Option Entry). finished now x f) w.1.waits)
 
-      pub finish_serves : (new : DeskView) → new ≡ finished now now.waiting f → IsServing c new room next
+      pub finish_serves : (new : DeskView) → new ≡ finished now now.waiting f → IsServing c new next
       finish_serves new is =
           let s = w.1 in
           let at : Place = record { point = point; env = env; replied = true } in
           let is_new : new ≡ with_entry now w.0 f = is ∙ ap (λ (x : Option Entry). finished now x f) s.waits in
-          subst (λ (d : DeskView). IsServing c d room next) (sym is_new) (record {
+          subst (λ (d : DeskView). IsServing c d next) (sym is_new) (record {
             first = s.first;
             gives = s.gives;
             promises = s.promises;
@@ -238,24 +203,24 @@ module _ (c : Course) (now : DeskView) (room : ℕ) where
             ticket = s.ticket;
             home = s.home;
             sure = s.sure;
-            roomy = s.roomy;
+            declares = s.declares;
           })
 
 -- where nothing is declared any more, nothing is at the next point either, and the desk is as if it were told
-module _ (c : Course) (now : DeskView) (room point : ℕ) (env : Env) (next : Ahead) (s : IsServing c now room (passing point env false next)) (none : now.present ≡ []) where
+module _ (c : Course) (now : DeskView) (point : ℕ) (env : Env) (next : Ahead) (s : IsServing c now (passing point env false next)) (none : now.present ≡ []) where
   abbrev here : Place
   here = record { point = point; env = env; replied = false }
 
   nothing_here : list_at c.declared here ≡ []
-  nothing_here = covered_by_none (list_at c.declared here) (subst (Covered (list_at c.declared here)) none (declare_may c now room point env next (list_at c.declared here) s refl).covered)
+  nothing_here = covered_by_none (list_at c.declared here) (subst (Covered (list_at c.declared here)) none (declare_may c now point env next (list_at c.declared here) s refl).covered)
 
-  pub passes_settled : IsServing c now room next
-  passes_settled = declare_serves c now room point env next [] s (sym nothing_here) now (ap (with_present now) none)
+  pub passes_settled : IsServing c now next
+  passes_settled = declare_serves c now point env next [] s (sym nothing_here) now (ap (with_present now) none)
 
 -- ---- the beginning and the end
-pub serving_first : (c : Course) (room : ℕ) (first : Place) → Gives c.meaning c.start.ticket c.declared first c.whole → Promises c.points c.declared first c.whole → c.start.entries ≡ [] → c.start.waiting ≡ None → c.start.ended ≡ false → c.start.present ≡ list_at c.declared first → 256 ≤ room
-    → IsServing c c.start room c.whole
-serving_first c room first g p none idle going present roomy = record {
+pub serving_first : (c : Course) (first : Place) → Gives c.meaning c.start.ticket c.declared first c.whole → Declares c.meaning c.part c.variables c.points c.declared → Promises c.points c.declared first c.whole → c.start.entries ≡ [] → c.start.waiting ≡ None → c.start.ended ≡ false → c.start.present ≡ list_at c.declared first
+    → IsServing c c.start c.whole
+serving_first c first g declares p none idle going present = record {
   first = first;
   gives = g;
   promises = p;
@@ -270,10 +235,10 @@ serving_first c room first g p none idle going present roomy = record {
   ticket = refl;
   home = refl;
   sure = refl;
-  roomy = roomy;
+  declares = declares;
 }
 
-module _ (c : Course) (now : DeskView) (room : ℕ) (ahead : Ahead) (r : Reply) (s : IsServing c now room ahead) (is : ended (ahead []) ≡ NextAnswers r) where
+module _ (c : Course) (now : DeskView) (ahead : Ahead) (r : Reply) (s : IsServing c now ahead) (is : ended (ahead []) ≡ NextAnswers r) where
   whole_ends : c.whole (replies now.entries) ≡ after s.passed (ahead [])
   whole_ends = ap c.whole (sym (append-nil (replies now.entries))) ∙ s.is_ahead []
 

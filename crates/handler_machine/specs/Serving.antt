@@ -9,12 +9,11 @@ use Rattle.session_values.specs.Values.{IsValue}
 use Rattle.symbolic_ops.specs.declared.symbol.Symbol.{Symbol}
 use Rattle.symbolic_ops.specs.Matching.{HasNoVar, Matches}
 use Rattle.session_journal.specs.Desks.{DeskView, MayNarrow, with_present}
-use Rattle.session_journal.specs.Script.{Meaning}
-use Rattle.session_journal.specs.Served.{IsStopped}
+use Rattle.session_journal.specs.Script.{HasSite, Meaning}
 use Rattle.check_meaning.specs.Ahead.{Ahead}
 use Rattle.check_meaning.specs.Code.{points}
-use Rattle.handler_check.specs.Resolved.{code_at}
-use Rattle.check_meaning.specs.Dialogue.{Place, Calls, after, ended, env_of, last_place, last_replied, passed_by}
+use Rattle.handler_check.specs.Resolved.{code_at, variables_at}
+use Rattle.check_meaning.specs.Dialogue.{Env, Place, Calls, after, ended, env_of, last_place, last_replied, passed_by}
 use Rattle.declaration_insertion.specs.Program.{ProgramView, declared_at}
 use Rattle.declaration_insertion.specs.Promises.{Declarations, IsCoveredChain, list_at, symbol_at}
 
@@ -31,6 +30,19 @@ pub record Gives (m : Meaning) (t : ℕ) (declared : Declarations) (first : Plac
       → m.told t rs ≡ list_at declared (last_replied first (passed_by (whole rs)))
   pub due : (rs : List Value)
       → m.due t rs ≡ list_at declared (last_place first (passed_by (whole rs)))
+
+-- The script has so many points of this part, each with so many variables, and these lists are what
+-- it declares at them.
+pub record Declares (m : Meaning) (part variables points : ℕ)
+    (declared : Declarations) : Type 0 where
+  pub sites : (point : ℕ) → point < points
+      → HasSite m (record { part = part; point = point }) variables
+  pub lists : (point : ℕ) → point < points → m.declared part point ≡ declared point
+
+-- the script declares at the points of this handler what the program does
+abbrev pub DeclaresHandler : Meaning → ProgramView → ℕ → Type 0
+DeclaresHandler m p h = Declares m h (length (variables_at p.file h)) (1 + points (code_at p.file h))
+    (declared_at p h)
 
 -- What makes the declarations of a run lawful at each desk.
 pub record Promises (points : ℕ) (declared : Declarations) (first : Place)
@@ -49,11 +61,13 @@ pub record Promises (points : ℕ) (declared : Declarations) (first : Place)
       → Matches (list_at declared (last_place first front)) op
   pub counted : (rs : List Value) → replied_count (passed_by (whole rs)) ≤ length rs
 
--- what a walk is about: the script's meaning, the desk at the ticket's beginning, the points of the
--- handler, their declarations, and the whole run
+-- what a walk is about: the script's meaning, the desk at the ticket's beginning, the handler's
+-- number, how many variables and points it has, their declarations, and the whole run
 pub record Course : Type 0 where
   pub meaning : Meaning
   pub start : DeskView
+  pub part : ℕ
+  pub variables : ℕ
   pub points : ℕ
   pub declared : Declarations
   pub whole : Ahead
@@ -63,16 +77,19 @@ abbrev pub course_of : Meaning → DeskView → ProgramView → ℕ → Ahead �
 course_of m start p h whole = record {
   meaning = m;
   start = start;
+  part = h;
+  variables = length (variables_at p.file h);
   points = 1 + points (code_at p.file h);
   declared = declared_at p h;
   whole = whole;
 }
 
 -- a desk that has come so far, after these entries, and what is ahead of it
-pub record Serving (c : Course) (now : DeskView) (room : ℕ) (entries : List Entry)
+pub record Serving (c : Course) (now : DeskView) (entries : List Entry)
     (waiting : Option Entry) (ahead : Ahead) : Type 0 where
   pub first : Place
   pub gives : Gives c.meaning c.start.ticket c.declared first c.whole
+  pub declares : Declares c.meaning c.part c.variables c.points c.declared
   pub promises : Promises c.points c.declared first c.whole
   pub passed : List Place
   pub is_ahead : (more : List Value) → c.whole (replies entries ++ more) ≡ after passed (ahead more)
@@ -85,16 +102,14 @@ pub record Serving (c : Course) (now : DeskView) (room : ℕ) (entries : List En
   pub ticket : now.ticket ≡ c.start.ticket
   pub home : now.home ≡ c.start.home
   pub sure : now.sure ≡ c.start.sure
-  pub roomy : max_symbols ≤ room
 
 -- no operation waits
-abbrev pub IsServing : Course → DeskView → ℕ → Ahead → Type 0
-IsServing c now room ahead = Serving c now room now.entries None ahead
+abbrev pub IsServing : Course → DeskView → Ahead → Type 0
+IsServing c now ahead = Serving c now now.entries None ahead
 
 -- an operation waits with its reply
-abbrev pub IsAwaiting : Course → DeskView → ℕ → Ahead → Type 0
-IsAwaiting c now room ahead =
-    (e : Entry) × Serving c now room (now.entries ++ e ∷ []) (Some e) ahead
+abbrev pub IsAwaiting : Course → DeskView → Ahead → Type 0
+IsAwaiting c now ahead = (e : Entry) × Serving c now (now.entries ++ e ∷ []) (Some e) ahead
 
 -- where nothing is declared any more, nothing more may come of the ticket
 abbrev pub IsSettled : Bool → DeskView → Type 0
@@ -108,11 +123,10 @@ list_with declared point values = map (symbol_at (env_of values)) (declared poin
 abbrev pub once_told : Bool → List Symbol → DeskView → DeskView
 once_told late f now = with_present now (if late then f else now.present)
 
+-- the desk has this list with some values of the variables
+abbrev pub HasListOf : List Symbol → DeskView → Type 0
+HasListOf list now = (env : Env) × (now.present ≡ map (symbol_at env) list)
+
 -- where the desk hasn't been told of this list, its ticket may narrow to it
 abbrev pub MayTell : Meaning → Bool → List Symbol → DeskView → Type 0
 MayTell m late f now = late ≡ true → MayNarrow m now.ticket now.entries now.present f
-
--- a desk that was stopped as the call that wanted memory left it
-pub record Halted (c : Course) (now : DeskView) (room : ℕ) : Type 0 where
-  pub stopped : IsStopped c.meaning c.start now
-  pub roomy : max_symbols ≤ room

@@ -1,7 +1,6 @@
 //! Handlers run on what answers their operations, and served at desks.
 #![tactic(auto)]
 
-mod kind_counts;
 pub mod laws;
 mod narrowing;
 mod on_tables;

@@ -1,28 +1,33 @@
 // The requests of a program as a script.
 
 ghost use Rattle.std.specs.Prelude.{◌≡◌};
+ghost use Rattle.opening_tables.specs.Opening.{IsOpening};
+ghost use Rattle.handler_check.specs.Resolved.{shape_of};
 ghost use Rattle.request_files.specs.Servable.{IsServable};
 
 use crate::serving::serve_one;
 use crate::sums::{args_of, count_adds, count_calls, handler_of};
 use declaration_insertion::Program;
 use handler_check::Checked;
-use machine_walk::put_args;
+use machine_walk::{put_args, set_up};
+use opening_tables::Opening;
 use request_files::Requests;
-use session_journal::{Desk, Scratch, Script, Serves};
+use session_journal::{Desk, Scratch, Script, Serves, Site};
 use session_limits::MAX_VARIABLES;
 use session_values::{NoMemory, Value};
 use std::marker::Model;
 use std::sync::Wait;
 use std::thread::Threads;
-use symbolic_ops::{Foresight, instantiate};
+use symbolic_ops::{Foresight, Symbol, instantiate};
 
-/// A program and the requests that were read for it: each request is a ticket.
+/// A program, the entries with which its tables open, and the requests that were read for it: each
+/// request is a ticket.
 #[derive(Drop)]
 pub struct Scripts<'a> {
     program: &'a Program,
     // The program without its declarations.
     checked: &'a Checked,
+    opening: &'a Opening,
     requests: &'a Requests,
 }
 
@@ -36,22 +41,36 @@ impl<'a> Model for Scripts<'a> {
 
     ghost coded = { Prim.hlevel (codes, stmt.the_row.coded) };
 
-    ghost view = { λ s. record { program = s.program.now; requests = s.requests.now } };
+    ghost view = { λ s. record {
+      program = s.program.now;
+      opening = s.opening.now;
+      requests = s.requests.now;
+    } };
 
-    ghost invariant = { λ s. KeepsScripts s.program.now s.requests.now
-        × (s.checked.now ≡ s.program.now.file) };
+    ghost invariant = { λ s. KeepsScripts (record {
+      program = s.program.now;
+      opening = s.opening.now;
+      requests = s.requests.now;
+    }) × (s.checked.now ≡ s.program.now.file) };
 }
 
 impl<'a> Scripts<'a> {
-    /// The script of requests that were read for this program.
-    pub fn over(program: &'a Program, requests: &'a Requests) -> Scripts<'a>
-        requires { IsServable program.now.file requests.now }
-        ensures { result ≡ record { program = program.now; requests = requests.now } }
+    /// The script of requests that were read for this program, over tables that open with these
+    /// entries.
+    pub fn over(program: &'a Program, opening: &'a Opening, requests: &'a Requests) -> Scripts<'a>
+        requires opening { IsOpening (shape_of program.now.file) opening.now }
+        requires servable { IsServable program.now.file requests.now }
+        ensures { result ≡ record {
+          program = program.now;
+          opening = opening.now;
+          requests = requests.now;
+        } }
     {
         let checked = program.checked();
         Scripts {
             program,
             checked,
+            opening,
             requests,
         }
     }
@@ -74,12 +93,32 @@ impl<'a> Script for Scripts<'a> {
         instantiate(list, &env, out);
     }
 
+    fn entry_site(&self, t: u32, values: &mut [Value]) -> Option<Site> {
+        set_up(values, args_of(self.requests, t));
+        Some(Site {
+            part: handler_of(self.requests, t),
+            point: 0,
+        })
+    }
+
+    fn declaration(&self, site: Site) -> &[Symbol] {
+        self.program.declaration(site.part, site.point)
+    }
+
     fn calls(&self) -> u32 {
         count_calls(self.checked, self.requests)
     }
 
     fn room(&self, table: u32) -> u32 {
         count_adds(self.checked, self.requests, table)
+    }
+
+    fn opening_len(&self, table: u32) -> u32 {
+        self.opening.len(table)
+    }
+
+    fn opening_entry(&self, table: u32, i: u32) -> (Value, Value) {
+        self.opening.entry(table, i)
     }
 }
 

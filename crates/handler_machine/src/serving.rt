@@ -2,7 +2,7 @@
 
 ghost use Rattle.std.specs.Prelude.{◌≡◌, ◌+◌, ◌≤◌, ◌<◌, [], None, false, length, IfOk, OnErr};
 ghost use Rattle.std.specs.List.{AllByRecursion};
-ghost use Rattle.session_limits.specs.Limits.{max_symbols, max_variables};
+ghost use Rattle.session_limits.specs.Limits.{max_variables};
 ghost use Rattle.session_values.specs.Values.{IsValue};
 ghost use Rattle.check_meaning.specs.Code.{block_code, points};
 ghost use Rattle.check_meaning.specs.Dialogue.{entry, env_of, run};
@@ -11,19 +11,17 @@ ghost use Rattle.session_journal.specs.Served.{IsServed, IsStopped};
 ghost use Rattle.handler_check.specs.Resolved.{code_at, params_at, variables_at};
 ghost use Rattle.declaration_insertion.specs.Promises.{list_at};
 ghost use Rattle.declaration_insertion.specs.Program.{declared_at};
-ghost use Rattle.handler_machine.specs.Serving.{Gives, IsSettled, Promises};
+ghost use Rattle.handler_machine.specs.Serving.{DeclaresHandler, Gives, IsSettled, Promises};
 
-use crate::kind_counts::KindCounts;
-use crate::narrowing::{Narrowing, take_late};
+use crate::narrowing::Narrowing;
 use crate::telling::TellsLate;
 use check_meaning::{CheckedBlock, CheckedHandler};
 use declaration_insertion::Program;
 use machine_walk::{set_up, walk_body};
-use session_journal::{Desk, Scratch, Script};
+use session_journal::{Desk, Scratch, Script, Site};
 use session_values::{NoMemory, Value};
 use std::sync::Wait;
 use std::thread::Threads;
-use symbolic_ops::Foresight;
 
 /// Serves the body of a handler at a desk, with these values of its variables, to its end.
 fn serve_body<R: Threads + Wait + Sync, D: Desk>(
@@ -45,35 +43,31 @@ fn serve_body<R: Threads + Wait + Sync, D: Desk>(
     requires promises { Promises (1 + points (code_at guide.old.program.now.file guide.old.handler))
         (declared_at guide.old.program.now guide.old.handler) (entry (env_of env.old))
         (run (block_code body.now) (env_of env.old)) }
-    requires room { max_symbols ≤ guide.old.next.now.room }
+    requires declares { DeclaresHandler (D.Served.meaning (D.script desk.old))
+        guide.old.program.now guide.old.handler }
     requires settled { IsSettled guide.old.settled (D.at desk.old) }
     requires told { guide.old.late ≡ false }
+    requires first { guide.old.point ≡ 0 }
     ensures script { D.script desk.new ≡ D.script desk.old }
     ensures served { IfOk result (λ _. IsServed (D.Served.meaning (D.script desk.old))
         (D.at desk.old) (D.at desk.new)) }
     ensures stopped { OnErr result (IsStopped (D.Served.meaning (D.script desk.old))
         (D.at desk.old) (D.at desk.new)) }
-    ensures next { guide.new.next.ghost_name ≡ guide.old.next.ghost_name }
     ensures values { guide.new.values.ghost_name ≡ guide.old.values.ghost_name }
-    ensures room { max_symbols ≤ guide.new.next.now.room }
 {
     let reply = walk_body(guide, desk, env, body)?;
-    take_late(
-        guide.late,
-        guide.program,
-        guide.handler,
-        guide.point,
-        guide.values,
-        guide.next,
-    );
-    desk.tell(guide.rt, guide.late, guide.next);
+    let site = Site {
+        part: guide.handler,
+        point: guide.point,
+    };
+    desk.tell(guide.rt, guide.late, site, &guide.values[..guide.variables]);
     guide.late = false;
     desk.end(guide.rt, reply);
     Ok(())
 }
 
 /// Serves a handler whose variables have these values at a desk, from its entry to its end, in room
-/// for their values at a point and for a declaration with them.
+/// for their values at a point.
 fn serve_in_room<R: Threads + Wait + Sync, D: Desk>(
     rt: &R,
     program: &Program,
@@ -81,14 +75,12 @@ fn serve_in_room<R: Threads + Wait + Sync, D: Desk>(
     handler: &CheckedHandler,
     env: &mut [Value],
     kept: &mut [Value],
-    next: &mut Foresight,
     desk: &mut D,
 ) -> Result<(), NoMemory>
     requires handler { h < length program.now.file.handlers }
     requires own { length handler.now.variables ≡ length (variables_at program.now.file h) }
     requires variables { max_variables ≤ length env.old }
     requires kept { length kept.old ≡ max_variables }
-    requires room { max_symbols ≤ next.old.room }
     requires within { IsRunnable (length env.old) (block_code handler.now.body) }
     requires fresh { (D.at desk.old).entries ≡ [] }
     requires idle { (D.at desk.old).waiting ≡ None }
@@ -98,6 +90,7 @@ fn serve_in_room<R: Threads + Wait + Sync, D: Desk>(
     requires gives { Gives (D.Served.meaning (D.script desk.old)) (D.at desk.old).ticket
         (declared_at program.now h) (entry (env_of env.old))
         (run (block_code handler.now.body) (env_of env.old)) }
+    requires declares { DeclaresHandler (D.Served.meaning (D.script desk.old)) program.now h }
     requires promises { Promises (1 + points (code_at program.now.file h))
         (declared_at program.now h) (entry (env_of env.old))
         (run (block_code handler.now.body) (env_of env.old)) }
@@ -106,19 +99,16 @@ fn serve_in_room<R: Threads + Wait + Sync, D: Desk>(
         (D.at desk.old) (D.at desk.new)) }
     ensures stopped { OnErr result (IsStopped (D.Served.meaning (D.script desk.old))
         (D.at desk.old) (D.at desk.new)) }
-    ensures room { max_symbols ≤ next.new.room }
 {
     let mut guide = Narrowing {
         rt,
         program,
         handler: h,
         variables: handler.variables.len() as usize,
-        next,
         point: 0,
         values: kept,
         settled: false,
         late: false,
-        kinds: KindCounts::new(),
     };
     serve_body(&mut guide, desk, env, &handler.body)
 }
@@ -145,6 +135,7 @@ fn serve_handler<R: Threads + Wait + Sync, D: Desk>(
     requires gives { Gives (D.Served.meaning (D.script desk.old)) (D.at desk.old).ticket
         (declared_at program.now h) (entry (env_of args.now))
         (run (block_code handler.now.body) (env_of args.now)) }
+    requires declares { DeclaresHandler (D.Served.meaning (D.script desk.old)) program.now h }
     requires promises { AllByRecursion IsValue args.now → Promises
         (1 + points (code_at program.now.file h)) (declared_at program.now h)
         (entry (env_of args.now)) (run (block_code handler.now.body) (env_of args.now)) }
@@ -163,7 +154,6 @@ fn serve_handler<R: Threads + Wait + Sync, D: Desk>(
         handler,
         env,
         scratch.kept.as_mut_slice(),
-        &mut scratch.foresight,
         desk,
     )
 }
@@ -191,6 +181,8 @@ pub fn serve_one<R: Threads + Wait + Sync, D: Desk>(
     requires gives { Gives (D.Served.meaning (D.script desk.old)) (D.at desk.old).ticket
         (declared_at program.now h) (entry (env_of args.now))
         (run (code_at program.now.file h) (env_of args.now)) }
+    // It declares at the handler's points what the program does.
+    requires declares { DeclaresHandler (D.Served.meaning (D.script desk.old)) program.now h }
     ensures script { D.script desk.new ≡ D.script desk.old }
     ensures served { IfOk result (λ _. IsServed (D.Served.meaning (D.script desk.old))
         (D.at desk.old) (D.at desk.new)) }

@@ -23,7 +23,7 @@ nils (suc n) (suc k) = nils n k
 
 pub put_args-requires : goal.put_args-requires
 put_args-requires c =
-    let s : ScriptsView = record { program = c.self.inside.program.now; requests = c.self.inside.requests.now } in
+    let s : ScriptsView = record { program = c.self.inside.program.now; opening = c.self.inside.opening.now; requests = c.self.inside.requests.now } in
     let r = request_at s.requests c.args.t in
     let below : c.args.t < length s.requests = subst (λ (z : ScriptsView). c.args.t < (meaning z).requests) (sym c.self.view_is) c.requires.ticket in
     let is : IsRequestOf s.program.file r = request_is s.program.file s.requests c.args.t below c.self.invariant.0.servable.each in
@@ -35,7 +35,7 @@ put_args-requires c =
 
 pub returns : goal.returns
 returns c =
-    let s : ScriptsView = record { program = c.self.inside.program.now; requests = c.self.inside.requests.now } in
+    let s : ScriptsView = record { program = c.self.inside.program.now; opening = c.self.inside.opening.now; requests = c.self.inside.requests.now } in
     let r = request_at s.requests c.args.t in
     let room = c.args.out.now.room in
     let env = c.put_args.new.env in
