@@ -5,22 +5,25 @@ use Rattle.std.specs.List.{list_all, list_any, AllByRecursion}
 use Rattle.std.proofs.lemmas.Str.{IsUtf8-append, IsUtf8-nil}
 use Rattle.session_limits.specs.Limits.{max_requests}
 use Rattle.text_lines.specs.Text.{Text, lines}
-use Rattle.request_files.specs.Divide.{is_dividing}
+use Rattle.request_files.specs.Divide.{is_dividing, is_table_mark}
 use Rattle.text_lines.specs.Laws.{with_feeds}
 use Rattle.request_files.specs.Requests.{first_fault, no_requests}
-use Rattle.text_lines.specs.Rows.{rows}
+use Rattle.text_lines.specs.Rows.{rows, names_behind}
+use Rattle.text_lines.proofs.RowLemmas.{rows_nil, behind_nil}
+use Rattle.table_lines.specs.TableRows.{first_table_fault}
+use Rattle.table_lines.proofs.Going.{fault_end}
 use Rattle.text_lines.proofs.TextLemmas.{lines_nil}
 use Rattle.serve_words.specs.declared.command.Command.TheVariants.{Work}
 use Rattle.serve_made.specs.Session.{handlers_text, lines_of, session_text}
 use Rattle.serve_faults.specs.declared.status.Fault.{Fault}
 use Rattle.serve_faults.specs.Answer.{IsRefused}
 use Rattle.serve_faults.specs.Answer as answer
-use Rattle.serve_faults.specs.Input.{Parts, parts_of, is_divided, IsInput}
-use Rattle.serve_faults.specs.Session.{IsSession}
+use Rattle.serve_faults.specs.Input.{Parts, parts_by, parts_of, divided_fault, is_divided, IsInput}
+use Rattle.serve_faults.specs.Session.{IsSession, handler_names_of, opening_names_of, table_rows_of}
 use Rattle.serve_faults.proofs.OneAnswer.{text_or_refused}
 use Rattle.made_sessions.proofs.Accepted.{made_program}
 use Rattle.made_sessions.proofs.Lines.{IsMade, made_lines, lines_count, lines_made, lines_are, utf8_of, utf8_plain, are_lines, have_light, feeds_length}
-use Rattle.made_sessions.proofs.Parts.{is_line, lines_behind, divided, parts_are}
+use Rattle.made_sessions.proofs.Parts.{is_line, lines_behind, divided, parts_are, table_line}
 use Rattle.made_sessions.proofs.Phrases.{made_file}
 use Rattle.request_files.proofs.LightRows.{none_found, rows_light}
 use Rattle.made_sessions.proofs.Tokens.{made_names, names_are}
@@ -43,6 +46,10 @@ handlers_plain = refl
 none_divides : list_any is_dividing handler_lines ≡ false
 unfolding is_dividing
 none_divides = refl
+
+none_marked : list_any is_table_mark handler_lines ≡ false
+unfolding is_table_mark
+none_marked = refl
 
 -- ---- the requests' part
 
@@ -94,13 +101,24 @@ module _ (n start : ℕ) (few : n ≤ max_requests) where
   in_two : session_text n start ≡ handlers_text ++ (codes "%%\n" ++ lines_of start n)
   in_two = append_assoc handlers_text (codes "%%\n") (lines_of start n)
 
-  made_parts : parts_of (session_text n start) ≡ record { handlers = handlers_text; requests = lines_of start n; first = 22 }
-  made_parts = ap parts_of in_two ∙ parts_are handler_lines handlers_plain none_divides (lines_of start n)
+  abbrev the_parts : Parts
+  the_parts = parts_by handlers_text [] (lines_of start n) (table_line handler_lines handlers_plain none_divides none_marked (lines_of start n)) 22
 
-  of_parts : IsSession (record { handlers = handlers_text; requests = lines_of start n; first = 22 }) made_file
+  made_parts : parts_of (session_text n start) ≡ the_parts
+  made_parts = ap parts_of in_two ∙ parts_are handler_lines handlers_plain none_divides none_marked (lines_of start n)
+
+  -- a text without bytes has no table lines
+  no_rows : table_rows_of the_parts ≡ []
+  no_rows = ap (rows the_parts.first_table) lines_nil ∙ rows_nil the_parts.first_table
+
+  opening_names : opening_names_of the_parts ≡ made_names
+  opening_names = ap (names_behind (handler_names_of the_parts)) no_rows ∙ behind_nil (handler_names_of the_parts) ∙ names_are
+
+  of_parts : IsSession the_parts made_file
   of_parts = record {
     program = made_program;
-    requests = ap (λ (names : List Text). first_fault names made_file no_requests (rows 22 (lines (lines_of start n)))) names_are ∙ fault_none 22 start n few;
+    tables = ap (first_table_fault (handler_names_of the_parts) made_file.tables []) no_rows ∙ fault_end (handler_names_of the_parts) made_file.tables [];
+    requests = ap (λ (names : List Text). first_fault names made_file no_requests (rows 22 (lines (lines_of start n)))) opening_names ∙ fault_none 22 start n few;
   }
 
   pub is_session : IsSession (parts_of (session_text n start)) made_file
@@ -110,7 +128,7 @@ module _ (n start : ℕ) (few : n ≤ max_requests) where
   is_input = record {
     short = short_whole handlers_text (lines_of start n) n refl (lines_short start n) few;
     utf8 = IsUtf8-append (handlers_text ++ codes "%%\n") (lines_of start n) (IsUtf8-append handlers_text (codes "%%\n") handlers_utf8 mark_utf8) (lines_utf8 start n);
-    parts = ap is_divided in_two ∙ divided handler_lines handlers_plain none_divides (lines_of start n);
+    parts = ap divided_fault (ap is_divided in_two ∙ divided handler_lines handlers_plain none_divides none_marked (lines_of start n));
   }
 
   pub unrefused : (fault : Fault) → IsRefused (Work n start) (session_text n start) fault → ⊥

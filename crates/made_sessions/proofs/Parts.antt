@@ -1,13 +1,16 @@
--- The two parts of a text whose first part has these lines.
-use Rattle.std.proofs.Common.{◌≡◌, ℕ, ◌+◌, Bool, true, false, not, ◌&&◌, ◌||◌, cond, List, [], ◌∷◌, ◌++◌, length, take, drop, refl, ap, ◌∙◌, arith, append_assoc, length-append}
+-- The parts of a text whose first part has these lines.
+use Rattle.std.proofs.Common.{◌≡◌, ℕ, ◌+◌, Bool, true, false, not, ◌&&◌, ◌||◌, cond, List, [], ◌∷◌, ◌++◌, length, take, drop, refl, sym, ap, ◌∙◌, arith, append_assoc, append-nil, length-append}
 use Rattle.std.specs.Prelude.{codes}
 use Rattle.std.proofs.Math.Seq.{take-append_seam, drop-append-add}
 use Rattle.std.specs.List.{list_all, list_any, position_or_len}
 use Rattle.text_lines.specs.Text.{Text, is_line_byte, lines}
-use Rattle.request_files.specs.Divide.{is_dividing, head_size, mark_size}
+use Rattle.request_files.specs.Divide.{is_dividing, is_table_mark, head_size, mark_size, before, behind, line_behind}
+use Rattle.request_files.specs.Laws.{IsUnmarked}
+use Rattle.request_files.proofs.WholeParts.{unmarked_is}
+use Rattle.text_lines.proofs.TextLemmas.{lines_nil}
 use Rattle.text_lines.specs.Laws.{with_feeds}
 use Rattle.text_lines.proofs.WholeTexts.{line_joined}
-use Rattle.serve_faults.specs.Input.{Parts, parts_of, is_divided}
+use Rattle.serve_faults.specs.Input.{parts_by, parts_of, is_divided}
 
 -- ---- tests of all elements
 
@@ -52,21 +55,21 @@ lines_behind (l ∷ ls) rest h =
 -- ---- what a dividing line behind lines that divide nothing tells
 
 module _ (d : Text) (more : List Text) (divides : is_dividing d ≡ true) where
-  head_behind : (ls : List Text) → list_any is_dividing ls ≡ false → head_size (ls ++ d ∷ more) ≡ length (with_feeds ls)
+  head_behind : (ls : List Text) → list_any is_dividing ls ≡ false → head_size is_dividing (ls ++ d ∷ more) ≡ length (with_feeds ls)
   unfolding head_size
-  head_behind [] h = ap (λ b. cond b 0 (length d + 1 + head_size more)) divides
+  head_behind [] h = ap (λ b. cond b 0 (length d + 1 + head_size is_dividing more)) divides
   head_behind (l ∷ ls) h =
-      let rest : head_size (ls ++ d ∷ more) ≡ length (with_feeds ls) = head_behind ls (or_right (is_dividing l) (list_any is_dividing ls) h) in
-      ap (λ b. cond b 0 (length l + 1 + head_size (ls ++ d ∷ more))) (or_left (is_dividing l) (list_any is_dividing ls) h)
+      let rest : head_size is_dividing (ls ++ d ∷ more) ≡ length (with_feeds ls) = head_behind ls (or_right (is_dividing l) (list_any is_dividing ls) h) in
+      ap (λ b. cond b 0 (length l + 1 + head_size is_dividing (ls ++ d ∷ more))) (or_left (is_dividing l) (list_any is_dividing ls) h)
       ∙ omega (arith, rest, length-append l (10 ∷ with_feeds ls))
 
-  mark_behind : (ls : List Text) → list_any is_dividing ls ≡ false → mark_size (ls ++ d ∷ more) ≡ length (with_feeds ls) + (length d + 1)
+  mark_behind : (ls : List Text) → list_any is_dividing ls ≡ false → mark_size is_dividing (ls ++ d ∷ more) ≡ length (with_feeds ls) + (length d + 1)
   unfolding mark_size
   mark_behind [] h =
-      ap (λ b. cond b (length d + 1) (length d + 1 + mark_size more)) divides ∙ omega arith
+      ap (λ b. cond b (length d + 1) (length d + 1 + mark_size is_dividing more)) divides ∙ omega arith
   mark_behind (l ∷ ls) h =
-      let rest : mark_size (ls ++ d ∷ more) ≡ length (with_feeds ls) + (length d + 1) = mark_behind ls (or_right (is_dividing l) (list_any is_dividing ls) h) in
-      ap (λ b. cond b (length l + 1) (length l + 1 + mark_size (ls ++ d ∷ more))) (or_left (is_dividing l) (list_any is_dividing ls) h)
+      let rest : mark_size is_dividing (ls ++ d ∷ more) ≡ length (with_feeds ls) + (length d + 1) = mark_behind ls (or_right (is_dividing l) (list_any is_dividing ls) h) in
+      ap (λ b. cond b (length l + 1) (length l + 1 + mark_size is_dividing (ls ++ d ∷ more))) (or_left (is_dividing l) (list_any is_dividing ls) h)
       ∙ omega (arith, rest, length-append l (10 ∷ with_feeds ls))
 
   place_behind : (ls : List Text) → list_any is_dividing ls ≡ false → position_or_len is_dividing (ls ++ d ∷ more) ≡ length ls
@@ -86,28 +89,48 @@ module _ (d : Text) (more : List Text) (divides : is_dividing d ≡ true) where
 
 -- ---- a text of such lines, a dividing line and others
 
-module _ (ls : List Text) (plain : list_all is_line ls ≡ true) (none : list_any is_dividing ls ≡ false) (rest : Text) where
+module _ (ls : List Text) (plain : list_all is_line ls ≡ true) (none : list_any is_dividing ls ≡ false) (unmarked : list_any is_table_mark ls ≡ false) (rest : Text) where
   divides : is_dividing (codes "%%") ≡ true
   unfolding is_dividing
   divides = refl
 
-  whole_lines : lines (with_feeds ls ++ (codes "%%\n" ++ rest)) ≡ ls ++ codes "%%" ∷ lines rest
+  abbrev whole : Text
+  whole = with_feeds ls ++ (codes "%%\n" ++ rest)
+
+  whole_lines : lines whole ≡ ls ++ codes "%%" ∷ lines rest
   whole_lines = lines_behind ls (codes "%%\n" ++ rest) plain ∙ ap (λ t. ls ++ t) (line_joined (codes "%%") rest refl)
 
-  pub divided : is_divided (with_feeds ls ++ (codes "%%\n" ++ rest)) ≡ true
+  pub divided : is_divided whole ≡ true
   divided = ap (list_any is_dividing) whole_lines ∙ any_behind (codes "%%") (lines rest) divides ls
 
-  abbrev parts_by : ℕ → ℕ → ℕ → Parts
-  parts_by h m p = record { handlers = take h (with_feeds ls ++ (codes "%%\n" ++ rest)); requests = drop m (with_feeds ls ++ (codes "%%\n" ++ rest)); first = p + 2 }
+  front_is : before is_dividing whole ≡ with_feeds ls
+  front_is =
+      ap (λ (l : List Text). take (head_size is_dividing l) whole) whole_lines
+      ∙ ap (λ n. take n whole) (head_behind (codes "%%") (lines rest) divides ls none)
+      ∙ take-append_seam (with_feeds ls) (codes "%%\n" ++ rest)
 
-  abbrev made : Text → Text → Parts
-  made h r = record { handlers = h; requests = r; first = length ls + 2 }
+  requests_are : behind is_dividing whole ≡ rest
+  requests_are =
+      ap (λ (l : List Text). drop (mark_size is_dividing l) whole) whole_lines
+      ∙ ap (λ n. drop n whole) (mark_behind (codes "%%") (lines rest) divides ls none)
+      ∙ drop-append-add (with_feeds ls) (codes "%%\n" ++ rest) 3
 
-  pub parts_are : parts_of (with_feeds ls ++ (codes "%%\n" ++ rest)) ≡ made (with_feeds ls) rest
+  first_is : line_behind is_dividing whole ≡ length ls + 2
+  first_is = ap (λ (l : List Text). position_or_len is_dividing l + 2) whole_lines ∙ ap (λ n. n + 2) (place_behind (codes "%%") (lines rest) divides ls none)
+
+  -- no line of the handlers is the mark of a table part
+  no_tables : IsUnmarked is_table_mark (with_feeds ls) (before is_table_mark (with_feeds ls)) (behind is_table_mark (with_feeds ls))
+  no_tables =
+      let own : lines (with_feeds ls) ≡ ls = ap lines (sym (append-nil (with_feeds ls))) ∙ lines_behind ls [] plain ∙ ap (λ t. ls ++ t) lines_nil ∙ append-nil ls in
+      unmarked_is is_table_mark (with_feeds ls) (ap (list_any is_table_mark) own ∙ unmarked)
+
+  abbrev pub table_line : ℕ
+  table_line = line_behind is_table_mark (with_feeds ls)
+
+  pub parts_are : parts_of whole ≡ parts_by (with_feeds ls) [] rest table_line (length ls + 2)
   parts_are =
-      ap (λ (l : List Text). parts_by (head_size l) (mark_size l) (position_or_len is_dividing l)) whole_lines
-      ∙ ap (λ h. parts_by h (mark_size (ls ++ codes "%%" ∷ lines rest)) (position_or_len is_dividing (ls ++ codes "%%" ∷ lines rest))) (head_behind (codes "%%") (lines rest) divides ls none)
-      ∙ ap (λ m. parts_by (length (with_feeds ls)) m (position_or_len is_dividing (ls ++ codes "%%" ∷ lines rest))) (mark_behind (codes "%%") (lines rest) divides ls none)
-      ∙ ap (parts_by (length (with_feeds ls)) (length (with_feeds ls) + 3)) (place_behind (codes "%%") (lines rest) divides ls none)
-      ∙ ap (λ h. made h (drop (length (with_feeds ls) + 3) (with_feeds ls ++ (codes "%%\n" ++ rest)))) (take-append_seam (with_feeds ls) (codes "%%\n" ++ rest))
-      ∙ ap (made (with_feeds ls)) (drop-append-add (with_feeds ls) (codes "%%\n" ++ rest) 3)
+      ap (λ (f : Text). parts_by (before is_table_mark f) (behind is_table_mark f) (behind is_dividing whole) (line_behind is_table_mark f) (line_behind is_dividing whole)) front_is
+      ∙ ap (λ (h : Text). parts_by h (behind is_table_mark (with_feeds ls)) (behind is_dividing whole) table_line (line_behind is_dividing whole)) no_tables.head_is
+      ∙ ap (λ (t : Text). parts_by (with_feeds ls) t (behind is_dividing whole) table_line (line_behind is_dividing whole)) no_tables.tail_is
+      ∙ ap (λ (r : Text). parts_by (with_feeds ls) [] r table_line (line_behind is_dividing whole)) requests_are
+      ∙ ap (parts_by (with_feeds ls) [] rest table_line) first_is

@@ -1,8 +1,7 @@
 -- The words of a line that is made of words, with one blank between two.
-use Rattle.std.proofs.Common.{◌≡◌, ℕ, ◌<◌, true, false, cond, List, [], ◌∷◌, ◌++◌, length, refl, ap, ◌∙◌, arith}
+use Rattle.std.proofs.Common.{◌≡◌, ℕ, ◌<◌, true, [], ◌∷◌, ◌++◌, length, refl, ap, ◌∙◌, arith}
 use Rattle.std.specs.List.{list_all}
-use Rattle.text_lines.specs.Bytes.{is_blank}
-use Rattle.text_lines.specs.Text.{Text, is_word_byte, in_word, attach, words}
+use Rattle.text_lines.specs.Text.{Text, is_word_byte, attach, words}
 use Rattle.text_lines.proofs.TextLemmas.{words_more, words_alone}
 use Rattle.made_sessions.proofs.Parts.{and_left, and_right}
 

@@ -1,70 +1,85 @@
--- The lines before the dividing line, from the first on.
+-- The lines before a mark, from the first on.
 use Rattle.std.proofs.Common.{◌≡◌, ℕ, suc, ◌+◌, ◌-◌, ◌<◌, ◌≤◌, ◌⊎◌, inl, inr, Bool, true, false, not, ◌||◌, cond, min, List, [], ◌∷◌, length, take, drop, get_or, IsUtf8, refl, sym, ap, ◌∙◌, subst, arith, length-drop}
 use Rattle.std.proofs.lemmas.Bool.{cases_lt}
-use Rattle.std.proofs.lemmas.List.{drop_all, drop-drop, get_or-drop}
+use Rattle.std.proofs.lemmas.List.{drop_all, take_all, drop-drop, get_or-drop}
 use Rattle.std.proofs.lemmas.List.Sums.{prefix_len_stops}
 use Rattle.std.proofs.lemmas.Str.{IsCharBoundary-start, IsCharBoundary-end, IsCharBoundary-after_ascii}
 use Rattle.std.specs.List.{list_any, position_or_len, prefix_len}
 use Rattle.std.specs.Str.{IsCharBoundary}
 use Rattle.text_lines.specs.Text.{Text, lines, is_line_byte}
 use Rattle.text_lines.proofs.TextLemmas.{lines_some, lines_nil, line_stop_is}
-use Rattle.request_files.specs.Divide.{is_dividing, head_size, mark_size, Divides}
+use Rattle.request_files.specs.Divide.{head_size, mark_size, before, behind, line_behind}
 
 -- so many bytes are lines that don't divide, and this is the number of the next line
-pub record Passed (text : Text) (at number : ℕ) : Type 0 where
+pub record Passed (is : Text → Bool) (text : Text) (at number : ℕ) : Type 0 where
   pub within : at ≤ length text
   pub begins : (at ≡ 0) ⊎ ((0 < at) × (get_or text (at - 1) 0 ≡ 10))
-  pub any : list_any is_dividing (lines (drop at text)) ≡ list_any is_dividing (lines text)
-  pub head : at + head_size (lines (drop at text)) ≡ head_size (lines text)
-  pub mark : at + mark_size (lines (drop at text)) ≡ mark_size (lines text)
-  pub place : number + position_or_len is_dividing (lines (drop at text)) ≡ 1 + position_or_len is_dividing (lines text)
+  pub any : list_any is (lines (drop at text)) ≡ list_any is (lines text)
+  pub head : at + head_size is (lines (drop at text)) ≡ head_size is (lines text)
+  pub mark : at + mark_size is (lines (drop at text)) ≡ mark_size is (lines text)
+  pub place : number + position_or_len is (lines (drop at text)) ≡ 1 + position_or_len is (lines text)
   pub few : number ≤ at + 1
 
-pub passed_start : (text : Text) → Passed text 0 1
-passed_start text = record { within = omega arith; begins = inl refl; any = refl; head = omega arith; mark = omega arith; place = refl; few = omega arith }
+pub passed_start : (is : Text → Bool) (text : Text) → Passed is text 0 1
+passed_start is text = record { within = omega arith; begins = inl refl; any = refl; head = omega arith; mark = omega arith; place = refl; few = omega arith }
 
-pub passed_start_boundary : (text : Text) (at number : ℕ) → IsUtf8 text → Passed text at number → IsCharBoundary text at
-passed_start_boundary text at number utf8 p = elim p.begins [
+pub passed_start_boundary : (is : Text → Bool) (text : Text) (at number : ℕ) → IsUtf8 text → Passed is text at number → IsCharBoundary text at
+passed_start_boundary is text at number utf8 p = elim p.begins [
   | inl z ↦ subst (IsCharBoundary text) (sym z) (IsCharBoundary-start text utf8)
   | inr f ↦ let e : at - 1 + 1 ≡ at = omega (arith, f.0) in
       subst (IsCharBoundary text) e (IsCharBoundary-after_ascii text (at - 1) utf8 (omega (arith, f.0, p.within)) (omega (arith, f.1)))
 ]
 
 -- the line at a place divides
-module _ (text : Text) (at number : ℕ) (l : Text) (ls : List Text) (p : Passed text at number) (is : lines (drop at text) ≡ l ∷ ls) where
-  by_any : (b : Bool) → is_dividing l ≡ b → (b || list_any is_dividing ls) ≡ list_any is_dividing (lines text)
-  by_any b e = ap (λ b. b || list_any is_dividing ls) (sym e) ∙ ap (list_any is_dividing) (sym is) ∙ p.any
+module _ (is : Text → Bool) (text : Text) (at number : ℕ) (l : Text) (ls : List Text) (p : Passed is text at number) (these : lines (drop at text) ≡ l ∷ ls) where
+  by_any : (b : Bool) → is l ≡ b → (b || list_any is ls) ≡ list_any is (lines text)
+  by_any b e = ap (λ b. b || list_any is ls) (sym e) ∙ ap (list_any is) (sym these) ∙ p.any
 
-  head_by : (b : Bool) → is_dividing l ≡ b → at + cond b 0 (length l + 1 + head_size ls) ≡ head_size (lines text)
+  head_by : (b : Bool) → is l ≡ b → at + cond b 0 (length l + 1 + head_size is ls) ≡ head_size is (lines text)
   unfolding head_size
-  head_by b e = ap (λ b. at + cond b 0 (length l + 1 + head_size ls)) (sym e) ∙ ap (λ x. at + head_size x) (sym is) ∙ p.head
+  head_by b e = ap (λ b. at + cond b 0 (length l + 1 + head_size is ls)) (sym e) ∙ ap (λ x. at + head_size is x) (sym these) ∙ p.head
 
-  mark_by : (b : Bool) → is_dividing l ≡ b → at + cond b (length l + 1) (length l + 1 + mark_size ls) ≡ mark_size (lines text)
+  mark_by : (b : Bool) → is l ≡ b → at + cond b (length l + 1) (length l + 1 + mark_size is ls) ≡ mark_size is (lines text)
   unfolding mark_size
-  mark_by b e = ap (λ b. at + cond b (length l + 1) (length l + 1 + mark_size ls)) (sym e) ∙ ap (λ x. at + mark_size x) (sym is) ∙ p.mark
+  mark_by b e = ap (λ b. at + cond b (length l + 1) (length l + 1 + mark_size is ls)) (sym e) ∙ ap (λ x. at + mark_size is x) (sym these) ∙ p.mark
 
-  place_by : (b : Bool) → is_dividing l ≡ b → number + cond (not b) (1 + position_or_len is_dividing ls) 0 ≡ 1 + position_or_len is_dividing (lines text)
-  place_by b e = ap (λ b. number + cond (not b) (1 + position_or_len is_dividing ls) 0) (sym e) ∙ ap (λ x. number + position_or_len is_dividing x) (sym is) ∙ p.place
+  place_by : (b : Bool) → is l ≡ b → number + cond (not b) (1 + position_or_len is ls) 0 ≡ 1 + position_or_len is (lines text)
+  place_by b e = ap (λ b. number + cond (not b) (1 + position_or_len is ls) 0) (sym e) ∙ ap (λ x. number + position_or_len is x) (sym these) ∙ p.place
 
-  pub divides : (head tail : Text) → is_dividing l ≡ true → head ≡ take at text → tail ≡ drop (at + (length l + 1)) text → Divides text head tail (number + 1)
-  divides head tail e h t = record {
-    marked = sym (by_any true e);
-    head_is = h ∙ ap (λ n. take n text) (let k : at ≡ head_size (lines text) = omega (arith, head_by true e) in k);
-    tail_is = t ∙ ap (λ n. drop n text) (mark_by true e);
-    first_is = omega (arith, place_by true e);
-  }
+  pub any_here : is l ≡ true → true ≡ list_any is (lines text)
+  any_here e = by_any true e
 
-  pub none_behind : is_dividing l ≡ false → ls ≡ [] → list_any is_dividing (lines text) ≡ false
-  none_behind e last = sym (by_any false e) ∙ ap (list_any is_dividing) last
+  pub head_here : is l ≡ true → take at text ≡ before is text
+  head_here e = ap (λ n. take n text) (let k : at ≡ head_size is (lines text) = omega (arith, head_by true e) in k)
 
-  pub passed_more : (now : ℕ) → is_dividing l ≡ false → now ≡ at + (length l + 1) → ls ≡ lines (drop now text) → now ≤ length text → get_or text (now - 1) 0 ≡ 10 → Passed text now (number + 1)
+  pub tail_here : is l ≡ true → drop (at + (length l + 1)) text ≡ behind is text
+  tail_here e = ap (λ n. drop n text) (mark_by true e)
+
+  pub next_here : is l ≡ true → number + 1 ≡ line_behind is text
+  next_here e = omega (arith, place_by true e)
+
+  -- it is the last line, and no mark
+  module _ (e : is l ≡ false) (last : ls ≡ []) (all : length text ≤ at + (length l + 1)) where
+    pub none_behind : false ≡ list_any is (lines text)
+    none_behind = sym (ap (list_any is) last) ∙ by_any false e
+
+    pub head_behind : text ≡ before is text
+    head_behind = sym (take_all (head_size is (lines text)) text (omega (arith, head_by false e, all)))
+
+    pub tail_behind : [] ≡ behind is text
+    tail_behind = sym (drop_all (mark_size is (lines text)) text (omega (arith, mark_by false e, all)))
+
+    pub next_behind : number + 2 ≡ line_behind is text
+    next_behind = let none : position_or_len is ls ≡ 0 = ap (position_or_len is) last in omega (arith, place_by false e, none)
+
+  pub passed_more : (now : ℕ) → is l ≡ false → now ≡ at + (length l + 1) → ls ≡ lines (drop now text) → now ≤ length text → get_or text (now - 1) 0 ≡ 10 → Passed is text now (number + 1)
   passed_more now e same rest within feed = record {
     within = within;
     begins = inr (omega arith, feed);
-    any = ap (list_any is_dividing) (sym rest) ∙ by_any false e;
-    head = ap (λ x. now + head_size x) (sym rest) ∙ omega (arith, head_by false e);
-    mark = ap (λ x. now + mark_size x) (sym rest) ∙ omega (arith, mark_by false e);
-    place = ap (λ x. number + 1 + position_or_len is_dividing x) (sym rest) ∙ omega (arith, place_by false e);
+    any = ap (list_any is) (sym rest) ∙ by_any false e;
+    head = ap (λ x. now + head_size is x) (sym rest) ∙ omega (arith, head_by false e);
+    mark = ap (λ x. now + mark_size is x) (sym rest) ∙ omega (arith, mark_by false e);
+    place = ap (λ x. number + 1 + position_or_len is x) (sym rest) ∙ omega (arith, place_by false e);
     few = omega (arith, p.few);
   }
 
@@ -102,5 +117,18 @@ boundary_next text rest at n utf8 within r e = elim (cases_lt n (length rest)) [
 pub last_line : (rest : Text) (n : ℕ) → length rest ≤ n → lines (drop (suc n) rest) ≡ []
 last_line rest n h = ap lines (drop_all (suc n) rest (omega arith)) ∙ lines_nil
 
-pub none_left : (text : Text) (at number : ℕ) → Passed text at number → length text ≤ at → list_any is_dividing (lines text) ≡ false
-none_left text at number p h = sym p.any ∙ ap (λ t. list_any is_dividing (lines t)) (drop_all at text h) ∙ ap (list_any is_dividing) lines_nil
+-- all lines were passed
+module _ (is : Text → Bool) (text : Text) (at number : ℕ) (p : Passed is text at number) (all : length text ≤ at) where
+  pub none_left : false ≡ list_any is (lines text)
+  none_left = sym (ap (list_any is) lines_nil) ∙ ap (λ t. list_any is (lines t)) (sym (drop_all at text all)) ∙ p.any
+
+  pub head_left : text ≡ before is text
+  head_left = sym (take_all (head_size is (lines text)) text (omega (arith, p.head, all)))
+
+  pub tail_left : [] ≡ behind is text
+  tail_left = sym (drop_all (mark_size is (lines text)) text (omega (arith, p.mark, all)))
+
+  pub next_left : number + 1 ≡ line_behind is text
+  next_left =
+      let none : position_or_len is (lines (drop at text)) ≡ 0 = ap (λ t. position_or_len is (lines t)) (drop_all at text all) ∙ ap (position_or_len is) lines_nil in
+      omega (arith, p.place, none)

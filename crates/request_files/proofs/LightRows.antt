@@ -1,5 +1,5 @@
 -- Rows that are well formed, of handlers that do little, have no fault.
-use Rattle.std.proofs.Common.{◌≡◌, ℕ, suc, ◌+◌, ◌*◌, ◌<◌, ◌≤◌, Bool, true, false, cond, nat_lt, List, [], ◌∷◌, length, Option, Some, None, refl, sym, ap, ◌∙◌, subst, arith}
+use Rattle.std.proofs.Common.{◌≡◌, ℕ, suc, ◌+◌, ◌*◌, ◌<◌, ◌≤◌, true, false, cond, nat_lt, List, [], ◌∷◌, length, Some, None, refl, sym, ap, ◌∙◌, subst, arith}
 use Rattle.std.proofs.lemmas.Bool.Decides.{nat_tests}
 use Rattle.std.specs.List.{list_all, AllByRecursion}
 use Rattle.std.specs.Option.{option_or}
@@ -7,11 +7,10 @@ use Rattle.syntax_trees.specs.declared.file.File.{File}
 use Rattle.check_meaning.specs.Bounds.{calls_bound, work_bound}
 use Rattle.handler_check.specs.Resolved.{code_at, params_at}
 use Rattle.request_files.specs.declared.tally.Tally.{Tally}
-use Rattle.request_files.specs.declared.refusal.RequestRefusal.{RequestRefusal}
 use Rattle.request_files.specs.declared.refusal.RequestRefusal.TheVariants.{TooManyCalls, TooMuchWork}
 use Rattle.text_lines.specs.Text.{Text, words}
 use Rattle.text_lines.specs.Values.{is_value}
-use Rattle.request_files.specs.Requests.{handler_of, first_fault, sum_fault, fault_of, with_request, no_requests}
+use Rattle.request_files.specs.Requests.{handler_of, first_fault, sum_fault, fault_of, with_request}
 use Rattle.text_lines.specs.Rows.{Row, row_of, rows}
 use Rattle.request_files.proofs.FaultLemmas.{fault_sums}
 use Rattle.request_files.proofs.RowLemmas.{fault_step, first_nil}

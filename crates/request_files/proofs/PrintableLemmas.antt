@@ -1,22 +1,16 @@
 -- The symbols of requests have texts of at most 64 bytes.
-use Rattle.std.proofs.Common.{◌≡◌, ℕ, zero, suc, ◌-◌, ◌^◌, ℤ, pos, neg_ℤ, ◌<◌, ◌≤◌, Bool, true, false, cond, List, [], ◌∷◌, length, map, slice_get, Option, Some, None, refl, sym, subst, arith}
-use Rattle.std.proofs.lemmas.Bool.Decides.{nat_tests}
-use Rattle.std.proofs.lemmas.Option.{slice_get_within}
-use Rattle.std.specs.Option.{unwrap_or}
+use Rattle.std.proofs.Common.{◌≡◌, ℕ, zero, suc, List, [], ◌∷◌, map, slice_get, Some, sym, subst}
 use Rattle.std.specs.List.{AllByRecursion}
-use Rattle.session_values.specs.Names.{place_of, Begins, IsNamed}
+use Rattle.session_values.specs.Names.{Begins}
 use Rattle.session_values.specs.ReplyText.{IsPrintable}
-use Rattle.session_values.specs.Values.{IsValue}
-use Rattle.session_values.specs.declared.value.Value.TheVariants.{Nil, Num}
-use Rattle.session_values.proofs.Named.{begins_same, begins_then, named_with, printable_kept}
+use Rattle.session_values.proofs.Named.{begins_same, begins_then}
 use Rattle.syntax_trees.specs.declared.file.File.{File}
 use Rattle.request_files.specs.declared.request.Request.{Request}
 use Rattle.text_lines.specs.Text.{Text}
-use Rattle.text_lines.specs.Values.{has_minus, size_of, size_limit, is_number, number_of, is_nil, is_symbol, number, as_value, value_of, values_of, placed, placed_all}
+use Rattle.text_lines.specs.Values.{placed_all}
 use Rattle.request_files.specs.Requests.{request_of, AreRequests, ArePrintable}
 use Rattle.text_lines.specs.Rows.{Row, names_behind}
 use Rattle.text_lines.proofs.PrintableLemmas.{values_printable}
-use Rattle.text_lines.proofs.ValueLemmas.{placed_all_begins}
 use Rattle.text_lines.proofs.RowLemmas.{behind_step, behind_begins}
 
 requests_printable : (old names : List Text) (f : File) (rs : List Row) (final : List Text) → Begins (names_behind names rs) final

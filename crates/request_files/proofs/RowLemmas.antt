@@ -15,10 +15,10 @@ use Rattle.request_files.specs.declared.request.Request.{Request}
 use Rattle.request_files.specs.declared.tally.Tally.{Tally}
 use Rattle.request_files.specs.declared.refusal.RequestRefusal.{RequestRefusal}
 use Rattle.request_files.specs.Servable.{IsRequestOf, IsServable, calls_in_all, work_in_all}
-use Rattle.text_lines.specs.Text.{Text, words}
+use Rattle.text_lines.specs.Text.{Text}
 use Rattle.text_lines.specs.Values.{values_of, placed_all}
 use Rattle.request_files.specs.Requests.{AreKnown, handler_of, fault_of, with_request, first_fault, no_requests, request_of, IsWithin, Accepted, AreRequests}
-use Rattle.text_lines.specs.Rows.{Row, row_of, rows, row_before, names_behind}
+use Rattle.text_lines.specs.Rows.{Row, names_behind}
 use Rattle.text_lines.proofs.ValueLemmas.{placed_all_begins, values_kept}
 use Rattle.text_lines.proofs.RowLemmas.{behind_begins, behind_nil, behind_step}
 use Rattle.request_files.proofs.HandlerLemmas.{handler_kept}

@@ -1,18 +1,15 @@
 -- The first row with which the work of all requests passes its limit.
-use Rattle.std.proofs.Common.{◌≡◌, ℕ, ◌+◌, ◌<◌, ◌≤◌, Bool, true, false, cond, nat_le, nat_lt, ◌==◌, List, [], ◌∷◌, ◌++◌, length, Some, None, refl, sym, ap, ◌∙◌, arith}
+use Rattle.std.proofs.Common.{◌≡◌, ℕ, ◌+◌, ◌<◌, ◌≤◌, Bool, true, false, cond, nat_lt, List, [], ◌∷◌, ◌++◌, length, Some, None, refl, sym, ap, ◌∙◌, arith}
 use Rattle.std.proofs.lemmas.Bool.Decides.{nat_tests}
 use Rattle.std.proofs.lemmas.List.Sums.{sum_by-cons, sum_by_push}
-use Rattle.std.specs.List.{list_all}
 use Rattle.syntax_trees.specs.declared.file.File.{File}
 use Rattle.check_meaning.specs.Bounds.{work_bound}
-use Rattle.handler_check.specs.Resolved.{code_at, params_at}
+use Rattle.handler_check.specs.Resolved.{code_at}
 use Rattle.request_files.specs.declared.tally.Tally.{Tally}
-use Rattle.request_files.specs.declared.refusal.RequestRefusal.{RequestRefusal}
 use Rattle.request_files.specs.declared.refusal.RequestRefusal.TheVariants.{TooManyCalls, TooMuchWork}
 use Rattle.request_files.specs.Laws.{IsWellFormed, calls_named}
 use Rattle.request_files.specs.WorkSums.{WorkPasses, work_named}
 use Rattle.text_lines.specs.Text.{Text}
-use Rattle.text_lines.specs.Values.{is_value}
 use Rattle.request_files.specs.Requests.{handler_of, fault_of, first_fault, no_requests}
 use Rattle.text_lines.specs.Rows.{Row}
 use Rattle.request_files.proofs.FaultLemmas.{fault_sums}

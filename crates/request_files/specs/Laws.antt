@@ -1,28 +1,42 @@
 -- What the definitions of parts and faults come to on whole files and whole lists of rows.
-use Rattle.std.specs.Prelude.{◌≡◌, ℕ, ◌+◌, ◌<◌, ◌≤◌, true, false, ◌⊎◌, List, [], ◌∷◌, ◌++◌, length, None}
+use Rattle.std.specs.Prelude.{◌≡◌, ℕ, ◌+◌, ◌<◌, ◌≤◌, Bool, true, false, ◌⊎◌, List, [], ◌∷◌, ◌++◌, length, None}
 use Rattle.std.specs.List.{list_all, list_any, sum_by}
 use Rattle.session_limits.specs.Limits.{max_requests, max_session_calls}
 use Rattle.syntax_trees.specs.declared.file.File.{File}
 use Rattle.check_meaning.specs.Bounds.{calls_bound}
 use Rattle.handler_check.specs.Resolved.{code_at, params_at}
-use Rattle.request_files.specs.Divide.{is_dividing}
+use Rattle.request_files.specs.Divide.{is_dividing, is_table_mark}
 use Rattle.request_files.specs.Requests.{first_fault, handler_of, no_requests}
 use Rattle.text_lines.specs.Rows.{Row}
 use Rattle.text_lines.specs.Text.{Text, lines}
 use Rattle.text_lines.specs.Laws.{with_feeds}
 use Rattle.text_lines.specs.Values.{is_value}
 
--- ---- the two parts of a file
+-- ---- the parts of a file
 
--- the head, a dividing line and the tail are the file; the head is whole lines of which none
--- divides, and the tail's first line comes two behind its last
-pub record AreParts (text head tail : Text) (first : ℕ) : Type 0 where
+-- the head, a line that is the mark, and the tail are the text; the head is whole lines of which
+-- none is the mark, and the tail's first line comes two behind its last
+pub record AreHalves (is : Text → Bool) (text head tail : Text) (next : ℕ) : Type 0 where
   pub line : Text
-  pub divides : is_dividing line ≡ true
+  pub marks : is line ≡ true
   pub whole : (text ≡ head ++ line ++ 10 ∷ tail) ⊎ ((text ≡ head ++ line) × (tail ≡ []))
   pub head_lines : with_feeds (lines head) ≡ head
-  pub none_before : list_any is_dividing (lines head) ≡ false
-  pub number : first ≡ length (lines head) + 2
+  pub none_before : list_any is (lines head) ≡ false
+  pub number : next ≡ length (lines head) + 2
+
+-- no line is the mark, and all of the text is the head
+pub record IsUnmarked (is : Text → Bool) (text head tail : Text) : Type 0 where
+  pub none : list_any is (lines text) ≡ false
+  pub head_is : head ≡ text
+  pub tail_is : tail ≡ []
+
+-- what stands before the dividing line, and the requests; of that, the handlers and the table part,
+-- or the handlers alone
+pub record AreParts (text handlers tables requests : Text) (first_table first : ℕ) : Type 0 where
+  pub front : Text
+  pub divided : AreHalves is_dividing text front requests first
+  pub opened : AreHalves is_table_mark front handlers tables first_table
+      ⊎ IsUnmarked is_table_mark front handlers tables
 
 -- ---- the first fault
 

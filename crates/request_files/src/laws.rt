@@ -11,10 +11,11 @@ ghost use Rattle.text_lines.specs.Rows.{Row};
 ghost use Rattle.text_lines.specs.Text.{Text};
 ghost use Rattle.request_files.specs.WorkSums.{WorkPasses, work_named};
 
-/// Head, dividing line and tail are the file.
+/// Handlers, perhaps the mark and the table part, the dividing line and requests are the file.
 pub fn parts_of_file()
-    ensures { (text head tail : Text) (first : ℕ) → Divides text head tail first →
-        AreParts text head tail first }
+    ensures { (text handlers tables requests : Text) (first_table first : ℕ)
+        → Divides text handlers tables requests first_table first
+        → AreParts text handlers tables requests first_table first }
 {}
 
 /// The row that is refused for too many calls is the first with which their sum passes the limit.

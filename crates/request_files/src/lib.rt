@@ -5,7 +5,9 @@
 mod arguments;
 mod divided;
 mod entry;
+mod halves;
 pub mod laws;
+mod mark;
 mod reading;
 mod refusal;
 mod request;
@@ -13,7 +15,7 @@ mod request_line;
 mod requests;
 mod tally;
 
-pub use divided::{Divided, divide};
+pub use divided::{Divided, divide, has_mark};
 pub use reading::read_requests;
 pub use refusal::RequestRefusal;
 pub use request::Request;

@@ -16,15 +16,16 @@ use Rattle.range_session.specs.declared.refusal.RangeRefusal.{RangeRefusal}
 use Rattle.range_session.specs.Faults.{text_fault}
 use Rattle.range_session.proofs.OneText.{fine_text, one_text}
 use Rattle.request_files.specs.declared.refusal.RequestRefusal.{RequestRefusal}
+use Rattle.table_lines.specs.declared.refusal.TableRefusal.{TableRefusal}
 use Rattle.serve_words.specs.declared.command.Command.{Command}
-use Rattle.serve_words.specs.declared.command.Command.TheVariants.{Check, Show, Serve, Work, Ranges}
+use Rattle.serve_words.specs.declared.command.Command.TheVariants.{Check, Show, Serve, Dump, Work, Ranges}
 use Rattle.serve_words.specs.Commands.{command_of}
 use Rattle.serve_faults.specs.declared.status.Fault.{Fault}
 use Rattle.serve_faults.specs.declared.status.Fault.TheVariants as fault
 use Rattle.serve_faults.specs.Commands.{input_of, has_requests, has_handlers}
-use Rattle.serve_faults.specs.Input.{parts_of, is_divided, wants_divided, handlers_of, IsInput}
-use Rattle.serve_faults.specs.Session.{IsProgram, request_fault}
-use Rattle.serve_faults.specs.Answer.{HasSyntaxFault, HasCheckFault, HasAnalysisFault, HasRequestFault, IsRefused, IsTextOf, Answer, Answers, CommandAnswers, IsAnswer}
+use Rattle.serve_faults.specs.Input.{parts_of, parts_fault, handlers_of, IsInput}
+use Rattle.serve_faults.specs.Session.{IsProgram, IsSession, request_fault, table_fault}
+use Rattle.serve_faults.specs.Answer.{HasSyntaxFault, HasCheckFault, HasAnalysisFault, HasRequestFault, HasTableFault, IsRefused, IsTextOf, Answer, Answers, CommandAnswers, IsAnswer}
 use Rattle.serve_faults.specs.Answer as answer
 
 -- ---- handlers
@@ -52,33 +53,54 @@ module _ (c : Command) (input : List ℕ) where
   abbrev text : List ℕ
   text = handlers_of c input
 
+  -- a fault of the table part or of the requests behind it
+  abbrev IsLineFault : File → Fault → Type 0
+  IsLineFault file g = ((e : TableRefusal) × (g ≡ fault.Tables e) × (table_fault (parts_of input) file ≡ Some e))
+      ⊎ ((e : RequestRefusal) × (g ≡ fault.Request e) × (table_fault (parts_of input) file ≡ None) × (request_fault (parts_of input) file ≡ Some e))
+
+  pub record HasLineFault (g : Fault) : Type 0 where
+    pub file : File
+    pub program : IsProgram (parts_of input).handlers file
+    pub is : IsLineFault file g
+
+  of_table : (e : TableRefusal) → HasTableFault (parts_of input) e → HasLineFault (fault.Tables e)
+  of_table e h = record { file = h.file; program = h.program; is = inl (e, refl, h.first) }
+
+  of_request : (e : RequestRefusal) → HasRequestFault (parts_of input) e → HasLineFault (fault.Request e)
+  of_request e h = record { file = h.file; program = h.program; is = inr (e, refl, h.tables, h.first) }
+
   -- a fault of what an input holds
   abbrev Inner : Fault → Type 0
   Inner g = ((e : SyntaxRefusal) × (g ≡ fault.Syntax e) × HasSyntaxFault text e × (has_handlers c ≡ true))
       ⊎ (((e : CheckRefusal) × (g ≡ fault.Check e) × HasCheckFault text e × (has_handlers c ≡ true))
       ⊎ (((e : AnalysisRefusal) × (g ≡ fault.Analysis e) × HasAnalysisFault text e × (has_handlers c ≡ true))
-      ⊎ (((e : RequestRefusal) × (g ≡ fault.Request e) × (has_requests c ≡ true) × HasRequestFault (parts_of input) e)
+      ⊎ (((has_requests c ≡ true) × HasLineFault g)
       ⊎ ((e : RangeRefusal) × (g ≡ fault.Ranges e) × (has_handlers c ≡ false) × (text_fault input ≡ Some e)))))
+
+  no_parts : (g : Fault) → parts_fault c input ≡ None → parts_fault c input ≡ Some g → ⊥
+  no_parts g e f = let is : ◌≡◌ {A = Option Fault} None (Some g) = sym e ∙ f in absurd (cc)
 
   inner : (g : Fault) → IsInput c input → IsRefused c input g → Inner g
   inner fault.TooLarge i r = absurd (omega (arith, i.short, r))
   inner fault.NotText i r = absurd (r.1 i.utf8)
-  inner fault.NoRequests i r = absurd (false≢true (sym r.3 ∙ i.parts ∙ r.2))
-  inner fault.HasRequests i r = absurd (false≢true (sym r.2 ∙ sym i.parts ∙ r.3))
+  inner fault.NoRequests i r = absurd (no_parts fault.NoRequests i.parts r.2)
+  inner fault.HasRequests i r = absurd (no_parts fault.HasRequests i.parts r.2)
   inner (fault.Syntax e) i r = inl (e, refl, r.1, r.2)
   inner (fault.Check e) i r = inr (inl (e, refl, r.1, r.2))
   inner (fault.Analysis e) i r = inr (inr (inl (e, refl, r.1, r.2)))
-  inner (fault.Request e) i r = inr (inr (inr (inl (e, refl, r.1, r.2))))
+  inner (fault.Tables e) i r = inr (inr (inr (inl (r.1, of_table e r.2))))
+  inner (fault.Request e) i r = inr (inr (inr (inl (r.1, of_request e r.2))))
   inner (fault.Ranges e) i r = inr (inr (inr (inr (e, refl, r.1, r.2))))
 
-  -- the handlers of a request's fault
-  program_of : (e : RequestRefusal) → has_requests c ≡ true → (h : HasRequestFault (parts_of input) e) → IsProgram text h.file
-  program_of e has h = at c has where
-    at : (k : Command) → has_requests k ≡ true → IsProgram (handlers_of k input) h.file
+  -- the handlers of such a fault
+  program_of : (f : File) → has_requests c ≡ true → IsProgram (parts_of input).handlers f → IsProgram text f
+  program_of f has h = at c has where
+    at : (k : Command) → has_requests k ≡ true → IsProgram (handlers_of k input) f
     at Check e = absurd (false≢true e)
     at Show e = absurd (false≢true e)
-    at (Serve callers shards) e = h.program
-    at (Work requests start) e = h.program
+    at (Serve callers shards) e = h
+    at (Dump callers shards) e = h
+    at (Work requests start) e = h
     at Ranges e = absurd (false≢true e)
 
   -- a command with requests has handlers
@@ -88,43 +110,58 @@ module _ (c : Command) (input : List ℕ) where
     at Check e = refl
     at Show e = refl
     at (Serve callers shards) e = refl
+    at (Dump callers shards) e = refl
     at (Work requests start) e = refl
     at Ranges e = e
 
   same_range : (d e : RangeRefusal) → text_fault input ≡ Some d → text_fault input ≡ Some e → d ≡ e
   same_range d e h k = let is : Some d ≡ Some e = sym h ∙ k in cc
 
-  same_request : (d e : RequestRefusal) → HasRequestFault (parts_of input) d → HasRequestFault (parts_of input) e → d ≡ e
-  same_request d e h k =
-      let same = one_tree [] (parts_of input).handlers h.file k.file h.program.form k.program.form in
-      let is : Some d ≡ Some e = sym h.first ∙ ap (request_fault (parts_of input)) same ∙ k.first in
-      cc
+  one_line : (f g : Fault) → HasLineFault f → HasLineFault g → f ≡ g
+  one_line f g h k = by h.is k.is where
+    same : h.file ≡ k.file
+    same = one_tree [] (parts_of input).handlers h.file k.file h.program.form k.program.form
+
+    tables : table_fault (parts_of input) h.file ≡ table_fault (parts_of input) k.file
+    tables = ap (table_fault (parts_of input)) same
+
+    by : IsLineFault h.file f → IsLineFault k.file g → f ≡ g
+    by (inl a) (inl b) =
+        let is : Some a.0 ≡ Some b.0 = sym a.2 ∙ tables ∙ b.2 in
+        let one : a.0 ≡ b.0 = cc in
+        a.1 ∙ ap fault.Tables one ∙ sym b.1
+    by (inl a) (inr b) = let is : Some a.0 ≡ None = sym a.2 ∙ tables ∙ b.2 in absurd (cc)
+    by (inr a) (inl b) = let is : None ≡ Some b.0 = sym a.2 ∙ tables ∙ b.2 in absurd (cc)
+    by (inr a) (inr b) =
+        let is : Some a.0 ≡ Some b.0 = sym a.3 ∙ ap (request_fault (parts_of input)) same ∙ b.3 in
+        let one : a.0 ≡ b.0 = cc in
+        a.1 ∙ ap fault.Request one ∙ sym b.1
 
   one_inner : (f g : Fault) → Inner f → Inner g → f ≡ g
   one_inner f g (inl a) (inl b) = a.1 ∙ ap fault.Syntax (one_fault [] text a.0 b.0 a.2.first b.2.first) ∙ sym b.1
   one_inner f g (inl a) (inr (inl b)) = absurd (no_syntax text a.0 b.2.file a.2 b.2.form)
   one_inner f g (inl a) (inr (inr (inl b))) = absurd (no_syntax text a.0 b.2.file a.2 b.2.form)
-  one_inner f g (inl a) (inr (inr (inr (inl b)))) = absurd (no_syntax text a.0 b.3.file a.2 (program_of b.0 b.2 b.3).form)
+  one_inner f g (inl a) (inr (inr (inr (inl b)))) = absurd (no_syntax text a.0 b.1.file a.2 (program_of b.1.file b.0 b.1.program).form)
   one_inner f g (inr (inl a)) (inl b) = absurd (no_syntax text b.0 a.2.file b.2 a.2.form)
   one_inner f g (inr (inl a)) (inr (inl b)) = a.1 ∙ ap fault.Check (same_check text a.0 b.0 a.2 b.2) ∙ sym b.1
   one_inner f g (inr (inl a)) (inr (inr (inl b))) = absurd (no_check_form text a.0 a.2 b.2.file b.2.form b.2.accepted)
-  one_inner f g (inr (inl a)) (inr (inr (inr (inl b)))) = absurd (no_check text a.0 b.3.file a.2 (program_of b.0 b.2 b.3))
+  one_inner f g (inr (inl a)) (inr (inr (inr (inl b)))) = absurd (no_check text a.0 b.1.file a.2 (program_of b.1.file b.0 b.1.program))
   one_inner f g (inr (inr (inl a))) (inl b) = absurd (no_syntax text b.0 a.2.file b.2 a.2.form)
   one_inner f g (inr (inr (inl a))) (inr (inl b)) = absurd (no_check_form text b.0 b.2 a.2.file a.2.form a.2.accepted)
   one_inner f g (inr (inr (inl a))) (inr (inr (inl b))) = a.1 ∙ ap fault.Analysis (same_analysis text a.0 b.0 a.2 b.2) ∙ sym b.1
-  one_inner f g (inr (inr (inl a))) (inr (inr (inr (inl b)))) = absurd (no_analysis text a.0 b.3.file a.2 (program_of b.0 b.2 b.3))
-  one_inner f g (inr (inr (inr (inl a)))) (inl b) = absurd (no_syntax text b.0 a.3.file b.2 (program_of a.0 a.2 a.3).form)
-  one_inner f g (inr (inr (inr (inl a)))) (inr (inl b)) = absurd (no_check text b.0 a.3.file b.2 (program_of a.0 a.2 a.3))
-  one_inner f g (inr (inr (inr (inl a)))) (inr (inr (inl b))) = absurd (no_analysis text b.0 a.3.file b.2 (program_of a.0 a.2 a.3))
-  one_inner f g (inr (inr (inr (inl a)))) (inr (inr (inr (inl b)))) = a.1 ∙ ap fault.Request (same_request a.0 b.0 a.3 b.3) ∙ sym b.1
+  one_inner f g (inr (inr (inl a))) (inr (inr (inr (inl b)))) = absurd (no_analysis text a.0 b.1.file a.2 (program_of b.1.file b.0 b.1.program))
+  one_inner f g (inr (inr (inr (inl a)))) (inl b) = absurd (no_syntax text b.0 a.1.file b.2 (program_of a.1.file a.0 a.1.program).form)
+  one_inner f g (inr (inr (inr (inl a)))) (inr (inl b)) = absurd (no_check text b.0 a.1.file b.2 (program_of a.1.file a.0 a.1.program))
+  one_inner f g (inr (inr (inr (inl a)))) (inr (inr (inl b))) = absurd (no_analysis text b.0 a.1.file b.2 (program_of a.1.file a.0 a.1.program))
+  one_inner f g (inr (inr (inr (inl a)))) (inr (inr (inr (inl b)))) = one_line f g a.1 b.1
   one_inner f g (inl a) (inr (inr (inr (inr b)))) = absurd (false≢true (sym b.2 ∙ a.3))
   one_inner f g (inr (inl a)) (inr (inr (inr (inr b)))) = absurd (false≢true (sym b.2 ∙ a.3))
   one_inner f g (inr (inr (inl a))) (inr (inr (inr (inr b)))) = absurd (false≢true (sym b.2 ∙ a.3))
-  one_inner f g (inr (inr (inr (inl a)))) (inr (inr (inr (inr b)))) = absurd (false≢true (sym b.2 ∙ serving a.2))
+  one_inner f g (inr (inr (inr (inl a)))) (inr (inr (inr (inr b)))) = absurd (false≢true (sym b.2 ∙ serving a.0))
   one_inner f g (inr (inr (inr (inr a)))) (inl b) = absurd (false≢true (sym a.2 ∙ b.3))
   one_inner f g (inr (inr (inr (inr a)))) (inr (inl b)) = absurd (false≢true (sym a.2 ∙ b.3))
   one_inner f g (inr (inr (inr (inr a)))) (inr (inr (inl b))) = absurd (false≢true (sym a.2 ∙ b.3))
-  one_inner f g (inr (inr (inr (inr a)))) (inr (inr (inr (inl b)))) = absurd (false≢true (sym a.2 ∙ serving b.2))
+  one_inner f g (inr (inr (inr (inr a)))) (inr (inr (inr (inl b)))) = absurd (false≢true (sym a.2 ∙ serving b.0))
   one_inner f g (inr (inr (inr (inr a)))) (inr (inr (inr (inr b)))) = a.1 ∙ ap fault.Ranges (same_range a.0 b.0 a.3 b.3) ∙ sym b.1
 
   -- ---- no two faults are the first one
@@ -136,6 +173,7 @@ module _ (c : Command) (input : List ℕ) where
   large (fault.Syntax e) r h = absurd (omega (arith, h, r.0.short))
   large (fault.Check e) r h = absurd (omega (arith, h, r.0.short))
   large (fault.Analysis e) r h = absurd (omega (arith, h, r.0.short))
+  large (fault.Tables e) r h = absurd (omega (arith, h, r.0.short))
   large (fault.Request e) r h = absurd (omega (arith, h, r.0.short))
   large (fault.Ranges e) r h = absurd (omega (arith, h, r.0.short))
 
@@ -147,39 +185,31 @@ module _ (c : Command) (input : List ℕ) where
   no_text (fault.Syntax e) r h k = absurd (k r.0.utf8)
   no_text (fault.Check e) r h k = absurd (k r.0.utf8)
   no_text (fault.Analysis e) r h k = absurd (k r.0.utf8)
+  no_text (fault.Tables e) r h k = absurd (k r.0.utf8)
   no_text (fault.Request e) r h k = absurd (k r.0.utf8)
   no_text (fault.Ranges e) r h k = absurd (k r.0.utf8)
 
-  no_requests : (g : Fault) → IsRefused c input g → length input ≤ max_input → IsUtf8 input → wants_divided c input ≡ true → is_divided input ≡ false → g ≡ fault.NoRequests
-  no_requests fault.TooLarge r h u has d = absurd (omega (arith, h, r))
-  no_requests fault.NotText r h u has d = absurd (r.1 u)
-  no_requests fault.NoRequests r h u has d = refl
-  no_requests fault.HasRequests r h u has d = absurd (false≢true (sym r.2 ∙ has))
-  no_requests (fault.Syntax e) r h u has d = absurd (false≢true (sym d ∙ r.0.parts ∙ has))
-  no_requests (fault.Check e) r h u has d = absurd (false≢true (sym d ∙ r.0.parts ∙ has))
-  no_requests (fault.Analysis e) r h u has d = absurd (false≢true (sym d ∙ r.0.parts ∙ has))
-  no_requests (fault.Request e) r h u has d = absurd (false≢true (sym d ∙ r.0.parts ∙ has))
-  no_requests (fault.Ranges e) r h u has d = absurd (false≢true (sym d ∙ r.0.parts ∙ has))
-
-  requests_too : (g : Fault) → IsRefused c input g → length input ≤ max_input → IsUtf8 input → wants_divided c input ≡ false → is_divided input ≡ true → g ≡ fault.HasRequests
-  requests_too fault.TooLarge r h u has d = absurd (omega (arith, h, r))
-  requests_too fault.NotText r h u has d = absurd (r.1 u)
-  requests_too fault.NoRequests r h u has d = absurd (false≢true (sym has ∙ r.2))
-  requests_too fault.HasRequests r h u has d = refl
-  requests_too (fault.Syntax e) r h u has d = absurd (false≢true (sym has ∙ sym r.0.parts ∙ d))
-  requests_too (fault.Check e) r h u has d = absurd (false≢true (sym has ∙ sym r.0.parts ∙ d))
-  requests_too (fault.Analysis e) r h u has d = absurd (false≢true (sym has ∙ sym r.0.parts ∙ d))
-  requests_too (fault.Request e) r h u has d = absurd (false≢true (sym has ∙ sym r.0.parts ∙ d))
-  requests_too (fault.Ranges e) r h u has d = absurd (false≢true (sym has ∙ sym r.0.parts ∙ d))
+  other_parts : (p g : Fault) → IsRefused c input g → length input ≤ max_input → IsUtf8 input → parts_fault c input ≡ Some p → g ≡ p
+  other_parts p fault.TooLarge r h u e = absurd (omega (arith, h, r))
+  other_parts p fault.NotText r h u e = absurd (r.1 u)
+  other_parts p fault.NoRequests r h u e = let is : Some fault.NoRequests ≡ Some p = sym r.2 ∙ e in cc
+  other_parts p fault.HasRequests r h u e = let is : Some fault.HasRequests ≡ Some p = sym r.2 ∙ e in cc
+  other_parts p (fault.Syntax d) r h u e = absurd (no_parts p r.0.parts e)
+  other_parts p (fault.Check d) r h u e = absurd (no_parts p r.0.parts e)
+  other_parts p (fault.Analysis d) r h u e = absurd (no_parts p r.0.parts e)
+  other_parts p (fault.Tables d) r h u e = absurd (no_parts p r.0.parts e)
+  other_parts p (fault.Request d) r h u e = absurd (no_parts p r.0.parts e)
+  other_parts p (fault.Ranges d) r h u e = absurd (no_parts p r.0.parts e)
 
   pub refused_once : (f g : Fault) → IsRefused c input f → IsRefused c input g → f ≡ g
   refused_once fault.TooLarge g r s = sym (large g s r)
   refused_once fault.NotText g r s = sym (no_text g s r.0 r.1)
-  refused_once fault.NoRequests g r s = sym (no_requests g s r.0 r.1 r.2 r.3)
-  refused_once fault.HasRequests g r s = sym (requests_too g s r.0 r.1 r.2 r.3)
+  refused_once fault.NoRequests g r s = sym (other_parts fault.NoRequests g s r.0 r.1 r.2)
+  refused_once fault.HasRequests g r s = sym (other_parts fault.HasRequests g s r.0 r.1 r.2)
   refused_once (fault.Syntax e) g r s = one_inner (fault.Syntax e) g (inner (fault.Syntax e) r.0 r) (inner g r.0 s)
   refused_once (fault.Check e) g r s = one_inner (fault.Check e) g (inner (fault.Check e) r.0 r) (inner g r.0 s)
   refused_once (fault.Analysis e) g r s = one_inner (fault.Analysis e) g (inner (fault.Analysis e) r.0 r) (inner g r.0 s)
+  refused_once (fault.Tables e) g r s = one_inner (fault.Tables e) g (inner (fault.Tables e) r.0 r) (inner g r.0 s)
   refused_once (fault.Request e) g r s = one_inner (fault.Request e) g (inner (fault.Request e) r.0 r) (inner g r.0 s)
   refused_once (fault.Ranges e) g r s = one_inner (fault.Ranges e) g (inner (fault.Ranges e) r.0 r) (inner g r.0 s)
 
@@ -190,26 +220,33 @@ program_in : (c : Command) (input t : List ℕ) → has_handlers c ≡ true → 
 program_in Check input t e h = (h.file, h.program)
 program_in Show input t e h = (h.file, h.program)
 program_in (Serve callers shards) input t e h = (h.file, h.is_session.program)
+program_in (Dump callers shards) input t e h = (h.file, h.is_session.program)
 program_in (Work requests start) input t e h = (h.file, h.is_session.program)
 program_in Ranges input t e h = absurd (false≢true e)
 
-no_request : (c : Command) (input t : List ℕ) (e : RequestRefusal) → IsTextOf c input t → has_requests c ≡ true → HasRequestFault (parts_of input) e → ⊥
-no_request Check input t e h has k = false≢true has
-no_request Show input t e h has k = false≢true has
-no_request Ranges input t e h has k = false≢true has
-no_request (Serve callers shards) input t e h has k =
-    let same = one_tree [] (parts_of input).handlers h.file k.file h.is_session.program.form k.program.form in
-    let is : None ≡ Some e = sym h.is_session.requests ∙ ap (request_fault (parts_of input)) same ∙ k.first in
-    absurd (cc)
-no_request (Work requests start) input t e h has k =
-    let same = one_tree [] (parts_of input).handlers h.file k.file h.is_session.program.form k.program.form in
-    let is : None ≡ Some e = sym h.is_session.requests ∙ ap (request_fault (parts_of input)) same ∙ k.first in
-    absurd (cc)
+-- a session has no fault
+fine_lines : (c : Command) (input : List ℕ) (f : Fault) (file : File) → IsSession (parts_of input) file → HasLineFault c input f → ⊥
+fine_lines c input f file h k = by k.is where
+  same : file ≡ k.file
+  same = one_tree [] (parts_of input).handlers file k.file h.program.form k.program.form
+
+  by : IsLineFault c input k.file f → ⊥
+  by (inl a) = let is : None ≡ Some a.0 = sym h.tables ∙ ap (table_fault (parts_of input)) same ∙ a.2 in absurd (cc)
+  by (inr a) = let is : None ≡ Some a.0 = sym h.requests ∙ ap (request_fault (parts_of input)) same ∙ a.3 in absurd (cc)
+
+no_line : (c : Command) (input t : List ℕ) (f : Fault) → IsTextOf c input t → has_requests c ≡ true → HasLineFault c input f → ⊥
+no_line Check input t f h has k = false≢true has
+no_line Show input t f h has k = false≢true has
+no_line Ranges input t f h has k = false≢true has
+no_line (Serve callers shards) input t f h has k = fine_lines (Serve callers shards) input f h.file h.is_session k
+no_line (Dump callers shards) input t f h has k = fine_lines (Dump callers shards) input f h.file h.is_session k
+no_line (Work requests start) input t f h has k = fine_lines (Work requests start) input f h.file h.is_session k
 
 no_range : (c : Command) (input t : List ℕ) (e : RangeRefusal) → IsTextOf c input t → has_handlers c ≡ false → text_fault input ≡ Some e → ⊥
 no_range Check input t e h has k = false≢true (sym has)
 no_range Show input t e h has k = false≢true (sym has)
 no_range (Serve callers shards) input t e h has k = false≢true (sym has)
+no_range (Dump callers shards) input t e h has k = false≢true (sym has)
 no_range (Work requests start) input t e h has k = false≢true (sym has)
 no_range Ranges input t e h has k = fine_text input t e h k
 
@@ -219,7 +256,7 @@ text_or_refused c input t f i h r = by (inner c input f i r) where
   by (inl a) = no_syntax (handlers_of c input) a.0 (program_in c input t a.3 h).0 a.2 (program_in c input t a.3 h).1.form
   by (inr (inl a)) = no_check (handlers_of c input) a.0 (program_in c input t a.3 h).0 a.2 (program_in c input t a.3 h).1
   by (inr (inr (inl a))) = no_analysis (handlers_of c input) a.0 (program_in c input t a.3 h).0 a.2 (program_in c input t a.3 h).1
-  by (inr (inr (inr (inl a)))) = no_request c input t a.0 h a.2 a.3
+  by (inr (inr (inr (inl a)))) = no_line c input t f h a.0 a.1
   by (inr (inr (inr (inr a)))) = no_range c input t a.0 h a.2 a.3
 
 -- ---- one answer at most
@@ -231,6 +268,8 @@ same_text Show input s t h k =
     h.text_is ∙ ap (λ (f : File). answer.shown_of input f h.program.lists) tree ∙ ap (λ (ls : List (List (List Symbol))). answer.shown_of input k.file ls) lists ∙ sym k.text_is
 same_text (Serve callers shards) input s t h k =
     h.text_is ∙ ap (λ (f : File). answer.served_text input f) (one_tree [] (parts_of input).handlers h.file k.file h.is_session.program.form k.is_session.program.form) ∙ sym k.text_is
+same_text (Dump callers shards) input s t h k =
+    h.text_is ∙ ap (λ (f : File). answer.dumped_text input f) (one_tree [] (parts_of input).handlers h.file k.file h.is_session.program.form k.is_session.program.form) ∙ sym k.text_is
 same_text (Work requests start) input s t h k =
     h.text_is ∙ ap (λ (f : File). answer.summary_of requests input f) (one_tree [] (parts_of input).handlers h.file k.file h.is_session.program.form k.is_session.program.form) ∙ sym k.text_is
 same_text Ranges input s t h k = one_text input s t h k

@@ -44,7 +44,7 @@ module _ (names : List (List ℕ)) where
   abbrev pub CodePrints : Code → Type 0
   CodePrints Finish = Unit {0}
   CodePrints (Move x e rest) = TermPrints e × CodePrints rest
-  CodePrints (Ask at p x c rest) = AtomPrints c.value × CodePrints rest
+  CodePrints (Ask at p x c rest) = (AtomPrints c.key × AtomPrints c.value) × CodePrints rest
   CodePrints (Fork at p q test a b rest) = CodePrints a × CodePrints b × CodePrints rest
   CodePrints (Loop at p n x body rest) = CodePrints body × CodePrints rest
   CodePrints (Quit es rest) = AllByRecursion TermPrints es × CodePrints rest
@@ -80,9 +80,13 @@ module _ (names : List (List ℕ)) where
     value_prints (a ∷ []) h = tt
     value_prints (a ∷ b ∷ more) h = atom_prints b (named_parts (atom_mentions b) (flat_map atom_mentions more) (named_parts (atom_mentions a) (flat_map atom_mentions (b ∷ more)) h).1).0
 
+    key_prints : (args : List Atom) → Named (flat_map atom_mentions args) → AtomPrints (key_of variables args)
+    key_prints [] h = tt
+    key_prints (a ∷ more) h = atom_prints a (named_parts (atom_mentions a) (flat_map atom_mentions more) h).0
+
     stored_prints : (name : ℕ) (r : Right) (p : ℕ) (rest : Code) → Named (right_mentions r) → CodePrints rest → CodePrints (stored tables variables name r p rest)
     stored_prints name (right.Plain e) p rest h w = (term_prints e h, w)
-    stored_prints name (right.Result c) p rest h w = (value_prints c.args h.1, w)
+    stored_prints name (right.Result c) p rest h w = ((key_prints c.args h.1, value_prints c.args h.1), w)
 
     -- each literal of a block has its text
     abbrev NamedBlock : Source → Type 0
@@ -98,7 +102,7 @@ module _ (names : List (List ℕ)) where
     code_prints NoMore p h = tt
     code_prints (Let n at r rest) p h = stored_prints n r p (code_of tables variables rest (p + right_points r)) h.0 (code_prints rest (p + right_points r) h.1)
     code_prints (Assign n at r rest) p h = stored_prints n r p (code_of tables variables rest (p + right_points r)) h.0 (code_prints rest (p + right_points r) h.1)
-    code_prints (Do c rest) p h = (value_prints c.args h.0.1, code_prints rest (p + 1) h.1)
+    code_prints (Do c rest) p h = ((key_prints c.args h.0.1, value_prints c.args h.0.1), code_prints rest (p + 1) h.1)
     code_prints (Choose at c a b rest) p h = (code_prints a (p + 1) h.0, code_prints b (p + 2 + points_of a) h.1, code_prints rest (p + 2 + points_of a + points_of b) h.2)
     code_prints (Repeat at n n_at name name_at body rest) p h = (code_prints body p h.0, code_prints rest (p + points_of body + 1) h.1)
     code_prints (Answer es rest) p h = (terms_print es h.0, code_prints rest p h.1)

@@ -1,4 +1,4 @@
--- Where the literals of a session's handlers and the arguments of its requests can be printed, so can all replies.
+-- Where the literals of a session's handlers, the entries with which its tables open and the arguments of its requests can be printed, so can all replies and tables.
 use Rattle.std.proofs.Common.{◌≡◌, ℕ, zero, suc, ◌+◌, Bool, true, false, if◌then◌else◌, List, [], ◌∷◌, ◌++◌, map, Option, Some, None, refl, sym, ap, subst}
 use Rattle.std.specs.Prelude.{ℤ, pos, ◌+ℤ◌, ◌-ℤ◌, ◌*ℤ◌, ◌==◌, ◌&&◌, negsuc, int_le}
 use Rattle.std.specs.List.{AllByRecursion}
@@ -10,7 +10,7 @@ use Rattle.session_values.specs.Dialogue.{Next, Calls as NextCalls, Answers as N
 use Rattle.session_values.specs.Reply.{values_of, reply_of}
 use Rattle.session_values.specs.ReplyText.{IsPrintable}
 use Rattle.session_values.specs.Serial.{Session, Served, serve, serial, serial_replies, tables_before, answered}
-use Rattle.session_values.specs.Tables.{Tables, start, reply, step}
+use Rattle.session_values.specs.Tables.{Tables, reply, step}
 use Rattle.session_journal.proofs.Serial.{serve-calls, serve-answers}
 use Rattle.syntax_trees.specs.declared.expr.Calc.{Calc}
 use Rattle.syntax_trees.specs.declared.expr.Calc.TheVariants.{Plus, Minus, Times}
@@ -25,9 +25,11 @@ use Rattle.handler_check.specs.Resolved.{code_at}
 use Rattle.request_files.specs.declared.request.Request.{Request}
 use Rattle.request_files.specs.Requests.{ArePrintable}
 use Rattle.reply_sheet.specs.Printable.{ArePrintableReplies}
+use Rattle.opening_tables.specs.Opening.{Pair}
+use Rattle.table_lines.specs.TableRows.{ArePrintable as ArePrintableEntries}
 use Rattle.request_files.specs.Session.{session, request_at}
 use Rattle.serve_faults.proofs.PrintableCode.{AtomPrints, TermPrints, CodePrints, file_prints}
-use Rattle.serve_faults.proofs.PrintableTables.{Holds as TableHolds, start_holds, reply_printable, step_holds}
+use Rattle.serve_faults.proofs.PrintableTables.{Holds as TableHolds, opening_holds, reply_printable, step_holds}
 
 module _ (names : List (List ℕ)) where
   abbrev V : Value → Type 0
@@ -89,7 +91,7 @@ module _ (names : List (List ℕ)) where
 
   -- what is said by an outcome
   abbrev Said : Outcome → Type 0
-  Said (Calls passed op) = V op.value
+  Said (Calls passed op) = V op.key × V op.value
   Said (Answers passed values) = All values
   Said (Goes passed env left) = Vars env × All left
 
@@ -121,7 +123,7 @@ module _ (names : List (List ℕ)) where
   said_run : (code : Code) → CodePrints names code → Goal (run code)
   said_run Finish w env left e l = (e, l)
   said_run (Move x t rest) w env left e l = said_run rest w.1 (with_value env x (value_of t env)) left (vars_with env x (value_of t env) (term_said t env w.0 e) e) l
-  said_run (Ask place p x c rest) w env [] e l = atom_said c.value env w.0 e
+  said_run (Ask place p x c rest) w env [] e l = (atom_said c.key env w.0.0 e, atom_said c.value env w.0.1 e)
   said_run (Ask place p x c rest) w env (v ∷ left) e l = said_after (at p (with_reply x v env) true) (run rest (with_reply x v env) left) (said_run rest w.1 (with_reply x v env) left (vars_reply x v env l.0 e) l.1)
   said_run (Fork place p q test a b rest) w env left e l =
       said_then (if holds test env then pass p env false (run a env left) else pass q env false (run b env left)) (run rest)
@@ -141,7 +143,7 @@ module _ (names : List (List ℕ)) where
   reply_values (a ∷ b ∷ c ∷ d ∷ more) h = (h.0, (h.1.0, (h.1.1.0, (h.1.1.1.0, tt))))
 
   abbrev NextSaid : Next → Type 0
-  NextSaid (NextCalls op) = V op.value
+  NextSaid (NextCalls op) = V op.key × V op.value
   NextSaid (NextAnswers r) = All (values_of r)
 
   -- where replies can be printed, so can what comes next
@@ -176,8 +178,8 @@ module _ (names : List (List ℕ)) where
     | NextCalls op ↦ λ e.
         (let v : Value = reply ts op in
         let said : V v = reply_printable names ts op k in
-        let stored : V op.value = subst NextSaid e (h [] tt) in
-        let more = serve_said n (rest f (v ∷ [])) (step ts op) (λ replies l. h (v ∷ replies) (said, l)) (step_holds names ts op k stored) in
+        let stored : V op.key × V op.value = subst NextSaid e (h [] tt) in
+        let more = serve_said n (rest f (v ∷ [])) (step ts op) (λ replies l. h (v ∷ replies) (said, l)) (step_holds names ts op k stored.0 stored.1) in
         subst ServedSaid (sym (serve-calls n f ts op e)) (record { answer = more.answer; after = more.after }))
     | NextAnswers r ↦ λ e. answers_said (suc n) f ts r e (h [] tt) k
   ] refl
@@ -197,15 +199,15 @@ module _ (names : List (List ℕ)) where
   request_said (r ∷ rs) zero h = h.0
   request_said (r ∷ rs) (suc t) h = request_said rs t h.1
 
-  module _ (file : File) (rs : List Request) (named : IsNamedFile names file) (requests : ArePrintable names rs) where
+  module _ (file : File) (opened : List (List Pair)) (rs : List Request) (named : IsNamedFile names file) (opens : ArePrintableEntries names opened) (requests : ArePrintable names rs) where
     abbrev this : Session
-    this = session file rs
+    this = session file opened rs
 
     ticket_prints : (t : ℕ) → Prints (this.next t)
     ticket_prints t = handler_prints (code_at file (request_at rs t).handler) (env_of (request_at rs t).args) (file_prints names file (request_at rs t).handler named) (args_said (request_at rs t).args (request_said rs t requests))
 
-    tables_hold : (t : ℕ) → AllByRecursion (TableHolds names) (tables_before this t)
-    tables_hold zero = start_holds names this.shape
+    pub tables_hold : (t : ℕ) → AllByRecursion (TableHolds names) (tables_before this t)
+    tables_hold zero = opening_holds names this.shape opened opens
     tables_hold (suc t) = (serve_said (this.length t) (this.next t) (tables_before this t) (ticket_prints t) (tables_hold t)).after
 
     pub replies_said : (n : ℕ) → ArePrintableReplies names (serial_replies this n)

@@ -14,14 +14,15 @@ use Rattle.range_session.specs.Faults.{text_fault}
 use Rattle.range_session.specs.Session.{IsRangesText}
 use Rattle.request_files.specs.declared.refusal.RequestRefusal.{RequestRefusal}
 use Rattle.serve_words.specs.declared.command.Command.{Command}
-use Rattle.serve_words.specs.declared.command.Command.TheVariants.{Check, Show, Serve, Work, Ranges}
+use Rattle.serve_words.specs.declared.command.Command.TheVariants.{Check, Show, Serve, Dump, Work, Ranges}
 use Rattle.serve_words.specs.Commands.{command_of}
 use Rattle.serve_made.specs.Summary.{summary}
 use Rattle.serve_faults.specs.declared.status.Fault.{Fault}
 use Rattle.serve_faults.specs.declared.status.Fault.TheVariants as fault
 use Rattle.serve_faults.specs.Commands.{input_of, has_requests, has_handlers}
-use Rattle.serve_faults.specs.Input.{Parts, parts_of, is_divided, wants_divided, handlers_of, IsInput}
-use Rattle.serve_faults.specs.Session.{IsProgram, IsSession, request_fault, session_of_parts, replies_text, serial_calls}
+use Rattle.serve_faults.specs.Input.{Parts, parts_of, parts_fault, handlers_of, IsInput}
+use Rattle.serve_faults.specs.Session.{IsProgram, IsSession, table_fault, request_fault, session_of_parts, replies_text, tables_text, serial_calls}
+use Rattle.table_lines.specs.declared.refusal.TableRefusal.{TableRefusal}
 
 -- ---- faults
 
@@ -44,27 +45,36 @@ pub record HasAnalysisFault (text : List ℕ) (e : AnalysisRefusal) : Type 0 whe
   pub accepted : IsAccepted file
   pub first : IsTooMany file e
 
--- the handlers break no rule, and this is the first fault of the requests
+-- the handlers break no rule, and this is the first fault of the table part
+pub record HasTableFault (parts : Parts) (e : TableRefusal) : Type 0 where
+  pub file : File
+  pub program : IsProgram parts.handlers file
+  pub first : table_fault parts file ≡ Some e
+
+-- neither the handlers nor the table part break a rule, and this is the first fault of the requests
 pub record HasRequestFault (parts : Parts) (e : RequestRefusal) : Type 0 where
   pub file : File
   pub program : IsProgram parts.handlers file
+  pub tables : table_fault parts file ≡ None
   pub first : request_fault parts file ≡ Some e
 
--- the first broken rule of an input, in the order too large, no text, no requests or requests,
--- syntax, check, analysis, requests, or, of a range session, its lines
+-- the first broken rule of an input, in the order too large, no text, no dividing line or a mark,
+-- syntax, check, analysis, tables, requests, or, of a range session, its lines
 abbrev pub IsRefused : Command → List ℕ → Fault → Type 0
 IsRefused command input fault.TooLarge = max_input < length input
 IsRefused command input fault.NotText = (length input ≤ max_input) × (IsUtf8 input → ⊥)
 IsRefused command input fault.NoRequests = (length input ≤ max_input) × IsUtf8 input
-    × (wants_divided command input ≡ true) × (is_divided input ≡ false)
+    × (parts_fault command input ≡ Some fault.NoRequests)
 IsRefused command input fault.HasRequests = (length input ≤ max_input) × IsUtf8 input
-    × (wants_divided command input ≡ false) × (is_divided input ≡ true)
+    × (parts_fault command input ≡ Some fault.HasRequests)
 IsRefused command input (fault.Syntax e) = IsInput command input
     × HasSyntaxFault (handlers_of command input) e × (has_handlers command ≡ true)
 IsRefused command input (fault.Check e) = IsInput command input
     × HasCheckFault (handlers_of command input) e × (has_handlers command ≡ true)
 IsRefused command input (fault.Analysis e) = IsInput command input
     × HasAnalysisFault (handlers_of command input) e × (has_handlers command ≡ true)
+IsRefused command input (fault.Tables e) = IsInput command input × (has_requests command ≡ true)
+    × HasTableFault (parts_of input) e
 IsRefused command input (fault.Request e) = IsInput command input × (has_requests command ≡ true)
     × HasRequestFault (parts_of input) e
 IsRefused command input (fault.Ranges e) = IsInput command input × (has_handlers command ≡ false)
@@ -99,6 +109,16 @@ pub record IsServed (input text : List ℕ) : Type 0 where
   pub is_session : IsSession (parts_of input) file
   pub text_is : text ≡ served_text input file
 
+-- the final tables of the serial run, as text
+abbrev pub dumped_text : List ℕ → File → List ℕ
+dumped_text input file = tables_text (parts_of input) file
+
+-- the text of the final tables
+pub record IsDumped (input text : List ℕ) : Type 0 where
+  pub file : File
+  pub is_session : IsSession (parts_of input) file
+  pub text_is : text ≡ dumped_text input file
+
 -- the summary of a session of so many requests: how many operations the serial run makes, and how
 -- many bytes its replies take
 abbrev pub summary_of : ℕ → List ℕ → File → List ℕ
@@ -117,6 +137,7 @@ abbrev pub IsTextOf : Command → List ℕ → List ℕ → Type 0
 IsTextOf Check input text = IsChecked input text
 IsTextOf Show input text = IsShown input text
 IsTextOf (Serve callers shards) input text = IsServed input text
+IsTextOf (Dump callers shards) input text = IsDumped input text
 IsTextOf (Work requests start) input text = IsSummary requests input text
 IsTextOf Ranges input text = IsRangesText input text
 

@@ -2,7 +2,7 @@
 -- too stands in `Input`.
 use Rattle.std.specs.Prelude.{ℕ, Bool, true, false, List, Option, Some, None}
 use Rattle.serve_words.specs.declared.command.Command.{Command}
-use Rattle.serve_words.specs.declared.command.Command.TheVariants.{Check, Show, Serve, Work, Ranges}
+use Rattle.serve_words.specs.declared.command.Command.TheVariants.{Check, Show, Serve, Dump, Work, Ranges}
 use Rattle.serve_made.specs.Session.{session_text}
 
 -- whether a command reads its source
@@ -11,6 +11,7 @@ is_reading None = false
 is_reading (Some Check) = true
 is_reading (Some Show) = true
 is_reading (Some (Serve callers shards)) = true
+is_reading (Some (Dump callers shards)) = true
 is_reading (Some (Work requests start)) = false
 is_reading (Some Ranges) = true
 
@@ -20,6 +21,7 @@ abbrev pub input_of : Command → List ℕ → List ℕ
 input_of Check bytes = bytes
 input_of Show bytes = bytes
 input_of (Serve callers shards) bytes = bytes
+input_of (Dump callers shards) bytes = bytes
 input_of (Work requests start) bytes = session_text requests start
 input_of Ranges bytes = bytes
 
@@ -28,6 +30,7 @@ abbrev pub has_handlers : Command → Bool
 has_handlers Check = true
 has_handlers Show = true
 has_handlers (Serve callers shards) = true
+has_handlers (Dump callers shards) = true
 has_handlers (Work requests start) = true
 has_handlers Ranges = false
 
@@ -36,6 +39,7 @@ abbrev pub has_requests : Command → Bool
 has_requests Check = false
 has_requests Show = false
 has_requests (Serve callers shards) = true
+has_requests (Dump callers shards) = true
 has_requests (Work requests start) = true
 has_requests Ranges = false
 
@@ -44,6 +48,7 @@ abbrev pub callers_of : Command → ℕ
 callers_of Check = 0
 callers_of Show = 0
 callers_of (Serve callers shards) = callers
+callers_of (Dump callers shards) = callers
 callers_of (Work requests start) = 4
 callers_of Ranges = 0
 
@@ -52,5 +57,6 @@ abbrev pub shards_of : Command → ℕ
 shards_of Check = 0
 shards_of Show = 0
 shards_of (Serve callers shards) = shards
+shards_of (Dump callers shards) = shards
 shards_of (Work requests start) = 4
 shards_of Ranges = 0

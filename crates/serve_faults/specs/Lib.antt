@@ -4,5 +4,6 @@ pub mod Commands
 pub mod ExitStatus
 pub mod Input
 pub mod Message
+pub mod Printable
 pub mod Session
 pub mod Ways

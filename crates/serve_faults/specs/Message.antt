@@ -8,12 +8,14 @@ use Rattle.check_rules.specs.declared.refusal.CheckRefusal.{CheckRefusal}
 use Rattle.check_rules.specs.declared.refusal.CheckRefusal.TheVariants as check
 use Rattle.may_use_analysis.specs.declared.refusal.AnalysisRefusal.{AnalysisRefusal}
 use Rattle.may_use_analysis.specs.declared.refusal.AnalysisRefusal.TheVariants as analysis
+use Rattle.table_lines.specs.declared.refusal.TableRefusal.{TableRefusal}
+use Rattle.table_lines.specs.declared.refusal.TableRefusal.TheVariants as table
 use Rattle.request_files.specs.declared.refusal.RequestRefusal.{RequestRefusal}
 use Rattle.request_files.specs.declared.refusal.RequestRefusal.TheVariants as request
 use Rattle.range_session.specs.declared.refusal.RangeRefusal.{RangeRefusal}
 use Rattle.range_session.specs.declared.refusal.RangeRefusal.TheVariants as range
 use Rattle.serve_faults.specs.declared.status.Fault.{Fault}
-use Rattle.serve_faults.specs.declared.status.Fault.TheVariants.{TooLarge, NoRequests, HasRequests, NotText, Syntax, Check, Analysis, Request, Ranges}
+use Rattle.serve_faults.specs.declared.status.Fault.TheVariants.{TooLarge, NoRequests, HasRequests, NotText, Syntax, Check, Analysis, Tables, Request, Ranges}
 use Rattle.serve_faults.specs.declared.status.Status.{Status}
 use Rattle.serve_faults.specs.declared.status.Status.TheVariants.{Fine, Refused, Usage, NoMemory, ReadFault, WriteFault}
 
@@ -52,6 +54,14 @@ analysis_line (analysis.TooManySymbols at count) =
     ended (codes "refused A1 at " ++ decimal at ++ codes " count " ++ decimal count)
 analysis_line analysis.NoMemory = []
 
+abbrev pub table_line : TableRefusal → List ℕ
+table_line (table.UnknownTable line) = numbered (codes "refused B1 line ") line
+table_line (table.Arity line) = numbered (codes "refused B2 line ") line
+table_line (table.BadWord line) = numbered (codes "refused B3 line ") line
+table_line (table.Twice line) = numbered (codes "refused B4 line ") line
+table_line (table.TooManyEntries line) = numbered (codes "refused B5 line ") line
+table_line table.NoMemory = []
+
 abbrev pub request_line : RequestRefusal → List ℕ
 request_line (request.UnknownHandler line) = numbered (codes "refused Q1 line ") line
 request_line (request.Arity line) = numbered (codes "refused Q2 line ") line
@@ -77,6 +87,7 @@ fault_line NotText = ended (codes "refused T4")
 fault_line (Syntax e) = syntax_line e
 fault_line (Check e) = check_line e
 fault_line (Analysis e) = analysis_line e
+fault_line (Tables e) = table_line e
 fault_line (Request e) = request_line e
 fault_line (Ranges e) = range_line e
 

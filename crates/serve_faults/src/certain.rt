@@ -5,6 +5,7 @@ ghost use Rattle.handler_syntax.specs.Language.syntax_refusal as syntax;
 ghost use Rattle.check_rules.specs.declared.refusal.CheckRefusal.TheVariants as check;
 ghost use Rattle.may_use_analysis.specs.declared.refusal.AnalysisRefusal.TheVariants as analysis;
 ghost use Rattle.request_files.specs.declared.refusal.RequestRefusal.TheVariants as request;
+ghost use Rattle.table_lines.specs.declared.refusal.TableRefusal.TheVariants as table;
 ghost use Rattle.range_session.specs.declared.refusal.RangeRefusal.TheVariants as range;
 
 use check_rules::CheckRefusal;
@@ -13,6 +14,7 @@ use may_use_analysis::AnalysisRefusal;
 use range_session::RangeRefusal;
 use request_files::RequestRefusal;
 use std::marker::Model;
+use table_lines::TableRefusal;
 
 /// Why a part of the program refuses a text: a rule that is broken, or want of memory.
 pub trait Refusal {
@@ -34,6 +36,10 @@ impl Refusal for AnalysisRefusal {
 
 impl Refusal for RequestRefusal {
     ghost is_certain = { λ e. e ≢ request.NoMemory };
+}
+
+impl Refusal for TableRefusal {
+    ghost is_certain = { λ e. e ≢ table.NoMemory };
 }
 
 impl Refusal for RangeRefusal {

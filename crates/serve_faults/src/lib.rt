@@ -8,6 +8,6 @@ mod message;
 mod status;
 
 pub use certain::{Certain, Refusal};
-pub use laws::{one_answer, replies_are_printable, some_answer};
+pub use laws::{one_answer, replies_are_printable, some_answer, tables_are_printable};
 pub use message::message_of;
 pub use status::{Fault, Status};

@@ -11,6 +11,7 @@ use range_session::RangeRefusal;
 use request_files::RequestRefusal;
 use serve_words::usage_line;
 use short_text::{ShortText, push_number, short_text};
+use table_lines::TableRefusal;
 
 /// The line that tells how a run ended; none where it ended well.
 pub fn message_of(status: &Status) -> ShortText
@@ -37,6 +38,7 @@ fn fault_line(fault: &Fault) -> ShortText
         Fault::Syntax(e) => syntax_line(e.refusal()),
         Fault::Check(e) => check_line(e.refusal()),
         Fault::Analysis(e) => analysis_line(e.refusal()),
+        Fault::Tables(e) => table_line(e.refusal()),
         Fault::Request(e) => request_line(e.refusal()),
         Fault::Ranges(e) => range_line(e.refusal()),
     }
@@ -100,6 +102,20 @@ fn analysis_line(e: &AnalysisRefusal) -> ShortText
             text
         }
         AnalysisRefusal::NoMemory => unreachable!(),
+    }
+}
+
+fn table_line(e: &TableRefusal) -> ShortText
+    requires { e.now ≢ TableRefusal.NoMemory }
+    ensures { result.bytes ≡ spec.table_line e.now }
+{
+    match e {
+        TableRefusal::UnknownTable { line } => numbered("refused B1 line ", *line),
+        TableRefusal::Arity { line } => numbered("refused B2 line ", *line),
+        TableRefusal::BadWord { line } => numbered("refused B3 line ", *line),
+        TableRefusal::Twice { line } => numbered("refused B4 line ", *line),
+        TableRefusal::TooManyEntries { line } => numbered("refused B5 line ", *line),
+        TableRefusal::NoMemory => unreachable!(),
     }
 }
 

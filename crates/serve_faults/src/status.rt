@@ -8,6 +8,7 @@ use handler_syntax::SyntaxRefusal;
 use may_use_analysis::AnalysisRefusal;
 use range_session::RangeRefusal;
 use request_files::RequestRefusal;
+use table_lines::TableRefusal;
 
 /// Why an input is refused. It is never want of memory.
 #[derive(Debug, Drop)]
@@ -16,7 +17,7 @@ pub enum Fault {
     TooLarge,
     /// It has no dividing line, and requests are to be served.
     NoRequests,
-    /// It has a dividing line, and is to be a file of handlers alone.
+    /// It has a dividing line or a line `%% tables`, and is to be a file of handlers alone.
     HasRequests,
     /// It is no UTF-8.
     NotText,
@@ -26,6 +27,8 @@ pub enum Fault {
     Check(Certain<CheckRefusal>),
     /// Too many operations may still come at a point of the handlers.
     Analysis(Certain<AnalysisRefusal>),
+    /// A line of the table part breaks a rule.
+    Tables(Certain<TableRefusal>),
     /// A request breaks a rule.
     Request(Certain<RequestRefusal>),
     /// A line of a range session breaks a rule.

@@ -1,9 +1,9 @@
 -- What is loaded, and why nothing is, from what the parts of the reading say.
-use Rattle.std.proofs.Common.{◌≡◌, ℕ, Bool, true, false, if◌then◌else◌, List, [], length, map, ◌≤◌, refl, sym, ap, ◌∙◌, subst}
+use Rattle.std.proofs.Common.{◌≡◌, ℕ, Bool, true, false, if◌then◌else◌, List, [], ◌∷◌, ◌<◌, length, map, ◌≤◌, arith, length-append, None, Some, refl, sym, ap, ◌∙◌, subst}
 use Rattle.std.specs.Prelude.{IsUtf8}
 use Rattle.session_limits.specs.Limits.{max_input}
 use Rattle.session_values.specs.Names.{Begins}
-use Rattle.syntax_trees.specs.Mentions.{file_mentions}
+use Rattle.syntax_trees.specs.Mentions.{AreNamed, IsBelow, Mention, a_name, a_number, a_symbol, file_mentions}
 use Rattle.handler_syntax.proofs.TextsKept.{texts_kept}
 use Rattle.handler_syntax.specs.Language.{names_of, File, IsNamedFile, canonical_text, shown_text}
 use Rattle.handler_check.specs.Checking.{IsAccepted}
@@ -12,51 +12,135 @@ use Rattle.declaration_insertion.specs.Program.{ProgramView}
 use Rattle.declaration_insertion.specs.Shown.{shown_of}
 use Rattle.request_files.specs.declared.request.Request.{Request}
 use Rattle.text_lines.specs.Text.{lines}
-use Rattle.request_files.specs.Requests.{request_of, AreRequests, ArePrintable}
-use Rattle.text_lines.specs.Rows.{rows}
+use Rattle.request_files.specs.Requests.{request_of, AreRequests, ArePrintable, first_fault, no_requests}
+use Rattle.request_files.specs.declared.refusal.RequestRefusal.{RequestRefusal}
+use Rattle.opening_tables.specs.Opening.{Pair, IsOpening}
+use Rattle.table_lines.specs.TableRows.{ArePrintable as ArePrintableEntries, AreTables, first_table_fault}
+use Rattle.table_lines.specs.Opened.{opened_by}
+use Rattle.table_lines.proofs.OpenedLemmas.{opened_is}
+use Rattle.handler_check.specs.Resolved.{shape_of}
+use Rattle.session_values.specs.ReplyText.{IsPrintable}
+use Rattle.session_values.proofs.Named.{begins_then, printable_kept}
+use Rattle.std.specs.List.{AllByRecursion}
+use Rattle.text_lines.specs.Rows.{Row, names_behind}
 use Rattle.request_files.specs.Servable.{IsServable}
 use Rattle.serve_faults.specs.declared.status.Fault.{Fault}
 use Rattle.serve_faults.specs.declared.status.Fault.TheVariants as fault
-use Rattle.serve_faults.specs.Input.{Parts, is_divided, IsInput}
-use Rattle.serve_faults.specs.Session.{IsProgram, rows_of, handler_names_of}
+use Rattle.serve_faults.specs.Input.{Parts, alone_fault, has_mark, IsInput}
+use Rattle.serve_faults.specs.Session.{IsProgram, rows_of, table_rows_of, opening_names_of}
 use Rattle.serve_faults.specs.Answer.{IsRefused, IsTextOf}
 use Rattle.serve_faults.specs.Ways.{describing}
 use Rattle.serve_reading.specs.declared.session.Loaded.{Loaded}
 use Rattle.serve_reading.specs.declared.unserved.Unserved.{Unserved}
 use Rattle.serve_reading.specs.declared.unserved.Unserved.TheVariants.{Refused, NoMemory}
 use Rattle.serve_reading.specs.Programs.{Describes, IsDeclared, IsParsed, IsProgramOf}
-use Rattle.serve_reading.specs.Reasons.{IsAnalysisReason, IsCheckReason, IsFileReason, IsReason, IsSyntaxReason}
-use Rattle.serve_reading.specs.Sessions.{IsLoaded}
+use Rattle.serve_reading.specs.Reasons.{IsAnalysisReason, IsCheckReason, IsFileReason, IsLinesReason, IsReason, IsSessionReason, IsSyntaxReason}
+use Rattle.serve_reading.specs.Sessions.{AreOpened, IsLoaded}
 
-pub loaded : (parts : Parts) (l : Loaded) (old : List (List ℕ)) → IsProgramOf parts.handlers l.program → old ≡ names_of [] parts.handlers
-    → AreRequests old l.names l.program.file (rows parts.first (lines parts.requests)) l.requests → IsServable l.program.file l.requests → ArePrintable l.names l.requests
-    → IsNamedFile old l.program.file → Begins old l.names → IsLoaded parts l
-loaded parts l old program e read servable printable named begins =
-    let r = subst (λ (ns : List (List ℕ)). AreRequests ns l.names l.program.file (rows_of parts) l.requests) e read in
+abbrev pub as_program : (text : List ℕ) (p : ProgramView) → IsProgramOf text p → IsProgram text p.file
+as_program text p h = record { form = h.form; accepted = h.accepted; lists = p.lists; later = h.later }
+
+-- ---- tables and requests
+-- what can be printed can be printed with more names behind
+entries_kept : (old new : List (List ℕ)) (es : List Pair) → Begins old new → AllByRecursion (λ (e : Pair). IsPrintable old e.0 × IsPrintable old e.1) es → AllByRecursion (λ (e : Pair). IsPrintable new e.0 × IsPrintable new e.1) es
+entries_kept old new [] b h = tt
+entries_kept old new (e ∷ es) b h = ((printable_kept old new e.0 b h.0.0, printable_kept old new e.1 b h.0.1), entries_kept old new es b h.1)
+
+lists_kept : (old new : List (List ℕ)) (lists : List (List Pair)) → Begins old new → ArePrintableEntries old lists → ArePrintableEntries new lists
+lists_kept old new [] b h = tt
+lists_kept old new (es ∷ lists) b h = (entries_kept old new es b h.0, lists_kept old new lists b h.1)
+
+below_kept : (n m : ℕ) (ms : List Mention) → n ≤ m → AllByRecursion (IsBelow n) ms → AllByRecursion (IsBelow m) ms
+below_kept n m [] le h = tt
+below_kept n m (a_name place ∷ ms) le h = (omega (arith, le, h.0), below_kept n m ms le h.1)
+below_kept n m (a_symbol place ∷ ms) le h = (omega (arith, le, h.0), below_kept n m ms le h.1)
+below_kept n m (a_number z ∷ ms) le h = (tt, below_kept n m ms le h.1)
+
+-- what is mentioned is below a longer list too
+pub mentions_kept : (old new : List (List ℕ)) (ms : List Mention) → Begins old new → AreNamed old ms → AreNamed new ms
+mentions_kept old new ms b h = below_kept (length old) (length new) ms (omega (arith, ap length b.1, length-append old b.0)) h
+
+-- what both calls of reading say, together
+pub both_read : (old mid new : List (List ℕ)) (f : File) (ts rs : List Row) (opening : List (List Pair)) (requests : List Request)
+    → AreTables old mid f.tables ts opening → IsOpening (shape_of f) opening → ArePrintableEntries mid opening → Begins old mid
+    → AreRequests mid new f rs requests → IsServable f requests → ArePrintable new requests → Begins mid new → AreOpened old new f ts rs opening requests
+both_read old mid new f ts rs opening requests tables opens p b read servable printable c =
+    let r = subst (λ (ns : List (List ℕ)). AreRequests ns new f rs requests) tables.names read in
     record {
-      program_of = program;
+      tables_fine = tables.fine;
       fine = r.fine;
       names_are = r.names;
-      requests_are = r.requests ∙ ap (λ (ns : List (List ℕ)). map (request_of (handler_names_of parts) ns l.program.file) (rows_of parts)) r.names;
+      opening_is = subst (λ (ns : List (List ℕ)). opening ≡ opened_by old ns f.tables ts) tables.names (opened_is old mid f.tables ts opening tables);
+      opens = opens;
+      requests_are = r.requests;
       servable = servable;
-      named = texts_kept old l.names begins (file_mentions l.program.file) named;
+      kept = begins_then old mid new b c;
+      printable_opening = lists_kept mid new opening c p;
       printable = printable;
     }
 
--- ---- describing
-pub describing_input : (shown : Bool) (bytes : List ℕ) → length bytes ≤ max_input → IsUtf8 bytes → is_divided bytes ≡ false → IsInput (describing shown) bytes
-describing_input true bytes short utf8 e = record { short = short; utf8 = utf8; parts = e }
-describing_input false bytes short utf8 e = record { short = short; utf8 = utf8; parts = e }
+-- the requests behind tables without a fault have this one
+pub behind_tables : (old mid : List (List ℕ)) (f : File) (ts rs : List Row) (opening : List (List Pair)) (e : RequestRefusal) → AreTables old mid f.tables ts opening → first_fault mid f no_requests rs ≡ Some e
+    → (first_table_fault old f.tables [] ts ≡ None) × (first_fault (names_behind old ts) f no_requests rs ≡ Some e)
+behind_tables old mid f ts rs opening e tables h = (tables.fine, ap (λ (ns : List (List ℕ)). first_fault ns f no_requests rs) (sym tables.names) ∙ h)
 
-pub describing_divided : (shown : Bool) (bytes : List ℕ) → length bytes ≤ max_input → IsUtf8 bytes → is_divided bytes ≡ true → IsRefused (describing shown) bytes fault.HasRequests
-describing_divided true bytes short utf8 e = (short, utf8, refl, e)
-describing_divided false bytes short utf8 e = (short, utf8, refl, e)
+-- ---- sessions
+pub loaded : (parts : Parts) (l : Loaded) (old : List (List ℕ)) → IsProgramOf parts.handlers l.program → old ≡ names_of [] parts.handlers
+    → AreOpened old l.names l.program.file (table_rows_of parts) (rows_of parts) l.opening l.requests → IsNamedFile old l.program.file → IsLoaded parts l
+loaded parts l old program e read named =
+    let r = subst (λ (ns : List (List ℕ)). AreOpened ns l.names l.program.file (table_rows_of parts) (rows_of parts) l.opening l.requests) e read in
+    record {
+      program_of = program;
+      tables_fine = r.tables_fine;
+      fine = r.fine;
+      names_are = r.names_are;
+      opening_is = r.opening_is;
+      opens = r.opens;
+      requests_are = r.requests_are ∙ ap (λ (ns : List (List ℕ)). map (request_of (opening_names_of parts) ns l.program.file) (rows_of parts)) r.names_are;
+      servable = r.servable;
+      named = texts_kept old l.names read.kept (file_mentions l.program.file) named;
+      printable_opening = r.printable_opening;
+      printable = r.printable;
+    }
+
+-- why lines were refused is why the session is
+pub lines_reason : (parts : Parts) (p : ProgramView) (old : List (List ℕ)) (e : Unserved) → IsProgramOf parts.handlers p → old ≡ names_of [] parts.handlers → IsLinesReason old p.file (table_rows_of parts) (rows_of parts) e → IsSessionReason parts e
+lines_reason parts p old NoMemory program is h = tt
+lines_reason parts p old (Refused (fault.Tables e)) program is h = record {
+  file = p.file;
+  program = as_program parts.handlers p program;
+  first = ap (λ (ns : List (List ℕ)). first_table_fault ns p.file.tables [] (table_rows_of parts)) (sym is) ∙ h;
+}
+lines_reason parts p old (Refused (fault.Request e)) program is h = record {
+  file = p.file;
+  program = as_program parts.handlers p program;
+  tables = ap (λ (ns : List (List ℕ)). first_table_fault ns p.file.tables [] (table_rows_of parts)) (sym is) ∙ h.0;
+  first = ap (λ (ns : List (List ℕ)). first_fault (names_behind ns (table_rows_of parts)) p.file no_requests (rows_of parts)) (sym is) ∙ h.1;
+}
+lines_reason parts p old (Refused (fault.Syntax e)) program is h = absurd h
+lines_reason parts p old (Refused (fault.Check e)) program is h = absurd h
+lines_reason parts p old (Refused (fault.Analysis e)) program is h = absurd h
+lines_reason parts p old (Refused (fault.Ranges e)) program is h = absurd h
+lines_reason parts p old (Refused fault.TooLarge) program is h = absurd h
+lines_reason parts p old (Refused fault.NotText) program is h = absurd h
+lines_reason parts p old (Refused fault.NoRequests) program is h = absurd h
+lines_reason parts p old (Refused fault.HasRequests) program is h = absurd h
+
+-- ---- describing
+pub describing_input : (shown : Bool) (bytes : List ℕ) → length bytes ≤ max_input → IsUtf8 bytes → has_mark bytes ≡ false → IsInput (describing shown) bytes
+describing_input true bytes short utf8 e = record { short = short; utf8 = utf8; parts = ap alone_fault e }
+describing_input false bytes short utf8 e = record { short = short; utf8 = utf8; parts = ap alone_fault e }
+
+pub describing_marked : (shown : Bool) (bytes : List ℕ) → length bytes ≤ max_input → IsUtf8 bytes → has_mark bytes ≡ true → IsRefused (describing shown) bytes fault.HasRequests
+describing_marked true bytes short utf8 e = (short, utf8, ap alone_fault e)
+describing_marked false bytes short utf8 e = (short, utf8, ap alone_fault e)
 
 pub check_reason : (file : File) (e : Unserved) → IsCheckReason file e → IsFileReason file e
 check_reason file NoMemory h = tt
 check_reason file (Refused (fault.Check e)) h = h
 check_reason file (Refused (fault.Syntax e)) h = absurd h
 check_reason file (Refused (fault.Analysis e)) h = absurd h
+check_reason file (Refused (fault.Tables e)) h = absurd h
 check_reason file (Refused (fault.Request e)) h = absurd h
 check_reason file (Refused (fault.Ranges e)) h = absurd h
 check_reason file (Refused fault.TooLarge) h = absurd h
@@ -69,6 +153,7 @@ analysis_reason file NoMemory a h = tt
 analysis_reason file (Refused (fault.Analysis e)) a h = (a, h)
 analysis_reason file (Refused (fault.Check e)) a h = absurd h
 analysis_reason file (Refused (fault.Syntax e)) a h = absurd h
+analysis_reason file (Refused (fault.Tables e)) a h = absurd h
 analysis_reason file (Refused (fault.Request e)) a h = absurd h
 analysis_reason file (Refused (fault.Ranges e)) a h = absurd h
 analysis_reason file (Refused fault.TooLarge) a h = absurd h
@@ -84,6 +169,7 @@ file_reason false bytes file names (Refused (fault.Check e)) p h = (p.input fals
 file_reason true bytes file names (Refused (fault.Analysis e)) p h = (p.input true, record { file = file; form = p.form; accepted = h.0; first = h.1 }, refl)
 file_reason false bytes file names (Refused (fault.Analysis e)) p h = (p.input false, record { file = file; form = p.form; accepted = h.0; first = h.1 }, refl)
 file_reason shown bytes file names (Refused (fault.Syntax e)) p h = absurd h
+file_reason shown bytes file names (Refused (fault.Tables e)) p h = absurd h
 file_reason shown bytes file names (Refused (fault.Request e)) p h = absurd h
 file_reason shown bytes file names (Refused (fault.Ranges e)) p h = absurd h
 file_reason shown bytes file names (Refused fault.TooLarge) p h = absurd h
@@ -97,15 +183,13 @@ syntax_reason true bytes (Refused (fault.Syntax e)) i h = (i, h, refl)
 syntax_reason false bytes (Refused (fault.Syntax e)) i h = (i, h, refl)
 syntax_reason shown bytes (Refused (fault.Check e)) i h = absurd h
 syntax_reason shown bytes (Refused (fault.Analysis e)) i h = absurd h
+syntax_reason shown bytes (Refused (fault.Tables e)) i h = absurd h
 syntax_reason shown bytes (Refused (fault.Request e)) i h = absurd h
 syntax_reason shown bytes (Refused (fault.Ranges e)) i h = absurd h
 syntax_reason shown bytes (Refused fault.TooLarge) i h = absurd h
 syntax_reason shown bytes (Refused fault.NotText) i h = absurd h
 syntax_reason shown bytes (Refused fault.NoRequests) i h = absurd h
 syntax_reason shown bytes (Refused fault.HasRequests) i h = absurd h
-
-abbrev pub as_program : (text : List ℕ) (p : ProgramView) → IsProgramOf text p → IsProgram text p.file
-as_program text p h = record { form = h.form; accepted = h.accepted; lists = p.lists; later = h.later }
 
 abbrev pub as_parsed : (bytes : List ℕ) (file : File) (names : List (List ℕ)) → IsParsed bytes file names → IsAccepted file → HasLater file → IsProgram bytes file
 as_parsed bytes file names p a l = record { form = p.form; accepted = a; lists = l.0; later = l.1 }

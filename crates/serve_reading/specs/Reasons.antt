@@ -1,12 +1,15 @@
 -- Why nothing is made of a text: memory ran out, or this is the first broken rule.
-use Rattle.std.specs.Prelude.{◌≡◌, ℕ, ◌≤◌, false, IsUtf8, List, length}
+use Rattle.std.specs.Prelude.{◌≡◌, ℕ, ◌≤◌, false, IsUtf8, List, [], length, None, Some}
 use Rattle.session_limits.specs.Limits.{max_input}
 use Rattle.syntax_trees.specs.declared.file.File.{File}
 use Rattle.handler_check.specs.Checking.{IsAccepted, IsRefusal}
 use Rattle.may_use_analysis.specs.Later.{IsTooMany}
+use Rattle.request_files.specs.Requests.{first_fault, no_requests}
+use Rattle.table_lines.specs.TableRows.{first_table_fault}
+use Rattle.text_lines.specs.Rows.{Row, names_behind}
 use Rattle.serve_words.specs.declared.command.Command.{Command}
 use Rattle.serve_faults.specs.declared.status.Fault.TheVariants as fault
-use Rattle.serve_faults.specs.Answer.{HasSyntaxFault, HasCheckFault, HasAnalysisFault, HasRequestFault, IsRefused}
+use Rattle.serve_faults.specs.Answer.{HasSyntaxFault, HasCheckFault, HasAnalysisFault, HasRequestFault, HasTableFault, IsRefused}
 use Rattle.serve_faults.specs.Input.{Parts, parts_of, is_divided}
 use Rattle.serve_reading.specs.Sessions.{IsSessionInput}
 use Rattle.serve_reading.specs.declared.unserved.Unserved.{Unserved}
@@ -45,12 +48,25 @@ IsProgramReason text (Refused (fault.Check e)) = HasCheckFault text e
 IsProgramReason text (Refused (fault.Analysis e)) = HasAnalysisFault text e
 IsProgramReason text (Refused e) = ⊥
 
--- memory ran out, or this is the first fault of the handlers' text, or of the requests
+-- over the names of a file: memory ran out, or this is the first fault of some table rows, or of
+-- the requests behind them
+abbrev pub IsLinesReason : List (List ℕ) → File → List Row → List Row → Unserved → Type 0
+IsLinesReason names file ts rs NoMemory = Unit {0}
+IsLinesReason names file ts rs (Refused (fault.Tables e)) =
+    first_table_fault names file.tables [] ts ≡ Some e
+IsLinesReason names file ts rs (Refused (fault.Request e)) =
+    (first_table_fault names file.tables [] ts ≡ None)
+    × (first_fault (names_behind names ts) file no_requests rs ≡ Some e)
+IsLinesReason names file ts rs (Refused e) = ⊥
+
+-- memory ran out, or this is the first fault of the handlers' text, of the table part, or of the
+-- requests
 abbrev pub IsSessionReason : Parts → Unserved → Type 0
 IsSessionReason parts NoMemory = Unit {0}
 IsSessionReason parts (Refused (fault.Syntax e)) = HasSyntaxFault parts.handlers e
 IsSessionReason parts (Refused (fault.Check e)) = HasCheckFault parts.handlers e
 IsSessionReason parts (Refused (fault.Analysis e)) = HasAnalysisFault parts.handlers e
+IsSessionReason parts (Refused (fault.Tables e)) = HasTableFault parts e
 IsSessionReason parts (Refused (fault.Request e)) = HasRequestFault parts e
 IsSessionReason parts (Refused e) = ⊥
 

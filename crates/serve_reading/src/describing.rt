@@ -17,7 +17,7 @@ use byte_ends::{PutsText, TextSink};
 use declaration_insertion::{Program, put_shown};
 use handler_check::Accepted;
 use handler_syntax::{File, is_countable, put_canonical};
-use request_files::divide;
+use request_files::has_mark;
 use serve_faults::Fault;
 use session_values::Names;
 use std::alloc::Global;
@@ -91,7 +91,7 @@ fn parsed(alloc: Global, bytes: &[u8]) -> Result<(File, Names), Unserved>
     let Ok(text) = std::str::from_utf8(bytes) else {
         return Err(Unserved::Refused(Fault::NotText));
     };
-    if divide(text).is_some() {
+    if has_mark(text) {
         return Err(Unserved::Refused(Fault::HasRequests));
     }
     match named_file(alloc, text) {
@@ -108,7 +108,7 @@ fn named_file(alloc: Global, text: &str) -> Result<(File, Names), Unserved>
     ensures named { IfOk result (λ found. AreNamed found.1 (file_mentions found.0)) }
     ensures refused { IfErr result (IsSyntaxReason text.now) }
 {
-    let mut names = names_of_input(alloc, text, "");
+    let mut names = names_of_input(alloc, text, "", "");
     let file = read_file(alloc, text, &mut names)?;
     Ok((file, names))
 }

@@ -2,24 +2,32 @@
 
 ghost use Rattle.std.specs.Prelude.{◌≤◌, length, IfOk, IfErr};
 ghost use Rattle.session_limits.specs.Limits.{max_input};
-ghost use Rattle.serve_faults.specs.Input.{parts_of};
-ghost use Rattle.serve_reading.specs.Sessions.{IsLoaded, IsSessionInput};
-ghost use Rattle.serve_reading.specs.Reasons.{IsInputReason, IsSessionReason};
+ghost use Rattle.syntax_trees.specs.Mentions.{AreNamed, file_mentions};
+ghost use Rattle.text_lines.specs.Rows.{rows};
+ghost use Rattle.text_lines.specs.Text.{lines};
+ghost use Rattle.serve_faults.specs.Input.{parts_by, parts_of};
+ghost use Rattle.serve_reading.specs.Sessions.{AreOpened, IsLoaded, IsSessionInput};
+ghost use Rattle.serve_reading.specs.Reasons.{IsInputReason, IsLinesReason, IsSessionReason};
 
 use crate::naming::names_of_input;
 use crate::program::read_program;
 use crate::unserved::Unserved;
 use declaration_insertion::Program;
-use request_files::{RequestRefusal, Requests, divide, read_requests};
+use handler_check::Checked;
+use opening_tables::Opening;
+use request_files::{Divided, RequestRefusal, Requests, divide, read_requests};
 use serve_faults::{Certain, Fault};
 use session_values::Names;
 use std::alloc::Global;
+use table_lines::{TableRefusal, read_tables};
 
 /// A session that can be served.
 #[derive(Drop)]
 pub struct Loaded {
     pub names: Names,
     pub program: Program,
+    /// The entries with which the tables open.
+    pub opening: Opening,
     pub requests: Requests,
 }
 
@@ -36,35 +44,66 @@ pub fn load_session(alloc: Global, bytes: &[u8]) -> Result<Loaded, Unserved>
     let Some(parts) = divide(text) else {
         return Err(Unserved::Refused(Fault::NoRequests));
     };
-    match read_session(alloc, parts.handlers, parts.requests, parts.first) {
+    match read_session(alloc, parts) {
         Ok(loaded) => Ok(loaded),
         Err(e) => Err(e),
     }
 }
 
-/// The session of a handlers' part and a requests' part, whose first line has the number `first`.
-fn read_session(
-    alloc: Global,
-    handlers: &str,
-    requests: &str,
-    first: u32,
-) -> Result<Loaded, Unserved>
-    requires handlers { length handlers.now ≤ max_input }
-    requires requests { length requests.now ≤ max_input }
-    requires first { first ≤ 4194306 }
-    ensures loaded { IfOk result (IsLoaded
-        (record { handlers = handlers.now; requests = requests.now; first = first })) }
-    ensures refused { IfErr result (IsSessionReason
-        (record { handlers = handlers.now; requests = requests.now; first = first })) }
+/// The session of a file's parts.
+fn read_session(alloc: Global, parts: Divided<'_>) -> Result<Loaded, Unserved>
+    requires handlers { length parts.handlers.now ≤ max_input }
+    requires tables { length parts.tables.now ≤ max_input }
+    requires requests { length parts.requests.now ≤ max_input }
+    requires first_table { parts.first_table ≤ 4194306 }
+    requires first { parts.first ≤ 4194306 }
+    ensures loaded { IfOk result (IsLoaded (parts_by parts.entry.handlers.now parts.entry.tables.now
+        parts.entry.requests.now parts.entry.first_table parts.entry.first)) }
+    ensures refused { IfErr result (IsSessionReason (parts_by parts.entry.handlers.now
+        parts.entry.tables.now parts.entry.requests.now parts.entry.first_table
+        parts.entry.first)) }
 {
-    let mut names = names_of_input(alloc, handlers, requests);
-    let program = read_program(alloc, handlers, &mut names)?;
-    match read_requests(alloc, program.checked(), requests, first, &mut names) {
-        Ok(requests) => Ok(Loaded {
+    let mut names = names_of_input(alloc, parts.handlers, parts.tables, parts.requests);
+    let program = read_program(alloc, parts.handlers, &mut names)?;
+    let checked = program.checked();
+    match opened(alloc, checked, parts, &mut names) {
+        Ok((opening, requests)) => Ok(Loaded {
             names,
             program,
+            opening,
             requests,
         }),
+        Err(e) => Err(e),
+    }
+}
+
+/// The entries with which the tables of checked handlers open, and the requests behind them.
+fn opened(
+    alloc: Global,
+    checked: &Checked,
+    parts: Divided<'_>,
+    names: &mut Names,
+) -> Result<(Opening, Requests), Unserved>
+    requires named { AreNamed names.old (file_mentions checked.now) }
+    requires names { length names.old ≤ max_input }
+    requires tables { length parts.tables.now ≤ max_input }
+    requires requests { length parts.requests.now ≤ max_input }
+    requires first_table { parts.first_table ≤ 4194306 }
+    requires first { parts.first ≤ 4194306 }
+    ensures opened { IfOk result (λ found. AreOpened names.old names.new checked.now
+        (rows parts.entry.first_table (lines parts.entry.tables.now)) (rows parts.entry.first
+        (lines parts.entry.requests.now)) found.0 found.1) }
+    ensures refused { IfErr result (IsLinesReason names.old checked.now
+        (rows parts.entry.first_table (lines parts.entry.tables.now)) (rows parts.entry.first
+        (lines parts.entry.requests.now))) }
+{
+    let opening = match read_tables(alloc, checked, parts.tables, parts.first_table, names) {
+        Ok(opening) => opening,
+        Err(TableRefusal::NoMemory) => return Err(Unserved::NoMemory),
+        Err(e) => return Err(Unserved::Refused(Fault::Tables(Certain::new(e)))),
+    };
+    match read_requests(alloc, checked, parts.requests, parts.first, names) {
+        Ok(requests) => Ok((opening, requests)),
         Err(RequestRefusal::NoMemory) => Err(Unserved::NoMemory),
         Err(e) => Err(Unserved::Refused(Fault::Request(Certain::new(e)))),
     }

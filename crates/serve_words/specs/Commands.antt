@@ -4,13 +4,13 @@ use Rattle.std.specs.Str.{bytes_eq}
 use Rattle.session_limits.specs.Limits.{max_callers, max_requests, max_shards}
 use Rattle.serve_words.specs.Numbers.{number_within}
 use Rattle.serve_words.specs.declared.command.Command.{Command}
-use Rattle.serve_words.specs.declared.command.Command.TheVariants.{Check, Show, Serve, Work, Ranges}
+use Rattle.serve_words.specs.declared.command.Command.TheVariants.{Check, Show, Serve, Dump, Work, Ranges}
 
 -- the line that tells the command lines
 abbrev pub usage_line : List ℕ
 usage_line =
-    codes "usage: foresight check | show | serve [--callers N] [--shards S] | work N START | ranges"
-    ++ 10 ∷ []
+    codes "usage: foresight check | show | serve [--callers N] [--shards S]"
+    ++ codes " | dump [--callers N] [--shards S] | work N START | ranges" ++ 10 ∷ []
 
 -- the number of callers, and the number of shards of a table
 abbrev pub callers_of : List ℕ → Option ℕ
@@ -19,26 +19,44 @@ callers_of word = number_within 1 max_callers word
 abbrev pub shards_of : List ℕ → Option ℕ
 shards_of word = number_within 1 max_shards word
 
--- serving with these numbers, if both are there
-abbrev pub serve_by : Option ℕ → Option ℕ → Option Command
-serve_by (Some callers) (Some shards) = Some (Serve callers shards)
-serve_by (Some callers) None = None
-serve_by None shards = None
+-- these numbers, if both are there
+abbrev pub both : Option ℕ → Option ℕ → Option (ℕ × ℕ)
+both (Some callers) (Some shards) = Some (callers, shards)
+both (Some callers) None = None
+both None shards = None
 
--- serving by one option, where the other number is 4
-abbrev pub serve_one : List ℕ → List ℕ → Option Command
-serve_one option number =
-    if bytes_eq option (codes "--callers") then serve_by (callers_of number) (Some 4)
-    else (if bytes_eq option (codes "--shards") then serve_by (Some 4) (shards_of number) else None)
+-- the numbers by one option, where the other number is 4
+abbrev pub sizes_by_one : List ℕ → List ℕ → Option (ℕ × ℕ)
+sizes_by_one option number =
+    if bytes_eq option (codes "--callers") then both (callers_of number) (Some 4)
+    else (if bytes_eq option (codes "--shards") then both (Some 4) (shards_of number) else None)
 
--- serving by the words behind `serve`: at most one `--callers N`, then at most one `--shards S`
-abbrev pub serve_of : List (List ℕ) → Option Command
-serve_of [] = serve_by (Some 4) (Some 4)
-serve_of (option ∷ number ∷ []) = serve_one option number
-serve_of (first ∷ callers ∷ second ∷ shards ∷ []) =
+-- the numbers by the options: at most one `--callers N`, then at most one `--shards S`
+abbrev pub sizes_of : List (List ℕ) → Option (ℕ × ℕ)
+sizes_of [] = Some (4, 4)
+sizes_of (option ∷ number ∷ []) = sizes_by_one option number
+sizes_of (first ∷ callers ∷ second ∷ shards ∷ []) =
     if bytes_eq first (codes "--callers") && bytes_eq second (codes "--shards")
-    then serve_by (callers_of callers) (shards_of shards) else None
-serve_of _ = None
+    then both (callers_of callers) (shards_of shards) else None
+sizes_of _ = None
+
+-- serving with these numbers
+abbrev pub serve_by : Option (ℕ × ℕ) → Option Command
+serve_by None = None
+serve_by (Some p) = Some (Serve p.0 p.1)
+
+-- serving by the words behind `serve`
+abbrev pub serve_of : List (List ℕ) → Option Command
+serve_of options = serve_by (sizes_of options)
+
+-- dumping with these numbers
+abbrev pub dump_by : Option (ℕ × ℕ) → Option Command
+dump_by None = None
+dump_by (Some p) = Some (Dump p.0 p.1)
+
+-- dumping by the words behind `dump`
+abbrev pub dump_of : List (List ℕ) → Option Command
+dump_of options = dump_by (sizes_of options)
 
 -- a made session by the two words behind `work`
 abbrev pub work_by : Option ℕ → Option ℕ → Option Command
@@ -56,7 +74,8 @@ alone word =
     if bytes_eq word (codes "check") then Some Check
     else (if bytes_eq word (codes "show") then Some Show
     else (if bytes_eq word (codes "serve") then serve_of []
-    else (if bytes_eq word (codes "ranges") then Some Ranges else None)))
+    else (if bytes_eq word (codes "dump") then dump_of []
+    else (if bytes_eq word (codes "ranges") then Some Ranges else None))))
 
 -- `work` with two words behind it
 abbrev pub work_line : List (List ℕ) → Option Command
@@ -69,14 +88,20 @@ abbrev pub command_of : List (List ℕ) → Option Command
 command_of [] = None
 command_of (word ∷ []) = alone word
 command_of (word ∷ more) =
-    if bytes_eq word (codes "serve") then serve_of more else work_line (word ∷ more)
+    if bytes_eq word (codes "serve") then serve_of more
+    else (if bytes_eq word (codes "dump") then dump_of more else work_line (word ∷ more))
 
--- 1 to 32 callers and 1 to 8 shards; 1 to 20,000 requests from a number of 32 bits
+-- 1 to 32 callers and 1 to 8 shards
+abbrev pub AreSizes : ℕ → ℕ → Type 0
+AreSizes callers shards =
+    (1 ≤ callers) × (callers ≤ max_callers) × (1 ≤ shards) × (shards ≤ max_shards)
+
+-- callers and shards within bounds; 1 to 20,000 requests from a number of 32 bits
 abbrev pub IsWithinBounds : Command → Type 0
 IsWithinBounds Check = Unit {0}
 IsWithinBounds Show = Unit {0}
-IsWithinBounds (Serve callers shards) = (1 ≤ callers) × (callers ≤ max_callers) × (1 ≤ shards)
-    × (shards ≤ max_shards)
+IsWithinBounds (Serve callers shards) = AreSizes callers shards
+IsWithinBounds (Dump callers shards) = AreSizes callers shards
 IsWithinBounds (Work requests start) = (1 ≤ requests) × (requests ≤ max_requests)
     × (start ≤ 4294967295)
 IsWithinBounds Ranges = Unit {0}

@@ -9,6 +9,8 @@ pub enum Command {
     Show,
     /// Serve a session file, by 1 to 32 callers over 1 to 8 shards a table, and write the replies.
     Serve { callers: u32, shards: u32 },
+    /// Serve a session file likewise, and write the final tables in place of the replies.
+    Dump { callers: u32, shards: u32 },
     /// Serve a made session of 1 to 20,000 requests, whose draws begin from `start`, and write its
     /// summary.
     Work { requests: u32, start: u32 },

@@ -15,7 +15,8 @@ const USUAL: u32 = 4;
 pub fn usage_line() -> &'static str
     ensures { result.now ≡ spec.usage_line }
 {
-    "usage: foresight check | show | serve [--callers N] [--shards S] | work N START | ranges\n"
+    "usage: foresight check | show | serve [--callers N] [--shards S] \
+     | dump [--callers N] [--shards S] | work N START | ranges\n"
 }
 
 /// The command of a command line, if it is one; the words are those after the program's name.
@@ -26,6 +27,7 @@ pub fn command_of(words: &[String]) -> Option<Command>
     match words {
         [word] => alone(word.as_str()),
         [word, options @ ..] if word.as_str() == "serve" => serve_of(options),
+        [word, options @ ..] if word.as_str() == "dump" => dump_of(options),
         [word, requests, start] if word.as_str() == "work" => {
             work_of(requests.as_str(), start.as_str())
         }
@@ -43,7 +45,9 @@ fn alone(word: &str) -> Option<Command>
     } else if word == "show" {
         Some(Command::Show)
     } else if word == "serve" {
-        serve_by(Some(USUAL), Some(USUAL))
+        serve_of(&[])
+    } else if word == "dump" {
+        dump_of(&[])
     } else if word == "ranges" {
         Some(Command::Ranges)
     } else {
@@ -56,12 +60,30 @@ fn serve_of(options: &[String]) -> Option<Command>
     ensures command { result ≡ spec.serve_of (map string_bytes options.now) }
     ensures bounds { IfSome result spec.IsWithinBounds }
 {
+    let (callers, shards) = sizes_of(options)?;
+    Some(Command::Serve { callers, shards })
+}
+
+/// Dumping by the options behind the word `dump`.
+fn dump_of(options: &[String]) -> Option<Command>
+    ensures command { result ≡ spec.dump_of (map string_bytes options.now) }
+    ensures bounds { IfSome result spec.IsWithinBounds }
+{
+    let (callers, shards) = sizes_of(options)?;
+    Some(Command::Dump { callers, shards })
+}
+
+/// How many callers serve, and over how many shards a table, by the options.
+fn sizes_of(options: &[String]) -> Option<(u32, u32)>
+    ensures sizes { result ≡ spec.sizes_of (map string_bytes options.now) }
+    ensures bounds { IfSome result (λ p. spec.AreSizes p.0 p.1) }
+{
     match options {
-        [] => serve_by(Some(USUAL), Some(USUAL)),
-        [option, number] => serve_one(option.as_str(), number.as_str()),
+        [] => Some((USUAL, USUAL)),
+        [option, number] => sizes_by_one(option.as_str(), number.as_str()),
         [first, callers, second, shards] => {
             if first.as_str() == "--callers" && second.as_str() == "--shards" {
-                serve_by(
+                both(
                     number_within(1, MAX_CALLERS, callers.as_str()),
                     number_within(1, MAX_SHARDS, shards.as_str()),
                 )
@@ -73,29 +95,29 @@ fn serve_of(options: &[String]) -> Option<Command>
     }
 }
 
-/// Serving by one option.
-fn serve_one(option: &str, number: &str) -> Option<Command>
-    ensures command { result ≡ spec.serve_one option.now number.now }
-    ensures bounds { IfSome result spec.IsWithinBounds }
+/// The numbers by one option.
+fn sizes_by_one(option: &str, number: &str) -> Option<(u32, u32)>
+    ensures sizes { result ≡ spec.sizes_by_one option.now number.now }
+    ensures bounds { IfSome result (λ p. spec.AreSizes p.0 p.1) }
 {
     if option == "--callers" {
-        serve_by(number_within(1, MAX_CALLERS, number), Some(USUAL))
+        both(number_within(1, MAX_CALLERS, number), Some(USUAL))
     } else if option == "--shards" {
-        serve_by(Some(USUAL), number_within(1, MAX_SHARDS, number))
+        both(Some(USUAL), number_within(1, MAX_SHARDS, number))
     } else {
         None
     }
 }
 
-/// Serving with these numbers, if both are there.
-fn serve_by(callers: Option<u32>, shards: Option<u32>) -> Option<Command>
+/// These numbers, if both are there.
+fn both(callers: Option<u32>, shards: Option<u32>) -> Option<(u32, u32)>
     requires callers { IfSome callers (λ n. (1 ≤ n) × (n ≤ max_callers)) }
     requires shards { IfSome shards (λ n. (1 ≤ n) × (n ≤ max_shards)) }
-    ensures command { result ≡ spec.serve_by callers shards }
-    ensures bounds { IfSome result spec.IsWithinBounds }
+    ensures sizes { result ≡ spec.both callers shards }
+    ensures bounds { IfSome result (λ p. spec.AreSizes p.0 p.1) }
 {
     match (callers, shards) {
-        (Some(callers), Some(shards)) => Some(Command::Serve { callers, shards }),
+        (Some(callers), Some(shards)) => Some((callers, shards)),
         _ => None,
     }
 }

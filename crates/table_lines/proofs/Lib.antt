@@ -4,5 +4,6 @@ pub mod Finding
 pub mod Going
 pub mod KeyLemmas
 pub mod NoFault
+pub mod OpenedLemmas
 pub mod ReadBack
 pub mod WordLemmas

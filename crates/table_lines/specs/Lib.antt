@@ -1,3 +1,4 @@
 pub mod Accepting
+pub mod Opened
 pub mod ReadBack
 pub mod TableRows
