@@ -1,18 +1,18 @@
 -- A closed hall's journal has as many operations as the serial run makes.
-use Rattle.std.proofs.Common.{◌≡◌, ◌≢◌, ℕ, zero, suc, ◌+◌, ◌<◌, ◌≤◌, ◌⊎◌, inl, inr, Bool, true, false, cond, List, [], ◌∷◌, ◌++◌, length, Some, None, refl, sym, ap, ◌∙◌, subst, arith, append-nil, length-append}
+use Rattle.std.proofs.Common.{◌≡◌, ◌≢◌, ℕ, zero, suc, ◌+◌, ◌<◌, ◌≤◌, Bool, true, false, cond, List, [], ◌∷◌, ◌++◌, length, Some, None, refl, sym, ap, ◌∙◌, subst, arith, append-nil, length-append}
 use Rattle.std.specs.Prelude.{◌==◌}
 use Rattle.std.specs.List.{AllByRecursion}
 use Rattle.std.proofs.lemmas.Bool.Decides.{nat_tests}
 use Rattle.session_values.specs.declared.op.Op.{Op}
 use Rattle.session_values.specs.declared.reply.Reply.{Reply}
 use Rattle.session_values.specs.Dialogue.{Next, Calls, Answers, Dialogue, Entry, rest, replies, Follows}
-use Rattle.session_values.specs.Serial.{Session, Served, serve, serial, served_first, tables_before}
+use Rattle.session_values.specs.Serial.{Session, Served, serve, serial, tables_before}
 use Rattle.session_values.specs.Tables.{Tables, reply, step}
 use Rattle.session_journal.specs.declared.event.Event.{Event}
 use Rattle.session_journal.specs.Foreknown.{Foreknown}
 use Rattle.session_journal.specs.Journal.{DoneOperation, entry_of, done_operations, of_ticket, by_ticket, entries, ended, begun}
 use Rattle.session_journal.specs.Script.{Meaning, session_of}
-use Rattle.session_journal.proofs.Serial.{serve-calls, serve-answers, differ}
+use Rattle.session_journal.proofs.Serial.{serve-calls, serve-answers}
 use Rattle.admission_book.proofs.Events.{only_begun}
 use Rattle.session_hall.specs.Closings.{ClosedView, IsDone}
 use Rattle.serve_faults.specs.Session.{serial_calls}

@@ -1,10 +1,9 @@
 -- Counts that grow by one element.
-use Rattle.std.proofs.Common.{◌≡◌, ℕ, ◌+◌, ◌<◌, List, [], ◌∷◌, ◌++◌, take, length, get_or, refl, sym, ap, ◌∙◌, arith, length-append}
+use Rattle.std.proofs.Common.{◌≡◌, ℕ, ◌+◌, ◌<◌, List, [], ◌∷◌, ◌++◌, take, length, get_or, ap, ◌∙◌, length-append}
 use Rattle.std.proofs.lemmas.List.{take_more}
 use Rattle.session_values.specs.declared.reply.Reply.{Reply}
 use Rattle.session_values.specs.ReplyText.{line_text, reply_text}
 use Rattle.session_journal.specs.declared.event.Event.{Event}
-use Rattle.session_journal.specs.declared.event.Event.TheVariants.{Begin, Done, Delay, End}
 use Rattle.session_journal.specs.Journal.{DoneOperation, done_operations}
 use Rattle.reply_sheet.proofs.TextLemmas.{text_more}
 use Rattle.admission_book.proofs.Events.{done_operations-append}

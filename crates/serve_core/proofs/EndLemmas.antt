@@ -1,27 +1,25 @@
 -- What a command answers to its input, from what its parts say.
-use Rattle.std.proofs.Common.{◌≡◌, ◌≢◌, ℕ, ◌≤◌, Bool, true, false, is_some, List, length, Option, Some, None, refl, sym, ap, ◌∙◌, subst}
-use Rattle.std.specs.Prelude.{IsUtf8}
-use Rattle.session_limits.specs.Limits.{max_input}
+use Rattle.std.proofs.Common.{◌≡◌, ℕ, Bool, true, false, if◌then◌else◌, is_some, List, length, map, Option, Some, None, refl, sym, ap, ◌∙◌, subst}
 use Rattle.session_values.specs.declared.reply.Reply.{Reply}
-use Rattle.session_values.specs.Serial.{Session, serial_replies}
+use Rattle.session_values.specs.Serial.{Session, serial_replies, tables_before}
 use Rattle.session_values.specs.ReplyText.{reply_text}
 use Rattle.session_journal.specs.Script.{Meaning, session_of}
 use Rattle.session_journal.specs.Journal.{done_operations}
 use Rattle.session_hall.specs.Closings.{ClosedView, IsDone}
 use Rattle.serve_words.specs.declared.command.Command.{Command}
-use Rattle.serve_words.specs.declared.command.Command.TheVariants.{Check, Show, Serve, Work, Ranges}
+use Rattle.serve_words.specs.declared.command.Command.TheVariants.{Check, Show, Serve, Dump, Work, Ranges}
 use Rattle.serve_made.specs.Summary.{summary}
 use Rattle.serve_faults.specs.declared.status.Fault.{Fault}
 use Rattle.serve_faults.specs.declared.status.Fault.TheVariants as fault
 use Rattle.serve_faults.specs.declared.status.Status.{Status}
 use Rattle.serve_faults.specs.declared.status.Status.TheVariants as status
 use Rattle.serve_faults.specs.Commands.{callers_of, has_handlers, has_requests, input_of, shards_of}
-use Rattle.serve_faults.specs.Input.{Parts, parts_of, wants_divided, handlers_of, is_divided, IsInput}
-use Rattle.serve_faults.specs.Session.{session_of_parts, all_names_of, replies_text, serial_calls}
+use Rattle.serve_faults.specs.Input.{Parts, parts_by, parts_of, parts_fault, divided_fault, handlers_of, is_divided, IsInput}
+use Rattle.serve_faults.specs.Session.{session_of_parts, all_names_of, replies_text, tables_text, serial_calls}
 use Rattle.serve_faults.specs.Answer.{IsRefused, IsTextOf}
 use Rattle.serve_faults.specs.Changes.{Change, IsUntouched}
-use Rattle.serve_core.specs.Commands.{has_served}
-use Rattle.serve_core.specs.Runs.{Answered, Written, Holds, IsServedThrough}
+use Rattle.serve_core.specs.Commands.{has_begun_writing, has_served, serving}
+use Rattle.serve_core.specs.Runs.{Holds, IsServedThrough}
 use Rattle.serve_core.specs.Runs.{AnswersTo}
 use Rattle.serve_faults.specs.Ways.{describing}
 use Rattle.serve_core.proofs.RunLemmas.{refused_answer, no_answer, fine_answer, front_answer, not_served}
@@ -30,7 +28,18 @@ use Rattle.serve_reading.specs.declared.unserved.Unserved.TheVariants.{Refused, 
 use Rattle.serve_reading.specs.Reasons.{IsInputReason, IsReason, IsSessionReason}
 use Rattle.serve_reading.specs.Sessions.{IsSessionInput}
 use Rattle.serve_core.specs.declared.writing.Writing.TheVariants as writing
-use Rattle.serve_core.specs.Serving.{EndsBy, EndsOrWants, EndsServed, EndsSession, HasServed, status_of}
+use Rattle.serve_core.specs.declared.writing.Writing.{Writing}
+use Rattle.serve_core.specs.Serving.{AreFinal, EndsBy, EndsOrWants, EndsServed, EndsSession, HasLeft, HasServed, final_lists, status_of, text_of}
+use Rattle.serve_core.proofs.FinalLemmas.{final_tables}
+use Rattle.std.proofs.lemmas.List.{length-map}
+use Rattle.handler_check.specs.Resolved.{shape_of}
+use Rattle.opening_tables.specs.Opening.{tables_of}
+use Rattle.session_values.specs.Tables.{Tables}
+use Rattle.session_values.specs.declared.kind.TableKind.{TableKind}
+use Rattle.syntax_trees.specs.declared.file.TableDecl.{TableDecl}
+use Rattle.table_dump.specs.Dumped.{dump_text}
+use Rattle.table_lines.specs.ReadBack.{texts_of}
+use Rattle.table_text.specs.TableText.{table_text, written_table}
 use Rattle.serve_core.proofs.CallLemmas.{calls_done}
 
 -- ---- a command that refuses, or wants memory
@@ -121,38 +130,42 @@ handlers_same : (c : Command) (input : List ℕ) → has_requests c ≡ true →
 handlers_same Check input e = absurd (cc)
 handlers_same Show input e = absurd (cc)
 handlers_same (Serve callers shards) input e = refl
+handlers_same (Dump callers shards) input e = refl
 handlers_same (Work requests start) input e = refl
 handlers_same Ranges input e = absurd (cc)
 
-wanted : (c : Command) (input : List ℕ) → has_requests c ≡ true → wants_divided c input ≡ true
-wanted Check input e = e
-wanted Show input e = e
-wanted (Serve callers shards) input e = refl
-wanted (Work requests start) input e = refl
-wanted Ranges input e = absurd (cc)
+parts_wanted : (c : Command) (input : List ℕ) → has_requests c ≡ true → parts_fault c input ≡ divided_fault (is_divided input)
+parts_wanted Check input e = absurd (cc)
+parts_wanted Show input e = absurd (cc)
+parts_wanted (Serve callers shards) input e = refl
+parts_wanted (Dump callers shards) input e = refl
+parts_wanted (Work requests start) input e = refl
+parts_wanted Ranges input e = absurd (cc)
 
 handled : (c : Command) → has_requests c ≡ true → has_handlers c ≡ true
 handled Check e = refl
 handled Show e = refl
 handled (Serve callers shards) e = refl
+handled (Dump callers shards) e = refl
 handled (Work requests start) e = refl
 handled Ranges e = e
 
 session_input : (c : Command) (input : List ℕ) → has_requests c ≡ true → IsSessionInput input → IsInput c input
-session_input c input has i = record { short = i.short; utf8 = i.utf8; parts = i.divided ∙ sym (wanted c input has) }
+session_input c input has i = record { short = i.short; utf8 = i.utf8; parts = parts_wanted c input has ∙ ap divided_fault i.divided }
 
 input_reason : (c : Command) (input : List ℕ) (e : Unserved) → has_requests c ≡ true → IsInputReason input e → IsReason c input e
 input_reason c input NoMemory has h = tt
 input_reason c input (Refused fault.TooLarge) has h = absurd h
 input_reason c input (Refused fault.NotText) has h = h
-input_reason c input (Refused fault.NoRequests) has h = (h.0, h.1, wanted c input has, h.2)
+input_reason c input (Refused fault.NoRequests) has h = (h.0, h.1, parts_wanted c input has ∙ ap divided_fault h.2)
 input_reason c input (Refused fault.HasRequests) has h = absurd h
 input_reason c input (Refused (fault.Syntax e)) has h =
-    (session_input c input has h.0, subst (λ (t : List ℕ). IsSessionReason (record { handlers = t; requests = (parts_of input).requests; first = (parts_of input).first }) (Refused (fault.Syntax e))) (sym (handlers_same c input has)) h.1, handled c has)
+    (session_input c input has h.0, subst (λ (t : List ℕ). IsSessionReason (parts_by t (parts_of input).tables (parts_of input).requests (parts_of input).first_table (parts_of input).first) (Refused (fault.Syntax e))) (sym (handlers_same c input has)) h.1, handled c has)
 input_reason c input (Refused (fault.Check e)) has h =
-    (session_input c input has h.0, subst (λ (t : List ℕ). IsSessionReason (record { handlers = t; requests = (parts_of input).requests; first = (parts_of input).first }) (Refused (fault.Check e))) (sym (handlers_same c input has)) h.1, handled c has)
+    (session_input c input has h.0, subst (λ (t : List ℕ). IsSessionReason (parts_by t (parts_of input).tables (parts_of input).requests (parts_of input).first_table (parts_of input).first) (Refused (fault.Check e))) (sym (handlers_same c input has)) h.1, handled c has)
 input_reason c input (Refused (fault.Analysis e)) has h =
-    (session_input c input has h.0, subst (λ (t : List ℕ). IsSessionReason (record { handlers = t; requests = (parts_of input).requests; first = (parts_of input).first }) (Refused (fault.Analysis e))) (sym (handlers_same c input has)) h.1, handled c has)
+    (session_input c input has h.0, subst (λ (t : List ℕ). IsSessionReason (parts_by t (parts_of input).tables (parts_of input).requests (parts_of input).first_table (parts_of input).first) (Refused (fault.Analysis e))) (sym (handlers_same c input has)) h.1, handled c has)
+input_reason c input (Refused (fault.Tables e)) has h = (session_input c input has h.0, has, h.1)
 input_reason c input (Refused (fault.Request e)) has h = (session_input c input has h.0, has, h.1)
 input_reason c input (Refused (fault.Ranges e)) has h = absurd h.1
 
@@ -175,30 +188,85 @@ served_through c input callers shards names d h a b = record {
   shards_are = b;
 }
 
-module _ {O : Type 0} (callers shards : ℕ) (bytes : List ℕ) (out : Change O) where
-  ends_served : (s : Status) (text : List ℕ) → EndsBy text out s → true ≡ has_served (Some (Serve callers shards)) s
-  ends_served status.Fine text e = refl
-  ends_served status.WriteFault text e = refl
-  ends_served (status.Refused f) text e = absurd e
-  ends_served status.Usage text e = absurd e
-  ends_served status.NoMemory text e = absurd e
-  ends_served status.ReadFault text e = absurd e
+-- the text of the final tables of what was served
+dumped_text_is : (parts : Parts) (callers shards : ℕ) (names : List (List ℕ)) (d : ClosedView) (h : HasServed parts callers shards names d) → AreFinal d (length h.file.tables) → dump_text names h.file.tables (final_lists d (length h.file.tables)) ≡ tables_text parts h.file
+dumped_text_is parts callers shards names d h left =
+    let same : Tables → List ℕ = λ (ts : Tables). table_text (texts_of (all_names_of parts) h.file.tables) (map (written_table (all_names_of parts)) ts) in
+    let shape : List TableKind = shape_of h.file in
+    ap (λ (ns : List (List ℕ)). dump_text ns h.file.tables (final_lists d (length h.file.tables))) h.names_are
+    ∙ ap same (ap (λ (n : ℕ). tables_of shape (final_lists d n)) (sym (length-map h.file.tables (λ (t : TableDecl). t.kind))))
+    ∙ ap same (final_of h.script d h.done shape (sym (ap (λ (z : Session). z.shape) h.session_is)) (subst (AreFinal d) (sym (length-map h.file.tables (λ (t : TableDecl). t.kind))) left))
+    ∙ ap (λ (z : Session). same (tables_before z z.requests)) h.session_is
+  where
+    final_of : (m : Meaning) (d : ClosedView) (done : IsDone m d) (shape : List TableKind) → shape ≡ m.shape → AreFinal d (length shape) → tables_of shape (final_lists d (length shape)) ≡ tables_before (session_of m) m.requests
+    final_of m d done shape is left =
+        ap (λ (s : List TableKind). tables_of s (final_lists d (length s))) is
+        ∙ final_tables d m done (subst (λ (s : List TableKind). AreFinal d (length s)) is left)
 
-  served_to : (s : Status) (d : ClosedView) → EndsServed writing.Replies callers shards bytes out s d → AnswersTo (Serve callers shards) bytes out s (Some d)
-  served_to s d v =
-      let text = reply_text v.names 0 d.replies in
-      ends_to (Serve callers shards) bytes out text (session_input (Serve callers shards) bytes refl v.is_input)
-      (record { file = v.served.file; is_session = v.served.is_session; text_is = served_text_is (parts_of bytes) callers shards v.names d v.served }) s (Some d) v.ends
-      (ends_served s text v.ends)
-      (served_through (Serve callers shards) bytes callers shards v.names d v.served v.served.callers_are v.served.shards_are)
+-- what is written where tables are, or not
+abbrev written_as : Bool → Writing
+written_as tables = if tables then writing.Tables else writing.Replies
 
-  unserved_to : (e : Unserved) → IsUntouched out → IsInputReason bytes e → AnswersTo (Serve callers shards) bytes out (status_of e) None
-  unserved_to e same r = reason_to (Serve callers shards) bytes out same e (input_reason (Serve callers shards) bytes e refl r)
+module _ {O : Type 0} (tables : Bool) (callers shards : ℕ) (bytes : List ℕ) (out : Change O) where
+  abbrev command : Command
+  command = serving tables callers shards
 
-  -- what becomes of the session is what `serve` answers
-  pub serve_answers : (s : Status) (closed : Option ClosedView) → EndsSession writing.Replies callers shards bytes out s closed → AnswersTo (Serve callers shards) bytes out s closed
-  serve_answers s None e = subst (λ (s : Status). AnswersTo (Serve callers shards) bytes out s None) (sym e.is) (unserved_to e.reason e.same e.why)
-  serve_answers s (Some d) e = served_to s d e
+  begins : (s : Status) (text : List ℕ) → EndsBy text out s → has_begun_writing s ≡ true
+  begins status.Fine text e = refl
+  begins status.WriteFault text e = refl
+  begins (status.Refused f) text e = absurd e
+  begins status.Usage text e = absurd e
+  begins status.NoMemory text e = absurd e
+  begins status.ReadFault text e = absurd e
+
+  -- what a run of the command asks of it
+  pub record Serves : Type 0 where
+    pub requests : has_requests command ≡ true
+    pub own : (bs : List ℕ) → bs ≡ input_of command bs
+    pub served : (s : Status) → has_served (Some command) s ≡ has_begun_writing s
+    pub callers_are : callers_of command ≡ callers
+    pub shards_are : shards_of command ≡ shards
+    pub text : (names : List (List ℕ)) (d : ClosedView) (h : HasServed (parts_of bytes) callers shards names d) → HasLeft (written_as tables) h.file d → IsTextOf command bytes (text_of (written_as tables) names h.file d)
+
+  module _ (v : Serves) where
+    served_to : (s : Status) (d : ClosedView) → EndsServed (written_as tables) callers shards bytes out s d → AnswersTo command bytes out s (Some d)
+    served_to s d e =
+        let text = text_of (written_as tables) e.names e.served.file d in
+        ends_to command bytes out text
+        (subst (IsInput command) (v.own bytes) (session_input command bytes v.requests e.is_input))
+        (subst (λ (bs : List ℕ). IsTextOf command bs text) (v.own bytes) (v.text e.names d e.served e.left))
+        s (Some d) e.ends
+        (sym (v.served s ∙ begins s text e.ends))
+        (subst (λ (bs : List ℕ). IsServedThrough command bs d) (v.own bytes) (served_through command bytes callers shards e.names d e.served (e.served.callers_are ∙ sym v.callers_are) (e.served.shards_are ∙ sym v.shards_are)))
+
+    unserved_to : (e : Unserved) → IsUntouched out → IsInputReason bytes e → AnswersTo command bytes out (status_of e) None
+    unserved_to e same r = reason_to command bytes out same e (subst (λ (bs : List ℕ). IsReason command bs e) (v.own bytes) (input_reason command bytes e v.requests r))
+
+    answers_served : (s : Status) (closed : Option ClosedView) → EndsSession (written_as tables) callers shards bytes out s closed → AnswersTo command bytes out s closed
+    answers_served s None e = subst (λ (s : Status). AnswersTo command bytes out s None) (sym e.is) (unserved_to e.reason e.same e.why)
+    answers_served s (Some d) e = served_to s d e
+
+serves_by : {O : Type 0} (tables : Bool) (callers shards : ℕ) (bytes : List ℕ) (out : Change O) → Serves tables callers shards bytes out
+serves_by true callers shards bytes out = record {
+  requests = refl;
+  own = λ bs. refl;
+  served = λ s. refl;
+  callers_are = refl;
+  shards_are = refl;
+  text = λ names d h left. record { file = h.file; is_session = h.is_session; text_is = dumped_text_is (parts_of bytes) callers shards names d h left };
+}
+serves_by false callers shards bytes out = record {
+  requests = refl;
+  own = λ bs. refl;
+  served = λ s. refl;
+  callers_are = refl;
+  shards_are = refl;
+  text = λ names d h left. record { file = h.file; is_session = h.is_session; text_is = served_text_is (parts_of bytes) callers shards names d h };
+}
+
+-- what becomes of the session is what `serve` or `dump` answers
+pub serve_answers : {O : Type 0} (tables : Bool) (callers shards : ℕ) (bytes : List ℕ) (out : Change O) (s : Status) (closed : Option ClosedView) → EndsSession (written_as tables) callers shards bytes out s closed → AnswersTo (serving tables callers shards) bytes out s closed
+serve_answers tables callers shards bytes out = answers_served tables callers shards bytes out (serves_by tables callers shards bytes out)
 
 -- ---- working
 module _ {O : Type 0} (requests start : ℕ) (bytes : List ℕ) (out : Change O) where

@@ -1,10 +1,10 @@
 -- What a run promises, from what its parts say.
-use Rattle.std.proofs.Common.{◌≡◌, ◌≢◌, ℕ, ◌+◌, ◌<◌, ◌≤◌, ◌⊎◌, inl, inr, true, false, is_some, List, length, drop, Option, Some, None, IfSome, refl, sym, ap, subst, ◌∙◌, arith}
+use Rattle.std.proofs.Common.{◌≡◌, ◌≢◌, ℕ, ◌+◌, ◌<◌, ◌⊎◌, inl, inr, true, false, is_some, List, length, Option, Some, None, IfSome, refl, sym, ap, subst, arith}
 use Rattle.session_limits.specs.Limits.{max_input}
 use Rattle.byte_ends.specs.Ends.{IsAtEnd, LostFirst, LostAtMost}
 use Rattle.session_hall.specs.Closings.{ClosedView}
 use Rattle.serve_words.specs.declared.command.Command.{Command}
-use Rattle.serve_words.specs.declared.command.Command.TheVariants.{Check, Show, Serve, Work, Ranges}
+use Rattle.serve_words.specs.declared.command.Command.TheVariants.{Check, Show, Serve, Dump, Work, Ranges}
 use Rattle.serve_faults.specs.declared.status.Fault.{Fault}
 use Rattle.serve_faults.specs.declared.status.Fault.TheVariants.{TooLarge}
 use Rattle.serve_faults.specs.declared.status.Status.{Status}
@@ -14,7 +14,7 @@ use Rattle.serve_faults.specs.Commands.{input_of, is_reading}
 use Rattle.serve_faults.specs.Input.{IsInput}
 use Rattle.serve_faults.specs.Changes.{Change, Failed, IsUntouched, Took, TookFront}
 use Rattle.serve_core.specs.Commands.{Told, has_begun_writing, has_served}
-use Rattle.serve_core.specs.Runs.{has_read_all, Answered, Written, IsUnrefused, IsServedThrough, Holds, Runs}
+use Rattle.serve_core.specs.Runs.{has_read_all, Answered, Written, IsUnrefused, Holds, Runs}
 use Rattle.serve_core.specs.Runs.{AnswersTo}
 use Rattle.serve_faults.specs.Ways.{HasRead, StoppedAs}
 use Rattle.serve_faults.proofs.OneAnswer.{refused_once, text_or_refused}
@@ -61,6 +61,7 @@ told_map : {S : Type 0} (c : Command) (s : Change S) (P Q : List ℕ → Type 0)
 told_map Check s P Q f h = if_some P Q (s.bytes s.old) f h
 told_map Show s P Q f h = if_some P Q (s.bytes s.old) f h
 told_map (Serve callers shards) s P Q f h = if_some P Q (s.bytes s.old) f h
+told_map (Dump callers shards) s P Q f h = if_some P Q (s.bytes s.old) f h
 told_map (Work requests start) s P Q f h = λ bytes. f bytes (h bytes)
 told_map Ranges s P Q f h = if_some P Q (s.bytes s.old) f h
 
@@ -119,6 +120,7 @@ reading_input : (c : Command) (bytes : List ℕ) → is_reading (Some c) ≡ tru
 reading_input Check bytes e = refl
 reading_input Show bytes e = refl
 reading_input (Serve callers shards) bytes e = refl
+reading_input (Dump callers shards) bytes e = refl
 reading_input (Work requests start) bytes e = absurd (cc)
 reading_input Ranges bytes e = refl
 
@@ -126,6 +128,7 @@ told_some : {S : Type 0} (c : Command) (s : Change S) (P : List ℕ → Type 0) 
 told_some Check s P e h = h
 told_some Show s P e h = h
 told_some (Serve callers shards) s P e h = h
+told_some (Dump callers shards) s P e h = h
 told_some (Work requests start) s P e h = absurd (cc)
 told_some Ranges s P e h = h
 
@@ -137,6 +140,7 @@ nothing_held : {S : Type 0} (c : Command) (s : Change S) → Told (Some c) s (λ
 nothing_held Check s = untold (s.bytes s.old)
 nothing_held Show s = untold (s.bytes s.old)
 nothing_held (Serve callers shards) s = untold (s.bytes s.old)
+nothing_held (Dump callers shards) s = untold (s.bytes s.old)
 nothing_held (Work requests start) s = λ bytes. tt
 nothing_held Ranges s = untold (s.bytes s.old)
 
@@ -152,6 +156,7 @@ pub not_served : (c : Command) (s : Status) → s ≢ status.Fine → s ≢ stat
 not_served Check s f w = refl
 not_served Show s f w = refl
 not_served (Serve callers shards) s f w = unwritten s f w
+not_served (Dump callers shards) s f w = unwritten s f w
 not_served (Work requests start) s f w = unwritten s f w
 not_served Ranges s f w = refl
 

@@ -1,17 +1,18 @@
 -- Whole runs, from what their parts say.
-use Rattle.std.proofs.Common.{◌≡◌, ◌≢◌, ℕ, zero, ◌+◌, ◌≤◌, Bool, true, false, is_some, List, [], ap, length, drop, Option, Some, None, IfSome, refl, subst, arith}
+use Rattle.std.proofs.Common.{◌≡◌, ℕ, ◌+◌, ◌≤◌, Bool, true, false, List, [], ap, Option, Some, None, IfSome, refl, subst, arith}
 use Rattle.session_limits.specs.Limits.{max_input, max_requests}
 use Rattle.byte_ends.specs.Ends.{Grew, GrewByFront, LostAtMost}
 use Rattle.byte_ends.proofs.EndsLemmas.{front_of_all}
 use Rattle.session_hall.specs.Closings.{ClosedView}
 use Rattle.serve_words.specs.declared.command.Command.{Command}
-use Rattle.serve_words.specs.declared.command.Command.TheVariants.{Serve, Work, Ranges}
+use Rattle.serve_words.specs.declared.command.Command.TheVariants.{Work, Ranges}
 use Rattle.serve_words.specs.Commands.{IsWithinBounds}
 use Rattle.serve_faults.specs.declared.status.Status.{Status}
 use Rattle.serve_faults.specs.declared.status.Status.TheVariants as status
 use Rattle.serve_faults.specs.Commands.{is_reading}
 use Rattle.serve_faults.specs.Changes.{Change, IsUntouched}
 use Rattle.made_sessions.proofs.MadeSession.{unrefused}
+use Rattle.serve_core.specs.Commands.{serving}
 use Rattle.serve_core.specs.Runs.{Runs}
 use Rattle.serve_core.specs.Runs.{AnswersTo}
 use Rattle.serve_faults.specs.Ways.{HasRead, StoppedAs, describing}
@@ -77,11 +78,15 @@ module _ {I O : Type 0} (source : Change I) (out : Change O) where
   pub undescribed_run : (shown : Bool) (s : Status) → StoppedAs source s → IsUntouched out → Runs (Some (describing shown)) source out s None
   undescribed_run shown s h same = stopped_run (describing shown) (describing_reads shown) source out s h same
 
-  pub served_run : (callers shards : ℕ) (bytes : List ℕ) (s : Status) (closed : Option ClosedView) → HasRead source bytes → AnswersTo (Serve callers shards) bytes out s closed → Runs (Some (Serve callers shards)) source out s closed
-  served_run callers shards bytes s closed h a = read_run (Serve callers shards) refl source out bytes s closed h a
+  serving_reads : (tables : Bool) (callers shards : ℕ) → is_reading (Some (serving tables callers shards)) ≡ true
+  serving_reads true callers shards = refl
+  serving_reads false callers shards = refl
 
-  pub unserved_run : (callers shards : ℕ) (s : Status) → StoppedAs source s → IsUntouched out → Runs (Some (Serve callers shards)) source out s None
-  unserved_run callers shards s h same = stopped_run (Serve callers shards) refl source out s h same
+  pub served_run : (tables : Bool) (callers shards : ℕ) (bytes : List ℕ) (s : Status) (closed : Option ClosedView) → HasRead source bytes → AnswersTo (serving tables callers shards) bytes out s closed → Runs (Some (serving tables callers shards)) source out s closed
+  served_run tables callers shards bytes s closed h a = read_run (serving tables callers shards) (serving_reads tables callers shards) source out bytes s closed h a
+
+  pub unserved_run : (tables : Bool) (callers shards : ℕ) (s : Status) → StoppedAs source s → IsUntouched out → Runs (Some (serving tables callers shards)) source out s None
+  unserved_run tables callers shards s h same = stopped_run (serving tables callers shards) (serving_reads tables callers shards) source out s h same
 
   pub ranged_run : (bytes : List ℕ) (s : Status) → HasRead source bytes → AnswersTo Ranges bytes out s None → Runs (Some Ranges) source out s None
   ranged_run bytes s h a = read_run Ranges refl source out bytes s None h a

@@ -1,7 +1,7 @@
 -- What a whole run asks of its command: each question has a line for each command.
-use Rattle.std.specs.Prelude.{ℕ, Bool, true, false, List, Option, Some, None, IfSome}
+use Rattle.std.specs.Prelude.{ℕ, Bool, true, false, if◌then◌else◌, List, Option, Some, None, IfSome}
 use Rattle.serve_words.specs.declared.command.Command.{Command}
-use Rattle.serve_words.specs.declared.command.Command.TheVariants.{Check, Show, Serve, Work, Ranges}
+use Rattle.serve_words.specs.declared.command.Command.TheVariants.{Check, Show, Serve, Dump, Work, Ranges}
 use Rattle.serve_faults.specs.declared.status.Status.{Status}
 use Rattle.serve_faults.specs.declared.status.Status.TheVariants as status
 use Rattle.serve_faults.specs.Changes.{Change}
@@ -21,6 +21,7 @@ Told None c P = OfAnyBytes P
 Told (Some Check) c P = OfItsBytes c P
 Told (Some Show) c P = OfItsBytes c P
 Told (Some (Serve callers shards)) c P = OfItsBytes c P
+Told (Some (Dump callers shards)) c P = OfItsBytes c P
 Told (Some (Work requests start)) c P = OfAnyBytes P
 Told (Some Ranges) c P = OfItsBytes c P
 
@@ -39,5 +40,10 @@ has_served None s = false
 has_served (Some Check) s = false
 has_served (Some Show) s = false
 has_served (Some (Serve callers shards)) s = has_begun_writing s
+has_served (Some (Dump callers shards)) s = has_begun_writing s
 has_served (Some (Work requests start)) s = has_begun_writing s
 has_served (Some Ranges) s = false
+
+-- the command that serves a session file and writes its replies, or its final tables
+abbrev pub serving : Bool → ℕ → ℕ → Command
+serving tables callers shards = if tables then Dump callers shards else Serve callers shards

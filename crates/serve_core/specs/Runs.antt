@@ -17,7 +17,7 @@ use Rattle.serve_faults.specs.Answer as answer
 use Rattle.serve_faults.specs.Changes.{Change, Failed, IsUntouched, Took, TookFront}
 use Rattle.serve_faults.specs.Commands.{callers_of, input_of, is_reading, shards_of}
 use Rattle.serve_faults.specs.Input.{Parts, parts_of}
-use Rattle.serve_faults.specs.Session.{IsSession, requests_of, session_of_parts}
+use Rattle.serve_faults.specs.Session.{IsSession, opened_of, requests_of, session_of_parts}
 use Rattle.serve_faults.specs.Message.{message_of}
 use Rattle.serve_core.specs.Commands.{Told, has_served}
 
@@ -61,11 +61,13 @@ IsUnrefused command bytes =
 
 -- ---- the hall through which was served
 
--- what a file means with these lists and its part of requests, as a script: each request's dialogue
--- and bounds, and what it declares at each point
+-- what a file means with these lists, its table part and its part of requests, as a script: the
+-- entries with which the tables open, each request's dialogue and bounds, and what it declares at
+-- each point
 abbrev pub script_of_session : Parts → File → List (List (List Symbol)) → Meaning
 script_of_session parts file lists = meaning (record {
   program = record { file = file; lists = lists };
+  opening = opened_of parts file;
   requests = requests_of parts file;
 })
 
@@ -129,7 +131,7 @@ pub record Runs {I O : Type 0} (command : Option Command) (source : Change I) (o
   pub gone : is_reading command ≡ true → s ≡ status.Refused TooLarge
       → LostFirst (source.bytes source.old) (source.bytes source.new) (max_input + 1)
   pub lost : LostAtMost (source.bytes source.old) (source.bytes source.new) (max_input + 1)
-  -- `serve` and `work` leave a closed hall exactly where they end well or the sink fails, and
+  -- `serve`, `dump` and `work` leave a closed hall exactly where they end well or the sink fails, and
   -- through it the session was served.
   pub served : is_some closed ≡ has_served command s
   pub hall : Told command source (λ bytes. Holds command bytes closed)

@@ -1,15 +1,21 @@
 -- What serving a session file promises. Only this crate's own functions cite it.
-use Rattle.std.specs.Prelude.{◌≡◌, ℕ, ◌≤◌, List, length, Option, Some, None}
+use Rattle.std.specs.Prelude.{◌≡◌, ℕ, zero, suc, ◌+◌, ◌*◌, ◌<◌, ◌≤◌, List, [], ◌∷◌, length, Option, Some, None}
 use Rattle.session_limits.specs.Limits.{max_requests}
 use Rattle.session_values.specs.ReplyText.{reply_text}
 use Rattle.session_journal.specs.Journal.{done_operations}
-use Rattle.session_journal.specs.Script.{Meaning, session_of}
+use Rattle.opening_tables.specs.Opening.{Pair, IsOpening, entries_of}
+use Rattle.session_journal.specs.Script.{Meaning, room, session_of}
 use Rattle.session_hall.specs.Closings.{ClosedView, IsDone}
+use Rattle.session_hall.specs.Listings.{AreLeft, listed}
+use Rattle.handler_check.specs.Checking.{IsAccepted}
+use Rattle.handler_check.specs.Resolved.{shape_of}
 use Rattle.handler_syntax.specs.Language.{File, IsNamedFile}
 use Rattle.handler_machine.specs.Scripts.{ScriptsView, meaning}
 use Rattle.request_files.specs.Requests.{ArePrintable}
 use Rattle.request_files.specs.Servable.{IsServable}
 use Rattle.reply_sheet.specs.Printable.{ArePrintableReplies}
+use Rattle.table_dump.specs.Dumped.{CanDumpAll, HaveRoom, dump_text}
+use Rattle.table_lines.specs.TableRows.{ArePrintable as ArePrintableEntries}
 use Rattle.serve_made.specs.Summary.{summary}
 use Rattle.serve_faults.specs.declared.status.Status.{Status}
 use Rattle.serve_faults.specs.declared.status.Status.TheVariants as status
@@ -23,22 +29,74 @@ use Rattle.serve_reading.specs.declared.unserved.Unserved.{Unserved}
 use Rattle.serve_reading.specs.declared.unserved.Unserved.TheVariants.{Refused, NoMemory}
 use Rattle.serve_core.specs.Runs.{script_of_session}
 use Rattle.serve_core.specs.declared.writing.Writing.{Writing}
-use Rattle.serve_core.specs.declared.writing.Writing.TheVariants.{Replies, Summary}
+use Rattle.serve_core.specs.declared.writing.Writing.TheVariants.{Replies, Summary, Tables}
 
 -- the script of what was loaded
 abbrev pub script_of_loaded : Loaded → ScriptsView
-script_of_loaded l = record { program = l.program; requests = l.requests }
+script_of_loaded l = record {
+  program = l.program;
+  opening = l.opening;
+  requests = l.requests;
+}
 
--- its requests can be served, and its symbols have texts that a reply line has room for
+-- its tables can open, its requests can be served, and its symbols have texts that a line has room
+-- for
 pub record CanServe (l : Loaded) : Type 0 where
+  pub accepted : IsAccepted l.program.file
+  pub opens : IsOpening (shape_of l.program.file) l.opening
   pub servable : IsServable l.program.file l.requests
   pub named : IsNamedFile l.names l.program.file
+  pub printable_opening : ArePrintableEntries l.names l.opening
   pub printable : ArePrintable l.names l.requests
 
--- whatever closed hall served this script, its replies can be printed
-abbrev pub CanPrint : List (List ℕ) → Meaning → Type 0
-CanPrint names m = (d : ClosedView) → IsDone m d
-    → ArePrintableReplies names d.replies × (length d.replies ≤ max_requests)
+-- ---- what a closed hall leaves
+
+-- the entries of n tables of a closed hall, from table i on
+abbrev pub lists_from : ClosedView → ℕ → ℕ → List (List Pair)
+lists_from d i zero = []
+lists_from d i (suc n) = listed d i ∷ lists_from d (i + 1) n
+
+-- the entries of its n tables
+abbrev pub final_lists : ClosedView → ℕ → List (List Pair)
+final_lists d n = lists_from d 0 n
+
+-- whatever script it served, these are the entries that it leaves its tables with
+abbrev pub AreFinal : ClosedView → ℕ → Type 0
+AreFinal d n = (m : Meaning) → IsDone m d → (t : ℕ) → t < n → AreLeft m t (listed d t)
+
+-- The replies can be printed, and so can the tables of this file, where their entries are the final
+-- ones.
+pub record IsPrintable (names : List (List ℕ)) (f : File) (d : ClosedView) : Type 0 where
+  pub replies : ArePrintableReplies names d.replies
+  pub few : length d.replies ≤ max_requests
+  pub tables : AreFinal d (length f.tables)
+      → CanDumpAll names f.tables (final_lists d (length f.tables))
+  pub some : 0 < d.shards
+  pub parts : length d.parts ≡ length f.tables * d.shards
+
+-- so whatever closed hall served this script
+abbrev pub CanPrint : List (List ℕ) → File → Meaning → Type 0
+CanPrint names f m = (d : ClosedView) → IsDone m d → IsPrintable names f d
+
+-- where tables are to be written, there is room for so many entries as a table may have at the end
+abbrev pub HasRoom : Writing → Meaning → ℕ → Type 0
+HasRoom Replies m capacity = Unit {0}
+HasRoom (Summary requests) m capacity = Unit {0}
+HasRoom Tables m capacity = (t : ℕ) → t < length m.shape
+    → length (entries_of m.opened t) + room m t ≤ capacity
+
+-- so there is for each table
+abbrev pub HasRoomFor : Writing → File → ClosedView → ℕ → Type 0
+HasRoomFor Replies f d capacity = Unit {0}
+HasRoomFor (Summary requests) f d capacity = Unit {0}
+HasRoomFor Tables f d capacity = AreFinal d (length f.tables)
+    → HaveRoom capacity (final_lists d (length f.tables))
+
+-- what is written of a session whose tables are written are its final ones
+abbrev pub HasLeft : Writing → File → ClosedView → Type 0
+HasLeft Replies f d = Unit {0}
+HasLeft (Summary requests) f d = Unit {0}
+HasLeft Tables f d = AreFinal d (length f.tables)
 
 -- The parts' session was served through a hall by so many callers, over so many shards a table; its
 -- names are these.
@@ -77,27 +135,29 @@ EndsOrWants text out (status.Refused e) = ⊥
 EndsOrWants text out status.Usage = ⊥
 EndsOrWants text out status.ReadFault = ⊥
 
--- what is written of a session that was served: its replies, or how many operations it made and how
--- many bytes its replies take
-abbrev pub text_of : Writing → List (List ℕ) → ClosedView → List ℕ
-text_of Replies names d = reply_text names 0 d.replies
-text_of (Summary requests) names d = summary requests (length (done_operations d.journal))
+-- what is written of a session that was served: its replies, how many operations it made and how many
+-- bytes its replies take, or its final tables
+abbrev pub text_of : Writing → List (List ℕ) → File → ClosedView → List ℕ
+text_of Replies names f d = reply_text names 0 d.replies
+text_of Tables names f d = dump_text names f.tables (final_lists d (length f.tables))
+text_of (Summary requests) names f d = summary requests (length (done_operations d.journal))
     (length (reply_text names 0 d.replies))
 
 -- a script was served through this hall, and what is asked of it was written
-pub record EndsAsServed {O : Type 0} (w : Writing) (names : List (List ℕ)) (m : Meaning)
+pub record EndsAsServed {O : Type 0} (w : Writing) (names : List (List ℕ)) (f : File) (m : Meaning)
     (callers shards : ℕ) (out : Change O) (s : Status) (d : ClosedView) : Type 0 where
   pub done : IsDone m d
   pub callers_are : d.callers ≡ callers
   pub shards_are : d.shards ≡ shards
-  pub ends : EndsBy (text_of w names d) out s
+  pub left : HasLeft w f d
+  pub ends : EndsBy (text_of w names f d) out s
 
 -- what was loaded was served; or memory ran out before, and nothing was written
 abbrev pub EndsLoaded : {O : Type 0} → Writing → ℕ → ℕ → Loaded → Change O → Status
     → Option ClosedView → Type 0
 EndsLoaded w callers shards l out s None = (s ≡ status.NoMemory) × IsUntouched out
 EndsLoaded w callers shards l out s (Some d) =
-    EndsAsServed w l.names (meaning (script_of_loaded l)) callers shards out s d
+    EndsAsServed w l.names l.program.file (meaning (script_of_loaded l)) callers shards out s d
 
 -- nothing of an input was served, for this reason
 pub record EndsUnserved {O : Type 0} (input : List ℕ) (out : Change O) (s : Status) : Type 0 where
@@ -112,7 +172,8 @@ pub record EndsServed {O : Type 0} (w : Writing) (callers shards : ℕ) (input :
   pub is_input : IsSessionInput input
   pub names : List (List ℕ)
   pub served : HasServed (parts_of input) callers shards names d
-  pub ends : EndsBy (text_of w names d) out s
+  pub left : HasLeft w served.file d
+  pub ends : EndsBy (text_of w names served.file d) out s
 
 -- one of both, by whether a hall is left
 abbrev pub EndsSession : {O : Type 0} → Writing → ℕ → ℕ → List ℕ → Change O → Status

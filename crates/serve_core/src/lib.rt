@@ -1,9 +1,10 @@
 //! The top call: the words of a command line and an input in, the text of handlers, the reply lines
-//! of a session or a summary out.
+//! or final tables of a session or a summary out.
 #![tactic(auto)]
 
 mod counting;
 mod describing;
+mod final_tables;
 mod outcome;
 mod ranging;
 mod served;

@@ -1,80 +1,140 @@
-// A program whose requests are served through a hall.
+// A session that was loaded and is served through a hall.
 
-ghost use Rattle.std.specs.Prelude.{◌≡◌, ◌≤◌, length, map, IfOk};
+ghost use Rattle.std.specs.Prelude.{◌≡◌, ◌+◌, ◌<◌, ◌≤◌, ℕ, length, map, IfOk, vec_capacity};
 ghost use Rattle.session_limits.specs.Limits.{max_tables};
 ghost use Rattle.handler_check.specs.Resolved.{shape_of as shape_spec};
 ghost use Rattle.session_hall.specs.Closings.{IsDone};
+ghost use Rattle.opening_tables.specs.Opening.{entries_of};
+ghost use Rattle.session_journal.specs.Script.{room};
 ghost use Rattle.handler_machine.specs.Scripts.{meaning};
-ghost use Rattle.request_files.specs.Servable.{IsServable};
+ghost use Rattle.serve_core.specs.Serving.{CanServe, HasRoom, script_of_loaded};
 
 use crate::sizes::Sizes;
+use crate::writing::Writing;
 use byte_ends::WriteBuffer;
 use declaration_insertion::Program;
 use hall_serving::{OpenSession, open_session, serve_session};
 use handler_machine::Scripts;
-use request_files::Requests;
+use serve_reading::Loaded;
 use session_hall::Closed;
-use session_values::{NoMemory, TableKind};
+use session_journal::Script;
+use session_values::{NoMemory, TableKind, Value};
 use std::alloc::Global;
 use std::sync::Wait;
 use std::thread::Threads;
 use syntax_trees::File;
 use worker_gate::Gate;
 
-/// All that serving a program's requests and writing their replies takes: no memory is wanted from
-/// here on.
+/// All that serving a session's requests and writing what is asked of it takes: no memory is wanted
+/// from here on.
 #[derive(Drop)]
 pub(crate) struct Ready<'a> {
     pub(crate) session: OpenSession<Scripts<'a>>,
     /// The session's script again, by which each ticket is served.
     pub(crate) plan: Scripts<'a>,
-    /// Room for the lines of the replies.
+    /// Room for the entries of a table, where tables are to be written.
+    pub(crate) entries: Vec<(Value, Value)>,
+    /// Room for lines.
     pub(crate) buffer: WriteBuffer,
     ghost same: { plan ≡ session.script },
 }
 
-/// Opens a hall for the requests of a program, of these sizes.
-pub(crate) fn open_program<'a>(
+/// Room that is left for writing.
+#[derive(Drop)]
+pub(crate) struct Spare {
+    /// The entries of a table.
+    pub(crate) entries: Vec<(Value, Value)>,
+    /// Lines.
+    pub(crate) buffer: WriteBuffer,
+}
+
+/// Opens a hall of these sizes for the requests of a session that was loaded.
+pub(crate) fn open_loaded<'a>(
     alloc: Global,
     sizes: Sizes,
-    program: &'a Program,
-    requests: &'a Requests,
+    loaded: &'a Loaded,
+    writing: Writing,
 ) -> Result<Ready<'a>, NoMemory>
-    requires servable { IsServable program.now.file requests.now }
-    ensures script { IfOk result (λ r. r.session.script
-        ≡ record { program = program.now; requests = requests.now }) }
+    requires can { CanServe loaded.now }
+    ensures script { IfOk result (λ r. r.session.script ≡ script_of_loaded loaded.now) }
+    ensures room { IfOk result (λ r. HasRoom writing (meaning (script_of_loaded loaded.now))
+        (vec_capacity r.entries)) }
     ensures callers { IfOk result (λ r. r.session.callers ≡ sizes.callers) }
     ensures shards { IfOk result (λ r. r.session.shards ≡ sizes.shards) }
 {
     let buffer = WriteBuffer::new(alloc)?;
-    let shape = shape_of(alloc, program)?;
-    let script = Scripts::over(program, requests);
-    let plan = Scripts::over(program, requests);
+    let shape = shape_of(alloc, &loaded.program)?;
+    let script = Scripts::over(&loaded.program, &loaded.opening, &loaded.requests);
+    let plan = Scripts::over(&loaded.program, &loaded.opening, &loaded.requests);
+    let entries = entries_room(alloc, &plan, shape.len() as u32, writing)?;
     let session = open_session(alloc, script, shape.as_slice(), sizes.shards, sizes.callers)?;
     Ok(Ready {
         session,
         plan,
+        entries,
         buffer,
     })
 }
 
-/// Serves the requests of an open session, and gives the buffer back.
+// Where tables are to be written, room for the entries of each table at the end.
+fn entries_room<S: Script>(
+    alloc: Global,
+    script: &S,
+    tables: u32,
+    writing: Writing,
+) -> Result<Vec<(Value, Value)>, NoMemory>
+    requires { tables ≡ length (S.meaning script.now).shape }
+    ensures { IfOk result (λ v. HasRoom writing (S.meaning script.now) (vec_capacity v)) }
+{
+    let room = match writing {
+        Writing::Replies => 0,
+        Writing::Summary { .. } => 0,
+        Writing::Tables => most_entries(script, tables),
+    };
+    Ok(Vec::with_capacity(alloc, room as usize)?)
+}
+
+// The most entries of a table: those with which it opens, and those that calls may add.
+fn most_entries<S: Script>(script: &S, tables: u32) -> u64
+    requires { tables ≡ length (S.meaning script.now).shape }
+    ensures { (t : ℕ) → t < tables → length (entries_of (S.meaning script.now).opened t)
+        + room (S.meaning script.now) t ≤ result }
+{
+    let mut most = 0;
+    for table in 0..tables {
+        let entries = script.opening_len(table) as u64 + script.room(table) as u64;
+        most = larger(most, entries);
+    }
+    most
+}
+
+// The larger of two numbers.
+fn larger(a: u64, b: u64) -> u64
+    ensures first { a ≤ result }
+    ensures second { b ≤ result }
+{
+    if a < b { b } else { a }
+}
+
+/// Serves the requests of an open session, and gives the room for writing.
 pub(crate) fn serve_ready<'a, R: Threads + Wait + Sync, G: Gate + Sync>(
     rt: &R,
     ready: Ready<'a>,
     gate: &G,
-) -> (Closed, WriteBuffer)
+) -> (Closed, Spare)
     ensures done { IsDone (meaning ready.entry.session.script) result.0 }
     ensures callers { result.0.callers ≡ ready.entry.session.callers }
     ensures shards { result.0.shards ≡ ready.entry.session.shards }
+    ensures room { vec_capacity result.1.entries ≡ vec_capacity ready.entry.entries }
 {
     let Ready {
         session,
         plan,
+        entries,
         buffer,
     } = ready;
     let closed = serve_session(rt, session, &plan, gate);
-    (closed, buffer)
+    (closed, Spare { entries, buffer })
 }
 
 // The kinds of the tables of a program.

@@ -1,20 +1,19 @@
 // Sessions: from the bytes of a session file to what is written of it.
 
-ghost use Rattle.std.specs.Prelude.{◌≡◌, ◌≤◌, length};
+ghost use Rattle.std.specs.Prelude.{◌≡◌, ◌≤◌, length, vec_capacity};
 ghost use Rattle.session_limits.specs.Limits.{max_input};
 ghost use Rattle.handler_machine.specs.Scripts.{meaning};
 ghost use Rattle.serve_faults.specs.Changes.{change};
-ghost use Rattle.serve_core.specs.Serving.{CanPrint, CanServe, EndsAsServed, EndsLoaded, EndsSession, status_of};
+ghost use Rattle.serve_core.specs.Serving.{CanPrint, CanServe, EndsAsServed, EndsLoaded, EndsSession, HasRoom, status_of};
 
 use crate::outcome::Outcome;
-use crate::served::{Ready, open_program, serve_ready};
+use crate::served::{Ready, open_loaded, serve_ready};
 use crate::sizes::Sizes;
 use crate::writing::{Writing, write_session};
 use byte_ends::Sink;
 use serve_faults::Status;
 use serve_reading::{Loaded, Unserved, load_session};
 use session_hall::Closed;
-use session_values::Names;
 use std::alloc::Global;
 use std::sync::Wait;
 use std::thread::Threads;
@@ -67,9 +66,9 @@ fn serve_loaded<R: Threads + Wait + Sync, O: Sink, G: Gate + Sync>(
     ensures { EndsLoaded writing sizes.callers sizes.shards loaded.now
         (change O.held O.faults out.old out.new) result.status result.closed }
 {
-    match open_program(alloc, sizes, &loaded.program, &loaded.requests) {
+    match open_loaded(alloc, sizes, loaded, writing) {
         Ok(ready) => {
-            let (status, closed) = serve_open(rt, ready, &loaded.names, writing, out, gate);
+            let (status, closed) = serve_open(rt, ready, loaded, writing, out, gate);
             Outcome {
                 status,
                 closed: Some(closed),
@@ -87,17 +86,19 @@ fn serve_loaded<R: Threads + Wait + Sync, O: Sink, G: Gate + Sync>(
 fn serve_open<'a, R: Threads + Wait + Sync, O: Sink, G: Gate + Sync>(
     rt: &R,
     ready: Ready<'a>,
-    names: &Names,
+    loaded: &Loaded,
     writing: Writing,
     out: &mut O,
     gate: &G,
 ) -> (Status, Closed)
-    requires { CanPrint names.now (meaning ready.session.script) }
-    ensures { EndsAsServed writing names.now (meaning ready.entry.session.script)
-        ready.entry.session.callers ready.entry.session.shards
+    requires print { CanPrint loaded.now.names loaded.now.program.file
+        (meaning ready.session.script) }
+    requires room { HasRoom writing (meaning ready.session.script) (vec_capacity ready.entries) }
+    ensures { EndsAsServed writing loaded.now.names loaded.now.program.file
+        (meaning ready.entry.session.script) ready.entry.session.callers ready.entry.session.shards
         (change O.held O.faults out.old out.new) result.0 result.1 }
 {
-    let (closed, mut buffer) = serve_ready(rt, ready, gate);
-    let status = write_session(out, &closed, names, &mut buffer, writing);
+    let (closed, mut spare) = serve_ready(rt, ready, gate);
+    let status = write_session(out, &closed, loaded, &mut spare, writing);
     (status, closed)
 }

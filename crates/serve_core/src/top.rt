@@ -65,7 +65,11 @@ fn answer<R: Threads + Wait + Sync, I: Source, O: Sink, G: Gate + Sync>(
         Some(Command::Show) => unserved(describe_source(alloc, true, source, out)),
         Some(Command::Serve { callers, shards }) => {
             let sizes = Sizes { callers, shards };
-            serve_source(rt, alloc, sizes, source, out, gate)
+            serve_source(rt, alloc, false, sizes, source, out, gate)
+        }
+        Some(Command::Dump { callers, shards }) => {
+            let sizes = Sizes { callers, shards };
+            serve_source(rt, alloc, true, sizes, source, out, gate)
         }
         Some(Command::Work { requests, start }) => { work(rt, alloc, requests, start, out, gate) }
         Some(Command::Ranges) => unserved(range_source(alloc, source, out)),

@@ -1,21 +1,26 @@
 // Writing what is asked of a session that was served.
 
-ghost use Rattle.std.specs.Prelude.{◌≡◌, ◌+◌, ◌≤◌, length};
+ghost use Rattle.std.specs.Prelude.{◌≡◌, ◌+◌, ◌≤◌, length, vec_capacity};
 ghost use Rattle.session_limits.specs.Limits.{max_requests};
 ghost use Rattle.session_journal.specs.Journal.{done_operations};
 ghost use Rattle.session_values.specs.ReplyText.{reply_text};
 ghost use Rattle.serve_made.specs.Summary.{summary};
 ghost use Rattle.reply_sheet.specs.Printable.{ArePrintableReplies};
 ghost use Rattle.serve_faults.specs.Changes.{change};
-ghost use Rattle.serve_core.specs.Serving.{EndsBy, text_of};
+ghost use Rattle.serve_core.specs.declared.writing.Writing.TheVariants.{Tables};
+ghost use Rattle.serve_core.specs.Serving.{EndsBy, HasLeft, HasRoomFor, IsPrintable, text_of};
 
 use crate::counting::{count_bytes, count_calls};
+use crate::final_tables::FinalTables;
+use crate::served::Spare;
 use byte_ends::{Sink, WriteBuffer, write_all};
 use reply_sheet::write_replies;
 use serve_faults::Status;
 use serve_made::summary_text;
+use serve_reading::Loaded;
 use session_hall::Closed;
 use session_values::Names;
+use table_dump::write_tables;
 
 /// What is written of a session that was served.
 #[derive(Clone, Copy, Debug)]
@@ -24,24 +29,49 @@ pub(crate) enum Writing {
     Replies,
     /// The summary of a session of so many requests.
     Summary { requests: u32 },
+    /// Its final tables.
+    Tables,
 }
 
 /// Writes what is asked of a session that was served.
 pub(crate) fn write_session<O: Sink>(
     out: &mut O,
     closed: &Closed,
-    names: &Names,
-    buffer: &mut WriteBuffer,
+    loaded: &Loaded,
+    spare: &mut Spare,
     writing: Writing,
 ) -> Status
-    requires few { length closed.now.replies ≤ max_requests }
-    requires printable { ArePrintableReplies names.now closed.now.replies }
-    ensures { EndsBy (text_of writing names.now closed.now)
+    requires print { IsPrintable loaded.now.names loaded.now.program.file closed.now }
+    requires room { HasRoomFor writing loaded.now.program.file closed.now
+        (vec_capacity spare.old.entries) }
+    ensures left { HasLeft writing loaded.now.program.file closed.now }
+    ensures ends { EndsBy (text_of writing loaded.now.names loaded.now.program.file closed.now)
         (change O.held O.faults out.old out.new) result }
 {
+    let names = &loaded.names;
     match writing {
-        Writing::Replies => write_lines(out, closed, names, buffer),
+        Writing::Replies => write_lines(out, closed, names, &mut spare.buffer),
         Writing::Summary { requests } => write_summary(out, closed, names, requests),
+        Writing::Tables => write_finals(out, closed, loaded, spare),
+    }
+}
+
+// Writes the final tables.
+fn write_finals<O: Sink>(out: &mut O, closed: &Closed, loaded: &Loaded, spare: &mut Spare) -> Status
+    requires print { IsPrintable loaded.now.names loaded.now.program.file closed.now }
+    requires room { HasRoomFor Tables loaded.now.program.file closed.now
+        (vec_capacity spare.old.entries) }
+    ensures left { HasLeft Tables loaded.now.program.file closed.now }
+    ensures ends { EndsBy (text_of Tables loaded.now.names loaded.now.program.file closed.now)
+        (change O.held O.faults out.old out.new) result }
+{
+    let decls = loaded.program.checked().file().tables.as_slice();
+    let tables = FinalTables::of(closed, decls.len() as u32);
+    let Spare { entries, buffer } = spare;
+    if write_tables(out, decls, &tables, &loaded.names, entries, buffer) {
+        Status::Fine
+    } else {
+        Status::WriteFault
     }
 }
 

@@ -1,4 +1,4 @@
-use Rattle.std.proofs.Common.{ap, sym, ◌∙◌, arith, ℕ, List, length}
+use Rattle.std.proofs.Common.{ap, sym, arith, ℕ, List, length}
 use Rattle.reply_sheet.proofs.TextLemmas.{no_text}
 use Rattle.serve_core.proofs.CountLemmas.{bytes_more}
 use Rattle.serve_core.proofs.counting.count_bytes.Goals as goal

@@ -1,6 +1,4 @@
-use Rattle.std.proofs.Common.{sym, ap, ◌∙◌, ◌∷◌, [], List, length, arith}
-use Rattle.session_journal.specs.declared.event.Event.{Event}
-use Rattle.session_journal.specs.Journal.{done_operations}
+use Rattle.std.proofs.Common.{sym, arith}
 use Rattle.serve_core.proofs.CountLemmas.{done_operations_more}
 use Rattle.serve_core.proofs.counting.count_calls.Goals as goal
 

@@ -1,0 +1,13 @@
+pub mod Again
+pub mod Dividing
+pub mod EntryLines
+pub mod Openings
+pub mod ReadBack
+pub mod Readable
+pub mod Requested
+pub mod Room
+pub mod Served
+pub mod Sessions
+pub mod SymbolTexts
+pub mod TableNames
+pub mod Utf8

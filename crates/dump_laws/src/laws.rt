@@ -1,0 +1,30 @@
+// A law of dumps: the contract of a function with an empty body.
+
+ghost use Rattle.std.specs.Prelude.{ℕ, List, [], Some};
+ghost use Rattle.serve_words.specs.declared.command.Command.TheVariants.{Dump};
+ghost use Rattle.handler_syntax.specs.Language.{File};
+ghost use Rattle.serve_faults.specs.Answer.{CommandAnswers, Text, dumped_text};
+ghost use Rattle.serve_faults.specs.Input.{IsInput, parts_of};
+ghost use Rattle.serve_faults.specs.Session.{IsSession};
+ghost use Rattle.dump_laws.specs.Reopened.{EndsAlike, HasFewLines, MeetsLimits, OpensAsEnded, reopened};
+
+/// What was dumped of a session, put behind its handlers in place of the table part, is read as the
+/// tables that were dumped, symbols compared by their texts, whatever requests follow, where it has
+/// no more lines than a table part may have. Without requests, where the file isn't too large, these
+/// are the final tables again, and the dump is the same bytes, by however many callers and over
+/// however many shards.
+pub fn dumps_read_back()
+    ensures answer { (callers shards : ℕ) (input text : List ℕ)
+        → CommandAnswers (Some (Dump callers shards)) input (Text text)
+        → MeetsLimits input text → (other_callers other_shards : ℕ)
+        → CommandAnswers (Some (Dump other_callers other_shards)) (reopened input text [])
+        (Text text) }
+    ensures opens { (callers shards : ℕ) (input requests : List ℕ) (file : File)
+        → IsInput (Dump callers shards) input → IsSession (parts_of input) file
+        → HasFewLines (dumped_text input file)
+        → OpensAsEnded input (reopened input (dumped_text input file) requests) requests file }
+    ensures ends { (callers shards : ℕ) (input : List ℕ) (file : File)
+        → IsInput (Dump callers shards) input → IsSession (parts_of input) file
+        → HasFewLines (dumped_text input file)
+        → EndsAlike input (reopened input (dumped_text input file) []) file }
+{}

@@ -1,0 +1,18 @@
+use Rattle.std.proofs.Common.{ℕ, sym, subst}
+use Rattle.handler_machine.specs.Scripts.{meaning}
+use Rattle.serve_core.specs.Serving.{HasRoomFor}
+use Rattle.serve_core.proofs.FileLemmas.{has_room}
+use Rattle.serve_core.proofs.FinalLemmas.{tables_counted}
+use Rattle.serve_core.proofs.sessions.serve_open.Goals as goal
+
+pub write_session-status-requires-clause-print : goal.write_session-status-requires-clause-print
+write_session-status-requires-clause-print g c = c.requires.print c.serve_ready-closed.result.0 c.serve_ready-closed.ensures.done
+
+pub write_session-status-requires-clause-room : goal.write_session-status-requires-clause-room
+write_session-status-requires-clause-room g c =
+    let f = c.args.loaded.now.program.file in
+    let d = c.serve_ready-closed.result.0 in
+    let done = c.serve_ready-closed.ensures.done in
+    let print = c.requires.print d done in
+    subst (λ (room : ℕ). HasRoomFor c.args.writing f d room) (sym c.serve_ready-closed.ensures.room)
+    (has_room c.args.writing f (meaning c.args.ready.session.script) d _ done (tables_counted (meaning c.args.ready.session.script) d _ done print.some print.parts) c.requires.room)

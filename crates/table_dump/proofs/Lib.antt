@@ -1,0 +1,5 @@
+mod Apart
+mod PartText
+mod Parts
+mod Rising
+mod Waiting
