@@ -4,15 +4,15 @@ use Rattle.std.specs.List.{AllByRecursion}
 use Rattle.std.proofs.lemmas.List.{get_or-replicate, get_or_at, get_or_default, length-replicate, take_all}
 use Rattle.session_limits.specs.Limits.{max_callers}
 use Rattle.session_values.specs.declared.kind.TableKind.{TableKind}
-use Rattle.session_values.specs.declared.kind.TableKind.TheVariants.{Map, Set}
 use Rattle.session_values.specs.declared.op.Op.{Op}
 use Rattle.session_values.specs.declared.reply.Reply.{Reply}
 use Rattle.session_values.specs.declared.value.Value.{Value}
 use Rattle.session_values.specs.Dialogue.{Calls, Dialogue, Entry, Follows, rest}
-use Rattle.session_values.specs.Tables.{Fits, Tables, kind_of, start}
+use Rattle.session_values.specs.Tables.{Fits, Tables, kind_of}
+use Rattle.opening_tables.proofs.Openings.{opening_kinds}
 use Rattle.session_journal.specs.declared.event.Event.{Event}
 use Rattle.session_journal.specs.Journal.{Replays, begun, by_ticket, done_operations, ended, entries}
-use Rattle.session_journal.specs.Script.{Meaning}
+use Rattle.session_journal.specs.Script.{IsScript, Meaning}
 use Rattle.trace_audit.specs.declared.standing.Standing.{Standing}
 use Rattle.trace_audit.specs.declared.verdict.Verdict.{Verdict}
 use Rattle.trace_audit.specs.declared.verdict.Verdict.TheVariants.{Accepted as IsFine, Event as AtEvent, Ticket as AtTicket}
@@ -28,15 +28,13 @@ use Rattle.trace_audit.proofs.Serial.{some_none, told}
 use Rattle.trace_audit.proofs.Tickets.{joined_more}
 
 -- ---- before any event
-kinds_start : (shape : List TableKind) → map kind_of (start shape) ≡ shape
-kinds_start [] = refl
-kinds_start (Map ∷ shape) = ap (λ (ks : List TableKind). Map ∷ ks) (kinds_start shape)
-kinds_start (Set ∷ shape) = ap (λ (ks : List TableKind). Set ∷ ks) (kinds_start shape)
+script_kinds : (m : Meaning) → IsScript m → map kind_of m.opening ≡ m.shape
+script_kinds m s = ap (map kind_of) s.opening ∙ opening_kinds m.shape m.opened
 
 none_some : {X : Type 0} (x : X) → ◌≡◌ {A = Option X} None (Some x) → ⊥
 none_some x e = cc
 
-opened_front : (m : Meaning) (J : List Event) (rs : List ReplayView) (n : ℕ) → WereRun m J rs → n ≡ m.requests → IsFront m rs [] (opened m.shape n)
+opened_front : (m : Meaning) (J : List Event) (rs : List ReplayView) (n : ℕ) → WereRun m J rs → n ≡ m.requests → IsFront m rs [] (opened m.opening n)
 opened_front m J rs n w is = record {
   allowed = tt;
   begun = refl;
@@ -45,18 +43,18 @@ opened_front m J rs n w is = record {
   count = length-replicate n no_standing ∙ is;
   each = λ t l. (let P : Standing → Type 0 = λ s. IsStanding [] t s in subst P (sym (get_or-replicate n t no_standing no_standing (omega (arith, l, is)))) (record { done = refl; delayed = refl; ended = refl }));
   given = λ t l. omega arith;
-  tables = sym w.script.opening;
-  kinds = kinds_start m.shape;
+  tables = refl;
+  kinds = script_kinds m w.script;
 }
 
-pub front_opened : (m : Meaning) (shape : List TableKind) (J : List Event) (rs : List ReplayView) (n : ℕ) (f : FrontView) → m.shape ≡ shape → WereRun m J rs → n ≡ length rs → f ≡ opened shape n → IsFront m rs [] f
-front_opened m shape J rs n f kinds w is made =
+pub front_opened : (m : Meaning) (ts : Tables) (J : List Event) (rs : List ReplayView) (n : ℕ) (f : FrontView) → m.opening ≡ ts → WereRun m J rs → n ≡ length rs → f ≡ opened ts n → IsFront m rs [] f
+front_opened m ts J rs n f opens w is made =
     let P : FrontView → Type 0 = λ g. IsFront m rs [] g in
-    let Q : List TableKind → Type 0 = λ ks. IsFront m rs [] (opened ks n) in
-    subst P (sym made) (subst Q kinds (opened_front m J rs n w (is ∙ w.count)))
+    let Q : Tables → Type 0 = λ us. IsFront m rs [] (opened us n) in
+    subst P (sym made) (subst Q opens (opened_front m J rs n w (is ∙ w.count)))
 
-pub judging_starts : (shape : List TableKind) (J : List Event) (rs : List ReplayView) (n : ℕ) (f : FrontView) → MayJudge shape rs J → n ≡ length rs → f ≡ opened shape n → IsFirst rs J f
-judging_starts shape J rs n f may is made = record { meaning = may.meaning; run = may.run; kept = front_opened may.meaning shape J rs n f may.kinds may.run is made }
+pub judging_starts : (ts : Tables) (J : List Event) (rs : List ReplayView) (n : ℕ) (f : FrontView) → MayJudge ts rs J → n ≡ length rs → f ≡ opened ts n → IsFirst rs J f
+judging_starts ts J rs n f may is made = record { meaning = may.meaning; run = may.run; kept = front_opened may.meaning ts J rs n f may.opening may.run is made }
 
 -- ---- the first event against a rule
 pub event_verdict : (m : Meaning) (J : List Event) (at : ℕ) (e : Event) (rule : ℕ) → IsAgainst m J at → e ≡ get_or J at e → rule ≡ rule_of e → IsVerdict m J (AtEvent rule at)
@@ -111,17 +109,14 @@ joined_is m J rs (suc t) w l =
     ∙ ap (λ (es : List Entry). es ++ (replay_at rs t).entries) (joined_is m J rs t w (omega (arith, less)))
     ∙ ap (λ (es : List Entry). by_ticket t (done_operations J) ++ es) (w.each t less).from_trace
 
-pub tickets_verdict : (m : Meaning) (shape : List TableKind) (rs : List ReplayView) (J : List Event) (f : FrontView) (v : Verdict) → m.shape ≡ shape → WereRun m J rs → IsFront m rs J f → FindsOpen f.standings None → TicketsJudged shape rs v → IsVerdict m J v
-tickets_verdict m shape rs J f v kinds w k o judged = by v judged
+pub tickets_verdict : (m : Meaning) (start : Tables) (rs : List ReplayView) (J : List Event) (f : FrontView) (v : Verdict) → m.opening ≡ start → WereRun m J rs → IsFront m rs J f → FindsOpen f.standings None → TicketsJudged start rs v → IsVerdict m J v
+tickets_verdict m start rs J f v opens w k o judged = by v judged
   where
-    opening : start shape ≡ m.opening
-    opening = ap start (sym kinds) ∙ sym w.script.opening
+    to : (t : ℕ) (es : List Entry) → es ≡ by_ticket t (done_operations J) → Replays start es → Replays m.opening (by_ticket t (done_operations J))
+    to t es is h = let P : List Entry → Type 0 = λ fs. Replays start fs in let Q : Tables → Type 0 = λ ts. Replays ts (by_ticket t (done_operations J)) in subst Q (sym opens) (subst P is h)
 
-    to : (t : ℕ) (es : List Entry) → es ≡ by_ticket t (done_operations J) → Replays (start shape) es → Replays m.opening (by_ticket t (done_operations J))
-    to t es is h = let P : List Entry → Type 0 = λ fs. Replays (start shape) fs in let Q : Tables → Type 0 = λ ts. Replays ts (by_ticket t (done_operations J)) in subst Q opening (subst P is h)
-
-    back : (t : ℕ) (es : List Entry) → es ≡ by_ticket t (done_operations J) → Replays m.opening (by_ticket t (done_operations J)) → Replays (start shape) es
-    back t es is h = let P : List Entry → Type 0 = λ fs. Replays (start shape) fs in let Q : Tables → Type 0 = λ ts. Replays ts (by_ticket t (done_operations J)) in subst P (sym is) (subst Q (sym opening) h)
+    back : (t : ℕ) (es : List Entry) → es ≡ by_ticket t (done_operations J) → Replays m.opening (by_ticket t (done_operations J)) → Replays start es
+    back t es is h = let P : List Entry → Type 0 = λ fs. Replays start fs in let Q : Tables → Type 0 = λ ts. Replays ts (by_ticket t (done_operations J)) in subst P (sym is) (subst Q opens h)
 
     ends : HaveEnded m.requests J
     ends = all_ended m rs J f k o
@@ -139,7 +134,7 @@ tickets_verdict m shape rs J f v kinds w k o judged = by v judged
     whole : joined rs ≡ by_ticket m.requests (done_operations J)
     whole = ap joined (sym (take_all m.requests rs (omega (arith, w.count)))) ∙ joined_is m J rs m.requests w (omega arith)
 
-    by : (v : Verdict) → TicketsJudged shape rs v → IsVerdict m J v
+    by : (v : Verdict) → TicketsJudged start rs v → IsVerdict m J v
     by IsFine h = record {
       allowed = k.allowed;
       ended = ends;
@@ -169,16 +164,19 @@ fit_all : (shape : List TableKind) (rs : List ReplayView) → ((t : ℕ) → t <
 fit_all shape [] h = tt
 fit_all shape (x ∷ rs) h = (h 0 (omega arith), fit_all shape rs (λ t l. h (suc t) (omega (arith, l))))
 
-pub tickets_fit : (m : Meaning) (shape : List TableKind) (rs : List ReplayView) (J : List Event) (f : FrontView) → m.shape ≡ shape → WereRun m J rs → IsFront m rs J f → TicketsFit shape rs
-tickets_fit m shape rs J f kinds w k = record {
-  fit = fit_all shape rs (λ t l. one t (omega (arith, l, w.count)));
+pub tickets_fit : (m : Meaning) (ts : Tables) (rs : List ReplayView) (J : List Event) (f : FrontView) → m.opening ≡ ts → WereRun m J rs → IsFront m rs J f → TicketsFit (map kind_of ts) rs
+tickets_fit m ts rs J f opens w k = record {
+  fit = fit_all (map kind_of ts) rs (λ t l. one t (omega (arith, l, w.count)));
   few = omega (arith, w.count, w.script.few_requests);
 }
   where
-    one : (t : ℕ) → t < m.requests → EntriesFit shape (replay_at rs t).entries
+    kinds : m.shape ≡ map kind_of ts
+    kinds = sym (script_kinds m w.script) ∙ ap (map kind_of) opens
+
+    one : (t : ℕ) → t < m.requests → EntriesFit (map kind_of ts) (replay_at rs t).entries
     one t l =
         let P : List TableKind → Type 0 = λ ks. EntriesFit ks (entries J t) in
-        let Q : List Entry → Type 0 = λ es. EntriesFit shape es in
+        let Q : List Entry → Type 0 = λ es. EntriesFit (map kind_of ts) es in
         subst Q (sym (w.each t l).from_trace) (subst P kinds (follows_fit m.shape (m.next t) (entries J t) (λ vs op c. w.script.fits t vs op c) ((told m J k.allowed).follows t)))
 
 -- ---- as the code's branches know them
@@ -196,13 +194,13 @@ all_from m rs J f g o h is w k = let P : Option ℕ → Type 0 = λ p. JudgesEve
 pub open_from : (ss : List Standing) (o p : Option ℕ) → o ≡ p → FindsOpen ss o → FindsOpen ss p
 open_from ss o p is h = subst (FindsOpen ss) is h
 
-pub whole_map : {E : Type 0} (shape : List TableKind) (rs : List ReplayView) (f : FrontView) (o : Option ℕ) (r : Result Verdict E) → FindsOpen f.standings o → o ≡ None → IfOk r (λ v. TicketsJudged shape rs v) → IfOk r (λ v. (m : Meaning) (J : List Event) → m.shape ≡ shape → WereRun m J rs → IsFront m rs J f → IsVerdict m J v)
-whole_map shape rs f o (Ok v) found is h = λ m J kinds w k. tickets_verdict m shape rs J f v kinds w k (open_from f.standings o None is found) h
-whole_map shape rs f o (Err e) found is h = h
+pub whole_map : {E : Type 0} (ts : Tables) (rs : List ReplayView) (f : FrontView) (o : Option ℕ) (r : Result Verdict E) → FindsOpen f.standings o → o ≡ None → IfOk r (λ v. TicketsJudged ts rs v) → IfOk r (λ v. (m : Meaning) (J : List Event) → m.opening ≡ ts → WereRun m J rs → IsFront m rs J f → IsVerdict m J v)
+whole_map ts rs f o (Ok v) found is h = λ m J opens w k. tickets_verdict m ts rs J f v opens w k (open_from f.standings o None is found) h
+whole_map ts rs f o (Err e) found is h = h
 
-pub trace_map : {E : Type 0} (shape : List TableKind) (rs : List ReplayView) (J : List Event) (f g : FrontView) (o : Option ℕ) (r : Result Verdict E) → f ≡ opened shape (length rs) → JudgesEvents rs J f o g → o ≡ None → IfOk r (λ v. (m : Meaning) (K : List Event) → m.shape ≡ shape → WereRun m K rs → IsFront m rs K g → IsVerdict m K v) → IfOk r (λ v. Judged shape rs J v)
-trace_map shape rs J f g o (Ok v) made judges is h = λ m kinds w. h m J kinds w (all_from m rs J f g o judges is w (front_opened m shape J rs (length rs) f kinds w refl made))
-trace_map shape rs J f g o (Err e) made judges is h = h
+pub trace_map : {E : Type 0} (ts : Tables) (rs : List ReplayView) (J : List Event) (f g : FrontView) (o : Option ℕ) (r : Result Verdict E) → f ≡ opened ts (length rs) → JudgesEvents rs J f o g → o ≡ None → IfOk r (λ v. (m : Meaning) (K : List Event) → m.opening ≡ ts → WereRun m K rs → IsFront m rs K g → IsVerdict m K v) → IfOk r (λ v. Judged ts rs J v)
+trace_map ts rs J f g o (Ok v) made judges is h = λ m opens w. h m J opens w (all_from m rs J f g o judges is w (front_opened m ts J rs (length rs) f opens w refl made))
+trace_map ts rs J f g o (Err e) made judges is h = h
 
 -- ---- the desk, whose tickets have all answered
 answered_run : (m : Meaning) (J : List Event) (t : ℕ) (x : ReplayView) (o : Option Reply) → x.answer ≡ o → IsSome o → KeepsReplay m J t x → WasRun m J t x
@@ -221,37 +219,36 @@ were_run m J o rs k all known few = record {
   few = few;
 }
 
-pub may_judge : {S : Type 0} (meaning : S → Meaning) (script : S) (J : List Event) (o : Option ℕ) (rs : List ReplayView) (d : AuditView S) (shape : List TableKind) → record { script = script; events = J; turn = o; tickets = rs } ≡ d → KeepsAudit (meaning script) J o rs → shape ≡ (meaning d.script).shape → AreAnswered (meaning d.script).requests d.tickets → AllByRecursion HasKnownSymbol J → length J ≤ max_events → MayJudge shape rs J
-may_judge {S} meaning script J o rs d shape seen k kinds answers known few =
+pub may_judge : {S : Type 0} (meaning : S → Meaning) (script : S) (J : List Event) (o : Option ℕ) (rs : List ReplayView) (d : AuditView S) (ts : Tables) → record { script = script; events = J; turn = o; tickets = rs } ≡ d → KeepsAudit (meaning script) J o rs → ts ≡ (meaning script).opening → AreAnswered (meaning d.script).requests d.tickets → AllByRecursion HasKnownSymbol J → length J ≤ max_events → MayJudge ts rs J
+may_judge {S} meaning script J o rs d ts seen k opens answers known few =
     let P : AuditView S → Type 0 = λ e. AreAnswered (meaning e.script).requests e.tickets in
     let all : AreAnswered (meaning script).requests rs = subst P (sym seen) answers in
     record {
       meaning = meaning script;
-      kinds = ap (λ (e : AuditView S). (meaning e.script).shape) seen ∙ sym kinds;
+      opening = sym opens;
       run = were_run (meaning script) J o rs k all known few;
     }
 
-pub desk_map : {S E : Type 0} (meaning : S → Meaning) (script : S) (J : List Event) (o : Option ℕ) (rs : List ReplayView) (d : AuditView S) (shape : List TableKind) (r : Result Verdict E) → record { script = script; events = J; turn = o; tickets = rs } ≡ d → KeepsAudit (meaning script) J o rs → shape ≡ (meaning d.script).shape → AreAnswered (meaning d.script).requests d.tickets → AllByRecursion HasKnownSymbol J → length J ≤ max_events → IfOk r (λ v. Judged shape rs J v) → IfOk r (λ v. IsVerdict (meaning d.script) d.events v)
-desk_map {S} {E} meaning script J o rs d shape (Err e) seen k kinds answers known few h = h
-desk_map {S} {E} meaning script J o rs d shape (Ok v) seen k kinds answers known few h =
+pub desk_map : {S E : Type 0} (meaning : S → Meaning) (script : S) (J : List Event) (o : Option ℕ) (rs : List ReplayView) (d : AuditView S) (ts : Tables) (r : Result Verdict E) → record { script = script; events = J; turn = o; tickets = rs } ≡ d → KeepsAudit (meaning script) J o rs → ts ≡ (meaning script).opening → AreAnswered (meaning d.script).requests d.tickets → AllByRecursion HasKnownSymbol J → length J ≤ max_events → IfOk r (λ v. Judged ts rs J v) → IfOk r (λ v. IsVerdict (meaning d.script) d.events v)
+desk_map {S} {E} meaning script J o rs d ts (Err e) seen k opens answers known few h = h
+desk_map {S} {E} meaning script J o rs d ts (Ok v) seen k opens answers known few h =
     let P : AuditView S → Type 0 = λ e. IsVerdict (meaning e.script) e.events v in
     let Q : AuditView S → Type 0 = λ e. AreAnswered (meaning e.script).requests e.tickets in
-    let same : (meaning script).shape ≡ shape = ap (λ (e : AuditView S). (meaning e.script).shape) seen ∙ sym kinds in
-    subst P seen (h (meaning script) same (were_run (meaning script) J o rs k (subst Q (sym seen) answers) known few))
+    subst P seen (h (meaning script) (sym opens) (were_run (meaning script) J o rs k (subst Q (sym seen) answers) known few))
 
 -- the same of the slices that the code reads
-pub slices_judge : {S : Type 0} (meaning : S → Meaning) (script : S) (J : List Event) (o : Option ℕ) (rs : List ReplayView) (d : AuditView S) (shape : List TableKind) (K : List Event) (ss : List ReplayView) → record { script = script; events = J; turn = o; tickets = rs } ≡ d → KeepsAudit (meaning script) J o rs → shape ≡ (meaning d.script).shape → AreAnswered (meaning d.script).requests d.tickets → K ≡ J → ss ≡ rs → AllByRecursion HasKnownSymbol K → length K ≤ max_events → MayJudge shape ss K
-slices_judge {S} meaning script J o rs d shape K ss seen k kinds answers events_are replays_are known few =
+pub slices_judge : {S : Type 0} (meaning : S → Meaning) (script : S) (J : List Event) (o : Option ℕ) (rs : List ReplayView) (d : AuditView S) (ts : Tables) (K : List Event) (ss : List ReplayView) → record { script = script; events = J; turn = o; tickets = rs } ≡ d → KeepsAudit (meaning script) J o rs → ts ≡ (meaning script).opening → AreAnswered (meaning d.script).requests d.tickets → K ≡ J → ss ≡ rs → AllByRecursion HasKnownSymbol K → length K ≤ max_events → MayJudge ts ss K
+slices_judge {S} meaning script J o rs d ts K ss seen k opens answers events_are replays_are known few =
     let A : List Event → Type 0 = λ I. AllByRecursion HasKnownSymbol I in
     let B : List Event → Type 0 = λ I. length I ≤ max_events in
-    let P : List Event → Type 0 = λ I. MayJudge shape rs I in
-    let Q : List ReplayView → Type 0 = λ ys. MayJudge shape ys K in
-    subst Q (sym replays_are) (subst P (sym events_are) (may_judge meaning script J o rs d shape seen k kinds answers (subst A events_are known) (subst B events_are few)))
+    let P : List Event → Type 0 = λ I. MayJudge ts rs I in
+    let Q : List ReplayView → Type 0 = λ ys. MayJudge ts ys K in
+    subst Q (sym replays_are) (subst P (sym events_are) (may_judge meaning script J o rs d ts seen k opens answers (subst A events_are known) (subst B events_are few)))
 
-pub slices_map : {S E : Type 0} (meaning : S → Meaning) (script : S) (J : List Event) (o : Option ℕ) (rs : List ReplayView) (d : AuditView S) (shape : List TableKind) (r : Result Verdict E) (K : List Event) (ss : List ReplayView) → record { script = script; events = J; turn = o; tickets = rs } ≡ d → KeepsAudit (meaning script) J o rs → shape ≡ (meaning d.script).shape → AreAnswered (meaning d.script).requests d.tickets → K ≡ J → ss ≡ rs → AllByRecursion HasKnownSymbol K → length K ≤ max_events → IfOk r (λ v. Judged shape ss K v) → IfOk r (λ v. IsVerdict (meaning d.script) d.events v)
-slices_map {S} {E} meaning script J o rs d shape r K ss seen k kinds answers events_are replays_are known few h =
+pub slices_map : {S E : Type 0} (meaning : S → Meaning) (script : S) (J : List Event) (o : Option ℕ) (rs : List ReplayView) (d : AuditView S) (ts : Tables) (r : Result Verdict E) (K : List Event) (ss : List ReplayView) → record { script = script; events = J; turn = o; tickets = rs } ≡ d → KeepsAudit (meaning script) J o rs → ts ≡ (meaning script).opening → AreAnswered (meaning d.script).requests d.tickets → K ≡ J → ss ≡ rs → AllByRecursion HasKnownSymbol K → length K ≤ max_events → IfOk r (λ v. Judged ts ss K v) → IfOk r (λ v. IsVerdict (meaning d.script) d.events v)
+slices_map {S} {E} meaning script J o rs d ts r K ss seen k opens answers events_are replays_are known few h =
     let A : List Event → Type 0 = λ I. AllByRecursion HasKnownSymbol I in
     let B : List Event → Type 0 = λ I. length I ≤ max_events in
-    let P : List Event → Type 0 = λ I. IfOk r (λ v. Judged shape ss I v) in
-    let Q : List ReplayView → Type 0 = λ ys. IfOk r (λ v. Judged shape ys J v) in
-    desk_map meaning script J o rs d shape r seen k kinds answers (subst A events_are known) (subst B events_are few) (subst Q replays_are (subst P events_are h))
+    let P : List Event → Type 0 = λ I. IfOk r (λ v. Judged ts ss I v) in
+    let Q : List ReplayView → Type 0 = λ ys. IfOk r (λ v. Judged ts ys J v) in
+    desk_map meaning script J o rs d ts r seen k opens answers (subst A events_are known) (subst B events_are few) (subst Q replays_are (subst P events_are h))

@@ -1,5 +1,6 @@
 pub mod Allowed
 pub mod Audits
+pub mod Filling
 pub mod FromBook
 pub mod FrontSteps
 pub mod Fronts

@@ -3,10 +3,9 @@ use Rattle.std.specs.Prelude.{◌≡◌, ◌≢◌, ℕ, ◌+◌, ◌<◌, ◌�
 use Rattle.std.specs.Bool.{MatchBool}
 use Rattle.std.specs.List.{AllByRecursion}
 use Rattle.session_limits.specs.Limits.{max_callers}
-use Rattle.session_values.specs.declared.kind.TableKind.{TableKind}
 use Rattle.session_values.specs.declared.op.Op.{Op}
 use Rattle.session_values.specs.declared.reply.Reply.{Reply}
-use Rattle.session_values.specs.Tables.{Tables, kind_of, start, step}
+use Rattle.session_values.specs.Tables.{Tables, kind_of, step}
 use Rattle.session_journal.specs.declared.event.Event.{Event}
 use Rattle.session_journal.specs.Journal.{after, begun, ended, entries, owner}
 use Rattle.session_journal.specs.Script.{IsScript, Meaning}
@@ -71,13 +70,13 @@ standing_at ss t = slice_index_or ss t no_standing
 abbrev pub latest_of : List (Option ℕ) → ℕ → Option ℕ
 latest_of ls c = slice_index_or ls c None
 
--- before any event
-abbrev pub opened : List TableKind → ℕ → FrontView
-opened shape n = record {
+-- before any event, over these tables
+abbrev pub opened : Tables → ℕ → FrontView
+opened ts n = record {
   begun = 0;
   latest = replicate max_callers None;
   standings = replicate n no_standing;
-  tables = start shape;
+  tables = ts;
 }
 
 -- how a ticket stands after the events F
@@ -212,20 +211,21 @@ FindsOpen ss found = MatchOption found ((t : ℕ) → t < length ss → (standin
     (λ t. (t < length ss) × ((standing_at ss t).ended ≡ false)
     × ((u : ℕ) → u < t → (standing_at ss u).ended ≡ true))
 
--- the tickets of a trace of this session were run, and the tables are of these kinds
-pub record MayJudge (shape : List TableKind) (rs : List ReplayView) (J : List Event) : Type 0 where
+-- the tickets of a trace of a session that opens with these tables were run
+pub record MayJudge (ts : Tables) (rs : List ReplayView) (J : List Event) : Type 0 where
   pub meaning : Meaning
-  pub kinds : meaning.shape ≡ shape
+  pub opening : meaning.opening ≡ ts
   pub run : WereRun meaning J rs
 
 -- all events of the trace are allowed, and what is kept is that of them
-pub record IsWhole (shape : List TableKind) (rs : List ReplayView) (f : FrontView) : Type 0 where
+pub record IsWhole (ts : Tables) (rs : List ReplayView) (f : FrontView) : Type 0 where
   pub meaning : Meaning
   pub events : List Event
-  pub kinds : meaning.shape ≡ shape
+  pub opening : meaning.opening ≡ ts
   pub run : WereRun meaning events rs
   pub kept : IsFront meaning rs events f
 
--- the verdict is that on the trace, whatever session of these kinds the tickets were run in
-abbrev pub Judged : List TableKind → List ReplayView → List Event → Verdict → Type 0
-Judged shape rs J v = (m : Meaning) → m.shape ≡ shape → WereRun m J rs → IsVerdict m J v
+-- the verdict is that on the trace, whatever session that opens with these tables the tickets were
+-- run in
+abbrev pub Judged : Tables → List ReplayView → List Event → Verdict → Type 0
+Judged ts rs J v = (m : Meaning) → m.opening ≡ ts → WereRun m J rs → IsVerdict m J v

@@ -5,7 +5,7 @@ use Rattle.std.specs.List.{AllByRecursion}
 use Rattle.session_values.specs.declared.kind.TableKind.{TableKind}
 use Rattle.session_values.specs.Dialogue.{Entry}
 use Rattle.session_values.specs.Kinds.{home}
-use Rattle.session_values.specs.Tables.{Tables, start}
+use Rattle.session_values.specs.Tables.{Tables}
 use Rattle.session_journal.specs.Journal.{Replays, run}
 use Rattle.trace_audit.specs.declared.verdict.Verdict.{Verdict}
 use Rattle.trace_audit.specs.declared.verdict.Verdict.TheVariants.{Accepted as IsFine, Event as AtEvent, Ticket as AtTicket}
@@ -39,8 +39,8 @@ pub record TicketsFit (shape : List TableKind) (rs : List ReplayView) : Type 0 w
   pub fit : AllFit shape rs
   pub few : length rs < 4294967296
 
--- accepted where all tickets' entries replay from empty tables, else the first ticket whose don't
-abbrev pub TicketsJudged : List TableKind → List ReplayView → Verdict → Type 0
-TicketsJudged shape rs IsFine = FindsUnreplayed (start shape) rs None
-TicketsJudged shape rs (AtTicket rule t) = (rule ≡ 6) × FindsUnreplayed (start shape) rs (Some t)
-TicketsJudged shape rs (AtEvent rule at) = ⊥
+-- accepted where all tickets' entries replay from these tables, else the first ticket whose don't
+abbrev pub TicketsJudged : Tables → List ReplayView → Verdict → Type 0
+TicketsJudged ts rs IsFine = FindsUnreplayed ts rs None
+TicketsJudged ts rs (AtTicket rule t) = (rule ≡ 6) × FindsUnreplayed ts rs (Some t)
+TicketsJudged ts rs (AtEvent rule at) = ⊥

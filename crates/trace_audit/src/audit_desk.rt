@@ -7,6 +7,7 @@ ghost use Rattle.trace_audit.specs.Verdicts.{IsVerdict};
 
 use crate::gathering::gather;
 use crate::judge::judge_trace;
+use crate::opening::opened_tables;
 use crate::ticket_replay::TicketReplay;
 use crate::trace::Trace;
 use crate::verdict::Verdict;
@@ -104,7 +105,10 @@ impl<'a, S: Script> AuditDesk<'a, S> {
         requires answered { AreAnswered (S.meaning self.script).requests self.tickets }
         ensures { IfOk result (λ v. IsVerdict (S.meaning self.entry.script) self.entry.events v) }
     {
-        judge_trace(alloc, shape, self.tickets.as_slice(), self.trace.events())
+        let tables = opened_tables(alloc, self.script, shape)?;
+        let mut again = opened_tables(alloc, self.script, shape)?;
+        let tickets = self.tickets.as_slice();
+        judge_trace(alloc, tables, &mut again, tickets, self.trace.events())
     }
 
     /// The reply of an operation of the ticket that is set, or nil where none is.

@@ -11,7 +11,7 @@ use crate::standing::Standing;
 use crate::ticket_replay::{TicketReplay, same_op, same_reply};
 use plain_tables::PlainTables;
 use session_limits::MAX_CALLERS;
-use session_values::{NoMemory, Op, Reply, TableKind, Value};
+use session_values::{NoMemory, Op, Reply, Value};
 use std::alloc::Global;
 
 /// How many tickets have begun, for each caller its latest ticket, how each ticket stands, and the
@@ -64,15 +64,15 @@ fn fresh_standings(alloc: Global, requests: u32) -> Result<Vec<Standing>, NoMemo
 }
 
 impl Front {
-    /// Before any event, with so many tickets.
-    pub(crate) fn new(alloc: Global, shape: &[TableKind], requests: u32) -> Result<Front, NoMemory>
-        ensures { IfOk result (λ f. front_of f ≡ opened shape.now requests) }
+    /// Before any event, with so many tickets, over the tables with which the session opens.
+    pub(crate) fn new(alloc: Global, tables: PlainTables, requests: u32) -> Result<Front, NoMemory>
+        ensures { IfOk result (λ f. front_of f ≡ opened tables requests) }
     {
         Ok(Front {
             begun: 0,
             latest: no_tickets(alloc)?,
             standings: fresh_standings(alloc, requests)?,
-            tables: PlainTables::new(alloc, shape)?,
+            tables,
         })
     }
 

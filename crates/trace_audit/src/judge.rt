@@ -1,6 +1,7 @@
 // What is judged of a trace whose tickets were run.
 
-ghost use Rattle.std.specs.Prelude.{◌≡◌, ◌<◌, ◌≤◌, IfOk, List, length};
+ghost use Rattle.std.specs.Prelude.{◌≡◌, ◌<◌, ◌≤◌, IfOk, List, length, map};
+ghost use Rattle.session_values.specs.Tables.{kind_of};
 ghost use Rattle.session_journal.specs.declared.event.Event.{Event as SpecEvent};
 ghost use Rattle.session_journal.specs.Script.{Meaning};
 ghost use Rattle.trace_audit.specs.Traces.{max_events};
@@ -16,7 +17,7 @@ use crate::ticket_replay::TicketReplay;
 use crate::verdict::Verdict;
 use plain_tables::PlainTables;
 use session_journal::Event;
-use session_values::{NoMemory, TableKind};
+use session_values::NoMemory;
 use std::alloc::Global;
 
 /// The number of the rule that an event of this kind breaks.
@@ -31,18 +32,13 @@ fn rule_of(e: Event) -> u32
     }
 }
 
-/// The verdict on the tickets one after another, where all events are allowed and all tickets have
-/// ended.
-fn judge_tickets(
-    alloc: Global,
-    shape: &[TableKind],
-    replays: &[TicketReplay],
-) -> Result<Verdict, NoMemory>
-    requires { TicketsFit shape.now replays.now }
-    ensures { IfOk result (λ v. TicketsJudged shape.now replays.now v) }
+/// The verdict on the tickets one after another from these tables, where all events are allowed and
+/// all tickets have ended.
+fn judge_tickets(tables: &mut PlainTables, replays: &[TicketReplay]) -> Result<Verdict, NoMemory>
+    requires { TicketsFit (map kind_of tables.old) replays.now }
+    ensures { IfOk result (λ v. TicketsJudged tables.old replays.now v) }
 {
-    let mut tables = PlainTables::new(alloc, shape)?;
-    match first_unreplayed(&mut tables, replays)? {
+    match first_unreplayed(tables, replays)? {
         Some(t) => Ok(Verdict::Ticket {
             rule: 6,
             ticket: t as u32,
@@ -63,15 +59,14 @@ fn judge_event(events: &[Event], at: usize) -> Verdict
     }
 }
 
-/// The verdict where all events are allowed.
+/// The verdict where all events are allowed, with the tables with which the session opens.
 fn judge_whole(
-    alloc: Global,
-    shape: &[TableKind],
+    tables: &mut PlainTables,
     replays: &[TicketReplay],
     front: &Front,
 ) -> Result<Verdict, NoMemory>
-    requires { IsWhole shape.now replays.now (front_of front.now) }
-    ensures { IfOk result (λ v. (m : Meaning) (J : List SpecEvent) → m.shape ≡ shape.now
+    requires { IsWhole tables.old replays.now (front_of front.now) }
+    ensures { IfOk result (λ v. (m : Meaning) (J : List SpecEvent) → m.opening ≡ tables.old
         → WereRun m J replays.now → IsFront m replays.now J (front_of front.now)
         → IsVerdict m J v) }
 {
@@ -80,23 +75,26 @@ fn judge_whole(
             rule: 5,
             ticket: t as u32,
         }),
-        None => judge_tickets(alloc, shape, replays),
+        None => judge_tickets(tables, replays),
     }
 }
 
-/// The verdict on a trace whose tickets were run.
+/// The verdict on a trace whose tickets were run, with the tables with which the session opens: once
+/// for the events in their order, and once for the tickets one after another.
 pub(crate) fn judge_trace(
     alloc: Global,
-    shape: &[TableKind],
+    tables: PlainTables,
+    again: &mut PlainTables,
     replays: &[TicketReplay],
     events: &[Event],
 ) -> Result<Verdict, NoMemory>
-    requires { MayJudge shape.now replays.now events.now }
-    ensures { IfOk result (λ v. Judged shape.now replays.now events.now v) }
+    requires tables { tables ≡ again.old }
+    requires run { MayJudge again.old replays.now events.now }
+    ensures { IfOk result (λ v. Judged again.old replays.now events.now v) }
 {
-    let mut front = Front::new(alloc, shape, replays.len() as u32)?;
+    let mut front = Front::new(alloc, tables, replays.len() as u32)?;
     match first_against(&mut front, replays, events)? {
         Some(at) => Ok(judge_event(events, at)),
-        None => judge_whole(alloc, shape, replays, &front),
+        None => judge_whole(again, replays, &front),
     }
 }

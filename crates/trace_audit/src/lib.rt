@@ -7,6 +7,7 @@ mod gathering;
 mod judge;
 mod judging;
 pub mod laws;
+mod opening;
 mod replaying;
 mod standing;
 mod ticket_replay;

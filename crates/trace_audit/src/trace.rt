@@ -43,6 +43,16 @@ impl Trace {
         }
     }
 
+    /// A trace without events, with room for so many.
+    pub fn with_room(alloc: Global, events: usize) -> Result<Trace, NoMemory>
+        ensures { IfOk result (λ t. t ≡ record { events = []; lines = [] }) }
+    {
+        Ok(Trace {
+            events: Vec::with_capacity(alloc, events)?,
+            lines: Vec::with_capacity(alloc, events)?,
+        })
+    }
+
     /// Adds an event behind the others, with its line.
     pub fn push(&mut self, e: Event, line: u32) -> Result<(), NoMemory>
         requires room { length self.old.events < max_events }

@@ -101,7 +101,7 @@ module _ (names : List (List ℕ)) (tables : List ℕ) (shape : List TableKind) 
   rows_are_words [] all = tt
   rows_are_words (e ∷ es) all = (event_are_words e all.0, rows_are_words es all.1)
 
-  each_back : (es : List Event) → AreDistinct names → AreDistinct (table_names names tables) → AllByRecursion (IsReadableEvent names tables shape) es → map (event_of names tables shape) (map (event_words names tables) es) ≡ map Some (map (as_read names) es)
+  pub each_back : (es : List Event) → AreDistinct names → AreDistinct (table_names names tables) → AllByRecursion (IsReadableEvent names tables shape) es → map (event_of names tables shape) (map (event_words names tables) es) ≡ map Some (map (as_read names) es)
   each_back [] dn dt all = refl
   each_back (e ∷ es) dn dt all =
       ap (λ (o : Option Event). o ∷ map (event_of names tables shape) (map (event_words names tables) es)) (event_back names tables shape dn dt e all.0)
@@ -110,6 +110,9 @@ module _ (names : List (List ℕ)) (tables : List ℕ) (shape : List TableKind) 
   text_is : (es : List Event) → events_text names tables es ≡ rows_text (map (event_words names tables) es)
   text_is [] = refl
   text_is (e ∷ es) = append_assoc (spaced (event_words names tables e)) (10 ∷ []) (events_text names tables es) ∙ ap (λ (t : List ℕ). spaced (event_words names tables e) ++ 10 ∷ t) (text_is es)
+
+  pub words_back_of : (es : List Event) → AllByRecursion (IsReadableEvent names tables shape) es → map words (lines (events_text names tables es)) ≡ map (event_words names tables) es
+  words_back_of es all = ap (λ (t : List ℕ). map words (lines t)) (text_is es) ∙ rows_back (map (event_words names tables) es) (rows_are_words es all)
 
   pub events_back : (es : List Event) → AreDistinct names → AreDistinct (table_names names tables) → AllByRecursion (IsReadableEvent names tables shape) es → map (event_of names tables shape) (map words (lines (events_text names tables es))) ≡ map Some (map (as_read names) es)
   events_back es dn dt all =

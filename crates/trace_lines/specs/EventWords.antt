@@ -1,5 +1,5 @@
 -- Words that are an event's, and the event that they are.
-use Rattle.std.specs.Prelude.{◌≡◌, ℕ, zero, suc, ◌<◌, ◌^◌, Bool, true, false, not, ◌&&◌, nat_le, nat_lt, if◌then◌else◌, List, [], ◌∷◌, codes, length, map, slice_get, Option, Some, None}
+use Rattle.std.specs.Prelude.{◌≡◌, ℕ, zero, suc, ◌<◌, ◌^◌, Bool, true, false, not, ◌&&◌, nat_le, nat_lt, if◌then◌else◌, List, [], ◌∷◌, codes, length, map, slice_get, slice_index, ◌==◌, Option, Some, None}
 use Rattle.std.specs.Fmt.{decimal}
 use Rattle.std.specs.List.{AllByRecursion}
 use Rattle.std.specs.Option.{option_map, option_and_then}
@@ -25,6 +25,7 @@ use Rattle.session_journal.specs.declared.event.Event.{Event}
 use Rattle.session_journal.specs.declared.event.Event.TheVariants.{Begin, Done, Delay, End}
 use Rattle.text_lines.specs.Values.{is_symbol, number_from}
 use Rattle.line_words.specs.ValueWords.{IsWritable, literal_value}
+use Rattle.line_words.specs.Words.{IsWord}
 use Rattle.trace_lines.specs.EventText.{text_at}
 
 -- ---- single words
@@ -183,6 +184,11 @@ as_read names (Delay t op older s) = Delay t op older (symbol_as_read names s)
 as_read names (End t r) = End t r
 
 -- ---- what reads back
+
+-- a table's name that is a word, and no literal of a symbol
+pub record IsTableName (w : List ℕ) : Type 0 where
+  pub word : IsWord w
+  pub plain : (slice_index w 0 == 39) ≡ false
 
 -- a table of the kind on which its operations work
 pub record HasHome (tables : List ℕ) (shape : List TableKind) (kind : Kind) (table : ℕ)

@@ -1,2 +1,5 @@
+pub mod EventRows
 pub mod EventText
 pub mod EventWords
+pub mod Fronts
+pub mod Pushing

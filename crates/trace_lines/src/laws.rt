@@ -1,13 +1,16 @@
 //! Laws of the lines of traces: what is written of an event reads back.
 
-ghost use Rattle.std.specs.Prelude.{◌≡◌, ℕ, List, Some, map};
+ghost use Rattle.std.specs.Prelude.{◌≡◌, ℕ, ◌≤◌, List, None, Some, length, map};
 ghost use Rattle.std.specs.List.{AllByRecursion};
 ghost use Rattle.session_values.specs.Names.{AreDistinct};
 ghost use Rattle.session_values.specs.declared.kind.TableKind.{TableKind};
+ghost use Rattle.text_lines.specs.Rows.{rows};
 ghost use Rattle.text_lines.specs.Text.{lines, words};
 ghost use Rattle.line_words.specs.Words.{IsWord};
+ghost use Rattle.trace_audit.specs.Traces.{TraceView, max_events};
+ghost use Rattle.trace_lines.specs.EventRows.{IsTrace, first_event_fault};
 ghost use Rattle.trace_lines.specs.EventText.{event_words, events_text};
-ghost use Rattle.trace_lines.specs.EventWords.{IsReadableEvent, as_read, event_of, table_names};
+ghost use Rattle.trace_lines.specs.EventWords.{IsReadableEvent, IsTableName, as_read, event_of, table_names};
 
 use session_journal::Event;
 
@@ -29,4 +32,23 @@ pub fn events_read_back()
         → AllByRecursion (IsReadableEvent names tables shape) es
         → map (event_of names tables shape) (map words (lines (events_text names tables es)))
         ≡ map Some (map (as_read names) es) }
+{}
+
+/// What is read from the lines of some events is a trace of these events, with Any for each argument
+/// of a symbol that was written as `any`; and no name is new.
+pub fn traces_read_back()
+    ensures events { (names new : List (List ℕ)) (tables : List ℕ) (shape : List TableKind) (n : ℕ)
+        (es : List Event) (trace : TraceView) → AreDistinct names
+        → AreDistinct (table_names names tables)
+        → AllByRecursion IsTableName (table_names names tables)
+        → AllByRecursion (IsReadableEvent names tables shape) es
+        → IsTrace names new tables shape (rows n (lines (events_text names tables es))) trace
+        → (trace.events ≡ map (as_read names) es) × (new ≡ names) }
+    // Nor have these lines a fault, where they are few enough.
+    ensures fine { (names : List (List ℕ)) (tables : List ℕ) (shape : List TableKind) (n : ℕ)
+        (es : List Event) → AreDistinct names → AreDistinct (table_names names tables)
+        → AllByRecursion IsTableName (table_names names tables)
+        → AllByRecursion (IsReadableEvent names tables shape) es → length es ≤ max_events
+        → first_event_fault names tables shape 0 (rows n (lines (events_text names tables es)))
+        ≡ None }
 {}

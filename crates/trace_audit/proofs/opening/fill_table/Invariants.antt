@@ -1,0 +1,12 @@
+use Rattle.std.proofs.Common.{◌≡◌, ◌-◌, Some, map, slice_get}
+use Rattle.opening_tables.specs.Opening.{entries_of}
+use Rattle.session_values.specs.Tables.{kind_of}
+use Rattle.trace_audit.proofs.Filling.{holding}
+use Rattle.trace_audit.proofs.opening.fill_table.Given as goal
+
+-- the last entries have entered
+abbrev pub invariant-loop-done : goal.invariant-loop-done
+invariant-loop-done g l = record {
+  kinds : slice_get (map kind_of l.tables) l.table ≡ Some l.kind;
+  held : l.tables ≡ holding l.fn.tables l.table l.kind (entries_of (g.S.Script.meaning l.script).opened l.table) (l.len - l.done);
+}

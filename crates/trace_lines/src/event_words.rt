@@ -1,0 +1,181 @@
+// The event that the words of a line are.
+
+ghost use Rattle.std.specs.Prelude.{◌≡◌, [], ◌∷◌, IfSome};
+ghost use Rattle.text_lines.specs.Text.{words as words_of};
+ghost use Rattle.trace_audit.specs.Traces.{HasKnownSymbol};
+ghost use Rattle.trace_lines.specs.EventRows.{AreKnown};
+ghost use Rattle.trace_lines.specs.EventWords as spec;
+ghost use Rattle.trace_lines.specs.Fronts.{is_over, reply_with};
+
+use crate::front::{Tables, literal_first, number_first, op, symbol};
+use session_journal::Event;
+use session_values::{Names, Reply, Value};
+use text_lines::Line;
+
+/// Whether no word is left.
+fn is_over(mut words: Line<'_>) -> bool
+    ensures { result ≡ is_over (words_of words.entry.rest.now) }
+{
+    words.next().is_none()
+}
+
+/// The reply of four values, behind which no word stands.
+fn reply_of_four(
+    a: Value,
+    b: Value,
+    c: Value,
+    d: Value,
+    words: Line<'_>,
+    names: &Names,
+) -> Option<Reply>
+    ensures { result ≡ reply_with names.now (a ∷ b ∷ c ∷ d ∷ []) (words_of words.entry.rest.now) }
+{
+    if is_over(words) {
+        Some(Reply::new(4, a, b, c, d))
+    } else {
+        None
+    }
+}
+
+/// The reply of three values and of those that the words are.
+fn reply_of_three(a: Value, b: Value, c: Value, words: Line<'_>, names: &Names) -> Option<Reply>
+    ensures { result ≡ reply_with names.now (a ∷ b ∷ c ∷ []) (words_of words.entry.rest.now) }
+{
+    if is_over(words) {
+        return Some(Reply::new(3, a, b, c, Value::Nil));
+    }
+    match literal_first(words, names) {
+        Some((d, rest)) => reply_of_four(a, b, c, d, rest, names),
+        None => None,
+    }
+}
+
+/// The reply of two values and of those that the words are.
+fn reply_of_two(a: Value, b: Value, words: Line<'_>, names: &Names) -> Option<Reply>
+    ensures { result ≡ reply_with names.now (a ∷ b ∷ []) (words_of words.entry.rest.now) }
+{
+    if is_over(words) {
+        return Some(Reply::new(2, a, b, Value::Nil, Value::Nil));
+    }
+    match literal_first(words, names) {
+        Some((c, rest)) => reply_of_three(a, b, c, rest, names),
+        None => None,
+    }
+}
+
+/// The reply of a value and of those that the words are.
+fn reply_of_one(a: Value, words: Line<'_>, names: &Names) -> Option<Reply>
+    ensures { result ≡ reply_with names.now (a ∷ []) (words_of words.entry.rest.now) }
+{
+    if is_over(words) {
+        return Some(Reply::new(1, a, Value::Nil, Value::Nil, Value::Nil));
+    }
+    match literal_first(words, names) {
+        Some((b, rest)) => reply_of_two(a, b, rest, names),
+        None => None,
+    }
+}
+
+/// The reply of 1 to 4 values.
+fn reply(words: Line<'_>, names: &Names) -> Option<Reply>
+    ensures { result ≡ reply_with names.now [] (words_of words.entry.rest.now) }
+{
+    match literal_first(words, names) {
+        Some((a, rest)) => reply_of_one(a, rest, names),
+        None => None,
+    }
+}
+
+/// What stands behind `begin`.
+fn begin(words: Line<'_>) -> Option<Event>
+    ensures event { result ≡ spec.begin_of (words_of words.entry.rest.now) }
+    ensures known { IfSome result HasKnownSymbol }
+{
+    let Some((ticket, rest)) = number_first(words) else {
+        return None;
+    };
+    match number_first(rest) {
+        Some((caller, left)) if is_over(left) => Some(Event::Begin { ticket, caller }),
+        _ => None,
+    }
+}
+
+/// What stands behind `done`.
+fn done(words: Line<'_>, tables: Tables<'_>, names: &Names) -> Option<Event>
+    requires { AreKnown names.now tables.places.now }
+    ensures event { result ≡ spec.done_of names.now tables.entry.places.now tables.entry.kinds.now
+        (words_of words.entry.rest.now) }
+    ensures known { IfSome result HasKnownSymbol }
+{
+    let Some((ticket, rest)) = number_first(words) else {
+        return None;
+    };
+    let Some((op, left)) = op(rest, tables, names) else {
+        return None;
+    };
+    match literal_first(left, names) {
+        Some((reply, more)) if is_over(more) => Some(Event::Done { ticket, op, reply }),
+        _ => None,
+    }
+}
+
+/// What stands behind `delay`.
+fn delay(words: Line<'_>, tables: Tables<'_>, names: &Names) -> Option<Event>
+    requires { AreKnown names.now tables.places.now }
+    ensures event { result ≡ spec.delay_of names.now tables.entry.places.now tables.entry.kinds.now
+        (words_of words.entry.rest.now) }
+    ensures known { IfSome result HasKnownSymbol }
+{
+    let Some((ticket, rest)) = number_first(words) else {
+        return None;
+    };
+    let Some((op, left)) = op(rest, tables, names) else {
+        return None;
+    };
+    let Some((older, last)) = number_first(left) else {
+        return None;
+    };
+    match symbol(last, tables, names) {
+        Some((symbol, more)) if is_over(more) => Some(Event::Delay {
+            ticket,
+            op,
+            older,
+            symbol,
+        }),
+        _ => None,
+    }
+}
+
+/// What stands behind `end`.
+fn end(words: Line<'_>, names: &Names) -> Option<Event>
+    ensures event { result ≡ spec.end_of names.now (words_of words.entry.rest.now) }
+    ensures known { IfSome result HasKnownSymbol }
+{
+    let Some((ticket, rest)) = number_first(words) else {
+        return None;
+    };
+    match reply(rest, names) {
+        Some(reply) => Some(Event::End { ticket, reply }),
+        None => None,
+    }
+}
+
+/// The event that a word and those behind it are, if they are one.
+pub(crate) fn event(word: &str, words: Line<'_>, tables: Tables<'_>, names: &Names) -> Option<Event>
+    requires { AreKnown names.now tables.places.now }
+    ensures event { result ≡ spec.event_of names.now tables.entry.places.now tables.entry.kinds.now
+        (word.now ∷ words_of words.entry.rest.now) }
+    ensures known { IfSome result HasKnownSymbol }
+{
+    if word == "begin" {
+        begin(words)
+    } else if word == "done" {
+        done(words, tables, names)
+    } else if word == "delay" {
+        delay(words, tables, names)
+    } else if word == "end" {
+        end(words, names)
+    } else {
+        None
+    }
+}

@@ -1,0 +1,186 @@
+// What a single word of an event says.
+
+ghost use Rattle.std.specs.Prelude.{◌≡◌, ◌<◌, ◌≤◌, IfSome, Some, length, slice_get};
+ghost use Rattle.session_values.specs.Names.{place_of};
+ghost use Rattle.symbolic_ops.specs.Matching.{IsNoVar};
+ghost use Rattle.line_words.specs.ValueWords.{literal_value};
+ghost use Rattle.trace_lines.specs.EventRows.{AreKnown};
+ghost use Rattle.trace_lines.specs.EventWords as spec;
+ghost use Rattle.trace_lines.specs.Fronts as fronts;
+
+use itoa::Buffer;
+use session_values::{Kind, Names, TableKind, Value};
+use symbolic_ops::Arg;
+use text_lines::{first_byte, is_symbol, number};
+
+/// The number of 32 bits of which the word is the decimal text.
+pub(crate) fn small_number(word: &str) -> Option<u32>
+    ensures { result ≡ spec.small_number word.now }
+{
+    let first = first_byte(word);
+    // `parse` takes a plus sign and leading zeros, which these numbers don't have
+    if first == b'+' {
+        return None;
+    }
+    let Ok(n) = word.parse::<u32>() else {
+        return None;
+    };
+    let mut buffer = Buffer::new();
+    if word == buffer.format(n) {
+        Some(n)
+    } else {
+        None
+    }
+}
+
+/// The kind of an operation whose word it is.
+pub(crate) fn kind(word: &str) -> Option<Kind>
+    ensures { result ≡ spec.kind_of word.now }
+{
+    if word == "get" {
+        Some(Kind::Get)
+    } else if word == "put" {
+        Some(Kind::Put)
+    } else if word == "swap" {
+        Some(Kind::Swap)
+    } else if word == "del" {
+        Some(Kind::Del)
+    } else if word == "size" {
+        Some(Kind::Size)
+    } else if word == "bump" {
+        Some(Kind::Bump)
+    } else {
+        set_kind(word)
+    }
+}
+
+/// The kind of an operation on sets whose word it is.
+fn set_kind(word: &str) -> Option<Kind>
+    ensures { result ≡ fronts.set_kind_of word.now }
+{
+    if word == "has" {
+        Some(Kind::Has)
+    } else if word == "add" {
+        Some(Kind::Add)
+    } else if word == "mark" {
+        Some(Kind::Mark)
+    } else if word == "drop" {
+        Some(Kind::Drop)
+    } else if word == "count" {
+        Some(Kind::Count)
+    } else {
+        None
+    }
+}
+
+/// The place of a text, or the number of names where it has none.
+fn place(text: &str, names: &Names) -> u32
+    ensures { result ≡ place_of names.now text.now }
+{
+    match names.find(text) {
+        Some(place) => place,
+        None => names.len(),
+    }
+}
+
+/// The value of a literal that begins with a quote, by what stands behind it.
+fn quoted(text: &str, names: &Names) -> Option<Value>
+    ensures { result ≡ fronts.quoted_value names.now text.now }
+{
+    if is_symbol(text) {
+        Some(Value::Sym(place(text, names)))
+    } else {
+        None
+    }
+}
+
+/// The value of a literal, if the word is one.
+pub(crate) fn literal(word: &str, names: &Names) -> Option<Value>
+    ensures { result ≡ literal_value names.now word.now }
+{
+    match word.strip_prefix('\'') {
+        Some(text) => quoted(text, names),
+        None => plain(word),
+    }
+}
+
+/// The value of a word without a quote, if it is one.
+fn plain(word: &str) -> Option<Value>
+    ensures { result ≡ fronts.plain_value word.now }
+{
+    if word == "nil" {
+        return Some(Value::Nil);
+    }
+    match number(word) {
+        Some(n) => Some(Value::Num(n)),
+        None => None,
+    }
+}
+
+/// An argument of a symbol, if the word is one.
+pub(crate) fn arg(word: &str, names: &Names) -> Option<Arg>
+    ensures value { result ≡ spec.arg_value names.now word.now }
+    ensures known { IfSome result IsNoVar }
+{
+    if word == "any" {
+        return Some(Arg::Any);
+    }
+    match literal(word, names) {
+        Some(value) => Some(Arg::Known(value)),
+        None => None,
+    }
+}
+
+/// Whether operations of the kind work on tables of this kind.
+fn works_on_kind(kind: Kind, table: TableKind) -> bool
+    ensures { result ≡ spec.works_on kind (Some table) }
+{
+    match table {
+        TableKind::Map => kind.on_map(),
+        TableKind::Set => !kind.on_map(),
+    }
+}
+
+/// Whether operations of the kind work on the table of this number.
+fn works_on(kind: Kind, shape: &[TableKind], number: usize) -> bool
+    ensures { result ≡ spec.works_on kind (slice_get shape.now number) }
+{
+    match shape.get(number) {
+        Some(table) => works_on_kind(kind, *table),
+        None => false,
+    }
+}
+
+/// The number of the first table with this name, or how many there are where none has it.
+fn table_number(name: &str, tables: &[u32], names: &Names) -> usize
+    requires { AreKnown names.now tables.now }
+    ensures { result ≡ place_of (spec.table_names names.now tables.now) name.now }
+{
+    for i in 0..tables.len() {
+        if name == names.text(tables[i]) {
+            return i;
+        }
+    }
+    tables.len()
+}
+
+/// The number of the table with this name, where operations of the kind work on it.
+pub(crate) fn table(
+    word: &str,
+    kind: Kind,
+    tables: &[u32],
+    shape: &[TableKind],
+    names: &Names,
+) -> Option<u32>
+    requires known { AreKnown names.now tables.now }
+    requires few { length tables.now < 4294967296 }
+    ensures { result ≡ spec.table_of (spec.table_names names.now tables.now) shape.now kind
+        word.now }
+{
+    let number = table_number(word, tables, names);
+    if works_on(kind, shape, number) {
+        Some(number as u32)
+    } else {
+        None
+    }
+}
