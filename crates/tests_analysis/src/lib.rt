@@ -4,6 +4,8 @@
 #[cfg(test)]
 mod lists;
 #[cfg(test)]
+mod points;
+#[cfg(test)]
 mod small_handlers;
 #[cfg(test)]
 mod trails;

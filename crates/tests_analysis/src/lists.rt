@@ -13,7 +13,7 @@ use std::test::Fail;
 use symbolic_ops::Symbol;
 
 /// The program of a source.
-fn program_of(alloc: Global, source: &str) -> Result<Program, Fail> {
+pub(crate) fn program_of(alloc: Global, source: &str) -> Result<Program, Fail> {
     if source.len() > MAX_INPUT {
         return Err(Fail::from("too long"));
     }

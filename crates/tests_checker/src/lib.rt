@@ -7,3 +7,7 @@ mod checking;
 mod ranges;
 #[cfg(test)]
 mod requests;
+#[cfg(test)]
+mod sessions;
+#[cfg(test)]
+mod tables;

@@ -1,12 +1,14 @@
 // The requests of a program, served one at a time at a desk that may want memory.
 
 ghost use Rattle.std.specs.Prelude.{◌≡◌, true};
+ghost use Rattle.opening_tables.specs.Opening.{IsOpening};
 ghost use Rattle.handler_check.specs.Resolved.{shape_of as shape_spec};
 ghost use Rattle.request_files.specs.Servable.{IsServable};
 
 use crate::sessions::{kinds_of, reply_of, session};
 use declaration_insertion::Program;
 use handler_machine::Scripts;
+use opening_tables::Opening;
 use plain_desk::PlainDesk;
 use request_files::Requests;
 use session_journal::{Scratch, Serves};
@@ -40,14 +42,16 @@ fn three_replies<'a, R: Threads + Wait + Abort + Sync>(
     rt: &R,
     alloc: Global,
     program: &'a Program,
+    opening: &'a Opening,
     requests: &'a Requests,
     shape: &[TableKind],
 ) -> [Option<Reply>; 3]
+    requires opening { IsOpening (shape_spec program.now.file) opening.now }
     requires servable { IsServable program.now.file requests.now }
     requires shape { shape.now ≡ shape_spec program.now.file }
 {
-    let plan = Scripts::over(program, requests);
-    let script = Scripts::over(program, requests);
+    let plan = Scripts::over(program, opening, requests);
+    let script = Scripts::over(program, opening, requests);
     let mut scratch = Scratch::new(alloc).expect(rt, "memory");
     let mut desk = PlainDesk::new(alloc, script, shape).expect(rt, "memory");
     let first = serve_next(rt, &plan, &mut scratch, &mut desk);
@@ -61,8 +65,14 @@ fn three_replies<'a, R: Threads + Wait + Abort + Sync>(
 fn requests_at_a_plain_desk(rt: HostRuntime) {
     let loaded = session(&rt, rt.alloc());
     let shape = kinds_of(rt.alloc(), loaded.program.checked().file()).expect(&rt, "memory");
-    let (program, requests) = (&loaded.program, &loaded.requests);
-    let replies = three_replies(&rt, rt.alloc(), program, requests, shape.as_slice());
+    let replies = three_replies(
+        &rt,
+        rt.alloc(),
+        &loaded.program,
+        &loaded.opening,
+        &loaded.requests,
+        shape.as_slice(),
+    );
     let wanted = [
         Some(reply_of(Value::Nil, 1)),
         Some(reply_of(Value::Nil, 2)),

@@ -1,6 +1,7 @@
 // A session of three requests for one handler with two operations.
 
 ghost use Rattle.std.specs.Prelude.{◌≡◌, IfOk};
+ghost use Rattle.opening_tables.specs.Opening.{IsOpening};
 ghost use Rattle.handler_check.specs.Resolved.{shape_of as shape_spec};
 ghost use Rattle.request_files.specs.Servable.{IsServable};
 
@@ -15,7 +16,8 @@ const SESSION: &str =
 
 /// The session, as it is read.
 pub(crate) fn session<R: Abort>(rt: &R, alloc: Global) -> Loaded
-    ensures { IsServable result.program.file result.requests }
+    ensures opening { IsOpening (shape_spec result.program.file) result.opening }
+    ensures servable { IsServable result.program.file result.requests }
 {
     let Ok(loaded) = load_session(alloc, SESSION.as_bytes()) else {
         rt.panic("the session isn't read")

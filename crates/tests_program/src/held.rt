@@ -70,6 +70,28 @@ fn a_younger_ticket_ends_first(rt: HostRuntime) -> Result<(), Fail> {
     Ok(())
 }
 
+/// Two tickets that have nothing to do with each other, of which the first is held at each place
+/// until the second has ended.
+fn held_places<R: Threads + Wait + Sync>(rt: &R, alloc: Global) -> Result<[(bool, bool); 5], Fail> {
+    let command = "serve --callers 2 --shards 4";
+    let two = (WRITE, "w 0 5\nw 1 6\n", "0 5\n1 6\n");
+    let limit = 10_000_000;
+    Ok([
+        serve_held(rt, alloc, command, (Place::Begun(0), limit), two)?,
+        serve_held(rt, alloc, command, (Place::Admitted(0), limit), two)?,
+        serve_held(rt, alloc, command, (Place::Applied(0), limit), two)?,
+        serve_held(rt, alloc, command, (Place::Done(0, 1), limit), two)?,
+        serve_held(rt, alloc, command, (Place::Ending(0), limit), two)?,
+    ])
+}
+
+/// Whatever place a ticket is held at, a younger one ends that it has nothing to do with.
+#[test]
+fn a_held_ticket_holds_nobody_else(rt: HostRuntime) -> Result<(), Fail> {
+    assert_eq!(rt; held_places(&rt, rt.alloc())?, [(true, false); 5]);
+    Ok(())
+}
+
 /// Sessions in which the older ticket has narrowed what it may still call before it is held, by an
 /// operation and by a branch; and one in which it is held before it does what the younger one
 /// would change.

@@ -13,7 +13,7 @@ use symbolic_ops::{Arg, Symbol};
 use trace_lines::push_event_line;
 
 /// The names of a table and of a symbol.
-fn table_and_symbol(alloc: Global) -> Result<Names, NoMemory>
+pub(crate) fn table_and_symbol(alloc: Global) -> Result<Names, NoMemory>
     ensures { IfOk result (λ names. names ≡ two_names) }
 {
     let mut names = Names::new(alloc)?;
