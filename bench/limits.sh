@@ -69,10 +69,13 @@ limit("calls of all requests: 200,000", serve,
       1, r"refused Q5 line \d+")
 limit("work of all requests: 10,000,000", serve,
       lambda p: served(busy + "}", "h%.0s", 100 + p), 1, r"refused Q6 line \d+")
+opened = "set s; handler nop() {}\n%% tables\n"
+limit("table lines: 100,000", serve, lambda p: opened + many("s %d", 100000 + p) + "%%\n", 1, r"refused B5 line 100003")
 USAGE = "usage: .*"
 limit("callers: 32", lambda p: f"serve --callers {32 + p}", lambda p: served(ten, "h %d", 20000), 2, USAGE)
 limit("callers: 1", lambda p: f"serve --callers {1 - p}", lambda p: served(ten, "h %d", 20000), 2, USAGE)
 limit("shards: 8", lambda p: f"serve --shards {8 + p}", lambda p: served(ten, "h %d", 20000), 2, USAGE)
+limit("callers that dump: 32", lambda p: f"dump --callers {32 + p}", lambda p: served(ten, "h %d", 20000), 2, USAGE)
 limit("made requests: 20,000", lambda p: f"work {20000 + p} 0", lambda p: "", 2, USAGE)
 limit("where made requests start", lambda p: f"work 20000 {4294967295 + p}", lambda p: "", 2, USAGE)
 sys.exit(failed)
