@@ -19,7 +19,7 @@ mod writing;
 pub use memory_sink::MemorySink;
 pub use memory_source::MemorySource;
 pub use page_writer::write_text;
-pub use reading::{Unread, read_all};
+pub use reading::{Unread, read_all, read_up_to};
 pub use sink::{Put, Sink};
 pub use source::{Got, Source};
 pub use sure_sink::SureSink;

@@ -12,7 +12,7 @@ use thiserror::Error;
 /// Why a source wasn't read to its end.
 #[derive(Clone, Copy, Debug, PartialEq, Eq, Error)]
 pub enum Unread {
-    /// It has more than `MAX_INPUT` bytes.
+    /// It has more bytes than may be read.
     #[error("too many bytes")]
     TooLarge,
     /// A read failed.
@@ -22,8 +22,51 @@ pub enum Unread {
     NoMemory,
 }
 
-/// All that the source has, up to its end. It asks for no byte behind the first one that is too
-/// many.
+/// All that the source has, up to its end, which is at most so many bytes. It asks for no byte
+/// behind the first one that is too many.
+pub fn read_up_to<I: Source>(
+    alloc: Global,
+    source: &mut I,
+    most: usize,
+) -> Result<Vec<u8>, Unread>
+    requires { most < 4294967296 }
+    // These are all the bytes that were left, and the source is at its end.
+    ensures read { IfOk result (λ bytes. IfSome (I.left source.old) (λ all. bytes.items ≡ all)) }
+    ensures bound { IfOk result (λ bytes. vec_len bytes ≤ most) }
+    ensures end { OnOk result (IsAtEnd (I.left source.old) (I.left source.new)) }
+    // There are more than the bound. The first ones up to the bound and one more are gone.
+    ensures large { IsErrOf result Unread.TooLarge
+        → IfSome (I.left source.old) (λ all. most < length all) }
+    ensures gone { IsErrOf result Unread.TooLarge
+        → LostFirst (I.left source.old) (I.left source.new) (most + 1) }
+    ensures failed { IsErrOf result Unread.Failed
+        → Rose (I.faults source.old) (I.faults source.new) }
+    // What was read is gone, and no more: at a fault no more than the bound, and never more than
+    // one byte above it.
+    ensures broken { IsErrOf result Unread.Failed
+        → LostAtMost (I.left source.old) (I.left source.new) most }
+    ensures lost { LostAtMost (I.left source.old) (I.left source.new) (most + 1) }
+    ensures later { I.faults source.old ≤ I.faults source.new }
+{
+    let mut bytes = Vec::new(alloc);
+    let mut buf = [0u8; 16384];
+    'pieces: while bytes.len() <= most {
+        let left = (most + 1 - bytes.len()).min(buf.len());
+        match source.read(&mut buf[..left]) {
+            Got::Failed => return Err(Unread::Failed),
+            Got::End => return Ok(bytes),
+            Got::Bytes(n) => {
+                if bytes.extend_from_slice(&buf[..n as usize]).is_err() {
+                    return Err(Unread::NoMemory);
+                }
+            }
+        }
+    }
+    Err(Unread::TooLarge)
+}
+
+/// All that the source has, up to its end, which is at most `MAX_INPUT` bytes. It asks for no byte
+/// behind the first one that is too many.
 pub fn read_all<I: Source>(alloc: Global, source: &mut I) -> Result<Vec<u8>, Unread>
     // These are all the bytes that were left, and the source is at its end.
     ensures read { IfOk result (λ bytes. IfSome (I.left source.old) (λ all. bytes.items ≡ all)) }
@@ -43,19 +86,5 @@ pub fn read_all<I: Source>(alloc: Global, source: &mut I) -> Result<Vec<u8>, Unr
     ensures lost { LostAtMost (I.left source.old) (I.left source.new) (max_input + 1) }
     ensures later { I.faults source.old ≤ I.faults source.new }
 {
-    let mut bytes = Vec::new(alloc);
-    let mut buf = [0u8; 16384];
-    'pieces: while bytes.len() <= MAX_INPUT {
-        let most = (MAX_INPUT + 1 - bytes.len()).min(buf.len());
-        match source.read(&mut buf[..most]) {
-            Got::Failed => return Err(Unread::Failed),
-            Got::End => return Ok(bytes),
-            Got::Bytes(n) => {
-                if bytes.extend_from_slice(&buf[..n as usize]).is_err() {
-                    return Err(Unread::NoMemory);
-                }
-            }
-        }
-    }
-    Err(Unread::TooLarge)
+    read_up_to(alloc, source, MAX_INPUT)
 }
