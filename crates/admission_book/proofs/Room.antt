@@ -92,7 +92,7 @@ one_if_some None = 0
 one_if_some (Some r) = 1
 
 -- a ticket has its Begin, two events for each entry, a Delay where it is delayed, and its End where it has ended
-record Counted (m : Meaning) (t : ℕ) (J : List Event) : Type 0 where
+pub record Counted (m : Meaning) (t : ℕ) (J : List Event) : Type 0 where
   none : begun J ≤ t → mine t J ≡ 0
   few : mine t J ≤ 1 + 2 * length (entries J t) + one_if (is_delayed J t) + one_if_some (ended J t)
   delayed : is_delayed J t ≡ true → (op : Op) × (now m J t ≡ Calls op)
@@ -184,19 +184,29 @@ counted_end m J t r k h w =
     undelayed true e = absurd (clash (now m J t) (k.delayed e).0 (k.delayed e).1 w)
     undelayed false e = e
 
-counted : (m : Meaning) (callers : ℕ) (t : ℕ) (J : List Event) → ComeInTurn m callers [] J → Counted m t J
-counted m callers t J h = through_turns m callers (Counted m t) keep [] J (record { none = λ l. refl; few = omega arith; delayed = λ e. absurd (true_false e refl) }) h
+pub counted_none : (m : Meaning) (t : ℕ) → Counted m t []
+counted_none m t = record { none = λ l. refl; few = omega arith; delayed = λ e. absurd (true_false e refl) }
+
+-- what is asked of an event behind J, so that the events of each ticket stay counted
+abbrev pub IsCountable : Meaning → List Event → Event → Type 0
+IsCountable m J (Begin t c) = t ≡ begun J
+IsCountable m J (Done t op r) = IsOpen J t
+IsCountable m J (Delay t op o s) = IsOpen J t × (now m J t ≡ Calls op) × (is_delayed J t ≡ false)
+IsCountable m J (End t r) = IsOpen J t × (now m J t ≡ Answers r)
+
+pub counted_step : (m : Meaning) (t : ℕ) (J : List Event) (e : Event) → Counted m t J → IsCountable m J e → Counted m t (J ++ e ∷ [])
+counted_step m t J e k w = elim (same_or t (ticket_of e)) [ inl is ↦ own J e k w is | inr n ↦ counted_apart m t J e k n (begun_grows J e) ]
   where
-    own : (J : List Event) (e : Event) → Counted m t J → MayCome m callers J e → t ≡ ticket_of e → Counted m t (J ++ e ∷ [])
-    own J (Begin u c) k w is = let P : ℕ → Type 0 = λ x. Counted m t (J ++ Begin x c ∷ []) in subst P is (counted_begin m J t c k (is ∙ w.next))
-    own J (Done u op r) k w is = let P : ℕ → Type 0 = λ x. Counted m t (J ++ Done x op r ∷ []) in subst P is (counted_done m J t op r k (omega (arith, is, w.is_open.begun)))
+    own : (J : List Event) (e : Event) → Counted m t J → IsCountable m J e → t ≡ ticket_of e → Counted m t (J ++ e ∷ [])
+    own J (Begin u c) k w is = let P : ℕ → Type 0 = λ x. Counted m t (J ++ Begin x c ∷ []) in subst P is (counted_begin m J t c k (is ∙ w))
+    own J (Done u op r) k w is = let P : ℕ → Type 0 = λ x. Counted m t (J ++ Done x op r ∷ []) in subst P is (counted_done m J t op r k (omega (arith, is, w.begun)))
     own J (Delay u op o s) k w is =
         let P : ℕ → Type 0 = λ x. Counted m t (J ++ Delay x op o s ∷ []) in
-        subst P is (counted_delay m J t op o s k (omega (arith, is, w.is_open.begun)) (ap (now m J) is ∙ w.calls) (ap (is_delayed J) is ∙ w.once))
+        subst P is (counted_delay m J t op o s k (omega (arith, is, w.0.begun)) (ap (now m J) is ∙ w.1) (ap (is_delayed J) is ∙ w.2))
     own J (End u r) k w is =
         let P : ℕ → Type 0 = λ x. Counted m t (J ++ End x r ∷ []) in
         let Q : ℕ → Type 0 = λ x. IsOpen J x in
-        subst P is (counted_end m J t r k (subst Q (sym is) w.is_open) (ap (now m J) is ∙ w.answers))
+        subst P is (counted_end m J t r k (subst Q (sym is) w.0) (ap (now m J) is ∙ w.1))
 
     same_or : (u t : ℕ) → (u ≡ t) ⊎ (u ≢ t)
     same_or u t = elim (eqb u t) as (λ w. eqb u t ≡ w → (u ≡ t) ⊎ (u ≢ t)) [ true ↦ λ e. inl (grind (arith, nat_tests)) | false ↦ λ e. inr (differs u t e) ] refl
@@ -204,8 +214,14 @@ counted m callers t J h = through_turns m callers (Counted m t) keep [] J (recor
         differs : (u t : ℕ) → eqb u t ≡ false → u ≢ t
         differs u t e = grind (arith, nat_tests)
 
-    keep : (J : List Event) (e : Event) → Counted m t J → MayCome m callers J e → Counted m t (J ++ e ∷ [])
-    keep J e k w = elim (same_or t (ticket_of e)) [ inl is ↦ own J e k w is | inr n ↦ counted_apart m t J e k n (begun_grows J e) ]
+countable : (m : Meaning) (callers : ℕ) (J : List Event) (e : Event) → MayCome m callers J e → IsCountable m J e
+countable m callers J (Begin t c) w = w.next
+countable m callers J (Done t op r) w = w.is_open
+countable m callers J (Delay t op o s) w = (w.is_open, w.calls, w.once)
+countable m callers J (End t r) w = (w.is_open, w.answers)
+
+counted : (m : Meaning) (callers : ℕ) (t : ℕ) (J : List Event) → ComeInTurn m callers [] J → Counted m t J
+counted m callers t J h = through_turns m callers (Counted m t) (λ K e k w. counted_step m t K e k (countable m callers K e w)) [] J (counted_none m t) h
 
 -- a list that follows a dialogue is no longer than the dialogue
 follows_few : (n : ℕ) (f : Dialogue) (es : List Entry) → EndsBy n f → Follows f es → length es ≤ n
@@ -223,24 +239,21 @@ follows_fewer n f (x ∷ es) op e w c =
     let P : ℕ → Type 0 = λ j. EndsBy j f in
     omega (arith, k.1, follows_fewer k.0 (rest f (x.reply ∷ [])) es op (EndsBy-rest k.0 f x.reply (subst P k.1 e)) w.1 c)
 
-mine_few : (m : Meaning) (b : Book) → IsScript m → Lawful m b → (t : ℕ) → mine t b.journal ≤ 2 + 2 * m.length t
-mine_few m b S L t =
-    let J : List Event = b.journal in
-    let k : Counted m t J = counted m (length b.records) t J L.turns in
-    by_delay (is_delayed J t) refl k
+mine_few : (m : Meaning) (J : List Event) → IsScript m → (t : ℕ) → Counted m t J → Follows (m.next t) (entries J t) → mine t J ≤ 2 + 2 * m.length t
+mine_few m J S t k f = by_delay (is_delayed J t) refl
   where
     ended_small : (o : Option Reply) → one_if_some o ≤ 1
     ended_small None = omega arith
     ended_small (Some r) = omega arith
 
-    by_delay : (d : Bool) → is_delayed b.journal t ≡ d → Counted m t b.journal → mine t b.journal ≤ 2 + 2 * m.length t
-    by_delay true e k =
-        let p : (op : Op) × (now m b.journal t ≡ Calls op) = k.delayed e in
-        let i : one_if (is_delayed b.journal t) ≡ 1 = ap one_if e in
-        omega (arith, k.few, i, ended_small (ended b.journal t), follows_fewer (m.length t) (m.next t) (entries b.journal t) p.0 (S.ends t) (L.follows t) p.1)
-    by_delay false e k =
-        let i : one_if (is_delayed b.journal t) ≡ 0 = ap one_if e in
-        omega (arith, k.few, i, ended_small (ended b.journal t), follows_few (m.length t) (m.next t) (entries b.journal t) (S.ends t) (L.follows t))
+    by_delay : (d : Bool) → is_delayed J t ≡ d → mine t J ≤ 2 + 2 * m.length t
+    by_delay true e =
+        let p : (op : Op) × (now m J t ≡ Calls op) = k.delayed e in
+        let i : one_if (is_delayed J t) ≡ 1 = ap one_if e in
+        omega (arith, k.few, i, ended_small (ended J t), follows_fewer (m.length t) (m.next t) (entries J t) p.0 (S.ends t) f p.1)
+    by_delay false e =
+        let i : one_if (is_delayed J t) ≡ 0 = ap one_if e in
+        omega (arith, k.few, i, ended_small (ended J t), follows_few (m.length t) (m.next t) (entries J t) (S.ends t) f)
 
 -- ---- all tickets together
 sum_of_bounds : (n : ℕ) (f : ℕ → ℕ) → sum_below n (λ t. 2 + 2 * f t) ≡ 2 * n + 2 * sum_below n f
@@ -299,10 +312,15 @@ few_begun m callers J h = through_turns m callers (λ K. begun K ≤ m.requests)
     keep J (Delay t op o s) k w = omega (arith, begun_stays J (Delay t op o s) refl)
     keep J (End t r) k w = omega (arith, begun_stays J (End t r) refl)
 
--- a lawful book has no more events than these
+-- where the events of each ticket are counted and its entries follow its dialogue, there are no more
+-- events than these
+pub few_counted : (m : Meaning) (J : List Event) → IsScript m → ((t : ℕ) → Counted m t J) → ((t : ℕ) → Follows (m.next t) (entries J t)) → begun J ≤ m.requests → length J ≤ 2 * m.requests + 2 * calls m
+few_counted m J S k f few =
+    let n : ℕ = m.requests in
+    let all : length J ≡ sum_below n (λ t. mine t J) = all_mine n J (λ t l. (k t).none (omega (arith, few, l))) in
+    omega (arith, all, sum_below_le n (λ t. mine t J) (λ t. 2 + 2 * m.length t) (λ t. mine_few m J S t (k t) (f t)), sum_of_bounds n m.length)
+
+-- so a lawful book has no more
 pub few_events : (m : Meaning) (b : Book) → IsScript m → Lawful m b → length b.journal ≤ 2 * m.requests + 2 * calls m
 few_events m b S L =
-    let J : List Event = b.journal in
-    let n : ℕ = m.requests in
-    let all : length J ≡ sum_below n (λ t. mine t J) = all_mine n J (λ t l. (counted m (length b.records) t J L.turns).none (omega (arith, few_begun m (length b.records) J L.turns))) in
-    omega (arith, all, sum_below_le n (λ t. mine t J) (λ t. 2 + 2 * m.length t) (mine_few m b S L), sum_of_bounds n m.length)
+    few_counted m b.journal S (λ t. counted m (length b.records) t b.journal L.turns) (λ t. L.follows t) (few_begun m (length b.records) b.journal L.turns)

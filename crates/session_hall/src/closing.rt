@@ -63,6 +63,7 @@ fn values_of<S: Script + Drop>(hall: Hall<S>, callers: Callers<S>) -> (Vec<Held<
     ensures room { (result.1.items ≡ []) × (vec_len result.0 ≤ vec_capacity result.1) }
 {
     let Hall {
+        ends: _,
         board,
         script: _,
         sizes: _,

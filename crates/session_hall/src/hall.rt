@@ -8,6 +8,7 @@ use hall_rule::{HallRule, Held, Part};
 use session_journal::Script;
 use std::snapshot::Snapshot;
 use std::sync::Mutex;
+use std::sync::atomic::AtomicU32;
 use turn_board::{Board, Seat};
 
 /// Empty lists with room for the seats and the shards of a hall.
@@ -39,6 +40,9 @@ pub struct Hall<S: Script + Drop> {
     /// The script as it was when the hall was opened. It has no bytes.
     pub(crate) script: Snapshot<S>,
     pub(crate) sizes: Sizes,
+    /// How often a ticket was ended, so that who is delayed need not ask the book. Nothing is
+    /// claimed of it.
+    pub(crate) ends: AtomicU32,
     // What `close` fills. A lock lets threads share the hall where S is only Send; no thread takes
     // it.
     pub(crate) kept: Mutex<Spare<Seat<Held<S>, HallRule<S>>, Part>>,

@@ -19,6 +19,7 @@ use session_values::{Listed, NoMemory, TableKind};
 use std::alloc::Global;
 use std::snapshot::Snapshot;
 use std::sync::Mutex;
+use std::sync::atomic::AtomicU32;
 use turn_board::{Board, Hands, MAX_BOARD_TURNS, Seat};
 
 // The values of the turns, before any ticket is begun.
@@ -120,6 +121,7 @@ impl<S: Script + Drop> Hall<S> {
         };
         let list = new_callers(alloc, seats.into_vec())?;
         let hall = Hall {
+            ends: AtomicU32::new(0),
             board,
             script: copy,
             sizes,

@@ -16,6 +16,7 @@ use crate::waits::Waits;
 use session_journal::{Script, Site};
 use session_values::{Op, Reply, Value};
 use std::sync::Wait;
+use std::sync::atomic::Ordering;
 use symbolic_ops::Foresight;
 
 impl<S: Script + Drop> Caller<S> {
@@ -134,12 +135,13 @@ impl<S: Script + Drop> Caller<S> {
     {
         waits.reset();
         for _ in rt.forever() {
+            waits.note(hall);
             match self.try_admit(hall, op) {
                 Admitting::Admitted => return,
                 Admitting::Delayed {
                     older: _,
                     symbol: _,
-                } => waits.delayed(),
+                } => waits.delayed(hall),
                 Admitting::Busy { turn } => waits.until_free(hall, turn),
             }
         }
@@ -257,7 +259,10 @@ impl<S: Script + Drop> Caller<S> {
         waits.reset();
         for _ in rt.forever() {
             match self.try_end(hall, reply) {
-                Ending::Ended => return,
+                Ending::Ended => {
+                    hall.ends.fetch_add(1, Ordering::SeqCst);
+                    return;
+                }
                 Ending::Busy { turn } => waits.until_free(hall, turn),
             }
         }

@@ -1,33 +1,38 @@
 // How a caller waits between its tries, and how often it had to.
 
-ghost use Rattle.std.specs.Prelude.{◌<◌};
-
 use crate::hall::Hall;
 use session_journal::Script;
+use std::sync::atomic::Ordering;
 use std::thread;
 
 /// After how many tries in vain the yields between two tries double no more, where a turn was taken.
-const DOUBLINGS: u32 = 5;
+const DOUBLINGS: u32 = 3;
 
 /// The same where an operation was delayed: what delays it is a ticket, which takes longer than a
-/// turn that is given back.
+/// turn that is given back. The yields end once a ticket is ended.
 const DELAY_DOUBLINGS: u32 = 8;
 
 /// How often a caller that waits looks at a taken turn before it tries all the same.
 const LOOKS: u32 = 1_000;
 
 /// The tries of a caller that found a turn taken or an operation delayed. Between two tries its
-/// thread is yielded 1, 2, 4 times, and so on, up to 32, and up to 256 after a delay.
+/// thread is yielded 1, 2, 4 times, and so on, up to 8, and up to 256 after a delay.
 #[derive(Debug, Clone, Copy)]
 pub struct Waits {
     count: u32,
     round: u32,
+    /// How often a ticket had been ended before the last try.
+    ends: u32,
 }
 
 impl Waits {
     /// No try yet.
     pub fn none() -> Waits {
-        Waits { count: 0, round: 0 }
+        Waits {
+            count: 0,
+            round: 0,
+            ends: 0,
+        }
     }
 
     /// How many tries were in vain; it stands still at the last u32.
@@ -40,26 +45,35 @@ impl Waits {
         self.round = 0;
     }
 
-    // Yields, twice as often as after the last try, until the yields double no more.
-    fn pause(&mut self, doublings: u32)
-        requires { doublings < 32 }
-    {
-        for _ in 0..1u32 << self.round.min(doublings) {
-            thread::yield_now();
-        }
+    // Counts a wait: the next one is twice as long.
+    fn waited(&mut self) {
         self.round = self.round.saturating_add(1);
         self.count = self.count.saturating_add(1);
     }
 
-    // Waits after a delay.
-    pub(crate) fn delayed(&mut self) {
-        self.pause(DELAY_DOUBLINGS);
+    // Notes how often a ticket was ended, before a try.
+    pub(crate) fn note<S: Script + Drop>(&mut self, hall: &Hall<S>) {
+        self.ends = hall.ends.load(Ordering::SeqCst);
+    }
+
+    // Waits after a delay, no longer than until a ticket is ended.
+    pub(crate) fn delayed<S: Script + Drop>(&mut self, hall: &Hall<S>) {
+        for _ in 0..1u32 << self.round.min(DELAY_DOUBLINGS) {
+            if hall.ends.load(Ordering::SeqCst) != self.ends {
+                break;
+            }
+            thread::yield_now();
+        }
+        self.waited();
     }
 
     // Waits until the turn is seen free. To look writes nothing, so that whoever has the turn gives
     // it back undisturbed.
     pub(crate) fn until_free<S: Script + Drop>(&mut self, hall: &Hall<S>, turn: u32) {
-        self.pause(DOUBLINGS);
+        for _ in 0..1u32 << self.round.min(DOUBLINGS) {
+            thread::yield_now();
+        }
+        self.waited();
         for _ in 0..LOOKS {
             if (hall.board.look() >> (turn % 64)) & 1 == 0 {
                 return;
