@@ -1,4 +1,5 @@
 pub mod Homes
 pub mod Sessions
-mod Crossing
+pub mod Crossing
 pub mod Finishing
+pub mod SerialReplies

@@ -1,10 +1,12 @@
 -- What contracts say of the jobs of a session.
-use Rattle.std.specs.Prelude.{◌≡◌, List, map}
+use Rattle.std.specs.Prelude.{◌≡◌, ℕ, ◌<◌, List, Some, map, slice_get}
+use Rattle.session_values.specs.declared.reply.Reply.{Reply}
+use Rattle.session_journal.specs.Journal.{begun, ended}
 use Rattle.session_journal.specs.Script.{Meaning}
 use Rattle.session_hall.specs.declared.hall.Hall.{Hall}
 use Rattle.session_hall.specs.declared.caller.Caller.{Caller}
-use Rattle.session_hall.specs.declared.stage.Stage.TheVariants.{Out}
-use Rattle.session_hall.specs.Callers.{IsCallerOf}
+use Rattle.session_hall.specs.declared.stage.Stage.TheVariants.{Idle, Out}
+use Rattle.session_hall.specs.Callers.{IsCallerOf, book_of}
 use Rattle.session_hall.specs.Stages.{IsBetween}
 use Rattle.hall_serving.specs.declared.job.Job.{Job}
 
@@ -25,3 +27,12 @@ pub record HasServed {S : Type 0} (meaning : S → Meaning) (h : Hall S) (p q : 
   pub caller : IsCallerOf meaning h q.caller
   pub number_still : q.caller.number ≡ p.caller.number
   pub out : q.caller.stage ≡ Out
+
+-- the caller has begun this ticket and served it to its end, and is idle: its note knows the ticket
+-- as ended with the reply, which stands in the list at the ticket's place
+pub record HasServedNext {S : Type 0} (replies : List Reply) (c : Caller S) (t : ℕ)
+    (r : Reply) : Type 0 where
+  pub idle : c.stage ≡ Idle
+  pub begun_is : t < begun (book_of c).journal
+  pub ended_is : ended (book_of c).journal t ≡ Some r
+  pub serial_is : slice_get replies t ≡ Some r

@@ -4,8 +4,11 @@
 mod desk;
 mod job;
 mod jobs;
+mod next;
 mod pause;
 mod session;
 
 pub use desk::HallDesk;
-pub use session::{OpenSession, open_session, serve_session};
+pub use next::serve_next;
+pub use pause::Pause;
+pub use session::{OpenSession, make_scratches, open_session, serve_session};

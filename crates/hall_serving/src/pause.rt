@@ -1,5 +1,7 @@
 // What a job waits between two tickets.
 
+ghost use Rattle.std.specs.Prelude.{◌≡◌};
+
 use std::thread;
 
 /// How many yields a pause grows by, and the most that it has.
@@ -12,13 +14,15 @@ const MOST: u32 = 2_000;
 /// without an open ticket delays nobody, so where tickets are in each other's way, one is served
 /// after the other, and elsewhere nobody pauses.
 #[derive(Debug, Clone, Copy)]
-pub(crate) struct Pause {
+pub struct Pause {
     yields: u32,
 }
 
 impl Pause {
-    /// None.
-    pub(crate) fn none() -> Pause {
+    /// No pause.
+    pub fn none() -> Pause
+        ensures { result.yields ≡ 0 }
+    {
         Pause { yields: 0 }
     }
 

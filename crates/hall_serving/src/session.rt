@@ -43,8 +43,8 @@ impl<S: Script + Drop> Model for OpenSession<S> {
         (vec_capacity s.left) };
 }
 
-// Scratches for so many jobs.
-fn make_scratches(alloc: Global, count: u32) -> Result<Vec<Scratch>, NoMemory>
+/// Scratches for so many jobs.
+pub fn make_scratches(alloc: Global, count: u32) -> Result<Vec<Scratch>, NoMemory>
     ensures len { IfOk result (λ v. vec_len v ≡ count) }
 {
     let mut scratches = Vec::with_capacity(alloc, count as usize)?;

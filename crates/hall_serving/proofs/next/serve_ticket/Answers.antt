@@ -2,7 +2,7 @@ use Rattle.std.proofs.Common.{rules, ap, ◌∙◌}
 use Rattle.session_journal.specs.Desks.{DeskView}
 use Rattle.hall_serving.specs.Desks.{HallView}
 use Rattle.hall_serving.proofs.Homes.{stays_home}
-use Rattle.hall_serving.proofs.job.serve_ticket.Goals as goal
+use Rattle.hall_serving.proofs.next.serve_ticket.Goals as goal
 
 pub returns-clause-caller : goal.returns-clause-caller
 returns-clause-caller g c =

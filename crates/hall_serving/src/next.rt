@@ -1,0 +1,93 @@
+// One ticket, from its beginning to its end.
+
+ghost use Rattle.std.specs.Prelude.{◌≡◌, ◌<◌, [], Some, MatchOption};
+ghost use Rattle.session_values.specs.Serial.{serial_replies};
+ghost use Rattle.session_journal.specs.Journal.{begun, ended};
+ghost use Rattle.session_journal.specs.Script.{session_of};
+ghost use Rattle.session_hall.specs.Callers.{IsCallerOf, StaysCaller, book_of, entries_of, foresight_of};
+ghost use Rattle.session_hall.specs.Names.{script_of};
+ghost use Rattle.session_hall.specs.Stages.{IsBetween};
+ghost use Rattle.session_hall.specs.declared.stage.Stage.TheVariants.{Idle, Out, Serving};
+ghost use Rattle.hall_serving.specs.Jobs.{HasServedNext};
+
+use crate::desk::HallDesk;
+use crate::pause::Pause;
+use admission_book::laws::answering;
+use session_hall::{Caller, Hall};
+use session_journal::{Scratch, Script, Serves};
+use session_values::Reply;
+use std::sync::Wait;
+use std::thread::Threads;
+use worker_gate::{Gate, Place};
+
+/// Begins the next ticket, after the pause, and serves it to its end: it answers the ticket and its
+/// reply, which is its serial one. None comes where all tickets are begun; the caller is out then.
+pub fn serve_next<R: Threads + Wait + Sync, S: Serves + Drop, G: Gate>(
+    rt: &R,
+    plan: &S,
+    hall: &Hall<S>,
+    gate: &G,
+    caller: &mut Caller<S>,
+    scratch: &mut Scratch,
+    pause: &mut Pause,
+) -> Option<(u32, Reply)>
+    requires caller { IsCallerOf S.meaning hall.now caller.old }
+    requires between { IsBetween caller.old.stage }
+    requires plan { script_of hall.now ≡ plan.now }
+    ensures caller { StaysCaller S.meaning hall.now caller.old caller.new }
+    ensures served { MatchOption result (caller.new.stage ≡ Out) (λ x. HasServedNext
+        (serial_replies (session_of (S.meaning plan.now)) (S.meaning plan.now).requests)
+        caller.new x.0 x.1) }
+{
+    answering();
+    pause.wait();
+    let Some(ticket) = caller.begin(rt, hall) else {
+        return None;
+    };
+    gate.pass(rt, Place::Begun(ticket));
+    let reply = serve_ticket(rt, plan, hall, gate, ticket, caller, scratch, pause);
+    Some((ticket, reply))
+}
+
+// Serves the ticket that the caller has begun, to its end.
+fn serve_ticket<R: Threads + Wait + Sync, S: Serves + Drop, G: Gate>(
+    rt: &R,
+    plan: &S,
+    hall: &Hall<S>,
+    gate: &G,
+    ticket: u32,
+    caller: &mut Caller<S>,
+    scratch: &mut Scratch,
+    pause: &mut Pause,
+) -> Reply
+    requires caller { IsCallerOf S.meaning hall.now caller.old }
+    requires plan { script_of hall.now ≡ plan.now }
+    requires stage { caller.old.stage ≡ Serving ticket }
+    requires within { ticket < (S.meaning plan.now).requests }
+    requires fresh { entries_of caller.old ticket ≡ [] }
+    requires entry { foresight_of caller.old ≡ (S.meaning plan.now).entry ticket }
+    ensures caller { StaysCaller S.meaning hall.now caller.old caller.new }
+    ensures idle { caller.new.stage ≡ Idle }
+    ensures known { (ticket < begun (book_of caller.new).journal)
+        × (ended (book_of caller.new).journal ticket ≡ Some result) }
+{
+    let mut desk = HallDesk::over(hall, caller, gate);
+    match plan.serve(rt, ticket, scratch, &mut desk) {
+        Ok(()) => {}
+        Err(_) => unreachable!(),
+    }
+    let Some(reply) = desk.reply() else {
+        unreachable!();
+    };
+    pause.after(desk.waits());
+    let HallDesk {
+        hall: _,
+        caller: _served,
+        gate: _,
+        ticket: _,
+        done: _,
+        reply: _,
+        waits: _,
+    } = desk;
+    reply
+}
