@@ -51,7 +51,7 @@ module _ (names : List (List ℕ)) where
   unfolding reply_text
   text_first t r rs = refl
 
-  text_cut : (t : ℕ) (xs ys : List Reply) → reply_text names t (xs ++ ys) ≡ reply_text names t xs ++ reply_text names (t + length xs) ys
+  pub text_cut : (t : ℕ) (xs ys : List Reply) → reply_text names t (xs ++ ys) ≡ reply_text names t xs ++ reply_text names (t + length xs) ys
   text_cut t [] ys = ap (λ n. reply_text names n ys) (let e : t ≡ t + 0 = omega arith in e) ∙ sym (ap (λ b. b ++ reply_text names (t + 0) ys) (no_text t))
   text_cut t (x ∷ xs) ys =
       text_first t x (xs ++ ys)
@@ -61,20 +61,25 @@ module _ (names : List (List ℕ)) where
       ∙ ap (λ b. b ++ reply_text names (t + length (x ∷ xs)) ys) (sym (text_first t x xs))
 
   -- the text, cut at a reply
-  pub text_at : (rs : List Reply) (i : ℕ) → reply_text names 0 rs ≡ reply_text names 0 (take i rs) ++ reply_text names (0 + length (take i rs)) (drop i rs)
-  text_at rs i = ap (reply_text names 0) (sym (take-append-drop i rs)) ∙ text_cut 0 (take i rs) (drop i rs)
+  pub text_at : (t : ℕ) (rs : List Reply) (i : ℕ) → reply_text names t rs ≡ reply_text names t (take i rs) ++ reply_text names (t + length (take i rs)) (drop i rs)
+  text_at t rs i = ap (reply_text names t) (sym (take-append-drop i rs)) ∙ text_cut t (take i rs) (drop i rs)
+
+  -- one line more
+  pub text_line : (t : ℕ) (rs : List Reply) (r : Reply) → reply_text names t (rs ++ r ∷ []) ≡ reply_text names t rs ++ line_text names (t + length rs) r
+  text_line t rs r =
+      text_cut t rs (r ∷ [])
+      ∙ ap (λ b. reply_text names t rs ++ b) (text_first (t + length rs) r [] ∙ ap (λ b. line_text names (t + length rs) r ++ b) (no_text (t + length rs + 1)) ∙ append-nil (line_text names (t + length rs) r))
 
   -- one reply more
-  pub text_more : (rs : List Reply) (i : ℕ) (r : Reply) → i < length rs → get_or rs i r ≡ r → reply_text names 0 (take (i + 1) rs) ≡ reply_text names 0 (take i rs) ++ line_text names i r
-  text_more rs i r h is =
-      ap (reply_text names 0) (take_more rs i r h ∙ ap (λ x. take i rs ++ x ∷ []) is)
-      ∙ text_cut 0 (take i rs) (r ∷ [])
-      ∙ ap (λ n. reply_text names 0 (take i rs) ++ reply_text names n (r ∷ [])) (let n = length-take i rs in omega (arith, h, n))
-      ∙ ap (λ b. reply_text names 0 (take i rs) ++ b) (text_first i r [] ∙ ap (λ b. line_text names i r ++ b) (no_text (i + 1)) ∙ append-nil (line_text names i r))
+  pub text_more : (t : ℕ) (rs : List Reply) (i : ℕ) (r : Reply) → i < length rs → get_or rs i r ≡ r → reply_text names t (take (i + 1) rs) ≡ reply_text names t (take i rs) ++ line_text names (t + i) r
+  text_more t rs i r h is =
+      ap (reply_text names t) (take_more rs i r h ∙ ap (λ x. take i rs ++ x ∷ []) is)
+      ∙ text_line t (take i rs) r
+      ∙ ap (λ n. reply_text names t (take i rs) ++ line_text names (t + n) r) (let n = length-take i rs in omega (arith, h, n))
 
   -- one line more waits
-  pub line_waits : (rs : List Reply) (i : ℕ) (r : Reply) (old now : Option (List ℕ)) (waiting longer line : List ℕ) → i < length rs → get_or rs i r ≡ r → line ≡ line_text names i r
-      → longer ≡ waiting ++ line → Waits old now waiting (reply_text names 0 (take i rs)) → Waits old now longer (reply_text names 0 (take (i + 1) rs))
-  line_waits rs i r old now waiting longer line h is e more w =
-      waits_more old now waiting longer (reply_text names 0 (take i rs)) line (reply_text names 0 (take (i + 1) rs)) w more
-      (text_more rs i r h is ∙ ap (λ b. reply_text names 0 (take i rs) ++ b) (sym e))
+  pub line_waits : (t : ℕ) (rs : List Reply) (i : ℕ) (r : Reply) (old now : Option (List ℕ)) (waiting longer line : List ℕ) → i < length rs → get_or rs i r ≡ r → line ≡ line_text names (t + i) r
+      → longer ≡ waiting ++ line → Waits old now waiting (reply_text names t (take i rs)) → Waits old now longer (reply_text names t (take (i + 1) rs))
+  line_waits t rs i r old now waiting longer line h is e more w =
+      waits_more old now waiting longer (reply_text names t (take i rs)) line (reply_text names t (take (i + 1) rs)) w more
+      (text_more t rs i r h is ∙ ap (λ b. reply_text names t (take i rs) ++ b) (sym e))

@@ -1,1 +1,3 @@
+pub mod Pending
 pub mod Printable
+pub mod Ready

@@ -1,12 +1,17 @@
-//! Reply lines: the text of one, and those of a session, written to a sink.
+//! Reply lines: the text of one, those of a session, written to a sink, and the replies that wait for
+//! their turn to be written.
 #![tactic(auto)]
 
 mod line_buf;
+mod pending;
+mod ready;
 mod replies;
 mod reply_line;
 mod text_room;
 
 pub use line_buf::LineBuf;
+pub use pending::Pending;
+pub use ready::write_ready;
 pub use replies::write_replies;
 pub use reply_line::{line, push_line};
 pub use text_room::TextRoom;

@@ -1,6 +1,6 @@
 // Writing: the replies, line by line.
 
-ghost use Rattle.std.specs.Prelude.{◌≡◌, ◌≤◌, length, true, false};
+ghost use Rattle.std.specs.Prelude.{◌≡◌, ◌+◌, ◌≤◌, length, true, false};
 ghost use Rattle.session_limits.specs.Limits.{max_requests};
 ghost use Rattle.byte_ends.specs.Ends.{Rose, Grew, GrewByFront};
 ghost use Rattle.session_values.specs.ReplyText.{reply_text};
@@ -10,33 +10,34 @@ use crate::reply_line::{LONGEST, push_line};
 use byte_ends::{Sink, WriteBuffer, write_all};
 use session_values::{Names, Reply};
 
-/// Writes the lines of the replies, of which the first is ticket 0's. Whole lines are gathered in
+/// Writes the lines of the replies, of which the first is the ticket `start`'s. Whole lines are gathered in
 /// the buffer, in place of what it held, and written when the next one may have no room. It answers
 /// `false` after a fault.
 pub fn write_replies<O: Sink>(
     out: &mut O,
+    start: u32,
     replies: &[Reply],
     names: &Names,
     buffer: &mut WriteBuffer,
 ) -> bool
-    requires few { length replies.now ≤ max_requests }
+    requires few { start + length replies.now ≤ max_requests }
     requires printable { ArePrintableReplies names.now replies.now }
     ensures all { result ≡ true
-        → Grew (O.held out.old) (O.held out.new) (reply_text names.now 0 replies.now) }
+        → Grew (O.held out.old) (O.held out.new) (reply_text names.now start replies.now) }
     ensures fault { result ≡ false → Rose (O.faults out.old) (O.faults out.new) }
     ensures front { result ≡ false
-        → GrewByFront (O.held out.old) (O.held out.new) (reply_text names.now 0 replies.now) }
+        → GrewByFront (O.held out.old) (O.held out.new) (reply_text names.now start replies.now) }
     ensures later { O.faults out.old ≤ O.faults out.new }
 {
     buffer.clear();
-    for (ticket, reply) in replies.iter().enumerate() {
+    for (i, reply) in replies.iter().enumerate() {
         if !buffer.reserve(LONGEST) {
             if !write_all(out, buffer.bytes()) {
                 return false;
             }
             buffer.clear();
         }
-        push_line(ticket as u32, reply, names, buffer);
+        push_line(start + i as u32, reply, names, buffer);
     }
     write_all(out, buffer.bytes())
 }

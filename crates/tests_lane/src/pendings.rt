@@ -2,7 +2,7 @@
 
 ghost use Rattle.std.specs.Prelude.{◌≡◌};
 
-use reply_lane::Pending;
+use reply_sheet::Pending;
 use session_values::{Reply, Value};
 use std::process::Abort;
 

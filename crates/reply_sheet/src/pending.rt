@@ -1,7 +1,7 @@
 // Replies that wait for their turn.
 
 ghost use Rattle.std.specs.Prelude.{◌≡◌, ◌<◌, IfOk, MatchOption, None, length, replicate};
-ghost use Rattle.reply_lane.specs.Pending.{HasTakenNext, IsWaiting, with_kept};
+ghost use Rattle.reply_sheet.specs.Pending.{HasTakenNext, IsWaiting, with_kept};
 
 use session_values::{NoMemory, Reply};
 use std::alloc::Global;
@@ -16,7 +16,7 @@ pub struct Pending {
 
 impl Model for Pending {
     ghost use Rattle.std.specs.Prelude.{length, ◌<◌, ◌^◌};
-    ghost use Rattle.reply_lane.specs.Pending.{PendingView};
+    ghost use Rattle.reply_sheet.specs.Pending.{PendingView};
 
     ghost Value = { PendingView };
 
@@ -32,6 +32,13 @@ impl Pending {
     {
         let kept = Vec::from_elem(alloc, None, tickets as usize)?;
         Ok(Pending { kept, next: 0 })
+    }
+
+    /// The next ticket.
+    pub fn next(&self) -> u32
+        ensures { result ≡ self.now.next }
+    {
+        self.next
     }
 
     /// Keeps the reply of a ticket, unless one was kept before.

@@ -1,0 +1,43 @@
+-- What contracts say of the jobs of a session whose replies are written while it is served.
+use Rattle.std.specs.Prelude.{◌≡◌, List, map}
+use Rattle.session_values.specs.declared.reply.Reply.{Reply}
+use Rattle.session_values.specs.Serial.{serial_replies}
+use Rattle.session_journal.specs.Script.{Meaning, session_of}
+use Rattle.session_hall.specs.declared.hall.Hall.{Hall}
+use Rattle.session_hall.specs.declared.caller.Caller.{Caller}
+use Rattle.session_hall.specs.declared.stage.Stage.TheVariants.{Out}
+use Rattle.session_hall.specs.Callers.{IsCallerOf}
+use Rattle.session_hall.specs.Stages.{IsBetween}
+use Rattle.reply_lane.specs.declared.lane.Lane.{Lane}
+use Rattle.reply_lane.specs.declared.lane.End.{End}
+use Rattle.reply_lane.specs.Ends.{IsEndOf}
+use Rattle.hall_writing.specs.declared.job.Job.{Job}
+
+abbrev pub JobOf : Type 0 → Type 0
+JobOf S = Job S
+
+-- the replies of the serial run
+abbrev pub replies_of : Meaning → List Reply
+replies_of m = serial_replies (session_of m) m.requests
+
+-- the callers of a list of jobs
+abbrev pub callers_of : {S : Type 0} → List (Job S) → List (Caller S)
+callers_of js = map (λ j. j.caller) js
+
+-- and their ends of the lane
+abbrev pub ends_of : {S : Type 0} → List (Job S) → List End
+ends_of js = map (λ j. j.end) js
+
+-- its caller is one of the hall's, and serves nothing; its end is one of the lane's, for these
+-- replies
+pub record IsJobOf {S : Type 0} (meaning : S → Meaning) (h : Hall S) (lane : Lane)
+    (replies : List Reply) (j : Job S) : Type 0 where
+  pub caller : IsCallerOf meaning h j.caller
+  pub between : IsBetween j.caller.stage
+  pub end : IsEndOf lane replies j.end
+
+-- its caller is the same one of the hall, and is out
+pub record HasServed {S : Type 0} (meaning : S → Meaning) (h : Hall S) (p q : Job S) : Type 0 where
+  pub caller : IsCallerOf meaning h q.caller
+  pub number_still : q.caller.number ≡ p.caller.number
+  pub out : q.caller.stage ≡ Out

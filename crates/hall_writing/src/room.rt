@@ -1,0 +1,74 @@
+// Jobs are made of callers, and give them back.
+
+ghost use Rattle.std.specs.Prelude.{◌≡◌, ◌<◌, ◌≤◌, [], ◌∷◌, vec_len, vec_capacity};
+ghost use Rattle.hall_writing.specs.Jobs.{callers_of, ends_of};
+
+use crate::job::Job;
+use reply_lane::End;
+use session_hall::Caller;
+use session_journal::{Scratch, Script};
+
+// Gives each caller a scratch and an end of the lane.
+pub(crate) fn begin_jobs<S: Script + Drop>(
+    callers: &mut Vec<Caller<S>>,
+    scratches: &mut Vec<Scratch>,
+    ends: &mut Vec<End>,
+    jobs: &mut Vec<Job<S>>,
+)
+    requires scratches { vec_len scratches.old ≡ vec_len callers.old }
+    requires ends { vec_len ends.old ≡ vec_len callers.old }
+    requires empty { jobs.old.items ≡ [] }
+    requires room { vec_len callers.old ≤ vec_capacity jobs.old }
+    ensures jobs { callers_of jobs.new.items ≡ callers.old.items }
+    ensures ends { ends_of jobs.new.items ≡ ends.old.items }
+    ensures callers { (callers.new.items ≡ [])
+        × (vec_capacity callers.new ≡ vec_capacity callers.old) }
+{
+    let count = callers.len();
+    for moved in 0..count {
+        let caller = callers.remove(0);
+        let scratch = scratches.remove(0);
+        let end = ends.remove(0);
+        jobs.push_reserved(Job {
+            caller,
+            scratch,
+            end,
+        });
+    }
+}
+
+// The first job, and the others.
+pub(crate) fn part_first<S: Script + Drop>(mut jobs: Vec<Job<S>>) -> (Job<S>, Vec<Job<S>>)
+    requires { 0 < vec_len jobs }
+    ensures { jobs.items ≡ result.0 ∷ result.1.items }
+{
+    let first = jobs.remove(0);
+    (first, jobs)
+}
+
+// Takes each caller back.
+pub(crate) fn end_jobs<S: Script + Drop>(
+    first: Job<S>,
+    mut jobs: Vec<Job<S>>,
+    callers: &mut Vec<Caller<S>>,
+)
+    requires empty { callers.old.items ≡ [] }
+    requires room { vec_len jobs < vec_capacity callers.old }
+    ensures { callers.new.items ≡ callers_of (first ∷ jobs.items) }
+{
+    let Job {
+        caller,
+        scratch: _,
+        end: _,
+    } = first;
+    callers.push_reserved(caller);
+    let count = jobs.len();
+    for moved in 0..count {
+        let Job {
+            caller,
+            scratch: _,
+            end: _,
+        } = jobs.remove(0);
+        callers.push_reserved(caller);
+    }
+}

@@ -1,0 +1,60 @@
+-- Replies that wait to be written, and what was written of them.
+use Rattle.std.specs.Prelude.{◌≡◌, ℕ, ◌≤◌, List, Option, Some, Bool, true, false, length, take, slice_get}
+use Rattle.session_values.specs.declared.reply.Reply.{Reply}
+use Rattle.session_values.specs.ReplyText.{reply_text}
+use Rattle.byte_ends.specs.Ends.{Rose, Grew, GrewByFront}
+use Rattle.sheet_writing.specs.declared.sheet.Sheet.{Sheet}
+
+-- each reply that is kept stands in the list at its ticket's place
+pub record Keeps (replies : List Reply) (kept : List (Option Reply)) : Type 0 where
+  pub room : length kept ≡ length replies
+  pub spoken : (t : ℕ) (r : Reply) → slice_get kept t ≡ Some (Some r) → slice_get replies t ≡ Some r
+
+-- a reply is kept for the ticket
+abbrev pub IsKept : List (Option Reply) → ℕ → Type 0
+IsKept kept t = (r : Reply) × (slice_get kept t ≡ Some (Some r))
+
+-- what the sink holds, where it tells, its faults, the next ticket, and whether writing has failed
+pub record Progress : Type 0 where
+  pub held : Option (List ℕ)
+  pub faults : ℕ
+  pub next : ℕ
+  pub failed : Bool
+
+-- how far a sheet is
+abbrev pub progress : Option (List ℕ) → ℕ → Sheet → Progress
+progress held faults sheet = record {
+  held = held;
+  faults = faults;
+  next = sheet.pending.next;
+  failed = sheet.failed;
+}
+
+-- from what was held and the faults at first: the lines of the tickets before the next one were
+-- written, or a fault broke writing off
+pub record Written (replies : List Reply) (names : List (List ℕ)) (first : Option (List ℕ))
+    (first_faults : ℕ) (p : Progress) : Type 0 where
+  pub later : first_faults ≤ p.faults
+  pub within : p.failed ≡ false → p.next ≤ length replies
+  pub so_far : p.failed ≡ false → Grew first p.held (reply_text names 0 (take p.next replies))
+  pub rose : p.failed ≡ true → Rose first_faults p.faults
+  pub front : p.failed ≡ true → GrewByFront first p.held (reply_text names 0 replies)
+
+-- whatever was written from the first on, it goes on so
+pub record GoesOn (replies : List Reply) (names : List (List ℕ)) (p q : Progress) : Type 0 where
+  pub on : (first : Option (List ℕ)) (first_faults : ℕ) → Written replies names first first_faults p
+      → Written replies names first first_faults q
+
+-- all lines were written, or a fault broke writing off
+pub record IsWritten (replies : List Reply) (names : List (List ℕ)) (first now : Option (List ℕ))
+    (first_faults now_faults : ℕ) (whole : Bool) : Type 0 where
+  pub all : whole ≡ true → Grew first now (reply_text names 0 replies)
+  pub rose : whole ≡ false → Rose first_faults now_faults
+  pub front : whole ≡ false → GrewByFront first now (reply_text names 0 replies)
+  pub later : first_faults ≤ now_faults
+
+-- however far writing was, it ends so
+pub record Ends (replies : List Reply) (names : List (List ℕ)) (p : Progress)
+    (now : Option (List ℕ)) (now_faults : ℕ) (whole : Bool) : Type 0 where
+  pub on : (first : Option (List ℕ)) (first_faults : ℕ) → Written replies names first first_faults p
+      → IsWritten replies names first now first_faults now_faults whole

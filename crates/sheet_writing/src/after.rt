@@ -1,0 +1,86 @@
+// Writing after a ticket has ended.
+
+ghost use Rattle.std.specs.Prelude.{◌≡◌, ◌≤◌, ℕ, List, [], Some, false, true, length, slice_get};
+ghost use Rattle.session_limits.specs.Limits.{max_requests};
+ghost use Rattle.session_values.specs.declared.reply.Reply.{Reply};
+ghost use Rattle.reply_lane.specs.Ends.{IsEndOf, state_of};
+ghost use Rattle.reply_sheet.specs.Printable.{ArePrintableReplies};
+ghost use Rattle.reply_sheet.specs.Ready.{AreKeptPrintable, ready};
+ghost use Rattle.sheet_writing.specs.Sheets.{GoesOn, IsKept, Keeps, progress};
+
+use crate::sheet::Sheet;
+use byte_ends::Sink;
+use reply_lane::{End, Lane};
+use reply_sheet::{Pending, write_ready};
+use session_values::{Names, Reply};
+use std::sync::Wait;
+
+// Takes messages until the lane has none, and keeps their replies. With one caller it has none.
+fn take_all<R: Wait>(rt: &R, lane: &Lane, end: &mut End, alone: bool, pending: &mut Pending)
+    requires end { IsEndOf lane.now (state_of end.old).known end.old }
+    requires keeps { Keeps (state_of end.old).known pending.old.kept }
+    ensures end { IsEndOf lane.now (state_of end.old).known end.new }
+    ensures keeps { Keeps (state_of end.old).known pending.new.kept }
+    ensures still { (t : ℕ) → IsKept pending.old.kept t → IsKept pending.new.kept t }
+    ensures next { pending.new.next ≡ pending.old.next }
+{
+    if alone {
+        return;
+    }
+    for _ in rt.forever() {
+        let Some(m) = lane.next(rt, end) else {
+            return;
+        };
+        pending.keep(m.ticket, m.reply);
+    }
+    unreachable!()
+}
+
+/// Keeps the reply of a ticket and those in the lane, and writes the lines that are next, many a
+/// write, up to a ticket whose reply isn't kept. After a fault nothing more is written.
+pub fn write_after<R: Wait, O: Sink>(
+    rt: &R,
+    lane: &Lane,
+    end: &mut End,
+    ticket: u32,
+    reply: Reply,
+    sheet: &mut Sheet,
+    out: &mut O,
+    names: &Names,
+)
+    requires end { IsEndOf lane.now (state_of end.old).known end.old }
+    requires own { slice_get (state_of end.old).known ticket ≡ Some reply }
+    requires keeps { Keeps (state_of end.old).known sheet.old.pending.kept }
+    requires few { length (state_of end.old).known ≤ max_requests }
+    requires printable { ArePrintableReplies names.now (state_of end.old).known }
+    ensures end { IsEndOf lane.now (state_of end.old).known end.new }
+    ensures keeps { Keeps (state_of end.old).known sheet.new.pending.kept }
+    ensures own { IsKept sheet.new.pending.kept ticket }
+    ensures stops { sheet.new.failed ≡ false → ready sheet.new.pending ≡ [] }
+    ensures on { GoesOn (state_of end.old).known names.now
+        (progress (O.held out.old) (O.faults out.old) sheet.old)
+        (progress (O.held out.new) (O.faults out.new) sheet.new) }
+{
+    sheet.pending.keep(ticket, reply);
+    take_all(rt, lane, end, sheet.alone, &mut sheet.pending);
+    write_next(sheet, out, names);
+}
+
+// Writes the lines that are next, unless writing has failed.
+fn write_next<O: Sink>(sheet: &mut Sheet, out: &mut O, names: &Names)
+    requires few { length sheet.old.pending.kept ≤ max_requests }
+    requires printable { AreKeptPrintable names.now sheet.old.pending.kept }
+    ensures kept { sheet.new.pending.kept ≡ sheet.old.pending.kept }
+    ensures stops { sheet.old.failed ≡ false → sheet.new.failed ≡ false
+        → ready sheet.new.pending ≡ [] }
+    ensures failed { sheet.old.failed ≡ true → sheet.new.failed ≡ true }
+    ensures on { (replies : List Reply) → Keeps replies sheet.old.pending.kept
+        → GoesOn replies names.now (progress (O.held out.old) (O.faults out.old) sheet.old)
+        (progress (O.held out.new) (O.faults out.new) sheet.new) }
+{
+    if sheet.failed {
+        return;
+    }
+    let whole = write_ready(out, &mut sheet.pending, names, &mut sheet.buffer);
+    sheet.failed = !whole;
+}
