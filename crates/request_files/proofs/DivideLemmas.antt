@@ -8,7 +8,9 @@ use Rattle.std.specs.List.{list_any, position_or_len, prefix_len}
 use Rattle.std.specs.Str.{IsCharBoundary}
 use Rattle.text_lines.specs.Text.{Text, lines, is_line_byte}
 use Rattle.text_lines.proofs.TextLemmas.{lines_some, lines_nil, line_stop_is}
-use Rattle.request_files.specs.Divide.{head_size, mark_size, before, behind, line_behind}
+use Rattle.request_files.specs.Divide.{head_size, mark_size, before, behind}
+use Rattle.request_files.specs.Marks.{IsPlace, place}
+use Rattle.request_files.specs.declared.mark_place.MarkPlace.{MarkPlace}
 
 -- so many bytes are lines that don't divide, and this is the number of the next line
 pub record Passed (is : Text → Bool) (text : Text) (at number : ℕ) : Type 0 where
@@ -46,31 +48,31 @@ module _ (is : Text → Bool) (text : Text) (at number : ℕ) (l : Text) (ls : L
   place_by : (b : Bool) → is l ≡ b → number + cond (not b) (1 + position_or_len is ls) 0 ≡ 1 + position_or_len is (lines text)
   place_by b e = ap (λ b. number + cond (not b) (1 + position_or_len is ls) 0) (sym e) ∙ ap (λ x. number + position_or_len is x) (sym these) ∙ p.place
 
-  pub any_here : is l ≡ true → true ≡ list_any is (lines text)
-  any_here e = by_any true e
-
-  pub head_here : is l ≡ true → take at text ≡ before is text
-  head_here e = ap (λ n. take n text) (let k : at ≡ head_size is (lines text) = omega (arith, head_by true e) in k)
-
-  pub tail_here : is l ≡ true → drop (at + (length l + 1)) text ≡ behind is text
-  tail_here e = ap (λ n. drop n text) (mark_by true e)
-
-  pub next_here : is l ≡ true → number + 1 ≡ line_behind is text
-  next_here e = omega (arith, place_by true e)
+  -- it is the mark
+  pub place_here : (n : ℕ) → is l ≡ true → n ≡ min (at + (length l + 1)) (length text) → (IsUtf8 text → IsCharBoundary text at × IsCharBoundary text n) → IsPlace is text (place true at n (number + 1))
+  place_here n e end edges = record {
+    found = by_any true e;
+    front = omega (arith, head_by true e, p.within);
+    rest = omega (arith, mark_by true e, end);
+    next = omega (arith, place_by true e);
+    few = omega (arith, p.few, p.within);
+    order = omega (arith, end, p.within);
+    edges = edges;
+  }
 
   -- it is the last line, and no mark
-  module _ (e : is l ≡ false) (last : ls ≡ []) (all : length text ≤ at + (length l + 1)) where
-    pub none_behind : false ≡ list_any is (lines text)
-    none_behind = sym (ap (list_any is) last) ∙ by_any false e
-
-    pub head_behind : text ≡ before is text
-    head_behind = sym (take_all (head_size is (lines text)) text (omega (arith, head_by false e, all)))
-
-    pub tail_behind : [] ≡ behind is text
-    tail_behind = sym (drop_all (mark_size is (lines text)) text (omega (arith, mark_by false e, all)))
-
-    pub next_behind : number + 2 ≡ line_behind is text
-    next_behind = let none : position_or_len is ls ≡ 0 = ap (position_or_len is) last in omega (arith, place_by false e, none)
+  pub place_last : is l ≡ false → ls ≡ [] → at < length text → length text ≤ at + (length l + 1) → IsPlace is text (place false (length text) (length text) (number + 2))
+  place_last e last some all =
+      let none : position_or_len is ls ≡ 0 = ap (position_or_len is) last in
+      record {
+        found = sym (ap (list_any is) last) ∙ by_any false e;
+        front = omega (arith, head_by false e, all);
+        rest = omega (arith, mark_by false e, all);
+        next = omega (arith, place_by false e, none);
+        few = omega (arith, p.few, some);
+        order = omega arith;
+        edges = λ u. (IsCharBoundary-end text, IsCharBoundary-end text);
+      }
 
   pub passed_more : (now : ℕ) → is l ≡ false → now ≡ at + (length l + 1) → ls ≡ lines (drop now text) → now ≤ length text → get_or text (now - 1) 0 ≡ 10 → Passed is text now (number + 1)
   passed_more now e same rest within feed = record {
@@ -101,12 +103,6 @@ feed_at text rest at n r e h =
     let stop : is_line_byte (get_or rest n 0) ≡ false = ap (λ n. is_line_byte (get_or rest n 0)) e ∙ prefix_len_stops is_line_byte rest 0 (omega (arith, e)) in
     sym (get_or-drop at text n 0) ∙ ap (λ r. get_or r n 0) (sym r) ∙ line_stop_is _ stop
 
-pub drop_min : (bs : Text) (m : ℕ) → drop (min m (length bs)) bs ≡ drop m bs
-drop_min bs m = elim (cases_lt m (length bs)) [
-  | inl h ↦ ap (λ k. drop k bs) (let e : min m (length bs) ≡ m = omega arith in e)
-  | inr h ↦ let e : min m (length bs) ≡ length bs = omega arith in ap (λ k. drop k bs) e ∙ drop_all (length bs) bs (omega arith) ∙ sym (drop_all m bs (omega arith))
-]
-
 pub boundary_next : (text rest : Text) (at n : ℕ) → IsUtf8 text → at ≤ length text → rest ≡ drop at text → n ≡ prefix_len is_line_byte rest → IsCharBoundary text (min (at + n + 1) (length text))
 boundary_next text rest at n utf8 within r e = elim (cases_lt n (length rest)) [
   | inl h ↦ let k : at + n + 1 ≡ min (at + n + 1) (length text) = omega (arith, ap length r, length-drop at text) in
@@ -118,17 +114,35 @@ pub last_line : (rest : Text) (n : ℕ) → length rest ≤ n → lines (drop (s
 last_line rest n h = ap lines (drop_all (suc n) rest (omega arith)) ∙ lines_nil
 
 -- all lines were passed
-module _ (is : Text → Bool) (text : Text) (at number : ℕ) (p : Passed is text at number) (all : length text ≤ at) where
-  pub none_left : false ≡ list_any is (lines text)
-  none_left = sym (ap (list_any is) lines_nil) ∙ ap (λ t. list_any is (lines t)) (sym (drop_all at text all)) ∙ p.any
+pub place_left : (is : Text → Bool) (text : Text) (at number : ℕ) → Passed is text at number → length text ≤ at → IsPlace is text (place false (length text) (length text) (number + 1))
+place_left is text at number p all =
+    let none : position_or_len is (lines (drop at text)) ≡ 0 = ap (λ t. position_or_len is (lines t)) (drop_all at text all) ∙ ap (position_or_len is) lines_nil in
+    record {
+      found = sym (ap (list_any is) lines_nil) ∙ ap (λ t. list_any is (lines t)) (sym (drop_all at text all)) ∙ p.any;
+      front = omega (arith, p.head, all);
+      rest = omega (arith, p.mark, all);
+      next = omega (arith, p.place, none);
+      few = omega (arith, p.few, p.within);
+      order = omega arith;
+      edges = λ u. (IsCharBoundary-end text, IsCharBoundary-end text);
+    }
 
-  pub head_left : text ≡ before is text
-  head_left = sym (take_all (head_size is (lines text)) text (omega (arith, p.head, all)))
+-- ---- what a place cuts
 
-  pub tail_left : [] ≡ behind is text
-  tail_left = sym (drop_all (mark_size is (lines text)) text (omega (arith, p.mark, all)))
+pub take_min : (n : ℕ) (text : Text) → take (min n (length text)) text ≡ take n text
+take_min n text = elim (cases_lt n (length text)) [
+  | inl h ↦ ap (λ k. take k text) (let e : min n (length text) ≡ n = omega arith in e)
+  | inr h ↦ let e : min n (length text) ≡ length text = omega arith in ap (λ k. take k text) e ∙ take_all (length text) text (omega arith) ∙ sym (take_all n text (omega arith))
+]
 
-  pub next_left : number + 1 ≡ line_behind is text
-  next_left =
-      let none : position_or_len is (lines (drop at text)) ≡ 0 = ap (λ t. position_or_len is (lines t)) (drop_all at text all) ∙ ap (position_or_len is) lines_nil in
-      omega (arith, p.place, none)
+pub drop_min : (n : ℕ) (text : Text) → drop (min n (length text)) text ≡ drop n text
+drop_min n text = elim (cases_lt n (length text)) [
+  | inl h ↦ ap (λ k. drop k text) (let e : min n (length text) ≡ n = omega arith in e)
+  | inr h ↦ let e : min n (length text) ≡ length text = omega arith in ap (λ k. drop k text) e ∙ drop_all (length text) text (omega arith) ∙ sym (drop_all n text (omega arith))
+]
+
+pub cut_front : (is : Text → Bool) (text : Text) (p : MarkPlace) → IsPlace is text p → take p.front text ≡ before is text
+cut_front is text p k = ap (λ n. take n text) k.front ∙ take_min (head_size is (lines text)) text
+
+pub cut_rest : (is : Text → Bool) (text : Text) (p : MarkPlace) → IsPlace is text p → drop p.rest text ≡ behind is text
+cut_rest is text p k = ap (λ n. drop n text) k.rest ∙ drop_min (mark_size is (lines text)) text

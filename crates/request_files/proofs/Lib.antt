@@ -1,10 +1,14 @@
+pub mod ClientLemmas
 pub mod DivideLemmas
 pub mod EntryLemmas
 pub mod FaultLemmas
 pub mod FirstFaults
 pub mod HandlerLemmas
 pub mod LightRows
+pub mod PickedLemmas
 pub mod PrintableLemmas
 pub mod RowLemmas
+pub mod TraceParts
+pub mod TraceSizes
 pub mod WholeParts
 pub mod WorkFaults

@@ -5,8 +5,6 @@ use Rattle.std.specs.List.{list_all, list_any, position_or_len}
 use Rattle.std.specs.Str.{bytes_eq}
 use Rattle.text_lines.specs.Bytes.{is_blank}
 use Rattle.text_lines.specs.Text.{Text, lines}
-use Rattle.request_files.specs.declared.mark.Mark.{Mark}
-use Rattle.request_files.specs.declared.mark.Mark.TheVariants.{Dividing, Tables, Any}
 
 -- ---- marks
 
@@ -21,12 +19,6 @@ is_table_mark l = bytes_eq (take 9 l) (codes "%% tables") && list_all is_blank (
 -- one of them
 abbrev pub is_mark : Text → Bool
 is_mark l = is_dividing l || is_table_mark l
-
--- what a mark's line says
-abbrev pub says : Mark → Text → Bool
-says Dividing = is_dividing
-says Tables = is_table_mark
-says Any = is_mark
 
 -- ---- what stands before a line and behind it
 

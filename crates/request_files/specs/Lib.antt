@@ -1,7 +1,11 @@
+pub mod Clients
 pub mod Divide
 pub mod Entries
 pub mod Laws
+pub mod Marks
+pub mod Picked
 pub mod Requests
 pub mod Servable
 pub mod Session
+pub mod TracePart
 pub mod WorkSums

@@ -6,7 +6,10 @@ ghost use Rattle.syntax_trees.specs.declared.file.File.{File};
 ghost use Rattle.request_files.specs.declared.refusal.RequestRefusal.TheVariants.{TooManyCalls, TooManyRequests, TooMuchWork};
 ghost use Rattle.request_files.specs.Divide.{Divides};
 ghost use Rattle.request_files.specs.Laws.{AreParts, CallsPass, IsOneTooMany, IsWellFormed, calls_named};
-ghost use Rattle.request_files.specs.Requests.{first_fault, no_requests};
+ghost use Rattle.request_files.specs.declared.request.Request.{Request};
+ghost use Rattle.request_files.specs.Picked.{AreNumbersOf, picked};
+ghost use Rattle.request_files.specs.Requests.{ArePrintable, first_fault, no_requests};
+ghost use Rattle.request_files.specs.Servable.{IsServable};
 ghost use Rattle.text_lines.specs.Rows.{Row};
 ghost use Rattle.text_lines.specs.Text.{Text};
 ghost use Rattle.request_files.specs.WorkSums.{WorkPasses, work_named};
@@ -52,4 +55,15 @@ pub fn work_within_limit()
         calls_named names f (front ++ row ∷ []) ≤ max_session_calls →
         max_session_work < work_named names f (front ++ row ∷ []) →
         first_fault names f no_requests (front ++ row ∷ back) ≡ Some (TooMuchWork row.line) }
+{}
+
+/// Requests picked by different numbers from servable ones are servable, and printable where these
+/// are.
+pub fn picked_requests()
+    ensures servable { (f : File) (requests : List Request) (ns : List ℕ) →
+        AreNumbersOf (length requests) ns → IsServable f requests →
+        IsServable f (picked requests ns) }
+    ensures printable { (names : List Text) (requests : List Request) (ns : List ℕ) →
+        AreNumbersOf (length requests) ns → ArePrintable names requests →
+        ArePrintable names (picked requests ns) }
 {}

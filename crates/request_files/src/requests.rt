@@ -55,6 +55,15 @@ impl Requests {
         self.entries[t as usize].handler
     }
 
+    /// How many arguments a ticket has.
+    pub(crate) fn arity(&self, t: u32) -> u32
+        requires { t < length self.now }
+        ensures { (request : View) → slice_get self.now t ≡ Some request
+            → result ≡ length request.args }
+    {
+        self.entries[t as usize].args
+    }
+
     /// The arguments of a ticket.
     pub fn args(&self, t: u32) -> &[Value]
         requires { t < length self.now }

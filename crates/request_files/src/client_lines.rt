@@ -1,0 +1,59 @@
+// The lines of a request part that is divided among clients.
+
+ghost use Rattle.std.specs.Prelude.{◌≡◌, ◌<◌, ◌≤◌, ◌∷◌, [], MatchOption, true, length};
+ghost use Rattle.std.specs.List.{list_all};
+ghost use Rattle.session_limits.specs.Limits.{max_input};
+ghost use Rattle.text_lines.specs.Text.{is_line_byte, lines as lines_of, words as words_of};
+ghost use Rattle.request_files.specs.Clients.{marks_in};
+
+use crate::mark::is_next_mark;
+use text_lines::{Line, Lines, line_len};
+
+/// The first line of a text, and what stands behind its line feed.
+pub(crate) fn first_line(text: &str) -> (&str, &str)
+    requires { 0 < length text.now }
+    ensures lines { lines_of text.now ≡ result.0.now ∷ lines_of result.1.now }
+    ensures line { list_all is_line_byte result.0.now ≡ true }
+    ensures short { length result.0.now ≤ length text.now }
+    ensures left { length result.1.now < length text.now }
+{
+    let len = line_len(text.as_bytes());
+    let (line, _) = text.split_at(len);
+    // the last line needs no line feed
+    let (_, next) = text.split_at((len + 1).min(text.len()));
+    (line, next)
+}
+
+/// The first word of a line, and the others.
+pub(crate) fn first_word(line: &str) -> Option<(&str, Line<'_>)>
+    requires line { list_all is_line_byte line.now ≡ true }
+    requires short { length line.now ≤ 4294967295 }
+    ensures { MatchOption result (words_of line.now ≡ [])
+        (λ p. words_of line.now ≡ p.0.now ∷ words_of p.1.rest.now) }
+{
+    let mut lines = Lines::over(line, 0);
+    let Some((_, mut words)) = lines.next() else {
+        return None;
+    };
+    let Some(name) = words.next() else {
+        return None;
+    };
+    Some((name, words))
+}
+
+/// How many lines `%% next` divide a request part. With 16 or more there are too many clients.
+pub fn count_marks(text: &str) -> u32
+    requires { length text.now ≤ max_input }
+    ensures { result ≡ marks_in (lines_of text.now) }
+{
+    let mut marks = 0;
+    let mut rest = text;
+    'lines: while !rest.is_empty() {
+        let (line, next) = first_line(rest);
+        if is_next_mark(line.as_bytes()) {
+            marks += 1;
+        }
+        rest = next;
+    }
+    marks
+}
