@@ -1,20 +1,24 @@
 // The requests of a program as a script.
 
-ghost use Rattle.std.specs.Prelude.{◌≡◌};
+ghost use Rattle.std.specs.Prelude.{◌≡◌, ◌<◌, false, IfOk, OnErr};
 ghost use Rattle.opening_tables.specs.Opening.{IsOpening};
 ghost use Rattle.handler_check.specs.Resolved.{shape_of};
+ghost use Rattle.machine_walk.specs.Asking.{Breaks, Runs, Stays};
 ghost use Rattle.request_files.specs.Servable.{IsServable};
+ghost use Rattle.handler_machine.specs.Scripts.{meaning};
 
+use crate::running::run_handler;
 use crate::serving::serve_one;
 use crate::sums::{args_of, count_adds, count_calls, handler_of};
 use declaration_insertion::Program;
 use handler_check::Checked;
-use machine_walk::{put_args, set_up};
+use machine_walk::{Answerer, put_args, set_up};
 use opening_tables::Opening;
 use request_files::Requests;
 use session_journal::{Desk, Scratch, Script, Serves, Site};
 use session_limits::MAX_VARIABLES;
-use session_values::{NoMemory, Value};
+use session_values::{NoMemory, Reply, TableKind, Value};
+use std::alloc::Global;
 use std::marker::Model;
 use std::sync::Wait;
 use std::thread::Threads;
@@ -73,6 +77,35 @@ impl<'a> Scripts<'a> {
             opening,
             requests,
         }
+    }
+
+    /// The kinds of the tables.
+    pub fn shape(&self, alloc: Global) -> Result<Vec<TableKind>, NoMemory>
+        ensures { IfOk result (λ shape. shape.items ≡ (meaning self.now).shape) }
+    {
+        let tables = self.checked.file().tables.as_slice();
+        Ok(tables.iter().map(|t| t.kind).collect(alloc)?)
+    }
+
+    /// Runs the handler of a ticket on what answers its operations. Want of memory comes only where
+    /// what answers isn't sure.
+    pub fn run_ticket<A: Answerer>(
+        &self,
+        t: u32,
+        scratch: &mut Scratch,
+        who: &mut A,
+    ) -> Result<Reply, NoMemory>
+        requires ticket { t < (meaning self.now).requests }
+        requires shape { A.shape who.old ≡ (meaning self.now).shape }
+        ensures runs { IfOk result (λ reply. Runs A.Step ((meaning self.now).next t)
+            who.old who.new reply) }
+        ensures breaks { OnErr result (Breaks A.Step ((meaning self.now).next t)
+            who.old who.new) }
+        ensures unsure { OnErr result (A.sure who.old ≡ false) }
+        ensures stays { Stays A.shape A.sure who.old who.new }
+    {
+        let h = handler_of(self.requests, t);
+        run_handler(self.checked, h, args_of(self.requests, t), scratch, who)
     }
 }
 

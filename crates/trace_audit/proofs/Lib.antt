@@ -1,5 +1,7 @@
 pub mod Allowed
 pub mod Audits
+pub mod Bare
+pub mod Counting
 pub mod Filling
 pub mod FromBook
 pub mod FrontSteps

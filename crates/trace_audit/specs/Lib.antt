@@ -1,4 +1,5 @@
 pub mod Accepted
+pub mod Bare
 pub mod Desk
 pub mod Judging
 pub mod Keeping

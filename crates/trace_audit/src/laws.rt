@@ -10,7 +10,9 @@ ghost use Rattle.admission_book.specs.Lawful.{Lawful};
 ghost use Rattle.session_values.specs.Dialogue.{Dialogue, Entry, replies};
 ghost use Rattle.machine_walk.specs.Asking.{Runs};
 ghost use Rattle.trace_audit.specs.Accepted.{Accepted, HaveEnded};
+ghost use Rattle.trace_audit.specs.Bare.{bare_script};
 ghost use Rattle.trace_audit.specs.Desk.{AuditStep, AuditView, IsRun, KeepsOthers, Kept, MayAnswer, fresh, given_entries, kept_next, replay_at};
+ghost use Rattle.trace_audit.specs.Traces.{max_events};
 ghost use Rattle.trace_audit.specs.Verdicts.{IsVerdict};
 
 use crate::verdict::Verdict;
@@ -56,4 +58,25 @@ pub fn runs_keep_others<S: Script>()
 pub fn kept_tells()
     ensures { (f : Dialogue) (es : List Entry) (k : Kept) (r : Reply) (n : ℕ) → IsRun f es k r
         → n ≤ given_entries k → f (replies (take n es)) ≡ kept_next es k r n }
+{}
+
+/// What is accepted of a script is accepted of the bare script of its session, and back.
+pub fn bare_scripts_accept()
+    ensures there { (m : Meaning) (J : List Event) → Accepted m J
+        → Accepted (bare_script (session_of m)) J }
+    ensures back { (m : Meaning) (J : List Event) → Accepted (bare_script (session_of m)) J
+        → Accepted m J }
+{}
+
+/// A verdict on the events of a script is one on those of the bare script of its session, and back.
+pub fn bare_scripts_are_judged()
+    ensures there { (m : Meaning) (J : List Event) (v : Verdict) → IsVerdict m J v
+        → IsVerdict (bare_script (session_of m)) J v }
+    ensures back { (m : Meaning) (J : List Event) (v : Verdict)
+        → IsVerdict (bare_script (session_of m)) J v → IsVerdict m J v }
+{}
+
+/// An accepted list of events has no more than a trace may have.
+pub fn accepted_are_few()
+    ensures { (m : Meaning) (J : List Event) → IsScript m → Accepted m J → length J ≤ max_events }
 {}

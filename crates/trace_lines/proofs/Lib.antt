@@ -1,8 +1,12 @@
 pub mod Alike
+pub mod AsRead
 pub mod Joined
 pub mod Lines
+pub mod OneTrace
 pub mod Placed
 pub mod Reading
 pub mod Rows
+pub mod Told
+pub mod Waiting
 pub mod WordLemmas
 pub mod WrittenBack

@@ -215,3 +215,7 @@ module _ (names : List Text) (tables : List ℕ) (shape : List TableKind) (named
       as_many : (xs : List Event) → length (map (as_read names) xs) ≡ length xs
       as_many [] = refl
       as_many (x ∷ xs) = ap suc (as_many xs)
+
+  -- and they are a trace, with no name more
+  pub written_trace : (n : ℕ) (es : List Event) → AreDistinct names → AreDistinct (table_names names tables) → AllByRecursion (IsReadableEvent names tables shape) es → length es ≤ max_events → IsTrace names names tables shape (written n es) (record { events = map (as_read names) es; lines = map (λ (r : Row). r.line) (written n es) })
+  written_trace n es dn dt all l = record { fine = written_fine n es dn dt all l; names = sym (same_names n es all); events = events_are n es dn dt all; lines = refl }

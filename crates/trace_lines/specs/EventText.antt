@@ -84,6 +84,14 @@ abbrev pub events_text : List (List ℕ) → List ℕ → List Event → List �
 events_text names tables [] = []
 events_text names tables (e ∷ es) = event_text names tables e ++ events_text names tables es
 
+-- the line with which the text of a trace begins
+abbrev pub head_text : List ℕ
+head_text = codes "%% trace" ++ 10 ∷ []
+
+-- the text of a trace: this line, and those of its events
+abbrev pub trace_text : List (List ℕ) → List ℕ → List Event → List ℕ
+trace_text names tables es = head_text ++ events_text names tables es
+
 -- ---- what can be written
 
 -- there is such a table, and its name has a text of at most 64 bytes

@@ -1,5 +1,7 @@
+pub mod Bounds
 pub mod EventRows
 pub mod EventText
 pub mod EventWords
 pub mod Fronts
 pub mod Pushing
+pub mod VerdictText

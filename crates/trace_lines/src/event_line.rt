@@ -15,6 +15,9 @@ use session_journal::Event;
 use session_values::{Kind, Names, Op, Reply, Value};
 use symbolic_ops::{Arg, Symbol};
 
+/// The longest line: that of a Delay of a call with two arguments, by a symbol with two.
+pub(crate) const LONGEST: usize = 434;
+
 /// Appends the line of an event, with its line feed. Tables are written by their names, whose
 /// places in the list of names these are, in the order of their numbers.
 pub fn push_event_line<T: TextRoom>(e: &Event, tables: &[u32], names: &Names, out: &mut T)

@@ -7,6 +7,8 @@ ghost use Rattle.session_values.specs.declared.kind.TableKind.{TableKind};
 ghost use Rattle.text_lines.specs.Rows.{rows};
 ghost use Rattle.text_lines.specs.Text.{lines, words};
 ghost use Rattle.line_words.specs.Words.{IsWord};
+ghost use Rattle.session_journal.specs.Script.{Meaning};
+ghost use Rattle.trace_audit.specs.Accepted.{Accepted};
 ghost use Rattle.trace_audit.specs.Traces.{TraceView, max_events};
 ghost use Rattle.trace_lines.specs.EventRows.{IsTrace, first_event_fault};
 ghost use Rattle.trace_lines.specs.EventText.{event_words, events_text};
@@ -51,4 +53,11 @@ pub fn traces_read_back()
         → AllByRecursion (IsReadableEvent names tables shape) es → length es ≤ max_events
         → first_event_fault names tables shape 0 (rows n (lines (events_text names tables es)))
         ≡ None }
+{}
+
+/// What is read of an accepted list of events is accepted too: what stands for more commutes with
+/// less.
+pub fn accepted_as_read()
+    ensures { (names : List (List ℕ)) (m : Meaning) (J : List Event) → Accepted m J
+        → Accepted m (map (as_read names) J) }
 {}

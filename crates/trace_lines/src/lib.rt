@@ -1,6 +1,7 @@
-//! The lines of traces: a line for each event.
+//! The lines of traces: a line for each event, and one for what is judged of them.
 #![tactic(auto)]
 
+mod bounds;
 mod event_line;
 mod event_words;
 mod front;
@@ -8,8 +9,13 @@ pub mod laws;
 mod placing;
 mod refusal;
 mod trace_part;
+mod verdict;
 mod word;
+mod writing;
 
+pub use bounds::event_bounds;
 pub use event_line::push_event_line;
 pub use refusal::TraceRefusal;
 pub use trace_part::read_trace;
+pub use verdict::verdict_line;
+pub use writing::write_events;

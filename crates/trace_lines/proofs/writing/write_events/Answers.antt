@@ -1,0 +1,44 @@
+use Rattle.std.proofs.Common.{[], append-nil, refl, rules, sym, ap, ◌∙◌, subst, arith}
+use Rattle.byte_ends.specs.Ends.{Grew, GrewByFront}
+use Rattle.byte_ends.proofs.EndsLemmas.{grew_nothing}
+use Rattle.reply_sheet.proofs.TextLemmas.{waits_same, waits_written, broke_off}
+use Rattle.trace_lines.specs.EventText.{head_text}
+use Rattle.trace_lines.proofs.Waiting.{text_at, line_waits}
+use Rattle.trace_lines.proofs.writing.write_events.Goals.{then-not-reserve+else-not-write_all, else-not-reserve}
+use Rattle.trace_lines.proofs.writing.write_events.Goals as goal
+
+pub loop-i-init : goal.loop-i-init
+loop-i-init g c = record {
+  waits = record { written = []; grew = grew_nothing (g.O.Sink.held c.args.out.now) (g.O.Sink.held c.args.out.now) refl; all = c.push_head.ensures ∙ sym (append-nil head_text) };
+  later = search rules;
+}
+
+pub returns-then-not-write_all-clause-front : goal.returns-then-not-write_all-clause-front
+returns-then-not-write_all-clause-front g c _ =
+    let waits = waits_same _ _ _ _ _ _ refl c.reserve.ensures.held c.loop-i.invariant.waits in
+    broke_off (g.O.Sink.held c.args.out.now) (g.O.Sink.held c.loop-i.out) (g.O.Sink.held c.write_all.new.out) c.reserve.new.self.held _ _ _ waits
+    (subst (GrewByFront (g.O.Sink.held c.loop-i.out) (g.O.Sink.held c.write_all.new.out)) c.bytes.ensures (c.write_all.ensures.front c.if-not-write_all.true))
+    (text_at c.args.names.now c.args.tables.now c.args.events.now c.loop-i.i)
+
+pub loop-i-preserved : goal.loop-i-preserved
+loop-i-preserved g c = record {
+  waits = line_waits c.args.names.now c.args.tables.now c.args.events.now c.loop-i.i c.index-events-i.result (g.O.Sink.held c.args.out.now) (g.O.Sink.held c.if-not-reserve.out) c.if-not-reserve.buffer.held c.push_event_line.new.out.held
+      c.loop-i-test.true (sym c.index-events-i.is) c.push_event_line.ensures.text
+      (elim c.if-not-reserve.branch [
+        | then-not-reserve+else-not-write_all w ↦ waits_same _ _ _ _ _ _ (ap g.O.Sink.held w.out-is) (ap (λ b. b.held) w.buffer-is ∙ w.clear.ensures.held)
+            (waits_written (g.O.Sink.held c.args.out.now) (g.O.Sink.held c.loop-i.out) (g.O.Sink.held w.write_all.new.out) c.reserve.new.self.held [] _
+            (waits_same _ _ _ _ _ _ refl c.reserve.ensures.held c.loop-i.invariant.waits)
+            (subst (Grew (g.O.Sink.held c.loop-i.out) (g.O.Sink.held w.write_all.new.out)) w.bytes.ensures (w.write_all.ensures.all w.if-not-write_all.false)) refl)
+        | else-not-reserve w ↦ waits_same _ _ _ _ _ _ (ap g.O.Sink.held w.out-is) (ap (λ b. b.held) w.buffer-is ∙ c.reserve.ensures.held) c.loop-i.invariant.waits
+      ]);
+  later = elim c.if-not-reserve.branch [
+    | then-not-reserve+else-not-write_all w ↦ omega (arith, ap g.O.Sink.faults w.out-is, w.write_all.ensures.later, c.loop-i.invariant.later)
+    | else-not-reserve w ↦ omega (arith, ap g.O.Sink.faults w.out-is, c.loop-i.invariant.later)
+  ];
+}
+
+pub returns-clause-front : goal.returns-clause-front
+returns-clause-front g c e =
+    broke_off (g.O.Sink.held c.args.out.now) (g.O.Sink.held c.loop-i.out) (g.O.Sink.held c.write_all-2.new.out) c.loop-i.buffer.held _ _ _ c.loop-i.invariant.waits
+    (subst (GrewByFront (g.O.Sink.held c.loop-i.out) (g.O.Sink.held c.write_all-2.new.out)) c.bytes-2.ensures (c.write_all-2.ensures.front e))
+    (text_at c.args.names.now c.args.tables.now c.args.events.now c.loop-i.i)
