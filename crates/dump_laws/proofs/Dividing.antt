@@ -68,7 +68,7 @@ IsWhole text = with_feeds (lines text) ≡ text
 pub lines_after : (head rest : Text) → IsWhole head → lines (head ++ rest) ≡ lines head ++ lines rest
 lines_after head rest w = ap (λ (t : Text). lines (t ++ rest)) (sym w) ∙ lines_behind (lines head) rest (own_lines head)
 
-feeds_joined : (xs ys : List Text) → with_feeds (xs ++ ys) ≡ with_feeds xs ++ with_feeds ys
+pub feeds_joined : (xs ys : List Text) → with_feeds (xs ++ ys) ≡ with_feeds xs ++ with_feeds ys
 feeds_joined [] ys = refl
 feeds_joined (x ∷ xs) ys = ap (λ t. x ++ 10 ∷ t) (feeds_joined xs ys) ∙ sym (append_assoc x (10 ∷ with_feeds xs) (with_feeds ys))
 
@@ -79,7 +79,7 @@ whole_joined head rest w v =
 -- ---- what a mark behind lines that are none tells
 
 module _ (is : Text → Bool) (d : Text) (more : List Text) (marks : is d ≡ true) where
-  head_behind : (ls : List Text) → list_any is ls ≡ false → head_size is (ls ++ d ∷ more) ≡ length (with_feeds ls)
+  pub head_behind : (ls : List Text) → list_any is ls ≡ false → head_size is (ls ++ d ∷ more) ≡ length (with_feeds ls)
   unfolding head_size
   head_behind [] h = ap (λ b. cond b 0 (length d + 1 + head_size is more)) marks
   head_behind (l ∷ ls) h =
@@ -87,7 +87,7 @@ module _ (is : Text → Bool) (d : Text) (more : List Text) (marks : is d ≡ tr
       ap (λ b. cond b 0 (length l + 1 + head_size is (ls ++ d ∷ more))) (or_left (is l) (list_any is ls) h)
       ∙ omega (arith, rest, length-append l (10 ∷ with_feeds ls))
 
-  mark_behind : (ls : List Text) → list_any is ls ≡ false → mark_size is (ls ++ d ∷ more) ≡ length (with_feeds ls) + (length d + 1)
+  pub mark_behind : (ls : List Text) → list_any is ls ≡ false → mark_size is (ls ++ d ∷ more) ≡ length (with_feeds ls) + (length d + 1)
   unfolding mark_size
   mark_behind [] h =
       ap (λ b. cond b (length d + 1) (length d + 1 + mark_size is more)) marks ∙ omega arith
@@ -109,7 +109,7 @@ module _ (is : Text → Bool) (head d tail : Text) (whole : IsWhole head) (none 
   abbrev text : Text
   text = head ++ (d ++ 10 ∷ tail)
 
-  text_lines : lines text ≡ lines head ++ d ∷ lines tail
+  pub text_lines : lines text ≡ lines head ++ d ∷ lines tail
   text_lines = lines_after head (d ++ 10 ∷ tail) whole ∙ ap (λ (t : List Text). lines head ++ t) (line_joined d tail plain)
 
   pub any_is : list_any is (lines text) ≡ true

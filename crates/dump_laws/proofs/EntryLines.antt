@@ -46,10 +46,10 @@ digit_ascii : (bs : Text) → all_ascii_digits bs ≡ true → AllByRecursion (�
 digit_ascii [] e = tt
 digit_ascii (b ∷ bs) e = (grind (arith, nat_tests, e), digit_ascii bs (grind (arith, nat_tests, e)))
 
-decimal_ascii : (n : ℕ) → n < 2 ^ 64 → AllByRecursion (λ b. b < 128) (decimal n)
+pub decimal_ascii : (n : ℕ) → n < 2 ^ 64 → AllByRecursion (λ b. b < 128) (decimal n)
 decimal_ascii n h = digit_ascii (decimal n) (digits_decimal numerals n h)
 
-number_ascii : (z : ℤ) → IsValue (Num z) → AllByRecursion (λ b. b < 128) (signed_decimal z)
+pub number_ascii : (z : ℤ) → IsValue (Num z) → AllByRecursion (λ b. b < 128) (signed_decimal z)
 number_ascii (pos n) h = decimal_ascii n (omega (arith, h))
 number_ascii (negsuc n) h = (omega arith, decimal_ascii (suc n) (omega (arith, h)))
 

@@ -25,10 +25,10 @@ use Rattle.dump_laws.proofs.Utf8.{ascii_behind, handlers_utf8}
 
 -- ---- the parts of an input are no longer than it
 
-before_few : (is : Text → Bool) (text : Text) → length (before is text) ≤ length text
+pub before_few : (is : Text → Bool) (text : Text) → length (before is text) ≤ length text
 before_few is text = omega (arith, length-take (head_size is (lines text)) text)
 
-behind_few : (is : Text → Bool) (text : Text) → length (behind is text) ≤ length text
+pub behind_few : (is : Text → Bool) (text : Text) → length (behind is text) ≤ length text
 behind_few is text = omega (arith, length-drop (mark_size is (lines text)) text)
 
 pub is_marked : (b : Bool) → divided_fault b ≡ None → b ≡ true

@@ -96,10 +96,10 @@ module _ (parts : Parts) (file : File) (is : IsSession parts file) where
   pub old_all : Begins (handler_names_of parts) (all_names_of parts)
   old_all = begins_then _ _ _ old_mid mid_all
 
-  known_mid : AreHandlers (opening_names_of parts) file
+  pub known_mid : AreHandlers (opening_names_of parts) file
   known_mid = handlers_kept (handler_names_of parts) (opening_names_of parts) file old_mid (handlers_known (handler_names_of parts) file below)
 
-  symbols : AreSymbols (all_names_of parts)
+  pub symbols : AreSymbols (all_names_of parts)
   symbols = row_symbols (opening_names_of parts) (rows_of parts) (row_symbols (handler_names_of parts) (table_rows_of parts) (handler_symbols parts.handlers))
 
   module _ (h : length parts.handlers ≤ 4194304) (t : length parts.tables ≤ 4194304) (q : length parts.requests ≤ 4194304) where
@@ -118,10 +118,10 @@ module _ (parts : Parts) (file : File) (is : IsSession parts file) where
     bounds : KeepsBounds file
     bounds = keeps_bounds (words_of [] parts.handlers) file is.program.form (below_kept (length (handler_names_of parts)) (2 ^ 32) (file_mentions file) (omega (arith, few_old)) below)
 
-    abbrev view : ScriptsView
+    abbrev pub view : ScriptsView
     view = record { program = record { file = file; lists = is.program.lists }; opening = opened_of parts file; requests = requests_of parts file }
 
-    keeps : KeepsScripts view
+    pub keeps : KeepsScripts view
     keeps = record { program = record { accepted = is.program.accepted; bounds = bounds; later = is.program.later }; opening = opened.opens; servable = served }
 
     held : AreHeld (meaning view) (tables_before (session_of_parts parts file) (session_of_parts parts file).requests)

@@ -1,14 +1,11 @@
 -- The literals of a handler can be printed with the names of its file.
-use Rattle.std.proofs.Common.{◌≡◌, ℕ, zero, suc, ◌+◌, ◌<◌, List, [], ◌∷◌, ◌++◌, length, map, slice_get, slice_index_or, Option, Some, None, refl, sym, subst, rules, arith}
+use Rattle.std.proofs.Common.{ℕ, zero, suc, ◌+◌, List, [], ◌∷◌, ◌++◌, map, slice_get, sym, subst}
 use Rattle.std.specs.List.{AllByRecursion, flat_map}
 use Rattle.session_values.specs.declared.value.Value.TheVariants.{Nil, Num, Sym}
 use Rattle.session_values.specs.ReplyText.{IsPrintable}
 use Rattle.syntax_trees.specs.declared.expr.Atom.{Atom}
 use Rattle.syntax_trees.specs.declared.expr.Atom.TheVariants as atom
-use Rattle.syntax_trees.specs.declared.expr.Calc.{Calc}
-use Rattle.syntax_trees.specs.declared.expr.Expr.{Expr, the_lemmas}
-use Rattle.syntax_trees.specs.declared.expr.Expr.TheVariants as expr
-use Rattle.syntax_trees.specs.declared.stmt.Call.{Call}
+use Rattle.syntax_trees.specs.declared.expr.Expr.{Expr}
 use Rattle.syntax_trees.specs.declared.stmt.Cond.{Cond}
 use Rattle.syntax_trees.specs.declared.stmt.Right.{Right}
 use Rattle.syntax_trees.specs.declared.stmt.Right.TheVariants as right
@@ -16,9 +13,8 @@ use Rattle.syntax_trees.specs.declared.stmt.Stmt.{Stmt}
 use Rattle.syntax_trees.specs.declared.stmt.Stmt.TheVariants as stmt
 use Rattle.syntax_trees.specs.declared.file.File.{File}
 use Rattle.syntax_trees.specs.declared.file.Handler.{Handler}
-use Rattle.syntax_trees.specs.Alone.{alone}
-use Rattle.syntax_trees.specs.Mentions.{Mention, a_symbol, atom_mentions, expr_mentions, call_mentions, right_mentions, cond_mentions, stmt_mentions, table_mentions, param_mentions, handler_mentions}
-use Rattle.syntax_trees.proofs.Mentions.{mentions_leaf, mentions_binary, mentions_let, mentions_assign, mentions_perform, mentions_choose, mentions_repeat, mentions_answer, all_first}
+use Rattle.syntax_trees.specs.Mentions.{Mention, atom_mentions, expr_mentions, call_mentions, right_mentions, cond_mentions, stmt_mentions, table_mentions, param_mentions, handler_mentions}
+use Rattle.syntax_trees.proofs.Mentions.{mentions_leaf, mentions_let, mentions_assign, mentions_perform, mentions_choose, mentions_repeat, mentions_answer, all_first}
 use Rattle.handler_syntax.specs.Language.{HasText, HaveTexts, IsNamedFile}
 use Rattle.handler_syntax.proofs.Facts.{symbol_named}
 use Rattle.check_meaning.specs.declared.tree.CheckedAtom.{CheckedAtom}
@@ -26,7 +22,7 @@ use Rattle.check_meaning.specs.declared.tree.CheckedAtom.TheVariants.{Lit, Var}
 use Rattle.check_meaning.specs.Code.{Term, Calculate, Code, Finish, Move, Ask, Fork, Loop, Quit}
 use Rattle.check_meaning.specs.Code as code
 use Rattle.check_rules.specs.Source.{Source, Finish as NoMore, Let, Assign, Do, Choose, Repeat, Answer, stmt_source, block_source}
-use Rattle.handler_check.specs.Resolved.{atom_of, term_of, key_of, value_of, call_of, stored, right_points, points_of, code_of, code_at, code_in, table_names, variables_of}
+use Rattle.handler_check.specs.Resolved.{atom_of, term_of, key_of, value_of, stored, right_points, points_of, code_of, code_at, code_in, table_names, variables_of}
 use Rattle.handler_check.proofs.Cases.{expr_induction, source_let, source_assign, source_call, source_choose, source_repeat, source_reply}
 use Rattle.handler_check.proofs.Codes.{term_leaf, term_binary}
 use Rattle.handler_check.proofs.Inductions.{stmt_induction}

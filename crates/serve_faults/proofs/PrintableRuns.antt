@@ -18,9 +18,8 @@ use Rattle.syntax_trees.specs.declared.file.File.{File}
 use Rattle.handler_syntax.specs.Language.{IsNamedFile}
 use Rattle.check_meaning.specs.declared.tree.CheckedAtom.{CheckedAtom}
 use Rattle.check_meaning.specs.declared.tree.CheckedAtom.TheVariants.{Lit, Var}
-use Rattle.check_meaning.specs.Bounds.{calls_bound}
 use Rattle.check_meaning.specs.Code.{Term, Atom, Calculate, Code, Finish, Move, Ask, Fork, Loop, Quit}
-use Rattle.check_meaning.specs.Dialogue.{Env, env_of, with_value, in_range, calculated, atom_value, value_of, holds, op_of, Place, Outcome, Calls, Answers, Goes, after, then_do, pass, with_reply, turns, run, ended, next}
+use Rattle.check_meaning.specs.Dialogue.{Env, env_of, with_value, in_range, calculated, atom_value, value_of, holds, Place, Outcome, Calls, Answers, Goes, after, then_do, pass, with_reply, turns, run, ended, next}
 use Rattle.handler_check.specs.Resolved.{code_at}
 use Rattle.request_files.specs.declared.request.Request.{Request}
 use Rattle.request_files.specs.Requests.{ArePrintable}
@@ -142,12 +141,12 @@ module _ (names : List (List ℕ)) where
   reply_values (a ∷ b ∷ c ∷ []) h = (h.0, (h.1.0, (h.1.1.0, tt)))
   reply_values (a ∷ b ∷ c ∷ d ∷ more) h = (h.0, (h.1.0, (h.1.1.0, (h.1.1.1.0, tt))))
 
-  abbrev NextSaid : Next → Type 0
+  abbrev pub NextSaid : Next → Type 0
   NextSaid (NextCalls op) = V op.key × V op.value
   NextSaid (NextAnswers r) = All (values_of r)
 
   -- where replies can be printed, so can what comes next
-  abbrev Prints : Dialogue → Type 0
+  abbrev pub Prints : Dialogue → Type 0
   Prints f = (replies : List Value) → All replies → NextSaid (f replies)
 
   ended_said : (o : Outcome) → Said o → NextSaid (ended o)
@@ -203,7 +202,7 @@ module _ (names : List (List ℕ)) where
     abbrev this : Session
     this = session file opened rs
 
-    ticket_prints : (t : ℕ) → Prints (this.next t)
+    pub ticket_prints : (t : ℕ) → Prints (this.next t)
     ticket_prints t = handler_prints (code_at file (request_at rs t).handler) (env_of (request_at rs t).args) (file_prints names file (request_at rs t).handler named) (args_said (request_at rs t).args (request_said rs t requests))
 
     pub tables_hold : (t : ℕ) → AllByRecursion (TableHolds names) (tables_before this t)

@@ -14,7 +14,7 @@ use Rattle.session_values.specs.declared.kind.TableKind.{TableKind}
 use Rattle.session_values.specs.declared.kind.TableKind.TheVariants.{Map, Set}
 use Rattle.session_values.specs.declared.op.Op.{Op}
 use Rattle.session_values.specs.Values.{value_cmp, value_eq, value_cmp_total}
-use Rattle.session_values.specs.Tables.{Container, Bindings, Members, Tables, empty_of, bit, bound_to, bumped, sum_in_range, map_reply, map_after, set_after, set_reply, reply_on, after_on, table, reply, step}
+use Rattle.session_values.specs.Tables.{Container, Bindings, Members, Tables, bit, bound_to, bumped, sum_in_range, map_reply, map_after, set_after, set_reply, reply_on, after_on, table, reply, step}
 use Rattle.session_values.specs.ReplyText.{IsPrintable}
 use Rattle.session_values.proofs.Equal.{same_value}
 use Rattle.table_lines.specs.TableRows.{ArePrintable}

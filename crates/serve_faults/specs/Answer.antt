@@ -1,6 +1,5 @@
 -- What is answered to a command line and an input.
-use Rattle.std.specs.Prelude.{◌≡◌, ◌≢◌, ℕ, ◌<◌, ◌≤◌, true, false, IsUtf8, List, [], length, Option, Some, None}
-use Rattle.session_limits.specs.Limits.{max_input}
+use Rattle.std.specs.Prelude.{◌≡◌, ◌≢◌, ℕ, ◌⊎◌, true, false, IsUtf8, List, [], length, Option, Some, None}
 use Rattle.symbolic_ops.specs.declared.symbol.Symbol.{Symbol}
 use Rattle.handler_syntax.specs.Language.{names_of, File, HasFault, IsSourceOf, SyntaxRefusal, canonical_text, shown_text}
 use Rattle.handler_syntax.specs.Language.syntax_refusal
@@ -9,19 +8,20 @@ use Rattle.handler_check.specs.Checking.{IsAccepted, IsRefusal}
 use Rattle.declaration_insertion.specs.Shown.{shown_of as points_shown}
 use Rattle.may_use_analysis.specs.declared.refusal.AnalysisRefusal.{AnalysisRefusal}
 use Rattle.may_use_analysis.specs.Later.{IsTooMany}
-use Rattle.range_session.specs.declared.refusal.RangeRefusal.{RangeRefusal}
 use Rattle.range_session.specs.Faults.{text_fault}
 use Rattle.range_session.specs.Session.{IsRangesText}
 use Rattle.request_files.specs.declared.refusal.RequestRefusal.{RequestRefusal}
 use Rattle.serve_words.specs.declared.command.Command.{Command}
-use Rattle.serve_words.specs.declared.command.Command.TheVariants.{Check, Show, Serve, Dump, Work, Ranges}
+use Rattle.serve_words.specs.declared.command.Command.TheVariants.{Check, Show, Serve, Dump, Work, Ranges, Trace, Audit}
 use Rattle.serve_words.specs.Commands.{command_of}
 use Rattle.serve_made.specs.Summary.{summary}
 use Rattle.serve_faults.specs.declared.status.Fault.{Fault}
 use Rattle.serve_faults.specs.declared.status.Fault.TheVariants as fault
-use Rattle.serve_faults.specs.Commands.{input_of, has_requests, has_handlers}
-use Rattle.serve_faults.specs.Input.{Parts, parts_of, parts_fault, handlers_of, IsInput}
+use Rattle.serve_faults.specs.Commands.{fixes_text, has_text, input_of, has_requests, has_handlers, is_judging}
+use Rattle.serve_faults.specs.Audited.{HasTraceFault, IsAudited}
+use Rattle.serve_faults.specs.Input.{Parts, parts_in, parts_of, parts_fault, handlers_of, IsInput, IsShort, IsTooLarge}
 use Rattle.serve_faults.specs.Session.{IsProgram, IsSession, table_fault, request_fault, session_of_parts, replies_text, tables_text, serial_calls}
+use Rattle.serve_faults.specs.Traced.{IsTraced}
 use Rattle.table_lines.specs.declared.refusal.TableRefusal.{TableRefusal}
 
 -- ---- faults
@@ -59,14 +59,16 @@ pub record HasRequestFault (parts : Parts) (e : RequestRefusal) : Type 0 where
   pub first : request_fault parts file ≡ Some e
 
 -- the first broken rule of an input, in the order too large, no text, no dividing line or a mark,
--- syntax, check, analysis, tables, requests, or, of a range session, its lines
+-- no trace part, syntax, check, analysis, tables, requests, events, or, of a range session, its lines
 abbrev pub IsRefused : Command → List ℕ → Fault → Type 0
-IsRefused command input fault.TooLarge = max_input < length input
-IsRefused command input fault.NotText = (length input ≤ max_input) × (IsUtf8 input → ⊥)
-IsRefused command input fault.NoRequests = (length input ≤ max_input) × IsUtf8 input
+IsRefused command input fault.TooLarge = IsTooLarge command input
+IsRefused command input fault.NotText = IsShort command input × (IsUtf8 input → ⊥)
+IsRefused command input fault.NoRequests = IsShort command input × IsUtf8 input
     × (parts_fault command input ≡ Some fault.NoRequests)
-IsRefused command input fault.HasRequests = (length input ≤ max_input) × IsUtf8 input
+IsRefused command input fault.HasRequests = IsShort command input × IsUtf8 input
     × (parts_fault command input ≡ Some fault.HasRequests)
+IsRefused command input fault.NoTrace = IsShort command input × IsUtf8 input
+    × (parts_fault command input ≡ Some fault.NoTrace)
 IsRefused command input (fault.Syntax e) = IsInput command input
     × HasSyntaxFault (handlers_of command input) e × (has_handlers command ≡ true)
 IsRefused command input (fault.Check e) = IsInput command input
@@ -74,9 +76,11 @@ IsRefused command input (fault.Check e) = IsInput command input
 IsRefused command input (fault.Analysis e) = IsInput command input
     × HasAnalysisFault (handlers_of command input) e × (has_handlers command ≡ true)
 IsRefused command input (fault.Tables e) = IsInput command input × (has_requests command ≡ true)
-    × HasTableFault (parts_of input) e
+    × HasTableFault (parts_in command input) e
 IsRefused command input (fault.Request e) = IsInput command input × (has_requests command ≡ true)
-    × HasRequestFault (parts_of input) e
+    × HasRequestFault (parts_in command input) e
+IsRefused command input (fault.Trace e) = IsInput command input × (is_judging command ≡ true)
+    × HasTraceFault input e
 IsRefused command input (fault.Ranges e) = IsInput command input × (has_handlers command ≡ false)
     × (text_fault input ≡ Some e)
 
@@ -140,6 +144,8 @@ IsTextOf (Serve callers shards) input text = IsServed input text
 IsTextOf (Dump callers shards) input text = IsDumped input text
 IsTextOf (Work requests start) input text = IsSummary requests input text
 IsTextOf Ranges input text = IsRangesText input text
+IsTextOf (Trace callers shards) input text = IsTraced input text
+IsTextOf Audit input text = IsAudited input text
 
 -- ---- the answer
 
@@ -148,6 +154,17 @@ pub data Answer : Type 0 where
   Usage : Answer
   Refused : Fault → Answer
   Text : List ℕ → Answer
+
+-- the answer is a text
+abbrev pub IsText : Answer → Type 0
+IsText Usage = ⊥
+IsText (Refused e) = ⊥
+IsText (Text text) = Unit {0}
+
+-- the words are a command whose text the input doesn't fix
+abbrev pub IsUnfixed : Option Command → Type 0
+IsUnfixed None = ⊥
+IsUnfixed (Some command) = fixes_text command ≡ false
 
 -- what a command answers to its input
 abbrev pub Answers : Command → List ℕ → Answer → Type 0
@@ -166,6 +183,20 @@ CommandAnswers (Some command) bytes answer = Answers command (input_of command b
 abbrev pub IsAnswer : List (List ℕ) → List ℕ → Answer → Type 0
 IsAnswer words bytes answer = CommandAnswers (command_of words) bytes answer
 
--- the command line has an answer to the input
+-- no rule is broken
+abbrev pub IsUnrefused : Option Command → List ℕ → Type 0
+IsUnrefused command bytes = (fault : Fault) → CommandAnswers command bytes (Refused fault) → ⊥
+
+-- the words are a command of which it isn't said that there is a text where no rule is broken
+abbrev pub LacksText : Option Command → Type 0
+LacksText None = ⊥
+LacksText (Some command) = has_text command ≡ false
+
+-- what a command answers to these bytes; of such a command, that it breaks no rule is enough
 abbrev pub HasAnswer : List (List ℕ) → List ℕ → Type 0
-HasAnswer words bytes = (a : Answer) × IsAnswer words bytes a
+HasAnswer words bytes = ((a : Answer) × IsAnswer words bytes a)
+    ⊎ (LacksText (command_of words) × IsUnrefused (command_of words) bytes)
+
+-- two answers are one, or two texts of a command whose text the input doesn't fix
+abbrev pub AreOne : List (List ℕ) → Answer → Answer → Type 0
+AreOne words a b = (a ≡ b) ⊎ (IsUnfixed (command_of words) × IsText a × IsText b)

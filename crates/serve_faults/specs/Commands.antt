@@ -2,7 +2,7 @@
 -- too stands in `Input`.
 use Rattle.std.specs.Prelude.{ℕ, Bool, true, false, List, Option, Some, None}
 use Rattle.serve_words.specs.declared.command.Command.{Command}
-use Rattle.serve_words.specs.declared.command.Command.TheVariants.{Check, Show, Serve, Dump, Work, Ranges}
+use Rattle.serve_words.specs.declared.command.Command.TheVariants.{Check, Show, Serve, Dump, Work, Ranges, Trace, Audit}
 use Rattle.serve_made.specs.Session.{session_text}
 
 -- whether a command reads its source
@@ -14,6 +14,8 @@ is_reading (Some (Serve callers shards)) = true
 is_reading (Some (Dump callers shards)) = true
 is_reading (Some (Work requests start)) = false
 is_reading (Some Ranges) = true
+is_reading (Some (Trace callers shards)) = true
+is_reading (Some Audit) = true
 
 -- what a command answers to, where its source has these bytes: `work` answers to a session that it
 -- makes
@@ -24,6 +26,8 @@ input_of (Serve callers shards) bytes = bytes
 input_of (Dump callers shards) bytes = bytes
 input_of (Work requests start) bytes = session_text requests start
 input_of Ranges bytes = bytes
+input_of (Trace callers shards) bytes = bytes
+input_of Audit bytes = bytes
 
 -- whether a command answers to handlers
 abbrev pub has_handlers : Command → Bool
@@ -33,8 +37,10 @@ has_handlers (Serve callers shards) = true
 has_handlers (Dump callers shards) = true
 has_handlers (Work requests start) = true
 has_handlers Ranges = false
+has_handlers (Trace callers shards) = true
+has_handlers Audit = true
 
--- whether a command answers to requests behind a dividing line, and serves them through a hall
+-- whether a command answers to requests behind a dividing line
 abbrev pub has_requests : Command → Bool
 has_requests Check = false
 has_requests Show = false
@@ -42,6 +48,30 @@ has_requests (Serve callers shards) = true
 has_requests (Dump callers shards) = true
 has_requests (Work requests start) = true
 has_requests Ranges = false
+has_requests (Trace callers shards) = true
+has_requests Audit = true
+
+-- whether a command serves requests through a hall
+abbrev pub is_serving : Command → Bool
+is_serving Check = false
+is_serving Show = false
+is_serving (Serve callers shards) = true
+is_serving (Dump callers shards) = true
+is_serving (Work requests start) = true
+is_serving Ranges = false
+is_serving (Trace callers shards) = true
+is_serving Audit = false
+
+-- whether a command judges a trace
+abbrev pub is_judging : Command → Bool
+is_judging Check = false
+is_judging Show = false
+is_judging (Serve callers shards) = false
+is_judging (Dump callers shards) = false
+is_judging (Work requests start) = false
+is_judging Ranges = false
+is_judging (Trace callers shards) = false
+is_judging Audit = true
 
 -- how many callers a command serves with; one that serves nothing has none
 abbrev pub callers_of : Command → ℕ
@@ -51,6 +81,8 @@ callers_of (Serve callers shards) = callers
 callers_of (Dump callers shards) = callers
 callers_of (Work requests start) = 4
 callers_of Ranges = 0
+callers_of (Trace callers shards) = callers
+callers_of Audit = 0
 
 -- over how many shards a table it serves
 abbrev pub shards_of : Command → ℕ
@@ -60,3 +92,27 @@ shards_of (Serve callers shards) = shards
 shards_of (Dump callers shards) = shards
 shards_of (Work requests start) = 4
 shards_of Ranges = 0
+shards_of (Trace callers shards) = shards
+shards_of Audit = 0
+
+-- whether the text of a command is fixed by its input: a trace also tells which caller came first
+abbrev pub fixes_text : Command → Bool
+fixes_text Check = true
+fixes_text Show = true
+fixes_text (Serve callers shards) = true
+fixes_text (Dump callers shards) = true
+fixes_text (Work requests start) = true
+fixes_text Ranges = true
+fixes_text (Trace callers shards) = false
+fixes_text Audit = true
+
+-- whether it is said of a command that there is a text where no rule is broken
+abbrev pub has_text : Command → Bool
+has_text Check = true
+has_text Show = true
+has_text (Serve callers shards) = true
+has_text (Dump callers shards) = true
+has_text (Work requests start) = true
+has_text Ranges = true
+has_text (Trace callers shards) = false
+has_text Audit = false

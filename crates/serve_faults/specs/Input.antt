@@ -1,13 +1,14 @@
 -- The parts of a session file, and what a command finds in its input.
-use Rattle.std.specs.Prelude.{◌≡◌, ℕ, ◌≤◌, Bool, if◌then◌else◌, IsUtf8, List, [], length, Option, Some, None}
+use Rattle.std.specs.Prelude.{◌≡◌, ℕ, ◌<◌, ◌≤◌, ◌⊎◌, Bool, if◌then◌else◌, IsUtf8, List, [], length, Option, Some, None}
 use Rattle.std.specs.List.{list_any}
 use Rattle.session_limits.specs.Limits.{max_input}
 use Rattle.text_lines.specs.Text.{lines}
 use Rattle.request_files.specs.Divide.{is_dividing, is_mark, is_table_mark, before, behind, line_behind}
+use Rattle.request_files.specs.TracePart.{before_trace, has_trace}
 use Rattle.serve_words.specs.declared.command.Command.{Command}
-use Rattle.serve_words.specs.declared.command.Command.TheVariants.{Check, Show, Serve, Dump, Work, Ranges}
+use Rattle.serve_words.specs.declared.command.Command.TheVariants.{Check, Show, Serve, Dump, Work, Ranges, Trace, Audit}
 use Rattle.serve_faults.specs.declared.status.Fault.{Fault}
-use Rattle.serve_faults.specs.declared.status.Fault.TheVariants.{NoRequests, HasRequests}
+use Rattle.serve_faults.specs.declared.status.Fault.TheVariants.{NoRequests, HasRequests, NoTrace}
 
 -- ---- the parts of a session file
 
@@ -50,6 +51,61 @@ has_mark input = list_any is_mark (lines input)
 
 -- ---- the input of a command: each question has a line for each command
 
+-- the most bytes of an input of `audit`
+abbrev pub max_audit_input : ℕ
+max_audit_input = 67108864
+
+-- the most bytes of a command's input
+abbrev pub most_of : Command → ℕ
+most_of Check = max_input
+most_of Show = max_input
+most_of (Serve callers shards) = max_input
+most_of (Dump callers shards) = max_input
+most_of (Work requests start) = max_input
+most_of Ranges = max_input
+most_of (Trace callers shards) = max_input
+most_of Audit = max_audit_input
+
+-- an input has no more bytes than that, and one of `audit` no more than another command's before
+-- its trace part, or in the whole where it has none
+abbrev pub IsShort : Command → List ℕ → Type 0
+IsShort Check input = length input ≤ max_input
+IsShort Show input = length input ≤ max_input
+IsShort (Serve callers shards) input = length input ≤ max_input
+IsShort (Dump callers shards) input = length input ≤ max_input
+IsShort (Work requests start) input = length input ≤ max_input
+IsShort Ranges input = length input ≤ max_input
+IsShort (Trace callers shards) input = length input ≤ max_input
+IsShort Audit input =
+    (length input ≤ max_audit_input) × (length (before_trace input) ≤ max_input)
+
+-- it has more
+abbrev pub IsTooLarge : Command → List ℕ → Type 0
+IsTooLarge Check input = max_input < length input
+IsTooLarge Show input = max_input < length input
+IsTooLarge (Serve callers shards) input = max_input < length input
+IsTooLarge (Dump callers shards) input = max_input < length input
+IsTooLarge (Work requests start) input = max_input < length input
+IsTooLarge Ranges input = max_input < length input
+IsTooLarge (Trace callers shards) input = max_input < length input
+IsTooLarge Audit input =
+    (max_audit_input < length input) ⊎ (max_input < length (before_trace input))
+
+-- the session file in an input: for `audit` what stands before the trace part
+abbrev pub session_in : Command → List ℕ → List ℕ
+session_in Check input = input
+session_in Show input = input
+session_in (Serve callers shards) input = input
+session_in (Dump callers shards) input = input
+session_in (Work requests start) input = input
+session_in Ranges input = input
+session_in (Trace callers shards) input = input
+session_in Audit input = before_trace input
+
+-- the parts of this session file
+abbrev pub parts_in : Command → List ℕ → Parts
+parts_in command input = parts_of (session_in command input)
+
 -- a file of handlers alone has no mark
 abbrev pub alone_fault : Bool → Option Fault
 alone_fault marked = if marked then Some HasRequests else None
@@ -57,6 +113,11 @@ alone_fault marked = if marked then Some HasRequests else None
 -- a session file has a dividing line
 abbrev pub divided_fault : Bool → Option Fault
 divided_fault divided = if divided then None else Some NoRequests
+
+-- a session file that ends in a trace has a dividing line, and a trace part
+abbrev pub traced_fault : Bool → Bool → Option Fault
+traced_fault divided traced =
+    if divided then (if traced then None else Some NoTrace) else Some NoRequests
 
 -- the fault of an input that hasn't the parts that the command wants; lines of holds and operations
 -- have none
@@ -67,6 +128,8 @@ parts_fault (Serve callers shards) input = divided_fault (is_divided input)
 parts_fault (Dump callers shards) input = divided_fault (is_divided input)
 parts_fault (Work requests start) input = divided_fault (is_divided input)
 parts_fault Ranges input = None
+parts_fault (Trace callers shards) input = divided_fault (is_divided input)
+parts_fault Audit input = traced_fault (is_divided (before_trace input)) (has_trace input)
 
 -- the text of the handlers in an input
 abbrev pub handlers_of : Command → List ℕ → List ℕ
@@ -76,9 +139,11 @@ handlers_of (Serve callers shards) input = (parts_of input).handlers
 handlers_of (Dump callers shards) input = (parts_of input).handlers
 handlers_of (Work requests start) input = (parts_of input).handlers
 handlers_of Ranges input = []
+handlers_of (Trace callers shards) input = (parts_of input).handlers
+handlers_of Audit input = (parts_of (before_trace input)).handlers
 
 -- an input with the parts that the command answers to
 pub record IsInput (command : Command) (input : List ℕ) : Type 0 where
-  pub short : length input ≤ max_input
+  pub short : IsShort command input
   pub utf8 : IsUtf8 input
   pub parts : parts_fault command input ≡ None

@@ -1,4 +1,5 @@
 pub mod Answer
+pub mod Audited
 pub mod Changes
 pub mod Commands
 pub mod ExitStatus
@@ -6,4 +7,5 @@ pub mod Input
 pub mod Message
 pub mod Printable
 pub mod Session
+pub mod Traced
 pub mod Ways

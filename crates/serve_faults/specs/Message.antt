@@ -12,10 +12,12 @@ use Rattle.table_lines.specs.declared.refusal.TableRefusal.{TableRefusal}
 use Rattle.table_lines.specs.declared.refusal.TableRefusal.TheVariants as table
 use Rattle.request_files.specs.declared.refusal.RequestRefusal.{RequestRefusal}
 use Rattle.request_files.specs.declared.refusal.RequestRefusal.TheVariants as request
+use Rattle.trace_lines.specs.declared.refusal.TraceRefusal.{TraceRefusal}
+use Rattle.trace_lines.specs.declared.refusal.TraceRefusal.TheVariants as trace
 use Rattle.range_session.specs.declared.refusal.RangeRefusal.{RangeRefusal}
 use Rattle.range_session.specs.declared.refusal.RangeRefusal.TheVariants as range
 use Rattle.serve_faults.specs.declared.status.Fault.{Fault}
-use Rattle.serve_faults.specs.declared.status.Fault.TheVariants.{TooLarge, NoRequests, HasRequests, NotText, Syntax, Check, Analysis, Tables, Request, Ranges}
+use Rattle.serve_faults.specs.declared.status.Fault.TheVariants.{TooLarge, NoRequests, HasRequests, NotText, NoTrace, Syntax, Check, Analysis, Tables, Request, Trace, Ranges}
 use Rattle.serve_faults.specs.declared.status.Status.{Status}
 use Rattle.serve_faults.specs.declared.status.Status.TheVariants.{Fine, Refused, Usage, NoMemory, ReadFault, WriteFault}
 
@@ -71,6 +73,11 @@ request_line (request.TooManyCalls line) = numbered (codes "refused Q5 line ") l
 request_line (request.TooMuchWork line) = numbered (codes "refused Q6 line ") line
 request_line request.NoMemory = []
 
+abbrev pub trace_line : TraceRefusal → List ℕ
+trace_line (trace.BadEvent line) = numbered (codes "refused F1 line ") line
+trace_line (trace.TooManyEvents line) = numbered (codes "refused F2 line ") line
+trace_line trace.NoMemory = []
+
 abbrev pub range_line : RangeRefusal → List ℕ
 range_line (range.UnknownWord line) = numbered (codes "refused G1 line ") line
 range_line (range.Arity line) = numbered (codes "refused G2 line ") line
@@ -84,11 +91,13 @@ fault_line TooLarge = ended (codes "refused T1")
 fault_line NoRequests = ended (codes "refused T2")
 fault_line HasRequests = ended (codes "refused T3")
 fault_line NotText = ended (codes "refused T4")
+fault_line NoTrace = ended (codes "refused T5")
 fault_line (Syntax e) = syntax_line e
 fault_line (Check e) = check_line e
 fault_line (Analysis e) = analysis_line e
 fault_line (Tables e) = table_line e
 fault_line (Request e) = request_line e
+fault_line (Trace e) = trace_line e
 fault_line (Ranges e) = range_line e
 
 -- a fine run has none

@@ -6,6 +6,7 @@ ghost use Rattle.check_rules.specs.declared.refusal.CheckRefusal.TheVariants as 
 ghost use Rattle.may_use_analysis.specs.declared.refusal.AnalysisRefusal.TheVariants as analysis;
 ghost use Rattle.request_files.specs.declared.refusal.RequestRefusal.TheVariants as request;
 ghost use Rattle.table_lines.specs.declared.refusal.TableRefusal.TheVariants as table;
+ghost use Rattle.trace_lines.specs.declared.refusal.TraceRefusal.TheVariants as trace;
 ghost use Rattle.range_session.specs.declared.refusal.RangeRefusal.TheVariants as range;
 
 use check_rules::CheckRefusal;
@@ -15,6 +16,7 @@ use range_session::RangeRefusal;
 use request_files::RequestRefusal;
 use std::marker::Model;
 use table_lines::TableRefusal;
+use trace_lines::TraceRefusal;
 
 /// Why a part of the program refuses a text: a rule that is broken, or want of memory.
 pub trait Refusal {
@@ -40,6 +42,10 @@ impl Refusal for RequestRefusal {
 
 impl Refusal for TableRefusal {
     ghost is_certain = { λ e. e ≢ table.NoMemory };
+}
+
+impl Refusal for TraceRefusal {
+    ghost is_certain = { λ e. e ≢ trace.NoMemory };
 }
 
 impl Refusal for RangeRefusal {

@@ -12,6 +12,7 @@ use request_files::RequestRefusal;
 use serve_words::usage_line;
 use short_text::{ShortText, push_number, short_text};
 use table_lines::TableRefusal;
+use trace_lines::TraceRefusal;
 
 /// The line that tells how a run ended; none where it ended well.
 pub fn message_of(status: &Status) -> ShortText
@@ -35,11 +36,13 @@ fn fault_line(fault: &Fault) -> ShortText
         Fault::NoRequests => short_text("refused T2\n"),
         Fault::HasRequests => short_text("refused T3\n"),
         Fault::NotText => short_text("refused T4\n"),
+        Fault::NoTrace => short_text("refused T5\n"),
         Fault::Syntax(e) => syntax_line(e.refusal()),
         Fault::Check(e) => check_line(e.refusal()),
         Fault::Analysis(e) => analysis_line(e.refusal()),
         Fault::Tables(e) => table_line(e.refusal()),
         Fault::Request(e) => request_line(e.refusal()),
+        Fault::Trace(e) => trace_line(e.refusal()),
         Fault::Ranges(e) => range_line(e.refusal()),
     }
 }
@@ -131,6 +134,17 @@ fn request_line(e: &RequestRefusal) -> ShortText
         RequestRefusal::TooManyCalls { line } => numbered("refused Q5 line ", *line),
         RequestRefusal::TooMuchWork { line } => numbered("refused Q6 line ", *line),
         RequestRefusal::NoMemory => unreachable!(),
+    }
+}
+
+fn trace_line(e: &TraceRefusal) -> ShortText
+    requires { e.now ≢ TraceRefusal.NoMemory }
+    ensures { result.bytes ≡ spec.trace_line e.now }
+{
+    match e {
+        TraceRefusal::BadEvent { line } => numbered("refused F1 line ", *line),
+        TraceRefusal::TooManyEvents { line } => numbered("refused F2 line ", *line),
+        TraceRefusal::NoMemory => unreachable!(),
     }
 }
 

@@ -9,11 +9,13 @@ use may_use_analysis::AnalysisRefusal;
 use range_session::RangeRefusal;
 use request_files::RequestRefusal;
 use table_lines::TableRefusal;
+use trace_lines::TraceRefusal;
 
 /// Why an input is refused. It is never want of memory.
 #[derive(Debug, Drop)]
 pub enum Fault {
-    /// It has more than 4,194,304 bytes.
+    /// It has more than 4,194,304 bytes; of a file that ends in a trace, what stands before the trace
+    /// has, or the whole more than 67,108,864.
     TooLarge,
     /// It has no dividing line, and requests are to be served.
     NoRequests,
@@ -21,6 +23,8 @@ pub enum Fault {
     HasRequests,
     /// It is no UTF-8.
     NotText,
+    /// It has no trace part, and a trace is to be judged.
+    NoTrace,
     /// The text of the handlers is no file of the grammar within its limits.
     Syntax(Certain<SyntaxRefusal>),
     /// The handlers break a rule of the checker.
@@ -31,6 +35,8 @@ pub enum Fault {
     Tables(Certain<TableRefusal>),
     /// A request breaks a rule.
     Request(Certain<RequestRefusal>),
+    /// A line of the trace part breaks a rule.
+    Trace(Certain<TraceRefusal>),
     /// A line of a range session breaks a rule.
     Ranges(Certain<RangeRefusal>),
 }

@@ -1,2 +1,3 @@
+pub mod AuditedFiles
 pub mod Inputs
 pub mod Loading

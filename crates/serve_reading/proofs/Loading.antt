@@ -120,16 +120,22 @@ lines_reason parts p old (Refused (fault.Request e)) program is h = record {
 lines_reason parts p old (Refused (fault.Syntax e)) program is h = absurd h
 lines_reason parts p old (Refused (fault.Check e)) program is h = absurd h
 lines_reason parts p old (Refused (fault.Analysis e)) program is h = absurd h
+lines_reason parts p old (Refused (fault.Trace e)) program is h = absurd h
 lines_reason parts p old (Refused (fault.Ranges e)) program is h = absurd h
 lines_reason parts p old (Refused fault.TooLarge) program is h = absurd h
 lines_reason parts p old (Refused fault.NotText) program is h = absurd h
 lines_reason parts p old (Refused fault.NoRequests) program is h = absurd h
 lines_reason parts p old (Refused fault.HasRequests) program is h = absurd h
+lines_reason parts p old (Refused fault.NoTrace) program is h = absurd h
 
 -- ---- describing
 pub describing_input : (shown : Bool) (bytes : List ℕ) → length bytes ≤ max_input → IsUtf8 bytes → has_mark bytes ≡ false → IsInput (describing shown) bytes
 describing_input true bytes short utf8 e = record { short = short; utf8 = utf8; parts = ap alone_fault e }
 describing_input false bytes short utf8 e = record { short = short; utf8 = utf8; parts = ap alone_fault e }
+
+pub describing_bytes : (shown : Bool) (bytes : List ℕ) → length bytes ≤ max_input → (IsUtf8 bytes → ⊥) → IsRefused (describing shown) bytes fault.NotText
+describing_bytes true bytes short none = (short, none)
+describing_bytes false bytes short none = (short, none)
 
 pub describing_marked : (shown : Bool) (bytes : List ℕ) → length bytes ≤ max_input → IsUtf8 bytes → has_mark bytes ≡ true → IsRefused (describing shown) bytes fault.HasRequests
 describing_marked true bytes short utf8 e = (short, utf8, ap alone_fault e)
@@ -142,11 +148,13 @@ check_reason file (Refused (fault.Syntax e)) h = absurd h
 check_reason file (Refused (fault.Analysis e)) h = absurd h
 check_reason file (Refused (fault.Tables e)) h = absurd h
 check_reason file (Refused (fault.Request e)) h = absurd h
+check_reason file (Refused (fault.Trace e)) h = absurd h
 check_reason file (Refused (fault.Ranges e)) h = absurd h
 check_reason file (Refused fault.TooLarge) h = absurd h
 check_reason file (Refused fault.NotText) h = absurd h
 check_reason file (Refused fault.NoRequests) h = absurd h
 check_reason file (Refused fault.HasRequests) h = absurd h
+check_reason file (Refused fault.NoTrace) h = absurd h
 
 pub analysis_reason : (file : File) (e : Unserved) → IsAccepted file → IsAnalysisReason file e → IsFileReason file e
 analysis_reason file NoMemory a h = tt
@@ -155,11 +163,13 @@ analysis_reason file (Refused (fault.Check e)) a h = absurd h
 analysis_reason file (Refused (fault.Syntax e)) a h = absurd h
 analysis_reason file (Refused (fault.Tables e)) a h = absurd h
 analysis_reason file (Refused (fault.Request e)) a h = absurd h
+analysis_reason file (Refused (fault.Trace e)) a h = absurd h
 analysis_reason file (Refused (fault.Ranges e)) a h = absurd h
 analysis_reason file (Refused fault.TooLarge) a h = absurd h
 analysis_reason file (Refused fault.NotText) a h = absurd h
 analysis_reason file (Refused fault.NoRequests) a h = absurd h
 analysis_reason file (Refused fault.HasRequests) a h = absurd h
+analysis_reason file (Refused fault.NoTrace) a h = absurd h
 
 -- what is wrong with a file is wrong with the bytes that it is made of
 pub file_reason : (shown : Bool) (bytes : List ℕ) (file : File) (names : List (List ℕ)) (e : Unserved) → IsParsed bytes file names → IsFileReason file e → IsReason (describing shown) bytes e
@@ -171,11 +181,13 @@ file_reason false bytes file names (Refused (fault.Analysis e)) p h = (p.input f
 file_reason shown bytes file names (Refused (fault.Syntax e)) p h = absurd h
 file_reason shown bytes file names (Refused (fault.Tables e)) p h = absurd h
 file_reason shown bytes file names (Refused (fault.Request e)) p h = absurd h
+file_reason shown bytes file names (Refused (fault.Trace e)) p h = absurd h
 file_reason shown bytes file names (Refused (fault.Ranges e)) p h = absurd h
 file_reason shown bytes file names (Refused fault.TooLarge) p h = absurd h
 file_reason shown bytes file names (Refused fault.NotText) p h = absurd h
 file_reason shown bytes file names (Refused fault.NoRequests) p h = absurd h
 file_reason shown bytes file names (Refused fault.HasRequests) p h = absurd h
+file_reason shown bytes file names (Refused fault.NoTrace) p h = absurd h
 
 pub syntax_reason : (shown : Bool) (bytes : List ℕ) (e : Unserved) → IsInput (describing shown) bytes → IsSyntaxReason bytes e → IsReason (describing shown) bytes e
 syntax_reason shown bytes NoMemory i h = tt
@@ -185,11 +197,13 @@ syntax_reason shown bytes (Refused (fault.Check e)) i h = absurd h
 syntax_reason shown bytes (Refused (fault.Analysis e)) i h = absurd h
 syntax_reason shown bytes (Refused (fault.Tables e)) i h = absurd h
 syntax_reason shown bytes (Refused (fault.Request e)) i h = absurd h
+syntax_reason shown bytes (Refused (fault.Trace e)) i h = absurd h
 syntax_reason shown bytes (Refused (fault.Ranges e)) i h = absurd h
 syntax_reason shown bytes (Refused fault.TooLarge) i h = absurd h
 syntax_reason shown bytes (Refused fault.NotText) i h = absurd h
 syntax_reason shown bytes (Refused fault.NoRequests) i h = absurd h
 syntax_reason shown bytes (Refused fault.HasRequests) i h = absurd h
+syntax_reason shown bytes (Refused fault.NoTrace) i h = absurd h
 
 abbrev pub as_parsed : (bytes : List ℕ) (file : File) (names : List (List ℕ)) → IsParsed bytes file names → IsAccepted file → HasLater file → IsProgram bytes file
 as_parsed bytes file names p a l = record { form = p.form; accepted = a; lists = l.0; later = l.1 }

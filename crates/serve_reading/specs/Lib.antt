@@ -1,3 +1,4 @@
+pub mod Audits
 pub mod Programs
 pub mod Reasons
 pub mod Sessions

@@ -1,6 +1,7 @@
 //! Reading: from a source to its bytes, and from these to what can be printed or served.
 #![tactic(auto)]
 
+mod auditing;
 mod describing;
 mod naming;
 mod program;
@@ -9,9 +10,10 @@ mod reading;
 mod session;
 mod unserved;
 
+pub use auditing::{Audited, load_audited};
 pub use describing::{DescribedFile, Description, read_description};
 pub use program::read_program;
 pub use ranging::ranged_text;
-pub use reading::read_input;
+pub use reading::{read_at_most, read_input};
 pub use session::{Loaded, load_session};
 pub use unserved::Unserved;

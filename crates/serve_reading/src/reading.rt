@@ -1,24 +1,41 @@
 // All of a source.
 
-ghost use Rattle.std.specs.Prelude.{IfOk, IfErr};
+ghost use Rattle.std.specs.Prelude.{◌<◌, IfOk, IfErr};
+ghost use Rattle.session_limits.specs.Limits.{max_input};
 ghost use Rattle.serve_faults.specs.Changes.{change};
 ghost use Rattle.serve_faults.specs.Ways.{HasRead, StoppedAs};
 
-use byte_ends::{Source, Unread, read_all};
+use byte_ends::{Source, Unread, read_up_to};
 use serve_faults::{Fault, Status};
+use session_limits::MAX_INPUT;
 use std::alloc::Global;
 
-/// All that the source has, or how a run ends that can't read it.
-pub fn read_input<I: Source>(alloc: Global, source: &mut I) -> Result<Vec<u8>, Status>
+/// All that the source has, up to so many bytes, or how a run ends that can't read it.
+pub fn read_at_most<I: Source>(
+    alloc: Global,
+    source: &mut I,
+    most: usize,
+) -> Result<Vec<u8>, Status>
+    requires { most < 4294967296 }
     ensures read { IfOk result
-        (λ bytes. HasRead (change I.left I.faults source.old source.new) bytes.items) }
+        (λ bytes. HasRead most (change I.left I.faults source.old source.new) bytes.items) }
     ensures stopped { IfErr result
-        (StoppedAs (change I.left I.faults source.old source.new)) }
+        (StoppedAs most (change I.left I.faults source.old source.new)) }
 {
-    match read_all(alloc, source) {
+    match read_up_to(alloc, source, most) {
         Ok(bytes) => Ok(bytes),
         Err(Unread::TooLarge) => Err(Status::Refused(Fault::TooLarge)),
         Err(Unread::Failed) => Err(Status::ReadFault),
         Err(Unread::NoMemory) => Err(Status::NoMemory),
     }
+}
+
+/// All that the source has, or how a run ends that can't read it.
+pub fn read_input<I: Source>(alloc: Global, source: &mut I) -> Result<Vec<u8>, Status>
+    ensures read { IfOk result
+        (λ bytes. HasRead max_input (change I.left I.faults source.old source.new) bytes.items) }
+    ensures stopped { IfErr result
+        (StoppedAs max_input (change I.left I.faults source.old source.new)) }
+{
+    read_at_most(alloc, source, MAX_INPUT)
 }

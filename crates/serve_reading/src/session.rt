@@ -1,6 +1,6 @@
 // Reading a session: from the bytes of a session file to what can be served.
 
-ghost use Rattle.std.specs.Prelude.{◌≤◌, length, IfOk, IfErr};
+ghost use Rattle.std.specs.Prelude.{◌≤◌, ◌+◌, ◌*◌, length, IfOk, IfErr, OnOk};
 ghost use Rattle.session_limits.specs.Limits.{max_input};
 ghost use Rattle.syntax_trees.specs.Mentions.{AreNamed, file_mentions};
 ghost use Rattle.text_lines.specs.Rows.{rows};
@@ -51,7 +51,7 @@ pub fn load_session(alloc: Global, bytes: &[u8]) -> Result<Loaded, Unserved>
 }
 
 /// The session of a file's parts.
-fn read_session(alloc: Global, parts: Divided<'_>) -> Result<Loaded, Unserved>
+pub(crate) fn read_session(alloc: Global, parts: Divided<'_>) -> Result<Loaded, Unserved>
     requires handlers { length parts.handlers.now ≤ max_input }
     requires tables { length parts.tables.now ≤ max_input }
     requires requests { length parts.requests.now ≤ max_input }
@@ -59,6 +59,7 @@ fn read_session(alloc: Global, parts: Divided<'_>) -> Result<Loaded, Unserved>
     requires first { parts.first ≤ 4194306 }
     ensures loaded { IfOk result (IsLoaded (parts_by parts.entry.handlers.now parts.entry.tables.now
         parts.entry.requests.now parts.entry.first_table parts.entry.first)) }
+    ensures few { IfOk result (λ l. length l.names ≤ 3 * max_input) }
     ensures refused { IfErr result (IsSessionReason (parts_by parts.entry.handlers.now
         parts.entry.tables.now parts.entry.requests.now parts.entry.first_table
         parts.entry.first)) }
@@ -93,6 +94,8 @@ fn opened(
     ensures opened { IfOk result (λ found. AreOpened names.old names.new checked.now
         (rows parts.entry.first_table (lines parts.entry.tables.now)) (rows parts.entry.first
         (lines parts.entry.requests.now)) found.0 found.1) }
+    ensures few { OnOk result (length names.new ≤ length names.old + length parts.entry.tables.now
+        + length parts.entry.requests.now) }
     ensures refused { IfErr result (IsLinesReason names.old checked.now
         (rows parts.entry.first_table (lines parts.entry.tables.now)) (rows parts.entry.first
         (lines parts.entry.requests.now))) }

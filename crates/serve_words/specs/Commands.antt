@@ -4,13 +4,14 @@ use Rattle.std.specs.Str.{bytes_eq}
 use Rattle.session_limits.specs.Limits.{max_callers, max_requests, max_shards}
 use Rattle.serve_words.specs.Numbers.{number_within}
 use Rattle.serve_words.specs.declared.command.Command.{Command}
-use Rattle.serve_words.specs.declared.command.Command.TheVariants.{Check, Show, Serve, Dump, Work, Ranges}
+use Rattle.serve_words.specs.declared.command.Command.TheVariants.{Check, Show, Serve, Dump, Work, Ranges, Trace, Audit}
 
 -- the line that tells the command lines
 abbrev pub usage_line : List ℕ
 usage_line =
     codes "usage: foresight check | show | serve [--callers N] [--shards S]"
-    ++ codes " | dump [--callers N] [--shards S] | work N START | ranges" ++ 10 ∷ []
+    ++ codes " | dump [--callers N] [--shards S] | work N START | ranges"
+    ++ codes " | trace [--callers N] [--shards S] | audit" ++ 10 ∷ []
 
 -- the number of callers, and the number of shards of a table
 abbrev pub callers_of : List ℕ → Option ℕ
@@ -58,6 +59,15 @@ dump_by (Some p) = Some (Dump p.0 p.1)
 abbrev pub dump_of : List (List ℕ) → Option Command
 dump_of options = dump_by (sizes_of options)
 
+-- tracing with these numbers
+abbrev pub trace_by : Option (ℕ × ℕ) → Option Command
+trace_by None = None
+trace_by (Some p) = Some (Trace p.0 p.1)
+
+-- tracing by the words behind `trace`
+abbrev pub trace_of : List (List ℕ) → Option Command
+trace_of options = trace_by (sizes_of options)
+
 -- a made session by the two words behind `work`
 abbrev pub work_by : Option ℕ → Option ℕ → Option Command
 work_by (Some requests) (Some start) = Some (Work requests start)
@@ -75,7 +85,9 @@ alone word =
     else (if bytes_eq word (codes "show") then Some Show
     else (if bytes_eq word (codes "serve") then serve_of []
     else (if bytes_eq word (codes "dump") then dump_of []
-    else (if bytes_eq word (codes "ranges") then Some Ranges else None))))
+    else (if bytes_eq word (codes "ranges") then Some Ranges
+    else (if bytes_eq word (codes "trace") then trace_of []
+    else (if bytes_eq word (codes "audit") then Some Audit else None))))))
 
 -- `work` with two words behind it
 abbrev pub work_line : List (List ℕ) → Option Command
@@ -89,7 +101,8 @@ command_of [] = None
 command_of (word ∷ []) = alone word
 command_of (word ∷ more) =
     if bytes_eq word (codes "serve") then serve_of more
-    else (if bytes_eq word (codes "dump") then dump_of more else work_line (word ∷ more))
+    else (if bytes_eq word (codes "dump") then dump_of more
+    else (if bytes_eq word (codes "trace") then trace_of more else work_line (word ∷ more)))
 
 -- 1 to 32 callers and 1 to 8 shards
 abbrev pub AreSizes : ℕ → ℕ → Type 0
@@ -105,3 +118,5 @@ IsWithinBounds (Dump callers shards) = AreSizes callers shards
 IsWithinBounds (Work requests start) = (1 ≤ requests) × (requests ≤ max_requests)
     × (start ≤ 4294967295)
 IsWithinBounds Ranges = Unit {0}
+IsWithinBounds (Trace callers shards) = AreSizes callers shards
+IsWithinBounds Audit = Unit {0}

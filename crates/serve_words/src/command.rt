@@ -16,4 +16,8 @@ pub enum Command {
     Work { requests: u32, start: u32 },
     /// Do the operations of a text of lines beside the holds that it opens, and write their lines.
     Ranges,
+    /// Serve a session file as `Serve` does, and write the events of the run in place of the replies.
+    Trace { callers: u32, shards: u32 },
+    /// Judge the trace with which a session file ends.
+    Audit,
 }

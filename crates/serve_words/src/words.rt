@@ -16,7 +16,8 @@ pub fn usage_line() -> &'static str
     ensures { result.now ≡ spec.usage_line }
 {
     "usage: foresight check | show | serve [--callers N] [--shards S] \
-     | dump [--callers N] [--shards S] | work N START | ranges\n"
+     | dump [--callers N] [--shards S] | work N START | ranges \
+     | trace [--callers N] [--shards S] | audit\n"
 }
 
 /// The command of a command line, if it is one; the words are those after the program's name.
@@ -28,6 +29,7 @@ pub fn command_of(words: &[String]) -> Option<Command>
         [word] => alone(word.as_str()),
         [word, options @ ..] if word.as_str() == "serve" => serve_of(options),
         [word, options @ ..] if word.as_str() == "dump" => dump_of(options),
+        [word, options @ ..] if word.as_str() == "trace" => trace_of(options),
         [word, requests, start] if word.as_str() == "work" => {
             work_of(requests.as_str(), start.as_str())
         }
@@ -50,6 +52,10 @@ fn alone(word: &str) -> Option<Command>
         dump_of(&[])
     } else if word == "ranges" {
         Some(Command::Ranges)
+    } else if word == "trace" {
+        trace_of(&[])
+    } else if word == "audit" {
+        Some(Command::Audit)
     } else {
         None
     }
@@ -71,6 +77,15 @@ fn dump_of(options: &[String]) -> Option<Command>
 {
     let (callers, shards) = sizes_of(options)?;
     Some(Command::Dump { callers, shards })
+}
+
+/// Tracing by the options behind the word `trace`.
+fn trace_of(options: &[String]) -> Option<Command>
+    ensures command { result ≡ spec.trace_of (map string_bytes options.now) }
+    ensures bounds { IfSome result spec.IsWithinBounds }
+{
+    let (callers, shards) = sizes_of(options)?;
+    Some(Command::Trace { callers, shards })
 }
 
 /// How many callers serve, and over how many shards a table, by the options.

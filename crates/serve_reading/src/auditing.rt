@@ -1,0 +1,197 @@
+// Reading an audit: from the bytes of a session file that ends in a trace to what can be judged.
+
+ghost use Rattle.std.specs.Prelude.{◌≡◌, ◌≤◌, ◌*◌, IfOk, IfErr, IsCharBoundary, IsUtf8, false, length, true};
+ghost use Rattle.session_limits.specs.Limits.{max_input};
+ghost use Rattle.handler_check.specs.Resolved.{shape_of};
+ghost use Rattle.handler_syntax.specs.Language.{IsNamedFile};
+ghost use Rattle.request_files.specs.TracePart.{IsTracePlace, has_trace};
+ghost use Rattle.text_lines.specs.Rows.{rows};
+ghost use Rattle.text_lines.specs.Text.{lines};
+ghost use Rattle.trace_lines.specs.EventRows.{IsTrace};
+ghost use Rattle.serve_words.specs.declared.command.Command.TheVariants.{Audit};
+ghost use Rattle.serve_faults.specs.Traced.{table_places};
+ghost use Rattle.serve_faults.specs.Input.{IsInput, max_audit_input, parts_by};
+ghost use Rattle.serve_reading.specs.Audits.{AreTraced, IsAuditOf, IsEventsReason, IsTracedReason};
+ghost use Rattle.serve_reading.specs.Reasons.{IsReason};
+
+use crate::session::{Loaded, read_session};
+use crate::unserved::Unserved;
+use declaration_insertion::Program;
+use opening_tables::Opening;
+use request_files::{Divided, Requests, TracePlace, divide, find_trace};
+use serve_faults::{Certain, Fault};
+use session_limits::MAX_INPUT;
+use session_values::{Names, NoMemory, TableKind};
+use std::alloc::Global;
+use syntax_trees::File;
+use trace_audit::Trace;
+use trace_lines::{TraceRefusal, read_trace};
+
+/// A session whose requests a trace tells of, and the trace.
+#[derive(Drop)]
+pub struct Audited {
+    pub program: Program,
+    /// The entries with which the tables open.
+    pub opening: Opening,
+    pub requests: Requests,
+    pub trace: Trace,
+}
+
+/// The session before the trace part of a file's bytes, and the trace.
+pub fn load_audited(alloc: Global, bytes: &[u8]) -> Result<Audited, Unserved>
+    requires { length bytes.now ≤ max_audit_input }
+    ensures input { IfOk result (λ _. IsInput Audit bytes.now) }
+    ensures loaded { IfOk result (IsAuditOf bytes.now) }
+    ensures refused { IfErr result (IsReason Audit bytes.now) }
+{
+    match find_trace(bytes) {
+        Some(place) => load_traced(alloc, bytes, place),
+        None => Err(untraced(bytes)),
+    }
+}
+
+/// Why a file without a trace part isn't judged.
+#[tactic(auto, using(crate::proofs::AuditedFiles::untraced_large, crate::proofs::AuditedFiles::untraced_bytes, crate::proofs::AuditedFiles::untraced_undivided, crate::proofs::AuditedFiles::untraced_divided))]
+fn untraced(bytes: &[u8]) -> Unserved
+    requires short { length bytes.now ≤ max_audit_input }
+    requires none { has_trace bytes.now ≡ false }
+    ensures { IsReason Audit bytes.now result }
+{
+    if bytes.len() > MAX_INPUT {
+        return Unserved::Refused(Fault::TooLarge);
+    }
+    let Ok(text) = std::str::from_utf8(bytes) else {
+        return Unserved::Refused(Fault::NotText);
+    };
+    match divide(text) {
+        Some(_) => Unserved::Refused(Fault::NoTrace),
+        None => Unserved::Refused(Fault::NoRequests),
+    }
+}
+
+/// The session before the trace part, which stands at this place, and the trace.
+#[tactic(auto, using(crate::proofs::AuditedFiles::traced_large, crate::proofs::AuditedFiles::traced_bytes, crate::proofs::AuditedFiles::traced_undivided, crate::proofs::AuditedFiles::front_short, crate::proofs::AuditedFiles::events_short, crate::proofs::AuditedFiles::line_few, crate::proofs::AuditedFiles::traced_input, crate::proofs::AuditedFiles::audit_of, crate::proofs::AuditedFiles::traced_refused, crate::proofs::AuditedFiles::handlers_few, crate::proofs::AuditedFiles::tables_few, crate::proofs::AuditedFiles::requests_few, crate::proofs::AuditedFiles::first_table_few, crate::proofs::AuditedFiles::first_few))]
+fn load_traced(alloc: Global, bytes: &[u8], place: TracePlace) -> Result<Audited, Unserved>
+    requires short { length bytes.now ≤ max_audit_input }
+    requires found { has_trace bytes.now ≡ true }
+    requires place { IsTracePlace bytes.now place }
+    requires edges { IsUtf8 bytes.now → IsCharBoundary bytes.now place.front
+        × IsCharBoundary bytes.now place.rest }
+    ensures input { IfOk result (λ _. IsInput Audit bytes.now) }
+    ensures loaded { IfOk result (IsAuditOf bytes.now) }
+    ensures refused { IfErr result (IsReason Audit bytes.now) }
+{
+    if place.front > MAX_INPUT {
+        return Err(Unserved::Refused(Fault::TooLarge));
+    }
+    let Ok(text) = std::str::from_utf8(bytes) else {
+        return Err(Unserved::Refused(Fault::NotText));
+    };
+    let (front, _) = text.split_at(place.front);
+    let (_, events) = text.split_at(place.rest);
+    let Some(parts) = divide(front) else {
+        return Err(Unserved::Refused(Fault::NoRequests));
+    };
+    match read_traced(alloc, parts, events, place.line) {
+        Ok(audited) => Ok(audited),
+        Err(e) => Err(e),
+    }
+}
+
+/// The session of a file's parts, and the trace of some lines.
+#[tactic(auto, using(crate::proofs::AuditedFiles::are_traced, crate::proofs::AuditedFiles::session_refused, crate::proofs::AuditedFiles::events_refused))]
+fn read_traced(
+    alloc: Global,
+    parts: Divided<'_>,
+    events: &str,
+    first: u32,
+) -> Result<Audited, Unserved>
+    requires handlers { length parts.handlers.now ≤ max_input }
+    requires tables { length parts.tables.now ≤ max_input }
+    requires requests { length parts.requests.now ≤ max_input }
+    requires first_table { parts.first_table ≤ 4194306 }
+    requires first_request { parts.first ≤ 4194306 }
+    requires events { length events.now ≤ max_audit_input }
+    requires first { first ≤ 134217732 }
+    ensures loaded { IfOk result (AreTraced (parts_by parts.entry.handlers.now
+        parts.entry.tables.now parts.entry.requests.now parts.entry.first_table parts.entry.first)
+        (rows first (lines events.now))) }
+    ensures refused { IfErr result (IsTracedReason (parts_by parts.entry.handlers.now
+        parts.entry.tables.now parts.entry.requests.now parts.entry.first_table parts.entry.first)
+        (rows first (lines events.now))) }
+{
+    let loaded = read_session(alloc, parts)?;
+    let Loaded {
+        mut names,
+        program,
+        opening,
+        requests,
+    } = loaded;
+    let trace = read_events(alloc, program.checked().file(), events, first, &mut names)?;
+    Ok(Audited {
+        program,
+        opening,
+        requests,
+        trace,
+    })
+}
+
+/// The trace of some lines, in which tables go by their names in a file.
+#[tactic(auto, using(crate::proofs::AuditedFiles::tables_known))]
+fn read_events(
+    alloc: Global,
+    file: &File,
+    events: &str,
+    first: u32,
+    names: &mut Names,
+) -> Result<Trace, Unserved>
+    requires named { IsNamedFile names.old file.now }
+    requires names { length names.old ≤ 3 * max_input }
+    requires events { length events.now ≤ max_audit_input }
+    requires first { first ≤ 134217732 }
+    ensures trace { IfOk result (λ trace. IsTrace names.old names.new (table_places file.now)
+        (shape_of file.now) (rows first (lines events.now)) trace) }
+    ensures refused { IfErr result (IsEventsReason names.old file.now
+        (rows first (lines events.now))) }
+{
+    let tables = places_of(alloc, file)?;
+    let shape = kinds_of(alloc, file)?;
+    match read_trace(
+        alloc,
+        tables.as_slice(),
+        shape.as_slice(),
+        events,
+        first,
+        names,
+    ) {
+        Ok(trace) => Ok(trace),
+        Err(TraceRefusal::NoMemory) => Err(Unserved::NoMemory),
+        Err(e) => Err(Unserved::Refused(Fault::Trace(Certain::new(e)))),
+    }
+}
+
+/// The places of the names of a file's tables.
+fn places_of(alloc: Global, file: &File) -> Result<Vec<u32>, NoMemory>
+    ensures { IfOk result (λ places. places.items ≡ table_places file.now) }
+{
+    Ok(
+        file.tables
+            .as_slice()
+            .iter()
+            .map(|t| t.name)
+            .collect(alloc)?,
+    )
+}
+
+/// The kinds of a file's tables.
+fn kinds_of(alloc: Global, file: &File) -> Result<Vec<TableKind>, NoMemory>
+    ensures { IfOk result (λ kinds. kinds.items ≡ shape_of file.now) }
+{
+    Ok(
+        file.tables
+            .as_slice()
+            .iter()
+            .map(|t| t.kind)
+            .collect(alloc)?,
+    )
+}
