@@ -1,5 +1,5 @@
 -- Counts that grow by one element.
-use Rattle.std.proofs.Common.{◌≡◌, ℕ, ◌+◌, ◌<◌, List, [], ◌∷◌, ◌++◌, take, length, get_or, ap, ◌∙◌, length-append}
+use Rattle.std.proofs.Common.{◌≡◌, ℕ, ◌+◌, ◌<◌, List, [], ◌∷◌, ◌++◌, take, length, get_or, ap, arith, ◌∙◌, length-append}
 use Rattle.std.proofs.lemmas.List.{take_more}
 use Rattle.session_values.specs.declared.reply.Reply.{Reply}
 use Rattle.session_values.specs.ReplyText.{line_text, reply_text}
@@ -19,4 +19,7 @@ done_operations_more J i e h is =
 pub bytes_more : (names : List (List ℕ)) (rs : List Reply) (i : ℕ) (r : Reply) → i < length rs → get_or rs i r ≡ r
     → length (reply_text names 0 (take (i + 1) rs)) ≡ length (reply_text names 0 (take i rs)) + length (line_text names i r)
 bytes_more names rs i r h is =
-    ap (λ (t : List ℕ). length t) (text_more names rs i r h is) ∙ length-append (reply_text names 0 (take i rs)) (line_text names i r)
+    let same : 0 + i ≡ i = omega (arith) in
+    ap (λ (t : List ℕ). length t) (text_more names 0 rs i r h is)
+    ∙ ap (λ (n : ℕ). length (reply_text names 0 (take i rs) ++ line_text names n r)) same
+    ∙ length-append (reply_text names 0 (take i rs)) (line_text names i r)

@@ -1,5 +1,6 @@
 -- What a command answers to its input, from what its parts say.
-use Rattle.std.proofs.Common.{◌≡◌, ℕ, Bool, true, false, if◌then◌else◌, is_some, List, length, map, Option, Some, None, refl, sym, ap, ◌∙◌, subst}
+use Rattle.std.proofs.Common.{◌≡◌, ℕ, ◌≤◌, Bool, true, false, if◌then◌else◌, is_some, List, length, map, Option, Some, None, refl, sym, ap, ◌∙◌, subst}
+use Rattle.session_limits.specs.Limits.{max_input}
 use Rattle.session_values.specs.declared.reply.Reply.{Reply}
 use Rattle.session_values.specs.Serial.{Session, serial_replies, tables_before}
 use Rattle.session_values.specs.ReplyText.{reply_text}
@@ -7,19 +8,19 @@ use Rattle.session_journal.specs.Script.{Meaning, session_of}
 use Rattle.session_journal.specs.Journal.{done_operations}
 use Rattle.session_hall.specs.Closings.{ClosedView, IsDone}
 use Rattle.serve_words.specs.declared.command.Command.{Command}
-use Rattle.serve_words.specs.declared.command.Command.TheVariants.{Check, Show, Serve, Dump, Work, Ranges}
+use Rattle.serve_words.specs.declared.command.Command.TheVariants.{Check, Show, Serve, Dump, Work, Ranges, Trace, Audit}
 use Rattle.serve_made.specs.Summary.{summary}
 use Rattle.serve_faults.specs.declared.status.Fault.{Fault}
 use Rattle.serve_faults.specs.declared.status.Fault.TheVariants as fault
 use Rattle.serve_faults.specs.declared.status.Status.{Status}
 use Rattle.serve_faults.specs.declared.status.Status.TheVariants as status
-use Rattle.serve_faults.specs.Commands.{callers_of, has_handlers, has_requests, input_of, shards_of}
-use Rattle.serve_faults.specs.Input.{Parts, parts_by, parts_of, parts_fault, divided_fault, handlers_of, is_divided, IsInput}
+use Rattle.serve_faults.specs.Commands.{callers_of, has_handlers, has_requests, input_of, is_serving, shards_of}
+use Rattle.serve_faults.specs.Input.{Parts, parts_by, parts_of, parts_fault, divided_fault, handlers_of, is_divided, session_in, IsInput, IsShort}
 use Rattle.serve_faults.specs.Session.{session_of_parts, all_names_of, replies_text, tables_text, serial_calls}
-use Rattle.serve_faults.specs.Answer.{IsRefused, IsTextOf}
+use Rattle.serve_faults.specs.Answer.{HasRequestFault, HasTableFault, IsRefused, IsTextOf}
 use Rattle.serve_faults.specs.Changes.{Change, IsUntouched}
-use Rattle.serve_core.specs.Commands.{has_begun_writing, has_served, serving}
-use Rattle.serve_core.specs.Runs.{Holds, IsServedThrough}
+use Rattle.serve_core.specs.Commands.{has_begun_writing, has_served, serving, writes_events}
+use Rattle.serve_core.specs.Runs.{Holds, IsServedThrough, WroteJournal}
 use Rattle.serve_core.specs.Runs.{AnswersTo}
 use Rattle.serve_faults.specs.Ways.{describing}
 use Rattle.serve_core.proofs.RunLemmas.{refused_answer, no_answer, fine_answer, front_answer, not_served}
@@ -31,6 +32,7 @@ use Rattle.serve_core.specs.declared.writing.Writing.TheVariants as writing
 use Rattle.serve_core.specs.declared.writing.Writing.{Writing}
 use Rattle.serve_core.specs.Serving.{AreFinal, EndsBy, EndsOrWants, EndsServed, EndsSession, HasLeft, HasServed, final_lists, status_of, text_of}
 use Rattle.serve_core.proofs.FinalLemmas.{final_tables}
+use Rattle.std.proofs.lemmas.Bool.{false≢true}
 use Rattle.std.proofs.lemmas.List.{length-map}
 use Rattle.handler_check.specs.Resolved.{shape_of}
 use Rattle.opening_tables.specs.Opening.{tables_of}
@@ -52,6 +54,7 @@ module _ {O : Type 0} (c : Command) (bytes : List ℕ) (out : Change O) (same : 
     written = record { write_fault = λ e. absurd (cc); unwritten = λ _ _. same };
     served = not_served c (status.Refused f) (λ e. cc) (λ e. cc);
     hall = tt;
+    traced = λ _ e. absurd (cc);
   }
 
   pub memory_to : AnswersTo c bytes out status.NoMemory None
@@ -62,6 +65,7 @@ module _ {O : Type 0} (c : Command) (bytes : List ℕ) (out : Change O) (same : 
     written = record { write_fault = λ e. absurd (cc); unwritten = λ _ _. same };
     served = not_served c status.NoMemory (λ e. cc) (λ e. cc);
     hall = tt;
+    traced = λ _ e. absurd (cc);
   }
 
   pub reason_to : (e : Unserved) → IsReason c (input_of c bytes) e → AnswersTo c bytes out (status_of e) None
@@ -70,32 +74,37 @@ module _ {O : Type 0} (c : Command) (bytes : List ℕ) (out : Change O) (same : 
 
 -- ---- a command that writes its text
 module _ {O : Type 0} (c : Command) (bytes : List ℕ) (out : Change O) (text : List ℕ) (i : IsInput c (input_of c bytes)) (is : IsTextOf c (input_of c bytes) text) where
-  pub ends_to : (s : Status) (closed : Option ClosedView) → EndsBy text out s → is_some closed ≡ has_served (Some c) s → Holds (Some c) bytes closed → AnswersTo c bytes out s closed
-  ends_to status.Fine closed e served hall = record {
+  pub ends_to : (s : Status) (closed : Option ClosedView) → EndsBy text out s → is_some closed ≡ has_served (Some c) s → Holds (Some c) bytes closed → WroteJournal (Some c) bytes out s closed → AnswersTo c bytes out s closed
+  ends_to status.Fine closed e served hall traced = record {
     usage = λ x. cc;
     read_fault = λ x. cc;
     answered = fine_answer c bytes out text i is e;
     written = record { write_fault = λ x. absurd (cc); unwritten = λ f _. absurd (f refl) };
     served = served;
     hall = hall;
+    traced = traced;
   }
-  ends_to status.WriteFault closed e served hall = record {
+  ends_to status.WriteFault closed e served hall traced = record {
     usage = λ x. cc;
     read_fault = λ x. cc;
     answered = front_answer c bytes out text i is e.1;
     written = record { write_fault = λ x. e.0; unwritten = λ _ f. absurd (f refl) };
     served = served;
     hall = hall;
+    traced = traced;
   }
-  ends_to (status.Refused f) closed e served hall = absurd e
-  ends_to status.Usage closed e served hall = absurd e
-  ends_to status.NoMemory closed e served hall = absurd e
-  ends_to status.ReadFault closed e served hall = absurd e
+  ends_to (status.Refused f) closed e served hall traced = absurd e
+  ends_to status.Usage closed e served hall traced = absurd e
+  ends_to status.NoMemory closed e served hall traced = absurd e
+  ends_to status.ReadFault closed e served hall traced = absurd e
 
 -- ---- describing
 pub describing_served : (shown : Bool) (s : Status) → false ≡ has_served (Some (describing shown)) s
 describing_served true s = refl
 describing_served false s = refl
+
+describing_untraced : {O : Type 0} (shown : Bool) (bytes : List ℕ) (out : Change O) (s : Status) → WroteJournal (Some (describing shown)) bytes out s None
+describing_untraced shown bytes out s = λ _ _. tt
 
 describing_own : (shown : Bool) (bytes : List ℕ) → bytes ≡ input_of (describing shown) bytes
 describing_own true bytes = refl
@@ -104,7 +113,7 @@ describing_own false bytes = refl
 module _ {O : Type 0} (shown : Bool) (bytes : List ℕ) (out : Change O) where
   pub described_to : (text : List ℕ) (s : Status) → IsInput (describing shown) bytes → IsTextOf (describing shown) bytes text → EndsBy text out s → AnswersTo (describing shown) bytes out s None
   described_to text s i is e =
-      ends_to (describing shown) bytes out text (subst (IsInput (describing shown)) (describing_own shown bytes) i) (subst (λ (b : List ℕ). IsTextOf (describing shown) b text) (describing_own shown bytes) is) s None e (describing_served shown s) tt
+      ends_to (describing shown) bytes out text (subst (IsInput (describing shown)) (describing_own shown bytes) i) (subst (λ (b : List ℕ). IsTextOf (describing shown) b text) (describing_own shown bytes) is) s None e (describing_served shown s) tt (describing_untraced shown bytes out s)
 
   pub undescribed_to : (e : Unserved) → IsUntouched out → IsReason (describing shown) bytes e → AnswersTo (describing shown) bytes out (status_of e) None
   undescribed_to e same r = reason_to (describing shown) bytes out same e (subst (λ (b : List ℕ). IsReason (describing shown) b e) (describing_own shown bytes) r)
@@ -126,47 +135,87 @@ ends_or_wants text out status.Usage e = absurd e
 ends_or_wants text out status.ReadFault e = absurd e
 
 -- ---- serving
-handlers_same : (c : Command) (input : List ℕ) → has_requests c ≡ true → handlers_of c input ≡ (parts_of input).handlers
+handlers_same : (c : Command) (input : List ℕ) → is_serving c ≡ true → handlers_of c input ≡ (parts_of input).handlers
 handlers_same Check input e = absurd (cc)
 handlers_same Show input e = absurd (cc)
 handlers_same (Serve callers shards) input e = refl
 handlers_same (Dump callers shards) input e = refl
 handlers_same (Work requests start) input e = refl
 handlers_same Ranges input e = absurd (cc)
+handlers_same (Trace callers shards) input e = refl
+handlers_same Audit input e = absurd (cc)
 
-parts_wanted : (c : Command) (input : List ℕ) → has_requests c ≡ true → parts_fault c input ≡ divided_fault (is_divided input)
+parts_wanted : (c : Command) (input : List ℕ) → is_serving c ≡ true → parts_fault c input ≡ divided_fault (is_divided input)
 parts_wanted Check input e = absurd (cc)
 parts_wanted Show input e = absurd (cc)
 parts_wanted (Serve callers shards) input e = refl
 parts_wanted (Dump callers shards) input e = refl
 parts_wanted (Work requests start) input e = refl
 parts_wanted Ranges input e = absurd (cc)
+parts_wanted (Trace callers shards) input e = refl
+parts_wanted Audit input e = absurd (cc)
 
-handled : (c : Command) → has_requests c ≡ true → has_handlers c ≡ true
+handled : (c : Command) → is_serving c ≡ true → has_handlers c ≡ true
 handled Check e = refl
 handled Show e = refl
 handled (Serve callers shards) e = refl
 handled (Dump callers shards) e = refl
 handled (Work requests start) e = refl
 handled Ranges e = e
+handled (Trace callers shards) e = refl
+handled Audit e = absurd (cc)
 
-session_input : (c : Command) (input : List ℕ) → has_requests c ≡ true → IsSessionInput input → IsInput c input
-session_input c input has i = record { short = i.short; utf8 = i.utf8; parts = parts_wanted c input has ∙ ap divided_fault i.divided }
+-- it answers to requests
+requested : (c : Command) → is_serving c ≡ true → has_requests c ≡ true
+requested Check e = e
+requested Show e = e
+requested (Serve callers shards) e = refl
+requested (Dump callers shards) e = refl
+requested (Work requests start) e = refl
+requested Ranges e = e
+requested (Trace callers shards) e = refl
+requested Audit e = refl
 
-input_reason : (c : Command) (input : List ℕ) (e : Unserved) → has_requests c ≡ true → IsInputReason input e → IsReason c input e
+-- its input is a session file
+whole : (c : Command) (input : List ℕ) → is_serving c ≡ true → session_in c input ≡ input
+whole Check input e = refl
+whole Show input e = refl
+whole (Serve callers shards) input e = refl
+whole (Dump callers shards) input e = refl
+whole (Work requests start) input e = refl
+whole Ranges input e = refl
+whole (Trace callers shards) input e = refl
+whole Audit input e = absurd (cc)
+
+short_of : (c : Command) (input : List ℕ) → is_serving c ≡ true → length input ≤ max_input → IsShort c input
+short_of Check input e h = h
+short_of Show input e h = h
+short_of (Serve callers shards) input e h = h
+short_of (Dump callers shards) input e h = h
+short_of (Work requests start) input e h = h
+short_of Ranges input e h = h
+short_of (Trace callers shards) input e h = h
+short_of Audit input e h = absurd (cc)
+
+pub session_input : (c : Command) (input : List ℕ) → is_serving c ≡ true → IsSessionInput input → IsInput c input
+session_input c input has i = record { short = short_of c input has i.short; utf8 = i.utf8; parts = parts_wanted c input has ∙ ap divided_fault i.divided }
+
+pub input_reason : (c : Command) (input : List ℕ) (e : Unserved) → is_serving c ≡ true → IsInputReason input e → IsReason c input e
 input_reason c input NoMemory has h = tt
 input_reason c input (Refused fault.TooLarge) has h = absurd h
-input_reason c input (Refused fault.NotText) has h = h
-input_reason c input (Refused fault.NoRequests) has h = (h.0, h.1, parts_wanted c input has ∙ ap divided_fault h.2)
+input_reason c input (Refused fault.NotText) has h = (short_of c input has h.0, h.1)
+input_reason c input (Refused fault.NoRequests) has h = (short_of c input has h.0, h.1, parts_wanted c input has ∙ ap divided_fault h.2)
 input_reason c input (Refused fault.HasRequests) has h = absurd h
+input_reason c input (Refused fault.NoTrace) has h = absurd h.1
 input_reason c input (Refused (fault.Syntax e)) has h =
     (session_input c input has h.0, subst (λ (t : List ℕ). IsSessionReason (parts_by t (parts_of input).tables (parts_of input).requests (parts_of input).first_table (parts_of input).first) (Refused (fault.Syntax e))) (sym (handlers_same c input has)) h.1, handled c has)
 input_reason c input (Refused (fault.Check e)) has h =
     (session_input c input has h.0, subst (λ (t : List ℕ). IsSessionReason (parts_by t (parts_of input).tables (parts_of input).requests (parts_of input).first_table (parts_of input).first) (Refused (fault.Check e))) (sym (handlers_same c input has)) h.1, handled c has)
 input_reason c input (Refused (fault.Analysis e)) has h =
     (session_input c input has h.0, subst (λ (t : List ℕ). IsSessionReason (parts_by t (parts_of input).tables (parts_of input).requests (parts_of input).first_table (parts_of input).first) (Refused (fault.Analysis e))) (sym (handlers_same c input has)) h.1, handled c has)
-input_reason c input (Refused (fault.Tables e)) has h = (session_input c input has h.0, has, h.1)
-input_reason c input (Refused (fault.Request e)) has h = (session_input c input has h.0, has, h.1)
+input_reason c input (Refused (fault.Tables e)) has h = (session_input c input has h.0, requested c has, subst (λ (t : List ℕ). HasTableFault (parts_of t) e) (sym (whole c input has)) h.1)
+input_reason c input (Refused (fault.Request e)) has h = (session_input c input has h.0, requested c has, subst (λ (t : List ℕ). HasRequestFault (parts_of t) e) (sym (whole c input has)) h.1)
+input_reason c input (Refused (fault.Trace e)) has h = absurd h.1
 input_reason c input (Refused (fault.Ranges e)) has h = absurd h.1
 
 -- the text of the replies of what was served
@@ -176,7 +225,7 @@ served_text_is parts callers shards names d h =
     ∙ ap (λ (rs : List Reply). reply_text (all_names_of parts) 0 rs) h.done.replies
     ∙ ap (λ (z : Session). reply_text (all_names_of parts) 0 (serial_replies z z.requests)) h.session_is
 
-served_through : (c : Command) (input : List ℕ) (callers shards : ℕ) (names : List (List ℕ)) (d : ClosedView) (h : HasServed (parts_of input) callers shards names d) → d.callers ≡ callers_of c → d.shards ≡ shards_of c → IsServedThrough c input d
+pub served_through : (c : Command) (input : List ℕ) (callers shards : ℕ) (names : List (List ℕ)) (d : ClosedView) (h : HasServed (parts_of input) callers shards names d) → d.callers ≡ callers_of c → d.shards ≡ shards_of c → IsServedThrough c input d
 served_through c input callers shards names d h a b = record {
   file = h.file;
   is_session = h.is_session;
@@ -221,12 +270,13 @@ module _ {O : Type 0} (tables : Bool) (callers shards : ℕ) (bytes : List ℕ) 
 
   -- what a run of the command asks of it
   pub record Serves : Type 0 where
-    pub requests : has_requests command ≡ true
+    pub requests : is_serving command ≡ true
     pub own : (bs : List ℕ) → bs ≡ input_of command bs
     pub served : (s : Status) → has_served (Some command) s ≡ has_begun_writing s
+    pub untraced : writes_events command ≡ false
     pub callers_are : callers_of command ≡ callers
     pub shards_are : shards_of command ≡ shards
-    pub text : (names : List (List ℕ)) (d : ClosedView) (h : HasServed (parts_of bytes) callers shards names d) → HasLeft (written_as tables) h.file d → IsTextOf command bytes (text_of (written_as tables) names h.file d)
+    pub text : (names : List (List ℕ)) (d : ClosedView) (h : HasServed (parts_of bytes) callers shards names d) → HasLeft (written_as tables) names h.file d → IsTextOf command bytes (text_of (written_as tables) names h.file d)
 
   module _ (v : Serves) where
     served_to : (s : Status) (d : ClosedView) → EndsServed (written_as tables) callers shards bytes out s d → AnswersTo command bytes out s (Some d)
@@ -238,6 +288,7 @@ module _ {O : Type 0} (tables : Bool) (callers shards : ℕ) (bytes : List ℕ) 
         s (Some d) e.ends
         (sym (v.served s ∙ begins s text e.ends))
         (subst (λ (bs : List ℕ). IsServedThrough command bs d) (v.own bytes) (served_through command bytes callers shards e.names d e.served (e.served.callers_are ∙ sym v.callers_are) (e.served.shards_are ∙ sym v.shards_are)))
+        (λ w _. absurd (false≢true (sym v.untraced ∙ w)))
 
     unserved_to : (e : Unserved) → IsUntouched out → IsInputReason bytes e → AnswersTo command bytes out (status_of e) None
     unserved_to e same r = reason_to command bytes out same e (subst (λ (bs : List ℕ). IsReason command bs e) (v.own bytes) (input_reason command bytes e v.requests r))
@@ -251,6 +302,7 @@ serves_by true callers shards bytes out = record {
   requests = refl;
   own = λ bs. refl;
   served = λ s. refl;
+  untraced = refl;
   callers_are = refl;
   shards_are = refl;
   text = λ names d h left. record { file = h.file; is_session = h.is_session; text_is = dumped_text_is (parts_of bytes) callers shards names d h left };
@@ -259,6 +311,7 @@ serves_by false callers shards bytes out = record {
   requests = refl;
   own = λ bs. refl;
   served = λ s. refl;
+  untraced = refl;
   callers_are = refl;
   shards_are = refl;
   text = λ names d h left. record { file = h.file; is_session = h.is_session; text_is = served_text_is (parts_of bytes) callers shards names d h };
@@ -291,6 +344,7 @@ module _ {O : Type 0} (requests start : ℕ) (bytes : List ℕ) (out : Change O)
       ends_to (Work requests start) bytes out text (session_input (Work requests start) made refl v.is_input) (record { file = h.file; is_session = h.is_session; text_is = text_is }) s (Some d) v.ends
       (ends_worked s text v.ends)
       (served_through (Work requests start) made 4 4 v.names d h h.callers_are h.shards_are)
+      (λ w _. absurd (false≢true w))
 
   unworked_to : (e : Unserved) → IsUntouched out → IsInputReason made e → AnswersTo (Work requests start) bytes out (status_of e) None
   unworked_to e same r = reason_to (Work requests start) bytes out same e (input_reason (Work requests start) made e refl r)
@@ -303,7 +357,15 @@ module _ {O : Type 0} (requests start : ℕ) (bytes : List ℕ) (out : Change O)
 -- ---- range sessions
 module _ {O : Type 0} (bytes : List ℕ) (out : Change O) where
   pub ranged_to : (text : List ℕ) (s : Status) → IsInput Ranges bytes → IsTextOf Ranges bytes text → EndsBy text out s → AnswersTo Ranges bytes out s None
-  ranged_to text s i is e = ends_to Ranges bytes out text i is s None e refl tt
+  ranged_to text s i is e = ends_to Ranges bytes out text i is s None e refl tt (λ _ _. tt)
 
   pub unranged_to : (e : Unserved) → IsUntouched out → IsReason Ranges bytes e → AnswersTo Ranges bytes out (status_of e) None
   unranged_to e same r = reason_to Ranges bytes out same e r
+
+-- ---- audits
+module _ {O : Type 0} (bytes : List ℕ) (out : Change O) where
+  pub audited_to : (text : List ℕ) (s : Status) → IsInput Audit bytes → IsTextOf Audit bytes text → EndsBy text out s → AnswersTo Audit bytes out s None
+  audited_to text s i is e = ends_to Audit bytes out text i is s None e refl tt (λ _ _. tt)
+
+  pub unaudited_to : (e : Unserved) → IsUntouched out → IsReason Audit bytes e → AnswersTo Audit bytes out (status_of e) None
+  unaudited_to e same r = reason_to Audit bytes out same e r

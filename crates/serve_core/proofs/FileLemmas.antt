@@ -1,5 +1,5 @@
 -- What is loaded of a session file, and what is served of it.
-use Rattle.std.proofs.Common.{◌≡◌, ℕ, zero, suc, ◌+◌, ◌*◌, ◌<◌, ◌≤◌, List, [], ◌∷◌, length, slice_get, Option, Some, None, refl, sym, ap, ◌∙◌, subst, arith, length-append}
+use Rattle.std.proofs.Common.{◌≡◌, ℕ, zero, suc, ◌+◌, ◌*◌, ◌<◌, ◌≤◌, List, [], ◌∷◌, length, true, slice_get, Option, Some, None, refl, sym, ap, ◌∙◌, subst, arith, length-append}
 use Rattle.std.proofs.lemmas.List.{length-map}
 use Rattle.session_values.specs.declared.reply.Reply.{Reply}
 use Rattle.session_values.specs.declared.kind.TableKind.{TableKind}
@@ -27,7 +27,9 @@ use Rattle.serve_reading.specs.Sessions.{IsLoaded, IsSessionInput}
 use Rattle.serve_reading.proofs.Loading.{as_program}
 use Rattle.serve_core.specs.declared.writing.Writing.{Writing}
 use Rattle.serve_core.specs.Serving.{AreFinal, CanPrint, CanServe, EndsLoaded, EndsSession, HasRoom, HasRoomFor, HasServed, script_of_loaded, status_of}
-use Rattle.serve_core.specs.declared.writing.Writing.TheVariants.{Replies, Summary, Tables}
+use Rattle.serve_core.specs.declared.writing.Writing.TheVariants.{Replies, Summary, Tables, Events}
+use Rattle.text_lines.specs.Values.{is_symbol}
+use Rattle.serve_core.proofs.TraceLemmas.{names_symbols, told_events}
 use Rattle.serve_core.proofs.FinalLemmas.{each_dumped, each_room, entries_printable, tables_long}
 use Rattle.std.specs.List.{AllByRecursion, flat_map}
 use Rattle.std.proofs.lemmas.Option.{slice_get_within}
@@ -56,7 +58,7 @@ replies_few s (suc t) = omega (arith, replies_few s t, one_answer (serial s t).a
 
 -- what was loaded can be served
 pub can_serve : (parts : Parts) (l : Loaded) → IsLoaded parts l → CanServe l
-can_serve parts l h = record { accepted = (as_program parts.handlers l.program h.program_of).accepted; opens = h.opens; servable = h.servable; named = h.named; printable_opening = h.printable_opening; printable = h.printable }
+can_serve parts l h = record { symbols = subst (AllByRecursion (λ (t : List ℕ). is_symbol t ≡ true)) (sym h.names_are) (names_symbols parts); accepted = (as_program parts.handlers l.program h.program_of).accepted; opens = h.opens; servable = h.servable; named = h.named; printable_opening = h.printable_opening; printable = h.printable }
 
 -- the tables of a file have names
 tables_named : (names : List (List ℕ)) (ts : List TableDecl) → HaveTexts names (flat_map table_mentions ts) → AllByRecursion (λ (t : TableDecl). IsNamed names t.name) ts
@@ -68,7 +70,11 @@ table_held names [] i lt h = absurd (omega (arith, lt))
 table_held names (c ∷ ts) zero lt h = h.0
 table_held names (c ∷ ts) (suc i) lt h = table_held names ts i (omega (arith, lt)) h.1
 
--- and then its replies can be printed, and its final tables
+-- and then its replies can be printed
+pub replies_print : (l : Loaded) → CanServe l → ArePrintableReplies l.names (serial_replies (session_of (meaning (script_of_loaded l))) (meaning (script_of_loaded l)).requests)
+replies_print l h = replies_said l.names l.program.file l.opening l.requests h.named h.printable_opening h.printable (meaning (script_of_loaded l)).requests
+
+-- those of a closed hall too, and its final tables
 pub can_print : (l : Loaded) → CanServe l → CanPrint l.names l.program.file (meaning (script_of_loaded l))
 can_print l h d done = record {
   replies = subst (λ (rs : List Reply). ArePrintableReplies l.names rs) (sym done.replies) (replies_said l.names file l.opening l.requests h.named h.printable_opening h.printable m.requests);
@@ -78,6 +84,7 @@ can_print l h d done = record {
     named = tables_named l.names file.tables (all_first (HasText l.names) (flat_map table_mentions file.tables) (flat_map handler_mentions file.handlers) h.named).0;
     entries = each_dumped d l.names 0 file.tables (λ t kind at. subst (λ (k : ℕ). CanDump l.names kind (listed d k)) (let e : t ≡ 0 + t = omega arith in e) (dumped left t kind at));
   };
+  told = λ few held. told_events l.names file l.opening l.requests h.symbols h.named h.printable_opening h.printable m refl d done few held;
   some = done.some_shards;
   parts = done.parts_are ∙ ap (λ (n : ℕ). n * d.shards) kinds_long;
 }
@@ -105,6 +112,7 @@ can_print l h d done = record {
 pub has_room : (w : Writing) (f : File) (m : Meaning) (d : ClosedView) (capacity : ℕ) → IsDone m d → length m.shape ≡ length f.tables → HasRoom w m capacity → HasRoomFor w f d capacity
 has_room Replies f m d capacity done long h = tt
 has_room (Summary requests) f m d capacity done long h = tt
+has_room Events f m d capacity done long h = tt
 has_room Tables f m d capacity done long h = λ left. each_room d capacity 0 (length f.tables) (λ t lt.
     let fit = h t (omega (arith, lt, long)) in
     let one = (left m done t lt).few in

@@ -1,3 +1,4 @@
+pub mod AuditLemmas
 pub mod CallLemmas
 pub mod CountLemmas
 pub mod EndLemmas
@@ -5,3 +6,5 @@ pub mod FileLemmas
 pub mod FinalLemmas
 pub mod RunLemmas
 pub mod TopLemmas
+pub mod TraceEnds
+pub mod TraceLemmas

@@ -1,20 +1,20 @@
 -- What a run promises, from what its parts say.
-use Rattle.std.proofs.Common.{◌≡◌, ◌≢◌, ℕ, ◌+◌, ◌<◌, ◌⊎◌, inl, inr, true, false, is_some, List, length, Option, Some, None, IfSome, refl, sym, ap, subst, arith}
-use Rattle.session_limits.specs.Limits.{max_input}
+use Rattle.std.proofs.Common.{◌≡◌, ◌≢◌, ℕ, ◌+◌, ◌<◌, ◌⊎◌, inl, inr, true, false, is_some, List, length, ◌≤◌, Option, Some, None, IfSome, refl, sym, ap, ◌∙◌, subst, arith}
+use Rattle.std.proofs.lemmas.List.{drop_all}
 use Rattle.byte_ends.specs.Ends.{IsAtEnd, LostFirst, LostAtMost}
 use Rattle.session_hall.specs.Closings.{ClosedView}
 use Rattle.serve_words.specs.declared.command.Command.{Command}
-use Rattle.serve_words.specs.declared.command.Command.TheVariants.{Check, Show, Serve, Dump, Work, Ranges}
+use Rattle.serve_words.specs.declared.command.Command.TheVariants.{Check, Show, Serve, Dump, Work, Ranges, Trace, Audit}
 use Rattle.serve_faults.specs.declared.status.Fault.{Fault}
 use Rattle.serve_faults.specs.declared.status.Fault.TheVariants.{TooLarge}
 use Rattle.serve_faults.specs.declared.status.Status.{Status}
 use Rattle.serve_faults.specs.declared.status.Status.TheVariants as status
-use Rattle.serve_faults.specs.Answer.{IsRefused, IsTextOf}
+use Rattle.serve_faults.specs.Answer.{IsRefused, IsTextOf, IsUnrefused}
 use Rattle.serve_faults.specs.Commands.{input_of, is_reading}
-use Rattle.serve_faults.specs.Input.{IsInput}
+use Rattle.serve_faults.specs.Input.{IsInput, IsTooLarge, most_of}
 use Rattle.serve_faults.specs.Changes.{Change, Failed, IsUntouched, Took, TookFront}
 use Rattle.serve_core.specs.Commands.{Told, has_begun_writing, has_served}
-use Rattle.serve_core.specs.Runs.{has_read_all, Answered, Written, IsUnrefused, Holds, Runs}
+use Rattle.serve_core.specs.Runs.{has_read_all, Answered, Written, Holds, Runs, WroteJournal}
 use Rattle.serve_core.specs.Runs.{AnswersTo}
 use Rattle.serve_faults.specs.Ways.{HasRead, StoppedAs}
 use Rattle.serve_faults.proofs.OneAnswer.{refused_once, text_or_refused}
@@ -64,6 +64,8 @@ told_map (Serve callers shards) s P Q f h = if_some P Q (s.bytes s.old) f h
 told_map (Dump callers shards) s P Q f h = if_some P Q (s.bytes s.old) f h
 told_map (Work requests start) s P Q f h = λ bytes. f bytes (h bytes)
 told_map Ranges s P Q f h = if_some P Q (s.bytes s.old) f h
+told_map (Trace callers shards) s P Q f h = if_some P Q (s.bytes s.old) f h
+told_map Audit s P Q f h = if_some P Q (s.bytes s.old) f h
 
 -- ---- a whole run
 module _ {I O : Type 0} (c : Command) (source : Change I) (out : Change O) (closed : Option ClosedView) where
@@ -96,10 +98,10 @@ module _ {I O : Type 0} (c : Command) (source : Change I) (out : Change O) (clos
   rest = source.bytes source.new
 
   pub runs_of : (s : Status) → Ends s → (is_reading (Some c) ≡ false → IsUntouched source × (s ≢ status.ReadFault)) → (is_reading (Some c) ≡ false → (fault : Fault) → s ≢ status.Refused fault) → Told (Some c) source (λ bytes. Answered (Some c) bytes out s)
-      → (is_reading (Some c) ≡ true → has_read_all s ≡ true → IsAtEnd left rest) → (is_reading (Some c) ≡ true → s ≡ status.Refused TooLarge → LostFirst left rest (max_input + 1)) → LostAtMost left rest (max_input + 1)
-      → is_some closed ≡ has_served (Some c) s → Told (Some c) source (λ bytes. Holds (Some c) bytes closed)
+      → (is_reading (Some c) ≡ true → has_read_all s ≡ true → IsAtEnd left rest) → (is_reading (Some c) ≡ true → s ≡ status.Refused TooLarge → LostFirst left rest (most_of c + 1)) → LostAtMost left rest (most_of c + 1)
+      → is_some closed ≡ has_served (Some c) s → Told (Some c) source (λ bytes. Holds (Some c) bytes closed) → Told (Some c) source (λ bytes. WroteJournal (Some c) bytes out s closed)
       → Runs (Some c) source out s closed
-  runs_of s h unread made answered end gone lost served hall = record {
+  runs_of s h unread made answered end gone lost served hall traced = record {
     usage = (λ e. absurd (h.usage e), λ e. absurd (cc));
     unread = unread;
     made = made;
@@ -113,6 +115,7 @@ module _ {I O : Type 0} (c : Command) (source : Change I) (out : Change O) (clos
     lost = lost;
     served = served;
     hall = hall;
+    traced = traced;
   }
 
 -- ---- commands that read
@@ -123,6 +126,8 @@ reading_input (Serve callers shards) bytes e = refl
 reading_input (Dump callers shards) bytes e = refl
 reading_input (Work requests start) bytes e = absurd (cc)
 reading_input Ranges bytes e = refl
+reading_input (Trace callers shards) bytes e = refl
+reading_input Audit bytes e = refl
 
 told_some : {S : Type 0} (c : Command) (s : Change S) (P : List ℕ → Type 0) → is_reading (Some c) ≡ true → IfSome (s.bytes s.old) P → Told (Some c) s P
 told_some Check s P e h = h
@@ -131,6 +136,26 @@ told_some (Serve callers shards) s P e h = h
 told_some (Dump callers shards) s P e h = h
 told_some (Work requests start) s P e h = absurd (cc)
 told_some Ranges s P e h = h
+told_some (Trace callers shards) s P e h = h
+told_some Audit s P e h = h
+
+-- an input of more bytes than the command takes is too large
+too_long : (c : Command) (input : List ℕ) → most_of c < length input → IsTooLarge c input
+too_long Check input l = l
+too_long Show input l = l
+too_long (Serve callers shards) input l = l
+too_long (Dump callers shards) input l = l
+too_long (Work requests start) input l = l
+too_long Ranges input l = l
+too_long (Trace callers shards) input l = l
+too_long Audit input l = inl l
+
+-- where all of so few bytes is gone, so are one more than the most of them
+all_gone : (old new : Option (List ℕ)) (bytes : List ℕ) (most : ℕ) → IfSome old (λ all. bytes ≡ all) → IsAtEnd old new → length bytes ≤ most → LostFirst old new (most + 1)
+all_gone None new bytes most h end short = tt
+all_gone (Some all) new bytes most h end short =
+    let few : length all ≤ most + 1 = omega (arith, ap (λ (bs : List ℕ). length bs) h, short) in
+    end ∙ ap Some (sym (drop_all (most + 1) all few))
 
 untold : {X : Type 0} (o : Option X) → IfSome o (λ _. Unit {0})
 untold None = tt
@@ -143,6 +168,12 @@ nothing_held (Serve callers shards) s = untold (s.bytes s.old)
 nothing_held (Dump callers shards) s = untold (s.bytes s.old)
 nothing_held (Work requests start) s = λ bytes. tt
 nothing_held Ranges s = untold (s.bytes s.old)
+nothing_held (Trace callers shards) s = untold (s.bytes s.old)
+nothing_held Audit s = untold (s.bytes s.old)
+
+-- nor were events written
+nothing_traced : {S O : Type 0} (c : Command) (s : Change S) (out : Change O) (status : Status) → is_reading (Some c) ≡ true → Told (Some c) s (λ bytes. WroteJournal (Some c) bytes out status None)
+nothing_traced c s out status reads = told_some c s (λ bytes. WroteJournal (Some c) bytes out status None) reads (if_some (λ all. Unit {0}) _ (s.bytes s.old) (λ bytes _ _ _. tt) (untold (s.bytes s.old)))
 
 unwritten : (s : Status) → s ≢ status.Fine → s ≢ status.WriteFault → false ≡ has_begun_writing s
 unwritten status.Fine f w = absurd (f refl)
@@ -159,6 +190,8 @@ not_served (Serve callers shards) s f w = unwritten s f w
 not_served (Dump callers shards) s f w = unwritten s f w
 not_served (Work requests start) s f w = unwritten s f w
 not_served Ranges s f w = refl
+not_served (Trace callers shards) s f w = unwritten s f w
+not_served Audit s f w = refl
 
 module _ {I O : Type 0} (c : Command) (reads : is_reading (Some c) ≡ true) (source : Change I) (out : Change O) where
   unread_none : (s : Status) → is_reading (Some c) ≡ false → IsUntouched source × (s ≢ status.ReadFault)
@@ -168,13 +201,13 @@ module _ {I O : Type 0} (c : Command) (reads : is_reading (Some c) ≡ true) (so
   made_none s e = absurd (cc)
 
   -- reading stopped
-  pub stopped_run : (s : Status) → StoppedAs source s → IsUntouched out → Runs (Some c) source out s None
+  pub stopped_run : (s : Status) → StoppedAs (most_of c) source s → IsUntouched out → Runs (Some c) source out s None
   stopped_run (status.Refused TooLarge) h same =
       runs_of c source out None (status.Refused TooLarge) (record { usage = λ e. cc; read_fault = λ e. absurd (cc); written = record { write_fault = λ e. absurd (cc); unwritten = λ _ _. same } })
       (unread_none (status.Refused TooLarge)) (made_none (status.Refused TooLarge))
       (told_some c source (λ bytes. Answered (Some c) bytes out (status.Refused TooLarge)) reads
-      (if_some (λ all. max_input < length all) _ (source.bytes source.old) (λ bytes l. refused_answer c bytes out TooLarge (subst (λ (bs : List ℕ). max_input < length bs) (sym (reading_input c bytes reads)) l)) h.1.0))
-      (λ _ e. absurd (cc)) (λ _ _. h.1.1) h.0 (not_served c (status.Refused TooLarge) (λ e. cc) (λ e. cc)) (nothing_held c source)
+      (if_some (λ all. most_of c < length all) _ (source.bytes source.old) (λ bytes l. refused_answer c bytes out TooLarge (too_long c (input_of c bytes) (subst (λ (bs : List ℕ). most_of c < length bs) (sym (reading_input c bytes reads)) l))) h.1.0))
+      (λ _ e. absurd (cc)) (λ _ _. h.1.1) h.0 (not_served c (status.Refused TooLarge) (λ e. cc) (λ e. cc)) (nothing_held c source) (nothing_traced c source out (status.Refused TooLarge) reads)
   stopped_run (status.Refused f) h same = absurd h.1
   stopped_run status.Fine h same = absurd h.1
   stopped_run status.Usage h same = absurd h.1
@@ -184,22 +217,23 @@ module _ {I O : Type 0} (c : Command) (reads : is_reading (Some c) ≡ true) (so
       (unread_none status.ReadFault) (made_none status.ReadFault)
       (told_some c source (λ bytes. Answered (Some c) bytes out status.ReadFault) reads
       (if_some (λ all. Unit {0}) _ (source.bytes source.old) (λ bytes _. no_answer c bytes out status.ReadFault (λ e. cc) (λ f e. cc) (λ e. cc)) (untold (source.bytes source.old))))
-      (λ _ e. absurd (cc)) (λ _ e. absurd (cc)) h.0 (not_served c status.ReadFault (λ e. cc) (λ e. cc)) (nothing_held c source)
+      (λ _ e. absurd (cc)) (λ _ e. absurd (cc)) h.0 (not_served c status.ReadFault (λ e. cc) (λ e. cc)) (nothing_held c source) (nothing_traced c source out status.ReadFault reads)
   stopped_run status.NoMemory h same =
       runs_of c source out None status.NoMemory (record { usage = λ e. cc; read_fault = λ e. absurd (cc); written = record { write_fault = λ e. absurd (cc); unwritten = λ _ _. same } })
       (unread_none status.NoMemory) (made_none status.NoMemory)
       (told_some c source (λ bytes. Answered (Some c) bytes out status.NoMemory) reads
       (if_some (λ all. Unit {0}) _ (source.bytes source.old) (λ bytes _. no_answer c bytes out status.NoMemory (λ e. cc) (λ f e. cc) (λ e. cc)) (untold (source.bytes source.old))))
-      (λ _ e. absurd (cc)) (λ _ e. absurd (cc)) h.0 (not_served c status.NoMemory (λ e. cc) (λ e. cc)) (nothing_held c source)
+      (λ _ e. absurd (cc)) (λ _ e. absurd (cc)) h.0 (not_served c status.NoMemory (λ e. cc) (λ e. cc)) (nothing_held c source) (nothing_traced c source out status.NoMemory reads)
 
   -- all was read, and answered
-  pub read_run : (bytes : List ℕ) (s : Status) (closed : Option ClosedView) → HasRead source bytes → AnswersTo c bytes out s closed → Runs (Some c) source out s closed
+  pub read_run : (bytes : List ℕ) (s : Status) (closed : Option ClosedView) → HasRead (most_of c) source bytes → AnswersTo c bytes out s closed → Runs (Some c) source out s closed
   read_run bytes s closed h a =
       runs_of c source out closed s (record { usage = a.usage; read_fault = λ e. absurd (a.read_fault e); written = a.written })
       (unread_none s) (made_none s)
       (told_some c source (λ bs. Answered (Some c) bs out s) reads (if_some (λ all. bytes ≡ all) _ (source.bytes source.old) (λ all e. subst (λ bs. Answered (Some c) bs out s) e a.answered) h.all))
       (λ _ _. h.end)
-      (λ _ e. (let r : max_input < length bytes = subst (λ (bs : List ℕ). max_input < length bs) (reading_input c bytes reads) (a.answered.refused TooLarge e) in let short = h.short in absurd (omega (arith, short, r))))
+      (λ _ e. all_gone (source.bytes source.old) (source.bytes source.new) bytes (most_of c) h.all h.end h.short)
       h.lost
       a.served
       (told_some c source (λ bs. Holds (Some c) bs closed) reads (if_some (λ all. bytes ≡ all) _ (source.bytes source.old) (λ all e. subst (λ bs. Holds (Some c) bs closed) e a.hall) h.all))
+      (told_some c source (λ bs. WroteJournal (Some c) bs out s closed) reads (if_some (λ all. bytes ≡ all) _ (source.bytes source.old) (λ all e. subst (λ bs. WroteJournal (Some c) bs out s closed) e a.traced) h.all))

@@ -1,16 +1,17 @@
 -- Whole runs, from what their parts say.
-use Rattle.std.proofs.Common.{◌≡◌, ℕ, ◌+◌, ◌≤◌, Bool, true, false, List, [], ap, Option, Some, None, IfSome, refl, subst, arith}
+use Rattle.std.proofs.Common.{◌≡◌, ℕ, ◌+◌, ◌≤◌, Bool, true, false, List, [], ap, Option, Some, None, IfSome, refl, sym, subst, arith}
 use Rattle.session_limits.specs.Limits.{max_input, max_requests}
 use Rattle.byte_ends.specs.Ends.{Grew, GrewByFront, LostAtMost}
 use Rattle.byte_ends.proofs.EndsLemmas.{front_of_all}
 use Rattle.session_hall.specs.Closings.{ClosedView}
 use Rattle.serve_words.specs.declared.command.Command.{Command}
-use Rattle.serve_words.specs.declared.command.Command.TheVariants.{Work, Ranges}
+use Rattle.serve_words.specs.declared.command.Command.TheVariants.{Work, Ranges, Trace, Audit}
 use Rattle.serve_words.specs.Commands.{IsWithinBounds}
 use Rattle.serve_faults.specs.declared.status.Status.{Status}
 use Rattle.serve_faults.specs.declared.status.Status.TheVariants as status
 use Rattle.serve_faults.specs.Commands.{is_reading}
 use Rattle.serve_faults.specs.Changes.{Change, IsUntouched}
+use Rattle.serve_faults.specs.Input.{max_audit_input, most_of}
 use Rattle.made_sessions.proofs.MadeSession.{unrefused}
 use Rattle.serve_core.specs.Commands.{serving}
 use Rattle.serve_core.specs.Runs.{Runs}
@@ -19,9 +20,9 @@ use Rattle.serve_faults.specs.Ways.{HasRead, StoppedAs, describing}
 use Rattle.serve_core.proofs.RunLemmas.{runs_of, read_run, stopped_run}
 
 -- a source that isn't touched has lost nothing
-nothing_lost : (o p : Option (List ℕ)) → p ≡ o → LostAtMost o p (max_input + 1)
-nothing_lost None p e = tt
-nothing_lost (Some bytes) p e = (0, omega arith, omega arith, e)
+nothing_lost : (o p : Option (List ℕ)) (most : ℕ) → p ≡ o → LostAtMost o p (most + 1)
+nothing_lost None p most e = tt
+nothing_lost (Some bytes) p most e = (0, omega arith, omega arith, e)
 
 -- all of a text was written, or a front of it
 pub front_either : (b : Bool) (old new : Option (List ℕ)) (text : List ℕ) → (b ≡ true → Grew old new text) → (b ≡ false → GrewByFront old new text) → GrewByFront old new text
@@ -49,9 +50,10 @@ module _ {I O : Type 0} (source : Change I) (out : Change O) where
     written = record { write_fault = λ e. absurd (cc); unwritten = λ _ _. same };
     end = λ e. absurd (cc);
     gone = λ e. absurd (cc);
-    lost = nothing_lost (source.bytes source.old) (source.bytes source.new) (same_bytes still);
+    lost = nothing_lost (source.bytes source.old) (source.bytes source.new) 0 (same_bytes still);
     served = refl;
     hall = λ bytes. tt;
+    traced = λ bytes. tt;
   }
 
   -- a made session
@@ -64,32 +66,53 @@ module _ {I O : Type 0} (source : Change I) (out : Change O) where
       (λ bytes. (a bytes).answered)
       (λ e. absurd (cc))
       (λ e. absurd (cc))
-      (nothing_lost (source.bytes source.old) (source.bytes source.new) (same_bytes still))
+      (nothing_lost (source.bytes source.old) (source.bytes source.new) max_input (same_bytes still))
       one.served
       (λ bytes. (a bytes).hall)
+      (λ bytes. (a bytes).traced)
 
   describing_reads : (shown : Bool) → is_reading (Some (describing shown)) ≡ true
   describing_reads true = refl
   describing_reads false = refl
 
-  pub described_run : (shown : Bool) (bytes : List ℕ) (s : Status) → HasRead source bytes → AnswersTo (describing shown) bytes out s None → Runs (Some (describing shown)) source out s None
-  described_run shown bytes s h a = read_run (describing shown) (describing_reads shown) source out bytes s None h a
+  describing_most : (shown : Bool) → most_of (describing shown) ≡ max_input
+  describing_most true = refl
+  describing_most false = refl
 
-  pub undescribed_run : (shown : Bool) (s : Status) → StoppedAs source s → IsUntouched out → Runs (Some (describing shown)) source out s None
-  undescribed_run shown s h same = stopped_run (describing shown) (describing_reads shown) source out s h same
+  pub described_run : (shown : Bool) (bytes : List ℕ) (s : Status) → HasRead max_input source bytes → AnswersTo (describing shown) bytes out s None → Runs (Some (describing shown)) source out s None
+  described_run shown bytes s h a = read_run (describing shown) (describing_reads shown) source out bytes s None (subst (λ (n : ℕ). HasRead n source bytes) (sym (describing_most shown)) h) a
+
+  pub undescribed_run : (shown : Bool) (s : Status) → StoppedAs max_input source s → IsUntouched out → Runs (Some (describing shown)) source out s None
+  undescribed_run shown s h same = stopped_run (describing shown) (describing_reads shown) source out s (subst (λ (n : ℕ). StoppedAs n source s) (sym (describing_most shown)) h) same
 
   serving_reads : (tables : Bool) (callers shards : ℕ) → is_reading (Some (serving tables callers shards)) ≡ true
   serving_reads true callers shards = refl
   serving_reads false callers shards = refl
 
-  pub served_run : (tables : Bool) (callers shards : ℕ) (bytes : List ℕ) (s : Status) (closed : Option ClosedView) → HasRead source bytes → AnswersTo (serving tables callers shards) bytes out s closed → Runs (Some (serving tables callers shards)) source out s closed
-  served_run tables callers shards bytes s closed h a = read_run (serving tables callers shards) (serving_reads tables callers shards) source out bytes s closed h a
+  serving_most : (tables : Bool) (callers shards : ℕ) → most_of (serving tables callers shards) ≡ max_input
+  serving_most true callers shards = refl
+  serving_most false callers shards = refl
 
-  pub unserved_run : (tables : Bool) (callers shards : ℕ) (s : Status) → StoppedAs source s → IsUntouched out → Runs (Some (serving tables callers shards)) source out s None
-  unserved_run tables callers shards s h same = stopped_run (serving tables callers shards) (serving_reads tables callers shards) source out s h same
+  pub served_run : (tables : Bool) (callers shards : ℕ) (bytes : List ℕ) (s : Status) (closed : Option ClosedView) → HasRead max_input source bytes → AnswersTo (serving tables callers shards) bytes out s closed → Runs (Some (serving tables callers shards)) source out s closed
+  served_run tables callers shards bytes s closed h a = read_run (serving tables callers shards) (serving_reads tables callers shards) source out bytes s closed (subst (λ (n : ℕ). HasRead n source bytes) (sym (serving_most tables callers shards)) h) a
 
-  pub ranged_run : (bytes : List ℕ) (s : Status) → HasRead source bytes → AnswersTo Ranges bytes out s None → Runs (Some Ranges) source out s None
+  pub unserved_run : (tables : Bool) (callers shards : ℕ) (s : Status) → StoppedAs max_input source s → IsUntouched out → Runs (Some (serving tables callers shards)) source out s None
+  unserved_run tables callers shards s h same = stopped_run (serving tables callers shards) (serving_reads tables callers shards) source out s (subst (λ (n : ℕ). StoppedAs n source s) (sym (serving_most tables callers shards)) h) same
+
+  pub traced_run : (callers shards : ℕ) (bytes : List ℕ) (s : Status) (closed : Option ClosedView) → HasRead max_input source bytes → AnswersTo (Trace callers shards) bytes out s closed → Runs (Some (Trace callers shards)) source out s closed
+  traced_run callers shards bytes s closed h a = read_run (Trace callers shards) refl source out bytes s closed h a
+
+  pub untraced_run : (callers shards : ℕ) (s : Status) → StoppedAs max_input source s → IsUntouched out → Runs (Some (Trace callers shards)) source out s None
+  untraced_run callers shards s h same = stopped_run (Trace callers shards) refl source out s h same
+
+  pub ranged_run : (bytes : List ℕ) (s : Status) → HasRead max_input source bytes → AnswersTo Ranges bytes out s None → Runs (Some Ranges) source out s None
   ranged_run bytes s h a = read_run Ranges refl source out bytes s None h a
 
-  pub unranged_run : (s : Status) → StoppedAs source s → IsUntouched out → Runs (Some Ranges) source out s None
+  pub unranged_run : (s : Status) → StoppedAs max_input source s → IsUntouched out → Runs (Some Ranges) source out s None
   unranged_run s h same = stopped_run Ranges refl source out s h same
+
+  pub audited_run : (bytes : List ℕ) (s : Status) → HasRead max_audit_input source bytes → AnswersTo Audit bytes out s None → Runs (Some Audit) source out s None
+  audited_run bytes s h a = read_run Audit refl source out bytes s None h a
+
+  pub unaudited_run : (s : Status) → StoppedAs max_audit_input source s → IsUntouched out → Runs (Some Audit) source out s None
+  unaudited_run s h same = stopped_run Audit refl source out s h same

@@ -1,7 +1,7 @@
 -- What a whole run asks of its command: each question has a line for each command.
 use Rattle.std.specs.Prelude.{ℕ, Bool, true, false, if◌then◌else◌, List, Option, Some, None, IfSome}
 use Rattle.serve_words.specs.declared.command.Command.{Command}
-use Rattle.serve_words.specs.declared.command.Command.TheVariants.{Check, Show, Serve, Dump, Work, Ranges}
+use Rattle.serve_words.specs.declared.command.Command.TheVariants.{Check, Show, Serve, Dump, Work, Ranges, Trace, Audit}
 use Rattle.serve_faults.specs.declared.status.Status.{Status}
 use Rattle.serve_faults.specs.declared.status.Status.TheVariants as status
 use Rattle.serve_faults.specs.Changes.{Change}
@@ -24,6 +24,8 @@ Told (Some (Serve callers shards)) c P = OfItsBytes c P
 Told (Some (Dump callers shards)) c P = OfItsBytes c P
 Told (Some (Work requests start)) c P = OfAnyBytes P
 Told (Some Ranges) c P = OfItsBytes c P
+Told (Some (Trace callers shards)) c P = OfItsBytes c P
+Told (Some Audit) c P = OfItsBytes c P
 
 -- whether a run that ended so has come to its output
 abbrev pub has_begun_writing : Status → Bool
@@ -43,6 +45,19 @@ has_served (Some (Serve callers shards)) s = has_begun_writing s
 has_served (Some (Dump callers shards)) s = has_begun_writing s
 has_served (Some (Work requests start)) s = has_begun_writing s
 has_served (Some Ranges) s = false
+has_served (Some (Trace callers shards)) s = has_begun_writing s
+has_served (Some Audit) s = false
+
+-- whether a command writes the events of its run
+abbrev pub writes_events : Command → Bool
+writes_events Check = false
+writes_events Show = false
+writes_events (Serve callers shards) = false
+writes_events (Dump callers shards) = false
+writes_events (Work requests start) = false
+writes_events Ranges = false
+writes_events (Trace callers shards) = true
+writes_events Audit = false
 
 -- the command that serves a session file and writes its replies, or its final tables
 abbrev pub serving : Bool → ℕ → ℕ → Command

@@ -1,9 +1,9 @@
 -- What a run promises, over its command, its input, its outputs and how it ended.
 use Rattle.std.specs.Prelude.{◌≡◌, ◌≢◌, ◌+◌, ◌⊎◌, ◌↔◌, ℕ, Bool, true, false, is_some, List, Option, Some, None, IfSome}
-use Rattle.session_limits.specs.Limits.{max_input}
 use Rattle.byte_ends.specs.Ends.{IsAtEnd, LostFirst, LostAtMost}
 use Rattle.serve_words.specs.declared.command.Command.{Command}
 use Rattle.symbolic_ops.specs.declared.symbol.Symbol.{Symbol}
+use Rattle.session_journal.specs.declared.event.Event.{Event}
 use Rattle.session_journal.specs.Script.{Meaning, session_of}
 use Rattle.session_hall.specs.Closings.{ClosedView, IsDone}
 use Rattle.handler_syntax.specs.Language.{File}
@@ -12,14 +12,15 @@ use Rattle.serve_faults.specs.declared.status.Fault.{Fault}
 use Rattle.serve_faults.specs.declared.status.Fault.TheVariants.{TooLarge}
 use Rattle.serve_faults.specs.declared.status.Status.{Status}
 use Rattle.serve_faults.specs.declared.status.Status.TheVariants as status
-use Rattle.serve_faults.specs.Answer.{CommandAnswers}
+use Rattle.serve_faults.specs.Answer.{CommandAnswers, IsUnrefused}
 use Rattle.serve_faults.specs.Answer as answer
 use Rattle.serve_faults.specs.Changes.{Change, Failed, IsUntouched, Took, TookFront}
 use Rattle.serve_faults.specs.Commands.{callers_of, input_of, is_reading, shards_of}
-use Rattle.serve_faults.specs.Input.{Parts, parts_of}
+use Rattle.serve_faults.specs.Input.{Parts, most_of, parts_of}
 use Rattle.serve_faults.specs.Session.{IsSession, opened_of, requests_of, session_of_parts}
+use Rattle.serve_faults.specs.Traced.{traced_text}
 use Rattle.serve_faults.specs.Message.{message_of}
-use Rattle.serve_core.specs.Commands.{Told, has_served}
+use Rattle.serve_core.specs.Commands.{Told, has_served, writes_events}
 
 -- ---- what is read
 
@@ -32,6 +33,11 @@ has_read_all status.Usage = false
 has_read_all status.NoMemory = false
 has_read_all status.ReadFault = false
 has_read_all status.WriteFault = true
+
+-- the most bytes of the input of a command, if there is one
+abbrev pub most_read : Option Command → ℕ
+most_read None = 0
+most_read (Some command) = most_of command
 
 -- ---- what is answered and written
 
@@ -53,11 +59,6 @@ pub record Written {O : Type 0} (out : Change O) (s : Status) : Type 0 where
   pub write_fault : s ≡ status.WriteFault → Failed out
   -- With any other status than these two nothing is written.
   pub unwritten : s ≢ status.Fine → s ≢ status.WriteFault → IsUntouched out
-
--- no rule is broken
-abbrev pub IsUnrefused : Option Command → List ℕ → Type 0
-IsUnrefused command bytes =
-    (fault : Fault) → CommandAnswers command bytes (answer.Refused fault) → ⊥
 
 -- ---- the hall through which was served
 
@@ -91,6 +92,20 @@ abbrev pub Holds : Option Command → List ℕ → Option ClosedView → Type 0
 Holds None bytes closed = Unit {0}
 Holds (Some command) bytes closed = IfSome closed (IsServedThrough command (input_of command bytes))
 
+-- these events were written, with the names of the input's session
+pub record WroteEvents {O : Type 0} (input : List ℕ) (out : Change O) (events : List Event)
+    : Type 0 where
+  pub file : File
+  pub is_session : IsSession (parts_of input) file
+  pub took : Took out (traced_text (parts_of input) file events)
+
+-- where a command writes the events of its run, and ended well, it wrote those of the hall's journal
+abbrev pub WroteJournal : {O : Type 0} → Option Command → List ℕ → Change O → Status
+    → Option ClosedView → Type 0
+WroteJournal None bytes out s closed = Unit {0}
+WroteJournal (Some command) bytes out s closed = writes_events command ≡ true → s ≡ status.Fine
+    → IfSome closed (λ (d : ClosedView). WroteEvents (input_of command bytes) out d.journal)
+
 -- ---- what is promised
 
 -- what a command answers to an input, and with which hall
@@ -102,6 +117,7 @@ pub record AnswersTo {O : Type 0} (command : Command) (bytes : List ℕ) (out : 
   pub written : Written out s
   pub served : is_some closed ≡ has_served (Some command) s
   pub hall : Holds (Some command) bytes closed
+  pub traced : WroteJournal (Some command) bytes out s closed
 
 -- A run of a command, or of no command where the words are none.
 pub record Runs {I O : Type 0} (command : Option Command) (source : Change I) (out : Change O)
@@ -129,12 +145,15 @@ pub record Runs {I O : Type 0} (command : Option Command) (source : Change I) (o
   pub end : is_reading command ≡ true → has_read_all s ≡ true
       → IsAtEnd (source.bytes source.old) (source.bytes source.new)
   pub gone : is_reading command ≡ true → s ≡ status.Refused TooLarge
-      → LostFirst (source.bytes source.old) (source.bytes source.new) (max_input + 1)
-  pub lost : LostAtMost (source.bytes source.old) (source.bytes source.new) (max_input + 1)
-  -- `serve`, `dump` and `work` leave a closed hall exactly where they end well or the sink fails, and
-  -- through it the session was served.
+      → LostFirst (source.bytes source.old) (source.bytes source.new) (most_read command + 1)
+  pub lost : LostAtMost (source.bytes source.old) (source.bytes source.new)
+      (most_read command + 1)
+  -- `serve`, `dump`, `work` and `trace` leave a closed hall exactly where they end well or the sink
+  -- fails, and through it the session was served.
   pub served : is_some closed ≡ has_served command s
   pub hall : Told command source (λ bytes. Holds command bytes closed)
+  -- Where `trace` ends well, it wrote the events of the journal of that hall.
+  pub traced : Told command source (λ bytes. WroteJournal command bytes out s closed)
 
 -- The line on the error output is the status's, or a front of it where that output failed.
 pub record Tells {E : Type 0} (err : Change E) (s : Status) : Type 0 where

@@ -1,6 +1,7 @@
 -- What serving a session file promises. Only this crate's own functions cite it.
-use Rattle.std.specs.Prelude.{◌≡◌, ℕ, zero, suc, ◌+◌, ◌*◌, ◌<◌, ◌≤◌, List, [], ◌∷◌, length, Option, Some, None}
-use Rattle.session_limits.specs.Limits.{max_requests}
+use Rattle.std.specs.Prelude.{◌≡◌, ℕ, zero, suc, ◌+◌, ◌*◌, ◌<◌, ◌≤◌, List, [], ◌∷◌, length, true, Option, Some, None}
+use Rattle.std.specs.List.{AllByRecursion}
+use Rattle.session_limits.specs.Limits.{max_callers, max_requests}
 use Rattle.session_values.specs.ReplyText.{reply_text}
 use Rattle.session_journal.specs.Journal.{done_operations}
 use Rattle.opening_tables.specs.Opening.{Pair, IsOpening, entries_of}
@@ -22,6 +23,10 @@ use Rattle.serve_faults.specs.declared.status.Status.TheVariants as status
 use Rattle.serve_faults.specs.Input.{Parts, parts_of}
 use Rattle.serve_faults.specs.Changes.{Change, Failed, IsUntouched, Took, TookFront}
 use Rattle.serve_faults.specs.Session.{IsSession, all_names_of, session_of_parts}
+use Rattle.serve_faults.specs.Traced.{CanBeTold, table_places}
+use Rattle.text_lines.specs.Values.{is_symbol}
+use Rattle.trace_lines.specs.Bounds.{IsHeldEvent}
+use Rattle.trace_lines.specs.EventText.{trace_text}
 use Rattle.serve_reading.specs.Reasons.{IsInputReason}
 use Rattle.serve_reading.specs.Sessions.{IsSessionInput}
 use Rattle.serve_reading.specs.declared.session.Loaded.{Loaded}
@@ -29,7 +34,7 @@ use Rattle.serve_reading.specs.declared.unserved.Unserved.{Unserved}
 use Rattle.serve_reading.specs.declared.unserved.Unserved.TheVariants.{Refused, NoMemory}
 use Rattle.serve_core.specs.Runs.{script_of_session}
 use Rattle.serve_core.specs.declared.writing.Writing.{Writing}
-use Rattle.serve_core.specs.declared.writing.Writing.TheVariants.{Replies, Summary, Tables}
+use Rattle.serve_core.specs.declared.writing.Writing.TheVariants.{Replies, Summary, Tables, Events}
 
 -- the script of what was loaded
 abbrev pub script_of_loaded : Loaded → ScriptsView
@@ -48,6 +53,7 @@ pub record CanServe (l : Loaded) : Type 0 where
   pub named : IsNamedFile l.names l.program.file
   pub printable_opening : ArePrintableEntries l.names l.opening
   pub printable : ArePrintable l.names l.requests
+  pub symbols : AllByRecursion (λ text. is_symbol text ≡ true) l.names
 
 -- ---- what a closed hall leaves
 
@@ -65,12 +71,14 @@ abbrev pub AreFinal : ClosedView → ℕ → Type 0
 AreFinal d n = (m : Meaning) → IsDone m d → (t : ℕ) → t < n → AreLeft m t (listed d t)
 
 -- The replies can be printed, and so can the tables of this file, where their entries are the final
--- ones.
+-- ones, and the events of the journal, which a program holds.
 pub record IsPrintable (names : List (List ℕ)) (f : File) (d : ClosedView) : Type 0 where
   pub replies : ArePrintableReplies names d.replies
   pub few : length d.replies ≤ max_requests
   pub tables : AreFinal d (length f.tables)
       → CanDumpAll names f.tables (final_lists d (length f.tables))
+  pub told : d.callers ≤ max_callers → AllByRecursion IsHeldEvent d.journal
+      → CanBeTold names f d.journal
   pub some : 0 < d.shards
   pub parts : length d.parts ≡ length f.tables * d.shards
 
@@ -82,6 +90,7 @@ CanPrint names f m = (d : ClosedView) → IsDone m d → IsPrintable names f d
 abbrev pub HasRoom : Writing → Meaning → ℕ → Type 0
 HasRoom Replies m capacity = Unit {0}
 HasRoom (Summary requests) m capacity = Unit {0}
+HasRoom Events m capacity = Unit {0}
 HasRoom Tables m capacity = (t : ℕ) → t < length m.shape
     → length (entries_of m.opened t) + room m t ≤ capacity
 
@@ -89,14 +98,17 @@ HasRoom Tables m capacity = (t : ℕ) → t < length m.shape
 abbrev pub HasRoomFor : Writing → File → ClosedView → ℕ → Type 0
 HasRoomFor Replies f d capacity = Unit {0}
 HasRoomFor (Summary requests) f d capacity = Unit {0}
+HasRoomFor Events f d capacity = Unit {0}
 HasRoomFor Tables f d capacity = AreFinal d (length f.tables)
     → HaveRoom capacity (final_lists d (length f.tables))
 
--- what is written of a session whose tables are written are its final ones
-abbrev pub HasLeft : Writing → File → ClosedView → Type 0
-HasLeft Replies f d = Unit {0}
-HasLeft (Summary requests) f d = Unit {0}
-HasLeft Tables f d = AreFinal d (length f.tables)
+-- what is written of a session whose tables are written are its final ones, and events that are
+-- written read back
+abbrev pub HasLeft : Writing → List (List ℕ) → File → ClosedView → Type 0
+HasLeft Replies names f d = Unit {0}
+HasLeft (Summary requests) names f d = Unit {0}
+HasLeft Tables names f d = AreFinal d (length f.tables)
+HasLeft Events names f d = CanBeTold names f d.journal
 
 -- The parts' session was served through a hall by so many callers, over so many shards a table; its
 -- names are these.
@@ -136,10 +148,11 @@ EndsOrWants text out status.Usage = ⊥
 EndsOrWants text out status.ReadFault = ⊥
 
 -- what is written of a session that was served: its replies, how many operations it made and how many
--- bytes its replies take, or its final tables
+-- bytes its replies take, its final tables, or its events
 abbrev pub text_of : Writing → List (List ℕ) → File → ClosedView → List ℕ
 text_of Replies names f d = reply_text names 0 d.replies
 text_of Tables names f d = dump_text names f.tables (final_lists d (length f.tables))
+text_of Events names f d = trace_text names (table_places f) d.journal
 text_of (Summary requests) names f d = summary requests (length (done_operations d.journal))
     (length (reply_text names 0 d.replies))
 
@@ -149,7 +162,7 @@ pub record EndsAsServed {O : Type 0} (w : Writing) (names : List (List ℕ)) (f 
   pub done : IsDone m d
   pub callers_are : d.callers ≡ callers
   pub shards_are : d.shards ≡ shards
-  pub left : HasLeft w f d
+  pub left : HasLeft w names f d
   pub ends : EndsBy (text_of w names f d) out s
 
 -- what was loaded was served; or memory ran out before, and nothing was written
@@ -172,7 +185,7 @@ pub record EndsServed {O : Type 0} (w : Writing) (callers shards : ℕ) (input :
   pub is_input : IsSessionInput input
   pub names : List (List ℕ)
   pub served : HasServed (parts_of input) callers shards names d
-  pub left : HasLeft w served.file d
+  pub left : HasLeft w names served.file d
   pub ends : EndsBy (text_of w names served.file d) out s
 
 -- one of both, by whether a hall is left

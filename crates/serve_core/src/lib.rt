@@ -2,9 +2,12 @@
 //! or final tables of a session or a summary out.
 #![tactic(auto)]
 
+mod auditing;
+mod checking;
 mod counting;
-mod describing;
+mod dumping;
 mod final_tables;
+mod lines;
 mod outcome;
 mod ranging;
 mod served;
@@ -12,10 +15,11 @@ mod serving;
 mod sessions;
 mod sizes;
 mod top;
+mod tracing;
 mod working;
 mod writing;
 
 pub use byte_ends::{Got, MemorySink, MemorySource, Put, Sink, Source, SureSink, SureSource};
 pub use outcome::Outcome;
 pub use serve_faults::{Fault, Status};
-pub use top::{describe, ranges, run, tell};
+pub use top::{audit, describe, ranges, run, tell};

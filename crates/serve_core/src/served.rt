@@ -7,6 +7,7 @@ ghost use Rattle.session_hall.specs.Closings.{IsDone};
 ghost use Rattle.opening_tables.specs.Opening.{entries_of};
 ghost use Rattle.session_journal.specs.Script.{room};
 ghost use Rattle.handler_machine.specs.Scripts.{meaning};
+ghost use Rattle.serve_faults.specs.Traced.{table_places};
 ghost use Rattle.serve_core.specs.Serving.{CanServe, HasRoom, script_of_loaded};
 
 use crate::sizes::Sizes;
@@ -36,6 +37,8 @@ pub(crate) struct Ready<'a> {
     pub(crate) entries: Vec<(Value, Value)>,
     /// Room for lines.
     pub(crate) buffer: WriteBuffer,
+    /// The places of the tables' names.
+    pub(crate) tables: Vec<u32>,
     ghost same: { plan ≡ session.script },
 }
 
@@ -46,6 +49,8 @@ pub(crate) struct Spare {
     pub(crate) entries: Vec<(Value, Value)>,
     /// Lines.
     pub(crate) buffer: WriteBuffer,
+    /// The places of the tables' names.
+    pub(crate) tables: Vec<u32>,
 }
 
 /// Opens a hall of these sizes for the requests of a session that was loaded.
@@ -59,11 +64,13 @@ pub(crate) fn open_loaded<'a>(
     ensures script { IfOk result (λ r. r.session.script ≡ script_of_loaded loaded.now) }
     ensures room { IfOk result (λ r. HasRoom writing (meaning (script_of_loaded loaded.now))
         (vec_capacity r.entries)) }
+    ensures places { IfOk result (λ r. r.tables.items ≡ table_places loaded.now.program.file) }
     ensures callers { IfOk result (λ r. r.session.callers ≡ sizes.callers) }
     ensures shards { IfOk result (λ r. r.session.shards ≡ sizes.shards) }
 {
     let buffer = WriteBuffer::new(alloc)?;
     let shape = shape_of(alloc, &loaded.program)?;
+    let tables = places_of(alloc, loaded.program.checked().file())?;
     let script = Scripts::over(&loaded.program, &loaded.opening, &loaded.requests);
     let plan = Scripts::over(&loaded.program, &loaded.opening, &loaded.requests);
     let entries = entries_room(alloc, &plan, shape.len() as u32, writing)?;
@@ -73,6 +80,7 @@ pub(crate) fn open_loaded<'a>(
         plan,
         entries,
         buffer,
+        tables,
     })
 }
 
@@ -90,6 +98,7 @@ fn entries_room<S: Script>(
         Writing::Replies => 0,
         Writing::Summary { .. } => 0,
         Writing::Tables => most_entries(script, tables),
+        Writing::Events => 0,
     };
     Ok(Vec::with_capacity(alloc, room as usize)?)
 }
@@ -126,24 +135,44 @@ pub(crate) fn serve_ready<'a, R: Threads + Wait + Sync, G: Gate + Sync>(
     ensures callers { result.0.callers ≡ ready.entry.session.callers }
     ensures shards { result.0.shards ≡ ready.entry.session.shards }
     ensures room { vec_capacity result.1.entries ≡ vec_capacity ready.entry.entries }
+    ensures places { result.1.tables.items ≡ ready.entry.tables.items }
 {
     let Ready {
         session,
         plan,
         entries,
         buffer,
+        tables,
     } = ready;
     let closed = serve_session(rt, session, &plan, gate);
-    (closed, Spare { entries, buffer })
+    let spare = Spare {
+        entries,
+        buffer,
+        tables,
+    };
+    (closed, spare)
 }
 
-// The kinds of the tables of a program.
-fn shape_of(alloc: Global, program: &Program) -> Result<Vec<TableKind>, NoMemory>
+/// The kinds of the tables of a program.
+pub(crate) fn shape_of(alloc: Global, program: &Program) -> Result<Vec<TableKind>, NoMemory>
     ensures kinds { IfOk result (λ shape. shape.items ≡ shape_spec program.now.file) }
     ensures few { IfOk result (λ shape. length shape.items ≤ max_tables) }
 {
     let shape = kinds_of(alloc, program.checked().file())?;
     Ok(shape)
+}
+
+// The places of the names of a file's tables.
+fn places_of(alloc: Global, file: &File) -> Result<Vec<u32>, NoMemory>
+    ensures { IfOk result (λ places. places.items ≡ table_places file.now) }
+{
+    Ok(
+        file.tables
+            .as_slice()
+            .iter()
+            .map(|t| t.name)
+            .collect(alloc)?,
+    )
 }
 
 // The kinds of the tables of a file.

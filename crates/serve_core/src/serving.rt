@@ -1,11 +1,10 @@
-// Serving: from a source to the lines of the replies, or to the final tables.
+// Serving: from a source to the lines of the replies.
 
-ghost use Rattle.std.specs.Prelude.{◌≡◌, ◌≤◌, if◌then◌else◌, length, Some};
+ghost use Rattle.std.specs.Prelude.{◌≤◌, length, Some};
 ghost use Rattle.session_limits.specs.Limits.{max_input};
+ghost use Rattle.serve_words.specs.declared.command.Command.TheVariants.{Serve};
 ghost use Rattle.serve_faults.specs.Changes.{change};
-ghost use Rattle.serve_core.specs.Commands.{serving};
 ghost use Rattle.serve_core.specs.Runs.{AnswersTo, Runs};
-ghost use Rattle.serve_core.specs.declared.writing.Writing.TheVariants.{Replies, Tables};
 
 use crate::outcome::Outcome;
 use crate::sessions::serve_bytes;
@@ -18,23 +17,21 @@ use std::sync::Wait;
 use std::thread::Threads;
 use worker_gate::Gate;
 
-/// Reads a session file, serves its requests, and writes their replies or, with `tables`, the final
-/// tables.
+/// Reads a session file, serves its requests, and writes their replies while it serves.
 pub(crate) fn serve_source<R: Threads + Wait + Sync, I: Source, O: Sink, G: Gate + Sync>(
     rt: &R,
     alloc: Global,
-    tables: bool,
     sizes: Sizes,
     source: &mut I,
     out: &mut O,
     gate: &G,
 ) -> Outcome
-    ensures { Runs (Some (serving tables sizes.callers sizes.shards))
+    ensures { Runs (Some (Serve sizes.callers sizes.shards))
         (change I.left I.faults source.old source.new)
         (change O.held O.faults out.old out.new) result.status result.closed }
 {
     match read_input(alloc, source) {
-        Ok(bytes) => serve_input(rt, alloc, tables, sizes, bytes.as_slice(), out, gate),
+        Ok(bytes) => serve_input(rt, alloc, sizes, bytes.as_slice(), out, gate),
         Err(status) => Outcome {
             status,
             closed: None,
@@ -42,30 +39,18 @@ pub(crate) fn serve_source<R: Threads + Wait + Sync, I: Source, O: Sink, G: Gate
     }
 }
 
-// Serves the requests of a session file, and writes their replies or the final tables.
+// Serves the requests of a session file, and writes their replies.
 fn serve_input<R: Threads + Wait + Sync, O: Sink, G: Gate + Sync>(
     rt: &R,
     alloc: Global,
-    tables: bool,
     sizes: Sizes,
     bytes: &[u8],
     out: &mut O,
     gate: &G,
 ) -> Outcome
     requires short { length bytes.now ≤ max_input }
-    ensures { AnswersTo (serving tables sizes.callers sizes.shards) bytes.now
+    ensures { AnswersTo (Serve sizes.callers sizes.shards) bytes.now
         (change O.held O.faults out.old out.new) result.status result.closed }
 {
-    serve_bytes(rt, alloc, sizes, bytes, writing_of(tables), out, gate)
-}
-
-// What is written where tables are asked for, or not.
-fn writing_of(tables: bool) -> Writing
-    ensures { result ≡ if tables then Tables else Replies }
-{
-    if tables {
-        Writing::Tables
-    } else {
-        Writing::Replies
-    }
+    serve_bytes(rt, alloc, sizes, bytes, Writing::Replies, out, gate)
 }

@@ -1,11 +1,14 @@
 // Sessions: from the bytes of a session file to what is written of it.
 
-ghost use Rattle.std.specs.Prelude.{◌≡◌, ◌≤◌, length, vec_capacity};
-ghost use Rattle.session_limits.specs.Limits.{max_input};
+ghost use Rattle.std.specs.Prelude.{◌≡◌, ◌≢◌, ◌≤◌, length, vec_capacity};
+ghost use Rattle.session_limits.specs.Limits.{max_callers, max_input};
 ghost use Rattle.handler_machine.specs.Scripts.{meaning};
 ghost use Rattle.serve_faults.specs.Changes.{change};
+ghost use Rattle.serve_faults.specs.Traced.{table_places};
+ghost use Rattle.serve_core.specs.declared.writing.Writing.TheVariants.{Replies};
 ghost use Rattle.serve_core.specs.Serving.{CanPrint, CanServe, EndsAsServed, EndsLoaded, EndsSession, HasRoom, status_of};
 
+use crate::lines::serve_lines;
 use crate::outcome::Outcome;
 use crate::served::{Ready, open_loaded, serve_ready};
 use crate::sizes::Sizes;
@@ -66,6 +69,27 @@ fn serve_loaded<R: Threads + Wait + Sync, O: Sink, G: Gate + Sync>(
     ensures { EndsLoaded writing sizes.callers sizes.shards loaded.now
         (change O.held O.faults out.old out.new) result.status result.closed }
 {
+    match writing {
+        Writing::Replies => serve_lines(rt, alloc, sizes, loaded, out, gate),
+        _ => serve_then_write(rt, alloc, sizes, loaded, writing, out, gate),
+    }
+}
+
+// Serves what was loaded, and writes what is asked of it when all is served.
+fn serve_then_write<R: Threads + Wait + Sync, O: Sink, G: Gate + Sync>(
+    rt: &R,
+    alloc: Global,
+    sizes: Sizes,
+    loaded: &Loaded,
+    writing: Writing,
+    out: &mut O,
+    gate: &G,
+) -> Outcome
+    requires can { CanServe loaded.now }
+    requires later { writing ≢ Replies }
+    ensures { EndsLoaded writing sizes.callers sizes.shards loaded.now
+        (change O.held O.faults out.old out.new) result.status result.closed }
+{
     match open_loaded(alloc, sizes, loaded, writing) {
         Ok(ready) => {
             let (status, closed) = serve_open(rt, ready, loaded, writing, out, gate);
@@ -91,9 +115,12 @@ fn serve_open<'a, R: Threads + Wait + Sync, O: Sink, G: Gate + Sync>(
     out: &mut O,
     gate: &G,
 ) -> (Status, Closed)
+    requires later { writing ≢ Replies }
     requires print { CanPrint loaded.now.names loaded.now.program.file
         (meaning ready.session.script) }
     requires room { HasRoom writing (meaning ready.session.script) (vec_capacity ready.entries) }
+    requires places { ready.tables.items ≡ table_places loaded.now.program.file }
+    requires callers { ready.session.callers ≤ max_callers }
     ensures { EndsAsServed writing loaded.now.names loaded.now.program.file
         (meaning ready.entry.session.script) ready.entry.session.callers ready.entry.session.shards
         (change O.held O.faults out.old out.new) result.0 result.1 }

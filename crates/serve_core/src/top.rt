@@ -2,16 +2,19 @@
 
 ghost use Rattle.std.specs.Prelude.{◌≡◌, map, string_bytes, Some, None, IfSome};
 ghost use Rattle.serve_words.specs.Commands as commands;
-ghost use Rattle.serve_words.specs.declared.command.Command.TheVariants.{Ranges};
+ghost use Rattle.serve_words.specs.declared.command.Command.TheVariants.{Audit, Ranges};
 ghost use Rattle.serve_faults.specs.Changes.{change};
 ghost use Rattle.serve_core.specs.Runs.{Runs, Tells};
 ghost use Rattle.serve_faults.specs.Ways.{describing};
 
-use crate::describing::describe_source;
+use crate::auditing::audit_source;
+use crate::checking::describe_source;
+use crate::dumping::dump_source;
 use crate::outcome::{Outcome, unserved};
 use crate::ranging::range_source;
 use crate::serving::serve_source;
 use crate::sizes::Sizes;
+use crate::tracing::trace_source;
 use crate::working::work;
 use byte_ends::{Sink, Source, write_all};
 use serve_faults::{Status, message_of};
@@ -25,8 +28,8 @@ use worker_gate::Gate;
 /// `source`, writes the command's text to `out` and, where it doesn't end well, one line to `err`;
 /// callers that serve pass the gate at each of its places. Its promises stand by name in
 /// `specs/Runs.antt`: usage, unread and made; fine, refused and front; refusing
-/// and complete; read_fault, write_fault and unwritten; end, gone and lost; served and hall; and,
-/// of the line, line and line_front.
+/// and complete; read_fault, write_fault and unwritten; end, gone and lost; served, hall and
+/// traced; and, of the line, line and line_front.
 pub fn run<R: Threads + Wait + Sync, I: Source, O: Sink, E: Sink, G: Gate + Sync>(
     rt: &R,
     alloc: Global,
@@ -65,14 +68,19 @@ fn answer<R: Threads + Wait + Sync, I: Source, O: Sink, G: Gate + Sync>(
         Some(Command::Show) => unserved(describe_source(alloc, true, source, out)),
         Some(Command::Serve { callers, shards }) => {
             let sizes = Sizes { callers, shards };
-            serve_source(rt, alloc, false, sizes, source, out, gate)
+            serve_source(rt, alloc, sizes, source, out, gate)
         }
         Some(Command::Dump { callers, shards }) => {
             let sizes = Sizes { callers, shards };
-            serve_source(rt, alloc, true, sizes, source, out, gate)
+            dump_source(rt, alloc, sizes, source, out, gate)
         }
         Some(Command::Work { requests, start }) => { work(rt, alloc, requests, start, out, gate) }
         Some(Command::Ranges) => unserved(range_source(alloc, source, out)),
+        Some(Command::Trace { callers, shards }) => {
+            let sizes = Sizes { callers, shards };
+            trace_source(rt, alloc, sizes, source, out, gate)
+        }
+        Some(Command::Audit) => unserved(audit_source(alloc, source, out)),
         None => unserved(Status::Usage),
     }
 }
@@ -111,6 +119,25 @@ pub fn ranges<I: Source, O: Sink, E: Sink>(
     ensures tells { Tells (change E.held E.faults err.old err.new) result }
 {
     let status = range_source(alloc, source, out);
+    tell(&status, err);
+    status
+}
+
+/// Reads a session file that ends in a trace from `source`, writes what is judged of the trace to
+/// `out` and, where it doesn't end well, one line to `err`, as `run` does for `audit`. With a
+/// verdict of any kind it ends well.
+pub fn audit<I: Source, O: Sink, E: Sink>(
+    alloc: Global,
+    source: &mut I,
+    out: &mut O,
+    err: &mut E,
+) -> Status
+    ensures runs { Runs (Some Audit)
+        (change I.left I.faults source.old source.new)
+        (change O.held O.faults out.old out.new) result None }
+    ensures tells { Tells (change E.held E.faults err.old err.new) result }
+{
+    let status = audit_source(alloc, source, out);
     tell(&status, err);
     status
 }

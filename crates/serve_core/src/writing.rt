@@ -1,39 +1,42 @@
 // Writing what is asked of a session that was served.
 
-ghost use Rattle.std.specs.Prelude.{◌≡◌, ◌+◌, ◌≤◌, length, vec_capacity};
-ghost use Rattle.session_limits.specs.Limits.{max_requests};
+ghost use Rattle.std.specs.Prelude.{◌≡◌, ◌≢◌, ◌≤◌, length, vec_capacity};
+ghost use Rattle.session_limits.specs.Limits.{max_callers, max_requests};
 ghost use Rattle.session_journal.specs.Journal.{done_operations};
 ghost use Rattle.session_values.specs.ReplyText.{reply_text};
 ghost use Rattle.serve_made.specs.Summary.{summary};
 ghost use Rattle.reply_sheet.specs.Printable.{ArePrintableReplies};
 ghost use Rattle.serve_faults.specs.Changes.{change};
-ghost use Rattle.serve_core.specs.declared.writing.Writing.TheVariants.{Tables};
+ghost use Rattle.serve_faults.specs.Traced.{table_places};
+ghost use Rattle.serve_core.specs.declared.writing.Writing.TheVariants.{Events, Replies, Tables};
 ghost use Rattle.serve_core.specs.Serving.{EndsBy, HasLeft, HasRoomFor, IsPrintable, text_of};
 
 use crate::counting::{count_bytes, count_calls};
 use crate::final_tables::FinalTables;
 use crate::served::Spare;
-use byte_ends::{Sink, WriteBuffer, write_all};
-use reply_sheet::write_replies;
+use byte_ends::{Sink, write_all};
 use serve_faults::Status;
 use serve_made::summary_text;
 use serve_reading::Loaded;
 use session_hall::Closed;
 use session_values::Names;
 use table_dump::write_tables;
+use trace_lines::{event_bounds, write_events};
 
 /// What is written of a session that was served.
 #[derive(Clone, Copy, Debug)]
 pub(crate) enum Writing {
-    /// The lines of its replies.
+    /// The lines of its replies, while it is served.
     Replies,
     /// The summary of a session of so many requests.
     Summary { requests: u32 },
     /// Its final tables.
     Tables,
+    /// The events of its journal.
+    Events,
 }
 
-/// Writes what is asked of a session that was served.
+/// Writes what is asked of a session when all of it is served.
 pub(crate) fn write_session<O: Sink>(
     out: &mut O,
     closed: &Closed,
@@ -41,18 +44,22 @@ pub(crate) fn write_session<O: Sink>(
     spare: &mut Spare,
     writing: Writing,
 ) -> Status
+    requires later { writing ≢ Replies }
     requires print { IsPrintable loaded.now.names loaded.now.program.file closed.now }
     requires room { HasRoomFor writing loaded.now.program.file closed.now
         (vec_capacity spare.old.entries) }
-    ensures left { HasLeft writing loaded.now.program.file closed.now }
+    requires places { spare.old.tables.items ≡ table_places loaded.now.program.file }
+    requires callers { closed.now.callers ≤ max_callers }
+    ensures left { HasLeft writing loaded.now.names loaded.now.program.file closed.now }
     ensures ends { EndsBy (text_of writing loaded.now.names loaded.now.program.file closed.now)
         (change O.held O.faults out.old out.new) result }
 {
     let names = &loaded.names;
     match writing {
-        Writing::Replies => write_lines(out, closed, names, &mut spare.buffer),
+        Writing::Replies => unreachable!(),
         Writing::Summary { requests } => write_summary(out, closed, names, requests),
         Writing::Tables => write_finals(out, closed, loaded, spare),
+        Writing::Events => write_journal(out, closed, loaded, spare),
     }
 }
 
@@ -61,13 +68,17 @@ fn write_finals<O: Sink>(out: &mut O, closed: &Closed, loaded: &Loaded, spare: &
     requires print { IsPrintable loaded.now.names loaded.now.program.file closed.now }
     requires room { HasRoomFor Tables loaded.now.program.file closed.now
         (vec_capacity spare.old.entries) }
-    ensures left { HasLeft Tables loaded.now.program.file closed.now }
+    ensures left { HasLeft Tables loaded.now.names loaded.now.program.file closed.now }
     ensures ends { EndsBy (text_of Tables loaded.now.names loaded.now.program.file closed.now)
         (change O.held O.faults out.old out.new) result }
 {
     let decls = loaded.program.checked().file().tables.as_slice();
     let tables = FinalTables::of(closed, decls.len() as u32);
-    let Spare { entries, buffer } = spare;
+    let Spare {
+        entries,
+        buffer,
+        ..
+    } = spare;
     if write_tables(out, decls, &tables, &loaded.names, entries, buffer) {
         Status::Fine
     } else {
@@ -75,19 +86,24 @@ fn write_finals<O: Sink>(out: &mut O, closed: &Closed, loaded: &Loaded, spare: &
     }
 }
 
-// Writes the lines of the replies.
-fn write_lines<O: Sink>(
+// Writes the events of the journal.
+fn write_journal<O: Sink>(
     out: &mut O,
     closed: &Closed,
-    names: &Names,
-    buffer: &mut WriteBuffer,
+    loaded: &Loaded,
+    spare: &mut Spare,
 ) -> Status
-    requires few { length closed.now.replies ≤ max_requests }
-    requires printable { ArePrintableReplies names.now closed.now.replies }
-    ensures { EndsBy (reply_text names.now 0 closed.now.replies)
+    requires print { IsPrintable loaded.now.names loaded.now.program.file closed.now }
+    requires places { spare.old.tables.items ≡ table_places loaded.now.program.file }
+    requires callers { closed.now.callers ≤ max_callers }
+    ensures left { HasLeft Events loaded.now.names loaded.now.program.file closed.now }
+    ensures ends { EndsBy (text_of Events loaded.now.names loaded.now.program.file closed.now)
         (change O.held O.faults out.old out.new) result }
 {
-    if write_replies(out, closed.replies().as_slice(), names, buffer) {
+    let events = closed.journal().events();
+    event_bounds(events);
+    let Spare { tables, buffer, .. } = spare;
+    if write_events(out, events, tables.as_slice(), &loaded.names, buffer) {
         Status::Fine
     } else {
         Status::WriteFault

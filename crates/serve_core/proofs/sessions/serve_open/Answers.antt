@@ -1,4 +1,5 @@
-use Rattle.std.proofs.Common.{ℕ, sym, subst}
+use Rattle.std.proofs.Common.{ℕ, ◌≤◌, sym, subst}
+use Rattle.session_limits.specs.Limits.{max_callers}
 use Rattle.handler_machine.specs.Scripts.{meaning}
 use Rattle.serve_core.specs.Serving.{HasRoomFor}
 use Rattle.serve_core.proofs.FileLemmas.{has_room}
@@ -16,3 +17,6 @@ write_session-status-requires-clause-room g c =
     let print = c.requires.print d done in
     subst (λ (room : ℕ). HasRoomFor c.args.writing f d room) (sym c.serve_ready-closed.ensures.room)
     (has_room c.args.writing f (meaning c.args.ready.session.script) d _ done (tables_counted (meaning c.args.ready.session.script) d _ done print.some print.parts) c.requires.room)
+
+pub write_session-status-requires-clause-callers : goal.write_session-status-requires-clause-callers
+write_session-status-requires-clause-callers g c = subst (λ (n : ℕ). n ≤ max_callers) (sym c.serve_ready-closed.ensures.callers) c.requires.callers

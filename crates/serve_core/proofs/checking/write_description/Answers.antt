@@ -1,7 +1,7 @@
 use Rattle.serve_faults.specs.Changes.{change}
 use Rattle.serve_reading.specs.Described.{text_of}
 use Rattle.serve_core.proofs.EndLemmas.{ends_or_wants}
-use Rattle.serve_core.proofs.describing.write_description.Goals as goal
+use Rattle.serve_core.proofs.checking.write_description.Goals as goal
 
 pub returns-in-Ok : goal.returns-in-Ok
 returns-in-Ok g c =

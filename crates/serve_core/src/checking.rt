@@ -1,4 +1,4 @@
-// Describing: from a source to the text of its handlers.
+// Checking and showing: from a source to the text of its handlers.
 
 ghost use Rattle.std.specs.Prelude.{◌≤◌, length, Some, None};
 ghost use Rattle.session_limits.specs.Limits.{max_input};

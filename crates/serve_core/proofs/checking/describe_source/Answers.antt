@@ -1,7 +1,7 @@
 use Rattle.std.proofs.Common.{refl}
 use Rattle.serve_faults.specs.Changes.{change}
 use Rattle.serve_core.proofs.TopLemmas.{described_run, undescribed_run}
-use Rattle.serve_core.proofs.describing.describe_source.Goals as goal
+use Rattle.serve_core.proofs.checking.describe_source.Goals as goal
 
 pub returns-in-Ok : goal.returns-in-Ok
 returns-in-Ok g c =

@@ -5,7 +5,7 @@ use Rattle.serve_faults.specs.Ways.{describing}
 use Rattle.serve_reading.specs.Described.{text_of}
 use Rattle.serve_core.specs.Runs.{AnswersTo}
 use Rattle.serve_core.proofs.EndLemmas.{described_or_wants, undescribed_to}
-use Rattle.serve_core.proofs.describing.describe_input.Goals as goal
+use Rattle.serve_core.proofs.checking.describe_input.Goals as goal
 
 pub returns-in-Ok : goal.returns-in-Ok
 returns-in-Ok g c =
