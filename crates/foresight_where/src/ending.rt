@@ -1,0 +1,46 @@
+// How a run of the program ends.
+
+ghost use Rattle.std.specs.Prelude.{◌≡◌};
+ghost use Rattle.foresight_where.specs.Endings.{exit_status};
+
+/// How a run of the program ends.
+#[derive(Clone, Copy, Debug, PartialEq, Eq)]
+pub(crate) enum Ending {
+    /// The text of a place, or the table, is written.
+    Told,
+    /// The input is handed on as it is: it is no refusal, or names no place of the file.
+    HandedOn,
+    /// The words are none of the program's; nothing is read.
+    Usage,
+    NoMemory,
+    /// The input or the file can't be read, or has more than 67,108,864 bytes.
+    ReadFault,
+    WriteFault,
+}
+
+impl Ending {
+    /// The exit status.
+    pub(crate) fn number(self) -> u8
+        ensures { result ≡ exit_status self }
+    {
+        match self {
+            Ending::Told => 0,
+            Ending::HandedOn => 1,
+            Ending::Usage => 2,
+            Ending::NoMemory => 3,
+            Ending::ReadFault => 4,
+            Ending::WriteFault => 5,
+        }
+    }
+
+    /// The line on the error output; none where all is written.
+    pub(crate) fn line(self) -> &'static str {
+        match self {
+            Ending::Told | Ending::HandedOn => "",
+            Ending::Usage => "usage: foresight_where FILE | --rules\n",
+            Ending::NoMemory => "no memory\n",
+            Ending::ReadFault => "read fault\n",
+            Ending::WriteFault => "write fault\n",
+        }
+    }
+}

@@ -1,0 +1,5 @@
+pub mod FirstRow
+pub mod LineFronts
+pub mod RuleLines
+pub mod Saying
+pub mod Spotting

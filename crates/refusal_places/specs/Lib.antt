@@ -1,0 +1,6 @@
+pub mod Answers
+pub mod Laws
+pub mod PlaceText
+pub mod Refusals
+pub mod RuleTable
+pub mod Spots
