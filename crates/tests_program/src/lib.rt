@@ -3,13 +3,9 @@
 #![tactic(auto)]
 
 #[cfg(test)]
-mod dumping;
-#[cfg(test)]
 mod ends;
 #[cfg(test)]
 mod held;
-#[cfg(test)]
-mod hostile;
 #[cfg(test)]
 mod memory;
 #[cfg(test)]

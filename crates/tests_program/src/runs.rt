@@ -28,7 +28,7 @@ impl Input<'_> {
 }
 
 /// The words of a command line, which stand one space apart.
-pub(crate) fn words_of(alloc: Global, command: &str) -> Result<Vec<String>, AllocError> {
+fn words_of(alloc: Global, command: &str) -> Result<Vec<String>, AllocError> {
     let mut words = Vec::new(alloc);
     for word in command.split(' ') {
         words.push(String::from_str(alloc, word)?)?;

@@ -1,11 +1,10 @@
 // Opening tables, and dumps of the final ones.
 
-use crate::runs::{Ends, Input, ends_of, run_past, wrote};
+use crate::runs::{WHOLE, ends_over, run_to_end, wrote};
 use std::alloc::{AllocError, Global};
 use std::sync::Wait;
 use std::test::Fail;
 use std::thread::Threads;
-use worker_gate::OpenGate;
 
 /// Handlers whose sessions are dumped.
 const HANDLERS: &str = "map seats; set online;\n\
@@ -21,19 +20,10 @@ fn run_over<R: Threads + Wait + Sync>(
     out: &[u8],
 ) -> Result<(u8, bool, bool), Fail> {
     let text = joined(alloc, parts)?;
-    let mut ends = ends_over(alloc, command, text.as_str())?;
-    let (status, is_closed) = run_past(rt, alloc, &mut ends, &OpenGate);
+    let moves = (WHOLE, WHOLE, WHOLE);
+    let mut ends = ends_over(alloc, command, text.as_str().as_bytes(), moves)?;
+    let (status, is_closed) = run_to_end(rt, alloc, &mut ends);
     Ok((status, is_closed, wrote(&ends, out, "")))
-}
-
-/// The ends of a run over a text.
-fn ends_over(alloc: Global, command: &str, text: &str) -> Result<Ends, Fail> {
-    let input = Input {
-        first: text,
-        again: "",
-        times: 0,
-    };
-    ends_of(alloc, command, input, (&[], &[]))
 }
 
 /// Parts of a file, one after another.

@@ -1,12 +1,10 @@
 // Broken input, and ends that fail at each of their calls in turn.
 
-use crate::runs::{Ends, run_past, words_of, wrote};
-use serve_core::{MemorySink, MemorySource};
+use crate::runs::{Moves, WHOLE, ends_over, run_to_end, wrote};
 use std::alloc::Global;
 use std::sync::Wait;
 use std::test::Fail;
 use std::thread::Threads;
-use worker_gate::OpenGate;
 
 /// Handlers of sign-ins, in 172 bytes, and three requests behind them, in 44.
 const SESSION: &[u8] =
@@ -14,46 +12,6 @@ const SESSION: &[u8] =
 
 /// What these are replied, in 16 bytes.
 const REPLIES: &[u8] = b"0 nil\n1 5\n2 nil\n";
-
-/// How many bytes an end moves at a time, and which of its calls fails, if one does.
-type Moves = (u32, Option<u32>);
-
-/// The calls that fail.
-fn failing(alloc: Global, call: Option<u32>) -> Result<Vec<u32>, Fail> {
-    let mut calls = Vec::new(alloc);
-    if let Some(call) = call {
-        calls.push(call)?;
-    }
-    Ok(calls)
-}
-
-/// A sink that takes bytes so, one at a time at least.
-fn sink_of(alloc: Global, (piece, fails): Moves) -> Result<MemorySink, Fail> {
-    let calls = failing(alloc, fails)?;
-    Ok(MemorySink::with_room(alloc, 1000, piece.max(1), calls)?)
-}
-
-/// The ends of a run over these bytes: the source gives them so, the output takes them so, and the
-/// error output so.
-fn ends_over(
-    alloc: Global,
-    command: &str,
-    bytes: &[u8],
-    (reads, writes, tells): (Moves, Moves, Moves),
-) -> Result<Ends, Fail> {
-    let (piece, fails) = reads;
-    let calls = failing(alloc, fails)?;
-    let source = MemorySource::new(bytes.to_vec(alloc)?, piece.max(1), calls);
-    Ok(Ends {
-        words: words_of(alloc, command)?,
-        source,
-        out: sink_of(alloc, writes)?,
-        err: sink_of(alloc, tells)?,
-    })
-}
-
-/// An end that moves many bytes at a time and never fails.
-const WHOLE: Moves = (1000, None);
 
 /// After how many of its first bytes the handlers of a session are whole.
 const FINE: [usize; 9] = [0, 10, 11, 22, 23, 113, 114, 171, 172];
@@ -67,7 +25,7 @@ fn is_fine_or_refused<R: Threads + Wait + Sync>(
 ) -> Result<bool, Fail> {
     let front = SESSION.get(..count).unwrap_or(SESSION);
     let mut ends = ends_over(alloc, "check", front, (WHOLE, WHOLE, WHOLE))?;
-    let (status, _) = run_past(rt, alloc, &mut ends, &OpenGate);
+    let (status, _) = run_to_end(rt, alloc, &mut ends);
     if FINE.contains(&count) {
         return Ok(status == 0);
     }
@@ -101,7 +59,7 @@ fn serves<R: Threads + Wait + Sync>(
     (status, count, err): (u8, usize, &str),
 ) -> Result<bool, Fail> {
     let mut ends = ends_over(alloc, "serve", SESSION, (reads, writes, WHOLE))?;
-    let (ended, _) = run_past(rt, alloc, &mut ends, &OpenGate);
+    let (ended, _) = run_to_end(rt, alloc, &mut ends);
     let front = REPLIES.get(..count).unwrap_or(REPLIES);
     Ok(ended == status && wrote(&ends, front, err))
 }
@@ -156,7 +114,7 @@ fn untold<R: Threads + Wait + Sync>(
 ) -> Result<(u8, bool), Fail> {
     let moves = (WHOLE, WHOLE, (1000, Some(0)));
     let mut ends = ends_over(alloc, command, bytes, moves)?;
-    let (status, _) = run_past(rt, alloc, &mut ends, &OpenGate);
+    let (status, _) = run_to_end(rt, alloc, &mut ends);
     Ok((status, wrote(&ends, b"", "")))
 }
 
