@@ -12,7 +12,7 @@ import collections, concurrent.futures, glob, os, random, re, subprocess, sys
 
 program, seed = sys.argv[1], int(sys.argv[2])
 refused = re.compile(
-    rb"refused (T[1-4]|S[1-5] at \d+|K([1-9]|10) at \d+|A1 at \d+ count \d+|B[1-5] line \d+|Q[1-6] line \d+|G[1-5] line \d+)\n")
+    rb"refused (T[1-5]|S[1-5] at \d+|K([1-9]|10) at \d+|A1 at \d+ count \d+|B[1-5] line \d+|Q[1-6] line \d+|G[1-5] line \d+|F[12] line \d+)\n")
 draw = random.Random(seed)
 
 
@@ -45,7 +45,7 @@ for path in sorted(glob.glob("examples/*")):
         text = given.read()
     with open(path + ".args") as given:
         commands = [given.read().split()]
-    commands += [["check"]] if commands[0][0] in ("serve", "dump", "ranges") else [["serve", "--callers", "2"]]
+    commands += [["check"]] if commands[0][0] in ("serve", "dump", "ranges", "audit") else [["serve", "--callers", "2"]]
     cases += [(command, other) for other in broken(text) for command in commands]
 
 with concurrent.futures.ThreadPoolExecutor(os.cpu_count()) as pool:

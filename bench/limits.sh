@@ -76,6 +76,13 @@ limit("callers: 32", lambda p: f"serve --callers {32 + p}", lambda p: served(ten
 limit("callers: 1", lambda p: f"serve --callers {1 - p}", lambda p: served(ten, "h %d", 20000), 2, USAGE)
 limit("shards: 8", lambda p: f"serve --shards {8 + p}", lambda p: served(ten, "h %d", 20000), 2, USAGE)
 limit("callers that dump: 32", lambda p: f"dump --callers {32 + p}", lambda p: served(ten, "h %d", 20000), 2, USAGE)
+limit("callers that trace: 32", lambda p: f"trace --callers {32 + p}", lambda p: served(ten, "h %d", 20000), 2, USAGE)
+audit = lambda p: "audit"
+put = "map m; handler h() { put(m, 1, 1); }\n%%\nh\n%% trace\nbegin 0 0\ndone 0 put m 1 1 nil\nend 0 nil\n"
+limit("bytes that audit reads: 67,108,864", audit, lambda p: put + "#" * (67108864 + p - len(put)), 1, "refused T1")
+limit("bytes before a trace: 4,194,304", audit,
+      lambda p: "#" * (4194304 + p - len(put.split("%% trace")[0]) - 1) + "\n" + put, 1, "refused T1")
+limit("events: 440,000", audit, lambda p: put + many("begin %d 0", 439997 + p), 1, r"refused F2 line 440005")
 limit("made requests: 20,000", lambda p: f"work {20000 + p} 0", lambda p: "", 2, USAGE)
 limit("where made requests start", lambda p: f"work 20000 {4294967295 + p}", lambda p: "", 2, USAGE)
 sys.exit(failed)

@@ -52,7 +52,8 @@ import os, subprocess, sys
 program, library = sys.argv[1:]
 failed = False
 CASES = [("serve", "examples/many.session"), ("serve --callers 4 --shards 8", "examples/many.session"),
-         ("dump", "examples/evening.session"), ("check", "examples/login.handlers"), ("show", "examples/login.handlers"),
+         ("dump", "examples/evening.session"), ("trace --callers 1", "examples/many.session"),
+         ("audit", "examples/audited.session"), ("check", "examples/login.handlers"), ("show", "examples/login.handlers"),
          ("ranges", "examples/spans.ranges"), ("work 300 7", os.devnull)]
 
 

@@ -1,0 +1,10 @@
+#!/usr/bin/env bash
+# Serves 1,000 made sessions by the coming command `clients`, and judges each output by a plain model
+# that serves the requests one at a time in the order of the printed tickets (what is asked:
+# bench/clients.py).
+# First 1,000 sessions are given to `serve` in the same way, so that the model is known to be right.
+# A session that isn't as it should be is left in this folder, wrong-N.session.
+. "$(dirname "$0")/measure.sh"
+
+python3 bench/clients.py "$program" --serve "$@"
+python3 bench/clients.py "$program" "$@"
