@@ -24,11 +24,7 @@ pub enum Unread {
 
 /// All that the source has, up to its end, which is at most so many bytes. It asks for no byte
 /// behind the first one that is too many.
-pub fn read_up_to<I: Source>(
-    alloc: Global,
-    source: &mut I,
-    most: usize,
-) -> Result<Vec<u8>, Unread>
+pub fn read_up_to<I: Source>(alloc: Global, source: &mut I, most: usize) -> Result<Vec<u8>, Unread>
     requires { most < 4294967296 }
     // These are all the bytes that were left, and the source is at its end.
     ensures read { IfOk result (λ bytes. IfSome (I.left source.old) (λ all. bytes.items ≡ all)) }
