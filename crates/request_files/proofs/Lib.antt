@@ -1,4 +1,5 @@
 pub mod ClientLemmas
+pub mod ClientSteps
 pub mod DivideLemmas
 pub mod EntryLemmas
 pub mod FaultLemmas

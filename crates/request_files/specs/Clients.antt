@@ -3,8 +3,9 @@ use Rattle.std.specs.Prelude.{◌≡◌, ℕ, ◌+◌, ◌≤◌, Bool, ◌&&◌
 use Rattle.std.specs.List.{list_all, count_by}
 use Rattle.std.specs.Str.{bytes_eq}
 use Rattle.text_lines.specs.Bytes.{is_blank}
+use Rattle.text_lines.specs.Laws.{with_feeds}
 use Rattle.text_lines.specs.Rows.{rows}
-use Rattle.text_lines.specs.Text.{Text}
+use Rattle.text_lines.specs.Text.{Text, lines}
 use Rattle.request_files.specs.declared.request.Request.{Request}
 
 -- ---- marks
@@ -20,6 +21,10 @@ marks_in ls = count_by is_next_mark ls
 -- the lines, with an empty one in place of each mark
 abbrev pub without_marks : List Text → List Text
 without_marks ls = map (λ l. if is_next_mark l then [] else l) ls
+
+-- the text of these lines: as if it weren't divided, each request at the line where it stands
+unfoldable pub unmarked : Text → Text
+unmarked text = with_feeds (without_marks (lines text))
 
 -- ---- the clients' parts
 

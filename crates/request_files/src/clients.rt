@@ -1,9 +1,11 @@
 // The requests of several clients.
 
-ghost use Rattle.std.specs.Prelude.{◌≡◌, ◌+◌, ◌<◌, ◌≤◌, length, slice_index_or, sum, take};
+ghost use Rattle.std.specs.Prelude.{◌≡◌, ◌+◌, ◌<◌, ◌≤◌, IfOk, length, slice_index_or, sum, take};
 ghost use Rattle.request_files.specs.Clients.{AreShared, starts_from};
 
 use crate::requests::Requests;
+use session_values::NoMemory;
+use std::alloc::Global;
 use std::marker::Model;
 
 /// The requests of several clients: all of them, in the file's order, and how many each client has.
@@ -27,18 +29,38 @@ impl Model for ClientRequests {
         × (r.starts.items ≡ starts_from 0 r.counts.items) };
 }
 
+/// The number of each client's first request, where the clients have so many.
+fn starts_of(alloc: Global, counts: &[u32]) -> Result<Vec<u32>, NoMemory>
+    requires { sum counts.now ≤ 4294967295 }
+    ensures { IfOk result (λ starts. starts.items ≡ starts_from 0 counts.now) }
+{
+    let mut starts = Vec::new(alloc);
+    let mut start = 0;
+    for count in counts {
+        starts.push(start)?;
+        start += *count;
+    }
+    Ok(starts)
+}
+
 impl ClientRequests {
     /// Those of these clients.
-    pub(crate) fn over(requests: Requests, counts: Vec<u32>, starts: Vec<u32>) -> ClientRequests
-        requires shared { AreShared (record { requests = requests; counts = counts.items }) }
-        requires starts { starts.items ≡ starts_from 0 counts.items }
-        ensures { result ≡ record { requests = requests; counts = counts.items } }
+    pub(crate) fn over(
+        alloc: Global,
+        requests: Requests,
+        counts: Vec<u32>,
+    ) -> Result<ClientRequests, NoMemory>
+        requires { AreShared (record { requests = requests; counts = counts.items }) }
+        ensures { IfOk result (λ r. r ≡ record { requests = requests; counts = counts.items }) }
     {
-        ClientRequests {
+        // They are fewer than 2^32, so each start is.
+        let _requests = requests.len();
+        let starts = starts_of(alloc, counts.as_slice())?;
+        Ok(ClientRequests {
             requests,
             counts,
             starts,
-        }
+        })
     }
 
     /// All requests, in the file's order.
@@ -50,7 +72,8 @@ impl ClientRequests {
 
     /// How many clients there are, 1 to 16.
     pub fn clients(&self) -> u32
-        ensures { result ≡ length self.now.counts }
+        ensures count { result ≡ length self.now.counts }
+        ensures shared { AreShared self.now }
     {
         self.counts.len() as u32
     }

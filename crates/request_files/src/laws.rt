@@ -1,17 +1,18 @@
 //! Laws of the definitions: each is the contract of a function with an empty body.
 
-ghost use Rattle.std.specs.Prelude.{◌≡◌, ℕ, ◌<◌, ◌≤◌, List, [], ◌∷◌, ◌++◌, length, None, Some};
+ghost use Rattle.std.specs.Prelude.{◌≡◌, ℕ, ◌+◌, ◌<◌, ◌≤◌, List, [], ◌∷◌, ◌++◌, length, sum, None, Some};
 ghost use Rattle.session_limits.specs.Limits.{max_requests, max_session_calls, max_session_work};
 ghost use Rattle.syntax_trees.specs.declared.file.File.{File};
 ghost use Rattle.request_files.specs.declared.refusal.RequestRefusal.TheVariants.{TooManyCalls, TooManyRequests, TooMuchWork};
+ghost use Rattle.request_files.specs.Clients.{marks_in, row_counts, unmarked, without_marks};
 ghost use Rattle.request_files.specs.Divide.{Divides};
 ghost use Rattle.request_files.specs.Laws.{AreParts, CallsPass, IsOneTooMany, IsWellFormed, calls_named};
 ghost use Rattle.request_files.specs.declared.request.Request.{Request};
 ghost use Rattle.request_files.specs.Picked.{AreNumbersOf, picked};
 ghost use Rattle.request_files.specs.Requests.{ArePrintable, first_fault, no_requests};
 ghost use Rattle.request_files.specs.Servable.{IsServable};
-ghost use Rattle.text_lines.specs.Rows.{Row};
-ghost use Rattle.text_lines.specs.Text.{Text};
+ghost use Rattle.text_lines.specs.Rows.{Row, rows};
+ghost use Rattle.text_lines.specs.Text.{Text, lines};
 ghost use Rattle.request_files.specs.WorkSums.{WorkPasses, work_named};
 
 /// Handlers, perhaps the mark and the table part, the dividing line and requests are the file.
@@ -66,4 +67,16 @@ pub fn picked_requests()
     ensures printable { (names : List Text) (requests : List Request) (ns : List ℕ) →
         AreNumbersOf (length requests) ns → ArePrintable names requests →
         ArePrintable names (picked requests ns) }
+{}
+
+/// A text without its marks has the lines of the text, with an empty one in place of each mark.
+pub fn marks_are_empty_lines()
+    ensures { (text : Text) → lines (unmarked text) ≡ without_marks (lines text) }
+{}
+
+/// There is one client more than there are marks, and each request is one client's.
+pub fn clients_of_lines()
+    ensures count { (ls : List Text) → length (row_counts ls) ≡ 1 + marks_in ls }
+    ensures all { (first : ℕ) (ls : List Text) →
+        sum (row_counts ls) ≡ length (rows first (without_marks ls)) }
 {}

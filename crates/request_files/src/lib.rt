@@ -4,6 +4,7 @@
 
 mod arguments;
 mod client_lines;
+mod client_reading;
 mod clients;
 mod divided;
 mod entry;
@@ -21,6 +22,7 @@ mod tally;
 mod trace_part;
 
 pub use client_lines::count_marks;
+pub use client_reading::read_clients;
 pub use clients::ClientRequests;
 pub use divided::{Divided, divide, has_mark};
 pub use reading::read_requests;

@@ -17,6 +17,17 @@ pub(crate) struct Tally {
     pub work: u64,
 }
 
+/// The sums before any request.
+pub(crate) fn no_requests() -> Tally
+    ensures { result ≡ spec.no_requests }
+{
+    Tally {
+        requests: 0,
+        calls: 0,
+        work: 0,
+    }
+}
+
 /// The sums with one request more, of the handler of this number.
 pub(crate) fn with_request(checked: &Checked, handler: u32, tally: Tally) -> Tally
     requires handler { handler < length checked.now.handlers }
