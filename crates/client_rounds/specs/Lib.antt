@@ -1,0 +1,4 @@
+pub mod Rounds
+pub mod Picking
+pub mod Reopening
+pub mod Behind

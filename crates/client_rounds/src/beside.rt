@@ -1,0 +1,81 @@
+// Rounds beside those who feed them.
+
+ghost use Rattle.std.specs.Prelude.{◌≡◌, ◌+◌, ◌<◌, ◌≤◌, [], IfOk, vec_len};
+ghost use denote.Param.Send.{IsSync};
+ghost use Rattle.session_limits.specs.Limits.{max_callers, max_session_calls, max_shards};
+ghost use Rattle.opening_tables.specs.Limits.{max_opening};
+ghost use Rattle.opening_tables.specs.Opening.{IsOpening, count_all};
+ghost use Rattle.handler_check.specs.Resolved.{shape_of};
+ghost use Rattle.request_files.specs.Servable.{IsServable};
+ghost use Rattle.client_rounds.specs.Rounds.{AreServed};
+
+use crate::rounds::serve_rounds;
+use crate::served::Served;
+use client_feed::{Feeder, Gatherer, feed_all, open};
+use declaration_insertion::Program;
+use opening_tables::Opening;
+use request_files::ClientRequests;
+use session_values::NoMemory;
+use std::alloc::Global;
+use std::sync::Wait;
+use std::thread::{Threads, join};
+use worker_gate::Gate;
+
+/// Serves all requests in the order in which they arrive, in rounds of at most 256. The clients'
+/// requests are fed beside that, in threads of their own where they can be made, and before it where
+/// they can't.
+pub fn serve_clients<R: Threads + Wait + Sync, G: Gate + Sync>(
+    rt: &R,
+    alloc: Global,
+    program: &Program,
+    opening: &Opening,
+    clients: &ClientRequests,
+    callers: u32,
+    shards: u32,
+    gate: &G,
+) -> Result<Served, NoMemory>
+    requires opening { IsOpening (shape_of program.now.file) opening.now }
+    requires room { count_all opening.now + max_session_calls ≤ max_opening }
+    requires servable { IsServable program.now.file clients.now.requests }
+    requires callers { (1 ≤ callers) × (callers ≤ max_callers) }
+    requires shards { (1 ≤ shards) × (shards ≤ max_shards) }
+    ensures { IfOk result (AreServed program.now opening.now clients.now callers shards) }
+{
+    // There are 1 to 16 clients.
+    let _clients = clients.clients();
+    let (feeders, gatherer) = open(alloc, clients.counts())?;
+    let feeders = feeders.into_vec();
+    let (_feeders, served) = join(
+        rt,
+        move || -> Vec<Feeder>
+            requires { IsSync R.row × IsSync G.row × (0 < vec_len feeders) }
+        { fed(rt, gate, feeders) },
+        move || -> Result<Served, NoMemory>
+            requires { IsOpening (shape_of program.now.file) opening.now
+                × (count_all opening.now + max_session_calls ≤ max_opening)
+                × IsServable program.now.file clients.now.requests
+                × ((1 ≤ callers) × (callers ≤ max_callers))
+                × ((1 ≤ shards) × (shards ≤ max_shards))
+                × (gatherer ≡ record { counts = clients.now.counts; got = [] }) }
+            ensures { IfOk result (AreServed program.entry.now opening.entry.now clients.entry.now
+                callers shards) }
+        {
+            serve_rounds(
+                rt, alloc, program, opening, clients, callers, shards, gatherer, gate,
+            )
+        },
+    );
+    served
+}
+
+// Sends all requests.
+fn fed<R: Threads + Wait + Sync, G: Gate + Sync>(
+    rt: &R,
+    gate: &G,
+    mut feeders: Vec<Feeder>,
+) -> Vec<Feeder>
+    requires { 0 < vec_len feeders }
+{
+    feed_all(rt, gate, &mut feeders);
+    feeders
+}

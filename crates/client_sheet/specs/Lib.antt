@@ -1,0 +1,4 @@
+pub mod ClientText
+pub mod Moved
+pub mod Numbers
+pub mod Tickets
