@@ -1,5 +1,5 @@
 -- Tables filled with what they open with.
-use Rattle.std.proofs.Common.{◌≡◌, ℕ, zero, suc, ◌+◌, ◌<◌, ◌≤◌, List, [], ◌∷◌, length, take, drop, Option, Some, None, refl, sym, ◌∙◌, ap, arith}
+use Rattle.std.proofs.Common.{◌≡◌, ℕ, zero, suc, ◌+◌, ◌<◌, ◌≤◌, List, [], ◌∷◌, ◌++◌, length, take, drop, Option, Some, None, refl, sym, ◌∙◌, ap, arith}
 use Rattle.std.specs.Prelude.{slice_get, slice_index_or}
 use Rattle.std.proofs.Math.ListN.{set as put_at}
 use Rattle.std.proofs.lemmas.List.{get_or-set_same, set-set}
@@ -70,6 +70,14 @@ take_none (suc t) = refl
 pub none_filled : (shape : List TableKind) (lists : List (List Pair)) → start shape ≡ tables_of shape (take 0 lists)
 none_filled [] lists = refl
 none_filled (kind ∷ shape) lists = λ i. kind_none kind i ∷ none_filled shape lists i
+
+pub empty_more : (shape : List TableKind) (t : ℕ) → t < length shape → start (take t shape) ++ empty_of (slice_index_or shape t Map) ∷ [] ≡ start (take (t + 1) shape)
+empty_more [] t h = absurd (omega (arith, h))
+empty_more (k ∷ shape) zero h = refl
+empty_more (k ∷ shape) (suc t) h =
+    let n : suc t + 1 ≡ suc (t + 1) = omega arith in
+    ap (λ (us : Tables). empty_of k ∷ us) (empty_more shape t (omega (arith, h)))
+    ∙ ap (λ (m : ℕ). start (take m (k ∷ shape))) (sym n)
 
 pub next_empty : (shape : List TableKind) (lists : List (List Pair)) (t : ℕ) (kind : TableKind) → slice_get shape t ≡ Some kind → slice_get (tables_of shape (take t lists)) t ≡ Some (container_of kind [])
 next_empty [] lists t kind h = absurd (none_some kind h)

@@ -7,6 +7,7 @@ pub mod FromBook
 pub mod FrontSteps
 pub mod Fronts
 pub mod Gathered
+pub mod JudgeTableLemmas
 pub mod Judged
 pub mod Judges
 pub mod Keeps

@@ -5,5 +5,6 @@ pub mod Judging
 pub mod Keeping
 pub mod Noted
 pub mod Replaying
+pub mod Tables
 pub mod Traces
 pub mod Verdicts

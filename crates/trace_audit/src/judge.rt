@@ -11,11 +11,11 @@ ghost use Rattle.trace_audit.specs.Verdicts as verdicts;
 ghost use Rattle.trace_audit.specs.Verdicts.{IsVerdict};
 
 use crate::front::Front;
+use crate::judge_tables::JudgeTables;
 use crate::judging::first_against;
 use crate::replaying::first_unreplayed;
 use crate::ticket_replay::TicketReplay;
 use crate::verdict::Verdict;
-use plain_tables::PlainTables;
 use session_journal::Event;
 use session_values::NoMemory;
 use std::alloc::Global;
@@ -34,7 +34,7 @@ fn rule_of(e: Event) -> u32
 
 /// The verdict on the tickets one after another from these tables, where all events are allowed and
 /// all tickets have ended.
-fn judge_tickets(tables: &mut PlainTables, replays: &[TicketReplay]) -> Result<Verdict, NoMemory>
+fn judge_tickets(tables: &mut JudgeTables, replays: &[TicketReplay]) -> Result<Verdict, NoMemory>
     requires { TicketsFit (map kind_of tables.old) replays.now }
     ensures { IfOk result (λ v. TicketsJudged tables.old replays.now v) }
 {
@@ -61,7 +61,7 @@ fn judge_event(events: &[Event], at: usize) -> Verdict
 
 /// The verdict where all events are allowed, with the tables with which the session opens.
 fn judge_whole(
-    tables: &mut PlainTables,
+    tables: &mut JudgeTables,
     replays: &[TicketReplay],
     front: &Front,
 ) -> Result<Verdict, NoMemory>
@@ -83,8 +83,8 @@ fn judge_whole(
 /// for the events in their order, and once for the tickets one after another.
 pub(crate) fn judge_trace(
     alloc: Global,
-    tables: PlainTables,
-    again: &mut PlainTables,
+    tables: JudgeTables,
+    again: &mut JudgeTables,
     replays: &[TicketReplay],
     events: &[Event],
 ) -> Result<Verdict, NoMemory>

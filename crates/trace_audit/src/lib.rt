@@ -5,6 +5,8 @@ mod audit_desk;
 mod front;
 mod gathering;
 mod judge;
+mod judge_table;
+mod judge_tables;
 mod judging;
 pub mod laws;
 mod opening;

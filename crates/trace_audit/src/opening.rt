@@ -5,17 +5,20 @@ ghost use Rattle.opening_tables.specs.Opening.{container_of, entries_of};
 ghost use Rattle.session_values.specs.Tables.{kind_of, start};
 ghost use Rattle.session_journal.specs.Script.{IsScript};
 
-use plain_tables::PlainTables;
+use crate::judge_tables::JudgeTables;
 use session_journal::{Script, opening_op};
 use session_values::{NoMemory, TableKind};
 use std::alloc::Global;
+
+/// The most keys for which a table is given room.
+const MOST_ROOM: u32 = 1_073_741_824;
 
 /// Enters what a table opens with, the last entry first.
 fn fill_table<S: Script>(
     script: &S,
     kind: TableKind,
     table: u32,
-    tables: &mut PlainTables,
+    tables: &mut JudgeTables,
 ) -> Result<(), NoMemory>
     requires within { table < length (S.meaning script.now).shape }
     requires kind { slice_get (map kind_of tables.old) table ≡ Some kind }
@@ -35,7 +38,7 @@ fn fill_table<S: Script>(
 fn fill_tables<S: Script>(
     script: &S,
     shape: &[TableKind],
-    tables: &mut PlainTables,
+    tables: &mut JudgeTables,
 ) -> Result<(), NoMemory>
     requires script { IsScript (S.meaning script.now) }
     requires shape { shape.now ≡ (S.meaning script.now).shape }
@@ -51,17 +54,38 @@ fn fill_tables<S: Script>(
     Ok(())
 }
 
+/// Empty tables of these kinds, each with the room that the script may fill.
+pub(crate) fn empty_tables<S: Script>(
+    alloc: Global,
+    script: &S,
+    shape: &[TableKind],
+) -> Result<JudgeTables, NoMemory>
+    requires script { IsScript (S.meaning script.now) }
+    requires shape { shape.now ≡ (S.meaning script.now).shape }
+    ensures { IfOk result (λ ts. ts ≡ start shape.now) }
+{
+    let Ok(count) = u32::try_from(shape.len()) else {
+        return Err(NoMemory);
+    };
+    let mut tables = JudgeTables::new(alloc);
+    for table in 0..count {
+        let room = script.room(table).saturating_add(script.opening_len(table));
+        tables.push(alloc, shape[table as usize], room.min(MOST_ROOM))?;
+    }
+    Ok(tables)
+}
+
 /// The tables with which a script opens, which are of these kinds.
 pub(crate) fn opened_tables<S: Script>(
     alloc: Global,
     script: &S,
     shape: &[TableKind],
-) -> Result<PlainTables, NoMemory>
+) -> Result<JudgeTables, NoMemory>
     requires script { IsScript (S.meaning script.now) }
     requires shape { shape.now ≡ (S.meaning script.now).shape }
     ensures { IfOk result (λ ts. ts ≡ (S.meaning script.now).opening) }
 {
-    let mut tables = PlainTables::new(alloc, shape)?;
+    let mut tables = empty_tables(alloc, script, shape)?;
     fill_tables(script, shape, &mut tables)?;
     Ok(tables)
 }

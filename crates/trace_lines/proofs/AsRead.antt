@@ -4,8 +4,8 @@ use Rattle.session_values.specs.declared.op.Op.{Op}
 use Rattle.session_values.specs.declared.reply.Reply.{Reply}
 use Rattle.session_values.specs.declared.value.Value.{Value}
 use Rattle.session_values.specs.declared.value.Value.TheVariants.{Nil, Num, Sym}
-use Rattle.session_values.specs.Tables.{Tables, reply}
-use Rattle.session_values.specs.Dialogue.{Next, Calls, Answers, replies}
+use Rattle.session_values.specs.Tables.{reply}
+use Rattle.session_values.specs.Dialogue.{replies}
 use Rattle.symbolic_ops.specs.declared.arg.Arg.{Arg}
 use Rattle.symbolic_ops.specs.declared.arg.Arg.TheVariants.{Known, Var, Any}
 use Rattle.symbolic_ops.specs.declared.symbol.Symbol.{Symbol}
@@ -13,10 +13,10 @@ use Rattle.symbolic_ops.specs.Matching.{Agrees, StandsFor}
 use Rattle.commute_tables.specs.Symbols.{CommutesWith}
 use Rattle.session_journal.specs.declared.event.Event.{Event}
 use Rattle.session_journal.specs.declared.event.Event.TheVariants.{Begin, Done, Delay, End}
-use Rattle.session_journal.specs.Journal.{DoneOperation, after, begun, by_ticket, caller_of, done_operations, end_of, ended, entries, first, in_order, of_ticket, owner, regrouped, Replays, run}
+use Rattle.session_journal.specs.Journal.{DoneOperation, after, begun, by_ticket, caller_of, done_operations, end_of, ended, first, in_order, of_ticket, owner, regrouped, Replays, run}
 use Rattle.session_journal.specs.Script.{Meaning}
-use Rattle.admission_book.specs.EventsInTurn.{IsOpen, MayBegin, MayBeDone, MayEnd, delayed_after, is_delayed, is_delayed_from, now}
-use Rattle.trace_audit.specs.Accepted.{Accepted, AreAllowed, IsAllowed, IsDelayAllowed}
+use Rattle.admission_book.specs.EventsInTurn.{IsOpen, delayed_after, is_delayed_from, now}
+use Rattle.trace_audit.specs.Accepted.{Accepted, AreAllowed, IsAllowed}
 use Rattle.trace_lines.specs.EventWords.{arg_as_read, as_read, place_as_read, symbol_as_read}
 
 module _ (names : List (List ℕ)) where

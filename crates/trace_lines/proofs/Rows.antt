@@ -10,7 +10,7 @@ use Rattle.text_lines.specs.Text.{Text}
 use Rattle.trace_audit.specs.Traces.{TraceView, max_events}
 use Rattle.trace_lines.specs.declared.refusal.TraceRefusal.{TraceRefusal}
 use Rattle.trace_lines.specs.declared.refusal.TraceRefusal.TheVariants.{BadEvent, TooManyEvents}
-use Rattle.trace_lines.specs.EventRows.{AreKnown, event_fault, first_event_fault, row_event}
+use Rattle.trace_lines.specs.EventRows.{AreKnown, IsTrace, event_fault, first_event_fault, names_after, row_event}
 use Rattle.trace_lines.specs.EventWords.{event_of}
 use Rattle.trace_lines.specs.Pushing.{IsPushed}
 use Rattle.trace_lines.proofs.Alike.{event_some, names_kept}
@@ -48,21 +48,6 @@ module _ (names : List Text) (tables : List ℕ) (shape : List TableKind) where
   pub fault_none : (seen : ℕ) (r : Row) (x : Event) → seen < max_events → row_event names tables shape r ≡ Some x → event_fault names tables shape seen r ≡ None
   fault_none seen r x l e = fault_is seen r ∙ ap (λ (b : Bool). by_room b r (is_some (row_event names tables shape r))) (room_by seen l) ∙ ap (λ (o : Option Event). by_room false r (is_some o)) e
 
-  pub record IsFine (seen : ℕ) (r : Row) : Type 0 where
-    pub room : seen < max_events
-    pub some : is_some (row_event names tables shape r) ≡ true
-
-  pub fine : (seen : ℕ) (r : Row) → event_fault names tables shape seen r ≡ None → IsFine seen r
-  fine seen r e = go (nat_le max_events seen) (is_some (row_event names tables shape r)) refl refl (sym (fault_is seen r) ∙ e)
-    where
-      go : (b s : Bool) → nat_le max_events seen ≡ b → is_some (row_event names tables shape r) ≡ s → by_room b r s ≡ None → IsFine seen r
-      go true s h i n = cc
-      go false true h i n = record { room = grind (arith, nat_tests, h); some = i }
-      go false false h i n = cc
-
-  pub fine_event : (seen : ℕ) (r : Row) → event_fault names tables shape seen r ≡ None → row_event names tables shape r ≡ None → ⊥
-  fine_event seen r e n = let s = (fine seen r e).some in let t : is_some (row_event names tables shape r) ≡ false = ap (λ (o : Option Event). is_some o) n in cc
-
   -- ---- the first fault
   pub first_nil : (seen : ℕ) → first_event_fault names tables shape seen [] ≡ None
   unfolding first_event_fault
@@ -78,22 +63,15 @@ module _ (names : List Text) (tables : List ℕ) (shape : List TableKind) where
   pub first_stop : (seen : ℕ) (r : Row) (rs : List Row) (x : TraceRefusal) → event_fault names tables shape seen r ≡ Some x → first_event_fault names tables shape seen (r ∷ rs) ≡ Some x
   first_stop seen r rs x e = first_is seen r rs ∙ ap (λ (o : Option TraceRefusal). option_or o (first_event_fault names tables shape (seen + 1) rs)) e
 
-  pub first_front : (seen : ℕ) (r : Row) (rs : List Row) → first_event_fault names tables shape seen (r ∷ rs) ≡ None → event_fault names tables shape seen r ≡ None
-  first_front seen r rs e = go (event_fault names tables shape seen r) (sym (first_is seen r rs) ∙ e)
-    where
-      go : (o : Option TraceRefusal) → option_or o (first_event_fault names tables shape (seen + 1) rs) ≡ None → o ≡ None
-      go None h = refl
-      go (Some x) h = cc
-
   -- ---- events that are read
   -- of some lines the events were read, and these are left
   pub record Going (rs0 rs : List Row) (t : TraceView) : Type 0 where
-    pub fine : first_event_fault names tables shape (length t.events) rs ≡ None
+    pub same : first_event_fault names tables shape 0 rs0 ≡ first_event_fault names tables shape (length t.events) rs
     pub events : map (row_event names tables shape) rs0 ≡ map (λ (e : Event). Some e) t.events ++ map (row_event names tables shape) rs
     pub lines : map (λ (r : Row). r.line) rs0 ≡ t.lines ++ map (λ (r : Row). r.line) rs
 
-  pub going_start : (rs0 : List Row) (t : TraceView) → t ≡ record { events = []; lines = [] } → first_event_fault names tables shape 0 rs0 ≡ None → Going rs0 rs0 t
-  going_start rs0 t e h = subst (λ (u : TraceView). Going rs0 rs0 u) (sym e) (record { fine = h; events = refl; lines = refl })
+  pub going_start : (rs0 : List Row) (t : TraceView) → t ≡ record { events = []; lines = [] } → Going rs0 rs0 t
+  going_start rs0 t e = subst (λ (u : TraceView). Going rs0 rs0 u) (sym e) (record { same = refl; events = refl; lines = refl })
 
   map_snoc : {X Y : Type 0} (f : X → Y) (xs : List X) (x : X) (ys : List Y) → map f (xs ++ x ∷ []) ++ ys ≡ map f xs ++ f x ∷ ys
   map_snoc f [] x ys = refl
@@ -103,11 +81,11 @@ module _ (names : List Text) (tables : List ℕ) (shape : List TableKind) where
   snoc [] x ys = refl
   snoc {X} (y ∷ xs) x ys = ap (λ (zs : List X). y ∷ zs) (snoc xs x ys)
 
-  pub going_turn : (rs0 : List Row) (r : Row) (rs : List Row) (t u : TraceView) → Going rs0 (r ∷ rs) t → IsPushed names tables shape r t u → Going rs0 rs u
-  going_turn rs0 r rs t u g p = record {
-    fine =
-        ap (λ (n : ℕ). first_event_fault names tables shape n rs) (ap (λ (es : List Event). length es) p.events ∙ length-append t.events (p.event ∷ []))
-        ∙ sym (first_step (length t.events) r rs (first_front (length t.events) r rs g.fine)) ∙ g.fine;
+  pub going_turn : (rs0 : List Row) (r : Row) (rs : List Row) (t u : TraceView) → Going rs0 (r ∷ rs) t → event_fault names tables shape (length t.events) r ≡ None → IsPushed names tables shape r t u → Going rs0 rs u
+  going_turn rs0 r rs t u g f p = record {
+    same =
+        g.same ∙ first_step (length t.events) r rs f
+        ∙ ap (λ (n : ℕ). first_event_fault names tables shape n rs) (sym (ap (λ (es : List Event). length es) p.events ∙ length-append t.events (p.event ∷ [])));
     events =
         g.events
         ∙ ap (λ (o : Option Event). map (λ (e : Event). Some e) t.events ++ o ∷ map (row_event names tables shape) rs) p.is
@@ -115,6 +93,16 @@ module _ (names : List Text) (tables : List ℕ) (shape : List TableKind) where
         ∙ ap (λ (es : List Event). map (λ (e : Event). Some e) es ++ map (row_event names tables shape) rs) (sym p.events);
     lines = g.lines ∙ sym (snoc t.lines r.line (map (λ (x : Row). x.line) rs)) ∙ ap (λ (ls : List ℕ). ls ++ map (λ (x : Row). x.line) rs) (sym p.lines);
   }
+
+  pub going_stop : (rs0 : List Row) (r : Row) (rs : List Row) (t : TraceView) (x : TraceRefusal) → Going rs0 (r ∷ rs) t → event_fault names tables shape (length t.events) r ≡ Some x → first_event_fault names tables shape 0 rs0 ≡ Some x
+  going_stop rs0 r rs t x g f = g.same ∙ first_stop (length t.events) r rs x f
+
+  pub going_end : (rs0 : List Row) (t : TraceView) → Going rs0 [] t → first_event_fault names tables shape 0 rs0 ≡ None
+  going_end rs0 t g = g.same ∙ first_nil (length t.events)
+
+  pub fine_pushed : {E : Type 0} (seen : ℕ) (r : Row) (x : Event) (res : Result (Unit {0}) E) → seen < max_events → row_event names tables shape r ≡ Some x → OnOk res (event_fault names tables shape seen r ≡ None)
+  fine_pushed seen r x (Ok u) l e = fault_none seen r x l e
+  fine_pushed seen r x (Err e) l h = tt
 
   pub pushed : {E : Type 0} (r : Row) (x : Event) (res : Result (Unit {0}) E) (old new : TraceView) → row_event names tables shape r ≡ Some x → IfOk res (λ _. new ≡ record { events = old.events ++ x ∷ []; lines = old.lines ++ r.line ∷ [] }) → OnOk res (IsPushed names tables shape r old new)
   pushed r x (Ok u) old new is h = record { event = x; is = is; events = ap (λ (t : TraceView). t.events) h; lines = ap (λ (t : TraceView). t.lines) h }
@@ -131,3 +119,17 @@ fault_kept old new tables shape seen (r ∷ rs) b k =
     ∙ ap (λ (o : Option TraceRefusal). option_or o (first_event_fault old tables shape (seen + 1) rs)) one
     ∙ ap (option_or (event_fault new tables shape seen r)) (fault_kept old new tables shape (seen + 1) rs b k)
     ∙ sym (first_is new tables shape seen r rs)
+
+-- what is read with the names behind all lines is a trace
+pub is_trace : {E : Type 0} (old new : List Text) (tables : List ℕ) (shape : List TableKind) (rs : List Row) (r : Result TraceView E) → Begins old new → AreKnown old tables → new ≡ names_after old rs
+    → IfOk r (λ _. first_event_fault new tables shape 0 rs ≡ None)
+    → IfOk r (λ t. map (row_event new tables shape) rs ≡ map (λ (e : Event). Some e) t.events)
+    → IfOk r (λ t. t.lines ≡ map (λ (x : Row). x.line) rs)
+    → IfOk r (IsTrace old new tables shape rs)
+is_trace old new tables shape rs (Ok t) b k n fine events lines = record {
+  fine = fault_kept old new tables shape 0 rs b k ∙ fine;
+  names = n;
+  events = events;
+  lines = lines;
+}
+is_trace old new tables shape rs (Err e) b k n fine events lines = tt

@@ -1,20 +1,21 @@
 -- What single words say.
-use Rattle.std.proofs.Common.{◌≡◌, ◌≢◌, ℕ, zero, suc, ◌+◌, ◌<◌, ◌≤◌, ◌^◌, ◌&&◌, Bool, true, false, not, cond, eqb, ltb, nat_le, List, [], ◌∷◌, length, drop, get_or, slice_get, Option, Some, None, Result, Ok, Err, refl, sym, ap, ◌∙◌, subst, arith}
+use Rattle.std.proofs.Common.{SFits, to_z, of_z, w64, ◌≡◌, ◌≢◌, ℕ, ℤ, pos, neg_ℤ, zero, suc, ◌+◌, ◌-◌, ◌<◌, ◌≤◌, ◌^◌, ◌&&◌, Bool, true, false, not, cond, eqb, ltb, nat_le, nat_lt, List, [], ◌∷◌, length, drop, get_or, slice_get, Option, Some, None, Result, Ok, Err, refl, sym, ap, ◌∙◌, subst, arith}
 use Rattle.std.proofs.lemmas.Bool.Decides.{nat_tests}
-use Rattle.std.proofs.lemmas.Fmt.{digits_decimal, decimal_nonempty}
+use Rattle.std.proofs.lemmas.Fmt.{decimal-digits_value, decimal_digit, decimal_nonempty, digits_decimal, first_decimal}
+use Rattle.std.proofs.lemmas.Int.{to_z-of_z}
 use Rattle.std.proofs.lemmas.List.Sums.{prefix_len-le-length}
 use Rattle.std.proofs.lemmas.Slice.Eq.{bytes_eq-Decides}
-use Rattle.std.proofs.lemmas.Str.Parse.{parse_plain}
+use Rattle.std.specs.Char.{is_ascii_digit}
 use Rattle.std.specs.Fmt.{decimal}
 use Rattle.std.specs.List.{position, position_or_len}
 use Rattle.std.specs.Option.{unwrap_or}
-use Rattle.std.specs.Prelude.{◌==◌, slice_index}
-use Rattle.std.specs.Result.{OkIff}
+use Rattle.std.specs.Int.{FitsUnsignedBits}
+use Rattle.std.specs.Prelude.{◌==◌, slice_index, unsigned_abs}
+use Rattle.std.specs.Result.{OkIff, result_ok}
 use Rattle.std.specs.Str.{all_ascii_digits, bytes_eq}
-use Rattle.std.specs.Str.Parse.{ParsesUnsigned}
 use Rattle.session_values.specs.Names.{place_of}
 use Rattle.text_lines.specs.Text.{Text}
-use Rattle.text_lines.specs.Values.{number_from}
+use Rattle.text_lines.specs.Values.{has_minus, number_from, number}
 use Rattle.text_lines.proofs.NumberLemmas.{numerals}
 use Rattle.line_words.specs.ValueWords.{literal_value}
 use Rattle.trace_lines.specs.EventRows.{placed_literal, placed_symbol}
@@ -84,31 +85,134 @@ small_none w f = go (bytes_eq w (decimal (number_from 0 w)) && nat_le (number_fr
     go true e = absurd (f (test_reads w e))
     go false e = refl
 
-plus_reads : (w : Text) → get_or w 0 0 ≡ 43 → Reads w → ⊥
-plus_reads [] h r = omega (arith, r.1)
-plus_reads (b ∷ bs) h r = let k = r.0 in grind (arith, nat_tests, k)
+other_reads : (w : Text) → is_ascii_digit (get_or w 0 0) ≡ false → Reads w → ⊥
+other_reads [] h r = omega (arith, r.1)
+other_reads (b ∷ bs) h r = let k = r.0 in grind (arith, nat_tests, k)
 
-pub small_plus : (w : Text) → get_or w 0 0 ≡ 43 → small_number w ≡ None
-small_plus w h = small_none w (plus_reads w h)
+pub small_other : (w : Text) → is_ascii_digit (get_or w 0 0) ≡ false → small_number w ≡ None
+small_other w h = small_none w (other_reads w h)
 
-pub small_bad : {E : Type 0} (w : Text) (r : Result ℕ E) (e : E) → r ≡ Err e → get_or w 0 0 ≢ 43 → ParsesUnsigned 32 10 w r → small_number w ≡ None
-small_bad w r e is plus h = let k = parse_plain numerals 32 w r h plus in small_none w (subst (λ x. OkIff x (Reads w) (number_from 0 w)) is k)
+-- no decimal text has a zero before other digits
+zero_reads : (w : Text) (n : ℕ) → get_or w 0 0 ≡ 48 → 1 < length w → w ≡ decimal n → n < 2 ^ 64 → ⊥
+zero_reads w zero z l e s = omega (arith, l, ap (λ (t : Text). length t) (e ∙ decimal_digit 0 (omega arith)))
+zero_reads w (suc n) z l e s =
+    let first : get_or w 0 0 ≡ get_or (decimal (suc n)) 0 0 = ap (λ (t : Text). get_or t 0 0) e in
+    omega (arith, z, first, first_decimal (suc n) (omega arith) s)
 
--- what was parsed, by whether it is written so
-pub small_good : {E : Type 0} (w : Text) (r : Result ℕ E) (n : ℕ) (b : Bool) → r ≡ Ok n → get_or w 0 0 ≢ 43 → ParsesUnsigned 32 10 w r → bytes_eq w (decimal n) ≡ b → small_number w ≡ by_test b n
-small_good w r n b is plus h e =
-    let k = subst (λ x. OkIff x (Reads w) (number_from 0 w)) is (parse_plain numerals 32 w r h plus) in
-    let l : nat_le n 4294967295 ≡ true = fits n (omega (arith, k.0.2, k.1)) in
-    ap (λ (m : ℕ). by_test (bytes_eq w (decimal m) && nat_le m 4294967295) m) (sym k.1)
-    ∙ ap (λ (t : Bool). by_test (bytes_eq w (decimal n) && t) n) l
-    ∙ ap (λ (t : Bool). by_test (t && true) n) e ∙ over b
+-- a zero stands in front of other bytes
+abbrev front_zero : Text → Bool
+front_zero w = (slice_index w 0 == 48) && nat_lt 1 (length w)
+
+is_48 : (n : ℕ) → (n == 48) ≡ true → n ≡ 48
+is_48 n e = grind (arith, nat_tests)
+
+above_1 : (n : ℕ) → nat_lt 1 n ≡ true → 1 < n
+above_1 n e = grind (arith, nat_tests)
+
+not_above_1 : (n : ℕ) → nat_lt 1 n ≡ false → n ≤ 1
+not_above_1 n e = grind (arith, nat_tests)
+
+alone : (w : Text) → front_zero w ≡ false → get_or w 0 0 ≡ 48 → length w ≤ 1
+alone w e z = not_above_1 (length w) (sym (ap (λ (n : ℕ). (n == 48) && nat_lt 1 (length w)) z) ∙ e)
+
+zeros : (w : Text) → get_or w 0 0 ≡ 48 → 1 < length w → small_number w ≡ None
+zeros w z l = go (bytes_eq w (decimal (number_from 0 w)) && nat_le (number_from 0 w) 4294967295) refl
   where
-    fits : (m : ℕ) → m < 2 ^ 32 → nat_le m 4294967295 ≡ true
-    fits m l = grind (arith, nat_tests, l)
+    go : (t : Bool) → (bytes_eq w (decimal (number_from 0 w)) && nat_le (number_from 0 w) 4294967295) ≡ t → by_test t (number_from 0 w) ≡ None
+    go true e =
+        let both = both_true (bytes_eq w (decimal (number_from 0 w))) (nat_le (number_from 0 w) 4294967295) e in
+        let small : number_from 0 w < 2 ^ 32 = small_by w both.1 in
+        absurd (zero_reads w (number_from 0 w) z l ((bytes_eq-Decides w (decimal (number_from 0 w))).0 both.0) (omega (arith, small)))
+    go false e = refl
 
-    over : (t : Bool) → by_test (t && true) n ≡ by_test t n
-    over true = refl
-    over false = refl
+pub small_zero : (w : Text) → front_zero w ≡ true → small_number w ≡ None
+small_zero w f = let both = both_true (slice_index w 0 == 48) (nat_lt 1 (length w)) f in zeros w (is_48 (slice_index w 0) both.0) (above_1 (length w) both.1)
+
+-- ---- words that begin with a digit
+abbrev reads : Text → ℕ → Bool
+reads ds most = nat_lt 0 (length ds) && all_ascii_digits ds && nat_le (number_from 0 ds) most
+
+abbrev by_reads : Bool → ℤ → Option ℤ
+by_reads t z = cond t (Some z) None
+
+-- the definition of numbers, with the test for the minus as an argument
+abbrev by_minus : Text → Bool → Option ℤ
+by_minus w m = by_reads (reads (cond m (drop 1 w) w) (cond m (2 ^ 63) (2 ^ 63 - 1)))
+    (cond m (neg_ℤ (pos (number_from 0 (cond m (drop 1 w) w)))) (pos (number_from 0 (cond m (drop 1 w) w))))
+
+number_by : (w : Text) (m : Bool) → has_minus w ≡ m → number w ≡ by_minus w m
+unfolding number
+number_by w m e = ap (by_minus w) e
+
+no_minus : (w : Text) → is_ascii_digit (get_or w 0 0) ≡ true → has_minus w ≡ false
+no_minus [] h = refl
+no_minus (b ∷ bs) h = grind (arith, nat_tests, h)
+
+digit_number : (w : Text) → is_ascii_digit (get_or w 0 0) ≡ true → number w ≡ by_reads (reads w (2 ^ 63 - 1)) (pos (number_from 0 w))
+digit_number w h = number_by w false (no_minus w h)
+
+reads_true : (w : Text) → Reads w → reads w (2 ^ 63 - 1) ≡ true
+reads_true w r = let few : number_from 0 w ≤ 2 ^ 63 - 1 = omega (arith, r.2) in grind (arith, nat_tests, r.0, r.1, few)
+
+pub small_unread : (w : Text) → is_ascii_digit (get_or w 0 0) ≡ true → number w ≡ None → small_number w ≡ None
+small_unread w h e = small_none w (λ r. some_none (sym (digit_number w h ∙ ap (λ (t : Bool). by_reads t (pos (number_from 0 w))) (reads_true w r)) ∙ e))
+  where
+    some_none : {z : ℤ} → ◌≡◌ {A = Option ℤ} (Some z) None → ⊥
+    some_none p = cc
+
+record IsRead (w : Text) : Type 0 where
+  digits : all_ascii_digits w ≡ true
+  some : 0 < length w
+  few : number_from 0 w ≤ 2 ^ 63 - 1
+
+is_read : (w : Text) → reads w (2 ^ 63 - 1) ≡ true → IsRead w
+is_read w e = record { digits = grind (arith, nat_tests); some = grind (arith, nat_tests); few = grind (arith, nat_tests) }
+
+-- what is read of digits without a zero before others is of what they are the decimal text
+pub record IsSmall (w : Text) (z : ℤ) : Type 0 where
+  pub number : z ≡ pos (number_from 0 w)
+  pub few : number_from 0 w < 2 ^ 63
+  pub small : small_number w ≡ by_test (nat_le (number_from 0 w) 4294967295) (number_from 0 w)
+
+pub small_read : (w : Text) (z : ℤ) → is_ascii_digit (get_or w 0 0) ≡ true → front_zero w ≡ false → number w ≡ Some z → IsSmall w z
+small_read w z h f e = go (reads w (2 ^ 63 - 1)) refl (sym (digit_number w h) ∙ e)
+  where
+    go : (t : Bool) → reads w (2 ^ 63 - 1) ≡ t → by_reads t (pos (number_from 0 w)) ≡ Some z → IsSmall w z
+    go false r n = cc
+    go true r n =
+        let is = is_read w r in
+        let text : decimal (number_from 0 w) ≡ w = decimal-digits_value numerals w is.digits is.some (λ k. omega (arith, alone w f k, is.some)) (omega (arith, is.few)) in
+        record {
+          number = cc;
+          few = omega (arith, is.few);
+          small = ap (λ (t : Bool). by_test (t && nat_le (number_from 0 w) 4294967295) (number_from 0 w)) ((bytes_eq-Decides w (decimal (number_from 0 w))).1 (sym text));
+        }
+
+fits_by : (n : ℕ) → n < 2 ^ 32 → nat_le n 4294967295 ≡ true
+fits_by n l = grind (arith, nat_tests, l)
+
+past_by : (n : ℕ) → (n < 2 ^ 32 → ⊥) → nat_le n 4294967295 ≡ false
+past_by n f = go (nat_le n 4294967295) refl
+  where
+    below : nat_le n 4294967295 ≡ true → n < 2 ^ 32
+    below e = grind (arith, nat_tests)
+
+    go : (b : Bool) → nat_le n 4294967295 ≡ b → b ≡ false
+    go true e = absurd (f (below e))
+    go false e = refl
+
+narrowed : {E : Type 0} (n : ℕ) (r : Result ℕ E) → OkIff r (n < 2 ^ 32) n → result_ok r ≡ by_test (nat_le n 4294967295) n
+narrowed n (Ok x) h = ap Some h.1 ∙ ap (λ (t : Bool). by_test t n) (sym (fits_by n h.0))
+narrowed n (Err e) h = ap (λ (t : Bool). by_test t n) (sym (past_by n h))
+
+pos_fits : (n : ℕ) → n < 2 ^ 63 → SFits w64 (pos n)
+pos_fits n l = record { sfits = l }
+
+-- and it is kept where it has 32 bits
+pub small_kept : {E : Type 0} (w : Text) (z : ℤ) (r : Result ℕ E) → IsSmall w z → OkIff r (FitsUnsignedBits 32 (to_z w64 (of_z w64 z))) (unsigned_abs (to_z w64 (of_z w64 z))) → result_ok r ≡ small_number w
+small_kept w z r s h =
+    let back : to_z w64 (of_z w64 z) ≡ z = to_z-of_z w64 z (subst (SFits w64) (sym s.number) (pos_fits (number_from 0 w) s.few)) in
+    narrowed (number_from 0 w) r (subst (λ (y : ℤ). OkIff r (FitsUnsignedBits 32 y) (unsigned_abs y)) (back ∙ s.number) h) ∙ sym s.small
 
 -- ---- tables by their names
 past_first : (b : Bool) (n : ℕ) → b ≡ false → 0 + 1 ≤ cond (not b) (1 + n) 0

@@ -1,6 +1,7 @@
 // The event that the words of a line are.
 
-ghost use Rattle.std.specs.Prelude.{◌≡◌, [], ◌∷◌, IfSome};
+ghost use Rattle.std.specs.Prelude.{◌≡◌, [], ◌∷◌, IfSome, codes};
+ghost use Rattle.std.specs.Str.{bytes_eq};
 ghost use Rattle.text_lines.specs.Text.{words as words_of};
 ghost use Rattle.trace_audit.specs.Traces.{HasKnownSymbol};
 ghost use Rattle.trace_lines.specs.EventRows.{AreKnown};
@@ -160,6 +161,38 @@ fn end(words: Line<'_>, names: &Names) -> Option<Event>
     }
 }
 
+/// Whether the word is `begin`.
+#[inline]
+fn is_begin(word: &str) -> bool
+    ensures { result ≡ bytes_eq word.now (codes "begin") }
+{
+    matches!(word.as_bytes(), b"begin")
+}
+
+/// Whether the word is `done`.
+#[inline]
+fn is_done(word: &str) -> bool
+    ensures { result ≡ bytes_eq word.now (codes "done") }
+{
+    matches!(word.as_bytes(), b"done")
+}
+
+/// Whether the word is `delay`.
+#[inline]
+fn is_delay(word: &str) -> bool
+    ensures { result ≡ bytes_eq word.now (codes "delay") }
+{
+    matches!(word.as_bytes(), b"delay")
+}
+
+/// Whether the word is `end`.
+#[inline]
+fn is_end(word: &str) -> bool
+    ensures { result ≡ bytes_eq word.now (codes "end") }
+{
+    matches!(word.as_bytes(), b"end")
+}
+
 /// The event that a word and those behind it are, if they are one.
 pub(crate) fn event(word: &str, words: Line<'_>, tables: Tables<'_>, names: &Names) -> Option<Event>
     requires { AreKnown names.now tables.places.now }
@@ -167,13 +200,13 @@ pub(crate) fn event(word: &str, words: Line<'_>, tables: Tables<'_>, names: &Nam
         (word.now ∷ words_of words.entry.rest.now) }
     ensures known { IfSome result HasKnownSymbol }
 {
-    if word == "begin" {
+    if is_begin(word) {
         begin(words)
-    } else if word == "done" {
+    } else if is_done(word) {
         done(words, tables, names)
-    } else if word == "delay" {
+    } else if is_delay(word) {
         delay(words, tables, names)
-    } else if word == "end" {
+    } else if is_end(word) {
         end(words, names)
     } else {
         None

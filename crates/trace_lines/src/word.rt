@@ -1,6 +1,6 @@
 // What a single word of an event says.
 
-ghost use Rattle.std.specs.Prelude.{◌≡◌, ◌<◌, ◌≤◌, IfSome, Some, length, slice_get};
+ghost use Rattle.std.specs.Prelude.{◌≡◌, ◌<◌, ◌≤◌, ◌==◌, ◌&&◌, nat_lt, IfSome, Some, length, slice_get, slice_index};
 ghost use Rattle.session_values.specs.Names.{place_of};
 ghost use Rattle.symbolic_ops.specs.Matching.{IsNoVar};
 ghost use Rattle.line_words.specs.ValueWords.{literal_value};
@@ -8,28 +8,32 @@ ghost use Rattle.trace_lines.specs.EventRows.{AreKnown};
 ghost use Rattle.trace_lines.specs.EventWords as spec;
 ghost use Rattle.trace_lines.specs.Fronts as fronts;
 
-use itoa::Buffer;
 use session_values::{Kind, Names, TableKind, Value};
 use symbolic_ops::Arg;
 use text_lines::{first_byte, is_symbol, number};
+
+/// Whether a zero stands in front of other bytes.
+fn has_front_zero(word: &str) -> bool
+    ensures { result ≡ ((slice_index word.now 0 == 48) && nat_lt 1 (length word.now)) }
+{
+    first_byte(word) == b'0' && word.len() > 1
+}
 
 /// The number of 32 bits of which the word is the decimal text.
 pub(crate) fn small_number(word: &str) -> Option<u32>
     ensures { result ≡ spec.small_number word.now }
 {
     let first = first_byte(word);
-    // `parse` takes a plus sign and leading zeros, which these numbers don't have
-    if first == b'+' {
+    if !first.is_ascii_digit() {
         return None;
     }
-    let Ok(n) = word.parse::<u32>() else {
+    // `number` takes leading zeros, which these numbers don't have
+    if has_front_zero(word) {
         return None;
-    };
-    let mut buffer = Buffer::new();
-    if word == buffer.format(n) {
-        Some(n)
-    } else {
-        None
+    }
+    match number(word) {
+        Some(n) => u32::try_from(n).ok(),
+        None => None,
     }
 }
 
@@ -37,39 +41,19 @@ pub(crate) fn small_number(word: &str) -> Option<u32>
 pub(crate) fn kind(word: &str) -> Option<Kind>
     ensures { result ≡ spec.kind_of word.now }
 {
-    if word == "get" {
-        Some(Kind::Get)
-    } else if word == "put" {
-        Some(Kind::Put)
-    } else if word == "swap" {
-        Some(Kind::Swap)
-    } else if word == "del" {
-        Some(Kind::Del)
-    } else if word == "size" {
-        Some(Kind::Size)
-    } else if word == "bump" {
-        Some(Kind::Bump)
-    } else {
-        set_kind(word)
-    }
-}
-
-/// The kind of an operation on sets whose word it is.
-fn set_kind(word: &str) -> Option<Kind>
-    ensures { result ≡ fronts.set_kind_of word.now }
-{
-    if word == "has" {
-        Some(Kind::Has)
-    } else if word == "add" {
-        Some(Kind::Add)
-    } else if word == "mark" {
-        Some(Kind::Mark)
-    } else if word == "drop" {
-        Some(Kind::Drop)
-    } else if word == "count" {
-        Some(Kind::Count)
-    } else {
-        None
+    match word.as_bytes() {
+        b"get" => Some(Kind::Get),
+        b"put" => Some(Kind::Put),
+        b"swap" => Some(Kind::Swap),
+        b"del" => Some(Kind::Del),
+        b"size" => Some(Kind::Size),
+        b"bump" => Some(Kind::Bump),
+        b"has" => Some(Kind::Has),
+        b"add" => Some(Kind::Add),
+        b"mark" => Some(Kind::Mark),
+        b"drop" => Some(Kind::Drop),
+        b"count" => Some(Kind::Count),
+        _ => None,
     }
 }
 
@@ -108,7 +92,7 @@ pub(crate) fn literal(word: &str, names: &Names) -> Option<Value>
 fn plain(word: &str) -> Option<Value>
     ensures { result ≡ fronts.plain_value word.now }
 {
-    if word == "nil" {
+    if matches!(word.as_bytes(), b"nil") {
         return Some(Value::Nil);
     }
     match number(word) {
@@ -122,7 +106,7 @@ pub(crate) fn arg(word: &str, names: &Names) -> Option<Arg>
     ensures value { result ≡ spec.arg_value names.now word.now }
     ensures known { IfSome result IsNoVar }
 {
-    if word == "any" {
+    if matches!(word.as_bytes(), b"any") {
         return Some(Arg::Any);
     }
     match literal(word, names) {

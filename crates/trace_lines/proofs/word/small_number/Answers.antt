@@ -1,20 +1,19 @@
-use Rattle.std.proofs.Common.{false, sym, true, ap, ◌∙◌}
-use Rattle.std.specs.Str.{bytes_eq}
-use Rattle.trace_lines.proofs.WordLemmas.{small_bad, small_good, small_plus}
+use Rattle.std.proofs.Common.{◌≡◌, true, sym, ap, ◌∙◌, get_or}
+use Rattle.std.specs.Char.{is_ascii_digit}
+use Rattle.trace_lines.proofs.WordLemmas.{small_kept, small_other, small_read, small_unread, small_zero}
 use Rattle.trace_lines.proofs.word.small_number.Goals as goal
 
-pub returns-then-first-eq43 : goal.returns-then-first-eq43
-returns-then-first-eq43 c = sym (small_plus c.args.word.now (sym c.first_byte-first.ensures ∙ c.if-first-eq43.true))
+pub returns-then-not-is_ascii_digit : goal.returns-then-not-is_ascii_digit
+returns-then-not-is_ascii_digit c = sym (small_other c.args.word.now (ap is_ascii_digit (sym c.first_byte-first.ensures) ∙ sym c.is_ascii_digit.ensures.value ∙ c.if-not-is_ascii_digit.true))
 
-pub returns-in_default : goal.returns-in_default
-returns-in_default c = sym (small_bad c.args.word.now c.parse.result c.in_default.field-0 c.in_default.is (λ e. c.if-first-eq43.false (c.first_byte-first.ensures ∙ e)) c.parse.ensures.value.0)
+pub returns-then-has_front_zero : goal.returns-then-has_front_zero
+returns-then-has_front_zero c = sym (small_zero c.args.word.now (sym c.has_front_zero.ensures ∙ c.if-has_front_zero.true))
 
-pub returns-then-eq : goal.returns-then-eq
-returns-then-eq c =
-    sym (small_good c.args.word.now c.parse.result c.in-Ok.n true c.in-Ok.is (λ e. c.if-first-eq43.false (c.first_byte-first.ensures ∙ e)) c.parse.ensures.value.0
-    (ap (bytes_eq c.args.word.now) (sym c.format.ensures.text) ∙ sym c.eq.ensures ∙ c.if-eq.true))
+pub returns-in-None : goal.returns-in-None
+returns-in-None c = sym (small_unread c.args.word.now (ap is_ascii_digit (sym c.first_byte-first.ensures) ∙ sym c.is_ascii_digit.ensures.value ∙ c.if-not-is_ascii_digit.false) (sym c.number.ensures ∙ c.in-None.is))
 
-pub returns-else-eq : goal.returns-else-eq
-returns-else-eq c =
-    sym (small_good c.args.word.now c.parse.result c.in-Ok.n false c.in-Ok.is (λ e. c.if-first-eq43.false (c.first_byte-first.ensures ∙ e)) c.parse.ensures.value.0
-    (ap (bytes_eq c.args.word.now) (sym c.format.ensures.text) ∙ sym c.eq.ensures ∙ c.if-eq.false))
+pub returns-in-Some : goal.returns-in-Some
+returns-in-Some c =
+    let digit : is_ascii_digit (get_or c.args.word.now 0 0) ≡ true = ap is_ascii_digit (sym c.first_byte-first.ensures) ∙ sym c.is_ascii_digit.ensures.value ∙ c.if-not-is_ascii_digit.false in
+    let small = small_read c.args.word.now c.in-Some.n digit (sym c.has_front_zero.ensures ∙ c.if-has_front_zero.false) (sym c.number.ensures ∙ c.in-Some.is) in
+    c.ok.ensures.value ∙ small_kept c.args.word.now c.in-Some.n c.try_from.result small c.try_from.ensures
