@@ -11,7 +11,7 @@ use Rattle.range_session.specs.Faults.{text_fault}
 use Rattle.range_session.proofs.OneText.{fine_text, one_text}
 use Rattle.trace_lines.specs.declared.refusal.TraceRefusal.{TraceRefusal}
 use Rattle.serve_words.specs.declared.command.Command.{Command}
-use Rattle.serve_words.specs.declared.command.Command.TheVariants.{Check, Show, Serve, Dump, Work, Ranges, Trace, Audit}
+use Rattle.serve_words.specs.declared.command.Command.TheVariants.{Check, Show, Serve, Dump, Work, Ranges, Trace, Audit, Clients}
 use Rattle.serve_words.specs.Commands.{command_of}
 use Rattle.serve_faults.specs.declared.status.Fault.{Fault}
 use Rattle.serve_faults.specs.Commands.{fixes_text, input_of, has_requests, has_handlers, is_judging}
@@ -36,6 +36,7 @@ program_in (Work requests start) input t e h = (h.file, h.is_session.program)
 program_in Ranges input t e h = absurd (false≢true e)
 program_in (Trace callers shards) input t e h = (h.file, h.is_session.program)
 program_in Audit input t e h = (h.file, h.is_session.program)
+program_in (Clients callers shards) input t e h = (h.file, h.is_session.program)
 
 no_line : (c : Command) (input t : List ℕ) (f : Fault) → IsTextOf c input t → has_requests c ≡ true → HasLineFault c input f → ⊥
 no_line Check input t f h has k = false≢true has
@@ -46,6 +47,7 @@ no_line (Dump callers shards) input t f h has k = no_line_fault (Dump callers sh
 no_line (Work requests start) input t f h has k = no_line_fault (Work requests start) input f h.file h.is_session k
 no_line (Trace callers shards) input t f h has k = no_line_fault (Trace callers shards) input f h.file h.is_session k
 no_line Audit input t f h has k = no_line_fault Audit input f h.file h.is_session k
+no_line (Clients callers shards) input t f h has k = no_line_fault (Clients callers shards) input f h.file h.is_session k
 
 no_range : (c : Command) (input t : List ℕ) (e : RangeRefusal) → IsTextOf c input t → has_handlers c ≡ false → text_fault input ≡ Some e → ⊥
 no_range Check input t e h has k = false≢true (sym has)
@@ -56,6 +58,7 @@ no_range (Work requests start) input t e h has k = false≢true (sym has)
 no_range Ranges input t e h has k = fine_text input t e h k
 no_range (Trace callers shards) input t e h has k = false≢true (sym has)
 no_range Audit input t e h has k = false≢true (sym has)
+no_range (Clients callers shards) input t e h has k = false≢true (sym has)
 
 -- a trace part without a fault has none
 no_fault_of : (input : List ℕ) (file : File) → IsSession (audited_parts input) file → trace_fault input file ≡ None → (e : TraceRefusal) → HasTraceFault input e → ⊥
@@ -74,6 +77,7 @@ no_trace (Work requests start) input t e h has k = false≢true has
 no_trace Ranges input t e h has k = false≢true has
 no_trace (Trace callers shards) input t e h has k = false≢true has
 no_trace Audit input t e h has k = no_fault_of input h.file h.is_session h.is_trace.fine e k
+no_trace (Clients callers shards) input t e h has k = false≢true has
 
 pub text_or_refused : (c : Command) (input t : List ℕ) (f : Fault) → IsInput c input → IsTextOf c input t → IsRefused c input f → ⊥
 text_or_refused c input t f i h r = by (inner c input f i r) where
@@ -126,6 +130,7 @@ same_text (Work requests start) input s t e h k =
 same_text Ranges input s t e h k = one_text input s t h k
 same_text (Trace callers shards) input s t e h k = absurd (false≢true e)
 same_text Audit input s t e h k = one_judged input s t h k
+same_text (Clients callers shards) input s t e h k = absurd (false≢true e)
 
 -- the answers to a command are one, or two texts that its input doesn't fix
 abbrev pub AreSame : Command → Answer → Answer → Type 0

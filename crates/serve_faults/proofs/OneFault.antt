@@ -16,7 +16,7 @@ use Rattle.request_files.specs.declared.refusal.RequestRefusal.{RequestRefusal}
 use Rattle.table_lines.specs.declared.refusal.TableRefusal.{TableRefusal}
 use Rattle.trace_lines.specs.declared.refusal.TraceRefusal.{TraceRefusal}
 use Rattle.serve_words.specs.declared.command.Command.{Command}
-use Rattle.serve_words.specs.declared.command.Command.TheVariants.{Check, Show, Serve, Dump, Work, Ranges, Trace, Audit}
+use Rattle.serve_words.specs.declared.command.Command.TheVariants.{Check, Show, Serve, Dump, Work, Ranges, Trace, Audit, Clients}
 use Rattle.serve_faults.specs.declared.status.Fault.{Fault}
 use Rattle.serve_faults.specs.declared.status.Fault.TheVariants as fault
 use Rattle.serve_faults.specs.Commands.{has_requests, has_handlers, is_judging}
@@ -57,6 +57,7 @@ short_or_large Ranges input s l = omega (arith, s, l)
 short_or_large (Trace callers shards) input s l = omega (arith, s, l)
 short_or_large Audit input s (inl l) = omega (arith, s.0, l)
 short_or_large Audit input s (inr l) = omega (arith, s.1, l)
+short_or_large (Clients callers shards) input s l = omega (arith, s, l)
 
 module _ (c : Command) (input : List ℕ) where
   abbrev text : List ℕ
@@ -96,6 +97,7 @@ module _ (c : Command) (input : List ℕ) where
   inner fault.NoRequests i r = absurd (no_parts fault.NoRequests i.parts r.2)
   inner fault.HasRequests i r = absurd (no_parts fault.HasRequests i.parts r.2)
   inner fault.NoTrace i r = absurd (no_parts fault.NoTrace i.parts r.2)
+  inner fault.TooManyClients i r = absurd (no_parts fault.TooManyClients i.parts r.2)
   inner (fault.Syntax e) i r = inl (e, refl, r.1, r.2)
   inner (fault.Check e) i r = inr (inl (e, refl, r.1, r.2))
   inner (fault.Analysis e) i r = inr (inr (inl (e, refl, r.1, r.2)))
@@ -116,6 +118,7 @@ module _ (c : Command) (input : List ℕ) where
     at Ranges e p = absurd (false≢true e)
     at (Trace callers shards) e p = p
     at Audit e p = p
+    at (Clients callers shards) e p = p
 
   -- a command with requests has handlers
   pub serving : has_requests c ≡ true → has_handlers c ≡ true
@@ -129,6 +132,7 @@ module _ (c : Command) (input : List ℕ) where
     at Ranges e = e
     at (Trace callers shards) e = refl
     at Audit e = refl
+    at (Clients callers shards) e = refl
 
   same_range : (d e : RangeRefusal) → text_fault input ≡ Some d → text_fault input ≡ Some e → d ≡ e
   same_range d e h k = let is : Some d ≡ Some e = sym h ∙ k in cc
@@ -175,6 +179,7 @@ module _ (c : Command) (input : List ℕ) where
     at Ranges e = e
     at (Trace callers shards) e = refl
     at Audit e = refl
+    at (Clients callers shards) e = refl
 
   judged : is_judging c ≡ true → ◌≡◌ {A = Parts} (parts_in c input) (audited_parts input)
   judged = at c where
@@ -187,6 +192,7 @@ module _ (c : Command) (input : List ℕ) where
     at Ranges e = absurd (false≢true e)
     at (Trace callers shards) e = absurd (false≢true e)
     at Audit e = refl
+    at (Clients callers shards) e = absurd (false≢true e)
 
   traced : {e : TraceRefusal} → is_judging c ≡ true → (h : HasTraceFault input e) → IsProgram text h.file
   traced j h = at c j where
@@ -199,6 +205,7 @@ module _ (c : Command) (input : List ℕ) where
     at Ranges e = absurd (false≢true e)
     at (Trace callers shards) e = absurd (false≢true e)
     at Audit e = h.is_session.program
+    at (Clients callers shards) e = absurd (false≢true e)
 
   -- what stands before a trace part with a fault has none
   no_line_before : {e : TraceRefusal} (f : Fault) → is_judging c ≡ true → HasLineFault f → HasTraceFault input e → ⊥
@@ -255,6 +262,7 @@ module _ (c : Command) (input : List ℕ) where
   large fault.NoRequests r h = absurd (short_or_large c input r.0 h)
   large fault.HasRequests r h = absurd (short_or_large c input r.0 h)
   large fault.NoTrace r h = absurd (short_or_large c input r.0 h)
+  large fault.TooManyClients r h = absurd (short_or_large c input r.0 h)
   large (fault.Syntax e) r h = absurd (short_or_large c input r.0.short h)
   large (fault.Check e) r h = absurd (short_or_large c input r.0.short h)
   large (fault.Analysis e) r h = absurd (short_or_large c input r.0.short h)
@@ -269,6 +277,7 @@ module _ (c : Command) (input : List ℕ) where
   no_text fault.NoRequests r h k = absurd (k r.1)
   no_text fault.HasRequests r h k = absurd (k r.1)
   no_text fault.NoTrace r h k = absurd (k r.1)
+  no_text fault.TooManyClients r h k = absurd (k r.1)
   no_text (fault.Syntax e) r h k = absurd (k r.0.utf8)
   no_text (fault.Check e) r h k = absurd (k r.0.utf8)
   no_text (fault.Analysis e) r h k = absurd (k r.0.utf8)
@@ -283,6 +292,7 @@ module _ (c : Command) (input : List ℕ) where
   other_parts p fault.NoRequests r h u e = let is : Some fault.NoRequests ≡ Some p = sym r.2 ∙ e in cc
   other_parts p fault.HasRequests r h u e = let is : Some fault.HasRequests ≡ Some p = sym r.2 ∙ e in cc
   other_parts p fault.NoTrace r h u e = let is : Some fault.NoTrace ≡ Some p = sym r.2 ∙ e in cc
+  other_parts p fault.TooManyClients r h u e = let is : Some fault.TooManyClients ≡ Some p = sym r.2 ∙ e in cc
   other_parts p (fault.Syntax d) r h u e = absurd (no_parts p r.0.parts e)
   other_parts p (fault.Check d) r h u e = absurd (no_parts p r.0.parts e)
   other_parts p (fault.Analysis d) r h u e = absurd (no_parts p r.0.parts e)
@@ -297,6 +307,7 @@ module _ (c : Command) (input : List ℕ) where
   refused_once fault.NoRequests g r s = sym (other_parts fault.NoRequests g s r.0 r.1 r.2)
   refused_once fault.HasRequests g r s = sym (other_parts fault.HasRequests g s r.0 r.1 r.2)
   refused_once fault.NoTrace g r s = sym (other_parts fault.NoTrace g s r.0 r.1 r.2)
+  refused_once fault.TooManyClients g r s = sym (other_parts fault.TooManyClients g s r.0 r.1 r.2)
   refused_once (fault.Syntax e) g r s = one_inner (fault.Syntax e) g (inner (fault.Syntax e) r.0 r) (inner g r.0 s)
   refused_once (fault.Check e) g r s = one_inner (fault.Check e) g (inner (fault.Check e) r.0 r) (inner g r.0 s)
   refused_once (fault.Analysis e) g r s = one_inner (fault.Analysis e) g (inner (fault.Analysis e) r.0 r) (inner g r.0 s)

@@ -1,6 +1,6 @@
 -- Each command line has an answer to each input.
 use Rattle.std.proofs.Common.{◌≡◌, ℕ, ◌<◌, ◌≤◌, ◌⊎◌, inl, inr, Bool, true, false, List, [], length, Option, Some, None, refl, sym, ◌∙◌}
-use Rattle.std.specs.Prelude.{IsUtf8}
+use Rattle.std.specs.Prelude.{IsUtf8, nat_le, if◌then◌else◌}
 use Rattle.std.specs.Str.{is_utf8}
 use Rattle.std.proofs.lemmas.Bool.{cases_lt, false≢true}
 use Rattle.std.proofs.lemmas.Str.{IsUtf8-from_is_utf8, is_utf8-from_IsUtf8}
@@ -20,14 +20,14 @@ use Rattle.range_session.proofs.SomeText.{some_text}
 use Rattle.request_files.specs.declared.refusal.RequestRefusal.{RequestRefusal}
 use Rattle.table_lines.specs.declared.refusal.TableRefusal.{TableRefusal}
 use Rattle.serve_words.specs.declared.command.Command.{Command}
-use Rattle.serve_words.specs.declared.command.Command.TheVariants.{Check, Show, Serve, Dump, Work, Ranges, Trace, Audit}
+use Rattle.serve_words.specs.declared.command.Command.TheVariants.{Check, Show, Serve, Dump, Work, Ranges, Trace, Audit, Clients}
 use Rattle.serve_words.specs.Commands.{command_of}
 use Rattle.serve_faults.specs.declared.status.Fault.{Fault}
 use Rattle.serve_faults.specs.declared.status.Fault.TheVariants as fault
 use Rattle.serve_faults.specs.Commands.{has_text, input_of, has_handlers, has_requests}
 use Rattle.serve_faults.specs.Audited.{audited_parts, trace_fault}
 use Rattle.request_files.specs.TracePart.{before_trace, has_trace}
-use Rattle.serve_faults.specs.Input.{parts_in, parts_of, parts_fault, alone_fault, divided_fault, traced_fault, has_mark, is_divided, handlers_of, max_audit_input, IsInput, IsShort, IsTooLarge}
+use Rattle.serve_faults.specs.Input.{parts_in, parts_of, parts_fault, alone_fault, divided_fault, traced_fault, clients_fault, client_marks, client_parts, has_mark, is_divided, handlers_of, max_audit_input, IsInput, IsShort, IsTooLarge}
 use Rattle.serve_faults.specs.Session.{IsProgram, IsSession, request_fault, table_fault}
 use Rattle.serve_faults.specs.Answer.{Answer, Answers, CommandAnswers, HasAnswer, IsRefused, IsUnrefused, LacksText}
 use Rattle.serve_faults.specs.Answer as answer
@@ -67,6 +67,8 @@ of_program Ranges input f h i p = absurd (false≢true h)
 of_program (Trace callers shards) input f h i p =
     of_tables (Trace callers shards) input f i refl p (λ s. inr (refl, λ e r. session_unrefused (Trace callers shards) input f e refl refl i s r)) (table_fault (parts_of input) f) refl
 of_program Audit input f h i p = of_tables Audit input f i refl p (λ s. of_trace input f i s (trace_fault input f) refl) (table_fault (audited_parts input) f) refl
+of_program (Clients callers shards) input f h i p =
+    of_tables (Clients callers shards) input f i refl p (λ s. inr (refl, λ e r. session_unrefused (Clients callers shards) input f e refl refl i s r)) (table_fault (client_parts input) f) refl
 
 -- ---- handlers
 
@@ -101,6 +103,7 @@ of_input (Dump callers shards) input i false has = absurd (false≢true (sym has
 of_input (Work requests start) input i false has = absurd (false≢true (sym has))
 of_input (Trace callers shards) input i false has = absurd (false≢true (sym has))
 of_input Audit input i false has = absurd (false≢true (sym has))
+of_input (Clients callers shards) input i false has = absurd (false≢true (sym has))
 
 -- parts have no fault, or one of these
 abbrev Wanted : Option Fault → Type 0
@@ -108,6 +111,7 @@ Wanted None = Unit {0}
 Wanted (Some fault.NoRequests) = Unit {0}
 Wanted (Some fault.HasRequests) = Unit {0}
 Wanted (Some fault.NoTrace) = Unit {0}
+Wanted (Some fault.TooManyClients) = Unit {0}
 Wanted (Some _) = ⊥
 
 alone_wanted : (b : Bool) → Wanted (alone_fault b)
@@ -124,6 +128,13 @@ traced_wanted true false = tt
 traced_wanted false true = tt
 traced_wanted false false = tt
 
+clients_wanted : (b : Bool) (n : ℕ) → Wanted (clients_fault b n)
+clients_wanted true n = by (nat_le 16 n) where
+  by : (few : Bool) → Wanted (if few then Some fault.TooManyClients else None)
+  by true = tt
+  by false = tt
+clients_wanted false n = tt
+
 parts_wanted : (c : Command) (input : List ℕ) → Wanted (parts_fault c input)
 parts_wanted Check input = alone_wanted (has_mark input)
 parts_wanted Show input = alone_wanted (has_mark input)
@@ -133,6 +144,7 @@ parts_wanted (Work requests start) input = divided_wanted (is_divided input)
 parts_wanted Ranges input = tt
 parts_wanted (Trace callers shards) input = divided_wanted (is_divided input)
 parts_wanted Audit input = traced_wanted (is_divided (before_trace input)) (has_trace input)
+parts_wanted (Clients callers shards) input = clients_wanted (is_divided input) (client_marks input)
 
 module _ (c : Command) (input : List ℕ) (short : IsShort c input) (utf8 : IsUtf8 input) where
   of_parts : (o : Option Fault) → parts_fault c input ≡ o → Wanted o → IsAnswered c input
@@ -140,6 +152,7 @@ module _ (c : Command) (input : List ℕ) (short : IsShort c input) (utf8 : IsUt
   of_parts (Some fault.NoRequests) e w = inl (answer.Refused fault.NoRequests, (short, utf8, e))
   of_parts (Some fault.HasRequests) e w = inl (answer.Refused fault.HasRequests, (short, utf8, e))
   of_parts (Some fault.NoTrace) e w = inl (answer.Refused fault.NoTrace, (short, utf8, e))
+  of_parts (Some fault.TooManyClients) e w = inl (answer.Refused fault.TooManyClients, (short, utf8, e))
   of_parts (Some _) e w = absurd w
 
 of_bytes : (c : Command) (input : List ℕ) → IsShort c input → (b : Bool) → is_utf8 input ≡ b → IsAnswered c input
@@ -155,6 +168,7 @@ sized (Dump callers shards) input = cases_lt max_input (length input)
 sized (Work requests start) input = cases_lt max_input (length input)
 sized Ranges input = cases_lt max_input (length input)
 sized (Trace callers shards) input = cases_lt max_input (length input)
+sized (Clients callers shards) input = cases_lt max_input (length input)
 sized Audit input = by (cases_lt max_audit_input (length input)) (cases_lt max_input (length (before_trace input))) where
   by : (max_audit_input < length input) ⊎ (length input ≤ max_audit_input) → (max_input < length (before_trace input)) ⊎ (length (before_trace input) ≤ max_input) → IsTooLarge Audit input ⊎ IsShort Audit input
   by (inl l) k = inl (inl l)

@@ -12,13 +12,14 @@ use Rattle.range_session.specs.Faults.{text_fault}
 use Rattle.range_session.specs.Session.{IsRangesText}
 use Rattle.request_files.specs.declared.refusal.RequestRefusal.{RequestRefusal}
 use Rattle.serve_words.specs.declared.command.Command.{Command}
-use Rattle.serve_words.specs.declared.command.Command.TheVariants.{Check, Show, Serve, Dump, Work, Ranges, Trace, Audit}
+use Rattle.serve_words.specs.declared.command.Command.TheVariants.{Check, Show, Serve, Dump, Work, Ranges, Trace, Audit, Clients}
 use Rattle.serve_words.specs.Commands.{command_of}
 use Rattle.serve_made.specs.Summary.{summary}
 use Rattle.serve_faults.specs.declared.status.Fault.{Fault}
 use Rattle.serve_faults.specs.declared.status.Fault.TheVariants as fault
 use Rattle.serve_faults.specs.Commands.{fixes_text, has_text, input_of, has_requests, has_handlers, is_judging}
 use Rattle.serve_faults.specs.Audited.{HasTraceFault, IsAudited}
+use Rattle.serve_faults.specs.Clients.{IsClientsText}
 use Rattle.serve_faults.specs.Input.{Parts, parts_in, parts_of, parts_fault, handlers_of, IsInput, IsShort, IsTooLarge}
 use Rattle.serve_faults.specs.Session.{IsProgram, IsSession, table_fault, request_fault, session_of_parts, replies_text, tables_text, serial_calls}
 use Rattle.serve_faults.specs.Traced.{IsTraced}
@@ -59,7 +60,8 @@ pub record HasRequestFault (parts : Parts) (e : RequestRefusal) : Type 0 where
   pub first : request_fault parts file ≡ Some e
 
 -- the first broken rule of an input, in the order too large, no text, no dividing line or a mark,
--- no trace part, syntax, check, analysis, tables, requests, events, or, of a range session, its lines
+-- no trace part, too many clients, syntax, check, analysis, tables, requests, events, or, of a range
+-- session, its lines
 abbrev pub IsRefused : Command → List ℕ → Fault → Type 0
 IsRefused command input fault.TooLarge = IsTooLarge command input
 IsRefused command input fault.NotText = IsShort command input × (IsUtf8 input → ⊥)
@@ -69,6 +71,8 @@ IsRefused command input fault.HasRequests = IsShort command input × IsUtf8 inpu
     × (parts_fault command input ≡ Some fault.HasRequests)
 IsRefused command input fault.NoTrace = IsShort command input × IsUtf8 input
     × (parts_fault command input ≡ Some fault.NoTrace)
+IsRefused command input fault.TooManyClients = IsShort command input × IsUtf8 input
+    × (parts_fault command input ≡ Some fault.TooManyClients)
 IsRefused command input (fault.Syntax e) = IsInput command input
     × HasSyntaxFault (handlers_of command input) e × (has_handlers command ≡ true)
 IsRefused command input (fault.Check e) = IsInput command input
@@ -146,6 +150,7 @@ IsTextOf (Work requests start) input text = IsSummary requests input text
 IsTextOf Ranges input text = IsRangesText input text
 IsTextOf (Trace callers shards) input text = IsTraced input text
 IsTextOf Audit input text = IsAudited input text
+IsTextOf (Clients callers shards) input text = IsClientsText input text
 
 -- ---- the answer
 

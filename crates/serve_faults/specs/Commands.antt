@@ -2,7 +2,7 @@
 -- too stands in `Input`.
 use Rattle.std.specs.Prelude.{ℕ, Bool, true, false, List, Option, Some, None}
 use Rattle.serve_words.specs.declared.command.Command.{Command}
-use Rattle.serve_words.specs.declared.command.Command.TheVariants.{Check, Show, Serve, Dump, Work, Ranges, Trace, Audit}
+use Rattle.serve_words.specs.declared.command.Command.TheVariants.{Check, Show, Serve, Dump, Work, Ranges, Trace, Audit, Clients}
 use Rattle.serve_made.specs.Session.{session_text}
 
 -- whether a command reads its source
@@ -16,6 +16,7 @@ is_reading (Some (Work requests start)) = false
 is_reading (Some Ranges) = true
 is_reading (Some (Trace callers shards)) = true
 is_reading (Some Audit) = true
+is_reading (Some (Clients callers shards)) = true
 
 -- what a command answers to, where its source has these bytes: `work` answers to a session that it
 -- makes
@@ -28,6 +29,7 @@ input_of (Work requests start) bytes = session_text requests start
 input_of Ranges bytes = bytes
 input_of (Trace callers shards) bytes = bytes
 input_of Audit bytes = bytes
+input_of (Clients callers shards) bytes = bytes
 
 -- whether a command answers to handlers
 abbrev pub has_handlers : Command → Bool
@@ -39,6 +41,7 @@ has_handlers (Work requests start) = true
 has_handlers Ranges = false
 has_handlers (Trace callers shards) = true
 has_handlers Audit = true
+has_handlers (Clients callers shards) = true
 
 -- whether a command answers to requests behind a dividing line
 abbrev pub has_requests : Command → Bool
@@ -50,6 +53,7 @@ has_requests (Work requests start) = true
 has_requests Ranges = false
 has_requests (Trace callers shards) = true
 has_requests Audit = true
+has_requests (Clients callers shards) = true
 
 -- whether a command serves requests through a hall
 abbrev pub is_serving : Command → Bool
@@ -61,6 +65,7 @@ is_serving (Work requests start) = true
 is_serving Ranges = false
 is_serving (Trace callers shards) = true
 is_serving Audit = false
+is_serving (Clients callers shards) = true
 
 -- whether a command judges a trace
 abbrev pub is_judging : Command → Bool
@@ -72,6 +77,7 @@ is_judging (Work requests start) = false
 is_judging Ranges = false
 is_judging (Trace callers shards) = false
 is_judging Audit = true
+is_judging (Clients callers shards) = false
 
 -- how many callers a command serves with; one that serves nothing has none
 abbrev pub callers_of : Command → ℕ
@@ -83,6 +89,7 @@ callers_of (Work requests start) = 4
 callers_of Ranges = 0
 callers_of (Trace callers shards) = callers
 callers_of Audit = 0
+callers_of (Clients callers shards) = callers
 
 -- over how many shards a table it serves
 abbrev pub shards_of : Command → ℕ
@@ -94,8 +101,10 @@ shards_of (Work requests start) = 4
 shards_of Ranges = 0
 shards_of (Trace callers shards) = shards
 shards_of Audit = 0
+shards_of (Clients callers shards) = shards
 
--- whether the text of a command is fixed by its input: a trace also tells which caller came first
+-- whether the text of a command is fixed by its input: a trace also tells which caller came first,
+-- and the lines of clients whose request came first
 abbrev pub fixes_text : Command → Bool
 fixes_text Check = true
 fixes_text Show = true
@@ -105,6 +114,7 @@ fixes_text (Work requests start) = true
 fixes_text Ranges = true
 fixes_text (Trace callers shards) = false
 fixes_text Audit = true
+fixes_text (Clients callers shards) = false
 
 -- whether it is said of a command that there is a text where no rule is broken
 abbrev pub has_text : Command → Bool
@@ -116,3 +126,4 @@ has_text (Work requests start) = true
 has_text Ranges = true
 has_text (Trace callers shards) = false
 has_text Audit = false
+has_text (Clients callers shards) = false

@@ -1,14 +1,15 @@
 -- The parts of a session file, and what a command finds in its input.
-use Rattle.std.specs.Prelude.{◌≡◌, ℕ, ◌<◌, ◌≤◌, ◌⊎◌, Bool, if◌then◌else◌, IsUtf8, List, [], length, Option, Some, None}
+use Rattle.std.specs.Prelude.{◌≡◌, ℕ, ◌<◌, ◌≤◌, ◌⊎◌, Bool, nat_le, if◌then◌else◌, IsUtf8, List, [], length, Option, Some, None}
 use Rattle.std.specs.List.{list_any}
 use Rattle.session_limits.specs.Limits.{max_input}
 use Rattle.text_lines.specs.Text.{lines}
+use Rattle.request_files.specs.Clients.{marks_in, unmarked}
 use Rattle.request_files.specs.Divide.{is_dividing, is_mark, is_table_mark, before, behind, line_behind}
 use Rattle.request_files.specs.TracePart.{before_trace, has_trace}
 use Rattle.serve_words.specs.declared.command.Command.{Command}
-use Rattle.serve_words.specs.declared.command.Command.TheVariants.{Check, Show, Serve, Dump, Work, Ranges, Trace, Audit}
+use Rattle.serve_words.specs.declared.command.Command.TheVariants.{Check, Show, Serve, Dump, Work, Ranges, Trace, Audit, Clients}
 use Rattle.serve_faults.specs.declared.status.Fault.{Fault}
-use Rattle.serve_faults.specs.declared.status.Fault.TheVariants.{NoRequests, HasRequests, NoTrace}
+use Rattle.serve_faults.specs.declared.status.Fault.TheVariants.{NoRequests, HasRequests, NoTrace, TooManyClients}
 
 -- ---- the parts of a session file
 
@@ -41,6 +42,15 @@ parts_of input =
     (behind is_dividing input) (line_behind is_table_mark (front_of input))
     (line_behind is_dividing input)
 
+-- these parts, where the requests are several clients': those of all, without the marks between them
+abbrev pub of_all_clients : Parts → Parts
+of_all_clients parts =
+    parts_by parts.handlers parts.tables (unmarked parts.requests) parts.first_table parts.first
+
+-- the parts of a session file of several clients
+abbrev pub client_parts : List ℕ → Parts
+client_parts input = of_all_clients (parts_of input)
+
 -- whether some line of an input is a dividing line
 abbrev pub is_divided : List ℕ → Bool
 is_divided input = list_any is_dividing (lines input)
@@ -65,6 +75,7 @@ most_of (Work requests start) = max_input
 most_of Ranges = max_input
 most_of (Trace callers shards) = max_input
 most_of Audit = max_audit_input
+most_of (Clients callers shards) = max_input
 
 -- an input has no more bytes than that, and one of `audit` no more than another command's before
 -- its trace part, or in the whole where it has none
@@ -78,6 +89,7 @@ IsShort Ranges input = length input ≤ max_input
 IsShort (Trace callers shards) input = length input ≤ max_input
 IsShort Audit input =
     (length input ≤ max_audit_input) × (length (before_trace input) ≤ max_input)
+IsShort (Clients callers shards) input = length input ≤ max_input
 
 -- it has more
 abbrev pub IsTooLarge : Command → List ℕ → Type 0
@@ -90,6 +102,7 @@ IsTooLarge Ranges input = max_input < length input
 IsTooLarge (Trace callers shards) input = max_input < length input
 IsTooLarge Audit input =
     (max_audit_input < length input) ⊎ (max_input < length (before_trace input))
+IsTooLarge (Clients callers shards) input = max_input < length input
 
 -- the session file in an input: for `audit` what stands before the trace part
 abbrev pub session_in : Command → List ℕ → List ℕ
@@ -101,10 +114,23 @@ session_in (Work requests start) input = input
 session_in Ranges input = input
 session_in (Trace callers shards) input = input
 session_in Audit input = before_trace input
+session_in (Clients callers shards) input = input
 
--- the parts of this session file
+-- what a command answers to, of the parts of its session file
+abbrev pub parts_for : Command → Parts → Parts
+parts_for Check parts = parts
+parts_for Show parts = parts
+parts_for (Serve callers shards) parts = parts
+parts_for (Dump callers shards) parts = parts
+parts_for (Work requests start) parts = parts
+parts_for Ranges parts = parts
+parts_for (Trace callers shards) parts = parts
+parts_for Audit parts = parts
+parts_for (Clients callers shards) parts = of_all_clients parts
+
+-- these parts of the session file in an input
 abbrev pub parts_in : Command → List ℕ → Parts
-parts_in command input = parts_of (session_in command input)
+parts_in command input = parts_for command (parts_of (session_in command input))
 
 -- a file of handlers alone has no mark
 abbrev pub alone_fault : Bool → Option Fault
@@ -119,6 +145,15 @@ abbrev pub traced_fault : Bool → Bool → Option Fault
 traced_fault divided traced =
     if divided then (if traced then None else Some NoTrace) else Some NoRequests
 
+-- a session file of several clients has a dividing line, and at most 15 lines `%% next` behind it
+abbrev pub clients_fault : Bool → ℕ → Option Fault
+clients_fault divided marks =
+    if divided then (if nat_le 16 marks then Some TooManyClients else None) else Some NoRequests
+
+-- how many lines `%% next` stand behind the dividing line
+abbrev pub client_marks : List ℕ → ℕ
+client_marks input = marks_in (lines (parts_of input).requests)
+
 -- the fault of an input that hasn't the parts that the command wants; lines of holds and operations
 -- have none
 abbrev pub parts_fault : Command → List ℕ → Option Fault
@@ -130,6 +165,7 @@ parts_fault (Work requests start) input = divided_fault (is_divided input)
 parts_fault Ranges input = None
 parts_fault (Trace callers shards) input = divided_fault (is_divided input)
 parts_fault Audit input = traced_fault (is_divided (before_trace input)) (has_trace input)
+parts_fault (Clients callers shards) input = clients_fault (is_divided input) (client_marks input)
 
 -- the text of the handlers in an input
 abbrev pub handlers_of : Command → List ℕ → List ℕ
@@ -141,6 +177,7 @@ handlers_of (Work requests start) input = (parts_of input).handlers
 handlers_of Ranges input = []
 handlers_of (Trace callers shards) input = (parts_of input).handlers
 handlers_of Audit input = (parts_of (before_trace input)).handlers
+handlers_of (Clients callers shards) input = (parts_of input).handlers
 
 -- an input with the parts that the command answers to
 pub record IsInput (command : Command) (input : List ℕ) : Type 0 where

@@ -17,7 +17,7 @@ use Rattle.trace_lines.specs.declared.refusal.TraceRefusal.TheVariants as trace
 use Rattle.range_session.specs.declared.refusal.RangeRefusal.{RangeRefusal}
 use Rattle.range_session.specs.declared.refusal.RangeRefusal.TheVariants as range
 use Rattle.serve_faults.specs.declared.status.Fault.{Fault}
-use Rattle.serve_faults.specs.declared.status.Fault.TheVariants.{TooLarge, NoRequests, HasRequests, NotText, NoTrace, Syntax, Check, Analysis, Tables, Request, Trace, Ranges}
+use Rattle.serve_faults.specs.declared.status.Fault.TheVariants.{TooLarge, NoRequests, HasRequests, NotText, NoTrace, TooManyClients, Syntax, Check, Analysis, Tables, Request, Trace, Ranges}
 use Rattle.serve_faults.specs.declared.status.Status.{Status}
 use Rattle.serve_faults.specs.declared.status.Status.TheVariants.{Fine, Refused, Usage, NoMemory, ReadFault, WriteFault}
 
@@ -92,6 +92,7 @@ fault_line NoRequests = ended (codes "refused T2")
 fault_line HasRequests = ended (codes "refused T3")
 fault_line NotText = ended (codes "refused T4")
 fault_line NoTrace = ended (codes "refused T5")
+fault_line TooManyClients = ended (codes "refused T6")
 fault_line (Syntax e) = syntax_line e
 fault_line (Check e) = check_line e
 fault_line (Analysis e) = analysis_line e

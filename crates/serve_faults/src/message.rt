@@ -37,6 +37,7 @@ fn fault_line(fault: &Fault) -> ShortText
         Fault::HasRequests => short_text("refused T3\n"),
         Fault::NotText => short_text("refused T4\n"),
         Fault::NoTrace => short_text("refused T5\n"),
+        Fault::TooManyClients => short_text("refused T6\n"),
         Fault::Syntax(e) => syntax_line(e.refusal()),
         Fault::Check(e) => check_line(e.refusal()),
         Fault::Analysis(e) => analysis_line(e.refusal()),

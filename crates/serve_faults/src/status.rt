@@ -25,6 +25,8 @@ pub enum Fault {
     NotText,
     /// It has no trace part, and a trace is to be judged.
     NoTrace,
+    /// Its requests are those of more than 16 clients.
+    TooManyClients,
     /// The text of the handlers is no file of the grammar within its limits.
     Syntax(Certain<SyntaxRefusal>),
     /// The handlers break a rule of the checker.

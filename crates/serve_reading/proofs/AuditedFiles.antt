@@ -101,6 +101,7 @@ session_refused parts rs (Refused fault.NotText) h = absurd h
 session_refused parts rs (Refused fault.NoRequests) h = absurd h
 session_refused parts rs (Refused fault.HasRequests) h = absurd h
 session_refused parts rs (Refused fault.NoTrace) h = absurd h
+session_refused parts rs (Refused fault.TooManyClients) h = absurd h
 
 pub events_refused : (parts : Parts) (l : Loaded) (rs : List Row) (e : Unserved) → IsLoaded parts l → IsEventsReason l.names l.program.file rs e → IsTracedReason parts rs e
 events_refused parts l rs NoMemory h r = tt
@@ -120,6 +121,7 @@ events_refused parts l rs (Refused fault.NotText) h r = absurd r
 events_refused parts l rs (Refused fault.NoRequests) h r = absurd r
 events_refused parts l rs (Refused fault.HasRequests) h r = absurd r
 events_refused parts l rs (Refused fault.NoTrace) h r = absurd r
+events_refused parts l rs (Refused fault.TooManyClients) h r = absurd r
 
 -- ---- inputs
 
@@ -138,6 +140,7 @@ audit_reason input (Refused fault.NotText) i h = absurd h
 audit_reason input (Refused fault.NoRequests) i h = absurd h
 audit_reason input (Refused fault.HasRequests) i h = absurd h
 audit_reason input (Refused fault.NoTrace) i h = absurd h
+audit_reason input (Refused fault.TooManyClients) i h = absurd h
 
 -- bounds and bytes of an input, with what stands before its trace part
 module _ (input : List ℕ) (short : length input ≤ max_audit_input) (few : length (before_trace input) ≤ max_input) where

@@ -81,3 +81,4 @@ session_reason input parts (Refused fault.NotText) i is h = absurd h
 session_reason input parts (Refused fault.NoRequests) i is h = absurd h
 session_reason input parts (Refused fault.HasRequests) i is h = absurd h
 session_reason input parts (Refused fault.NoTrace) i is h = absurd h
+session_reason input parts (Refused fault.TooManyClients) i is h = absurd h

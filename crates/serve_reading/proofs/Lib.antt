@@ -1,3 +1,4 @@
 pub mod AuditedFiles
+pub mod ClientFiles
 pub mod Inputs
 pub mod Loading

@@ -127,6 +127,7 @@ lines_reason parts p old (Refused fault.NotText) program is h = absurd h
 lines_reason parts p old (Refused fault.NoRequests) program is h = absurd h
 lines_reason parts p old (Refused fault.HasRequests) program is h = absurd h
 lines_reason parts p old (Refused fault.NoTrace) program is h = absurd h
+lines_reason parts p old (Refused fault.TooManyClients) program is h = absurd h
 
 -- ---- describing
 pub describing_input : (shown : Bool) (bytes : List ℕ) → length bytes ≤ max_input → IsUtf8 bytes → has_mark bytes ≡ false → IsInput (describing shown) bytes
@@ -155,6 +156,7 @@ check_reason file (Refused fault.NotText) h = absurd h
 check_reason file (Refused fault.NoRequests) h = absurd h
 check_reason file (Refused fault.HasRequests) h = absurd h
 check_reason file (Refused fault.NoTrace) h = absurd h
+check_reason file (Refused fault.TooManyClients) h = absurd h
 
 pub analysis_reason : (file : File) (e : Unserved) → IsAccepted file → IsAnalysisReason file e → IsFileReason file e
 analysis_reason file NoMemory a h = tt
@@ -170,6 +172,7 @@ analysis_reason file (Refused fault.NotText) a h = absurd h
 analysis_reason file (Refused fault.NoRequests) a h = absurd h
 analysis_reason file (Refused fault.HasRequests) a h = absurd h
 analysis_reason file (Refused fault.NoTrace) a h = absurd h
+analysis_reason file (Refused fault.TooManyClients) a h = absurd h
 
 -- what is wrong with a file is wrong with the bytes that it is made of
 pub file_reason : (shown : Bool) (bytes : List ℕ) (file : File) (names : List (List ℕ)) (e : Unserved) → IsParsed bytes file names → IsFileReason file e → IsReason (describing shown) bytes e
@@ -188,6 +191,7 @@ file_reason shown bytes file names (Refused fault.NotText) p h = absurd h
 file_reason shown bytes file names (Refused fault.NoRequests) p h = absurd h
 file_reason shown bytes file names (Refused fault.HasRequests) p h = absurd h
 file_reason shown bytes file names (Refused fault.NoTrace) p h = absurd h
+file_reason shown bytes file names (Refused fault.TooManyClients) p h = absurd h
 
 pub syntax_reason : (shown : Bool) (bytes : List ℕ) (e : Unserved) → IsInput (describing shown) bytes → IsSyntaxReason bytes e → IsReason (describing shown) bytes e
 syntax_reason shown bytes NoMemory i h = tt
@@ -204,6 +208,7 @@ syntax_reason shown bytes (Refused fault.NotText) i h = absurd h
 syntax_reason shown bytes (Refused fault.NoRequests) i h = absurd h
 syntax_reason shown bytes (Refused fault.HasRequests) i h = absurd h
 syntax_reason shown bytes (Refused fault.NoTrace) i h = absurd h
+syntax_reason shown bytes (Refused fault.TooManyClients) i h = absurd h
 
 abbrev pub as_parsed : (bytes : List ℕ) (file : File) (names : List (List ℕ)) → IsParsed bytes file names → IsAccepted file → HasLater file → IsProgram bytes file
 as_parsed bytes file names p a l = record { form = p.form; accepted = a; lists = l.0; later = l.1 }

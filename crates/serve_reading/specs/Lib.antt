@@ -1,4 +1,5 @@
 pub mod Audits
+pub mod Clients
 pub mod Programs
 pub mod Reasons
 pub mod Sessions

@@ -2,6 +2,7 @@
 #![tactic(auto)]
 
 mod auditing;
+mod clients;
 mod describing;
 mod naming;
 mod program;
@@ -11,6 +12,7 @@ mod session;
 mod unserved;
 
 pub use auditing::{Audited, load_audited};
+pub use clients::{LoadedClients, load_clients};
 pub use describing::{DescribedFile, Description, read_description};
 pub use program::read_program;
 pub use ranging::ranged_text;

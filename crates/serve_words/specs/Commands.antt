@@ -4,14 +4,15 @@ use Rattle.std.specs.Str.{bytes_eq}
 use Rattle.session_limits.specs.Limits.{max_callers, max_requests, max_shards}
 use Rattle.serve_words.specs.Numbers.{number_within}
 use Rattle.serve_words.specs.declared.command.Command.{Command}
-use Rattle.serve_words.specs.declared.command.Command.TheVariants.{Check, Show, Serve, Dump, Work, Ranges, Trace, Audit}
+use Rattle.serve_words.specs.declared.command.Command.TheVariants.{Check, Show, Serve, Dump, Work, Ranges, Trace, Audit, Clients}
 
 -- the line that tells the command lines
 abbrev pub usage_line : List ℕ
 usage_line =
     codes "usage: foresight check | show | serve [--callers N] [--shards S]"
     ++ codes " | dump [--callers N] [--shards S] | work N START | ranges"
-    ++ codes " | trace [--callers N] [--shards S] | audit" ++ 10 ∷ []
+    ++ codes " | trace [--callers N] [--shards S] | audit"
+    ++ codes " | clients [--callers N] [--shards S]" ++ 10 ∷ []
 
 -- the number of callers, and the number of shards of a table
 abbrev pub callers_of : List ℕ → Option ℕ
@@ -68,6 +69,15 @@ trace_by (Some p) = Some (Trace p.0 p.1)
 abbrev pub trace_of : List (List ℕ) → Option Command
 trace_of options = trace_by (sizes_of options)
 
+-- serving several clients with these numbers
+abbrev pub clients_by : Option (ℕ × ℕ) → Option Command
+clients_by None = None
+clients_by (Some p) = Some (Clients p.0 p.1)
+
+-- serving several clients by the words behind `clients`
+abbrev pub clients_of : List (List ℕ) → Option Command
+clients_of options = clients_by (sizes_of options)
+
 -- a made session by the two words behind `work`
 abbrev pub work_by : Option ℕ → Option ℕ → Option Command
 work_by (Some requests) (Some start) = Some (Work requests start)
@@ -87,22 +97,28 @@ alone word =
     else (if bytes_eq word (codes "dump") then dump_of []
     else (if bytes_eq word (codes "ranges") then Some Ranges
     else (if bytes_eq word (codes "trace") then trace_of []
-    else (if bytes_eq word (codes "audit") then Some Audit else None))))))
+    else (if bytes_eq word (codes "audit") then Some Audit
+    else (if bytes_eq word (codes "clients") then clients_of [] else None)))))))
 
--- `work` with two words behind it
+-- a made session by the words behind `work`, which are two
 abbrev pub work_line : List (List ℕ) → Option Command
-work_line (word ∷ requests ∷ start ∷ []) =
-    if bytes_eq word (codes "work") then work_of requests start else None
+work_line (requests ∷ start ∷ []) = work_of requests start
 work_line _ = None
+
+-- the command of a word and those behind it
+unfoldable pub followed : List ℕ → List (List ℕ) → Option Command
+followed word more =
+    if bytes_eq word (codes "serve") then serve_of more
+    else (if bytes_eq word (codes "dump") then dump_of more
+    else (if bytes_eq word (codes "trace") then trace_of more
+    else (if bytes_eq word (codes "clients") then clients_of more
+    else (if bytes_eq word (codes "work") then work_line more else None))))
 
 -- the command that the words ask for, if they are a command line
 abbrev pub command_of : List (List ℕ) → Option Command
 command_of [] = None
 command_of (word ∷ []) = alone word
-command_of (word ∷ more) =
-    if bytes_eq word (codes "serve") then serve_of more
-    else (if bytes_eq word (codes "dump") then dump_of more
-    else (if bytes_eq word (codes "trace") then trace_of more else work_line (word ∷ more)))
+command_of (word ∷ more) = followed word more
 
 -- 1 to 32 callers and 1 to 8 shards
 abbrev pub AreSizes : ℕ → ℕ → Type 0
@@ -120,3 +136,4 @@ IsWithinBounds (Work requests start) = (1 ≤ requests) × (requests ≤ max_req
 IsWithinBounds Ranges = Unit {0}
 IsWithinBounds (Trace callers shards) = AreSizes callers shards
 IsWithinBounds Audit = Unit {0}
+IsWithinBounds (Clients callers shards) = AreSizes callers shards

@@ -20,4 +20,7 @@ pub enum Command {
     Trace { callers: u32, shards: u32 },
     /// Judge the trace with which a session file ends.
     Audit,
+    /// Serve the requests of several clients in the order in which they come, and write each client's
+    /// replies.
+    Clients { callers: u32, shards: u32 },
 }

@@ -17,7 +17,8 @@ pub fn usage_line() -> &'static str
 {
     "usage: foresight check | show | serve [--callers N] [--shards S] \
      | dump [--callers N] [--shards S] | work N START | ranges \
-     | trace [--callers N] [--shards S] | audit\n"
+     | trace [--callers N] [--shards S] | audit \
+     | clients [--callers N] [--shards S]\n"
 }
 
 /// The command of a command line, if it is one; the words are those after the program's name.
@@ -27,13 +28,29 @@ pub fn command_of(words: &[String]) -> Option<Command>
 {
     match words {
         [word] => alone(word.as_str()),
-        [word, options @ ..] if word.as_str() == "serve" => serve_of(options),
-        [word, options @ ..] if word.as_str() == "dump" => dump_of(options),
-        [word, options @ ..] if word.as_str() == "trace" => trace_of(options),
-        [word, requests, start] if word.as_str() == "work" => {
-            work_of(requests.as_str(), start.as_str())
-        }
-        _ => None,
+        [word, more @ ..] => followed(word.as_str(), more),
+        [] => None,
+    }
+}
+
+/// The command of a word and those behind it.
+#[tactic(auto, unfolding(crate::specs::Commands::followed))]
+fn followed(word: &str, more: &[String]) -> Option<Command>
+    ensures command { result ≡ spec.followed word.now (map string_bytes more.now) }
+    ensures bounds { IfSome result spec.IsWithinBounds }
+{
+    if word == "serve" {
+        serve_of(more)
+    } else if word == "dump" {
+        dump_of(more)
+    } else if word == "trace" {
+        trace_of(more)
+    } else if word == "clients" {
+        clients_of(more)
+    } else if word == "work" {
+        work_line(more)
+    } else {
+        None
     }
 }
 
@@ -56,6 +73,8 @@ fn alone(word: &str) -> Option<Command>
         trace_of(&[])
     } else if word == "audit" {
         Some(Command::Audit)
+    } else if word == "clients" {
+        clients_of(&[])
     } else {
         None
     }
@@ -86,6 +105,15 @@ fn trace_of(options: &[String]) -> Option<Command>
 {
     let (callers, shards) = sizes_of(options)?;
     Some(Command::Trace { callers, shards })
+}
+
+/// Serving several clients by the options behind the word `clients`.
+fn clients_of(options: &[String]) -> Option<Command>
+    ensures command { result ≡ spec.clients_of (map string_bytes options.now) }
+    ensures bounds { IfSome result spec.IsWithinBounds }
+{
+    let (callers, shards) = sizes_of(options)?;
+    Some(Command::Clients { callers, shards })
 }
 
 /// How many callers serve, and over how many shards a table, by the options.
@@ -133,6 +161,17 @@ fn both(callers: Option<u32>, shards: Option<u32>) -> Option<(u32, u32)>
 {
     match (callers, shards) {
         (Some(callers), Some(shards)) => Some((callers, shards)),
+        _ => None,
+    }
+}
+
+/// A made session by the words behind `work`.
+fn work_line(words: &[String]) -> Option<Command>
+    ensures command { result ≡ spec.work_line (map string_bytes words.now) }
+    ensures bounds { IfSome result spec.IsWithinBounds }
+{
+    match words {
+        [requests, start] => work_of(requests.as_str(), start.as_str()),
         _ => None,
     }
 }

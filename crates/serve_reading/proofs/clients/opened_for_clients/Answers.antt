@@ -1,0 +1,15 @@
+use Rattle.table_lines.proofs.OpenedLemmas.{opened_is}
+use Rattle.serve_reading.proofs.ClientFiles.{opening_few}
+use Rattle.serve_reading.proofs.Loading.{both_read}
+use Rattle.serve_reading.proofs.clients.opened_for_clients.Goals as goal
+
+pub returns-in-Ok-read_clients-clause-opened : goal.returns-in-Ok-read_clients-clause-opened
+returns-in-Ok-read_clients-clause-opened c =
+    let t = c.in-Ok.ensures in
+    let r = c.in-Ok-read_clients.ensures in
+    both_read _ _ _ c.args.checked.now _ _ _ _ t.ok t.opening t.printable t.kept r.ok r.servable r.printable r.kept
+
+pub returns-in-Ok-read_clients-clause-few : goal.returns-in-Ok-read_clients-clause-few
+returns-in-Ok-read_clients-clause-few c =
+    let t = c.in-Ok.ensures.ok in
+    opening_few _ _ _ _ _ t.fine (opened_is _ _ _ _ _ t)

@@ -1,0 +1,129 @@
+// Reading a session of clients: from the bytes of a session file whose requests are several clients'
+// to what can be served.
+
+ghost use Rattle.std.specs.Prelude.{◌≡◌, ◌≤◌, ◌+◌, ℕ, length, IfOk, IfErr};
+ghost use Rattle.session_limits.specs.Limits.{max_input};
+ghost use Rattle.opening_tables.specs.Limits.{max_table_lines};
+ghost use Rattle.opening_tables.specs.Opening.{count_all};
+ghost use Rattle.request_files.specs.Clients.{AreShared, marks_in, row_counts, unmarked, without_marks};
+ghost use Rattle.syntax_trees.specs.Mentions.{AreNamed, file_mentions};
+ghost use Rattle.text_lines.specs.Rows.{rows};
+ghost use Rattle.text_lines.specs.Text.{lines};
+ghost use Rattle.serve_words.specs.declared.command.Command.TheVariants.{Clients};
+ghost use Rattle.serve_faults.specs.Input.{IsInput, parts_by};
+ghost use Rattle.serve_reading.specs.Clients.{AreClients, IsLoadedClients};
+ghost use Rattle.serve_reading.specs.Sessions.{AreOpened};
+ghost use Rattle.serve_reading.specs.Reasons.{IsLinesReason, IsReason, IsSessionReason};
+
+use crate::naming::names_of_input;
+use crate::program::read_program;
+use crate::unserved::Unserved;
+use declaration_insertion::Program;
+use handler_check::Checked;
+use opening_tables::Opening;
+use request_files::{ClientRequests, Divided, RequestRefusal, count_marks, divide, read_clients};
+use serve_faults::{Certain, Fault};
+use session_values::Names;
+use std::alloc::Global;
+use table_lines::{TableRefusal, read_tables};
+
+/// A session whose requests are several clients'.
+#[derive(Drop)]
+pub struct LoadedClients {
+    pub names: Names,
+    pub program: Program,
+    /// The entries with which the tables open.
+    pub opening: Opening,
+    pub clients: ClientRequests,
+}
+
+/// The session of clients of a session file's bytes.
+pub fn load_clients(alloc: Global, bytes: &[u8]) -> Result<LoadedClients, Unserved>
+    requires { length bytes.now ≤ max_input }
+    ensures input { IfOk result (λ _. (callers shards : ℕ)
+        → IsInput (Clients callers shards) bytes.now) }
+    ensures loaded { IfOk result (IsLoadedClients bytes.now) }
+    ensures refused { IfErr result (λ e. (callers shards : ℕ)
+        → IsReason (Clients callers shards) bytes.now e) }
+{
+    let Ok(text) = std::str::from_utf8(bytes) else {
+        return Err(Unserved::Refused(Fault::NotText));
+    };
+    let Some(parts) = divide(text) else {
+        return Err(Unserved::Refused(Fault::NoRequests));
+    };
+    // Between 16 clients stand 15 marks.
+    if count_marks(parts.requests) > 15 {
+        return Err(Unserved::Refused(Fault::TooManyClients));
+    }
+    match read_clients_session(alloc, parts) {
+        Ok(loaded) => Ok(loaded),
+        Err(e) => Err(e),
+    }
+}
+
+/// The session of clients of a file's parts.
+fn read_clients_session(alloc: Global, parts: Divided<'_>) -> Result<LoadedClients, Unserved>
+    requires handlers { length parts.handlers.now ≤ max_input }
+    requires tables { length parts.tables.now ≤ max_input }
+    requires requests { length parts.requests.now ≤ max_input }
+    requires first_table { parts.first_table ≤ 4194306 }
+    requires first { parts.first ≤ 4194306 }
+    requires marks { marks_in (lines parts.requests.now) ≤ 15 }
+    ensures loaded { IfOk result (AreClients (parts_by parts.entry.handlers.now
+        parts.entry.tables.now parts.entry.requests.now parts.entry.first_table
+        parts.entry.first)) }
+    ensures refused { IfErr result (IsSessionReason (parts_by parts.entry.handlers.now
+        parts.entry.tables.now (unmarked parts.entry.requests.now) parts.entry.first_table
+        parts.entry.first)) }
+{
+    let mut names = names_of_input(alloc, parts.handlers, parts.tables, parts.requests);
+    let program = read_program(alloc, parts.handlers, &mut names)?;
+    let checked = program.checked();
+    match opened_for_clients(alloc, checked, parts, &mut names) {
+        Ok((opening, clients)) => Ok(LoadedClients {
+            names,
+            program,
+            opening,
+            clients,
+        }),
+        Err(e) => Err(e),
+    }
+}
+
+/// The entries with which the tables of checked handlers open, and the clients' requests behind them.
+fn opened_for_clients(
+    alloc: Global,
+    checked: &Checked,
+    parts: Divided<'_>,
+    names: &mut Names,
+) -> Result<(Opening, ClientRequests), Unserved>
+    requires named { AreNamed names.old (file_mentions checked.now) }
+    requires names { length names.old ≤ max_input }
+    requires tables { length parts.tables.now ≤ max_input }
+    requires requests { length parts.requests.now ≤ max_input }
+    requires first_table { parts.first_table ≤ 4194306 }
+    requires first { parts.first ≤ 4194306 }
+    requires marks { marks_in (lines parts.requests.now) ≤ 15 }
+    ensures opened { IfOk result (λ found. AreOpened names.old names.new checked.now
+        (rows parts.entry.first_table (lines parts.entry.tables.now)) (rows parts.entry.first
+        (without_marks (lines parts.entry.requests.now))) found.0 found.1.requests) }
+    ensures counts { IfOk result (λ found.
+        found.1.counts ≡ row_counts (lines parts.entry.requests.now)) }
+    ensures shared { IfOk result (λ found. AreShared found.1) }
+    ensures few { IfOk result (λ found. count_all found.0 ≤ max_table_lines) }
+    ensures refused { IfErr result (IsLinesReason names.old checked.now
+        (rows parts.entry.first_table (lines parts.entry.tables.now)) (rows parts.entry.first
+        (without_marks (lines parts.entry.requests.now)))) }
+{
+    let opening = match read_tables(alloc, checked, parts.tables, parts.first_table, names) {
+        Ok(opening) => opening,
+        Err(TableRefusal::NoMemory) => return Err(Unserved::NoMemory),
+        Err(e) => return Err(Unserved::Refused(Fault::Tables(Certain::new(e)))),
+    };
+    match read_clients(alloc, checked, parts.requests, parts.first, names) {
+        Ok(clients) => Ok((opening, clients)),
+        Err(RequestRefusal::NoMemory) => Err(Unserved::NoMemory),
+        Err(e) => Err(Unserved::Refused(Fault::Request(Certain::new(e)))),
+    }
+}
