@@ -1,5 +1,5 @@
 -- What a command answers to its input, from what its parts say.
-use Rattle.std.proofs.Common.{◌≡◌, ℕ, ◌≤◌, Bool, true, false, if◌then◌else◌, is_some, List, length, map, Option, Some, None, refl, sym, ap, ◌∙◌, subst}
+use Rattle.std.proofs.Common.{◌≡◌, ℕ, ◌≤◌, Bool, ◌&&◌, true, false, if◌then◌else◌, is_some, List, length, map, Option, Some, None, refl, sym, ap, ◌∙◌, subst}
 use Rattle.session_limits.specs.Limits.{max_input}
 use Rattle.session_values.specs.declared.reply.Reply.{Reply}
 use Rattle.session_values.specs.Serial.{Session, serial_replies, tables_before}
@@ -8,22 +8,22 @@ use Rattle.session_journal.specs.Script.{Meaning, session_of}
 use Rattle.session_journal.specs.Journal.{done_operations}
 use Rattle.session_hall.specs.Closings.{ClosedView, IsDone}
 use Rattle.serve_words.specs.declared.command.Command.{Command}
-use Rattle.serve_words.specs.declared.command.Command.TheVariants.{Check, Show, Serve, Dump, Work, Ranges, Trace, Audit}
+use Rattle.serve_words.specs.declared.command.Command.TheVariants.{Check, Show, Serve, Dump, Work, Ranges, Trace, Audit, Clients}
 use Rattle.serve_made.specs.Summary.{summary}
 use Rattle.serve_faults.specs.declared.status.Fault.{Fault}
 use Rattle.serve_faults.specs.declared.status.Fault.TheVariants as fault
 use Rattle.serve_faults.specs.declared.status.Status.{Status}
 use Rattle.serve_faults.specs.declared.status.Status.TheVariants as status
 use Rattle.serve_faults.specs.Commands.{callers_of, has_handlers, has_requests, input_of, is_serving, shards_of}
-use Rattle.serve_faults.specs.Input.{Parts, parts_by, parts_of, parts_fault, divided_fault, handlers_of, is_divided, session_in, IsInput, IsShort}
+use Rattle.serve_faults.specs.Input.{Parts, parts_by, parts_of, parts_fault, divided_fault, handlers_of, is_divided, parts_in, IsInput, IsShort}
 use Rattle.serve_faults.specs.Session.{session_of_parts, all_names_of, replies_text, tables_text, serial_calls}
 use Rattle.serve_faults.specs.Answer.{HasRequestFault, HasTableFault, IsRefused, IsTextOf}
 use Rattle.serve_faults.specs.Changes.{Change, IsUntouched}
-use Rattle.serve_core.specs.Commands.{has_begun_writing, has_served, serving, writes_events}
-use Rattle.serve_core.specs.Runs.{Holds, IsServedThrough, WroteJournal}
+use Rattle.serve_core.specs.Commands.{has_begun_writing, has_served, opens_always, serving, writes_events}
+use Rattle.serve_core.specs.Runs.{Holds, IsLeft, IsServedThrough, Opens, WroteJournal}
 use Rattle.serve_core.specs.Runs.{AnswersTo}
 use Rattle.serve_faults.specs.Ways.{describing}
-use Rattle.serve_core.proofs.RunLemmas.{refused_answer, no_answer, fine_answer, front_answer, not_served}
+use Rattle.serve_core.proofs.RunLemmas.{refused_answer, no_answer, fine_answer, front_answer, not_opened}
 use Rattle.serve_reading.specs.declared.unserved.Unserved.{Unserved}
 use Rattle.serve_reading.specs.declared.unserved.Unserved.TheVariants.{Refused, NoMemory}
 use Rattle.serve_reading.specs.Reasons.{IsInputReason, IsReason, IsSessionReason}
@@ -52,7 +52,7 @@ module _ {O : Type 0} (c : Command) (bytes : List ℕ) (out : Change O) (same : 
     read_fault = λ e. cc;
     answered = refused_answer c bytes out f r;
     written = record { write_fault = λ e. absurd (cc); unwritten = λ _ _. same };
-    served = not_served c (status.Refused f) (λ e. cc) (λ e. cc);
+    served = not_opened c bytes (status.Refused f) (λ e. cc) (λ e. cc);
     hall = tt;
     traced = λ _ e. absurd (cc);
   }
@@ -63,7 +63,7 @@ module _ {O : Type 0} (c : Command) (bytes : List ℕ) (out : Change O) (same : 
     read_fault = λ e. cc;
     answered = no_answer c bytes out status.NoMemory (λ e. cc) (λ f e. cc) (λ e. cc);
     written = record { write_fault = λ e. absurd (cc); unwritten = λ _ _. same };
-    served = not_served c status.NoMemory (λ e. cc) (λ e. cc);
+    served = not_opened c bytes status.NoMemory (λ e. cc) (λ e. cc);
     hall = tt;
     traced = λ _ e. absurd (cc);
   }
@@ -74,7 +74,7 @@ module _ {O : Type 0} (c : Command) (bytes : List ℕ) (out : Change O) (same : 
 
 -- ---- a command that writes its text
 module _ {O : Type 0} (c : Command) (bytes : List ℕ) (out : Change O) (text : List ℕ) (i : IsInput c (input_of c bytes)) (is : IsTextOf c (input_of c bytes) text) where
-  pub ends_to : (s : Status) (closed : Option ClosedView) → EndsBy text out s → is_some closed ≡ has_served (Some c) s → Holds (Some c) bytes closed → WroteJournal (Some c) bytes out s closed → AnswersTo c bytes out s closed
+  pub ends_to : (s : Status) (closed : Option ClosedView) → EndsBy text out s → Opens (Some c) bytes s closed → Holds (Some c) bytes out s closed → WroteJournal (Some c) bytes out s closed → AnswersTo c bytes out s closed
   ends_to status.Fine closed e served hall traced = record {
     usage = λ x. cc;
     read_fault = λ x. cc;
@@ -99,9 +99,9 @@ module _ {O : Type 0} (c : Command) (bytes : List ℕ) (out : Change O) (text : 
   ends_to status.ReadFault closed e served hall traced = absurd e
 
 -- ---- describing
-pub describing_served : (shown : Bool) (s : Status) → false ≡ has_served (Some (describing shown)) s
-describing_served true s = refl
-describing_served false s = refl
+pub describing_served : (shown : Bool) (bytes : List ℕ) (s : Status) → Opens (Some (describing shown)) bytes s None
+describing_served true bytes s = refl
+describing_served false bytes s = refl
 
 describing_untraced : {O : Type 0} (shown : Bool) (bytes : List ℕ) (out : Change O) (s : Status) → WroteJournal (Some (describing shown)) bytes out s None
 describing_untraced shown bytes out s = λ _ _. tt
@@ -113,7 +113,7 @@ describing_own false bytes = refl
 module _ {O : Type 0} (shown : Bool) (bytes : List ℕ) (out : Change O) where
   pub described_to : (text : List ℕ) (s : Status) → IsInput (describing shown) bytes → IsTextOf (describing shown) bytes text → EndsBy text out s → AnswersTo (describing shown) bytes out s None
   described_to text s i is e =
-      ends_to (describing shown) bytes out text (subst (IsInput (describing shown)) (describing_own shown bytes) i) (subst (λ (b : List ℕ). IsTextOf (describing shown) b text) (describing_own shown bytes) is) s None e (describing_served shown s) tt (describing_untraced shown bytes out s)
+      ends_to (describing shown) bytes out text (subst (IsInput (describing shown)) (describing_own shown bytes) i) (subst (λ (b : List ℕ). IsTextOf (describing shown) b text) (describing_own shown bytes) is) s None e (describing_served shown bytes s) tt (describing_untraced shown bytes out s)
 
   pub undescribed_to : (e : Unserved) → IsUntouched out → IsReason (describing shown) bytes e → AnswersTo (describing shown) bytes out (status_of e) None
   undescribed_to e same r = reason_to (describing shown) bytes out same e (subst (λ (b : List ℕ). IsReason (describing shown) b e) (describing_own shown bytes) r)
@@ -135,7 +135,12 @@ ends_or_wants text out status.Usage e = absurd e
 ends_or_wants text out status.ReadFault e = absurd e
 
 -- ---- serving
-handlers_same : (c : Command) (input : List ℕ) → is_serving c ≡ true → handlers_of c input ≡ (parts_of input).handlers
+
+-- the requests of the input are served as one list
+abbrev serves_one : Command → Bool
+serves_one c = opens_always (Some c) && is_serving c
+
+handlers_same : (c : Command) (input : List ℕ) → serves_one c ≡ true → handlers_of c input ≡ (parts_of input).handlers
 handlers_same Check input e = absurd (cc)
 handlers_same Show input e = absurd (cc)
 handlers_same (Serve callers shards) input e = refl
@@ -144,8 +149,9 @@ handlers_same (Work requests start) input e = refl
 handlers_same Ranges input e = absurd (cc)
 handlers_same (Trace callers shards) input e = refl
 handlers_same Audit input e = absurd (cc)
+handlers_same (Clients callers shards) input e = absurd (cc)
 
-parts_wanted : (c : Command) (input : List ℕ) → is_serving c ≡ true → parts_fault c input ≡ divided_fault (is_divided input)
+parts_wanted : (c : Command) (input : List ℕ) → serves_one c ≡ true → parts_fault c input ≡ divided_fault (is_divided input)
 parts_wanted Check input e = absurd (cc)
 parts_wanted Show input e = absurd (cc)
 parts_wanted (Serve callers shards) input e = refl
@@ -154,8 +160,9 @@ parts_wanted (Work requests start) input e = refl
 parts_wanted Ranges input e = absurd (cc)
 parts_wanted (Trace callers shards) input e = refl
 parts_wanted Audit input e = absurd (cc)
+parts_wanted (Clients callers shards) input e = absurd (cc)
 
-handled : (c : Command) → is_serving c ≡ true → has_handlers c ≡ true
+handled : (c : Command) → serves_one c ≡ true → has_handlers c ≡ true
 handled Check e = refl
 handled Show e = refl
 handled (Serve callers shards) e = refl
@@ -164,9 +171,10 @@ handled (Work requests start) e = refl
 handled Ranges e = e
 handled (Trace callers shards) e = refl
 handled Audit e = absurd (cc)
+handled (Clients callers shards) e = refl
 
 -- it answers to requests
-requested : (c : Command) → is_serving c ≡ true → has_requests c ≡ true
+requested : (c : Command) → serves_one c ≡ true → has_requests c ≡ true
 requested Check e = e
 requested Show e = e
 requested (Serve callers shards) e = refl
@@ -175,9 +183,10 @@ requested (Work requests start) e = refl
 requested Ranges e = e
 requested (Trace callers shards) e = refl
 requested Audit e = refl
+requested (Clients callers shards) e = refl
 
--- its input is a session file
-whole : (c : Command) (input : List ℕ) → is_serving c ≡ true → session_in c input ≡ input
+-- its input is a session file, and its parts are that file's
+whole : (c : Command) (input : List ℕ) → serves_one c ≡ true → parts_in c input ≡ parts_of input
 whole Check input e = refl
 whole Show input e = refl
 whole (Serve callers shards) input e = refl
@@ -186,8 +195,9 @@ whole (Work requests start) input e = refl
 whole Ranges input e = refl
 whole (Trace callers shards) input e = refl
 whole Audit input e = absurd (cc)
+whole (Clients callers shards) input e = absurd (cc)
 
-short_of : (c : Command) (input : List ℕ) → is_serving c ≡ true → length input ≤ max_input → IsShort c input
+short_of : (c : Command) (input : List ℕ) → serves_one c ≡ true → length input ≤ max_input → IsShort c input
 short_of Check input e h = h
 short_of Show input e h = h
 short_of (Serve callers shards) input e h = h
@@ -196,25 +206,27 @@ short_of (Work requests start) input e h = h
 short_of Ranges input e h = h
 short_of (Trace callers shards) input e h = h
 short_of Audit input e h = absurd (cc)
+short_of (Clients callers shards) input e h = h
 
-pub session_input : (c : Command) (input : List ℕ) → is_serving c ≡ true → IsSessionInput input → IsInput c input
+pub session_input : (c : Command) (input : List ℕ) → serves_one c ≡ true → IsSessionInput input → IsInput c input
 session_input c input has i = record { short = short_of c input has i.short; utf8 = i.utf8; parts = parts_wanted c input has ∙ ap divided_fault i.divided }
 
-pub input_reason : (c : Command) (input : List ℕ) (e : Unserved) → is_serving c ≡ true → IsInputReason input e → IsReason c input e
+pub input_reason : (c : Command) (input : List ℕ) (e : Unserved) → serves_one c ≡ true → IsInputReason input e → IsReason c input e
 input_reason c input NoMemory has h = tt
 input_reason c input (Refused fault.TooLarge) has h = absurd h
 input_reason c input (Refused fault.NotText) has h = (short_of c input has h.0, h.1)
 input_reason c input (Refused fault.NoRequests) has h = (short_of c input has h.0, h.1, parts_wanted c input has ∙ ap divided_fault h.2)
 input_reason c input (Refused fault.HasRequests) has h = absurd h
 input_reason c input (Refused fault.NoTrace) has h = absurd h.1
+input_reason c input (Refused fault.TooManyClients) has h = absurd h.1
 input_reason c input (Refused (fault.Syntax e)) has h =
     (session_input c input has h.0, subst (λ (t : List ℕ). IsSessionReason (parts_by t (parts_of input).tables (parts_of input).requests (parts_of input).first_table (parts_of input).first) (Refused (fault.Syntax e))) (sym (handlers_same c input has)) h.1, handled c has)
 input_reason c input (Refused (fault.Check e)) has h =
     (session_input c input has h.0, subst (λ (t : List ℕ). IsSessionReason (parts_by t (parts_of input).tables (parts_of input).requests (parts_of input).first_table (parts_of input).first) (Refused (fault.Check e))) (sym (handlers_same c input has)) h.1, handled c has)
 input_reason c input (Refused (fault.Analysis e)) has h =
     (session_input c input has h.0, subst (λ (t : List ℕ). IsSessionReason (parts_by t (parts_of input).tables (parts_of input).requests (parts_of input).first_table (parts_of input).first) (Refused (fault.Analysis e))) (sym (handlers_same c input has)) h.1, handled c has)
-input_reason c input (Refused (fault.Tables e)) has h = (session_input c input has h.0, requested c has, subst (λ (t : List ℕ). HasTableFault (parts_of t) e) (sym (whole c input has)) h.1)
-input_reason c input (Refused (fault.Request e)) has h = (session_input c input has h.0, requested c has, subst (λ (t : List ℕ). HasRequestFault (parts_of t) e) (sym (whole c input has)) h.1)
+input_reason c input (Refused (fault.Tables e)) has h = (session_input c input has h.0, requested c has, subst (λ (t : Parts). HasTableFault t e) (sym (whole c input has)) h.1)
+input_reason c input (Refused (fault.Request e)) has h = (session_input c input has h.0, requested c has, subst (λ (t : Parts). HasRequestFault t e) (sym (whole c input has)) h.1)
 input_reason c input (Refused (fault.Trace e)) has h = absurd h.1
 input_reason c input (Refused (fault.Ranges e)) has h = absurd h.1
 
@@ -270,9 +282,10 @@ module _ {O : Type 0} (tables : Bool) (callers shards : ℕ) (bytes : List ℕ) 
 
   -- what a run of the command asks of it
   pub record Serves : Type 0 where
-    pub requests : is_serving command ≡ true
+    pub requests : serves_one command ≡ true
     pub own : (bs : List ℕ) → bs ≡ input_of command bs
-    pub served : (s : Status) → has_served (Some command) s ≡ has_begun_writing s
+    pub opens : (s : Status) (d : ClosedView) → has_begun_writing s ≡ true → Opens (Some command) bytes s (Some d)
+    pub left : (s : Status) (d : ClosedView) → IsServedThrough command bytes d → IsLeft command (input_of command bytes) out s d
     pub untraced : writes_events command ≡ false
     pub callers_are : callers_of command ≡ callers
     pub shards_are : shards_of command ≡ shards
@@ -286,8 +299,8 @@ module _ {O : Type 0} (tables : Bool) (callers shards : ℕ) (bytes : List ℕ) 
         (subst (IsInput command) (v.own bytes) (session_input command bytes v.requests e.is_input))
         (subst (λ (bs : List ℕ). IsTextOf command bs text) (v.own bytes) (v.text e.names d e.served e.left))
         s (Some d) e.ends
-        (sym (v.served s ∙ begins s text e.ends))
-        (subst (λ (bs : List ℕ). IsServedThrough command bs d) (v.own bytes) (served_through command bytes callers shards e.names d e.served (e.served.callers_are ∙ sym v.callers_are) (e.served.shards_are ∙ sym v.shards_are)))
+        (v.opens s d (begins s text e.ends))
+        (v.left s d (served_through command bytes callers shards e.names d e.served (e.served.callers_are ∙ sym v.callers_are) (e.served.shards_are ∙ sym v.shards_are)))
         (λ w _. absurd (false≢true (sym v.untraced ∙ w)))
 
     unserved_to : (e : Unserved) → IsUntouched out → IsInputReason bytes e → AnswersTo command bytes out (status_of e) None
@@ -301,7 +314,8 @@ serves_by : {O : Type 0} (tables : Bool) (callers shards : ℕ) (bytes : List �
 serves_by true callers shards bytes out = record {
   requests = refl;
   own = λ bs. refl;
-  served = λ s. refl;
+  opens = λ s d b. sym b;
+  left = λ s d h. h;
   untraced = refl;
   callers_are = refl;
   shards_are = refl;
@@ -310,7 +324,8 @@ serves_by true callers shards bytes out = record {
 serves_by false callers shards bytes out = record {
   requests = refl;
   own = λ bs. refl;
-  served = λ s. refl;
+  opens = λ s d b. sym b;
+  left = λ s d h. h;
   untraced = refl;
   callers_are = refl;
   shards_are = refl;

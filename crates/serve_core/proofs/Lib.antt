@@ -4,6 +4,7 @@ pub mod CountLemmas
 pub mod EndLemmas
 pub mod FileLemmas
 pub mod FinalLemmas
+pub mod GatherLemmas
 pub mod RunLemmas
 pub mod TopLemmas
 pub mod TraceEnds

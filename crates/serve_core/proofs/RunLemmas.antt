@@ -1,10 +1,10 @@
 -- What a run promises, from what its parts say.
-use Rattle.std.proofs.Common.{◌≡◌, ◌≢◌, ℕ, ◌+◌, ◌<◌, ◌⊎◌, inl, inr, true, false, is_some, List, length, ◌≤◌, Option, Some, None, IfSome, refl, sym, ap, ◌∙◌, subst, arith}
+use Rattle.std.proofs.Common.{◌≡◌, ◌≢◌, ℕ, ◌+◌, ◌<◌, ◌⊎◌, inl, inr, Bool, ◌&&◌, true, false, is_some, List, length, ◌≤◌, Option, Some, None, IfSome, refl, sym, ap, ◌∙◌, subst, arith}
 use Rattle.std.proofs.lemmas.List.{drop_all}
 use Rattle.byte_ends.specs.Ends.{IsAtEnd, LostFirst, LostAtMost}
 use Rattle.session_hall.specs.Closings.{ClosedView}
 use Rattle.serve_words.specs.declared.command.Command.{Command}
-use Rattle.serve_words.specs.declared.command.Command.TheVariants.{Check, Show, Serve, Dump, Work, Ranges, Trace, Audit}
+use Rattle.serve_words.specs.declared.command.Command.TheVariants.{Check, Show, Serve, Dump, Work, Ranges, Trace, Audit, Clients}
 use Rattle.serve_faults.specs.declared.status.Fault.{Fault}
 use Rattle.serve_faults.specs.declared.status.Fault.TheVariants.{TooLarge}
 use Rattle.serve_faults.specs.declared.status.Status.{Status}
@@ -13,8 +13,8 @@ use Rattle.serve_faults.specs.Answer.{IsRefused, IsTextOf, IsUnrefused}
 use Rattle.serve_faults.specs.Commands.{input_of, is_reading}
 use Rattle.serve_faults.specs.Input.{IsInput, IsTooLarge, most_of}
 use Rattle.serve_faults.specs.Changes.{Change, Failed, IsUntouched, Took, TookFront}
-use Rattle.serve_core.specs.Commands.{Told, has_begun_writing, has_served}
-use Rattle.serve_core.specs.Runs.{has_read_all, Answered, Written, Holds, Runs, WroteJournal}
+use Rattle.serve_core.specs.Commands.{Told, has_begun_writing, has_served, has_ticket, opens_always}
+use Rattle.serve_core.specs.Runs.{has_read_all, Answered, Written, Holds, IsLeft, Opens, Runs, WroteJournal}
 use Rattle.serve_core.specs.Runs.{AnswersTo}
 use Rattle.serve_faults.specs.Ways.{HasRead, StoppedAs}
 use Rattle.serve_faults.proofs.OneAnswer.{refused_once, text_or_refused}
@@ -66,6 +66,7 @@ told_map (Work requests start) s P Q f h = λ bytes. f bytes (h bytes)
 told_map Ranges s P Q f h = if_some P Q (s.bytes s.old) f h
 told_map (Trace callers shards) s P Q f h = if_some P Q (s.bytes s.old) f h
 told_map Audit s P Q f h = if_some P Q (s.bytes s.old) f h
+told_map (Clients callers shards) s P Q f h = if_some P Q (s.bytes s.old) f h
 
 -- ---- a whole run
 module _ {I O : Type 0} (c : Command) (source : Change I) (out : Change O) (closed : Option ClosedView) where
@@ -99,9 +100,9 @@ module _ {I O : Type 0} (c : Command) (source : Change I) (out : Change O) (clos
 
   pub runs_of : (s : Status) → Ends s → (is_reading (Some c) ≡ false → IsUntouched source × (s ≢ status.ReadFault)) → (is_reading (Some c) ≡ false → (fault : Fault) → s ≢ status.Refused fault) → Told (Some c) source (λ bytes. Answered (Some c) bytes out s)
       → (is_reading (Some c) ≡ true → has_read_all s ≡ true → IsAtEnd left rest) → (is_reading (Some c) ≡ true → s ≡ status.Refused TooLarge → LostFirst left rest (most_of c + 1)) → LostAtMost left rest (most_of c + 1)
-      → is_some closed ≡ has_served (Some c) s → Told (Some c) source (λ bytes. Holds (Some c) bytes closed) → Told (Some c) source (λ bytes. WroteJournal (Some c) bytes out s closed)
+      → (opens_always (Some c) ≡ true → is_some closed ≡ has_served (Some c) s) → Told (Some c) source (λ bytes. Opens (Some c) bytes s closed) → Told (Some c) source (λ bytes. Holds (Some c) bytes out s closed) → Told (Some c) source (λ bytes. WroteJournal (Some c) bytes out s closed)
       → Runs (Some c) source out s closed
-  runs_of s h unread made answered end gone lost served hall traced = record {
+  runs_of s h unread made answered end gone lost served ticketed hall traced = record {
     usage = (λ e. absurd (h.usage e), λ e. absurd (cc));
     unread = unread;
     made = made;
@@ -114,6 +115,7 @@ module _ {I O : Type 0} (c : Command) (source : Change I) (out : Change O) (clos
     gone = gone;
     lost = lost;
     served = served;
+    ticketed = ticketed;
     hall = hall;
     traced = traced;
   }
@@ -128,6 +130,7 @@ reading_input (Work requests start) bytes e = absurd (cc)
 reading_input Ranges bytes e = refl
 reading_input (Trace callers shards) bytes e = refl
 reading_input Audit bytes e = refl
+reading_input (Clients callers shards) bytes e = refl
 
 told_some : {S : Type 0} (c : Command) (s : Change S) (P : List ℕ → Type 0) → is_reading (Some c) ≡ true → IfSome (s.bytes s.old) P → Told (Some c) s P
 told_some Check s P e h = h
@@ -138,6 +141,7 @@ told_some (Work requests start) s P e h = absurd (cc)
 told_some Ranges s P e h = h
 told_some (Trace callers shards) s P e h = h
 told_some Audit s P e h = h
+told_some (Clients callers shards) s P e h = h
 
 -- an input of more bytes than the command takes is too large
 too_long : (c : Command) (input : List ℕ) → most_of c < length input → IsTooLarge c input
@@ -149,6 +153,7 @@ too_long (Work requests start) input l = l
 too_long Ranges input l = l
 too_long (Trace callers shards) input l = l
 too_long Audit input l = inl l
+too_long (Clients callers shards) input l = l
 
 -- where all of so few bytes is gone, so are one more than the most of them
 all_gone : (old new : Option (List ℕ)) (bytes : List ℕ) (most : ℕ) → IfSome old (λ all. bytes ≡ all) → IsAtEnd old new → length bytes ≤ most → LostFirst old new (most + 1)
@@ -161,15 +166,16 @@ untold : {X : Type 0} (o : Option X) → IfSome o (λ _. Unit {0})
 untold None = tt
 untold (Some x) = tt
 
-nothing_held : {S : Type 0} (c : Command) (s : Change S) → Told (Some c) s (λ bytes. Holds (Some c) bytes None)
-nothing_held Check s = untold (s.bytes s.old)
-nothing_held Show s = untold (s.bytes s.old)
-nothing_held (Serve callers shards) s = untold (s.bytes s.old)
-nothing_held (Dump callers shards) s = untold (s.bytes s.old)
-nothing_held (Work requests start) s = λ bytes. tt
-nothing_held Ranges s = untold (s.bytes s.old)
-nothing_held (Trace callers shards) s = untold (s.bytes s.old)
-nothing_held Audit s = untold (s.bytes s.old)
+nothing_held : {S O : Type 0} (c : Command) (s : Change S) (out : Change O) (status : Status) → Told (Some c) s (λ bytes. Holds (Some c) bytes out status None)
+nothing_held Check s out status = untold (s.bytes s.old)
+nothing_held Show s out status = untold (s.bytes s.old)
+nothing_held (Serve callers shards) s out status = untold (s.bytes s.old)
+nothing_held (Dump callers shards) s out status = untold (s.bytes s.old)
+nothing_held (Work requests start) s out status = λ bytes. tt
+nothing_held Ranges s out status = untold (s.bytes s.old)
+nothing_held (Trace callers shards) s out status = untold (s.bytes s.old)
+nothing_held Audit s out status = untold (s.bytes s.old)
+nothing_held (Clients callers shards) s out status = untold (s.bytes s.old)
 
 -- nor were events written
 nothing_traced : {S O : Type 0} (c : Command) (s : Change S) (out : Change O) (status : Status) → is_reading (Some c) ≡ true → Told (Some c) s (λ bytes. WroteJournal (Some c) bytes out status None)
@@ -192,6 +198,33 @@ not_served (Work requests start) s f w = unwritten s f w
 not_served Ranges s f w = refl
 not_served (Trace callers shards) s f w = unwritten s f w
 not_served Audit s f w = refl
+not_served (Clients callers shards) s f w = unwritten s f w
+
+-- where nothing is served, no hall is left
+and_false : (a b : Bool) → false ≡ b → false ≡ (a && b)
+and_false true b e = e
+and_false false b e = refl
+
+pub not_opened : (c : Command) (bytes : List ℕ) (s : Status) → s ≢ status.Fine → s ≢ status.WriteFault → Opens (Some c) bytes s None
+not_opened c bytes s f w = and_false (has_ticket c (input_of c bytes)) (has_served (Some c) s) (not_served c s f w)
+
+none_opened : {S : Type 0} (c : Command) (source : Change S) (s : Status) → is_reading (Some c) ≡ true → s ≢ status.Fine → s ≢ status.WriteFault → Told (Some c) source (λ bytes. Opens (Some c) bytes s None)
+none_opened c source s reads f w = told_some c source (λ bytes. Opens (Some c) bytes s None) reads (if_some (λ all. Unit {0}) _ (source.bytes source.old) (λ bytes _. not_opened c bytes s f w) (untold (source.bytes source.old)))
+
+-- where a hall is opened whatever the input is, it is left exactly where the run came to its output
+has_ticket_always : (c : Command) (input : List ℕ) → opens_always (Some c) ≡ true → has_ticket c input ≡ true
+has_ticket_always Check input e = refl
+has_ticket_always Show input e = refl
+has_ticket_always (Serve callers shards) input e = refl
+has_ticket_always (Dump callers shards) input e = refl
+has_ticket_always (Work requests start) input e = refl
+has_ticket_always Ranges input e = refl
+has_ticket_always (Trace callers shards) input e = refl
+has_ticket_always Audit input e = refl
+has_ticket_always (Clients callers shards) input e = absurd (cc)
+
+pub opened_always : (c : Command) (bytes : List ℕ) (s : Status) (closed : Option ClosedView) → Opens (Some c) bytes s closed → opens_always (Some c) ≡ true → is_some closed ≡ has_served (Some c) s
+opened_always c bytes s closed o e = o ∙ ap (λ (b : Bool). b && has_served (Some c) s) (has_ticket_always c (input_of c bytes) e)
 
 module _ {I O : Type 0} (c : Command) (reads : is_reading (Some c) ≡ true) (source : Change I) (out : Change O) where
   unread_none : (s : Status) → is_reading (Some c) ≡ false → IsUntouched source × (s ≢ status.ReadFault)
@@ -207,7 +240,7 @@ module _ {I O : Type 0} (c : Command) (reads : is_reading (Some c) ≡ true) (so
       (unread_none (status.Refused TooLarge)) (made_none (status.Refused TooLarge))
       (told_some c source (λ bytes. Answered (Some c) bytes out (status.Refused TooLarge)) reads
       (if_some (λ all. most_of c < length all) _ (source.bytes source.old) (λ bytes l. refused_answer c bytes out TooLarge (too_long c (input_of c bytes) (subst (λ (bs : List ℕ). most_of c < length bs) (sym (reading_input c bytes reads)) l))) h.1.0))
-      (λ _ e. absurd (cc)) (λ _ _. h.1.1) h.0 (not_served c (status.Refused TooLarge) (λ e. cc) (λ e. cc)) (nothing_held c source) (nothing_traced c source out (status.Refused TooLarge) reads)
+      (λ _ e. absurd (cc)) (λ _ _. h.1.1) h.0 (λ _. not_served c (status.Refused TooLarge) (λ e. cc) (λ e. cc)) (none_opened c source (status.Refused TooLarge) reads (λ e. cc) (λ e. cc)) (nothing_held c source out (status.Refused TooLarge)) (nothing_traced c source out (status.Refused TooLarge) reads)
   stopped_run (status.Refused f) h same = absurd h.1
   stopped_run status.Fine h same = absurd h.1
   stopped_run status.Usage h same = absurd h.1
@@ -217,13 +250,13 @@ module _ {I O : Type 0} (c : Command) (reads : is_reading (Some c) ≡ true) (so
       (unread_none status.ReadFault) (made_none status.ReadFault)
       (told_some c source (λ bytes. Answered (Some c) bytes out status.ReadFault) reads
       (if_some (λ all. Unit {0}) _ (source.bytes source.old) (λ bytes _. no_answer c bytes out status.ReadFault (λ e. cc) (λ f e. cc) (λ e. cc)) (untold (source.bytes source.old))))
-      (λ _ e. absurd (cc)) (λ _ e. absurd (cc)) h.0 (not_served c status.ReadFault (λ e. cc) (λ e. cc)) (nothing_held c source) (nothing_traced c source out status.ReadFault reads)
+      (λ _ e. absurd (cc)) (λ _ e. absurd (cc)) h.0 (λ _. not_served c status.ReadFault (λ e. cc) (λ e. cc)) (none_opened c source status.ReadFault reads (λ e. cc) (λ e. cc)) (nothing_held c source out status.ReadFault) (nothing_traced c source out status.ReadFault reads)
   stopped_run status.NoMemory h same =
       runs_of c source out None status.NoMemory (record { usage = λ e. cc; read_fault = λ e. absurd (cc); written = record { write_fault = λ e. absurd (cc); unwritten = λ _ _. same } })
       (unread_none status.NoMemory) (made_none status.NoMemory)
       (told_some c source (λ bytes. Answered (Some c) bytes out status.NoMemory) reads
       (if_some (λ all. Unit {0}) _ (source.bytes source.old) (λ bytes _. no_answer c bytes out status.NoMemory (λ e. cc) (λ f e. cc) (λ e. cc)) (untold (source.bytes source.old))))
-      (λ _ e. absurd (cc)) (λ _ e. absurd (cc)) h.0 (not_served c status.NoMemory (λ e. cc) (λ e. cc)) (nothing_held c source) (nothing_traced c source out status.NoMemory reads)
+      (λ _ e. absurd (cc)) (λ _ e. absurd (cc)) h.0 (λ _. not_served c status.NoMemory (λ e. cc) (λ e. cc)) (none_opened c source status.NoMemory reads (λ e. cc) (λ e. cc)) (nothing_held c source out status.NoMemory) (nothing_traced c source out status.NoMemory reads)
 
   -- all was read, and answered
   pub read_run : (bytes : List ℕ) (s : Status) (closed : Option ClosedView) → HasRead (most_of c) source bytes → AnswersTo c bytes out s closed → Runs (Some c) source out s closed
@@ -234,6 +267,7 @@ module _ {I O : Type 0} (c : Command) (reads : is_reading (Some c) ≡ true) (so
       (λ _ _. h.end)
       (λ _ e. all_gone (source.bytes source.old) (source.bytes source.new) bytes (most_of c) h.all h.end h.short)
       h.lost
-      a.served
-      (told_some c source (λ bs. Holds (Some c) bs closed) reads (if_some (λ all. bytes ≡ all) _ (source.bytes source.old) (λ all e. subst (λ bs. Holds (Some c) bs closed) e a.hall) h.all))
+      (opened_always c bytes s closed a.served)
+      (told_some c source (λ bs. Opens (Some c) bs s closed) reads (if_some (λ all. bytes ≡ all) _ (source.bytes source.old) (λ all e. subst (λ bs. Opens (Some c) bs s closed) e a.served) h.all))
+      (told_some c source (λ bs. Holds (Some c) bs out s closed) reads (if_some (λ all. bytes ≡ all) _ (source.bytes source.old) (λ all e. subst (λ bs. Holds (Some c) bs out s closed) e a.hall) h.all))
       (told_some c source (λ bs. WroteJournal (Some c) bs out s closed) reads (if_some (λ all. bytes ≡ all) _ (source.bytes source.old) (λ all e. subst (λ bs. WroteJournal (Some c) bs out s closed) e a.traced) h.all))

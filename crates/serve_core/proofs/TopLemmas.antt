@@ -5,7 +5,7 @@ use Rattle.byte_ends.specs.Ends.{Grew, GrewByFront, LostAtMost}
 use Rattle.byte_ends.proofs.EndsLemmas.{front_of_all}
 use Rattle.session_hall.specs.Closings.{ClosedView}
 use Rattle.serve_words.specs.declared.command.Command.{Command}
-use Rattle.serve_words.specs.declared.command.Command.TheVariants.{Work, Ranges, Trace, Audit}
+use Rattle.serve_words.specs.declared.command.Command.TheVariants.{Work, Ranges, Trace, Audit, Clients}
 use Rattle.serve_words.specs.Commands.{IsWithinBounds}
 use Rattle.serve_faults.specs.declared.status.Status.{Status}
 use Rattle.serve_faults.specs.declared.status.Status.TheVariants as status
@@ -17,7 +17,7 @@ use Rattle.serve_core.specs.Commands.{serving}
 use Rattle.serve_core.specs.Runs.{Runs}
 use Rattle.serve_core.specs.Runs.{AnswersTo}
 use Rattle.serve_faults.specs.Ways.{HasRead, StoppedAs, describing}
-use Rattle.serve_core.proofs.RunLemmas.{runs_of, read_run, stopped_run}
+use Rattle.serve_core.proofs.RunLemmas.{opened_always, runs_of, read_run, stopped_run}
 
 -- a source that isn't touched has lost nothing
 nothing_lost : (o p : Option (List ℕ)) (most : ℕ) → p ≡ o → LostAtMost o p (most + 1)
@@ -51,7 +51,8 @@ module _ {I O : Type 0} (source : Change I) (out : Change O) where
     end = λ e. absurd (cc);
     gone = λ e. absurd (cc);
     lost = nothing_lost (source.bytes source.old) (source.bytes source.new) 0 (same_bytes still);
-    served = refl;
+    served = λ e. refl;
+    ticketed = λ bytes. refl;
     hall = λ bytes. tt;
     traced = λ bytes. tt;
   }
@@ -67,7 +68,8 @@ module _ {I O : Type 0} (source : Change I) (out : Change O) where
       (λ e. absurd (cc))
       (λ e. absurd (cc))
       (nothing_lost (source.bytes source.old) (source.bytes source.new) max_input (same_bytes still))
-      one.served
+      (opened_always (Work requests start) [] s closed one.served)
+      (λ bytes. (a bytes).served)
       (λ bytes. (a bytes).hall)
       (λ bytes. (a bytes).traced)
 
@@ -116,3 +118,9 @@ module _ {I O : Type 0} (source : Change I) (out : Change O) where
 
   pub unaudited_run : (s : Status) → StoppedAs max_audit_input source s → IsUntouched out → Runs (Some Audit) source out s None
   unaudited_run s h same = stopped_run Audit refl source out s h same
+
+  pub rounds_run : (callers shards : ℕ) (bytes : List ℕ) (s : Status) (closed : Option ClosedView) → HasRead max_input source bytes → AnswersTo (Clients callers shards) bytes out s closed → Runs (Some (Clients callers shards)) source out s closed
+  rounds_run callers shards bytes s closed h a = read_run (Clients callers shards) refl source out bytes s closed h a
+
+  pub unrounded_run : (callers shards : ℕ) (s : Status) → StoppedAs max_input source s → IsUntouched out → Runs (Some (Clients callers shards)) source out s None
+  unrounded_run callers shards s h same = stopped_run (Clients callers shards) refl source out s h same

@@ -2,3 +2,5 @@ pub mod Auditing
 pub mod Commands
 pub mod Runs
 pub mod Serving
+pub mod Arriving
+pub mod Replied

@@ -1,7 +1,11 @@
 -- What a run promises, over its command, its input, its outputs and how it ended.
-use Rattle.std.specs.Prelude.{◌≡◌, ◌≢◌, ◌+◌, ◌⊎◌, ◌↔◌, ℕ, Bool, true, false, is_some, List, Option, Some, None, IfSome}
+use Rattle.std.specs.Prelude.{◌≡◌, ◌≢◌, ◌+◌, ◌⊎◌, ◌↔◌, ℕ, Bool, ◌&&◌, true, false, is_some, List, length, sum, Option, Some, None, IfSome}
 use Rattle.byte_ends.specs.Ends.{IsAtEnd, LostFirst, LostAtMost}
 use Rattle.serve_words.specs.declared.command.Command.{Command}
+use Rattle.serve_words.specs.declared.command.Command.TheVariants.{Check, Show, Serve, Dump, Work, Ranges, Trace, Audit, Clients}
+use Rattle.client_feed.specs.declared.arrival.Arrival.{Arrival}
+use Rattle.client_feed.specs.Arrivals.{IsDrawn}
+use Rattle.client_rounds.specs.Rounds.{IsLastRound}
 use Rattle.symbolic_ops.specs.declared.symbol.Symbol.{Symbol}
 use Rattle.session_journal.specs.declared.event.Event.{Event}
 use Rattle.session_journal.specs.Script.{Meaning, session_of}
@@ -14,13 +18,15 @@ use Rattle.serve_faults.specs.declared.status.Status.{Status}
 use Rattle.serve_faults.specs.declared.status.Status.TheVariants as status
 use Rattle.serve_faults.specs.Answer.{CommandAnswers, IsUnrefused}
 use Rattle.serve_faults.specs.Answer as answer
+use Rattle.serve_faults.specs.Clients.{client_counts}
 use Rattle.serve_faults.specs.Changes.{Change, Failed, IsUntouched, Took, TookFront}
 use Rattle.serve_faults.specs.Commands.{callers_of, input_of, is_reading, shards_of}
-use Rattle.serve_faults.specs.Input.{Parts, most_of, parts_of}
+use Rattle.serve_faults.specs.Input.{Parts, client_parts, most_of, parts_of}
 use Rattle.serve_faults.specs.Session.{IsSession, opened_of, requests_of, session_of_parts}
 use Rattle.serve_faults.specs.Traced.{traced_text}
 use Rattle.serve_faults.specs.Message.{message_of}
-use Rattle.serve_core.specs.Commands.{Told, has_served, writes_events}
+use Rattle.serve_core.specs.Commands.{Told, has_served, has_ticket, opens_always, writes_events}
+use Rattle.serve_core.specs.Replied.{text_of_arrivals}
 
 -- ---- what is read
 
@@ -87,10 +93,48 @@ pub record IsServedThrough (command : Command) (input : List ℕ) (closed : Clos
   pub callers_are : closed.callers ≡ callers_of command
   pub shards_are : closed.shards ≡ shards_of command
 
--- what a hall that is left holds
-abbrev pub Holds : Option Command → List ℕ → Option ClosedView → Type 0
-Holds None bytes closed = Unit {0}
-Holds (Some command) bytes closed = IfSome closed (IsServedThrough command (input_of command bytes))
+-- The requests of the input's clients arrived in this order, all of them and each client's in its
+-- own, and were served so, in rounds, the last of them through this hall. Where the run ended well,
+-- it wrote the replies that they have in this order.
+pub record IsServedInRounds {O : Type 0} (command : Command) (input : List ℕ) (out : Change O)
+    (s : Status) (closed : ClosedView) : Type 0 where
+  pub file : File
+  pub is_session : IsSession (client_parts input) file
+  pub got : List Arrival
+  pub drawn : IsDrawn (client_counts input) got
+  pub all : length got ≡ sum (client_counts input)
+  pub last : IsLastRound (record { file = file; lists = is_session.program.lists })
+      (opened_of (client_parts input) file) (record {
+        requests = requests_of (client_parts input) file;
+        counts = client_counts input;
+      }) got (callers_of command) (shards_of command) closed
+  pub took : s ≡ status.Fine → Took out (text_of_arrivals input file got)
+
+-- what a hall that is left holds: a line for each command
+abbrev pub IsLeft : {O : Type 0} → Command → List ℕ → Change O → Status → ClosedView → Type 0
+IsLeft Check input out s d = IsServedThrough Check input d
+IsLeft Show input out s d = IsServedThrough Show input d
+IsLeft (Serve callers shards) input out s d = IsServedThrough (Serve callers shards) input d
+IsLeft (Dump callers shards) input out s d = IsServedThrough (Dump callers shards) input d
+IsLeft (Work requests start) input out s d = IsServedThrough (Work requests start) input d
+IsLeft Ranges input out s d = IsServedThrough Ranges input d
+IsLeft (Trace callers shards) input out s d = IsServedThrough (Trace callers shards) input d
+IsLeft Audit input out s d = IsServedThrough Audit input d
+IsLeft (Clients callers shards) input out s d =
+    IsServedInRounds (Clients callers shards) input out s d
+
+-- so it is with the hall that a run leaves, if it leaves one
+abbrev pub Holds : {O : Type 0} → Option Command → List ℕ → Change O → Status
+    → Option ClosedView → Type 0
+Holds None bytes out s closed = Unit {0}
+Holds (Some command) bytes out s closed =
+    IfSome closed (IsLeft command (input_of command bytes) out s)
+
+-- a hall is left exactly where there was something to serve and the run came to its output
+abbrev pub Opens : Option Command → List ℕ → Status → Option ClosedView → Type 0
+Opens None bytes s closed = closed ≡ None
+Opens (Some command) bytes s closed = is_some closed
+    ≡ (has_ticket command (input_of command bytes) && has_served (Some command) s)
 
 -- these events were written, with the names of the input's session
 pub record WroteEvents {O : Type 0} (input : List ℕ) (out : Change O) (events : List Event)
@@ -115,8 +159,8 @@ pub record AnswersTo {O : Type 0} (command : Command) (bytes : List ℕ) (out : 
   pub read_fault : s ≢ status.ReadFault
   pub answered : Answered (Some command) bytes out s
   pub written : Written out s
-  pub served : is_some closed ≡ has_served (Some command) s
-  pub hall : Holds (Some command) bytes closed
+  pub served : Opens (Some command) bytes s closed
+  pub hall : Holds (Some command) bytes out s closed
   pub traced : WroteJournal (Some command) bytes out s closed
 
 -- A run of a command, or of no command where the words are none.
@@ -149,9 +193,11 @@ pub record Runs {I O : Type 0} (command : Option Command) (source : Change I) (o
   pub lost : LostAtMost (source.bytes source.old) (source.bytes source.new)
       (most_read command + 1)
   -- `serve`, `dump`, `work` and `trace` leave a closed hall exactly where they end well or the sink
-  -- fails, and through it the session was served.
-  pub served : is_some closed ≡ has_served command s
-  pub hall : Told command source (λ bytes. Holds command bytes closed)
+  -- fails, and `clients` does so where there is a request.
+  pub served : opens_always command ≡ true → is_some closed ≡ has_served command s
+  pub ticketed : Told command source (λ bytes. Opens command bytes s closed)
+  -- Through it the session was served, or the last round of it.
+  pub hall : Told command source (λ bytes. Holds command bytes out s closed)
   -- Where `trace` ends well, it wrote the events of the journal of that hall.
   pub traced : Told command source (λ bytes. WroteJournal command bytes out s closed)
 

@@ -7,6 +7,7 @@ mod checking;
 mod counting;
 mod dumping;
 mod final_tables;
+mod gathering;
 mod lines;
 mod outcome;
 mod ranging;

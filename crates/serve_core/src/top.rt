@@ -10,6 +10,7 @@ ghost use Rattle.serve_faults.specs.Ways.{describing};
 use crate::auditing::audit_source;
 use crate::checking::describe_source;
 use crate::dumping::dump_source;
+use crate::gathering::gather_source;
 use crate::outcome::{Outcome, unserved};
 use crate::ranging::range_source;
 use crate::serving::serve_source;
@@ -28,8 +29,8 @@ use worker_gate::Gate;
 /// `source`, writes the command's text to `out` and, where it doesn't end well, one line to `err`;
 /// callers that serve pass the gate at each of its places. Its promises stand by name in
 /// `specs/Runs.antt`: usage, unread and made; fine, refused and front; refusing
-/// and complete; read_fault, write_fault and unwritten; end, gone and lost; served, hall and
-/// traced; and, of the line, line and line_front.
+/// and complete; read_fault, write_fault and unwritten; end, gone and lost; served, ticketed, hall
+/// and traced; and, of the line, line and line_front.
 pub fn run<R: Threads + Wait + Sync, I: Source, O: Sink, E: Sink, G: Gate + Sync>(
     rt: &R,
     alloc: Global,
@@ -81,6 +82,10 @@ fn answer<R: Threads + Wait + Sync, I: Source, O: Sink, G: Gate + Sync>(
             trace_source(rt, alloc, sizes, source, out, gate)
         }
         Some(Command::Audit) => unserved(audit_source(alloc, source, out)),
+        Some(Command::Clients { callers, shards }) => {
+            let sizes = Sizes { callers, shards };
+            gather_source(rt, alloc, sizes, source, out, gate)
+        }
         None => unserved(Status::Usage),
     }
 }

@@ -1,0 +1,134 @@
+// Several clients: from a source to the replies that each of them has.
+
+ghost use Rattle.std.specs.Prelude.{◌≤◌, length, Some};
+ghost use Rattle.session_limits.specs.Limits.{max_input};
+ghost use Rattle.client_rounds.specs.Rounds.{AreServed};
+ghost use Rattle.serve_words.specs.declared.command.Command.TheVariants.{Clients};
+ghost use Rattle.serve_faults.specs.Changes.{change};
+ghost use Rattle.serve_core.specs.Arriving.{CanServeClients, EndsClients};
+ghost use Rattle.serve_core.specs.Runs.{AnswersTo, Runs};
+
+use crate::outcome::{Outcome, unserved};
+use crate::sessions::ended;
+use crate::sizes::Sizes;
+use byte_ends::{Sink, Source, WriteBuffer};
+use client_rounds::{Served, serve_clients};
+use client_sheet::write_clients;
+use serve_faults::Status;
+use serve_reading::{LoadedClients, load_clients, read_input};
+use std::alloc::Global;
+use std::sync::Wait;
+use std::thread::Threads;
+use worker_gate::Gate;
+
+/// Reads a session file whose requests are several clients', serves them in the order in which they
+/// arrive, and writes for each client the replies that it has.
+pub(crate) fn gather_source<R: Threads + Wait + Sync, I: Source, O: Sink, G: Gate + Sync>(
+    rt: &R,
+    alloc: Global,
+    sizes: Sizes,
+    source: &mut I,
+    out: &mut O,
+    gate: &G,
+) -> Outcome
+    ensures { Runs (Some (Clients sizes.callers sizes.shards))
+        (change I.left I.faults source.old source.new)
+        (change O.held O.faults out.old out.new) result.status result.closed }
+{
+    match read_input(alloc, source) {
+        Ok(bytes) => gather_input(rt, alloc, sizes, bytes.as_slice(), out, gate),
+        Err(status) => Outcome {
+            status,
+            closed: None,
+        },
+    }
+}
+
+// Serves the requests of a file's bytes, and writes the replies.
+fn gather_input<R: Threads + Wait + Sync, O: Sink, G: Gate + Sync>(
+    rt: &R,
+    alloc: Global,
+    sizes: Sizes,
+    bytes: &[u8],
+    out: &mut O,
+    gate: &G,
+) -> Outcome
+    requires short { length bytes.now ≤ max_input }
+    ensures { AnswersTo (Clients sizes.callers sizes.shards) bytes.now
+        (change O.held O.faults out.old out.new) result.status result.closed }
+{
+    match load_clients(alloc, bytes) {
+        Ok(loaded) => gather_loaded(rt, alloc, sizes, &loaded, out, gate),
+        Err(e) => Outcome {
+            status: ended(e),
+            closed: None,
+        },
+    }
+}
+
+// Serves the requests of what was loaded in the order in which they arrive, and writes the replies.
+// The room for writing is taken before the first request is served.
+fn gather_loaded<R: Threads + Wait + Sync, O: Sink, G: Gate + Sync>(
+    rt: &R,
+    alloc: Global,
+    sizes: Sizes,
+    loaded: &LoadedClients,
+    out: &mut O,
+    gate: &G,
+) -> Outcome
+    requires can { CanServeClients loaded.now }
+    ensures { EndsClients sizes.callers sizes.shards loaded.now
+        (change O.held O.faults out.old out.new) result.status result.closed }
+{
+    let Ok(mut buffer) = WriteBuffer::new(alloc) else {
+        return unserved(Status::NoMemory);
+    };
+    match serve_clients(
+        rt,
+        alloc,
+        &loaded.program,
+        &loaded.opening,
+        &loaded.clients,
+        sizes.callers,
+        sizes.shards,
+        gate,
+    ) {
+        Ok(served) => write_served(loaded, sizes, served, &mut buffer, out),
+        Err(_) => unserved(Status::NoMemory),
+    }
+}
+
+// Writes the replies of what was served.
+#[tactic(auto, using(crate::proofs::GatherLemmas::served_print, crate::proofs::GatherLemmas::served_long, crate::proofs::GatherLemmas::served_few, crate::proofs::GatherLemmas::lines_written, crate::proofs::GatherLemmas::lines_front))]
+fn write_served<O: Sink>(
+    loaded: &LoadedClients,
+    sizes: Sizes,
+    served: Served,
+    buffer: &mut WriteBuffer,
+    out: &mut O,
+) -> Outcome
+    requires can { CanServeClients loaded.now }
+    requires served { AreServed loaded.now.program loaded.now.opening loaded.now.clients
+        sizes.callers sizes.shards served }
+    ensures { EndsClients sizes.callers sizes.shards loaded.now
+        (change O.held O.faults out.old out.new) result.status result.closed }
+{
+    let clients = loaded.clients.clients();
+    let whole = write_clients(
+        out,
+        &loaded.names,
+        clients,
+        served.arrivals(),
+        served.replies(),
+        buffer,
+    );
+    let status = if whole {
+        Status::Fine
+    } else {
+        Status::WriteFault
+    };
+    Outcome {
+        status,
+        closed: served.into_closed(),
+    }
+}
