@@ -1,0 +1,3 @@
+pub mod Dialogues
+pub mod Lawful
+pub mod Same

@@ -1,0 +1,3 @@
+pub mod Bookings
+pub mod Endings
+pub mod Standing
