@@ -1,0 +1,131 @@
+// Requests of several clients. What one client alone gets, and what is refused, are stored runs.
+
+use serve_core::{MemorySink, MemorySource, run};
+use std::alloc::{AllocError, Global};
+use std::fmt::Write;
+use std::sync::Wait;
+use std::test::Fail;
+use std::thread::Threads;
+use worker_gate::{Gate, HoldGate, OpenGate, Place};
+
+/// A handler that puts, two requests of a client and one of another.
+const TWO: &str = "map a; map b; handler w(k, v) { put(a, k, v); reply v; }\n\
+                   %%\nw 0 5\nw 0 6\n%% next\nw 1 7\n";
+
+/// A handler that counts how often it was called.
+const COUNTING: &str = "map a; handler w(v) { let n = get(a, 0); if n == nil { n = 0; }\n\
+                        let more = n + 1; put(a, 0, more); reply v, n; }\n%%\n";
+
+/// How many requests each of three clients has.
+const EACH: u32 = 200;
+
+/// The words of `clients` by so many callers.
+fn words_of(alloc: Global, callers: &str) -> Result<Vec<String>, AllocError> {
+    let mut words = Vec::new(alloc);
+    for word in ["clients", "--callers", callers] {
+        words.push(String::from_str(alloc, word)?)?;
+    }
+    Ok(words)
+}
+
+/// The status of a run past a gate, how many requests its last round served, and what it wrote.
+fn gathered<R: Threads + Wait + Sync, G: Gate + Sync>(
+    rt: &R,
+    alloc: Global,
+    (callers, text): (&str, &str),
+    gate: &G,
+) -> Result<(u8, usize, MemorySink), Fail> {
+    let words = words_of(alloc, callers)?;
+    let input = String::from_str(alloc, text)?.into_bytes();
+    let mut source = MemorySource::new(input, 65_536, Vec::new(alloc));
+    let mut out = MemorySink::with_room(alloc, 20_000, 1000, Vec::new(alloc))?;
+    let mut err = MemorySink::with_room(alloc, 1000, 100, Vec::new(alloc))?;
+    let outcome = run(rt, alloc, &words, &mut source, &mut out, &mut err, gate);
+    let last = match &outcome.closed {
+        Some(closed) => closed.replies().as_slice().len(),
+        None => 0,
+    };
+    Ok((outcome.status.number(), last, out))
+}
+
+/// How a run ends of which a client is held behind its first request until the other client has
+/// sent one, whether the gate held, and whether one of two texts was written.
+fn held<R: Threads + Wait + Sync>(rt: &R, alloc: Global) -> Result<(u8, usize, bool, bool), Fail> {
+    let gate = HoldGate::new(Place::Sent(0, 0), Place::Sent(1, 0), 10_000_000);
+    let (status, last, out) = gathered(rt, alloc, ("4", TWO), &gate)?;
+    let one = out.bytes() == "0 0 5\n0 2 6\n1 1 7\n".as_bytes();
+    let two = out.bytes() == "0 1 5\n0 2 6\n1 0 7\n".as_bytes();
+    Ok((status, last, !gate.broken(), one || two))
+}
+
+/// Feeders run beside each other.
+#[test]
+fn a_client_sends_while_another_is_held(rt: HostRuntime) -> Result<(), Fail> {
+    let found = held(&rt, rt.alloc())?;
+    assert_eq!(rt; found, (0, 3, true, true));
+    Ok(())
+}
+
+/// A session of three clients who count, with the numbers of their requests as values.
+fn counting(alloc: Global) -> Result<String, Fail> {
+    let mut text = String::from_str(alloc, COUNTING)?;
+    for client in 0..3u32 {
+        if client > 0 {
+            text.push_str("%% next\n")?;
+        }
+        for value in 0..EACH {
+            writeln!(text, "w {value}")?;
+        }
+    }
+    Ok(text)
+}
+
+/// The number that digits say, in 32 bits.
+fn number(digits: &str) -> u32 {
+    digits.parse::<u32>().unwrap_or(u32::MAX)
+}
+
+/// Whether a line is this client's with this value, and what was counted is its ticket; and the
+/// ticket, one more.
+fn is_line(line: &str, client: u32, value: u32) -> (bool, u32) {
+    let (first, rest) = line.split_once(' ').unwrap_or((line, ""));
+    let (ticket, rest) = rest.split_once(' ').unwrap_or((rest, ""));
+    let (said, counted) = rest.split_once(' ').unwrap_or((rest, ""));
+    let is_right = number(first) == client && number(said) == value && counted == ticket;
+    (is_right, number(ticket).saturating_add(1))
+}
+
+/// Whether each client's lines stand in order, with its own values and tickets that rise.
+fn are_lines(text: &str) -> bool {
+    let mut right = true;
+    let mut rest = text;
+    for client in 0..3 {
+        let mut least = 0;
+        for value in 0..EACH {
+            let (line, more) = rest.split_once('\n').unwrap_or((rest, ""));
+            let (is_right, next) = is_line(line, client, value);
+            right = right && is_right && least < next;
+            least = next;
+            rest = more;
+        }
+    }
+    right && rest.is_empty()
+}
+
+/// How 600 requests of three clients are served, how many the last round had, and whether the lines
+/// are right: a request's ticket is what was counted before it, also over the end of a round.
+fn rounds<R: Threads + Wait + Sync>(rt: &R, alloc: Global) -> Result<(u8, usize, bool), Fail> {
+    let text = counting(alloc)?;
+    let (status, last, out) = gathered(rt, alloc, ("32", text.as_str()), &OpenGate)?;
+    let Ok(lines) = std::str::from_utf8(out.bytes()) else {
+        return Ok((status, last, false));
+    };
+    Ok((status, last, are_lines(lines)))
+}
+
+#[test]
+fn three_rounds_of_three_clients(rt: HostRuntime) -> Result<(), Fail> {
+    let found = rounds(&rt, rt.alloc())?;
+    assert_eq!(rt; found, (0, 88, true));
+    Ok(())
+}
