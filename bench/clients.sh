@@ -1,5 +1,5 @@
 #!/usr/bin/env bash
-# Serves 1,000 made sessions by the coming command `clients`, and judges each output by a plain model
+# Serves 1,000 made sessions by the command `clients`, and judges each output by a plain model
 # that serves the requests one at a time in the order of the printed tickets (what is asked:
 # bench/clients.py).
 # First 1,000 sessions are given to `serve` in the same way, so that the model is known to be right.
