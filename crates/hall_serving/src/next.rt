@@ -40,7 +40,7 @@ pub fn serve_next<R: Threads + Wait + Sync, S: Serves + Drop, G: Gate>(
         caller.new x.0 x.1) }
 {
     answering();
-    pause.wait();
+    pause.wait(hall, plan.requests());
     let Some(ticket) = caller.begin(rt, hall) else {
         return None;
     };

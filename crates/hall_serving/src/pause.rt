@@ -2,6 +2,8 @@
 
 ghost use Rattle.std.specs.Prelude.{◌≡◌};
 
+use session_hall::Hall;
+use session_journal::Script;
 use std::thread;
 
 /// How many yields a pause grows by, and the most that it has.
@@ -35,9 +37,13 @@ impl Pause {
         };
     }
 
-    // Yields the thread for as long.
-    pub(crate) fn wait(&self) {
+    // Yields the thread for as long, and no longer than until the last tickets are served: whoever
+    // waits for this caller then waits for nothing.
+    pub(crate) fn wait<S: Script + Drop>(&self, hall: &Hall<S>, requests: u32) {
         for _ in 0..self.yields {
+            if hall.is_near_end(requests) {
+                break;
+            }
             thread::yield_now();
         }
     }

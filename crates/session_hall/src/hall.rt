@@ -8,7 +8,7 @@ use hall_rule::{HallRule, Held, Part};
 use session_journal::Script;
 use std::snapshot::Snapshot;
 use std::sync::Mutex;
-use std::sync::atomic::AtomicU32;
+use std::sync::atomic::{AtomicU32, Ordering};
 use turn_board::{Board, Seat};
 
 /// Empty lists with room for the seats and the shards of a hall.
@@ -46,4 +46,13 @@ pub struct Hall<S: Script + Drop> {
     // What `close` fills. A lock lets threads share the hall where S is only Send; no thread takes
     // it.
     pub(crate) kept: Mutex<Spare<Seat<Held<S>, HallRule<S>>, Part>>,
+}
+
+impl<S: Script + Drop> Hall<S> {
+    /// Whether no ticket may be left to begin, of so many: fewer than there are callers aren't ended.
+    /// Nothing is claimed of it.
+    pub fn is_near_end(&self, requests: u32) -> bool {
+        let ends = self.ends.load(Ordering::SeqCst);
+        ends.saturating_add(self.sizes.callers) > requests
+    }
 }

@@ -15,6 +15,9 @@ const DELAY_DOUBLINGS: u32 = 8;
 /// How often a caller that waits looks at a taken turn before it tries all the same.
 const LOOKS: u32 = 1_000;
 
+/// After how many looks its thread is yielded.
+const LOOKS_A_YIELD: u32 = 32;
+
 /// The tries of a caller that found a turn taken or an operation delayed. Between two tries its
 /// thread is yielded 1, 2, 4 times, and so on, up to 8, and up to 256 after a delay.
 #[derive(Debug, Clone, Copy)]
@@ -74,11 +77,13 @@ impl Waits {
             thread::yield_now();
         }
         self.waited();
-        for _ in 0..LOOKS {
+        for look in 0..LOOKS {
             if (hall.board.look() >> (turn % 64)) & 1 == 0 {
                 return;
             }
-            thread::yield_now();
+            if look % LOOKS_A_YIELD == 0 {
+                thread::yield_now();
+            }
         }
     }
 }

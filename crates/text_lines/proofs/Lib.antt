@@ -1,5 +1,6 @@
 pub mod NumberLemmas
 pub mod DigitLemmas
+pub mod FeedLemmas
 pub mod PrintableLemmas
 pub mod RowLemmas
 pub mod TextLemmas

@@ -6,19 +6,13 @@ ghost use Rattle.text_lines.specs.Bytes as classes;
 ghost use Rattle.text_lines.specs.Text as spec;
 
 use crate::bytes::is_blank;
+use memchr::memchr;
 
 #[inline]
 fn is_word_byte(byte: u8) -> bool
     ensures { result ≡ spec.is_word_byte byte }
 {
     !(is_blank(byte) || byte == b'#')
-}
-
-#[inline]
-fn is_line_byte(byte: u8) -> bool
-    ensures { result ≡ spec.is_line_byte byte }
-{
-    !(byte == b'\n')
 }
 
 /// How many blanks stand in front.
@@ -42,5 +36,8 @@ pub fn line_len(bytes: &[u8]) -> usize
     ensures len { result ≡ prefix_len spec.is_line_byte bytes.now }
     ensures within { result ≤ length bytes.now }
 {
-    bytes.iter().take_while(|b| is_line_byte(**b)).count()
+    match memchr(b'\n', bytes) {
+        Some(len) => len,
+        None => bytes.len(),
+    }
 }

@@ -1,9 +1,6 @@
-use Rattle.std.proofs.Common.{◌≡◌, ℕ, ◌+◌, ◌-◌, ◌*◌, ◌<◌, ◌≤◌, true, take, length, get_or, cond, Some, None, refl, sym, ap, ◌∙◌, subst, arith}
-use Rattle.std.specs.Char.{is_ascii_digit}
-use Rattle.std.specs.Str.{all_ascii_digits}
-use Rattle.text_lines.specs.Text.{Text}
+use Rattle.std.proofs.Common.{◌+◌, ◌-◌, ◌*◌, ◌<◌, get_or, cond, Some, None, refl, sym, ap, ◌∙◌, arith}
 use Rattle.text_lines.specs.Values.{number_from}
-use Rattle.text_lines.proofs.DigitLemmas.{digits_fail, few_here, longer, ten_most, ten_to, whole}
+use Rattle.text_lines.proofs.DigitLemmas.{digits_fail, few_here, longer, ten_most, whole}
 use Rattle.text_lines.proofs.word_value.few_digits.Goals as goal
 
 pub loop-b-init : goal.loop-b-init
