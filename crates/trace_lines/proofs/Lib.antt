@@ -1,11 +1,15 @@
 pub mod Alike
 pub mod AsRead
 pub mod Joined
+pub mod Kept
 pub mod Lines
+pub mod Long
 pub mod OneTrace
 pub mod Placed
 pub mod Reading
+pub mod Replies
 pub mod Rows
+pub mod Taken
 pub mod Told
 pub mod Waiting
 pub mod WordLemmas

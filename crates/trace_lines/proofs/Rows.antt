@@ -108,28 +108,42 @@ module _ (names : List Text) (tables : List ℕ) (shape : List TableKind) where
   pushed r x (Ok u) old new is h = record { event = x; is = is; events = ap (λ (t : TraceView). t.events) h; lines = ap (λ (t : TraceView). t.lines) h }
   pushed r x (Err e) old new is h = tt
 
+-- an event that lines have with more names too is pushed with these
+pub pushed_later : {E : Type 0} (names : List Text) (tables : List ℕ) (shape : List TableKind) (r : Row) (x : Event) (res : Result (Unit {0}) E) (old new : TraceView)
+    → ((later : List Text) → Begins names later → row_event later tables shape r ≡ Some x)
+    → IfOk res (λ _. new ≡ record { events = old.events ++ x ∷ []; lines = old.lines ++ r.line ∷ [] })
+    → OnOk res ((later : List Text) → Begins names later → IsPushed later tables shape r old new)
+pushed_later {E} names tables shape r x (Ok u) old new is h = λ later le. pushed later tables shape {E = E} r x (Ok u) old new (is later le) h
+pushed_later names tables shape r x (Err e) old new is h = tt
+
 -- ---- more names
-pub fault_kept : (old new : List Text) (tables : List ℕ) (shape : List TableKind) (seen : ℕ) (rs : List Row) → Begins old new → AreKnown old tables → first_event_fault old tables shape seen rs ≡ first_event_fault new tables shape seen rs
-fault_kept old new tables shape seen [] b k = first_nil old tables shape seen ∙ sym (first_nil new tables shape seen)
-fault_kept old new tables shape seen (r ∷ rs) b k =
-    let same = names_kept old new tables b k in
-    let some : is_some (row_event old tables shape r) ≡ is_some (row_event new tables shape r) = ap (λ (o : Option Event). is_some o) (row_is old tables shape r) ∙ event_some old new tables shape same (r.name ∷ r.args) ∙ ap (λ (o : Option Event). is_some o) (sym (row_is new tables shape r)) in
-    let one : event_fault old tables shape seen r ≡ event_fault new tables shape seen r = fault_is old tables shape seen r ∙ ap (λ (s : Bool). by_room (nat_le max_events seen) r s) some ∙ sym (fault_is new tables shape seen r) in
-    first_is old tables shape seen r rs
-    ∙ ap (λ (o : Option TraceRefusal). option_or o (first_event_fault old tables shape (seen + 1) rs)) one
-    ∙ ap (option_or (event_fault new tables shape seen r)) (fault_kept old new tables shape (seen + 1) rs b k)
-    ∙ sym (first_is new tables shape seen r rs)
+module _ (old new : List Text) (tables : List ℕ) (shape : List TableKind) (b : Begins old new) (k : AreKnown old tables) where
+  -- the fault of a line
+  pub row_fault_kept : (seen : ℕ) (r : Row) → event_fault old tables shape seen r ≡ event_fault new tables shape seen r
+  row_fault_kept seen r =
+      let same = names_kept old new tables b k in
+      let some : is_some (row_event old tables shape r) ≡ is_some (row_event new tables shape r) = ap (λ (o : Option Event). is_some o) (row_is old tables shape r) ∙ event_some old new tables shape same (r.name ∷ r.args) ∙ ap (λ (o : Option Event). is_some o) (sym (row_is new tables shape r)) in
+      fault_is old tables shape seen r ∙ ap (λ (s : Bool). by_room (nat_le max_events seen) r s) some ∙ sym (fault_is new tables shape seen r)
+
+  pub fault_kept : (seen : ℕ) (rs : List Row) → first_event_fault old tables shape seen rs ≡ first_event_fault new tables shape seen rs
+  fault_kept seen [] = first_nil old tables shape seen ∙ sym (first_nil new tables shape seen)
+  fault_kept seen (r ∷ rs) =
+      first_is old tables shape seen r rs
+      ∙ ap (λ (o : Option TraceRefusal). option_or o (first_event_fault old tables shape (seen + 1) rs)) (row_fault_kept seen r)
+      ∙ ap (option_or (event_fault new tables shape seen r)) (fault_kept (seen + 1) rs)
+      ∙ sym (first_is new tables shape seen r rs)
 
 -- what is read with the names behind all lines is a trace
-pub is_trace : {E : Type 0} (old new : List Text) (tables : List ℕ) (shape : List TableKind) (rs : List Row) (r : Result TraceView E) → Begins old new → AreKnown old tables → new ≡ names_after old rs
-    → IfOk r (λ _. first_event_fault new tables shape 0 rs ≡ None)
+pub is_trace : {E : Type 0} (old new : List Text) (tables : List ℕ) (shape : List TableKind) (rs : List Row) (r : Result TraceView E)
+    → IfOk r (λ _. new ≡ names_after old rs)
+    → IfOk r (λ _. first_event_fault old tables shape 0 rs ≡ None)
     → IfOk r (λ t. map (row_event new tables shape) rs ≡ map (λ (e : Event). Some e) t.events)
     → IfOk r (λ t. t.lines ≡ map (λ (x : Row). x.line) rs)
     → IfOk r (IsTrace old new tables shape rs)
-is_trace old new tables shape rs (Ok t) b k n fine events lines = record {
-  fine = fault_kept old new tables shape 0 rs b k ∙ fine;
-  names = n;
+is_trace old new tables shape rs (Ok t) names fine events lines = record {
+  fine = fine;
+  names = names;
   events = events;
   lines = lines;
 }
-is_trace old new tables shape rs (Err e) b k n fine events lines = tt
+is_trace old new tables shape rs (Err e) names fine events lines = tt

@@ -1,5 +1,5 @@
 -- What single words say.
-use Rattle.std.proofs.Common.{SFits, to_z, of_z, w64, ◌≡◌, ◌≢◌, ℕ, ℤ, pos, neg_ℤ, zero, suc, ◌+◌, ◌-◌, ◌<◌, ◌≤◌, ◌^◌, ◌&&◌, Bool, true, false, not, cond, eqb, ltb, nat_le, nat_lt, List, [], ◌∷◌, length, drop, get_or, slice_get, Option, Some, None, Result, Ok, Err, refl, sym, ap, ◌∙◌, subst, arith}
+use Rattle.std.proofs.Common.{SFits, to_z, of_z, w64, ◌≡◌, ◌≢◌, ℕ, ℤ, pos, neg_ℤ, zero, suc, ◌+◌, ◌-◌, ◌<◌, ◌≤◌, ◌^◌, ◌&&◌, Bool, true, false, not, cond, eqb, nat_le, nat_lt, List, [], ◌∷◌, length, drop, get_or, slice_get, Option, Some, None, Result, Ok, Err, refl, sym, ap, ◌∙◌, subst, arith}
 use Rattle.std.proofs.lemmas.Bool.Decides.{nat_tests}
 use Rattle.std.proofs.lemmas.Fmt.{decimal-digits_value, decimal_digit, decimal_nonempty, digits_decimal, first_decimal}
 use Rattle.std.proofs.lemmas.Int.{to_z-of_z}
@@ -7,7 +7,7 @@ use Rattle.std.proofs.lemmas.List.Sums.{prefix_len-le-length}
 use Rattle.std.proofs.lemmas.Slice.Eq.{bytes_eq-Decides}
 use Rattle.std.specs.Char.{is_ascii_digit}
 use Rattle.std.specs.Fmt.{decimal}
-use Rattle.std.specs.List.{position, position_or_len}
+use Rattle.std.specs.List.{position_or_len}
 use Rattle.std.specs.Option.{unwrap_or}
 use Rattle.std.specs.Int.{FitsUnsignedBits}
 use Rattle.std.specs.Prelude.{◌==◌, slice_index, unsigned_abs}
@@ -17,18 +17,9 @@ use Rattle.session_values.specs.Names.{place_of}
 use Rattle.text_lines.specs.Text.{Text}
 use Rattle.text_lines.specs.Values.{has_minus, number_from, number}
 use Rattle.text_lines.proofs.NumberLemmas.{numerals}
-use Rattle.line_words.specs.ValueWords.{literal_value}
 use Rattle.trace_lines.specs.EventRows.{placed_literal, placed_symbol}
 use Rattle.trace_lines.specs.EventWords.{small_number, table_names}
-use Rattle.trace_lines.specs.Fronts.{plain_value, quoted_value}
-
--- ---- places
-none_at : (n m : ℕ) (b : Bool) → ltb n m ≡ b → ◌≡◌ {A = Option ℕ} None (cond b (Some n) None) → n ≤ m → m ≡ n
-none_at n m true e h l = absurd (cc)
-none_at n m false e h l = let k : m ≤ n = grind (arith, nat_tests) in omega (arith, k, l)
-
-pub absent_place : (names : List Text) (w : Text) (len : ℕ) → len ≡ length names → None ≡ position (bytes_eq w) names → len ≡ place_of names w
-absent_place names w len e h = e ∙ none_at (place_of names w) (length names) _ refl h (prefix_len-le-length _ names)
+use Rattle.trace_lines.specs.Placing.{place_if_symbol, symbol_place}
 
 -- ---- the quote of a literal
 no_quote : (w : Text) → ((t : Text) → w ≢ 39 ∷ t) → (slice_index w 0 == 39) ≡ false
@@ -42,12 +33,12 @@ no_quote (b ∷ bs) f = go (eqb b 39) refl
     go true e = absurd (f bs (ap (λ (x : ℕ). x ∷ bs) (same b e)))
     go false e = e
 
-pub plain_literal : (names : List Text) (w : Text) → ((t : Text) → w ≢ 39 ∷ t) → literal_value names w ≡ plain_value w
-plain_literal names w f = ap (λ (b : Bool). cond b (quoted_value names (drop 1 w)) (plain_value w)) (no_quote w f)
-
 pub plain_placed : (names : List Text) (w : Text) → ((t : Text) → w ≢ 39 ∷ t) → placed_literal names w ≡ names
 unfolding placed_literal
 plain_placed names w f = ap (λ (b : Bool). cond b (placed_symbol names (drop 1 w)) names) (no_quote w f)
+
+pub plain_symbol : (names : List Text) (w : Text) → ((t : Text) → w ≢ 39 ∷ t) → None ≡ symbol_place names w
+plain_symbol names w f = sym (ap (λ (b : Bool). cond b (place_if_symbol names (drop 1 w)) None) (no_quote w f))
 
 pub quoted_placed : (names : List Text) (w t : Text) → w ≡ 39 ∷ t → placed_literal names w ≡ placed_symbol names t
 unfolding placed_literal

@@ -1,15 +1,16 @@
 -- What code reads from the front of some words. Only this crate's own functions cite it.
-use Rattle.std.specs.Prelude.{◌≡◌, List, [], ◌∷◌, ◌++◌, if◌then◌else◌, Bool, true, false, Option, Some, None, MatchOption}
+use Rattle.std.specs.Prelude.{◌≡◌, ◌==◌, List, slice_index, [], ◌∷◌, ◌++◌, if◌then◌else◌, Bool, true, false, Option, Some, None, MatchOption}
+use Rattle.std.specs.Borrow.{Bor}
 use Rattle.std.specs.Option.{option_map, option_and_then}
 use Rattle.session_values.specs.declared.kind.Kind.{Kind}
 use Rattle.session_values.specs.declared.kind.Kind.TheVariants.{Has, Add, Mark, Drop, Count}
 use Rattle.session_values.specs.declared.reply.Reply.{Reply}
 use Rattle.session_values.specs.declared.value.Value.{Value}
-use Rattle.session_values.specs.declared.value.Value.TheVariants.{Nil, Sym}
-use Rattle.session_values.specs.Names.{place_of}
-use Rattle.text_lines.specs.Text.{Text, words}
-use Rattle.text_lines.specs.Values.{as_value, is_nil, is_symbol, number}
-use Rattle.text_lines.specs.declared.line.Line.{Line}
+use Rattle.session_values.specs.declared.value.Value.TheVariants.{Nil}
+use Rattle.text_lines.specs.Text.{Text}
+use Rattle.text_lines.specs.Values.{as_value, is_nil, number}
+use Rattle.trace_lines.specs.declared.words.Word.{Word}
+use Rattle.trace_lines.specs.Placing.{texts}
 use Rattle.trace_lines.specs.EventWords.{Front, all_literals, as_reply, kind_among}
 
 -- ---- single words
@@ -18,19 +19,19 @@ use Rattle.trace_lines.specs.EventWords.{Front, all_literals, as_reply, kind_amo
 abbrev pub set_kind_of : Text → Option Kind
 set_kind_of = kind_among (Has ∷ Add ∷ Mark ∷ Drop ∷ Count ∷ [])
 
--- the value of a literal with this text behind its quote
-abbrev pub quoted_value : List Text → Text → Option Value
-quoted_value names t = if is_symbol t then Some (Sym (place_of names t)) else None
-
 -- the value of a literal without a quote
 abbrev pub plain_value : Text → Option Value
 plain_value w = if is_nil w then Some Nil else as_value (number w)
 
+-- the value of a word that is no literal of a symbol
+abbrev pub unplaced_value : Text → Option Value
+unplaced_value w = if slice_index w 0 == 39 then None else plain_value w
+
 -- ---- some words, from the first on
 
 -- what was read, with the words that are left
-abbrev pub IsFront : {X : Type 0} → Option (X × Line) → Front X → Type 0
-IsFront r f = MatchOption r (f ≡ None) (λ p. f ≡ Some (p.0, words p.1.rest.now))
+abbrev pub IsFront : {X : Type 0} → Option (X × Bor (List Word)) → Front X → Type 0
+IsFront r f = MatchOption r (f ≡ None) (λ p. f ≡ Some (p.0, texts p.1.now))
 
 -- the reply of some values and of those that the words are, if they are one
 abbrev pub reply_with : List Text → List Value → List Text → Option Reply

@@ -3,5 +3,6 @@ pub mod EventRows
 pub mod EventText
 pub mod EventWords
 pub mod Fronts
+pub mod Placing
 pub mod Pushing
 pub mod VerdictText

@@ -2,22 +2,23 @@
 
 ghost use Rattle.std.specs.Prelude.{◌≡◌, [], ◌∷◌, IfSome, codes};
 ghost use Rattle.std.specs.Str.{bytes_eq};
-ghost use Rattle.text_lines.specs.Text.{words as words_of};
 ghost use Rattle.trace_audit.specs.Traces.{HasKnownSymbol};
 ghost use Rattle.trace_lines.specs.EventRows.{AreKnown};
 ghost use Rattle.trace_lines.specs.EventWords as spec;
 ghost use Rattle.trace_lines.specs.Fronts.{is_over, reply_with};
+ghost use Rattle.trace_lines.specs.Placing.{IsPlaced, texts};
+ghost use Rattle.std.specs.List.{AllByRecursion};
 
 use crate::front::{Tables, literal_first, number_first, op, symbol};
+use crate::words::Word;
 use session_journal::Event;
 use session_values::{Names, Reply, Value};
-use text_lines::Line;
 
 /// Whether no word is left.
-fn is_over(mut words: Line<'_>) -> bool
-    ensures { result ≡ is_over (words_of words.entry.rest.now) }
+fn is_over(words: &[Word<'_>]) -> bool
+    ensures { result ≡ is_over (texts words.entry.now) }
 {
-    words.next().is_none()
+    words.is_empty()
 }
 
 /// The reply of four values, behind which no word stands.
@@ -26,10 +27,11 @@ fn reply_of_four(
     b: Value,
     c: Value,
     d: Value,
-    words: Line<'_>,
+    words: &[Word<'_>],
     names: &Names,
 ) -> Option<Reply>
-    ensures { result ≡ reply_with names.now (a ∷ b ∷ c ∷ d ∷ []) (words_of words.entry.rest.now) }
+    requires placed { AllByRecursion (IsPlaced names.now) words.now }
+    ensures { result ≡ reply_with names.now (a ∷ b ∷ c ∷ d ∷ []) (texts words.entry.now) }
 {
     if is_over(words) {
         Some(Reply::new(4, a, b, c, d))
@@ -39,8 +41,9 @@ fn reply_of_four(
 }
 
 /// The reply of three values and of those that the words are.
-fn reply_of_three(a: Value, b: Value, c: Value, words: Line<'_>, names: &Names) -> Option<Reply>
-    ensures { result ≡ reply_with names.now (a ∷ b ∷ c ∷ []) (words_of words.entry.rest.now) }
+fn reply_of_three(a: Value, b: Value, c: Value, words: &[Word<'_>], names: &Names) -> Option<Reply>
+    requires placed { AllByRecursion (IsPlaced names.now) words.now }
+    ensures { result ≡ reply_with names.now (a ∷ b ∷ c ∷ []) (texts words.entry.now) }
 {
     if is_over(words) {
         return Some(Reply::new(3, a, b, c, Value::Nil));
@@ -52,8 +55,9 @@ fn reply_of_three(a: Value, b: Value, c: Value, words: Line<'_>, names: &Names) 
 }
 
 /// The reply of two values and of those that the words are.
-fn reply_of_two(a: Value, b: Value, words: Line<'_>, names: &Names) -> Option<Reply>
-    ensures { result ≡ reply_with names.now (a ∷ b ∷ []) (words_of words.entry.rest.now) }
+fn reply_of_two(a: Value, b: Value, words: &[Word<'_>], names: &Names) -> Option<Reply>
+    requires placed { AllByRecursion (IsPlaced names.now) words.now }
+    ensures { result ≡ reply_with names.now (a ∷ b ∷ []) (texts words.entry.now) }
 {
     if is_over(words) {
         return Some(Reply::new(2, a, b, Value::Nil, Value::Nil));
@@ -65,8 +69,9 @@ fn reply_of_two(a: Value, b: Value, words: Line<'_>, names: &Names) -> Option<Re
 }
 
 /// The reply of a value and of those that the words are.
-fn reply_of_one(a: Value, words: Line<'_>, names: &Names) -> Option<Reply>
-    ensures { result ≡ reply_with names.now (a ∷ []) (words_of words.entry.rest.now) }
+fn reply_of_one(a: Value, words: &[Word<'_>], names: &Names) -> Option<Reply>
+    requires placed { AllByRecursion (IsPlaced names.now) words.now }
+    ensures { result ≡ reply_with names.now (a ∷ []) (texts words.entry.now) }
 {
     if is_over(words) {
         return Some(Reply::new(1, a, Value::Nil, Value::Nil, Value::Nil));
@@ -78,8 +83,9 @@ fn reply_of_one(a: Value, words: Line<'_>, names: &Names) -> Option<Reply>
 }
 
 /// The reply of 1 to 4 values.
-fn reply(words: Line<'_>, names: &Names) -> Option<Reply>
-    ensures { result ≡ reply_with names.now [] (words_of words.entry.rest.now) }
+fn reply(words: &[Word<'_>], names: &Names) -> Option<Reply>
+    requires placed { AllByRecursion (IsPlaced names.now) words.now }
+    ensures { result ≡ reply_with names.now [] (texts words.entry.now) }
 {
     match literal_first(words, names) {
         Some((a, rest)) => reply_of_one(a, rest, names),
@@ -88,27 +94,29 @@ fn reply(words: Line<'_>, names: &Names) -> Option<Reply>
 }
 
 /// What stands behind `begin`.
-fn begin(words: Line<'_>) -> Option<Event>
-    ensures event { result ≡ spec.begin_of (words_of words.entry.rest.now) }
+fn begin(words: &[Word<'_>], names: &Names) -> Option<Event>
+    requires { AllByRecursion (IsPlaced names.now) words.now }
+    ensures event { result ≡ spec.begin_of (texts words.entry.now) }
     ensures known { IfSome result HasKnownSymbol }
 {
-    let Some((ticket, rest)) = number_first(words) else {
+    let Some((ticket, rest)) = number_first(words, names) else {
         return None;
     };
-    match number_first(rest) {
+    match number_first(rest, names) {
         Some((caller, left)) if is_over(left) => Some(Event::Begin { ticket, caller }),
         _ => None,
     }
 }
 
 /// What stands behind `done`.
-fn done(words: Line<'_>, tables: Tables<'_>, names: &Names) -> Option<Event>
-    requires { AreKnown names.now tables.places.now }
+fn done(words: &[Word<'_>], tables: Tables<'_>, names: &Names) -> Option<Event>
+    requires placed { AllByRecursion (IsPlaced names.now) words.now }
+    requires known { AreKnown names.now tables.places.now }
     ensures event { result ≡ spec.done_of names.now tables.entry.places.now tables.entry.kinds.now
-        (words_of words.entry.rest.now) }
+        (texts words.entry.now) }
     ensures known { IfSome result HasKnownSymbol }
 {
-    let Some((ticket, rest)) = number_first(words) else {
+    let Some((ticket, rest)) = number_first(words, names) else {
         return None;
     };
     let Some((op, left)) = op(rest, tables, names) else {
@@ -121,19 +129,20 @@ fn done(words: Line<'_>, tables: Tables<'_>, names: &Names) -> Option<Event>
 }
 
 /// What stands behind `delay`.
-fn delay(words: Line<'_>, tables: Tables<'_>, names: &Names) -> Option<Event>
-    requires { AreKnown names.now tables.places.now }
+fn delay(words: &[Word<'_>], tables: Tables<'_>, names: &Names) -> Option<Event>
+    requires placed { AllByRecursion (IsPlaced names.now) words.now }
+    requires known { AreKnown names.now tables.places.now }
     ensures event { result ≡ spec.delay_of names.now tables.entry.places.now tables.entry.kinds.now
-        (words_of words.entry.rest.now) }
+        (texts words.entry.now) }
     ensures known { IfSome result HasKnownSymbol }
 {
-    let Some((ticket, rest)) = number_first(words) else {
+    let Some((ticket, rest)) = number_first(words, names) else {
         return None;
     };
     let Some((op, left)) = op(rest, tables, names) else {
         return None;
     };
-    let Some((older, last)) = number_first(left) else {
+    let Some((older, last)) = number_first(left, names) else {
         return None;
     };
     match symbol(last, tables, names) {
@@ -148,11 +157,12 @@ fn delay(words: Line<'_>, tables: Tables<'_>, names: &Names) -> Option<Event>
 }
 
 /// What stands behind `end`.
-fn end(words: Line<'_>, names: &Names) -> Option<Event>
-    ensures event { result ≡ spec.end_of names.now (words_of words.entry.rest.now) }
+fn end(words: &[Word<'_>], names: &Names) -> Option<Event>
+    requires placed { AllByRecursion (IsPlaced names.now) words.now }
+    ensures event { result ≡ spec.end_of names.now (texts words.entry.now) }
     ensures known { IfSome result HasKnownSymbol }
 {
-    let Some((ticket, rest)) = number_first(words) else {
+    let Some((ticket, rest)) = number_first(words, names) else {
         return None;
     };
     match reply(rest, names) {
@@ -194,14 +204,20 @@ fn is_end(word: &str) -> bool
 }
 
 /// The event that a word and those behind it are, if they are one.
-pub(crate) fn event(word: &str, words: Line<'_>, tables: Tables<'_>, names: &Names) -> Option<Event>
-    requires { AreKnown names.now tables.places.now }
+pub(crate) fn event(
+    word: &str,
+    words: &[Word<'_>],
+    tables: Tables<'_>,
+    names: &Names,
+) -> Option<Event>
+    requires placed { AllByRecursion (IsPlaced names.now) words.now }
+    requires known { AreKnown names.now tables.places.now }
     ensures event { result ≡ spec.event_of names.now tables.entry.places.now tables.entry.kinds.now
-        (word.now ∷ words_of words.entry.rest.now) }
+        (word.now ∷ texts words.entry.now) }
     ensures known { IfSome result HasKnownSymbol }
 {
     if is_begin(word) {
-        begin(words)
+        begin(words, names)
     } else if is_done(word) {
         done(words, tables, names)
     } else if is_delay(word) {

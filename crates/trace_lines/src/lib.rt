@@ -6,11 +6,11 @@ mod event_line;
 mod event_words;
 mod front;
 pub mod laws;
-mod placing;
 mod refusal;
 mod trace_part;
 mod verdict;
 mod word;
+mod words;
 mod writing;
 
 pub use bounds::event_bounds;

@@ -7,10 +7,12 @@ ghost use Rattle.line_words.specs.ValueWords.{literal_value};
 ghost use Rattle.trace_lines.specs.EventRows.{AreKnown};
 ghost use Rattle.trace_lines.specs.EventWords as spec;
 ghost use Rattle.trace_lines.specs.Fronts as fronts;
+ghost use Rattle.trace_lines.specs.Placing.{IsPlaced};
 
+use crate::words::Word;
 use session_values::{Kind, Names, TableKind, Value};
 use symbolic_ops::Arg;
-use text_lines::{first_byte, is_symbol, number};
+use text_lines::{first_byte, number};
 
 /// Whether a zero stands in front of other bytes.
 fn has_front_zero(word: &str) -> bool
@@ -57,34 +59,25 @@ pub(crate) fn kind(word: &str) -> Option<Kind>
     }
 }
 
-/// The place of a text, or the number of names where it has none.
-fn place(text: &str, names: &Names) -> u32
-    ensures { result ≡ place_of names.now text.now }
-{
-    match names.find(text) {
-        Some(place) => place,
-        None => names.len(),
-    }
-}
-
-/// The value of a literal that begins with a quote, by what stands behind it.
-fn quoted(text: &str, names: &Names) -> Option<Value>
-    ensures { result ≡ fronts.quoted_value names.now text.now }
-{
-    if is_symbol(text) {
-        Some(Value::Sym(place(text, names)))
-    } else {
-        None
-    }
-}
-
 /// The value of a literal, if the word is one.
-pub(crate) fn literal(word: &str, names: &Names) -> Option<Value>
-    ensures { result ≡ literal_value names.now word.now }
+pub(crate) fn literal(word: Word<'_>, names: &Names) -> Option<Value>
+    requires { IsPlaced names.now word }
+    ensures { result ≡ literal_value names.now word.entry.text.now }
 {
-    match word.strip_prefix('\'') {
-        Some(text) => quoted(text, names),
-        None => plain(word),
+    match word.place {
+        Some(place) => Some(Value::Sym(place)),
+        None => unplaced(word.text),
+    }
+}
+
+/// The value of a word that is no literal of a symbol, if it is one.
+fn unplaced(word: &str) -> Option<Value>
+    ensures { result ≡ fronts.unplaced_value word.now }
+{
+    if first_byte(word) == b'\'' {
+        None
+    } else {
+        plain(word)
     }
 }
 
@@ -102,11 +95,12 @@ fn plain(word: &str) -> Option<Value>
 }
 
 /// An argument of a symbol, if the word is one.
-pub(crate) fn arg(word: &str, names: &Names) -> Option<Arg>
-    ensures value { result ≡ spec.arg_value names.now word.now }
+pub(crate) fn arg(word: Word<'_>, names: &Names) -> Option<Arg>
+    requires { IsPlaced names.now word }
+    ensures value { result ≡ spec.arg_value names.now word.entry.text.now }
     ensures known { IfSome result IsNoVar }
 {
-    if matches!(word.as_bytes(), b"any") {
+    if matches!(word.text.as_bytes(), b"any") {
         return Some(Arg::Any);
     }
     match literal(word, names) {
