@@ -1,9 +1,10 @@
 -- An end of a lane knows the replies for which it is one.
-use Rattle.std.proofs.Common.{◌≡◌, ◌≤◌, ℕ, List, Option, Some, length, slice_get, refl, sym, subst}
+use Rattle.std.proofs.Common.{◌≡◌, ◌≤◌, ℕ, List, Some, length, slice_get, refl, sym, subst}
 use Rattle.session_values.specs.declared.reply.Reply.{Reply}
 use Rattle.reply_lane.specs.declared.lane.Lane.{Lane}
 use Rattle.reply_lane.specs.declared.lane.End.{End}
 use Rattle.reply_lane.specs.Ends.{IsEndOf, state_of}
+use Rattle.reply_sheet.specs.Pending.{PendingView}
 use Rattle.reply_sheet.specs.Printable.{ArePrintableReplies}
 use Rattle.sheet_writing.specs.Sheets.{GoesOn, Keeps, Progress}
 
@@ -17,10 +18,10 @@ module _ (l : Lane) (replies : List Reply) (e : End) (is : IsEndOf l replies e) 
   pub own_reply : (t : ℕ) (r : Reply) → slice_get replies t ≡ Some r → slice_get (state_of e).known t ≡ Some r
   own_reply t r h = subst (λ (rs : List Reply). slice_get rs t ≡ Some r) (sym is.2) h
 
-  pub own_keeps : (kept : List (Option Reply)) → Keeps replies kept → Keeps (state_of e).known kept
+  pub own_keeps : (kept : PendingView) → Keeps replies kept → Keeps (state_of e).known kept
   own_keeps kept h = subst (λ (rs : List Reply). Keeps rs kept) (sym is.2) h
 
-  pub other_keeps : (kept : List (Option Reply)) → Keeps (state_of e).known kept → Keeps replies kept
+  pub other_keeps : (kept : PendingView) → Keeps (state_of e).known kept → Keeps replies kept
   other_keeps kept h = subst (λ (rs : List Reply). Keeps rs kept) is.2 h
 
   pub own_few : (n : ℕ) → length replies ≤ n → length (state_of e).known ≤ n

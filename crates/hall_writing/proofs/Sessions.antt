@@ -31,12 +31,12 @@ ends_made l callers replies (e ∷ es) all = (all.0.end, ends_made l callers rep
 module _ {S : Type 0} (meaning : S → Meaning) (h : Hall S) (lane : Lane) where
   pub opened : (script : S) (js : List (Job S)) (cs left : List (Caller S)) (es : List End) (callers room : ℕ) (sheet : Sheet) → script_of h ≡ script → callers_of js ≡ cs → ends_of js ≡ es
       → ((i : ℕ) (c : Caller S) → slice_get cs i ≡ Some c → Opens meaning h i c) → AllByRecursion (IsNewEnd lane callers (replies_of (meaning script))) es → length cs ≡ callers → h.sizes.callers ≡ callers → 1 ≤ callers → left ≡ [] → length cs ≤ room
-      → sheet.pending ≡ record { kept = replicate (meaning script).requests None; next = 0 } → sheet.failed ≡ false → IsOpened meaning h lane js left room sheet
+      → sheet.pending ≡ record { next = 0; waiting = replicate (meaning script).requests None } → sheet.failed ≡ false → IsOpened meaning h lane js left room sheet
   opened script js cs left es callers room sheet is same also opens ends count sizes some none roomy pending sound =
       let long : length js ≡ length cs = sym (length-map js (λ (x : Job S). x.caller)) ∙ ap (λ (l : List (Caller S)). length l) same in
       let P : List End → Type 0 = λ l. AllByRecursion (IsEndOf lane (replies_of (meaning script))) l in
       let Q : S → Type 0 = λ s. AllByRecursion (IsEndOf lane (replies_of (meaning s))) (ends_of js) in
-      let R : S → Type 0 = λ s. sheet.pending ≡ record { kept = replicate (meaning s).requests None; next = 0 } in
+      let R : S → Type 0 = λ s. sheet.pending ≡ record { next = 0; waiting = replicate (meaning s).requests None } in
       record {
         opens = λ i c at. opens i c (ap (λ l. slice_get l i) (sym same) ∙ at);
         ends = subst Q (sym is) (subst P (sym also) (ends_made lane callers (replies_of (meaning script)) es ends));
@@ -72,10 +72,10 @@ module _ {S : Type 0} (meaning : S → Meaning) (h : Hall S) (lane : Lane) where
       let P : S → Type 0 = λ s. length (replies_of (meaning s)) ≤ most in
       subst P same (omega (arith, long_by answers js is.some is.opens, few))
 
-  pub keeps_start : Answers → (plan : S) (js : List (Job S)) (left : List (Caller S)) (room : ℕ) (sheet : Sheet) → IsOpened meaning h lane js left room sheet → script_of h ≡ plan → Keeps (replies_of (meaning plan)) sheet.pending.kept
+  pub keeps_start : Answers → (plan : S) (js : List (Job S)) (left : List (Caller S)) (room : ℕ) (sheet : Sheet) → IsOpened meaning h lane js left room sheet → script_of h ≡ plan → Keeps (replies_of (meaning plan)) sheet.pending
   keeps_start answers plan js left room sheet is same =
-      let P : S → Type 0 = λ s. Keeps (replies_of (meaning s)) sheet.pending.kept in
-      subst P same (keeps_none (replies_of (meaning (script_of h))) sheet.pending.kept (meaning (script_of h)).requests (ap (λ (v : PendingView). v.kept) is.pending) (long_by answers js is.some is.opens))
+      let P : S → Type 0 = λ s. Keeps (replies_of (meaning s)) sheet.pending in
+      subst P same (keeps_none (replies_of (meaning (script_of h))) sheet.pending (meaning (script_of h)).requests is.pending (long_by answers js is.some is.opens))
 
   pub written_start : (replies : List Reply) (names : List (List ℕ)) (held : Option (List ℕ)) (faults : ℕ) (js : List (Job S)) (left : List (Caller S)) (room : ℕ) (sheet : Sheet) → IsOpened meaning h lane js left room sheet → Written replies names held faults (progress held faults sheet)
   written_start replies names held faults js left room sheet is = written_none replies names (progress held faults sheet) (ap (λ (v : PendingView). v.next) is.pending) is.sound

@@ -31,7 +31,7 @@ pub record IsOpened {S : Type 0} (meaning : S → Meaning) (h : Hall S) (lane : 
   pub none : left ≡ []
   pub roomy : length jobs ≤ room
   pub pending : sheet.pending ≡ record {
-    kept = replicate (meaning (script_of h)).requests None;
     next = 0;
+    waiting = replicate (meaning (script_of h)).requests None;
   }
   pub sound : sheet.failed ≡ false

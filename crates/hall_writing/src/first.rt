@@ -34,7 +34,7 @@ pub(crate) fn serve_and_write_on<R: Threads + Wait + Sync, S: Serves + Drop, G: 
 )
     requires job { IsJobOf S.meaning hall.now lane.now (replies_of (S.meaning plan.now)) job.old }
     requires plan { script_of hall.now ≡ plan.now }
-    requires keeps { Keeps (replies_of (S.meaning plan.now)) sheet.old.pending.kept }
+    requires keeps { Keeps (replies_of (S.meaning plan.now)) sheet.old.pending }
     requires few { length (replies_of (S.meaning plan.now)) ≤ max_requests }
     requires printable { ArePrintableReplies names.now (replies_of (S.meaning plan.now)) }
     ensures served { HasServed S.meaning hall.now job.old job.new }

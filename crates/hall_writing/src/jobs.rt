@@ -90,7 +90,7 @@ fn write_by<'b, R: Threads + Wait + Sync, S: Serves + Drop, G: Gate, O: Sink>(
 ) -> (Job<S>, Sheet, &'b mut O)
     requires job { IsJobOf S.meaning hall.now lane.now (replies_of (S.meaning plan.now)) first }
     requires plan { script_of hall.now ≡ plan.now }
-    requires keeps { Keeps (replies_of (S.meaning plan.now)) sheet.pending.kept }
+    requires keeps { Keeps (replies_of (S.meaning plan.now)) sheet.pending }
     requires few { length (replies_of (S.meaning plan.now)) ≤ max_requests }
     requires printable { ArePrintableReplies names.now (replies_of (S.meaning plan.now)) }
     ensures same { result.2.ghost_name ≡ out.entry.ghost_name }
@@ -132,7 +132,7 @@ pub(crate) fn run_jobs<
     requires jobs { AllByRecursion
         (IsJobOf S.meaning hall.now lane.now (replies_of (S.meaning plan.now))) others.items }
     requires plan { script_of hall.now ≡ plan.now }
-    requires keeps { Keeps (replies_of (S.meaning plan.now)) sheet.pending.kept }
+    requires keeps { Keeps (replies_of (S.meaning plan.now)) sheet.pending }
     requires few { length (replies_of (S.meaning plan.now)) ≤ max_requests }
     requires printable { ArePrintableReplies names.now (replies_of (S.meaning plan.now)) }
     ensures first { HasServed S.meaning hall.now first result.0 }
@@ -170,7 +170,7 @@ fn run_beside<R: Threads + Wait + Sync, S: Serves + Drop + Send + Sync, G: Gate 
     requires jobs { AllByRecursion
         (IsJobOf S.meaning hall.now lane.now (replies_of (S.meaning plan.now))) others.items }
     requires plan { script_of hall.now ≡ plan.now }
-    requires keeps { Keeps (replies_of (S.meaning plan.now)) sheet.pending.kept }
+    requires keeps { Keeps (replies_of (S.meaning plan.now)) sheet.pending }
     requires few { length (replies_of (S.meaning plan.now)) ≤ max_requests }
     requires printable { ArePrintableReplies names.now (replies_of (S.meaning plan.now)) }
     ensures first { HasServed S.meaning hall.now first result.0 }
@@ -197,7 +197,7 @@ fn run_beside<R: Threads + Wait + Sync, S: Serves + Drop + Send + Sync, G: Gate 
             requires { IsSync R.row
                 × IsJobOf S.meaning hall.now lane.now (replies_of (S.meaning plan.now)) first
                 × (script_of hall.now ≡ plan.now)
-                × Keeps (replies_of (S.meaning plan.now)) sheet.pending.kept
+                × Keeps (replies_of (S.meaning plan.now)) sheet.pending
                 × (length (replies_of (S.meaning plan.now)) ≤ max_requests)
                 × ArePrintableReplies names.now (replies_of (S.meaning plan.now)) }
             ensures same { result.2.ghost_name ≡ out.entry.ghost_name }

@@ -1,5 +1,5 @@
 -- Replies that are next in the order of tickets.
-use Rattle.std.specs.Prelude.{◌≡◌, ℕ, List, [], ◌∷◌, Option, Some, None, drop, slice_get}
+use Rattle.std.specs.Prelude.{◌≡◌, ℕ, List, [], ◌∷◌, Option, Some, None, slice_get}
 use Rattle.std.specs.List.{AllByRecursion}
 use Rattle.session_values.specs.declared.reply.Reply.{Reply}
 use Rattle.session_values.specs.Reply.{values_of}
@@ -14,9 +14,9 @@ first_kept (Some r ∷ ks) = r ∷ first_kept ks
 
 -- the replies of the next ticket and of those behind it, up to one that isn't kept
 abbrev pub ready : PendingView → List Reply
-ready p = first_kept (drop p.next p.kept)
+ready p = first_kept p.waiting
 
 -- all values of the replies that are kept have texts that a line has room for
 abbrev pub AreKeptPrintable : List (List ℕ) → List (Option Reply) → Type 0
-AreKeptPrintable names kept = (t : ℕ) (r : Reply) → slice_get kept t ≡ Some (Some r)
+AreKeptPrintable names waiting = (i : ℕ) (r : Reply) → slice_get waiting i ≡ Some (Some r)
     → AllByRecursion (IsPrintable names) (values_of r)

@@ -1,6 +1,6 @@
 // Writing: the lines that are next, of replies that come in any order.
 
-ghost use Rattle.std.specs.Prelude.{◌≡◌, ◌+◌, ◌≤◌, length, true, false};
+ghost use Rattle.std.specs.Prelude.{◌≡◌, ◌+◌, ◌≤◌, ℕ, drop, length, true, false};
 ghost use Rattle.session_limits.specs.Limits.{max_requests};
 ghost use Rattle.byte_ends.specs.Ends.{Rose, Grew, GrewByFront};
 ghost use Rattle.session_values.specs.ReplyText.{reply_text};
@@ -20,10 +20,10 @@ pub fn write_ready<O: Sink>(
     names: &Names,
     buffer: &mut WriteBuffer,
 ) -> bool
-    requires few { length pending.old.kept ≤ max_requests }
-    requires printable { AreKeptPrintable names.now pending.old.kept }
-    ensures kept { pending.new.kept ≡ pending.old.kept }
-    ensures onward { pending.old.next ≤ pending.new.next }
+    requires few { pending.old.next + length pending.old.waiting ≤ max_requests }
+    requires printable { AreKeptPrintable names.now pending.old.waiting }
+    ensures onward { (n : ℕ) × (pending.new.next ≡ pending.old.next + n)
+        × (pending.new.waiting ≡ drop n pending.old.waiting) × (n ≤ length pending.old.waiting) }
     ensures next { result ≡ true
         → pending.new.next ≡ pending.old.next + length (ready pending.old) }
     ensures all { result ≡ true → Grew (O.held out.old) (O.held out.new)

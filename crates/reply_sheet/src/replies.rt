@@ -10,9 +10,9 @@ use crate::reply_line::{LONGEST, push_line};
 use byte_ends::{Sink, WriteBuffer, write_all};
 use session_values::{Names, Reply};
 
-/// Writes the lines of the replies, of which the first is the ticket `start`'s. Whole lines are gathered in
-/// the buffer, in place of what it held, and written when the next one may have no room. It answers
-/// `false` after a fault.
+/// Writes the lines of the replies, of which the first is the ticket `start`'s. Whole lines are
+/// gathered in the buffer, in place of what it held, and written when the next one may have no room.
+/// It answers `false` after a fault.
 pub fn write_replies<O: Sink>(
     out: &mut O,
     start: u32,

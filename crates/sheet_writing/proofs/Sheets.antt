@@ -1,6 +1,7 @@
 -- What a sheet keeps, and what was written of it.
-use Rattle.std.proofs.Common.{◌≡◌, ℕ, zero, suc, ◌+◌, ◌<◌, ◌≤◌, ◌-◌, List, [], ◌∷◌, ◌++◌, Bool, true, false, not, true≢false, Option, Some, None, take, drop, drop-drop, length, replicate, slice_get, slice_set, slice_index_or, refl, sym, ap, ◌∙◌, subst, arith}
+use Rattle.std.proofs.Common.{◌≡◌, ℕ, zero, suc, ◌+◌, ◌<◌, ◌≤◌, ◌-◌, List, [], ◌∷◌, ◌++◌, ◌⊎◌, inl, inr, Bool, true, false, if◌then◌else◌, nat_lt, not, true≢false, Option, Some, None, take, drop, length, replicate, slice_get, slice_set, slice_index_or, refl, sym, ap, ◌∙◌, subst, arith}
 use Rattle.std.proofs.lemmas.List.{take_all, take-append-drop, length-take-le, length-drop}
+use Rattle.std.proofs.lemmas.Bool.Decides.{nat_tests}
 use Rattle.std.proofs.Math.Seq.{take-add}
 use Rattle.std.specs.List.{AllByRecursion}
 use Rattle.session_values.specs.declared.reply.Reply.{Reply}
@@ -8,7 +9,7 @@ use Rattle.session_values.specs.Reply.{values_of}
 use Rattle.session_values.specs.ReplyText.{IsPrintable, reply_text}
 use Rattle.byte_ends.specs.Ends.{Rose, Grew, GrewByFront}
 use Rattle.byte_ends.proofs.EndsLemmas.{grew_nothing, grew_more, grew_front, grew_front_within, rose_since}
-use Rattle.reply_sheet.specs.Pending.{with_kept}
+use Rattle.reply_sheet.specs.Pending.{PendingView, with_kept, with_reply}
 use Rattle.reply_sheet.specs.Printable.{ArePrintableReplies}
 use Rattle.reply_sheet.specs.Ready.{AreKeptPrintable, first_kept}
 use Rattle.reply_sheet.proofs.TextLemmas.{no_text, text_cut}
@@ -26,6 +27,13 @@ most_of (suc m) (x ∷ xs) e = let rest = most_of m xs (omega (arith, e)) in ome
 pub take_rest : (k : ℕ) (rs : List Reply) → take (length rs - k) (drop k rs) ≡ drop k rs
 take_rest k rs = take_all (length rs - k) (drop k rs) (omega (arith, length-drop k rs))
 
+-- ---- before and behind a ticket
+before : (t n : ℕ) → nat_lt t n ≡ true → t < n
+before t n e = grind (arith, nat_tests, e)
+
+not_before : (t n : ℕ) → nat_lt t n ≡ false → n + (t - n) ≡ t
+not_before t n e = let l : n ≤ t = grind (arith, nat_tests, e) in omega (arith, l)
+
 -- ---- what is kept
 abbrev none_kept : ℕ → List (Option Reply)
 none_kept n = replicate n None
@@ -39,36 +47,50 @@ none_length : (n : ℕ) → length (none_kept n) ≡ n
 none_length zero = refl
 none_length (suc n) = ap suc (none_length n)
 
-pub keeps_none : (replies : List Reply) (kept : List (Option Reply)) (n : ℕ) → kept ≡ replicate n None → length replies ≡ n → Keeps replies kept
-keeps_none replies kept n none len = record {
-  room = ap (λ (l : List (Option Reply)). length l) none ∙ none_length n ∙ sym len;
-  spoken = λ t r e. absurd (none_at n t r (ap (λ (ks : List (Option Reply)). slice_get ks t) (sym none) ∙ e));
-}
+pub keeps_none : (replies : List Reply) (p : PendingView) (n : ℕ) → p ≡ record { next = 0; waiting = replicate n None } → length replies ≡ n → Keeps replies p
+keeps_none replies p n none len =
+    let start : Keeps replies (record { next = 0; waiting = replicate n None }) = record {
+      room = omega (arith, none_length n, len);
+      spoken = λ t r e. absurd (none_at n t r e);
+    } in
+    subst (Keeps replies) (sym none) start
 
-set_spoken : (ks : List (Option Reply)) (rs : List Reply) (t : ℕ) (r : Reply) → slice_get rs t ≡ Some r → ((u : ℕ) (x : Reply) → slice_get ks u ≡ Some (Some x) → slice_get rs u ≡ Some x)
-    → (u : ℕ) (x : Reply) → slice_get (slice_set ks t (Some r)) u ≡ Some (Some x) → slice_get rs u ≡ Some x
-set_spoken [] rs zero r there spoken u x e = spoken u x e
-set_spoken [] rs (suc t) r there spoken u x e = spoken u x e
-set_spoken (k ∷ ks) [] t r there spoken u x e = cc
-set_spoken (k ∷ ks) (q ∷ rs) zero r there spoken zero x e = cc
-set_spoken (k ∷ ks) (q ∷ rs) zero r there spoken (suc u) x e = spoken (suc u) x e
-set_spoken (k ∷ ks) (q ∷ rs) (suc t) r there spoken zero x e = spoken zero x e
-set_spoken (k ∷ ks) (q ∷ rs) (suc t) r there spoken (suc u) x e = set_spoken ks rs t r there (λ v y. spoken (suc v) y) u x e
+set_spoken : (ks : List (Option Reply)) (f : ℕ → Option Reply) (t : ℕ) (r : Reply) → f t ≡ Some r → ((u : ℕ) (x : Reply) → slice_get ks u ≡ Some (Some x) → f u ≡ Some x)
+    → (u : ℕ) (x : Reply) → slice_get (slice_set ks t (Some r)) u ≡ Some (Some x) → f u ≡ Some x
+set_spoken [] f zero r there spoken u x e = spoken u x e
+set_spoken [] f (suc t) r there spoken u x e = spoken u x e
+set_spoken (k ∷ ks) f zero r there spoken zero x e = cc
+set_spoken (k ∷ ks) f zero r there spoken (suc u) x e = spoken (suc u) x e
+set_spoken (k ∷ ks) f (suc t) r there spoken zero x e = spoken zero x e
+set_spoken (k ∷ ks) f (suc t) r there spoken (suc u) x e = set_spoken ks (λ v. f (suc v)) t r there (λ v y. spoken (suc v) y) u x e
 
-with_spoken : (o : Option Reply) (ks : List (Option Reply)) (rs : List Reply) (t : ℕ) (r : Reply) → slice_get rs t ≡ Some r → ((u : ℕ) (x : Reply) → slice_get ks u ≡ Some (Some x) → slice_get rs u ≡ Some x)
-    → (u : ℕ) (x : Reply) → slice_get (elim o [ None ↦ slice_set ks t (Some r) | Some _ ↦ ks ]) u ≡ Some (Some x) → slice_get rs u ≡ Some x
-with_spoken None ks rs t r there spoken u x e = set_spoken ks rs t r there spoken u x e
-with_spoken (Some y) ks rs t r there spoken u x e = spoken u x e
+with_spoken : (o : Option Reply) (ks : List (Option Reply)) (f : ℕ → Option Reply) (t : ℕ) (r : Reply) → f t ≡ Some r → ((u : ℕ) (x : Reply) → slice_get ks u ≡ Some (Some x) → f u ≡ Some x)
+    → (u : ℕ) (x : Reply) → slice_get (elim o [ None ↦ slice_set ks t (Some r) | Some _ ↦ ks ]) u ≡ Some (Some x) → f u ≡ Some x
+with_spoken None ks f t r there spoken u x e = set_spoken ks f t r there spoken u x e
+with_spoken (Some y) ks f t r there spoken u x e = spoken u x e
+
+unless_spoken : (b : Bool) (p : PendingView) (replies : List Reply) (t : ℕ) (r : Reply) → nat_lt t p.next ≡ b → slice_get replies t ≡ Some r → ((u : ℕ) (x : Reply) → slice_get p.waiting u ≡ Some (Some x) → slice_get replies (p.next + u) ≡ Some x)
+    → (u : ℕ) (x : Reply) → slice_get (if b then p.waiting else with_reply p.waiting (t - p.next) r) u ≡ Some (Some x) → slice_get replies (p.next + u) ≡ Some x
+unless_spoken true p replies t r is there spoken u x e = spoken u x e
+unless_spoken false p replies t r is there spoken u x e =
+    let at : p.next + (t - p.next) ≡ t = not_before t p.next is in
+    with_spoken (slice_index_or p.waiting (t - p.next) None) p.waiting (λ v. slice_get replies (p.next + v)) (t - p.next) r (ap (slice_get replies) at ∙ there) spoken u x e
 
 -- one more reply is kept
-pub keeps_more : (replies : List Reply) (old : List (Option Reply)) (new : List (Option Reply)) (t : ℕ) (r : Reply) → Keeps replies old → slice_get replies t ≡ Some r → new ≡ with_kept old t r → length new ≡ length old → Keeps replies new
-keeps_more replies old new t r k there is long = record {
-  room = long ∙ k.room;
-  spoken = λ u x e. with_spoken (slice_index_or old t None) old replies t r there k.spoken u x (ap (λ (ks : List (Option Reply)). slice_get ks u) (sym is) ∙ e);
-}
+pub keeps_more : (replies : List Reply) (p q : PendingView) (t : ℕ) (r : Reply) → Keeps replies p → slice_get replies t ≡ Some r → q ≡ with_kept p t r → length q.waiting ≡ length p.waiting → Keeps replies q
+keeps_more replies p q t r k there is long =
+    let same : q.next ≡ p.next = ap (λ (v : PendingView). v.next) is in
+    record {
+      room = (let room = k.room in omega (arith, room, long, same));
+      spoken = λ u x e. ap (λ (n : ℕ). slice_get replies (n + u)) same
+          ∙ unless_spoken (nat_lt t p.next) p replies t r refl there k.spoken u x (ap (λ (v : PendingView). slice_get v.waiting u) (sym is) ∙ e);
+    }
 
 -- ---- what stays kept
-set_still : (ks : List (Option Reply)) (t : ℕ) (r : Reply) (u : ℕ) → IsKept ks u → IsKept (slice_set ks t (Some r)) u
+abbrev IsThere : List (Option Reply) → ℕ → Type 0
+IsThere ks i = (r : Reply) × (slice_get ks i ≡ Some (Some r))
+
+set_still : (ks : List (Option Reply)) (t : ℕ) (r : Reply) (u : ℕ) → IsThere ks u → IsThere (slice_set ks t (Some r)) u
 set_still [] zero r u h = h
 set_still [] (suc t) r u h = h
 set_still (k ∷ ks) zero r zero h = (r, refl)
@@ -76,30 +98,75 @@ set_still (k ∷ ks) zero r (suc u) h = h
 set_still (k ∷ ks) (suc t) r zero h = h
 set_still (k ∷ ks) (suc t) r (suc u) h = set_still ks t r u h
 
-with_still : (o : Option Reply) (ks : List (Option Reply)) (t : ℕ) (r : Reply) (u : ℕ) → IsKept ks u → IsKept (elim o [ None ↦ slice_set ks t (Some r) | Some _ ↦ ks ]) u
+with_still : (o : Option Reply) (ks : List (Option Reply)) (t : ℕ) (r : Reply) (u : ℕ) → IsThere ks u → IsThere (elim o [ None ↦ slice_set ks t (Some r) | Some _ ↦ ks ]) u
 with_still None ks t r u h = set_still ks t r u h
 with_still (Some y) ks t r u h = h
 
-pub keeps_still : (old new : List (Option Reply)) (t : ℕ) (r : Reply) → new ≡ with_kept old t r → (u : ℕ) → IsKept old u → IsKept new u
-keeps_still old new t r is u h = let P : List (Option Reply) → Type 0 = λ ks. IsKept ks u in subst P (sym is) (with_still (slice_index_or old t None) old t r u h)
+unless_still : (b : Bool) (p : PendingView) (t : ℕ) (r : Reply) (u : ℕ) → IsThere p.waiting u → IsThere (if b then p.waiting else with_reply p.waiting (t - p.next) r) u
+unless_still true p t r u h = h
+unless_still false p t r u h = with_still (slice_index_or p.waiting (t - p.next) None) p.waiting (t - p.next) r u h
 
-set_own : (ks : List (Option Reply)) (t : ℕ) (r : Reply) → t < length ks → IsKept (slice_set ks t (Some r)) t
+pub keeps_still : (p q : PendingView) (t : ℕ) (r : Reply) → q ≡ with_kept p t r → (u : ℕ) → IsKept p u → IsKept q u
+keeps_still p q t r is u (inl before) = inl (omega (arith, before, ap (λ (v : PendingView). v.next) is))
+keeps_still p q t r is u (inr at) =
+    let h = unless_still (nat_lt t p.next) p t r at.0 (at.1, at.3) in
+    let P : PendingView → Type 0 = λ v. IsThere v.waiting at.0 in
+    let there = subst P (sym is) h in
+    inr (at.0, there.0, at.2 ∙ ap (λ (v : PendingView). v.next + at.0) (sym is), there.1)
+
+set_own : (ks : List (Option Reply)) (t : ℕ) (r : Reply) → t < length ks → IsThere (slice_set ks t (Some r)) t
 set_own [] t r low = absurd (omega (arith, low))
 set_own (k ∷ ks) zero r low = (r, refl)
 set_own (k ∷ ks) (suc t) r low = set_own ks t r (omega (arith, low))
 
-at_own : (ks : List (Option Reply)) (t : ℕ) (y : Reply) → slice_index_or ks t None ≡ Some y → IsKept ks t
+at_own : (ks : List (Option Reply)) (t : ℕ) (y : Reply) → slice_index_or ks t None ≡ Some y → IsThere ks t
 at_own [] zero y e = cc
 at_own [] (suc t) y e = cc
 at_own (k ∷ ks) zero y e = (y, ap Some e)
 at_own (k ∷ ks) (suc t) y e = at_own ks t y e
 
-own_by : (o : Option Reply) (ks : List (Option Reply)) (t : ℕ) (r : Reply) → slice_index_or ks t None ≡ o → t < length ks → IsKept (elim o [ None ↦ slice_set ks t (Some r) | Some _ ↦ ks ]) t
+own_by : (o : Option Reply) (ks : List (Option Reply)) (t : ℕ) (r : Reply) → slice_index_or ks t None ≡ o → t < length ks → IsThere (elim o [ None ↦ slice_set ks t (Some r) | Some _ ↦ ks ]) t
 own_by None ks t r e low = set_own ks t r low
 own_by (Some y) ks t r e low = at_own ks t y e
 
-pub keeps_own : (old new : List (Option Reply)) (t : ℕ) (r : Reply) → new ≡ with_kept old t r → t < length old → IsKept new t
-keeps_own old new t r is low = let P : List (Option Reply) → Type 0 = λ ks. IsKept ks t in subst P (sym is) (own_by (slice_index_or old t None) old t r refl low)
+own_unless : (b : Bool) (p : PendingView) (t : ℕ) (r : Reply) → nat_lt t p.next ≡ b → t < p.next + length p.waiting → IsKept (record { next = p.next; waiting = if b then p.waiting else with_reply p.waiting (t - p.next) r }) t
+own_unless true p t r is low = inl (before t p.next is)
+own_unless false p t r is low =
+    let at : p.next + (t - p.next) ≡ t = not_before t p.next is in
+    let own = own_by (slice_index_or p.waiting (t - p.next) None) p.waiting (t - p.next) r refl (omega (arith, at, low)) in
+    inr (t - p.next, own.0, sym at, own.1)
+
+pub keeps_own : (p q : PendingView) (t : ℕ) (r : Reply) → q ≡ with_kept p t r → t < p.next + length p.waiting → IsKept q t
+keeps_own p q t r is low = let P : PendingView → Type 0 = λ v. IsKept v t in subst P (sym is) (own_unless (nat_lt t p.next) p t r refl low)
+
+-- ---- what was taken
+get_drop : {X : Type 0} (n i : ℕ) (xs : List X) → slice_get (drop n xs) i ≡ slice_get xs (n + i)
+get_drop zero i xs = let same : i ≡ 0 + i = omega arith in ap (slice_get xs) same
+get_drop (suc n) zero [] = refl
+get_drop (suc n) (suc i) [] = refl
+get_drop (suc n) i (x ∷ xs) = let e : suc (n + i) ≡ suc n + i = omega arith in get_drop n i xs ∙ ap (slice_get (x ∷ xs)) e
+
+pub keeps_behind : (replies : List Reply) (p q : PendingView) (n : ℕ) → q.next ≡ p.next + n → q.waiting ≡ drop n p.waiting → n ≤ length p.waiting → Keeps replies p → Keeps replies q
+keeps_behind replies p q n next is low k = record {
+  room = (let room = k.room in omega (arith, room, next, low, ap (λ (ks : List (Option Reply)). length ks) is, length-drop n p.waiting));
+  spoken = λ i r e.
+      let at : p.next + (n + i) ≡ q.next + i = omega (arith, next) in
+      ap (slice_get replies) (sym at) ∙ k.spoken (n + i) r (sym (get_drop n i p.waiting) ∙ ap (λ (ks : List (Option Reply)). slice_get ks i) (sym is) ∙ e);
+}
+
+pub kept_behind : (p q : PendingView) (n : ℕ) → q.next ≡ p.next + n → q.waiting ≡ drop n p.waiting → (t : ℕ) → IsKept p t → IsKept q t
+kept_behind p q n next is t (inl low) = inl (omega (arith, low, next))
+kept_behind p q n next is t (inr at) = by (lt_or at.0 n)
+  where
+    lt_or : (x y : ℕ) → (x < y) ⊎ (y ≤ x)
+    lt_or x y = grind arith
+
+    by : (at.0 < n) ⊎ (n ≤ at.0) → IsKept q t
+    by (inl l) = let same = at.2 in inl (omega (arith, same, l, next))
+    by (inr g) =
+        let e : n + (at.0 - n) ≡ at.0 = omega (arith, g) in
+        let same = at.2 in
+        inr (at.0 - n, at.1, omega (arith, same, next, g), ap (λ (ks : List (Option Reply)). slice_get ks (at.0 - n)) is ∙ get_drop n (at.0 - n) p.waiting ∙ ap (slice_get p.waiting) e ∙ at.3)
 
 -- behind those that are next, none is
 none_behind : (ks : List (Option Reply)) → first_kept (drop (length (first_kept ks)) ks) ≡ []
@@ -107,9 +174,10 @@ none_behind [] = refl
 none_behind (None ∷ ks) = refl
 none_behind (Some r ∷ ks) = none_behind ks
 
-pub stops_behind : (kept : List (Option Reply)) (n m : ℕ) → m ≡ n + length (first_kept (drop n kept)) → first_kept (drop m kept) ≡ []
-stops_behind kept n m is =
-    ap (λ k. first_kept (drop k kept)) is ∙ ap first_kept (sym (drop-drop (length (first_kept (drop n kept))) n kept)) ∙ none_behind (drop n kept)
+pub stops_behind : (p q : PendingView) (n : ℕ) → q.next ≡ p.next + n → q.waiting ≡ drop n p.waiting → q.next ≡ p.next + length (first_kept p.waiting) → first_kept q.waiting ≡ []
+stops_behind p q n next is all =
+    let same : n ≡ length (first_kept p.waiting) = omega (arith, next, all) in
+    ap first_kept is ∙ ap (λ (k : ℕ). first_kept (drop k p.waiting)) same ∙ none_behind p.waiting
 
 -- ---- what is printable
 -- what is kept is printable where the replies are
@@ -118,8 +186,8 @@ printable_at names [] t r p e = cc
 printable_at names (x ∷ rs) zero r p e = let same : x ≡ r = cc in subst (λ (y : Reply). AllByRecursion (IsPrintable names) (values_of y)) same p.0
 printable_at names (x ∷ rs) (suc t) r p e = printable_at names rs t r p.1 e
 
-pub kept_printable : (names : List (List ℕ)) (replies : List Reply) (kept : List (Option Reply)) → ArePrintableReplies names replies → Keeps replies kept → AreKeptPrintable names kept
-kept_printable names replies kept p k t r e = printable_at names replies t r p (k.spoken t r e)
+pub kept_printable : (names : List (List ℕ)) (replies : List Reply) (p : PendingView) → ArePrintableReplies names replies → Keeps replies p → AreKeptPrintable names p.waiting
+kept_printable names replies p all k i r e = printable_at names replies (p.next + i) r all (k.spoken i r e)
 
 pub printable_rest : (names : List (List ℕ)) (rs : List Reply) (n : ℕ) → ArePrintableReplies names rs → ArePrintableReplies names (drop n rs)
 printable_rest names [] zero p = p
@@ -137,12 +205,9 @@ first_of (Some r ∷ ks) (x ∷ rs) spoken =
     let same : r ≡ x = cc in
     ap (λ (y : Reply). y ∷ first_kept ks) same ∙ ap (λ (l : List Reply). x ∷ l) (first_of ks rs (λ u y. spoken (suc u) y))
 
-first_at : (n : ℕ) (ks : List (Option Reply)) (rs : List Reply) → length ks ≡ length rs → ((u : ℕ) (x : Reply) → slice_get ks u ≡ Some (Some x) → slice_get rs u ≡ Some x)
-    → first_kept (drop n ks) ≡ take (length (first_kept (drop n ks))) (drop n rs)
-first_at zero ks rs room spoken = first_of ks rs spoken
-first_at (suc n) [] rs room spoken = sym (take_none (drop (suc n) rs))
-first_at (suc n) (k ∷ ks) [] room spoken = absurd (omega (arith, room))
-first_at (suc n) (k ∷ ks) (x ∷ rs) room spoken = first_at n ks rs (omega (arith, room)) (λ u y. spoken (suc u) y)
+first_at : (n : ℕ) (ks : List (Option Reply)) (rs : List Reply) → ((u : ℕ) (x : Reply) → slice_get ks u ≡ Some (Some x) → slice_get rs (n + u) ≡ Some x)
+    → first_kept ks ≡ take (length (first_kept ks)) (drop n rs)
+first_at n ks rs spoken = first_of ks (drop n rs) (λ u x e. get_drop n u rs ∙ spoken u x e)
 
 -- ---- what was written
 pub not_false : (b : Bool) → not b ≡ false → b ≡ true
@@ -176,17 +241,17 @@ module _ (replies : List Reply) (names : List (List ℕ)) where
       ∙ ap (λ b. reply_text names 0 (take n replies) ++ b) (ap (reply_text names n) (sym (take-append-drop m (drop n replies))) ∙ text_cut names n (take m (drop n replies)) (drop m (drop n replies)))
 
   -- the lines that are next were written, or a fault broke them off
-  pub writes_next : (kept : List (Option Reply)) (p : Progress) (held : Option (List ℕ)) (now_faults next : ℕ) (whole : Bool) → Keeps replies kept → p.failed ≡ false
-      → (whole ≡ true → next ≡ p.next + length (first_kept (drop p.next kept)))
-      → (whole ≡ true → Grew p.held held (reply_text names p.next (first_kept (drop p.next kept))))
+  pub writes_next : (waiting : List (Option Reply)) (p : Progress) (held : Option (List ℕ)) (now_faults next : ℕ) (whole : Bool) → Keeps replies (record { next = p.next; waiting = waiting }) → p.failed ≡ false
+      → (whole ≡ true → next ≡ p.next + length (first_kept waiting))
+      → (whole ≡ true → Grew p.held held (reply_text names p.next (first_kept waiting)))
       → (whole ≡ false → Rose p.faults now_faults)
-      → (whole ≡ false → GrewByFront p.held held (reply_text names p.next (first_kept (drop p.next kept))))
+      → (whole ≡ false → GrewByFront p.held held (reply_text names p.next (first_kept waiting)))
       → p.faults ≤ now_faults → GoesOn replies names p (record { held = held; faults = now_faults; next = next; failed = not whole })
-  writes_next kept p held now_faults next whole keeps sound is_next grew rose front later = record {
+  writes_next waiting p held now_faults next whole keeps sound is_next grew rose front later = record {
     on = λ first faults w.
-        let m : ℕ = length (first_kept (drop p.next kept)) in
+        let m : ℕ = length (first_kept waiting) in
         let low = w.within sound in
-        let same : first_kept (drop p.next kept) ≡ take m (drop p.next replies) = first_at p.next kept replies keeps.room keeps.spoken in
+        let same : first_kept waiting ≡ take m (drop p.next replies) = first_at p.next waiting replies keeps.spoken in
         let few : m ≤ length (drop p.next replies) = most_of m (drop p.next replies) (sym (ap (λ (l : List Reply). length l) same)) in
         let left = length-drop p.next replies in
         record {

@@ -1,18 +1,22 @@
 -- Replies that wait to be written, and what was written of them.
-use Rattle.std.specs.Prelude.{◌≡◌, ℕ, ◌≤◌, List, Option, Some, Bool, true, false, length, take, slice_get}
+use Rattle.std.specs.Prelude.{◌≡◌, ℕ, ◌+◌, ◌<◌, ◌≤◌, ◌⊎◌, List, Option, Some, Bool, true, false, length, take, slice_get}
 use Rattle.session_values.specs.declared.reply.Reply.{Reply}
 use Rattle.session_values.specs.ReplyText.{reply_text}
 use Rattle.byte_ends.specs.Ends.{Rose, Grew, GrewByFront}
+use Rattle.reply_sheet.specs.Pending.{PendingView}
 use Rattle.sheet_writing.specs.declared.sheet.Sheet.{Sheet}
 
--- each reply that is kept stands in the list at its ticket's place
-pub record Keeps (replies : List Reply) (kept : List (Option Reply)) : Type 0 where
-  pub room : length kept ≡ length replies
-  pub spoken : (t : ℕ) (r : Reply) → slice_get kept t ≡ Some (Some r) → slice_get replies t ≡ Some r
+-- the replies from the next ticket on wait for their turn, and each that is kept stands in the list
+-- at its ticket's place
+pub record Keeps (replies : List Reply) (p : PendingView) : Type 0 where
+  pub room : p.next + length p.waiting ≡ length replies
+  pub spoken : (i : ℕ) (r : Reply) → slice_get p.waiting i ≡ Some (Some r)
+      → slice_get replies (p.next + i) ≡ Some r
 
--- a reply is kept for the ticket
-abbrev pub IsKept : List (Option Reply) → ℕ → Type 0
-IsKept kept t = (r : Reply) × (slice_get kept t ≡ Some (Some r))
+-- the ticket was taken to be written, or a reply is kept for it
+abbrev pub IsKept : PendingView → ℕ → Type 0
+IsKept p t = (t < p.next)
+    ⊎ ((i : ℕ) × (r : Reply) × (t ≡ p.next + i) × (slice_get p.waiting i ≡ Some (Some r)))
 
 -- what the sink holds, where it tells, its faults, the next ticket, and whether writing has failed
 pub record Progress : Type 0 where

@@ -1,6 +1,6 @@
 // Writing after a ticket has ended.
 
-ghost use Rattle.std.specs.Prelude.{◌≡◌, ◌≤◌, ℕ, List, [], Some, false, true, length, slice_get};
+ghost use Rattle.std.specs.Prelude.{◌≡◌, ◌+◌, ◌≤◌, ℕ, List, [], Some, false, true, length, slice_get};
 ghost use Rattle.session_limits.specs.Limits.{max_requests};
 ghost use Rattle.session_values.specs.declared.reply.Reply.{Reply};
 ghost use Rattle.reply_lane.specs.Ends.{IsEndOf, state_of};
@@ -18,10 +18,10 @@ use std::sync::Wait;
 // Takes messages until the lane has none, and keeps their replies. With one caller it has none.
 fn take_all<R: Wait>(rt: &R, lane: &Lane, end: &mut End, alone: bool, pending: &mut Pending)
     requires end { IsEndOf lane.now (state_of end.old).known end.old }
-    requires keeps { Keeps (state_of end.old).known pending.old.kept }
+    requires keeps { Keeps (state_of end.old).known pending.old }
     ensures end { IsEndOf lane.now (state_of end.old).known end.new }
-    ensures keeps { Keeps (state_of end.old).known pending.new.kept }
-    ensures still { (t : ℕ) → IsKept pending.old.kept t → IsKept pending.new.kept t }
+    ensures keeps { Keeps (state_of end.old).known pending.new }
+    ensures still { (t : ℕ) → IsKept pending.old t → IsKept pending.new t }
     ensures next { pending.new.next ≡ pending.old.next }
 {
     if alone {
@@ -50,12 +50,12 @@ pub fn write_after<R: Wait, O: Sink>(
 )
     requires end { IsEndOf lane.now (state_of end.old).known end.old }
     requires own { slice_get (state_of end.old).known ticket ≡ Some reply }
-    requires keeps { Keeps (state_of end.old).known sheet.old.pending.kept }
+    requires keeps { Keeps (state_of end.old).known sheet.old.pending }
     requires few { length (state_of end.old).known ≤ max_requests }
     requires printable { ArePrintableReplies names.now (state_of end.old).known }
     ensures end { IsEndOf lane.now (state_of end.old).known end.new }
-    ensures keeps { Keeps (state_of end.old).known sheet.new.pending.kept }
-    ensures own { IsKept sheet.new.pending.kept ticket }
+    ensures keeps { Keeps (state_of end.old).known sheet.new.pending }
+    ensures own { IsKept sheet.new.pending ticket }
     ensures stops { sheet.new.failed ≡ false → ready sheet.new.pending ≡ [] }
     ensures on { GoesOn (state_of end.old).known names.now
         (progress (O.held out.old) (O.faults out.old) sheet.old)
@@ -68,13 +68,15 @@ pub fn write_after<R: Wait, O: Sink>(
 
 // Writes the lines that are next, unless writing has failed.
 fn write_next<O: Sink>(sheet: &mut Sheet, out: &mut O, names: &Names)
-    requires few { length sheet.old.pending.kept ≤ max_requests }
-    requires printable { AreKeptPrintable names.now sheet.old.pending.kept }
-    ensures kept { sheet.new.pending.kept ≡ sheet.old.pending.kept }
+    requires few { sheet.old.pending.next + length sheet.old.pending.waiting ≤ max_requests }
+    requires printable { AreKeptPrintable names.now sheet.old.pending.waiting }
+    ensures keeps { (replies : List Reply) → Keeps replies sheet.old.pending
+        → Keeps replies sheet.new.pending }
+    ensures still { (t : ℕ) → IsKept sheet.old.pending t → IsKept sheet.new.pending t }
     ensures stops { sheet.old.failed ≡ false → sheet.new.failed ≡ false
         → ready sheet.new.pending ≡ [] }
     ensures failed { sheet.old.failed ≡ true → sheet.new.failed ≡ true }
-    ensures on { (replies : List Reply) → Keeps replies sheet.old.pending.kept
+    ensures on { (replies : List Reply) → Keeps replies sheet.old.pending
         → GoesOn replies names.now (progress (O.held out.old) (O.faults out.old) sheet.old)
         (progress (O.held out.new) (O.faults out.new) sheet.new) }
 {

@@ -22,8 +22,8 @@ pub struct Sheet {
 /// later.
 pub fn make_sheet(alloc: Global, tickets: u32, callers: u32) -> Result<Sheet, NoMemory>
     ensures pending { IfOk result (λ s. s.pending ≡ record {
-      kept = replicate tickets None;
       next = 0;
+      waiting = replicate tickets None;
     }) }
     ensures sound { IfOk result (λ s. s.failed ≡ false) }
 {

@@ -1,6 +1,6 @@
 // Replies that are kept in any order come out in the order of tickets.
 
-ghost use Rattle.std.specs.Prelude.{◌≡◌};
+ghost use Rattle.std.specs.Prelude.{◌≡◌, ◌+◌, length};
 
 use reply_sheet::Pending;
 use session_values::{Reply, Value};
@@ -12,7 +12,8 @@ fn reply(n: i64) -> Reply {
 
 /// The number that the next reply answers, if it is the one of this ticket.
 fn next_number(pending: &mut Pending, ticket: u32) -> Option<Value>
-    ensures { pending.new.kept ≡ pending.old.kept }
+    ensures { pending.new.next + length pending.new.waiting
+        ≡ pending.old.next + length pending.old.waiting }
 {
     let (owner, reply) = pending.take_next()?;
     if owner == ticket {

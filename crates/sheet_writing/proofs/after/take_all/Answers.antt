@@ -12,11 +12,11 @@ loop-preserved g c =
     let known = (state_of c.args.end.now).known in
     let e = c.next-in-loop.ensures.end in
     let same = c.loop.invariant.end.2 in
-    let kept = ap (λ (p : PendingView). p.kept) c.keep.ensures.kept in
+    let kept = c.keep.ensures.kept in
     let there = subst (λ (rs : List Reply). slice_get rs m.ticket ≡ Some m.reply) same c.in-Some-next.ensures.took.spoken in
     record {
       end = (e.0, e.1, e.2 ∙ same);
-      keeps = keeps_more known c.loop.pending.kept c.keep.new.self.kept m.ticket m.reply c.loop.invariant.keeps there kept c.keep.ensures.room;
-      still = λ t h. keeps_still c.loop.pending.kept c.keep.new.self.kept m.ticket m.reply kept t (c.loop.invariant.still t h);
+      keeps = keeps_more known c.loop.pending c.keep.new.self m.ticket m.reply c.loop.invariant.keeps there kept c.keep.ensures.room;
+      still = λ t h. keeps_still c.loop.pending c.keep.new.self m.ticket m.reply kept t (c.loop.invariant.still t h);
       next = ap (λ (p : PendingView). p.next) c.keep.ensures.kept ∙ c.loop.invariant.next;
     }

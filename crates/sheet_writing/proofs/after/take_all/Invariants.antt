@@ -6,7 +6,7 @@ use Rattle.sheet_writing.proofs.after.take_all.Given as goal
 abbrev pub invariant-loop : goal.invariant-loop
 invariant-loop g l = record {
   end : IsEndOf l.lane (state_of l.fn.end).known l.end;
-  keeps : Keeps (state_of l.fn.end).known l.pending.kept;
-  still : (t : ℕ) → IsKept l.fn.pending.kept t → IsKept l.pending.kept t;
+  keeps : Keeps (state_of l.fn.end).known l.pending;
+  still : (t : ℕ) → IsKept l.fn.pending t → IsKept l.pending t;
   next : l.pending.next ≡ l.fn.pending.next;
 }
