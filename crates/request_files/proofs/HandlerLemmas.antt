@@ -6,7 +6,9 @@ use Rattle.std.proofs.lemmas.List.{append-nil}
 use Rattle.std.proofs.lemmas.List.Sums.{prefix_len-le-length}
 use Rattle.std.specs.List.{position, position_or_len, AllByRecursion, flat_map}
 use Rattle.std.specs.Str.{bytes_eq}
-use Rattle.session_values.specs.Names.{place_of, Begins}
+use Rattle.std.specs.Prelude.{slice_get}
+use Rattle.std.proofs.lemmas.Option.{slice_get_within}
+use Rattle.session_values.specs.Names.{AreDistinct, Begins, place_of}
 use Rattle.syntax_trees.specs.declared.file.File.{File}
 use Rattle.syntax_trees.specs.declared.file.Handler.{Handler}
 use Rattle.syntax_trees.specs.Mentions.{IsBelow, AreNamed, table_mentions, handler_mentions, file_mentions}
@@ -14,7 +16,7 @@ use Rattle.syntax_trees.proofs.Mentions.{all_first}
 use Rattle.text_lines.specs.Text.{Text}
 use Rattle.request_files.specs.Requests.{AreKnown, handler_of, IsHandler}
 use Rattle.text_lines.proofs.ValueLemmas.{known, place_kept}
-use Rattle.session_values.proofs.NamesLemmas.{choice, no_choice}
+use Rattle.session_values.proofs.NamesLemmas.{choice, no_choice, place_is}
 
 abbrev named : ℕ → Handler → Bool
 named n h = h.name == n
@@ -33,6 +35,14 @@ pub handler_none : (names : List Text) (f : File) (name : Text) → AreKnown nam
 unfolding handler_of
 handler_none names f name k e =
     not_named (length names) (place_of names name) f.handlers k (no_choice (place_of names name) (length names) _ refl (sym e))
+
+-- a name that stands at a place is found there
+pub place_found : (names : List Text) (name : Text) (place : ℕ) → AreDistinct names → slice_get names place ≡ Some name → Some place ≡ position (bytes_eq name) names
+place_found names name place apart at =
+    let same : place ≡ place_of names name = place_is name names place apart at in
+    let within : place_of names name < length names = omega (arith, same, slice_get_within names place name at) in
+    let low : ltb (place_of names name) (length names) ≡ true = grind (arith, nat_tests, within) in
+    ap Some same ∙ ap (λ (b : Bool). cond b (Some (place_of names name)) None) (sym low)
 
 found_at : (p : Handler → Bool) (hs : List Handler) (b : Bool) → ltb (position_or_len p hs) (length hs) ≡ b
     → (length hs ≤ position_or_len p hs) × (position p hs ≡ None) ⊎ (position p hs ≡ Some (position_or_len p hs)) × (position_or_len p hs < length hs)

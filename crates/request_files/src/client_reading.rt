@@ -12,6 +12,7 @@ ghost use Rattle.request_files.specs.Servable.{IsServable};
 use crate::client_lines::{first_line, first_word};
 use crate::clients::ClientRequests;
 use crate::mark::is_next_mark;
+use crate::recent::Recent;
 use crate::refusal::RequestRefusal;
 use crate::request_line::request;
 use crate::requests::Requests;
@@ -49,6 +50,7 @@ pub fn read_clients(
 {
     let mut found = Vec::new(alloc);
     let mut values = Vec::new(alloc);
+    let mut recent = Recent::none();
     let mut counts = Vec::new(alloc);
     let mut mine = 0;
     let mut tally = no_requests();
@@ -65,7 +67,16 @@ pub fn read_clients(
             }
             mine = 0;
         } else if let Some((name, words)) = first_word(line) {
-            match request(checked, tally, this, name, words, names, &mut values) {
+            match request(
+                checked,
+                tally,
+                this,
+                name,
+                words,
+                names,
+                &mut recent,
+                &mut values,
+            ) {
                 Ok((entry, sums)) => {
                     if let Err(_) = found.push(entry) {
                         return Err(RequestRefusal::NoMemory);

@@ -14,6 +14,7 @@ mod mark;
 mod mark_place;
 mod picking;
 mod reading;
+mod recent;
 mod refusal;
 mod request;
 mod request_line;

@@ -8,6 +8,7 @@ ghost use Rattle.request_files.specs.Requests as spec;
 ghost use Rattle.text_lines.specs.Rows.{rows as rows_of};
 ghost use Rattle.request_files.specs.Servable.{IsServable};
 
+use crate::recent::Recent;
 use crate::refusal::RequestRefusal;
 use crate::request_line::request;
 use crate::requests::Requests;
@@ -42,6 +43,7 @@ pub fn read_requests(
 {
     let mut found = Vec::new(alloc);
     let mut values = Vec::new(alloc);
+    let mut recent = Recent::none();
     let mut tally = Tally {
         requests: 0,
         calls: 0,
@@ -51,7 +53,16 @@ pub fn read_requests(
     'lines: while let Some((number, line)) = lines.next() {
         let mut words = line;
         if let Some(name) = words.next() {
-            match request(checked, tally, number, name, words, names, &mut values) {
+            match request(
+                checked,
+                tally,
+                number,
+                name,
+                words,
+                names,
+                &mut recent,
+                &mut values,
+            ) {
                 Ok((entry, next)) => {
                     if let Err(_) = found.push(entry) {
                         return Err(RequestRefusal::NoMemory);

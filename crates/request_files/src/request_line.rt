@@ -10,6 +10,7 @@ ghost use Rattle.text_lines.specs.Rows.{row_of};
 
 use crate::arguments::{count, values};
 use crate::entry::Entry;
+use crate::recent::Recent;
 use crate::refusal::RequestRefusal;
 use crate::tally::{Tally, look_at_sums, with_request};
 use handler_check::Checked;
@@ -18,11 +19,11 @@ use session_values::{Names, Value};
 use text_lines::Line;
 
 /// The number of the handler with this name.
-fn handler(checked: &Checked, names: &Names, name: &str) -> Option<u32>
+fn handler(checked: &Checked, names: &Names, name: &str, recent: &mut Recent) -> Option<u32>
     requires { spec.AreKnown names.now checked.now }
     ensures { spec.IsHandler names.now checked.now name.now result }
 {
-    match names.find(name) {
+    match recent.find(names, name) {
         Some(place) => checked.find(place),
         None => None,
     }
@@ -49,6 +50,7 @@ pub(crate) fn request(
     name: &str,
     words: Line<'_>,
     names: &mut Names,
+    recent: &mut Recent,
     list: &mut Vec<Value>,
 ) -> Result<(Entry, Tally), RequestRefusal>
     requires known { spec.AreKnown names.old checked.now }
@@ -67,7 +69,7 @@ pub(crate) fn request(
     if tally.requests >= MAX_REQUESTS {
         return Err(RequestRefusal::TooManyRequests { line });
     }
-    let Some(number) = handler(checked, names, name) else {
+    let Some(number) = handler(checked, names, name, recent) else {
         return Err(RequestRefusal::UnknownHandler { line });
     };
     let params = checked.handler(number).params;
