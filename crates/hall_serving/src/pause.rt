@@ -11,6 +11,10 @@ const STEP: u32 = 32;
 
 const MOST: u32 = 2_000;
 
+/// At each how manieth yield of a pause it looks whether the end is near: a look asks for a word that
+/// each end of a ticket writes.
+const YIELDS_A_LOOK: u32 = 32;
+
 /// The pause of a caller before it begins its next ticket. It is twice as long, and a little
 /// longer, after each ticket that had to wait, and half as long after each that had not. A caller
 /// without an open ticket delays nobody, so where tickets are in each other's way, one is served
@@ -40,8 +44,8 @@ impl Pause {
     // Yields the thread for as long, and no longer than until the last tickets are served: whoever
     // waits for this caller then waits for nothing.
     pub(crate) fn wait<S: Script + Drop>(&self, hall: &Hall<S>, requests: u32) {
-        for _ in 0..self.yields {
-            if hall.is_near_end(requests) {
+        for done in 0..self.yields {
+            if done % YIELDS_A_LOOK == 0 && hall.is_near_end(requests) {
                 break;
             }
             thread::yield_now();
