@@ -127,8 +127,9 @@ fn head<'a>(
 ) -> Option<((Kind, u32), &'a [Word<'a>])>
     requires placed { AllByRecursion (IsPlaced names.now) words.now }
     requires known { AreKnown names.now tables.places.now }
-    ensures front { IsFront result (spec.head_front (spec.table_names names.now tables.entry.places.now)
-        tables.entry.kinds.now (texts words.entry.now)) }
+    ensures front { IsFront result (spec.head_front
+        (spec.table_names names.now tables.entry.places.now) tables.entry.kinds.now
+        (texts words.entry.now)) }
     ensures rest { IfSome result (λ p. AllByRecursion (IsPlaced names.now) p.1.now) }
 {
     let Some((kind, rest)) = kind_first(words, names) else {
@@ -191,8 +192,8 @@ pub(crate) fn op<'a>(
 ) -> Option<(Op, &'a [Word<'a>])>
     requires placed { AllByRecursion (IsPlaced names.now) words.now }
     requires known { AreKnown names.now tables.places.now }
-    ensures front { IsFront result (spec.op_front names.now tables.entry.places.now tables.entry.kinds.now
-        (texts words.entry.now)) }
+    ensures front { IsFront result (spec.op_front names.now tables.entry.places.now
+        tables.entry.kinds.now (texts words.entry.now)) }
     ensures rest { IfSome result (λ p. AllByRecursion (IsPlaced names.now) p.1.now) }
 {
     let Some(((kind, number), rest)) = head(words, tables, names) else {
@@ -256,8 +257,8 @@ pub(crate) fn symbol<'a>(
 ) -> Option<(Symbol, &'a [Word<'a>])>
     requires placed { AllByRecursion (IsPlaced names.now) words.now }
     requires known { AreKnown names.now tables.places.now }
-    ensures front { IsFront result (spec.symbol_front names.now tables.entry.places.now tables.entry.kinds.now
-        (texts words.entry.now)) }
+    ensures front { IsFront result (spec.symbol_front names.now tables.entry.places.now
+        tables.entry.kinds.now (texts words.entry.now)) }
     ensures known { IfSome result (λ p. HasNoVar p.0) }
     ensures rest { IfSome result (λ p. AllByRecursion (IsPlaced names.now) p.1.now) }
 {
