@@ -1,8 +1,8 @@
 #!/usr/bin/env python3
 """Judges `clients` by a plain model: bench/clients.py PROGRAM [--serve] [--runs N] [--seed N].
 
-Each made session has 1 to 16 clients with up to 120 requests in all, and is served with a number
-of callers and shards that is drawn too. The output has to have a line for each request, client by
+Each made session has 1 to 16 clients with up to 120 requests in all, each tenth with up to 2,000,
+which takes three rounds, and is served with a number of callers and shards that is drawn too. The output has to have a line for each request, client by
 client and in order, with the client's number, a ticket and the reply. The tickets have to be 0,
 1, 2 and so on, each once, and rise within a client; and the replies those of the model, which
 serves the requests one at a time in the order of the tickets. With --serve the model itself is
@@ -16,6 +16,10 @@ import sys
 
 import made
 import model
+
+# The most requests of a session: the first two rounds serve 256 each, and each later one three
+# times as many as all before it.
+MOST = [5, 5, 5, 30, 30, 30, 120, 120, 120, 2000]
 
 
 def ran(program, words, text):
@@ -70,7 +74,7 @@ def main():
     given = words.parse_args()
     draw, wrong, requests, out_of_order = random.Random(given.seed), 0, 0, 0
     for run in range(given.runs):
-        session = made.Maker(draw).session(draw.randint(1, 16), draw.choice([5, 30, 120]))
+        session = made.Maker(draw).session(draw.randint(1, 16), draw.choice(MOST))
         callers, shards = draw.choice([1, 2, 4, 8, 32]), draw.randint(1, 8)
         command = ["serve" if given.serve else "clients",
                    "--callers", str(callers), "--shards", str(shards)]

@@ -31,7 +31,7 @@ use Rattle.client_feed.specs.Ends.{ArrivalsView, GathererView, HasGathered}
 use Rattle.client_sheet.specs.Numbers.{numbers_of}
 use Rattle.client_rounds.specs.Behind.{IsServedBehind}
 use Rattle.client_rounds.specs.Reopening.{CanReopen, Reopens, final_of}
-use Rattle.client_rounds.specs.Rounds.{AreServed, IsLastRound, session_by}
+use Rattle.client_rounds.specs.Rounds.{AreServed, IsLastRound, round_begin, session_by}
 use Rattle.client_rounds.proofs.DrawnNumbers.{arrivals_numbered}
 use Rattle.client_rounds.proofs.KeyCounts.{keys_before, keys_each, keys_in, opening_keys}
 use Rattle.client_rounds.proofs.Sessions.{asked, asked_many, dropped, front_tables, joined, later_replies, later_tables}
@@ -138,9 +138,10 @@ module _ (p : ProgramView) (opened : List (List Pair)) (clients : ClientsView) (
 
   -- one round more
   pub one_round_more : (got more : List Arrival) (replies : List Reply) (last : Option ClosedView) (d : ClosedView) → AreServedSoFar p opened clients callers shards got replies last
-      → IsServedBehind p opened last (asked clients more) callers shards d → IsDrawn clients.counts (got ++ more) → 0 < length more → length more ≤ 256
+      → IsServedBehind p opened last (asked clients more) callers shards d → IsDrawn clients.counts (got ++ more) → 0 < length more
+      → (rounds : ℕ) → length got ≡ round_begin rounds → length got + length more ≤ round_begin (suc rounds)
       → AreServedSoFar p opened clients callers shards (got ++ more) (replies ++ d.replies) (Some d)
-  one_round_more got more replies last d so_far behind drawn some few =
+  one_round_more got more replies last d so_far behind drawn some rounds begins few =
       let n : ℕ = length got in
       let opens = opens_next got last behind.opening so_far.last so_far.hall behind.opens ∙ sym (front_tables p opened clients got more) in
       let whole = length-append got more in
@@ -155,7 +156,9 @@ module _ (p : ProgramView) (opened : List (List Pair)) (clients : ClientsView) (
             ∙ ap (λ (k : ℕ). serial_replies (by (got ++ more)) k) (let e : n + length (asked clients more) ≡ length (got ++ more) = omega (arith, whole, many) in e);
         last = some_there (length (got ++ more)) (omega (arith, whole, some));
         hall = record {
+          rounds = rounds;
           before = n;
+          before_is = begins;
           some = omega (arith, whole, some);
           few = omega (arith, whole, few);
           opening = behind.opening;
@@ -175,35 +178,48 @@ module _ (p : ProgramView) (opened : List (List Pair)) (clients : ClientsView) (
       → AreServed p opened clients callers shards (record { arrivals = got; replies = replies; closed = last })
   all_served got replies last h all = record { drawn = h.drawn; all = all; replies = h.replies_are; last = h.last; hall = h.hall }
 
+-- ---- where rounds begin
+later_begin : (r : ℕ) → 512 ≤ round_begin (suc (suc r))
+later_begin zero = omega arith
+later_begin (suc r) = omega (arith, later_begin r)
+
+-- how far the next round begins behind this one
+next_begin : (r : ℕ) → (round_begin r < 512 → round_begin (suc r) ≡ round_begin r + 256) × (512 ≤ round_begin r → round_begin (suc r) ≡ round_begin r + 3 * round_begin r)
+next_begin zero = (λ _. omega arith, λ h. absurd (omega (arith, h)))
+next_begin (suc zero) = (λ _. omega arith, λ h. absurd (omega (arith, h)))
+next_begin (suc (suc r)) = (λ h. absurd (omega (arith, h, later_begin r)), λ _. omega arith)
+
 -- ---- the state between two rounds
--- so many rounds were served; there is room for all arrivals and replies
-pub record IsBetween (p : ProgramView) (opened : List (List Pair)) (clients : ClientsView) (callers shards : ℕ) (g : GathererView) (a : ArrivalsView) (replies : List Reply) (room : ℕ) (closed : Option ClosedView) (rounds : ℕ) : Type 0 where
+-- some rounds were served; there is room for all arrivals and replies
+pub record IsBetween (p : ProgramView) (opened : List (List Pair)) (clients : ClientsView) (callers shards : ℕ) (g : GathererView) (a : ArrivalsView) (replies : List Reply) (room : ℕ) (closed : Option ClosedView) : Type 0 where
+  pub rounds : ℕ
   pub gatherer_is : g ≡ record { counts = clients.counts; got = a.list }
   pub arrival_room : a.room ≡ sum clients.counts
   pub reply_room : sum clients.counts ≤ room
-  pub many : length a.list ≡ min (rounds * 256) (sum clients.counts)
+  pub many : length a.list ≡ min (round_begin rounds) (sum clients.counts)
   pub so_far : AreServedSoFar p opened clients callers shards a.list replies closed
 
 module _ (p : ProgramView) (opened : List (List Pair)) (clients : ClientsView) (callers shards : ℕ) where
-  abbrev At : GathererView → ArrivalsView → List Reply → ℕ → Option ClosedView → ℕ → Type 0
-  At g a replies room closed rounds = IsBetween p opened clients callers shards g a replies room closed rounds
+  abbrev At : GathererView → ArrivalsView → List Reply → ℕ → Option ClosedView → Type 0
+  At g a replies room closed = IsBetween p opened clients callers shards g a replies room closed
 
   -- before the first round
-  pub first_between : (g : GathererView) (a : ArrivalsView) (replies : List Reply) (room : ℕ) (closed : Option ClosedView) → g ≡ record { counts = clients.counts; got = [] } → a ≡ record { list = []; room = sum clients.counts } → replies ≡ [] → sum clients.counts ≤ room → closed ≡ None → At g a replies room closed 0
+  pub first_between : (g : GathererView) (a : ArrivalsView) (replies : List Reply) (room : ℕ) (closed : Option ClosedView) → g ≡ record { counts = clients.counts; got = [] } → a ≡ record { list = []; room = sum clients.counts } → replies ≡ [] → sum clients.counts ≤ room → closed ≡ None → At g a replies room closed
   first_between g a replies room closed g_is a_is none fits no_hall =
-      let start : At (record { counts = clients.counts; got = [] }) (record { list = []; room = sum clients.counts }) [] room None 0 = record {
+      let start : At (record { counts = clients.counts; got = [] }) (record { list = []; room = sum clients.counts }) [] room None = record {
+        rounds = 0;
         gatherer_is = refl;
         arrival_room = refl;
         reply_room = fits;
         many = omega arith;
         so_far = none_served p opened clients callers shards;
       } in
-      subst (λ (x : GathererView). At x a replies room closed 0) (sym g_is)
-      (subst (λ (x : ArrivalsView). At (record { counts = clients.counts; got = [] }) x replies room closed 0) (sym a_is)
-      (subst (λ (rs : List Reply). At (record { counts = clients.counts; got = [] }) (record { list = []; room = sum clients.counts }) rs room closed 0) (sym none)
-      (subst (λ (o : Option ClosedView). At (record { counts = clients.counts; got = [] }) (record { list = []; room = sum clients.counts }) [] room o 0) (sym no_hall) start)))
+      subst (λ (x : GathererView). At x a replies room closed) (sym g_is)
+      (subst (λ (x : ArrivalsView). At (record { counts = clients.counts; got = [] }) x replies room closed) (sym a_is)
+      (subst (λ (rs : List Reply). At (record { counts = clients.counts; got = [] }) (record { list = []; room = sum clients.counts }) rs room closed) (sym none)
+      (subst (λ (o : Option ClosedView). At (record { counts = clients.counts; got = [] }) (record { list = []; room = sum clients.counts }) [] room o) (sym no_hall) start)))
 
-  module _ (g h : GathererView) (a b : ArrivalsView) (replies : List Reply) (room : ℕ) (closed : Option ClosedView) (round : ℕ) (now : At g a replies room closed round) where
+  module _ (g h : GathererView) (a b : ArrivalsView) (replies : List Reply) (room : ℕ) (closed : Option ClosedView) (now : At g a replies room closed) where
     got_is : g.got ≡ a.list
     got_is = ap (λ (v : GathererView). v.got) now.gatherer_is
 
@@ -237,34 +253,56 @@ module _ (p : ProgramView) (opened : List (List Pair)) (clients : ClientsView) (
       came_long : length h.got ≡ length a.list + length came
       came_long = ap (λ (xs : List Arrival). length xs) (gathered.got ∙ ap (λ (xs : List Arrival). xs ++ came) got_is) ∙ length-append a.list came
 
-      module _ (left : ℕ) (left_is : left + length g.got ≡ sum g.counts) (either : (256 ≤ left → most ≡ 256) × (left ≤ 256 → most ≡ left)) (some : round * 256 < sum clients.counts) where
-        cases : (left ≤ 256) ⊎ (256 ≤ left)
-        cases = le_or left 256
-          where
-            le_or : (x y : ℕ) → (x ≤ y) ⊎ (y ≤ x)
-            le_or x y = grind arith
-
+      module _ (left : ℕ) (left_is : left + length g.got ≡ sum g.counts) (some : 0 < left) (before size : ℕ) (before_is : before + left ≡ sum g.counts) (first : before < 512 → size ≡ 256) (later : 512 ≤ before → size ≡ 3 * before) (either : (size ≤ left → most ≡ size) × (left ≤ size → most ≡ left)) where
         record Counted : Type 0 where
+          begins : length a.list ≡ round_begin now.rounds
           came_some : 0 < length came
-          came_few : length came ≤ 256
-          all_many : length a.list + length came ≡ min ((round + 1) * 256) (sum clients.counts)
+          came_few : length a.list + length came ≤ round_begin (suc now.rounds)
+          all_many : length a.list + length came ≡ min (round_begin (suc now.rounds)) (sum clients.counts)
+
+        cases : (x y : ℕ) → (x ≤ y) ⊎ (y ≤ x)
+        cases x y = grind arith
+
+        small_or_large : (x : ℕ) → (x < 512) ⊎ (512 ≤ x)
+        small_or_large x = grind arith
+
+        at_begin : length a.list ≡ round_begin now.rounds
+        at_begin = let many = now.many in let got = ap (λ (xs : List Arrival). length xs) got_is in omega (arith, many, got, total_is, left_is, some)
+
+        -- a round's size is how far the next one begins behind it
+        size_is : length a.list + size ≡ round_begin (suc now.rounds)
+        size_is =
+            let got = ap (λ (xs : List Arrival). length xs) got_is in
+            let next = next_begin now.rounds in
+            elim (small_or_large before) [
+              | inl l ↦ (let b : round_begin now.rounds < 512 = omega (arith, l, before_is, left_is, got, at_begin) in let s = first l in let n = next.0 b in omega (arith, at_begin, s, n))
+              | inr l ↦ (let b : 512 ≤ round_begin now.rounds = omega (arith, l, before_is, left_is, got, at_begin) in let s = later l in let n = next.1 b in omega (arith, at_begin, s, n, before_is, left_is, got))
+            ]
 
         counted : Counted
         counted =
             let many = gathered.many in
-            let before = now.many in
             let got = ap (λ (xs : List Arrival). length xs) got_is in
-            elim cases [
+            elim (cases left size) [
               | inl l ↦ (let m = either.1 l in record {
-                came_some = omega (arith, many, before, got, total_is, left_is, m, l, came_long, some);
-                came_few = omega (arith, many, before, got, total_is, left_is, m, l, came_long, some);
-                all_many = omega (arith, many, before, got, total_is, left_is, m, l, came_long, some);
+                begins = at_begin;
+                came_some = omega (arith, many, got, total_is, left_is, m, l, came_long, some);
+                came_few = omega (arith, many, got, total_is, left_is, m, l, came_long, size_is);
+                all_many = omega (arith, many, got, total_is, left_is, m, l, came_long, size_is);
               })
               | inr l ↦ (let m = either.0 l in record {
-                came_some = omega (arith, many, before, got, total_is, left_is, m, l, came_long, some);
-                came_few = omega (arith, many, before, got, total_is, left_is, m, l, came_long, some);
-                all_many = omega (arith, many, before, got, total_is, left_is, m, l, came_long, some);
+                begins = at_begin;
+                came_some = omega (arith, many, got, total_is, left_is, m, l, came_long, some, size_is, at_begin, grows);
+                came_few = omega (arith, many, got, total_is, left_is, m, l, came_long, size_is);
+                all_many = omega (arith, many, got, total_is, left_is, m, l, came_long, size_is);
               })
+            ]
+          where
+            -- no round is empty
+            grows : round_begin now.rounds < round_begin (suc now.rounds)
+            grows = elim (small_or_large (round_begin now.rounds)) [
+              | inl l ↦ omega (arith, (next_begin now.rounds).0 l)
+              | inr l ↦ omega (arith, l, (next_begin now.rounds).1 l)
             ]
 
         module _ (d : ClosedView) (behind : IsServedBehind p opened closed (asked clients came) callers shards d) where
@@ -279,8 +317,9 @@ module _ (p : ProgramView) (opened : List (List Pair)) (clients : ClientsView) (
               let c = counted.all_many in
               omega (arith, mine, its, n, k, c, asked_many clients came, now.reply_room)
 
-          pub next_between : (more : List Reply) (room_now : ℕ) (next : Option ClosedView) → IsDrawn h.counts h.got → more ≡ replies ++ d.replies → room_now ≡ room → next ≡ Some d → At h b more room_now next (round + 1)
+          pub next_between : (more : List Reply) (room_now : ℕ) (next : Option ClosedView) → IsDrawn h.counts h.got → more ≡ replies ++ d.replies → room_now ≡ room → next ≡ Some d → At h b more room_now next
           next_between more room_now next d_on more_is room_is next_is = record {
+            rounds = suc now.rounds;
             gatherer_is = (λ i. record { counts = (gathered.counts ∙ counts_are) i; got = (gathered.got ∙ ap (λ (xs : List Arrival). xs ++ came) got_is ∙ sym gathered.list) i });
             arrival_room = gathered.room ∙ now.arrival_room;
             reply_room = omega (arith, now.reply_room, room_is);
@@ -289,10 +328,11 @@ module _ (p : ProgramView) (opened : List (List Pair)) (clients : ClientsView) (
                 subst (λ (xs : List Arrival). AreServedSoFar p opened clients callers shards xs more next) (sym gathered.list)
                 (subst (λ (rs : List Reply). AreServedSoFar p opened clients callers shards (a.list ++ came) rs next) (sym more_is)
                 (subst (λ (o : Option ClosedView). AreServedSoFar p opened clients callers shards (a.list ++ came) (replies ++ d.replies) o) (sym next_is)
-                (one_round_more p opened clients callers shards a.list came replies closed d now.so_far behind (drawn_on d_on) counted.came_some counted.came_few)));
+                (one_round_more p opened clients callers shards a.list came replies closed d now.so_far behind (drawn_on d_on) counted.came_some now.rounds counted.begins counted.came_few)));
           }
 
   -- behind the last round
-  pub last_between : (g : GathererView) (a : ArrivalsView) (replies : List Reply) (room : ℕ) (closed : Option ClosedView) (rounds : ℕ) → At g a replies room closed rounds → sum clients.counts ≤ rounds * 256 → AreServed p opened clients callers shards (record { arrivals = a.list; replies = replies; closed = closed })
-  last_between g a replies room closed rounds now enough =
-      all_served p opened clients callers shards a.list replies closed now.so_far (let m = now.many in omega (arith, m, enough))
+  pub last_between : (g : GathererView) (a : ArrivalsView) (replies : List Reply) (room : ℕ) (closed : Option ClosedView) → At g a replies room closed → length g.got ≡ sum g.counts → AreServed p opened clients callers shards (record { arrivals = a.list; replies = replies; closed = closed })
+  last_between g a replies room closed now all =
+      all_served p opened clients callers shards a.list replies closed now.so_far
+      (let got = ap (λ (v : GathererView). length v.got) now.gatherer_is in let total = ap (λ (v : GathererView). sum v.counts) now.gatherer_is in omega (arith, all, got, total))

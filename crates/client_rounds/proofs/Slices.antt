@@ -19,7 +19,7 @@ take_whole [] (suc i) l = (λ j. [])
 take_whole (x ∷ xs) zero l = absurd (omega (arith, l))
 take_whole (x ∷ xs) (suc i) l = ap (λ ys. x ∷ ys) (take_whole xs i (omega (arith, l)))
 
-module _ (p : ProgramView) (opened : List (List Pair)) (clients : ClientsView) (callers shards : ℕ) (g h : GathererView) (a b : ArrivalsView) (replies : List Reply) (room : ℕ) (closed : Option ClosedView) (round : ℕ) (now : IsBetween p opened clients callers shards g a replies room closed round) (most : ℕ) (gathered : HasGathered g h a b most) (k : ℕ) (xs : List Arrival) (k_is : k ≡ length a.list) (xs_is : xs ≡ b.list) where
+module _ (p : ProgramView) (opened : List (List Pair)) (clients : ClientsView) (callers shards : ℕ) (g h : GathererView) (a b : ArrivalsView) (replies : List Reply) (room : ℕ) (closed : Option ClosedView) (now : IsBetween p opened clients callers shards g a replies room closed) (most : ℕ) (gathered : HasGathered g h a b most) (k : ℕ) (xs : List Arrival) (k_is : k ≡ length a.list) (xs_is : xs ≡ b.list) where
   abbrev slice : List Arrival
   slice = take (length xs - k) (drop k xs)
 
@@ -27,12 +27,12 @@ module _ (p : ProgramView) (opened : List (List Pair)) (clients : ClientsView) (
   slice_is =
       take_whole (drop k xs) (length xs - k) (omega (arith, length-drop k xs))
       ∙ (λ i. drop (k_is i) (xs_is i))
-      ∙ came_is p opened clients callers shards g h a b replies room closed round now most gathered
+      ∙ came_is p opened clients callers shards g h a b replies room closed now most gathered
 
   pub slice_drawn : IsDrawn h.counts h.got → AreArrivals clients.counts slice
   slice_drawn d =
       let P : List Arrival → Type 0 = λ ys. IsDrawn clients.counts (a.list ++ ys) in
-      record { before = a.list; drawn = subst P (sym slice_is) (drawn_on p opened clients callers shards g h a b replies room closed round now most gathered d) }
+      record { before = a.list; drawn = subst P (sym slice_is) (drawn_on p opened clients callers shards g h a b replies room closed now most gathered d) }
 
   pub slice_served : (d : ClosedView) → IsServedBehind p opened closed (asked clients slice) callers shards d → IsServedBehind p opened closed (asked clients gathered.arrivals) callers shards d
   slice_served d s =

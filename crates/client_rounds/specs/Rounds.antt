@@ -1,5 +1,5 @@
 -- Requests of several clients, served in rounds as they arrive.
-use Rattle.std.specs.Prelude.{◌≡◌, ℕ, ◌+◌, ◌<◌, ◌≤◌, List, length, sum, drop, Option, is_some, nat_lt, IfSome}
+use Rattle.std.specs.Prelude.{◌≡◌, ℕ, zero, suc, ◌*◌, ◌<◌, ◌≤◌, List, length, sum, drop, Option, is_some, nat_lt, IfSome}
 use Rattle.session_values.specs.declared.reply.Reply.{Reply}
 use Rattle.session_values.specs.Serial.{Session, serial_replies, tables_before}
 use Rattle.opening_tables.specs.Opening.{Pair, tables_of}
@@ -14,9 +14,13 @@ use Rattle.client_feed.specs.declared.arrival.Arrival.{Arrival}
 use Rattle.client_feed.specs.Arrivals.{IsDrawn}
 use Rattle.client_sheet.specs.Numbers.{numbers_of}
 
--- the requests of a round: the most that one hall serves
-abbrev pub max_round : ℕ
-max_round = 256
+-- At which ticket a round begins, by how many rounds were before it: the first two rounds serve 256
+-- requests each, and each later one three times as many as all before it.
+abbrev pub round_begin : ℕ → ℕ
+round_begin zero = 0
+round_begin (suc zero) = 256
+round_begin (suc (suc zero)) = 512
+round_begin (suc (suc (suc r))) = 4 * round_begin (suc (suc r))
 
 -- what was served: the arrivals in their order, a reply for each, and the closed hall of the last
 -- round
@@ -30,13 +34,15 @@ abbrev pub session_by : ProgramView → List (List Pair) → ClientsView → Lis
 session_by p opened clients got =
     session p.file opened (picked clients.requests (numbers_of clients.counts got))
 
--- The hall of the last round: it served the arrivals from a number on, at most 256, over tables that
+-- The hall of the last round: it served the arrivals from the round's beginning on, over tables that
 -- opened as those before them left theirs.
 pub record IsLastRound (p : ProgramView) (opened : List (List Pair)) (clients : ClientsView)
     (got : List Arrival) (callers shards : ℕ) (d : ClosedView) : Type 0 where
+  pub rounds : ℕ
   pub before : ℕ
+  pub before_is : before ≡ round_begin rounds
   pub some : before < length got
-  pub few : length got ≤ before + max_round
+  pub few : length got ≤ round_begin (suc rounds)
   pub opening : List (List Pair)
   pub opening_is : tables_of (shape_of p.file) opening
       ≡ tables_before (session_by p opened clients got) before

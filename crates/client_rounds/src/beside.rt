@@ -21,9 +21,8 @@ use std::sync::Wait;
 use std::thread::{Threads, join};
 use worker_gate::Gate;
 
-/// Serves all requests in the order in which they arrive, in rounds of at most 256. The clients'
-/// requests are fed beside that, in threads of their own where they can be made, and before it where
-/// they can't.
+/// Serves all requests in the order in which they arrive, in rounds. The clients' requests are fed
+/// beside that, in threads of their own where they can be made, and before it where they can't.
 pub fn serve_clients<R: Threads + Wait + Sync, G: Gate + Sync>(
     rt: &R,
     alloc: Global,

@@ -13,5 +13,5 @@ mod serving;
 pub use beside::serve_clients;
 pub use picking::requests_of;
 pub use reopening::reopened;
-pub use rounds::{MAX_ROUND, serve_rounds};
+pub use rounds::{FIRST_ROUND, serve_rounds};
 pub use served::Served;

@@ -1,7 +1,7 @@
 // Rounds, one after another.
 
 ghost use Rattle.std.specs.Prelude.{◌≡◌, ◌+◌, ◌*◌, ◌<◌, ◌≤◌, [], ◌++◌, length, IfOk, vec_capacity};
-ghost use Rattle.session_limits.specs.Limits.{max_callers, max_session_calls, max_shards};
+ghost use Rattle.session_limits.specs.Limits.{max_callers, max_requests, max_session_calls, max_shards};
 ghost use Rattle.opening_tables.specs.Limits.{max_opening};
 ghost use Rattle.opening_tables.specs.Opening.{IsOpening, count_all};
 ghost use Rattle.handler_check.specs.Resolved.{shape_of as shape_spec};
@@ -22,12 +22,14 @@ use std::sync::Wait;
 use std::thread::Threads;
 use worker_gate::Gate;
 
-/// The most requests of a round.
-pub const MAX_ROUND: u32 = 256;
+/// How many requests each of the first two rounds serves.
+pub const FIRST_ROUND: u32 = 256;
 
-/// Serves all requests in the order in which they arrive, in rounds of at most 256: the tables of a
-/// round open as the round before left them. The room of all arrivals and replies is taken before the
-/// first round, and each round gives back what it takes beside it.
+/// Serves all requests in the order in which they arrive, in rounds: the first two serve 256 each,
+/// and each later one three times as many as all before it, so that the tables are opened again a few
+/// times and not once for each 256 requests. The tables of a round open as the round before left
+/// them. The room of all arrivals and replies is taken before the first round, and each round gives
+/// back what it takes beside it.
 pub fn serve_rounds<R: Threads + Wait + Sync, G: Gate + Sync>(
     rt: &R,
     alloc: Global,
@@ -62,10 +64,11 @@ pub fn serve_rounds<R: Threads + Wait + Sync, G: Gate + Sync>(
     let mut arrivals = Arrivals::with_room(alloc, requests)?;
     let mut replies = Vec::with_capacity(alloc, requests as usize)?;
     let mut closed = None;
-    for round in 0..rounds_for(requests) {
-        let before = arrivals.list().len();
-        gatherer.gather(rt, fewer(MAX_ROUND, gatherer.left()), &mut arrivals);
-        let came = &arrivals.list()[before..];
+    'rounds: while gatherer.left() > 0 {
+        let left = gatherer.left();
+        let before = requests - left;
+        gatherer.gather(rt, fewer(round_size(before), left), &mut arrivals);
+        let came = &arrivals.list()[before as usize..];
         let hall = serve_behind(rt, alloc, &plan, closed, came, gate)?;
         push_replies(&hall, &mut replies);
         closed = Some(hall);
@@ -73,16 +76,16 @@ pub fn serve_rounds<R: Threads + Wait + Sync, G: Gate + Sync>(
     Ok(Served::over(arrivals, replies, closed))
 }
 
-// In how many rounds so many requests are served.
-fn rounds_for(requests: u32) -> u32
-    ensures enough { requests ≤ result * 256 }
-    ensures some_each { result * 256 < requests + 256 }
+// How many requests the round serves before which so many were served.
+fn round_size(before: u32) -> u32
+    requires { before ≤ max_requests }
+    ensures first { before < 512 → result ≡ 256 }
+    ensures later { 512 ≤ before → result ≡ 3 * before }
 {
-    let whole = requests / MAX_ROUND;
-    if requests % MAX_ROUND == 0 {
-        whole
+    if before < 2 * FIRST_ROUND {
+        FIRST_ROUND
     } else {
-        whole + 1
+        3 * before
     }
 }
 

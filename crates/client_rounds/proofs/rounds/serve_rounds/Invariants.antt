@@ -1,7 +1,10 @@
 -- Between rounds: what arrived so far is served.
-use Rattle.std.proofs.Common.{vec_capacity}
+use Rattle.std.proofs.Common.{◌-◌, length, sum, vec_capacity}
 use Rattle.client_rounds.proofs.Between.{IsBetween}
 use Rattle.client_rounds.proofs.rounds.serve_rounds.Given as goal
 
-abbrev pub invariant-loop-round : goal.invariant-loop-round
-invariant-loop-round g l = IsBetween l.program l.fn.opening l.clients l.callers l.shards l.gatherer l.arrivals l.replies.items (vec_capacity l.replies) l.closed l.round
+abbrev pub invariant-rounds : goal.invariant-rounds
+invariant-rounds g l = IsBetween l.program l.fn.opening l.clients l.callers l.shards l.gatherer l.arrivals l.replies.items (vec_capacity l.replies) l.closed
+
+abbrev pub decreases-rounds : goal.decreases-rounds
+decreases-rounds g l = sum l.gatherer.counts - length l.gatherer.got
