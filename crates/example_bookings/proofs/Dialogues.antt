@@ -29,10 +29,10 @@ module _ (b : Booking) where
   look_up_held = record { key = held_number b.seat b.seat_held; value = tt; unused = (λ l. absurd (omega (arith, l)), λ l. refl) }
 
   pub take_seat_held : IsHeld (take_seat b)
-  take_seat_held = record { key = held_number b.seat b.seat_held; value = held_number b.customer b.customer_held; unused = (λ l. absurd (omega (arith, l)), λ l. absurd (omega (arith, l))) }
+  take_seat_held = record { key = held_number b.seat b.seat_held; value = held_number b.who b.who_held; unused = (λ l. absurd (omega (arith, l)), λ l. absurd (omega (arith, l))) }
 
   pub wait_held : IsHeld (wait b)
-  wait_held = record { key = held_number b.customer b.customer_held; value = tt; unused = (λ l. absurd (omega (arith, l)), λ l. refl) }
+  wait_held = record { key = held_number b.who b.who_held; value = tt; unused = (λ l. absurd (omega (arith, l)), λ l. refl) }
 
   pub second_held : (found : Value) → IsHeld (second b found)
   second_held Nil = take_seat_held
@@ -51,7 +51,7 @@ module _ (b : Booking) where
   fits (found ∷ told ∷ more) op e = no_call (answer b found) op e
 
   holder_held : (found : Value) → IsValue found → IsValue (holder b found)
-  holder_held Nil h = held_number b.customer b.customer_held
+  holder_held Nil h = held_number b.who b.who_held
   holder_held (Num n) h = h
   holder_held (Sym p) h = h
 

@@ -30,12 +30,12 @@ take_seat b = record {
   kind = Put;
   table = 0;
   key = Num (pos b.seat);
-  value = Num (pos b.customer);
+  value = Num (pos b.who);
 }
 
 -- the customer waits
 abbrev pub wait : Booking → Op
-wait b = record { kind = Mark; table = 1; key = Num (pos b.customer); value = Nil }
+wait b = record { kind = Mark; table = 1; key = Num (pos b.who); value = Nil }
 
 -- what is called where the seat was found so: nil is nobody
 abbrev pub second : Booking → Value → Op
@@ -45,7 +45,7 @@ second b (Sym p) = wait b
 
 -- who has the seat then
 abbrev pub holder : Booking → Value → Value
-holder b Nil = Num (pos b.customer)
+holder b Nil = Num (pos b.who)
 holder b (Num n) = Num n
 holder b (Sym p) = Sym p
 
@@ -67,7 +67,7 @@ declares b (found ∷ told ∷ more) = []
 
 -- the booking of ticket t; past the last one some booking, which no ticket makes
 abbrev pub no_booking : Booking
-no_booking = record { seat = 0; customer = 0; seat_held = lit< tt; customer_held = lit< tt }
+no_booking = record { seat = 0; who = 0; seat_held = lit< tt; who_held = lit< tt }
 
 abbrev pub booking_at : List Booking → ℕ → Booking
 booking_at bs t = slice_index_or bs t no_booking

@@ -1,3 +1,1 @@
 pub mod Bookings
-pub mod Endings
-pub mod Standing

@@ -4,9 +4,8 @@ ghost use Rattle.std.specs.Prelude.{◌≤◌, length};
 ghost use Rattle.session_limits.specs.Limits.{max_requests};
 
 use crate::booking::Booking;
-use crate::serving::serve_booking;
 use session_journal::{Desk, Scratch, Script, Serves, Site};
-use session_values::{NoMemory, Value};
+use session_values::{NoMemory, Reply, Value};
 use std::sync::Wait;
 use std::thread::Threads;
 use symbolic_ops::{Foresight, Symbol};
@@ -27,9 +26,9 @@ impl<'a> Script for Bookings<'a> {
         self.list.len() as u32
     }
 
+    // At its beginning a booking declares all that it may call.
     fn entry(&self, t: u32, out: &mut Foresight) {
-        let booking = self.list[t as usize];
-        booking.declare_all(out);
+        out.copy_from(&self.list[t as usize].calls().map(|op| Symbol::exact(&op)));
     }
 
     fn entry_site(&self, _t: u32, _values: &mut [Value]) -> Option<Site> {
@@ -49,7 +48,6 @@ impl<'a> Script for Bookings<'a> {
         self.list.len() as u32
     }
 
-    #[tactic(auto, using(crate::proofs::Lawful::none_open))]
     fn opening_len(&self, _table: u32) -> u32 {
         0
     }
@@ -60,6 +58,8 @@ impl<'a> Script for Bookings<'a> {
 }
 
 impl<'a> Serves for Bookings<'a> {
+    // Looks the seat up; the customer takes it if nobody has it, else waits, and is answered who
+    // has it then. After each call the booking declares what is left.
     fn serve<R: Threads + Wait + Sync, D: Desk<Served = Self>>(
         &self,
         rt: &R,
@@ -67,7 +67,19 @@ impl<'a> Serves for Bookings<'a> {
         scratch: &mut Scratch,
         desk: &mut D,
     ) -> Result<(), NoMemory> {
-        let booking = self.list[ticket as usize];
-        serve_booking(rt, booking, &mut scratch.foresight, desk)
+        let [look_up, take_seat, wait] = self.list[ticket as usize].calls();
+        let found = desk.call(rt, look_up)?;
+        let (second, holder) = match found {
+            Value::Nil => (take_seat, take_seat.value()),
+            _ => (wait, found),
+        };
+        scratch.foresight.copy_from(&[Symbol::exact(&second)]);
+        desk.finish(rt, &scratch.foresight);
+        desk.call(rt, second)?;
+        scratch.foresight.clear();
+        desk.finish(rt, &scratch.foresight);
+        let reply = Reply::new(1, holder, Value::Nil, Value::Nil, Value::Nil);
+        desk.end(rt, reply);
+        Ok(())
     }
 }
