@@ -1,5 +1,6 @@
-/* Answers to the bytes of standard input as `foresight check` does, without that program; with one of
- * the words show, ranges, audit as that command. `bench/embedding.sh` builds and runs it. */
+/* Answers to the bytes of standard input as `foresight check` does, without that program; with one
+ * of the words show, ranges, audit, serve, dump as that command. `bench/embedding.sh` builds and
+ * runs it. */
 #include "foresight.h"
 
 #include <stdio.h>
@@ -17,6 +18,8 @@ static const struct {
     { "show", foresight_show },
     { "ranges", foresight_ranges },
     { "audit", foresight_audit },
+    { "serve", foresight_serve },
+    { "dump", foresight_dump },
 };
 
 /* The command of this word, or NULL. */
@@ -55,7 +58,7 @@ static uint8_t *input(size_t *size) {
 
 int main(int count, char **words) {
     command *call = count > 2 ? NULL : command_of(count == 2 ? words[1] : "check");
-    if (call == NULL) give_up("usage: check [check | show | ranges | audit]\n", 2);
+    if (call == NULL) give_up("usage: check [check | show | ranges | audit | serve | dump]\n", 2);
     size_t size;
     uint8_t *text = input(&size);
     uint8_t message[FORESIGHT_MESSAGE_ROOM] = { 0 };

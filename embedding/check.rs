@@ -1,5 +1,6 @@
 //! Answers to the bytes of standard input as `foresight check` does, without that program; with one
-//! of the words show, ranges, audit as that command. `bench/embedding.sh` builds and runs it.
+//! of the words show, ranges, audit, serve, dump as that command. `bench/embedding.sh` builds and
+//! runs it.
 
 use std::io::{Read, Write};
 use std::process::exit;
@@ -39,7 +40,14 @@ macro_rules! commands {
     };
 }
 
-commands!(foresight_check foresight_show foresight_ranges foresight_audit);
+commands!(
+    foresight_check
+    foresight_show
+    foresight_ranges
+    foresight_audit
+    foresight_serve
+    foresight_dump
+);
 
 /// The command of this word.
 fn command_of(word: &str) -> Option<Command> {
@@ -48,6 +56,8 @@ fn command_of(word: &str) -> Option<Command> {
         "show" => Some(foresight_show),
         "ranges" => Some(foresight_ranges),
         "audit" => Some(foresight_audit),
+        "serve" => Some(foresight_serve),
+        "dump" => Some(foresight_dump),
         _ => None,
     }
 }
@@ -93,7 +103,7 @@ fn main() {
         _ => None,
     };
     let Some(command) = command else {
-        give_up("usage: check [check | show | ranges | audit]\n", 2)
+        give_up("usage: check [check | show | ranges | audit | serve | dump]\n", 2)
     };
     let mut input = Vec::new();
     if std::io::stdin().read_to_end(&mut input).is_err() {

@@ -1,1 +1,3 @@
 pub mod Endings
+mod BoxedDesk
+mod DeskDrops

@@ -1,3 +1,6 @@
 pub mod Answered
+pub mod Calls
 pub mod Endings
 pub mod Fronts
+pub mod Held
+pub mod HallCalls

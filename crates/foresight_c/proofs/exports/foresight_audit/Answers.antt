@@ -1,8 +1,4 @@
-use Rattle.std.proofs.Common.{Some, ap, sym, arith}
-use Rattle.serve_words.specs.declared.command.Command.TheVariants.{Audit}
-use Rattle.foresight_c.proofs.Endings.{answered_by}
 use Rattle.foresight_c.proofs.exports.foresight_audit.Goals as goal
 
 pub returns : goal.returns
-returns c =
-    answered_by Audit _ _ _ _ _ _ _ _ _ _ c.audit-status.result (λ P p. p) (λ h. omega (arith, h)) (ap Some c.new-store.ensures.bytes) (ap Some (sym c.bytes.ensures)) c.audit-status.ensures.runs c.hand_over.ensures
+returns c = c.answer_call.ensures 0 0

@@ -1,0 +1,9 @@
+mod Saying
+mod SerialReplies
+mod Serving
+mod Finishing
+mod Alone
+mod Advancing
+mod Replaced
+mod Planning
+mod Endings
