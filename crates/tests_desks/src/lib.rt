@@ -15,4 +15,6 @@ mod journals;
 #[cfg(test)]
 mod map_ops;
 #[cfg(test)]
+mod stepped;
+#[cfg(test)]
 mod two_puts;
