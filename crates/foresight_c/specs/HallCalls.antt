@@ -5,14 +5,14 @@ use Rattle.hall_desk.specs.declared.desk.Desk.{Desk}
 use Rattle.hall_desk.specs.declared.desk.Desk.TheVariants.{Planned}
 use Rattle.hall_desk.specs.Desks.{PlansAs, fine, first_plan, wrong_desk}
 
--- where the handle has a desk, it has one after the call of which this is so; else the call says that
--- there is none
+-- where the handle has a desk, it has one after the call of which this is so; else the call says
+-- that there is none
 abbrev pub OnDesk : Option Desk → Option Desk → ℕ → (Desk → Desk → Type 0) → Type 0
 OnDesk None e n P = (e ≡ None) × (n ≡ wrong_desk)
 OnDesk (Some d) e n P = (x : Desk) × (e ≡ Some x) × P d x
 
--- a handle without a desk has a plan, or none where numbers or memory don't suffice; a handle with a
--- desk keeps it
+-- a handle without a desk has a plan, or none where numbers or memory don't suffice; a handle with
+-- a desk keeps it
 abbrev pub PlansOn : Option Desk → Option Desk → ℕ → ℕ → ℕ → ℕ → ℕ → ℕ → Type 0
 PlansOn (Some d) e n maps sets tickets calls symbols = (e ≡ Some d) × (n ≡ wrong_desk)
 PlansOn None e n maps sets tickets calls symbols =

@@ -78,7 +78,8 @@ first_plan maps sets tickets calls symbols = record {
 }
 
 abbrev pub PlansAs : ℕ → ℕ → ℕ → ℕ → ℕ → Result Desk ℕ → Type 0
-PlansAs maps sets tickets calls symbols (Ok d) = d ≡ Plans (first_plan maps sets tickets calls symbols)
+PlansAs maps sets tickets calls symbols (Ok d) =
+    d ≡ Plans (first_plan maps sets tickets calls symbols)
 PlansAs maps sets tickets calls symbols (Err n) = (n ≡ no_memory)
     ⊎ ((n ≡ unread) × (IsWithin maps sets tickets calls symbols → ⊥))
 
@@ -136,7 +137,8 @@ CloseOn d e n = Stays d e wrong_desk n
 
 -- ---- what it leaves
 -- the first value that a ticket was answered
-pub record TellsReply (replies : List Reply) (ticket : ℕ) (was out : HallValue) (n : ℕ) : Type 0 where
+pub record TellsReply (replies : List Reply) (ticket : ℕ) (was out : HallValue) (n : ℕ)
+    : Type 0 where
   pub there : (r : Reply) → slice_get replies ticket ≡ Some r → (out ≡ told_value r.a) × (n ≡ fine)
   pub none : length replies ≤ ticket → (out ≡ was) × (n ≡ unread)
 

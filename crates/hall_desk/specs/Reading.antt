@@ -44,7 +44,7 @@ pub record HasUnused (g : HallOperation) : Type 0 where
   pub unused : ((arguments kind < 1) × (g.key.sort ≢ 0))
       ⊎ ((arguments kind < 2) × (g.value.sort ≢ 0))
 
--- C gives nothing that is meant: there is no such kind, or no such sort of values, of which there are
--- so many, or a field is unused that isn't nil
+-- C gives nothing that is meant: there is no such kind, or no such sort of values, of which there
+-- are so many, or a field is unused that isn't nil
 abbrev pub IsUnread : ℕ → HallOperation → Type 0
 IsUnread sorts g = ((11 ≤ g.kind) ⊎ HasUnused g) ⊎ ((sorts ≤ g.key.sort) ⊎ (sorts ≤ g.value.sort))

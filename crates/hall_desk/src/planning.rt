@@ -47,8 +47,8 @@ fn number_of(answer: Planned) -> u8
 }
 
 impl Desk {
-    /// A plan without tickets, over so many maps and behind them so many sets, with room for so many
-    /// tickets, operations and symbols.
+    /// A plan without tickets, over so many maps and behind them so many sets, with room for so
+    /// many tickets, operations and symbols.
     pub fn plan(
         alloc: Global,
         maps: u8,

@@ -1,7 +1,7 @@
 // Values, operations and steps as C has them.
 
-/// A value: nil where the sort is 0, the number where it is 1, the name of this number where it is 2.
-/// In a symbol, an argument that may be any value has the sort 3.
+/// A value: nil where the sort is 0, the number where it is 1, the name of this number where it is
+/// 2. In a symbol, an argument that may be any value has the sort 3.
 #[repr(C)]
 #[derive(Clone, Copy, Debug)]
 pub struct HallValue {
@@ -10,8 +10,8 @@ pub struct HallValue {
     pub number: i64,
 }
 
-/// An operation, or the symbol of some: its kind by its number, the number of its table, its key and
-/// its value.
+/// An operation, or the symbol of some: its kind by its number, the number of its table, its key
+/// and its value.
 #[repr(C)]
 #[derive(Clone, Copy, Debug)]
 pub struct HallOperation {
@@ -21,8 +21,8 @@ pub struct HallOperation {
     pub value: HallValue,
 }
 
-/// What a step answers: the number of its answer, the ticket that it is about, another number, and a
-/// value.
+/// What a step answers: the number of its answer, the ticket that it is about, another number, and
+/// a value.
 #[repr(C)]
 #[derive(Clone, Copy, Debug)]
 pub struct HallStep {

@@ -11,8 +11,8 @@ use Rattle.hall_stepping.specs.Standing.{meaning}
 use Rattle.hall_stepping.specs.Stepping.{SteppingView}
 use Rattle.hall_stepping.specs.Steps.{CallerOf, meaning_of}
 
--- the hall of a plan, with so many shards of each table and so many callers, none of which has begun
--- a ticket
+-- the hall of a plan, with so many shards of each table and so many callers, none of which has
+-- begun a ticket
 pub record IsOpenedFor (s : ListView) (shards callers : ℕ) (v : SteppingView) : Type 0 where
   pub script_is : script_of v.hall ≡ s
   pub shards_are : v.hall.sizes.shards ≡ shards
@@ -23,7 +23,8 @@ pub record IsOpenedFor (s : ListView) (shards callers : ℕ) (v : SteppingView) 
 abbrev pub AreOut : List CallerOf → Type 0
 AreOut callers = AllByRecursion (λ c. c.stage ≡ Out) callers
 
--- the hall is closed where all callers are out, and then all tickets are done; else it is given back
+-- the hall is closed where all callers are out, and then all tickets are done; else it is given
+-- back
 abbrev pub ClosesAs : SteppingView → Result ClosedView SteppingView → Type 0
 ClosesAs s (Ok d) = AreOut s.callers × IsDone (meaning_of s.hall) d × IsNotedBy s.callers d.journal
     × (d.shards ≡ s.hall.sizes.shards)

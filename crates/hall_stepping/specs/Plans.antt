@@ -13,8 +13,8 @@ use Rattle.hall_stepping.specs.declared.planned.Planned.TheVariants as planned
 use Rattle.hall_stepping.specs.declared.row.Row.{Row}
 use Rattle.hall_stepping.specs.Rows.{tickets_of}
 
--- what is kept beside the script: its tickets as rows, with room for those that are left, its shape,
--- and the places that are left
+-- what is kept beside the script: its tickets as rows, with room for those that are left, its
+-- shape, and the places that are left
 pub record IsPlan (s : ListView) (rows : List Row) (shape : List TableKind) (room tickets calls
     symbols : ℕ) : Type 0 where
   pub rows_are : s.tickets ≡ tickets_of rows

@@ -25,8 +25,8 @@ module _ (tickets : List Ticket) (c : CallerOf) where
   steps_at (InFlight t op) = 3 * missing t
   steps_at (Applied t op v) = 3 * missing t - 1
 
-  -- these, the steps of all tickets that it doesn't know as begun, and one to find that none is left;
-  -- none where it is out
+  -- these, the steps of all tickets that it doesn't know as begun, and one to find that none is
+  -- left; none where it is out
   abbrev pub steps_from : Stage → ℕ
   steps_from Out = 0
   steps_from s = steps_at s + steps_of (drop (begun (book_of c).journal) tickets) + 1

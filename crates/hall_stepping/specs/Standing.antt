@@ -13,8 +13,8 @@ abbrev pub meaning : ListView → Meaning
 meaning s = list_meaning s.shape s.tickets
 
 module _ (tickets : List Ticket) (c : CallerOf) (done : ℕ) where
-  -- the caller serves this ticket, of which so many operations are entered, and which may still call
-  -- what it declared at its beginning
+  -- the caller serves this ticket, of which so many operations are entered, and which may still
+  -- call what it declared at its beginning
   pub record IsAt (t : ℕ) : Type 0 where
     pub within : t < length tickets
     pub entered : length (entries_of c t) ≡ done

@@ -26,11 +26,11 @@ pub record IsStepping (h : HallOf) (callers : List CallerOf) (done : List ℕ) (
   pub each_done : length done ≡ length callers
   pub room : max_symbols ≤ list.room
   pub numbered : (i : ℕ) (c : CallerOf) → slice_get callers i ≡ Some c → c.number ≡ i
-  pub stand : (i : ℕ) (c : CallerOf) (k : ℕ) → slice_get callers i ≡ Some c → slice_get done i ≡ Some k
-      → IsStepped h c k
+  pub stand : (i : ℕ) (c : CallerOf) (k : ℕ) → slice_get callers i ≡ Some c
+      → slice_get done i ≡ Some k → IsStepped h c k
 
--- A step of the caller of this number: the hall, the number of callers and every other caller stay as
--- they are, and the caller makes its next try. Where there is no such caller, nothing is done.
+-- A step of the caller of this number: the hall, the number of callers and every other caller stay
+-- as they are, and the caller makes its next try. Where there is no such caller, nothing is done.
 pub record IsStep (s r : SteppingView) (number : ℕ) (answer : Stepped) : Type 0 where
   pub hall_still : r.hall ≡ s.hall
   pub count_still : length r.callers ≡ length s.callers

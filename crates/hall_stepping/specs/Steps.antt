@@ -62,7 +62,8 @@ module _ (m : Meaning) (tickets : List Ticket) (shards turns : ℕ) (p q : Calle
   abbrev pub Begins : Type 0
   Begins = (a : Began) × BeganAs m p q a × (answer ≡ of_began a)
 
-  -- the ticket's next operation is admitted, where there is one; else the ticket ends with its reply
+  -- the ticket's next operation is admitted, where there is one; else the ticket ends with its
+  -- reply
   pub record Goes (t : ℕ) : Type 0 where
     pub calls : (op : Op) → slice_get (ticket_at tickets t).ops (length (entries_of p t)) ≡ Some op
         → (a : Admitting) × AdmittedAs m p q op a × (answer ≡ of_admitting t a)

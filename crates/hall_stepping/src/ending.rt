@@ -55,8 +55,8 @@ impl Stepping {
         })
     }
 
-    /// What was done, where all callers are out, that is, where each has been stepped after the last
-    /// ticket was begun. Else the hall is given back as it is.
+    /// What was done, where all callers are out, that is, where each has been stepped after the
+    /// last ticket was begun. Else the hall is given back as it is.
     pub fn close(self) -> Result<Closed, Stepping>
         ensures { ClosesAs self result }
     {
