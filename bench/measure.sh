@@ -1,8 +1,9 @@
 # What both benchmarks stand on, sourced by them: the program, a folder of their own, and how they measure.
 # The program is proved and built by: (cd crates/foresight && rt run -- serve < ../../examples/first.session)
+# Another one, an unproved build say, is named by PROGRAM.
 set -euo pipefail
 cd "$(dirname "${BASH_SOURCE[0]}")/.."
-program=$PWD/crates/foresight/out/foresight
+program=$(realpath "${PROGRAM:-crates/foresight/out/foresight}")
 work=$(mktemp -d)
 trap 'rm -rf "$work"' EXIT
 

@@ -1,0 +1,24 @@
+#!/usr/bin/env bash
+# Runs the gate from nothing in a scratch clone of the last commit, and prints the processor seconds of
+# each crate's proof, tests and must-fail edits, dearest first, as the table of docs/TESTING.md has
+# them. Takes some 250 processor minutes: an hour and more on four processors that do nothing else.
+# `bench/gate.sh --watch FILE STOP` only watches the toolchain until the file STOP is there, and
+# `bench/gate.sh --table FILE` prints the table of what was watched.
+set -euo pipefail
+cd "$(dirname "$0")/.."
+case ${1:-} in
+  --watch | --table) exec python3 bench/gate.py "$@" ;;
+esac
+root=$PWD
+work=$(mktemp -d)
+trap 'touch "$work/stop"; wait; rm -rf "$work"' EXIT
+git clone -q "$root" "$work/clone"
+python3 bench/gate.py --watch "$work/times.json" "$work/stop" &
+cd "$work/clone"
+status=0
+rt ci --anew > "$work/log" 2>&1 || status=$?
+touch "$work/stop"
+wait
+tail -n 3 "$work/log"
+python3 "$root/bench/gate.py" --table "$work/times.json"
+exit $status
