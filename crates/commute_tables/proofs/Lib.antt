@@ -5,3 +5,4 @@ pub mod TellingApart
 pub mod TellingApartPairs
 pub mod AgainstSymbols
 pub mod OnMap
+pub mod ListedPairs
