@@ -7,8 +7,8 @@ ghost use Rattle.session_values.specs.Tables.{Fits};
 ghost use Rattle.session_values.specs.Op.{IsHeld};
 ghost use Rattle.session_values.specs.Kinds.{home, is_keyed};
 ghost use Rattle.commute_tables.specs.Pairs.{AreOnOneKey, is_commuting_pair};
-ghost use Rattle.commute_tables.specs.Relation.{commutes, commutes_symbol};
-ghost use Rattle.commute_tables.specs.Symbols.{CommutesWith};
+ghost use Rattle.commute_tables.specs.Relation.{commutes, commutes_symbol, commutes_symbols};
+ghost use Rattle.commute_tables.specs.Symbols.{CommutesWith, SymbolsCommute};
 ghost use Rattle.commute_tables.specs.ToldApart.{CommuteAt};
 ghost use Rattle.symbolic_ops.specs.Matching.{HasNoVar};
 ghost use Rattle.symbolic_ops.specs.Symbol.{IsHeldSymbol};
@@ -27,12 +27,14 @@ pub fn commuting_where_fit()
         → Fits shape b → CommuteAt shape a b → Commute a b }
 {}
 
-/// The written rule says exactly which operations commute that a program can hold, and with which
-/// symbols one does.
+/// The written rule says exactly which operations commute that a program can hold, with which
+/// symbols one does, and which symbols do.
 pub fn rule_is_exact()
     ensures operations { (a b : Op) → IsHeld a → IsHeld b → Decides (commutes a b) (Commute a b) }
     ensures symbols { (a : Op) (s : Symbol) → HasNoVar s → IsHeld a → IsHeldSymbol s
         → Decides (commutes_symbol a s) (CommutesWith a s) }
+    ensures two_symbols { (s t : Symbol) → HasNoVar s → HasNoVar t → IsHeldSymbol s
+        → IsHeldSymbol t → Decides (commutes_symbols s t) (SymbolsCommute s t) }
 {}
 
 /// On one container, with one key where both have a key, exactly the listed pairs commute. On
