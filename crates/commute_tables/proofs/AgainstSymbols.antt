@@ -78,7 +78,7 @@ value_of a (Var x) v g h = cc
 value_of a Any v g h = cc
 
 -- one of two, of which each follows from its like
-or_more : (x y p q : Bool) → (x ≡ true → p ≡ true) → (y ≡ true → q ≡ true) → (x || y) ≡ true → (p || q) ≡ true
+pub or_more : (x y p q : Bool) → (x ≡ true → p ≡ true) → (y ≡ true → q ≡ true) → (x || y) ≡ true → (p || q) ≡ true
 or_more true y p q f g h = ap (λ (b : Bool). b || q) (f refl)
 or_more false y p true f g h = or_true p
   where
@@ -87,18 +87,18 @@ or_more false y p true f g h = or_true p
     or_true false = refl
 or_more false y p false f g h = absurd (let e : false ≡ true = g h in cc)
 
-and_more : (x y z : Bool) → (y ≡ true → z ≡ true) → (x && y) ≡ true → (x && z) ≡ true
+pub and_more : (x y z : Bool) → (y ≡ true → z ≡ true) → (x && y) ≡ true → (x && z) ≡ true
 and_more true y z f h = f h
 and_more false y z f h = cc
 
+pub and_none : (b : Bool) → (b && false) ≡ true → ⊥
+and_none true e = cc
+and_none false e = cc
+
 -- an operation that adds up with whatever number, adds up with each value
 add_up_any : (x y : Kind) (n z m u : Bool) → add_up x n z y true false ≡ true → add_up x n z y m u ≡ true
-add_up_any x y n z m u = or_more _ _ _ _ (or_more _ _ _ _ (or_more _ _ _ _ (λ h. h) (λ h. absurd (none (is_bump y) h))) (and_more (is_bump x && is_put y) (z || false) (z || not m) (more z (not m)))) (and_more (is_put x && is_bump y) (not n || false) (not n || u) (more (not n) u))
+add_up_any x y n z m u = or_more _ _ _ _ (or_more _ _ _ _ (or_more _ _ _ _ (λ h. h) (λ h. absurd (and_none (is_bump y) h))) (and_more (is_bump x && is_put y) (z || false) (z || not m) (more z (not m)))) (and_more (is_put x && is_bump y) (not n || false) (not n || u) (more (not n) u))
   where
-    none : (b : Bool) → (b && false) ≡ true → ⊥
-    none true e = cc
-    none false e = cc
-
     more : (z m : Bool) → (z || false) ≡ true → (z || m) ≡ true
     more true m e = refl
     more false m e = cc
@@ -148,15 +148,15 @@ symbol_commutes a s g h = record { each = λ b st. commutes-Commute a b g.value 
 
 -- ---- where it says that they don't
 -- an operation that the symbol stands for, as near to a as it can be, and with another value
-abbrev near_key : Value → Arg → Value
+abbrev pub near_key : Value → Arg → Value
 near_key k (Known w) = w
 near_key k _ = k
 
-abbrev other_value : Value → Arg → Value
+abbrev pub other_value : Value → Arg → Value
 other_value v (Known w) = w
 other_value v _ = other v
 
-near : Op → Symbol → Op
+unfoldable pub near : Op → Symbol → Op
 near a s = record { kind = s.kind; table = s.table; key = near_key a.key s.key; value = other_value a.value s.value }
 
 key_agrees : (k : Value) (arg : Arg) → IsNoVar arg → Agrees arg (near_key k arg)
@@ -190,7 +190,7 @@ nil_value v (Known w) e = cc
 nil_value v (Var x) e = cc
 nil_value v Any e = cc
 
-near_held : (a : Op) (s : Symbol) → IsHeld a → IsHeldSymbol s → IsHeld (near a s)
+pub near_held : (a : Op) (s : Symbol) → IsHeld a → IsHeldSymbol s → IsHeld (near a s)
 unfolding near
 near_held a s h g = record {
   key = held_key a.key s.key h.key g.key;
@@ -198,7 +198,7 @@ near_held a s h g = record {
   unused = (λ l. nil_key a.key s.key (g.unused.0 l), λ l. nil_value a.value s.value (g.unused.1 l));
 }
 
-near_stands : (a : Op) (s : Symbol) → HasNoVar s → IsHeld a → IsHeldSymbol s → StandsFor s (near a s)
+pub near_stands : (a : Op) (s : Symbol) → HasNoVar s → IsHeld a → IsHeldSymbol s → StandsFor s (near a s)
 unfolding near
 near_stands a s h b g = record { held = near_held a s b g; kind = refl; table = refl; key = key_agrees a.key s.key h.0; value = value_agrees a.value s.value h.1 }
 
@@ -207,7 +207,7 @@ near_apart k (Known w) h = not_false _ h
 near_apart k (Var x) h = value_eq-self k
 near_apart k Any h = value_eq-self k
 
-not_other : (v : Value) → value_eq v (other v) ≡ false
+pub not_other : (v : Value) → value_eq v (other v) ≡ false
 not_other v = by_case (value_eq v (other v)) refl
   where
     by_case : (b : Bool) → value_eq v (other v) ≡ b → value_eq v (other v) ≡ false
@@ -227,12 +227,12 @@ or_false_too x p q r s f g h =
     ap (λ (y : Bool). y || q || s) b.0 ∙ ap (λ (y : Bool). y || s) (f b.1) ∙ g a.1
 
 -- it is a number other than 0 where the symbol's may be
-near_number : (v : Value) (arg : Arg) → is_number (other_value v arg) ≡ may_be_number arg
+pub near_number : (v : Value) (arg : Arg) → is_number (other_value v arg) ≡ may_be_number arg
 near_number v (Known w) = refl
 near_number v (Var x) = other_number v
 near_number v Any = other_number v
 
-near_zero : (v : Value) (arg : Arg) → is_zero (other_value v arg) ≡ is_same (Num (pos 0)) arg
+pub near_zero : (v : Value) (arg : Arg) → is_zero (other_value v arg) ≡ is_same (Num (pos 0)) arg
 near_zero v (Known w) = refl
 near_zero v (Var x) = other_not_zero v
 near_zero v Any = other_not_zero v

@@ -5,3 +5,5 @@ pub mod TellingApart
 pub mod TellingApartPairs
 pub mod AgainstSymbols
 pub mod OnMap
+pub mod TwoSymbols
+pub mod ListedPairs

@@ -191,6 +191,9 @@ told a b shape same f t =
     let Q : Container → Type 0 = λ c. SwapsOn c a b in
     record {
       tables = ts;
+      container = t.container;
+      telling = t.telling;
+      state = refl;
       kinds = map-set kind_of (start shape) a.table t.container ∙ ap (λ (s : List TableKind). put_at s a.table (kind_of t.container)) (kinds_of_start shape) ∙ ap (put_at shape a.table) t.kind ∙ set_there shape a.table (home a.kind) f;
       values = λ p q. values_put (start shape) a.table t.container (t.values p q) (values_of_start shape);
       differ = λ s. t.differ (subst Q here (on_one a.table ts a b (omega (arith, l, length-set (start shape) a.table t.container)) (subst P (sym same) (swaps_to ts a b s))));

@@ -19,6 +19,7 @@ use Rattle.session_values.specs.Tables.{kind_of}
 use Rattle.session_values.proofs.Bumps.{get-bound_to, fits_number}
 use Rattle.session_values.proofs.Starts.{values_none, members_none}
 use Rattle.commute_tables.specs.Relation.{is_number, is_zero}
+use Rattle.commute_tables.specs.ToldApart.{IsTelling, Empty, Zero, One, Member}
 use Rattle.commute_tables.proofs.Commutes.{flip}
 use Rattle.commute_tables.proofs.OneTable.{SwapsOn}
 use Rattle.session_values.proofs.Equal.{same_value, value_eq-self, not_same}
@@ -29,12 +30,17 @@ op kind i k v = record { kind = kind; table = i; key = k; value = v }
 -- a container that tells
 pub record Tells (a b : Op) : Type 0 where
   pub container : Container
+  pub telling : IsTelling a.key container ⊎ IsTelling b.key container
   pub kind : kind_of container ≡ home a.kind
   pub values : IsValue a.key → IsValue b.key → AreValues container
   pub differ : SwapsOn container a b → ⊥
 
 pub turn : (a b : Op) → home b.kind ≡ home a.kind → Tells b a → Tells a b
-turn a b h t = record { container = t.container; kind = t.kind ∙ h; values = λ p q. t.values q p; differ = λ s. t.differ (flip t.container b a s) }
+turn a b h t = record { container = t.container; telling = other_side t.telling; kind = t.kind ∙ h; values = λ p q. t.values q p; differ = λ s. t.differ (flip t.container b a s) }
+  where
+    other_side : {A B : Type 0} → A ⊎ B → B ⊎ A
+    other_side (inl x) = inr x
+    other_side (inr y) = inl y
 
 abbrev pub no_map : map.FinMap value_cmp Value
 no_map = map.empty
@@ -134,6 +140,31 @@ other_held w = go (value_eq w (Num (pos 1)))
     go true = lit< tt
     go false = lit< tt
 
+-- 1, or 0 where it would be the same
+abbrev pub bit_beside : Value → Value
+bit_beside w = cond (value_eq w (Num (pos 1))) (Num (pos 0)) (Num (pos 1))
+
+bit_differs : (w : Value) → bit_beside w ≡ w → ⊥
+bit_differs w = go (value_eq w (Num (pos 1))) refl
+  where
+    go : (b : Bool) → value_eq w (Num (pos 1)) ≡ b → cond b (Num (pos 0)) (Num (pos 1)) ≡ w → ⊥
+    go true p e = zero_one (e ∙ same_value w (Num (pos 1)) p)
+    go false p e = not_same w (Num (pos 1)) p (sym e)
+
+bit_held : (w : Value) → IsValue (bit_beside w)
+bit_held w = go (value_eq w (Num (pos 1)))
+  where
+    go : (b : Bool) → IsValue (cond b (Num (pos 0)) (Num (pos 1)))
+    go true = lit< tt
+    go false = lit< tt
+
+bit_tells : (k w : Value) → IsTelling k (Bindings (map.insert no_map k (bit_beside w)))
+bit_tells k w = go (value_eq w (Num (pos 1)))
+  where
+    go : (b : Bool) → IsTelling k (Bindings (map.insert no_map k (cond b (Num (pos 0)) (Num (pos 1)))))
+    go true = Zero
+    go false = One
+
 -- ---- maps
 -- get and swap see what put and swap bind
 unfoldable pub sees : Kind → Bool
@@ -196,12 +227,13 @@ map_kind Count (inr h) = cc
 -- one that sees against one that binds
 pub see_bind : (x y : Kind) (i j : ℕ) (k v w : Value) → sees x ≡ true → binds y ≡ true → Tells (op x i k v) (op y j k w)
 see_bind x y i j k v w p q =
-    let m : map.FinMap value_cmp Value = map.insert no_map k (other w) in
+    let m : map.FinMap value_cmp Value = map.insert no_map k (bit_beside w) in
     record {
       container = Bindings m;
+      telling = inl (bit_tells k w);
       kind = map_kind x (inl p);
-      values = λ p q. values_one k (other w) p (other_held w);
-      differ = λ s. other_differs w (sym (seen x no_map k (other w) p) ∙ s.first ∙ ap (λ (n : map.FinMap value_cmp Value). map_reply n x k) (bound y m k w q) ∙ seen x m k w p);
+      values = λ p q. values_one k (bit_beside w) p (bit_held w);
+      differ = λ s. bit_differs w (sym (seen x no_map k (bit_beside w) p) ∙ s.first ∙ ap (λ (n : map.FinMap value_cmp Value). map_reply n x k) (bound y m k w q) ∙ seen x m k w p);
     }
 
 -- one that sees against del
@@ -211,6 +243,7 @@ see_del x i j k v w p =
     let m : map.FinMap value_cmp Value = map.insert no_map k (Num (pos 0)) in
     record {
       container = Bindings m;
+      telling = inl Zero;
       kind = map_kind x (inl p);
       values = λ p q. values_one k (Num (pos 0)) p (lit< tt);
       differ = λ s. nil_zero (sym (seen x no_map k (Num (pos 0)) p) ∙ s.first ∙ unseen x p);
@@ -239,6 +272,7 @@ pub put_put : (i j : ℕ) (k v w : Value) → value_eq v w ≡ false → Tells (
 unfolding look
 put_put i j k v w h = record {
   container = Bindings no_map;
+  telling = inl (Empty Map);
   kind = refl;
   values = λ p q. values_none;
   differ = λ s. not_same v w h (inside v w (sym (got (map.insert no_map k w) k v) ∙ sym (ap (λ (c : Container). look c k) s.after) ∙ got (map.insert no_map k v) k w));
@@ -252,6 +286,7 @@ pub bind_del : (x : Kind) (i j : ℕ) (k v w : Value) → binds x ≡ true → T
 unfolding look
 bind_del x i j k v w p = record {
   container = Bindings no_map;
+  telling = inl (Empty Map);
   kind = map_kind x (inr p);
   values = λ p q. values_none;
   differ = λ s. none_some v (sym (gone _ k) ∙ ap (λ (c : Container). look c k) s.after ∙ ap (λ (n : map.FinMap value_cmp Value). map.get n k) (bound x _ k v p) ∙ got _ k v);
@@ -264,6 +299,7 @@ bind_del x i j k v w p = record {
 pub bind_size : (x : Kind) (i j : ℕ) (k l v w : Value) → binds x ≡ true → Tells (op x i k v) (op Size j l w)
 bind_size x i j k l v w p = record {
   container = Bindings no_map;
+  telling = inl (Empty Map);
   kind = map_kind x (inr p);
   values = λ p q. values_none;
   differ = λ s. zero_one (sym (ap (λ (n : ℕ). Num (pos n)) len_none) ∙ sym s.second ∙ ap (λ (m : map.FinMap value_cmp Value). Num (pos (map.len m))) (bound x no_map k v p) ∙ ap (λ (n : ℕ). Num (pos n)) (len_one k v));
@@ -276,6 +312,7 @@ del_size i j k l v w =
     let fewer : map.len (map.remove m k) ≡ 0 = map.len-remove value_cmp_total m k ∙ ap (λ (o : Option Value). cond (is_some o) (map.len m - 1) (map.len m)) (got no_map k (Num (pos 0))) ∙ ap (λ (n : ℕ). n - 1) (len_one k (Num (pos 0))) in
     record {
       container = Bindings m;
+      telling = inl Zero;
       kind = refl;
       values = λ p q. values_one k (Num (pos 0)) p (lit< tt);
       differ = λ s. zero_one (sym (ap (λ (n : ℕ). Num (pos n)) fewer) ∙ s.second ∙ ap (λ (n : ℕ). Num (pos n)) (len_one k (Num (pos 0))));
@@ -306,6 +343,7 @@ read_bumped k v h e =
 pub bump_get : (i j : ℕ) (k v w : Value) → is_number v ≡ true → Tells (op Bump i k v) (op Get j k w)
 bump_get i j k v w h = record {
   container = Bindings no_map;
+  telling = inl (Empty Map);
   kind = refl;
   values = λ p q. values_none;
   differ = λ s. read_bumped k v h s.second;
@@ -314,6 +352,7 @@ bump_get i j k v w h = record {
 pub bump_swap : (i j : ℕ) (k v w : Value) → is_number v ≡ true → Tells (op Bump i k v) (op Swap j k w)
 bump_swap i j k v w h = record {
   container = Bindings no_map;
+  telling = inl (Empty Map);
   kind = refl;
   values = λ p q. values_none;
   differ = λ s. read_bumped k v h s.second;
@@ -324,6 +363,7 @@ pub bump_del : (i j : ℕ) (k v w : Value) → is_number v ≡ true → Tells (o
 unfolding look
 bump_del i j k v w h = record {
   container = Bindings no_map;
+  telling = inl (Empty Map);
   kind = refl;
   values = λ p q. values_none;
   differ = λ s. none_some (sym (gone (map_after no_map Bump k v) k) ∙ ap (λ (c : Container). look c k) s.after ∙ got_bumped (map.remove no_map k) k v h (gone no_map k));
@@ -365,6 +405,7 @@ bump_put i j k v w p h z g =
     let after : map.get (map_after m Bump k v) k ≡ bumped v (Some w) = get-bound_to m k (bumped v (map.get m k)) k ∙ ap (λ (b : Bool). cond b (bumped v (map.get m k)) (map.get m k)) (value_eq-self k) ∙ ap (bumped v) (got no_map k w) in
     record {
       container = Bindings no_map;
+      telling = inl (Empty Map);
       kind = refl;
       values = λ p q. values_none;
       differ = λ s. bumped_trace v w p h z g (sym (got (map_after no_map Bump k v) k w) ∙ ap (λ (c : Container). look c k) s.after ∙ after);
@@ -376,6 +417,7 @@ bump_size i j k l v w h =
     let same : map_after no_map Bump k v ≡ map.insert no_map k v = ap (bound_to no_map k) (ap (bumped v) (map.get-empty value_cmp k) ∙ number_some v h) in
     record {
       container = Bindings no_map;
+      telling = inl (Empty Map);
       kind = refl;
       values = λ p q. values_none;
       differ = λ s. zero_one (sym (ap (λ (n : ℕ). Num (pos n)) len_none) ∙ sym s.second ∙ ap (λ (m : map.FinMap value_cmp Value). Num (pos (map.len m))) same ∙ ap (λ (n : ℕ). Num (pos n)) (len_one k v));
@@ -419,6 +461,7 @@ set_kind Count h = cc
 pub has_join : (y : Kind) (i j : ℕ) (k v w : Value) → joins y ≡ true → Tells (op Has i k v) (op y j k w)
 has_join y i j k v w p = record {
   container = Members no_set;
+  telling = inl (Empty Set);
   kind = refl;
   values = λ p q. members_none;
   differ = λ s. zero_one (sym (ap bit (absent k)) ∙ s.first ∙ ap (λ (t : set.FinSet value_cmp). bit (set.contains t k)) (joined y no_set k p) ∙ ap bit (member no_set k));
@@ -428,6 +471,7 @@ has_join y i j k v w p = record {
 pub has_drop : (i j : ℕ) (k v w : Value) → Tells (op Has i k v) (op Drop j k w)
 has_drop i j k v w = record {
   container = Members (set.insert no_set k);
+  telling = inl Member;
   kind = refl;
   values = λ p q. members_one k p;
   differ = λ s. zero_one (sym (ap bit (left _ k)) ∙ sym s.first ∙ ap bit (member no_set k));
@@ -437,6 +481,7 @@ has_drop i j k v w = record {
 pub add_join : (y : Kind) (i j : ℕ) (k v w : Value) → joins y ≡ true → Tells (op Add i k v) (op y j k w)
 add_join y i j k v w p = record {
   container = Members no_set;
+  telling = inl (Empty Set);
   kind = refl;
   values = λ p q. members_none;
   differ = λ s. zero_one (sym (ap (λ (b : Bool). cond b (Num (pos 0)) (Num (pos 1))) (member no_set k)) ∙ sym (ap (λ (t : set.FinSet value_cmp). cond (set.contains t k) (Num (pos 0)) (Num (pos 1))) (joined y no_set k p)) ∙ sym s.first ∙ ap (λ (b : Bool). cond b (Num (pos 0)) (Num (pos 1))) (absent k));
@@ -452,6 +497,7 @@ pub join_drop : (x : Kind) (i j : ℕ) (k v w : Value) → joins x ≡ true → 
 unfolding in_it
 join_drop x i j k v w p = record {
   container = Members no_set;
+  telling = inl (Empty Set);
   kind = set_kind x p;
   values = λ p q. members_none;
   differ = λ s. false_true (sym (left _ k) ∙ ap (λ (c : Container). in_it c k) s.after ∙ ap (λ (t : set.FinSet value_cmp). set.contains t k) (joined x _ k p) ∙ member _ k);
@@ -464,6 +510,7 @@ join_drop x i j k v w p = record {
 pub join_count : (x : Kind) (i j : ℕ) (k l v w : Value) → joins x ≡ true → Tells (op x i k v) (op Count j l w)
 join_count x i j k l v w p = record {
   container = Members no_set;
+  telling = inl (Empty Set);
   kind = set_kind x p;
   values = λ p q. members_none;
   differ = λ s. zero_one (sym (ap (λ (n : ℕ). Num (pos n)) (set.len-empty value_cmp)) ∙ sym s.second ∙ ap (λ (t : set.FinSet value_cmp). Num (pos (set.len t))) (joined x no_set k p) ∙ ap (λ (n : ℕ). Num (pos n)) (count_one k));
@@ -476,6 +523,7 @@ drop_count i j k l v w =
     let fewer : set.len (set.remove t k) ≡ 0 = set.len-remove value_cmp_total t k ∙ ap (λ (b : Bool). cond b (set.len t - 1) (set.len t)) (member no_set k) ∙ ap (λ (n : ℕ). n - 1) (count_one k) in
     record {
       container = Members t;
+      telling = inl Member;
       kind = refl;
       values = λ p q. members_one k p;
       differ = λ s. zero_one (sym (ap (λ (n : ℕ). Num (pos n)) fewer) ∙ s.second ∙ ap (λ (n : ℕ). Num (pos n)) (count_one k));

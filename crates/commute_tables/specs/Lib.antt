@@ -1,3 +1,4 @@
+pub mod Pairs
 pub mod Relation
 pub mod Symbols
 pub mod ToldApart

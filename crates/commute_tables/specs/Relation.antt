@@ -93,3 +93,32 @@ commutes_symbol a s =
     || (is_plain a.kind && (kind_place a.kind == kind_place s.kind)
     && (not (kind_place a.kind == 1) || is_same a.value s.value))
     || sums_symbol a s
+
+-- ---- two symbols
+-- the arguments are known values that differ
+abbrev pub are_apart : Arg → Arg → Bool
+are_apart (Known v) arg = is_apart v arg
+are_apart (Var x) arg = false
+are_apart Any arg = false
+
+-- the arguments are known to be one value
+abbrev pub are_same : Arg → Arg → Bool
+are_same (Known v) arg = is_same v arg
+are_same (Var x) arg = false
+are_same Any arg = false
+
+abbrev pub sums_symbols : Symbol → Symbol → Bool
+sums_symbols s t = add_up s.kind (may_be_number s.value) (is_same (Num (pos 0)) s.value) t.kind
+    (may_be_number t.value) (is_same (Num (pos 0)) t.value)
+
+-- the symbols are of different containers, or both change nothing, or the keys are known to differ,
+-- or both are one plain change whatever the keys, or they add up whatever the keys
+abbrev pub commutes_symbols : Symbol → Symbol → Bool
+commutes_symbols s t =
+    not (s.table == t.table)
+    || not (same_bool (is_on_map s.kind) (is_on_map t.kind))
+    || (is_read s.kind && is_read t.kind)
+    || (is_keyed s.kind && is_keyed t.kind && are_apart s.key t.key)
+    || (is_plain s.kind && (kind_place s.kind == kind_place t.kind)
+    && (not (kind_place s.kind == 1) || are_same s.value t.value))
+    || sums_symbols s t

@@ -1,4 +1,4 @@
--- When an operation commutes with all that a symbol stands for.
+-- When an operation, or all that a symbol stands for, commutes with all that a symbol stands for.
 use Rattle.std.specs.Prelude.{List}
 use Rattle.session_values.specs.declared.op.Op.{Op}
 use Rattle.session_values.specs.Commuting.{Commute}
@@ -19,3 +19,15 @@ pub record DiffersFromSome (a : Op) (s : Symbol) : Type 0 where
   pub op : Op
   pub stands : StandsFor s op
   pub differ : Differ a op
+
+-- every operation that s stands for commutes with every operation that t stands for
+pub record SymbolsCommute (s t : Symbol) : Type 0 where
+  pub each : (a b : Op) → StandsFor s a → StandsFor t b → Commute a b
+
+-- s and t stand for two operations that don't commute
+pub record SymbolsDiffer (s t : Symbol) : Type 0 where
+  pub first : Op
+  pub second : Op
+  pub stands_first : StandsFor s first
+  pub stands_second : StandsFor t second
+  pub differ : Differ first second

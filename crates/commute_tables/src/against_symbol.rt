@@ -14,7 +14,7 @@ use symbolic_ops::{Arg, Symbol};
 
 /// The argument is a known value other than this one.
 #[inline(always)]
-fn known_apart(v: Value, arg: Arg) -> bool
+pub(crate) fn known_apart(v: Value, arg: Arg) -> bool
     ensures { result ≡ is_apart v arg }
 {
     match arg {
@@ -25,7 +25,7 @@ fn known_apart(v: Value, arg: Arg) -> bool
 
 /// The argument is known to be this value.
 #[inline(always)]
-fn known_same(v: Value, arg: Arg) -> bool
+pub(crate) fn known_same(v: Value, arg: Arg) -> bool
     ensures { result ≡ is_same v arg }
 {
     match arg {
@@ -56,7 +56,7 @@ fn known_change(a: &Op, s: &Symbol) -> bool
 
 /// The argument may be a number.
 #[inline(always)]
-fn may_be_number(arg: Arg) -> bool
+pub(crate) fn may_be_number(arg: Arg) -> bool
     ensures { result ≡ may_be_number arg }
 {
     match arg {
