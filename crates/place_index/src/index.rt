@@ -40,6 +40,32 @@ impl PlaceIndex {
         Ok(PlaceIndex { table })
     }
 
+    /// The index of a list with different keys that grows to at most so many elements.
+    pub fn of<T: Keyed>(alloc: Global, items: &[T], room: u32) -> Result<PlaceIndex, NoMemory>
+        requires different { AreDifferent T.key_of items.now }
+        requires within { length items.now ≤ room }
+        requires few { room ≤ 1073741824 }
+        ensures index { IfOk result (λ index. IsIndexOf (map T.key_of items.now) index) }
+        ensures sized { IfOk result (λ index. IsSizedFor room index.bits) }
+    {
+        let mut index = PlaceIndex::with_room(alloc, room)?;
+        index.enter_all(items);
+        Ok(index)
+    }
+
+    // Takes in the keys of a list, each as that of the element past those before it.
+    fn enter_all<T: Keyed>(&mut self, items: &[T])
+        requires empty { IsIndexOf [] self.old }
+        requires different { AreDifferent T.key_of items.now }
+        requires free { length items.now ≤ slot_count self.old }
+        ensures index { IsIndexOf (map T.key_of items.now) self.new }
+        ensures bits { self.new.bits ≡ self.old.bits }
+    {
+        for done in 0..items.len() {
+            self.enter(&items[..done], items[done].key());
+        }
+    }
+
     /// How many slots there are.
     pub fn slots(&self) -> u32
         ensures { result ≡ slot_count self.now }

@@ -1,5 +1,5 @@
 -- Shards as contracts see them: what one holds, and how many keys it has room for.
-use Rattle.std.specs.Prelude.{◌≡◌, ℕ, ◌-◌, ◌<◌, ◌≤◌, List, length, map as map_list, Bool, true, false, refl}
+use Rattle.std.specs.Prelude.{◌≡◌, ℕ, ◌-◌, ◌<◌, ◌≤◌, max, List, length, map as map_list, Bool, true, false, refl}
 use Rattle.std.specs.Coded.{Coded, code_by, coded×, coded_ℕ, coded_list}
 use Rattle.std.specs.FinMap as map
 use Rattle.std.specs.FinSet as set
@@ -64,6 +64,10 @@ HasRoomFor op s =
 -- a shard after an operation: its room stays
 abbrev pub shard_after : ShardView → Op → ShardView
 shard_after s op = record { container = after_on s.container op; room = s.room }
+
+-- the same shard with room for so many keys, or for those that it holds where they are more
+abbrev pub grown_to : ℕ → ShardView → ShardView
+grown_to room s = record { container = s.container; room = max room (size_of s.container) }
 
 -- how a room is told from others, with an index
 abbrev pub sizes_code : Coded (ℕ × (ℕ × List ℕ))

@@ -7,7 +7,7 @@ ghost use Rattle.session_values.specs.Kinds.{home};
 ghost use Rattle.session_values.specs.Tables.{Bindings, bound_to, bumped, reply_on, size_of, empty_of};
 ghost use Rattle.place_index.specs.Keys.{AreDifferent, is_under};
 ghost use Rattle.place_index.specs.Slots.{IsSearch, IsSizedFor, slot_count};
-ghost use Rattle.shard_tables.specs.Shards.{bindings, map_shard, HasRoomFor, shard_after, spare_of};
+ghost use Rattle.shard_tables.specs.Shards.{bindings, map_shard, HasRoomFor, shard_after, spare_of, grown_to};
 
 use place_index::PlaceIndex;
 use session_values::{Kind, NoMemory, Op, Value, bumped};
@@ -49,6 +49,22 @@ impl MapShard {
     {
         let pairs = Vec::with_capacity(alloc, room as usize)?;
         let index = PlaceIndex::with_room(alloc, room)?;
+        Ok(MapShard { pairs, index, room })
+    }
+
+    /// The same pairs in the same places, with room for so many keys, or for those that there are
+    /// where they are more.
+    pub fn grown(&self, alloc: Global, room: u32) -> Result<MapShard, NoMemory>
+        requires { room ≤ 1073741824 }
+        ensures entries { IfOk result (λ shard. shard.entries ≡ self.now.entries) }
+        ensures grown { IfOk result (λ shard. map_shard shard
+            ≡ grown_to room (map_shard self.now)) }
+        ensures slots { IfOk result (λ shard. IsSizedFor shard.room shard.index.bits) }
+    {
+        let room = room.max(self.len());
+        let mut pairs = Vec::with_capacity(alloc, room as usize)?;
+        pairs.extend_from_slice(&self.pairs)?;
+        let index = PlaceIndex::of(alloc, &self.pairs, room)?;
         Ok(MapShard { pairs, index, room })
     }
 

@@ -7,7 +7,7 @@ ghost use Rattle.session_values.specs.Kinds.{home};
 ghost use Rattle.session_values.specs.Tables.{Members, reply_on, size_of, empty_of, bit};
 ghost use Rattle.place_index.specs.Keys.{AreDifferent, is_under};
 ghost use Rattle.place_index.specs.Slots.{IsSearch, IsSizedFor, slot_count};
-ghost use Rattle.shard_tables.specs.Shards.{members, set_shard, HasRoomFor, shard_after, spare_of};
+ghost use Rattle.shard_tables.specs.Shards.{members, set_shard, HasRoomFor, shard_after, spare_of, grown_to};
 
 use place_index::PlaceIndex;
 use session_values::{Kind, NoMemory, Op, Value};
@@ -48,6 +48,22 @@ impl SetShard {
     {
         let keys = Vec::with_capacity(alloc, room as usize)?;
         let index = PlaceIndex::with_room(alloc, room)?;
+        Ok(SetShard { keys, index, room })
+    }
+
+    /// The same keys in the same places, with room for so many keys, or for those that there are
+    /// where they are more.
+    pub fn grown(&self, alloc: Global, room: u32) -> Result<SetShard, NoMemory>
+        requires { room ≤ 1073741824 }
+        ensures entries { IfOk result (λ shard. shard.entries ≡ self.now.entries) }
+        ensures grown { IfOk result (λ shard. set_shard shard
+            ≡ grown_to room (set_shard self.now)) }
+        ensures slots { IfOk result (λ shard. IsSizedFor shard.room shard.index.bits) }
+    {
+        let room = room.max(self.len());
+        let mut keys = Vec::with_capacity(alloc, room as usize)?;
+        keys.extend_from_slice(&self.keys)?;
+        let index = PlaceIndex::of(alloc, &self.keys, room)?;
         Ok(SetShard { keys, index, room })
     }
 
