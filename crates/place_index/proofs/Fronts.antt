@@ -1,5 +1,5 @@
 -- The front of a list with different keys, and the key past it.
-use Rattle.std.proofs.Common.{◌≡◌, ℕ, zero, suc, ◌+◌, ◌<◌, List, [], ◌∷◌, ◌++◌, take, get_or, length, None, Some, Option, Bool, cond, refl, sym, ◌∙◌, ap, subst, arith}
+use Rattle.std.proofs.Common.{◌≡◌, ℕ, zero, suc, ◌+◌, ◌<◌, List, [], ◌∷◌, ◌++◌, take, get_or, length, None, Some, Bool, cond, refl, sym, ◌∙◌, ap, subst}
 use Rattle.std.specs.Prelude.{map, position}
 use Rattle.std.proofs.lemmas.List.{take_more, map_more}
 use Rattle.session_values.specs.declared.value.Value.{Value}
@@ -29,7 +29,7 @@ module _ {X : Type 0} (key : X → Value) where
       place_none (is_under key (key x)) (take i xs) (pushed_different key (take i xs) x (subst P is (different_front (i + 1) xs a))).1
 
   -- the index of a front, once the next key is taken in
-  pub front_more : (bits : ℕ) (xs : List X) (slots : List ℕ) (i : ℕ) (x : X) → i < length xs → x ≡ get_or xs i x → IsIndex bits (map key (take i xs) ++ key x ∷ []) slots → IsIndex bits (map key (take (i + 1) xs)) slots
-  front_more bits xs slots i x l e ix =
-      let P : List Value → Type 0 = λ ks. IsIndex bits ks slots in
+  pub front_more : (factor bits : ℕ) (xs : List X) (slots : List ℕ) (i : ℕ) (x : X) → i < length xs → x ≡ get_or xs i x → IsIndex factor bits (map key (take i xs) ++ key x ∷ []) slots → IsIndex factor bits (map key (take (i + 1) xs)) slots
+  front_more factor bits xs slots i x l e ix =
+      let P : List Value → Type 0 = λ ks. IsIndex factor bits ks slots in
       subst P (ap (λ (z : X). map key (take i xs) ++ key z ∷ []) e ∙ sym (map_more key xs i x l)) ix

@@ -20,6 +20,7 @@ loop-done-preserved g c =
     let P : Option ℕ → Type 0 = λ o. IfNone o (IsIndexOf (map key_of before ++ c.key.result ∷ []) now) in
     let Q : Value → Type 0 = λ k. IsIndexOf (map key_of before ++ k ∷ []) now in
     record {
-      index = front_more key_of now.bits items now.slots done x c.loop-done-test.true c.index-items-done.is (subst Q c.key.ensures (subst P none c.enter.ensures.entered));
+      index = front_more key_of now.factor now.bits items now.slots done x c.loop-done-test.true c.index-items-done.is (subst Q c.key.ensures (subst P none c.enter.ensures.entered));
       bits = c.enter.ensures.bits ∙ c.loop-done.invariant.bits;
+      factor = c.enter.ensures.factor ∙ c.loop-done.invariant.factor;
     }

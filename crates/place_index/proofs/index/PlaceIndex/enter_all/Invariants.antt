@@ -7,4 +7,5 @@ abbrev pub invariant-loop-done : goal.invariant-loop-done
 invariant-loop-done g l = record {
   index : IsIndexOf (map g.T.Keyed.key_of (take l.done l.items)) l.self;
   bits : l.self.bits ≡ l.fn.self.bits;
+  factor : l.self.factor ≡ l.fn.self.factor;
 }
