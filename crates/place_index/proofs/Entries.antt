@@ -8,7 +8,7 @@ use Rattle.std.proofs.lemmas.List.Edits.{swap_is, swapped_from_swap}
 use Rattle.std.proofs.lemmas.List.Sums.{sum_by-set}
 use Rattle.session_values.specs.declared.value.Value.{Value}
 use Rattle.session_values.specs.declared.value.Value.TheVariants.{Nil}
-use Rattle.place_index.specs.Slots.{distance, start_of, start_in, HoldsPlaces, IsIndex, IsIndexBut}
+use Rattle.place_index.specs.Slots.{distance, start_by, start_in, HoldsPlaces, IsIndex, IsIndexBut}
 use Rattle.place_index.proofs.Changes.{one, other_is, Changed, changed_holds}
 
 -- ---- a key comes in
@@ -49,16 +49,16 @@ stays_taken xs e x t l p h = elim (cases_eq t e) [
 ]
 
 -- the searches for the keys before begin where they began
-old_start : (bits : ℕ) (keys : List Value) (k : Value) (x : ℕ) → 0 < x → x ≤ length keys → start_in bits (keys ++ k ∷ []) x ≡ start_in bits keys x
-old_start bits keys k x p l = ap (λ (v : Value). start_of v bits) (get_or_append_left keys (k ∷ []) Nil (x - 1) (omega arith))
+old_start : (factor bits : ℕ) (keys : List Value) (k : Value) (x : ℕ) → 0 < x → x ≤ length keys → start_in factor bits (keys ++ k ∷ []) x ≡ start_in factor bits keys x
+old_start factor bits keys k x p l = ap (λ (v : Value). start_by factor v bits) (get_or_append_left keys (k ∷ []) Nil (x - 1) (omega arith))
 
-new_start : (bits : ℕ) (keys : List Value) (k : Value) → start_in bits (keys ++ k ∷ []) (length keys + 1) ≡ start_of k bits
-new_start bits keys k = ap (λ (v : Value). start_of v bits) (get_or_at keys k [] Nil (length keys + 1 - 1) (omega arith))
+new_start : (factor bits : ℕ) (keys : List Value) (k : Value) → start_in factor bits (keys ++ k ∷ []) (length keys + 1) ≡ start_by factor k bits
+new_start factor bits keys k = ap (λ (v : Value). start_by factor v bits) (get_or_at keys k [] Nil (length keys + 1 - 1) (omega arith))
 
-pub entered : (bits : ℕ) (keys : List Value) (xs : List ℕ) (k : Value) (e : ℕ) → IsIndex bits keys xs → e < 2 ^ bits → get_or xs e 0 ≡ 0
-    → ((t : ℕ) → t < 2 ^ bits → distance (2 ^ bits) (start_of k bits) t < distance (2 ^ bits) (start_of k bits) e → 0 < get_or xs t 0)
-    → IsIndex bits (keys ++ k ∷ []) (set xs e (length keys + 1))
-entered bits keys xs k e ix l free path =
+pub entered : (factor bits : ℕ) (keys : List Value) (xs : List ℕ) (k : Value) (e : ℕ) → IsIndex factor bits keys xs → e < 2 ^ bits → get_or xs e 0 ≡ 0
+    → ((t : ℕ) → t < 2 ^ bits → distance (2 ^ bits) (start_by factor k bits) t < distance (2 ^ bits) (start_by factor k bits) e → 0 < get_or xs t 0)
+    → IsIndex factor bits (keys ++ k ∷ []) (set xs e (length keys + 1))
+entered factor bits keys xs k e ix l free path =
     let n = length keys in
     let ys = set xs e (n + 1) in
     let e_in : e < length xs = omega (arith, ix.places.long) in
@@ -67,14 +67,14 @@ entered bits keys xs k e ix l free path =
       places = subst P (sym (length_push keys k)) (entered_holds (2 ^ bits) n xs e ix.places l free);
       reached = λ s taken t t_in w. elim (cases_eq s e) [
         | inl i ↦
-            let Q : ℕ → Type 0 = λ v. distance (2 ^ bits) (start_in bits (keys ++ k ∷ []) (get_or ys v 0)) t < distance (2 ^ bits) (start_in bits (keys ++ k ∷ []) (get_or ys v 0)) v in
+            let Q : ℕ → Type 0 = λ v. distance (2 ^ bits) (start_in factor bits (keys ++ k ∷ []) (get_or ys v 0)) t < distance (2 ^ bits) (start_in factor bits (keys ++ k ∷ []) (get_or ys v 0)) v in
             let R : ℕ → Type 0 = λ h. distance (2 ^ bits) h t < distance (2 ^ bits) h e in
-            let is : start_in bits (keys ++ k ∷ []) (get_or ys e 0) ≡ start_of k bits = ap (start_in bits (keys ++ k ∷ [])) (get_or-set_same xs e (n + 1) 0 e_in) ∙ new_start bits keys k in
+            let is : start_in factor bits (keys ++ k ∷ []) (get_or ys e 0) ≡ start_by factor k bits = ap (start_in factor bits (keys ++ k ∷ [])) (get_or-set_same xs e (n + 1) 0 e_in) ∙ new_start factor bits keys k in
             stays_taken xs e (n + 1) t e_in (omega arith) (path t t_in (subst R is (subst Q i w)))
         | inr i ↦
             let same = get_or-set_other xs e s (n + 1) 0 i in
             let R : ℕ → Type 0 = λ h. distance (2 ^ bits) h t < distance (2 ^ bits) h s in
-            let is : start_in bits (keys ++ k ∷ []) (get_or ys s 0) ≡ start_in bits keys (get_or xs s 0) = ap (start_in bits (keys ++ k ∷ [])) same ∙ old_start bits keys k (get_or xs s 0) (omega (arith, same, taken)) (ix.places.few s) in
+            let is : start_in factor bits (keys ++ k ∷ []) (get_or ys s 0) ≡ start_in factor bits keys (get_or xs s 0) = ap (start_in factor bits (keys ++ k ∷ [])) same ∙ old_start factor bits keys k (get_or xs s 0) (omega (arith, same, taken)) (ix.places.few s) in
             stays_taken xs e (n + 1) t e_in (omega arith) (ix.reached s (omega (arith, same, taken)) t t_in (subst R is w))
       ];
     }
@@ -126,9 +126,9 @@ out_length keys p l =
     omega (arith, length-take-le (length keys - 1) (set keys p (get_or keys (length keys - 1) Nil)) (omega (arith, length-set keys p (get_or keys (length keys - 1) Nil))))
 
 -- slot a holds the place that is given up, slot b the last place
-pub renamed : (bits : ℕ) (keys : List Value) (xs ys : List ℕ) (a b p : ℕ) → IsIndex bits keys xs → p < length keys → get_or xs a 0 ≡ p + 1 → get_or xs b 0 ≡ length keys → Changed xs ys a b
-    → IsIndexBut bits (swap_remove keys p Nil) ys a
-renamed bits keys xs ys a b p ix l here last ch =
+pub renamed : (factor bits : ℕ) (keys : List Value) (xs ys : List ℕ) (a b p : ℕ) → IsIndex factor bits keys xs → p < length keys → get_or xs a 0 ≡ p + 1 → get_or xs b 0 ≡ length keys → Changed xs ys a b
+    → IsIndexBut factor bits (swap_remove keys p Nil) ys a
+renamed factor bits keys xs ys a b p ix l here last ch =
     let out = swap_remove keys p Nil in
     let less = out_length keys p l in
     let P : ℕ → Type 0 = λ n. HoldsPlaces (2 ^ bits) n ys in
@@ -148,7 +148,7 @@ renamed bits keys xs ys a b p ix l here last ch =
     }
   where
     -- what slot s holds has the start_in that it had before in slot s
-    reached_by : (s : ℕ) → s ≢ a → 0 < get_or ys s 0 → (0 < get_or xs s 0) × (start_in bits (swap_remove keys p Nil) (get_or ys s 0) ≡ start_in bits keys (get_or xs s 0))
+    reached_by : (s : ℕ) → s ≢ a → 0 < get_or ys s 0 → (0 < get_or xs s 0) × (start_in factor bits (swap_remove keys p Nil) (get_or ys s 0) ≡ start_in factor bits keys (get_or xs s 0))
     reached_by s apart taken = elim (other_is a b s) [
       | inl h ↦ absurd (apart h.0)
       | inr h ↦ elim h [
@@ -158,12 +158,12 @@ renamed bits keys xs ys a b p ix l here last ch =
             let ne : p + 1 ≢ length keys = λ i. apart (ix.places.once s a (omega (arith, at_b, l)) (at_b ∙ sym i ∙ sym here)) in
             let at_p : get_or ys s 0 - 1 ≡ p = omega (arith, now) in
             let at_last : length keys - 1 ≡ get_or xs s 0 - 1 = omega (arith, at_b) in
-            (omega (arith, at_b, l), ap (λ (q : ℕ). start_of (get_or (swap_remove keys p Nil) q Nil) bits) at_p ∙ ap (λ (v : Value). start_of v bits) (out_here keys p (omega (arith, ne, l))) ∙ ap (λ (q : ℕ). start_of (get_or keys q Nil) bits) at_last)
+            (omega (arith, at_b, l), ap (λ (q : ℕ). start_by factor (get_or (swap_remove keys p Nil) q Nil) bits) at_p ∙ ap (λ (v : Value). start_by factor v bits) (out_here keys p (omega (arith, ne, l))) ∙ ap (λ (q : ℕ). start_by factor (get_or keys q Nil) bits) at_last)
         | inr g ↦
             let same : get_or ys s 0 ≡ get_or xs s 0 = ch.at s ∙ ap (λ (v : ℕ). get_or xs v 0) g.2 in
             let in_xs : 0 < get_or xs s 0 = omega (arith, same, taken) in
             let not_p : get_or xs s 0 - 1 ≢ p = λ i. apart (ix.places.once s a in_xs (omega (arith, i, in_xs, here))) in
             let not_last : get_or xs s 0 ≢ length keys = λ i. g.1 (ix.places.once s b in_xs (i ∙ sym last)) in
-            (in_xs, ap (start_in bits (swap_remove keys p Nil)) same ∙ ap (λ (v : Value). start_of v bits) (out_at keys p (get_or xs s 0 - 1) l (omega (arith, in_xs, not_last, ix.places.few s)) not_p))
+            (in_xs, ap (start_in factor bits (swap_remove keys p Nil)) same ∙ ap (λ (v : Value). start_by factor v bits) (out_at keys p (get_or xs s 0 - 1) l (omega (arith, in_xs, not_last, ix.places.few s)) not_p))
       ]
     ]

@@ -13,35 +13,35 @@ use Rattle.place_index.proofs.Changes.{one, taken_in, goes_on, other_is, Changed
 use Rattle.place_index.proofs.Entries.{changed_taken}
 
 -- the slots from the freed one up to `next` are taken, and no search for what stands between passes `hole`
-pub record IsFreeing (bits : ℕ) (keys : List Value) (from : ℕ) (xs : List ℕ) (hole next : ℕ) : Type 0 where
-  pub but : IsIndexBut bits keys xs hole
+pub record IsFreeing (factor bits : ℕ) (keys : List Value) (from : ℕ) (xs : List ℕ) (hole next : ℕ) : Type 0 where
+  pub but : IsIndexBut factor bits keys xs hole
   pub next_in : next < 2 ^ bits
   pub inside : distance (2 ^ bits) from hole + distance (2 ^ bits) hole next ≡ distance (2 ^ bits) from next
   pub apart : 0 < distance (2 ^ bits) hole next
   pub passed : (u : ℕ) → u < 2 ^ bits → distance (2 ^ bits) from u < distance (2 ^ bits) from next → 0 < get_or xs u 0
-  pub clear : (s : ℕ) → s ≢ hole → 0 < get_or xs s 0 → distance (2 ^ bits) hole s < distance (2 ^ bits) hole next → distance (2 ^ bits) (start_in bits keys (get_or xs s 0)) s < distance (2 ^ bits) hole s
+  pub clear : (s : ℕ) → s ≢ hole → 0 < get_or xs s 0 → distance (2 ^ bits) hole s < distance (2 ^ bits) hole next → distance (2 ^ bits) (start_in factor bits keys (get_or xs s 0)) s < distance (2 ^ bits) hole s
 
-pub same_freeing : (b c : ℕ) (keys : List Value) (from : ℕ) (xs ys : List ℕ) (h i n o : ℕ) → c ≡ b → ys ≡ xs → i ≡ h → o ≡ n → IsFreeing b keys from xs h n → IsFreeing c keys from ys i o
-same_freeing b c keys from xs ys h i n o e f g k s =
-    let P : ℕ → Type 0 = λ v. IsFreeing v keys from xs h n in
-    let Q : List ℕ → Type 0 = λ v. IsFreeing c keys from v h n in
-    let R : ℕ → Type 0 = λ v. IsFreeing c keys from ys v n in
-    let S : ℕ → Type 0 = λ v. IsFreeing c keys from ys i v in
+pub same_freeing : (factor b c : ℕ) (keys : List Value) (from : ℕ) (xs ys : List ℕ) (h i n o : ℕ) → c ≡ b → ys ≡ xs → i ≡ h → o ≡ n → IsFreeing factor b keys from xs h n → IsFreeing factor c keys from ys i o
+same_freeing factor b c keys from xs ys h i n o e f g k s =
+    let P : ℕ → Type 0 = λ v. IsFreeing factor v keys from xs h n in
+    let Q : List ℕ → Type 0 = λ v. IsFreeing factor c keys from v h n in
+    let R : ℕ → Type 0 = λ v. IsFreeing factor c keys from ys v n in
+    let S : ℕ → Type 0 = λ v. IsFreeing factor c keys from ys i v in
     subst S (sym k) (subst R (sym g) (subst Q (sym f) (subst P (sym e) s)))
 
-start_in-lt : (bits : ℕ) (keys : List Value) (x : ℕ) → bits ≤ 64 → start_in bits keys x < 2 ^ bits
-start_in-lt bits keys x small = start-lt (get_or keys (x - 1) Nil) bits small
+start_in-lt : (factor bits : ℕ) (keys : List Value) (x : ℕ) → bits ≤ 64 → start_in factor bits keys x < 2 ^ bits
+start_in-lt factor bits keys x small = start-lt factor (get_or keys (x - 1) Nil) bits small
 
 pub slot_in : (bits n : ℕ) (xs : List ℕ) (s : ℕ) → HoldsPlaces (2 ^ bits) n xs → 0 < get_or xs s 0 → s < 2 ^ bits
 slot_in bits n xs s holds h = omega (arith, taken_in xs s h, holds.long)
 
-pub hole_in : (bits : ℕ) (keys : List Value) (xs : List ℕ) (hole : ℕ) → IsIndexBut bits keys xs hole → hole < 2 ^ bits
-hole_in bits keys xs hole but = slot_in bits (length keys + 1) xs hole but.places (omega (arith, but.last))
+pub hole_in : (factor bits : ℕ) (keys : List Value) (xs : List ℕ) (hole : ℕ) → IsIndexBut factor bits keys xs hole → hole < 2 ^ bits
+hole_in factor bits keys xs hole but = slot_in bits (length keys + 1) xs hole but.places (omega (arith, but.last))
 
-pub began : (bits : ℕ) (keys : List Value) (xs : List ℕ) (from : ℕ) → IsIndexBut bits keys xs from → length keys + 1 < 2 ^ bits → IsFreeing bits keys from xs from (after (2 ^ bits) from)
-began bits keys xs from but few =
+pub began : (factor bits : ℕ) (keys : List Value) (xs : List ℕ) (from : ℕ) → IsIndexBut factor bits keys xs from → length keys + 1 < 2 ^ bits → IsFreeing factor bits keys from xs from (after (2 ^ bits) from)
+began factor bits keys xs from but few =
     let m = 2 ^ bits in
-    let f_in = hole_in bits keys xs from but in
+    let f_in = hole_in factor bits keys xs from but in
     let self : distance m from from ≡ 0 = distance-self m from in
     let step : distance m from (after m from) ≡ distance m from from + 1 = distance-after m from from f_in f_in (omega arith) in
     record {
@@ -55,7 +55,7 @@ began bits keys xs from but few =
       clear = λ s n taken b. absurd (n (same_distance m from s from f_in (slot_in bits (length keys + 1) xs s but.places taken) f_in (omega arith)));
     }
 
-module _ (bits : ℕ) (keys : List Value) (from : ℕ) (xs : List ℕ) (hole next : ℕ) (small : bits ≤ 64) (few : length keys + 1 < 2 ^ bits) (from_in : from < 2 ^ bits) (freeing : IsFreeing bits keys from xs hole next) where
+module _ (factor bits : ℕ) (keys : List Value) (from : ℕ) (xs : List ℕ) (hole next : ℕ) (small : bits ≤ 64) (few : length keys + 1 < 2 ^ bits) (from_in : from < 2 ^ bits) (freeing : IsFreeing factor bits keys from xs hole next) where
   apart_from : next ≢ hole
   apart_from i = omega (arith, ap (λ (v : ℕ). distance (2 ^ bits) hole v) i, distance-self (2 ^ bits) hole, freeing.apart)
 
@@ -72,10 +72,10 @@ module _ (bits : ℕ) (keys : List Value) (from : ℕ) (xs : List ℕ) (hole nex
     | inr b ↦ b
   ]
 
-  pub kept : 0 < get_or xs next 0 → distance (2 ^ bits) (start_in bits keys (get_or xs next 0)) next < distance (2 ^ bits) hole next → IsFreeing bits keys from xs hole (after (2 ^ bits) next)
+  pub kept : 0 < get_or xs next 0 → distance (2 ^ bits) (start_in factor bits keys (get_or xs next 0)) next < distance (2 ^ bits) hole next → IsFreeing factor bits keys from xs hole (after (2 ^ bits) next)
   kept taken stays =
       let m = 2 ^ bits in
-      let h_in = hole_in bits keys xs hole freeing.but in
+      let h_in = hole_in factor bits keys xs hole freeing.but in
       let on = more taken in
       let step : distance m from (after m next) ≡ distance m from next + 1 = distance-after m from next from_in freeing.next_in on in
       let step_hole : distance m hole (after m next) ≡ distance m hole next + 1 = distance-after m hole next h_in freeing.next_in (omega (arith, on, freeing.inside)) in
@@ -94,17 +94,17 @@ module _ (bits : ℕ) (keys : List Value) (from : ℕ) (xs : List ℕ) (hole nex
           | inl c ↦ freeing.clear s n there c
           | inr c ↦
               let is : next ≡ s = same_distance m hole next s h_in freeing.next_in (slot_in bits (length keys + 1) xs s freeing.but.places there) (omega arith) in
-              let P : ℕ → Type 0 = λ v. distance m (start_in bits keys (get_or xs v 0)) v < distance m hole v in
+              let P : ℕ → Type 0 = λ v. distance m (start_in factor bits keys (get_or xs v 0)) v < distance m hole v in
               subst P is stays
         ];
       }
 
-  pub moved : (ys : List ℕ) → 0 < get_or xs next 0 → distance (2 ^ bits) hole next ≤ distance (2 ^ bits) (start_in bits keys (get_or xs next 0)) next → Changed xs ys hole next
-      → IsFreeing bits keys from ys next (after (2 ^ bits) next)
+  pub moved : (ys : List ℕ) → 0 < get_or xs next 0 → distance (2 ^ bits) hole next ≤ distance (2 ^ bits) (start_in factor bits keys (get_or xs next 0)) next → Changed xs ys hole next
+      → IsFreeing factor bits keys from ys next (after (2 ^ bits) next)
   moved ys taken moves ch =
       let m = 2 ^ bits in
       let n = length keys + 1 in
-      let h_in = hole_in bits keys xs hole freeing.but in
+      let h_in = hole_in factor bits keys xs hole freeing.but in
       let on = more taken in
       let hole_taken : 0 < get_or xs hole 0 = omega (arith, freeing.but.last) in
       let still = λ (t : ℕ) (h : 0 < get_or xs t 0). changed_taken xs ys hole next t ch hole_taken taken h in
@@ -125,17 +125,17 @@ module _ (bits : ℕ) (keys : List Value) (from : ℕ) (xs : List ℕ) (hole nex
           reached = λ s n there t t_in w. elim (other_is hole next s) [
             | inl h ↦
                 let now : get_or ys s 0 ≡ get_or xs next 0 = ch.at s ∙ ap (λ (v : ℕ). get_or xs v 0) h.1 in
-                let H = start_in bits keys (get_or xs next 0) in
-                let P : ℕ → Type 0 = λ x. distance m (start_in bits keys x) t < distance m (start_in bits keys x) s in
+                let H = start_in factor bits keys (get_or xs next 0) in
+                let P : ℕ → Type 0 = λ x. distance m (start_in factor bits keys x) t < distance m (start_in factor bits keys x) s in
                 let Q : ℕ → Type 0 = λ v. distance m H t < distance m H v in
                 let nearer : distance m H t < distance m H hole = subst Q h.0 (subst P now w) in
-                let whole : distance m H next ≡ distance m H hole + distance m hole next = distance_back m H hole next (start_in-lt bits keys (get_or xs next 0) small) h_in freeing.next_in moves in
+                let whole : distance m H next ≡ distance m H hole + distance m hole next = distance_back m H hole next (start_in-lt factor bits keys (get_or xs next 0) small) h_in freeing.next_in moves in
                 still t (freeing.but.reached next apart_from taken t t_in (omega arith))
             | inr h ↦ elim h [
               | inl g ↦ absurd (n g.1)
               | inr g ↦
                   let now : get_or ys s 0 ≡ get_or xs s 0 = ch.at s ∙ ap (λ (v : ℕ). get_or xs v 0) g.2 in
-                  let P : ℕ → Type 0 = λ x. distance m (start_in bits keys x) t < distance m (start_in bits keys x) s in
+                  let P : ℕ → Type 0 = λ x. distance m (start_in factor bits keys x) t < distance m (start_in factor bits keys x) s in
                   still t (freeing.but.reached s g.0 (omega (arith, now, there)) t t_in (subst P now w))
             ]
           ];
@@ -154,12 +154,12 @@ module _ (bits : ℕ) (keys : List Value) (from : ℕ) (xs : List ℕ) (hole nex
       }
 
   -- no search passes the hole once the next slot is free
-  not_passed : (s : ℕ) → get_or xs next 0 ≡ 0 → s ≢ hole → 0 < get_or xs s 0 → distance (2 ^ bits) (start_in bits keys (get_or xs s 0)) hole < distance (2 ^ bits) (start_in bits keys (get_or xs s 0)) s → ⊥
+  not_passed : (s : ℕ) → get_or xs next 0 ≡ 0 → s ≢ hole → 0 < get_or xs s 0 → distance (2 ^ bits) (start_in factor bits keys (get_or xs s 0)) hole < distance (2 ^ bits) (start_in factor bits keys (get_or xs s 0)) s → ⊥
   not_passed s free n taken through =
       let m = 2 ^ bits in
-      let H = start_in bits keys (get_or xs s 0) in
-      let H_in : H < m = start_in-lt bits keys (get_or xs s 0) small in
-      let h_in = hole_in bits keys xs hole freeing.but in
+      let H = start_in factor bits keys (get_or xs s 0) in
+      let H_in : H < m = start_in-lt factor bits keys (get_or xs s 0) small in
+      let h_in = hole_in factor bits keys xs hole freeing.but in
       let s_in = slot_in bits (length keys + 1) xs s freeing.but.places taken in
       let whole : distance m H s ≡ distance m H hole + distance m hole s = distance_through m H hole s H_in h_in s_in (omega arith) in
       elim (cases_lt (distance m hole s) (distance m hole next)) [
@@ -186,12 +186,12 @@ module _ (bits : ℕ) (keys : List Value) (from : ℕ) (xs : List ℕ) (hole nex
             absurd (omega (arith, ap (λ (v : ℕ). get_or xs v 0) is))
       ]
 
-  pub ended : get_or xs next 0 ≡ 0 → IsIndex bits keys (set xs hole 0)
+  pub ended : get_or xs next 0 ≡ 0 → IsIndex factor bits keys (set xs hole 0)
   ended free =
       let m = 2 ^ bits in
       let n = length keys in
       let ys = set xs hole 0 in
-      let h_in = hole_in bits keys xs hole freeing.but in
+      let h_in = hole_in factor bits keys xs hole freeing.but in
       let holds = freeing.but.places in
       let within : hole < length xs = omega (arith, h_in, holds.long) in
       let here : get_or ys hole 0 ≡ 0 = get_or-set_same xs hole 0 0 within in
@@ -221,8 +221,8 @@ module _ (bits : ℕ) (keys : List Value) (from : ℕ) (xs : List ℕ) (hole nex
             let i = not_hole s taken in
             let now = else s i in
             let there : 0 < get_or xs s 0 = omega (arith, now, taken) in
-            let P : ℕ → Type 0 = λ x. distance m (start_in bits keys x) t < distance m (start_in bits keys x) s in
+            let P : ℕ → Type 0 = λ x. distance m (start_in factor bits keys x) t < distance m (start_in factor bits keys x) s in
             let nearer = subst P now w in
-            let j : t ≢ hole = λ j. (let Q : ℕ → Type 0 = λ v. distance m (start_in bits keys (get_or xs s 0)) v < distance m (start_in bits keys (get_or xs s 0)) s in not_passed s free i there (subst Q j nearer)) in
+            let j : t ≢ hole = λ j. (let Q : ℕ → Type 0 = λ v. distance m (start_in factor bits keys (get_or xs s 0)) v < distance m (start_in factor bits keys (get_or xs s 0)) s in not_passed s free i there (subst Q j nearer)) in
             omega (arith, else t j, freeing.but.reached s i there t t_in nearer);
       }

@@ -8,4 +8,5 @@ pub mod Positions
 pub mod Searches
 pub mod Entries
 pub mod Freeing
+pub mod Fronts
 pub mod Lists

@@ -28,19 +28,19 @@ module _ {X : Type 0} (key : X → Value) where
       ∙ ap P (sym (length-map xs key))
 
   -- the index once an element was set to another of its key
-  pub index_set : (bits : ℕ) (xs : List X) (slots : List ℕ) (i : ℕ) (z d : X) → i < length xs → key z ≡ key (get_or xs i d) → IsIndex bits (map key xs) slots → IsIndex bits (map key (set xs i z)) slots
-  index_set bits xs slots i z d l e ix = let P : List Value → Type 0 = λ ks. IsIndex bits ks slots in subst P (sym (keys_set xs i z d l e)) ix
+  pub index_set : (factor bits : ℕ) (xs : List X) (slots : List ℕ) (i : ℕ) (z d : X) → i < length xs → key z ≡ key (get_or xs i d) → IsIndex factor bits (map key xs) slots → IsIndex factor bits (map key (set xs i z)) slots
+  index_set factor bits xs slots i z d l e ix = let P : List Value → Type 0 = λ ks. IsIndex factor bits ks slots in subst P (sym (keys_set xs i z d l e)) ix
 
   -- the index once an element was pushed
-  pub index_pushed : (bits : ℕ) (xs : List X) (slots : List ℕ) (z : X) → IsIndex bits (map key xs ++ key z ∷ []) slots → IsIndex bits (map key (xs ++ z ∷ [])) slots
-  index_pushed bits xs slots z ix = let P : List Value → Type 0 = λ ks. IsIndex bits ks slots in subst P (sym (map_push key xs z)) ix
+  pub index_pushed : (factor bits : ℕ) (xs : List X) (slots : List ℕ) (z : X) → IsIndex factor bits (map key xs ++ key z ∷ []) slots → IsIndex factor bits (map key (xs ++ z ∷ [])) slots
+  index_pushed factor bits xs slots z ix = let P : List Value → Type 0 = λ ks. IsIndex factor bits ks slots in subst P (sym (map_push key xs z)) ix
 
   -- the slots of an element that goes, and of the last one, hold what `rename` asks
-  pub index_parted : (bits : ℕ) (xs : List X) (slots ys : List ℕ) (a b i n : ℕ) (z : X) → AreDifferent key xs → IsIndex bits (map key xs) slots → i < length xs → n + 1 ≡ length xs → z ≡ get_or xs n z
+  pub index_parted : (factor bits : ℕ) (xs : List X) (slots ys : List ℕ) (a b i n : ℕ) (z : X) → AreDifferent key xs → IsIndex factor bits (map key xs) slots → i < length xs → n + 1 ≡ length xs → z ≡ get_or xs n z
       → Some i ≡ place_in (get_or slots a 0) → place_in (get_or slots b 0) ≡ position (is_under key (key z)) xs
-      → ((keys : List Value) (place : ℕ) → place < length keys → IsIndex bits keys slots → get_or slots a 0 ≡ place + 1 → get_or slots b 0 ≡ length keys → IsIndexBut bits (swap_remove keys place Nil) ys a)
-      → IsIndexBut bits (swap_remove (map key xs) i Nil) ys a
-  index_parted bits xs slots ys a b i n z different ix l last at_last here there renames =
+      → ((keys : List Value) (place : ℕ) → place < length keys → IsIndex factor bits keys slots → get_or slots a 0 ≡ place + 1 → get_or slots b 0 ≡ length keys → IsIndexBut factor bits (swap_remove keys place Nil) ys a)
+      → IsIndexBut factor bits (swap_remove (map key xs) i Nil) ys a
+  index_parted factor bits xs slots ys a b i n z different ix l last at_last here there renames =
       let is : get_or (map key xs) n Nil ≡ key z = get_or-map key xs n z Nil (omega arith) ∙ ap key (sym at_last) in
       let found = at_position key xs (key z) n different (omega arith) (value_eq-same (key z) (get_or (map key xs) n Nil) (sym is)) in
       renames (map key xs) i (omega (arith, l, length-map xs key)) ix (has_place (get_or slots a 0) i (sym here)) (has_place (get_or slots b 0) n (there ∙ found) ∙ last ∙ sym (length-map xs key))

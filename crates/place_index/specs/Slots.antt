@@ -10,9 +10,17 @@ number_of (Num (pos n)) = n % 2 ^ 64
 number_of (Num (negsuc n)) = 2 ^ 64 - 1 - n % 2 ^ 64
 number_of (Sym place) = place + 2 ^ 63
 
--- the slot among 2 ^ bits at which the search for a key begins
+-- the odd number that a seed spreads keys by
+abbrev pub factor_of : ℕ → ℕ
+factor_of seed = ((2 * (seed * 11400714819323198485) + 1) * 11400714819323198485) % 2 ^ 64
+
+-- the slot among 2 ^ bits at which the search for a key begins where keys are spread by a factor
+unfoldable pub start_by : ℕ → Value → ℕ → ℕ
+start_by factor key bits = (number_of key * factor) % 2 ^ 64 / 2 ^ (64 - bits)
+
+-- the same where the seed is 0, which spreads keys by 11400714819323198485
 unfoldable pub start_of : Value → ℕ → ℕ
-start_of key bits = (number_of key * 11400714819323198485) % 2 ^ 64 / 2 ^ (64 - bits)
+start_of key bits = start_by (factor_of 0) key bits
 
 -- how far slot s is past slot h, where the first of m slots follows the last
 unfoldable pub distance : ℕ → ℕ → ℕ → ℕ
@@ -27,8 +35,8 @@ abbrev pub place_in : ℕ → Option ℕ
 place_in x = if x == 0 then None else Some (x - 1)
 
 -- where the search begins for the key whose place, and one more, is x
-abbrev pub start_in : ℕ → List Value → ℕ → ℕ
-start_in bits keys x = start_of (slice_index_or keys (x - 1) Nil) bits
+abbrev pub start_in : ℕ → ℕ → List Value → ℕ → ℕ
+start_in factor bits keys x = start_by factor (slice_index_or keys (x - 1) Nil) bits
 
 -- each slot is free or holds one of the places below n, and each of these stands in one slot
 pub record HoldsPlaces (m n : ℕ) (slots : List ℕ) : Type 0 where
@@ -44,20 +52,23 @@ IsReached m h slots s =
     (t : ℕ) → t < m → distance m h t < distance m h s → 0 < slice_index slots t
 
 -- the slots hold the places of these keys, and the search for each key comes to its slot
-pub record IsIndex (bits : ℕ) (keys : List Value) (slots : List ℕ) : Type 0 where
+pub record IsIndex (factor bits : ℕ) (keys : List Value) (slots : List ℕ) : Type 0 where
   pub places : HoldsPlaces (2 ^ bits) (length keys) slots
   pub reached : (s : ℕ) → 0 < slice_index slots s
-      → IsReached (2 ^ bits) (start_in bits keys (slice_index slots s)) slots s
+      → IsReached (2 ^ bits) (start_in factor bits keys (slice_index slots s)) slots s
 
 -- the same but for one slot: it holds the place past the last key's, and no more is asked of it
-pub record IsIndexBut (bits : ℕ) (keys : List Value) (slots : List ℕ) (hole : ℕ) : Type 0 where
-  pub places : HoldsPlaces (2 ^ bits) (length keys + 1) slots
-  pub last : slice_index slots hole ≡ length keys + 1
-  pub reached : (s : ℕ) → s ≢ hole → 0 < slice_index slots s
-      → IsReached (2 ^ bits) (start_in bits keys (slice_index slots s)) slots s
+pub record IsIndexBut (factor bits : ℕ) (keys : List Value) (slots : List ℕ) (hole : ℕ) : Type 0
+  where
+    pub places : HoldsPlaces (2 ^ bits) (length keys + 1) slots
+    pub last : slice_index slots hole ≡ length keys + 1
+    pub reached : (s : ℕ) → s ≢ hole → 0 < slice_index slots s
+        → IsReached (2 ^ bits) (start_in factor bits keys (slice_index slots s)) slots s
 
--- an index as contracts see it: 2 ^ bits slots, each 0 where it is free, else a place and one more
+-- an index as contracts see it: 2 ^ bits slots, each 0 where it is free, else a place and one more,
+-- and the factor that keys are spread by
 pub record IndexView : Type 0 where
+  pub factor : ℕ
   pub bits : ℕ
   pub slots : List ℕ
 
@@ -74,14 +85,14 @@ pub record IsSizedFor (room bits : ℕ) : Type 0 where
 
 -- the places of these keys, in their order, are what the index holds
 abbrev pub IsIndexOf : List Value → IndexView → Type 0
-IsIndexOf keys index = IsIndex index.bits keys index.slots
+IsIndexOf keys index = IsIndex index.factor index.bits keys index.slots
 
 -- the search for a key looks at n slots: each but the last is taken, and the last holds this place
 -- or, where there is none, is free
 pub record IsSearch (index : IndexView) (key : Value) (place : Option ℕ) (n : ℕ) : Type 0 where
   pub path : (s : ℕ) → s < slot_count index
-      → distance (slot_count index) (start_of key index.bits) s + 1 < n
+      → distance (slot_count index) (start_by index.factor key index.bits) s + 1 < n
       → 0 < slice_index index.slots s
   pub end : (s : ℕ) → s < slot_count index
-      → distance (slot_count index) (start_of key index.bits) s + 1 ≡ n
+      → distance (slot_count index) (start_by index.factor key index.bits) s + 1 ≡ n
       → place_in (slice_index index.slots s) ≡ place

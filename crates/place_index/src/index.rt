@@ -4,11 +4,11 @@ ghost use Rattle.std.specs.Prelude.{◌≡◌, ◌<◌, ◌≤◌, ◌+◌, [], 
 ghost use Rattle.std.specs.List.{swap_remove};
 ghost use Rattle.session_values.specs.declared.value.Value.TheVariants.{Nil};
 ghost use Rattle.place_index.specs.Keys.{is_under, AreDifferent};
-ghost use Rattle.place_index.specs.Slots.{slot_count, IsIndexOf, IsSearch, IsSizedFor};
+ghost use Rattle.place_index.specs.Slots.{factor_of, slot_count, IsIndexOf, IsSearch, IsSizedFor};
 
 use crate::keyed::Keyed;
 use crate::slot_table::SlotTable;
-use crate::start::start_slot;
+use crate::start::seed_factor;
 use session_values::{NoMemory, Value};
 use std::alloc::Global;
 use std::marker::Model;
@@ -25,7 +25,11 @@ impl Model for PlaceIndex {
 
     ghost Value = { IndexView };
 
-    ghost view = { λ i. record { bits = i.table.bits; slots = i.table.slots.items } };
+    ghost view = { λ i. record {
+      factor = i.table.factor;
+      bits = i.table.bits;
+      slots = i.table.slots.items;
+    } };
 }
 
 impl PlaceIndex {
@@ -35,9 +39,56 @@ impl PlaceIndex {
         requires { room ≤ 1073741824 }
         ensures empty { IfOk result (λ index. IsIndexOf [] index) }
         ensures sized { IfOk result (λ index. IsSizedFor room index.bits) }
+        ensures factor { IfOk result (λ index. index.factor ≡ factor_of 0) }
     {
-        let table = SlotTable::with_room(alloc, room)?;
+        PlaceIndex::with_seed(alloc, room, 0)
+    }
+
+    /// The same where searches begin as this seed has it, for keys that others choose; seed 0 is as
+    /// none.
+    pub fn with_seed(alloc: Global, room: u32, seed: u64) -> Result<PlaceIndex, NoMemory>
+        requires { room ≤ 1073741824 }
+        ensures empty { IfOk result (λ index. IsIndexOf [] index) }
+        ensures sized { IfOk result (λ index. IsSizedFor room index.bits) }
+        ensures factor { IfOk result (λ index. index.factor ≡ factor_of seed) }
+    {
+        let table = SlotTable::with_room(alloc, room, seed_factor(seed))?;
         Ok(PlaceIndex { table })
+    }
+
+    /// The index of a list with different keys that grows to at most so many elements; searches
+    /// begin as in this one.
+    pub fn grown<T: Keyed>(
+        &self,
+        alloc: Global,
+        items: &[T],
+        room: u32,
+    ) -> Result<PlaceIndex, NoMemory>
+        requires different { AreDifferent T.key_of items.now }
+        requires within { length items.now ≤ room }
+        requires few { room ≤ 1073741824 }
+        ensures index { IfOk result (λ index. IsIndexOf (map T.key_of items.now) index) }
+        ensures sized { IfOk result (λ index. IsSizedFor room index.bits) }
+        ensures factor { IfOk result (λ index. index.factor ≡ self.now.factor) }
+    {
+        let table = SlotTable::with_room(alloc, room, self.table.factor())?;
+        let mut index = PlaceIndex { table };
+        index.enter_all(items);
+        Ok(index)
+    }
+
+    // Takes in the keys of a list, each as that of the element past those before it.
+    fn enter_all<T: Keyed>(&mut self, items: &[T])
+        requires empty { IsIndexOf [] self.old }
+        requires different { AreDifferent T.key_of items.now }
+        requires free { length items.now ≤ slot_count self.old }
+        ensures index { IsIndexOf (map T.key_of items.now) self.new }
+        ensures bits { self.new.bits ≡ self.old.bits }
+        ensures factor { self.new.factor ≡ self.old.factor }
+    {
+        for done in 0..items.len() {
+            self.enter(&items[..done], items[done].key());
+        }
     }
 
     /// How many slots there are.
@@ -67,6 +118,7 @@ impl PlaceIndex {
         ensures found { IfSome result (λ _. self.new ≡ self.old) }
         ensures entered { IfNone result (IsIndexOf (map T.key_of items.now ++ key ∷ []) self.new) }
         ensures bits { self.new.bits ≡ self.old.bits }
+        ensures factor { self.new.factor ≡ self.old.factor }
         ensures slots { slot_count self.new ≡ slot_count self.old }
     {
         let slot = self.table.seek(items, key);
@@ -88,6 +140,7 @@ impl PlaceIndex {
         ensures index { IfSome result (λ place.
             IsIndexOf (swap_remove (map T.key_of items.now) place Nil) self.new) }
         ensures bits { self.new.bits ≡ self.old.bits }
+        ensures factor { self.new.factor ≡ self.old.factor }
         ensures slots { slot_count self.new ≡ slot_count self.old }
     {
         let slot = self.table.seek(items, key);
@@ -108,7 +161,7 @@ impl PlaceIndex {
         ensures some { 0 < result }
         ensures few { result ≤ length items.now + 1 }
     {
-        let start = start_slot(key, self.table.bits()) as usize;
+        let start = self.table.start(key);
         self.table.distance(start, self.table.seek(items, key)) as u32 + 1
     }
 }

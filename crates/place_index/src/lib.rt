@@ -9,4 +9,4 @@ mod start;
 
 pub use index::PlaceIndex;
 pub use keyed::Keyed;
-pub use start::start_slot;
+pub use start::{seed_factor, start_slot, start_slot_by};

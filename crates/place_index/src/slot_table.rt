@@ -6,18 +6,19 @@ ghost use Rattle.session_values.specs.declared.value.Value.{Value};
 ghost use Rattle.session_values.specs.declared.value.Value.TheVariants.{Nil};
 ghost use Rattle.session_values.specs.Values.{value_eq};
 ghost use Rattle.place_index.specs.Keys.{is_under, AreDifferent};
-ghost use Rattle.place_index.specs.Slots.{start_of, distance, after, place_in, IsReached, IsIndex, IsIndexBut};
+ghost use Rattle.place_index.specs.Slots.{start_by, distance, after, place_in, IsReached, IsIndex, IsIndexBut};
 
 use crate::keyed::Keyed;
-use crate::start::start_slot;
+use crate::start::start_slot_by;
 use session_values::{NoMemory, Value};
 use std::alloc::Global;
 
 // Slots of which each is free or holds a place of a list: 0 where it is free, else the place and
-// one more. Their number is a power of 2, whose exponent is `bits`.
+// one more. Their number is a power of 2, whose exponent is `bits`. Keys are spread by `factor`.
 #[derive(Drop)]
 pub(crate) struct SlotTable {
     slots: Vec<u32>,
+    factor: u64,
     bits: u32,
     ghost some: { 1 ≤ bits },
     ghost few: { bits ≤ 31 },
@@ -26,9 +27,11 @@ pub(crate) struct SlotTable {
 
 impl SlotTable {
     // Free slots: the least number that is a power of 2, from 2 on, and at least twice the room.
-    pub(crate) fn with_room(alloc: Global, room: u32) -> Result<SlotTable, NoMemory>
+    pub(crate) fn with_room(alloc: Global, room: u32, factor: u64) -> Result<SlotTable, NoMemory>
         requires { room ≤ 1073741824 }
-        ensures empty { IfOk result (λ table. IsIndex table.bits [] table.slots.items) }
+        ensures empty { IfOk result (λ table.
+            IsIndex table.factor table.bits [] table.slots.items) }
+        ensures factor { IfOk result (λ table. table.factor ≡ factor) }
         ensures enough { IfOk result (λ table. 2 * room ≤ 2 ^ table.bits) }
         ensures some { IfOk result (λ table. 1 ≤ table.bits) }
         ensures least { IfOk result (λ table. 1 < table.bits → 2 ^ (table.bits - 1) < 2 * room) }
@@ -38,15 +41,17 @@ impl SlotTable {
             bits += 1;
         }
         let slots = vec![in alloc; 0; 1 << bits]?;
-        Ok(SlotTable { slots, bits })
+        Ok(SlotTable {
+            slots,
+            factor,
+            bits,
+        })
     }
 
-    pub(crate) fn bits(&self) -> u32
-        ensures bits { result ≡ self.now.bits }
-        ensures some { 1 ≤ result }
-        ensures few { result ≤ 31 }
+    pub(crate) fn factor(&self) -> u64
+        ensures { result ≡ self.now.factor }
     {
-        self.bits
+        self.factor
     }
 
     pub(crate) fn slots(&self) -> u32
@@ -55,18 +60,27 @@ impl SlotTable {
         self.slots.len() as u32
     }
 
+    // The slot at which the search for this key begins.
+    pub(crate) fn start(&self, key: Value) -> usize
+        ensures slot { result ≡ start_by self.now.factor key self.now.bits }
+        ensures within { result < 2 ^ self.now.bits }
+    {
+        start_slot_by(self.factor, key, self.bits) as usize
+    }
+
     // The slot of this key, or the free slot at which it may come in.
     pub(crate) fn seek<T: Keyed>(&self, items: &[T], key: Value) -> usize
-        requires index { IsIndex self.now.bits (map T.key_of items.now) self.now.slots.items }
+        requires index { IsIndex self.now.factor self.now.bits (map T.key_of items.now)
+            self.now.slots.items }
         requires different { AreDifferent T.key_of items.now }
         requires room { length items.now < 2 ^ self.now.bits }
         ensures within { result < 2 ^ self.now.bits }
         ensures place { place_in (slice_index self.now.slots.items result)
             ≡ position (is_under T.key_of key) items.now }
-        ensures path { IsReached (2 ^ self.now.bits) (start_of key self.now.bits)
+        ensures path { IsReached (2 ^ self.now.bits) (start_by self.now.factor key self.now.bits)
             self.now.slots.items result }
     {
-        let mut slot = start_slot(key, self.bits) as usize;
+        let mut slot = self.start(key);
         loop {
             let held = self.slots[slot];
             if held == 0 || is_same(key, items[held as usize - 1].key()) {
@@ -93,10 +107,12 @@ impl SlotTable {
         requires within { slot < 2 ^ self.old.bits }
         requires fits { place < 4294967295 }
         ensures bits { self.new.bits ≡ self.old.bits }
+        ensures factor { self.new.factor ≡ self.old.factor }
         ensures index { (keys : List Value) (key : Value) → length keys ≡ place
-            → IsIndex self.old.bits keys self.old.slots.items
-            → IsReached (2 ^ self.old.bits) (start_of key self.old.bits) self.old.slots.items slot
-            → IsIndex self.old.bits (keys ++ key ∷ []) self.new.slots.items }
+            → IsIndex self.old.factor self.old.bits keys self.old.slots.items
+            → IsReached (2 ^ self.old.bits) (start_by self.old.factor key self.old.bits)
+            self.old.slots.items slot
+            → IsIndex self.old.factor self.old.bits (keys ++ key ∷ []) self.new.slots.items }
     {
         self.slots[slot] = place as u32 + 1;
     }
@@ -107,11 +123,13 @@ impl SlotTable {
         requires slot_in { slot < 2 ^ self.old.bits }
         requires last_in { last < 2 ^ self.old.bits }
         ensures bits { self.new.bits ≡ self.old.bits }
+        ensures factor { self.new.factor ≡ self.old.factor }
         ensures index { (keys : List Value) (place : ℕ) → place < length keys
-            → IsIndex self.old.bits keys self.old.slots.items
+            → IsIndex self.old.factor self.old.bits keys self.old.slots.items
             → slice_index self.old.slots.items slot ≡ place + 1
             → slice_index self.old.slots.items last ≡ length keys
-            → IsIndexBut self.old.bits (swap_remove keys place Nil) self.new.slots.items slot }
+            → IsIndexBut self.old.factor self.old.bits (swap_remove keys place Nil)
+            self.new.slots.items slot }
     {
         self.slots.swap(slot, last);
     }
@@ -121,12 +139,13 @@ impl SlotTable {
     // was before the last element moved to this place.
     pub(crate) fn free<T: Keyed>(&mut self, items: &[T], place: usize, slot: usize)
         requires place { place < length items.now }
-        requires index { IsIndexBut self.old.bits (swap_remove (map T.key_of items.now) place Nil)
-            self.old.slots.items slot }
+        requires index { IsIndexBut self.old.factor self.old.bits
+            (swap_remove (map T.key_of items.now) place Nil) self.old.slots.items slot }
         requires room { length items.now < 2 ^ self.old.bits }
         ensures bits { self.new.bits ≡ self.old.bits }
-        ensures index { IsIndex self.old.bits (swap_remove (map T.key_of items.now) place Nil)
-            self.new.slots.items }
+        ensures factor { self.new.factor ≡ self.old.factor }
+        ensures index { IsIndex self.old.factor self.old.bits
+            (swap_remove (map T.key_of items.now) place Nil) self.new.slots.items }
     {
         let mut hole = slot;
         let mut next = self.after(slot);
@@ -135,7 +154,7 @@ impl SlotTable {
             if held == 0 {
                 break;
             }
-            let start = start_slot(key_after(items, place, held as usize - 1), self.bits) as usize;
+            let start = self.start(key_after(items, place, held as usize - 1));
             if self.distance(hole, next) <= self.distance(start, next) {
                 self.slots.swap(hole, next);
                 hole = next;

@@ -1,5 +1,5 @@
 -- Shards as contracts see them: what one holds, and how many keys it has room for.
-use Rattle.std.specs.Prelude.{◌≡◌, ℕ, ◌-◌, ◌<◌, ◌≤◌, List, length, map as map_list, Bool, true, false, refl}
+use Rattle.std.specs.Prelude.{◌≡◌, ℕ, ◌-◌, ◌<◌, ◌≤◌, max, List, length, map as map_list, Bool, true, false, refl}
 use Rattle.std.specs.Coded.{Coded, code_by, coded×, coded_ℕ, coded_list}
 use Rattle.std.specs.FinMap as map
 use Rattle.std.specs.FinSet as set
@@ -65,27 +65,31 @@ HasRoomFor op s =
 abbrev pub shard_after : ShardView → Op → ShardView
 shard_after s op = record { container = after_on s.container op; room = s.room }
 
--- how a room is told from others, with an index
-abbrev pub sizes_code : Coded (ℕ × (ℕ × List ℕ))
-sizes_code = coded× coded_ℕ (coded× coded_ℕ (coded_list coded_ℕ))
+-- the same shard with room for so many keys, or for those that it holds where they are more
+abbrev pub grown_to : ℕ → ShardView → ShardView
+grown_to room s = record { container = s.container; room = max room (size_of s.container) }
 
-abbrev pub index_of : ℕ × List ℕ → IndexView
-index_of p = record { bits = p.0; slots = p.1 }
+-- how a room is told from others, with an index
+abbrev pub sizes_code : Coded (ℕ × (ℕ × (ℕ × List ℕ)))
+sizes_code = coded× coded_ℕ (coded× coded_ℕ (coded× coded_ℕ (coded_list coded_ℕ)))
+
+abbrev pub index_of : ℕ × (ℕ × List ℕ) → IndexView
+index_of p = record { factor = p.0; bits = p.1.0; slots = p.1.1 }
 
 -- how a map's shard is told from others
 abbrev pub map_code : Coded MapView
 map_code =
-    code_by (List (Value × Value) × (ℕ × (ℕ × List ℕ)))
+    code_by (List (Value × Value) × (ℕ × (ℕ × (ℕ × List ℕ))))
     (coded× (coded_list (coded× value.the_row.coded value.the_row.coded)) sizes_code)
-    (λ s. (s.entries, (s.room, (s.index.bits, s.index.slots))))
+    (λ s. (s.entries, (s.room, (s.index.factor, (s.index.bits, s.index.slots)))))
     (λ p. record { entries = p.0; room = p.1.0; index = index_of p.1.1 }) (λ _. refl)
 
 -- how a set's shard is told from others
 abbrev pub set_code : Coded SetView
 set_code =
-    code_by (List Value × (ℕ × (ℕ × List ℕ)))
+    code_by (List Value × (ℕ × (ℕ × (ℕ × List ℕ))))
     (coded× (coded_list value.the_row.coded) sizes_code)
-    (λ s. (s.entries, (s.room, (s.index.bits, s.index.slots))))
+    (λ s. (s.entries, (s.room, (s.index.factor, (s.index.bits, s.index.slots)))))
     (λ p. record { entries = p.0; room = p.1.0; index = index_of p.1.1 }) (λ _. refl)
 
 -- the elements of a shard have different keys, and their places are what the index holds; there are

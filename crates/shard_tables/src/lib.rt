@@ -9,6 +9,6 @@ mod sharding;
 
 pub use laws::{parting, parts_of_whole};
 pub use map_shard::MapShard;
-pub use place_index::start_slot;
+pub use place_index::{seed_factor, start_slot, start_slot_by};
 pub use set_shard::SetShard;
 pub use sharding::shard_of;

@@ -6,8 +6,8 @@ ghost use Rattle.session_values.specs.declared.kind.TableKind.TheVariants.{Map};
 ghost use Rattle.session_values.specs.Kinds.{home};
 ghost use Rattle.session_values.specs.Tables.{Bindings, bound_to, bumped, reply_on, size_of, empty_of};
 ghost use Rattle.place_index.specs.Keys.{AreDifferent, is_under};
-ghost use Rattle.place_index.specs.Slots.{IsSearch, IsSizedFor, slot_count};
-ghost use Rattle.shard_tables.specs.Shards.{bindings, map_shard, HasRoomFor, shard_after, spare_of};
+ghost use Rattle.place_index.specs.Slots.{factor_of, IsSearch, IsSizedFor, slot_count};
+ghost use Rattle.shard_tables.specs.Shards.{bindings, map_shard, HasRoomFor, shard_after, spare_of, grown_to};
 
 use place_index::PlaceIndex;
 use session_values::{Kind, NoMemory, Op, Value, bumped};
@@ -46,9 +46,41 @@ impl MapShard {
           room = room;
         }) }
         ensures slots { IfOk result (λ shard. IsSizedFor room shard.index.bits) }
+        ensures factor { IfOk result (λ shard. shard.index.factor ≡ factor_of 0) }
+    {
+        MapShard::with_seed(alloc, room, 0)
+    }
+
+    /// The same where searches begin as this seed has it, for keys that others choose; seed 0 is as
+    /// none.
+    pub fn with_seed(alloc: Global, room: u32, seed: u64) -> Result<MapShard, NoMemory>
+        requires { room ≤ 1073741824 }
+        ensures empty { IfOk result (λ shard. map_shard shard ≡ record {
+          container = empty_of Map;
+          room = room;
+        }) }
+        ensures slots { IfOk result (λ shard. IsSizedFor room shard.index.bits) }
+        ensures factor { IfOk result (λ shard. shard.index.factor ≡ factor_of seed) }
     {
         let pairs = Vec::with_capacity(alloc, room as usize)?;
-        let index = PlaceIndex::with_room(alloc, room)?;
+        let index = PlaceIndex::with_seed(alloc, room, seed)?;
+        Ok(MapShard { pairs, index, room })
+    }
+
+    /// The same pairs in the same places, with room for so many keys, or for those that there are
+    /// where they are more; searches begin as before.
+    pub fn grown(&self, alloc: Global, room: u32) -> Result<MapShard, NoMemory>
+        requires { room ≤ 1073741824 }
+        ensures entries { IfOk result (λ shard. shard.entries ≡ self.now.entries) }
+        ensures grown { IfOk result (λ shard. map_shard shard
+            ≡ grown_to room (map_shard self.now)) }
+        ensures slots { IfOk result (λ shard. IsSizedFor shard.room shard.index.bits) }
+        ensures factor { IfOk result (λ shard. shard.index.factor ≡ self.now.index.factor) }
+    {
+        let room = room.max(self.len());
+        let mut pairs = Vec::with_capacity(alloc, room as usize)?;
+        pairs.extend_from_slice(&self.pairs)?;
+        let index = self.index.grown(alloc, &self.pairs, room)?;
         Ok(MapShard { pairs, index, room })
     }
 
@@ -58,6 +90,7 @@ impl MapShard {
         requires room { HasRoomFor op (map_shard self.old) }
         ensures reply { result ≡ reply_on (map_shard self.old).container op }
         ensures after { map_shard self.new ≡ shard_after (map_shard self.old) op }
+        ensures factor { self.new.index.factor ≡ self.old.index.factor }
     {
         match op.kind {
             Kind::Get => self.get(op.key()),
@@ -151,6 +184,7 @@ impl MapShard {
               container = Bindings (map.insert (bindings self.old) key value);
               room = self.old.room;
             } }
+        ensures factor { self.new.index.factor ≡ self.old.index.factor }
     {
         match self.index.enter(&self.pairs, key) {
             Some(place) => {
@@ -169,12 +203,13 @@ impl MapShard {
     fn bump(&mut self, key: Value, by: Value)
         requires { map.contains_key (bindings self.old) key ≡ false
             → map.len (bindings self.old) < self.old.room }
-        ensures { map_shard self.new
+        ensures after { map_shard self.new
             ≡ record {
               container = Bindings (bound_to (bindings self.old) key
                   (bumped by (map.get (bindings self.old) key)));
               room = self.old.room;
             } }
+        ensures factor { self.new.index.factor ≡ self.old.index.factor }
     {
         if let Some(value) = bumped(by, self.value_of(key)) {
             self.bind(key, value);
@@ -182,11 +217,12 @@ impl MapShard {
     }
 
     fn unbind(&mut self, key: Value)
-        ensures { map_shard self.new
+        ensures after { map_shard self.new
             ≡ record {
               container = Bindings (map.remove (bindings self.old) key);
               room = self.old.room;
             } }
+        ensures factor { self.new.index.factor ≡ self.old.index.factor }
     {
         if let Some(place) = self.index.remove(&self.pairs, key) {
             self.pairs.swap_remove(place);

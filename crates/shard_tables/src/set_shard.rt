@@ -6,8 +6,8 @@ ghost use Rattle.session_values.specs.declared.kind.TableKind.TheVariants.{Set};
 ghost use Rattle.session_values.specs.Kinds.{home};
 ghost use Rattle.session_values.specs.Tables.{Members, reply_on, size_of, empty_of, bit};
 ghost use Rattle.place_index.specs.Keys.{AreDifferent, is_under};
-ghost use Rattle.place_index.specs.Slots.{IsSearch, IsSizedFor, slot_count};
-ghost use Rattle.shard_tables.specs.Shards.{members, set_shard, HasRoomFor, shard_after, spare_of};
+ghost use Rattle.place_index.specs.Slots.{factor_of, IsSearch, IsSizedFor, slot_count};
+ghost use Rattle.shard_tables.specs.Shards.{members, set_shard, HasRoomFor, shard_after, spare_of, grown_to};
 
 use place_index::PlaceIndex;
 use session_values::{Kind, NoMemory, Op, Value};
@@ -45,9 +45,41 @@ impl SetShard {
           room = room;
         }) }
         ensures slots { IfOk result (λ shard. IsSizedFor room shard.index.bits) }
+        ensures factor { IfOk result (λ shard. shard.index.factor ≡ factor_of 0) }
+    {
+        SetShard::with_seed(alloc, room, 0)
+    }
+
+    /// The same where searches begin as this seed has it, for keys that others choose; seed 0 is as
+    /// none.
+    pub fn with_seed(alloc: Global, room: u32, seed: u64) -> Result<SetShard, NoMemory>
+        requires { room ≤ 1073741824 }
+        ensures empty { IfOk result (λ shard. set_shard shard ≡ record {
+          container = empty_of Set;
+          room = room;
+        }) }
+        ensures slots { IfOk result (λ shard. IsSizedFor room shard.index.bits) }
+        ensures factor { IfOk result (λ shard. shard.index.factor ≡ factor_of seed) }
     {
         let keys = Vec::with_capacity(alloc, room as usize)?;
-        let index = PlaceIndex::with_room(alloc, room)?;
+        let index = PlaceIndex::with_seed(alloc, room, seed)?;
+        Ok(SetShard { keys, index, room })
+    }
+
+    /// The same keys in the same places, with room for so many keys, or for those that there are
+    /// where they are more; searches begin as before.
+    pub fn grown(&self, alloc: Global, room: u32) -> Result<SetShard, NoMemory>
+        requires { room ≤ 1073741824 }
+        ensures entries { IfOk result (λ shard. shard.entries ≡ self.now.entries) }
+        ensures grown { IfOk result (λ shard. set_shard shard
+            ≡ grown_to room (set_shard self.now)) }
+        ensures slots { IfOk result (λ shard. IsSizedFor shard.room shard.index.bits) }
+        ensures factor { IfOk result (λ shard. shard.index.factor ≡ self.now.index.factor) }
+    {
+        let room = room.max(self.len());
+        let mut keys = Vec::with_capacity(alloc, room as usize)?;
+        keys.extend_from_slice(&self.keys)?;
+        let index = self.index.grown(alloc, &self.keys, room)?;
         Ok(SetShard { keys, index, room })
     }
 
@@ -57,6 +89,7 @@ impl SetShard {
         requires room { HasRoomFor op (set_shard self.old) }
         ensures reply { result ≡ reply_on (set_shard self.old).container op }
         ensures after { set_shard self.new ≡ shard_after (set_shard self.old) op }
+        ensures factor { self.new.index.factor ≡ self.old.index.factor }
     {
         match op.kind {
             Kind::Has => bit_of(self.has(op.key())),
@@ -138,6 +171,7 @@ impl SetShard {
               container = Members (set.insert (members self.old) key);
               room = self.old.room;
             } }
+        ensures factor { self.new.index.factor ≡ self.old.index.factor }
     {
         match self.index.enter(&self.keys, key) {
             Some(_) => false,
@@ -149,11 +183,12 @@ impl SetShard {
     }
 
     fn remove(&mut self, key: Value)
-        ensures { set_shard self.new
+        ensures after { set_shard self.new
             ≡ record {
               container = Members (set.remove (members self.old) key);
               room = self.old.room;
             } }
+        ensures factor { self.new.index.factor ≡ self.old.index.factor }
     {
         if let Some(place) = self.index.remove(&self.keys, key) {
             self.keys.swap_remove(place);

@@ -2,7 +2,7 @@ use Rattle.std.proofs.Common.{◌≡◌, ◌<◌, ◌≤◌, ◌^◌, ℕ, ◌+�
 use Rattle.std.proofs.Math.Nat.{pow-le-pow_right}
 use Rattle.std.proofs.lemmas.List.{length-map}
 use Rattle.place_index.specs.Keys.{is_under}
-use Rattle.place_index.specs.Slots.{IndexView, IsIndex, IsIndexOf, IsSearch, start_of, distance, place_in}
+use Rattle.place_index.specs.Slots.{IndexView, IsIndex, IsIndexOf, IsSearch, start_by, distance, place_in}
 use Rattle.place_index.proofs.Changes.{few_passed}
 use Rattle.place_index.proofs.Distances.{same_distance, distance-lt}
 use Rattle.place_index.proofs.index.PlaceIndex.probes.Goals as goal
@@ -10,16 +10,16 @@ use Rattle.place_index.proofs.index.PlaceIndex.probes.Goals as goal
 pub overflow_cast-result : goal.overflow_cast-result
 overflow_cast-result g c =
     let bits = c.self.inside.table.bits in
-    let within : c.start_slot-start.result < 2 ^ bits = omega (arith, c.start_slot-start.ensures.within, ap (λ (b : ℕ). 2 ^ b) c.bits.ensures.bits) in
-    let far = distance-lt (2 ^ bits) c.start_slot-start.result c.seek.result within c.seek.ensures.within in
+    let within : c.start-start.result < 2 ^ bits = c.start-start.ensures.within in
+    let far = distance-lt (2 ^ bits) c.start-start.result c.seek.result within c.seek.ensures.within in
     let big : 2 ^ bits ≤ 2 ^ 31 = pow-le-pow_right {n = 2} (omega arith) {i = bits} {j = 31} c.self.inside.table.few in
     record { fits = omega (arith, far, big, c.distance.ensures) }
 
 pub overflow_add-result : goal.overflow_add-result
 overflow_add-result g c =
     let bits = c.self.inside.table.bits in
-    let within : c.start_slot-start.result < 2 ^ bits = omega (arith, c.start_slot-start.ensures.within, ap (λ (b : ℕ). 2 ^ b) c.bits.ensures.bits) in
-    let far = distance-lt (2 ^ bits) c.start_slot-start.result c.seek.result within c.seek.ensures.within in
+    let within : c.start-start.result < 2 ^ bits = c.start-start.ensures.within in
+    let far = distance-lt (2 ^ bits) c.start-start.result c.seek.result within c.seek.ensures.within in
     let big : 2 ^ bits ≤ 2 ^ 31 = pow-le-pow_right {n = 2} (omega arith) {i = bits} {j = 31} c.self.inside.table.few in
     record { fits = omega (arith, far, big, c.distance.ensures) }
 
@@ -28,10 +28,10 @@ returns-clause-few g c =
     let items = c.args.items.now in
     let table = c.self.inside.table in
     let P : IndexView → Type 0 = λ v. IsIndexOf (map g.T.Keyed.key_of items) v in
-    let index : IsIndex table.bits (map g.T.Keyed.key_of items) table.slots.items = subst P (sym c.self.view_is) c.requires.index in
-    let starts : c.start_slot-start.result ≡ start_of c.args.key table.bits = c.start_slot-start.ensures.slot ∙ ap (start_of c.args.key) c.bits.ensures.bits in
-    let passed = few_passed (2 ^ table.bits) (length (map g.T.Keyed.key_of items)) table.slots.items (start_of c.args.key table.bits) c.seek.result index.places
-    (omega (arith, starts, c.start_slot-start.ensures.within, ap (λ (b : ℕ). 2 ^ b) c.bits.ensures.bits)) c.seek.ensures.within c.seek.ensures.path in
+    let index : IsIndex table.factor table.bits (map g.T.Keyed.key_of items) table.slots.items = subst P (sym c.self.view_is) c.requires.index in
+    let starts : c.start-start.result ≡ start_by table.factor c.args.key table.bits = c.start-start.ensures.slot in
+    let passed = few_passed (2 ^ table.bits) (length (map g.T.Keyed.key_of items)) table.slots.items (start_by table.factor c.args.key table.bits) c.seek.result index.places
+    (omega (arith, starts, c.start-start.ensures.within)) c.seek.ensures.within c.seek.ensures.path in
     omega (arith, passed, c.distance.ensures, ap (λ (h : ℕ). distance (2 ^ table.bits) h c.seek.result) starts, length-map items g.T.Keyed.key_of)
 
 pub returns-clause-search : goal.returns-clause-search
@@ -39,9 +39,9 @@ returns-clause-search g c =
     let items = c.args.items.now in
     let table = c.self.inside.table in
     let m = 2 ^ table.bits in
-    let h = start_of c.args.key table.bits in
-    let starts : c.start_slot-start.result ≡ h = c.start_slot-start.ensures.slot ∙ ap (start_of c.args.key) c.bits.ensures.bits in
-    let h_in : h < m = omega (arith, starts, c.start_slot-start.ensures.within, ap (λ (b : ℕ). 2 ^ b) c.bits.ensures.bits) in
+    let h = start_by table.factor c.args.key table.bits in
+    let starts : c.start-start.result ≡ h = c.start-start.ensures.slot in
+    let h_in : h < m = omega (arith, starts, c.start-start.ensures.within) in
     let far : c.distance.result ≡ distance m h c.seek.result = c.distance.ensures ∙ ap (λ (s : ℕ). distance m s c.seek.result) starts in
     let P : IndexView → Type 0 = λ v. IsSearch v c.args.key (position (is_under g.T.Keyed.key_of c.args.key) items) (c.distance.result + 1) in
     subst P c.self.view_is (record {

@@ -8,7 +8,8 @@ use Rattle.place_index.proofs.slot_table.SlotTable.free.Given as goal
 abbrev pub invariant-loop-held : goal.invariant-loop-held
 invariant-loop-held g l = record {
   bits : l.self.bits ≡ l.fn.self.bits;
-  freeing : IsFreeing l.self.bits (swap_remove (map g.T.Keyed.key_of l.items) l.place Nil) l.slot l.self.slots.items l.hole l.next;
+  factor : l.self.factor ≡ l.fn.self.factor;
+  freeing : IsFreeing l.fn.self.factor l.self.bits (swap_remove (map g.T.Keyed.key_of l.items) l.place Nil) l.slot l.self.slots.items l.hole l.next;
 }
 
 abbrev pub decreases-loop-held : goal.decreases-loop-held

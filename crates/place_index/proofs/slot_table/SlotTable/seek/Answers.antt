@@ -3,7 +3,7 @@ use Rattle.session_values.specs.declared.value.Value.TheVariants.{Nil}
 use Rattle.session_values.specs.Values.{value_eq}
 use Rattle.std.proofs.lemmas.Bool.{cases_lt}
 use Rattle.std.proofs.lemmas.List.{length-map, get_or-map, get_or_read}
-use Rattle.place_index.specs.Slots.{start_of, distance}
+use Rattle.place_index.specs.Slots.{start_by, distance}
 use Rattle.place_index.proofs.Distances.{distance-self, distance-after, same_distance}
 use Rattle.place_index.proofs.Masks.{start-lt}
 use Rattle.place_index.proofs.Changes.{goes_on}
@@ -14,15 +14,17 @@ use Rattle.place_index.proofs.slot_table.SlotTable.seek.Goals.{then-held-eq0-via
 
 pub loop-key-init : goal.loop-key-init
 loop-key-init g c =
+    let factor = c.args.self.now.factor in
     let bits = c.args.self.now.bits in
-    let h = start_of c.args.key bits in
+    let h = start_by factor c.args.key bits in
     record {
-      within = c.start_slot-slot.ensures.within;
-      passed = λ u l b. absurd (omega (arith, b, ap (distance (2 ^ bits) h) c.start_slot-slot.ensures.slot, distance-self (2 ^ bits) h));
+      within = c.start-slot.ensures.within;
+      passed = λ u l b. absurd (omega (arith, b, ap (distance (2 ^ bits) h) c.start-slot.ensures.slot, distance-self (2 ^ bits) h));
     }
 
 pub returns-then-held-eq0-clause-place : goal.returns-then-held-eq0-clause-place
 returns-then-held-eq0-clause-place g c =
+    let factor = c.args.self.now.factor in
     let bits = c.args.self.now.bits in
     let xs = c.args.self.now.slots.items in
     let slot = c.loop-key.slot in
@@ -33,7 +35,7 @@ returns-then-held-eq0-clause-place g c =
       | then-held-eq0-via-then-held-eq0 w ↦
           let free : get_or xs slot 0 ≡ 0 = sym held ∙ w.if-held-eq0.true in
           holds_none (get_or xs slot 0) free
-          ∙ sym (no_position g.T.Keyed.key_of c.args.items.now c.args.key (λ p l. met bits keys xs c.args.key slot p (omega (arith, c.args.self.now.few)) c.requires.index inv.within free (λ u v b. (inv.passed u v b).1) l))
+          ∙ sym (no_position g.T.Keyed.key_of c.args.items.now c.args.key (λ p l. met factor bits keys xs c.args.key slot p (omega (arith, c.args.self.now.few)) c.requires.index inv.within free (λ u v b. (inv.passed u v b).1) l))
       | then-held-eq0-via-else-held-eq0+then-is_same w ↦
           let taken : 0 < get_or xs slot 0 = omega (arith, held, w.if-held-eq0.false) in
           let within : get_or xs slot 0 - 1 < length c.args.items.now = omega (arith, taken, c.requires.index.places.few slot, length-map c.args.items.now g.T.Keyed.key_of) in
@@ -47,12 +49,13 @@ returns-then-held-eq0-clause-place g c =
 
 pub loop-key-smaller : goal.loop-key-smaller
 loop-key-smaller g c =
+    let factor = c.args.self.now.factor in
     let bits = c.args.self.now.bits in
     let xs = c.args.self.now.slots.items in
     let slot = c.loop-key.slot in
     let inv = c.loop-key.invariant in
-    let h = start_of c.args.key bits in
-    let h_in : h < 2 ^ bits = start-lt c.args.key bits (omega (arith, c.args.self.now.few)) in
+    let h = start_by factor c.args.key bits in
+    let h_in : h < 2 ^ bits = start-lt factor c.args.key bits (omega (arith, c.args.self.now.few)) in
     let held : c.index-held.result.now ≡ get_or xs slot 0 = get_or_read xs slot c.index-held.result.now (omega (arith, inv.within, c.requires.index.places.long)) c.index-held.ensures 0 in
     let on = goes_on (2 ^ bits) (length (map g.T.Keyed.key_of c.args.items.now)) xs h slot c.requires.index.places (omega (arith, c.requires.room, length-map c.args.items.now g.T.Keyed.key_of)) h_in inv.within (λ u l b. (inv.passed u l b).0) (omega (arith, held, c.if-held-eq0.false)) in
     let step : distance (2 ^ bits) h c.after-slot.result ≡ distance (2 ^ bits) h slot + 1 = ap (distance (2 ^ bits) h) c.after-slot.ensures.next ∙ distance-after (2 ^ bits) h slot h_in inv.within on in
@@ -60,13 +63,14 @@ loop-key-smaller g c =
 
 pub loop-key-preserved : goal.loop-key-preserved
 loop-key-preserved g c =
+    let factor = c.args.self.now.factor in
     let bits = c.args.self.now.bits in
     let xs = c.args.self.now.slots.items in
     let slot = c.loop-key.slot in
     let inv = c.loop-key.invariant in
     let keys = map g.T.Keyed.key_of c.args.items.now in
-    let h = start_of c.args.key bits in
-    let h_in : h < 2 ^ bits = start-lt c.args.key bits (omega (arith, c.args.self.now.few)) in
+    let h = start_by factor c.args.key bits in
+    let h_in : h < 2 ^ bits = start-lt factor c.args.key bits (omega (arith, c.args.self.now.few)) in
     let held : c.index-held.result.now ≡ get_or xs slot 0 = get_or_read xs slot c.index-held.result.now (omega (arith, inv.within, c.requires.index.places.long)) c.index-held.ensures 0 in
     let taken : 0 < get_or xs slot 0 = omega (arith, held, c.if-held-eq0.false) in
     let on = goes_on (2 ^ bits) (length keys) xs h slot c.requires.index.places (omega (arith, c.requires.room, length-map c.args.items.now g.T.Keyed.key_of)) h_in inv.within (λ u l b. (inv.passed u l b).0) taken in

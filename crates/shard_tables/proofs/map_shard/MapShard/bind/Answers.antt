@@ -35,7 +35,7 @@ invariant_of-self c =
       indexed =
           let P : IndexView → Type 0 = λ v. IsIndexOf (map_list key_of (set es c.in-Some.place (c.args.key, c.args.value))) v in
           subst P (sym c.in-Some.ensures.found)
-          (index_set key_of c.self.inside.index.bits es c.self.inside.index.slots c.in-Some.place (c.args.key, c.args.value) c.index.result.now at.0 is c.self.invariant.indexed);
+          (index_set key_of c.self.inside.index.factor c.self.inside.index.bits es c.self.inside.index.slots c.in-Some.place (c.args.key, c.args.value) c.index.result.now at.0 is c.self.invariant.indexed);
     }
 
 pub returns-in-Some-clause-reply : goal.returns-in-Some-clause-reply
@@ -82,7 +82,7 @@ invariant_of-self-in-None c =
       indexed =
           let P : List (Value × Value) → Type 0 = λ l. IsIndexOf (map_list key_of l ++ c.args.key ∷ []) c.enter.new.self in
           let Q : List (Value × Value) → Type 0 = λ l. IsIndexOf (map_list key_of l) c.enter.new.self in
-          subst Q (sym c.push_reserved.ensures.items) (index_pushed key_of c.enter.new.self.bits es c.enter.new.self.slots (c.args.key, c.args.value) (subst P c.deref.ensures.value c.in-None.ensures.entered));
+          subst Q (sym c.push_reserved.ensures.items) (index_pushed key_of c.enter.new.self.factor c.enter.new.self.bits es c.enter.new.self.slots (c.args.key, c.args.value) (subst P c.deref.ensures.value c.in-None.ensures.entered));
     }
 
 pub returns-in-None-clause-reply : goal.returns-in-None-clause-reply

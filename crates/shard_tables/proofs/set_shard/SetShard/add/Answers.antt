@@ -58,7 +58,7 @@ invariant_of-self-in-None c =
       indexed =
           let P : List Value → Type 0 = λ l. IsIndexOf (map_list itself l ++ c.args.key ∷ []) c.enter.new.self in
           let Q : List Value → Type 0 = λ l. IsIndexOf (map_list itself l) c.enter.new.self in
-          subst Q (sym c.push_reserved.ensures.items) (index_pushed itself c.enter.new.self.bits ks c.enter.new.self.slots c.args.key (subst P c.deref.ensures.value c.in-None.ensures.entered));
+          subst Q (sym c.push_reserved.ensures.items) (index_pushed itself c.enter.new.self.factor c.enter.new.self.bits ks c.enter.new.self.slots c.args.key (subst P c.deref.ensures.value c.in-None.ensures.entered));
     }
 
 pub returns-in-None-clause-new : goal.returns-in-None-clause-new

@@ -39,8 +39,8 @@ invariant_of-self c =
           subst Q (sym (ap (map_list itself) c.swap_remove.ensures.items ∙ out)) (subst P c.deref.ensures.value c.in-Some.ensures.index);
     }
 
-pub returns-in-Some : goal.returns-in-Some
-returns-in-Some c =
+pub returns-in-Some-clause-after : goal.returns-in-Some-clause-after
+returns-in-Some-clause-after c =
     let es = c.self.inside.keys.items in
     let p = is_under itself c.args.key in
     let at = place_within p es c.in-Some.place c.swap_remove.result (c.in-Some.ensures.place ∙ ap (position p) c.deref.ensures.value) in
@@ -50,8 +50,8 @@ returns-in-Some c =
     ∙ ap (λ (m : set.FinSet value_cmp). shard m c.self.inside.room) (out_key es _ c.args.key out)
     ∙ ap (λ (s : SetView). shard (set.remove (members s) c.args.key) s.room) c.self.view_is
 
-pub returns-in_default : goal.returns-in_default
-returns-in_default c =
+pub returns-in_default-clause-after : goal.returns-in_default-clause-after
+returns-in_default-clause-after c =
     let es = c.self.inside.keys.items in
     let p = is_under itself c.args.key in
     let missed = no_place p es (c.in_default.ensures.place ∙ ap (position p) c.deref.ensures.value) in
