@@ -1,2 +1,3 @@
+mod Counting
 mod OneCaller
 pub mod OneMap
