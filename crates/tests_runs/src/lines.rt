@@ -4,8 +4,9 @@ use crate::serving::serve_past;
 use serve_core::{MemorySink, Put, Sink};
 use std::alloc::Global;
 use std::sync::Wait;
-use std::sync::atomic::{AtomicBool, Ordering};
+use std::sync::atomic::{AtomicBool, AtomicUsize, Ordering};
 use std::test::Fail;
+use std::thread;
 use std::thread::Threads;
 use worker_gate::{Gate, HoldGate, OpenGate, Place};
 
@@ -110,5 +111,104 @@ fn a_full_lane_loses_nothing(rt: HostRuntime) -> Result<(), Fail> {
 fn a_byte_at_a_time(rt: HostRuntime) -> Result<(), Fail> {
     let found = long_session(&rt, rt.alloc(), "4", 1, &OpenGate)?;
     assert_eq!(rt; found, ((0, true), true));
+    Ok(())
+}
+
+/// A sink that counts the lines that it took.
+#[derive(Drop)]
+struct CountSink<'a> {
+    sink: MemorySink,
+    lines: &'a AtomicUsize,
+}
+
+impl<'a> Sink for CountSink<'a> {
+    ghost use Rattle.std.specs.Prelude.{None};
+
+    ghost held = { λ _. None };
+
+    ghost faults = { λ s. s.sink.faults };
+
+    fn write(&mut self, bytes: &[u8]) -> Put {
+        let put = self.sink.write(bytes);
+        if let Put::Took(n) = put {
+            let taken = bytes.get(..n as usize).unwrap_or(bytes);
+            for byte in taken {
+                if *byte == b'\n' {
+                    self.lines.fetch_add(1, Ordering::SeqCst);
+                }
+            }
+        }
+        put
+    }
+}
+
+/// A gate at which each two tickets, 0 and 1, 2 and 3 and so on, wait until both are begun, but no
+/// longer than a number of turns. It notes how many lines were written when tickets 4 and 5 were.
+#[derive(Drop)]
+struct PairGate<'a> {
+    lines: &'a AtomicUsize,
+    /// How many of the tickets 0 to 5 are begun, by pair.
+    begun: [AtomicUsize; 3],
+    noted: AtomicUsize,
+    broken: AtomicBool,
+}
+
+impl<'a> PairGate<'a> {
+    // Holds a ticket of a pair.
+    fn wait(&self, pair: usize) {
+        self.begun[pair].fetch_add(1, Ordering::SeqCst);
+        for _ in 0..10_000_000u64 {
+            if self.begun[pair].load(Ordering::SeqCst) >= 2 {
+                return;
+            }
+            thread::yield_now();
+        }
+        self.broken.store(true, Ordering::SeqCst);
+    }
+}
+
+impl<'a> Gate for PairGate<'a> {
+    fn pass<R: Threads + Wait + Sync>(&self, _rt: &R, place: Place) {
+        if let Place::Begun(t) = place {
+            if t < 6 {
+                self.wait((t / 2) as usize);
+            }
+            if t == 4 || t == 5 {
+                self.noted.fetch_max(self.lines.load(Ordering::SeqCst), Ordering::SeqCst);
+            }
+        }
+    }
+}
+
+/// How two callers serve six tickets, each pair of which is open at once; how many lines were written
+/// when the last two were begun; and whether the gate was broken.
+fn paired_session<R: Threads + Wait + Sync>(
+    rt: &R,
+    alloc: Global,
+) -> Result<((u8, bool), bool, bool, bool), Fail> {
+    let lines = AtomicUsize::new(0);
+    let sink = MemorySink::with_room(alloc, 100, 100, Vec::new(alloc))?;
+    let mut out = CountSink {
+        sink,
+        lines: &lines,
+    };
+    let gate = PairGate {
+        lines: &lines,
+        begun: [AtomicUsize::new(0), AtomicUsize::new(0), AtomicUsize::new(0)],
+        noted: AtomicUsize::new(0),
+        broken: AtomicBool::new(false),
+    };
+    let requests = "w 0 5\nw 1 5\nw 2 5\nw 3 5\nw 4 5\nw 5 5\n";
+    let end = serve_past(rt, alloc, ("2", requests, 1), &mut out, &gate)?;
+    let is_all = are_lines(alloc, out.sink.bytes(), 6)?;
+    let noted = gate.noted.load(Ordering::SeqCst);
+    Ok((end, noted >= 2, is_all, gate.broken.load(Ordering::SeqCst)))
+}
+
+/// What another caller served is written while tickets are left: both callers have ended two tickets
+/// when the last two are begun, so the lines of the first two stand there.
+#[test]
+fn lines_of_another_caller_are_written_too(rt: HostRuntime) -> Result<(), Fail> {
+    assert_eq!(rt; paired_session(&rt, rt.alloc())?, ((0, true), true, true, false));
     Ok(())
 }
