@@ -1,12 +1,12 @@
 // Requests of several clients. What one client alone gets, and what is refused, are stored runs.
 
-use serve_core::{MemorySink, MemorySource, run};
-use std::alloc::{AllocError, Global};
+use crate::runs::{End, ran};
+use std::alloc::Global;
 use std::fmt::Write;
 use std::sync::Wait;
 use std::test::Fail;
 use std::thread::Threads;
-use worker_gate::{Gate, HoldGate, OpenGate, Place};
+use worker_gate::{HoldGate, OpenGate, Place};
 
 /// A handler that puts, two requests of a client and one of another.
 const TWO: &str = "map a; map b; handler w(k, v) { put(a, k, v); reply v; }\n\
@@ -19,50 +19,21 @@ const COUNTING: &str = "map a; handler w(v) { let n = get(a, 0); if n == nil { n
 /// How many requests each of three clients has.
 const EACH: u32 = 200;
 
-/// The words of `clients` by so many callers.
-fn words_of(alloc: Global, callers: &str) -> Result<Vec<String>, AllocError> {
-    let mut words = Vec::new(alloc);
-    for word in ["clients", "--callers", callers] {
-        words.push(String::from_str(alloc, word)?)?;
-    }
-    Ok(words)
-}
-
-/// The status of a run past a gate, how many requests its last round served, and what it wrote.
-fn gathered<R: Threads + Wait + Sync, G: Gate + Sync>(
-    rt: &R,
-    alloc: Global,
-    (callers, text): (&str, &str),
-    gate: &G,
-) -> Result<(u8, usize, MemorySink), Fail> {
-    let words = words_of(alloc, callers)?;
-    let input = String::from_str(alloc, text)?.into_bytes();
-    let mut source = MemorySource::new(input, 65_536, Vec::new(alloc));
-    let mut out = MemorySink::with_room(alloc, 20_000, 1000, Vec::new(alloc))?;
-    let mut err = MemorySink::with_room(alloc, 1000, 100, Vec::new(alloc))?;
-    let outcome = run(rt, alloc, &words, &mut source, &mut out, &mut err, gate);
-    let last = match &outcome.closed {
-        Some(closed) => closed.replies().as_slice().len(),
-        None => 0,
-    };
-    Ok((outcome.status.number(), last, out))
-}
-
 /// How a run ends of which a client is held behind its first request until the other client has
 /// sent one, whether the gate held, and whether one of two texts was written.
-fn held<R: Threads + Wait + Sync>(rt: &R, alloc: Global) -> Result<(u8, usize, bool, bool), Fail> {
+fn held<R: Threads + Wait + Sync>(rt: &R, alloc: Global) -> Result<(End, bool, bool), Fail> {
     let gate = HoldGate::new(Place::Sent(0, 0), Place::Sent(1, 0), 10_000_000);
-    let (status, last, out) = gathered(rt, alloc, ("4", TWO), &gate)?;
-    let one = out.bytes() == "0 0 5\n0 2 6\n1 1 7\n".as_bytes();
-    let two = out.bytes() == "0 1 5\n0 2 6\n1 0 7\n".as_bytes();
-    Ok((status, last, !gate.broken(), one || two))
+    let (end, ends) = ran(rt, alloc, ("clients --callers 4", TWO.as_bytes()), &gate)?;
+    let one = ends.out.bytes() == "0 0 5\n0 2 6\n1 1 7\n".as_bytes();
+    let two = ends.out.bytes() == "0 1 5\n0 2 6\n1 0 7\n".as_bytes();
+    Ok((end, !gate.broken(), one || two))
 }
 
 /// Feeders run beside each other.
 #[test]
 fn a_client_sends_while_another_is_held(rt: HostRuntime) -> Result<(), Fail> {
     let found = held(&rt, rt.alloc())?;
-    assert_eq!(rt; found, (0, 3, true, true));
+    assert_eq!(rt; found, ((0, Some(3)), true, true));
     Ok(())
 }
 
@@ -114,19 +85,21 @@ fn are_lines(text: &str) -> bool {
 
 /// How 600 requests of three clients are served, how many the last round had, and whether the lines
 /// are right: a request's ticket is what was counted before it, also over the end of a round.
-fn rounds<R: Threads + Wait + Sync>(rt: &R, alloc: Global) -> Result<(u8, usize, bool), Fail> {
+fn rounds<R: Threads + Wait + Sync>(rt: &R, alloc: Global) -> Result<(End, bool), Fail> {
     let text = counting(alloc)?;
-    let (status, last, out) = gathered(rt, alloc, ("32", text.as_str()), &OpenGate)?;
-    let Ok(lines) = std::str::from_utf8(out.bytes()) else {
-        return Ok((status, last, false));
+    let command = "clients --callers 32";
+    let (end, ends) = ran(rt, alloc, (command, text.as_bytes()), &OpenGate)?;
+    let is_right = match std::str::from_utf8(ends.out.bytes()) {
+        Ok(lines) => are_lines(lines),
+        Err(_) => false,
     };
-    Ok((status, last, are_lines(lines)))
+    Ok((end, is_right))
 }
 
 #[test]
 fn three_rounds_of_three_clients(rt: HostRuntime) -> Result<(), Fail> {
     let found = rounds(&rt, rt.alloc())?;
-    assert_eq!(rt; found, (0, 88, true));
+    assert_eq!(rt; found, ((0, Some(88)), true));
     Ok(())
 }
 

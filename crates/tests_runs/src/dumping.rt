@@ -1,10 +1,11 @@
 // Opening tables, and dumps of the final ones.
 
-use crate::runs::{WHOLE, ends_over, run_to_end, wrote};
+use crate::runs::{ran, wrote};
 use std::alloc::{AllocError, Global};
 use std::sync::Wait;
 use std::test::Fail;
 use std::thread::Threads;
+use worker_gate::OpenGate;
 
 /// Handlers whose sessions are dumped.
 const HANDLERS: &str = "map seats; set online;\n\
@@ -20,10 +21,8 @@ fn run_over<R: Threads + Wait + Sync>(
     out: &[u8],
 ) -> Result<(u8, bool, bool), Fail> {
     let text = joined(alloc, parts)?;
-    let moves = (WHOLE, WHOLE, WHOLE);
-    let mut ends = ends_over(alloc, command, text.as_str().as_bytes(), moves)?;
-    let (status, is_closed) = run_to_end(rt, alloc, &mut ends);
-    Ok((status, is_closed, wrote(&ends, out, "")))
+    let ((status, served), ends) = ran(rt, alloc, (command, text.as_bytes()), &OpenGate)?;
+    Ok((status, served.is_some(), wrote(&ends, out, "")))
 }
 
 /// Parts of a file, one after another.

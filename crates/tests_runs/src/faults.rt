@@ -21,7 +21,8 @@ fn failing_session<R: Threads + Wait + Sync>(
     let mut fails = Vec::new(alloc);
     fails.push(call)?;
     let mut out = MemorySink::with_room(alloc, 2000, 3, fails)?;
-    let (status, is_closed) = serve_past(rt, alloc, ("32", "w 0 5\n", 100), &mut out, &OpenGate)?;
+    let session = ("serve --callers 32", "w 0 5\n", 100);
+    let (status, is_closed) = serve_past(rt, alloc, session, &mut out, &OpenGate)?;
     let bytes = out.bytes();
     Ok((status, is_closed, FRONT.starts_with(bytes)))
 }

@@ -1,10 +1,11 @@
 // Broken input, and ends that fail at each of their calls in turn.
 
-use crate::runs::{Moves, WHOLE, ends_over, run_to_end, wrote};
+use crate::runs::{Moves, WHOLE, ends_over, ran, run_past, wrote};
 use std::alloc::Global;
 use std::sync::Wait;
 use std::test::Fail;
 use std::thread::Threads;
+use worker_gate::OpenGate;
 
 /// Handlers of sign-ins, in 172 bytes, and three requests behind them, in 44.
 const SESSION: &[u8] =
@@ -24,8 +25,7 @@ fn is_fine_or_refused<R: Threads + Wait + Sync>(
     count: usize,
 ) -> Result<bool, Fail> {
     let front = SESSION.get(..count).unwrap_or(SESSION);
-    let mut ends = ends_over(alloc, "check", front, (WHOLE, WHOLE, WHOLE))?;
-    let (status, _) = run_to_end(rt, alloc, &mut ends);
+    let ((status, _), ends) = ran(rt, alloc, ("check", front), &OpenGate)?;
     if FINE.contains(&count) {
         return Ok(status == 0);
     }
@@ -59,7 +59,7 @@ fn serves<R: Threads + Wait + Sync>(
     (status, count, err): (u8, usize, &str),
 ) -> Result<bool, Fail> {
     let mut ends = ends_over(alloc, "serve", SESSION, (reads, writes, WHOLE))?;
-    let (ended, _) = run_to_end(rt, alloc, &mut ends);
+    let (ended, _) = run_past(rt, alloc, &mut ends, &OpenGate);
     let front = REPLIES.get(..count).unwrap_or(REPLIES);
     Ok(ended == status && wrote(&ends, front, err))
 }
@@ -114,7 +114,7 @@ fn untold<R: Threads + Wait + Sync>(
 ) -> Result<(u8, bool), Fail> {
     let moves = (WHOLE, WHOLE, (1000, Some(0)));
     let mut ends = ends_over(alloc, command, bytes, moves)?;
-    let (status, _) = run_to_end(rt, alloc, &mut ends);
+    let (status, _) = run_past(rt, alloc, &mut ends, &OpenGate);
     Ok((status, wrote(&ends, b"", "")))
 }
 

@@ -62,7 +62,13 @@ fn noted_session<R: Threads + Wait + Sync>(
         written: &written,
         noted: AtomicBool::new(false),
     };
-    let end = serve_past(rt, alloc, ("1", "w 0 5\nw 1 6\n", 1), &mut out, &gate)?;
+    let end = serve_past(
+        rt,
+        alloc,
+        ("serve --callers 1", "w 0 5\nw 1 6\n", 1),
+        &mut out,
+        &gate,
+    )?;
     let is_all = out.sink.bytes() == b"0 5\n1 6\n".as_slice();
     Ok((end, gate.noted.load(Ordering::SeqCst), is_all))
 }
@@ -82,17 +88,17 @@ fn are_lines(alloc: Global, bytes: &[u8], tickets: u32) -> Result<bool, Fail> {
     Ok(bytes == want.as_slice())
 }
 
-/// How so many callers serve 1,200 tickets past a gate, and whether all lines come, in order, where
+/// How a command serves 1,200 tickets past a gate, and whether all lines come, in order, where
 /// the sink takes so many bytes at a time.
 fn long_session<R: Threads + Wait + Sync, G: Gate + Sync>(
     rt: &R,
     alloc: Global,
-    callers: &str,
+    command: &str,
     piece: u32,
     gate: &G,
 ) -> Result<((u8, bool), bool), Fail> {
     let mut out = MemorySink::with_room(alloc, 20_000, piece.max(1), Vec::new(alloc))?;
-    let end = serve_past(rt, alloc, (callers, "w 0 5\n", 1200), &mut out, gate)?;
+    let end = serve_past(rt, alloc, (command, "w 0 5\n", 1200), &mut out, gate)?;
     Ok((end, are_lines(alloc, out.bytes(), 1200)?))
 }
 
@@ -101,7 +107,7 @@ fn long_session<R: Threads + Wait + Sync, G: Gate + Sync>(
 #[test]
 fn a_full_lane_loses_nothing(rt: HostRuntime) -> Result<(), Fail> {
     let gate = HoldGate::new(Place::Begun(0), Place::Ended(1150), 10_000_000);
-    let found = long_session(&rt, rt.alloc(), "2", 1000, &gate)?;
+    let found = long_session(&rt, rt.alloc(), "serve --callers 2", 1000, &gate)?;
     assert_eq!(rt; (found, gate.broken()), (((0, true), true), false));
     Ok(())
 }
@@ -109,7 +115,7 @@ fn a_full_lane_loses_nothing(rt: HostRuntime) -> Result<(), Fail> {
 /// A sink that takes one byte a call gets all lines, in order.
 #[test]
 fn a_byte_at_a_time(rt: HostRuntime) -> Result<(), Fail> {
-    let found = long_session(&rt, rt.alloc(), "4", 1, &OpenGate)?;
+    let found = long_session(&rt, rt.alloc(), "serve --callers 4", 1, &OpenGate)?;
     assert_eq!(rt; found, ((0, true), true));
     Ok(())
 }

@@ -5,7 +5,7 @@ use std::alloc::{AllocError, Global};
 use std::sync::Wait;
 use std::test::Fail;
 use std::thread::Threads;
-use worker_gate::OpenGate;
+use worker_gate::Gate;
 
 /// How many bytes an end moves at a time, and which of its calls fails, if one does.
 pub(crate) type Moves = (u32, Option<u32>);
@@ -14,7 +14,7 @@ pub(crate) type Moves = (u32, Option<u32>);
 pub(crate) const WHOLE: Moves = (1000, None);
 
 /// The words of a command line, which stand one space apart.
-fn words_of(alloc: Global, command: &str) -> Result<Vec<String>, AllocError> {
+pub(crate) fn words_of(alloc: Global, command: &str) -> Result<Vec<String>, AllocError> {
     let mut words = Vec::new(alloc);
     for word in command.split(' ') {
         words.push(String::from_str(alloc, word)?)?;
@@ -43,7 +43,7 @@ fn failing(alloc: Global, call: Option<u32>) -> Result<Vec<u32>, Fail> {
 /// A sink that takes bytes so, one at a time at least.
 fn sink_of(alloc: Global, (piece, fails): Moves) -> Result<MemorySink, Fail> {
     let calls = failing(alloc, fails)?;
-    Ok(MemorySink::with_room(alloc, 1000, piece.max(1), calls)?)
+    Ok(MemorySink::with_room(alloc, 20_000, piece.max(1), calls)?)
 }
 
 /// The ends of a run over these bytes: the source gives them so, the output takes them so, and the
@@ -65,12 +65,17 @@ pub(crate) fn ends_over(
     })
 }
 
-/// Runs, and tells the status and whether a closed hall is left.
-pub(crate) fn run_to_end<R: Threads + Wait + Sync>(
+/// The status of a run, and how many requests the hall has served that it leaves closed, if it
+/// leaves one.
+pub(crate) type End = (u8, Option<usize>);
+
+/// Runs past a gate.
+pub(crate) fn run_past<R: Threads + Wait + Sync, G: Gate + Sync>(
     rt: &R,
     alloc: Global,
     ends: &mut Ends,
-) -> (u8, bool) {
+    gate: &G,
+) -> End {
     let outcome = run(
         rt,
         alloc,
@@ -78,9 +83,25 @@ pub(crate) fn run_to_end<R: Threads + Wait + Sync>(
         &mut ends.source,
         &mut ends.out,
         &mut ends.err,
-        &OpenGate,
+        gate,
     );
-    (outcome.status.number(), outcome.closed.is_some())
+    let served = match &outcome.closed {
+        Some(closed) => Some(closed.replies().as_slice().len()),
+        None => None,
+    };
+    (outcome.status.number(), served)
+}
+
+/// How a run over these bytes ends past a gate, with what it wrote to ends that never fail.
+pub(crate) fn ran<R: Threads + Wait + Sync, G: Gate + Sync>(
+    rt: &R,
+    alloc: Global,
+    (command, bytes): (&str, &[u8]),
+    gate: &G,
+) -> Result<(End, Ends), Fail> {
+    let mut ends = ends_over(alloc, command, bytes, (WHOLE, WHOLE, WHOLE))?;
+    let end = run_past(rt, alloc, &mut ends, gate);
+    Ok((end, ends))
 }
 
 /// Whether this was written, and this on the error output.

@@ -1,5 +1,6 @@
 // Sessions of one handler that puts, served past a gate.
 
+use crate::runs::words_of;
 use serve_core::{MemorySource, Sink, SureSink, run};
 use std::alloc::{AllocError, Global};
 use std::sync::Wait;
@@ -9,7 +10,7 @@ use worker_gate::Gate;
 /// Its table and its handler, and requests behind them.
 const WRITE: &str = "map a; map b; handler w(k, v) { put(a, k, v); reply v; }\n%%\n";
 
-/// How many callers serve, and how often these requests stand behind the handler.
+/// The words of a run, and how often these requests stand behind the handler.
 pub(crate) type Session<'a> = (&'a str, &'a str, u32);
 
 /// The bytes of a session.
@@ -25,14 +26,11 @@ fn bytes_of(alloc: Global, requests: &str, times: u32) -> Result<Vec<u8>, AllocE
 pub(crate) fn serve_past<R: Threads + Wait + Sync, O: Sink, G: Gate + Sync>(
     rt: &R,
     alloc: Global,
-    (callers, requests, times): Session,
+    (command, requests, times): Session,
     out: &mut O,
     gate: &G,
 ) -> Result<(u8, bool), AllocError> {
-    let mut words = Vec::new(alloc);
-    for word in ["serve", "--callers", callers] {
-        words.push(String::from_str(alloc, word)?)?;
-    }
+    let words = words_of(alloc, command)?;
     let bytes = bytes_of(alloc, requests, times)?;
     let mut source = MemorySource::new(bytes, 65_536, Vec::new(alloc));
     let mut err = SureSink;
