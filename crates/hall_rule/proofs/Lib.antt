@@ -4,3 +4,4 @@ pub mod Wholes
 pub mod Entries
 pub mod Halls
 pub mod Counting
+pub mod Free

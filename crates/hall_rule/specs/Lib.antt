@@ -6,4 +6,5 @@ pub mod Listing
 pub mod Turns
 pub mod Halls
 pub mod Counted
+pub mod Free
 pub mod Law

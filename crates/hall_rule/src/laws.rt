@@ -1,6 +1,11 @@
 //! Laws of the rule: each is the contract of a function with an empty body.
 
 ghost use Rattle.std.specs.Prelude.{◌≡◌, ℕ, suc, ◌<◌, List, ◌∷◌, Some, length, slice_get, replicate};
+ghost use Rattle.turn_board.specs.States.{BoardState, IsFree};
+ghost use Rattle.turn_board.specs.Tied.{Tied as BoardTied};
+ghost use Rattle.hall_rule.specs.declared.held.Held.{Held as HeldOf};
+ghost use Rattle.hall_rule.specs.Free.{FreeBook};
+ghost use Rattle.hall_rule.specs.Shards.{content_of};
 ghost use Rattle.session_journal.specs.Script.{Meaning, IsScript};
 ghost use Rattle.admission_book.specs.Book.{Book};
 ghost use Rattle.hall_rule.specs.Contents.{Content, Register};
@@ -35,4 +40,13 @@ pub fn counting<S>()
         → IsScript (meaning script) → Tied meaning contents notes
         → slice_get contents 0 ≡ Some (Register script book)
         → ReplaysByTicket (meaning script) script contents notes book }
+{}
+
+/// In every state that keeps the rule of a hall's board, as each state between two atomic steps
+/// does: if no caller holds the book, it is in its slot, and its finished operations, regrouped by
+/// ticket, replay from the opening tables with the same replies, nothing being undone.
+pub fn whenever_free<S>()
+    ensures { (meaning : S → Meaning) (callers : ℕ) (s : BoardState (HeldOf S) (Content S))
+        (r : BoardTied content_of (Tied meaning) callers s) → IsFree s 0
+        → FreeBook meaning r.contents r.notes s.homes }
 {}

@@ -10,3 +10,4 @@ pub mod Moving
 pub mod Openings
 pub mod Closings
 pub mod Boards
+pub mod States
