@@ -105,19 +105,20 @@ fn three_rounds_of_three_clients(rt: HostRuntime) -> Result<(), Fail> {
 
 /// How a run ends whose client is held after its last request but one until the first ticket has
 /// ended, how many requests the last round had, and whether the gate held.
-fn sent_late<R: Threads + Wait + Sync>(rt: &R, alloc: Global) -> Result<(u8, usize, bool), Fail> {
+fn sent_late<R: Threads + Wait + Sync>(rt: &R, alloc: Global) -> Result<(End, bool), Fail> {
     let mut text = String::from_str(alloc, COUNTING)?;
     for value in 0..300u32 {
         writeln!(text, "w {value}")?;
     }
     let gate = HoldGate::new(Place::Sent(0, 298), Place::Ended(0), 10_000_000);
-    let (status, last, _out) = gathered(rt, alloc, ("4", text.as_str()), &gate)?;
-    Ok((status, last, !gate.broken()))
+    let (end, _ends) = ran(rt, alloc, ("clients --callers 4", text.as_bytes()), &gate)?;
+    Ok((end, !gate.broken()))
 }
 
 /// The first round is served, past the gate, while a client still sends.
 #[test]
 fn serves_while_a_client_still_sends(rt: HostRuntime) -> Result<(), Fail> {
-    assert_eq!(rt; sent_late(&rt, rt.alloc())?, (0, 44, true));
+    let found = sent_late(&rt, rt.alloc())?;
+    assert_eq!(rt; found, ((0, Some(44)), true));
     Ok(())
 }

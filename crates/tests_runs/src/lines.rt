@@ -180,7 +180,8 @@ impl<'a> Gate for PairGate<'a> {
                 self.wait((t / 2) as usize);
             }
             if t == 4 || t == 5 {
-                self.noted.fetch_max(self.lines.load(Ordering::SeqCst), Ordering::SeqCst);
+                self.noted
+                    .fetch_max(self.lines.load(Ordering::SeqCst), Ordering::SeqCst);
             }
         }
     }
@@ -200,12 +201,16 @@ fn paired_session<R: Threads + Wait + Sync>(
     };
     let gate = PairGate {
         lines: &lines,
-        begun: [AtomicUsize::new(0), AtomicUsize::new(0), AtomicUsize::new(0)],
+        begun: [
+            AtomicUsize::new(0),
+            AtomicUsize::new(0),
+            AtomicUsize::new(0),
+        ],
         noted: AtomicUsize::new(0),
         broken: AtomicBool::new(false),
     };
     let requests = "w 0 5\nw 1 5\nw 2 5\nw 3 5\nw 4 5\nw 5 5\n";
-    let end = serve_past(rt, alloc, ("2", requests, 1), &mut out, &gate)?;
+    let end = serve_past(rt, alloc, ("serve --callers 2", requests, 1), &mut out, &gate)?;
     let is_all = are_lines(alloc, out.sink.bytes(), 6)?;
     let noted = gate.noted.load(Ordering::SeqCst);
     Ok((end, noted >= 2, is_all, gate.broken.load(Ordering::SeqCst)))
@@ -215,6 +220,9 @@ fn paired_session<R: Threads + Wait + Sync>(
 /// when the last two are begun, so the lines of the first two stand there.
 #[test]
 fn lines_of_another_caller_are_written_too(rt: HostRuntime) -> Result<(), Fail> {
-    assert_eq!(rt; paired_session(&rt, rt.alloc())?, ((0, true), true, true, false));
+    assert_eq!(rt;
+        paired_session(&rt, rt.alloc())?,
+        ((0, true), true, true, false)
+    );
     Ok(())
 }
