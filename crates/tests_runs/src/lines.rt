@@ -210,7 +210,13 @@ fn paired_session<R: Threads + Wait + Sync>(
         broken: AtomicBool::new(false),
     };
     let requests = "w 0 5\nw 1 5\nw 2 5\nw 3 5\nw 4 5\nw 5 5\n";
-    let end = serve_past(rt, alloc, ("serve --callers 2", requests, 1), &mut out, &gate)?;
+    let end = serve_past(
+        rt,
+        alloc,
+        ("serve --callers 2", requests, 1),
+        &mut out,
+        &gate,
+    )?;
     let is_all = are_lines(alloc, out.sink.bytes(), 6)?;
     let noted = gate.noted.load(Ordering::SeqCst);
     Ok((end, noted >= 2, is_all, gate.broken.load(Ordering::SeqCst)))
