@@ -6,7 +6,7 @@ ghost use Rattle.session_values.specs.Kinds.{home};
 ghost use Rattle.session_values.specs.Tables.{kind_of};
 ghost use Rattle.symbolic_ops.specs.Symbol.{IsSymbol};
 
-use commute_tables::{commute, commute_symbol};
+use commute_tables::{commute, commute_symbol, commute_symbols};
 use plain_tables::PlainTables;
 use session_values::{Kind, Op, TableKind, Value};
 use std::alloc::Global;
@@ -230,4 +230,45 @@ fn worked_bumps(rt: HostRuntime) {
 fn bumps_by_no_number_and_by_zero(rt: HostRuntime) {
     is_right(&rt, rt.alloc(), 1, 0);
     is_right(&rt, rt.alloc(), 2, 0);
+}
+
+// Whether each operation of the one symbol commutes with each one of the other, asked in both
+// orders.
+fn told_of_symbols(a: &Symbol, b: &Symbol) -> [bool; 2] {
+    if a.has_no_var() && b.has_no_var() {
+        [commute_symbols(a, b), commute_symbols(b, a)]
+    } else {
+        [true, false]
+    }
+}
+
+#[test]
+fn worked_pairs_of_symbols(rt: HostRuntime) {
+    let one = Arg::Known(Value::Num(1));
+    let two = Arg::Known(Value::Num(2));
+    let zero = Arg::Known(Value::Num(0));
+    let nil = Arg::Known(Value::Nil);
+    let any_puts = Symbol::new(Kind::Put, 0, Arg::Any, Arg::Any);
+    let puts_of_one = Symbol::new(Kind::Put, 0, Arg::Any, one);
+    let puts_at_two = Symbol::new(Kind::Put, 0, two, Arg::Any);
+    let gets_at_one = Symbol::new(Kind::Get, 0, one, nil);
+    let any_gets = Symbol::new(Kind::Get, 0, Arg::Any, nil);
+    let any_bumps = Symbol::new(Kind::Bump, 0, Arg::Any, Arg::Any);
+    let bumps_by_zero = Symbol::new(Kind::Bump, 0, Arg::Any, zero);
+    let any_adds = Symbol::new(Kind::Add, 0, Arg::Any, nil);
+    let told = [
+        told_of_symbols(&any_puts, &any_puts),
+        told_of_symbols(&puts_of_one, &puts_of_one),
+        told_of_symbols(&puts_of_one, &any_puts),
+        told_of_symbols(&puts_at_two, &gets_at_one),
+        told_of_symbols(&puts_at_two, &any_gets),
+        told_of_symbols(&any_gets, &gets_at_one),
+        told_of_symbols(&any_bumps, &any_bumps),
+        told_of_symbols(&any_bumps, &puts_of_one),
+        told_of_symbols(&bumps_by_zero, &any_puts),
+        told_of_symbols(&any_adds, &any_puts),
+    ];
+    let yes = [true, true];
+    let no = [false, false];
+    assert!(rt; told == [no, yes, no, yes, no, yes, yes, no, yes, yes]);
 }
