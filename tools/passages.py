@@ -1,0 +1,60 @@
+#!/usr/bin/env python3
+"""Looks at the passages of all documents: tools/passages.py.
+
+No paragraph, bullet or row of a table has more than 900 characters; a file that is named in back
+quotes is there; and the documents that users read have none of the words of PLAIN.
+"""
+import glob
+import os
+import re
+import sys
+
+LONGEST = 900
+USERS = ["README.md", "SECURITY.md", "CONTRIBUTING.md", "docs/TOUR.md", "docs/LANGUAGE.md",
+         "docs/LIBRARY.md", "docs/PERFORMANCE.md", "docs/TESTING.md"]
+READERS = ["docs/MAP.md", "docs/PROOF.md", "docs/PROVED.md", "docs/DEFINITIONS.md",
+           "docs/DECISIONS.md"]
+PLAIN = re.compile(r"\b(wants? of memory|wants? memory|wanted? memory|in vain|(?:is|are) told|"
+                   r"stands? behind|hangs? on|where it is there)\b")
+FILE = re.compile(r"`((?:crates|docs|bench|tools|checks|examples|editors|embedding|edits|\.ci)/"
+                  r"[\w./-]+)`")
+
+
+def passages(text):
+    """The paragraphs, bullets and rows of a text, each with its first line; no block of code."""
+    inside, first, lines = False, 0, []
+    for at, line in enumerate(text.split("\n") + [""], 1):
+        mark = line.startswith("```")
+        if inside or mark or not line.strip() or re.match(r"\s*(- |\d+\. |\||#|    )", line):
+            if lines:
+                yield first, "\n".join(lines)
+            first, lines = at, []
+        inside = inside != mark
+        if not inside and not mark and line.strip():
+            lines.append(line)
+
+
+def faults():
+    """What is wrong with the documents."""
+    found = []
+    for name in USERS + READERS + ["CHANGELOG.md", "crates/README.md"] + glob.glob("*/README.md"):
+        if not os.path.exists(name):
+            continue
+        with open(name, encoding="utf-8") as document:
+            text = document.read()
+        for first, passage in passages(text):
+            if len(passage) > LONGEST:
+                found.append(f"{name}:{first}: {len(passage)} characters")
+            if name in USERS + READERS and (said := PLAIN.search(passage)):
+                found.append(f"{name}:{first}: '{said[0]}'")
+        for file in FILE.findall(text):
+            path = file.split(":")[0].rstrip(".")
+            if "/out/" not in path and not os.path.exists(path) and not re.search(r"NAME|/X/", path):
+                found.append(f"{name}: there is no {path}")
+    return found
+
+
+if __name__ == "__main__":
+    os.chdir(os.path.join(os.path.dirname(os.path.realpath(__file__)), ".."))
+    print("\n".join(faults()) or "passages: as they should be")
+    sys.exit(bool(faults()))
