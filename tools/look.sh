@@ -27,7 +27,7 @@ build() {
 #!/usr/bin/env bash
 words=()
 for word; do
-  case \$word in -fsanitize=address) ;; *) words+=("\$word") ;; esac
+  case \$word in -fsanitize=address) ;; -O0) words+=(-O1) ;; *) words+=("\$word") ;; esac
 done
 exec "$kit/toolchain/bin/clang" "\${words[@]}"
 COMPILER
