@@ -1,5 +1,6 @@
 #!/usr/bin/env bash
-# Builds foresight and foresight_where WITHOUT their proofs, for a first look: tools/look.sh.
+# Builds foresight and foresight_where WITHOUT their proofs, for a first look: tools/look.sh [NAME..].
+# With names it builds these programs of crates/.
 #
 # They are left in target/look/, where README.md and docs/TOUR.md name them. They do what the proved
 # programs do, a little slower; the proved programs come by .ci/run. `rt try` builds a program, runs
@@ -12,10 +13,9 @@ work=$(mktemp -d)
 trap 'rm -rf "$work"' EXIT
 mkdir -p target/look
 
-# Builds a program and runs it once with the words that follow, on an empty input.
+# Builds a program, which runs once, without words and on an empty input.
 build() {
   local name=$1 own=$work/$1
-  shift
   # A kit of links, but for compiler and linker, and for `rt`, which finds its kit beside itself.
   mkdir -p "$own/bin" "$own/toolchain/bin"
   ln -s "$kit"/[!bt]* "$own/"
@@ -36,13 +36,17 @@ COMPILER
 "$kit/toolchain/bin/ld.lld" "\$@" && cp program "$own/kept"
 LINKER
   chmod +x "$own"/toolchain/bin/{clang,ld.lld}
-  (cd "crates/$name" && "$own/bin/rt" try -- "$@" < /dev/null) > "$own/log" 2>&1 || true
+  (cd "crates/$name" && "$own/bin/rt" try < /dev/null) > "$own/log" 2>&1 || true
   [ -x "$own/kept" ] || { cat "$own/log"; return 1; }
   mv "$own/kept" "target/look/$name"
 }
 
-echo "building foresight and foresight_where without their proofs (one to two minutes)"
-build foresight check &
-build foresight_where --rules
-wait $!
-echo "target/look/foresight and target/look/foresight_where are there. They are UNPROVED."
+[ $# -gt 0 ] || set -- foresight foresight_where
+echo "building $* without proof (one to two minutes where nothing else runs)"
+builders=()
+for name; do
+  build "$name" &
+  builders+=($!)
+done
+for builder in "${builders[@]}"; do wait "$builder"; done
+for name; do echo "target/look/$name is there. It is UNPROVED."; done
