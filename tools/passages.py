@@ -2,7 +2,7 @@
 """Looks at the passages of all documents: tools/passages.py.
 
 No paragraph, bullet or row of a table has more than 900 characters; a file that is named in back
-quotes is there; and the documents that users read have none of the words of PLAIN.
+quotes is there, and so are the clauses that README.md names; and no document has the words of PLAIN.
 """
 import glob
 import os
@@ -18,6 +18,8 @@ PLAIN = re.compile(r"\b(wants? of memory|wants? memory|wanted? memory|in vain|(?
                    r"stands? behind|hangs? on|where it is there)\b")
 FILE = re.compile(r"`((?:crates|docs|bench|tools|checks|examples|editors|embedding|edits|\.ci)/"
                   r"[\w./-]+)`")
+BELOW = re.compile(r"`(\w+/(?:src|specs|proofs)(?:/[\w/]+\.(?:rt|antt))?)`")
+CLAUSE = re.compile(r"\| .* \| ((?:`\w+`,? )+(?:of `\w+`)?,? ?)`(crates/[\w/]+\.(?:rt|antt))`")
 
 
 def passages(text):
@@ -32,6 +34,16 @@ def passages(text):
         inside = inside != mark
         if not inside and not mark and line.strip():
             lines.append(line)
+
+
+def clauses(text):
+    """The clauses that the first page names and their files don't have."""
+    for names, path in CLAUSE.findall(text):
+        with open(path, encoding="utf-8") as given:
+            code = given.read()
+        for each in re.findall(r"`(\w+)`", names):
+            if not re.search(rf"\b{each}\b", code):
+                yield f"README.md: no {each} in {path}"
 
 
 def faults():
@@ -51,6 +63,10 @@ def faults():
             path = file.split(":")[0].rstrip(".")
             if "/out/" not in path and not os.path.exists(path) and not re.search(r"NAME|/X/", path):
                 found.append(f"{name}: there is no {path}")
+        found += [f"{name}: there is no crates/{path}" for path in BELOW.findall(text)
+                  if not os.path.exists("crates/" + path)]
+        if name == "README.md":
+            found += clauses(text)
     return found
 
 
