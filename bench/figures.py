@@ -15,7 +15,7 @@ import svg
 HERE = os.path.dirname(os.path.realpath(__file__))
 COLOURS = ["#4a7fb0", "#5b9a68", "#c08a2e", "#9a5fa0", "#b3554a", "#4f9c97", "#6b6b6b", "#a06a3c"]
 SHADES = {1: "#9dc3e6", 2: "#6fa3d2", 4: "#4a7fb0", 8: "#2f5b85"}
-WIDTH, SCALE = 760, 26
+WIDTH, SCALE = 820, 56
 STYLES = f"""
 text {{ {svg.FONT}; font-size: 12px; fill: #222 }}
 .title {{ font-size: 14px; font-weight: bold }}
@@ -52,12 +52,13 @@ def draw_peers(sessions, note):
     for session, ratios in sessions.items():
         drawing.write("name", left, y + 11, session)
         y += 17
-        drawing.line("one", left + SCALE, y - 2, left + SCALE, y + 13 * len(ratios))
+        top = y
         for callers, ratio in ratios.items():
             drawing.box("bar", left, y, SCALE * ratio, 11, fill=SHADES[callers],
                         hover=f"{session}, {named(callers)}: {ratio:g}")
             drawing.write("small", left + SCALE * ratio + 5, y + 9.5, f"{ratio:g}")
             y += 13
+        drawing.line("one", left + SCALE, top - 2, left + SCALE, y)
         y += 10
     drawing.write("small", left, y + 10, note)
     return drawing.text(WIDTH, y + 22)

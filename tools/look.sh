@@ -42,7 +42,7 @@ LINKER
 }
 
 [ $# -gt 0 ] || set -- foresight foresight_where
-echo "building $* without proof (one to two minutes where nothing else runs)"
+echo "building $* without proof (one to three minutes)"
 builders=()
 for name; do
   build "$name" &
