@@ -11,7 +11,7 @@ import sys
 
 HEAD = """# Crates by layer
 
-Made by `tools/crates_readme.py` from `crates.txt` and `docs/MAP.md`. The lowest layer comes first: with one exception (`handler_syntax` uses `check_rules`) a crate uses crates further up on this page only. A layer's entry crate is bold. In each crate `specs/` has the definitions that its contracts cite (read these first), `src/` the code with its contracts, `proofs/` the proofs."""
+Made by `tools/crates_readme.py` from `crates.txt` and `docs/MAP.md`. The lowest layer comes first: {order}. A layer's entry crate is bold. In each crate `specs/` has the definitions that its contracts cite (read these first), `src/` the code with its contracts, `proofs/` the proofs."""
 
 
 def rows_of(path):
@@ -27,14 +27,25 @@ def rows_of(path):
     return found
 
 
+def order_of(crates):
+    """What is said of the order: which crates use one further down."""
+    rows = [line.split("#")[0].partition(":") for line in crates.split("\n")]
+    names = [head.split()[0] for head, _, _ in rows if head.strip()]
+    below = [used.split() for head, _, used in rows if head.strip()]
+    later = [f"`{name}` uses `{used}`" for at, name in enumerate(names)
+             for used in below[at] if used in names[at + 1:]]
+    return "a crate uses only crates further up on this page" + (
+        f", except that {', '.join(later)}" if later else "")
+
+
 def page(crates, rows):
     """The lines of the page, and the names of the crates that it has."""
-    lines, names, doors = [HEAD], [], []
+    lines, names, doors = [HEAD.format(order=order_of(crates))], [], []
     for line in crates.split("\n"):
         if re.match(r"# [A-Z][\w ]*[,:]", line) and "Each crate" not in line:
             head, _, text = line[2:].partition(":")
             doors = re.findall(r"door (\w+)", head)
-            lines += ["", f"## {head.split(',')[0]}", "", text.strip().capitalize(), "",
+            lines += ["", f"## {head.split(',')[0]}", "", text.strip()[:1].upper() + text.strip()[1:], "",
                       "| Crate | What it is for | Entry points |", "|---|---|---|"]
         elif line and not line.startswith("#"):
             name = line.split(":")[0].split()[0]

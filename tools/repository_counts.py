@@ -1,9 +1,10 @@
 #!/usr/bin/env python3
-"""Compares the numbers that documents tell of the repository with the repository: tools/repository_counts.py.
+"""Compares the numbers that documents tell of the repository: tools/repository_counts.py [--write].
 
 With --write it puts the right ones into the documents. COUNTS has what is counted, PHRASES the
 words beside which a number is one of these: `#` stands for the number. A paragraph or a table's row
-that begins with or contains a date (2026-..) tells of that day, and is left as it is.
+that has a date (2026-..) tells of that day, and is left as it is. A number of crates, edits, cases,
+promises or lines that no phrase compares is a fault.
 """
 import glob
 import os
@@ -40,6 +41,25 @@ def crates():
         return len([line for line in given if line.strip() and not line.startswith("#")])
 
 
+def uses():
+    """For each crate those that it uses, by crates.txt."""
+    with open("crates.txt", encoding="utf-8") as given:
+        lines = [line.split("#")[0].partition(":") for line in given]
+    found = {head.split()[0]: below.split() for head, _, below in lines if head.strip()}
+    return {name: [each for each in below if each in found] for name, below in found.items()}
+
+
+def chain(top):
+    """How many crates the longest chain up to a crate has."""
+    crates_below, known = uses(), {}
+
+    def depth(name):
+        if name not in known:
+            known[name] = 1 + max(map(depth, crates_below[name]), default=0)
+        return known[name]
+    return depth(top)
+
+
 def promises():
     """How many rows the table of promises has."""
     with open("docs/PROVED.md", encoding="utf-8") as given:
@@ -57,6 +77,8 @@ COUNTS = {
     "edits": lambda: files("crates/*/must-fail/*.edit", "edits/*/*.edit"),
     "stored cases": cases,
     "promises": promises,
+    "chain up to the program": lambda: chain("foresight"),
+    "chain up to the library for C": lambda: chain("foresight_c"),
     "thousand lines of code": lambda: thousands("crates/*/src/**/*.rt"),
     "thousand lines of specs and proofs": lambda: thousands("crates/*/specs/**/*.antt",
                                                             "crates/*/proofs/**/*.antt"),
@@ -73,9 +95,16 @@ PHRASES = {
     "# edits in all": "edits",
     "# stored cases": "stored cases",
     "# promises": "promises",
+    "longest chain of crates is # up to the program": "chain up to the program",
+    "up to the program, # with the C library": "chain up to the library for C",
     "# thousand lines of code": "thousand lines of code",
     "# thousand of definitions and proofs": "thousand lines of specs and proofs",
 }
+
+
+# Numbers that tell of the repository, in whatever phrase; `at most` tells of a rule.
+OTHER = re.compile(r"(?<!at most )\b\d[\d,]* (?:crates(?!/)|must-fail edits|edits|stored cases|promises"
+                   r"|thousand lines)\b")
 
 
 def pattern_of(phrase):
@@ -98,10 +127,12 @@ def look(name, counted, write):
     for at, piece in enumerate(text):
         if re.search(r"\b20\d\d-\d\d", piece):
             continue
+        compared = []
         for phrase, what in PHRASES.items():
             def put(match, what=what):
                 nonlocal found
                 found += 1
+                compared.append(match[0])
                 told = int(match[1].replace(",", ""))
                 if told != counted[what]:
                     wrong.append(f"{name}: {' '.join(match[0].split())}: there are {counted[what]}")
@@ -109,6 +140,9 @@ def look(name, counted, write):
                 end = match.end(1) - match.start()
                 return f"{whole[:start]}{counted[what]:,}{whole[end:]}"
             text[at] = pattern_of(phrase).sub(put, text[at])
+        wrong += [f"{name}: no phrase of tools/repository_counts.py has '{other}'"
+                  for other in OTHER.findall(piece)
+                  if not any(other in each for each in compared)]
     if write and wrong:
         with open(name, "w", encoding="utf-8") as document:
             document.write("".join(text))
