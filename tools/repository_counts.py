@@ -11,7 +11,7 @@ import os
 import re
 import sys
 
-DOCUMENTS = ["README.md", "SECURITY.md", "CONTRIBUTING.md", "crates/README.md"]
+DOCUMENTS = ["README.md", "SECURITY.md", "CONTRIBUTING.md", *sorted(glob.glob("*/README.md"))]
 
 
 def files(*patterns):
