@@ -2,14 +2,15 @@
 """Looks at the passages of all documents: tools/passages.py.
 
 No paragraph, bullet or row of a table has more than 900 characters; a file that is named in back
-quotes is there, and so are the clauses that README.md names; and no document has the words of PLAIN.
+quotes is there, and so are the clauses that README.md names; README.md is a page of 120 lines and
+1,500 words at most; and no document has the words of PLAIN.
 """
 import glob
 import os
 import re
 import sys
 
-LONGEST = 900
+LONGEST, LINES, WORDS = 900, 120, 1500
 USERS = ["README.md", "SECURITY.md", "CONTRIBUTING.md", "docs/TOUR.md", "docs/LANGUAGE.md",
          "docs/LIBRARY.md", "docs/PERFORMANCE.md", "docs/TESTING.md"]
 READERS = ["docs/MAP.md", "docs/PROOF.md", "docs/PROVED.md", "docs/DEFINITIONS.md",
@@ -67,6 +68,8 @@ def faults():
                   if not os.path.exists("crates/" + path)]
         if name == "README.md":
             found += clauses(text)
+            if text.count("\n") > LINES or len(text.split()) > WORDS:
+                found.append(f"{name}: more than {LINES} lines or {WORDS} words")
     return found
 
 
