@@ -1,23 +1,21 @@
 #!/usr/bin/env python3
-"""Draws figures of time: bench/figures.py [FILE] writes into docs/figures.
+"""Draws figures of time: bench/figures.py [FOLDER] writes peers.svg and callers.svg.
 
-FILE (by default bench/figures.csv) has a line a measurement: session, peer, callers,
-milliseconds; of the lines that begin with # the first one stands below each picture. A file of
-JSON has a list of objects with these names, or with `best` in seconds and the callers behind the
-peer's name. peers.svg has a bar for each peer and session, as a multiple of the time of the first
-peer of the file; callers.svg has a line for each session, by the number of callers, as a part of
-the time of one.
+The folder is docs/figures by default. bench/figures.csv has a line for each session: its name, and
+for each number of callers the time as a multiple of a sequential program's. The first line that
+begins with # stands below each picture. peers.svg has these multiples as bars; callers.svg has a
+line for each session, by the number of callers, as a part of the time of one.
 """
 import csv
-import json
 import os
 import sys
 
 import svg
 
-PEER = "foresight"
+HERE = os.path.dirname(os.path.realpath(__file__))
 COLOURS = ["#4a7fb0", "#5b9a68", "#c08a2e", "#9a5fa0", "#b3554a", "#4f9c97", "#6b6b6b", "#a06a3c"]
 SHADES = {1: "#9dc3e6", 2: "#6fa3d2", 4: "#4a7fb0", 8: "#2f5b85"}
+WIDTH, SCALE = 820, 56
 STYLES = f"""
 text {{ {svg.FONT}; font-size: 12px; fill: #222 }}
 .title {{ font-size: 14px; font-weight: bold }}
@@ -29,124 +27,84 @@ text {{ {svg.FONT}; font-size: 12px; fill: #222 }}
 
 
 def read(path):
-    """Rows of session, peer, callers, milliseconds, and what stands below the pictures."""
+    """Each session's name with its ratios by the number of callers, and what stands below."""
     with open(path, encoding="utf-8") as given:
-        if path.endswith(".json"):
-            return [row_of(row) for row in json.load(given)], ""
         lines = given.readlines()
-    notes = [line[1:].strip() for line in lines if line.startswith("#")]
-    rows = csv.DictReader(line for line in lines if not line.startswith("#"))
-    return [row_of(row) for row in rows], (notes or [""])[0]
+    note = next(line[1:].strip() for line in lines if line.startswith("#"))
+    rows = csv.reader(line for line in lines if not line.startswith("#"))
+    _, *counts = next(rows)
+    return {name.replace("`", ""): dict(zip(map(int, counts), map(float, ratios)))
+            for name, *ratios in rows}, note
 
 
-def row_of(row):
-    """A row from its fields."""
-    peer, _, behind = row["peer"].partition(" ")
-    callers = row.get("callers") or (behind if behind.isdigit() else 1)
-    time = row["milliseconds"] if "milliseconds" in row else 1000 * row["best"]
-    return row["session"], peer, int(callers), float(time)
+def named(callers):
+    """A number of callers in words."""
+    return f"{callers} caller{'s' if callers > 1 else ''}"
 
 
-def ordered(values):
-    """Each value once, in the order in which they come."""
-    return list(dict.fromkeys(values))
-
-
-def label(peer, callers):
-    """What a bar is called."""
-    return peer if peer != PEER else f"{peer}, {callers} caller{'s' if callers > 1 else ''}"
-
-
-def draw_peers(rows, note):
-    """Bars by session, as multiples of the first peer's time."""
-    times = {(session, peer, callers): time for session, peer, callers, time in rows}
-    bars = [bar for bar in ordered(row[1:3] for row in rows) if bar[0] != PEER or bar[1] in (1, 4)]
-    base, left, scale = bars[0], 110, 34
-    sessions = ordered(row[0] for row in rows)
-    drawing, y = svg.Drawing("Time of whole processes by session", STYLES), 66
-    drawing.write("title", 12, 22, f"Time as a multiple of {base[0]}'s")
-    put_legend(drawing, bars[1:])
-    top = y
-    for session in sessions:
-        drawing.write("name", 12, y + 14, session)
-        own = times[session, *base]
-        drawing.write("small", 12, y + 28, f"1 is {own:.0f} ms")
-        for bar in bars[1:]:
-            time = times[session, *bar]
-            width = scale * time / own
-            drawing.box("bar", left, y, width, 11, fill=colour_of(bar),
-                        hover=f"{session}, {label(*bar)}: {time:.1f} ms")
-            drawing.write("small", left + width + 5, y + 9.5, f"{time / own:.1f}")
+def draw_peers(sessions, note):
+    """Bars by session, as multiples of the sequential program's time."""
+    drawing, left, y = svg.Drawing("Time of whole processes by session", STYLES), 12, 66
+    drawing.write("title", left, 22, "Time as a multiple of a sequential program's (dashed: 1)")
+    for at, callers in enumerate(SHADES):
+        drawing.box("bar", left + 110 * at, 36, 14, 11, fill=SHADES[callers])
+        drawing.write("small", left + 110 * at + 20, 46, named(callers))
+    for session, ratios in sessions.items():
+        drawing.write("name", left, y + 11, session)
+        y += 17
+        top = y
+        for callers, ratio in ratios.items():
+            drawing.box("bar", left, y, SCALE * ratio, 11, fill=SHADES[callers],
+                        hover=f"{session}, {named(callers)}: {ratio:g}")
+            drawing.write("small", left + SCALE * ratio + 5, y + 9.5, f"{ratio:g}")
             y += 13
-        y += 12
-    drawing.line("one", left + scale, top - 6, left + scale, y - 6)
-    drawing.write("small", 12, y + 16, note)
-    return drawing.text(640, y + 26)
+        drawing.line("one", left + SCALE, top - 2, left + SCALE, y)
+        y += 10
+    drawing.write("small", left, y + 10, note)
+    return drawing.text(WIDTH, y + 22)
 
 
-def colour_of(bar):
-    """A bar's colour: shades of one for the numbers of callers."""
-    return SHADES.get(bar[1], "#4a7fb0") if bar[0] == PEER else "#b9b9b3"
-
-
-def put_legend(drawing, bars):
-    """What the colours of bars mean."""
-    x = 12
-    for bar in bars:
-        drawing.box("bar", x, 36, 14, 11, fill=colour_of(bar))
-        drawing.write("small", x + 20, 46, label(*bar))
-        x += 40 + 6.2 * len(label(*bar))
-
-
-def draw_callers(rows, note):
+def draw_callers(sessions, note):
     """A line for each session, by the number of callers."""
-    left, right, top, bottom = 52, 440, 44, 330
+    left, right, top, bottom = 52, 380, 44, 330
     drawing = svg.Drawing("Time by the number of callers", STYLES)
     drawing.write("title", 12, 22, "Time by the number of callers, as a part of one caller's")
-    own = [row for row in rows if row[1] == PEER]
-    counts = sorted({row[2] for row in own})
-    curves = {session: {row[2]: row[3] for row in own if row[0] == session}
-              for session in ordered(row[0] for row in own)}
-    most = max(time / curve[1] for curve in curves.values() for time in curve.values())
+    counts = list(next(iter(sessions.values())))
+    parts = {session: [ratios[count] / ratios[counts[0]] for count in counts]
+             for session, ratios in sessions.items()}
+    most = max(max(part) for part in parts.values())
 
-    def place(callers, part):
-        across = counts.index(callers) / max(len(counts) - 1, 1)
-        return left + across * (right - left), bottom - part / (most * 1.05) * (bottom - top)
+    def place(at, part):
+        return (left + at / (len(counts) - 1) * (right - left),
+                bottom - part / (most * 1.05) * (bottom - top))
 
-    for tenth in range(0, int(most * 10) + 1, 5):
-        _, y = place(counts[0], tenth / 10)
+    for half in range(0, int(most * 2) + 1):
+        _, y = place(0, half / 2)
         drawing.line("axis", left, y, right, y)
-        drawing.write("small", left - 8, y + 4, f"{tenth / 10:g}", text_anchor="end")
-    for callers in counts:
-        x, _ = place(callers, 0)
-        drawing.write("small", x, bottom + 18, f"{callers}", text_anchor="middle")
+        drawing.write("small", left - 8, y + 4, f"{half / 2:g}", text_anchor="end")
+    for at, count in enumerate(counts):
+        drawing.write("small", place(at, 0)[0], bottom + 18, named(count), text_anchor="middle")
     ends = []
-    for at, (session, curve) in enumerate(curves.items()):
-        points = [place(callers, curve[callers] / curve[1]) for callers in counts]
-        drawing.put("polyline", class_="curve", stroke=COLOURS[at % len(COLOURS)],
+    for (session, part), colour in zip(parts.items(), COLOURS):
+        points = [place(at, each) for at, each in enumerate(part)]
+        drawing.put("polyline", class_="curve", stroke=colour,
                     points=" ".join(f"{x:.1f},{y:.1f}" for x, y in points),
-                    hover=f"{session}: " + ", ".join(f"{curve[c]:.0f} ms" for c in counts))
-        ends.append((points[-1][1], session, COLOURS[at % len(COLOURS)], curve))
-    put_names(drawing, right + 10, ends, counts[-1])
-    drawing.write("small", 12, bottom + 44, note)
-    return drawing.text(640, bottom + 54)
-
-
-def put_names(drawing, x, ends, last):
-    """The sessions' names at the ends of their lines, none over another."""
+                    hover=f"{session}: " + ", ".join(f"{each:.2f}" for each in part))
+        ends.append((points[-1][1], session, colour))
     below = 0
-    for y, session, colour, curve in sorted(ends):
+    for y, session, colour in sorted(ends):
         below = max(y + 4, below + 15)
-        drawing.write("name", x, below, f"{session}: {curve[1]:.0f} to {curve[last]:.0f} ms",
-                      style=f"fill: {colour}")
+        drawing.write("name", right + 10, below, session, style=f"fill: {colour}; font-size: 11px")
+    drawing.write("small", 12, bottom + 44, note)
+    return drawing.text(WIDTH, bottom + 54)
 
 
 def main():
-    here = os.path.dirname(os.path.realpath(__file__))
-    rows, note = read(sys.argv[1] if len(sys.argv) > 1 else os.path.join(here, "figures.csv"))
+    folder = sys.argv[1] if len(sys.argv) > 1 else os.path.join(HERE, "../docs/figures")
+    sessions, note = read(os.path.join(HERE, "figures.csv"))
     for name, draw in (("peers", draw_peers), ("callers", draw_callers)):
-        with open(os.path.join(here, f"../docs/figures/{name}.svg"), "w", encoding="utf-8") as file:
-            file.write(draw(rows, note))
+        with open(os.path.join(folder, f"{name}.svg"), "w", encoding="utf-8") as file:
+            file.write(draw(sessions, note))
 
 
 if __name__ == "__main__":

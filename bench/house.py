@@ -1,10 +1,10 @@
 #!/usr/bin/env python3
-"""Draws the house by layers from crates.txt: bench/house.py > docs/figures/house.svg.
+"""Draws the crates by layers from crates.txt: bench/house.py > docs/figures/house.svg.
 
-The lowest layer stands at the bottom. Each crate is a box; a bold one is the door of its layer,
+The lowest layer is at the bottom. Each crate is a box; a bold one is the entry crate of its layer,
 and one with a red edge has functions that may wait. Where the mouse rests on a box, it is shown
-what the crate is for (from docs/MAP.md) and what it stands on. Right of each layer stand those
-that it uses.
+what the crate is for (from docs/MAP.md) and what it uses. Right of each layer are those that it
+uses.
 """
 import os
 import re
@@ -109,7 +109,7 @@ def put_layer(drawing, layer, layers, purpose, y):
 def put_crate(drawing, crate, is_door, purpose, place):
     """A crate's box and name."""
     x, y, width = place
-    hover = f"{crate.name}: {purpose.get(crate.name, 'a crate of tests')}; on " + (
+    hover = f"{crate.name}: {purpose.get(crate.name, 'a crate of tests')}; uses " + (
         ", ".join(crate.below) or "nothing")
     style = ("door" if is_door else "crate") + (" waits" if crate.waits else "")
     drawing.box(style, x, y, width, BOX, hover=hover, rx=3)
@@ -135,7 +135,7 @@ def main():
     for layer in reversed(layers):
         y = put_layer(drawing, layer, layers, purpose, y)
     drawing.box("door", 18, y + 4, 16, 12, rx=2)
-    drawing.write("legend", 40, y + 14, "the layer's door")
+    drawing.write("legend", 40, y + 14, "the layer's entry")
     drawing.box("crate waits", 150, y + 4, 16, 12, rx=2)
     drawing.write("legend", 172, y + 14, "has functions that may wait")
     sys.stdout.write(drawing.text(LEFT + MIDDLE + RIGHT + 16, y + 26))

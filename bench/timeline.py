@@ -1,7 +1,7 @@
 #!/usr/bin/env python3
 """Draws a trace as an SVG: bench/timeline.py [--from N] [--count N] TRACE > PICTURE.
 
-TRACE is what `trace` writes, or a session file with it behind: then the requests name the
+TRACE is what `trace` writes, or a session file followed by it: then the requests name the
 tickets. Events go down the page, with their lines at the left. Each caller has a lane, each
 ticket a bar from its begin to its end; a full dot is an operation that was done, a hollow one a
 delay, from which an arrow goes to the ticket that was waited for, and the bar is pale until the

@@ -1,0 +1,79 @@
+#!/usr/bin/env python3
+"""Looks at the passages of all documents: tools/passages.py.
+
+No paragraph, bullet or row of a table has more than 900 characters; a file that is named in back
+quotes is there, and so are the clauses that README.md names; README.md is a page of 120 lines and
+1,500 words at most; and no document has the words of PLAIN.
+"""
+import glob
+import os
+import re
+import sys
+
+LONGEST, LINES, WORDS = 900, 120, 1500
+USERS = ["README.md", "SECURITY.md", "CONTRIBUTING.md", "docs/TOUR.md", "docs/LANGUAGE.md",
+         "docs/LIBRARY.md", "docs/PERFORMANCE.md", "docs/TESTING.md"]
+READERS = ["docs/MAP.md", "docs/PROOF.md", "docs/PROVED.md", "docs/DEFINITIONS.md",
+           "docs/DECISIONS.md"]
+PLAIN = re.compile(r"\b(wants? of memory|wants? memory|wanted? memory|in vain|(?:is|are) told|"
+                   r"stands? behind|hangs? on|where it is there)\b")
+FILE = re.compile(r"`((?:crates|docs|bench|tools|checks|examples|editors|embedding|edits|\.ci)/"
+                  r"[\w./-]+)`")
+BELOW = re.compile(r"`(\w+/(?:src|specs|proofs)(?:/[\w/]+\.(?:rt|antt))?)`")
+CLAUSE = re.compile(r"\| .* \| ((?:`\w+`,? )+(?:of `\w+`)?,? ?)`(crates/[\w/]+\.(?:rt|antt))`")
+
+
+def passages(text):
+    """The paragraphs, bullets and rows of a text, each with its first line; no block of code."""
+    inside, first, lines = False, 0, []
+    for at, line in enumerate(text.split("\n") + [""], 1):
+        mark = line.startswith("```")
+        if inside or mark or not line.strip() or re.match(r"\s*(- |\d+\. |\||#|    )", line):
+            if lines:
+                yield first, "\n".join(lines)
+            first, lines = at, []
+        inside = inside != mark
+        if not inside and not mark and line.strip():
+            lines.append(line)
+
+
+def clauses(text):
+    """The clauses that the first page names and their files don't have."""
+    for names, path in CLAUSE.findall(text):
+        with open(path, encoding="utf-8") as given:
+            code = given.read()
+        for each in re.findall(r"`(\w+)`", names):
+            if not re.search(rf"\b{each}\b", code):
+                yield f"README.md: no {each} in {path}"
+
+
+def faults():
+    """What is wrong with the documents."""
+    found = []
+    for name in USERS + READERS + ["CHANGELOG.md", "crates/README.md"] + glob.glob("*/README.md"):
+        if not os.path.exists(name):
+            continue
+        with open(name, encoding="utf-8") as document:
+            text = document.read()
+        for first, passage in passages(text):
+            if len(passage) > LONGEST:
+                found.append(f"{name}:{first}: {len(passage)} characters")
+            if name in USERS + READERS and (said := PLAIN.search(passage)):
+                found.append(f"{name}:{first}: '{said[0]}'")
+        for file in FILE.findall(text):
+            path = file.split(":")[0].rstrip(".")
+            if "/out/" not in path and not os.path.exists(path) and not re.search(r"NAME|/X/", path):
+                found.append(f"{name}: there is no {path}")
+        found += [f"{name}: there is no crates/{path}" for path in BELOW.findall(text)
+                  if not os.path.exists("crates/" + path)]
+        if name == "README.md":
+            found += clauses(text)
+            if text.count("\n") > LINES or len(text.split()) > WORDS:
+                found.append(f"{name}: more than {LINES} lines or {WORDS} words")
+    return found
+
+
+if __name__ == "__main__":
+    os.chdir(os.path.join(os.path.dirname(os.path.realpath(__file__)), ".."))
+    print("\n".join(faults()) or "passages: as they should be")
+    sys.exit(bool(faults()))
