@@ -19,3 +19,4 @@ pub mod Opened
 pub mod Left
 pub mod Listed
 pub mod Tried
+pub mod Waited

@@ -1,6 +1,6 @@
 -- What the waiting calls leave: what the last try leaves, from a caller that differs from the first
--- one by tries in vain.
-use Rattle.std.specs.Prelude.{◌≡◌, ℕ, zero, suc, ◌+◌, ◌≤◌, List, [], ◌∷◌, ◌++◌, Option, Some, None}
+-- one by failed attempts.
+use Rattle.std.specs.Prelude.{◌≡◌, ℕ, zero, suc, ◌+◌, ◌≤◌, ◌⊎◌, List, [], ◌∷◌, ◌++◌, Option, Some, None}
 use Rattle.session_values.specs.declared.op.Op.{Op}
 use Rattle.session_values.specs.declared.reply.Reply.{Reply}
 use Rattle.session_values.specs.declared.value.Value.{Value}
@@ -12,7 +12,7 @@ use Rattle.session_hall.specs.declared.caller.Caller.{Caller}
 use Rattle.session_hall.specs.declared.stage.Stage.{Stage}
 use Rattle.session_hall.specs.declared.stage.Stage.TheVariants.{Applied}
 use Rattle.session_hall.specs.Callers.{book_of, entries_of, foresight_of}
-use Rattle.session_hall.specs.Calls.{BeganTicket, FoundAllBegun, DeclaredAt, AdmittedAt, AppliedAt, FinishedAt, EndedAt, IsBusyAt}
+use Rattle.session_hall.specs.Calls.{BeganTicket, FoundAllBegun, DeclaredAt, AdmittedAt, DelayedAt, AppliedAt, FinishedAt, EndedAt, IsBusy, IsBusyAt}
 use Rattle.session_hall.specs.Stages.{OnServing, OnFlight}
 
 module _ {S : Type 0} (p q : Caller S) where
@@ -73,6 +73,19 @@ module _ {S : Type 0} (m : Meaning) (shards : ℕ) where
     pub only : OnlyLost p q tries
     pub each : Tries IsVain tries p q
 
+module _ {S : Type 0} (m : Meaning) (op : Op) where
+  -- a failed attempt to admit the operation: it found the book taken and gave nothing back, or it
+  -- found a blocker, entered the delay and gave the book back once, as the try call says
+  abbrev pub IsFailedAdmit : Caller S → Caller S → Type 0
+  IsFailedAdmit p q = OnServing p.stage (λ t. IsBusy m p q 0 (givings p.seat)
+      ⊎ ((older : ℕ) × (y : Symbol) × DelayedAt m p q op older y t))
+
+  -- failed attempts alone, one after another: each has its cause
+  pub record OnlyWaited (p q : Caller S) (t : ℕ) : Type 0 where
+    pub tries : ℕ
+    pub only : OnlyDelayed p q t
+    pub each : Tries IsFailedAdmit tries p q
+
 module _ {S : Type 0} (m : Meaning) (p q : Caller S) where
   -- after tries that found the book taken, ticket t is begun, or all are found begun
   abbrev pub BegunAfter : Option ℕ → Type 0
@@ -84,10 +97,10 @@ module _ {S : Type 0} (m : Meaning) (p q : Caller S) where
   DeclaredAfter f = OnServing p.stage (λ t. (via : Caller S) × OnlyBookLost p via
       × DeclaredAt m via q f t × (entries_of q t ≡ entries_of p t))
 
-  -- after tries that found the book taken or the operation delayed, it is admitted, with the
-  -- foresight and the entries as the first caller has them
+  -- after attempts each of which found the book taken or the operation delayed, it is admitted,
+  -- with the foresight and the entries as the first caller has them
   abbrev pub AdmittedAfter : Op → Type 0
-  AdmittedAfter op = OnServing p.stage (λ t. (via : Caller S) × OnlyDelayed p via t
+  AdmittedAfter op = OnServing p.stage (λ t. (via : Caller S) × OnlyWaited m op p via t
       × AdmittedAt m via q op t × (foresight_of q ≡ foresight_of p) × (entries_of q t ≡ entries_of p t))
 
   -- after tries that found one of the operation's turns taken, it is done on its shards, with the
