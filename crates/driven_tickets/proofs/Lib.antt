@@ -1,0 +1,9 @@
+pub mod Alone
+pub mod Blocking
+pub mod Declared
+pub mod Delays
+pub mod EmptyStruct
+pub mod Keeping
+pub mod Matched
+pub mod Runs
+pub mod Tickets
