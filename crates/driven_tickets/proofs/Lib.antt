@@ -1,4 +1,5 @@
 pub mod Alone
+pub mod Begun
 pub mod Blocking
 pub mod Declared
 pub mod Delays

@@ -24,6 +24,9 @@ impl Model for History {
     ghost also_owns = { λ _. ftrue };
 }
 
+// It owns nothing.
+unsafe impl Send for History {}
+
 impl History {
     /// A desk was opened over these tables.
     pub(crate) fn opened(_tables: &DeskTables) -> History

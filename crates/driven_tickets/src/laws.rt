@@ -8,8 +8,8 @@ ghost use Rattle.session_values.specs.Tables.{Tables};
 ghost use Rattle.session_journal.specs.Journal.{Replays, by_ticket, run};
 ghost use Rattle.driven_tickets.specs.Acts.{Act, DeskState, Run, done_in, opened};
 ghost use Rattle.driven_tickets.specs.Alone.{AreAlone};
-ghost use Rattle.driven_tickets.specs.Commuting.{AllCommute, IsOldest};
-ghost use Rattle.driven_tickets.specs.Desk.{CalledAs, DeskView};
+ghost use Rattle.driven_tickets.specs.Commuting.{AllListsCommute, IsOldest, OpenTicketsCommute, begun_in};
+ghost use Rattle.driven_tickets.specs.Desk.{CalledAs, DeskView, IsDesk};
 ghost use Rattle.driven_tickets.specs.declared.answers.Called.TheVariants as called;
 
 /// Whatever a program does, ticket by ticket and call by call: the operations that were done,
@@ -37,8 +37,11 @@ pub fn oldest_goes_on()
         → CalledAs d e t op (called.Delayed u) → ⊥ }
 {}
 
-/// Where what the open tickets have declared commutes, none of them is delayed.
+/// Where what the open tickets have declared commutes, none of them is delayed; and where what all
+/// tickets declared as they began commutes, none of them ever is.
 pub fn commuting_go_on()
-    ensures { (d e : DeskView) (t u : ℕ) (op : Op) → AllCommute d
+    ensures now { (d e : DeskView) (t u : ℕ) (op : Op) → OpenTicketsCommute d
         → CalledAs d e t op (called.Delayed u) → ⊥ }
+    ensures ever { (d e : DeskView) (t u : ℕ) (op : Op) → IsDesk d
+        → AllListsCommute (begun_in d.acts) → CalledAs d e t op (called.Delayed u) → ⊥ }
 {}
