@@ -1,0 +1,10 @@
+pub mod Alone
+pub mod Begun
+pub mod Blocking
+pub mod Declared
+pub mod Delays
+pub mod EmptyStruct
+pub mod Keeping
+pub mod Matched
+pub mod Runs
+pub mod Tickets

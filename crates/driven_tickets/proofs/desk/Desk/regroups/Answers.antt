@@ -1,0 +1,19 @@
+use Rattle.std.proofs.Common.{◌≡◌, subst}
+use Rattle.session_journal.specs.Journal.{Replays, by_ticket, run}
+use Rattle.driven_tickets.specs.Acts.{done_in}
+use Rattle.driven_tickets.specs.Desk.{DeskView, state_of}
+use Rattle.driven_tickets.specs.contracts.desk.Desk.{the_view}
+use Rattle.driven_tickets.proofs.Runs.{regroups_replay, regroups_tables}
+use Rattle.driven_tickets.proofs.desk.Desk.regroups.Goals as goal
+
+pub returns-clause-replays : goal.returns-clause-replays
+returns-clause-replays c =
+    let d : DeskView = the_view c.self.inside in
+    let P : DeskView → Type 0 = λ x. Replays x.opening (by_ticket x.next (done_in x.acts)) in
+    subst P c.self.view_is (regroups_replay d.opening d.acts (state_of d) c.self.invariant.run)
+
+pub returns-clause-tables : goal.returns-clause-tables
+returns-clause-tables c =
+    let d : DeskView = the_view c.self.inside in
+    let P : DeskView → Type 0 = λ x. run x.opening (by_ticket x.next (done_in x.acts)) ≡ x.tables in
+    subst P c.self.view_is (regroups_tables d.opening d.acts (state_of d) c.self.invariant.run)

@@ -1,0 +1,35 @@
+-- Tickets that never delay one another.
+use Rattle.std.specs.Prelude.{◌≡◌, ℕ, ◌<◌, List, [], ◌∷◌, Some, None}
+use Rattle.std.specs.List.{AllByRecursion}
+use Rattle.session_values.specs.declared.op.Op.{Op}
+use Rattle.session_values.specs.Commuting.{Commute}
+use Rattle.symbolic_ops.specs.declared.symbol.Symbol.{Symbol}
+use Rattle.symbolic_ops.specs.Matching.{Matches}
+use Rattle.driven_tickets.specs.Acts.{Act, Begins, Calls, Ends, Narrows}
+use Rattle.driven_tickets.specs.Desk.{DeskView, declared}
+
+-- each operation of one list commutes with each of the other
+abbrev pub ListsCommute : List Symbol → List Symbol → Type 0
+ListsCommute f g = (a b : Op) → Matches f a → Matches g b → Commute a b
+
+-- what any two open tickets have declared commutes
+abbrev pub OpenTicketsCommute : DeskView → Type 0
+OpenTicketsCommute d = (t u : ℕ) (f g : List Symbol) → u < t → declared d t ≡ Some f
+    → declared d u ≡ Some g → ListsCommute f g
+
+-- what the tickets declared as they began, in order
+abbrev pub begun_in : List Act → List (List Symbol)
+begun_in [] = []
+begun_in (Begins f ∷ acts) = f ∷ begun_in acts
+begun_in (Calls t op v ∷ acts) = begun_in acts
+begun_in (Narrows t g ∷ acts) = begun_in acts
+begun_in (Ends t ∷ acts) = begun_in acts
+
+-- any two of the lists commute
+abbrev pub AllListsCommute : List (List Symbol) → Type 0
+AllListsCommute [] = Unit {0}
+AllListsCommute (f ∷ fs) = AllByRecursion (λ g. ListsCommute g f) fs × AllListsCommute fs
+
+-- no open ticket is older than this one
+abbrev pub IsOldest : DeskView → ℕ → Type 0
+IsOldest d t = (u : ℕ) → u < t → declared d u ≡ None

@@ -1,0 +1,89 @@
+// Desks of driven tickets.
+
+ghost use Rattle.std.specs.Prelude.{◌≡◌, ◌∷◌, ◌++◌, [], IfOk};
+ghost use Rattle.session_values.specs.Tables.{start};
+
+use crate::desk_tables::DeskTables;
+use crate::history::History;
+use crate::open_ticket::OpenTicket;
+use session_values::{NoMemory, TableKind};
+use std::alloc::Global;
+use std::marker::Model;
+
+/// Tables, and the tickets that are open on them. A program that shares a desk between threads
+/// gives it to one call at a time.
+#[derive(Drop)]
+pub struct Desk {
+    pub(crate) tables: DeskTables,
+    /// The open tickets, by number.
+    pub(crate) tickets: Vec<OpenTicket>,
+    /// The number of the next ticket.
+    pub(crate) next: u64,
+    /// What was done, for proofs alone.
+    pub(crate) history: History,
+}
+
+impl Model for Desk {
+    ghost use Rattle.std.specs.Coded.{codes};
+    ghost use Rattle.session_values.specs.Containers.{container_code};
+    ghost use Rattle.driven_tickets.specs.Desk.{DeskView, IsDesk};
+
+    ghost Value = { DeskView };
+
+    ghost coded = { Prim.hlevel (codes, container_code) };
+
+    ghost view = { λ d. record {
+      opening = d.history.opening;
+      tables = d.tables;
+      next = d.next;
+      tickets = d.tickets.items;
+      acts = d.history.acts;
+    } };
+
+    ghost invariant = { λ d. IsDesk (record {
+      opening = d.history.opening;
+      tables = d.tables;
+      next = d.next;
+      tickets = d.tickets.items;
+      acts = d.history.acts;
+    }) };
+}
+
+impl Desk {
+    ghost use Rattle.session_journal.specs.Journal.{Replays, by_ticket, run};
+    ghost use Rattle.driven_tickets.specs.Acts.{Run, done_in, opened};
+    ghost use Rattle.driven_tickets.specs.Desk.{state_of};
+
+    /// A desk over tables of these kinds, all empty, at which no ticket has begun.
+    pub fn open(alloc: Global, shape: &[TableKind]) -> Result<Desk, NoMemory>
+        ensures { IfOk result (λ d. d ≡ record {
+          opening = start shape.now;
+          tables = start shape.now;
+          next = 0;
+          tickets = [];
+          acts = [];
+        }) }
+    {
+        let tables = DeskTables::open(alloc, shape)?;
+        let history = History::opened(&tables);
+        Ok(Desk {
+            tables,
+            tickets: Vec::new(alloc),
+            next: 0,
+            history,
+        })
+    }
+
+    /// What is known of every desk, whatever calls were made: the operations that were done, ticket
+    /// after ticket in the order in which the tickets began, replay from the opening tables with
+    /// the same replies, and give the tables that it has.
+    pub fn regroups(&self)
+        ensures run { Run (opened self.now.opening) self.now.acts (state_of self.now) }
+        ensures replays { Replays self.now.opening
+            (by_ticket self.now.next (done_in self.now.acts)) }
+        ensures tables { run self.now.opening (by_ticket self.now.next (done_in self.now.acts))
+            ≡ self.now.tables }
+    {
+        let _ = &self.next;
+    }
+}
