@@ -1,9 +1,9 @@
 #!/usr/bin/env bash
 # Tries the must-fail edits that are beside the gate: those of edits/NAME for each NAME, or of all
-# crates. They are put into a scratch clone of the last commit and tried there by `rt must-fail`, a
-# crate after the other, which proves the crates below first where this machine hasn't. A line an
-# edit; ends with 1 if one isn't refused. An edit takes 10 to 90 seconds, the first of a crate a
-# proof of it more.
+# crates. They are put into a scratch clone of the last commit, in place of those of the gate, and
+# `rt ci` tries them there, which proves a crate and those below it first if this machine hasn't. A
+# line an edit; ends with 1 if one isn't refused. An edit takes 10 to 90 processor seconds, the first
+# of a crate a proof of it more.
 set -euo pipefail
 cd "$(dirname "$0")/.."
 root=$PWD
@@ -17,11 +17,15 @@ work=$(mktemp -d)
 trap 'rm -rf "$work"' EXIT
 git clone -q "$root" "$work/clone"
 cd "$work/clone"
-failed=0
+rm -rf crates/*/must-fail
+wanted=0
 for name in "${names[@]}"; do
-  rm -rf "crates/$name/must-fail"
   cp -r "edits/$name" "crates/$name/must-fail"
-  rt must-fail "$name" > "$work/log" 2>&1 || failed=1
-  grep -E "refused|NOT REFUSED|BAD EDIT|NOT TRIED" "$work/log" || cat "$work/log"
+  wanted=$((wanted + $(find "edits/$name" -name '*.edit' | wc -l)))
 done
-exit $failed
+status=0
+rt ci "${names[@]}" > "$work/log" 2>&1 || status=$?
+grep -E "must-fail [a-z_]+/|NOT PROVED" "$work/log" || tail -n 20 "$work/log"
+refused=$(grep -cE "must-fail [a-z_]+/.*: refused, as it must be" "$work/log" || true)
+echo "$refused of $wanted edits refused"
+[ "$status" = 0 ] && [ "$refused" = "$wanted" ]
