@@ -5,6 +5,7 @@
 #[cfg(test)]
 mod commuting;
 #[cfg(test)]
+mod growing;
 #[cfg(test)]
 mod operations;
 #[cfg(test)]

@@ -60,7 +60,7 @@ impl Part {
     }
 }
 
-fn on_map(shard: &mut MapShard, op: Op) -> Option<Value> {
+pub(crate) fn on_map(shard: &mut MapShard, op: Op) -> Option<Value> {
     if op.kind.on_map() && (shard.spare() > 0 || !op.kind.adds()) {
         Some(shard.apply(op))
     } else {
@@ -68,7 +68,7 @@ fn on_map(shard: &mut MapShard, op: Op) -> Option<Value> {
     }
 }
 
-fn on_set(shard: &mut SetShard, op: Op) -> Option<Value> {
+pub(crate) fn on_set(shard: &mut SetShard, op: Op) -> Option<Value> {
     if !op.kind.on_map() && (shard.spare() > 0 || !op.kind.adds()) {
         Some(shard.apply(op))
     } else {
@@ -76,7 +76,7 @@ fn on_set(shard: &mut SetShard, op: Op) -> Option<Value> {
     }
 }
 
-fn op_of(kind: Kind, key: Value, value: Value) -> Op
+pub(crate) fn op_of(kind: Kind, key: Value, value: Value) -> Op
     ensures { slice_get (Map ∷ Set ∷ []) result.table ≡ Some (home result.kind) }
 {
     let arguments = kind.arguments();
@@ -144,7 +144,7 @@ fn set_shard_gives_places_back(rt: HostRuntime) {
 
 // Its product with the multiplier of start slots is 1 modulo 2^64, so that the searches for its
 // first multiples begin at slot 0, and those for the negative ones at the last slot.
-const STEP: i64 = -1018231460777725123;
+pub(crate) const STEP: i64 = -1018231460777725123;
 
 // A linear congruential generator, by whose upper bits operations are made.
 #[derive(Drop)]
@@ -249,7 +249,7 @@ fn shards_reply_as_the_plain_tables(rt: HostRuntime) {
 }
 
 // What a shard of a map is read out as: at most three entries.
-fn entries_of(shard: &MapShard) -> [Option<(Value, Value)>; 3] {
+pub(crate) fn entries_of(shard: &MapShard) -> [Option<(Value, Value)>; 3] {
     let mut entries = [None; 3];
     for i in 0..3u32 {
         if i < shard.len() {
@@ -260,7 +260,7 @@ fn entries_of(shard: &MapShard) -> [Option<(Value, Value)>; 3] {
 }
 
 // The same of a set.
-fn members_of(shard: &SetShard) -> [Option<Value>; 3] {
+pub(crate) fn members_of(shard: &SetShard) -> [Option<Value>; 3] {
     let mut members = [None; 3];
     for i in 0..3u32 {
         if i < shard.len() {
