@@ -1,8 +1,10 @@
-"""What bench/gate.sh stands on: watches the processes of the toolchain, and makes the table of times.
+"""What bench/gate.sh uses: watches the processes of `rt ci`, and makes the table of times.
 
---watch FILE STOP: until the file STOP is there, looks once a second at the processes of the toolchain
-and keeps in FILE the processor seconds of each (one that lives for less than a second is missed).
---table FILE: prints the sums by crate as rows of a table, dearest first: proof, tests, edits.
+--watch FILE STOP: until the file STOP is there, looks once a second at the processes that some
+`rt ci` began and keeps in FILE the processor seconds of each (one that lives for less than a second
+is missed).
+--table FILE..: prints the sums by crate as rows of a table, dearest first: proof, tests, edits. Of
+several files each crate's times are those of the first one that has its proof.
 """
 import collections
 import json
@@ -12,13 +14,12 @@ import sys
 import time
 
 TICKS = os.sysconf("SC_CLK_TCK")
-CHILD = re.compile(r"rattle|rt ci|clang")
-# What a process works for: the folder, in which `rt ci` proves, and where its edits are tried.
+GATE = re.compile(r"\brt ci\b")
 CRATE = re.compile(r"--crate-name (\S+)")
 
 
 def processes():
-    """Of each process of the toolchain: a name that no other one has, processor seconds, words."""
+    """Of each process: its number, its parent's, a name that no other one has, seconds, words."""
     for number in filter(str.isdigit, os.listdir("/proc")):
         try:
             with open(f"/proc/{number}/cmdline", encoding="utf-8", errors="replace") as given:
@@ -28,8 +29,21 @@ def processes():
         except OSError:
             continue
         fields = stat[stat.rindex(")") + 2:].split()
-        if CHILD.search(words):
-            yield f"{number}.{fields[19]}", (int(fields[11]) + int(fields[12])) / TICKS, words[:300]
+        seconds = (int(fields[11]) + int(fields[12])) / TICKS
+        yield int(number), int(fields[1]), f"{number}.{fields[19]}", seconds, words[:300]
+
+
+def of_the_gate():
+    """Name, seconds and words of each process that some `rt ci` began, and of itself."""
+    found = {number: rest for number, *rest in processes()}
+
+    def is_below(number):
+        while number in found:
+            if GATE.search(found[number][3]):
+                return True
+            number = found[number][0]
+        return False
+    return [rest[1:] for number, rest in found.items() if is_below(number)]
 
 
 def watch(kept, stop):
@@ -37,7 +51,7 @@ def watch(kept, stop):
     seen, written, ended = {}, 0, False
     while not ended:
         ended = os.path.exists(stop)
-        seen.update({name: [seconds, words] for name, seconds, words in processes()})
+        seen.update({name: [seconds, words] for name, seconds, words in of_the_gate()})
         if ended or time.time() - written > 30:
             written = time.time()
             with open(f"{kept}.new", "w", encoding="utf-8") as out:
@@ -46,8 +60,8 @@ def watch(kept, stop):
         time.sleep(1)
 
 
-def table(kept):
-    """The rows: a crate's proof is a `build`, its edits are each a `check`."""
+def sums(kept):
+    """By crate the seconds of its proof, its tests and its edits; and those of all the rest."""
     proofs, tests, edits, rest = (collections.Counter() for _ in range(4))
     with open(kept, encoding="utf-8") as given:
         seen = json.load(given)
@@ -58,17 +72,29 @@ def table(kept):
         elif crate[1].startswith("tests_"):
             tests[crate[1]] += seconds
         else:
+            # a crate's proof is a `build`, and so are its tests; its edits are each a `check`
             (proofs if "rattle build" in words else edits)[crate[1]] += seconds
-    minutes = [round(sum(of.values()) / 60) for of in (proofs, tests, edits, rest)]
+    return proofs, tests, edits, sum(rest.values())
+
+
+def table(files):
+    """The rows."""
+    times, rest = {}, 0
+    for kept in files:
+        proofs, tests, edits, others = sums(kept)
+        rest += others
+        for crate in proofs + tests + edits:
+            if proofs[crate] + tests[crate] > 0:
+                times.setdefault(crate, (proofs[crate], tests[crate], edits[crate]))
+    whole = [round(sum(row[i] for row in times.values()) / 60) for i in range(3)] + [round(rest / 60)]
     print("Processor minutes: proofs {}, tests {}, edits {}, compilers and programs {}: {} in all.\n"
-          .format(*minutes, sum(minutes)))
+          .format(*whole, sum(whole)))
     print("| Crate | Proof | Tests | Edits |\n|---|---|---|---|")
-    crates = proofs + tests + edits
-    for crate, _ in crates.most_common():
-        print(f"| `{crate}` | {proofs[crate]:.0f} | {tests[crate]:.0f} | {edits[crate]:.0f} |")
+    for crate, row in sorted(times.items(), key=lambda item: -sum(item[1])):
+        print(f"| `{crate}` | {row[0]:.0f} | {row[1]:.0f} | {row[2]:.0f} |")
 
 
 if sys.argv[1] == "--watch":
     watch(*sys.argv[2:])
 else:
-    table(sys.argv[2])
+    table(sys.argv[2:])

@@ -2,8 +2,8 @@
 # Runs the gate from nothing in a scratch clone of the last commit, and prints the processor seconds of
 # each crate's proof, tests and must-fail edits, dearest first, as the table of docs/TESTING.md has
 # them. Takes some 250 processor minutes: an hour and more on four processors that do nothing else.
-# `bench/gate.sh --watch FILE STOP` only watches the toolchain until the file STOP is there, and
-# `bench/gate.sh --table FILE` prints the table of what was watched.
+# `bench/gate.sh --watch FILE STOP` only watches, until the file STOP is there, what any `rt ci`
+# does, and `bench/gate.sh --table FILE..` prints the table of what was watched.
 set -euo pipefail
 cd "$(dirname "$0")/.."
 case ${1:-} in
