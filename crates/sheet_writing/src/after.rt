@@ -1,9 +1,10 @@
 // Writing after a ticket has ended.
 
-ghost use Rattle.std.specs.Prelude.{◌≡◌, ◌+◌, ◌≤◌, ℕ, List, [], Some, false, true, length, slice_get};
+ghost use Rattle.std.specs.Prelude.{◌≡◌, ◌+◌, ◌<◌, ◌≤◌, ℕ, List, [], Some, false, true, length, slice_get};
 ghost use Rattle.session_limits.specs.Limits.{max_requests};
 ghost use Rattle.session_values.specs.declared.reply.Reply.{Reply};
 ghost use Rattle.reply_lane.specs.Ends.{IsEndOf, state_of};
+ghost use Rattle.reply_lane.specs.Lanes.{IsMoment, times};
 ghost use Rattle.reply_sheet.specs.Printable.{ArePrintableReplies};
 ghost use Rattle.reply_sheet.specs.Ready.{AreKeptPrintable, ready};
 ghost use Rattle.sheet_writing.specs.Sheets.{GoesOn, IsKept, Keeps, progress};
@@ -23,6 +24,9 @@ fn take_all<R: Wait>(rt: &R, lane: &Lane, end: &mut End, alone: bool, pending: &
     ensures keeps { Keeps (state_of end.old).known pending.new }
     ensures still { (t : ℕ) → IsKept pending.old t → IsKept pending.new t }
     ensures next { pending.new.next ≡ pending.old.next }
+    ensures taken { (t : ℕ) → times t (state_of end.old).taken < times t (state_of end.new).taken
+        → IsKept pending.new t }
+    ensures empty { alone ≡ false → IsMoment (state_of end.new) [] }
 {
     if alone {
         return;
@@ -37,7 +41,8 @@ fn take_all<R: Wait>(rt: &R, lane: &Lane, end: &mut End, alone: bool, pending: &
 }
 
 /// Keeps the reply of a ticket and those in the lane, and writes the lines that are next, many a
-/// write, up to a ticket whose reply isn't kept. After a fault nothing more is written.
+/// write, up to a ticket whose reply isn't kept. What was kept stays so. After a fault nothing more
+/// is written, while replies are still taken and kept.
 pub fn write_after<R: Wait, O: Sink>(
     rt: &R,
     lane: &Lane,
@@ -56,6 +61,13 @@ pub fn write_after<R: Wait, O: Sink>(
     ensures end { IsEndOf lane.now (state_of end.old).known end.new }
     ensures keeps { Keeps (state_of end.old).known sheet.new.pending }
     ensures own { IsKept sheet.new.pending ticket }
+    ensures still { (t : ℕ) → IsKept sheet.old.pending t → IsKept sheet.new.pending t }
+    ensures taken { (t : ℕ) → times t (state_of end.old).taken < times t (state_of end.new).taken
+        → IsKept sheet.new.pending t }
+    ensures empty { sheet.old.alone ≡ false → IsMoment (state_of end.new) [] }
+    ensures alone { sheet.new.alone ≡ sheet.old.alone }
+    ensures quiet { sheet.old.failed ≡ true → out.new ≡ out.old }
+    ensures failed { sheet.old.failed ≡ true → sheet.new.failed ≡ true }
     ensures stops { sheet.new.failed ≡ false → ready sheet.new.pending ≡ [] }
     ensures on { GoesOn (state_of end.old).known names.now
         (progress (O.held out.old) (O.faults out.old) sheet.old)
@@ -76,6 +88,8 @@ fn write_next<O: Sink>(sheet: &mut Sheet, out: &mut O, names: &Names)
     ensures stops { sheet.old.failed ≡ false → sheet.new.failed ≡ false
         → ready sheet.new.pending ≡ [] }
     ensures failed { sheet.old.failed ≡ true → sheet.new.failed ≡ true }
+    ensures alone { sheet.new.alone ≡ sheet.old.alone }
+    ensures quiet { sheet.old.failed ≡ true → out.new ≡ out.old }
     ensures on { (replies : List Reply) → Keeps replies sheet.old.pending
         → GoesOn replies names.now (progress (O.held out.old) (O.faults out.old) sheet.old)
         (progress (O.held out.new) (O.faults out.new) sheet.new) }

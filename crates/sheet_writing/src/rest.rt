@@ -1,6 +1,6 @@
 // Writing when all is served.
 
-ghost use Rattle.std.specs.Prelude.{◌≡◌, ◌≤◌, false, length};
+ghost use Rattle.std.specs.Prelude.{◌≡◌, ◌≤◌, true, false, length};
 ghost use Rattle.session_limits.specs.Limits.{max_requests};
 ghost use Rattle.reply_sheet.specs.Printable.{ArePrintableReplies};
 ghost use Rattle.sheet_writing.specs.Sheets.{Ends, progress};
@@ -16,6 +16,8 @@ pub fn write_rest<O: Sink>(replies: &[Reply], mut sheet: Sheet, out: &mut O, nam
     requires few { length replies.now ≤ max_requests }
     requires printable { ArePrintableReplies names.now replies.now }
     requires within { sheet.failed ≡ false → sheet.pending.next ≤ length replies.now }
+    ensures quiet { sheet.failed ≡ true → out.new ≡ out.old }
+    ensures failed { sheet.failed ≡ true → result ≡ false }
     ensures ends { Ends replies.now names.now
         (progress (O.held out.old) (O.faults out.old) sheet)
         (O.held out.new) (O.faults out.new) result }

@@ -1,6 +1,6 @@
 // What waits to be written.
 
-ghost use Rattle.std.specs.Prelude.{◌≡◌, None, false, IfOk, replicate};
+ghost use Rattle.std.specs.Prelude.{◌≡◌, None, true, false, IfOk, replicate};
 
 use byte_ends::WriteBuffer;
 use reply_sheet::Pending;
@@ -26,6 +26,7 @@ pub fn make_sheet(alloc: Global, tickets: u32, callers: u32) -> Result<Sheet, No
       waiting = replicate tickets None;
     }) }
     ensures sound { IfOk result (λ s. s.failed ≡ false) }
+    ensures alone { IfOk result (λ s. s.alone ≡ true → callers ≡ 1) }
 {
     let pending = Pending::with_room(alloc, tickets)?;
     let buffer = WriteBuffer::new(alloc)?;

@@ -1,5 +1,5 @@
 -- What is left is written from the next ticket on.
-use Rattle.std.proofs.Common.{ℕ, List, drop, subst}
+use Rattle.std.proofs.Common.{ℕ, List, drop, subst, sym, ◌∙◌, true≢false}
 use Rattle.session_values.specs.declared.reply.Reply.{Reply}
 use Rattle.session_values.specs.ReplyText.{reply_text}
 use Rattle.byte_ends.specs.Ends.{Grew, GrewByFront}
@@ -15,6 +15,8 @@ returns g c =
     let rs = c.args.replies.now in
     let names = c.args.names.now in
     record {
+      quiet = λ f. absurd (true≢false (sym f ∙ c.if-sheet.false));
+      failed = λ f. absurd (true≢false (sym f ∙ c.if-sheet.false));
       ends = writes_rest rs names (progress before (g.O.Sink.faults c.args.out.now) c.args.sheet) now (g.O.Sink.faults w.new.out) w.result c.if-sheet.false
           (λ ok. subst (λ (k : ℕ). Grew before now (reply_text names k (drop k rs))) c.next-next.ensures (subst (λ (l : List Reply). Grew before now (reply_text names c.next-next.result l)) (take_rest c.next-next.result rs) (w.ensures.all ok)))
           w.ensures.fault
