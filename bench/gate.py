@@ -68,7 +68,7 @@ def sums(kept):
     for seconds, words in seen.values():
         crate = CRATE.search(words)
         if not crate:
-            rest[words.split()[0].split("/")[-1]] += seconds
+            rest["others"] += seconds
         elif crate[1].startswith("tests_"):
             tests[crate[1]] += seconds
         else:
