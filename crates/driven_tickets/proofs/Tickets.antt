@@ -71,6 +71,16 @@ under n m [] u h l = refl
 under n m (x ∷ os) u h l =
     ap (λ b. cond b (list_of x) (declared_in os u)) (apart u x.ticket (omega (arith, l, h.0))) ∙ under (suc x.ticket) m os u h.1 (omega (arith, l, h.0))
 
+-- nor anybody from the limit on
+pub over : (n m : ℕ) (os : List OpenTicket) (u : ℕ) → AreAscending n os m → m ≤ u → declared_in os u ≡ None
+over n m [] u h l = refl
+over n m (x ∷ os) u h l =
+    let k : suc x.ticket ≤ m = most (suc x.ticket) m os h.1 in
+    ap (λ b. cond b (list_of x) (declared_in os u)) (above u x.ticket (omega (arith, k, l))) ∙ over (suc x.ticket) m os u h.1 l
+  where
+    above : (a b : ℕ) → b < a → eqb a b ≡ false
+    above a b l = grind (arith, nat_tests)
+
 -- a ticket that is open comes after one that is below all
 pub later : (n m : ℕ) (os : List OpenTicket) (u k : ℕ) (f : List Symbol) → AreAscending n os m → declared_in os u ≡ Some f → k < n → eqb u k ≡ false
 later n m os u k f h is l =

@@ -12,7 +12,7 @@ use Rattle.driven_tickets.specs.declared.answers.Called.{Called}
 use Rattle.driven_tickets.specs.declared.answers.Called.TheVariants as called
 use Rattle.driven_tickets.specs.declared.answers.NarrowError.{NarrowError}
 use Rattle.driven_tickets.specs.declared.answers.NarrowError.TheVariants as wide
-use Rattle.driven_tickets.specs.declared.answers.NotOpen.{NotOpen}
+use Rattle.driven_tickets.specs.declared.answers.NoTicket.{NoTicket}
 use Rattle.driven_tickets.specs.declared.open_ticket.OpenTicket.{OpenTicket}
 use Rattle.driven_tickets.specs.Acts.{Act, Begins, Calls, DeskState, Does, Ends, IsFree, Narrows, Run, opened}
 use Rattle.driven_tickets.specs.Tickets.{AreAscending, declared_in}
@@ -104,7 +104,7 @@ CalledAs d e t op (called.Delayed u) = (e ≡ d) × FitsDesk d op × IsDeclared 
     × IsDelayedBy d t op u
 CalledAs d e t op called.Undeclared = (e ≡ d) × FitsDesk d op × IsUndeclared d t op
 CalledAs d e t op called.Misfit = (e ≡ d) × (FitsDesk d op → ⊥) × IsOpen d t
-CalledAs d e t op called.NotOpen = (e ≡ d) × (declared d t ≡ None)
+CalledAs d e t op called.NoTicket = (e ≡ d) × (declared d t ≡ None)
 CalledAs d e t op called.NoMemory = (e ≡ d) × FitsDesk d op × IsDeclared d t op
     × IsFree (state_of d) t op × (is_adding op.kind ≡ true)
 
@@ -114,9 +114,9 @@ abbrev pub NarrowedAs : DeskView → DeskView → ℕ → List Symbol → Result
     → Type 0
 NarrowedAs d e t g (Ok done) = HasActed d e (Narrows t g)
 NarrowedAs d e t g (Err wide.Undeclared) = (e ≡ d) × IsUncovered d t g
-NarrowedAs d e t g (Err wide.NotOpen) = (e ≡ d) × (declared d t ≡ None)
+NarrowedAs d e t g (Err wide.NoTicket) = (e ≡ d) × (declared d t ≡ None)
 
 -- the ticket ends; or nothing happens, since it isn't open
-abbrev pub EndedAs : DeskView → DeskView → ℕ → Result (Unit {0}) NotOpen → Type 0
+abbrev pub EndedAs : DeskView → DeskView → ℕ → Result (Unit {0}) NoTicket → Type 0
 EndedAs d e t (Ok done) = HasActed d e (Ends t)
 EndedAs d e t (Err why) = (e ≡ d) × (declared d t ≡ None)

@@ -18,7 +18,7 @@ pub enum Called {
     /// It is no operation of the desk's tables.
     Misfit,
     /// The ticket isn't open.
-    NotOpen,
+    NoTicket,
     /// Memory ran out.
     NoMemory,
 }
@@ -42,10 +42,10 @@ pub enum NarrowError {
     Undeclared,
     /// The ticket isn't open.
     #[error("the ticket is not open")]
-    NotOpen,
+    NoTicket,
 }
 
 /// The ticket isn't open.
 #[derive(Clone, Copy, Debug, PartialEq, Eq, Error)]
 #[error("the ticket is not open")]
-pub struct NotOpen;
+pub struct NoTicket;

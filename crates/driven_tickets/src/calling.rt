@@ -15,7 +15,7 @@ impl Desk {
         ensures { CalledAs self.old self.new ticket op result }
     {
         let Some(place) = place_of(self.tickets.as_slice(), ticket) else {
-            return Called::NotOpen;
+            return Called::NoTicket;
         };
         if !self.tables.fits(&op) {
             return Called::Misfit;

@@ -1,6 +1,6 @@
 // Desks of driven tickets.
 
-ghost use Rattle.std.specs.Prelude.{◌≡◌, ◌∷◌, ◌++◌, [], IfOk};
+ghost use Rattle.std.specs.Prelude.{◌≡◌, ℕ, ◌≤◌, [], None, IfOk};
 ghost use Rattle.session_values.specs.Tables.{start};
 
 use crate::desk_tables::DeskTables;
@@ -51,8 +51,8 @@ impl Model for Desk {
 
 impl Desk {
     ghost use Rattle.session_journal.specs.Journal.{Replays, by_ticket, run};
-    ghost use Rattle.driven_tickets.specs.Acts.{Run, done_in, opened};
-    ghost use Rattle.driven_tickets.specs.Desk.{state_of};
+    ghost use Rattle.driven_tickets.specs.Acts.{done_in};
+    ghost use Rattle.driven_tickets.specs.Desk.{IsDesk, declared};
 
     /// A desk over tables of these kinds, all empty, at which no ticket has begun.
     pub fn open(alloc: Global, shape: &[TableKind]) -> Result<Desk, NoMemory>
@@ -74,11 +74,13 @@ impl Desk {
         })
     }
 
-    /// What is known of every desk, whatever calls were made: the operations that were done, ticket
-    /// after ticket in the order in which the tickets began, replay from the opening tables with
-    /// the same replies, and give the tables that it has.
+    /// What is known of every desk, whatever calls were made: what was done leads from the opening
+    /// tables to what it holds, no ticket is open that hasn't begun, and the operations that were
+    /// done, ticket after ticket in the order in which the tickets began, replay from the opening
+    /// tables with the same replies, and give the tables that it has.
     pub fn regroups(&self)
-        ensures run { Run (opened self.now.opening) self.now.acts (state_of self.now) }
+        ensures desk { IsDesk self.now }
+        ensures unborn { (t : ℕ) → self.now.next ≤ t → declared self.now t ≡ None }
         ensures replays { Replays self.now.opening
             (by_ticket self.now.next (done_in self.now.acts)) }
         ensures tables { run self.now.opening (by_ticket self.now.next (done_in self.now.acts))

@@ -1,6 +1,6 @@
 // Ending a ticket.
 
-use crate::answers::NotOpen;
+use crate::answers::NoTicket;
 use crate::desk::Desk;
 use crate::place::place_of;
 
@@ -8,11 +8,11 @@ impl Desk {
     ghost use Rattle.driven_tickets.specs.Desk.{EndedAs};
 
     /// Ends an open ticket. What it did stays, and it is in nobody's way any more.
-    pub fn end(&mut self, ticket: u64) -> Result<(), NotOpen>
+    pub fn end(&mut self, ticket: u64) -> Result<(), NoTicket>
         ensures { EndedAs self.old self.new ticket result }
     {
         let Some(place) = place_of(self.tickets.as_slice(), ticket) else {
-            return Err(NotOpen);
+            return Err(NoTicket);
         };
         self.history = self.history.ended(&ticket);
         self.tickets.remove(place);

@@ -17,5 +17,5 @@ mod narrowing;
 mod open_ticket;
 mod place;
 
-pub use answers::{BeginError, Called, NarrowError, NotOpen};
+pub use answers::{BeginError, Called, NarrowError, NoTicket};
 pub use desk::Desk;

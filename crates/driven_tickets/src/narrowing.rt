@@ -13,7 +13,7 @@ impl Desk {
         ensures { NarrowedAs self.old self.new ticket declared.symbols result }
     {
         let Some(place) = place_of(self.tickets.as_slice(), ticket) else {
-            return Err(NarrowError::NotOpen);
+            return Err(NarrowError::NoTicket);
         };
         if !covered(&declared, &self.tickets[place].declared) {
             return Err(NarrowError::Undeclared);
