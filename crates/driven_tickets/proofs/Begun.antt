@@ -9,7 +9,7 @@ use Rattle.symbolic_ops.specs.Matching.{Matches}
 use Rattle.symbolic_ops.proofs.Above.{covered_matches}
 use Rattle.driven_tickets.specs.declared.answers.Called.TheVariants as called
 use Rattle.driven_tickets.specs.Acts.{Act, Begins, Calls, Narrows, Ends, DeskState, HasBegun, HasNarrowed, HasEnded, Run, opened}
-use Rattle.driven_tickets.specs.Commuting.{AllListsCommute, ListsCommute, OpenTicketsCommute, begun_in}
+use Rattle.driven_tickets.specs.Commuting.{AllListsCommute, CommutesWithOlder, ListsCommute, begun_in}
 use Rattle.driven_tickets.specs.Desk.{CalledAs, DeskView, IsDesk, state_of}
 use Rattle.driven_tickets.proofs.Delays.{commuting}
 
@@ -113,8 +113,8 @@ two (x ∷ fs) (suc t) (suc u) f g all l is_f is_g = let l2 : u < t = omega (ari
 pub never_delayed : (d e : DeskView) (t u : ℕ) (op : Op) → IsDesk d → AllListsCommute (begun_in d.acts) → CalledAs d e t op (called.Delayed u) → ⊥
 never_delayed d e t u op k all h =
     let w : AreWithin (state_of d) (begun_in d.acts) = within (opened d.opening) d.acts (state_of d) [] (first d.opening) k.run in
-    let among : OpenTicketsCommute d = λ a b f g l is_f is_g.
-    let x : IsWithin (begun_in d.acts) a f = w.at a f is_f in
+    let among : CommutesWithOlder d t = λ b f g l is_f is_g.
+    let x : IsWithin (begun_in d.acts) t f = w.at t f is_f in
     let y : IsWithin (begun_in d.acts) b g = w.at b g is_g in
-    λ m n match_m match_n. two (begun_in d.acts) a b x.list y.list all l x.is y.is m n (x.each m match_m) (y.each n match_n) in
+    λ m n match_m match_n. two (begun_in d.acts) t b x.list y.list all l x.is y.is m n (x.each m match_m) (y.each n match_n) in
     commuting d e t u op among h

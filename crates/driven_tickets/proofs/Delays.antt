@@ -6,7 +6,7 @@ use Rattle.session_values.specs.declared.op.Op.{Op}
 use Rattle.symbolic_ops.specs.declared.symbol.Symbol.{Symbol}
 use Rattle.commute_tables.specs.Symbols.{CommutesWith, CommutesWithAll}
 use Rattle.driven_tickets.specs.declared.open_ticket.OpenTicket.{OpenTicket}
-use Rattle.driven_tickets.specs.Commuting.{IsOldest, OpenTicketsCommute}
+use Rattle.driven_tickets.specs.Commuting.{CommutesWithOlder, IsOldest}
 use Rattle.driven_tickets.specs.declared.answers.Called.TheVariants as called
 use Rattle.driven_tickets.specs.Desk.{CalledAs, DeskView, IsDelayedBy}
 use Rattle.driven_tickets.specs.Tickets.{AreAscending, IsAgainstIn, IsLeastAgainst, declared_in}
@@ -55,5 +55,5 @@ delayed_by d t op u h a =
 pub oldest : (d e : DeskView) (t u : ℕ) (op : Op) → IsOldest d t → CalledAs d e t op (called.Delayed u) → ⊥
 oldest d e t u op o h = cc (o u h.3.below, h.3.is)
 
-pub commuting : (d e : DeskView) (t u : ℕ) (op : Op) → OpenTicketsCommute d → CalledAs d e t op (called.Delayed u) → ⊥
-commuting d e t u op all h = h.3.against (record { each = λ b m. all t u h.2.list h.3.list h.3.below h.2.is h.3.is op b h.2.matches m })
+pub commuting : (d e : DeskView) (t u : ℕ) (op : Op) → CommutesWithOlder d t → CalledAs d e t op (called.Delayed u) → ⊥
+commuting d e t u op all h = h.3.against (record { each = λ b m. all u h.2.list h.3.list h.3.below h.2.is h.3.is op b h.2.matches m })

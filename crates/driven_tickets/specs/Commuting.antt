@@ -12,9 +12,9 @@ use Rattle.driven_tickets.specs.Desk.{DeskView, declared}
 abbrev pub ListsCommute : List Symbol → List Symbol → Type 0
 ListsCommute f g = (a b : Op) → Matches f a → Matches g b → Commute a b
 
--- what any two open tickets have declared commutes
-abbrev pub OpenTicketsCommute : DeskView → Type 0
-OpenTicketsCommute d = (t u : ℕ) (f g : List Symbol) → u < t → declared d t ≡ Some f
+-- what a ticket has declared commutes with what each older open ticket has
+abbrev pub CommutesWithOlder : DeskView → ℕ → Type 0
+CommutesWithOlder d t = (u : ℕ) (f g : List Symbol) → u < t → declared d t ≡ Some f
     → declared d u ≡ Some g → ListsCommute f g
 
 -- what the tickets declared as they began, in order

@@ -8,7 +8,7 @@ ghost use Rattle.session_values.specs.Tables.{Tables};
 ghost use Rattle.session_journal.specs.Journal.{Replays, by_ticket, run};
 ghost use Rattle.driven_tickets.specs.Acts.{Act, DeskState, Run, done_in, opened};
 ghost use Rattle.driven_tickets.specs.Alone.{AreAlone};
-ghost use Rattle.driven_tickets.specs.Commuting.{AllListsCommute, IsOldest, OpenTicketsCommute, begun_in};
+ghost use Rattle.driven_tickets.specs.Commuting.{AllListsCommute, CommutesWithOlder, IsOldest, begun_in};
 ghost use Rattle.driven_tickets.specs.Desk.{CalledAs, DeskView, IsDesk};
 ghost use Rattle.driven_tickets.specs.declared.answers.Called.TheVariants as called;
 
@@ -37,10 +37,10 @@ pub fn oldest_goes_on()
         → CalledAs d e t op (called.Delayed u) → ⊥ }
 {}
 
-/// Where what the open tickets have declared commutes, none of them is delayed; and where what all
-/// tickets declared as they began commutes, none of them ever is.
+/// A ticket is never delayed while what it has declared commutes with what each older open ticket
+/// has; and where what all tickets declared as they began commutes, none of them ever is.
 pub fn commuting_go_on()
-    ensures now { (d e : DeskView) (t u : ℕ) (op : Op) → OpenTicketsCommute d
+    ensures now { (d e : DeskView) (t u : ℕ) (op : Op) → CommutesWithOlder d t
         → CalledAs d e t op (called.Delayed u) → ⊥ }
     ensures ever { (d e : DeskView) (t u : ℕ) (op : Op) → IsDesk d
         → AllListsCommute (begun_in d.acts) → CalledAs d e t op (called.Delayed u) → ⊥ }
