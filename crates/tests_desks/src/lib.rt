@@ -7,6 +7,8 @@ mod books;
 #[cfg(test)]
 mod desks;
 #[cfg(test)]
+mod driven;
+#[cfg(test)]
 mod hall_tries;
 #[cfg(test)]
 mod halls;
