@@ -2,6 +2,16 @@
 //! beginning what it may call, each call of it is done or delayed by what older tickets have
 //! declared, and it narrows and ends when the program says so. Whatever a program does, the
 //! operations that were done, ticket after ticket, replay with the same replies.
+//!
+//! ```text
+//! let older = desk.begin(transfer)?;       // may get account 1, and bump 1 and 2
+//! let younger = desk.begin(reader)?;       // may get account 2
+//! desk.call(younger, get_2)                // Delayed { older }
+//! desk.call(older, bump_2)                 // Done(Nil)
+//! desk.narrow(older, get_1_alone)?;
+//! desk.call(younger, get_2)                // Done(..), what the bump left
+//! desk.end(older)?;
+//! ```
 #![tactic(auto)]
 
 mod answers;
