@@ -22,7 +22,7 @@ use std::thread::{Threads, join};
 use worker_gate::Gate;
 
 /// Serves all requests in the order in which they arrive, in rounds. The clients' requests are fed
-/// beside that, in threads of their own where they can be made, and before it where they can't.
+/// beside that, in threads of their own if they can be made, and before it if they can't.
 pub fn serve_clients<R: Threads + Wait + Sync, G: Gate + Sync>(
     rt: &R,
     alloc: Global,
@@ -44,25 +44,38 @@ pub fn serve_clients<R: Threads + Wait + Sync, G: Gate + Sync>(
     let _clients = clients.clients();
     let (feeders, gatherer) = open(alloc, clients.counts())?;
     let feeders = feeders.into_vec();
-    let (_feeders, served) = join(
+    // If no thread can be made, `join` runs its first closure last, so the clients send first. The
+    // gatherer is given back, and dropped after both: no send comes back while a client sends.
+    let ((_gatherer, served), _feeders) = join(
         rt,
-        move || -> Vec<Feeder>
-            requires { IsSync R.row × IsSync G.row × (0 < vec_len feeders) }
-        { fed(rt, gate, feeders) },
-        move || -> Result<Served, NoMemory>
-            requires { IsOpening (shape_of program.now.file) opening.now
+        move || -> (Gatherer, Result<Served, NoMemory>)
+            requires { IsSync R.row × IsSync G.row
+                × IsOpening (shape_of program.now.file) opening.now
                 × (count_all opening.now + max_session_calls ≤ max_opening)
                 × IsServable program.now.file clients.now.requests
                 × ((1 ≤ callers) × (callers ≤ max_callers))
                 × ((1 ≤ shards) × (shards ≤ max_shards))
                 × (gatherer ≡ record { counts = clients.now.counts; got = [] }) }
-            ensures { IfOk result (AreServed program.entry.now opening.entry.now clients.entry.now
+            ensures { IfOk result.1 (AreServed program.entry.now opening.entry.now clients.entry.now
                 callers shards) }
         {
-            serve_rounds(
-                rt, alloc, program, opening, clients, callers, shards, gatherer, gate,
-            )
+            let mut gatherer = gatherer;
+            let served = serve_rounds(
+                rt,
+                alloc,
+                program,
+                opening,
+                clients,
+                callers,
+                shards,
+                &mut gatherer,
+                gate,
+            );
+            (gatherer, served)
         },
+        move || -> Vec<Feeder>
+            requires { 0 < vec_len feeders }
+        { fed(rt, gate, feeders) },
     );
     served
 }

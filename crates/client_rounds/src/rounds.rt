@@ -38,7 +38,7 @@ pub fn serve_rounds<R: Threads + Wait + Sync, G: Gate + Sync>(
     clients: &ClientRequests,
     callers: u32,
     shards: u32,
-    mut gatherer: Gatherer,
+    gatherer: &mut Gatherer,
     gate: &G,
 ) -> Result<Served, NoMemory>
     requires opening { IsOpening (shape_spec program.now.file) opening.now }
@@ -46,7 +46,7 @@ pub fn serve_rounds<R: Threads + Wait + Sync, G: Gate + Sync>(
     requires servable { IsServable program.now.file clients.now.requests }
     requires callers { (1 ≤ callers) × (callers ≤ max_callers) }
     requires shards { (1 ≤ shards) × (shards ≤ max_shards) }
-    requires gatherer { gatherer ≡ record { counts = clients.now.counts; got = [] } }
+    requires gatherer { gatherer.old ≡ record { counts = clients.now.counts; got = [] } }
     ensures { IfOk result (AreServed program.now opening.now clients.now callers shards) }
 {
     let shape = shape_of(alloc, program)?;
