@@ -1,4 +1,4 @@
--- What serving a session file promises. Only this crate's own functions cite it.
+-- What serving a session file promises. This crate's functions and those of plain_serving cite it.
 use Rattle.std.specs.Prelude.{◌≡◌, ℕ, zero, suc, ◌+◌, ◌*◌, ◌<◌, ◌≤◌, List, [], ◌∷◌, length, true, Option, Some, None}
 use Rattle.std.specs.List.{AllByRecursion}
 use Rattle.session_limits.specs.Limits.{max_callers, max_requests}
