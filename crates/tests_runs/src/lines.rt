@@ -153,36 +153,40 @@ impl<'a> Sink for CountSink<'a> {
 #[derive(Drop)]
 struct PairGate<'a> {
     lines: &'a AtomicUsize,
-    /// How many of the tickets 0 to 5 are begun, by pair.
-    begun: [AtomicUsize; 3],
+    /// How many of each two tickets are begun.
+    first: AtomicUsize,
+    second: AtomicUsize,
+    third: AtomicUsize,
     noted: AtomicUsize,
     broken: AtomicBool,
 }
 
-impl<'a> PairGate<'a> {
-    // Holds a ticket of a pair.
-    fn wait(&self, pair: usize) {
-        self.begun[pair].fetch_add(1, Ordering::SeqCst);
-        for _ in 0..10_000_000u64 {
-            if self.begun[pair].load(Ordering::SeqCst) >= 2 {
-                return;
-            }
-            thread::yield_now();
+// Holds one of two tickets until both are begun; says whether they were in time.
+fn both_begin(begun: &AtomicUsize) -> bool {
+    begun.fetch_add(1, Ordering::SeqCst);
+    for _ in 0..10_000_000u64 {
+        if begun.load(Ordering::SeqCst) >= 2 {
+            return true;
         }
-        self.broken.store(true, Ordering::SeqCst);
+        thread::yield_now();
     }
+    false
 }
 
 impl<'a> Gate for PairGate<'a> {
     fn pass<R: Threads + Wait + Sync>(&self, _rt: &R, place: Place) {
-        if let Place::Begun(t) = place {
-            if t < 6 {
-                self.wait((t / 2) as usize);
-            }
-            if t == 4 || t == 5 {
-                self.noted
-                    .fetch_max(self.lines.load(Ordering::SeqCst), Ordering::SeqCst);
-            }
+        let in_time = match place {
+            Place::Begun(0 | 1) => both_begin(&self.first),
+            Place::Begun(2 | 3) => both_begin(&self.second),
+            Place::Begun(4 | 5) => both_begin(&self.third),
+            _ => true,
+        };
+        if !in_time {
+            self.broken.store(true, Ordering::SeqCst);
+        }
+        if matches!(place, Place::Begun(4 | 5)) {
+            self.noted
+                .fetch_max(self.lines.load(Ordering::SeqCst), Ordering::SeqCst);
         }
     }
 }
@@ -201,11 +205,9 @@ fn paired_session<R: Threads + Wait + Sync>(
     };
     let gate = PairGate {
         lines: &lines,
-        begun: [
-            AtomicUsize::new(0),
-            AtomicUsize::new(0),
-            AtomicUsize::new(0),
-        ],
+        first: AtomicUsize::new(0),
+        second: AtomicUsize::new(0),
+        third: AtomicUsize::new(0),
         noted: AtomicUsize::new(0),
         broken: AtomicBool::new(false),
     };
