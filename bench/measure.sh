@@ -1,11 +1,5 @@
-# What both benchmarks stand on, sourced by them: the program, a folder of their own, and how they measure.
-# The program is proved and built by: (cd crates/foresight && rt run -- serve < ../../examples/first.session)
-# Another one, an unproved build say, is named by PROGRAM.
-set -euo pipefail
-cd "$(dirname "${BASH_SOURCE[0]}")/.."
-program=$(realpath "${PROGRAM:-crates/foresight/out/foresight}")
-work=$(mktemp -d)
-trap 'rm -rf "$work"' EXIT
+# Sourced by the scripts that time the program: how they measure. tools/program.sh says which program.
+. "$(dirname "${BASH_SOURCE[0]}")/../tools/program.sh"
 
 # Microseconds of one run of a command, whose output goes into the folder.
 once() { local from to; from=$(date +%s%N); "$@" > "$work/out"; to=$(date +%s%N); echo $(((to - from) / 1000)); }

@@ -5,9 +5,9 @@ set -euo pipefail
 cd "$(dirname "$0")/.."
 folder=${1:-docs/figures}
 export PYTHONDONTWRITEBYTECODE=1
-bench/house.py > "$folder/house.svg"
-bench/timeline.py examples/overlapping.session > "$folder/timeline.svg"
-bench/figures.py "$folder"
+tools/house.py > "$folder/house.svg"
+tools/timeline.py examples/overlapping.session > "$folder/timeline.svg"
+tools/figures.py "$folder"
 list=crates/README.md
 [ $# -eq 0 ] || list=$folder/crates.md
 tools/crates_readme.py > "$list"

@@ -1,5 +1,5 @@
 #!/usr/bin/env python3
-"""Draws a trace as an SVG: bench/timeline.py [--from N] [--count N] TRACE > PICTURE.
+"""Draws a trace as an SVG: tools/timeline.py [--from N] [--count N] TRACE > PICTURE.
 
 TRACE is what `trace` writes, or a session file followed by it: then the requests name the
 tickets. Events go down the page, with their lines at the left. Each caller has a lane, each

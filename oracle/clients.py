@@ -1,13 +1,13 @@
 #!/usr/bin/env python3
-"""Judges `clients` by a plain model: bench/clients.py PROGRAM [--serve] [--runs N] [--seed N].
+"""Judges `clients` by a plain model: oracle/clients.py PROGRAM [--serve] [--runs N] [--seed N].
 
 Each made session has 1 to 16 clients with up to 120 requests in all, each tenth with up to 2,000,
-which takes three rounds, and is served with a number of callers and shards that is drawn too. The output has to have a line for each request, client by
-client and in order, with the client's number, a ticket and the reply. The tickets have to be 0,
-1, 2 and so on, each once, and rise within a client; and the replies those of the model, which
-serves the requests one at a time in the order of the tickets. With --serve the model itself is
-looked at: the command is `serve`, and the tickets are the order of the file. Ends with 1 where
-anything else comes.
+which takes three rounds, and is served with a number of callers and shards that is drawn too. The
+output has to have a line for each request, client by client and in order, with the client's number,
+a ticket and the reply. The tickets have to be 0, 1, 2 and so on, each once, and rise within a
+client; and the replies those of the model, which serves the requests one at a time in the order of
+the tickets. With --serve the model itself is looked at: the command is `serve`, and the tickets are
+the order of the file. Ends with 1 where anything else comes.
 """
 import argparse
 import random

@@ -1,5 +1,5 @@
 #!/usr/bin/env python3
-"""Draws figures of time: bench/figures.py [FOLDER] writes peers.svg and callers.svg.
+"""Draws figures of time: tools/figures.py [FOLDER] writes peers.svg and callers.svg.
 
 The folder is docs/figures by default. bench/figures.csv has a line for each session: its name, and
 for each number of callers the time as a multiple of a sequential program's. The first line that
@@ -101,7 +101,7 @@ def draw_callers(sessions, note):
 
 def main():
     folder = sys.argv[1] if len(sys.argv) > 1 else os.path.join(HERE, "../docs/figures")
-    sessions, note = read(os.path.join(HERE, "figures.csv"))
+    sessions, note = read(os.path.join(HERE, "../bench/figures.csv"))
     for name, draw in (("peers", draw_peers), ("callers", draw_callers)):
         with open(os.path.join(folder, f"{name}.svg"), "w", encoding="utf-8") as file:
             file.write(draw(sessions, note))

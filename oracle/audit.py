@@ -1,5 +1,5 @@
 #!/usr/bin/env python3
-"""Judges `audit` by a plain model: bench/audit.py PROGRAM [--runs N] [--seed N].
+"""Judges `audit` by a plain model: oracle/audit.py PROGRAM [--runs N] [--seed N].
 
 Each made session is served by hand: its tickets take turns by chance and do their operations on
 shared plain tables, with delays between. Most such traces aren't serial, and half of them are

@@ -1,5 +1,5 @@
 #!/usr/bin/env python3
-"""Judges `trace` by a plain model: bench/trace.py PROGRAM [--runs N] [--seed N].
+"""Judges `trace` by a plain model: oracle/trace.py PROGRAM [--runs N] [--seed N].
 
 Each made session has up to 300 requests, and is served with a number of callers and shards that
 is drawn too. Of what is written is asked: tickets begin in order, each by a caller that has no

@@ -1,5 +1,5 @@
 #!/usr/bin/env python3
-"""Draws the crates by layers from crates.txt: bench/house.py > docs/figures/house.svg.
+"""Draws the crates by layers from crates.txt: tools/house.py > docs/figures/house.svg.
 
 The lowest layer is at the bottom. Each crate is a box; a bold one is the entry crate of its layer,
 and one with a red edge has functions that may wait. Where the mouse rests on a box, it is shown

@@ -1,7 +1,0 @@
-#!/usr/bin/env bash
-# Gives 1,000 traces, made by hand and half of them wrong, to `audit`, and compares
-# each verdict with that of a plain model (bench/audit.py). A session on which they differ stays here
-# as wrong-N.session.
-. "$(dirname "$0")/measure.sh"
-
-python3 bench/audit.py "$program" "$@"
