@@ -20,9 +20,8 @@ def files(*patterns):
 
 
 def cases():
-    """How many inputs are stored in examples/ and checks/."""
-    names = glob.glob("examples/*") + glob.glob("checks/*")
-    return len([name for name in names if not name.endswith((".args", ".stdout", ".md"))])
+    """How many cases are stored in examples/ and checks/: each has a file of its words."""
+    return files("examples/**/*.args", "checks/**/*.args")
 
 
 def thousands(*patterns):
