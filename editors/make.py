@@ -59,7 +59,7 @@ let b:current_syntax = "foresight"
 """
 VIM_DETECT = """\
 " File types of foresight. Made by editors/make.py.
-autocmd BufNewFile,BufRead *.handlers,*.session setfiletype foresight
+autocmd BufNewFile,BufRead *.handlers,*.session,*.trace setfiletype foresight
 """
 VIM_PLUGIN = """\
 " What a buffer of handlers or of a session sets. Made by editors/make.py.
@@ -68,7 +68,7 @@ if exists("b:did_ftplugin")
 endif
 let b:did_ftplugin = 1
 setlocal commentstring=#\\ %s comments=:# errorformat=%f:%l:%c:\\ %m,%f:\\ %m,%-G%.%#
-let s:word = expand("%:e") ==# "session" ? "serve" : "check"
+let s:word = get({"session": "serve", "trace": "audit"}, expand("%:e"), "check")
 let &l:makeprg = "foresight " . s:word . " < %:S 2>&1 >/dev/null \\\\| foresight_where %:S"
 let b:undo_ftplugin = "setlocal commentstring< comments< errorformat< makeprg<"
 """
@@ -128,7 +128,7 @@ def grammar(words):
         "name": "foresight",
         "comment": "Made by editors/make.py: change words.txt.",
         "scopeName": "source.foresight",
-        "fileTypes": ["handlers", "session"],
+        "fileTypes": ["handlers", "session", "trace"],
         "patterns": [
             {"name": "meta.lines.foresight", "begin": f"(?={marks})", "end": r"(?!x)x",
              "patterns": lines},

@@ -43,7 +43,7 @@ answer() {
 
 compared=0
 differ=0
-for file in examples/* checks/*; do
+for file in examples/* examples/tour/* checks/*; do
   if [ ! -f "$file.args" ]; then continue; fi
   mapfile -t words < "$file.args"
   case "${words[0]-}" in check | show | ranges | audit | serve | dump) ;; *) continue ;; esac

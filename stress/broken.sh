@@ -38,12 +38,13 @@ def ending(command, text):
 
 
 cases = []
-for path in sorted(glob.glob("examples/*")):
-    if path.endswith((".args", ".stdout")) or not os.path.getsize(path):
+for words in sorted(glob.glob("examples/**/*.args", recursive=True)):
+    path = words.removesuffix(".args")
+    if not os.path.exists(path):
         continue
     with open(path, "rb") as given:
         text = given.read()
-    with open(path + ".args") as given:
+    with open(words) as given:
         commands = [given.read().split()]
     commands += [["check"]] if commands[0][0] in ("serve", "dump", "ranges", "audit") else [["serve", "--callers", "2"]]
     cases += [(command, other) for other in broken(text) for command in commands]

@@ -109,7 +109,7 @@ $session 2000,20,6000 serve --callers 4
 $session 2000,20,6000 serve --callers 32
 examples/evening.session 2000,100,6000 dump
 $session 2000,100,6000 trace --callers 1
-examples/audited.session 2000,100,6000 audit
+examples/audited.trace 2000,100,6000 audit
 examples/login.handlers 2000,100,6000 check
 examples/login.handlers 2000,100,6000 show
 examples/spans.ranges 2000,100,6000 ranges

@@ -66,7 +66,7 @@ def clients(name, count, each, tables=""):
 
 CASES = [("serve", "examples/many.session"), ("serve --callers 4 --shards 8", "examples/many.session"),
          ("dump", "examples/evening.session"), ("trace --callers 1", "examples/many.session"),
-         ("audit", "examples/audited.session"), ("check", "examples/login.handlers"), ("show", "examples/login.handlers"),
+         ("audit", "examples/audited.trace"), ("check", "examples/login.handlers"), ("show", "examples/login.handlers"),
          ("ranges", "examples/spans.ranges"), ("work 300 7", os.devnull),
          ("clients", clients("one", 1, 100)), ("clients", clients("three", 3, 60)),
          ("clients --callers 2", clients("rounds", 3, 200)), ("clients --shards 8", clients("sixteen", 16, 40)),

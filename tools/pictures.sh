@@ -6,7 +6,7 @@ cd "$(dirname "$0")/.."
 folder=${1:-docs/figures}
 export PYTHONDONTWRITEBYTECODE=1
 tools/house.py > "$folder/house.svg"
-tools/timeline.py examples/overlapping.session > "$folder/timeline.svg"
+tools/timeline.py examples/overlapping.trace > "$folder/timeline.svg"
 tools/figures.py "$folder"
 list=crates/README.md
 [ $# -eq 0 ] || list=$folder/crates.md

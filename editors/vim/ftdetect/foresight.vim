@@ -1,2 +1,2 @@
 " File types of foresight. Made by editors/make.py.
-autocmd BufNewFile,BufRead *.handlers,*.session setfiletype foresight
+autocmd BufNewFile,BufRead *.handlers,*.session,*.trace setfiletype foresight

@@ -4,6 +4,6 @@ if exists("b:did_ftplugin")
 endif
 let b:did_ftplugin = 1
 setlocal commentstring=#\ %s comments=:# errorformat=%f:%l:%c:\ %m,%f:\ %m,%-G%.%#
-let s:word = expand("%:e") ==# "session" ? "serve" : "check"
+let s:word = get({"session": "serve", "trace": "audit"}, expand("%:e"), "check")
 let &l:makeprg = "foresight " . s:word . " < %:S 2>&1 >/dev/null \\| foresight_where %:S"
 let b:undo_ftplugin = "setlocal commentstring< comments< errorformat< makeprg<"
