@@ -180,7 +180,8 @@ def bounds_of(text, limits):
             re.search(rf"^{word} = (\d+)$", limits, re.M)[1])
     found = {}
     for option in ("callers", "shards"):
-        low, high = re.search(r"number_within (\w+) (\w+)", definition(text, f"{option}_of")).groups()
+        bounds = definition(text, f"{option}_of")
+        low, high = re.search(r"number_within (\w+) (\w+)", bounds).groups()
         found["--" + option] = size(low), size(high)
     work = re.findall(r"number_within (\w+) (\w+)", definition(text, "work_of"))
     for name, (low, high) in zip(("N", "START"), work):

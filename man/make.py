@@ -266,7 +266,7 @@ def cells(row):
 
 
 def table(lines):
-    """A list whose items are a table's rows: the first cell, then the others, each with its head."""
+    """A list of a table's rows: the first cell, then the others, each with its head."""
     heads = cells(lines[0])[1:]
     made = []
     for row in lines[2:]:

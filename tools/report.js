@@ -1,5 +1,5 @@
-// What is shown where the mouse rests: an event, its reply, what it waits for; all that belongs to the
-// same ticket is lit up.
+// What is shown where the mouse rests: an event, its reply, what it waits for; all that belongs to
+// the same ticket is lit up.
 const tip = document.getElementById("tip");
 const marked = [...document.querySelectorAll("[data-ticket]")];
 for (const shape of document.querySelectorAll("svg [data-ticket]")) {

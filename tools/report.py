@@ -1,12 +1,12 @@
 #!/usr/bin/env python3
 """Writes a page about a session: tools/report.py [options] SESSION > PAGE.html
 
-The page has the handlers with what `show` infers beside each line, the timeline of a run, who waited
-for whom in it, each request with its reply, and the final tables. It is one file, with nothing from
-elsewhere. The run is the trace with which the session file ends, if it has one, or else a run of
-`trace` (by 4 callers over 4 shards, or --callers N, --shards S). --from and --count choose the events
-that are drawn (400). --program PATH is the program; else it is the one that tools/look.sh leaves, or
-the one of .ci/run. A session that is refused ends this as it ends the program.
+The page has the handlers with what `show` infers beside each line, the timeline of a run, who
+waited for whom in it, each request with its reply, and the final tables. It is one file, with
+nothing from elsewhere. The run is the trace with which the session file ends, if it has one, or else
+a run of `trace` (by 4 callers over 4 shards, or --callers N, --shards S). --from and --count choose
+the events that are drawn (400). --program PATH is the program; else it is the one that tools/look.sh
+leaves, or the one of .ci/run. A session that is refused ends this as it ends the program.
 """
 import argparse
 import os
@@ -61,7 +61,8 @@ class Session:
         asked = text[:trace.start()] if trace else text
         asked += "" if asked.endswith("\n") else "\n"
         self.dumped = program.written(["dump", *options], asked, name)
-        events = text[trace.start():] if trace else program.written(["trace", *options], asked, name)
+        events = (text[trace.start():] if trace else
+                  program.written(["trace", *options], asked, name))
         self.verdict = program.written(["audit"], asked + events, name).strip()
         self.requests, self.events = timeline.read(asked + events)
         head = MARKER.search(asked)

@@ -94,8 +94,8 @@ def handlers(shown):
             last = last if otherwise else declared
         kind = ' class="first"' if line.startswith("handler ") else ""
         made.append(f"<tr{kind}><td><pre>{code(line)}</pre></td><td>{said}</td></tr>")
-    return ('<table class="handlers"><thead><tr><th>Line</th><th>What may still be called, from here on'
-            "</th></tr></thead>\n<tbody>" + "\n".join(made) + "</tbody></table>")
+    return ('<table class="handlers"><thead><tr><th>Line</th><th>What may still be called, from here '
+            "on</th></tr></thead>\n<tbody>" + "\n".join(made) + "</tbody></table>")
 
 
 def ticket(run, number):
@@ -128,9 +128,10 @@ def waits(run):
             for delay in run.delays]
     chain = report_run.longest_chain(run.delays)
     longest = " waits for ".join(ticket(run, number) for number in chain)
-    return (table(["Handler", "Operation", "waits for", "which may still call", "Times"], by_handler)
+    heads = ["Operation", "waits for", "which may still call"]
+    return (table(["Handler", *heads, "Times"], by_handler)
             + f"<p>The longest chain: {longest}.</p><h3>Each delay</h3>"
-            + table(["Ticket", "Operation", "waits for", "which may still call", "Events"], each))
+            + table(["Ticket", *heads, "Events"], each))
 
 
 def requests(run):
@@ -159,7 +160,8 @@ def tables(shown, dumped):
 def summary(session, run):
     """The numbers of the run in a sentence."""
     callers = len({each.caller for each in run.tickets.values()})
-    what = "The run with which the file ends" if session.is_stored else "One run; which comes is chance"
+    what = ("The run with which the file ends" if session.is_stored else
+            "One run; which comes is chance")
     counts = [(len(run.tickets), "ticket"), (callers, "caller"), (len(run.events), "event"),
               (len(run.delays), "delay")]
     said = ", ".join(f"{count:,} {word}{'' if count == 1 else 's'}" for count, word in counts)

@@ -1,7 +1,8 @@
 #!/usr/bin/env bash
 # Takes pictures of a page in a headless browser: tools/report_picture.sh PAGE.html FOLDER
 #
-# light.png, dark.png (1200 wide) and narrow.png (400 wide) come into FOLDER; chromium has to be there.
+# light.png and dark.png (1200 wide) and narrow.png (500 wide) come into FOLDER, each $HEIGHT high
+# (2200). It needs chromium.
 set -euo pipefail
 page=$(realpath "$1")
 folder=$2

@@ -6,7 +6,7 @@ ROW, TOP, BAR, KINDS, LONGEST = timeline.ROW, timeline.TOP, timeline.BAR, 6, 48
 
 
 class Delay:
-    """An operation that waited: of which ticket, for which one and its symbol, from when to when."""
+    """An operation that waited: of which ticket, for which one and its symbol, and how long."""
 
     def __init__(self, at, words):
         self.at, self.ticket = at, int(words[1])
@@ -113,16 +113,18 @@ class Run(timeline.Page):
         for at, caller in enumerate(self.callers):
             x = self.left + self.lane * at
             drawing.line("lane", x, TOP - 8, x, self.row(self.behind))
-            drawing.write("caller", x + 6, 24, f"caller {caller}" if self.lane > 60 else str(caller))
+            name = f"caller {caller}" if self.lane > 60 else str(caller)
+            drawing.write("caller", x + 6, 24, name)
 
     def put_bar(self, drawing, ticket):
         """A ticket from its begin to its end, with its request and the operations that it did."""
         x, y, number = self.middle(ticket), self.row(ticket.first), ticket.number
         last = self.behind if ticket.last is None else ticket.last
         name = self.name(number)
-        hover = f"ticket {name}\nof caller {ticket.caller}\nreply: {self.replies.get(number, 'none')}"
-        drawing.box(f"ticket t{number % KINDS}", x - BAR / 2, y, BAR, self.row(last) - y, hover=hover,
-                    rx=3, data_ticket=number)
+        reply = self.replies.get(number, "none")
+        drawing.box(f"ticket t{number % KINDS}", x - BAR / 2, y, BAR, self.row(last) - y,
+                    hover=f"ticket {name}\nof caller {ticket.caller}\nreply: {reply}", rx=3,
+                    data_ticket=number)
         for delay in self.delays:
             if delay.ticket == number:
                 end = self.row(last if delay.until is None else delay.until)
@@ -134,8 +136,8 @@ class Run(timeline.Page):
                       timeline.shortened(name, int((self.lane - 38) / 6.4)), data_ticket=number)
         for at in ticket.done:
             if self.first <= at < self.behind:
-                drawing.put("circle", hover=self.told(at), class_="done", cx=x, cy=self.row(at), r=4,
-                            data_ticket=number)
+                drawing.put("circle", hover=self.told(at), class_="done", cx=x, cy=self.row(at),
+                            r=4, data_ticket=number)
 
     def put_delays(self, drawing, ticket):
         """An arrow from each delay to the ticket that was waited for."""

@@ -4,10 +4,10 @@
 COMMAND makes src/parser.c in the folder that it is run in (`tree-sitter generate` if none is
 given); a C compiler and Tree-sitter's library (Debian's libtree-sitter-dev) are needed too. Of each
 file of examples/ and checks/, and of each of these with one token left out, put twice or exchanged,
-the handlers are parsed by both:
-what `check` accepts, or refuses for a rule beyond the grammar, has to have a tree without a fault,
-and what it refuses as S1 or S2 a fault. Of whole files of examples/ those that their command
-accepts have to have a tree without a fault. The queries have to fit the grammar.
+the handlers are parsed by both: what `check` accepts, or refuses for a rule beyond the grammar, has
+to have a tree without a fault, and what it refuses as S1 or S2 a fault. Of whole files of examples/
+those that their command accepts have to have a tree without a fault. The queries have to fit the
+grammar.
 """
 import glob
 import os
@@ -20,8 +20,8 @@ import tempfile
 
 HERE = os.path.dirname(os.path.realpath(__file__))
 ROOT = os.path.join(HERE, "../..")
-# Parses files of which the names are given a line each, and writes 1 a line where a tree has a fault;
-# first come the queries that it compiles.
+# Compiles the queries that its words name, then parses the files that its input names, a line each,
+# and writes 1 for a tree with a fault and 0 for one without.
 JUDGE = r"""
 #include <stdio.h>
 #include <stdlib.h>
@@ -69,8 +69,8 @@ def built(folder, command):
     subprocess.run(command, cwd=folder, check=True)
     with open(os.path.join(folder, "judge.c"), "w", encoding="utf-8") as file:
         file.write(JUDGE)
-    subprocess.run(["cc", "-O1", "-Isrc", "-o", "judge", "judge.c", "src/parser.c", "-ltree-sitter"],
-                   cwd=folder, check=True)
+    subprocess.run(["cc", "-O1", "-Isrc", "-o", "judge", "judge.c", "src/parser.c",
+                    "-ltree-sitter"], cwd=folder, check=True)
     return os.path.join(folder, "judge")
 
 
@@ -112,9 +112,9 @@ def texts(program):
         handlers = handlers_of(whole)
         for text in [handlers, *(changed(handlers, draw) for _ in range(6))]:
             status, rule = ended(program, ["check"], text)
+            fault = rule in ("S1", "S2")
             beyond = rule[:1] in ("K", "A")
-            fault = None if status and rule not in ("S1", "S2") and not beyond else rule in ("S1", "S2")
-            yield name, text, fault
+            yield name, text, None if status and not fault and not beyond else fault
         words = read(name + ".args").decode().split() if os.path.exists(name + ".args") else []
         if name.startswith("examples/") and words and ended(program, words, whole)[0] == 0:
             yield name + " (whole)", whole, False

@@ -1,4 +1,5 @@
-// The Tree-sitter grammar of handlers and sessions. Made by editors/make.py: change words.txt.
+// Tree-sitter's grammar of handlers and sessions.
+// Made by editors/make.py: change words.txt.
 //
 // A name is no reserved word and a symbol isn't 'nil: their patterns are written out so that a word
 // is refused where the parser refuses it. The limits of the language aren't here.

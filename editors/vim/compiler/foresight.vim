@@ -31,7 +31,7 @@ CompilerSet errorformat=%f:%l:%c:\ %m,
   \%+Gusage:%.%#,%+Gno\ memory,%+G%\\w%\\+\ fault,
   \%f:\ %m,%-G%.%#
 
-" A line of the program, which names a byte, a line or no place, is placed in the file that was made.
+" A line of the program names a byte, a line or no place: it is placed in the file that was made.
 if !exists("*s:Place")
   function s:Place() abort
     let l:entries = getqflist()

@@ -19,8 +19,8 @@ syntax match foresightSymbol "'[A-Za-z][A-Za-z0-9_.@:-]*"
 syntax match foresightHandler "\(\<handler\s\+\)\@<=[A-Za-z]\w*"
 syntax match foresightComment "#.*$"
 
-" Behind the first marker line a line is a request or an entry of a table: its first word, then values.
-" Behind `%% trace` it is an event, in which operations and `any` are as in handlers.
+" Behind the first marker line a line is a request or an entry of a table: its first word, then
+" values. Behind `%% trace` it is an event, in which operations and `any` are as in handlers.
 syntax match foresightValue "-\=\<\d\+\>\ze\%([ \t\r#]\|$\)" contained
 syntax match foresightNil "\<nil\>\ze\%([ \t\r#]\|$\)" contained
 syntax match foresightSymbol "'[A-Za-z][A-Za-z0-9_.@:-]*" contained
