@@ -128,16 +128,24 @@ esac
 """
 FISH = r"""# Completion of foresight in fish. Made by completion/make.py.
 
+# The words before the cursor but the first one, without redirections.
+function __foresight_given
+    set -l text (commandline -pc | string replace -ra '\d*[<>]+&?\s*[^\s<>]+(?=\s)' '')
+    set -l words (string match -ra '\S+' -- $text)
+    string match -qr '\s$' -- $text; or set -e words[-1]
+    string join \n -- $words[2..]
+end
+
 # Whether behind these words: so many, the command first among those that are named.
 function __foresight_behind
-    set -l given (commandline -opc)[2..]
+    set -l given (__foresight_given)
     test (count $given) -eq $argv[1]; or return 1
     test (count $argv) -eq 1; or contains -- $given[1] $argv[2..]
 end
 
 # Whether the last word is this one, behind one of the commands that are named.
 function __foresight_number
-    set -l given (commandline -opc)[2..]
+    set -l given (__foresight_given)
     contains -- (count $given) 2 4; and test "$given[-1]" = $argv[1]
     and contains -- $given[1] $argv[2..]
 end
@@ -264,7 +272,7 @@ def fish(words):
     for option, behind in ((first, f"__foresight_behind 1 {serving}"),
                            (second, f"__foresight_behind 1 {serving}"),
                            (second, f"__foresight_behind 3 {serving}; "
-                            f"and test (commandline -opc)[3] = {first}")):
+                            f"and test (__foresight_given)[2] = {first}")):
         lines.append(f"complete -c foresight -n '{behind}' -a {option} -d '{words.said(option)}'")
     for option in words.options:
         numbers = " ".join(map(str, doubled(words.bounds[option])))

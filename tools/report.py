@@ -53,8 +53,7 @@ class Session:
     """A session file, and what the program writes of it."""
 
     def __init__(self, name, program, options):
-        with open(name, encoding="utf-8", newline="") as given:
-            text = given.read()
+        text = read(name)
         self.name = os.path.basename(name)
         trace = TRACE.search(text)
         self.is_stored = bool(trace)
@@ -68,6 +67,17 @@ class Session:
         head = MARKER.search(asked)
         self.remark = first_comment(asked)
         self.shown = program.written(["show"], asked[:head.start()], name)
+
+
+def read(name):
+    """The text of a file."""
+    try:
+        with open(name, encoding="utf-8", newline="") as given:
+            return given.read()
+    except OSError as fault:
+        sys.exit(f"{name}: {fault.strerror}")
+    except UnicodeDecodeError:
+        sys.exit(f"{name}: no UTF-8")
 
 
 def first_comment(text):

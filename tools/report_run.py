@@ -60,7 +60,7 @@ class Run(timeline.Page):
         longest = max((len(line) for line in events[first:self.behind]), default=0)
         self.gutter = 8 + 7 * len(str(len(events)))
         self.left = self.gutter + 26 + min(longest, LONGEST) * 7.3
-        self.lane = max(34, min(190, 760 // max(len(self.callers), 1)))
+        self.lane = max(52, min(190, 760 // max(len(self.callers), 1)))
 
     def request(self, number):
         """The request of a ticket."""
@@ -132,8 +132,10 @@ class Run(timeline.Page):
                     drawing.box("wait", x - BAR / 2, self.row(delay.at), BAR,
                                 end - self.row(delay.at), hover=self.told(delay.at),
                                 data_ticket=number)
-        drawing.write("name", x + BAR / 2 + 6, y + 12,
-                      timeline.shortened(name, int((self.lane - 38) / 6.4)), data_ticket=number)
+        room = int((self.lane - 38) / 6.4)
+        said = timeline.shortened(name, room) if room > 4 else str(number)
+        if len(said) <= room:
+            drawing.write("name", x + BAR / 2 + 6, y + 12, said, data_ticket=number)
         for at in ticket.done:
             if self.first <= at < self.behind:
                 drawing.put("circle", hover=self.told(at), class_="done", cx=x, cy=self.row(at),
