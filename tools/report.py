@@ -3,10 +3,11 @@
 
 The page has the handlers with what `show` infers beside each line, the timeline of a run, who
 waited for whom in it, each request with its reply, and the final tables. It is one file, with
-nothing from elsewhere. The run is the trace with which the session file ends, if it has one, or else
-a run of `trace` (by 4 callers over 4 shards, or --callers N, --shards S). --from and --count choose
-the events that are drawn (400). --program PATH is the program; else it is the one that tools/look.sh
-leaves, or the one of .ci/run. A session that is refused ends this as it ends the program.
+nothing from elsewhere. The run is the trace with which the session file ends, if it has one, or
+else a run of `trace` (by 4 callers over 4 shards, or --callers N, --shards S). --from and --count
+choose the events that are drawn (400). --program PATH is the program; else it is the one that
+tools/look.sh leaves, or the one of .ci/run. A session that is refused ends this as it ends the
+program.
 """
 import argparse
 import os
@@ -66,7 +67,8 @@ class Session:
         self.requests, self.events = timeline.read(asked + events)
         head = MARKER.search(asked)
         self.remark = first_comment(asked)
-        self.shown = program.written(["show"], asked[:head.start()], name)
+        self.source = asked[:head.start()]
+        self.shown = program.written(["show"], self.source, name)
 
 
 def read(name):

@@ -4,15 +4,12 @@ import re
 from collections import Counter
 from html import escape
 
-import make
+import report_handlers
 import report_run
+from report_handlers import code
 
 HERE = os.path.dirname(os.path.realpath(__file__))
 MOST = 400
-WORDS = make.words_of(os.path.join(HERE, "../editors/words.txt"))
-KINDS = {"keyword": WORDS["declare"] + WORDS["statement"], "constant": WORDS["constant"],
-         "operation": WORDS["on-map"] + WORDS["on-set"]}
-TOKEN = re.compile(r"'[A-Za-z][\w.@:-]*|[A-Za-z]\w*|\d+|\s+|.")
 LEGEND = """<p class="legend">
 <span><i class="bar t0"></i> a ticket, from its begin to its end</span>
 <span><i class="dot"></i> an operation that is done</span>
@@ -24,16 +21,6 @@ def asset(name):
     """A file of this folder."""
     with open(os.path.join(HERE, name), encoding="utf-8") as given:
         return given.read()
-
-
-def code(text):
-    """A text of the language with its words marked."""
-    made = []
-    for token in TOKEN.findall(text):
-        kind = next((kind for kind, words in KINDS.items() if token in words), None)
-        kind = "symbol" if token[0] == "'" else "number" if token.isdigit() else kind
-        made.append(f'<span class="{kind}">{escape(token)}</span>' if kind else escape(token))
-    return "".join(made)
 
 
 def quoted(text):
@@ -50,52 +37,6 @@ def table(heads, rows):
             if len(rows) > MOST else "")
     return (f'<div class="wide"><table><thead><tr>{head}</tr></thead>\n'
             f"<tbody>{body}</tbody></table></div>{more}")
-
-
-def rows_of(shown):
-    """Each line of the handlers, with what is declared before it, if something is."""
-    lines, rows, declared = shown.rstrip("\n").split("\n"), [], None
-    at = 0
-    while at < len(lines):
-        line = lines[at]
-        word = line.strip()
-        if word.startswith("mayuse "):
-            declared = word[len("mayuse "):-1]
-        elif word == "} else {" and lines[at + 2].strip() == "}":
-            # the file has no such block: it is there for the declaration alone
-            rows.append((lines[at + 2], lines[at + 1].strip()[len("mayuse "):-1], True))
-            at += 2
-        else:
-            rows.append((line, declared, False))
-            declared = None
-        at += 1
-    return rows
-
-
-def symbols(declared):
-    """Symbols, each in a box of its own."""
-    if declared == "nothing":
-        return '<span class="nothing">nothing</span>'
-    return " ".join(f'<code class="chip">{code(each)}</code>'
-                    for each in re.findall(r"\w+\([^)]*\)", declared))
-
-
-def handlers(shown):
-    """The handlers with what each may still call beside its lines."""
-    made, last = [], None
-    for line, declared, otherwise in rows_of(shown):
-        first = line.startswith(("handler ", "map ", "set "))
-        last = None if first else last
-        said = ""
-        if declared is not None:
-            same = " same" if declared == last and not otherwise else ""
-            said = (f'<span class="said{same}">{"if not: " if otherwise else ""}'
-                    f"{symbols(declared)}</span>")
-            last = last if otherwise else declared
-        kind = ' class="first"' if line.startswith("handler ") else ""
-        made.append(f"<tr{kind}><td><pre>{code(line)}</pre></td><td>{said}</td></tr>")
-    return ('<table class="handlers"><thead><tr><th>Line</th><th>What may still be called, from here '
-            "on</th></tr></thead>\n<tbody>" + "\n".join(made) + "</tbody></table>")
 
 
 def ticket(run, number):
@@ -177,7 +118,7 @@ def page(session, first, count):
             f"<p class='note'>Events {run.first} to {run.behind - 1} of {len(run.events):,} are "
             "drawn.</p>")
     sections = [
-        ("handlers", "Handlers", handlers(session.shown)),
+        ("handlers", "Handlers", report_handlers.table(session.source, session.shown)),
         ("run", "A run", f"<p>{summary(session, run)}</p>{LEGEND}{part}"
          f'<div class="wide">{run.drawn()}</div>'),
         ("waits", "Who waited for whom", waits(run)),
