@@ -1,4 +1,4 @@
-"""The handlers of a session with what `show` infers beside them, for the page of tools/report.py."""
+"""The handlers of a session with what `show` infers beside them, for the page of report.py."""
 import os
 import re
 from html import escape
