@@ -163,8 +163,7 @@ TREE_CONFIGURATION = {
     "grammars": [{
         "name": "foresight", "camelcase": "Foresight", "scope": "source.foresight", "path": ".",
         "file-types": ["handlers", "session"], "highlights": "queries/highlights.scm"}],
-    "metadata": {"version": "1.2.0", "license": "none",
-                 "description": "Handlers and sessions of foresight"},
+    "metadata": {"version": "1.2.0", "description": "Handlers and sessions of foresight"},
 }
 
 

@@ -191,12 +191,13 @@ def chosen(blocks, part):
     if part == "Status":
         return [block for block in blocks if block[1][0].startswith("| Status")]
     if part == "first":
-        end = next(at for at, head in enumerate(heads) if head.startswith("    "))
+        end = next((at for at, head in enumerate(heads) if head.startswith("    ")), 0)
         return blocks[:end] + [block for block in blocks if "--rules" in block[1][0]]
     if part == "function":
         return [block for block in blocks if block[1][:1] == ["```text"]]
     if part:
-        return blocks[next(at for at, head in enumerate(heads) if head.startswith(part)):]
+        return blocks[next((at for at, head in enumerate(heads) if head.startswith(part)),
+                           len(blocks)):]
     return blocks
 
 
@@ -300,7 +301,11 @@ def page(name, text, sections, release):
     for kind, lines in blocks_of(text.strip().split("\n")):
         if kind == "section":
             heading, _, part = lines[0][1:].partition("|")
-            for inner in chosen(blocks_of(sections[heading]), part):
+            taken = chosen(blocks_of(sections.get(heading, [])), part)
+            if not taken:
+                sys.exit(f"man/make.py: docs/LANGUAGE.md has no section `{heading}`"
+                         + (f" with `{part}`" if part else ""))
+            for inner in taken:
                 made += block(*inner)
         else:
             made += block(kind, lines)
