@@ -21,45 +21,55 @@ def scoped(name, match):
     return {"name": f"{name}.foresight", "match": match}
 
 
-def grammar(words):
-    """The TextMate grammar."""
-    def any_of(*names):
-        return r"\b(?:" + "|".join(word for name in names for word in words[name]) + r")\b"
-    comment = scoped("comment.line.number-sign", "#.*$")
-    symbol = scoped("string.other.symbol", f"'{SYMBOL}")
-    marks = "^(?:" + "|".join(reversed(MARKS)) + r")[ \t\r]*$"
-    handlers = [
-        comment,
+COMMENT = scoped("comment.line.number-sign", "#.*$")
+QUOTED = scoped("string.other.symbol", f"'{SYMBOL}")
+MARK = "^(?:" + "|".join(reversed(MARKS)) + r")[ \t\r]*$"
+
+
+def any_of(words, *names):
+    """A pattern of the words of these lines of the list."""
+    return r"\b(?:" + "|".join(word for name in names for word in words[name]) + r")\b"
+
+
+def handlers(words):
+    """The patterns of handlers."""
+    return [
+        COMMENT,
         {"match": r"\b(handler)\s+([A-Za-z]\w*)", "captures": {
             "1": {"name": "storage.type.foresight"},
             "2": {"name": "entity.name.function.foresight"}}},
-        scoped("storage.type", any_of("declare")),
-        scoped("keyword.control", any_of("statement")),
-        scoped("constant.language", any_of("constant")),
-        scoped("keyword.other", any_of("foresight")),
-        scoped("support.function", any_of("on-map", "on-set")),
+        scoped("storage.type", any_of(words, "declare")),
+        scoped("keyword.control", any_of(words, "statement")),
+        scoped("constant.language", any_of(words, "constant")),
+        scoped("keyword.other", any_of(words, "foresight")),
+        scoped("support.function", any_of(words, "on-map", "on-set")),
         scoped("constant.numeric", r"\b\d+\b"),
-        symbol,
+        QUOTED,
         scoped("keyword.operator", r"[=!<]=|[=<+*-]"),
     ]
-    lines = [
-        comment,
-        scoped("meta.separator", marks),
-        scoped("entity.name.function", rf"^[ \t]*{SYMBOL}"),
+
+
+def lines(first):
+    """The patterns of lines of words, of which these are those of the first ones."""
+    return [
+        COMMENT,
+        scoped("meta.separator", MARK),
+        *first,
         scoped("constant.numeric", r"(?<=[ \t])-?\d+(?=[ \t\r#]|$)"),
         scoped("constant.language", r"(?<=[ \t])nil(?=[ \t\r#]|$)"),
-        symbol,
+        QUOTED,
     ]
-    trace = [
-        comment,
-        scoped("meta.separator", marks),
+
+
+def grammar(words):
+    """The TextMate grammar."""
+    requests = lines([scoped("entity.name.function", rf"^[ \t]*{SYMBOL}")])
+    events = lines([
         scoped("keyword.control", r"^[ \t]*(?:" + "|".join(words["event"]) + r")\b"),
-        scoped("support.function", any_of("on-map", "on-set") + r"(?=[ \t\r#]|$)"),
-        scoped("constant.language", r"(?<=[ \t])any(?=[ \t\r#]|$)"),
-        *lines[3:],
-    ]
-    trace_part = {"name": "meta.trace.foresight", "begin": r"(?=^%% trace[ \t\r]*$)",
-                  "end": r"(?!x)x", "patterns": trace}
+        scoped("support.function", any_of(words, "on-map", "on-set") + r"(?=[ \t\r#]|$)"),
+        scoped("constant.language", r"(?<=[ \t])any(?=[ \t\r#]|$)")])
+    trace = {"name": "meta.trace.foresight", "begin": r"(?=^%% trace[ \t\r]*$)",
+             "end": r"(?!x)x", "patterns": events}
     return {
         "$schema": "https://raw.githubusercontent.com/martinring/tmlanguage/master/tmlanguage.json",
         "name": "foresight",
@@ -67,10 +77,10 @@ def grammar(words):
         "scopeName": "source.foresight",
         "fileTypes": ["handlers", "session"],
         "patterns": [
-            trace_part,
-            {"name": "meta.lines.foresight", "begin": f"(?={marks})", "end": r"(?!x)x",
-             "patterns": [trace_part, *lines]},
-            *handlers],
+            trace,
+            {"name": "meta.lines.foresight", "begin": f"(?={MARK})", "end": r"(?!x)x",
+             "patterns": [trace, *requests]},
+            *handlers(words)],
     }
 
 
