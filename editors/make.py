@@ -1,92 +1,19 @@
 #!/usr/bin/env python3
-"""Makes the highlighting of each editor from words.txt: editors/make.py [FOLDER].
+"""Makes the files of each editor from words.txt: editors/make.py [FOLDER].
 
-The files are written into the folder of this script, or into FOLDER.
+The files (of Vim by vim_files.py, of Tree-sitter by tree_sitter_files.py) are written into the
+folder of this script, or into FOLDER.
 """
 import json
 import os
 import sys
 
+sys.dont_write_bytecode = True
+import tree_sitter_files  # noqa: E402
+import vim_files  # noqa: E402
+from patterns import MARKS, SYMBOL, words_of  # noqa: E402
+
 HERE = os.path.dirname(os.path.realpath(__file__))
-MARKS = ["%%", "%% tables", "%% trace", "%% next"]
-SYMBOL = r"[A-Za-z][A-Za-z0-9_.@:-]*"
-VIM_SYNTAX = r"""" Vim syntax of handlers and sessions. Made by editors/make.py: change words.txt.
-if exists("b:current_syntax")
-  finish
-endif
-syntax case match
-syntax sync fromstart
-
-syntax keyword foresightDeclare DECLARE
-syntax keyword foresightStatement STATEMENT
-syntax keyword foresightConstant CONSTANT
-syntax keyword foresightForesight FORESIGHT
-syntax keyword foresightOperation ON-MAP
-syntax keyword foresightOperation ON-SET
-syntax match foresightSign "[=!<]=\|[=<+*-]"
-syntax match foresightNumber "\<\d\+\>"
-syntax match foresightSymbol "'SYMBOL"
-syntax match foresightHandler "\(\<handler\s\+\)\@<=[A-Za-z]\w*"
-syntax match foresightComment "#.*$"
-
-" Behind the first marker line a line is a request, an entry of a table or an event: its first word,
-" then values.
-syntax match foresightValue "-\=\<\d\+\>\ze\%([ \t\r#]\|$\)" contained
-syntax match foresightNil "\<nil\>\ze\%([ \t\r#]\|$\)" contained
-syntax match foresightSymbol "'SYMBOL" contained
-syntax match foresightFirst "^[ \t]*SYMBOL" contained
-syntax match foresightMark "^\%(MARKS\)[ \t\r]*$" contained
-syntax region foresightLines start="^\%(MARKS\)[ \t\r]*$" end="\%$" keepend
-  \ contains=foresightMark,foresightFirst,foresightValue,foresightNil,foresightSymbol,
-  \foresightComment
-
-highlight default link foresightDeclare Structure
-highlight default link foresightStatement Statement
-highlight default link foresightConstant Constant
-highlight default link foresightForesight PreProc
-highlight default link foresightOperation Function
-highlight default link foresightSign Operator
-highlight default link foresightNumber Number
-highlight default link foresightValue Number
-highlight default link foresightNil Constant
-highlight default link foresightSymbol String
-highlight default link foresightHandler Identifier
-highlight default link foresightFirst Identifier
-highlight default link foresightMark PreProc
-highlight default link foresightComment Comment
-
-let b:current_syntax = "foresight"
-"""
-VIM_DETECT = """\
-" File types of foresight. Made by editors/make.py.
-autocmd BufNewFile,BufRead *.handlers,*.session,*.trace setfiletype foresight
-"""
-VIM_PLUGIN = """\
-" What a buffer of handlers or of a session sets. Made by editors/make.py.
-if exists("b:did_ftplugin")
-  finish
-endif
-let b:did_ftplugin = 1
-setlocal commentstring=#\\ %s comments=:# errorformat=%f:%l:%c:\\ %m,%f:\\ %m,%-G%.%#
-let s:word = get({"session": "serve", "trace": "audit"}, expand("%:e"), "check")
-let &l:makeprg = "foresight " . s:word . " < %:S 2>&1 >/dev/null \\\\| foresight_where %:S"
-let b:undo_ftplugin = "setlocal commentstring< comments< errorformat< makeprg<"
-"""
-
-
-def words_of(path):
-    """The words of each line of the list, by the line's first word."""
-    with open(path, encoding="utf-8") as given:
-        rows = [line.split() for line in given if not line.startswith("#")]
-    return {name: words for name, *words in rows}
-
-
-def vim_syntax(words):
-    """The syntax file of Vim."""
-    text = VIM_SYNTAX
-    for name, row in words.items():
-        text = text.replace(" " + name.upper() + "\n", " " + " ".join(row) + "\n")
-    return text.replace("SYMBOL", SYMBOL).replace("MARKS", r"\|".join(MARKS))
 
 
 def scoped(name, match):
@@ -94,35 +21,55 @@ def scoped(name, match):
     return {"name": f"{name}.foresight", "match": match}
 
 
-def grammar(words):
-    """The TextMate grammar."""
-    def any_of(*names):
-        return r"\b(?:" + "|".join(word for name in names for word in words[name]) + r")\b"
-    comment = scoped("comment.line.number-sign", "#.*$")
-    symbol = scoped("string.other.symbol", f"'{SYMBOL}")
-    marks = "^(?:" + "|".join(reversed(MARKS)) + r")[ \t\r]*$"
-    handlers = [
-        comment,
+COMMENT = scoped("comment.line.number-sign", "#.*$")
+QUOTED = scoped("string.other.symbol", f"'{SYMBOL}")
+MARK = "^(?:" + "|".join(reversed(MARKS)) + r")[ \t\r]*$"
+
+
+def any_of(words, *names):
+    """A pattern of the words of these lines of the list."""
+    return r"\b(?:" + "|".join(word for name in names for word in words[name]) + r")\b"
+
+
+def handlers(words):
+    """The patterns of handlers."""
+    return [
+        COMMENT,
         {"match": r"\b(handler)\s+([A-Za-z]\w*)", "captures": {
             "1": {"name": "storage.type.foresight"},
             "2": {"name": "entity.name.function.foresight"}}},
-        scoped("storage.type", any_of("declare")),
-        scoped("keyword.control", any_of("statement")),
-        scoped("constant.language", any_of("constant")),
-        scoped("keyword.other", any_of("foresight")),
-        scoped("support.function", any_of("on-map", "on-set")),
+        scoped("storage.type", any_of(words, "declare")),
+        scoped("keyword.control", any_of(words, "statement")),
+        scoped("constant.language", any_of(words, "constant")),
+        scoped("keyword.other", any_of(words, "foresight")),
+        scoped("support.function", any_of(words, "on-map", "on-set")),
         scoped("constant.numeric", r"\b\d+\b"),
-        symbol,
+        QUOTED,
         scoped("keyword.operator", r"[=!<]=|[=<+*-]"),
     ]
-    lines = [
-        comment,
-        scoped("meta.separator", marks),
-        scoped("entity.name.function", rf"^[ \t]*{SYMBOL}"),
+
+
+def lines(first):
+    """The patterns of lines of words, of which these are those of the first ones."""
+    return [
+        COMMENT,
+        scoped("meta.separator", MARK),
+        *first,
         scoped("constant.numeric", r"(?<=[ \t])-?\d+(?=[ \t\r#]|$)"),
         scoped("constant.language", r"(?<=[ \t])nil(?=[ \t\r#]|$)"),
-        symbol,
+        QUOTED,
     ]
+
+
+def grammar(words):
+    """The TextMate grammar."""
+    requests = lines([scoped("entity.name.function", rf"^[ \t]*{SYMBOL}")])
+    events = lines([
+        scoped("keyword.control", r"^[ \t]*(?:" + "|".join(words["event"]) + r")\b"),
+        scoped("support.function", any_of(words, "on-map", "on-set") + r"(?=[ \t\r#]|$)"),
+        scoped("constant.language", r"(?<=[ \t])any(?=[ \t\r#]|$)")])
+    trace = {"name": "meta.trace.foresight", "begin": r"(?=^%% trace[ \t\r]*$)",
+             "end": r"(?!x)x", "patterns": events}
     return {
         "$schema": "https://raw.githubusercontent.com/martinring/tmlanguage/master/tmlanguage.json",
         "name": "foresight",
@@ -130,18 +77,18 @@ def grammar(words):
         "scopeName": "source.foresight",
         "fileTypes": ["handlers", "session", "trace"],
         "patterns": [
-            {"name": "meta.lines.foresight", "begin": f"(?={marks})", "end": r"(?!x)x",
-             "patterns": lines},
-            *handlers],
+            trace,
+            {"name": "meta.lines.foresight", "begin": f"(?={MARK})", "end": r"(?!x)x",
+             "patterns": [trace, *requests]},
+            *handlers(words)],
     }
 
 
 def made(words):
     """Each file that is made, with its text."""
     return {
-        "vim/syntax/foresight.vim": vim_syntax(words),
-        "vim/ftdetect/foresight.vim": VIM_DETECT,
-        "vim/ftplugin/foresight.vim": VIM_PLUGIN,
+        **vim_files.files(words),
+        **tree_sitter_files.files(words),
         "foresight.tmLanguage.json": json.dumps(grammar(words), indent=2) + "\n",
     }
 

@@ -17,8 +17,8 @@ READERS = ["docs/MAP.md", "docs/PROOF.md", "docs/PROVED.md", "docs/DEFINITIONS.m
            "docs/DECISIONS.md"]
 PLAIN = re.compile(r"\b(wants? of memory|wants? memory|wanted? memory|in vain|(?:is|are) told|"
                    r"stands? behind|hangs? on|where it is there)\b")
-FILE = re.compile(r"`((?:crates|docs|bench|stress|oracle|tools|checks|examples|editors|embedding|edits|\.ci)/"
-                  r"[\w./-]+)`")
+FILE = re.compile(r"`((?:crates|docs|bench|stress|oracle|tools|checks|examples|editors|embedding|edits|man"
+                  r"|completion|\.ci)/[\w./-]+)`")
 BELOW = re.compile(r"`(\w+/(?:src|specs|proofs)(?:/[\w/]+\.(?:rt|antt))?)`")
 CLAUSE = re.compile(r"\| .* \| ((?:`\w+`,? )+(?:of `\w+`)?,? ?)`(crates/[\w/]+\.(?:rt|antt))`")
 
