@@ -51,7 +51,9 @@ def watch(kept, stop):
     seen, written, ended = {}, 0, False
     while not ended:
         ended = os.path.exists(stop)
-        seen.update({name: [seconds, words] for name, seconds, words in of_the_gate()})
+        for name, seconds, words in of_the_gate():
+            # a process that is ending has no words any more
+            seen[name] = [seconds, words.strip() or seen.get(name, [0, ""])[1]]
         if ended or time.time() - written > 30:
             written = time.time()
             with open(f"{kept}.new", "w", encoding="utf-8") as out:
