@@ -10,7 +10,7 @@ use Rattle.session_journal.specs.declared.event.Event.TheVariants.{Delay}
 use Rattle.session_journal.specs.Journal.{begun}
 use Rattle.session_journal.specs.Script.{Meaning, IsScript, calls}
 use Rattle.admission_book.specs.Book.{Book, Holds, Serving, IsFree, IsBlocker, record_of, with_event, after_admit, after_delay}
-use Rattle.admission_book.specs.EventsInTurn.{IsForeseen, IsOpen, is_delayed}
+use Rattle.session_journal.specs.EventsInTurn.{IsForeseen, IsOpen, is_delayed}
 use Rattle.admission_book.specs.Lawful.{Lawful}
 use Rattle.admission_book.specs.declared.caller_record.CallerRecord.{CallerRecord}
 use Rattle.admission_book.specs.declared.admission.Admission.TheVariants.{Admitted, Delayed}
@@ -20,9 +20,9 @@ use Rattle.admission_book.specs.Foresights.{symbols_of}
 use Rattle.admission_book.specs.Found.{book_with, Found}
 use Rattle.admission_book.specs.declared.blocker.Blocker.{Blocker}
 use Rattle.admission_book.specs.Kept.{book_of, KeepsRecord}
-use Rattle.admission_book.proofs.Events.{begun_stays}
+use Rattle.session_journal.proofs.Events.{begun_stays}
 use Rattle.admission_book.proofs.Keep.{keeps_admit, keeps_delay}
-use Rattle.admission_book.proofs.Room.{is_delayed-append}
+use Rattle.session_journal.proofs.EventCounts.{is_delayed-append}
 use Rattle.admission_book.proofs.Shown.{served, serving_is, servings_at, shown, keeps_has, keeps_more, keeps_set, cond_same, room_for, one, others, Place, served_at}
 
 -- what the search found, at the records of the book

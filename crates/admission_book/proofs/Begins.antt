@@ -10,15 +10,15 @@ use Rattle.session_journal.specs.declared.event.Event.TheVariants.{Begin}
 use Rattle.session_journal.specs.Journal.{begun}
 use Rattle.session_journal.specs.Script.{Meaning, IsScript}
 use Rattle.admission_book.specs.Book.{Book, Serving, record_of, after_begin}
-use Rattle.admission_book.specs.EventsInTurn.{is_delayed}
+use Rattle.session_journal.specs.EventsInTurn.{is_delayed}
 use Rattle.admission_book.specs.Lawful.{Lawful}
 use Rattle.admission_book.specs.declared.caller_record.CallerRecord.{CallerRecord}
 use Rattle.admission_book.specs.CallerRecord.{IsRecord, serving_of, servings, record_at}
 use Rattle.admission_book.specs.Methods.{MayBeginNext, Begins}
 use Rattle.admission_book.specs.Kept.{book_of, KeepsRecord}
-use Rattle.admission_book.proofs.Events.{begun_more}
+use Rattle.session_journal.proofs.Events.{begun_more}
 use Rattle.admission_book.proofs.Keep.{keeps_begin}
-use Rattle.admission_book.proofs.Room.{is_delayed-append}
+use Rattle.session_journal.proofs.EventCounts.{is_delayed-append}
 use Rattle.admission_book.proofs.Shown.{serving_so, shown, keeps_has, keeps_more, keeps_set, cond_same}
 
 pub lines : (m : Meaning) (rs : List CallerRecord) → length (servings m rs) ≡ length rs

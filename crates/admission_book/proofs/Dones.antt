@@ -2,6 +2,7 @@
 use Rattle.std.proofs.Common.{◌≡◌, ℕ, List, [], ◌∷◌, ◌++◌, Option, Some, None, false, refl, sym, ◌∙◌, ap, subst}
 use Rattle.std.specs.Option.{IsSome}
 use Rattle.std.proofs.Math.ListN.{set}
+use Rattle.std.proofs.lemmas.Option.{same_Some}
 use Rattle.session_values.specs.declared.op.Op.{Op}
 use Rattle.session_values.specs.declared.value.Value.{Value}
 use Rattle.session_values.specs.declared.reply.Reply.{Reply}
@@ -14,20 +15,17 @@ use Rattle.session_journal.specs.declared.event.Event.TheVariants.{Done}
 use Rattle.session_journal.specs.Journal.{begun, entries, after}
 use Rattle.session_journal.specs.Script.{Meaning, IsForesight}
 use Rattle.admission_book.specs.Book.{Serving, record_of, after_done}
-use Rattle.admission_book.specs.EventsInTurn.{is_delayed}
+use Rattle.session_journal.specs.EventsInTurn.{is_delayed}
 use Rattle.admission_book.specs.Lawful.{Lawful}
 use Rattle.admission_book.specs.declared.caller_record.CallerRecord.{CallerRecord}
 use Rattle.admission_book.specs.CallerRecord.{IsRecord, servings, record_at}
 use Rattle.admission_book.specs.Foresights.{symbols_of}
 use Rattle.admission_book.specs.Methods.{MayDo, DidIt}
 use Rattle.admission_book.specs.Kept.{book_of, KeepsRecord}
-use Rattle.admission_book.proofs.Events.{begun_stays}
+use Rattle.session_journal.proofs.Events.{begun_stays}
 use Rattle.admission_book.proofs.Keep.{keeps_done}
-use Rattle.admission_book.proofs.Room.{is_delayed-append}
+use Rattle.session_journal.proofs.EventCounts.{is_delayed-append}
 use Rattle.admission_book.proofs.Shown.{served, serving_so, shown, keeps_has, keeps_more, keeps_set, cond_same, one, others, Place, served_at}
-
-inside : (x y : Op) → ◌≡◌ {A = Option Op} (Some x) (Some y) → x ≡ y
-inside x y h = cc
 
 module _ (m : Meaning) (J : List Event) (k : List (Option Reply)) (rs : List CallerRecord) (t : ℕ) (r : Value) (f : List Symbol) (i : ℕ) (old : CallerRecord)
     (L : Lawful m (book_of m J k rs)) (may : MayDo m (book_of m J k rs) t r f) (p : Place rs i t old) where
@@ -48,7 +46,7 @@ module _ (m : Meaning) (J : List Event) (k : List (Option Reply)) (rs : List Cal
 
   module _ (op : Op) (is : old.flight ≡ Some op) where
     op_is : may.op ≡ op
-    op_is = inside may.op op (sym flight ∙ is)
+    op_is = same_Some may.op op (sym flight ∙ is)
 
     pub done_lawful : Lawful m (after_done (book_of m J k rs) i (served m t old) op r f)
     done_lawful =
@@ -64,7 +62,7 @@ module _ (m : Meaning) (J : List Event) (k : List (Option Reply)) (rs : List Cal
     pub did : DidIt (book_of m J k rs) t r f (after_done (book_of m J k rs) i (served m t old) op r f)
     did c s o q e fl =
         let h : (i ≡ c) × (served m t old ≡ s) = one m (book_of m J k rs) L i c (served m t old) s at q (sym e) in
-        let same_op : op ≡ o = inside op o (sym is ∙ ap (λ (z : Serving). z.flight) h.1 ∙ fl) in
+        let same_op : op ≡ o = same_Some op o (sym is ∙ ap (λ (z : Serving). z.flight) h.1 ∙ fl) in
         λ j. after_done (book_of m J k rs) (h.0 j) (h.1 j) (same_op j) r f
 
     pub done_keeps : (new : CallerRecord) → IsRecord m new old.ticket f None false → ((c : ℕ) → KeepsRecord m J (record_at rs c)) → (c : ℕ) → KeepsRecord m (J ++ Done t op r ∷ []) (record_at (set rs i new) c)

@@ -12,9 +12,9 @@ use Rattle.admission_book.specs.declared.caller_record.CallerRecord.{CallerRecor
 use Rattle.admission_book.specs.CallerRecord.{serving_of, servings, record_at, after_ticket}
 use Rattle.admission_book.specs.Methods.{MayEnd, HasEnded}
 use Rattle.admission_book.specs.Kept.{book_of, KeepsRecord}
-use Rattle.admission_book.proofs.Events.{begun_stays}
+use Rattle.session_journal.proofs.Events.{begun_stays}
 use Rattle.admission_book.proofs.Keep.{keeps_end}
-use Rattle.admission_book.proofs.Room.{few_begun}
+use Rattle.session_journal.proofs.EventCounts.{few_begun}
 use Rattle.admission_book.proofs.Shown.{served, shown, keeps_none, keeps_more, keeps_set, one, others, Place, served_at}
 
 module _ (m : Meaning) (J : List Event) (k : List (Option Reply)) (rs : List CallerRecord) (t : ℕ) (r : Reply) (i : ℕ) (old : CallerRecord)

@@ -2,6 +2,7 @@
 use Rattle.std.proofs.Common.{◌≡◌, ℕ, zero, suc, ◌<◌, List, [], ◌∷◌, ◌++◌, length, Option, Some, None, true, false, cond, eqb, get_or, refl, sym, ◌∙◌, ap, subst, arith}
 use Rattle.std.proofs.Math.ListN.{replicate}
 use Rattle.std.proofs.lemmas.Bool.Decides.{nat_tests}
+use Rattle.std.proofs.lemmas.Option.{none-some}
 use Rattle.std.specs.List.{AllByRecursion}
 use Rattle.session_values.specs.declared.op.Op.{Op}
 use Rattle.session_values.specs.declared.value.Value.{Value}
@@ -9,7 +10,7 @@ use Rattle.session_values.specs.declared.reply.Reply.{Reply}
 use Rattle.symbolic_ops.specs.declared.symbol.Symbol.{Symbol}
 use Rattle.session_values.specs.Commuting.{Commute, Swaps}
 use Rattle.symbolic_ops.specs.Matching.{Matches}
-use Rattle.commute_tables.specs.Symbols.{CommutesWithAll}
+use Rattle.symbolic_ops.specs.Commuting.{CommutesWithAll}
 use Rattle.session_values.specs.Dialogue.{Entry}
 use Rattle.session_journal.specs.Journal.{DoneOperation, entry_of, done_operations, of_ticket, in_order, entries, begun, ended, after, regrouped}
 use Rattle.session_values.specs.Dialogue.{Answers, Dialogue, rest, replies, Follows}
@@ -22,9 +23,9 @@ use Rattle.session_journal.proofs.Replay.{Instead}
 use Rattle.session_journal.proofs.Regroup.{regrouped_replays}
 use Rattle.session_journal.proofs.Serving.{serial_values}
 use Rattle.session_journal.proofs.Values.{AreReplies}
-use Rattle.admission_book.proofs.Room.{few_begun}
+use Rattle.session_journal.proofs.EventCounts.{few_begun}
 use Rattle.session_journal.proofs.Serial.{matched, Settled, Known, all_known, final, differ}
-use Rattle.admission_book.proofs.Events.{only_begun}
+use Rattle.session_journal.proofs.Events.{only_begun}
 
 -- a book's journal regrouped by ticket replays and gives the same tables
 pub regrouped_lawful : (m : Meaning) (b : Book) → Lawful m b → Instead (m.opening) (in_order (done_operations b.journal)) (regrouped b.journal)
@@ -95,17 +96,14 @@ pub opened_lawful : (m : Meaning) (callers : ℕ) → Lawful m (opened m.request
 opened_lawful m callers = record {
   replays = tt;
   follows = λ t. tt;
-  answered = λ t r e. absurd (none_some r e);
+  answered = λ t r e. absurd (none-some r e);
   kept = λ t. nothing m.requests t;
   inversions = tt;
-  records = λ c s e. absurd (none_some s (sym (nothing callers c) ∙ e));
+  records = λ c s e. absurd (none-some s (sym (nothing callers c) ∙ e));
   placed = λ t o. absurd (omega (arith, o.begun));
   turns = tt;
 }
   where
-    none_some : {X : Type 0} (x : X) → ◌≡◌ {A = Option X} None (Some x) → ⊥
-    none_some {X} x e = cc
-
     nothing : {X : Type 0} (n i : ℕ) → get_or {A = Option X} (replicate n None) i None ≡ None
     nothing zero i = refl
     nothing (suc n) zero = refl

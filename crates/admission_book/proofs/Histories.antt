@@ -1,19 +1,19 @@
 -- The events of one ticket, taken out of a journal.
-use Rattle.std.proofs.Common.{◌≡◌, ℕ, ◌<◌, ◌≤◌, ◌≢◌, List, [], ◌∷◌, ◌++◌, Option, Some, None, Bool, true, false, cond, eqb, refl, sym, ◌∙◌, ap, subst, arith}
-use Rattle.std.proofs.lemmas.Bool.Decides.{nat_tests}
+use Rattle.std.proofs.Common.{◌≡◌, ℕ, ◌<◌, ◌≤◌, List, [], ◌∷◌, ◌++◌, Option, Some, None, Bool, true, false, cond, eqb, refl, sym, ◌∙◌, ap, subst, arith, append-nil}
+use Rattle.std.proofs.lemmas.Bool.{eqb-true, eqb-false}
 use Rattle.session_values.specs.declared.op.Op.{Op}
 use Rattle.session_values.specs.declared.value.Value.{Value}
 use Rattle.session_values.specs.declared.reply.Reply.{Reply}
 use Rattle.symbolic_ops.specs.declared.symbol.Symbol.{Symbol}
 use Rattle.session_journal.specs.declared.event.Event.{Event}
 use Rattle.session_journal.specs.declared.event.Event.TheVariants.{Begin, Done, Delay, End}
-use Rattle.commute_tables.specs.Symbols.{CommutesWith}
+use Rattle.symbolic_ops.specs.Commuting.{CommutesWith}
 use Rattle.session_journal.specs.Journal.{entries, begun, ended}
 use Rattle.session_values.specs.Dialogue.{Calls, Answers, Dialogue, rest, replies}
 use Rattle.session_journal.specs.Script.{Meaning}
-use Rattle.admission_book.specs.EventsInTurn.{IsOpen, now, is_delayed_from, is_delayed, MayCome, ComeInTurn, events_of, TellsOn, TellsAll}
+use Rattle.session_journal.specs.EventsInTurn.{IsOpen, now, is_delayed_from, is_delayed, MayCome, ComeInTurn, events_of, TellsOn, TellsAll}
 use Rattle.session_journal.specs.Journal.{ticket_of}
-use Rattle.admission_book.proofs.Events.{through_turns, begun_more, begun_stays}
+use Rattle.session_journal.proofs.Events.{through_turns, begun_more, begun_stays}
 
 events_of-append : (t : ℕ) (J K : List Event) → events_of t (J ++ K) ≡ events_of t J ++ events_of t K
 events_of-append t [] K = refl
@@ -122,11 +122,7 @@ own_event : (J : List Event) (e : Event) (t : ℕ) → eqb (ticket_of e) t ≡ t
 own_event J e t h = events_of-append t J (e ∷ []) ∙ ap (λ (b : Bool). events_of t J ++ cond b (e ∷ []) []) h
 
 other_event : (J : List Event) (e : Event) (t : ℕ) → eqb (ticket_of e) t ≡ false → events_of t (J ++ e ∷ []) ≡ events_of t J
-other_event J e t h = events_of-append t J (e ∷ []) ∙ ap (λ (b : Bool). events_of t J ++ cond b (e ∷ []) []) h ∙ append_nil (events_of t J)
-  where
-    append_nil : (K : List Event) → K ++ [] ≡ K
-    append_nil [] = refl
-    append_nil (x ∷ K) = ap (λ (H : List Event). x ∷ H) (append_nil K)
+other_event J e t h = events_of-append t J (e ∷ []) ∙ ap (λ (b : Bool). events_of t J ++ cond b (e ∷ []) []) h ∙ append-nil (events_of t J)
 
 nil_append : (es : List Value) → es ++ [] ≡ es
 nil_append [] = refl
@@ -138,12 +134,6 @@ now_is m t J = left_is t (m.next t) J [] ∙ ap (m.next t) (nil_append (replies 
 not_empty : (K : List Event) (e : Event) → K ++ e ∷ [] ≡ [] → ⊥
 not_empty [] e h = cc
 not_empty (x ∷ K) e h = cc
-
-same : (a b : ℕ) → eqb a b ≡ true → a ≡ b
-same a b h = grind (arith, nat_tests)
-
-differs : (a b : ℕ) → eqb a b ≡ false → a ≢ b
-differs a b h = grind (arith, nat_tests)
 
 history_other : (m : Meaning) (t : ℕ) (J : List Event) (e : Event) → History m t J → eqb (ticket_of e) t ≡ false → (begun (J ++ e ∷ []) ≤ t → begun J ≤ t) → (t < begun (J ++ e ∷ []) → t < begun J) → History m t (J ++ e ∷ [])
 history_other m t J e s h less more =
@@ -170,8 +160,8 @@ histories m callers t J h = through_turns m callers (History m t) keep [] J (rec
     keep J (Begin u c) s w = go (eqb u t) refl
       where
         go : (b : Bool) → eqb u t ≡ b → History m t (J ++ Begin u c ∷ [])
-        go true q = let P : List Event → Type 0 = λ K. TellsAll (m.next t) (K ++ Begin u c ∷ []) in history_own m t J (Begin u c) q (subst P (sym (s.none (omega (arith, same u t q, w.next)))) tt) (omega (arith, begun_more J u c, same u t q, w.next))
-        go false q = history_other m t J (Begin u c) s q (λ l. omega (arith, begun_more J u c)) (λ l. omega (arith, begun_more J u c, differs u t q, w.next))
+        go true q = let P : List Event → Type 0 = λ K. TellsAll (m.next t) (K ++ Begin u c ∷ []) in history_own m t J (Begin u c) q (subst P (sym (s.none (omega (arith, eqb-true u t q, w.next)))) tt) (omega (arith, begun_more J u c, eqb-true u t q, w.next))
+        go false q = history_other m t J (Begin u c) s q (λ l. omega (arith, begun_more J u c)) (λ l. omega (arith, begun_more J u c, eqb-false u t q, w.next))
     keep J (Done u op r) s w = go (eqb u t) refl
       where
         n : begun (J ++ Done u op r ∷ []) ≡ begun J
@@ -179,7 +169,7 @@ histories m callers t J h = through_turns m callers (History m t) keep [] J (rec
 
         go : (b : Bool) → eqb u t ≡ b → History m t (J ++ Done u op r ∷ [])
         go true q =
-            let e : u ≡ t = same u t q in
+            let e : u ≡ t = eqb-true u t q in
             let O : ℕ → Type 0 = λ x. IsOpen J x in
             let o : IsOpen J t = subst O e w.is_open in
             history_own m t J (Done u op r) q (TellsAll-done (m.next t) (events_of t J) u op r (s.some o.begun) s.tells (going_is t J o.not_ended) (now_is m t J ∙ ap (now m J) (sym e) ∙ w.calls)) (omega (arith, n, o.begun))
@@ -191,7 +181,7 @@ histories m callers t J h = through_turns m callers (History m t) keep [] J (rec
 
         go : (b : Bool) → eqb u t ≡ b → History m t (J ++ Delay u op older y ∷ [])
         go true q =
-            let e : u ≡ t = same u t q in
+            let e : u ≡ t = eqb-true u t q in
             let O : ℕ → Type 0 = λ x. IsOpen J x in
             let o : IsOpen J t = subst O e w.is_open in
             history_own m t J (Delay u op older y) q (TellsAll-delay (m.next t) (events_of t J) u op older y (s.some o.begun) s.tells (going_is t J o.not_ended) (noted_is t false J ∙ ap (is_delayed J) (sym e) ∙ w.once) (now_is m t J ∙ ap (now m J) (sym e) ∙ w.calls) w.is_older w.symbol) (omega (arith, n, o.begun))
@@ -203,7 +193,7 @@ histories m callers t J h = through_turns m callers (History m t) keep [] J (rec
 
         go : (b : Bool) → eqb u t ≡ b → History m t (J ++ End u r ∷ [])
         go true q =
-            let e : u ≡ t = same u t q in
+            let e : u ≡ t = eqb-true u t q in
             let O : ℕ → Type 0 = λ x. IsOpen J x in
             let o : IsOpen J t = subst O e w.is_open in
             history_own m t J (End u r) q (TellsAll-end (m.next t) (events_of t J) u r (s.some o.begun) s.tells (going_is t J o.not_ended) (now_is m t J ∙ ap (now m J) (sym e) ∙ w.answers)) (omega (arith, n, o.begun))

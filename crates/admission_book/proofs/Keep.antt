@@ -4,6 +4,8 @@ use Rattle.std.specs.Option.{IsSome}
 use Rattle.std.proofs.Math.ListN.{set}
 use Rattle.std.proofs.lemmas.List.{get_or-set_same, get_or-set_other, length-set}
 use Rattle.std.proofs.lemmas.Bool.Decides.{nat_tests}
+use Rattle.std.proofs.lemmas.Option.{none-some, same_Some}
+use Rattle.std.proofs.lemmas.Bool.{eqb-true, eqb-false, cases_lt, cases_eq}
 use Rattle.std.specs.List.{AllByRecursion}
 use Rattle.session_values.specs.declared.op.Op.{Op}
 use Rattle.session_values.specs.declared.value.Value.{Value}
@@ -14,17 +16,19 @@ use Rattle.session_journal.specs.declared.event.Event.TheVariants.{Begin, Done, 
 use Rattle.session_values.specs.Tables.{reply}
 use Rattle.symbolic_ops.specs.Matching.{Matches, Covered}
 use Rattle.symbolic_ops.proofs.Above.{covered_through}
-use Rattle.commute_tables.specs.Symbols.{CommutesWith, CommutesWithAll}
+use Rattle.symbolic_ops.specs.Commuting.{CommutesWith, CommutesWithAll}
 use Rattle.session_values.specs.Dialogue.{Entry}
 use Rattle.session_journal.specs.Journal.{DoneOperation, entry_of, done_operations, Replays, of_ticket, in_order, InversionsCommute, entries, begun, end_of, caller_of, ended, owner, after}
 use Rattle.session_values.specs.Dialogue.{Calls, Answers, rest, replies, Follows}
 use Rattle.session_journal.specs.Script.{IsForesight, Meaning}
 use Rattle.admission_book.specs.Book.{Serving, Book, record_of, kept_for, Holds, IsFree, with_event, after_begin, after_narrow, after_admit, after_delay, after_done, after_end}
-use Rattle.admission_book.specs.EventsInTurn.{IsForeseen, IsOpen, declared_after, now, is_delayed, ComeInTurn}
+use Rattle.session_journal.specs.EventsInTurn.{IsForeseen, IsOpen, declared_after, now, is_delayed, ComeInTurn}
 use Rattle.admission_book.specs.Lawful.{Lawful}
 use Rattle.session_journal.proofs.Replay.{Replays-append}
+use Rattle.session_journal.proofs.Regroup.{InversionsCommute-push}
 use Rattle.session_values.proofs.Entries.{follows_more}
-use Rattle.admission_book.proofs.Events.{done_operations-append, in_order-append, done_operations_stay, begun_stays, begun_more, first_same, owner_other, owner_new, ended_other, ended_new, entries_other, entries_more, All-push, All-weaker, InversionsCommute-push, ComeInTurn-push, OnlyBegun, only_begun}
+use Rattle.session_values.proofs.Lists.{all_push, all_weaker}
+use Rattle.session_journal.proofs.Events.{done_operations-append, in_order-append, done_operations_stay, begun_stays, begun_more, first_same, owner_other, owner_new, ended_other, ended_new, entries_other, entries_more, ComeInTurn-push, OnlyBegun, only_begun}
 use Rattle.admission_book.proofs.Records.{within, at_set, set_other, CommutesWithAll-narrow, CommutesWithAll-each}
 
 -- what younger tickets have in flight, after one record is replaced
@@ -60,31 +64,19 @@ declared_more : (m : Meaning) (t : ℕ) (es : List Entry) (e : Entry) → declar
 declared_more m t [] e = refl
 declared_more m t (x ∷ es) e = refl
 
-none_some : {X : Type 0} (x : X) → ◌≡◌ {A = Option X} None (Some x) → ⊥
-none_some {X} x e = cc
-
-inside : {X : Type 0} (x y : X) → ◌≡◌ {A = Option X} (Some x) (Some y) → x ≡ y
-inside {X} x y e = cc
-
 -- two records of one ticket are of one caller
 pub one_caller : (m : Meaning) (b : Book) → Lawful m b → (c d : ℕ) (s z : Serving) → record_of b c ≡ Some s → record_of b d ≡ Some z → s.ticket ≡ z.ticket → c ≡ d
-one_caller m b L c d s z p q e = inside c d (sym (L.records c s p).owner ∙ ap (owner b.journal) e ∙ (L.records d z q).owner)
+one_caller m b L c d s z p q e = same_Some c d (sym (L.records c s p).owner ∙ ap (owner b.journal) e ∙ (L.records d z q).owner)
 
 -- the record of a ticket, where one record is replaced by one of its ticket
 placed_set : (l : List (Option Serving)) (c : ℕ) (s x : Serving) (t : ℕ) → get_or l c None ≡ Some s → x.ticket ≡ s.ticket → (d : ℕ) × (z : Serving) × (get_or l d None ≡ Some z) × (z.ticket ≡ t) → (d : ℕ) × (z : Serving) × (get_or (set l c (Some x)) d None ≡ Some z) × (z.ticket ≡ t)
 placed_set l c s x t at same (d, z, p, q) =
     elim (eqb d c) as (λ b. eqb d c ≡ b → (d : ℕ) × (z : Serving) × (get_or (set l c (Some x)) d None ≡ Some z) × (z.ticket ≡ t)) [
-      | true ↦ λ e. let is : d ≡ c = equal d c e in
+      | true ↦ λ e. let is : d ≡ c = eqb-true d c e in
           let P : ℕ → Type 0 = λ j. get_or l j None ≡ Some z in
-          (c, x, get_or-set_same l c (Some x) None (within l c s at), same ∙ ap (λ (y : Serving). y.ticket) (inside s z (sym at ∙ subst P is p)) ∙ q)
-      | false ↦ λ e. (d, z, set_other l c d (Some x) z (differs d c e) p, q)
+          (c, x, get_or-set_same l c (Some x) None (within l c s at), same ∙ ap (λ (y : Serving). y.ticket) (same_Some s z (sym at ∙ subst P is p)) ∙ q)
+      | false ↦ λ e. (d, z, set_other l c d (Some x) z (eqb-false d c e) p, q)
     ] refl
-  where
-    equal : (d c : ℕ) → eqb d c ≡ true → d ≡ c
-    equal d c e = grind (arith, nat_tests)
-
-    differs : (d c : ℕ) → eqb d c ≡ false → d ≢ c
-    differs d c e = grind (arith, nat_tests)
 
 -- the record of a ticket, where the record of another caller is replaced
 placed_apart : (l : List (Option Serving)) (c : ℕ) (x : Option Serving) (t : ℕ) → (p : (d : ℕ) × (z : Serving) × (get_or l d None ≡ Some z) × (z.ticket ≡ t)) → p.0 ≢ c → (d : ℕ) × (z : Serving) × (get_or (set l c x) d None ≡ Some z) × (z.ticket ≡ t)
@@ -96,7 +88,7 @@ keeps_narrow m b c s f L at idle cov fore =
     let x : Serving = record { ticket = s.ticket; foresight = f; flight = s.flight } in
     let k : c < length b.records = within b.records c s at in
     let here : Holds m b c s = L.records c s at in
-    let new_flight : (t : ℕ) (g : List Symbol) (z : Serving) (op : Op) → ◌≡◌ {A = Option Serving} (Some x) (Some z) → t < z.ticket → z.flight ≡ Some op → CommutesWithAll op g = λ t g z op e l fl. absurd (none_some op (sym idle ∙ ap (λ (y : Serving). y.flight) (inside x z e) ∙ fl)) in
+    let new_flight : (t : ℕ) (g : List Symbol) (z : Serving) (op : Op) → ◌≡◌ {A = Option Serving} (Some x) (Some z) → t < z.ticket → z.flight ≡ Some op → CommutesWithAll op g = λ t g z op e l fl. absurd (none-some op (sym idle ∙ ap (λ (y : Serving). y.flight) (same_Some x z e) ∙ fl)) in
     let b2 : Book = after_narrow b c s f in
     record {
       replays = L.replays;
@@ -106,13 +98,13 @@ keeps_narrow m b c s f L at idle cov fore =
       inversions = L.inversions;
       records = λ d z e. elim (at_set b.records c d (Some x) z e) [
         | inl h ↦ let P : ℕ → Type 0 = λ j. Holds m b2 j z in let Q : Serving → Type 0 = λ y. Holds m b2 c y in
-            subst P (sym h.0) (subst Q (inside x z h.1) (record {
+            subst P (sym h.0) (subst Q (same_Some x z h.1) (record {
               is_open = here.is_open;
               owner = here.owner;
               foresight = fore;
               declared = covered_through f s.foresight (declared_after m s.ticket (entries b.journal s.ticket)) cov here.declared;
               flight = here.flight;
-              done = All-weaker _ _ (λ d g l. CommutesWithAll-narrow d.op f s.foresight cov (g l)) (done_operations b.journal) here.done;
+              done = all_weaker _ _ (λ d g l. CommutesWithAll-narrow d.op f s.foresight cov (g l)) (done_operations b.journal) here.done;
               in_flight = in_flight_set b b.journal b.kept c (Some x) s.ticket f (λ d z op p l fl. CommutesWithAll-narrow op f s.foresight cov (here.in_flight d z op p l fl)) (new_flight s.ticket f);
             }))
         | inr h ↦ holds_on m b b2 d z (L.records d z h.1) refl (omega arith) refl refl (in_flight_set b b.journal b.kept c (Some x) z.ticket z.foresight (L.records d z h.1).in_flight (new_flight z.ticket z.foresight))
@@ -129,8 +121,8 @@ keeps_admit m b c s op L at calls free =
     let here : Holds m b c s = L.records c s at in
     let b2 : Book = after_admit b c s op in
     let new_flight : (d : ℕ) (y : Serving) → record_of b d ≡ Some y → (z : Serving) (o : Op) → ◌≡◌ {A = Option Serving} (Some x) (Some z) → y.ticket < z.ticket → z.flight ≡ Some o → CommutesWithAll o y.foresight = λ d y p z o e l fl.
-    let is : x ≡ z = inside x z e in
-    let same : op ≡ o = inside op o (ap (λ (w : Serving). w.flight) is ∙ fl) in
+    let is : x ≡ z = same_Some x z e in
+    let same : op ≡ o = same_Some op o (ap (λ (w : Serving). w.flight) is ∙ fl) in
     let t : s.ticket ≡ z.ticket = ap (λ (w : Serving). w.ticket) is in
     let P : Op → Type 0 = λ a. CommutesWithAll a y.foresight in
     subst P same (CommutesWithAll-each op y.foresight (free d y p (omega arith))) in
@@ -142,12 +134,12 @@ keeps_admit m b c s op L at calls free =
       inversions = L.inversions;
       records = λ d z e. elim (at_set b.records c d (Some x) z e) [
         | inl h ↦ let P : ℕ → Type 0 = λ j. Holds m b2 j z in let Q : Serving → Type 0 = λ y. Holds m b2 c y in
-            subst P (sym h.0) (subst Q (inside x z h.1) (record {
+            subst P (sym h.0) (subst Q (same_Some x z h.1) (record {
               is_open = here.is_open;
               owner = here.owner;
               foresight = here.foresight;
               declared = here.declared;
-              flight = λ o k. calls ∙ ap (λ (a : Op). Calls a) (inside op o k);
+              flight = λ o k. calls ∙ ap (λ (a : Op). Calls a) (same_Some op o k);
               done = here.done;
               in_flight = in_flight_set b b.journal b.kept c (Some x) s.ticket s.foresight here.in_flight (new_flight c s at);
             }))
@@ -196,7 +188,7 @@ keeps_begin m b c f L left caller empty fore declared =
     let same : done_operations (J ++ v ∷ []) ≡ done_operations J = done_operations_stay J v refl in
     let count : begun (J ++ v ∷ []) ≡ suc n = begun_more J n c in
     let P : List DoneOperation → Type 0 = λ ds. Replays (m.opening) (in_order ds) in
-    let no_flight : (t : ℕ) (g : List Symbol) (z : Serving) (op : Op) → ◌≡◌ {A = Option Serving} (Some x) (Some z) → t < z.ticket → z.flight ≡ Some op → CommutesWithAll op g = λ t g z op e l fl. absurd (none_some op (ap (λ (y : Serving). y.flight) (inside x z e) ∙ fl)) in
+    let no_flight : (t : ℕ) (g : List Symbol) (z : Serving) (op : Op) → ◌≡◌ {A = Option Serving} (Some x) (Some z) → t < z.ticket → z.flight ≡ Some op → CommutesWithAll op g = λ t g z op e l fl. absurd (none-some op (ap (λ (y : Serving). y.flight) (same_Some x z e) ∙ fl)) in
     record {
       replays = subst P (sym same) L.replays;
       follows = λ u. let F : List DoneOperation → Type 0 = λ ds. Follows (m.next u) (of_ticket u ds) in subst F (sym same) (L.follows u);
@@ -205,13 +197,13 @@ keeps_begin m b c f L left caller empty fore declared =
       inversions = subst InversionsCommute (sym same) L.inversions;
       records = λ d z e. elim (at_set b.records c d (Some x) z e) [
         | inl h ↦ let A : ℕ → Type 0 = λ j. Holds m b2 j z in let B : Serving → Type 0 = λ y. Holds m b2 c y in
-            subst A (sym h.0) (subst B (inside x z h.1) (record {
+            subst A (sym h.0) (subst B (same_Some x z h.1) (record {
               is_open = record { begun = omega arith; not_ended = first_same (end_of n) J v refl ∙ known.ended n (omega arith) };
               owner = owner_new J n c (known.owner n (omega arith));
               foresight = let F : List Entry → Type 0 = λ es. IsForesight (rest (m.next n) (replies es)) f in subst F (sym (ap (of_ticket n) same ∙ none_of n (done_operations J) known.done_operations)) fore;
               declared = let G : List Entry → Type 0 = λ es. Covered f (declared_after m n es) in subst G (sym (ap (of_ticket n) same ∙ none_of n (done_operations J) known.done_operations)) declared;
-              flight = λ op k. absurd (none_some op k);
-              done = let D : List DoneOperation → Type 0 = λ ds. AllByRecursion (λ d. n < d.ticket → CommutesWithAll d.op f) ds in subst D (sym same) (All-weaker _ _ (λ d l k. absurd (omega arith)) (done_operations J) known.done_operations);
+              flight = λ op k. absurd (none-some op k);
+              done = let D : List DoneOperation → Type 0 = λ ds. AllByRecursion (λ d. n < d.ticket → CommutesWithAll d.op f) ds in subst D (sym same) (all_weaker _ _ (λ d l k. absurd (omega arith)) (done_operations J) known.done_operations);
               in_flight = in_flight_set b (J ++ v ∷ []) b.kept c (Some x) n f (λ d z op p l fl. absurd (omega (arith, (L.records d z p).is_open.begun))) (no_flight n f);
             }))
         | inr h ↦ holds_on m b b2 d z (L.records d z h.1) same (omega arith) (first_same (end_of z.ticket) J v refl) (owner_other J n c z.ticket (apart z.ticket n (L.records d z h.1).is_open.begun)) (in_flight_set b (J ++ v ∷ []) b.kept c (Some x) z.ticket z.foresight (L.records d z h.1).in_flight (no_flight z.ticket z.foresight))
@@ -237,19 +229,16 @@ keeps_begin m b c f L left caller empty fore declared =
         other t n l = grind (arith, nat_tests)
 
     not_here : (d : ℕ) (z : Serving) → record_of b d ≡ Some z → d ≢ c
-    not_here d z p e = let P : ℕ → Type 0 = λ j. record_of b j ≡ Some z in none_some z (sym empty ∙ subst P e p)
-
-    lt_or : (a b : ℕ) → (a < b) ⊎ (b ≤ a)
-    lt_or a b = grind arith
+    not_here d z p e = let P : ℕ → Type 0 = λ j. record_of b j ≡ Some z in none-some z (sym empty ∙ subst P e p)
 
     all_ended : (u : ℕ) → owner b.journal u ≡ Some c → (r : Option Reply) → ended b.journal u ≡ r → IsSome (ended b.journal u)
     all_ended u o (Some r) e = let P : Option Reply → Type 0 = λ w. IsSome w in subst P (sym e) refl
     all_ended u o None e =
         let P : Option ℕ → Type 0 = λ w. w ≡ Some c in
         let known : OnlyBegun b.journal = only_begun m (length b.records) b.journal L.turns in
-        let less : u < begun b.journal = elim (lt_or u (begun b.journal)) [ inl l ↦ l | inr g ↦ absurd (none_some c (sym (known.owner u g) ∙ o)) ] in
+        let less : u < begun b.journal = elim (cases_lt u (begun b.journal)) [ inl l ↦ l | inr g ↦ absurd (none-some c (sym (known.owner u g) ∙ o)) ] in
         let p : (d : ℕ) × (z : Serving) × (record_of b d ≡ Some z) × (z.ticket ≡ u) = L.placed u (record { begun = less; not_ended = e }) in
-        absurd (not_here p.0 p.1 p.2 (inside p.0 c (sym (L.records p.0 p.1 p.2).owner ∙ ap (owner b.journal) p.3 ∙ o)))
+        absurd (not_here p.0 p.1 p.2 (same_Some p.0 c (sym (L.records p.0 p.1 p.2).owner ∙ ap (owner b.journal) p.3 ∙ o)))
 
 -- ---- done
 -- the operation in flight is done, with its reply after the journal, and its ticket narrows
@@ -266,31 +255,31 @@ keeps_done m b c s op r f L at flying is cov fore told =
     let ds : done_operations (J ++ v ∷ []) ≡ done_operations J ++ new ∷ [] = done_operations-append J (v ∷ []) in
     let count : begun (J ++ v ∷ []) ≡ begun J = begun_stays J v refl in
     let matches : Matches s.foresight op = here.foresight.covers.each [] op tt (to_rest t (entries J t) op calls) in
-    let no_flight : (u : ℕ) (g : List Symbol) (z : Serving) (o : Op) → ◌≡◌ {A = Option Serving} (Some x) (Some z) → u < z.ticket → z.flight ≡ Some o → CommutesWithAll o g = λ u g z o e l fl. absurd (none_some o (ap (λ (y : Serving). y.flight) (inside x z e) ∙ fl)) in
+    let no_flight : (u : ℕ) (g : List Symbol) (z : Serving) (o : Op) → ◌≡◌ {A = Option Serving} (Some x) (Some z) → u < z.ticket → z.flight ≡ Some o → CommutesWithAll o g = λ u g z o e l fl. absurd (none-some o (ap (λ (y : Serving). y.flight) (same_Some x z e) ∙ fl)) in
     record {
       replays = let P : List DoneOperation → Type 0 = λ es. Replays (m.opening) (in_order es) in
           let Q : List Entry → Type 0 = λ es. Replays (m.opening) es in
           subst P (sym ds) (subst Q (sym (in_order-append (done_operations J) (new ∷ []))) (Replays-append (m.opening) (in_order (done_operations J)) (record { op = op; reply = r } ∷ []) L.replays (sym is, tt)));
-      follows = λ u. elim (same_or u t) [
+      follows = λ u. elim (cases_eq u t) [
         | inl e ↦ let P : ℕ → Type 0 = λ j. Follows (m.next j) (entries (J ++ v ∷ []) j) in let Q : List Entry → Type 0 = λ es. Follows (m.next t) es in
             subst P (sym e) (subst Q (sym (entries_more J t op r)) (follows_more (m.next t) (entries J t) (record { op = op; reply = r }) (L.follows t) calls))
         | inr n ↦ let Q : List Entry → Type 0 = λ es. Follows (m.next u) es in subst Q (sym (entries_other J t op r u n)) (L.follows u)
       ];
       answered = λ u a h. let k : ended J u ≡ Some a = sym (first_same (end_of u) J v refl) ∙ h in
-          let n : u ≢ t = λ e. none_some a (sym here.is_open.not_ended ∙ ap (ended J) (sym e) ∙ k) in
+          let n : u ≢ t = λ e. none-some a (sym here.is_open.not_ended ∙ ap (ended J) (sym e) ∙ k) in
           ap (λ (es : List Entry). m.next u (replies es)) (entries_other J t op r u n) ∙ L.answered u a k;
       kept = λ u. L.kept u ∙ sym (first_same (end_of u) J v refl);
-      inversions = subst InversionsCommute (sym ds) (InversionsCommute-push (done_operations J) new L.inversions (All-weaker _ _ (λ d k l. (k l).each op matches) (done_operations J) here.done));
+      inversions = subst InversionsCommute (sym ds) (InversionsCommute-push (done_operations J) new L.inversions (all_weaker _ _ (λ d k l. (k l).each op matches) (done_operations J) here.done));
       records = λ d z e. elim (at_set b.records c d (Some x) z e) [
         | inl h ↦ let A : ℕ → Type 0 = λ j. Holds m b2 j z in let B : Serving → Type 0 = λ y. Holds m b2 c y in
-            subst A (sym h.0) (subst B (inside x z h.1) (record {
+            subst A (sym h.0) (subst B (same_Some x z h.1) (record {
               is_open = record { begun = omega (arith, here.is_open.begun, count); not_ended = first_same (end_of t) J v refl ∙ here.is_open.not_ended };
               owner = first_same (caller_of t) J v refl ∙ here.owner;
               foresight = let F : List Entry → Type 0 = λ es. IsForesight (rest (m.next t) (replies es)) f in subst F (sym (entries_more J t op r)) fore;
               declared = let G : List Entry → Type 0 = λ es. Covered f (declared_after m t es) in subst G (sym (entries_more J t op r)) (let H : List Symbol → Type 0 = λ l. Covered f l in subst H (sym (declared_more m t (entries J t) (record { op = op; reply = r }))) told);
-              flight = λ o k. absurd (none_some o k);
+              flight = λ o k. absurd (none-some o k);
               done = let D : List DoneOperation → Type 0 = λ es. AllByRecursion (λ d. t < d.ticket → CommutesWithAll d.op f) es in
-                  subst D (sym ds) (All-push _ (done_operations J) new (All-weaker _ _ (λ d k l. CommutesWithAll-narrow d.op f s.foresight cov (k l)) (done_operations J) here.done) (λ l. absurd (omega arith)));
+                  subst D (sym ds) (all_push _ (done_operations J) new (all_weaker _ _ (λ d k l. CommutesWithAll-narrow d.op f s.foresight cov (k l)) (done_operations J) here.done) (λ l. absurd (omega arith)));
               in_flight = in_flight_set b (J ++ v ∷ []) b.kept c (Some x) t f (λ d z o p l fl. CommutesWithAll-narrow o f s.foresight cov (here.in_flight d z o p l fl)) (no_flight t f);
             }))
         | inr h ↦
@@ -304,7 +293,7 @@ keeps_done m b c s op r f L at flying is cov fore told =
               foresight = subst F (sym (entries_other J t op r z.ticket n)) old.foresight;
               declared = let G : List Entry → Type 0 = λ es. Covered z.foresight (declared_after m z.ticket es) in subst G (sym (entries_other J t op r z.ticket n)) old.declared;
               flight = λ o k. ap (λ (es : List Entry). m.next z.ticket (replies es)) (entries_other J t op r z.ticket n) ∙ old.flight o k;
-              done = subst D (sym ds) (All-push _ (done_operations J) new old.done (λ l. old.in_flight c s op at l flying));
+              done = subst D (sym ds) (all_push _ (done_operations J) new old.done (λ l. old.in_flight c s op at l flying));
               in_flight = in_flight_set b (J ++ v ∷ []) b.kept c (Some x) z.ticket z.foresight old.in_flight (no_flight z.ticket z.foresight);
             }
       ];
@@ -319,12 +308,6 @@ keeps_done m b c s op r f L at flying is cov fore told =
     to_rest : (t : ℕ) (es : List Entry) (op : Op) → m.next t (replies es) ≡ Calls op → rest (m.next t) (replies es) [] ≡ Calls op
     to_rest t es op e = ap (m.next t) (append_nil (replies es)) ∙ e
 
-    same_or : (u t : ℕ) → (u ≡ t) ⊎ (u ≢ t)
-    same_or u t = elim (eqb u t) as (λ w. eqb u t ≡ w → (u ≡ t) ⊎ (u ≢ t)) [ true ↦ λ e. inl (grind (arith, nat_tests)) | false ↦ λ e. inr (differs u t e) ] refl
-      where
-        differs : (u t : ℕ) → eqb u t ≡ false → u ≢ t
-        differs u t e = grind (arith, nat_tests)
-
 -- ---- end
 -- a ticket with nothing in flight ends with what it answers
 pub keeps_end : (m : Meaning) (b : Book) (c : ℕ) (s : Serving) (r : Reply) → Lawful m b → record_of b c ≡ Some s → s.flight ≡ None → now m b.journal s.ticket ≡ Answers r → s.ticket < length b.kept → Lawful m (after_end b c s r)
@@ -337,39 +320,33 @@ keeps_end m b c s r L at idle says room =
     let same : done_operations (J ++ v ∷ []) ≡ done_operations J = done_operations_stay J v refl in
     let count : begun (J ++ v ∷ []) ≡ begun J = begun_stays J v refl in
     let P : List DoneOperation → Type 0 = λ ds. Replays (m.opening) (in_order ds) in
-    let no_record : (u : ℕ) (g : List Symbol) (z : Serving) (o : Op) → ◌≡◌ {A = Option Serving} None (Some z) → u < z.ticket → z.flight ≡ Some o → CommutesWithAll o g = λ u g z o e l fl. absurd (none_some z e) in
+    let no_record : (u : ℕ) (g : List Symbol) (z : Serving) (o : Op) → ◌≡◌ {A = Option Serving} None (Some z) → u < z.ticket → z.flight ≡ Some o → CommutesWithAll o g = λ u g z o e l fl. absurd (none-some z e) in
     record {
       replays = subst P (sym same) L.replays;
       follows = λ u. let F : List DoneOperation → Type 0 = λ ds. Follows (m.next u) (of_ticket u ds) in subst F (sym same) (L.follows u);
-      answered = λ u a h. ap (λ (ds : List DoneOperation). m.next u (replies (of_ticket u ds))) same ∙ (elim (same_or u t) [
+      answered = λ u a h. ap (λ (ds : List DoneOperation). m.next u (replies (of_ticket u ds))) same ∙ (elim (cases_eq u t) [
         | inl e ↦ let A : ℕ → Type 0 = λ j. now m J j ≡ Answers a in
-            let q : r ≡ a = inside r a (sym (ended_new J t r here.is_open.not_ended) ∙ ap (ended (J ++ v ∷ [])) (sym e) ∙ h) in
+            let q : r ≡ a = same_Some r a (sym (ended_new J t r here.is_open.not_ended) ∙ ap (ended (J ++ v ∷ [])) (sym e) ∙ h) in
             subst A (sym e) (says ∙ ap (λ (w : Reply). Answers w) q)
         | inr n ↦ L.answered u a (sym (ended_other J t r u n) ∙ h)
       ]);
-      kept = λ u. elim (same_or u t) [
+      kept = λ u. elim (cases_eq u t) [
         | inl e ↦ let A : ℕ → Type 0 = λ j. kept_for b2 j ≡ ended (J ++ v ∷ []) j in
             subst A (sym e) (get_or-set_same b.kept t (Some r) None room ∙ sym (ended_new J t r here.is_open.not_ended))
         | inr n ↦ get_or-set_other b.kept t u (Some r) None n ∙ L.kept u ∙ sym (ended_other J t r u n)
       ];
       inversions = subst InversionsCommute (sym same) L.inversions;
       records = λ d z e. elim (at_set b.records c d None z e) [
-        | inl h ↦ absurd (none_some z h.1)
+        | inl h ↦ absurd (none-some z h.1)
         | inr h ↦ let n : z.ticket ≢ t = λ q. h.0 (one_caller m b L d c z s h.1 at q) in
             holds_on m b b2 d z (L.records d z h.1) same (omega arith) (ended_other J t r z.ticket n) (first_same (caller_of z.ticket) J v refl) (in_flight_set b (J ++ v ∷ []) (set b.kept t (Some r)) c None z.ticket z.foresight (L.records d z h.1).in_flight (no_record z.ticket z.foresight))
       ];
       placed = λ u o.
-          let n : u ≢ t = λ e. none_some r (sym o.not_ended ∙ ap (ended (J ++ v ∷ [])) e ∙ ended_new J t r here.is_open.not_ended) in
+          let n : u ≢ t = λ e. none-some r (sym o.not_ended ∙ ap (ended (J ++ v ∷ [])) e ∙ ended_new J t r here.is_open.not_ended) in
           let p : (d : ℕ) × (z : Serving) × (record_of b d ≡ Some z) × (z.ticket ≡ u) = L.placed u (record { begun = omega (arith, o.begun, count); not_ended = sym (ended_other J t r u n) ∙ o.not_ended }) in
           placed_apart b.records c None u p (λ e. n (sym p.3 ∙ one_ticket p.0 p.1 p.2 e));
       turns = let Q : ℕ → Type 0 = λ k. ComeInTurn m k [] (J ++ v ∷ []) in subst Q (sym (length-set b.records c None)) (ComeInTurn-push m (length b.records) [] J v L.turns (record { is_open = here.is_open; answers = says }));
     }
   where
-    same_or : (u t : ℕ) → (u ≡ t) ⊎ (u ≢ t)
-    same_or u t = elim (eqb u t) as (λ w. eqb u t ≡ w → (u ≡ t) ⊎ (u ≢ t)) [ true ↦ λ e. inl (grind (arith, nat_tests)) | false ↦ λ e. inr (differs u t e) ] refl
-      where
-        differs : (u t : ℕ) → eqb u t ≡ false → u ≢ t
-        differs u t e = grind (arith, nat_tests)
-
     one_ticket : (d : ℕ) (z : Serving) → record_of b d ≡ Some z → d ≡ c → z.ticket ≡ s.ticket
-    one_ticket d z p e = let P : ℕ → Type 0 = λ j. record_of b j ≡ Some z in ap (λ (y : Serving). y.ticket) (inside z s (sym (subst P e p) ∙ at))
+    one_ticket d z p e = let P : ℕ → Type 0 = λ j. record_of b j ≡ Some z in ap (λ (y : Serving). y.ticket) (same_Some z s (sym (subst P e p) ∙ at))

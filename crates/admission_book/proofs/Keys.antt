@@ -1,7 +1,7 @@
 -- How many keys a table has at most.
 use Rattle.std.proofs.Common.{◌≡◌, ℕ, zero, suc, ◌+◌, ◌<◌, ◌≤◌, List, [], ◌∷◌, ◌++◌, length, Bool, true, false, cond, ◌&&◌, eqb, refl, sym, ◌∙◌, ap, subst, arith}
 use Rattle.std.specs.List.{AllByRecursion}
-use Rattle.std.proofs.lemmas.Bool.Decides.{nat_tests}
+use Rattle.std.proofs.lemmas.Bool.{eqb-true, eq-eqb}
 use Rattle.session_values.specs.declared.op.Op.{Op}
 use Rattle.session_values.specs.Kinds.{is_adding}
 use Rattle.session_values.specs.Tables.{table, size_of}
@@ -14,11 +14,12 @@ use Rattle.session_values.specs.Dialogue.{Calls}
 use Rattle.session_values.specs.Sums.{sum_below}
 use Rattle.session_journal.specs.Script.{Meaning, IsScript, adds_on, room}
 use Rattle.admission_book.specs.Book.{Book}
-use Rattle.admission_book.specs.EventsInTurn.{IsOpen, now}
+use Rattle.session_journal.specs.EventsInTurn.{IsOpen, now}
 use Rattle.admission_book.specs.Lawful.{Lawful}
 use Rattle.session_values.proofs.Entries.{follows_more}
-use Rattle.admission_book.proofs.Events.{OnlyBegun, only_begun}
-use Rattle.admission_book.proofs.Room.{few_begun}
+use Rattle.session_values.proofs.Numbers.{lesser}
+use Rattle.session_journal.proofs.Events.{OnlyBegun, only_begun}
+use Rattle.session_journal.proofs.EventCounts.{few_begun}
 
 -- ---- by ticket
 adds_by_ticket : (n i : ℕ) (ds : List DoneOperation) → AllByRecursion (λ d. d.ticket < n) ds → adds_on i (in_order ds) ≡ sum_below n (λ t. adds_on i (of_ticket t ds))
@@ -36,15 +37,9 @@ sum_less : (n t : ℕ) (f g : ℕ → ℕ) → ((u : ℕ) → f u ≤ g u) → t
 sum_less zero t f g h l s = absurd (omega arith)
 sum_less (suc n) t f g h l s = by_last (eqb t n) refl (λ k. sum_less n t f g h k s)
   where
-    same : (t n : ℕ) → eqb t n ≡ true → t ≡ n
-    same t n e = grind (arith, nat_tests)
-
-    less : (t n : ℕ) → t < suc n → eqb t n ≡ false → t < n
-    less t n h e = grind (arith, nat_tests)
-
     by_last : (b : Bool) → eqb t n ≡ b → (t < n → sum_below n f < sum_below n g) → sum_below (suc n) f < sum_below (suc n) g
-    by_last true e k = let P : ℕ → Type 0 = λ j. f j < g j in omega (arith, sum_below_le n f g h, subst P (same t n e) s)
-    by_last false e k = omega (arith, k (less t n l e), h n)
+    by_last true e k = let P : ℕ → Type 0 = λ j. f j < g j in omega (arith, sum_below_le n f g h, subst P (eqb-true t n e) s)
+    by_last false e k = omega (arith, k (lesser t n l e), h n)
 
 adds_push : (i : ℕ) (es : List Entry) (e : Entry) → adds_on i (es ++ e ∷ []) ≡ adds_on i es + one_if (is_adding e.op.kind && eqb e.op.table i)
 adds_push i [] e = omega arith
@@ -71,14 +66,11 @@ adds_fewer m b S L t op opened calls adding =
     let o : OnlyBegun b.journal = only_begun m (length b.records) b.journal L.turns in
     let all : AllByRecursion (λ d. d.ticket < n) ds = wider ds o.done_operations in
     let e : Entry = record { op = op; reply = op.key } in
-    let one : one_if (is_adding op.kind && eqb op.table i) ≡ 1 = ap (λ (b : Bool). one_if (b && eqb op.table i)) adding ∙ ap one_if (itself op.table) in
+    let one : one_if (is_adding op.kind && eqb op.table i) ≡ 1 = ap (λ (b : Bool). one_if (b && eqb op.table i)) adding ∙ ap one_if (eq-eqb op.table op.table refl) in
     let more : adds_on i (of_ticket t ds) < m.adds t i = omega (arith, adds_push i (of_ticket t ds) e, one, S.adds t i (of_ticket t ds ++ e ∷ []) (follows_more (m.next t) (of_ticket t ds) e (L.follows t) calls)) in
     let within : t < n = omega (arith, opened.begun, few_begun m (length b.records) b.journal L.turns) in
     omega (arith, adds_by_ticket n i ds all, sum_less n t (λ u. adds_on i (of_ticket u ds)) (λ u. m.adds u i) (λ u. S.adds u i (of_ticket u ds) (L.follows u)) within more)
   where
-    itself : (u : ℕ) → eqb u u ≡ true
-    itself u = grind (arith, nat_tests)
-
     wider : (ds : List DoneOperation) → AllByRecursion (λ d. d.ticket < begun b.journal) ds → AllByRecursion (λ d. d.ticket < m.requests) ds
     wider [] a = tt
     wider (d ∷ ds) a = (omega (arith, a.0, few_begun m (length b.records) b.journal L.turns), wider ds a.1)

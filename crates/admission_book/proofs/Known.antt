@@ -1,5 +1,6 @@
 -- What is known of what a ticket may still call.
 use Rattle.std.proofs.Common.{◌≡◌, ℕ, zero, suc, ◌<◌, ◌≤◌, List, [], ◌∷◌, ◌++◌, length, map, drop, get_or, Option, Some, None, false, refl, sym, ◌∙◌, ap, subst, arith}
+use Rattle.std.proofs.lemmas.Option.{same_Some, none-some}
 use Rattle.std.specs.List.{AllByRecursion}
 use Rattle.session_values.specs.declared.value.Value.{Value}
 use Rattle.session_values.specs.declared.value.Value.TheVariants.{Nil}
@@ -56,13 +57,10 @@ at_site_known m f s vs has kept covered =
       is = is;
       kept = record {
         room = kept.room;
-        site = λ z e. subst (λ (y : Site). HasSite m y 32) (inside s z e) (record { there = has.there; few = omega arith; within = more_within (m.declared s.part s.point) (length vs) 32 has.few has.within });
+        site = λ z e. subst (λ (y : Site). HasSite m y 32) (same_Some s z e) (record { there = has.there; few = omega arith; within = more_within (m.declared s.part s.point) (length vs) 32 has.few has.within });
         touched = subst P (sym is) (covered_touched f.touched (declared_with m s vs) (symbols_of m f) covered kept.touched);
       };
     }
-  where
-    inside : (x y : Site) → ◌≡◌ {A = Option Site} (Some x) (Some y) → x ≡ y
-    inside x y e = cc
 
 module _ (m : Meaning) (old new : CallerRecord) (s : Site) (vs : List Value) (has : HasSite m s (length vs)) (kept : KeepsForesight m old.foresight) (covered : Covered (declared_with m s vs) (symbols_of m old.foresight)) where
   pub with_site_record : new ≡ with_site old s vs → IsRecord m new old.ticket (declared_with m s vs) old.flight old.delayed
@@ -84,13 +82,10 @@ taken_known m f symbols room none is roomy touched =
       is = symbols_are;
       kept = record {
         room = omega (arith, roomy, ap (λ (l : ForesightView). l.room) is);
-        site = λ s e. none_some s (sym none ∙ e);
+        site = λ s e. absurd (none-some s (sym none ∙ e));
         touched = subst P (sym symbols_are) touched;
       };
     }
-  where
-    none_some : {A : Type 0} (s : Site) → ◌≡◌ {A = Option Site} None (Some s) → A
-    none_some s e = cc
 
 pub sited_known : (m : Meaning) (f : MarkedView) (s : Site) (symbols list : List Symbol) → f.site ≡ Some s → HasSite m s 32 → 256 ≤ f.list.room → declared_with m s f.values ≡ symbols → list ≡ m.declared s.part s.point → AllByRecursion (λ y. IsTouched f.touched y) list → IsKnown m f symbols
 sited_known m f s symbols list at has roomy told is touched =
@@ -100,13 +95,10 @@ sited_known m f s symbols list at has roomy told is touched =
       is = symbols_are ∙ told;
       kept = record {
         room = roomy;
-        site = λ z e. subst (λ (y : Site). HasSite m y 32) (inside s z (sym at ∙ e)) has;
+        site = λ z e. subst (λ (y : Site). HasSite m y 32) (same_Some s z (sym at ∙ e)) has;
         touched = subst P (sym symbols_are) (values_touched f.touched f.values (m.declared s.part s.point) (subst P is touched));
       };
     }
-  where
-    inside : (x y : Site) → ◌≡◌ {A = Option Site} (Some x) (Some y) → x ≡ y
-    inside x y e = cc
 
 -- ---- a symbol whose variables have values has none
 pub known_arg : (vs : List Value) (a : Arg) → IsNoVar (arg_in vs a)

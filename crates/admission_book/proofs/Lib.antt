@@ -3,7 +3,6 @@ pub mod Begins
 pub mod Blocks
 pub mod Dones
 pub mod Ends
-pub mod Events
 pub mod Firsts
 pub mod Foreknown
 mod Inside
@@ -21,3 +20,4 @@ pub mod Shown
 pub mod Stays
 pub mod Histories
 pub mod Touches
+pub mod Delayed

@@ -5,7 +5,7 @@ use Rattle.session_values.specs.declared.reply.Reply.{Reply}
 use Rattle.session_journal.specs.declared.event.Event.{Event}
 use Rattle.session_journal.specs.Script.{Meaning}
 use Rattle.admission_book.specs.Book.{Serving}
-use Rattle.admission_book.specs.EventsInTurn.{IsOpen}
+use Rattle.session_journal.specs.EventsInTurn.{IsOpen}
 use Rattle.admission_book.specs.Lawful.{Lawful}
 use Rattle.admission_book.specs.declared.caller_record.CallerRecord.{CallerRecord}
 use Rattle.admission_book.specs.CallerRecord.{serving_of, servings, record_at}

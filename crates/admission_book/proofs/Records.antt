@@ -2,22 +2,19 @@
 use Rattle.std.proofs.Common.{◌≡◌, ℕ, ◌<◌, ◌≤◌, ◌≢◌, List, [], ◌∷◌, length, ◌⊎◌, inl, inr, Option, Some, None, true, false, eqb, get_or, refl, sym, ◌∙◌, subst, arith}
 use Rattle.std.proofs.Math.ListN.{set}
 use Rattle.std.proofs.lemmas.List.{get_or-set_same, get_or-set_other, get_or_past, length-set}
-use Rattle.std.proofs.lemmas.Bool.Decides.{nat_tests}
+use Rattle.std.proofs.lemmas.Bool.{cases_lt, eqb-true, eqb-false}
 use Rattle.std.specs.List.{AllByRecursion}
 use Rattle.session_values.specs.declared.op.Op.{Op}
 use Rattle.symbolic_ops.specs.declared.symbol.Symbol.{Symbol}
 use Rattle.session_values.specs.Commuting.{Commute}
 use Rattle.symbolic_ops.proofs.Above.{covered_matches}
 use Rattle.symbolic_ops.specs.Matching.{Covered, Matches}
-use Rattle.commute_tables.specs.Symbols.{CommutesWith, CommutesWithAll}
+use Rattle.symbolic_ops.specs.Commuting.{CommutesWith, CommutesWithAll}
 
 -- a place that has something is within the list
 pub within : {X : Type 0} (l : List (Option X)) (c : ℕ) (x : X) → get_or l c None ≡ Some x → c < length l
-within {X} l c x h = by_cases (lt_or c (length l))
+within {X} l c x h = by_cases (cases_lt c (length l))
   where
-    lt_or : (a b : ℕ) → (a < b) ⊎ (b ≤ a)
-    lt_or a b = grind arith
-
     by_cases : (c < length l) ⊎ (length l ≤ c) → c < length l
     by_cases (inl k) = k
     by_cases (inr k) = let e : ◌≡◌ {A = Option X} None (Some x) = sym (get_or_past l c None k) ∙ h in cc
@@ -26,16 +23,10 @@ within {X} l c x h = by_cases (lt_or c (length l))
 pub at_set : {X : Type 0} (l : List (Option X)) (c d : ℕ) (x : Option X) (s : X) → get_or (set l c x) d None ≡ Some s → ((d ≡ c) × (x ≡ Some s)) ⊎ ((d ≢ c) × (get_or l d None ≡ Some s))
 at_set {X} l c d x s h =
     elim (eqb d c) as (λ b. eqb d c ≡ b → ((d ≡ c) × (x ≡ Some s)) ⊎ ((d ≢ c) × (get_or l d None ≡ Some s))) [
-      | true ↦ λ e. let is : d ≡ c = same d c e in inl (is, here is)
-      | false ↦ λ e. let apart : d ≢ c = differs d c e in inr (apart, sym (get_or-set_other l c d x None apart) ∙ h)
+      | true ↦ λ e. let is : d ≡ c = eqb-true d c e in inl (is, here is)
+      | false ↦ λ e. let apart : d ≢ c = eqb-false d c e in inr (apart, sym (get_or-set_other l c d x None apart) ∙ h)
     ] refl
   where
-    same : (d c : ℕ) → eqb d c ≡ true → d ≡ c
-    same d c e = grind (arith, nat_tests)
-
-    differs : (d c : ℕ) → eqb d c ≡ false → d ≢ c
-    differs d c e = grind (arith, nat_tests)
-
     here : d ≡ c → x ≡ Some s
     here is =
         let k : d < length (set l c x) = within (set l c x) d s h in

@@ -1,10 +1,12 @@
 -- The replies of a book.
-use Rattle.std.proofs.Common.{◌≡◌, ℕ, zero, suc, ◌<◌, ◌≤◌, List, [], ◌∷◌, ◌++◌, ◌⊎◌, inl, inr, Option, Some, None, length, get_or, take, replicate, refl, sym, ◌∙◌, ap, subst, arith}
+use Rattle.std.proofs.Common.{◌≡◌, ℕ, zero, suc, ◌<◌, ◌≤◌, List, [], ◌∷◌, ◌++◌, inl, inr, Option, Some, None, length, get_or, take, replicate, refl, sym, ◌∙◌, ap, subst, arith}
 use mathlib.Core.List.{map}
 use Rattle.std.specs.Option.{IsSome, IfSome}
 use Rattle.std.specs.List.{AllByRecursion}
 use Rattle.std.proofs.Math.Seq.{take-suc}
 use Rattle.std.proofs.lemmas.List.{length-map, take_all}
+use Rattle.std.proofs.lemmas.Bool.{cases_lt}
+use Rattle.std.proofs.lemmas.Option.{none-some}
 use Rattle.session_values.specs.declared.reply.Reply.{Reply}
 use Rattle.session_values.specs.Serial.{answered, serial, serial_replies, tables_before}
 use Rattle.session_journal.specs.Journal.{begun, ended, after}
@@ -12,9 +14,9 @@ use Rattle.session_journal.specs.Script.{Meaning, IsScript, session_of}
 use Rattle.admission_book.specs.Book.{Book, Serving}
 use Rattle.admission_book.specs.Lawful.{Lawful}
 use Rattle.admission_book.specs.CallerRecord.{servings, idle_record}
-use Rattle.admission_book.proofs.Events.{only_begun}
+use Rattle.session_journal.proofs.Events.{only_begun}
 use Rattle.admission_book.proofs.Foreknown.{foreknown, all_ended}
-use Rattle.admission_book.proofs.Room.{few_begun}
+use Rattle.session_journal.proofs.EventCounts.{few_begun}
 
 some_is : (o : Option Reply) → IsSome o → (r : Reply) × (o ≡ Some r)
 some_is (Some r) h = (r, refl)
@@ -23,18 +25,12 @@ some_is None h = absurd (impossible h)
     impossible : IsSome {T = Reply} None → ⊥
     impossible h = cc
 
-lt_or : (a b : ℕ) → (a < b) ⊎ (b ≤ a)
-lt_or a b = grind arith
-
 -- a ticket that has ended is begun
 ended_begun : (m : Meaning) (b : Book) → Lawful m b → (t : ℕ) (r : Reply) → ended b.journal t ≡ Some r → t < begun b.journal
-ended_begun m b L t r e = elim (lt_or t (begun b.journal)) [
+ended_begun m b L t r e = elim (cases_lt t (begun b.journal)) [
   | inl l ↦ l
-  | inr l ↦ absurd (none_some (sym ((only_begun m (length b.records) b.journal L.turns).ended t l) ∙ e))
+  | inr l ↦ absurd (none-some r (sym ((only_begun m (length b.records) b.journal L.turns).ended t l) ∙ e))
 ]
-  where
-    none_some : ◌≡◌ {A = Option Reply} None (Some r) → ⊥
-    none_some h = cc
 
 -- the Reply of an ended ticket is the serial one
 pub serial_ended : (m : Meaning) (b : Book) → IsScript m → Lawful m b → (t : ℕ) (r : Reply) → ended b.journal t ≡ Some r → (serial (session_of m) t).answer ≡ Some r
@@ -57,7 +53,7 @@ module _ (m : Meaning) (b : Book) (S : IsScript m) (L : Lawful m b) (done : (t :
       subst P (sym same) (all_kept b.kept (λ t l. subst Q (sym (L.kept t)) (done t (omega arith))))
 
   all_begun : begun b.journal ≡ m.requests
-  all_begun = elim (lt_or (begun b.journal) m.requests) [
+  all_begun = elim (cases_lt (begun b.journal) m.requests) [
     | inl l ↦ let x : (r : Reply) × (ended b.journal (begun b.journal) ≡ Some r) = some_is (ended b.journal (begun b.journal)) (done (begun b.journal) l) in let k : begun b.journal < begun b.journal = ended_begun m b L (begun b.journal) x.0 x.1 in omega arith
     | inr l ↦ omega (arith, few_begun m (length b.records) b.journal L.turns)
   ]

@@ -2,9 +2,11 @@
 use Rattle.std.proofs.Common.{◌≡◌, ℕ, suc, ◌+◌, ◌<◌, ◌≤◌, List, [], ◌∷◌, ◌⊎◌, inl, inr, Option, Some, None, length, get_or, refl, sym, ◌∙◌, ap, subst, arith}
 use mathlib.Core.List.{map}
 use Rattle.std.proofs.lemmas.List.{get_or_past}
+use Rattle.std.proofs.lemmas.Bool.{cases_lt}
+use Rattle.std.proofs.lemmas.Option.{none-some}
 use Rattle.std.specs.List.{AllByRecursion}
 use Rattle.session_values.specs.declared.op.Op.{Op}
-use Rattle.commute_tables.specs.Symbols.{CommutesWith}
+use Rattle.symbolic_ops.specs.Commuting.{CommutesWith}
 use Rattle.session_journal.specs.Script.{Meaning}
 use Rattle.admission_book.specs.Book.{Serving, IsFree}
 use Rattle.admission_book.specs.declared.blocker.Blocker.{Blocker}
@@ -52,17 +54,11 @@ scan_more rs t op i found (Some b) (Some x) is s (inr h) = record {
     ]
 
 all_free : (rs : List (Option Serving)) (limit : ℕ) (op : Op) → ((c : ℕ) → c < length rs → IsPast limit op (get_or rs c None)) → IsFree (book_with rs) limit op
-all_free rs limit op h c s at less = by_place (lt_or c (length rs))
+all_free rs limit op h c s at less = by_place (cases_lt c (length rs))
   where
-    lt_or : (a b : ℕ) → (a < b) ⊎ (b ≤ a)
-    lt_or a b = grind arith
-
-    none_some : {A : Type 0} → ◌≡◌ {A = Option Serving} None (Some s) → A
-    none_some e = cc
-
     by_place : (c < length rs) ⊎ (length rs ≤ c) → AllByRecursion (λ y. CommutesWith op y) s.foresight
     by_place (inl l) = let P : Option Serving → Type 0 = λ o. IsPast limit op o in subst P at (h c l) less
-    by_place (inr g) = none_some (sym (get_or_past rs c None g) ∙ at)
+    by_place (inr g) = absurd (none-some s (sym (get_or_past rs c None g) ∙ at))
 
 -- all records
 pub scan_all : (rs : List (Option Serving)) (t : ℕ) (op : Op) (i : ℕ) (found : Option Blocker) → length rs ≤ i → Scanned rs t op i found → Found rs t op found

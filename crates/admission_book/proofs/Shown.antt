@@ -1,8 +1,10 @@
 -- The records of a book as its fields keep them.
-use Rattle.std.proofs.Common.{◌≡◌, ◌≢◌, ℕ, zero, suc, ◌+◌, ◌*◌, ◌<◌, ◌≤◌, List, [], ◌∷◌, ◌++◌, ◌⊎◌, inl, inr, Option, Some, None, Bool, true, false, cond, eqb, length, get_or, length-append, refl, sym, ◌∙◌, ap, subst, arith}
+use Rattle.std.proofs.Common.{◌≡◌, ◌≢◌, ℕ, zero, suc, ◌+◌, ◌*◌, ◌<◌, ◌≤◌, List, [], ◌∷◌, ◌++◌, inl, inr, Option, Some, None, Bool, true, false, cond, eqb, length, get_or, length-append, refl, sym, ◌∙◌, ap, subst, arith}
 use Rattle.std.proofs.Math.ListN.{set}
 use Rattle.std.proofs.lemmas.List.{map-set, get_or-set_same, get_or-set_other, get_or_default}
 use Rattle.std.proofs.lemmas.Bool.Decides.{nat_tests}
+use Rattle.std.proofs.lemmas.Option.{same_Some, none-some}
+use Rattle.std.proofs.lemmas.Bool.{cases_eq}
 use Rattle.session_values.specs.declared.op.Op.{Op}
 use Rattle.session_values.specs.declared.reply.Reply.{Reply}
 use Rattle.symbolic_ops.specs.declared.symbol.Symbol.{Symbol}
@@ -11,7 +13,7 @@ use Rattle.session_journal.specs.declared.event.Event.TheVariants.{Begin, Done, 
 use Rattle.session_journal.specs.Journal.{JournalView, begun, ticket_of}
 use Rattle.session_journal.specs.Script.{Meaning, IsScript, calls}
 use Rattle.admission_book.specs.Book.{Book, Serving, kept_for, record_of}
-use Rattle.admission_book.specs.EventsInTurn.{delayed_after, is_delayed}
+use Rattle.session_journal.specs.EventsInTurn.{delayed_after, is_delayed}
 use Rattle.admission_book.specs.Lawful.{Lawful}
 use Rattle.admission_book.specs.declared.caller_record.CallerRecord.{CallerRecord}
 use Rattle.admission_book.specs.CallerRecord.{IsRecord, serving_at, serving_of, servings, record_at, idle_record}
@@ -19,7 +21,8 @@ use Rattle.admission_book.specs.Foresights.{KeepsForesight, symbols_of}
 use Rattle.admission_book.specs.Methods.{BookView}
 use Rattle.admission_book.specs.Kept.{book_of, Keeps, KeepsRecord}
 use Rattle.admission_book.proofs.Keep.{one_caller}
-use Rattle.admission_book.proofs.Room.{few_events, is_delayed-append}
+use Rattle.admission_book.proofs.Room.{few_events}
+use Rattle.session_journal.proofs.EventCounts.{is_delayed-append}
 
 -- ---- between the fields and what contracts see of them
 pub here : {S : Type 0} (P : Meaning → Book → Type 0) (meaning : S → Meaning) (s : S) (b : Book) (v : BookView S) → record { script = s; book = b } ≡ v → P (meaning v.script) v.book → P (meaning s) b
@@ -59,21 +62,12 @@ serving_so m r t f w d h = (λ i. serving_at (h.ticket i) (h.foresight.is i) (h.
 pub ticket_is : (m : Meaning) (r : CallerRecord) (s : Serving) → serving_of m r ≡ Some s → r.ticket ≡ Some s.ticket
 ticket_is m r s e = go r.ticket refl
   where
-    inside : (x y : Serving) → ◌≡◌ {A = Option Serving} (Some x) (Some y) → x ≡ y
-    inside x y h = cc
-
-    none : {A : Type 0} → ◌≡◌ {A = Option Serving} None (Some s) → A
-    none h = cc
-
     go : (o : Option ℕ) → r.ticket ≡ o → r.ticket ≡ Some s.ticket
-    go None p = none (sym (ap (λ (x : Option ℕ). serving_at x (symbols_of m r.foresight) r.flight) p) ∙ e)
-    go (Some u) p = p ∙ ap (λ (z : Serving). Some z.ticket) (inside (served m u r) s (sym (serving_is m r u p) ∙ e))
+    go None p = absurd (none-some s (sym (ap (λ (x : Option ℕ). serving_at x (symbols_of m r.foresight) r.flight) p) ∙ e))
+    go (Some u) p = p ∙ ap (λ (z : Serving). Some z.ticket) (same_Some (served m u r) s (sym (serving_is m r u p) ∙ e))
 
 pub keeps_has : (m : Meaning) (J : List Event) (r : CallerRecord) (t : ℕ) → r.ticket ≡ Some t → KeepsForesight m r.foresight → r.delayed ≡ is_delayed J t → KeepsRecord m J r
-keeps_has m J r t has kept noted = record { foresight = kept; noted = λ s e. noted ∙ ap (is_delayed J) (inside t s.ticket (sym has ∙ ticket_is m r s e)) }
-  where
-    inside : (x y : ℕ) → ◌≡◌ {A = Option ℕ} (Some x) (Some y) → x ≡ y
-    inside x y h = cc
+keeps_has m J r t has kept noted = record { foresight = kept; noted = λ s e. noted ∙ ap (is_delayed J) (same_Some t s.ticket (sym has ∙ ticket_is m r s e)) }
 
 pub keeps_none : (m : Meaning) (J : List Event) (r : CallerRecord) → r.ticket ≡ None → KeepsForesight m r.foresight → KeepsRecord m J r
 keeps_none m J r has kept = record { foresight = kept; noted = λ s e. none s (sym has ∙ ticket_is m r s e) }
@@ -97,13 +91,10 @@ shown m K k rs i new x e = ap (λ (us : List (Option Serving)). record { journal
 pub keeps_set : (m : Meaning) (J : List Event) (rs : List CallerRecord) (i : ℕ) (new : CallerRecord) → i < length rs → KeepsRecord m J new → ((c : ℕ) → c ≢ i → KeepsRecord m J (record_at rs c)) → (c : ℕ) → KeepsRecord m J (record_at (set rs i new) c)
 keeps_set m J rs i new within this others c =
     let P : CallerRecord → Type 0 = λ r. KeepsRecord m J r in
-    elim (same_or c i) [
+    elim (cases_eq c i) [
       | inl e ↦ let Q : ℕ → Type 0 = λ j. KeepsRecord m J (record_at (set rs i new) j) in subst Q (sym e) (subst P (sym (get_or-set_same rs i new idle_record within)) this)
       | inr e ↦ subst P (sym (get_or-set_other rs i c new idle_record e)) (others c e)
     ]
-  where
-    same_or : (a b : ℕ) → (a ≡ b) ⊎ (a ≢ b)
-    same_or a b = grind (arith, nat_tests)
 
 -- ---- one event more
 
@@ -140,10 +131,7 @@ room_for m J e k us room S h L = omega (arith, few_events m _ S L, length-append
 -- ---- a ticket stands in one record
 module _ (m : Meaning) (b : Book) (L : Lawful m b) where
   pub one : (c d : ℕ) (s z : Serving) → record_of b c ≡ Some s → record_of b d ≡ Some z → s.ticket ≡ z.ticket → (c ≡ d) × (s ≡ z)
-  one c d s z p q e = let h : c ≡ d = one_caller m b L c d s z p q e in (h, inside s z (sym p ∙ ap (λ (j : ℕ). record_of b j) h ∙ q))
-    where
-      inside : (x y : Serving) → ◌≡◌ {A = Option Serving} (Some x) (Some y) → x ≡ y
-      inside x y h = cc
+  one c d s z p q e = let h : c ≡ d = one_caller m b L c d s z p q e in (h, same_Some s z (sym p ∙ ap (λ (j : ℕ). record_of b j) h ∙ q))
 
   pub others : (i c : ℕ) (z : Serving) → record_of b i ≡ Some z → c ≢ i → (s : Serving) → record_of b c ≡ Some s → s.ticket ≢ z.ticket
   others i c z at apart s p = λ e. apart (one c i s z p at e).0

@@ -2,13 +2,14 @@
 use Rattle.std.proofs.Common.{◌≡◌, ℕ, zero, suc, ◌+◌, ◌%◌, ◌<◌, List, [], ◌∷◌, inl, inr, Bool, true, false, cond, not, ◌&&◌, ◌||◌, eqb, length, get_or, take, refl, sym, ◌∙◌, ap, subst, arith}
 use Rattle.std.specs.List.{AllByRecursion}
 use Rattle.std.proofs.lemmas.Bool.Decides.{nat_tests}
+use Rattle.std.proofs.lemmas.Bool.{eqb-true}
 use Rattle.session_values.specs.declared.op.Op.{Op}
 use Rattle.session_values.specs.Kinds.{is_on_map, is_read}
 use Rattle.session_values.specs.Op.{IsHeld}
 use Rattle.symbolic_ops.specs.declared.symbol.Symbol.{Symbol}
 use Rattle.symbolic_ops.specs.Matching.{Covered, IsBelowSome}
 use Rattle.commute_tables.specs.Relation.{commutes_symbol, same_bool}
-use Rattle.commute_tables.specs.Symbols.{CommutesWith}
+use Rattle.symbolic_ops.specs.Commuting.{CommutesWith}
 use Rattle.commute_tables.proofs.AgainstSymbols.{symbol_commutes}
 use Rattle.admission_book.specs.Touched.{IsTouched, mark_of}
 use Rattle.admission_book.specs.declared.touched_tables.TouchedTables.{TouchedTables}
@@ -52,9 +53,6 @@ both b p q = cc
 pub apart : (op : Op) (t : TouchedTables) (table : ℕ) (reads : Bool) → table ≡ op.table → reads ≡ is_read op.kind → IsHeld op → get_or t.marks (table % 8 + 8) false ≡ false → (reads ≡ false → get_or t.marks (table % 8) false ≡ false) → (s : Symbol) → IsTouched t s → CommutesWith op s
 apart op t table reads at read held none_changed none_read s touched = symbol_commutes op s held (by_table (eqb op.table s.table) refl)
   where
-    same : (a b : ℕ) → eqb a b ≡ true → a ≡ b
-    same a b e = grind (arith, nat_tests)
-
     set_and_not : {A : Type 0} (b : Bool) → b ≡ true → b ≡ false → A
     set_and_not b p q = cc
 
@@ -74,7 +72,7 @@ apart op t table reads at read held none_changed none_read s touched = symbol_co
 
     by_table : (b : Bool) → eqb op.table s.table ≡ b → commutes_symbol op s ≡ true
     by_table false e = first_told (eqb op.table s.table) _ _ _ _ _ e
-    by_table true e = by_read (is_read s.kind) (is_read op.kind) refl refl (same op.table s.table e)
+    by_table true e = by_read (is_read s.kind) (is_read op.kind) refl refl (eqb-true op.table s.table e)
 
 -- an operation commutes with a symbol of another table
 pub other_table : (op : Op) (s : Symbol) → IsHeld op → (s.table ≡ op.table → ⊥) → CommutesWith op s

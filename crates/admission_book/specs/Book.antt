@@ -8,11 +8,11 @@ use Rattle.symbolic_ops.specs.declared.symbol.Symbol.{Symbol}
 use Rattle.symbolic_ops.specs.Matching.{Covered}
 use Rattle.session_journal.specs.declared.event.Event.{Event}
 use Rattle.session_journal.specs.declared.event.Event.TheVariants.{Begin, Done, Delay, End}
-use Rattle.commute_tables.specs.Symbols.{CommutesWith, CommutesWithAll}
+use Rattle.symbolic_ops.specs.Commuting.{CommutesWith, CommutesWithAll}
 use Rattle.session_journal.specs.Journal.{done_operations, entries, begun, owner}
 use Rattle.session_values.specs.Dialogue.{Calls, rest, replies}
 use Rattle.session_journal.specs.Script.{IsForesight, Meaning}
-use Rattle.admission_book.specs.EventsInTurn.{IsOpen, declared_after, now, is_delayed}
+use Rattle.session_journal.specs.EventsInTurn.{IsOpen, declared_after, now, is_delayed}
 
 -- a caller's record while it serves a ticket
 pub record Serving : Type 0 where

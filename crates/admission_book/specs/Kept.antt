@@ -5,7 +5,7 @@ use Rattle.session_journal.specs.declared.event.Event.{Event}
 use Rattle.session_journal.specs.Journal.{JournalView, begun}
 use Rattle.session_journal.specs.Script.{Meaning, IsScript, calls}
 use Rattle.admission_book.specs.Book.{Book, Serving}
-use Rattle.admission_book.specs.EventsInTurn.{is_delayed}
+use Rattle.session_journal.specs.EventsInTurn.{is_delayed}
 use Rattle.admission_book.specs.Foresights.{KeepsForesight}
 use Rattle.admission_book.specs.declared.caller_record.CallerRecord.{CallerRecord}
 use Rattle.admission_book.specs.CallerRecord.{serving_of, servings, record_at}

@@ -5,7 +5,7 @@ use Rattle.session_journal.specs.Journal.{done_operations, in_order, entries, en
 use Rattle.session_values.specs.Dialogue.{Answers, Follows}
 use Rattle.session_journal.specs.Script.{Meaning}
 use Rattle.admission_book.specs.Book.{Serving, Book, record_of, kept_for, Holds}
-use Rattle.admission_book.specs.EventsInTurn.{IsOpen, now, ComeInTurn}
+use Rattle.session_journal.specs.EventsInTurn.{IsOpen, now, ComeInTurn}
 
 -- a book that the methods of a book can lead to
 pub record Lawful (m : Meaning) (b : Book) : Type 0 where

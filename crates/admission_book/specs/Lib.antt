@@ -1,7 +1,6 @@
 pub mod Book
 pub mod Methods
 pub mod CallerRecord
-pub mod EventsInTurn
 pub mod Foresights
 pub mod Found
 pub mod Kept

@@ -12,7 +12,7 @@ use Rattle.session_journal.specs.Foreknown.{Foreknown}
 use Rattle.session_journal.specs.Journal.{begun, entries, after}
 use Rattle.session_journal.specs.Script.{Meaning, IsForesight}
 use Rattle.admission_book.specs.Book.{Book, Serving, record_of, IsFree, IsBlocker, after_begin, after_narrow, after_admit, after_delay, after_done, after_end}
-use Rattle.admission_book.specs.EventsInTurn.{now, IsOpen}
+use Rattle.session_journal.specs.EventsInTurn.{now, IsOpen}
 use Rattle.admission_book.specs.Lawful.{Lawful}
 use Rattle.admission_book.specs.declared.admission.Admission.{Admission}
 use Rattle.admission_book.specs.declared.admission.Admission.TheVariants.{Admitted, Delayed}

@@ -3,7 +3,7 @@
 ghost use Rattle.std.specs.Prelude.{◌≡◌, ℕ, ◌<◌, MatchOption};
 ghost use Rattle.std.specs.List.{AllByRecursion};
 ghost use Rattle.symbolic_ops.specs.Matching.{HasNoVar};
-ghost use Rattle.commute_tables.specs.Symbols.{CommutesWith};
+ghost use Rattle.symbolic_ops.specs.Commuting.{CommutesWith};
 ghost use Rattle.admission_book.specs.Book.{IsFirstAgainst};
 ghost use Rattle.admission_book.specs.CallerRecord.{record_at, serving_of, servings};
 ghost use Rattle.admission_book.specs.Foresights.{KeepsForesight};

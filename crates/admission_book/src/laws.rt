@@ -6,14 +6,14 @@ ghost use Rattle.session_values.specs.Serial.{serial, tables_before};
 ghost use Rattle.session_values.specs.Kinds.{is_adding};
 ghost use Rattle.session_values.specs.Tables.{reply, table, size_of};
 ghost use Rattle.symbolic_ops.specs.Matching.{Covered};
-ghost use Rattle.commute_tables.specs.Symbols.{CommutesWith};
+ghost use Rattle.symbolic_ops.specs.Commuting.{CommutesWith};
 ghost use Rattle.session_journal.specs.declared.event.Event.{Event};
 ghost use Rattle.session_journal.specs.declared.event.Event.TheVariants.{Delay};
 ghost use Rattle.session_journal.specs.Foreknown.{Foreknown};
 ghost use Rattle.session_journal.specs.Journal.{Replays, after, begun, ended, entries, regrouped, run};
 ghost use Rattle.session_journal.specs.Script.{Meaning, IsScript, IsForesight, calls, room, session_of};
 ghost use Rattle.admission_book.specs.Book.{Book, Serving, IsFree, IsBlocker, record_of, opened, after_begin, after_narrow, after_admit, after_delay, after_done, after_end};
-ghost use Rattle.admission_book.specs.EventsInTurn.{IsForeseen, IsOpen, MayBeDelayed, TellsAll, now, events_of};
+ghost use Rattle.session_journal.specs.EventsInTurn.{IsForeseen, IsOpen, MayBeDelayed, TellsAll, now, events_of};
 ghost use Rattle.admission_book.specs.Lawful.{Lawful};
 ghost use Rattle.admission_book.specs.Methods.{IsOldestOpen};
 

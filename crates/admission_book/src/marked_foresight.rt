@@ -4,7 +4,7 @@ ghost use Rattle.std.specs.Prelude.{◌≡◌, ◌<◌, ◌≤◌, MatchOption, 
 ghost use Rattle.std.specs.List.{AllByRecursion};
 ghost use Rattle.session_limits.specs.Limits.{max_symbols, max_variables};
 ghost use Rattle.session_journal.specs.Script.{Meaning};
-ghost use Rattle.commute_tables.specs.Symbols.{CommutesWith};
+ghost use Rattle.symbolic_ops.specs.Commuting.{CommutesWith};
 ghost use Rattle.admission_book.specs.Book.{IsFirstAgainst};
 ghost use Rattle.admission_book.specs.Foresights.{IsKnown, KeepsForesight, at_site, no_foresight, symbols_of, with_values};
 

@@ -4,7 +4,7 @@ ghost use Rattle.std.specs.Prelude.{◌≡◌, MatchOption, length, map};
 ghost use Rattle.std.specs.List.{AllByRecursion};
 ghost use Rattle.symbolic_ops.specs.Instantiate.{ArgWithin, IsWithin, arg_in, symbol_in};
 ghost use Rattle.symbolic_ops.specs.Matching.{HasNoVar};
-ghost use Rattle.commute_tables.specs.Symbols.{CommutesWith};
+ghost use Rattle.symbolic_ops.specs.Commuting.{CommutesWith};
 ghost use Rattle.admission_book.specs.Book.{IsFirstAgainst};
 
 use commute_tables::commute_symbol;

@@ -1,7 +1,7 @@
 -- Code that speaks of variables and tables which exist.
 use Rattle.std.specs.Prelude.{◌≡◌, ℕ, ◌<◌, ◌≤◌, List, length, Option, Some, None, slice_get}
 use Rattle.std.specs.List.{AllByRecursion}
-use Rattle.session_limits.specs.Limits.{max_turns}
+use Rattle.session_values.specs.Limits.{max_turns}
 use Rattle.session_values.specs.declared.value.Value.TheVariants.{Nil}
 use Rattle.session_values.specs.declared.kind.TableKind.{TableKind}
 use Rattle.session_values.specs.Kinds.{arguments, home}

@@ -7,9 +7,10 @@ use Rattle.syntax_trees.specs.declared.file.Handler.{Handler}
 use Rattle.syntax_trees.specs.declared.file.TableDecl.{TableDecl}
 use Rattle.check_rules.specs.declared.refusal.CheckRefusal.{CheckRefusal}
 use Rattle.check_rules.specs.declared.refusal.CheckRefusal.TheVariants.{Twice, Unknown, Arity, WrongTable, RepeatBound, TooManyTables, TooManyHandlers, TooManyVariables, TooManyCalls, TooMuchWork, NoMemory}
-use Rattle.check_rules.specs.Marks.{Mark, Declared, mark_at, handler_marks, table_marks, name_marks}
+use Rattle.syntax_trees.specs.Marks.{Mark, Declared, mark_at, handler_marks, table_marks, name_marks}
 use Rattle.check_rules.specs.Rules.{IsBroken, InHandler, IsPast}
-use Rattle.check_rules.specs.FirstFault.{place, AreRising, PlacesRise}
+use Rattle.check_rules.specs.FirstFault.{place}
+use Rattle.syntax_trees.specs.Rising.{AreRising, PlacesRise}
 use Rattle.check_rules.specs.Scan.{or_else, declared_fault, Limit, of_tables, of_handlers, of_variables, scan, scan_handlers, file_fault}
 use Rattle.check_rules.proofs.Finds.{Faults, Finds, finds_same, finds_both, Breaks, BrokenFrom, IsFair, above_all, finds_scan, finds_mark, stands_at}
 use Rattle.check_rules.proofs.Texts.{Rule, rule_from, from_rule}

@@ -1,6 +1,6 @@
 -- What a walk finds: the first of some faults.
 use Rattle.std.proofs.Common.{◌≡◌, ℕ, suc, zero, ◌<◌, ◌≤◌, ◌==◌, Bool, true, false, ◌||◌, nat_lt, ◌⊎◌, inl, inr, if◌then◌else◌, List, [], ◌∷◌, ◌++◌, length, map, slice_index_or, Option, Some, None, refl, sym, ap, ◌∙◌, subst, arith}
-use Rattle.std.proofs.lemmas.Bool.{or_cases, or_left, or_right}
+use Rattle.std.proofs.lemmas.Bool.{or_cases, or_left, or_right, both_ways, eq-eqb, eqb-true}
 use Rattle.std.proofs.lemmas.Bool.Decides.{nat_tests}
 use Rattle.std.specs.List.{Contains, AllByRecursion}
 use Rattle.session_values.specs.declared.kind.Kind.{Kind}
@@ -10,9 +10,10 @@ use Rattle.session_values.specs.Kinds.{arguments, home}
 use Rattle.syntax_trees.specs.declared.file.TableDecl.{TableDecl}
 use Rattle.check_rules.specs.declared.refusal.CheckRefusal.{CheckRefusal}
 use Rattle.check_rules.specs.declared.refusal.CheckRefusal.TheVariants.{Twice, Unknown, Arity, WrongTable, RepeatBound}
-use Rattle.check_rules.specs.Marks.{Mark, Declared, Mentioned, Operation, OnTable, Turns, mark_at, declared, sees}
+use Rattle.syntax_trees.specs.Marks.{Mark, Declared, Mentioned, Operation, OnTable, Turns, mark_at, declared, sees}
 use Rattle.check_rules.specs.Rules.{kind_of}
-use Rattle.check_rules.specs.FirstFault.{place, number, IsNoLater, IsFirst, AreRising}
+use Rattle.check_rules.specs.FirstFault.{place, number, IsNoLater, IsFirst}
+use Rattle.syntax_trees.specs.Rising.{AreRising}
 use Rattle.check_rules.specs.Scan.{Fault, or_else, fault_if, is_among, is_same_kind, found_fault, Limit, mark_fault, scan}
 
 abbrev pub Faults : Type 1
@@ -46,29 +47,20 @@ finds_unless true P e bad good = λ g s. bad refl s.0
 finds_unless false P e bad good = record { is_broken = (good refl, refl); least = λ g s. same_later e g s.1 }
 
 -- ---- names
-pub eq_true : (a b : ℕ) → (a == b) ≡ true → a ≡ b
-eq_true a b e = grind (arith, nat_tests)
-
-pub true_eq : (a b : ℕ) → a ≡ b → (a == b) ≡ true
-true_eq a b e = grind (arith, nat_tests)
-
 pub among_in : (ns : List ℕ) (n : ℕ) → is_among ns n ≡ true → Contains ns n
 among_in [] n e = cc
 among_in (y ∷ ys) n e = elim (or_cases (y == n) (is_among ys n) e) [
-  | inl h ↦ (0, omega arith, eq_true y n h)
+  | inl h ↦ (0, omega arith, eqb-true y n h)
   | inr h ↦ (let k = among_in ys n h in (suc k.0, (let l = k.1 in omega arith), k.2))
 ]
 
 in_at : (ns : List ℕ) (n k : ℕ) → k < length ns → slice_index_or ns k n ≡ n → is_among ns n ≡ true
 in_at [] n k h e = absurd (omega arith)
-in_at (y ∷ ys) n zero h e = or_left (y == n) (is_among ys n) (true_eq y n e)
+in_at (y ∷ ys) n zero h e = or_left (y == n) (is_among ys n) (eq-eqb y n e)
 in_at (y ∷ ys) n (suc k) h e = or_right (y == n) (is_among ys n) (in_at ys n k (omega arith) e)
 
 pub in_among : (ns : List ℕ) (n : ℕ) → Contains ns n → is_among ns n ≡ true
 in_among ns n h = in_at ns n h.0 h.1 h.2
-
-not_in : (b : Bool) → b ≡ false → b ≡ true → ⊥
-not_in b f t = cc
 
 -- ---- the faults of one mark, behind these names
 abbrev pub Breaks : Limit → List TableDecl → List ℕ → Mark → Faults
@@ -108,13 +100,13 @@ finds_found (Some k) kind at =
     (finds_unless (is_same_kind k (home kind)) (k ≡ home kind → ⊥) (WrongTable at) (λ t never. never (kind_true k (home kind) t)) (λ f. kind_false k (home kind) f))
 
 turns_true : (n : ℕ) → ((n == 0) || nat_lt 1000 n) ≡ true → (n ≡ 0) ⊎ (1000 < n)
-turns_true n e = elim (or_cases (n == 0) (nat_lt 1000 n) e) [ inl h ↦ inl (eq_true n 0 h) | inr h ↦ inr (above n h) ]
+turns_true n e = elim (or_cases (n == 0) (nat_lt 1000 n) e) [ inl h ↦ inl (eqb-true n 0 h) | inr h ↦ inr (above n h) ]
   where
     above : (n : ℕ) → nat_lt 1000 n ≡ true → 1000 < n
     above n h = grind (arith, nat_tests)
 
 true_turns : (n : ℕ) → (n ≡ 0) ⊎ (1000 < n) → ((n == 0) || nat_lt 1000 n) ≡ true
-true_turns n s = elim s [ inl h ↦ or_left (n == 0) (nat_lt 1000 n) (true_eq n 0 h) | inr h ↦ or_right (n == 0) (nat_lt 1000 n) (above n h) ]
+true_turns n s = elim s [ inl h ↦ or_left (n == 0) (nat_lt 1000 n) (eq-eqb n 0 h) | inr h ↦ or_right (n == 0) (nat_lt 1000 n) (above n h) ]
   where
     above : (n : ℕ) → 1000 < n → nat_lt 1000 n ≡ true
     above n h = grind (arith, nat_tests)
@@ -132,11 +124,11 @@ finds_mark l fair tables earlier (Declared name at) =
     finds_both (fault_if (is_among earlier name) (Twice at)) (fault_if (length earlier == l.limit) (l.past at)) (λ g. Contains earlier name × (g ≡ Twice at)) (λ g. (length earlier ≡ l.limit) × (g ≡ l.past at))
     (λ g k b c. declared_order l fair at g k b.1 c.1)
     (finds_if (is_among earlier name) (Contains earlier name) (Twice at) (among_in earlier name) (in_among earlier name))
-    (finds_if (length earlier == l.limit) (length earlier ≡ l.limit) (l.past at) (eq_true (length earlier) l.limit) (true_eq (length earlier) l.limit))
+    (finds_if (length earlier == l.limit) (length earlier ≡ l.limit) (l.past at) (eqb-true (length earlier) l.limit) (eq-eqb (length earlier) l.limit))
 finds_mark l fair tables earlier (Mentioned name at visible) =
-    finds_unless (is_among visible name) (Contains visible name → ⊥) (Unknown at) (λ t never. never (among_in visible name t)) (λ f h. not_in (is_among visible name) f (in_among visible name h))
+    finds_unless (is_among visible name) (Contains visible name → ⊥) (Unknown at) (λ t never. never (among_in visible name t)) (λ f h. both_ways (is_among visible name) f (in_among visible name h))
 finds_mark l fair tables earlier (Operation kind count at) =
-    finds_unless (count == arguments kind) (count ≡ arguments kind → ⊥) (Arity at) (λ t never. never (eq_true count (arguments kind) t)) (λ f h. not_in (count == arguments kind) f (true_eq count (arguments kind) h))
+    finds_unless (count == arguments kind) (count ≡ arguments kind → ⊥) (Arity at) (λ t never. never (eqb-true count (arguments kind) t)) (λ f h. both_ways (count == arguments kind) f (eq-eqb count (arguments kind) h))
 finds_mark l fair tables earlier (OnTable kind name at) = finds_found (kind_of tables name) kind at
 finds_mark l fair tables earlier (Turns n at) = finds_if ((n == 0) || nat_lt 1000 n) ((n ≡ 0) ⊎ (1000 < n)) (RepeatBound at) (turns_true n) (true_turns n)
 

@@ -3,7 +3,7 @@ use Rattle.std.proofs.Common.{◌≡◌, ℕ, ◌⊎◌, inl, inr, List, [], ◌
 use Rattle.syntax_trees.specs.declared.file.TableDecl.{TableDecl}
 use Rattle.check_rules.specs.declared.refusal.CheckRefusal.{CheckRefusal}
 use Rattle.check_rules.specs.declared.refusal.CheckRefusal.TheVariants.{Twice, Unknown, Arity, WrongTable, RepeatBound, TooManyTables, TooManyHandlers, TooManyVariables, TooManyCalls, TooMuchWork, NoMemory}
-use Rattle.check_rules.specs.Marks.{Mark, Declared, Mentioned, Operation, OnTable, Turns, declared}
+use Rattle.syntax_trees.specs.Marks.{Mark, Declared, Mentioned, Operation, OnTable, Turns, declared}
 use Rattle.check_rules.specs.Rules.{Stands, IsTwice, IsPast, IsUnseen, IsTableless, IsMiscounted, IsMisplaced, IsUnbounded}
 use Rattle.check_rules.specs.Scan.{Limit}
 use Rattle.check_rules.proofs.Finds.{Faults, Breaks, BrokenFrom}

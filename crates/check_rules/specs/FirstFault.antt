@@ -1,11 +1,8 @@
 -- The first fault: the least place, and at one place the least number of a rule.
-use Rattle.std.specs.Prelude.{◌≡◌, ℕ, ◌<◌, ◌≤◌, ◌⊎◌, List, [], ◌∷◌, ◌++◌, map}
-use Rattle.std.specs.List.{AllByRecursion, flat_map}
+use Rattle.std.specs.Prelude.{◌≡◌, ℕ, ◌<◌, ◌≤◌, ◌⊎◌}
 use Rattle.syntax_trees.specs.declared.file.File.{File}
-use Rattle.syntax_trees.specs.declared.file.Handler.{Handler}
 use Rattle.check_rules.specs.declared.refusal.CheckRefusal.{CheckRefusal}
 use Rattle.check_rules.specs.declared.refusal.CheckRefusal.TheVariants.{Twice, Unknown, Arity, WrongTable, RepeatBound, TooManyTables, TooManyHandlers, TooManyVariables, TooManyCalls, TooMuchWork, NoMemory}
-use Rattle.check_rules.specs.Marks.{Mark, Declared, mark_at, handler_marks, table_marks}
 use Rattle.check_rules.specs.Rules.{IsBroken}
 
 abbrev pub place : CheckRefusal → ℕ
@@ -50,19 +47,3 @@ IsFirstFault f = IsFirst (IsBroken f)
 -- no rule is broken
 abbrev pub KeepsRules : File → Type 0
 KeepsRules f = (g : CheckRefusal) → IsBroken f g → ⊥
-
--- ---- the places of a file, which rise in the order of its text
-
--- all marks of a file, in the order of its text
-abbrev pub file_marks : File → List Mark
-file_marks f = table_marks f.tables ++ flat_map
-    (λ (h : Handler). Declared h.name h.at ∷ handler_marks h) f.handlers
-
--- each number is below all behind it
-abbrev pub AreRising : List ℕ → Type 0
-AreRising [] = Unit {0}
-AreRising (n ∷ ns) = AllByRecursion (λ (m : ℕ). n < m) ns × AreRising ns
-
--- the byte place of each mark of a file is below those of all marks behind it
-abbrev pub PlacesRise : File → Type 0
-PlacesRise f = AreRising (map mark_at (file_marks f))

@@ -2,7 +2,7 @@
 -- looked at only where none of these is broken.)
 use Rattle.std.specs.Prelude.{◌≡◌, ℕ, ◌<◌, ◌==◌, if◌then◌else◌, ◌⊎◌, List, [], ◌∷◌, ◌++◌, length, Option, Some, None}
 use Rattle.std.specs.List.{Contains}
-use Rattle.session_limits.specs.Limits.{max_handlers, max_tables, max_turns, max_variables}
+use Rattle.session_values.specs.Limits.{max_handlers, max_tables, max_turns, max_variables}
 use Rattle.session_values.specs.declared.kind.Kind.{Kind}
 use Rattle.session_values.specs.declared.kind.TableKind.{TableKind}
 use Rattle.session_values.specs.Kinds.{arguments, home}
@@ -11,7 +11,7 @@ use Rattle.syntax_trees.specs.declared.file.Handler.{Handler}
 use Rattle.syntax_trees.specs.declared.file.TableDecl.{TableDecl}
 use Rattle.check_rules.specs.declared.refusal.CheckRefusal.{CheckRefusal}
 use Rattle.check_rules.specs.declared.refusal.CheckRefusal.TheVariants.{Twice, Unknown, Arity, WrongTable, RepeatBound, TooManyTables, TooManyHandlers, TooManyVariables, TooManyCalls, TooMuchWork, NoMemory}
-use Rattle.check_rules.specs.Marks.{Mark, Declared, Mentioned, Operation, OnTable, Turns, declared, handler_marks, table_marks, name_marks}
+use Rattle.syntax_trees.specs.Marks.{Mark, Declared, Mentioned, Operation, OnTable, Turns, declared, handler_marks, table_marks, name_marks}
 
 -- a mark stands in a text behind these marks
 pub record Stands (text before : List Mark) (m : Mark) : Type 0 where

@@ -3,7 +3,8 @@
 ghost use Rattle.std.specs.Prelude.{◌≡◌, ◌≢◌, Some, None};
 ghost use Rattle.syntax_trees.specs.declared.file.File.{File};
 ghost use Rattle.check_rules.specs.declared.refusal.CheckRefusal.{CheckRefusal};
-ghost use Rattle.check_rules.specs.FirstFault.{IsFirst, IsFirstFault, KeepsRules, PlacesRise};
+ghost use Rattle.check_rules.specs.FirstFault.{IsFirst, IsFirstFault, KeepsRules};
+ghost use Rattle.syntax_trees.specs.Rising.{PlacesRise};
 ghost use Rattle.check_rules.specs.Rules.{IsBroken};
 ghost use Rattle.check_rules.specs.Scan.{file_fault};
 

@@ -1,14 +1,14 @@
 // Opening a feed.
 
 ghost use Rattle.std.specs.Prelude.{◌≡◌, ◌<◌, ◌≤◌, [], length, sum, IfOk};
-ghost use Rattle.session_limits.specs.Limits.{max_requests};
-ghost use Rattle.client_feed.specs.Arrivals.{max_clients};
+ghost use Rattle.session_values.specs.Limits.{max_requests};
+ghost use Rattle.client_sheet.specs.Arrivals.{max_clients};
 ghost use Rattle.client_feed.specs.Ends.{AreFeeders};
 
-use crate::arrival::Arrival;
 use crate::feeder::{Feeder, Feeders};
 use crate::gatherer::Gatherer;
 use crate::rule::{Counted, Hand, InOrder, NextClient, Told};
+use client_sheet::Arrival;
 use crossbeam_channel::bounded_with;
 use session_values::{Listed, NoMemory};
 use std::alloc::Global;

@@ -4,17 +4,18 @@ use Rattle.std.specs.Prelude.{IfSome, MatchOption}
 use Rattle.std.proofs.lemmas.List.{length-take-le}
 use Rattle.std.proofs.lemmas.Bool.Decides.{nat_tests}
 use Rattle.std.proofs.lemmas.List.Sums.{sum_by-cons}
-use Rattle.session_limits.specs.Limits.{max_session_calls}
+use Rattle.session_values.specs.Limits.{max_session_calls}
 use Rattle.session_values.specs.declared.reply.Reply.{Reply}
-use Rattle.session_values.specs.Serial.{Session, answered, serial, serial_replies, tables_before}
+use Rattle.session_values.specs.Serial.{Session, serial_replies, tables_before}
 use Rattle.session_values.specs.Sums.{sum_below}
 use Rattle.session_values.specs.Tables.{size_of, table}
 use Rattle.session_values.proofs.Sums.{sum_first}
+use Rattle.session_values.proofs.Serial.{replies_few}
 use Rattle.opening_tables.specs.Limits.{max_opening}
 use Rattle.opening_tables.specs.Opening.{Pair, count_all, tables_of}
-use Rattle.session_journal.specs.Script.{Meaning, session_of}
+use Rattle.session_hall.specs.Script.{Meaning, session_of}
 use Rattle.session_hall.specs.Closings.{ClosedView, IsDone}
-use Rattle.check_meaning.specs.Bounds.{calls_bound}
+use Rattle.handler_check.specs.Bounds.{calls_bound}
 use Rattle.syntax_trees.specs.declared.file.File.{File}
 use Rattle.handler_check.specs.Resolved.{code_at, shape_of}
 use Rattle.declaration_insertion.specs.Program.{ProgramView}
@@ -25,10 +26,10 @@ use Rattle.request_files.specs.Servable.{IsServable, calls_in_all}
 use Rattle.request_files.specs.Session.{request_at}
 use Rattle.request_files.proofs.PickedLemmas.{picked_servable}
 use Rattle.handler_machine.specs.Scripts.{meaning}
-use Rattle.client_feed.specs.declared.arrival.Arrival.{Arrival}
+use Rattle.client_feed.specs.Arrival.{Arrival}
 use Rattle.client_feed.specs.Arrivals.{IsDrawn}
 use Rattle.client_feed.specs.Ends.{ArrivalsView, GathererView, HasGathered}
-use Rattle.client_sheet.specs.Numbers.{numbers_of}
+use Rattle.client_feed.specs.Numbers.{numbers_of}
 use Rattle.client_rounds.specs.Behind.{IsServedBehind}
 use Rattle.client_rounds.specs.Reopening.{CanReopen, Reopens, final_of}
 use Rattle.client_rounds.specs.Rounds.{AreServed, IsLastRound, round_begin, session_by}
@@ -43,15 +44,6 @@ pub record AreServedSoFar (p : ProgramView) (opened : List (List Pair)) (clients
   pub replies_are : replies ≡ serial_replies (session_by p opened clients got) (length got)
   pub last : is_some closed ≡ nat_lt 0 (length got)
   pub hall : IfSome closed (IsLastRound p opened clients got callers shards)
-
--- ---- no ticket has two replies
-one_answer : (o : Option Reply) → length (answered o) ≤ 1
-one_answer None = omega arith
-one_answer (Some r) = omega arith
-
-pub replies_few : (s : Session) (n : ℕ) → length (serial_replies s n) ≤ n
-replies_few s zero = omega arith
-replies_few s (suc t) = omega (arith, replies_few s t, one_answer (serial s t).answer, length-append (serial_replies s t) (answered (serial s t).answer))
 
 -- ---- the calls of requests, one after another
 all_calls : (f : File) (rs : List Request) → sum_below (length rs) (λ t. calls_bound (code_at f (request_at rs t).handler)) ≡ calls_in_all f rs

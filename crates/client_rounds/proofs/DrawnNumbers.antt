@@ -1,23 +1,14 @@
 -- What arrives has different numbers.
 use Rattle.std.proofs.Common.{◌≡◌, ◌≢◌, ℕ, zero, suc, ◌+◌, ◌<◌, ◌≤◌, ◌⊎◌, inl, inr, Bool, true, false, cond, eqb, List, [], ◌∷◌, ◌++◌, length, sum, take, get_or, refl, sym, ap, ◌∙◌, subst, arith}
 use Rattle.std.specs.List.{AllByRecursion}
-use Rattle.std.proofs.lemmas.Bool.Decides.{nat_tests}
 use Rattle.std.proofs.lemmas.List.Sums.{sum_by-cons}
-use Rattle.client_feed.specs.declared.arrival.Arrival.{Arrival}
+use Rattle.std.proofs.lemmas.Bool.{cases_lt, eq-eqb, eqb-false}
+use Rattle.client_feed.specs.Arrival.{Arrival}
 use Rattle.client_feed.specs.Arrivals.{IsDrawn, Rises, count_at, of}
 use Rattle.client_feed.proofs.Feeding.{of-append, rises_front, rises_up}
-use Rattle.client_sheet.specs.Numbers.{number_of, numbers_of}
+use Rattle.client_feed.specs.Numbers.{number_of, numbers_of}
 use Rattle.request_files.specs.Picked.{AreDifferent, AreNumbersOf}
 use Rattle.request_files.proofs.ClientLemmas.{place_within}
-
-lt_or : (a b : ℕ) → (a < b) ⊎ (b ≤ a)
-lt_or a b = grind arith
-
-eq_test : (m n : ℕ) → m ≡ n → eqb m n ≡ true
-eq_test m n e = grind (arith, nat_tests)
-
-not_eq : (m n : ℕ) → eqb m n ≡ false → m ≡ n → ⊥
-not_eq m n e s = grind (arith, nat_tests)
 
 module _ (counts : List ℕ) where
   -- its client has such a request
@@ -49,7 +40,7 @@ module _ (counts : List ℕ) where
     few : end ≤ count_at counts x.client
 
   heads : (x : Arrival) (xs : List Arrival) → Within (x ∷ xs) → Heads x xs
-  heads x xs w = go (eqb x.client x.client) (eq_test x.client x.client refl) (w x.client)
+  heads x xs w = go (eqb x.client x.client) (eq-eqb x.client x.client refl) (w x.client)
     where
       go : (t : Bool) → t ≡ true → (a : ℕ) × (b : ℕ) × Rises a (cond t (x.place ∷ of x.client xs) (of x.client xs)) b × (b ≤ count_at counts x.client) → Heads x xs
       go true e v = let P : ℕ → Type 0 = λ k. Rises (suc k) (of x.client xs) v.1 in record { end = v.1; rises = subst P (sym v.2.0) v.2.1; few = v.3 }
@@ -63,7 +54,7 @@ module _ (counts : List ℕ) where
   exists : (x : Arrival) (xs : List Arrival) → Heads x xs → Exists x
   exists x xs h =
       let within : x.place < count_at counts x.client = omega (arith, rises_up (suc x.place) h.end (of x.client xs) h.rises, h.few) in
-      (there (lt_or x.client (length counts)) within, within)
+      (there (cases_lt x.client (length counts)) within, within)
     where
       there : (x.client < length counts) ⊎ (length counts ≤ x.client) → x.place < count_at counts x.client → x.client < length counts
       there (inl l) w = l
@@ -81,7 +72,7 @@ module _ (counts : List ℕ) where
   below_next (n ∷ cs) (suc c) (suc e) l h = omega (arith, sum_by-cons (λ (x : ℕ). x) n (take e cs), sum_by-cons (λ (x : ℕ). x) n (take c cs), below_next cs c e (omega (arith, l)) (omega (arith, h)))
 
   apart : (x y : Arrival) → Exists x → Exists y → (y.client ≡ x.client → x.place < y.place) → number_of counts y ≢ number_of counts x
-  apart x y ex ey later = λ same. by same (lt_or x.client y.client) (lt_or y.client x.client)
+  apart x y ex ey later = λ same. by same (cases_lt x.client y.client) (cases_lt y.client x.client)
     where
       by : number_of counts y ≡ number_of counts x → (x.client < y.client) ⊎ (y.client ≤ x.client) → (y.client < x.client) ⊎ (x.client ≤ y.client) → ⊥
       by same (inl l) q = omega (arith, same, below_next counts x.client y.client l ex.0, ex.1)
@@ -97,7 +88,7 @@ module _ (counts : List ℕ) where
     where
       go : ((c : ℕ) → k ≤ c → Rises c (of p xs) b → AllByRecursion (λ (z : Arrival). z.client ≡ p → k ≤ z.place) xs) → (t : Bool) → eqb y.client p ≡ t → Rises a (cond t (y.place ∷ of p xs) (of p xs)) b → (y.client ≡ p → k ≤ y.place) × AllByRecursion (λ (z : Arrival). z.client ≡ p → k ≤ z.place) xs
       go f true e r = (λ s. omega (arith, r.0, l), f (suc a) (omega (arith, l)) r.1)
-      go f false e r = (λ s. absurd (not_eq y.client p e s), f a l r)
+      go f false e r = (λ s. absurd (eqb-false y.client p e s), f a l r)
 
   none_same : (x : Arrival) (xs : List Arrival) → Exists x → AllByRecursion Exists xs → AllByRecursion (λ (y : Arrival). y.client ≡ x.client → suc x.place ≤ y.place) xs → AllByRecursion (λ m. m ≢ number_of counts x) (numbers_of counts xs)
   none_same x [] e a h = tt

@@ -1,46 +1,31 @@
 -- Tables that are filled one after another.
-use Rattle.std.proofs.Common.{◌≡◌, ◌≢◌, ℕ, zero, suc, ◌+◌, ◌*◌, ◌<◌, ◌≤◌, ◌⊎◌, inl, inr, Bool, true, false, ◌||◌, List, [], ◌∷◌, ◌++◌, length, replicate, take, Option, Some, refl, sym, ap, ◌∙◌, subst, arith}
+use Rattle.std.proofs.Common.{◌≡◌, ◌≢◌, ℕ, zero, suc, ◌+◌, ◌*◌, ◌<◌, ◌≤◌, ◌⊎◌, inl, inr, Bool, false, ◌||◌, List, [], ◌∷◌, ◌++◌, length, replicate, take, Some, refl, sym, ap, ◌∙◌, subst, arith}
 use Rattle.std.specs.Prelude.{slice_get}
 use Rattle.std.specs.List.{AllByRecursion}
 use Rattle.std.proofs.lemmas.List.{length-replicate}
 use Rattle.std.proofs.lemmas.Nat.{mul-add-lt}
-use Rattle.std.proofs.lemmas.Option.{slice_get_within}
+use Rattle.std.proofs.lemmas.Option.{slice_get_within, same_Some}
+use Rattle.std.proofs.lemmas.Bool.{or_parts}
 use Rattle.session_values.specs.declared.kind.TableKind.{TableKind}
 use Rattle.session_values.specs.declared.kind.TableKind.TheVariants.{Set}
 use Rattle.session_values.specs.declared.value.Value.{Value}
 use Rattle.session_values.specs.declared.value.Value.TheVariants.{Nil}
 use Rattle.session_values.specs.Sums.{sum_below}
 use Rattle.session_values.specs.Tables.{size_of, table}
-use Rattle.session_values.proofs.Sums.{sum_below_up}
+use Rattle.session_values.proofs.Sums.{sum_below_up, sum_alike}
 use Rattle.opening_tables.specs.Opening.{AreApart, AreKept, IsOpening, Pair, count_all, entries_of, container_of, has_key, tables_of, with_entry}
-use Rattle.opening_tables.proofs.KeptLemmas.{count_with, is_opening, none_counted}
+use Rattle.opening_tables.proofs.KeptLemmas.{count_with, is_opening, none_counted, length_with}
+use Rattle.opening_tables.proofs.Filling.{none_there}
 use Rattle.session_values.specs.Values.{value_eq}
 use Rattle.session_values.proofs.Equal.{value_eq-sym}
-use Rattle.session_journal.specs.Script.{Meaning}
+use Rattle.session_values.proofs.Options.{stands}
+use Rattle.session_hall.specs.Script.{Meaning}
 use Rattle.session_hall.specs.Closings.{ClosedView, IsDone}
 use Rattle.session_hall.specs.Listings.{AreLeft, listed}
 use Rattle.client_rounds.specs.Reopening.{CanReopen, IsFilled, Reopens, final_of}
-use Rattle.client_rounds.proofs.KeyCounts.{sum_alike}
 use Rattle.client_rounds.proofs.TableLists.{final_long, have_nil, length_left, listed_nil, same_tables}
 
--- what stands at a place of a list
-stands : {X : Type 0} (xs : List X) (i : ℕ) → i < length xs → (x : X) × (slice_get xs i ≡ Some x)
-stands [] i l = absurd (omega (arith, l))
-stands (x ∷ xs) zero l = (x, refl)
-stands (x ∷ xs) (suc i) l = stands xs i (omega (arith, l))
-
--- ---- lists of no entries
-pub none_there : (n t : ℕ) → entries_of (replicate n []) t ≡ []
-none_there zero t = refl
-none_there (suc n) zero = refl
-none_there (suc n) (suc t) = none_there n t
-
 -- ---- one entry more
-with_long : (lists : List (List Pair)) (i : ℕ) (e : Pair) → length (with_entry lists i e) ≡ length lists
-with_long [] i e = refl
-with_long (es ∷ lists) zero e = refl
-with_long (es ∷ lists) (suc i) e = ap suc (with_long lists i e)
-
 with_here : (lists : List (List Pair)) (i : ℕ) (e : Pair) → i < length lists → entries_of (with_entry lists i e) i ≡ entries_of lists i ++ e ∷ []
 with_here [] i e h = absurd (omega (arith, h))
 with_here (es ∷ lists) zero e h = refl
@@ -69,7 +54,7 @@ module _ (old : List (List Pair)) (t : ℕ) (es : List Pair) where
 
     pub fill_next : IsFilled old t (take (i + 1) es) next
     fill_next = record {
-      many = ap (λ (ls : List (List Pair)). length ls) is ∙ with_long new t e ∙ so_far.many;
+      many = ap (λ (ls : List (List Pair)). length ls) is ∙ length_with new t e ∙ so_far.many;
       here = ap (λ (ls : List (List Pair)). entries_of ls t) is ∙ with_here new t e within ∙ ap (λ (l : List Pair). l ++ e ∷ []) so_far.here ∙ take_next es i e at;
       others = λ u d. ap (λ (ls : List (List Pair)). entries_of ls u) is ∙ with_other new t u e d ∙ so_far.others u d;
       count = (let a : count_all next ≡ count_all new + 1 = ap count_all is ∙ count_with new t e within in
@@ -83,18 +68,11 @@ module _ (old : List (List Pair)) (t : ℕ) (es : List Pair) where
         one_longer (x ∷ l) = omega (arith, one_longer l)
 
 -- a key that stands later isn't there yet
-or_parts : (b c : Bool) → (b || c) ≡ false → (b ≡ false) × (c ≡ false)
-or_parts true c h = cc
-or_parts false c h = (refl, h)
-
 key_differs : (es : List Pair) (i : ℕ) (e : Pair) (k : Value) → has_key es k ≡ false → slice_get es i ≡ Some e → value_eq e.0 k ≡ false
 key_differs [] i e k h at = cc
 key_differs (x ∷ es) zero e k h at =
-    let same : x ≡ e = inside x e at in
+    let same : x ≡ e = same_Some x e at in
     ap (λ (y : Pair). value_eq y.0 k) (sym same) ∙ value_eq-sym k x.0 (or_parts (value_eq k x.0) (has_key es k) h).0
-  where
-    inside : (a b : Pair) → ◌≡◌ {A = Option Pair} (Some a) (Some b) → a ≡ b
-    inside a b e = cc
 key_differs (x ∷ es) (suc i) e k h at = key_differs es i e k (or_parts (value_eq k x.0) (has_key es k) h).1 at
 
 pub new_key : (es : List Pair) (i : ℕ) (e : Pair) → AreApart es → slice_get es i ≡ Some e → has_key (take i es) e.0 ≡ false

@@ -1,5 +1,5 @@
 -- How many keys tables hold together, and after the serial run.
-use Rattle.std.proofs.Common.{◌≡◌, ℕ, zero, suc, ◌+◌, ◌<◌, ◌≤◌, Bool, true, false, List, [], ◌∷◌, length, Some, None, refl, ap, arith}
+use Rattle.std.proofs.Common.{◌≡◌, ℕ, zero, suc, ◌+◌, ◌≤◌, List, [], ◌∷◌, length, Some, None, refl, ap, arith}
 use Rattle.std.proofs.Math.ListN.{set as put_at}
 use Rattle.session_values.specs.declared.kind.TableKind.{TableKind}
 use Rattle.session_values.specs.declared.op.Op.{Op}
@@ -8,9 +8,9 @@ use Rattle.session_values.specs.Kinds.{is_adding}
 use Rattle.session_values.specs.Serial.{Served, Session, serve, tables_before}
 use Rattle.session_values.specs.Sums.{sum_below}
 use Rattle.session_values.specs.Tables.{Container, Tables, after_on, reply, size_of, step, table}
-use Rattle.session_values.proofs.Sizes.{on_few, one_if}
+use Rattle.session_values.proofs.Sizes.{on_few, one_most}
 use Rattle.session_values.proofs.Sums.{sum_first}
-use Rattle.session_journal.proofs.Serial.{serve-answers, serve-calls}
+use Rattle.session_hall.proofs.Serial.{serve-answers, serve-calls}
 use Rattle.opening_tables.specs.Opening.{Pair, count_all, tables_of}
 use Rattle.opening_tables.proofs.Openings.{opening_size}
 
@@ -19,10 +19,6 @@ keys_in [] = 0
 keys_in (c ∷ ts) = size_of c + keys_in ts
 
 -- ---- one operation adds one key at most
-one_most : (b : Bool) → one_if b ≤ 1
-one_most true = omega arith
-one_most false = omega arith
-
 put_few : (ts : Tables) (j : ℕ) (c : Container) → size_of c ≤ size_of (table ts j) + 1 → keys_in (put_at ts j c) ≤ keys_in ts + 1
 put_few [] j c h = omega arith
 put_few (x ∷ ts) zero c h = omega (arith, h)
@@ -61,10 +57,6 @@ opening_keys (kind ∷ shape) [] = omega (arith, opening_size (kind ∷ []) [] 0
 opening_keys (kind ∷ shape) (es ∷ lists) = omega (arith, opening_size (kind ∷ []) (es ∷ []) 0, opening_keys shape lists)
 
 -- ---- table by table
-pub sum_alike : (n : ℕ) (f g : ℕ → ℕ) → ((t : ℕ) → t < n → f t ≡ g t) → sum_below n f ≡ sum_below n g
-sum_alike zero f g h = refl
-sum_alike (suc n) f g h = omega (arith, sum_alike n f g (λ t l. h t (omega (arith, l))), h n (omega arith))
-
 pub keys_each : (ts : Tables) → sum_below (length ts) (λ t. size_of (table ts t)) ≡ keys_in ts
 keys_each [] = refl
 keys_each (c ∷ ts) = omega (arith, sum_first (length ts) (λ t. size_of (table (c ∷ ts) t)), keys_each ts)

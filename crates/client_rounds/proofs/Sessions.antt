@@ -4,17 +4,17 @@ use Rattle.std.proofs.Common.{◌≡◌, ℕ, zero, suc, ◌+◌, ◌<◌, List,
 use Rattle.session_values.specs.declared.reply.Reply.{Reply}
 use Rattle.session_values.specs.Serial.{Session, answered, serial_replies, serve, tables_before}
 use Rattle.opening_tables.specs.Opening.{Pair, tables_of}
-use Rattle.check_meaning.specs.Bounds.{calls_bound}
+use Rattle.handler_check.specs.Bounds.{calls_bound}
 use Rattle.handler_check.specs.Resolved.{code_at, shape_of}
 use Rattle.declaration_insertion.specs.Program.{ProgramView}
 use Rattle.request_files.specs.declared.request.Request.{Request}
 use Rattle.request_files.specs.Clients.{ClientsView}
 use Rattle.request_files.specs.Picked.{picked}
 use Rattle.request_files.specs.Session.{dialogue_of, request_at, session}
-use Rattle.client_feed.specs.declared.arrival.Arrival.{Arrival}
+use Rattle.client_feed.specs.Arrival.{Arrival}
 use Rattle.client_feed.specs.Parts.{first_part, second_part}
 use Rattle.client_feed.proofs.Rounds.{replies_in_two, tables_in_two}
-use Rattle.client_sheet.specs.Numbers.{numbers_of}
+use Rattle.client_feed.specs.Numbers.{numbers_of}
 use Rattle.client_rounds.specs.Rounds.{session_by}
 
 -- ---- sessions that ask the same

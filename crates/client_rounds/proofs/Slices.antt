@@ -5,7 +5,7 @@ use Rattle.opening_tables.specs.Opening.{Pair}
 use Rattle.session_hall.specs.Closings.{ClosedView}
 use Rattle.declaration_insertion.specs.Program.{ProgramView}
 use Rattle.request_files.specs.Clients.{ClientsView}
-use Rattle.client_feed.specs.declared.arrival.Arrival.{Arrival}
+use Rattle.client_feed.specs.Arrival.{Arrival}
 use Rattle.client_feed.specs.Arrivals.{IsDrawn}
 use Rattle.client_feed.specs.Ends.{ArrivalsView, GathererView, HasGathered}
 use Rattle.client_rounds.specs.Behind.{IsServedBehind}

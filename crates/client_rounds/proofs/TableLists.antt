@@ -1,41 +1,34 @@
 -- The lists of a closed hall as tables that open.
-use Rattle.std.proofs.Common.{◌≡◌, ℕ, zero, suc, ◌+◌, ◌*◌, ◌/◌, ◌%◌, ◌<◌, Bool, true, false, cond, ◌||◌, List, [], ◌∷◌, ◌++◌, length, map as map_list, take, drop, Option, Some, is_some, refl, sym, ◌∙◌, ap, arith}
+use Rattle.std.proofs.Common.{◌≡◌, ℕ, suc, ◌+◌, ◌*◌, ◌/◌, ◌%◌, ◌<◌, Bool, true, false, cond, ◌||◌, List, [], ◌∷◌, ◌++◌, length, map as map_list, drop, Option, Some, is_some, refl, sym, ◌∙◌, ap, arith}
 use Rattle.std.specs.Prelude.{slice_get}
 use Rattle.std.specs.List.{AllByRecursion, list_any}
 use Rattle.std.specs.FinMap as map
-use Rattle.std.specs.FinMap.Entries.{find}
 use Rattle.std.specs.FinSet as set
 use Rattle.std.proofs.lemmas.Nat.{div-mul-add}
 use Rattle.session_values.specs.declared.kind.TableKind.{TableKind}
 use Rattle.session_values.specs.declared.kind.TableKind.TheVariants.{Map, Set}
 use Rattle.session_values.specs.declared.value.Value.{Value}
 use Rattle.session_values.specs.declared.value.Value.TheVariants.{Nil}
-use Rattle.session_values.specs.Tables.{Bindings, Container, Members, Tables, kind_of, size_of, table}
+use Rattle.session_values.specs.Tables.{Tables, kind_of, size_of, table}
 use Rattle.session_values.specs.Values.{value_cmp, value_cmp_total, value_eq}
+use Rattle.session_values.proofs.Options.{in_drop, in_take}
+use Rattle.session_values.proofs.KindLemmas.{map_set}
 use Rattle.opening_tables.proofs.Openings.{opening_kinds}
-use Rattle.session_journal.specs.Script.{Meaning}
-use Rattle.shard_tables.specs.Parts.{part}
-use Rattle.hall_rule.specs.declared.part.Part.{Part}
-use Rattle.hall_rule.specs.declared.part.Part.TheVariants as shard
-use Rattle.hall_rule.specs.Law.{none_some}
-use Rattle.hall_rule.specs.Listing.{all_entries, as_entries, entries_in}
-use Rattle.hall_rule.specs.Shards.{shard_view}
-use Rattle.hall_rule.proofs.Shares.{kind_table, length-after}
+use Rattle.session_hall.specs.Script.{Meaning}
+use Rattle.session_hall.specs.Part.TheVariants as shard
+use Rattle.session_hall.specs.Part.{Part}
+use Rattle.session_hall.specs.Either.{as_entries, entries_in, shard_view}
+use Rattle.session_hall.specs.Listing.{all_entries}
+use Rattle.session_hall.proofs.PartSteps.{part_kind}
+use Rattle.session_hall.proofs.Shares.{kind_table, length-after}
 use Rattle.session_hall.specs.Closings.{ClosedView, IsDone}
 use Rattle.session_hall.specs.Listings.{AreLeft, listed, shards_at}
 use Rattle.session_hall.proofs.Giving.{opens}
 use Rattle.client_rounds.specs.Reopening.{final_of}
 use Rattle.opening_tables.specs.Opening.{AreApart, HaveNil, Pair, container_of, entries_of, has_key, tables_of}
+use Rattle.opening_tables.proofs.KeptLemmas.{key_found}
 
 -- ---- entries of which each key stands once are as many as the keys
-keys_found : (k : Value) (es : List Pair) → is_some (find value_cmp k es) ≡ has_key es k
-keys_found k [] = refl
-keys_found k (e ∷ es) = go (value_eq k e.0) (keys_found k es)
-  where
-    go : (b : Bool) → is_some (find value_cmp k es) ≡ has_key es k → is_some (cond b (Some e.1) (find value_cmp k es)) ≡ (b || has_key es k)
-    go true h = refl
-    go false h = h
-
 keys_listed : (k : Value) (es : List Pair) → list_any (value_eq k) (map_list (λ (e : Pair). e.0) es) ≡ has_key es k
 keys_listed k [] = refl
 keys_listed k (e ∷ es) = ap (λ (b : Bool). value_eq k e.0 || b) (keys_listed k es)
@@ -50,7 +43,7 @@ size_apart Set [] a = set.len-empty value_cmp
 size_apart Map (e ∷ es) a =
     let m : map.FinMap value_cmp Value = map.from_entries es in
     grows (map.contains_key m e.0) (map.len (map.insert m e.0 e.1)) (map.len m) (length es)
-    (ap (λ (o : Option Value). is_some o) (map.get-from_entries value_cmp_total es e.0) ∙ keys_found e.0 es ∙ a.0)
+    (ap (λ (o : Option Value). is_some o) (map.get-from_entries value_cmp_total es e.0) ∙ key_found e.0 es ∙ a.0)
     (map.len-insert value_cmp_total m e.0 e.1) (size_apart Map es a.1)
 size_apart Set (e ∷ es) a =
     let ks : List Value = map_list (λ (x : Pair). x.0) es in
@@ -96,28 +89,9 @@ all_nil : (ps : List Part) → ((j : ℕ) (p : Part) → slice_get ps j ≡ Some
 all_nil [] f = tt
 all_nil (p ∷ ps) f = both (entries_in p) (all_entries ps) (f 0 p refl) (all_nil ps (λ j x e. f (suc j) x e))
 
-map_set : ◌≡◌ {A = TableKind} Map Set → ⊥
-map_set e = cc
-
 part_nil : (p : Part) → kind_of (shard_view p).container ≡ Set → AllByRecursion IsNil (entries_in p)
 part_nil (shard.Bindings s) e = absurd (map_set e)
 part_nil (shard.Members s) e = members_nil s.value.entries
-
-part_kind : (n j : ℕ) (c : Container) → kind_of (part n j c) ≡ kind_of c
-part_kind n j (Bindings m) = refl
-part_kind n j (Members s) = refl
-
-in_drop : {X : Type 0} (xs : List X) (a j : ℕ) (x : X) → slice_get (drop a xs) j ≡ Some x → slice_get xs (a + j) ≡ Some x
-in_drop [] zero j x e = absurd (none_some x e)
-in_drop [] (suc a) j x e = absurd (none_some x e)
-in_drop (y ∷ xs) zero j x e = let z : j ≡ 0 + j = omega arith in ap (slice_get (y ∷ xs)) (sym z) ∙ e
-in_drop (y ∷ xs) (suc a) j x e = let z : suc (a + j) ≡ suc a + j = omega arith in ap (slice_get (y ∷ xs)) (sym z) ∙ in_drop xs a j x e
-
-in_take : {X : Type 0} (xs : List X) (n j : ℕ) (x : X) → slice_get (take n xs) j ≡ Some x → (j < n) × (slice_get xs j ≡ Some x)
-in_take xs zero j x e = absurd (none_some x e)
-in_take [] (suc n) j x e = absurd (none_some x e)
-in_take (y ∷ xs) (suc n) zero x e = (omega arith, e)
-in_take (y ∷ xs) (suc n) (suc j) x e = let r : (j < n) × (slice_get xs j ≡ Some x) = in_take xs n j x e in (omega (arith, r.0), r.1)
 
 module _ (m : Meaning) (d : ClosedView) (k : IsDone m d) where
   pub final_long : length (final_of m) ≡ length m.shape

@@ -1,6 +1,6 @@
 -- Arrivals whose requests can be picked.
 use Rattle.std.specs.Prelude.{ℕ, List, ◌++◌}
-use Rattle.client_feed.specs.declared.arrival.Arrival.{Arrival}
+use Rattle.client_feed.specs.Arrival.{Arrival}
 use Rattle.client_feed.specs.Arrivals.{IsDrawn}
 
 -- they came behind others of the same clients

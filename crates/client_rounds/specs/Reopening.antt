@@ -6,7 +6,7 @@ use Rattle.session_values.specs.Sums.{sum_below}
 use Rattle.session_values.specs.Tables.{Tables, size_of, table}
 use Rattle.opening_tables.specs.Limits.{max_opening}
 use Rattle.opening_tables.specs.Opening.{Pair, count_all, entries_of, tables_of}
-use Rattle.session_journal.specs.Script.{Meaning, session_of}
+use Rattle.session_hall.specs.Script.{Meaning, session_of}
 use Rattle.session_hall.specs.Closings.{ClosedView, IsDone}
 use Rattle.session_hall.specs.Listings.{listed}
 

@@ -10,9 +10,9 @@ use Rattle.request_files.specs.Clients.{ClientsView}
 use Rattle.request_files.specs.Picked.{picked}
 use Rattle.request_files.specs.Session.{session}
 use Rattle.handler_machine.specs.Scripts.{meaning}
-use Rattle.client_feed.specs.declared.arrival.Arrival.{Arrival}
+use Rattle.client_feed.specs.Arrival.{Arrival}
 use Rattle.client_feed.specs.Arrivals.{IsDrawn}
-use Rattle.client_sheet.specs.Numbers.{numbers_of}
+use Rattle.client_feed.specs.Numbers.{numbers_of}
 
 -- At which ticket a round begins, by how many rounds were before it: the first two rounds serve 256
 -- requests each, and each later one three times as many as all before it.

@@ -2,7 +2,7 @@
 
 ghost use Rattle.std.specs.Prelude.{◌≡◌, ◌+◌, ◌<◌, ◌≤◌, [], IfOk, vec_len};
 ghost use denote.Param.Send.{IsSync};
-ghost use Rattle.session_limits.specs.Limits.{max_callers, max_session_calls, max_shards};
+ghost use Rattle.session_values.specs.Limits.{max_callers, max_session_calls, max_shards};
 ghost use Rattle.opening_tables.specs.Limits.{max_opening};
 ghost use Rattle.opening_tables.specs.Opening.{IsOpening, count_all};
 ghost use Rattle.handler_check.specs.Resolved.{shape_of};

@@ -3,7 +3,7 @@
 ghost use Rattle.std.specs.Prelude.{◌≡◌, ◌++◌, IfOk};
 ghost use Rattle.client_feed.specs.Arrivals.{IsDrawn};
 ghost use Rattle.client_rounds.specs.Picking.{AreArrivals};
-ghost use Rattle.client_sheet.specs.Numbers.{numbers_of};
+ghost use Rattle.client_feed.specs.Numbers.{numbers_of};
 ghost use Rattle.request_files.specs.Picked.{picked};
 
 use client_feed::Arrival;

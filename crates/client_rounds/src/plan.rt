@@ -1,7 +1,7 @@
 // What all rounds have in common.
 
 ghost use Rattle.std.specs.Prelude.{◌≡◌, ◌≤◌, length, IfOk};
-ghost use Rattle.session_limits.specs.Limits.{max_callers, max_shards, max_tables};
+ghost use Rattle.session_values.specs.Limits.{max_callers, max_shards, max_tables};
 ghost use Rattle.handler_check.specs.Resolved.{shape_of as shape_spec};
 
 use declaration_insertion::Program;

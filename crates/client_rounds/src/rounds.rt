@@ -1,7 +1,7 @@
 // Rounds, one after another.
 
 ghost use Rattle.std.specs.Prelude.{◌≡◌, ◌+◌, ◌*◌, ◌<◌, ◌≤◌, [], ◌++◌, length, IfOk, vec_capacity};
-ghost use Rattle.session_limits.specs.Limits.{max_callers, max_requests, max_session_calls, max_shards};
+ghost use Rattle.session_values.specs.Limits.{max_callers, max_requests, max_session_calls, max_shards};
 ghost use Rattle.opening_tables.specs.Limits.{max_opening};
 ghost use Rattle.opening_tables.specs.Opening.{IsOpening, count_all};
 ghost use Rattle.handler_check.specs.Resolved.{shape_of as shape_spec};

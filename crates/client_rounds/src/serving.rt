@@ -6,7 +6,7 @@ ghost use Rattle.handler_check.specs.Resolved.{shape_of};
 ghost use Rattle.request_files.specs.Clients.{AreShared};
 ghost use Rattle.request_files.specs.Picked.{picked};
 ghost use Rattle.request_files.specs.Servable.{IsServable};
-ghost use Rattle.client_sheet.specs.Numbers.{numbers_of};
+ghost use Rattle.client_feed.specs.Numbers.{numbers_of};
 ghost use Rattle.client_rounds.specs.Picking.{AreArrivals};
 ghost use Rattle.client_rounds.specs.Behind.{IsServedBehind, IsServedOver};
 ghost use Rattle.client_rounds.specs.Reopening.{CanReopen};

@@ -1,12 +1,12 @@
 -- The text of clients, written in parts.
-use Rattle.std.proofs.Common.{◌≡◌, ℕ, zero, suc, ◌+◌, ◌==◌, ◌<◌, ◌≤◌, true, false, cond, eqb, List, [], ◌∷◌, ◌++◌, take, drop, length, get_or, refl, sym, ap, ◌∙◌, subst, arith, append_assoc, append-nil, Option, ◌⊎◌, inl, inr}
-use Rattle.std.proofs.lemmas.Bool.Decides.{nat_tests}
+use Rattle.std.proofs.Common.{◌≡◌, ℕ, zero, suc, ◌+◌, ◌==◌, ◌<◌, ◌≤◌, cond, List, [], ◌∷◌, ◌++◌, take, drop, length, get_or, refl, sym, ap, ◌∙◌, subst, arith, append_assoc, append-nil, Option, ◌⊎◌, inl, inr}
 use Rattle.std.proofs.lemmas.List.{take_more, take-append-drop, length-take, take_all}
+use Rattle.std.proofs.lemmas.Bool.{eq-eqb, ne_eqb}
 use Rattle.session_values.specs.declared.reply.Reply.{Reply}
 use Rattle.byte_ends.specs.Ends.{GrewByFront}
 use Rattle.byte_ends.proofs.EndsLemmas.{grew_more}
 use Rattle.reply_sheet.proofs.TextLemmas.{Waits, broke_off}
-use Rattle.client_feed.specs.declared.arrival.Arrival.{Arrival}
+use Rattle.client_sheet.specs.declared.arrival.Arrival.{Arrival}
 use Rattle.client_sheet.specs.ClientText.{client_line, client_text, clients_text}
 use Rattle.client_sheet.specs.Moved.{HasMoved}
 
@@ -21,12 +21,6 @@ waits_moved old mid new waited waits text bytes longer w m e = record {
 }
 
 -- ---- the text, in parts
-test_of : (m n : ℕ) → m ≡ n → eqb m n ≡ true
-test_of m n e = grind (arith, nat_tests)
-
-test_not : (m n : ℕ) → (m ≡ n → ⊥) → eqb m n ≡ false
-test_not m n e = grind (arith, nat_tests)
-
 element : {A : Type 0} (xs : List A) (i : ℕ) → i < length xs → (x : A) × (get_or xs i x ≡ x)
 element [] i h = absurd (omega (arith, h))
 element (x ∷ xs) zero h = (x, refl)
@@ -104,10 +98,10 @@ module _ (names : List (List ℕ)) where
 
   -- the line of a client's arrival is one, and there is none for that of another
   line_is : (client t : ℕ) (x : Arrival) (r : Reply) → x.client ≡ client → line_of client t x r ≡ client_line names client t r
-  line_is client t x r e = ap (λ b. cond b (client_line names client t r) []) (test_of x.client client e)
+  line_is client t x r e = ap (λ b. cond b (client_line names client t r) []) (eq-eqb x.client client e)
 
   no_line : (client t : ℕ) (x : Arrival) (r : Reply) → (x.client ≡ client → ⊥) → line_of client t x r ≡ []
-  no_line client t x r n = ap (λ b. cond b (client_line names client t r) []) (test_not x.client client n)
+  no_line client t x r n = ap (λ b. cond b (client_line names client t r) []) (ne_eqb x.client client n)
 
   -- one line more waits
   pub line_waits : (got : List Arrival) (rs : List Reply) (client i : ℕ) (d : Arrival) (r : Reply) (old mid new : Option (List ℕ)) (waited waits : List ℕ) → length got ≡ length rs → i < length got → get_or rs i r ≡ r

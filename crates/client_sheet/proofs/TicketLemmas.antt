@@ -1,24 +1,18 @@
 -- The tickets of clients.
-use Rattle.std.proofs.Common.{◌≡◌, ℕ, zero, suc, ◌+◌, ◌<◌, ◌≤◌, Bool, true, false, cond, eqb, List, [], ◌∷◌, ◌++◌, length, refl, sym, ap, ◌∙◌, subst, arith, Option, Some, None, slice_get, Contains}
+use Rattle.std.proofs.Common.{◌≡◌, ℕ, zero, suc, ◌+◌, ◌<◌, ◌≤◌, Bool, true, false, cond, eqb, List, [], ◌∷◌, ◌++◌, length, refl, sym, ap, ◌∙◌, subst, arith, Some, slice_get, Contains}
 use Rattle.std.specs.List.{slice_index}
 use Rattle.std.specs.List.Sorted.{IsStrictlyIncreasing}
-use Rattle.std.proofs.lemmas.Bool.Decides.{nat_tests}
-use Rattle.std.proofs.lemmas.Bool.{eqb-true}
-use Rattle.std.proofs.lemmas.Option.{slice_get_within, get_or_from_slice_get, slice_get-get_or}
+use Rattle.std.proofs.lemmas.Bool.{eqb-true, eq-eqb}
+use Rattle.std.proofs.lemmas.Option.{slice_get_within, get_or_from_slice_get, slice_get-get_or, none-some, same_Some}
 use Rattle.session_values.specs.declared.reply.Reply.{Reply}
-use Rattle.client_feed.specs.declared.arrival.Arrival.{Arrival}
-use Rattle.client_feed.specs.Arrivals.{of, Rises}
+use Rattle.client_sheet.specs.declared.arrival.Arrival.{Arrival}
+use Rattle.client_sheet.specs.Arrivals.{of, Rises}
 use Rattle.client_sheet.specs.ClientText.{client_line, client_text, client_tickets}
 use Rattle.client_sheet.specs.Tickets.{IsTicketOf, lines_of, ticket_line, tickets_of}
 
-none_some : {A : Type 0} (x : A) → ◌≡◌ {A = Option A} None (Some x) → ⊥
-none_some x e = cc
-
-inside : {A : Type 0} (x y : A) → ◌≡◌ {A = Option A} (Some x) (Some y) → x ≡ y
-inside x y e = cc
-
-test_of : (m n : ℕ) → m ≡ n → eqb m n ≡ true
-test_of m n e = grind (arith, nat_tests)
+pub rises_length : (a b : ℕ) (xs : List ℕ) → Rises a xs b → a + length xs ≡ b
+rises_length a b [] e = omega (arith, e)
+rises_length a b (x ∷ xs) h = omega (arith, rises_length (suc a) b xs h.1)
 
 -- ---- which arrivals the tickets are of
 
@@ -35,18 +29,18 @@ further client t u x xs s = record { far = suc s.far; is = s.is; at = s.at; whos
 
 -- each ticket is the place of an arrival of the client
 found : (client t : ℕ) (xs : List Arrival) (k u : ℕ) → slice_get (client_tickets client t xs) k ≡ Some u → Stands client t u xs
-found client t [] k u e = absurd (none_some u e)
+found client t [] k u e = absurd (none-some u e)
 found client t (x ∷ xs) k u e = by (λ j f. found client (suc t) xs j u f) (eqb x.client client) refl k e
   where
     by : ((k : ℕ) → slice_get (client_tickets client (suc t) xs) k ≡ Some u → Stands client (suc t) u xs) → (b : Bool) → eqb x.client client ≡ b → (k : ℕ) → slice_get (cond b (t ∷ client_tickets client (suc t) xs) (client_tickets client (suc t) xs)) k ≡ Some u → Stands client t u (x ∷ xs)
-    by f true q zero e = record { far = 0; is = x; at = refl; whose = eqb-true x.client client q; ticket = omega (arith, inside t u e) }
+    by f true q zero e = record { far = 0; is = x; at = refl; whose = eqb-true x.client client q; ticket = omega (arith, same_Some t u e) }
     by f true q (suc k) e = further client t u x xs (f k e)
     by f false q k e = further client t u x xs (f k e)
 
 -- the place of each arrival of the client is a ticket
 kept : (client t : ℕ) (xs : List Arrival) (i : ℕ) (x : Arrival) → slice_get xs i ≡ Some x → x.client ≡ client → (k : ℕ) × (slice_get (client_tickets client t xs) k ≡ Some (t + i))
-kept client t [] i x e c = absurd (none_some x e)
-kept client t (y ∷ xs) zero x e c = (0, here (eqb y.client client) (test_of y.client client (ap (λ (z : Arrival). z.client) (inside y x e) ∙ c)))
+kept client t [] i x e c = absurd (none-some x e)
+kept client t (y ∷ xs) zero x e c = (0, here (eqb y.client client) (eq-eqb y.client client (ap (λ (z : Arrival). z.client) (same_Some y x e) ∙ c)))
   where
     here : (b : Bool) → b ≡ true → slice_get (cond b (t ∷ client_tickets client (suc t) xs) (client_tickets client (suc t) xs)) 0 ≡ Some (t + 0)
     here true q = ap Some (let e : t ≡ t + 0 = omega arith in e)
@@ -103,7 +97,7 @@ same_client got t x at client among =
     let there : slice_get ts among.0 ≡ Some t = slice_get-get_or ts among.0 t among.1 ∙ ap Some among.2 in
     let s = found client 0 got among.0 t there in
     let same : t ≡ s.far = omega (arith, s.ticket) in
-    let one : s.is ≡ x = inside s.is x (sym s.at ∙ ap (slice_get got) (sym same) ∙ at) in
+    let one : s.is ≡ x = same_Some s.is x (sym s.at ∙ ap (slice_get got) (sym same) ∙ at) in
     sym s.whose ∙ ap (λ (y : Arrival). y.client) one
 
 pub one : (got : List Arrival) (t : ℕ) → t < length got → (x : Arrival) × IsTicketOf got t x
@@ -152,10 +146,6 @@ as_many client t (x ∷ xs) = by (as_many client (suc t) xs) (eqb x.client clien
     by more true = ap suc more
     by more false = more
 
-rises_length : (a b : ℕ) (xs : List ℕ) → Rises a xs b → a + length xs ≡ b
-rises_length a b [] e = omega (arith, e)
-rises_length a b (x ∷ xs) h = omega (arith, rises_length (suc a) b xs h.1)
-
 pub many : (client n : ℕ) (got : List Arrival) → Rises 0 (of client got) n → length (tickets_of client got) ≡ n
 many client n got h = omega (arith, as_many client 0 got, rises_length 0 n (of client got) h)
 
@@ -169,7 +159,7 @@ later : (client t u place : ℕ) (x : Arrival) (xs : List Arrival) → IsRequest
 later client t u place x xs s = record { far = suc s.far; ticket = omega (arith, s.ticket); at = s.at }
 
 in_order : (client t a b : ℕ) (xs : List Arrival) (i u place : ℕ) → Rises a (of client xs) b → slice_get (client_tickets client t xs) i ≡ Some u → place ≡ a + i → IsRequest client t u place xs
-in_order client t a b [] i u place h e p = absurd (none_some u e)
+in_order client t a b [] i u place h e p = absurd (none-some u e)
 in_order client t a b (x ∷ xs) i u place h e p =
     by (λ m j h f q. in_order client (suc t) m b xs j u place h f q) (eqb x.client client) refl i h e p
   where
@@ -178,7 +168,7 @@ in_order client t a b (x ∷ xs) i u place h e p =
         → slice_get (cond c (t ∷ client_tickets client (suc t) xs) (client_tickets client (suc t) xs)) i ≡ Some u → place ≡ a + i → IsRequest client t u place (x ∷ xs)
     by f true q zero h e p = record {
       far = 0;
-      ticket = omega (arith, inside t u e);
+      ticket = omega (arith, same_Some t u e);
       at =
           let whose : x.client ≡ client = eqb-true x.client client q in
           let where_ : x.place ≡ place = omega (arith, h.0, p) in

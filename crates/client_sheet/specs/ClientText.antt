@@ -3,7 +3,7 @@ use Rattle.std.specs.Prelude.{ℕ, zero, suc, ◌==◌, cond, List, [], ◌∷�
 use Rattle.std.specs.Fmt.{decimal}
 use Rattle.session_values.specs.declared.reply.Reply.{Reply}
 use Rattle.session_values.specs.ReplyText.{line_text}
-use Rattle.client_feed.specs.declared.arrival.Arrival.{Arrival}
+use Rattle.client_sheet.specs.declared.arrival.Arrival.{Arrival}
 
 -- a line: the client, a space, and the line of the ticket with its reply
 abbrev pub client_line : List (List ℕ) → ℕ → ℕ → Reply → List ℕ

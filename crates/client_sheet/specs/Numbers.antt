@@ -1,6 +1,6 @@
 -- The numbers of requests that arrive, in the order in which they stand in their file.
 use Rattle.std.specs.Prelude.{ℕ, ◌+◌, List, map, sum, take}
-use Rattle.client_feed.specs.declared.arrival.Arrival.{Arrival}
+use Rattle.client_sheet.specs.declared.arrival.Arrival.{Arrival}
 
 -- of clients with so many requests each, the number of an arrival: those of the clients before, and
 -- its place among its client's

@@ -1,7 +1,7 @@
 -- The tickets of clients: the places of their requests among all arrivals.
 use Rattle.std.specs.Prelude.{◌≡◌, ℕ, List, [], ◌∷◌, ◌++◌, Contains, Option, Some, None, slice_get}
 use Rattle.session_values.specs.declared.reply.Reply.{Reply}
-use Rattle.client_feed.specs.declared.arrival.Arrival.{Arrival}
+use Rattle.client_sheet.specs.declared.arrival.Arrival.{Arrival}
 use Rattle.client_sheet.specs.ClientText.{client_line, client_tickets}
 
 -- the tickets of a client, of all arrivals

@@ -2,11 +2,11 @@
 
 ghost use Rattle.std.specs.Prelude.{◌≡◌, ◌+◌, ◌<◌, ◌≤◌, ◌++◌, true, false, length};
 ghost use Rattle.std.specs.List.{AllByRecursion};
-ghost use Rattle.session_limits.specs.Limits.{max_requests};
+ghost use Rattle.session_values.specs.Limits.{max_requests};
 ghost use Rattle.byte_ends.specs.Ends.{Rose, GrewByFront};
 ghost use Rattle.session_values.specs.Reply.{values_of};
 ghost use Rattle.session_values.specs.ReplyText.{IsPrintable};
-ghost use Rattle.client_feed.specs.Arrivals.{max_clients};
+ghost use Rattle.client_sheet.specs.Arrivals.{max_clients};
 ghost use Rattle.client_sheet.specs.ClientText.{client_line};
 ghost use Rattle.client_sheet.specs.Moved.{HasMoved};
 

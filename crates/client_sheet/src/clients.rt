@@ -1,15 +1,15 @@
 // Writing: the replies of clients, line by line.
 
 ghost use Rattle.std.specs.Prelude.{◌≡◌, ◌≤◌, length, true, false};
-ghost use Rattle.session_limits.specs.Limits.{max_requests};
+ghost use Rattle.session_values.specs.Limits.{max_requests};
 ghost use Rattle.byte_ends.specs.Ends.{Rose, Grew, GrewByFront};
 ghost use Rattle.reply_sheet.specs.Printable.{ArePrintableReplies};
-ghost use Rattle.client_feed.specs.Arrivals.{max_clients};
+ghost use Rattle.client_sheet.specs.Arrivals.{max_clients};
 ghost use Rattle.client_sheet.specs.ClientText.{clients_text};
 
+use crate::arrival::Arrival;
 use crate::client_line::gather_line;
 use byte_ends::{Sink, WriteBuffer, write_all};
-use client_feed::Arrival;
 use session_values::{Names, Reply};
 
 /// Writes the lines of the first clients, so many, one client's behind the other's, going over the

@@ -3,11 +3,11 @@
 ghost use Rattle.std.specs.Prelude.{◌≡◌, ℕ, ◌<◌, List, length, slice_get, Some, Contains};
 ghost use Rattle.std.specs.List.Sorted.{IsStrictlyIncreasing};
 ghost use Rattle.session_values.specs.declared.reply.Reply.{Reply};
-ghost use Rattle.client_feed.specs.Arrivals.{of, Rises};
+ghost use Rattle.client_sheet.specs.Arrivals.{of, Rises};
 ghost use Rattle.client_sheet.specs.ClientText.{client_text};
 ghost use Rattle.client_sheet.specs.Tickets.{IsTicketOf, lines_of, tickets_of};
 
-use client_feed::Arrival;
+use crate::arrival::Arrival;
 
 /// The tickets of a client rise strictly, and each is below the number of arrivals. Each ticket below
 /// that number is of exactly one client, that of its arrival.

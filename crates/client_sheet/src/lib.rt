@@ -2,8 +2,10 @@
 //! with the client, the ticket and the reply.
 #![tactic(auto)]
 
+mod arrival;
 mod client_line;
 mod clients;
 pub mod laws;
 
+pub use arrival::Arrival;
 pub use clients::write_clients;

@@ -15,11 +15,12 @@ use Rattle.symbolic_ops.specs.Symbol.{IsHeldArg, IsHeldSymbol}
 use Rattle.session_values.specs.Kinds.{is_keyed, is_plain, kind_place, is_on_map, is_read}
 use Rattle.commute_tables.specs.Relation.{same_bool, commutes, is_put, is_bump, is_number, is_zero, add_up, may_be_number, sums_symbol}
 use Rattle.symbolic_ops.specs.Matching.{Agrees, IsNoVar, HasNoVar, StandsFor}
-use Rattle.commute_tables.specs.Symbols.{CommutesWith, DiffersFromSome}
+use Rattle.commute_tables.specs.Symbols.{DiffersFromSome}
+use Rattle.symbolic_ops.specs.Commuting.{CommutesWith}
 use Rattle.commute_tables.specs.Relation.{is_apart, is_same, commutes_symbol}
-use Rattle.std.proofs.lemmas.Bool.{and_parts}
-use Rattle.commute_tables.proofs.Commutes.{not_true, same_kind, commutes-Commute}
-use Rattle.commute_tables.proofs.TellingApart.{or_false, not_false, commutes-Differ, not_commute}
+use Rattle.std.proofs.lemmas.Bool.{and_parts, or_from, and_right, not-true, or_parts, not-false}
+use Rattle.commute_tables.proofs.Commutes.{same_kind, commutes-Commute}
+use Rattle.commute_tables.proofs.TellingApart.{commutes-Differ, not_commute}
 use Rattle.commute_tables.proofs.TellingApartPairs.{other, other_differs, other_number, other_not_zero, other_held}
 use Rattle.session_values.proofs.Equal.{same_value, value_eq-self}
 
@@ -68,7 +69,7 @@ pub and_three : (x y z : Bool) → x ≡ true → y ≡ true → z ≡ true → 
 and_three x y z p q r = cc (ap (λ (b : Bool). b && y && z) p, ap (λ (b : Bool). true && b && z) q, ap (λ (b : Bool). true && true && b) r)
 
 key_of : (a : Op) (arg : Arg) (v : Value) → Agrees arg v → is_apart a.key arg ≡ true → value_eq a.key v ≡ false
-key_of a (Known w) v g h = ap (value_eq a.key) (sym g) ∙ not_true _ h
+key_of a (Known w) v g h = ap (value_eq a.key) (sym g) ∙ not-true _ h
 key_of a (Var x) v g h = cc
 key_of a Any v g h = cc
 
@@ -203,7 +204,7 @@ unfolding near
 near_stands a s h b g = record { held = near_held a s b g; kind = refl; table = refl; key = key_agrees a.key s.key h.0; value = value_agrees a.value s.value h.1 }
 
 near_apart : (k : Value) (arg : Arg) → is_apart k arg ≡ false → value_eq k (near_key k arg) ≡ true
-near_apart k (Known w) h = not_false _ h
+near_apart k (Known w) h = not-false _ h
 near_apart k (Var x) h = value_eq-self k
 near_apart k Any h = value_eq-self k
 
@@ -222,8 +223,8 @@ near_value v Any h = not_other v
 -- two tests that are false up to their last two parts
 or_false_too : (x p q r s : Bool) → (p ≡ false → q ≡ false) → (r ≡ false → s ≡ false) → (x || p || r) ≡ false → (x || q || s) ≡ false
 or_false_too x p q r s f g h =
-    let a : ((x || p) ≡ false) × (r ≡ false) = or_false (x || p) r h in
-    let b : (x ≡ false) × (p ≡ false) = or_false x p a.0 in
+    let a : ((x || p) ≡ false) × (r ≡ false) = or_parts (x || p) r h in
+    let b : (x ≡ false) × (p ≡ false) = or_parts x p a.0 in
     ap (λ (y : Bool). y || q || s) b.0 ∙ ap (λ (y : Bool). y || s) (f b.1) ∙ g a.1
 
 -- it is a number other than 0 where the symbol's may be
@@ -236,10 +237,6 @@ pub near_zero : (v : Value) (arg : Arg) → is_zero (other_value v arg) ≡ is_s
 near_zero v (Known w) = refl
 near_zero v (Var x) = other_not_zero v
 near_zero v Any = other_not_zero v
-
-none_of : (x y : Bool) → x ≡ false → y ≡ false → (x || y) ≡ false
-none_of true y p q = cc
-none_of false y p q = q
 
 near_most : (a : Op) (s : Symbol) → (not (eqb a.table s.table) || not (same_bool (is_on_map a.kind) (is_on_map s.kind)) || (is_read a.kind && is_read s.kind) || (is_keyed a.kind && is_keyed s.kind && is_apart a.key s.key) || (is_plain a.kind && eqb (kind_place a.kind) (kind_place s.kind) && (not (eqb (kind_place a.kind) 1) || is_same a.value s.value))) ≡ false
     → (not (eqb a.table s.table) || not (same_bool (is_on_map a.kind) (is_on_map s.kind)) || (is_read a.kind && is_read s.kind) || (is_keyed a.kind && is_keyed s.kind && not (value_eq a.key (near_key a.key s.key))) || (is_plain a.kind && eqb (kind_place a.kind) (kind_place s.kind) && value_eq a.key (near_key a.key s.key) && (not (eqb (kind_place a.kind) 1) || value_eq a.value (other_value a.value s.value)))) ≡ false
@@ -258,17 +255,13 @@ near_most a s h = or_false_too (not (eqb a.table s.table) || not (same_bool (is_
         go : (x y : Bool) → (x && (y || is_same a.value s.value)) ≡ false → (x && value_eq a.key (near_key a.key s.key) && (y || value_eq a.value (other_value a.value s.value))) ≡ false
         go false y h = refl
         go true true h = cc
-        go true false h = and_none (value_eq a.key (near_key a.key s.key)) (value_eq a.value (other_value a.value s.value)) (near_value a.value s.value h)
-          where
-            and_none : (x y : Bool) → y ≡ false → (x && y) ≡ false
-            and_none true y e = e
-            and_none false y e = refl
+        go true false h = and_right (value_eq a.key (near_key a.key s.key)) (value_eq a.value (other_value a.value s.value)) (near_value a.value s.value h)
 
 near_differs : (a : Op) (s : Symbol) → commutes_symbol a s ≡ false → commutes a (near a s) ≡ false
 unfolding near
 near_differs a s f =
-    let g = or_false _ (sums_symbol a s) f in
-    none_of _ _ (near_most a s g.0) (ap (λ (n : Bool). add_up a.kind (is_number a.value) (is_zero a.value) s.kind n (is_zero (other_value a.value s.value))) (near_number a.value s.value) ∙ ap (add_up a.kind (is_number a.value) (is_zero a.value) s.kind (may_be_number s.value)) (near_zero a.value s.value) ∙ g.1)
+    let g = or_parts _ (sums_symbol a s) f in
+    or_from _ _ (near_most a s g.0) (ap (λ (n : Bool). add_up a.kind (is_number a.value) (is_zero a.value) s.kind n (is_zero (other_value a.value s.value))) (near_number a.value s.value) ∙ ap (add_up a.kind (is_number a.value) (is_zero a.value) s.kind (may_be_number s.value)) (near_zero a.value s.value) ∙ g.1)
 
 pub symbol_differs : (a : Op) (s : Symbol) → HasNoVar s → IsHeld a → IsHeldSymbol s → commutes_symbol a s ≡ false → DiffersFromSome a s
 symbol_differs a s v b g h = record { op = near a s; stands = near_stands a s v b g; differ = commutes-Differ a (near a s) b.value (near_held a s b g).value (near_differs a s h) }

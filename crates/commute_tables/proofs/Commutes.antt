@@ -1,10 +1,9 @@
 -- Which operations commute.
-use Rattle.std.proofs.Common.{◌≡◌, ℕ, ℤ, pos, zero, suc, ◌+ℤ◌, ◌≢◌, inl, inr, Option, Some, None, Bool, true, false, cond, not, ◌&&◌, ◌||◌, eqb, refl, sym, ◌∙◌, ap, subst, arith}
+use Rattle.std.proofs.Common.{◌≡◌, ℤ, pos, ◌+ℤ◌, inl, inr, Option, Some, None, Bool, true, false, cond, not, ◌&&◌, ◌||◌, eqb, refl, sym, ◌∙◌, ap, subst, arith}
 use Rattle.std.specs.Int.{int_wrap, w64}
 use Rattle.std.proofs.lemmas.Int.{ints, int_wrap-add_left, int_wrap_fits}
 use Rattle.std.specs.Option.{unwrap_or}
-use Rattle.std.proofs.lemmas.Bool.{and_parts, or_cases}
-use Rattle.std.proofs.lemmas.Bool.Decides.{nat_tests}
+use Rattle.std.proofs.lemmas.Bool.{and_parts, or_cases, not-true, eqb-true, eqb-false}
 use Rattle.std.specs.FinMap as map
 use Rattle.std.specs.FinSet as set
 use Rattle.session_values.specs.declared.kind.Kind.{Kind}
@@ -21,6 +20,7 @@ use Rattle.commute_tables.specs.Relation.{same_bool, commutes, is_put, is_bump, 
 use Rattle.commute_tables.proofs.Apart.{get_apart, act_apart, act_any, MapAct, Keep, Bind, Unbind, Sum, act_on_map, bound_by, get-act_on_map, SetAct, Stay, Join, Leave, act_on_set, member_by, contains-act_on_set}
 use Rattle.commute_tables.proofs.OneTable.{SwapsOn, commute_on, commute_apart}
 use Rattle.session_values.proofs.Equal.{same_value, same_map, same_set, value_eq-sym}
+use Rattle.session_values.proofs.KindLemmas.{one_place}
 
 -- ---- what each kind does to a map
 abbrev pub map_act : Kind → Value → MapAct
@@ -244,39 +244,8 @@ plain_reply (Members s) op h = go op.kind h
     go Drop h = refl
     go Count h = cc
 
--- the kind of a place
-kind_at : ℕ → Kind
-kind_at zero = Get
-kind_at (suc zero) = Put
-kind_at (suc (suc zero)) = Swap
-kind_at (suc (suc (suc zero))) = Del
-kind_at (suc (suc (suc (suc zero)))) = Size
-kind_at (suc (suc (suc (suc (suc zero))))) = Bump
-kind_at (suc (suc (suc (suc (suc (suc zero)))))) = Has
-kind_at (suc (suc (suc (suc (suc (suc (suc zero))))))) = Add
-kind_at (suc (suc (suc (suc (suc (suc (suc (suc zero)))))))) = Mark
-kind_at (suc (suc (suc (suc (suc (suc (suc (suc (suc zero))))))))) = Drop
-kind_at (suc (suc (suc (suc (suc (suc (suc (suc (suc (suc n)))))))))) = Count
-
-kind_at-place : (kind : Kind) → kind_at (kind_place kind) ≡ kind
-unfolding kind_at
-kind_at-place Get = refl
-kind_at-place Put = refl
-kind_at-place Swap = refl
-kind_at-place Del = refl
-kind_at-place Size = refl
-kind_at-place Bump = refl
-kind_at-place Has = refl
-kind_at-place Add = refl
-kind_at-place Mark = refl
-kind_at-place Drop = refl
-kind_at-place Count = refl
-
 pub same_kind : (a b : Kind) → eqb (kind_place a) (kind_place b) ≡ true → a ≡ b
-same_kind a b e = sym (kind_at-place a) ∙ ap kind_at (same (kind_place a) (kind_place b) e) ∙ kind_at-place b
-  where
-    same : (x y : ℕ) → eqb x y ≡ true → x ≡ y
-    same x y e = grind (arith, nat_tests)
+same_kind a b e = one_place a b (eqb-true (kind_place a) (kind_place b) e)
 
 same_change : (c : Container) (a b : Op) → a.kind ≡ b.kind → a.key ≡ b.key → is_plain a.kind ≡ true → (eqb (kind_place a.kind) 1 ≡ true → a.value ≡ b.value) → after_on c a ≡ after_on c b
 same_change (Bindings m) a b e k p v =
@@ -398,10 +367,6 @@ bump_put_swap c a b held p q h =
     pair_swaps c a b (ap is_on_map (bump_kind a.kind p)) (ap is_on_map (put_kind b.kind q)) (λ d. bump_reply d a p) (λ d. plain_reply d b (ap is_plain (put_kind b.kind q))) (subst P (sym (bump_kind a.kind p)) (subst Q (sym (put_kind b.kind q)) (λ o. sym (bumped_put a.value b.value held h))))
 
 -- ---- the test is right where it says that they commute
-pub not_true : (x : Bool) → not x ≡ true → x ≡ false
-not_true true e = cc
-not_true false e = refl
-
 homes : (a b : Op) → same_bool (is_on_map a.kind) (is_on_map b.kind) ≡ false → (c : Container) → SwapsOn c a b
 homes a b h c = go (is_on_map a.kind) (is_on_map b.kind) refl refl h
   where
@@ -417,9 +382,9 @@ sums_swap c a b u v h = elim (or_cases _ _ h) [
     | inl y ↦ elim (or_cases _ _ y) [
       | inl z ↦ elim (or_cases _ _ z) [
         | inl w ↦ let p : (is_bump a.kind ≡ true) × (is_bump b.kind ≡ true) = and_parts _ _ w in bumps_swap c a b p.0 p.1
-        | inr w ↦ let p : (is_bump a.kind ≡ true) × (not (is_number a.value) ≡ true) = and_parts _ _ w in flip c a b (idle_swaps c b a p.0 (not_true _ p.1))
+        | inr w ↦ let p : (is_bump a.kind ≡ true) × (not (is_number a.value) ≡ true) = and_parts _ _ w in flip c a b (idle_swaps c b a p.0 (not-true _ p.1))
       ]
-      | inr z ↦ let p : (is_bump b.kind ≡ true) × (not (is_number b.value) ≡ true) = and_parts _ _ z in idle_swaps c a b p.0 (not_true _ p.1)
+      | inr z ↦ let p : (is_bump b.kind ≡ true) × (not (is_number b.value) ≡ true) = and_parts _ _ z in idle_swaps c a b p.0 (not-true _ p.1)
     ]
     | inr y ↦ let p : ((is_bump a.kind && is_put b.kind) ≡ true) × ((is_zero a.value || not (is_number b.value)) ≡ true) = and_parts _ _ y in
         let q : (is_bump a.kind ≡ true) × (is_put b.kind ≡ true) = and_parts _ _ p.0 in
@@ -454,12 +419,12 @@ commutes-Commute a b u v h = tables (eqb a.table b.table) refl
     most t h = elim (or_cases _ _ h) [
       | inl x ↦ elim (or_cases _ _ x) [
         | inl y ↦ elim (or_cases _ _ y) [
-          | inl z ↦ commute_on a b t (homes a b (not_true _ z))
+          | inl z ↦ commute_on a b t (homes a b (not-true _ z))
           | inr z ↦ let w : (is_read a.kind ≡ true) × (is_read b.kind ≡ true) = and_parts _ _ z in commute_on a b t (λ c. both_leave c a b (read_leaves c a w.0) (read_leaves c b w.1))
         ]
         | inr y ↦ let w : ((is_keyed a.kind && is_keyed b.kind) ≡ true) × (not (value_eq a.key b.key) ≡ true) = and_parts _ _ y in
             let u : (is_keyed a.kind ≡ true) × (is_keyed b.kind ≡ true) = and_parts _ _ w.0 in
-            commute_on a b t (λ c. keys_apart c a b u.0 u.1 (not_true _ w.1))
+            commute_on a b t (λ c. keys_apart c a b u.0 u.1 (not-true _ w.1))
       ]
       | inr x ↦ last t x
     ]
@@ -471,11 +436,5 @@ commutes-Commute a b u v h = tables (eqb a.table b.table) refl
     ]
 
     tables : (x : Bool) → eqb a.table b.table ≡ x → Commute a b
-    tables true e = rest (same a.table b.table e) (ap (λ (x : Bool). not x || not (same_bool (is_on_map a.kind) (is_on_map b.kind)) || (is_read a.kind && is_read b.kind) || (is_keyed a.kind && is_keyed b.kind && not (value_eq a.key b.key)) || (is_plain a.kind && eqb (kind_place a.kind) (kind_place b.kind) && value_eq a.key b.key && (not (eqb (kind_place a.kind) 1) || value_eq a.value b.value)) || sums a b) (sym e) ∙ h)
-      where
-        same : (x y : ℕ) → eqb x y ≡ true → x ≡ y
-        same x y e = grind (arith, nat_tests)
-    tables false e = commute_apart a b (differs a.table b.table e)
-      where
-        differs : (x y : ℕ) → eqb x y ≡ false → x ≢ y
-        differs x y e = grind (arith, nat_tests)
+    tables true e = rest (eqb-true a.table b.table e) (ap (λ (x : Bool). not x || not (same_bool (is_on_map a.kind) (is_on_map b.kind)) || (is_read a.kind && is_read b.kind) || (is_keyed a.kind && is_keyed b.kind && not (value_eq a.key b.key)) || (is_plain a.kind && eqb (kind_place a.kind) (kind_place b.kind) && value_eq a.key b.key && (not (eqb (kind_place a.kind) 1) || value_eq a.value b.value)) || sums a b) (sym e) ∙ h)
+    tables false e = commute_apart a b (eqb-false a.table b.table e)

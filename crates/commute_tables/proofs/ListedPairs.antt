@@ -1,7 +1,7 @@
 -- The list of pairs against the rule.
-use Rattle.std.proofs.Common.{◌≡◌, ◌≢◌, ℕ, ◌⊎◌, inl, inr, Bool, true, false, not, ◌&&◌, ◌||◌, eqb, refl, sym, ◌∙◌, ap, arith}
+use Rattle.std.proofs.Common.{◌≡◌, ◌≢◌, ◌⊎◌, inl, inr, Bool, true, false, not, ◌&&◌, ◌||◌, eqb, refl, sym, ◌∙◌, ap}
 use Rattle.std.specs.Bool.{Decides}
-use Rattle.std.proofs.lemmas.Bool.Decides.{nat_tests}
+use Rattle.std.proofs.lemmas.Bool.{eq-eqb, ne_eqb, or_left, or_right}
 use Rattle.session_values.specs.declared.kind.Kind.{Kind}
 use Rattle.session_values.specs.declared.kind.Kind.TheVariants.{Get, Put, Swap, Del, Size, Bump, Has, Add, Mark, Drop, Count}
 use Rattle.session_values.specs.declared.op.Op.{Op}
@@ -72,17 +72,11 @@ without_key Mark Size v w h = refl
 without_key Drop Size v w h = refl
 without_key x y v w h = cc
 
-same_number : (i j : ℕ) → i ≡ j → eqb i j ≡ true
-same_number i j e = grind (arith, nat_tests)
-
-other_number : (i j : ℕ) → i ≢ j → eqb i j ≡ false
-other_number i j n = grind (arith, nat_tests)
-
 listed_right : (a b : Op) → AreOnOneKey a b → is_commuting_pair a b ≡ commutes a b
 listed_right a b one = sym (on_one_table ∙ by_keys (value_eq a.key b.key) refl)
   where
     on_one_table : commutes a b ≡ rule a.kind b.kind (value_eq a.key b.key) a.value b.value
-    on_one_table = ap (λ (t : Bool). not t || not (same_bool (is_on_map a.kind) (is_on_map b.kind)) || (is_read a.kind && is_read b.kind) || (is_keyed a.kind && is_keyed b.kind && not (value_eq a.key b.key)) || (is_plain a.kind && eqb (kind_place a.kind) (kind_place b.kind) && value_eq a.key b.key && (not (eqb (kind_place a.kind) 1) || value_eq a.value b.value)) || sums a b) (same_number a.table b.table one.table)
+    on_one_table = ap (λ (t : Bool). not t || not (same_bool (is_on_map a.kind) (is_on_map b.kind)) || (is_read a.kind && is_read b.kind) || (is_keyed a.kind && is_keyed b.kind && not (value_eq a.key b.key)) || (is_plain a.kind && eqb (kind_place a.kind) (kind_place b.kind) && value_eq a.key b.key && (not (eqb (kind_place a.kind) 1) || value_eq a.value b.value)) || sums a b) (eq-eqb a.table b.table one.table)
 
     unkeyed : value_eq a.key b.key ≡ false → (x y : Bool) → is_keyed a.kind ≡ x → is_keyed b.kind ≡ y → (x && y) ≡ false
     unkeyed f true true p q =
@@ -99,15 +93,7 @@ pub pairs_decided : (a b : Op) → IsHeld a → IsHeld b → AreOnOneKey a b →
 pairs_decided a b f g one = Decides-commute a b (is_commuting_pair a b) f g (listed_right a b one)
 
 -- ---- on different containers, and with different keys
-or_more_left : (x y : Bool) → x ≡ true → (x || y) ≡ true
-or_more_left true y e = refl
-or_more_left false y e = cc
-
-or_more_right : (x y : Bool) → y ≡ true → (x || y) ≡ true
-or_more_right true y e = refl
-or_more_right false y e = e
-
-one_home : (x y : Kind) → same_bool (is_on_map x) (is_on_map y) ≡ true → home x ≡ home y
+pub one_home : (x y : Kind) → same_bool (is_on_map x) (is_on_map y) ≡ true → home x ≡ home y
 one_home Get Get e = refl
 one_home Put Get e = refl
 one_home Swap Get e = refl
@@ -129,14 +115,14 @@ other_home x y n = go (same_bool (is_on_map x) (is_on_map y)) refl
     go false e = refl
 
 pub on_other_containers : (a b : Op) → IsHeld a → IsHeld b → (a.table ≢ b.table) ⊎ (home a.kind ≢ home b.kind) → Commute a b
-on_other_containers a b f g n = commutes-Commute a b f.value g.value (or_more_left _ _ (or_more_left _ _ (or_more_left _ _ (or_more_left _ _ (by_part n)))))
+on_other_containers a b f g n = commutes-Commute a b f.value g.value (or_left _ _ (or_left _ _ (or_left _ _ (or_left _ _ (by_part n)))))
   where
     by_part : (a.table ≢ b.table) ⊎ (home a.kind ≢ home b.kind) → (not (eqb a.table b.table) || not (same_bool (is_on_map a.kind) (is_on_map b.kind))) ≡ true
-    by_part (inl n) = or_more_left _ _ (ap not (other_number a.table b.table n))
-    by_part (inr n) = or_more_right _ _ (ap not (other_home a.kind b.kind n))
+    by_part (inl n) = or_left _ _ (ap not (ne_eqb a.table b.table n))
+    by_part (inr n) = or_right _ _ (ap not (other_home a.kind b.kind n))
 
 pub with_other_keys : (a b : Op) → IsHeld a → IsHeld b → is_keyed a.kind ≡ true → is_keyed b.kind ≡ true → a.key ≢ b.key → Commute a b
-with_other_keys a b f g p q n = commutes-Commute a b f.value g.value (or_more_left _ _ (or_more_left _ _ (or_more_right _ _ (all_three (is_keyed a.kind) (is_keyed b.kind) (value_eq a.key b.key) p q refl))))
+with_other_keys a b f g p q n = commutes-Commute a b f.value g.value (or_left _ _ (or_left _ _ (or_right _ _ (all_three (is_keyed a.kind) (is_keyed b.kind) (value_eq a.key b.key) p q refl))))
   where
     all_three : (x y z : Bool) → x ≡ true → y ≡ true → value_eq a.key b.key ≡ z → (x && y && not z) ≡ true
     all_three true true false p q e = refl

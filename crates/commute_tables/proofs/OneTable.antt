@@ -1,7 +1,8 @@
 -- From one container to all tables.
-use Rattle.std.proofs.Common.{◌≡◌, ℕ, ◌<◌, ◌≤◌, ◌≢◌, length, ◌⊎◌, inl, inr, sym, ◌∙◌, ap, subst, arith}
+use Rattle.std.proofs.Common.{◌≡◌, ℕ, ◌<◌, ◌≤◌, ◌≢◌, length, inl, inr, sym, ◌∙◌, ap, subst}
 use Rattle.std.proofs.Math.ListN.{set as put_at}
 use Rattle.std.proofs.lemmas.List.{get_or-set_same, get_or-set_other, set_past, set-set, set_comm}
+use Rattle.std.proofs.lemmas.Bool.{cases_lt}
 use Rattle.session_values.specs.declared.kind.TableKind.TheVariants.{Map}
 use Rattle.session_values.specs.declared.op.Op.{Op}
 use Rattle.session_values.specs.Tables.{Tables, Container, empty_of, table, reply, step, reply_on, after_on}
@@ -21,9 +22,6 @@ pub record SwapsAt (i j : ℕ) (ts : Tables) (a b : Op) : Type 0 where
   pub first : reply_on (table ts i) a ≡ reply_on (table (step_at j ts b) i) a
   pub second : reply_on (table (step_at i ts a) j) b ≡ reply_on (table ts j) b
 
-pub lt_or : (a b : ℕ) → (a < b) ⊎ (b ≤ a)
-lt_or a b = grind arith
-
 pub table_after : (i : ℕ) (ts : Tables) (a : Op) → i < length ts → table (step_at i ts a) i ≡ after_on (table ts i) a
 table_after i ts a l = get_or-set_same ts i (after_on (table ts i) a) (empty_of Map) l
 
@@ -35,7 +33,7 @@ past_after i ts a l = set_past ts i (after_on (table ts i) a) l
 
 pub swaps_at : (i : ℕ) (ts : Tables) (a b : Op) → SwapsOn (table ts i) a b → SwapsAt i i ts a b
 swaps_at i ts a b s =
-    elim (lt_or i (length ts)) [
+    elim (cases_lt i (length ts)) [
       | inl l ↦ record {
         tables = twice_after i ts a b l ∙ ap (put_at ts i) s.after ∙ sym (twice_after i ts b a l);
         first = s.first ∙ ap (λ (c : Container). reply_on c a) (sym (table_after i ts b l));

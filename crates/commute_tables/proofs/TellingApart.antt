@@ -1,9 +1,10 @@
 -- The states that tell apart the orders of operations that don't commute.
-use Rattle.std.proofs.Common.{◌≡◌, ℕ, zero, suc, ◌<◌, List, [], ◌∷◌, length, Option, Some, None, Bool, true, false, not, ◌&&◌, ◌||◌, eqb, refl, sym, ◌∙◌, ap, subst, arith}
+use Rattle.std.proofs.Common.{◌≡◌, ℕ, zero, suc, ◌<◌, List, [], ◌∷◌, length, Some, Bool, true, false, not, ◌&&◌, ◌||◌, eqb, refl, sym, ◌∙◌, ap, subst, arith}
 use Rattle.std.specs.Prelude.{slice_get}
 use Rattle.std.proofs.Math.ListN.{set as put_at, replicate}
 use Rattle.std.proofs.lemmas.List.{get_or-set_same, length-set, map-set}
-use Rattle.std.proofs.lemmas.Bool.Decides.{nat_tests}
+use Rattle.std.proofs.lemmas.Bool.{or_parts, not-false, and_from, true≢false, eqb-true, both_ways}
+use Rattle.std.proofs.lemmas.Option.{same_Some, slice_get_within}
 use Rattle.session_values.specs.declared.kind.Kind.{Kind}
 use Rattle.session_values.specs.declared.kind.Kind.TheVariants.{Get, Put, Swap, Del, Size, Bump, Has, Add, Mark, Drop, Count}
 use Rattle.session_values.specs.declared.kind.TableKind.{TableKind}
@@ -37,25 +38,14 @@ record Against (x y : Kind) (k l v w : Value) : Type 0 where
   held : IsValue v × IsValue w
 
 and_true : (b : Bool) → b ≡ true → (b && true) ≡ false → ⊥
-and_true b p q = both_ways b p (sym (and_of b) ∙ q)
+and_true b p q = both_ways b (sym (and_of b) ∙ q) p
   where
     and_of : (b : Bool) → (b && true) ≡ b
     and_of true = refl
     and_of false = refl
 
-    both_ways : (b : Bool) → b ≡ true → b ≡ false → ⊥
-    both_ways b p q = cc
-
 same_plain : (k l : Value) → k ≡ l → (value_eq k l && true) ≡ false → ⊥
 same_plain k l e h = and_true (value_eq k l) (ap (value_eq k) (sym e) ∙ value_eq-self k) h
-
-pub or_false : (x y : Bool) → (x || y) ≡ false → (x ≡ false) × (y ≡ false)
-or_false true y e = cc
-or_false false y e = (refl, e)
-
-pub not_false : (x : Bool) → not x ≡ false → x ≡ true
-not_false true e = refl
-not_false false e = cc
 
 pub and_right : (b c : Bool) → b ≡ true → (b && c) ≡ false → c ≡ false
 and_right true c p q = q
@@ -63,24 +53,20 @@ and_right false c p q = cc
 
 -- what the rule on bumps says where it says no
 first_number : (x y : Kind) (n z m u : Bool) → is_bump x ≡ true → add_up x n z y m u ≡ false → n ≡ true
-first_number x y n z m u b h = not_false n (and_right (is_bump x) (not n) b (or_false _ _ (or_false _ _ (or_false _ _ (or_false _ _ h).0).0).0).1)
+first_number x y n z m u b h = not-false n (and_right (is_bump x) (not n) b (or_parts _ _ (or_parts _ _ (or_parts _ _ (or_parts _ _ h).0).0).0).1)
 
 second_number : (x y : Kind) (n z m u : Bool) → is_bump y ≡ true → add_up x n z y m u ≡ false → m ≡ true
-second_number x y n z m u b h = not_false m (and_right (is_bump y) (not m) b (or_false _ _ (or_false _ _ (or_false _ _ h).0).0).1)
-
-both_true : (b c : Bool) → b ≡ true → c ≡ true → (b && c) ≡ true
-both_true true c p q = q
-both_true false c p q = cc
+second_number x y n z m u b h = not-false m (and_right (is_bump y) (not m) b (or_parts _ _ (or_parts _ _ (or_parts _ _ h).0).0).1)
 
 put_second : (x y : Kind) (n z m u : Bool) → is_bump x ≡ true → is_put y ≡ true → add_up x n z y m u ≡ false → (z ≡ false) × (m ≡ true)
 put_second x y n z m u b p h =
-    let q : (z ≡ false) × (not m ≡ false) = or_false z (not m) (and_right (is_bump x && is_put y) (z || not m) (both_true _ _ b p) (or_false _ _ (or_false _ _ h).0).1) in
-    (q.0, not_false m q.1)
+    let q : (z ≡ false) × (not m ≡ false) = or_parts z (not m) (and_right (is_bump x && is_put y) (z || not m) (and_from _ _ b p) (or_parts _ _ (or_parts _ _ h).0).1) in
+    (q.0, not-false m q.1)
 
 put_first : (x y : Kind) (n z m u : Bool) → is_put x ≡ true → is_bump y ≡ true → add_up x n z y m u ≡ false → (n ≡ true) × (u ≡ false)
 put_first x y n z m u p b h =
-    let q : (not n ≡ false) × (u ≡ false) = or_false (not n) u (and_right (is_put x && is_bump y) (not n || u) (both_true _ _ p b) (or_false _ _ h).1) in
-    (not_false n q.0, q.1)
+    let q : (not n ≡ false) × (u ≡ false) = or_parts (not n) u (and_right (is_put x && is_bump y) (not n || u) (and_from _ _ p b) (or_parts _ _ h).1) in
+    (not-false n q.0, q.1)
 
 -- at one key
 at_key : (x y : Kind) (i j : ℕ) (k l v w : Value) → k ≡ l → Tells (op x i k v) (op y j k w) → Tells (op x i k v) (op y j l w)
@@ -88,10 +74,7 @@ at_key x y i j k l v w e t = let P : Value → Type 0 = λ q. Tells (op x i k v)
 
 tells : (x y : Kind) (i j : ℕ) (k l v w : Value) → Against x y k l v w → Tells (op x i k v) (op y j l w)
 unfolding sees binds joins
-tells Get Get i j k l v w h = absurd (omega_false h.reads)
-  where
-    omega_false : true ≡ false → ⊥
-    omega_false e = cc
+tells Get Get i j k l v w h = absurd (true≢false h.reads)
 tells Get Put i j k l v w h = at_key Get Put i j k l v w (h.keys refl) (see_bind Get Put i j k v w refl refl)
 tells Get Swap i j k l v w h = at_key Get Swap i j k l v w (h.keys refl) (see_bind Get Swap i j k v w refl refl)
 tells Get Del i j k l v w h = at_key Get Del i j k l v w (h.keys refl) (see_del Get i j k v w refl)
@@ -161,19 +144,8 @@ tells x y i j k l v w h = absurd (let e : false ≡ true = h.homes in cc)
 -- ---- in tables that both fit
 pub set_there : (shape : List TableKind) (i : ℕ) (kind : TableKind) → slice_get shape i ≡ Some kind → put_at shape i kind ≡ shape
 set_there [] i kind h = refl
-set_there (x ∷ shape) zero kind h = ap (λ (y : TableKind). y ∷ shape) (inside kind x (sym h))
-  where
-    inside : (a b : TableKind) → ◌≡◌ {A = Option TableKind} (Some a) (Some b) → a ≡ b
-    inside a b e = cc
+set_there (x ∷ shape) zero kind h = ap (λ (y : TableKind). y ∷ shape) (same_Some kind x (sym h))
 set_there (x ∷ shape) (suc i) kind h = ap (λ (s : List TableKind). x ∷ s) (set_there shape i kind h)
-
-pub there : (shape : List TableKind) (i : ℕ) (kind : TableKind) → slice_get shape i ≡ Some kind → i < length shape
-there [] i kind h = absurd (none_some kind h)
-  where
-    none_some : (a : TableKind) → ◌≡◌ {A = Option TableKind} None (Some a) → ⊥
-    none_some a e = cc
-there (x ∷ shape) zero kind h = omega arith
-there (x ∷ shape) (suc i) kind h = omega (arith, there shape i kind h)
 
 on_one : (i : ℕ) (ts : Tables) (a b : Op) → i < length ts → SwapsAt i i ts a b → SwapsOn (table ts i) a b
 on_one i ts a b l s = record {
@@ -185,7 +157,7 @@ on_one i ts a b l s = record {
 told : (a b : Op) (shape : List TableKind) → a.table ≡ b.table → slice_get shape a.table ≡ Some (home a.kind) → Tells a b → ToldApart shape a b
 told a b shape same f t =
     let ts : Tables = put_at (start shape) a.table t.container in
-    let l : a.table < length (start shape) = omega (arith, there shape a.table (home a.kind) f, start_length shape) in
+    let l : a.table < length (start shape) = omega (arith, slice_get_within shape a.table (home a.kind) f, start_length shape) in
     let here : table ts a.table ≡ t.container = get_or-set_same (start shape) a.table t.container (empty_of Map) l in
     let P : ℕ → Type 0 = λ j. SwapsAt a.table j ts a b in
     let Q : Container → Type 0 = λ c. SwapsOn c a b in
@@ -205,25 +177,22 @@ most a b = not (eqb a.table b.table) || not (same_bool (is_on_map a.kind) (is_on
 
 commutes_tells : (a b : Op) → IsValue a.value → IsValue b.value → commutes a b ≡ false → (a.table ≡ b.table) × Tells a b
 commutes_tells a b v w f =
-    let g : (most a b ≡ false) × (sums a b ≡ false) = or_false _ _ f in
+    let g : (most a b ≡ false) × (sums a b ≡ false) = or_parts _ _ f in
     let h : most a b ≡ false = g.0 in
-    let p : ((not (eqb a.table b.table) || not (same_bool (is_on_map a.kind) (is_on_map b.kind)) || (is_read a.kind && is_read b.kind) || (is_keyed a.kind && is_keyed b.kind && not (value_eq a.key b.key))) ≡ false) × ((is_plain a.kind && eqb (kind_place a.kind) (kind_place b.kind) && value_eq a.key b.key && (not (eqb (kind_place a.kind) 1) || value_eq a.value b.value)) ≡ false) = or_false _ _ h in
-    let q : ((not (eqb a.table b.table) || not (same_bool (is_on_map a.kind) (is_on_map b.kind)) || (is_read a.kind && is_read b.kind)) ≡ false) × ((is_keyed a.kind && is_keyed b.kind && not (value_eq a.key b.key)) ≡ false) = or_false _ _ p.0 in
-    let r : ((not (eqb a.table b.table) || not (same_bool (is_on_map a.kind) (is_on_map b.kind))) ≡ false) × ((is_read a.kind && is_read b.kind) ≡ false) = or_false _ _ q.0 in
-    let s : (not (eqb a.table b.table) ≡ false) × (not (same_bool (is_on_map a.kind) (is_on_map b.kind)) ≡ false) = or_false _ _ r.0 in
-    let e : a.table ≡ b.table = same a.table b.table (not_false _ s.0) in
+    let p : ((not (eqb a.table b.table) || not (same_bool (is_on_map a.kind) (is_on_map b.kind)) || (is_read a.kind && is_read b.kind) || (is_keyed a.kind && is_keyed b.kind && not (value_eq a.key b.key))) ≡ false) × ((is_plain a.kind && eqb (kind_place a.kind) (kind_place b.kind) && value_eq a.key b.key && (not (eqb (kind_place a.kind) 1) || value_eq a.value b.value)) ≡ false) = or_parts _ _ h in
+    let q : ((not (eqb a.table b.table) || not (same_bool (is_on_map a.kind) (is_on_map b.kind)) || (is_read a.kind && is_read b.kind)) ≡ false) × ((is_keyed a.kind && is_keyed b.kind && not (value_eq a.key b.key)) ≡ false) = or_parts _ _ p.0 in
+    let r : ((not (eqb a.table b.table) || not (same_bool (is_on_map a.kind) (is_on_map b.kind))) ≡ false) × ((is_read a.kind && is_read b.kind) ≡ false) = or_parts _ _ q.0 in
+    let s : (not (eqb a.table b.table) ≡ false) × (not (same_bool (is_on_map a.kind) (is_on_map b.kind)) ≡ false) = or_parts _ _ r.0 in
+    let e : a.table ≡ b.table = eqb-true a.table b.table (not-false _ s.0) in
     let t : Tells a b = tells a.kind b.kind a.table b.table a.key b.key a.value b.value (record {
-      homes = not_false _ s.1;
+      homes = not-false _ s.1;
       reads = r.1;
-      keys = λ k. same_value a.key b.key (not_false (value_eq a.key b.key) (and_right (is_keyed a.kind && is_keyed b.kind) (not (value_eq a.key b.key)) k q.1));
+      keys = λ k. same_value a.key b.key (not-false (value_eq a.key b.key) (and_right (is_keyed a.kind && is_keyed b.kind) (not (value_eq a.key b.key)) k q.1));
       change = p.1;
       sums = g.1;
       held = (v, w);
     }) in
     (e, t)
-  where
-    same : (x y : ℕ) → eqb x y ≡ true → x ≡ y
-    same x y e = grind (arith, nat_tests)
 
 -- the test is right where it says that they don't
 pub commutes-Differ : (a b : Op) → IsValue a.value → IsValue b.value → commutes a b ≡ false → Differ a b

@@ -4,6 +4,8 @@ use Rattle.std.specs.Prelude.{is_some}
 use Rattle.std.specs.Option.{unwrap_or}
 use Rattle.std.specs.Int.{int_wrap, w64}
 use Rattle.std.proofs.lemmas.Int.{ints, int_wrap-add_left, int_wrap_fits}
+use Rattle.std.proofs.lemmas.Option.{same_Some, none-some}
+use Rattle.std.proofs.lemmas.Bool.{false≢true, both_ways}
 use Rattle.std.specs.FinMap as map
 use Rattle.std.specs.FinSet as set
 use Rattle.session_values.specs.declared.kind.Kind.{Kind}
@@ -113,25 +115,16 @@ count_one k = set.len-insert value_cmp_total no_set k ∙ ap (λ (b : Bool). con
 pub values_one : (k v : Value) → IsValue k → IsValue v → AreValues (Bindings (map.insert no_map k v))
 values_one k v p q l x h = by_key (value_eq l k) refl (sym (map.get-insert value_cmp_total no_map k v l) ∙ h)
   where
-    inside : (a b : Value) → ◌≡◌ {A = Option Value} (Some a) (Some b) → a ≡ b
-    inside a b e = cc
-
-    none_some : ◌≡◌ {A = Option Value} None (Some x) → ⊥
-    none_some e = cc
-
     by_key : (b : Bool) → value_eq l k ≡ b → cond b (Some v) (map.get no_map l) ≡ Some x → IsValue l × IsValue x
-    by_key true e g = let P : Value → Type 0 = λ y. IsValue y in (subst P (sym (same_value l k e)) p, subst P (inside v x g) q)
-    by_key false e g = absurd (none_some (sym (map.get-empty value_cmp l) ∙ g))
+    by_key true e g = let P : Value → Type 0 = λ y. IsValue y in (subst P (sym (same_value l k e)) p, subst P (same_Some v x g) q)
+    by_key false e g = absurd (none-some x (sym (map.get-empty value_cmp l) ∙ g))
 
 pub members_one : (k : Value) → IsValue k → AreValues (Members (set.insert no_set k))
 members_one k p l h = by_key (value_eq l k) refl (sym (set.contains-insert value_cmp_total no_set k l) ∙ h)
   where
-    both_ways : (b : Bool) → b ≡ true → b ≡ false → ⊥
-    both_ways b p q = cc
-
     by_key : (b : Bool) → value_eq l k ≡ b → (b || set.contains no_set l) ≡ true → IsValue l
     by_key true e g = let P : Value → Type 0 = λ y. IsValue y in subst P (sym (same_value l k e)) p
-    by_key false e g = absurd (both_ways (set.contains no_set l) g (set.contains-empty value_cmp l))
+    by_key false e g = absurd (both_ways (set.contains no_set l) (set.contains-empty value_cmp l) g)
 
 pub other_held : (w : Value) → IsValue (other w)
 other_held w = go (value_eq w (Num (pos 1)))
@@ -275,11 +268,8 @@ put_put i j k v w h = record {
   telling = inl (Empty Map);
   kind = refl;
   values = λ p q. values_none;
-  differ = λ s. not_same v w h (inside v w (sym (got (map.insert no_map k w) k v) ∙ sym (ap (λ (c : Container). look c k) s.after) ∙ got (map.insert no_map k v) k w));
+  differ = λ s. not_same v w h (same_Some v w (sym (got (map.insert no_map k w) k v) ∙ sym (ap (λ (c : Container). look c k) s.after) ∙ got (map.insert no_map k v) k w));
 }
-  where
-    inside : (v w : Value) → ◌≡◌ {A = Option Value} (Some v) (Some w) → v ≡ w
-    inside v w e = cc
 
 -- one that binds against del
 pub bind_del : (x : Kind) (i j : ℕ) (k v w : Value) → binds x ≡ true → Tells (op x i k v) (op Del j k w)
@@ -289,11 +279,8 @@ bind_del x i j k v w p = record {
   telling = inl (Empty Map);
   kind = map_kind x (inr p);
   values = λ p q. values_none;
-  differ = λ s. none_some v (sym (gone _ k) ∙ ap (λ (c : Container). look c k) s.after ∙ ap (λ (n : map.FinMap value_cmp Value). map.get n k) (bound x _ k v p) ∙ got _ k v);
+  differ = λ s. none-some v (sym (gone _ k) ∙ ap (λ (c : Container). look c k) s.after ∙ ap (λ (n : map.FinMap value_cmp Value). map.get n k) (bound x _ k v p) ∙ got _ k v);
 }
-  where
-    none_some : (v : Value) → ◌≡◌ {A = Option Value} None (Some v) → ⊥
-    none_some v e = cc
 
 -- one that binds against size
 pub bind_size : (x : Kind) (i j : ℕ) (k l v w : Value) → binds x ≡ true → Tells (op x i k v) (op Size j l w)
@@ -325,10 +312,7 @@ number_some (Num d) h = refl
 number_some (Sym p) h = cc
 
 number_nil : (v : Value) → is_number v ≡ true → v ≡ Nil → ⊥
-number_nil v h e = false_true (sym (ap is_number e) ∙ h)
-  where
-    false_true : false ≡ true → ⊥
-    false_true e = cc
+number_nil v h e = false≢true (sym (ap is_number e) ∙ h)
 
 -- what is bound after one, where the key was unbound
 got_bumped : (m : map.FinMap value_cmp Value) (k v : Value) → is_number v ≡ true → map.get m k ≡ None → map.get (map_after m Bump k v) k ≡ Some v
@@ -366,11 +350,8 @@ bump_del i j k v w h = record {
   telling = inl (Empty Map);
   kind = refl;
   values = λ p q. values_none;
-  differ = λ s. none_some (sym (gone (map_after no_map Bump k v) k) ∙ ap (λ (c : Container). look c k) s.after ∙ got_bumped (map.remove no_map k) k v h (gone no_map k));
+  differ = λ s. none-some v (sym (gone (map_after no_map Bump k v) k) ∙ ap (λ (c : Container). look c k) s.after ∙ got_bumped (map.remove no_map k) k v h (gone no_map k));
 }
-  where
-    none_some : ◌≡◌ {A = Option Value} None (Some v) → ⊥
-    none_some e = cc
 
 -- a number that is added without a trace is 0
 added_none : (n d : ℤ) → IsValue (Num d) → sum_in_range n d ≡ n → d ≡ pos 0
@@ -389,13 +370,10 @@ bumped_trace Nil w p h z g e = cc
 bumped_trace (Sym s) w p h z g e = cc
 bumped_trace (Num d) Nil p h z g e = cc
 bumped_trace (Num d) (Sym s) p h z g e = cc
-bumped_trace (Num d) (Num n) p h z g e = false_true (sym z ∙ ap (λ (x : ℤ). is_zero (Num x)) (added_none n d p (sym (inside n (sum_in_range n d) e))))
+bumped_trace (Num d) (Num n) p h z g e = false≢true (sym z ∙ ap (λ (x : ℤ). is_zero (Num x)) (added_none n d p (sym (inside n (sum_in_range n d) e))))
   where
     inside : (a b : ℤ) → ◌≡◌ {A = Option Value} (Some (Num a)) (Some (Num b)) → a ≡ b
     inside a b e = cc
-
-    false_true : false ≡ true → ⊥
-    false_true e = cc
 
 -- one by a number other than 0 against a put of a number
 pub bump_put : (i j : ℕ) (k v w : Value) → IsValue v → is_number v ≡ true → is_zero v ≡ false → is_number w ≡ true → Tells (op Bump i k v) (op Put j k w)
@@ -500,11 +478,8 @@ join_drop x i j k v w p = record {
   telling = inl (Empty Set);
   kind = set_kind x p;
   values = λ p q. members_none;
-  differ = λ s. false_true (sym (left _ k) ∙ ap (λ (c : Container). in_it c k) s.after ∙ ap (λ (t : set.FinSet value_cmp). set.contains t k) (joined x _ k p) ∙ member _ k);
+  differ = λ s. false≢true (sym (left _ k) ∙ ap (λ (c : Container). in_it c k) s.after ∙ ap (λ (t : set.FinSet value_cmp). set.contains t k) (joined x _ k p) ∙ member _ k);
 }
-  where
-    false_true : false ≡ true → ⊥
-    false_true e = cc
 
 -- one that joins against count
 pub join_count : (x : Kind) (i j : ℕ) (k l v w : Value) → joins x ≡ true → Tells (op x i k v) (op Count j l w)

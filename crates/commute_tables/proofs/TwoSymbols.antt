@@ -1,5 +1,6 @@
 -- A symbol against a symbol.
 use Rattle.std.proofs.Common.{◌≡◌, ℕ, pos, Bool, true, false, not, ◌&&◌, ◌||◌, eqb, refl, sym, ◌∙◌, ap}
+use Rattle.std.proofs.lemmas.Bool.{or_right}
 use Rattle.std.specs.Bool.{MatchBool, Decides}
 use Rattle.session_values.specs.declared.kind.Kind.{Kind}
 use Rattle.session_values.specs.declared.kind.Kind.TheVariants.{Get}
@@ -15,7 +16,8 @@ use Rattle.symbolic_ops.specs.declared.symbol.Symbol.{Symbol}
 use Rattle.symbolic_ops.specs.Symbol.{IsHeldSymbol}
 use Rattle.symbolic_ops.specs.Matching.{Agrees, HasNoVar, StandsFor}
 use Rattle.commute_tables.specs.Relation.{same_bool, is_put, is_bump, is_number, is_zero, add_up, may_be_number, is_apart, is_same, are_apart, are_same, commutes_symbol, commutes_symbols}
-use Rattle.commute_tables.specs.Symbols.{CommutesWith, DiffersFromSome, SymbolsCommute, SymbolsDiffer}
+use Rattle.commute_tables.specs.Symbols.{DiffersFromSome, SymbolsDiffer}
+use Rattle.symbolic_ops.specs.Commuting.{CommutesWith, SymbolsCommute}
 use Rattle.commute_tables.proofs.AgainstSymbols.{or_more, and_more, and_none, near, near_key, other_value, not_other, near_held, near_stands, near_number, near_zero, symbol_commutes, symbol_differs, Decides-commute_symbol}
 
 -- the test of parts of an operation, or of a symbol, against a symbol
@@ -47,11 +49,7 @@ same_each Any t v g h = cc
 
 -- what adds up with whatever number, adds up with each value
 add_up_first : (x y : Kind) (n z m u : Bool) → add_up x true false y m u ≡ true → add_up x n z y m u ≡ true
-add_up_first x y n z m u = or_more _ _ _ _ (or_more _ _ _ _ (or_more _ _ _ _ (or_more _ _ _ _ (λ h. h) (λ h. absurd (and_none (is_bump x) h))) (λ h. h)) (and_more (is_bump x && is_put y) (not m) (z || not m) (more z (not m)))) (and_more (is_put x && is_bump y) u (not n || u) (more (not n) u))
-  where
-    more : (a b : Bool) → b ≡ true → (a || b) ≡ true
-    more true b e = refl
-    more false b e = e
+add_up_first x y n z m u = or_more _ _ _ _ (or_more _ _ _ _ (or_more _ _ _ _ (or_more _ _ _ _ (λ h. h) (λ h. absurd (and_none (is_bump x) h))) (λ h. h)) (and_more (is_bump x && is_put y) (not m) (z || not m) (or_right z (not m)))) (and_more (is_put x && is_bump y) u (not n || u) (or_right (not n) u))
 
 sums_first : (x y : Kind) (m u : Bool) (arg : Arg) (v : Value) → Agrees arg v → add_up x (may_be_number arg) (is_same (Num (pos 0)) arg) y m u ≡ true → add_up x (is_number v) (is_zero v) y m u ≡ true
 sums_first x y m u (Known w) v g h = ap (λ (o : Value). add_up x (is_number o) (is_zero o) y m u) (sym g) ∙ h

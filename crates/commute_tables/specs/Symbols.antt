@@ -1,28 +1,14 @@
--- When an operation, or all that a symbol stands for, commutes with all that a symbol stands for.
-use Rattle.std.specs.Prelude.{List}
+-- When a symbol stands for an operation that doesn't commute with another.
 use Rattle.session_values.specs.declared.op.Op.{Op}
-use Rattle.session_values.specs.Commuting.{Commute}
 use Rattle.symbolic_ops.specs.declared.symbol.Symbol.{Symbol}
-use Rattle.symbolic_ops.specs.Matching.{StandsFor, Matches}
+use Rattle.symbolic_ops.specs.Matching.{StandsFor}
 use Rattle.commute_tables.specs.ToldApart.{Differ}
-
--- the operation commutes with every operation that the symbol stands for
-pub record CommutesWith (a : Op) (s : Symbol) : Type 0 where
-  pub each : (b : Op) → StandsFor s b → Commute a b
-
--- the operation commutes with every operation that some symbol of the list stands for
-pub record CommutesWithAll (a : Op) (f : List Symbol) : Type 0 where
-  pub each : (b : Op) → Matches f b → Commute a b
 
 -- the symbol stands for an operation with which a doesn't commute
 pub record DiffersFromSome (a : Op) (s : Symbol) : Type 0 where
   pub op : Op
   pub stands : StandsFor s op
   pub differ : Differ a op
-
--- every operation that s stands for commutes with every operation that t stands for
-pub record SymbolsCommute (s t : Symbol) : Type 0 where
-  pub each : (a b : Op) → StandsFor s a → StandsFor t b → Commute a b
 
 -- s and t stand for two operations that don't commute
 pub record SymbolsDiffer (s t : Symbol) : Type 0 where

@@ -5,7 +5,8 @@ ghost use Rattle.std.specs.Bool.{Decides, MatchBool};
 ghost use Rattle.symbolic_ops.specs.Matching.{HasNoVar};
 ghost use Rattle.session_values.specs.Kinds.{is_keyed, is_plain, kind_place};
 ghost use Rattle.commute_tables.specs.Relation.{commutes_symbol, is_apart, is_same, may_be_number, sums_symbol};
-ghost use Rattle.commute_tables.specs.Symbols.{CommutesWith, DiffersFromSome};
+ghost use Rattle.commute_tables.specs.Symbols.{DiffersFromSome};
+ghost use Rattle.symbolic_ops.specs.Commuting.{CommutesWith};
 
 use crate::kinds::{both_read, one_home};
 use crate::sums::{add_up, is_number, is_zero};

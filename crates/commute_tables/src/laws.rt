@@ -8,7 +8,7 @@ ghost use Rattle.session_values.specs.Op.{IsHeld};
 ghost use Rattle.session_values.specs.Kinds.{home, is_keyed};
 ghost use Rattle.commute_tables.specs.Pairs.{AreOnOneKey, is_commuting_pair};
 ghost use Rattle.commute_tables.specs.Relation.{commutes, commutes_symbol, commutes_symbols};
-ghost use Rattle.commute_tables.specs.Symbols.{CommutesWith, SymbolsCommute};
+ghost use Rattle.symbolic_ops.specs.Commuting.{CommutesWith, SymbolsCommute};
 ghost use Rattle.commute_tables.specs.ToldApart.{CommuteAt};
 ghost use Rattle.symbolic_ops.specs.Matching.{HasNoVar};
 ghost use Rattle.symbolic_ops.specs.Symbol.{IsHeldSymbol};

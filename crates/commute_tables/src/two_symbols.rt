@@ -5,7 +5,8 @@ ghost use Rattle.std.specs.Bool.{Decides, MatchBool};
 ghost use Rattle.symbolic_ops.specs.Matching.{HasNoVar};
 ghost use Rattle.session_values.specs.Kinds.{is_keyed, is_plain, kind_place};
 ghost use Rattle.commute_tables.specs.Relation.{are_apart, are_same, commutes_symbols, sums_symbols};
-ghost use Rattle.commute_tables.specs.Symbols.{SymbolsCommute, SymbolsDiffer};
+ghost use Rattle.commute_tables.specs.Symbols.{SymbolsDiffer};
+ghost use Rattle.symbolic_ops.specs.Commuting.{SymbolsCommute};
 
 use crate::against_symbol::{known_apart, known_same, may_be_number};
 use crate::kinds::{both_read, one_home};

@@ -5,15 +5,16 @@ use Rattle.session_values.specs.declared.value.Value.{Value}
 use Rattle.session_values.specs.declared.value.Value.TheVariants.{Nil}
 use Rattle.session_values.specs.declared.op.Op.{Op}
 use Rattle.session_values.specs.Kinds.{arguments}
+use Rattle.session_values.proofs.Numbers.{below_two}
 use Rattle.symbolic_ops.specs.declared.arg.Arg.{Arg}
 use Rattle.symbolic_ops.specs.declared.arg.Arg.TheVariants.{Known, Var, Any}
 use Rattle.symbolic_ops.specs.declared.symbol.Symbol.{Symbol}
 use Rattle.symbolic_ops.specs.Matching.{Agrees}
-use Rattle.check_meaning.specs.declared.tree.CheckedAtom.{CheckedAtom}
-use Rattle.check_meaning.specs.declared.tree.CheckedAtom.TheVariants as atom
-use Rattle.check_meaning.specs.declared.tree.CheckedCall.{CheckedCall}
-use Rattle.check_meaning.specs.Code.{Term, Atom, Calculate}
-use Rattle.check_meaning.specs.Dialogue.{Env, with_value, atom_value, value_of, op_of}
+use Rattle.handler_check.specs.CheckedAtom.{CheckedAtom}
+use Rattle.handler_check.specs.CheckedAtom.TheVariants as atom
+use Rattle.handler_check.specs.CheckedCall.{CheckedCall}
+use Rattle.handler_check.specs.Code.{Term, Atom, Calculate}
+use Rattle.handler_check.specs.Dialogue.{Env, with_value, atom_value, value_of, op_of}
 use Rattle.may_use_analysis.specs.Steps.{Step, Copy, Constant, Other, Call, End, store_step, argument, symbol_of, before_step, arg_back, back}
 use Rattle.declaration_insertion.specs.Promises.{arg_at, symbol_at}
 use Rattle.declaration_insertion.proofs.SetLaw.{IsBelowArg, IsBelow, MayStandFor}
@@ -96,9 +97,6 @@ own_arg false a env none = sym (none refl)
 no_first : (n : ℕ) → nat_lt 0 n ≡ false → n < 1
 no_first n e = grind (arith, nat_tests)
 
-no_second : (n : ℕ) → nat_lt 1 n ≡ false → n < 2
-no_second n e = grind (arith, nat_tests)
-
 -- an operation's own symbol stands for it
 pub own_stands : (c : CheckedCall) (env : Env) → MayStandFor (symbol_at env (symbol_of c)) (op_of c env)
 own_stands c env held =
@@ -107,5 +105,5 @@ own_stands c env held =
       kind = refl;
       table = refl;
       key = own_arg (nat_lt 0 (arguments c.kind)) c.key env (λ e. held.unused.0 (no_first (arguments c.kind) e));
-      value = own_arg (nat_lt 1 (arguments c.kind)) c.value env (λ e. held.unused.1 (no_second (arguments c.kind) e));
+      value = own_arg (nat_lt 1 (arguments c.kind)) c.value env (λ e. held.unused.1 (below_two (arguments c.kind) e));
     }

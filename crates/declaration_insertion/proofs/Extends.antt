@@ -3,9 +3,9 @@ use Rattle.std.proofs.Common.{◌≡◌, ℕ, zero, suc, ◌+◌, Bool, true, fa
 use Rattle.std.specs.Prelude.{pos}
 use Rattle.session_values.specs.declared.value.Value.{Value}
 use Rattle.session_values.specs.declared.value.Value.TheVariants.{Num}
-use Rattle.check_meaning.specs.Code.{Code, Finish, Move, Ask, Fork, Loop, Quit}
-use Rattle.check_meaning.specs.Dialogue.{Env, with_value, value_of, holds, Place, Outcome, Calls, Answers, Goes, after, then_do, pass, with_reply, turns, run, passed_by}
-use Rattle.check_meaning.proofs.Runs.{passed_after}
+use Rattle.handler_check.specs.Code.{Code, Finish, Move, Ask, Fork, Loop, Quit}
+use Rattle.handler_check.specs.Dialogue.{Env, with_value, value_of, holds, Place, Outcome, Calls, Answers, Goes, after, then_do, pass, with_reply, turns, run, passed_by}
+use Rattle.handler_check.proofs.Runs.{passed_after}
 
 -- the outcome with more replies
 abbrev pub Extends : List Value → Outcome → Outcome → Type 0

@@ -3,8 +3,8 @@ use Rattle.std.proofs.Common.{ℕ, zero, suc, ◌+◌, Bool, true, false, if◌t
 use Rattle.std.specs.Prelude.{pos}
 use Rattle.session_values.specs.declared.value.Value.{Value}
 use Rattle.session_values.specs.declared.value.Value.TheVariants.{Num}
-use Rattle.check_meaning.specs.Code.{Code, Finish, Move, Ask, Fork, Loop, Quit}
-use Rattle.check_meaning.specs.Dialogue.{Env, with_value, value_of, holds, op_of, Place, Outcome, Calls, Answers, Goes, after, then_do, pass, with_reply, turns, run}
+use Rattle.handler_check.specs.Code.{Code, Finish, Move, Ask, Fork, Loop, Quit}
+use Rattle.handler_check.specs.Dialogue.{Env, with_value, value_of, holds, op_of, Place, Outcome, Calls, Answers, Goes, after, then_do, pass, with_reply, turns, run}
 use Rattle.may_use_analysis.specs.Steps.{Step, Other, store_step, symbol_of, back}
 use Rattle.may_use_analysis.specs.Trails.{Symbols, Back}
 use Rattle.may_use_analysis.specs.Flow.{RepliedBack, Flow, Head}

@@ -8,7 +8,7 @@ use Rattle.symbolic_ops.specs.Instantiate.{ArgWithin, IsWithin}
 use Rattle.symbolic_ops.specs.declared.arg.Arg.{Arg}
 use Rattle.symbolic_ops.specs.declared.arg.Arg.TheVariants.{Known, Var, Any}
 use Rattle.symbolic_ops.specs.declared.symbol.Symbol.{Symbol}
-use Rattle.check_meaning.specs.Dialogue.{env_of}
+use Rattle.handler_check.specs.Dialogue.{env_of}
 use Rattle.handler_check.specs.Resolved.{code_at, shape_of, variables_at}
 use Rattle.handler_check.proofs.Codes.{all_within}
 use Rattle.may_use_analysis.specs.Own.{IsOfHandler}

@@ -9,8 +9,8 @@ use Rattle.syntax_trees.specs.declared.stmt.Stmt.{Stmt}
 use Rattle.syntax_trees.specs.declared.stmt.Stmt.TheVariants as stmt
 use Rattle.syntax_trees.specs.declared.file.File.{File}
 use Rattle.syntax_trees.specs.declared.file.Handler.{Handler}
-use Rattle.check_rules.specs.Source.{Source, stmt_source, block_source}
-use Rattle.check_meaning.specs.Code.{points}
+use Rattle.syntax_trees.specs.Source.{Source, stmt_source, block_source}
+use Rattle.handler_check.specs.Code.{points}
 use Rattle.handler_check.specs.Resolved.{code_of, handler_code, points_of, right_points, table_names, variables_of}
 use Rattle.handler_check.proofs.Cases.{source_let, source_assign, source_call, source_choose, source_repeat, source_reply}
 use Rattle.handler_check.proofs.Inductions.{stmt_induction}

@@ -6,7 +6,7 @@ use Rattle.symbolic_ops.specs.declared.arg.Arg.{Arg}
 use Rattle.symbolic_ops.specs.declared.arg.Arg.TheVariants.{Known, Var, Any}
 use Rattle.symbolic_ops.specs.declared.symbol.Symbol.{Symbol}
 use Rattle.symbolic_ops.specs.Matching.{StandsFor}
-use Rattle.check_meaning.specs.Dialogue.{Env, Place, Outcome, Calls, Answers, Goes}
+use Rattle.handler_check.specs.Dialogue.{Env, Place, Outcome, Calls, Answers, Goes}
 use Rattle.may_use_analysis.specs.Trails.{Symbols}
 use Rattle.declaration_insertion.specs.Promises.{symbol_at}
 

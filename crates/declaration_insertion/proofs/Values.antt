@@ -5,7 +5,7 @@ use Rattle.symbolic_ops.specs.declared.arg.Arg.{Arg}
 use Rattle.symbolic_ops.specs.declared.arg.Arg.TheVariants.{Known, Var, Any}
 use Rattle.symbolic_ops.specs.declared.symbol.Symbol.{Symbol}
 use Rattle.symbolic_ops.specs.Instantiate.{arg_in, symbol_in}
-use Rattle.check_meaning.specs.Dialogue.{env_of}
+use Rattle.handler_check.specs.Dialogue.{env_of}
 use Rattle.declaration_insertion.specs.Promises.{arg_at, symbol_at}
 
 arg_same : (values : List Value) (a : Arg) → arg_in values a ≡ arg_at (env_of values) a

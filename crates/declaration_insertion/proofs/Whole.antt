@@ -15,11 +15,11 @@ use Rattle.symbolic_ops.specs.declared.arg.Arg.TheVariants.{Known, Var, Any}
 use Rattle.symbolic_ops.specs.declared.symbol.Symbol.{Symbol}
 use Rattle.symbolic_ops.specs.Matching.{StandsFor, Matches, ArgBelow, Below, IsBelowSome, Covered, IsNoVar, HasNoVar}
 use Rattle.symbolic_ops.proofs.Above.{covered_matches}
-use Rattle.check_meaning.specs.Code.{Code, points, IsNumbered}
-use Rattle.check_meaning.specs.Dialogue.{Env, env_of, Place, Outcome, Calls, Answers, Goes, run, ended, next, entry, told_place, last_place, last_replied, passed_by}
-use Rattle.check_meaning.specs.Keeps.{IsHeldNext}
-use Rattle.check_meaning.specs.Within.{CodeWithin}
-use Rattle.check_meaning.proofs.Held.{keeps_values}
+use Rattle.handler_check.specs.Code.{Code, points, IsNumbered}
+use Rattle.handler_check.specs.Dialogue.{Env, env_of, Place, Outcome, Calls, Answers, Goes, run, ended, next, entry, told_place, last_place, last_replied, passed_by}
+use Rattle.handler_check.specs.Keeps.{IsHeldNext}
+use Rattle.handler_check.specs.Within.{CodeWithin}
+use Rattle.handler_check.proofs.CheckHeld.{keeps_values}
 use Rattle.may_use_analysis.specs.Trails.{Symbols, LaterAt}
 use Rattle.may_use_analysis.specs.Flow.{Flow, FlowPoint}
 use Rattle.may_use_analysis.specs.Later.{HasLists}

@@ -2,7 +2,7 @@
 use Rattle.std.specs.Prelude.{ℕ, List, [], slice_index_or}
 use Rattle.symbolic_ops.specs.declared.symbol.Symbol.{Symbol}
 use Rattle.syntax_trees.specs.declared.file.File.{File}
-use Rattle.check_rules.specs.Bounds.{KeepsBounds}
+use Rattle.syntax_trees.specs.Bounds.{KeepsBounds}
 use Rattle.handler_check.specs.Checking.{IsAccepted}
 use Rattle.may_use_analysis.specs.Later.{AreLater}
 use Rattle.declaration_insertion.specs.Promises.{Declarations, listed}

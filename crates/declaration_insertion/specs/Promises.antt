@@ -1,7 +1,7 @@
 -- What the declarations of a handler promise of its runs.
 use Rattle.std.specs.Prelude.{◌≡◌, ℕ, ◌≤◌, List, [], ◌∷◌, ◌++◌, length, map, slice_index_or}
 use Rattle.std.specs.List.{AllByRecursion}
-use Rattle.session_limits.specs.Limits.{max_symbols}
+use Rattle.session_values.specs.Limits.{max_symbols}
 use Rattle.session_values.specs.declared.value.Value.{Value}
 use Rattle.session_values.specs.declared.op.Op.{Op}
 use Rattle.session_values.specs.Dialogue.{Calls as NextCalls}
@@ -10,8 +10,8 @@ use Rattle.symbolic_ops.specs.declared.arg.Arg.{Arg}
 use Rattle.symbolic_ops.specs.declared.arg.Arg.TheVariants.{Known, Var, Any}
 use Rattle.symbolic_ops.specs.declared.symbol.Symbol.{Symbol}
 use Rattle.symbolic_ops.specs.Matching.{Covered, HasNoVar, Matches}
-use Rattle.check_meaning.specs.Code.{Code}
-use Rattle.check_meaning.specs.Dialogue.{Env, Place, Calls, run, next, entry, last_place, due_place, told_place, passed_by}
+use Rattle.handler_check.specs.Code.{Code}
+use Rattle.handler_check.specs.Dialogue.{Env, Place, Calls, run, next, entry, last_place, due_place, told_place, passed_by}
 
 -- an argument, where a variable becomes known to be its value
 abbrev pub arg_at : Env → Arg → Arg

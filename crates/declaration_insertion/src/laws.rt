@@ -2,7 +2,7 @@
 
 ghost use Rattle.std.specs.Prelude.{◌≡◌, ℕ, ◌<◌, List, [], ◌∷◌, length, map};
 ghost use Rattle.std.specs.List.{AllByRecursion};
-ghost use Rattle.session_limits.specs.Limits.{max_variables};
+ghost use Rattle.session_values.specs.Limits.{max_variables};
 ghost use Rattle.session_values.specs.declared.kind.TableKind.{TableKind};
 ghost use Rattle.session_values.specs.declared.value.Value.{Value};
 ghost use Rattle.session_values.specs.Values.{IsValue};
@@ -12,10 +12,10 @@ ghost use Rattle.syntax_trees.specs.declared.file.File.{File};
 ghost use Rattle.syntax_trees.specs.declared.file.Handler.{Handler};
 ghost use Rattle.syntax_trees.specs.declared.stmt.Stmt.{Stmt};
 ghost use Rattle.syntax_printer.specs.Lines.{At, block_parts, block_points, stmt_part};
-ghost use Rattle.check_rules.specs.Source.{block_source};
-ghost use Rattle.check_meaning.specs.Code.{Code, IsNumbered, points};
-ghost use Rattle.check_meaning.specs.Dialogue.{env_of};
-ghost use Rattle.check_meaning.specs.Within.{CodeWithin};
+ghost use Rattle.syntax_trees.specs.Source.{block_source};
+ghost use Rattle.handler_check.specs.Code.{Code, IsNumbered, points};
+ghost use Rattle.handler_check.specs.Dialogue.{env_of};
+ghost use Rattle.handler_check.specs.Within.{CodeWithin};
 ghost use Rattle.handler_check.specs.Resolved.{code_at, code_of, handler_code};
 ghost use Rattle.may_use_analysis.specs.Later.{HasLists};
 ghost use Rattle.may_use_analysis.specs.Own.{IsOfHandler};

@@ -3,9 +3,9 @@
 ghost use Rattle.std.specs.Prelude.{◌≡◌, ◌≢◌, ◌↔◌, ℕ, ◌+◌, ◌-◌, ◌<◌, ◌≤◌, [], IfOk, length};
 ghost use Rattle.std.specs.Bool.{OnFalse, OnTrue};
 ghost use Rattle.std.specs.List.{AllByRecursion};
-ghost use Rattle.session_limits.specs.Limits.{max_symbols, max_variables};
+ghost use Rattle.session_values.specs.Limits.{max_symbols, max_variables};
 ghost use Rattle.symbolic_ops.specs.Instantiate.{IsWithin};
-ghost use Rattle.check_meaning.specs.Code.{points};
+ghost use Rattle.handler_check.specs.Code.{points};
 ghost use Rattle.handler_check.specs.Resolved.{code_at};
 ghost use Rattle.may_use_analysis.specs.Later.{AreLater};
 ghost use Rattle.may_use_analysis.specs.Own.{IsOfHandler};

@@ -1,7 +1,8 @@
 -- What an open ticket may still call is within what it declared as it began.
 use Rattle.std.proofs.Common.{◌≡◌, ℕ, zero, suc, ◌<◌, List, [], ◌∷◌, ◌++◌, Option, Some, None, true, false, cond, eqb, length, slice_get, refl, sym, ◌∙◌, ap, subst, append-nil, append_assoc, arith}
 use Rattle.std.specs.List.{AllByRecursion}
-use Rattle.std.proofs.lemmas.Bool.Decides.{nat_tests}
+use Rattle.std.proofs.lemmas.Option.{same_Some}
+use Rattle.std.proofs.lemmas.Bool.{eqb-true}
 use Rattle.session_values.specs.declared.op.Op.{Op}
 use Rattle.session_values.specs.Tables.{Tables}
 use Rattle.symbolic_ops.specs.declared.symbol.Symbol.{Symbol}
@@ -23,12 +24,6 @@ record AreWithin (p : DeskState) (fs : List (List Symbol)) : Type 0 where
   next : p.next ≡ length fs
   at : (t : ℕ) (g : List Symbol) → p.at t ≡ Some g → IsWithin fs t g
 
-inside : (f g : List Symbol) → ◌≡◌ {A = Option (List Symbol)} (Some f) (Some g) → f ≡ g
-inside f g h = cc
-
-same : (u t : ℕ) → eqb u t ≡ true → u ≡ t
-same u t e = grind (arith, nat_tests)
-
 get-front : (fs gs : List (List Symbol)) (t : ℕ) (f : List Symbol) → slice_get fs t ≡ Some f → slice_get (fs ++ gs) t ≡ Some f
 get-front [] gs t f h = absurd (cc h)
 get-front (x ∷ fs) gs zero f h = h
@@ -48,10 +43,10 @@ module _ (p q : DeskState) (fs : List (List Symbol)) (w : AreWithin p fs) where
     next = h.next_more ∙ ap suc w.next ∙ sym (length-push fs f);
     at = λ t g is. elim (eqb t p.next) as (λ b. eqb t p.next ≡ b → IsWithin (fs ++ f ∷ []) t g) [
       | true ↦ λ e.
-          let e_list : f ≡ g = inside f g (sym (h.at_is t ∙ ap (λ b. cond b (Some f) (p.at t)) e) ∙ is) in
+          let e_list : f ≡ g = same_Some f g (sym (h.at_is t ∙ ap (λ b. cond b (Some f) (p.at t)) e) ∙ is) in
           let P : ℕ → Type 0 = λ k. slice_get (fs ++ f ∷ []) k ≡ Some f in
           let Q : List Symbol → Type 0 = λ x. IsWithin (fs ++ f ∷ []) t x in
-          subst Q e_list (record { list = f; is = subst P (sym (same t p.next e ∙ w.next)) (get-last fs f); each = λ op m. m })
+          subst Q e_list (record { list = f; is = subst P (sym (eqb-true t p.next e ∙ w.next)) (get-last fs f); each = λ op m. m })
       | false ↦ λ e.
           let one : IsWithin fs t g = w.at t g (sym (h.at_is t ∙ ap (λ b. cond b (Some f) (p.at t)) e) ∙ is) in
           record { list = one.list; is = get-front fs (f ∷ []) t one.list one.is; each = one.each }
@@ -63,8 +58,8 @@ module _ (p q : DeskState) (fs : List (List Symbol)) (w : AreWithin p fs) where
     next = h.next_still ∙ w.next;
     at = λ u g is. elim (eqb u t) as (λ b. eqb u t ≡ b → IsWithin fs u g) [
       | true ↦ λ e.
-          let e_list : f ≡ g = inside f g (sym (h.at_is u ∙ ap (λ b. cond b (Some f) (p.at u)) e) ∙ is) in
-          let one : IsWithin fs u h.declared = w.at u h.declared (ap p.at (same u t e) ∙ h.is) in
+          let e_list : f ≡ g = same_Some f g (sym (h.at_is u ∙ ap (λ b. cond b (Some f) (p.at u)) e) ∙ is) in
+          let one : IsWithin fs u h.declared = w.at u h.declared (ap p.at (eqb-true u t e) ∙ h.is) in
           let Q : List Symbol → Type 0 = λ x. IsWithin fs u x in
           subst Q e_list (record { list = one.list; is = one.is; each = λ op m. one.each op (covered_matches f h.declared op h.covered m) })
       | false ↦ λ e. w.at u g (sym (h.at_is u ∙ ap (λ b. cond b (Some f) (p.at u)) e) ∙ is)
@@ -101,13 +96,13 @@ first ts = record { next = refl; at = λ t g is. absurd (cc is) }
 -- ---- any two of the lists
 at : (f : List Symbol) (fs : List (List Symbol)) (t : ℕ) (g : List Symbol) → AllByRecursion (λ x. ListsCommute x f) fs → slice_get fs t ≡ Some g → ListsCommute g f
 at f [] t g all is = absurd (cc is)
-at f (x ∷ fs) zero g all is = let P : List Symbol → Type 0 = λ y. ListsCommute y f in subst P (inside x g is) all.0
+at f (x ∷ fs) zero g all is = let P : List Symbol → Type 0 = λ y. ListsCommute y f in subst P (same_Some x g is) all.0
 at f (x ∷ fs) (suc t) g all is = at f fs t g all.1 is
 
 two : (fs : List (List Symbol)) (t u : ℕ) (f g : List Symbol) → AllListsCommute fs → u < t → slice_get fs t ≡ Some f → slice_get fs u ≡ Some g → ListsCommute f g
 two [] t u f g all l is_f is_g = absurd (cc is_f)
 two (x ∷ fs) zero u f g all l is_f is_g = let no : ⊥ = omega (arith, l) in absurd no
-two (x ∷ fs) (suc t) zero f g all l is_f is_g = let P : List Symbol → Type 0 = λ y. ListsCommute f y in subst P (inside x g is_g) (at x fs t f all.0 is_f)
+two (x ∷ fs) (suc t) zero f g all l is_f is_g = let P : List Symbol → Type 0 = λ y. ListsCommute f y in subst P (same_Some x g is_g) (at x fs t f all.0 is_f)
 two (x ∷ fs) (suc t) (suc u) f g all l is_f is_g = let l2 : u < t = omega (arith, l) in two fs t u f g all.1 l2 is_f is_g
 
 pub never_delayed : (d e : DeskView) (t u : ℕ) (op : Op) → IsDesk d → AllListsCommute (begun_in d.acts) → CalledAs d e t op (called.Delayed u) → ⊥

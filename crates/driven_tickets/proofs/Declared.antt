@@ -1,17 +1,16 @@
 -- What a ticket has declared, by its place among the open ones; and that its operation is free.
-use Rattle.std.proofs.Common.{◌≡◌, ℕ, zero, suc, ◌<◌, List, [], ◌∷◌, Option, Some, None, true, false, cond, eqb, length, take, get_or, slice_get, inl, inr, refl, sym, ◌∙◌, ap, subst, arith}
+use Rattle.std.proofs.Common.{◌≡◌, ℕ, zero, suc, ◌<◌, List, [], ◌∷◌, Some, None, true, false, cond, eqb, length, take, get_or, slice_get, inl, inr, refl, sym, ◌∙◌, ap, subst, arith}
 use Rattle.std.specs.List.{AllByRecursion}
 use Rattle.std.proofs.lemmas.Bool.Decides.{nat_tests}
+use Rattle.std.proofs.lemmas.Bool.{eq-eqb}
+use Rattle.std.proofs.lemmas.Option.{same_Some, slice_get-get_or}
 use Rattle.session_values.specs.declared.op.Op.{Op}
 use Rattle.session_values.specs.Commuting.{Commute}
 use Rattle.symbolic_ops.specs.declared.symbol.Symbol.{Symbol}
 use Rattle.symbolic_ops.specs.Matching.{Matches}
-use Rattle.commute_tables.specs.Symbols.{CommutesWith, CommutesWithAll}
+use Rattle.symbolic_ops.specs.Commuting.{CommutesWith, CommutesWithAll}
 use Rattle.driven_tickets.specs.declared.open_ticket.OpenTicket.{OpenTicket}
 use Rattle.driven_tickets.specs.Tickets.{AreFreeBelow, IsAt, declared_in}
-
-equal : (a b : ℕ) → a ≡ b → eqb a b ≡ true
-equal a b e = grind (arith, nat_tests)
 
 apart : (a b : ℕ) → (b ≡ a → ⊥) → eqb a b ≡ false
 apart a b k = elim (eqb a b) as (λ v. eqb a b ≡ v → v ≡ false) [ true ↦ λ e. absurd (k (same a b e)) | false ↦ λ e. refl ] refl
@@ -19,17 +18,11 @@ apart a b k = elim (eqb a b) as (λ v. eqb a b ≡ v → v ≡ false) [ true ↦
     same : (a b : ℕ) → eqb a b ≡ true → b ≡ a
     same a b e = grind (arith, nat_tests)
 
-one : (x y : OpenTicket) → ◌≡◌ {A = Option OpenTicket} (Some x) (Some y) → x ≡ y
-one x y h = cc
-
-list_of : (f g : List Symbol) → ◌≡◌ {A = Option (List Symbol)} (Some f) (Some g) → f ≡ g
-list_of f g h = cc
-
 found_at : (list : List OpenTicket) (t i : ℕ) (o : OpenTicket) → slice_get list i ≡ Some o → declared_in (take i list) t ≡ None → o.ticket ≡ t → declared_in list t ≡ Some o.declared.symbols
 found_at [] t i o q h e = absurd (cc q)
 found_at (y ∷ list) t zero o q h e =
-    let is : y ≡ o = one y o q in
-    ap (λ b. cond b (Some y.declared.symbols) (declared_in list t)) (equal t y.ticket (sym e ∙ ap (λ (z : OpenTicket). z.ticket) (sym is))) ∙ ap (λ (z : OpenTicket). Some z.declared.symbols) is
+    let is : y ≡ o = same_Some y o q in
+    ap (λ b. cond b (Some y.declared.symbols) (declared_in list t)) (eq-eqb t y.ticket (sym e ∙ ap (λ (z : OpenTicket). z.ticket) (sym is))) ∙ ap (λ (z : OpenTicket). Some z.declared.symbols) is
 found_at (y ∷ list) t (suc i) o q h e =
     elim (eqb t y.ticket) as (λ b. cond b (Some y.declared.symbols) (declared_in (take i list) t) ≡ None → cond b (Some y.declared.symbols) (declared_in list t) ≡ Some o.declared.symbols) [
       | true ↦ λ k. absurd (cc k)
@@ -39,7 +32,7 @@ found_at (y ∷ list) t (suc i) o q h e =
 pub missed_next : (list : List OpenTicket) (t i : ℕ) (x : OpenTicket) → slice_get list i ≡ Some x → declared_in (take i list) t ≡ None → (x.ticket ≡ t → ⊥) → declared_in (take (suc i) list) t ≡ None
 missed_next [] t i x q h k = absurd (cc q)
 missed_next (y ∷ list) t zero x q h k =
-    let is : y ≡ x = one y x q in
+    let is : y ≡ x = same_Some y x q in
     let P : OpenTicket → Type 0 = λ z. z.ticket ≡ t → ⊥ in
     ap (λ b. cond b (Some y.declared.symbols) None) (apart t y.ticket (subst P (sym is) k))
 missed_next (y ∷ list) t (suc i) x q h k =
@@ -59,24 +52,19 @@ free_of op t (o ∷ list) h u g l q =
     elim (eqb u o.ticket) as (λ b. eqb u o.ticket ≡ b → cond b (Some o.declared.symbols) (declared_in list u) ≡ Some g → CommutesWithAll op g) [
       | true ↦ λ e k.
           let P : List Symbol → Type 0 = λ f. CommutesWithAll op f in
-          subst P (list_of o.declared.symbols g k) (record { each = with_each op o.declared.symbols (h.0 (less o.ticket u t e l)) })
+          subst P (same_Some o.declared.symbols g k) (record { each = with_each op o.declared.symbols (h.0 (less o.ticket u t e l)) })
       | false ↦ λ e k. free_of op t list h.1 u g l k
     ] refl q
   where
     less : (a u t : ℕ) → eqb u a ≡ true → u < t → a < t
     less a u t e l = grind (arith, nat_tests)
 
-pub get_is : (list : List OpenTicket) (i : ℕ) (d : OpenTicket) → i < length list → slice_get list i ≡ Some (get_or list i d)
-get_is [] i d l = let no : ⊥ = omega (arith, l) in absurd no
-get_is (y ∷ list) zero d l = refl
-get_is (y ∷ list) (suc i) d l = let l2 : i < length list = omega (arith, l) in get_is list i d l2
-
 pub same_ticket : (list : List OpenTicket) (t i : ℕ) (d o : OpenTicket) → i < length list → (get_or list i d).ticket ≡ t → slice_get list i ≡ Some o → o.ticket ≡ t
-same_ticket list t i d o l e q = ap (λ (z : OpenTicket). z.ticket) (one o (get_or list i d) (sym q ∙ get_is list i d l)) ∙ e
+same_ticket list t i d o l e q = ap (λ (z : OpenTicket). z.ticket) (same_Some o (get_or list i d) (sym q ∙ slice_get-get_or list i d l)) ∙ e
 
 -- ---- the ticket at a place, as an index reads it
 read_is : (list : List OpenTicket) (t i : ℕ) (r : OpenTicket) → IsAt list t i → r ≡ get_or list i r → slice_get list i ≡ Some r
-read_is list t i r a is = get_is list i r a.within ∙ ap (λ (z : OpenTicket). Some z) (sym is)
+read_is list t i r a is = slice_get-get_or list i r a.within ∙ ap (λ (z : OpenTicket). Some z) (sym is)
 
 pub found : (list : List OpenTicket) (t i : ℕ) (r : OpenTicket) → IsAt list t i → r ≡ get_or list i r → declared_in list t ≡ Some r.declared.symbols
 found list t i r a is = let q : slice_get list i ≡ Some r = read_is list t i r a is in found_at list t i r q a.first (a.is r q)

@@ -1,10 +1,10 @@
 -- Who is delayed, by the list of open tickets, and who never is.
-use Rattle.std.proofs.Common.{◌≡◌, ℕ, suc, List, [], ◌∷◌, Some, cond, eqb, true, inl, inr, sym, ◌∙◌, ap, arith}
+use Rattle.std.proofs.Common.{◌≡◌, ℕ, suc, List, [], ◌∷◌, Some, cond, inl, inr, sym, ◌∙◌, ap, arith}
 use Rattle.std.specs.List.{AllByRecursion}
-use Rattle.std.proofs.lemmas.Bool.Decides.{nat_tests}
+use Rattle.std.proofs.lemmas.Bool.{eq-eqb}
 use Rattle.session_values.specs.declared.op.Op.{Op}
 use Rattle.symbolic_ops.specs.declared.symbol.Symbol.{Symbol}
-use Rattle.commute_tables.specs.Symbols.{CommutesWith, CommutesWithAll}
+use Rattle.symbolic_ops.specs.Commuting.{CommutesWith, CommutesWithAll}
 use Rattle.driven_tickets.specs.declared.open_ticket.OpenTicket.{OpenTicket}
 use Rattle.driven_tickets.specs.Commuting.{CommutesWithOlder, IsOldest}
 use Rattle.driven_tickets.specs.declared.answers.Called.TheVariants as called
@@ -27,12 +27,9 @@ against_one : (op : Op) (n m : ℕ) (os : List OpenTicket) (u : ℕ) → AreAsce
 against_one op n m [] u h a = absurd a
 against_one op n m (o ∷ os) u h (inl a) = record {
   list = o.declared.symbols;
-  is = ap (λ b. cond b (Some o.declared.symbols) (declared_in os u)) (equal u o.ticket (sym a.0));
+  is = ap (λ b. cond b (Some o.declared.symbols) (declared_in os u)) (eq-eqb u o.ticket (sym a.0));
   against = λ c. a.1 (each_alone op o.declared.symbols c);
 }
-  where
-    equal : (a b : ℕ) → a ≡ b → eqb a b ≡ true
-    equal a b e = grind (arith, nat_tests)
 against_one op n m (o ∷ os) u h (inr a) =
     let one : Against op os u = against_one op (suc o.ticket) m os u h.1 a in
     record {

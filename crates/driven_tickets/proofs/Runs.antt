@@ -1,37 +1,28 @@
 -- What every desk keeps along a run of acts.
-use Rattle.std.proofs.Common.{◌≡◌, ℕ, ◌<◌, ◌≤◌, List, [], ◌∷◌, ◌++◌, Option, Some, None, true, false, cond, eqb, leb, refl, sym, ◌∙◌, ap, subst, append-nil, append_assoc, arith}
+use Rattle.std.proofs.Common.{◌≡◌, ℕ, ◌<◌, ◌≤◌, List, [], ◌∷◌, ◌++◌, Some, None, true, false, cond, eqb, leb, refl, sym, ◌∙◌, ap, subst, append-nil, append_assoc, arith}
 use Rattle.std.specs.List.{AllByRecursion}
 use Rattle.std.proofs.lemmas.Bool.Decides.{nat_tests}
+use Rattle.std.proofs.lemmas.Option.{same_Some, none-some}
+use Rattle.std.proofs.lemmas.Bool.{eqb-true, leb-true, leb-false}
 use Rattle.session_values.specs.declared.op.Op.{Op}
 use Rattle.session_values.specs.declared.value.Value.{Value}
 use Rattle.session_values.specs.Commuting.{Commute}
 use Rattle.session_values.specs.Dialogue.{Entry}
 use Rattle.session_values.specs.Tables.{Tables, reply, step}
+use Rattle.session_values.proofs.Lists.{all_push, all_weaker}
 use Rattle.symbolic_ops.specs.declared.symbol.Symbol.{Symbol}
 use Rattle.symbolic_ops.specs.Matching.{Covered}
 use Rattle.symbolic_ops.proofs.Above.{covered_matches}
-use Rattle.commute_tables.specs.Symbols.{CommutesWithAll}
+use Rattle.symbolic_ops.specs.Commuting.{CommutesWithAll}
 use Rattle.session_journal.specs.Journal.{DoneOperation, entry_of, in_order, by_ticket, run, Replays, InversionsCommute}
 use Rattle.session_journal.proofs.Replay.{run-append, Replays-append}
-use Rattle.session_journal.proofs.Regroup.{regrouped_replays}
+use Rattle.session_journal.proofs.Regroup.{regrouped_replays, InversionsCommute-push}
 use Rattle.driven_tickets.specs.Acts.{Act, Begins, Calls, Narrows, Ends, DeskState, HasBegun, HasCalled, HasNarrowed, HasEnded, Run, done_in, opened}
 
 -- ---- one operation more
 in_order-push : (ds : List DoneOperation) (d : DoneOperation) → in_order (ds ++ d ∷ []) ≡ in_order ds ++ entry_of d ∷ []
 in_order-push [] d = refl
 in_order-push (x ∷ ds) d = ap (λ (es : List Entry). entry_of x ∷ es) (in_order-push ds d)
-
-All-push : (P : DoneOperation → Type 0) (ds : List DoneOperation) (d : DoneOperation) → AllByRecursion P ds → P d → AllByRecursion P (ds ++ d ∷ [])
-All-push P [] d a p = (p, tt)
-All-push P (x ∷ ds) d a p = (a.0, All-push P ds d a.1 p)
-
-All-weaker : (P Q : DoneOperation → Type 0) → ((d : DoneOperation) → P d → Q d) → (ds : List DoneOperation) → AllByRecursion P ds → AllByRecursion Q ds
-All-weaker P Q f [] a = tt
-All-weaker P Q f (d ∷ ds) a = (f d a.0, All-weaker P Q f ds a.1)
-
-Inversions-push : (ds : List DoneOperation) (d : DoneOperation) → InversionsCommute ds → AllByRecursion (λ x. d.ticket < x.ticket → Commute x.op d.op) ds → InversionsCommute (ds ++ d ∷ [])
-Inversions-push [] d c a = (tt, tt)
-Inversions-push (x ∷ ds) d c a = (All-push (λ e. e.ticket < x.ticket → Commute x.op e.op) ds d c.0 a.0, Inversions-push ds d c.1 a.1)
 
 -- ---- what is kept
 -- every operation of a younger ticket commutes with all of a list that a ticket declares
@@ -46,26 +37,11 @@ record Keeps (ts : Tables) (p : DeskState) (ds : List DoneOperation) : Type 0 wh
   unborn : (t : ℕ) → p.next ≤ t → p.at t ≡ None
   free : (t : ℕ) (f : List Symbol) → p.at t ≡ Some f → Younger t f ds
 
-inside : (f g : List Symbol) → ◌≡◌ {A = Option (List Symbol)} (Some f) (Some g) → f ≡ g
-inside f g h = cc
-
-never : {A : Type 0} (f : List Symbol) → ◌≡◌ {A = Option (List Symbol)} None (Some f) → A
-never f h = absurd (cc h)
-
-same : (u t : ℕ) → eqb u t ≡ true → u ≡ t
-same u t e = grind (arith, nat_tests)
-
-at_most : (m n : ℕ) → leb m n ≡ true → m ≤ n
-at_most m n e = grind (arith, nat_tests)
-
-beyond : (m n : ℕ) → leb m n ≡ false → n < m
-beyond m n e = grind (arith, nat_tests)
-
 -- an open ticket is below the next one
 born : (ts : Tables) (p : DeskState) (ds : List DoneOperation) → Keeps ts p ds → (t : ℕ) (f : List Symbol) → p.at t ≡ Some f → t < p.next
 born ts p ds k t f is = elim (leb p.next t) as (λ b. leb p.next t ≡ b → t < p.next) [
-  | true ↦ λ e. never f (sym (k.unborn t (at_most p.next t e)) ∙ is)
-  | false ↦ λ e. beyond p.next t e
+  | true ↦ λ e. absurd (none-some f (sym (k.unborn t (leb-true p.next t e)) ∙ is))
+  | false ↦ λ e. leb-false p.next t e
 ] refl
 
 -- a narrower list commutes with no less
@@ -78,10 +54,10 @@ module _ (ts : Tables) (p q : DeskState) (ds : List DoneOperation) (k : Keeps ts
     replays = k.replays;
     tables = h.tables_still ∙ k.tables;
     inversions = k.inversions;
-    below = All-weaker (λ d. d.ticket < p.next) (λ d. d.ticket < q.next) (λ d l. omega (arith, l, h.next_more)) ds k.below;
+    below = all_weaker (λ d. d.ticket < p.next) (λ d. d.ticket < q.next) (λ d l. omega (arith, l, h.next_more)) ds k.below;
     unborn = λ t l. h.at_is t ∙ ap (λ b. cond b (Some f) (p.at t)) (apart t p.next (omega (arith, l, h.next_more))) ∙ k.unborn t (omega (arith, l, h.next_more));
     free = λ t g is. elim (eqb t p.next) as (λ b. eqb t p.next ≡ b → Younger t g ds) [
-      | true ↦ λ e. All-weaker (λ d. d.ticket < p.next) (λ d. t < d.ticket → CommutesWithAll d.op g) (λ d l m. absurd (omega (arith, l, m, same t p.next e))) ds k.below
+      | true ↦ λ e. all_weaker (λ d. d.ticket < p.next) (λ d. t < d.ticket → CommutesWithAll d.op g) (λ d l m. absurd (omega (arith, l, m, eqb-true t p.next e))) ds k.below
       | false ↦ λ e. k.free t g (sym (h.at_is t ∙ ap (λ b. cond b (Some f) (p.at t)) e) ∙ is)
     ] refl;
   }
@@ -99,10 +75,10 @@ module _ (ts : Tables) (p q : DeskState) (ds : List DoneOperation) (k : Keeps ts
       record {
         replays = subst R (sym order) (Replays-append ts (in_order ds) (entry_of d ∷ []) k.replays (told, tt));
         tables = h.tables_are ∙ ap (λ us. step us op) k.tables ∙ sym (ap (run ts) order ∙ run-append ts (in_order ds) (entry_of d ∷ []));
-        inversions = Inversions-push ds d k.inversions (All-weaker (λ x. t < x.ticket → CommutesWithAll x.op h.declared) (λ x. t < x.ticket → Commute x.op op) (λ x c l. (c l).each op h.matches) ds mine);
-        below = All-push (λ x. x.ticket < q.next) ds d (All-weaker (λ x. x.ticket < p.next) (λ x. x.ticket < q.next) (λ x l. omega (arith, l, h.next_still)) ds k.below) (let l : t < p.next = born ts p ds k t h.declared h.is in omega (arith, l, h.next_still));
+        inversions = InversionsCommute-push ds d k.inversions (all_weaker (λ x. t < x.ticket → CommutesWithAll x.op h.declared) (λ x. t < x.ticket → Commute x.op op) (λ x c l. (c l).each op h.matches) ds mine);
+        below = all_push (λ x. x.ticket < q.next) ds d (all_weaker (λ x. x.ticket < p.next) (λ x. x.ticket < q.next) (λ x l. omega (arith, l, h.next_still)) ds k.below) (let l : t < p.next = born ts p ds k t h.declared h.is in omega (arith, l, h.next_still));
         unborn = λ u l. h.at_still u ∙ k.unborn u (omega (arith, l, h.next_still));
-        free = λ u g is. let was : p.at u ≡ Some g = sym (h.at_still u) ∙ is in All-push (λ x. u < x.ticket → CommutesWithAll x.op g) ds d (k.free u g was) (λ l. h.free u g l was);
+        free = λ u g is. let was : p.at u ≡ Some g = sym (h.at_still u) ∙ is in all_push (λ x. u < x.ticket → CommutesWithAll x.op g) ds d (k.free u g was) (λ l. h.free u g l was);
       }
 
   narrowed : (t : ℕ) (g : List Symbol) → HasNarrowed p q t g → Keeps ts q ds
@@ -112,14 +88,14 @@ module _ (ts : Tables) (p q : DeskState) (ds : List DoneOperation) (k : Keeps ts
         replays = k.replays;
         tables = h.tables_still ∙ k.tables;
         inversions = k.inversions;
-        below = All-weaker (λ d. d.ticket < p.next) (λ d. d.ticket < q.next) (λ d m. omega (arith, m, h.next_still)) ds k.below;
+        below = all_weaker (λ d. d.ticket < p.next) (λ d. d.ticket < q.next) (λ d m. omega (arith, m, h.next_still)) ds k.below;
         unborn = λ u m. h.at_is u ∙ ap (λ b. cond b (Some g) (p.at u)) (apart u t p.next l (omega (arith, m, h.next_still))) ∙ k.unborn u (omega (arith, m, h.next_still));
         free = λ u f is. elim (eqb u t) as (λ b. eqb u t ≡ b → Younger u f ds) [
           | true ↦ λ e.
-              let e_list : g ≡ f = inside g f (sym (h.at_is u ∙ ap (λ b. cond b (Some g) (p.at u)) e) ∙ is) in
-              let at_u : p.at u ≡ Some h.declared = ap p.at (same u t e) ∙ h.is in
+              let e_list : g ≡ f = same_Some g f (sym (h.at_is u ∙ ap (λ b. cond b (Some g) (p.at u)) e) ∙ is) in
+              let at_u : p.at u ≡ Some h.declared = ap p.at (eqb-true u t e) ∙ h.is in
               let P : List Symbol → Type 0 = λ x. Younger u x ds in
-              subst P e_list (All-weaker (λ d. u < d.ticket → CommutesWithAll d.op h.declared) (λ d. u < d.ticket → CommutesWithAll d.op g) (λ d c m. narrower d.op h.declared g h.covered (c m)) ds (k.free u h.declared at_u))
+              subst P e_list (all_weaker (λ d. u < d.ticket → CommutesWithAll d.op h.declared) (λ d. u < d.ticket → CommutesWithAll d.op g) (λ d c m. narrower d.op h.declared g h.covered (c m)) ds (k.free u h.declared at_u))
           | false ↦ λ e. k.free u f (sym (h.at_is u ∙ ap (λ b. cond b (Some g) (p.at u)) e) ∙ is)
         ] refl;
       }
@@ -132,13 +108,13 @@ module _ (ts : Tables) (p q : DeskState) (ds : List DoneOperation) (k : Keeps ts
     replays = k.replays;
     tables = h.tables_still ∙ k.tables;
     inversions = k.inversions;
-    below = All-weaker (λ d. d.ticket < p.next) (λ d. d.ticket < q.next) (λ d m. omega (arith, m, h.next_still)) ds k.below;
+    below = all_weaker (λ d. d.ticket < p.next) (λ d. d.ticket < q.next) (λ d m. omega (arith, m, h.next_still)) ds k.below;
     unborn = λ u m. elim (eqb u t) as (λ b. eqb u t ≡ b → q.at u ≡ None) [
       | true ↦ λ e. h.at_is u ∙ ap (λ b. cond b None (p.at u)) e
       | false ↦ λ e. h.at_is u ∙ ap (λ b. cond b None (p.at u)) e ∙ k.unborn u (omega (arith, m, h.next_still))
     ] refl;
     free = λ u f is. elim (eqb u t) as (λ b. eqb u t ≡ b → Younger u f ds) [
-      | true ↦ λ e. never f (sym (h.at_is u ∙ ap (λ b. cond b None (p.at u)) e) ∙ is)
+      | true ↦ λ e. absurd (none-some f (sym (h.at_is u ∙ ap (λ b. cond b None (p.at u)) e) ∙ is))
       | false ↦ λ e. k.free u f (sym (h.at_is u ∙ ap (λ b. cond b None (p.at u)) e) ∙ is)
     ] refl;
   }

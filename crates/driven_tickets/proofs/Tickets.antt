@@ -2,6 +2,7 @@
 use Rattle.std.proofs.Common.{◌≡◌, ℕ, zero, suc, ◌<◌, ◌≤◌, Bool, true, false, List, [], ◌∷◌, ◌++◌, Option, Some, None, cond, eqb, take, set, refl, sym, ◌∙◌, ap, subst, arith}
 use Rattle.std.specs.List.{remove}
 use Rattle.std.proofs.lemmas.Bool.Decides.{nat_tests}
+use Rattle.std.proofs.lemmas.Bool.{eq-eqb, eqb-true}
 use Rattle.symbolic_ops.specs.declared.symbol.Symbol.{Symbol}
 use Rattle.driven_tickets.specs.declared.open_ticket.OpenTicket.{OpenTicket}
 use Rattle.driven_tickets.specs.Tickets.{AreAscending, IsAt, declared_in}
@@ -12,14 +13,8 @@ Declares = Option (List Symbol)
 abbrev list_of : OpenTicket → Declares
 list_of o = Some o.declared.symbols
 
-equal : (a b : ℕ) → a ≡ b → eqb a b ≡ true
-equal a b e = grind (arith, nat_tests)
-
 apart : (a b : ℕ) → a < b → eqb a b ≡ false
 apart a b l = grind (arith, nat_tests)
-
-same : (a b : ℕ) → eqb a b ≡ true → a ≡ b
-same a b e = grind (arith, nat_tests)
 
 -- ---- a place behind the first
 -- the first ticket is another one
@@ -85,7 +80,7 @@ over n m (x ∷ os) u h l =
 pub later : (n m : ℕ) (os : List OpenTicket) (u k : ℕ) (f : List Symbol) → AreAscending n os m → declared_in os u ≡ Some f → k < n → eqb u k ≡ false
 later n m os u k f h is l =
     elim (eqb u k) as (λ b. eqb u k ≡ b → b ≡ false) [
-      | true ↦ λ q. let e : u ≡ k = same u k q in let no : declared_in os u ≡ None = under n m os u h (omega (arith, l, e)) in cc (no, is)
+      | true ↦ λ q. let e : u ≡ k = eqb-true u k q in let no : declared_in os u ≡ None = under n m os u h (omega (arith, l, e)) in cc (no, is)
       | false ↦ λ q. refl
     ] refl
 
@@ -95,7 +90,7 @@ declared-push n m (x ∷ os) o u h e =
     elim (eqb u x.ticket) as (λ b. eqb u x.ticket ≡ b → cond b (list_of x) (declared_in (os ++ o ∷ []) u) ≡ cond (eqb u m) (list_of o) (cond b (list_of x) (declared_in os u))) [
       | true ↦ λ q.
           let l : suc x.ticket ≤ m = most (suc x.ticket) m os h.1 in
-          let is : u ≡ x.ticket = same u x.ticket q in
+          let is : u ≡ x.ticket = eqb-true u x.ticket q in
           sym (ap (λ b. cond b (list_of o) (list_of x)) (apart u m (omega (arith, l, is))))
       | false ↦ λ q. declared-push (suc x.ticket) m os o u h.1 e
     ] refl
@@ -113,7 +108,7 @@ declared-set (x ∷ os) zero t o u a e =
 declared-set (x ∷ os) (suc i) t o u a e =
     elim (eqb u x.ticket) as (λ b. eqb u x.ticket ≡ b → cond b (list_of x) (declared_in (set os i o) u) ≡ cond (eqb u t) (list_of o) (cond b (list_of x) (declared_in os u))) [
       | true ↦ λ q.
-          let is : u ≡ x.ticket = same u x.ticket q in
+          let is : u ≡ x.ticket = eqb-true u x.ticket q in
           sym (ap (λ b. cond b (list_of o) (list_of x)) (ap (λ k. eqb k t) is ∙ swapped x.ticket t (other x os i t a)))
       | false ↦ λ q. declared-set os i t o u (behind x os i t a) e
     ] refl
@@ -126,13 +121,13 @@ declared-removed n m [] i t u h a = let no : ⊥ = omega (arith, a.within) in ab
 declared-removed n m (x ∷ os) zero t u h a =
     let P : ℕ → Type 0 = λ k. declared_in os u ≡ cond (eqb u k) None (cond (eqb u x.ticket) (list_of x) (declared_in os u)) in
     subst P (a.is x refl) (elim (eqb u x.ticket) as (λ b. eqb u x.ticket ≡ b → declared_in os u ≡ cond b None (cond b (list_of x) (declared_in os u))) [
-      | true ↦ λ q. let is : u ≡ x.ticket = same u x.ticket q in under (suc x.ticket) m os u h.1 (omega (arith, is))
+      | true ↦ λ q. let is : u ≡ x.ticket = eqb-true u x.ticket q in under (suc x.ticket) m os u h.1 (omega (arith, is))
       | false ↦ λ q. refl
     ] refl)
 declared-removed n m (x ∷ os) (suc i) t u h a =
     elim (eqb u x.ticket) as (λ b. eqb u x.ticket ≡ b → cond b (list_of x) (declared_in (remove os i) u) ≡ cond (eqb u t) None (cond b (list_of x) (declared_in os u))) [
       | true ↦ λ q.
-          let is : u ≡ x.ticket = same u x.ticket q in
+          let is : u ≡ x.ticket = eqb-true u x.ticket q in
           sym (ap (λ b. cond b None (list_of x)) (ap (λ k. eqb k t) is ∙ swapped x.ticket t (other x os i t a)))
       | false ↦ λ q. declared-removed (suc x.ticket) m os i t u h.1 (behind x os i t a)
     ] refl
@@ -149,7 +144,7 @@ pub open_at : (os : List OpenTicket) (t i : ℕ) → IsAt os t i → Opened os t
 open_at [] t i a = let no : ⊥ = omega (arith, a.within) in absurd no
 open_at (x ∷ os) t zero a = record {
   list = x.declared.symbols;
-  is = ap (λ b. cond b (list_of x) (declared_in os t)) (equal t x.ticket (sym (a.is x refl)));
+  is = ap (λ b. cond b (list_of x) (declared_in os t)) (eq-eqb t x.ticket (sym (a.is x refl)));
 }
 open_at (x ∷ os) t (suc i) a =
     let one : Opened os t = open_at os t i (behind x os i t a) in

@@ -5,7 +5,7 @@ use Rattle.session_values.specs.declared.value.Value.{Value}
 use Rattle.session_values.specs.Tables.{Tables, reply, step}
 use Rattle.symbolic_ops.specs.declared.symbol.Symbol.{Symbol}
 use Rattle.symbolic_ops.specs.Matching.{Covered, Matches}
-use Rattle.commute_tables.specs.Symbols.{CommutesWithAll}
+use Rattle.symbolic_ops.specs.Commuting.{CommutesWithAll}
 use Rattle.session_journal.specs.Journal.{DoneOperation}
 
 -- the tables, the number of the next ticket, and of each open ticket what it may still call

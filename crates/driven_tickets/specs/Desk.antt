@@ -5,7 +5,7 @@ use Rattle.session_values.specs.declared.op.Op.{Op}
 use Rattle.session_values.specs.Tables.{Fits, Tables, kind_of}
 use Rattle.symbolic_ops.specs.declared.symbol.Symbol.{Symbol}
 use Rattle.symbolic_ops.specs.Matching.{Covered, Matches}
-use Rattle.commute_tables.specs.Symbols.{CommutesWithAll}
+use Rattle.symbolic_ops.specs.Commuting.{CommutesWithAll}
 use Rattle.driven_tickets.specs.declared.answers.BeginError.{BeginError}
 use Rattle.driven_tickets.specs.declared.answers.BeginError.TheVariants as unbegun
 use Rattle.driven_tickets.specs.declared.answers.Called.{Called}

@@ -3,7 +3,7 @@ use Rattle.std.specs.Prelude.{◌≡◌, ℕ, suc, ◌<◌, ◌≤◌, ◌==◌,
 use Rattle.std.specs.List.{AllByRecursion}
 use Rattle.session_values.specs.declared.op.Op.{Op}
 use Rattle.symbolic_ops.specs.declared.symbol.Symbol.{Symbol}
-use Rattle.commute_tables.specs.Symbols.{CommutesWith}
+use Rattle.symbolic_ops.specs.Commuting.{CommutesWith}
 use Rattle.driven_tickets.specs.declared.open_ticket.OpenTicket.{OpenTicket}
 
 -- what a ticket has declared, if it is open

@@ -4,7 +4,7 @@ ghost use Rattle.std.specs.Prelude.{◌≡◌, ◌<◌, MatchOption, Some, None}
 ghost use Rattle.std.specs.Bool.{Decides};
 ghost use Rattle.std.specs.List.{AllByRecursion};
 ghost use Rattle.symbolic_ops.specs.Matching.{HasNoVar, Matches};
-ghost use Rattle.commute_tables.specs.Symbols.{CommutesWith};
+ghost use Rattle.symbolic_ops.specs.Commuting.{CommutesWith};
 ghost use Rattle.driven_tickets.specs.Tickets.{AreFreeBelow, IsLeastAgainst};
 
 use crate::open_ticket::OpenTicket;

@@ -9,17 +9,12 @@ use Rattle.session_values.specs.Dialogue.{Answers, Calls, rest}
 use Rattle.session_values.specs.Op.{IsHeld}
 use Rattle.session_values.specs.Tables.{Fits}
 use Rattle.session_values.specs.Values.{IsValue}
+use Rattle.session_values.proofs.Entries.{same_call, no_call}
 use Rattle.symbolic_ops.specs.Matching.{Below, Covered, HasNoVar, Matches, exact_symbol}
 use Rattle.symbolic_ops.proofs.Above.{exact_stands}
 use Rattle.session_journal.specs.Script.{HasValues, IsForesight}
 use Rattle.example_bookings.specs.declared.booking.Booking.{Booking}
 use Rattle.example_bookings.specs.Bookings.{answer, booking_tables, declares, dialogue, holder, look_up, second, take_seat, wait}
-
-pub no_call : {A : Type 0} (r : Reply) (p : Op) → Answers r ≡ Calls p → A
-no_call r p e = cc
-
-pub same_call : (o p : Op) → Calls o ≡ Calls p → o ≡ p
-same_call o p e = cc
 
 module _ (b : Booking) where
   held_number : (n : ℕ) → n < 2 ^ 32 → n < 2 ^ 63

@@ -5,13 +5,14 @@ use Rattle.session_values.specs.Dialogue.{Entry, Follows}
 use Rattle.session_values.specs.Kinds.{is_adding}
 use Rattle.session_values.specs.Sums.{sum_below}
 use Rattle.session_values.specs.Tables.{start}
-use Rattle.opening_tables.specs.Opening.{IsOpening, Pair, entries_of, tables_of}
-use Rattle.opening_tables.proofs.Openings.{no_opening, start_is}
+use Rattle.session_values.proofs.Entries.{same_call, no_call}
+use Rattle.session_journal.specs.Opening.{IsOpening, Pair, entries_of, tables_of}
+use Rattle.session_journal.proofs.Openings.{no_opening, start_is}
 use Rattle.session_journal.proofs.ListLawful.{none_there, nothing_there}
 use Rattle.session_journal.specs.Script.{IsScript, adds_on}
 use Rattle.example_bookings.specs.declared.booking.Booking.{Booking}
 use Rattle.example_bookings.specs.Bookings.{answer, booking_at, booking_tables, bookings_meaning, bookings_opened, dialogue, look_up}
-use Rattle.example_bookings.proofs.Dialogues.{ends, fits, foresight, no_call, same_call, values}
+use Rattle.example_bookings.proofs.Dialogues.{ends, fits, foresight, values}
 
 one_if_adding : Op → ℕ → ℕ
 one_if_adding op i = cond {A = ℕ} (is_adding op.kind && eqb op.table i) 1 0

@@ -10,7 +10,7 @@ use Rattle.session_values.specs.declared.op.Op.{Op}
 use Rattle.session_values.specs.declared.reply.Reply.{Reply}
 use Rattle.session_values.specs.Dialogue.{Calls, Answers, Dialogue}
 use Rattle.session_values.specs.Tables.{start}
-use Rattle.opening_tables.specs.Opening.{Pair, no_entries}
+use Rattle.session_journal.specs.Opening.{Pair, no_entries}
 use Rattle.symbolic_ops.specs.declared.symbol.Symbol.{Symbol}
 use Rattle.symbolic_ops.specs.Matching.{exact_symbol}
 use Rattle.session_journal.specs.Script.{Meaning}

@@ -1,7 +1,7 @@
 // Bookings as a script: a ticket for each.
 
 ghost use Rattle.std.specs.Prelude.{◌≤◌, length};
-ghost use Rattle.session_limits.specs.Limits.{max_requests};
+ghost use Rattle.session_values.specs.Limits.{max_requests};
 
 use crate::booking::Booking;
 use session_journal::{Desk, Scratch, Script, Serves, Site};

@@ -1,8 +1,8 @@
 -- How a call of the library ends, from what a run over memory promises.
-use Rattle.std.proofs.Common.{◌≡◌, ◌<◌, ◌≤◌, ℕ, ◌⊎◌, inl, inr, Bool, true, false, cond, nat_le, List, [], length, Option, Some, None, IfSome, refl, sym, subst, arith}
-use Rattle.std.proofs.lemmas.Bool.Decides.{nat_tests}
+use Rattle.std.proofs.Common.{◌≡◌, ℕ, ◌⊎◌, inl, inr, Bool, true, false, cond, nat_le, List, [], length, Option, Some, None, IfSome, refl, sym, subst}
+use Rattle.std.proofs.lemmas.Bool.{leb-true, leb-false}
 use Rattle.byte_ends.specs.Ends.{Grew}
-use Rattle.serve_words.specs.declared.command.Command.{Command}
+use Rattle.serve_faults.specs.Command.{Command}
 use Rattle.serve_faults.specs.declared.status.Fault.{Fault}
 use Rattle.serve_faults.specs.declared.status.Status.{Status}
 use Rattle.serve_faults.specs.declared.status.Status.TheVariants as status
@@ -17,12 +17,6 @@ use Rattle.foresight_c.specs.declared.calling.Call.{Call}
 use Rattle.foresight_c.specs.Answered.{IsAnswered, IsHandedOver, MayEnd}
 use Rattle.foresight_c.specs.declared.answer.Answer.{Answer}
 use Rattle.foresight_c.specs.Endings.{ending, handed}
-
-within : (n m : ℕ) → nat_le n m ≡ true → n ≤ m
-within n m e = grind (arith, nat_tests, e)
-
-beyond : (n m : ℕ) → nat_le n m ≡ false → m < n
-beyond n m e = grind (arith, nat_tests, e)
 
 -- what an empty store holds of a text that it took is the text
 whole : (o p : Option (List ℕ)) (text got : List ℕ) → o ≡ Some [] → p ≡ Some got → Grew o p text → text ≡ got
@@ -71,7 +65,7 @@ module _ {I O : Type 0} (command : Command) (input text : List ℕ) (room : ℕ)
   fine_ends : CommandAnswers (Some command) input (answer.Text text) → ((fault : Fault) → CommandAnswers (Some command) input (answer.Refused fault) → ⊥) → (b : Bool) → nat_le (length text) room ≡ b
       → MayEnd command input room (cond b status.Fine status.WriteFault) (handed (cond b status.Fine status.WriteFault) text)
   fine_ends is none true e = record {
-    fine = λ _. (is, within (length text) room e);
+    fine = λ _. (is, leb-true (length text) room e);
     short = λ x. absurd (cc);
     unwritten = λ x y. absurd (x refl);
     refused = λ f x. absurd (cc);
@@ -82,7 +76,7 @@ module _ {I O : Type 0} (command : Command) (input text : List ℕ) (room : ℕ)
   }
   fine_ends is none false e = record {
     fine = λ x. absurd (cc);
-    short = λ _. (is, beyond (length text) room e);
+    short = λ _. (is, leb-false (length text) room e);
     unwritten = λ x y. absurd (y refl);
     refused = λ f x. absurd (cc);
     refusing = λ f h. absurd (none f h);

@@ -1,6 +1,6 @@
 -- What a call of the library promises.
 use Rattle.std.specs.Prelude.{◌≡◌, ◌≢◌, ◌<◌, ◌≤◌, ◌⊎◌, ℕ, min, List, [], length, Some}
-use Rattle.serve_words.specs.declared.command.Command.{Command}
+use Rattle.serve_faults.specs.Command.{Command}
 use Rattle.serve_faults.specs.declared.status.Fault.{Fault}
 use Rattle.serve_faults.specs.declared.status.Status.{Status}
 use Rattle.serve_faults.specs.declared.status.Status.TheVariants as status

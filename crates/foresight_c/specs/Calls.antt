@@ -1,7 +1,7 @@
 -- The commands that the library answers, and what it needs of a run of one.
 use Rattle.std.specs.Prelude.{◌≡◌, ◌≢◌, ◌⊎◌, ℕ, Some}
-use Rattle.serve_words.specs.declared.command.Command.{Command}
-use Rattle.serve_words.specs.declared.command.Command.TheVariants as command
+use Rattle.serve_faults.specs.Command.{Command}
+use Rattle.serve_faults.specs.Command.TheVariants as command
 use Rattle.serve_faults.specs.declared.status.Fault.{Fault}
 use Rattle.serve_faults.specs.declared.status.Status.{Status}
 use Rattle.serve_faults.specs.declared.status.Status.TheVariants as status

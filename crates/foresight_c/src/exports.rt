@@ -1,7 +1,7 @@
 // The calls of the library.
 
 ghost use Rattle.std.specs.Prelude.{ℕ};
-ghost use Rattle.serve_words.specs.declared.command.Command.TheVariants.{Audit, Check, Dump, Ranges, Serve, Show};
+ghost use Rattle.serve_faults.specs.Command.TheVariants.{Audit, Check, Dump, Ranges, Serve, Show};
 ghost use Rattle.foresight_c.specs.Answered.{IsAnswered};
 
 use crate::answer::Answer;

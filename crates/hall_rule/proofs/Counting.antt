@@ -1,5 +1,6 @@
 -- What the rule says of the counted book.
 use Rattle.std.proofs.Common.{◌≡◌, ℕ, suc, ◌<◌, ◌/◌, ◌%◌, ◌⊎◌, inl, inr, List, [], ◌∷◌, ◌++◌, length, Option, Some, None, Bool, true, false, cond, eqb, append-nil, append_assoc, refl, sym, ◌∙◌, ap, subst, arith}
+use Rattle.std.proofs.lemmas.Option.{same_Some, none-some}
 use Rattle.std.specs.Prelude.{slice_get}
 use Rattle.std.specs.List.{AllByRecursion}
 use Rattle.session_values.specs.Tables.{Tables, table}
@@ -9,15 +10,15 @@ use Rattle.session_journal.specs.Journal.{caller_of, owner, ticket_of}
 use Rattle.session_journal.specs.Script.{Meaning, IsScript}
 use Rattle.shard_tables.specs.Parts.{part}
 use Rattle.admission_book.specs.Book.{Book}
-use Rattle.admission_book.specs.EventsInTurn.{MayCome, ComeInTurn}
+use Rattle.session_journal.specs.EventsInTurn.{MayCome, ComeInTurn}
 use Rattle.admission_book.specs.Lawful.{Lawful}
 use Rattle.admission_book.specs.Methods.{Grows}
-use Rattle.admission_book.proofs.Events.{first_new, first_same, first_stays, through_turns}
+use Rattle.session_journal.proofs.Events.{first_new, first_same, first_stays, through_turns}
 use Rattle.admission_book.proofs.Foreknown.{foreknown, regrouped_lawful}
 use Rattle.hall_rule.specs.Contents.{Content, Register, Shard, IsNote, IsOfOther, IsShard, shards_in}
 use Rattle.hall_rule.specs.Counted.{ReplaysByTicket}
 use Rattle.hall_rule.specs.Tie.{Tied}
-use Rattle.hall_rule.specs.Law.{inside, none_some, same_script, same_book}
+use Rattle.hall_rule.specs.Law.{same_script, same_book}
 use Rattle.turn_board.proofs.Rows.{get-within}
 
 -- ---- the last of a list
@@ -51,17 +52,17 @@ All-last P (y ∷ xs) x a = All-last P xs x a.1
 
 -- ---- each ticket's caller is one of the book's
 owned : (m : Meaning) (callers : ℕ) (J : List Event) → ComeInTurn m callers [] J → (t c : ℕ) → owner J t ≡ Some c → c < callers
-owned m callers J h = through_turns m callers (λ K. (t c : ℕ) → owner K t ≡ Some c → c < callers) keep [] J (λ t c e. absurd (none_some c e)) h
+owned m callers J h = through_turns m callers (λ K. (t c : ℕ) → owner K t ≡ Some c → c < callers) keep [] J (λ t c e. absurd (none-some c e)) h
   where
     keep : (K : List Event) (e : Event) → ((t c : ℕ) → owner K t ≡ Some c → c < callers) → MayCome m callers K e → (t c : ℕ) → owner (K ++ e ∷ []) t ≡ Some c → c < callers
     keep K (Begin u d) p k t c o = go (owner K t) refl
       where
         new : (b : Bool) → ◌≡◌ {A = Option ℕ} (elim (cond b (Some d) None) [ Some x ↦ Some x | None ↦ None ]) (Some c) → c < callers
-        new true e = let P : ℕ → Type 0 = λ a. a < callers in subst P (inside d c e) k.caller
-        new false e = absurd (none_some c e)
+        new true e = let P : ℕ → Type 0 = λ a. a < callers in subst P (same_Some d c e) k.caller
+        new false e = absurd (none-some c e)
 
         go : (w : Option ℕ) → owner K t ≡ w → c < callers
-        go (Some x) e = let P : ℕ → Type 0 = λ a. a < callers in subst P (inside x c (sym (first_stays (caller_of t) K (Begin u d ∷ []) x e) ∙ o)) (p t x e)
+        go (Some x) e = let P : ℕ → Type 0 = λ a. a < callers in subst P (same_Some x c (sym (first_stays (caller_of t) K (Begin u d ∷ []) x e) ∙ o)) (p t x e)
         go None e = new (eqb u t) (sym (first_new (caller_of t) K (Begin u d ∷ []) e) ∙ o)
     keep K (Done u op r) p k t c o = p t c (sym (first_same (caller_of t) K (Done u op r) refl) ∙ o)
     keep K (Delay u op older y) p k t c o = p t c (sym (first_same (caller_of t) K (Delay u op older y) refl) ∙ o)
@@ -122,11 +123,11 @@ module _ {S : Type 0} (meaning : S → Meaning) (contents notes : List (Content 
           clash {y} k j q =
               let same : j.last ≡ l.last = same_last (k.noted.journal ++ j.front) (first_note.noted.journal ++ l.front) j.last l.last (ends_with o.0 y k j ∙ sym (ends_with 0 first.0 first_note l)) in
               let e : owner t.book.journal (ticket_of j.last) ≡ owner t.book.journal (ticket_of l.last) = ap (λ (v : Event). owner t.book.journal (ticket_of v)) same in
-              q.2 (inside q.0 o.0 (sym q.1 ∙ e ∙ o.1))
+              q.2 (same_Some q.0 o.0 (sym q.1 ∙ e ∙ o.1))
 
   module _ (script : S) (book : Book) (at : slice_get contents 0 ≡ Some (Register script book)) where
     same : ◌≡◌ {A = Content S} (Register t.script t.book) (Register script book)
-    same = inside _ _ (sym t.register ∙ at)
+    same = same_Some _ _ (sym t.register ∙ at)
 
     script_is : t.script ≡ script
     script_is = same_script t.script script t.book book same

@@ -1,24 +1,21 @@
 -- The entries of a caller's ticket stay while others serve theirs.
-use Rattle.std.proofs.Common.{◌≡◌, ◌≢◌, ℕ, List, [], ◌∷◌, ◌++◌, Some, Bool, false, cond, eqb, refl, sym, ◌∙◌, ap, append-nil, arith}
+use Rattle.std.proofs.Common.{◌≡◌, ◌≢◌, ℕ, List, [], ◌∷◌, ◌++◌, Some, Bool, cond, refl, sym, ◌∙◌, ap, append-nil}
 use Rattle.std.specs.List.{AllByRecursion}
-use Rattle.std.proofs.lemmas.Bool.Decides.{nat_tests}
+use Rattle.std.proofs.lemmas.Bool.{ne_eqb}
+use Rattle.std.proofs.lemmas.Option.{same_Some}
 use Rattle.session_values.specs.Dialogue.{Entry}
 use Rattle.session_journal.specs.declared.event.Event.{Event}
 use Rattle.session_journal.specs.declared.event.Event.TheVariants.{Begin, Done, Delay, End}
 use Rattle.session_journal.specs.Journal.{done_operations, of_ticket, entries, owner}
 use Rattle.admission_book.specs.Book.{Book}
-use Rattle.admission_book.proofs.Events.{done_operations-append, of_ticket-append}
+use Rattle.session_journal.proofs.Events.{done_operations-append, of_ticket-append}
 use Rattle.hall_rule.specs.Contents.{IsOfOther, IsSince}
-use Rattle.hall_rule.specs.Law.{inside}
-
-other_test : (a b : ℕ) → a ≢ b → eqb a b ≡ false
-other_test a b e = grind (arith, nat_tests)
 
 none_of : (J : List Event) (t c : ℕ) (since : List Event) → owner J t ≡ Some c → AllByRecursion (λ e. IsOfOther J c e) since → of_ticket t (done_operations since) ≡ []
 none_of J t c [] o a = refl
 none_of J t c (Done u op r ∷ K) o a =
-    let n : u ≢ t = λ e. a.0.2 (inside a.0.0 c (sym a.0.1 ∙ ap (owner J) e ∙ o)) in
-    ap (λ (b : Bool). cond b (record { op = op; reply = r } ∷ of_ticket t (done_operations K)) (of_ticket t (done_operations K))) (other_test u t n) ∙ none_of J t c K o a.1
+    let n : u ≢ t = λ e. a.0.2 (same_Some a.0.0 c (sym a.0.1 ∙ ap (owner J) e ∙ o)) in
+    ap (λ (b : Bool). cond b (record { op = op; reply = r } ∷ of_ticket t (done_operations K)) (of_ticket t (done_operations K))) (ne_eqb u t n) ∙ none_of J t c K o a.1
 none_of J t c (Begin u d ∷ K) o a = none_of J t c K o a.1
 none_of J t c (Delay u op older y ∷ K) o a = none_of J t c K o a.1
 none_of J t c (End u r ∷ K) o a = none_of J t c K o a.1

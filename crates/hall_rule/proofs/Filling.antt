@@ -1,5 +1,7 @@
 -- A shard is filled with what it opens with, the last entry first.
 use Rattle.std.proofs.Common.{◌≡◌, ◌≢◌, ℕ, zero, suc, ◌+◌, ◌≤◌, List, [], ◌∷◌, length, drop, Some, Bool, true, false, cond, eqb, refl, sym, ◌∙◌, ap, arith}
+use Rattle.std.proofs.lemmas.Bool.{eq-eqb, ne_eqb}
+use Rattle.std.proofs.lemmas.Option.{none-some, same_Some}
 use Rattle.std.specs.Prelude.{slice_get}
 use Rattle.std.specs.FinMap as map
 use Rattle.std.specs.FinSet as set
@@ -11,27 +13,15 @@ use Rattle.session_values.specs.declared.kind.TableKind.{TableKind}
 use Rattle.session_values.specs.declared.kind.TableKind.TheVariants.{Map, Set}
 use Rattle.session_values.specs.declared.op.Op.{Op}
 use Rattle.session_values.specs.Kinds.{is_adding}
-use Rattle.opening_tables.specs.Opening.{Pair, container_of, tables_of, entries_of}
+use Rattle.session_journal.specs.Opening.{Pair, container_of, tables_of, entries_of}
 use Rattle.session_values.specs.Tables.{after_on, empty_of, size_of, table}
-use Rattle.session_values.proofs.Sizes.{on_few, one_if}
+use Rattle.session_values.proofs.Sizes.{on_few, one_most}
+use Rattle.session_values.proofs.Options.{drop_step}
 use Rattle.shard_tables.specs.Parts.{part, shard_of}
 use Rattle.shard_tables.proofs.PartSteps.{part_after, part_empty, part_stays}
 use Rattle.hall_rule.specs.Filling.{count_in}
-use Rattle.hall_rule.specs.Law.{none_some, inside}
-use Rattle.hall_rule.proofs.Shares.{other_test, same_test}
 
 -- ---- entries from a place on
-pub drop_step : (es : List Pair) (i : ℕ) (e : Pair) → slice_get es i ≡ Some e → drop i es ≡ e ∷ drop (i + 1) es
-drop_step [] i e h = absurd (none_some e h)
-drop_step (x ∷ es) zero e h = ap (λ (y : Pair). y ∷ es) (inside x e h)
-drop_step (x ∷ es) (suc i) e h = let n : suc i + 1 ≡ suc (i + 1) = omega arith in drop_step es i e h ∙ ap (λ (k : ℕ). e ∷ drop k (x ∷ es)) (sym n)
-
-pub drop_all : (es : List Pair) (n : ℕ) → length es ≤ n → drop n es ≡ []
-drop_all [] zero h = refl
-drop_all [] (suc n) h = refl
-drop_all (e ∷ es) zero h = absurd (omega (arith, h))
-drop_all (e ∷ es) (suc n) h = drop_all es n (omega (arith, h))
-
 module _ (n j : ℕ) where
   pub count_length : (es : List Pair) → count_in n j es ≤ length es
   count_length [] = omega arith
@@ -50,11 +40,11 @@ module _ (n j : ℕ) where
   count_step es i e h = ap (count_in n j) (drop_step es i e h)
 
   pub count_here : (es : List Pair) (i : ℕ) (e : Pair) → slice_get es i ≡ Some e → shard_of n e.0 ≡ j → count_in n j (drop i es) ≡ 1 + count_in n j (drop (i + 1) es)
-  count_here es i e h at = count_step es i e h ∙ ap (λ (b : Bool). cond b 1 0 + count_in n j (drop (i + 1) es)) (same_test (shard_of n e.0) j at)
+  count_here es i e h at = count_step es i e h ∙ ap (λ (b : Bool). cond b 1 0 + count_in n j (drop (i + 1) es)) (eq-eqb (shard_of n e.0) j at)
 
   pub count_elsewhere : (es : List Pair) (i : ℕ) (e : Pair) → slice_get es i ≡ Some e → shard_of n e.0 ≢ j → count_in n j (drop i es) ≡ count_in n j (drop (i + 1) es)
   count_elsewhere es i e h at =
-      let z : count_in n j (drop i es) ≡ 0 + count_in n j (drop (i + 1) es) = count_step es i e h ∙ ap (λ (b : Bool). cond b 1 0 + count_in n j (drop (i + 1) es)) (other_test (shard_of n e.0) j at) in
+      let z : count_in n j (drop i es) ≡ 0 + count_in n j (drop (i + 1) es) = count_step es i e h ∙ ap (λ (b : Bool). cond b 1 0 + count_in n j (drop (i + 1) es)) (ne_eqb (shard_of n e.0) j at) in
       omega (arith, z)
 
   module _ (kind : TableKind) (e : Pair) (op : Op) (key : op.key ≡ e.0) (enters : (es : List Pair) → after_on (container_of kind es) op ≡ container_of kind (e ∷ es)) where
@@ -68,12 +58,8 @@ module _ (n j : ℕ) where
     part_more : (es : List Pair) → size_of (part n j (container_of kind es)) ≤ count_in n j es → size_of (part n j (container_of kind (e ∷ es))) ≤ cond (eqb (shard_of n e.0) j) 1 0 + count_in n j es
     part_more es l = go (eqb (shard_of n e.0) j) refl
       where
-        at_most : (b : Bool) → one_if b ≤ 1
-        at_most true = omega arith
-        at_most false = omega arith
-
         go : (b : Bool) → eqb (shard_of n e.0) j ≡ b → size_of (part n j (container_of kind (e ∷ es))) ≤ cond b 1 0 + count_in n j es
-        go true h = omega (arith, ap size_of (filled_here es h), on_few (part n j (container_of kind es)) op, at_most (is_adding op.kind), l)
+        go true h = omega (arith, ap size_of (filled_here es h), on_few (part n j (container_of kind es)) op, one_most (is_adding op.kind), l)
         go false h = omega (arith, ap size_of (filled_elsewhere es h), l)
 
   kind_none : (kind : TableKind) → empty_of kind ≡ container_of kind []
@@ -108,10 +94,10 @@ part_count n j kind (e ∷ es) = part_more n j kind e (entering kind e) (its_key
 
 -- a table of these kinds holds the entries that it opens with
 pub opening_at : (shape : List TableKind) (lists : List (List Pair)) (i : ℕ) (kind : TableKind) → slice_get shape i ≡ Some kind → table (tables_of shape lists) i ≡ container_of kind (entries_of lists i)
-opening_at [] lists i kind h = absurd (none_some kind h)
-opening_at (k ∷ shape) [] zero kind h = ap (λ (x : TableKind). container_of x []) (inside k kind h)
+opening_at [] lists i kind h = absurd (none-some kind h)
+opening_at (k ∷ shape) [] zero kind h = ap (λ (x : TableKind). container_of x []) (same_Some k kind h)
 opening_at (k ∷ shape) [] (suc i) kind h = opening_at shape [] i kind h
-opening_at (k ∷ shape) (es ∷ lists) zero kind h = ap (λ (x : TableKind). container_of x es) (inside k kind h)
+opening_at (k ∷ shape) (es ∷ lists) zero kind h = ap (λ (x : TableKind). container_of x es) (same_Some k kind h)
 opening_at (k ∷ shape) (es ∷ lists) (suc i) kind h = opening_at shape lists i kind h
 
 -- what isn't of a shard leaves it as it is

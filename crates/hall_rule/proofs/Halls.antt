@@ -2,6 +2,7 @@
 use Rattle.std.proofs.Common.{◌≡◌, ℕ, zero, suc, ◌<◌, ◌≤◌, ◌/◌, ◌%◌, List, [], ◌∷◌, ◌++◌, length, replicate, Option, Some, None, refl, sym, ◌∙◌, ap, subst, arith}
 use Rattle.std.specs.Prelude.{slice_get}
 use Rattle.std.proofs.lemmas.List.{length-replicate}
+use Rattle.std.proofs.lemmas.Option.{none-some, same_Some}
 use Rattle.session_values.specs.declared.reply.Reply.{Reply}
 use Rattle.session_values.specs.Serial.{tables_before}
 use Rattle.session_values.specs.Tables.{Container, Tables, table}
@@ -10,22 +11,22 @@ use Rattle.session_journal.specs.Script.{Meaning, IsScript, session_of}
 use Rattle.shard_tables.specs.Parts.{part}
 use Rattle.admission_book.specs.Book.{Book, Serving, opened, record_of}
 use Rattle.admission_book.specs.Lawful.{Lawful}
-use Rattle.admission_book.specs.EventsInTurn.{IsOpen}
-use Rattle.admission_book.proofs.Events.{begun-append}
+use Rattle.session_journal.specs.EventsInTurn.{IsOpen}
+use Rattle.session_journal.proofs.Events.{begun-append}
 use Rattle.admission_book.proofs.Foreknown.{opened_lawful}
 use Rattle.admission_book.proofs.Foreknown as book
 use Rattle.admission_book.proofs.Records.{within}
-use Rattle.admission_book.proofs.Room.{few_begun}
+use Rattle.session_journal.proofs.EventCounts.{few_begun}
 use Rattle.turn_board.proofs.Rows.{get-within}
 use Rattle.hall_rule.specs.Contents.{Content, Register, Shard, shards_in, share, tables_after, IsShard, IsNote}
 use Rattle.hall_rule.specs.Tie.{Tied}
 use Rattle.hall_rule.specs.Halls.{AllEnded, IsFresh, IsOut, first_content}
-use Rattle.hall_rule.specs.Law.{none_some, inside, same_script, same_book, just_now}
+use Rattle.hall_rule.specs.Law.{same_script, same_book, just_now}
 
 -- ---- opening
 got_replicate : {X : Type 0} (n : ℕ) (x y : X) (i : ℕ) → slice_get (replicate n x) i ≡ Some y → y ≡ x
-got_replicate zero x y i e = absurd (none_some y e)
-got_replicate (suc n) x y zero e = sym (inside x y e)
+got_replicate zero x y i e = absurd (none-some y e)
+got_replicate (suc n) x y zero e = sym (same_Some x y e)
 got_replicate (suc n) x y (suc i) e = got_replicate n x y i e
 
 pub opened_tied : {S : Type 0} (meaning : S → Meaning) (script : S) (callers : ℕ) (shards : List (Content S)) → ((j : ℕ) (x : Content S) → slice_get shards j ≡ Some x → IsFresh (meaning script) (suc (length shards)) j x) → Tied meaning (first_content meaning script callers ∷ shards) (replicate callers (first_content meaning script callers))
@@ -72,7 +73,7 @@ module _ {S : Type 0} (meaning : S → Meaning) (script : S) (contents notes : L
   none_open : (u : ℕ) → IsOpen t.book.journal u → ⊥
   none_open u o =
       let p : (c : ℕ) × (s : Serving) × (record_of t.book c ≡ Some s) × (s.ticket ≡ u) = lawful_here.placed u o in
-      none_some p.1 (sym (no_record p.0 (omega (arith, within t.book.records p.0 p.1 p.2, t.callers))) ∙ p.2)
+      none-some p.1 (sym (no_record p.0 (omega (arith, within t.book.records p.0 p.1 p.2, t.callers))) ∙ p.2)
 
   all_begun : begun t.book.journal ≡ m.requests
   all_begun =

@@ -5,3 +5,4 @@ pub mod Entries
 pub mod Halls
 pub mod Counting
 pub mod Free
+pub use Rattle.admission_book.proofs.Foreknown

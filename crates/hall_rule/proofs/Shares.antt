@@ -1,10 +1,11 @@
 -- What an operation that is done changes of the shares.
-use Rattle.std.proofs.Common.{◌≡◌, ◌≢◌, ℕ, zero, suc, ◌+◌, ◌/◌, ◌%◌, ◌<◌, ◌≤◌, ◌⊎◌, inl, inr, ◌&&◌, List, [], ◌∷◌, ◌++◌, length, map as map_list, Some, Bool, true, false, eqb, refl, sym, ◌∙◌, ap, subst, append-nil, arith}
+use Rattle.std.proofs.Common.{◌≡◌, ◌≢◌, ℕ, zero, suc, ◌+◌, ◌/◌, ◌%◌, ◌<◌, ◌≤◌, inl, inr, ◌&&◌, List, [], ◌∷◌, ◌++◌, length, map as map_list, Some, Bool, true, false, eqb, refl, sym, ◌∙◌, ap, subst, append-nil, arith}
 use Rattle.std.specs.Prelude.{slice_get}
 use Rattle.std.specs.FinMap as map
 use Rattle.std.specs.FinSet as set
 use Rattle.std.proofs.lemmas.List.{get_or-set_same, get_or-set_other, length-map, length-set, set_past}
-use Rattle.std.proofs.lemmas.Bool.Decides.{nat_tests}
+use Rattle.std.proofs.lemmas.Bool.{eq-eqb, eqb-true, eqb-false, cases_lt}
+use Rattle.std.proofs.lemmas.Option.{none-some, same_Some, slice_get_within}
 use Rattle.session_values.proofs.Puts.{kind_after}
 use Rattle.session_values.specs.declared.kind.Kind.{Kind}
 use Rattle.session_values.specs.declared.kind.Kind.TheVariants.{Get, Put, Swap, Del, Size, Bump, Has, Add, Mark, Drop, Count}
@@ -20,41 +21,23 @@ use Rattle.session_journal.specs.declared.event.Event.{Event}
 use Rattle.session_journal.specs.declared.event.Event.TheVariants.{Done}
 use Rattle.session_journal.specs.Journal.{DoneOperation, done_operations, in_order, run}
 use Rattle.session_values.proofs.Sizes.{on_few, one_if}
+use Rattle.session_values.proofs.Numbers.{one_zero, two_zero}
 use Rattle.session_journal.specs.Script.{Meaning, adds_on}
 use Rattle.session_journal.proofs.Replay.{run-append}
 use Rattle.shard_tables.specs.Parts.{part, shard_of}
 use Rattle.shard_tables.proofs.PartSteps.{part_after, part_stays, part_reply, part_kind}
-use Rattle.admission_book.proofs.Events.{done_operations-append, in_order-append}
+use Rattle.session_journal.proofs.Events.{done_operations-append, in_order-append}
 use Rattle.hall_rule.specs.Contents.{shards_in, share, opening_tables, tables_after}
 use Rattle.hall_rule.specs.Turns.{IsTurnOf}
-use Rattle.hall_rule.specs.Law.{none_some, inside, lies_within}
-
-pub same_test : (a b : ℕ) → a ≡ b → eqb a b ≡ true
-same_test a b e = grind (arith, nat_tests)
-
-pub other_test : (a b : ℕ) → a ≢ b → eqb a b ≡ false
-other_test a b e = grind (arith, nat_tests)
-
-pub same : (a b : ℕ) → eqb a b ≡ true → a ≡ b
-same a b e = grind (arith, nat_tests)
-
-pub differs : (a b : ℕ) → eqb a b ≡ false → a ≢ b
-differs a b e = grind (arith, nat_tests)
-
-zero_one : ◌≡◌ {A = ℕ} 1 0 → ⊥
-zero_one e = omega arith
-
-zero_two : ◌≡◌ {A = ℕ} 2 0 → ⊥
-zero_two e = omega arith
 
 -- ---- an operation without a key changes nothing
 map_stays : (m : map.FinMap value_cmp Value) (k : Kind) (key value : Value) → arguments k ≡ 0 → map_after m k key value ≡ m
 map_stays m Get key value h = refl
-map_stays m Put key value h = absurd (zero_two h)
-map_stays m Swap key value h = absurd (zero_two h)
-map_stays m Del key value h = absurd (zero_one h)
+map_stays m Put key value h = absurd (two_zero h)
+map_stays m Swap key value h = absurd (two_zero h)
+map_stays m Del key value h = absurd (one_zero h)
 map_stays m Size key value h = refl
-map_stays m Bump key value h = absurd (zero_two h)
+map_stays m Bump key value h = absurd (two_zero h)
 map_stays m Has key value h = refl
 map_stays m Add key value h = refl
 map_stays m Mark key value h = refl
@@ -69,9 +52,9 @@ set_stays s Del key h = refl
 set_stays s Size key h = refl
 set_stays s Bump key h = refl
 set_stays s Has key h = refl
-set_stays s Add key h = absurd (zero_one h)
-set_stays s Mark key h = absurd (zero_one h)
-set_stays s Drop key h = absurd (zero_one h)
+set_stays s Add key h = absurd (one_zero h)
+set_stays s Mark key h = absurd (one_zero h)
+set_stays s Drop key h = absurd (one_zero h)
 set_stays s Count key h = refl
 
 pub keyless_stays : (c : Container) (op : Op) → arguments op.kind ≡ 0 → after_on c op ≡ c
@@ -121,22 +104,22 @@ kind_step ts op i l = go (eqb i op.table) refl
   where
     go : (b : Bool) → eqb i op.table ≡ b → kind_of (table (step ts op) i) ≡ kind_of (table ts i)
     go true e =
-        let z : i ≡ op.table = same i op.table e in
+        let z : i ≡ op.table = eqb-true i op.table e in
         ap (λ (a : ℕ). kind_of (table (step ts op) a)) z ∙ ap kind_of (table-step ts op (omega (arith, z, l))) ∙ kind_after (table ts op.table) op ∙ ap (λ (a : ℕ). kind_of (table ts a)) (sym z)
-    go false e = ap kind_of (table-step_other ts op i (differs i op.table e))
+    go false e = ap kind_of (table-step_other ts op i (eqb-false i op.table e))
 
 kind_run : (ts : Tables) (es : List Entry) (i : ℕ) → i < length ts → kind_of (table (run ts es) i) ≡ kind_of (table ts i)
 kind_run ts [] i l = refl
 kind_run ts (e ∷ es) i l = kind_run (step ts e.op) es i (omega (arith, l, length-step ts e.op)) ∙ kind_step ts e.op i l
 
 kind_at : (ts : Tables) (i : ℕ) (k : TableKind) → slice_get (map_list kind_of ts) i ≡ Some k → kind_of (table ts i) ≡ k
-kind_at [] i k e = absurd (none_some k e)
-kind_at (c ∷ ts) zero k e = inside (kind_of c) k e
+kind_at [] i k e = absurd (none-some k e)
+kind_at (c ∷ ts) zero k e = same_Some (kind_of c) k e
 kind_at (c ∷ ts) (suc i) k e = kind_at ts i k e
 
 pub kind_table : (m : Meaning) → map_list kind_of (opening_tables m) ≡ m.shape → (J : List Event) (i : ℕ) (k : TableKind) → slice_get m.shape i ≡ Some k → kind_of (table (tables_after m J) i) ≡ k
 kind_table m o J i k e =
-    let l : i < length (opening_tables m) = omega (arith, lies_within m.shape i k e, length-opening m o) in
+    let l : i < length (opening_tables m) = omega (arith, slice_get_within m.shape i k e, length-opening m o) in
     kind_run (opening_tables m) (in_order (done_operations J)) i l ∙ kind_at (opening_tables m) i k (ap (λ (ks : List TableKind). slice_get ks i) o ∙ e)
 
 pub kind_share : (m : Meaning) → map_list kind_of (opening_tables m) ≡ m.shape → (turns : ℕ) (J : List Event) (j i : ℕ) (k : TableKind) → j / shards_in m turns ≡ i → slice_get m.shape i ≡ Some k → kind_of (share m turns J j) ≡ k
@@ -160,15 +143,12 @@ step_past ts op l = set_past ts op.table (after_on (table ts op.table) op) l
 part_step_few : (n j : ℕ) (ts : Tables) (op : Op) (i : ℕ) → size_of (part n j (table (step ts op) i)) ≤ size_of (part n j (table ts i)) + one_if (is_adding op.kind && eqb op.table i)
 part_step_few n j ts op i = by_table (eqb op.table i) refl
   where
-    lt_or : (a b : ℕ) → (a < b) ⊎ (b ≤ a)
-    lt_or a b = grind arith
-
     and_true : (b : Bool) → (b && true) ≡ b
     and_true true = refl
     and_true false = refl
 
     here : i ≡ op.table → size_of (part n j (table (step ts op) i)) ≤ size_of (part n j (table ts i)) + one_if (is_adding op.kind)
-    here e = elim (lt_or op.table (length ts)) [
+    here e = elim (cases_lt op.table (length ts)) [
       | inl l ↦
           let P : ℕ → Type 0 = λ k. size_of (part n j (table (step ts op) k)) ≤ size_of (part n j (table ts k)) + one_if (is_adding op.kind) in
           let q : size_of (part n j (table (step ts op) op.table)) ≡ size_of (part n j (after_on (table ts op.table) op)) = ap (λ (c : Container). size_of (part n j c)) (table-step ts op l) in
@@ -179,8 +159,8 @@ part_step_few n j ts op i = by_table (eqb op.table i) refl
     by_table : (b : Bool) → eqb op.table i ≡ b → size_of (part n j (table (step ts op) i)) ≤ size_of (part n j (table ts i)) + one_if (is_adding op.kind && eqb op.table i)
     by_table true e =
         let q : one_if (is_adding op.kind && eqb op.table i) ≡ one_if (is_adding op.kind) = ap (λ (b : Bool). one_if (is_adding op.kind && b)) e ∙ ap one_if (and_true (is_adding op.kind)) in
-        omega (arith, q, here (sym (same op.table i e)))
-    by_table false e = let q : size_of (part n j (table (step ts op) i)) ≡ size_of (part n j (table ts i)) = ap (λ (c : Container). size_of (part n j c)) (table-step_other ts op i (λ z. differs op.table i e (sym z))) in omega (arith, q)
+        omega (arith, q, here (sym (eqb-true op.table i e)))
+    by_table false e = let q : size_of (part n j (table (step ts op) i)) ≡ size_of (part n j (table ts i)) = ap (λ (c : Container). size_of (part n j c)) (table-step_other ts op i (λ z. eqb-false op.table i e (sym z))) in omega (arith, q)
 
 part_run_few : (n j : ℕ) (ts : Tables) (es : List Entry) (i : ℕ) → size_of (part n j (table (run ts es) i)) ≤ size_of (part n j (table ts i)) + adds_on i es
 part_run_few n j ts [] i = omega arith
@@ -221,30 +201,30 @@ module _ (m : Meaning) (o : map_list kind_of (opening_tables m) ≡ m.shape) (tu
   share_worked j at = go (eqb (arguments op.kind) 0) refl
     where
       go : (b : Bool) → eqb (arguments op.kind) 0 ≡ b → share m turns K j ≡ after_on (share m turns J j) op
-      go true e = let z : arguments op.kind ≡ 0 = same (arguments op.kind) 0 e in share_keyless j at.table z ∙ sym (keyless_stays (share m turns J j) op z)
+      go true e = let z : arguments op.kind ≡ 0 = eqb-true (arguments op.kind) 0 e in share_keyless j at.table z ∙ sym (keyless_stays (share m turns J j) op z)
       go false e =
-          let z : arguments op.kind ≢ 0 = differs (arguments op.kind) 0 e in
-          at_table j (λ c. after_on c op) at.table (part_after (λ k. eqb (shard_of n k) (j % n)) (table (tables_after m J) op.table) op (same_test _ _ (at.shard (omega (arith, z)))))
+          let z : arguments op.kind ≢ 0 = eqb-false (arguments op.kind) 0 e in
+          at_table j (λ c. after_on c op) at.table (part_after (λ k. eqb (shard_of n k) (j % n)) (table (tables_after m J) op.table) op (eq-eqb _ _ (at.shard (omega (arith, z)))))
 
   -- any other turn
   pub share_still : (j : ℕ) → (IsTurnOf n op j → ⊥) → share m turns K j ≡ share m turns J j
   share_still j apart = by_table (eqb (j / n) op.table) refl
     where
       by_shard : j / n ≡ op.table → (b : Bool) → eqb (shard_of n op.key) (j % n) ≡ b → share m turns K j ≡ share m turns J j
-      by_shard at true e = absurd (apart (record { table = at; shard = λ k. same _ _ e }))
+      by_shard at true e = absurd (apart (record { table = at; shard = λ k. eqb-true _ _ e }))
       by_shard at false e = at_table j (λ c. c) at (part_stays (λ k. eqb (shard_of n k) (j % n)) (table (tables_after m J) op.table) op e)
 
       by_key : j / n ≡ op.table → (b : Bool) → eqb (arguments op.kind) 0 ≡ b → share m turns K j ≡ share m turns J j
-      by_key at true e = let z : arguments op.kind ≡ 0 = same (arguments op.kind) 0 e in absurd (apart (record { table = at; shard = λ k. absurd (omega (arith, k, z)) }))
+      by_key at true e = let z : arguments op.kind ≡ 0 = eqb-true (arguments op.kind) 0 e in absurd (apart (record { table = at; shard = λ k. absurd (omega (arith, k, z)) }))
       by_key at false e = by_shard at (eqb (shard_of n op.key) (j % n)) refl
 
       by_table : (b : Bool) → eqb (j / n) op.table ≡ b → share m turns K j ≡ share m turns J j
-      by_table true e = by_key (same _ _ e) (eqb (arguments op.kind) 0) refl
-      by_table false e = share_elsewhere j (differs _ _ e)
+      by_table true e = by_key (eqb-true _ _ e) (eqb (arguments op.kind) 0) refl
+      by_table false e = share_elsewhere j (eqb-false _ _ e)
 
 -- the reply of an operation with a key is the one that it has on its share
 pub share_reply : (m : Meaning) (turns : ℕ) (J : List Event) (j : ℕ) (op : Op) → IsTurnOf (shards_in m turns) op j → 0 < arguments op.kind → reply (tables_after m J) op ≡ reply_on (share m turns J j) op
 share_reply m turns J j op at keyed =
     let n : ℕ = shards_in m turns in
     let P : ℕ → Type 0 = λ i. reply_on (table (tables_after m J) op.table) op ≡ reply_on (part n (j % n) (table (tables_after m J) i)) op in
-    reply-is (tables_after m J) op ∙ subst P (sym at.table) (sym (part_reply (λ k. eqb (shard_of n k) (j % n)) (table (tables_after m J) op.table) op keyed (same_test _ _ (at.shard keyed))))
+    reply-is (tables_after m J) op ∙ subst P (sym at.table) (sym (part_reply (λ k. eqb (shard_of n k) (j % n)) (table (tables_after m J) op.table) op keyed (eq-eqb _ _ (at.shard keyed))))

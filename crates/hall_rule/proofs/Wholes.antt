@@ -1,6 +1,6 @@
 -- The entries of all parts of a table together are the table's.
-use Rattle.std.proofs.Common.{◌≡◌, ℕ, zero, suc, ◌+◌, ◌<◌, ◌≤◌, List, [], ◌∷◌, ◌++◌, length, map as map_list, Option, Some, None, is_some, Bool, true, false, cond, eqb, ◌||◌, refl, sym, ◌∙◌, ap, arith}
-use Rattle.std.specs.Prelude.{find, slice_get}
+use Rattle.std.proofs.Common.{◌≡◌, ℕ, suc, ◌+◌, ◌<◌, ◌≤◌, List, [], ◌∷◌, ◌++◌, length, map as map_list, Option, Some, None, is_some, Bool, true, false, cond, eqb, ◌||◌, refl, sym, ◌∙◌, ap, arith}
+use Rattle.std.proofs.lemmas.Bool.{or_right, true≢false, eqb-true, eqb-false}
 use Rattle.std.specs.List.{AllByRecursion}
 use Rattle.std.specs.FinMap as map
 use Rattle.std.specs.FinSet as set
@@ -12,18 +12,18 @@ use Rattle.session_values.specs.Sums.{sum_below}
 use Rattle.session_values.specs.Tables.{Container, Bindings, Members, kind_of, size_of}
 use Rattle.session_values.specs.Values.{value_cmp, value_eq, value_cmp_total}
 use Rattle.session_values.proofs.Equal.{same_map, same_set}
-use Rattle.opening_tables.specs.Opening.{Pair, AreApart, container_of, has_key}
-use Rattle.place_index.specs.Keys.{AreDifferent, is_under}
-use Rattle.place_index.proofs.Values.{value_eq-same}
+use Rattle.session_values.proofs.KindLemmas.{map_set}
+use Rattle.session_journal.specs.Opening.{Pair, AreApart, container_of, has_key}
+use Rattle.session_journal.proofs.Openings.{kind_is}
+use Rattle.shard_tables.proofs.Values.{value_eq-same}
 use Rattle.shard_tables.specs.Parts.{part, shard_of}
 use Rattle.shard_tables.proofs.PartSizes.{part_sizes, shard_below}
 use Rattle.shard_tables.proofs.PartSteps.{get_kept, has_kept}
-use Rattle.hall_rule.specs.declared.part.Part.{Part}
-use Rattle.hall_rule.specs.declared.part.Part.TheVariants as shard
-use Rattle.hall_rule.specs.Law.{inside, none_some}
-use Rattle.hall_rule.specs.Listing.{all_entries, all_sizes, as_entries, entries_in}
-use Rattle.hall_rule.specs.Shards.{shard_view}
-use Rattle.hall_rule.proofs.Shares.{differs, same}
+use Rattle.shard_tables.specs.declared.part.Part.TheVariants as shard
+use Rattle.shard_tables.specs.declared.part.Part.{Part}
+use Rattle.shard_tables.specs.Either.{entries_in, shard_view}
+use Rattle.shard_tables.proofs.Either.{held_is}
+use Rattle.hall_rule.specs.Listing.{all_entries, all_sizes}
 
 -- ---- what a container has at a key: what it is bound to, or nil for a member
 abbrev look : Container → Value → Option Value
@@ -87,9 +87,6 @@ look-part n j (Members s) q = ap (λ (b : Bool). let o : Option Value = cond b (
     go true = refl
     go false = refl
 
-map_set : ◌≡◌ {A = TableKind} Map Set → ⊥
-map_set e = cc
-
 -- containers of one kind that have the same at each key are the same
 same_look : (c d : Container) → kind_of c ≡ kind_of d → ((q : Value) → look c q ≡ look d q) → c ≡ d
 same_look (Bindings m) (Bindings n) k f = ap Bindings (same_map m n f)
@@ -102,48 +99,6 @@ same_look (Members s) (Members t) k f = ap Members (same_set s t (λ q. go (set.
     go false false e = refl
 same_look (Bindings m) (Members t) k f = absurd (map_set k)
 same_look (Members s) (Bindings n) k f = absurd (map_set (sym k))
-
-kind_is : (kind : TableKind) (es : List Pair) → kind_of (container_of kind es) ≡ kind
-kind_is Map es = refl
-kind_is Set es = refl
-
--- ---- the entries of one part
--- a shard holds its entries
-pub held_is : (p : Part) (kind : TableKind) → kind_of (shard_view p).container ≡ kind → container_of kind (entries_in p) ≡ (shard_view p).container
-held_is (shard.Bindings s) Map h = refl
-held_is (shard.Bindings s) Set h = absurd (map_set h)
-held_is (shard.Members s) Set h = ap (λ (ks : List Value). Members (set.from_list ks)) (keys_back s.value.entries)
-  where
-    keys_back : (ks : List Value) → map_list (λ (e : Pair). e.0) (as_entries ks) ≡ ks
-    keys_back [] = refl
-    keys_back (k ∷ ks) = ap (λ (l : List Value). k ∷ l) (keys_back ks)
-held_is (shard.Members s) Map h = absurd (map_set (sym h))
-
--- keys that differ stand apart
-apart_step : {X : Type 0} (x : X) (b c : Bool) (o : Option X) → (o ≡ None → c ≡ false) → cond b (Some x) o ≡ None → (b || c) ≡ false
-apart_step x true c o f h = absurd (none_some x (sym h))
-apart_step x false c o f h = f h
-
-no_pair : (es : List Pair) (k : Value) → find (is_under (λ (e : Pair). e.0) k) es ≡ None → has_key es k ≡ false
-no_pair [] k h = refl
-no_pair (e ∷ es) k h = apart_step e (value_eq k e.0) (has_key es k) (find (is_under (λ (x : Pair). x.0) k) es) (no_pair es k) h
-
-pub pairs_apart : (es : List Pair) → AreDifferent (λ (e : Pair). e.0) es → AreApart es
-pairs_apart [] d = tt
-pairs_apart (e ∷ es) d = (no_pair es e.0 d.0, pairs_apart es d.1)
-
-no_member : (ks : List Value) (k : Value) → find (is_under (λ (x : Value). x) k) ks ≡ None → has_key (as_entries ks) k ≡ false
-no_member [] k h = refl
-no_member (x ∷ ks) k h = apart_step x (value_eq k x) (has_key (as_entries ks) k) (find (is_under (λ (y : Value). y) k) ks) (no_member ks k) h
-
-pub members_apart : (ks : List Value) → AreDifferent (λ (k : Value). k) ks → AreApart (as_entries ks)
-members_apart [] d = tt
-members_apart (k ∷ ks) d = (no_member ks k d.0, members_apart ks d.1)
-
-pub member_at : (ks : List Value) (i : ℕ) (k : Value) → slice_get ks i ≡ Some k → slice_get (as_entries ks) i ≡ Some (k, Nil)
-member_at [] i k e = absurd (none_some k e)
-member_at (x ∷ ks) zero k e = ap (λ (y : Value). let o : Option Pair = Some (y, Nil) in o) (inside x k e)
-member_at (x ∷ ks) (suc i) k e = member_at ks i k e
 
 -- ---- lists without a key in common
 has-append : (xs ys : List Pair) (q : Value) → has_key xs q ≡ false → has_key ys q ≡ false → has_key (xs ++ ys) q ≡ false
@@ -158,12 +113,8 @@ apart_join : (xs ys : List Pair) → AreApart xs → AreApart ys → ((q : Value
 apart_join [] ys a b f = b
 apart_join (x ∷ xs) ys a b f = (
   has-append xs ys x.0 a.0 (f x.0 (ap (λ (t : Bool). t || has_key xs x.0) (value_eq-same x.0 x.0 refl))),
-  apart_join xs ys a.1 b (λ q h. f q (later (value_eq q x.0) (has_key xs q) h)),
+  apart_join xs ys a.1 b (λ q h. f q (or_right (value_eq q x.0) (has_key xs q) h)),
 )
-  where
-    later : (t b : Bool) → b ≡ true → (t || b) ≡ true
-    later true b h = refl
-    later false b h = h
 
 -- ---- the entries of all parts
 -- these hold parts k, k + 1 and so on of a container
@@ -191,7 +142,7 @@ module _ (n : ℕ) (kind : TableKind) (c : Container) (kind_here : kind_of c ≡
   none_later k (p ∷ ps) q a l = look-append kind (entries_in p) (all_entries ps) q ∙ go (eqb (shard_of n q) k) refl ∙ none_later (suc k) ps q a.1 (omega (arith, l))
     where
       go : (b : Bool) → eqb (shard_of n q) k ≡ b → first_some (look (container_of kind (entries_in p)) q) (look (container_of kind (all_entries ps)) q) ≡ look (container_of kind (all_entries ps)) q
-      go true h = absurd (omega (arith, l, same (shard_of n q) k h))
+      go true h = absurd (omega (arith, l, eqb-true (shard_of n q) k h))
       go false h = ap (λ (o : Option Value). first_some o (look (container_of kind (all_entries ps)) q)) (look_here k p q false a.0 h)
 
   look_all : (k : ℕ) (ps : List Part) (q : Value) → AreParts n c k ps → k ≤ shard_of n q → shard_of n q < k + length ps → look (container_of kind (all_entries ps)) q ≡ look c q
@@ -200,11 +151,11 @@ module _ (n : ℕ) (kind : TableKind) (c : Container) (kind_here : kind_of c ≡
     where
       go : (b : Bool) → (suc k ≤ shard_of n q → look (container_of kind (all_entries ps)) q ≡ look c q) → eqb (shard_of n q) k ≡ b → first_some (look (container_of kind (entries_in p)) q) (look (container_of kind (all_entries ps)) q) ≡ look c q
       go true f e =
-          ap (first_some (look (container_of kind (entries_in p)) q)) (none_later (suc k) ps q a.1 (omega (arith, same (shard_of n q) k e)))
+          ap (first_some (look (container_of kind (entries_in p)) q)) (none_later (suc k) ps q a.1 (omega (arith, eqb-true (shard_of n q) k e)))
           ∙ first_none (look (container_of kind (entries_in p)) q)
           ∙ look_here k p q true a.0 e
       go false f e =
-          let apart : shard_of n q ≡ k → ⊥ = differs (shard_of n q) k e in
+          let apart : shard_of n q ≡ k → ⊥ = eqb-false (shard_of n q) k e in
           ap (λ (o : Option Value). first_some o (look (container_of kind (all_entries ps)) q)) (look_here k p q false a.0 e)
           ∙ f (omega (arith, l, apart))
 
@@ -221,11 +172,8 @@ module _ (n : ℕ) (kind : TableKind) (c : Container) (kind_here : kind_of c ≡
       own q h = go (eqb (shard_of n q) k) refl
         where
           go : (b : Bool) → eqb (shard_of n q) k ≡ b → shard_of n q < suc k
-          go true e = omega (arith, same (shard_of n q) k e)
-          go false e = absurd (no (sym h ∙ has-look kind (entries_in p) q ∙ ap (λ (o : Option Value). is_some o) (look_here k p q false a.0 e)))
-            where
-              no : true ≡ false → ⊥
-              no z = cc
+          go true e = omega (arith, eqb-true (shard_of n q) k e)
+          go false e = absurd (true≢false (sym h ∙ has-look kind (entries_in p) q ∙ ap (λ (o : Option Value). is_some o) (look_here k p q false a.0 e)))
 
   abbrev size_at : ℕ → ℕ
   size_at i = size_of (part n i c)

@@ -1,6 +1,6 @@
 -- The entries of a table that one shard opens with.
 use Rattle.std.specs.Prelude.{ℕ, ◌+◌, ◌==◌, List, [], ◌∷◌, cond}
-use Rattle.opening_tables.specs.Opening.{Pair}
+use Rattle.session_journal.specs.Opening.{Pair}
 use Rattle.shard_tables.specs.Parts.{shard_of}
 
 -- how many of these entries are of shard i of so many

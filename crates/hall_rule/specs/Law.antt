@@ -8,7 +8,7 @@ use Rattle.session_journal.specs.declared.event.Event.{Event}
 use Rattle.session_journal.specs.Journal.{owner, caller_of, ticket_of}
 use Rattle.session_journal.specs.Script.{Meaning}
 use Rattle.admission_book.specs.Book.{Book, record_of}
-use Rattle.admission_book.proofs.Events.{first_stays}
+use Rattle.session_journal.proofs.Events.{first_stays}
 use Rattle.turn_board.specs.Maps.{FitsTurns, SameTurns, overlay, overlay_from, in_place_of}
 use Rattle.hall_rule.specs.Contents.{Content, Register, Shard, share, needed, IsOfOther, IsShard, IsSince, IsNote}
 use Rattle.hall_rule.specs.Tie.{Tied, Moves}

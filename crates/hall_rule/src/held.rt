@@ -1,8 +1,8 @@
 // The values of a hall's turns.
 
-use crate::part::Part;
 use admission_book::Book;
 use session_journal::Script;
+use shard_tables::Part;
 use std::marker::Model;
 
 /// The value of a turn: of turn 0 the book, of every other turn a shard.

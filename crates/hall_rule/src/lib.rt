@@ -5,8 +5,7 @@
 mod hall_rule;
 mod held;
 pub mod laws;
-mod part;
 
 pub use hall_rule::HallRule;
 pub use held::{Counted, Held};
-pub use part::Part;
+pub use shard_tables::Part;

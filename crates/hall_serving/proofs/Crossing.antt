@@ -16,8 +16,8 @@ use Rattle.hall_rule.specs.contracts.held.Held as held_row
 use Rattle.hall_rule.specs.contracts.hall_rule.HallRule as rule_row
 use Rattle.hall_rule.specs.contracts.hall_rule.HallRuleTieRuleHeld.TheImpl as rule
 use Rattle.hall_rule.proofs.held.Held.TheSendSync as held
-use Rattle.hall_rule.specs.contracts.part.Part as part_row
-use Rattle.hall_rule.proofs.part.Part.TheSendSync as part
+use Rattle.shard_tables.specs.contracts.part.Part as part_row
+use Rattle.shard_tables.proofs.part.Part.TheSendSync as part
 use Rattle.session_hall.specs.contracts.hall.Hall as hall
 use Rattle.session_hall.proofs.hall.Sizes.TheSendSync as sizes
 use Rattle.session_hall.specs.contracts.hall.Spare as spare_row

@@ -1,7 +1,7 @@
 // A session: its hall is opened, and then it is served to its end.
 
 ghost use Rattle.std.specs.Prelude.{◌≡◌, ◌≤◌, IfOk, length, vec_len};
-ghost use Rattle.session_limits.specs.Limits.{max_callers, max_shards, max_tables};
+ghost use Rattle.session_values.specs.Limits.{max_callers, max_shards, max_tables};
 ghost use Rattle.session_hall.specs.Closings.{IsDone};
 
 use crate::job::Job;

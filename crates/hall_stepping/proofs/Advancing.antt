@@ -1,6 +1,7 @@
 -- A step that isn't in vain leaves the caller one step less.
 use Rattle.std.proofs.Common.{◌≡◌, ℕ, zero, suc, ◌+◌, ◌*◌, ◌<◌, ◌≤◌, ⊎_elim, arith, List, [], ◌∷◌, length, length-append, get_or, drop, refl, sym, ◌∙◌, ap, subst}
 use Rattle.std.proofs.lemmas.Option.{slice_get-get_or}
+use Rattle.std.proofs.lemmas.Bool.{cases_lt}
 use Rattle.session_values.specs.declared.op.Op.{Op}
 use Rattle.session_values.specs.declared.reply.Reply.{Reply}
 use Rattle.session_values.specs.declared.value.Value.{Value}
@@ -10,7 +11,7 @@ use Rattle.session_journal.specs.Journal.{begun}
 use Rattle.session_journal.specs.Lists.{Ticket, ticket_at}
 use Rattle.session_journal.specs.Script.{Meaning}
 use Rattle.admission_book.specs.Book.{Book}
-use Rattle.admission_book.proofs.Events.{begun-append}
+use Rattle.session_journal.proofs.Events.{begun-append}
 use Rattle.session_hall.specs.declared.answers.Admitting.{Admitting}
 use Rattle.session_hall.specs.declared.answers.Admitting.TheVariants as admitting
 use Rattle.session_hall.specs.declared.answers.Applying.{Applying}
@@ -27,12 +28,12 @@ use Rattle.session_hall.specs.Callers.{book_in, book_of, entries_of}
 use Rattle.session_hall.specs.Calls.{AdmittedAs, AdmittedAt, AppliedAs, AppliedAt, BeganAs, EndedAs, EndedAt, FinishedAs, FinishedAt, FinishedFrom, GaveBack}
 use Rattle.session_hall.specs.Names.{script_of}
 use Rattle.session_hall.specs.Stages.{OnFlight, OnServing}
-use Rattle.turn_board.specs.Boards.{turn_count}
+use Rattle.session_hall.specs.Boards.{turn_count}
 use Rattle.hall_stepping.specs.declared.stepped.Stepped.{Stepped}
 use Rattle.hall_stepping.specs.Progress.{steps_from, steps_left, steps_of}
 use Rattle.hall_stepping.specs.Standing.{IsStepped, StandsFrom}
 use Rattle.hall_stepping.specs.Steps.{CallerOf, HallOf, IsNoWait, StepsAs, StepsFrom, Goes, meaning_of, of_admitting, of_applying, of_began, of_ending, of_finishing}
-use Rattle.hall_stepping.proofs.Alone.{lt_or, no_op}
+use Rattle.hall_stepping.proofs.Alone.{no_op}
 
 -- ---- the steps of the tickets that are left
 drop_less : (xs : List Ticket) (a b : ℕ) → a ≤ b → steps_of (drop b xs) ≤ steps_of (drop a xs)
@@ -62,7 +63,7 @@ module _ (m : Meaning) (xs : List Ticket) (shards turns : ℕ) (p q : CallerOf) 
       let found = is.found in
       let was = ap (steps_from xs p) at in let now = ap (steps_from xs q) is.stage_is in
       let none = ap (λ (es : List Entry). length es) is.no_entries in
-      let more : begun (book_of q).journal ≡ suc (begun found.journal) = ap (λ (b : Book). begun b.journal) is.gave.noted ∙ (let n = begun-append found.journal (Begin (begun found.journal) (Rattle.turn_board.specs.Boards.caller p.seat) ∷ []) in omega (arith, n)) in
+      let more : begun (book_of q).journal ≡ suc (begun found.journal) = ap (λ (b : Book). begun b.journal) is.gave.noted ∙ (let n = begun-append found.journal (Begin (begun found.journal) (Rattle.session_hall.specs.Boards.caller p.seat) ∷ []) in omega (arith, n)) in
       let rest = ap (λ n. steps_of (drop n xs)) more in let within = is.within in let next = is.next in
       let here = drop_at xs (begun found.journal) (omega (arith, within, next, requests)) in
       let long = ap (λ n. length (ticket_at xs n).ops) is.next in
@@ -114,7 +115,7 @@ module _ (m : Meaning) (xs : List Ticket) (shards turns : ℕ) (p q : CallerOf) 
       let op : Op = get_or (ticket_at xs t).ops (length (entries_of p t)) no_op in
       let k = g.calls op (slice_get-get_or (ticket_at xs t).ops (length (entries_of p t)) no_op low) in admits t op k.0 at low k.1 k.2 go)
       (λ (high : length (ticket_at xs t).ops ≤ length (entries_of p t)). let k = g.ends high in ends t (ticket_at xs t).reply k.0 at k.1 k.2 go)
-      (lt_or (length (entries_of p t)) (length (ticket_at xs t).ops))
+      (cases_lt (length (entries_of p t)) (length (ticket_at xs t).ops))
 
   from : (s : Stage) (done : ℕ) → p.stage ≡ s → (s ≡ Out → ⊥) → StandsFrom xs p done s → StepsFrom m xs shards turns p q answer s → IsNoWait answer → suc (steps_left xs q) ≤ steps_left xs p
   from Idle done at going stands k go = begins k.0 at k.1 k.2 go

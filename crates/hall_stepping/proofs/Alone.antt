@@ -1,6 +1,7 @@
 -- A caller that is alone never waits: no try of it finds a turn taken, or an older ticket in its way.
-use Rattle.std.proofs.Common.{◌≡◌, ℕ, ◌<◌, ◌≤◌, ◌⊎◌, ⊎_elim, arith, List, length, get_or, refl, sym, subst}
+use Rattle.std.proofs.Common.{◌≡◌, ℕ, ◌<◌, ◌≤◌, ⊎_elim, List, length, get_or, refl, sym, subst}
 use Rattle.std.proofs.lemmas.Option.{slice_get-get_or}
+use Rattle.std.proofs.lemmas.Bool.{cases_lt}
 use Rattle.session_values.specs.declared.op.Op.{Op}
 use Rattle.session_values.specs.declared.reply.Reply.{Reply}
 use Rattle.session_values.specs.declared.kind.Kind.TheVariants.{Get}
@@ -22,13 +23,10 @@ use Rattle.session_hall.specs.declared.stage.Stage.TheVariants.{Idle, Serving as
 use Rattle.session_hall.specs.Callers.{entries_of}
 use Rattle.session_hall.specs.Calls.{AdmittedAs, AppliedAs, BeganAs, DelayedAt, EndedAs, FinishedAs, IsBusyAt}
 use Rattle.session_hall.specs.Stages.{OnFlight, OnServing}
-use Rattle.turn_board.specs.Boards.{caller_count, turn_count}
+use Rattle.session_hall.specs.Boards.{caller_count, turn_count}
 use Rattle.hall_stepping.specs.declared.stepped.Stepped.{Stepped}
 use Rattle.session_hall.specs.Names.{script_of}
 use Rattle.hall_stepping.specs.Steps.{CallerOf, HallOf, IsNoWait, StepsAs, StepsFrom, Goes, meaning_of, of_admitting, of_applying, of_began, of_ending, of_finishing}
-
-pub lt_or : (a b : ℕ) → (a < b) ⊎ (b ≤ a)
-lt_or a b = grind arith
 
 pub no_op : Op
 no_op = record { kind = Get; table = 0; key = Nil; value = Nil }
@@ -62,7 +60,7 @@ module _ (m : Meaning) (tickets : List Ticket) (shards turns : ℕ) (p q : Calle
       let op : Op = get_or (ticket_at tickets t).ops (length (entries_of p t)) no_op in
       let k = g.calls op (slice_get-get_or (ticket_at tickets t).ops (length (entries_of p t)) no_op low) in admits t op k.0 at k.1 k.2)
       (λ (high : length (ticket_at tickets t).ops ≤ length (entries_of p t)). let k = g.ends high in ends t (ticket_at tickets t).reply k.0 k.1 k.2)
-      (lt_or (length (entries_of p t)) (length (ticket_at tickets t).ops))
+      (cases_lt (length (entries_of p t)) (length (ticket_at tickets t).ops))
 
   from : (s : Stage) → p.stage ≡ s → StepsFrom m tickets shards turns p q answer s → IsNoWait answer
   from Idle at k = begins k.0 k.1 k.2

@@ -1,6 +1,6 @@
 -- A hall that is opened to be stepped, and one whose callers are all out.
 use Rattle.std.proofs.Common.{◌≡◌, ℕ, zero, suc, ◌≤◌, arith, List, [], ◌∷◌, Some, length, slice_get, get_or, sym, ◌∙◌, ap, subst}
-use Rattle.std.proofs.lemmas.Option.{slice_get_within, slice_get-get_or}
+use Rattle.std.proofs.lemmas.Option.{slice_get_within, slice_get-get_or, same_Some}
 use Rattle.session_limits.specs.Limits.{max_symbols}
 use Rattle.symbolic_ops.specs.Foresight.{ForesightView}
 use Rattle.session_journal.specs.Lists.{ListView}
@@ -13,7 +13,6 @@ use Rattle.hall_stepping.specs.Endings.{AreOut}
 use Rattle.hall_stepping.specs.Standing.{StandsFrom, meaning}
 use Rattle.hall_stepping.specs.Stepping.{IsStepping}
 use Rattle.hall_stepping.specs.Steps.{CallerOf, HallOf}
-use Rattle.hall_stepping.proofs.Saying.{some_same}
 
 pub opens_stepping : (s : ListView) (h : HallOf) (cs : List CallerOf) (ks : List ℕ) (rows : List Row) (list : ForesightView) (callers : ℕ) → script_of h ≡ s → s.tickets ≡ tickets_of rows → length cs ≡ callers → h.sizes.callers ≡ callers → length ks ≡ callers → max_symbols ≤ list.room
     → ((i : ℕ) (c : CallerOf) → slice_get cs i ≡ Some c → Opens meaning h i c) → IsStepping h cs ks rows list
@@ -28,7 +27,7 @@ opens_stepping s h cs ks rows list callers script same count sizes done room ope
 
 out_at : (cs : List CallerOf) (i : ℕ) (c : CallerOf) → AreOut cs → slice_get cs i ≡ Some c → c.stage ≡ Out
 out_at [] i c a e = cc
-out_at (x ∷ cs) zero c a e = subst (λ (y : CallerOf). y.stage ≡ Out) (some_same x c e) a.0
+out_at (x ∷ cs) zero c a e = subst (λ (y : CallerOf). y.stage ≡ Out) (same_Some x c e) a.0
 out_at (x ∷ cs) (suc i) c a e = out_at cs i c a.1 e
 
 pub all_leave : (h : HallOf) (cs : List CallerOf) (ks : List ℕ) (rows : List Row) (list : ForesightView) → IsStepping h cs ks rows list → AreOut cs → (i : ℕ) (c : CallerOf) → slice_get cs i ≡ Some c → Leaves meaning h i c

@@ -10,6 +10,7 @@ use Rattle.session_values.specs.Sums.{sum_below}
 use Rattle.session_values.proofs.Sums.{sum_below_up}
 use Rattle.symbolic_ops.specs.declared.symbol.Symbol.{Symbol}
 use Rattle.symbolic_ops.specs.Matching.{HasNoVar}
+use Rattle.symbolic_ops.proofs.Above.{covered_itself}
 use Rattle.session_journal.specs.Script.{Meaning, calls}
 use Rattle.session_journal.specs.Lists.{Ticket, ticket_at}
 use Rattle.session_hall.specs.declared.answers.Finishing.{Finishing}
@@ -19,13 +20,13 @@ use Rattle.session_hall.specs.declared.stage.Stage.TheVariants.{Applied}
 use Rattle.session_hall.specs.Callers.{book_of, entries_of, foresight_of}
 use Rattle.session_hall.specs.Calls.{MayFinish, MayFinishAt, FinishedAs, FinishedAt, FinishedFrom}
 use Rattle.session_hall.specs.Names.{script_of}
-use Rattle.turn_board.specs.Boards.{turn_count}
+use Rattle.session_hall.specs.Boards.{turn_count}
 use Rattle.hall_stepping.specs.declared.row.Row.{Row}
 use Rattle.hall_stepping.specs.declared.stepped.Stepped.{Stepped}
 use Rattle.hall_stepping.specs.Rows.{ticket_of, tickets_of}
 use Rattle.hall_stepping.specs.Steps.{CallerOf, HallOf, StepsAs, StepsFrom, meaning_of, of_finishing}
 use Rattle.hall_stepping.specs.Standing.{IsFlying, IsStepped, StandsAt, StandsFrom}
-use Rattle.hall_stepping.proofs.Saying.{still_covers, covered_itself}
+use Rattle.hall_stepping.proofs.Saying.{still_covers}
 
 -- ---- rows and tickets
 at_map : (rows : List Row) (t : ℕ) (r : Row) → t < length rows → r ≡ get_or rows t r → ticket_at (tickets_of rows) t ≡ ticket_of r

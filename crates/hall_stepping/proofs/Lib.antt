@@ -1,5 +1,4 @@
 mod Saying
-mod SerialReplies
 mod Serving
 mod Finishing
 mod Alone

@@ -2,6 +2,7 @@
 use Rattle.std.proofs.Common.{◌≡◌, ℕ, zero, suc, ◌-◌, ◌<◌, ◌≤◌, ◌⊎◌, inl, inr, ⊎_elim, arith, List, [], ◌∷◌, length, get_or, refl, sym, ◌∙◌, ap}
 use Rattle.std.specs.Prelude.{slice_set}
 use Rattle.std.proofs.lemmas.List.{length-map, length-set}
+use Rattle.std.proofs.lemmas.Bool.{cases_lt}
 use Rattle.session_limits.specs.Limits.{max_symbols}
 use Rattle.session_values.specs.declared.kind.TableKind.{TableKind}
 use Rattle.session_values.specs.declared.op.Op.{Op}
@@ -30,9 +31,6 @@ row_back [] n r s l e t = absurd (omega (arith, l))
 row_back (x ∷ rows) zero r s l e t = ap (λ (y : Ticket). y ∷ tickets_of rows) (t ∙ ap ticket_of e)
 row_back (x ∷ []) (suc n) r s l e t = absurd (omega (arith, l))
 row_back (x ∷ y ∷ rows) (suc n) r s l e t = ap (λ (xs : List Ticket). ticket_of x ∷ xs) (row_back (y ∷ rows) n r s (omega (arith, l)) e t)
-
-lt_or : (a b : ℕ) → (a < b) ⊎ (b ≤ a)
-lt_or a b = grind arith
 
 module _ (s : ListView) (rows : List Row) (shape : List TableKind) (room tickets calls symbols n : ℕ) (plan : IsPlan s rows shape room tickets calls symbols) (long : length rows ≡ suc n) (was : Row) (is : was ≡ get_or rows n was) where
   last_is : last_ticket s.tickets ≡ ticket_of was
@@ -78,7 +76,7 @@ module _ (s : ListView) (rows : List Row) (shape : List TableKind) (room tickets
       let count = ap (λ (xs : List Ticket). length xs) plan.rows_are ∙ length-map rows ticket_of in
       let e = ap (λ (x : Ticket). length x.entry) last_is in
       let low : max_symbols ≤ length was.symbols.items → ⊥ = λ l. free (inr l) in
-      record { some = omega (arith, count, long); few = ⊎_elim (λ (l : length was.symbols.items < max_symbols). omega (arith, e, l)) (λ (l : max_symbols ≤ length was.symbols.items). absurd (low l)) (lt_or (length was.symbols.items) max_symbols) }
+      record { some = omega (arith, count, long); few = ⊎_elim (λ (l : length was.symbols.items < max_symbols). omega (arith, e, l)) (λ (l : max_symbols ≤ length was.symbols.items). absurd (low l)) (cases_lt (length was.symbols.items) max_symbols) }
 
   pub is_full : (symbols ≡ 0) ⊎ (max_symbols ≤ length was.symbols.items) → IsFull s
   is_full (inl none) = inl (plan.symbols_left ∙ none)

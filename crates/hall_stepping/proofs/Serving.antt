@@ -1,13 +1,15 @@
 -- A caller that serves a ticket of a list, and the steps that it makes.
 use Rattle.std.proofs.Common.{◌≡◌, ℕ, ◌<◌, ◌≤◌, arith, List, Some, length, slice_get, sym, ◌∙◌, ap, subst}
-use Rattle.std.proofs.lemmas.Option.{slice_get_within}
+use Rattle.std.proofs.lemmas.Option.{slice_get_within, same_Some}
 use Rattle.session_values.specs.declared.op.Op.{Op}
 use Rattle.session_values.specs.declared.reply.Reply.{Reply}
 use Rattle.session_values.specs.Dialogue.{Entry, replies}
 use Rattle.session_values.specs.Serial.{serial, serial_replies}
 use Rattle.session_values.proofs.Entries.{length_replies}
+use Rattle.session_values.proofs.Serial.{at_serial}
 use Rattle.session_journal.specs.Script.{Meaning, IsScript, session_of}
 use Rattle.session_journal.specs.Lists.{ticket_at}
+use Rattle.session_journal.proofs.ListLawful.{ends}
 use Rattle.session_hall.specs.declared.answers.Admitting.{Admitting}
 use Rattle.session_hall.specs.declared.answers.Admitting.TheVariants as admitting
 use Rattle.session_hall.specs.declared.answers.Ending.{Ending}
@@ -18,15 +20,14 @@ use Rattle.session_hall.specs.Callers.{IsCallerOf, book_of, entries_of, foresigh
 use Rattle.session_hall.specs.Calls.{ByNote, MayCall, MayAnswer, AdmittedAs, AdmittedAt, EndedAs, EndedAt}
 use Rattle.session_hall.specs.Names.{script_of}
 use Rattle.session_hall.specs.Stages.{OnServing}
-use Rattle.turn_board.specs.Boards.{turn_count}
+use Rattle.session_hall.specs.Boards.{turn_count}
 use Rattle.hall_stepping.specs.declared.stepped.Stepped.{Stepped}
 use Rattle.hall_stepping.specs.Steps.{CallerOf, HallOf, StepsAs, StepsFrom, meaning_of, of_admitting, of_ending}
 use Rattle.hall_stepping.specs.Standing.{IsAt, IsStepped, StandsAt, StandsFrom, meaning}
-use Rattle.hall_stepping.proofs.Saying.{some_same, says_calls, says_answers, matched}
-use Rattle.hall_stepping.proofs.SerialReplies.{at_serial}
+use Rattle.hall_stepping.proofs.Saying.{says_calls, matched}
 
 same_op : (xs : List Op) (n : ℕ) (x y : Op) → slice_get xs n ≡ Some x → slice_get xs n ≡ Some y → x ≡ y
-same_op xs n x y e f = some_same x y (sym e ∙ f)
+same_op xs n x y e f = same_Some x y (sym e ∙ f)
 
 on_serving : (P : ℕ → Type 0) (s : Stage) (t : ℕ) → s ≡ Serves t → OnServing s P → P t
 on_serving P s t e k = subst (λ u. OnServing u P) e k
@@ -53,7 +54,7 @@ module _ (h : HallOf) (p : CallerOf) (done t : ℕ) where
   may_answer r s e last is =
       let a = is_at s e in let x = ticket_at (script_of h).tickets t in let n = replied a in
       subst (λ u. OnServing u (λ v. MayAnswer r m (book_of p) v)) (sym e)
-      (says_answers x.ops x.reply (replies (entries_of p t)) (omega (arith, n, last)) ∙ ap Rattle.session_values.specs.Dialogue.Answers is)
+      (ends x.ops x.reply (replies (entries_of p t)) (omega (arith, n, last)) ∙ ap Rattle.session_values.specs.Dialogue.Answers is)
 
   module _ (q : CallerOf) where
     pub admitted : (op : Op) (a : Admitting) (answer : Stepped) → IsStepped h p done → p.stage ≡ Serves t → slice_get (ticket_at (script_of h).tickets t).ops done ≡ Some op → AdmittedAs m p q op a → answer ≡ of_admitting t a → StepsAs h p q answer

@@ -22,7 +22,7 @@ use Rattle.session_hall.specs.declared.stage.Stage.TheVariants.{Idle, Serving as
 use Rattle.session_hall.specs.Callers.{entries_of}
 use Rattle.session_hall.specs.Calls.{BeganAs, AdmittedAs, AppliedAs, FinishedAs, EndedAs}
 use Rattle.session_hall.specs.Names.{script_of}
-use Rattle.turn_board.specs.Boards.{turn_count}
+use Rattle.session_hall.specs.Boards.{turn_count}
 use Rattle.hall_stepping.specs.declared.stepped.Stepped.{Stepped}
 use Rattle.hall_stepping.specs.declared.stepped.Stepped.TheVariants as stepped
 

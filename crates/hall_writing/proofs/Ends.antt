@@ -4,8 +4,8 @@ use Rattle.session_values.specs.declared.reply.Reply.{Reply}
 use Rattle.reply_lane.specs.declared.lane.Lane.{Lane}
 use Rattle.reply_lane.specs.declared.lane.End.{End}
 use Rattle.reply_lane.specs.Ends.{IsEndOf, state_of}
-use Rattle.reply_sheet.specs.Pending.{PendingView}
-use Rattle.reply_sheet.specs.Printable.{ArePrintableReplies}
+use Rattle.sheet_writing.specs.Pending.{PendingView}
+use Rattle.sheet_writing.specs.Printable.{ArePrintableReplies}
 use Rattle.sheet_writing.specs.Sheets.{GoesOn, Keeps, Progress}
 
 module _ (l : Lane) (replies : List Reply) (e : End) (is : IsEndOf l replies e) where

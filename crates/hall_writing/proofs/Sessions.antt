@@ -4,6 +4,7 @@ use Rattle.std.specs.List.{AllByRecursion}
 use Rattle.std.proofs.lemmas.List.{length-map}
 use Rattle.std.proofs.lemmas.Option.{slice_get_within, slice_get-get_or, slice_get-map, get_or_from_slice_get}
 use Rattle.session_values.specs.declared.reply.Reply.{Reply}
+use Rattle.session_values.proofs.Serial.{serial_length}
 use Rattle.session_journal.specs.Script.{Meaning, session_of}
 use Rattle.session_hall.specs.declared.hall.Hall.{Hall}
 use Rattle.session_hall.specs.declared.caller.Caller.{Caller}
@@ -11,12 +12,12 @@ use Rattle.session_hall.specs.Callers.{IsCallerOf}
 use Rattle.session_hall.specs.Closings.{Opens, Leaves}
 use Rattle.session_hall.specs.Stages.{IsBetween}
 use Rattle.session_hall.specs.Names.{script_of}
-use Rattle.turn_board.proofs.Rows.{map-read}
-use Rattle.hall_serving.proofs.SerialReplies.{Answers, serial_length}
+use Rattle.session_hall.proofs.Rows.{map-read}
+use Rattle.hall_serving.proofs.SerialReplies.{Answers}
 use Rattle.reply_lane.specs.declared.lane.Lane.{Lane}
 use Rattle.reply_lane.specs.declared.lane.End.{End}
 use Rattle.reply_lane.specs.Ends.{IsEndOf, IsNewEnd}
-use Rattle.reply_sheet.specs.Pending.{PendingView}
+use Rattle.sheet_writing.specs.Pending.{PendingView}
 use Rattle.hall_writing.specs.declared.job.Job.{Job}
 use Rattle.sheet_writing.specs.declared.sheet.Sheet.{Sheet}
 use Rattle.hall_writing.specs.Jobs.{IsJobOf, HasServed, callers_of, ends_of, replies_of}

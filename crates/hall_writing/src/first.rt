@@ -1,9 +1,9 @@
 // The first caller's job, which writes.
 
 ghost use Rattle.std.specs.Prelude.{◌≡◌, ◌≤◌, length};
-ghost use Rattle.session_limits.specs.Limits.{max_requests};
+ghost use Rattle.session_values.specs.Limits.{max_requests};
 ghost use Rattle.session_hall.specs.Names.{script_of};
-ghost use Rattle.reply_sheet.specs.Printable.{ArePrintableReplies};
+ghost use Rattle.sheet_writing.specs.Printable.{ArePrintableReplies};
 ghost use Rattle.hall_writing.specs.Jobs.{HasServed, IsJobOf, replies_of};
 ghost use Rattle.sheet_writing.specs.Sheets.{GoesOn, Keeps, progress};
 

@@ -3,9 +3,9 @@
 ghost use Rattle.std.specs.Prelude.{◌≡◌, ◌<◌, ◌≤◌, ℕ, length, slice_index_or, vec_len};
 ghost use Rattle.std.specs.List.{AllByRecursion};
 ghost use denote.Param.Send.{IsSync, IsSend};
-ghost use Rattle.session_limits.specs.Limits.{max_requests};
+ghost use Rattle.session_values.specs.Limits.{max_requests};
 ghost use Rattle.session_hall.specs.Names.{script_of};
-ghost use Rattle.reply_sheet.specs.Printable.{ArePrintableReplies};
+ghost use Rattle.sheet_writing.specs.Printable.{ArePrintableReplies};
 ghost use Rattle.hall_writing.specs.Jobs.{HasServed, IsJobOf, JobOf, replies_of};
 ghost use Rattle.sheet_writing.specs.Sheets.{GoesOn, Keeps, progress};
 

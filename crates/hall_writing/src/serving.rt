@@ -1,11 +1,11 @@
 // A session, served and written to its end.
 
 ghost use Rattle.std.specs.Prelude.{◌≡◌, ◌≤◌, true, false, length};
-ghost use Rattle.session_limits.specs.Limits.{max_requests};
+ghost use Rattle.session_values.specs.Limits.{max_requests};
 ghost use Rattle.session_values.specs.ReplyText.{reply_text};
 ghost use Rattle.byte_ends.specs.Ends.{Rose, Grew, GrewByFront};
 ghost use Rattle.session_hall.specs.Closings.{IsDone};
-ghost use Rattle.reply_sheet.specs.Printable.{ArePrintableReplies};
+ghost use Rattle.sheet_writing.specs.Printable.{ArePrintableReplies};
 ghost use Rattle.hall_writing.specs.Jobs.{replies_of};
 
 use crate::jobs::run_jobs;

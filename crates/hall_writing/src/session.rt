@@ -1,7 +1,7 @@
 // A session whose hall is open, and whose replies can be written.
 
 ghost use Rattle.std.specs.Prelude.{◌≡◌, ◌≤◌, IfOk, length};
-ghost use Rattle.session_limits.specs.Limits.{max_callers, max_shards, max_tables};
+ghost use Rattle.session_values.specs.Limits.{max_callers, max_shards, max_tables};
 
 use crate::job::Job;
 use crate::room::begin_jobs;

@@ -18,6 +18,7 @@ use Rattle.syntax_trees.specs.declared.file.Param.{Param}
 use Rattle.syntax_trees.specs.Alone.{alone}
 use Rattle.syntax_trees.specs.Mentions.{Mention, atom_mentions, expr_mentions, right_mentions}
 use Rattle.syntax_trees.proofs.Mentions.{mentions_leaf, mentions_binary, all_first}
+use Rattle.syntax_trees.proofs.Inductions.{expr_induction}
 use Rattle.check_meaning.specs.declared.tree.CheckedAtom.{CheckedAtom}
 use Rattle.check_meaning.specs.declared.tree.CheckedAtom.TheVariants.{Lit, Var}
 use Rattle.check_meaning.specs.declared.tree.CheckedCall.{CheckedCall}
@@ -25,14 +26,13 @@ use Rattle.check_meaning.specs.Code.{Term, Calculate, Code}
 use Rattle.check_meaning.specs.Code as code
 use Rattle.check_meaning.specs.Bounds.{calls_bound, work_bound}
 use Rattle.check_meaning.specs.Within.{AtomWithin, TermWithin, CallWithin, CodeWithin, VarWithin}
-use Rattle.check_rules.specs.Bounds.{KeepsBounds}
-use Rattle.check_rules.specs.Marks.{Mark, Declared, Mentioned, Operation, OnTable, Turns, declared, sees, seeing, atom_marks, expr_marks, call_marks, right_marks, cond_marks, marks, param_marks, param_names}
-use Rattle.check_rules.specs.Source.{Source, Finish, Let, Assign, Do, Choose, Repeat, Answer, block_source}
+use Rattle.syntax_trees.specs.Bounds.{KeepsBounds}
+use Rattle.syntax_trees.specs.Marks.{Mark, Declared, Mentioned, Operation, OnTable, Turns, declared, sees, seeing, atom_marks, expr_marks, call_marks, right_marks, cond_marks, marks, param_marks, param_names}
+use Rattle.syntax_trees.specs.Source.{Source, Finish, Let, Assign, Do, Choose, Repeat, Answer, block_source}
 use Rattle.handler_check.specs.Checked.{HandlerWithin}
 use Rattle.handler_check.specs.Checking.{IsAccepted}
 use Rattle.handler_check.specs.Resolved.{number_in, atom_of, term_of, key_of, value_of, call_of, stored, right_points, code_of, points_of, handler_code, code_at, code_in, params_in, shape_of, table_names, variables_at, variables_in, variables_of}
-use Rattle.check_rules.proofs.Statements.{marks_leaf, marks_binary}
-use Rattle.handler_check.proofs.Cases.{expr_induction}
+use Rattle.syntax_trees.proofs.Statements.{marks_leaf, marks_binary}
 use Rattle.handler_check.proofs.Fine.{IsFine, AreFine, all_fine, few_variables}
 use Rattle.handler_check.proofs.Held.{IsSmall, AreSmall, IsHeldBlock, held_handler}
 use Rattle.handler_check.proofs.Numbers.{numbered}

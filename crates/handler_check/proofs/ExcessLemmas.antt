@@ -1,7 +1,7 @@
 -- The first handler that may do too much is the first fault of what handlers may do.
-use Rattle.std.proofs.Common.{◌≡◌, ℕ, suc, zero, ◌+◌, ◌<◌, true, nat_lt, ◌⊎◌, inl, inr, List, [], ◌∷◌, ◌++◌, length, map, get_or, drop, slice_index_or, Some, None, refl, sym, ap, ◌∙◌, subst, arith}
-use Rattle.std.proofs.lemmas.Bool.Decides.{nat_tests}
+use Rattle.std.proofs.Common.{◌≡◌, ℕ, suc, zero, ◌+◌, ◌<◌, nat_lt, ◌⊎◌, inl, inr, List, [], ◌∷◌, ◌++◌, length, map, get_or, drop, slice_index_or, Some, None, refl, sym, ap, ◌∙◌, subst, arith}
 use Rattle.std.proofs.lemmas.List.{drop_more, map-append}
+use Rattle.std.proofs.lemmas.Bool.{ltb-true, lt-ltb}
 use Rattle.std.specs.List.{AllZip, AllByRecursion, Contains, flat_map}
 use Rattle.syntax_trees.specs.declared.file.File.{File}
 use Rattle.syntax_trees.specs.declared.file.Handler.{Handler}
@@ -10,8 +10,9 @@ use Rattle.check_meaning.specs.Bounds.{calls_bound, work_bound}
 use Rattle.check_meaning.specs.Code.{Code}
 use Rattle.check_rules.specs.declared.refusal.CheckRefusal.{CheckRefusal}
 use Rattle.check_rules.specs.declared.refusal.CheckRefusal.TheVariants.{Twice, Unknown, Arity, WrongTable, RepeatBound, TooManyTables, TooManyHandlers, TooManyVariables, TooManyCalls, TooMuchWork, NoMemory}
-use Rattle.check_rules.specs.FirstFault.{place, number, IsNoLater, AreRising, KeepsRules, PlacesRise}
-use Rattle.check_rules.specs.Marks.{Mark, Declared, mark_at, handler_marks, table_marks}
+use Rattle.check_rules.specs.FirstFault.{place, number, IsNoLater, KeepsRules}
+use Rattle.syntax_trees.specs.Rising.{AreRising, PlacesRise}
+use Rattle.syntax_trees.specs.Marks.{Mark, Declared, mark_at, handler_marks, table_marks}
 use Rattle.check_rules.specs.Rules.{IsBroken}
 use Rattle.check_rules.specs.Scan.{Fault, or_else, fault_if, file_fault}
 use Rattle.check_rules.proofs.Finds.{Faults, Finds, finds_same, finds_both, finds_if}
@@ -21,12 +22,6 @@ use Rattle.handler_check.specs.Checking.{IsAccepted, IsBeyond, IsRefusal}
 use Rattle.handler_check.specs.Excess.{code_excess, own_excess, excess}
 use Rattle.handler_check.specs.Resolved.{IsResolved, table_names, handler_code}
 use Rattle.handler_check.proofs.Scans.{or_none, or_assoc}
-
-is_more : (n b : ℕ) → nat_lt n b ≡ true → n < b
-is_more n b e = grind (arith, nat_tests)
-
-more_is : (n b : ℕ) → n < b → nat_lt n b ≡ true
-more_is n b e = grind (arith, nat_tests)
 
 abbrev OwnBeyond : Code → ℕ → Faults
 OwnBeyond code at g = ((10000 < calls_bound code) × (g ≡ TooManyCalls at)) ⊎ ((100000 < work_bound code) × (g ≡ TooMuchWork at))
@@ -43,8 +38,8 @@ finds_own : (code : Code) (at : ℕ) → Finds (code_excess code at) (OwnBeyond 
 finds_own code at =
     finds_both (fault_if (nat_lt 10000 (calls_bound code)) (TooManyCalls at)) (fault_if (nat_lt 100000 (work_bound code)) (TooMuchWork at)) (λ g. (10000 < calls_bound code) × (g ≡ TooManyCalls at)) (λ g. (100000 < work_bound code) × (g ≡ TooMuchWork at))
     (λ g k b c. in_order at g k b.1 c.1)
-    (finds_if (nat_lt 10000 (calls_bound code)) (10000 < calls_bound code) (TooManyCalls at) (is_more 10000 (calls_bound code)) (more_is 10000 (calls_bound code)))
-    (finds_if (nat_lt 100000 (work_bound code)) (100000 < work_bound code) (TooMuchWork at) (is_more 100000 (work_bound code)) (more_is 100000 (work_bound code)))
+    (finds_if (nat_lt 10000 (calls_bound code)) (10000 < calls_bound code) (TooManyCalls at) (ltb-true 10000 (calls_bound code)) (lt-ltb 10000 (calls_bound code)))
+    (finds_if (nat_lt 100000 (work_bound code)) (100000 < work_bound code) (TooMuchWork at) (ltb-true 100000 (work_bound code)) (lt-ltb 100000 (work_bound code)))
 
 own_place : (code : Code) (at : ℕ) (g : CheckRefusal) → OwnBeyond code at g → place g ≡ at
 own_place code at g b = elim b [ inl h ↦ ap place h.1 | inr h ↦ ap place h.1 ]

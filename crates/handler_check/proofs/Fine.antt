@@ -4,6 +4,7 @@ use Rattle.std.proofs.lemmas.Bool.Decides.{nat_tests}
 use Rattle.std.proofs.lemmas.List.{length_push}
 use Rattle.std.proofs.lemmas.List.Elements.{Contains-append_right}
 use Rattle.std.proofs.lemmas.Option.{slice_get_within}
+use Rattle.std.proofs.lemmas.Bool.{eqb-true}
 use Rattle.std.specs.List.{AllByRecursion, Contains}
 use Rattle.session_values.specs.declared.kind.Kind.{Kind}
 use Rattle.session_values.specs.declared.kind.TableKind.{TableKind}
@@ -13,10 +14,10 @@ use Rattle.syntax_trees.specs.declared.file.Handler.{Handler}
 use Rattle.syntax_trees.specs.declared.file.TableDecl.{TableDecl}
 use Rattle.check_rules.specs.declared.refusal.CheckRefusal.TheVariants.{Twice, Unknown, Arity, WrongTable, RepeatBound, TooManyTables, TooManyHandlers, TooManyVariables}
 use Rattle.check_rules.specs.FirstFault.{KeepsRules}
-use Rattle.check_rules.specs.Marks.{Mark, Declared, Mentioned, Operation, OnTable, Turns, declared, handler_marks, table_marks, name_marks}
+use Rattle.syntax_trees.specs.Marks.{Mark, Declared, Mentioned, Operation, OnTable, Turns, declared, handler_marks, table_marks, name_marks}
 use Rattle.check_rules.specs.Rules.{Stands, IsPast, IsTwice, kind_of}
 use Rattle.check_rules.specs.Scan.{is_same_kind}
-use Rattle.check_rules.proofs.Finds.{eq_true, kind_true, kind_false}
+use Rattle.check_rules.proofs.Finds.{kind_true, kind_false}
 use Rattle.check_rules.proofs.Texts.{declared_append}
 use Rattle.handler_check.specs.Resolved.{number_in, variables_of, shape_of, table_names, StandsForTable}
 use Rattle.handler_check.proofs.Meaning.{eq_is, named_at, moved, same_names, Fresh, fresh_text, one_number, stands_for}
@@ -30,7 +31,7 @@ module _ (limit : ℕ) (text : List Mark) (never : (at : ℕ) → IsPast limit t
       more = ap length (declared_append pre (Declared name at ∷ [])) ∙ length_push (declared pre) name
 
       go : (b : Bool) → (length (declared pre) == limit) ≡ b → length (declared (pre ++ Declared name at ∷ [])) ≤ limit
-      go true t = absurd (never at (pre, name, record { after = ms; is = e }, eq_true (length (declared pre)) limit t))
+      go true t = absurd (never at (pre, name, record { after = ms; is = e }, eqb-true (length (declared pre)) limit t))
       go false t = (let ne : length (declared pre) ≢ limit = eq_is (length (declared pre)) limit t in omega (arith, more, ne, l))
   few_more pre ms (Mentioned name at visible) e l = subst (λ (x : List ℕ). length x ≤ limit) (sym (same_names pre (Mentioned name at visible) refl)) l
   few_more pre ms (Operation kind count at) e l = subst (λ (x : List ℕ). length x ≤ limit) (sym (same_names pre (Operation kind count at) refl)) l
@@ -44,7 +45,7 @@ module _ (limit : ℕ) (text : List Mark) (never : (at : ℕ) → IsPast limit t
   few_declared : length (declared text) ≤ limit
   few_declared = few_from [] text refl (omega arith)
 
-tables_declared : (ts : List TableDecl) → declared (table_marks ts) ≡ map (λ (t : TableDecl). t.name) ts
+pub tables_declared : (ts : List TableDecl) → declared (table_marks ts) ≡ map (λ (t : TableDecl). t.name) ts
 tables_declared [] = refl
 tables_declared (t ∷ ts) = ap (λ (x : List ℕ). t.name ∷ x) (tables_declared ts)
 
@@ -80,7 +81,7 @@ table_in [] name k e = cc
 table_in (t ∷ ts) name k e = go (t.name == name) refl e (λ e. table_in ts name k e)
   where
     go : (b : Bool) → (t.name == name) ≡ b → (if b then Some t.kind else kind_of ts name) ≡ Some k → (kind_of ts name ≡ Some k → Contains (map (λ (t : TableDecl). t.name) ts) name) → Contains (map (λ (t : TableDecl). t.name) (t ∷ ts)) name
-    go true is e more = (0, omega arith, eq_true t.name name is)
+    go true is e more = (0, omega arith, eqb-true t.name name is)
     go false is e more = (let c = more e in (suc c.0, (let l = c.1 in omega arith), c.2))
 
 module _ (f : File) (h : Handler) (keeps : KeepsRules f) (among : Contains f.handlers h) where
@@ -152,7 +153,7 @@ some_turns n h = (first (n == 0) refl, last (nat_lt 1000 n) refl)
     smaller e = grind (arith, nat_tests)
 
     first : (b : Bool) → (n == 0) ≡ b → 0 < n
-    first true e = absurd (h (inl (eq_true n 0 e)))
+    first true e = absurd (h (inl (eqb-true n 0 e)))
     first false e = (let ne : n ≢ 0 = eq_is n 0 e in omega (arith, ne))
 
     last : (b : Bool) → nat_lt 1000 n ≡ b → n ≤ 1000
@@ -173,7 +174,7 @@ module _ (f : File) (h : Handler) (keeps : KeepsRules f) (among : Contains f.han
   fine_mark before (Operation kind count at) s = go (count == arguments kind) refl
     where
       go : (b : Bool) → (count == arguments kind) ≡ b → count ≡ arguments kind
-      go true e = eq_true count (arguments kind) e
+      go true e = eqb-true count (arguments kind) e
       go false e = absurd (keeps (Arity at) (h, among, (before, kind, count, s, eq_is count (arguments kind) e)))
   fine_mark before (OnTable kind name at) s = (let stands = stands_for_table f h keeps among before kind name at s in stands.fit)
   fine_mark before (Turns n at) s = some_turns n (λ b. keeps (RepeatBound at) (h, among, (before, n, s, b)))

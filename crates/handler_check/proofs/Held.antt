@@ -9,9 +9,9 @@ use Rattle.syntax_trees.specs.declared.file.File.{File}
 use Rattle.syntax_trees.specs.declared.file.Handler.{Handler}
 use Rattle.syntax_trees.specs.Mentions.{Mention, IsBelow, expr_mentions, call_mentions, right_mentions, cond_mentions, stmt_mentions, table_mentions, param_mentions, handler_mentions, file_mentions}
 use Rattle.syntax_trees.proofs.Mentions.{mentions_let, mentions_assign, mentions_perform, mentions_choose, mentions_repeat, mentions_answer, all_first}
-use Rattle.check_rules.specs.Bounds.{Form, stmt_forms, block_forms, handler_forms, IsBoundedForm, IsBoundedNumber, KeepsBounds}
-use Rattle.check_rules.specs.Source.{Source, Finish, Let, Assign, Do, Choose, Repeat, Answer, stmt_source, block_source}
-use Rattle.check_rules.proofs.Statements.{source_let, source_assign, source_call, source_choose, source_repeat, source_reply, forms_choose, forms_repeat, forms_reply}
+use Rattle.syntax_trees.specs.Bounds.{Form, stmt_forms, block_forms, handler_forms, IsBoundedForm, IsBoundedNumber, KeepsBounds}
+use Rattle.syntax_trees.specs.Source.{Source, Finish, Let, Assign, Do, Choose, Repeat, Answer, stmt_source, block_source}
+use Rattle.syntax_trees.proofs.Statements.{source_let, source_assign, source_call, source_choose, source_repeat, source_reply, forms_choose, forms_repeat, forms_reply}
 use Rattle.handler_check.proofs.Inductions.{stmt_induction}
 
 -- a number and a place that a program can hold

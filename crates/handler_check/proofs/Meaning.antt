@@ -2,6 +2,7 @@
 use Rattle.std.proofs.Common.{◌≡◌, ℕ, suc, zero, ◌<◌, ◌==◌, Bool, true, false, inl, inr, if◌then◌else◌, List, [], ◌∷◌, ◌++◌, append-nil, append_assoc, length, slice_index_or, slice_get, Some, refl, sym, ap, ◌∙◌, subst, arith}
 use Rattle.std.proofs.lemmas.Bool.Decides.{nat_tests}
 use Rattle.std.proofs.lemmas.List.Elements.{Contains-append_left, Contains-append_right, Contains-append_cases, Contains-push}
+use Rattle.std.proofs.lemmas.Bool.{eqb-true}
 use Rattle.std.specs.List.{Contains, flat_map}
 use Rattle.syntax_trees.specs.declared.expr.Atom.{Atom}
 use Rattle.syntax_trees.specs.declared.expr.Atom.TheVariants as atom
@@ -13,17 +14,17 @@ use Rattle.syntax_trees.specs.declared.stmt.Right.TheVariants as right
 use Rattle.syntax_trees.specs.declared.file.File.{File}
 use Rattle.syntax_trees.specs.declared.file.Handler.{Handler}
 use Rattle.syntax_trees.specs.declared.file.Param.{Param}
+use Rattle.syntax_trees.proofs.Inductions.{expr_induction}
 use Rattle.check_rules.specs.declared.refusal.CheckRefusal.TheVariants.{Twice, Unknown}
 use Rattle.check_rules.specs.FirstFault.{KeepsRules}
-use Rattle.check_rules.specs.Marks.{Mark, Declared, Mentioned, Operation, OnTable, Turns, declared, seeing, atom_marks, expr_marks, call_marks, right_marks, cond_marks, marks, param_marks, param_names, handler_marks}
+use Rattle.syntax_trees.specs.Marks.{Mark, Declared, Mentioned, Operation, OnTable, Turns, declared, seeing, atom_marks, expr_marks, call_marks, right_marks, cond_marks, marks, param_marks, param_names, handler_marks}
 use Rattle.check_rules.specs.Rules.{Stands, IsTwice}
 use Rattle.check_rules.specs.Scan.{is_among}
-use Rattle.check_rules.specs.Source.{Source, Finish, Let, Assign, Do, Choose, Repeat, Answer, block_source}
-use Rattle.check_rules.proofs.Finds.{among_in, eq_true, in_among}
+use Rattle.syntax_trees.specs.Source.{Source, Finish, Let, Assign, Do, Choose, Repeat, Answer, block_source}
+use Rattle.check_rules.proofs.Finds.{among_in, in_among}
 use Rattle.check_rules.proofs.Texts.{declared_append}
 use Rattle.handler_check.specs.Resolved.{number_in, variables_of, StandsFor}
-use Rattle.check_rules.proofs.Statements.{marks_leaf, marks_binary}
-use Rattle.handler_check.proofs.Cases.{expr_induction}
+use Rattle.syntax_trees.proofs.Statements.{marks_leaf, marks_binary}
 use Rattle.handler_check.proofs.Scans.{params_declared, expr_declares, right_declares, call_declares, cond_declares, all_declare}
 
 -- ---- numbers of names
@@ -36,7 +37,7 @@ named_at (n ∷ ns) name k l e = go (n == name) refl k l e (λ j l e. named_at n
   where
     go : (b : Bool) → (n == name) ≡ b → (k : ℕ) → k < length (n ∷ ns) → slice_index_or (n ∷ ns) k name ≡ name → ((j : ℕ) → j < length ns → slice_index_or ns j name ≡ name → slice_get ns (number_in ns name) ≡ Some name)
         → slice_get (n ∷ ns) (if b then 0 else suc (number_in ns name)) ≡ Some name
-    go true t k l e more = ap (λ (x : ℕ). Some x) (eq_true n name t)
+    go true t k l e more = ap (λ (x : ℕ). Some x) (eqb-true n name t)
     go false t zero l e more = absurd (eq_is n name t e)
     go false t (suc k) l e more = more k (omega arith) e
 

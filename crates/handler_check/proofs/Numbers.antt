@@ -2,7 +2,7 @@
 use Rattle.std.proofs.Common.{◌≡◌, ℕ, ◌+◌, List, refl, sym, ap, ◌∙◌, subst, arith}
 use Rattle.syntax_trees.specs.declared.stmt.Right.{Right}
 use Rattle.syntax_trees.specs.declared.stmt.Right.TheVariants as right
-use Rattle.check_rules.specs.Source.{Source, Finish, Let, Assign, Do, Choose, Repeat, Answer}
+use Rattle.syntax_trees.specs.Source.{Source, Finish, Let, Assign, Do, Choose, Repeat, Answer}
 use Rattle.check_meaning.specs.Code.{Code, IsNumbered, points}
 use Rattle.handler_check.specs.Resolved.{right_points, points_of, stored, code_of}
 

@@ -9,14 +9,11 @@ use Rattle.syntax_trees.specs.declared.stmt.Stmt.{Stmt}
 use Rattle.check_meaning.specs.declared.tree.CheckedStmt.{CheckedStmt}
 use Rattle.check_meaning.specs.Bounds.{calls_bound, work_bound}
 use Rattle.check_meaning.specs.Code.{Code, Finish, stmt_code, block_code, points}
-use Rattle.check_rules.specs.Source.{Source, stmt_source, block_source}
+use Rattle.syntax_trees.specs.Source.{Source, stmt_source, block_source}
 use Rattle.handler_check.specs.declared.bounds.HandlerBounds.{HandlerBounds}
 use Rattle.handler_check.specs.Checked.{AreBoundsOf}
 use Rattle.handler_check.specs.Resolved.{IsResolved, points_of, code_of, table_names, variables_of, code_in, code_at, params_in, params_at}
 use Rattle.handler_check.proofs.Numbers.{counted}
-
-next : {X : Type 0} (xs : List X) (i : ℕ) (d : X) → i < length xs → drop i xs ≡ get_or xs i d ∷ drop (i + 1) xs
-next xs i d h = drop_more xs i d h
 
 -- ---- statements
 module _ (ts vs : List ℕ) where
@@ -40,7 +37,7 @@ module _ (ts vs : List ℕ) where
       let rest : Source = block_source (drop (i + 1) ss) in
       onto_push found x (code_of ts vs rest q) ∙ ap (onto found) (same rest)
       ∙ ap (λ (z : Stmt). onto found (code_of ts vs (stmt_source z rest) p)) is
-      ∙ ap (λ (zs : List Stmt). onto found (code_of ts vs (block_source zs) p)) (sym (next ss i d h)) ∙ so_far
+      ∙ ap (λ (zs : List Stmt). onto found (code_of ts vs (block_source zs) p)) (sym (drop_more ss i d h)) ∙ so_far
 
   pub block_end : (ss : List Stmt) (found : List CheckedStmt) (i p : ℕ) (whole : Code) → length ss ≤ i → onto found (code_of ts vs (block_source (drop i ss)) p) ≡ whole → block_code found ≡ whole
   block_end ss found i p whole h so_far = sym (onto_block found) ∙ ap (λ (zs : List Stmt). onto found (code_of ts vs (block_source zs) p)) (sym (drop_all i ss h)) ∙ so_far
@@ -49,7 +46,7 @@ pub points_turn : (ss : List Stmt) (i : ℕ) (s d : Stmt) (p q whole : ℕ) → 
     → p + points_of (block_source (drop i ss)) ≡ whole → q + points_of (block_source (drop (i + 1) ss)) ≡ whole
 points_turn ss i s d p q whole h is same so_far =
     let rest : Source = block_source (drop (i + 1) ss) in
-    same rest ∙ ap (λ (z : Stmt). p + points_of (stmt_source z rest)) is ∙ ap (λ (zs : List Stmt). p + points_of (block_source zs)) (sym (next ss i d h)) ∙ so_far
+    same rest ∙ ap (λ (z : Stmt). p + points_of (stmt_source z rest)) is ∙ ap (λ (zs : List Stmt). p + points_of (block_source zs)) (sym (drop_more ss i d h)) ∙ so_far
 
 pub points_end : (ss : List Stmt) (i p whole : ℕ) → length ss ≤ i → p + points_of (block_source (drop i ss)) ≡ whole → p ≡ whole
 points_end ss i p whole h so_far = (let e : points_of (block_source (drop i ss)) ≡ 0 = ap (λ (zs : List Stmt). points_of (block_source zs)) (drop_all i ss h) in omega arith)
@@ -74,12 +71,6 @@ zip_turn {A} {B} R xs ys i x d y l is so_far one =
 
 pub zip_end : {A B : Type 0} (R : A → B → Type 0) (xs : List A) (ys : List B) (i : ℕ) → length xs ≤ i → AllZip R (take i xs) ys → AllZip R xs ys
 zip_end {A} R xs ys i l so_far = subst (λ (zs : List A). AllZip R zs ys) (take_all i xs l) so_far
-
-pub zip_length : {A B : Type 0} (R : A → B → Type 0) (xs : List A) (ys : List B) → AllZip R xs ys → length ys ≡ length xs
-zip_length R [] [] z = refl
-zip_length R [] (y ∷ ys) z = absurd z
-zip_length R (x ∷ xs) [] z = absurd z
-zip_length R (x ∷ xs) (y ∷ ys) z = ap suc (zip_length R xs ys z.1)
 
 pub zip_at : {A B : Type 0} (R : A → B → Type 0) (xs : List A) (ys : List B) (i : ℕ) (y : B) → AllZip R xs ys → slice_get ys i ≡ Some y → (x : A) × (slice_get xs i ≡ Some x) × R x y
 zip_at R [] [] i y z e = cc

@@ -13,16 +13,17 @@ use Rattle.syntax_trees.specs.declared.stmt.Stmt.{Stmt}
 use Rattle.syntax_trees.specs.declared.stmt.Stmt.TheVariants as stmt
 use Rattle.syntax_trees.specs.declared.file.Param.{Param}
 use Rattle.syntax_trees.specs.declared.file.TableDecl.{TableDecl}
+use Rattle.syntax_trees.proofs.Inductions.{expr_induction}
 use Rattle.check_rules.specs.declared.refusal.CheckRefusal.{CheckRefusal}
 use Rattle.check_rules.specs.declared.refusal.CheckRefusal.TheVariants.{NoMemory}
-use Rattle.check_rules.specs.Marks.{Mark, Declared, Mentioned, Operation, OnTable, Turns, declared, sees, seeing, atom_marks, expr_marks, call_marks, right_marks, cond_marks, marks, param_marks, param_names}
+use Rattle.syntax_trees.specs.Marks.{Mark, Declared, Mentioned, Operation, OnTable, Turns, declared, sees, seeing, atom_marks, expr_marks, call_marks, right_marks, cond_marks, marks, param_marks, param_names}
 use Rattle.check_rules.specs.Scan.{Fault, or_else, Limit, mark_fault, scan, Found}
-use Rattle.check_rules.specs.Source.{Source, Finish, Let, Assign, Do, Choose, Repeat, Answer, stmt_source, block_source}
+use Rattle.syntax_trees.specs.Source.{Source, Finish, Let, Assign, Do, Choose, Repeat, Answer, stmt_source, block_source}
 use Rattle.check_rules.proofs.Finds.{sees_none}
 use Rattle.check_rules.proofs.Texts.{declared_append}
 use Rattle.handler_check.specs.Shown.{first_shown, shown}
-use Rattle.check_rules.proofs.Statements.{marks_leaf, marks_binary, source_let, source_assign, source_call, source_choose, source_repeat, source_reply}
-use Rattle.handler_check.proofs.Cases.{expr_induction, stmt_cases}
+use Rattle.syntax_trees.proofs.Statements.{marks_leaf, marks_binary, source_let, source_assign, source_call, source_choose, source_repeat, source_reply}
+use Rattle.handler_check.proofs.Cases.{stmt_cases}
 
 -- ---- faults
 pub or_none : (w : Fault) → or_else w None ≡ w

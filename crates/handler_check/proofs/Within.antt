@@ -1,8 +1,8 @@
 -- Accepted handlers stay within the bounds.
 use Rattle.std.proofs.Common.{◌≡◌, ℕ, ◌<◌, ◌≤◌, ◌==◌, min, nat_lt, Bool, true, false, ◌&&◌, if◌then◌else◌, List, slice_get, Some, refl, arith}
-use Rattle.std.proofs.lemmas.Bool.Decides.{nat_tests}
 use Rattle.std.proofs.lemmas.Option.{slice_get_within, get_or_from_slice_get}
 use Rattle.std.proofs.Math.Nat.{mul-le-mul_left}
+use Rattle.std.proofs.lemmas.Bool.{ltb-true, ltb-false}
 use Rattle.std.specs.List.{Contains}
 use Rattle.session_values.specs.Kinds.{is_adding}
 use Rattle.syntax_trees.specs.declared.file.File.{File}
@@ -16,15 +16,9 @@ use Rattle.handler_check.specs.Resolved.{handler_code}
 no_more : (limit n : ℕ) → (limit < n → ⊥) → n ≤ limit
 no_more limit n never = go (nat_lt limit n) refl
   where
-    larger : (limit n : ℕ) → nat_lt limit n ≡ true → limit < n
-    larger limit n e = grind (arith, nat_tests)
-
-    smaller : (limit n : ℕ) → nat_lt limit n ≡ false → n ≤ limit
-    smaller limit n e = grind (arith, nat_tests)
-
     go : (b : Bool) → nat_lt limit n ≡ b → n ≤ limit
-    go true e = absurd (never (larger limit n e))
-    go false e = smaller limit n e
+    go true e = absurd (never (ltb-true limit n e))
+    go false e = ltb-false limit n e
 
 pub in_file : (hs : List Handler) (i : ℕ) (h : Handler) → slice_get hs i ≡ Some h → Contains hs h
 in_file hs i h e = (i, slice_get_within hs i h e, get_or_from_slice_get hs i h h e)

@@ -7,7 +7,7 @@ use Rattle.check_meaning.specs.declared.tree.CheckedHandler.{CheckedHandler}
 use Rattle.check_meaning.specs.Bounds.{calls_bound, work_bound}
 use Rattle.check_meaning.specs.Code.{IsNumbered, block_code}
 use Rattle.check_meaning.specs.Within.{CodeWithin}
-use Rattle.check_rules.specs.Bounds.{KeepsBounds}
+use Rattle.syntax_trees.specs.Bounds.{KeepsBounds}
 use Rattle.handler_check.specs.declared.bounds.HandlerBounds.{HandlerBounds}
 use Rattle.handler_check.specs.Checking.{IsAccepted}
 use Rattle.handler_check.specs.Resolved.{IsResolved, code_at, params_at, shape_of, table_names, variables_at}

@@ -17,8 +17,8 @@ use Rattle.syntax_trees.specs.declared.stmt.Right.TheVariants as right
 use Rattle.syntax_trees.specs.declared.file.File.{File}
 use Rattle.syntax_trees.specs.declared.file.Handler.{Handler}
 use Rattle.syntax_trees.specs.declared.file.TableDecl.{TableDecl}
-use Rattle.check_rules.specs.Marks.{Mark, declared, handler_marks}
-use Rattle.check_rules.specs.Source.{Source, Finish, Let, Assign, Do, Choose, Repeat, Answer, block_source}
+use Rattle.syntax_trees.specs.Marks.{Mark, declared, handler_marks}
+use Rattle.syntax_trees.specs.Source.{Source, Finish, Let, Assign, Do, Choose, Repeat, Answer, block_source}
 use Rattle.check_meaning.specs.declared.tree.CheckedAtom.{CheckedAtom}
 use Rattle.check_meaning.specs.declared.tree.CheckedAtom.TheVariants.{Lit, Var}
 use Rattle.check_meaning.specs.declared.tree.CheckedCall.{CheckedCall}

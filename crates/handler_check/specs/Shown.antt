@@ -1,6 +1,6 @@
 -- The variable that a statement makes visible behind it. Only this crate's own functions cite it.
 use Rattle.std.specs.Prelude.{ℕ, List, [], ◌∷◌}
-use Rattle.check_rules.specs.Source.{Source, Finish, Let, Assign, Do, Choose, Repeat, Answer, stmt_source}
+use Rattle.syntax_trees.specs.Source.{Source, Finish, Let, Assign, Do, Choose, Repeat, Answer, stmt_source}
 use Rattle.syntax_trees.specs.declared.stmt.Stmt.{Stmt}
 
 abbrev pub first_shown : Source → List ℕ

@@ -6,9 +6,9 @@ ghost use Rattle.handler_check.specs.Checked.{HandlerWithin};
 ghost use Rattle.handler_check.specs.Checking.{IsAccepted, IsRefusal};
 ghost use Rattle.handler_check.specs.Resolved.{IsResolved, code_at, table_names};
 ghost use Rattle.check_meaning.specs.Code.{block_code};
-ghost use Rattle.check_rules.specs.Bounds.{KeepsBounds};
+ghost use Rattle.syntax_trees.specs.Bounds.{KeepsBounds};
 ghost use Rattle.check_rules.specs.declared.refusal.CheckRefusal.TheVariants as refusal;
-ghost use Rattle.check_rules.specs.FirstFault.{PlacesRise};
+ghost use Rattle.syntax_trees.specs.Rising.{PlacesRise};
 
 use crate::looking::look;
 use crate::resolution::resolve_handler;

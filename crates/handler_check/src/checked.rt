@@ -9,9 +9,9 @@ ghost use Rattle.handler_check.specs.Checking.{IsAccepted, IsRefusal};
 ghost use Rattle.handler_check.specs.Resolved.{IsResolved, code_at, params_at, table_names};
 ghost use Rattle.check_meaning.specs.Bounds as spec;
 ghost use Rattle.check_meaning.specs.Code.{block_code, points};
-ghost use Rattle.check_rules.specs.Bounds.{KeepsBounds};
+ghost use Rattle.syntax_trees.specs.Bounds.{KeepsBounds};
 ghost use Rattle.check_rules.specs.declared.refusal.CheckRefusal.TheVariants as refusal;
-ghost use Rattle.check_rules.specs.FirstFault.{PlacesRise};
+ghost use Rattle.syntax_trees.specs.Rising.{PlacesRise};
 
 use crate::bounds::{Counted, HandlerBounds, count_calls};
 use crate::excess::bound_all;

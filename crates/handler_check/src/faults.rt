@@ -8,7 +8,7 @@ mod stmt;
 ghost use Rattle.std.specs.Prelude.{◌≡◌, ℕ, List, [], IfOk, map};
 ghost use Rattle.syntax_trees.specs.declared.file.TableDecl.{TableDecl};
 ghost use Rattle.handler_check.specs.Resolved.{variables_of};
-ghost use Rattle.check_rules.specs.Marks.{handler_marks, param_marks, param_names, table_marks};
+ghost use Rattle.syntax_trees.specs.Marks.{handler_marks, param_marks, param_names, table_marks};
 ghost use Rattle.check_rules.specs.Scan.{Found, of_tables, of_variables, scan};
 
 pub(crate) use self::names::declare;

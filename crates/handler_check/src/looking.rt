@@ -4,7 +4,8 @@ ghost use Rattle.std.specs.Prelude.{◌≡◌, ◌≢◌, [], IfOk, MatchResult}
 ghost use Rattle.handler_check.specs.Excess as spec;
 ghost use Rattle.handler_check.specs.Resolved.{table_names};
 ghost use Rattle.check_rules.specs.declared.refusal.CheckRefusal.TheVariants as refusal;
-ghost use Rattle.check_rules.specs.FirstFault.{IsFirstFault, KeepsRules, PlacesRise};
+ghost use Rattle.check_rules.specs.FirstFault.{IsFirstFault, KeepsRules};
+ghost use Rattle.syntax_trees.specs.Rising.{PlacesRise};
 ghost use Rattle.check_rules.specs.Scan.{Found, file_fault, scan_handlers};
 
 use crate::excess::bound_handler;

@@ -1,17 +1,16 @@
 -- The script of a program's requests is lawful.
-use Rattle.std.proofs.Common.{◌≡◌, ℕ, zero, suc, ◌+◌, ◌<◌, ◌≤◌, ◌==◌, arith, Bool, true, false, ◌&&◌, if◌then◌else◌, cond, List, [], ◌∷◌, length, nat_lt, Option, None, slice_get, refl, sym, ap, ◌∙◌, subst}
+use Rattle.std.proofs.Common.{◌≡◌, ℕ, zero, suc, ◌+◌, ◌<◌, ◌≤◌, ◌==◌, arith, Bool, true, false, ◌&&◌, if◌then◌else◌, cond, List, [], ◌∷◌, length, nat_lt, Option, None, slice_get, refl, sym, ap, subst}
 use Rattle.std.specs.Prelude.{slice_index_or}
-use Rattle.std.specs.List.{AllByRecursion, sum_by}
+use Rattle.std.specs.List.{AllByRecursion}
 use Rattle.std.proofs.lemmas.Bool.Decides.{nat_tests}
 use Rattle.std.proofs.lemmas.List.{get_or_past}
-use Rattle.std.proofs.lemmas.List.Sums.{sum_by-cons}
 use Rattle.std.proofs.lemmas.Option.{slice_get_past}
 use Rattle.session_values.specs.declared.value.Value.{Value}
 use Rattle.session_values.specs.Dialogue.{Next, Calls, Answers, Entry, rest}
 use Rattle.session_values.specs.Kinds.{is_adding}
 use Rattle.session_values.specs.Sums.{sum_below}
 use Rattle.session_values.specs.Values.{IsValue}
-use Rattle.session_values.proofs.Sums.{sum_below_le, sum_first}
+use Rattle.session_values.proofs.Sums.{sum_below_le}
 use Rattle.symbolic_ops.specs.declared.symbol.Symbol.{Symbol}
 use Rattle.session_journal.specs.Script.{HasValues, IsForesight, IsScript, adds_on, calls, room}
 use Rattle.check_meaning.specs.Bounds.{adding, adds_bound, calls_bound, weight_of}
@@ -29,6 +28,7 @@ use Rattle.syntax_trees.specs.declared.file.Handler.{Handler}
 use Rattle.request_files.specs.declared.request.Request.{Request}
 use Rattle.request_files.specs.Servable.{IsRequestOf}
 use Rattle.request_files.specs.Session.{request_at}
+use Rattle.request_files.proofs.PickedLemmas.{sum_all}
 use Rattle.declaration_insertion.specs.Promises.{ArePromised, CoversRest, listed, list_at}
 use Rattle.declaration_insertion.specs.Program.{IsProgram, ProgramView, declared_at}
 use Rattle.declaration_insertion.proofs.Programs.{program_promised}
@@ -38,10 +38,6 @@ use Rattle.handler_machine.specs.Serving.{Gives}
 -- ---- sums over tickets
 pub sum_more : (n : ℕ) (f : ℕ → ℕ) → sum_below (n + 1) f ≡ sum_below n f + f n
 sum_more n f = (let e : n + 1 ≡ suc n = omega arith in ap (λ (k : ℕ). sum_below k f) e)
-
-sum_listed : (g : Request → ℕ) (rs : List Request) → sum_below (length rs) (λ t. g (request_at rs t)) ≡ sum_by g rs
-sum_listed g [] = refl
-sum_listed g (r ∷ rs) = sum_first (length rs) (λ t. g (request_at (r ∷ rs) t)) ∙ ap (λ (n : ℕ). g r + n) (sum_listed g rs) ∙ sym (sum_by-cons g r rs)
 
 -- ---- the requests
 values_at : (f : File) (rs : List Request) (t : ℕ) → AllByRecursion (IsRequestOf f) rs → AllByRecursion IsValue (request_at rs t).args
@@ -128,7 +124,7 @@ module _ (s : ScriptsView) (k : KeepsScripts s) where
 
   -- the bounds on all tickets
   few_calls : calls (meaning s) ≤ 200000
-  few_calls = (let h = k.servable.calls in let e = sum_listed (λ (r : Request). calls_bound (code_at file r.handler)) s.requests in omega arith)
+  few_calls = (let h = k.servable.calls in let e = sum_all (λ (r : Request). calls_bound (code_at file r.handler)) s.requests in omega arith)
 
   few_adds : (i : ℕ) → room (meaning s) i ≤ 200000
   few_adds i =

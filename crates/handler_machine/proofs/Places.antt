@@ -1,12 +1,7 @@
 -- The places of a run.
 use Rattle.std.proofs.Common.{◌≡◌, ◌+◌, arith, Bool, true, false, if◌then◌else◌, List, [], ◌∷◌, ◌++◌, append_assoc, Result, Ok, Err, OnErr, refl, sym, ap}
-use Rattle.check_meaning.specs.Dialogue.{Place, Outcome, Calls, Answers, Goes, after, last_place, last_replied, passed_by}
+use Rattle.check_meaning.specs.Dialogue.{Place, Outcome, Calls, Answers, Goes, after, last_place, last_replied}
 use Rattle.handler_machine.specs.Serving.{replied_count}
-
-pub passed_after : (ps : List Place) (o : Outcome) → passed_by (after ps o) ≡ ps ++ passed_by o
-passed_after ps (Calls qs op) = refl
-passed_after ps (Answers qs vs) = refl
-passed_after ps (Goes qs env left) = refl
 
 pub after_snoc : (ps : List Place) (p : Place) (o : Outcome) → after ps (after (p ∷ []) o) ≡ after (ps ++ p ∷ []) o
 after_snoc ps p (Calls qs op) = ap (λ (zs : List Place). Calls zs op) (sym (append_assoc ps (p ∷ []) qs))

@@ -13,11 +13,11 @@ use Rattle.session_journal.specs.Desks.{DeskView, MayFinish, MayNarrow, due_of, 
 use Rattle.session_journal.specs.Served.{IsServed, IsStopped}
 use Rattle.check_meaning.specs.Ahead.{Ahead, asked, passing}
 use Rattle.check_meaning.specs.Dialogue.{Env, Place, Outcome, Calls, after, ended, last_place, last_replied, pass, passed_by}
-use Rattle.check_meaning.proofs.Runs.{after_none, ended_after}
+use Rattle.check_meaning.proofs.Runs.{after_none, ended_after, passed_after}
 use Rattle.machine_walk.proofs.Asked.{replies_more}
 use Rattle.declaration_insertion.specs.Promises.{Declarations, IsCoveredChain, list_at}
 use Rattle.handler_machine.specs.Serving.{Course, Declares, Gives, IsAwaiting, IsServing, Promises, Serving, replied_count}
-use Rattle.handler_machine.proofs.Places.{after_snoc, count_append, last_append, none_replied, passed_after, replied_append}
+use Rattle.handler_machine.proofs.Places.{after_snoc, count_append, last_append, none_replied, replied_append}
 
 values_more : (es : List Entry) (e : Entry) → AllByRecursion IsValue (replies es) → IsValue e.reply → AllByRecursion IsValue (replies (es ++ e ∷ []))
 values_more [] e h v = (v, tt)

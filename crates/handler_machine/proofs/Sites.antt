@@ -1,10 +1,8 @@
 -- A program's script has the points of the program's handlers, and the entries of its tables.
 use Rattle.std.proofs.Common.{◌≡◌, ℕ, zero, suc, ◌+◌, ◌<◌, arith, List, [], ◌∷◌, length, slice_get, refl, sym, subst}
 use Rattle.std.specs.List.{AllByRecursion}
-use Rattle.session_values.specs.declared.kind.TableKind.{TableKind}
 use Rattle.symbolic_ops.specs.declared.symbol.Symbol.{Symbol}
 use Rattle.symbolic_ops.specs.Instantiate.{IsWithin}
-use Rattle.opening_tables.specs.Opening.{AreEntries, Pair}
 use Rattle.session_journal.specs.Script.{HasSite}
 use Rattle.syntax_trees.specs.declared.file.File.{File}
 use Rattle.syntax_trees.specs.declared.file.Handler.{Handler}
@@ -58,11 +56,3 @@ module _ (s : ScriptsView) (k : KeepsScripts s) (h : ℕ) (inside : h < length s
   -- and it has the handler's entry, where as many variables as a handler may have are enough
   pub has_entry : HasSite (meaning s) (record { part = h; point = 0 }) 32
   has_entry = record { there = there 0 (omega arith); few = omega arith; within = program_vars s.program k.program h inside 0 }
-
--- ---- entries
--- there is a list of entries for each table
-pub list_for_each : (shape : List TableKind) (lists : List (List Pair)) → AreEntries shape lists → length lists ≡ length shape
-list_for_each [] [] h = refl
-list_for_each [] (es ∷ lists) h = absurd h
-list_for_each (kind ∷ shape) [] h = absurd h
-list_for_each (kind ∷ shape) (es ∷ lists) h = omega (arith, list_for_each shape lists h.1)

@@ -14,8 +14,8 @@ use Rattle.syntax_grammar.specs.Phrase.{MoreAtoms, no_atom, more_atom, atom_coun
 use Rattle.syntax_grammar.specs.Tree.{atoms_trees, call_tree, right_tree, cond_tree, more_trees, values_trees, stmt_tree, else_trees, stmts_trees, handlers_trees, file_tree}
 use Rattle.syntax_grammar.specs.Limits.{StmtFits, ElseFits, StmtsFit, HandlersFit, FileFits, IsFileWithin}
 use Rattle.syntax_grammar.proofs.Said.{IsSaid, file_read, unasked}
-use Rattle.check_rules.specs.Bounds.{Form, a_call, a_reply, a_nest, right_forms, stmt_forms, block_forms, handler_forms, file_forms, IsBoundedForm, IsBoundedNumber, KeepsBounds}
-use Rattle.check_rules.proofs.Statements.{forms_let, forms_assign, forms_perform, forms_choose, forms_repeat, forms_reply}
+use Rattle.syntax_trees.specs.Bounds.{Form, a_call, a_reply, a_nest, right_forms, stmt_forms, block_forms, handler_forms, file_forms, IsBoundedForm, IsBoundedNumber, KeepsBounds}
+use Rattle.syntax_trees.proofs.Statements.{forms_let, forms_assign, forms_perform, forms_choose, forms_repeat, forms_reply}
 use Rattle.session_values.proofs.Lists.{all_join}
 
 abbrev Bounded : List Form → Type 0

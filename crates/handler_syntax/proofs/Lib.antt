@@ -14,3 +14,5 @@ pub mod Sources
 pub mod Stmts
 pub mod Words
 pub mod TextsKept
+pub use Rattle.syntax_grammar.proofs.Said
+pub use Rattle.syntax_tokens.proofs.NamesGrow

@@ -8,10 +8,11 @@ use Rattle.syntax_trees.specs.declared.expr.Calc.TheVariants as calc
 use Rattle.syntax_trees.specs.declared.expr.Expr.{Expr, the_lemmas}
 use Rattle.syntax_trees.specs.declared.expr.Expr.TheVariants as expr
 use Rattle.syntax_trees.specs.Alone.{alone}
+use Rattle.syntax_trees.proofs.Inductions.{expr_induction}
 use Rattle.syntax_printer.specs.declared.expr.Level.{Level}
 use Rattle.syntax_printer.specs.declared.expr.Level.TheVariants as level
 use Rattle.syntax_printer.specs.Canonical.{expr_text, whole_text, operator_text, left_level, right_level}
-use Rattle.syntax_printer.proofs.Inductions.{expr_induction, text_leaf, text_binary}
+use Rattle.syntax_printer.proofs.Inductions.{text_leaf, text_binary}
 use Rattle.handler_syntax.specs.Parentheses.{operator_of, is_sum, is_left_grouped, is_right_grouped, grouped_if, operands_text}
 
 operator_leaf : (a : Atom) → operator_of (alone a) ≡ None

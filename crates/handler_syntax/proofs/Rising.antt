@@ -24,10 +24,10 @@ use Rattle.syntax_trees.specs.Alone.{alone}
 use Rattle.syntax_grammar.specs.Phrase.{word, NamePhrase, named, name_words, digits, AtomPhrase, name_atom, nil_atom, symbol_atom, number_atom, negative_atom, atom_words, FactorPhrase, plain, grouped, factor_words, MoreFactors, no_factor, times, factors_words, TermPhrase, term, term_words, MoreTerms, no_term, plus, minus, terms_words, ExprPhrase, sum, expr_words, MoreAtoms, no_atom, more_atom, atoms_words, CallPhrase, a_call, operands, call_words, RightPhrase, result_right, plain_right, right_words, CondPhrase, a_cond, cond_words, a_turns, MoreValues, no_value, more_value, more_words, StmtPhrase, let_stmt, assign_stmt, call_stmt, if_stmt, repeat_stmt, reply_stmt, stmt_words, ElsePhrase, no_else, an_else, else_words, StmtsPhrase, no_stmt, more_stmts, stmts_words, block, block_words, MoreParams, no_more, more_param, more_params_words, ParamsPhrase, no_param, some_params, params_words, HandlersPhrase, no_handler, more_handlers, a_handler, handlers_words, TablesPhrase, no_table, more_tables, a_table, tables_words, FilePhrase, a_file, file_words}
 use Rattle.syntax_grammar.specs.Tree.{atom_tree, factor_tree, factors_tree, term_tree, terms_tree, expr_tree, atoms_trees, call_tree, right_tree, cond_tree, more_trees, stmt_tree, else_trees, stmts_trees, param_of, more_params_trees, params_trees, handlers_trees, tables_trees, file_tree}
 use Rattle.syntax_grammar.specs.Limits.{IsFileWithin}
-use Rattle.check_rules.specs.FirstFault.{AreRising, PlacesRise, file_marks}
-use Rattle.check_rules.specs.Marks.{Mark, Declared, Mentioned, Operation, OnTable, Turns, mark_at, sees, seeing, atom_marks, expr_marks, call_marks, right_marks, cond_marks, marks, param_marks, param_names, handler_marks, table_marks}
-use Rattle.check_rules.specs.Source.{Source, stmt_source, block_source}
-use Rattle.check_rules.proofs.Statements.{marks_leaf, marks_binary, source_let, source_assign, source_call, source_choose, source_repeat, source_reply}
+use Rattle.syntax_trees.specs.Rising.{AreRising, PlacesRise, file_marks}
+use Rattle.syntax_trees.specs.Marks.{Mark, Declared, Mentioned, Operation, OnTable, Turns, mark_at, sees, seeing, atom_marks, expr_marks, call_marks, right_marks, cond_marks, marks, param_marks, param_names, handler_marks, table_marks}
+use Rattle.syntax_trees.specs.Source.{Source, stmt_source, block_source}
+use Rattle.syntax_trees.proofs.Statements.{marks_leaf, marks_binary, source_let, source_assign, source_call, source_choose, source_repeat, source_reply}
 
 -- ---- numbers of a list that rises from one on
 

@@ -25,6 +25,7 @@ use Rattle.syntax_printer.specs.declared.expr.Level.TheVariants as level
 use Rattle.syntax_printer.specs.Canonical
 use Rattle.syntax_printer.specs.Writing.{Text}
 use Rattle.syntax_printer.proofs.Inductions as trees
+use Rattle.syntax_trees.proofs.Inductions.{expr_induction}
 use Rattle.handler_syntax.specs.SameTree.{atom_bare, expr_bare, call_bare, right_bare, cond_bare, stmt_bare, param_bare, table_bare, handler_bare, file_bare, SameTree}
 use Rattle.handler_syntax.proofs.Bare.{bare_leaf, bare_binary, bare_let, bare_assign, bare_perform, bare_choose, bare_repeat, bare_answer}
 
@@ -71,7 +72,7 @@ module _ (names : List (List ℕ)) where
       ∙ ap (λ e. Canonical.expr_text names e l rest) (sym (bare_binary c left right))
 
   expr_alike : (e : Expr) → ExprAlike e
-  expr_alike = trees.expr_induction ExprAlike leaf_alike binary_alike
+  expr_alike = expr_induction ExprAlike leaf_alike binary_alike
 
   whole_alike : (e : Expr) → Alike (Canonical.whole_text names e) (Canonical.whole_text names (expr_bare e))
   whole_alike e = expr_alike e level.Whole

@@ -8,7 +8,7 @@ use Rattle.syntax_trees.specs.Mentions.{AreBelow, file_mentions}
 use Rattle.syntax_grammar.specs.Limits.{IsFileWithin}
 use Rattle.syntax_grammar.specs.Parsed.{IsSourceOf}
 use Rattle.syntax_printer.specs.Canonical.{canonical_text}
-use Rattle.check_rules.specs.FirstFault.{PlacesRise}
+use Rattle.syntax_trees.specs.Rising.{PlacesRise}
 use Rattle.handler_syntax.specs.SameTree.{SameTree}
 
 -- Some words within the limits have this tree. So its canonical text is within the limits too:

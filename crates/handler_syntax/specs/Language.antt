@@ -29,5 +29,5 @@ pub use Rattle.syntax_printer.specs.Lines.{Line, of_file, of_else, of_point, fil
 pub use Rattle.syntax_printer.specs.Points.{AtPoints}
 pub use Rattle.handler_syntax.specs.Keeps.{KeepsLimits, IsKept, IsReadAs, Printed}
 pub use Rattle.handler_syntax.specs.SameTree.{SameTree}
-pub use Rattle.check_rules.specs.Bounds.{Form, a_call, a_reply, a_nest, file_forms, IsBoundedForm, IsBoundedNumber, KeepsBounds}
-pub use Rattle.check_rules.specs.FirstFault.{PlacesRise}
+pub use Rattle.syntax_trees.specs.Bounds.{Form, a_call, a_reply, a_nest, file_forms, IsBoundedForm, IsBoundedNumber, KeepsBounds}
+pub use Rattle.syntax_trees.specs.Rising.{PlacesRise}

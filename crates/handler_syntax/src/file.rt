@@ -1,8 +1,8 @@
 // Files of handlers.
 
 ghost use Rattle.std.specs.Prelude.{◌≡◌};
-ghost use Rattle.check_rules.specs.Bounds.{KeepsBounds};
-ghost use Rattle.check_rules.specs.FirstFault.{PlacesRise};
+ghost use Rattle.syntax_trees.specs.Bounds.{KeepsBounds};
+ghost use Rattle.syntax_trees.specs.Rising.{PlacesRise};
 
 use std::marker::Model;
 use syntax_trees::File as Tree;

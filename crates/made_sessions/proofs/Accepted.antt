@@ -1,24 +1,24 @@
 -- The handlers of a made session break no rule, and at no point too many operations may still come.
 use Rattle.std.proofs.Common.{◌≡◌, ℕ, inl, inr, List, [], ◌∷◌, ◌++◌, None, refl, ap, ◌∙◌, subst, Contains, arith}
 use Rattle.std.proofs.lemmas.List.Elements.{All-from_recursion, All-contains}
-use Rattle.syntax_trees.specs.declared.file.Handler.{Handler}
-use Rattle.syntax_trees.specs.declared.file.TableDecl.{TableDecl}
-use Rattle.check_rules.specs.declared.refusal.CheckRefusal.{CheckRefusal}
-use Rattle.check_rules.specs.declared.refusal.CheckRefusal.TheVariants.{Twice, Unknown, Arity, WrongTable, RepeatBound, TooManyTables, TooManyHandlers, TooManyVariables, TooManyCalls, TooMuchWork, NoMemory}
-use Rattle.check_rules.specs.FirstFault.{KeepsRules}
-use Rattle.check_rules.specs.Marks.{handler_marks}
-use Rattle.check_rules.specs.Rules.{IsBroken}
-use Rattle.check_rules.specs.Scan.{Fault, or_else, declared_fault, of_handlers, of_variables, scan, scan_handlers, file_fault}
-use Rattle.check_rules.proofs.Finds.{Finds}
-use Rattle.check_rules.proofs.Files.{finds_file}
+use Rattle.handler_check.specs.Handler.{Handler}
+use Rattle.handler_check.specs.TableDecl.{TableDecl}
+use Rattle.handler_check.specs.CheckRefusal.{CheckRefusal}
+use Rattle.handler_check.specs.CheckRefusal.TheVariants.{Twice, Unknown, Arity, WrongTable, RepeatBound, TooManyTables, TooManyHandlers, TooManyVariables, TooManyCalls, TooMuchWork, NoMemory}
+use Rattle.handler_check.specs.FirstFault.{KeepsRules}
+use Rattle.handler_check.specs.Marks.{handler_marks}
+use Rattle.handler_check.specs.Rules.{IsBroken}
+use Rattle.handler_check.specs.Scan.{Fault, or_else, declared_fault, of_handlers, of_variables, scan, scan_handlers, file_fault}
+use Rattle.handler_check.proofs.Finds.{Finds}
+use Rattle.handler_check.proofs.Files.{finds_file}
 use Rattle.handler_check.specs.Checking.{IsAccepted, IsBeyond}
 use Rattle.handler_check.specs.Resolved.{handler_code, code_at}
-use Rattle.handler_syntax.proofs.Rising.{places_rise}
+use Rattle.serve_faults.proofs.Rising.{places_rise}
 use Rattle.may_use_analysis.specs.declared.refusal.AnalysisRefusal.{AnalysisRefusal}
 use Rattle.may_use_analysis.specs.declared.refusal.AnalysisRefusal.TheVariants.{TooManySymbols, NoMemory as NoRoom}
 use Rattle.may_use_analysis.specs.Later.{HasAnswer, HasLater, IsTooMany}
 use Rattle.may_use_analysis.proofs.Answered.{answered}
-use Rattle.serve_made.specs.Session.{handlers_text}
+use Rattle.serve_faults.specs.ServeSession.{handlers_text}
 use Rattle.serve_faults.specs.Session.{IsProgram}
 use Rattle.made_sessions.proofs.Phrases.{made_file, login, logout, seen, crowd}
 use Rattle.made_sessions.proofs.Tokens.{made_form}

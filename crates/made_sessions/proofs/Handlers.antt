@@ -3,20 +3,20 @@ use Rattle.std.proofs.Common.{◌≡◌, ℕ, zero, suc, ◌<◌, ◌≤◌, tru
 use Rattle.std.specs.List.{AllByRecursion}
 use Rattle.session_values.specs.declared.kind.Kind.{Kind}
 use Rattle.session_values.specs.declared.kind.Kind.TheVariants as kind
-use Rattle.syntax_trees.specs.declared.expr.Atom.{Atom}
-use Rattle.syntax_trees.specs.declared.expr.Atom.TheVariants as atom
-use Rattle.syntax_trees.specs.declared.expr.Expr.{Expr}
-use Rattle.syntax_trees.specs.declared.expr.Expr.TheVariants as expr
-use Rattle.syntax_trees.specs.declared.stmt.Call.{Call}
-use Rattle.syntax_trees.specs.declared.stmt.Right.{Right}
-use Rattle.syntax_trees.specs.declared.stmt.Right.TheVariants as right
-use Rattle.syntax_trees.specs.declared.file.Handler.{Handler}
-use Rattle.check_rules.specs.Marks.{Mark, Declared, Mentioned, declared, seeing, expr_marks, call_marks, marks, param_marks, param_names, handler_marks}
-use Rattle.check_rules.specs.Source.{Source, Finish, Let, Do, Answer, block_source}
-use Rattle.check_meaning.specs.Bounds.{calls_bound, work_bound}
-use Rattle.check_meaning.specs.Code.{Code}
+use Rattle.handler_check.specs.Atom.{Atom}
+use Rattle.handler_check.specs.Atom.TheVariants as atom
+use Rattle.handler_check.specs.Expr.{Expr}
+use Rattle.handler_check.specs.Expr.TheVariants as expr
+use Rattle.handler_check.specs.Call.{Call}
+use Rattle.handler_check.specs.Right.{Right}
+use Rattle.handler_check.specs.Right.TheVariants as right
+use Rattle.handler_check.specs.Handler.{Handler}
+use Rattle.handler_check.specs.Marks.{Mark, Declared, Mentioned, declared, seeing, expr_marks, call_marks, marks, param_marks, param_names, handler_marks}
+use Rattle.handler_check.specs.Source.{Source, Finish, Let, Do, Answer, block_source}
+use Rattle.handler_check.specs.Bounds.{calls_bound, work_bound}
+use Rattle.handler_check.specs.Code.{Code}
 use Rattle.handler_check.specs.Resolved.{code_of, handler_code, code_at}
-use Rattle.check_rules.proofs.Statements.{marks_leaf, source_let, source_call, source_reply}
+use Rattle.handler_check.proofs.Statements.{marks_leaf, source_let, source_call, source_reply}
 use Rattle.made_sessions.proofs.Phrases.{made_file, login, logout, seen, crowd}
 use Rattle.made_sessions.proofs.Symbols.{is_straight, all_list}
 

@@ -6,17 +6,18 @@ use Rattle.std.proofs.lemmas.Bool.Decides.{nat_tests}
 use Rattle.std.proofs.lemmas.List.Elements.{All-from_recursion}
 use Rattle.std.proofs.lemmas.Str.{IsUtf8-from_ascii}
 use Rattle.std.proofs.lemmas.Str.Ascii.{IsAscii-from_all}
+use Rattle.std.proofs.lemmas.Bool.{and_from, and_parts}
 use Rattle.text_lines.specs.Text.{Text, is_line_byte}
 use Rattle.text_lines.specs.Values.{is_value}
 use Rattle.text_lines.specs.Laws.{with_feeds}
-use Rattle.request_files.specs.Requests.{handler_of}
-use Rattle.serve_made.specs.Draws.{draw}
-use Rattle.serve_made.specs.Session.{request_line, line_at, lines_of}
+use Rattle.serve_faults.specs.Requests.{handler_of}
+use Rattle.serve_faults.specs.Draws.{draw}
+use Rattle.serve_faults.specs.ServeSession.{request_line, line_at, lines_of}
 use Rattle.made_sessions.proofs.Handlers.{small_at}
 use Rattle.made_sessions.proofs.Numbers.{is_plain_byte, IsNumber, small_number, user_value}
-use Rattle.made_sessions.proofs.Parts.{and_left, and_right, and_both, all_joined, all_weaker, is_line}
+use Rattle.made_sessions.proofs.Parts.{all_joined, all_weaker, is_line}
 use Rattle.made_sessions.proofs.Phrases.{made_file}
-use Rattle.request_files.proofs.LightRows.{HasLight}
+use Rattle.serve_faults.proofs.LightRows.{HasLight}
 use Rattle.made_sessions.proofs.Tokens.{made_names}
 use Rattle.made_sessions.proofs.Words.{word_then, only_word}
 
@@ -60,10 +61,10 @@ unfolding handler_of
 crowd_found = refl
 
 one_value : (w : Text) → is_value w ≡ true → list_all is_value (w ∷ []) ≡ true
-one_value w h = and_both (is_value w) true h refl
+one_value w h = and_from (is_value w) true h refl
 
 two_values : (v w : Text) → is_value v ≡ true → is_value w ≡ true → list_all is_value (v ∷ w ∷ []) ≡ true
-two_values v w h k = and_both (is_value v) (list_all is_value (w ∷ [])) h (one_value w k)
+two_values v w h k = and_from (is_value v) (list_all is_value (w ∷ [])) h (one_value w k)
 
 made_line : (x y z : Bool) (u t : Text) → IsNumber u → IsNumber t → is_value (117 ∷ u) ≡ true → IsMade (bare x y z u t)
 made_line true y z u t nu nt value = record {
@@ -154,7 +155,7 @@ lines_are start (suc t) =
 -- ---- what follows of all lines
 
 plain_line : (b : ℕ) → is_plain_byte b ≡ true → is_line_byte b ≡ true
-plain_line b h = and_left (is_line_byte b) (nat_lt b 128) h
+plain_line b h = (and_parts (is_line_byte b) (nat_lt b 128) h).0
 
 -- ASCII
 abbrev pub is_ascii_byte : ℕ → Bool
@@ -165,20 +166,20 @@ below b e = grind (arith, nat_tests)
 
 ascii_all : (bs : Text) → list_all is_ascii_byte bs ≡ true → AllByRecursion (λ b. b < 128) bs
 ascii_all [] h = tt
-ascii_all (b ∷ bs) h = (below b (and_left (is_ascii_byte b) (list_all is_ascii_byte bs) h), ascii_all bs (and_right (is_ascii_byte b) (list_all is_ascii_byte bs) h))
+ascii_all (b ∷ bs) h = (below b (and_parts (is_ascii_byte b) (list_all is_ascii_byte bs) h).0, ascii_all bs (and_parts (is_ascii_byte b) (list_all is_ascii_byte bs) h).1)
 
 pub utf8_of : (bs : Text) → list_all is_ascii_byte bs ≡ true → IsUtf8 bs
 utf8_of bs h = IsUtf8-from_ascii bs (IsAscii-from_all bs (All-from_recursion (λ b. b < 128) bs (ascii_all bs h)))
 
 plain_ascii : (b : ℕ) → is_plain_byte b ≡ true → is_ascii_byte b ≡ true
-plain_ascii b h = and_right (is_line_byte b) (nat_lt b 128) h
+plain_ascii b h = (and_parts (is_line_byte b) (nat_lt b 128) h).1
 
 pub utf8_plain : (bs : Text) → list_all is_plain_byte bs ≡ true → IsUtf8 bs
 utf8_plain bs h = utf8_of bs (all_weaker is_plain_byte is_ascii_byte plain_ascii bs h)
 
 pub are_lines : (ls : List Text) → AllByRecursion IsMade ls → list_all is_line ls ≡ true
 are_lines [] a = refl
-are_lines (l ∷ ls) a = let made : IsMade l = a.0 in and_both (is_line l) (list_all is_line ls) (all_weaker is_plain_byte is_line_byte plain_line l made.plain) (are_lines ls a.1)
+are_lines (l ∷ ls) a = let made : IsMade l = a.0 in and_from (is_line l) (list_all is_line ls) (all_weaker is_plain_byte is_line_byte plain_line l made.plain) (are_lines ls a.1)
 
 pub have_light : (ls : List Text) → AllByRecursion IsMade ls → AllByRecursion (HasLight made_names made_file) ls
 have_light [] a = tt

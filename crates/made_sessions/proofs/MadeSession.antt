@@ -3,18 +3,18 @@ use Rattle.std.proofs.Common.{◌≡◌, ℕ, ◌*◌, ◌≤◌, true, false, L
 use Rattle.std.specs.Prelude.{codes, IsUtf8}
 use Rattle.std.specs.List.{list_all, list_any, AllByRecursion}
 use Rattle.std.proofs.lemmas.Str.{IsUtf8-append, IsUtf8-nil}
-use Rattle.session_limits.specs.Limits.{max_requests}
+use Rattle.session_values.specs.Limits.{max_requests}
 use Rattle.text_lines.specs.Text.{Text, lines}
-use Rattle.request_files.specs.Divide.{is_dividing, is_table_mark}
+use Rattle.serve_faults.specs.Divide.{is_dividing, is_table_mark}
 use Rattle.text_lines.specs.Laws.{with_feeds}
-use Rattle.request_files.specs.Requests.{first_fault, no_requests}
+use Rattle.serve_faults.specs.Requests.{first_fault, no_requests}
 use Rattle.text_lines.specs.Rows.{rows, names_behind}
 use Rattle.text_lines.proofs.RowLemmas.{rows_nil, behind_nil}
-use Rattle.table_lines.specs.TableRows.{first_table_fault}
-use Rattle.table_lines.proofs.Going.{fault_end}
+use Rattle.serve_faults.specs.TableRows.{first_table_fault}
+use Rattle.serve_faults.proofs.Going.{fault_end}
 use Rattle.text_lines.proofs.TextLemmas.{lines_nil}
-use Rattle.serve_words.specs.declared.command.Command.TheVariants.{Work}
-use Rattle.serve_made.specs.Session.{handlers_text, lines_of, session_text}
+use Rattle.serve_faults.specs.Command.TheVariants.{Work}
+use Rattle.serve_faults.specs.ServeSession.{handlers_text, lines_of, session_text}
 use Rattle.serve_faults.specs.declared.status.Fault.{Fault}
 use Rattle.serve_faults.specs.Answer.{IsRefused}
 use Rattle.serve_faults.specs.Answer as answer
@@ -25,7 +25,7 @@ use Rattle.made_sessions.proofs.Accepted.{made_program}
 use Rattle.made_sessions.proofs.Lines.{IsMade, made_lines, lines_count, lines_made, lines_are, utf8_of, utf8_plain, are_lines, have_light, feeds_length}
 use Rattle.made_sessions.proofs.Parts.{is_line, lines_behind, divided, parts_are, table_line}
 use Rattle.made_sessions.proofs.Phrases.{made_file}
-use Rattle.request_files.proofs.LightRows.{none_found, rows_light}
+use Rattle.serve_faults.proofs.LightRows.{none_found, rows_light}
 use Rattle.made_sessions.proofs.Tokens.{made_names, names_are}
 
 -- ---- the handlers' part

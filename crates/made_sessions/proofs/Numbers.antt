@@ -2,12 +2,10 @@
 use Rattle.std.proofs.Common.{◌≡◌, ℕ, zero, suc, ◌<◌, ◌≤◌, ◌⊎◌, inl, inr, Bool, true, ◌&&◌, nat_lt, nat_le, ◌∷◌, length, refl, ap, ◌∙◌, arith}
 use Rattle.std.specs.Prelude.{decimal}
 use Rattle.std.specs.Fmt.{digits}
-use Rattle.std.proofs.lemmas.Bool.{cases_lt}
-use Rattle.std.proofs.lemmas.Bool.Decides.{nat_tests}
+use Rattle.std.proofs.lemmas.Bool.{cases_lt, ltb-true, leb-true, and_parts}
 use Rattle.std.specs.List.{list_all}
 use Rattle.text_lines.specs.Text.{Text, is_word_byte, is_line_byte}
 use Rattle.text_lines.specs.Values.{is_value, value_of, is_symbol, number}
-use Rattle.made_sessions.proofs.Parts.{and_left, and_right}
 
 -- a test of all numbers below n
 abbrev all_below : (ℕ → Bool) → ℕ → Bool
@@ -16,11 +14,11 @@ all_below test (suc n) = test n && all_below test n
 
 below : (test : ℕ → Bool) (n k : ℕ) → all_below test n ≡ true → k < n → test k ≡ true
 below test zero k h l = absurd (omega arith)
-below test (suc n) k h l = go (below test n k (and_right (test n) (all_below test n) h)) (cases_lt k n)
+below test (suc n) k h l = go (below test n k (and_parts (test n) (all_below test n) h).1) (cases_lt k n)
   where
     go : (k < n → test k ≡ true) → (k < n) ⊎ (n ≤ k) → test k ≡ true
     go rest (inl m) = rest m
-    go rest (inr m) = let e : k ≡ n = omega arith in ap test e ∙ and_left (test n) (all_below test n) h
+    go rest (inr m) = let e : k ≡ n = omega arith in ap test e ∙ (and_parts (test n) (all_below test n) h).0
 
 -- no line feed, and ASCII
 abbrev pub is_plain_byte : ℕ → Bool
@@ -44,23 +42,17 @@ pub record IsNumber (w : Text) : Type 0 where
   pub short : length w ≤ 3
   pub value : is_value w ≡ true
 
-more : (n b : ℕ) → nat_lt n b ≡ true → n < b
-more n b e = grind (arith, nat_tests)
-
-at_most : (n b : ℕ) → nat_le n b ≡ true → n ≤ b
-at_most n b e = grind (arith, nat_tests)
-
 number_of : (w : Text) → is_fine w ≡ true → IsNumber w
 number_of w h =
-    let a = and_right (list_all is_word_byte w) _ h in
-    let b = and_right (list_all is_plain_byte w) _ a in
-    let c = and_right (nat_lt 0 (length w)) _ b in
+    let a = (and_parts (list_all is_word_byte w) _ h).1 in
+    let b = (and_parts (list_all is_plain_byte w) _ a).1 in
+    let c = (and_parts (nat_lt 0 (length w)) _ b).1 in
     record {
-      word = and_left (list_all is_word_byte w) _ h;
-      plain = and_left (list_all is_plain_byte w) _ a;
-      some = more 0 (length w) (and_left (nat_lt 0 (length w)) _ b);
-      short = at_most (length w) 3 (and_left (nat_le (length w) 3) _ c);
-      value = and_right (nat_le (length w) 3) (is_value w) c;
+      word = (and_parts (list_all is_word_byte w) _ h).0;
+      plain = (and_parts (list_all is_plain_byte w) _ a).0;
+      some = ltb-true 0 (length w) (and_parts (nat_lt 0 (length w)) _ b).0;
+      short = leb-true (length w) 3 (and_parts (nat_le (length w) 3) _ c).0;
+      value = (and_parts (nat_le (length w) 3) (is_value w) c).1;
     }
 
 pub small_number : (k : ℕ) → k < 1000 → IsNumber (decimal k)

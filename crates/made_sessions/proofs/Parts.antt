@@ -1,12 +1,13 @@
 -- The parts of a text whose first part has these lines.
-use Rattle.std.proofs.Common.{◌≡◌, ℕ, ◌+◌, Bool, true, false, not, ◌&&◌, ◌||◌, cond, List, [], ◌∷◌, ◌++◌, length, take, drop, refl, sym, ap, ◌∙◌, arith, append_assoc, append-nil, length-append}
+use Rattle.std.proofs.Common.{◌≡◌, ℕ, ◌+◌, Bool, true, false, not, ◌||◌, cond, List, [], ◌∷◌, ◌++◌, length, take, drop, refl, sym, ap, ◌∙◌, arith, append_assoc, append-nil, length-append}
 use Rattle.std.specs.Prelude.{codes}
 use Rattle.std.proofs.Math.Seq.{take-append_seam, drop-append-add}
+use Rattle.std.proofs.lemmas.Bool.{and_from, and_parts, or_parts}
 use Rattle.std.specs.List.{list_all, list_any, position_or_len}
 use Rattle.text_lines.specs.Text.{Text, is_line_byte, lines}
-use Rattle.request_files.specs.Divide.{is_dividing, is_table_mark, head_size, mark_size, before, behind, line_behind}
-use Rattle.request_files.specs.Laws.{IsUnmarked}
-use Rattle.request_files.proofs.WholeParts.{unmarked_is}
+use Rattle.serve_faults.specs.Divide.{is_dividing, is_table_mark, head_size, mark_size, before, behind, line_behind}
+use Rattle.serve_faults.specs.Laws.{IsUnmarked}
+use Rattle.serve_faults.proofs.WholeParts.{unmarked_is}
 use Rattle.text_lines.proofs.TextLemmas.{lines_nil}
 use Rattle.text_lines.specs.Laws.{with_feeds}
 use Rattle.text_lines.proofs.WholeTexts.{line_joined}
@@ -14,32 +15,13 @@ use Rattle.serve_faults.specs.Input.{parts_by, parts_of, is_divided}
 
 -- ---- tests of all elements
 
-pub and_left : (a b : Bool) → (a && b) ≡ true → a ≡ true
-and_left true b h = refl
-and_left false b h = h
-
-pub and_right : (a b : Bool) → (a && b) ≡ true → b ≡ true
-and_right true b h = h
-and_right false b h = absurd (cc)
-
-pub and_both : (a b : Bool) → a ≡ true → b ≡ true → (a && b) ≡ true
-and_both a b e f = ap (λ x. x && b) e ∙ f
-
-or_left : (a b : Bool) → (a || b) ≡ false → a ≡ false
-or_left false b h = refl
-or_left true b h = h
-
-or_right : (a b : Bool) → (a || b) ≡ false → b ≡ false
-or_right false b h = h
-or_right true b h = absurd (cc)
-
 pub all_joined : {X : Type 0} (p : X → Bool) (xs ys : List X) → list_all p xs ≡ true → list_all p ys ≡ true → list_all p (xs ++ ys) ≡ true
 all_joined p [] ys h k = k
-all_joined p (x ∷ xs) ys h k = and_both (p x) (list_all p (xs ++ ys)) (and_left (p x) (list_all p xs) h) (all_joined p xs ys (and_right (p x) (list_all p xs) h) k)
+all_joined p (x ∷ xs) ys h k = and_from (p x) (list_all p (xs ++ ys)) (and_parts (p x) (list_all p xs) h).0 (all_joined p xs ys (and_parts (p x) (list_all p xs) h).1 k)
 
 pub all_weaker : {X : Type 0} (p q : X → Bool) → ((x : X) → p x ≡ true → q x ≡ true) → (xs : List X) → list_all p xs ≡ true → list_all q xs ≡ true
 all_weaker p q f [] h = refl
-all_weaker p q f (x ∷ xs) h = and_both (q x) (list_all q xs) (f x (and_left (p x) (list_all p xs) h)) (all_weaker p q f xs (and_right (p x) (list_all p xs) h))
+all_weaker p q f (x ∷ xs) h = and_from (q x) (list_all q xs) (f x (and_parts (p x) (list_all p xs) h).0) (all_weaker p q f xs (and_parts (p x) (list_all p xs) h).1)
 
 -- ---- lines
 
@@ -49,8 +31,8 @@ is_line l = list_all is_line_byte l
 pub lines_behind : (ls : List Text) (rest : Text) → list_all is_line ls ≡ true → lines (with_feeds ls ++ rest) ≡ ls ++ lines rest
 lines_behind [] rest h = refl
 lines_behind (l ∷ ls) rest h =
-    ap lines (append_assoc l (10 ∷ with_feeds ls) rest) ∙ line_joined l (with_feeds ls ++ rest) (and_left (is_line l) (list_all is_line ls) h)
-    ∙ ap (λ t. l ∷ t) (lines_behind ls rest (and_right (is_line l) (list_all is_line ls) h))
+    ap lines (append_assoc l (10 ∷ with_feeds ls) rest) ∙ line_joined l (with_feeds ls ++ rest) (and_parts (is_line l) (list_all is_line ls) h).0
+    ∙ ap (λ t. l ∷ t) (lines_behind ls rest (and_parts (is_line l) (list_all is_line ls) h).1)
 
 -- ---- what a dividing line behind lines that divide nothing tells
 
@@ -59,8 +41,8 @@ module _ (d : Text) (more : List Text) (divides : is_dividing d ≡ true) where
   unfolding head_size
   head_behind [] h = ap (λ b. cond b 0 (length d + 1 + head_size is_dividing more)) divides
   head_behind (l ∷ ls) h =
-      let rest : head_size is_dividing (ls ++ d ∷ more) ≡ length (with_feeds ls) = head_behind ls (or_right (is_dividing l) (list_any is_dividing ls) h) in
-      ap (λ b. cond b 0 (length l + 1 + head_size is_dividing (ls ++ d ∷ more))) (or_left (is_dividing l) (list_any is_dividing ls) h)
+      let rest : head_size is_dividing (ls ++ d ∷ more) ≡ length (with_feeds ls) = head_behind ls (or_parts (is_dividing l) (list_any is_dividing ls) h).1 in
+      ap (λ b. cond b 0 (length l + 1 + head_size is_dividing (ls ++ d ∷ more))) (or_parts (is_dividing l) (list_any is_dividing ls) h).0
       ∙ omega (arith, rest, length-append l (10 ∷ with_feeds ls))
 
   mark_behind : (ls : List Text) → list_any is_dividing ls ≡ false → mark_size is_dividing (ls ++ d ∷ more) ≡ length (with_feeds ls) + (length d + 1)
@@ -68,15 +50,15 @@ module _ (d : Text) (more : List Text) (divides : is_dividing d ≡ true) where
   mark_behind [] h =
       ap (λ b. cond b (length d + 1) (length d + 1 + mark_size is_dividing more)) divides ∙ omega arith
   mark_behind (l ∷ ls) h =
-      let rest : mark_size is_dividing (ls ++ d ∷ more) ≡ length (with_feeds ls) + (length d + 1) = mark_behind ls (or_right (is_dividing l) (list_any is_dividing ls) h) in
-      ap (λ b. cond b (length l + 1) (length l + 1 + mark_size is_dividing (ls ++ d ∷ more))) (or_left (is_dividing l) (list_any is_dividing ls) h)
+      let rest : mark_size is_dividing (ls ++ d ∷ more) ≡ length (with_feeds ls) + (length d + 1) = mark_behind ls (or_parts (is_dividing l) (list_any is_dividing ls) h).1 in
+      ap (λ b. cond b (length l + 1) (length l + 1 + mark_size is_dividing (ls ++ d ∷ more))) (or_parts (is_dividing l) (list_any is_dividing ls) h).0
       ∙ omega (arith, rest, length-append l (10 ∷ with_feeds ls))
 
   place_behind : (ls : List Text) → list_any is_dividing ls ≡ false → position_or_len is_dividing (ls ++ d ∷ more) ≡ length ls
   place_behind [] h = ap (λ b. cond (not b) (1 + position_or_len is_dividing more) 0) divides
   place_behind (l ∷ ls) h =
-      let rest : position_or_len is_dividing (ls ++ d ∷ more) ≡ length ls = place_behind ls (or_right (is_dividing l) (list_any is_dividing ls) h) in
-      ap (λ b. cond (not b) (1 + position_or_len is_dividing (ls ++ d ∷ more)) 0) (or_left (is_dividing l) (list_any is_dividing ls) h)
+      let rest : position_or_len is_dividing (ls ++ d ∷ more) ≡ length ls = place_behind ls (or_parts (is_dividing l) (list_any is_dividing ls) h).1 in
+      ap (λ b. cond (not b) (1 + position_or_len is_dividing (ls ++ d ∷ more)) 0) (or_parts (is_dividing l) (list_any is_dividing ls) h).0
       ∙ omega (arith, rest)
 
   any_behind : (ls : List Text) → list_any is_dividing (ls ++ d ∷ more) ≡ true

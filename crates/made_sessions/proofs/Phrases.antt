@@ -2,8 +2,8 @@
 use Rattle.std.proofs.Common.{arith}
 use Rattle.session_values.specs.declared.kind.Kind.TheVariants as kind
 use Rattle.session_values.specs.declared.kind.TableKind.TheVariants as table
-use Rattle.syntax_trees.specs.declared.file.File.{File}
-use Rattle.syntax_trees.specs.declared.file.Handler.{Handler}
+use Rattle.handler_check.specs.File.{File}
+use Rattle.handler_check.specs.Handler.{Handler}
 use Rattle.syntax_grammar.specs.Phrase.{named, name_atom, plain, no_factor, term, no_term, sum, no_atom, more_atom, operands, a_call, result_right, no_value, more_value, let_stmt, call_stmt, reply_stmt, no_stmt, more_stmts, block, no_more, more_param, no_param, some_params, HandlerPhrase, a_handler, no_handler, more_handlers, a_table, no_table, more_tables, FilePhrase, a_file}
 use Rattle.syntax_grammar.specs.Tree.{handler_tree, file_tree}
 

@@ -1,15 +1,14 @@
 -- How many symbols a point may have, where a handler has neither choices nor loops.
-use Rattle.std.proofs.Common.{◌≡◌, ℕ, ◌≤◌, Bool, true, false, List, [], ◌∷◌, ◌++◌, map, length, Option, Some, None, sym, ap, ◌∙◌, subst, inl, inr, Contains}
+use Rattle.std.proofs.Common.{◌≡◌, ℕ, ◌≤◌, Bool, true, false, List, [], ◌∷◌, ◌++◌, map, length, Option, Some, None, sym, subst, inl, inr, Contains}
 use Rattle.std.specs.List.Sorted.{IsStrictlySortedBy}
-use Rattle.std.specs.Ordering.{ordering_reverse}
 use Rattle.std.specs.declared.cmp.Ordering.TheVariants.{Less}
 use Rattle.std.proofs.lemmas.Bool.{false≢true}
 use Rattle.std.proofs.lemmas.List.Elements.{All-from_recursion, All-contains, Contains-append_left, Contains-append_right}
 use Rattle.std.proofs.lemmas.Map.Keys.{sorted_head, sorted_tail}
-use Rattle.symbolic_ops.specs.Order.{symbol_cmp}
-use Rattle.symbolic_ops.specs.declared.symbol.Symbol.{Symbol}
-use Rattle.symbolic_ops.proofs.Orders.{symbol_cmp_total}
-use Rattle.check_meaning.specs.Code.{Code, Finish, Move, Ask, Fork, Loop, Quit}
+use Rattle.may_use_analysis.specs.Order.{symbol_cmp}
+use Rattle.may_use_analysis.specs.Symbol.{Symbol}
+use Rattle.may_use_analysis.proofs.Orders.{not_before}
+use Rattle.handler_check.specs.Code.{Code, Finish, Move, Ask, Fork, Loop, Quit}
 use Rattle.may_use_analysis.specs.Steps.{Other, store_step, symbol_of, back}
 use Rattle.may_use_analysis.specs.Trails.{Symbols, LaterAt}
 use Rattle.may_use_analysis.specs.Flow.{RepliedBack, Flow, FlowPoint, FlowHandler}
@@ -85,13 +84,10 @@ later_listed code h p s m = go ((later_is_flow code p s).0 m)
     go (inl a) = Contains-append_left (start_list code) (point_list code) s (start_listed code h s a.1)
     go (inr b) = Contains-append_right (start_list code) (point_list code) s (point_listed code h p s b)
 
-not_less : (s : Symbol) → symbol_cmp s s ≡ Less → ⊥
-not_less s e = absurd (cc (sym e ∙ symbol_cmp_total.antisymm s s ∙ ap ordering_reverse e))
-
 different : (xs : List Symbol) → IsStrictlySortedBy symbol_cmp xs → AreDifferent xs
 different [] o = tt
 different (x ∷ xs) o =
-    (λ m. not_less x (All-contains (λ z. symbol_cmp x z ≡ Less) xs x (All-from_recursion (λ z. symbol_cmp x z ≡ Less) xs (sorted_head symbol_cmp x xs o)) m), different xs (sorted_tail symbol_cmp x xs o))
+    (λ m. not_before x (All-contains (λ z. symbol_cmp x z ≡ Less) xs x (All-from_recursion (λ z. symbol_cmp x z ≡ Less) xs (sorted_head symbol_cmp x xs o)) m), different xs (sorted_tail symbol_cmp x xs o))
 
 -- a point's list is no longer than that of all
 pub few_later : (code : Code) → is_straight code ≡ true → (p : ℕ) (list : List Symbol) → IsLaterList code p list → length list ≤ length (all_list code)

@@ -1,13 +1,13 @@
 -- The words of the handlers of a made session, and the names behind them.
 use Rattle.std.proofs.Common.{◌≡◌, ℕ, List, [], ◌∷◌, refl, arith}
 use Rattle.std.specs.Prelude.{codes}
-use Rattle.syntax_tokens.specs.Scan.{scan, scan_name, scan_bad, scan_symbol, scan_sign}
-use Rattle.syntax_tokens.specs.Keyword.{keyword_of, statement_word_of, operation_of, sign_of}
-use Rattle.syntax_tokens.specs.Words.{words_of, names_of, word_after, names_after, number_of, unquoted}
+use Rattle.syntax_grammar.specs.Scan.{scan, scan_name, scan_bad, scan_symbol, scan_sign}
+use Rattle.syntax_grammar.specs.Keyword.{keyword_of, statement_word_of, operation_of, sign_of}
+use Rattle.syntax_grammar.specs.Words.{words_of, names_of, word_after, names_after, number_of, unquoted}
 use Rattle.syntax_grammar.specs.Phrase.{file_words}
 use Rattle.syntax_grammar.specs.Limits.{FileFits}
-use Rattle.handler_syntax.specs.Language.{IsSourceOf}
-use Rattle.serve_made.specs.Session.{handlers_text}
+use Rattle.serve_faults.specs.Language.{IsSourceOf}
+use Rattle.serve_faults.specs.ServeSession.{handlers_text}
 use Rattle.made_sessions.proofs.Phrases.{made_phrase, made_file}
 
 made_words : words_of [] handlers_text ≡ file_words made_phrase []

@@ -3,8 +3,8 @@ use Rattle.std.proofs.Common.{◌≡◌, ℕ, zero, suc, ◌+◌, ◌<◌, ◌�
 use Rattle.std.specs.Prelude.{Option, Some, None, slice_get, slice_index_or}
 use Rattle.std.proofs.lemmas.Bool.{cases_lt}
 use Rattle.symbolic_ops.specs.declared.symbol.Symbol.{Symbol}
-use Rattle.syntax_trees.specs.declared.file.File.{File}
-use Rattle.syntax_trees.specs.declared.file.Handler.{Handler}
+use Rattle.handler_check.specs.File.{File}
+use Rattle.handler_check.specs.Handler.{Handler}
 use Rattle.check_meaning.specs.Code.{Code, points}
 use Rattle.handler_check.specs.Resolved.{code_at, code_in, handler_code}
 use Rattle.may_use_analysis.specs.declared.refusal.AnalysisRefusal.{AnalysisRefusal}
@@ -13,7 +13,8 @@ use Rattle.may_use_analysis.specs.Later.{IsLaterList, HasLists, HasAnswer, IsSho
 use Rattle.may_use_analysis.specs.Places.{places}
 use Rattle.may_use_analysis.proofs.Arranged.{later_list}
 use Rattle.may_use_analysis.proofs.PlaceLemmas.{places_count}
-use Rattle.may_use_analysis.proofs.TopLemmas.{lists_of_all, lists_of_short, more_lists, some_at}
+use Rattle.may_use_analysis.proofs.TopLemmas.{lists_of_all, lists_of_short, more_lists}
+use Rattle.session_values.proofs.Options.{stands}
 
 -- ---- a handler
 
@@ -41,11 +42,11 @@ long_among code (suc n) = go (long_among code n) (later_list code n)
 
 place_in : (f : File) (o : Option Handler) (source : Handler) → o ≡ Some source → (p : ℕ) → p < 1 + points (code_in f o) → (at : ℕ) × (slice_get (places_in f o) p ≡ Some at)
 place_in f None source e p lt = absurd (cc)
-place_in f (Some h) source e p lt = some_at (h.at ∷ places (handler_code f h)) p (omega (arith, places_count (handler_code f h)))
+place_in f (Some h) source e p lt = stands (h.at ∷ places (handler_code f h)) p (omega (arith, places_count (handler_code f h)))
 
 place_at : (f : File) (h p : ℕ) → h < length f.handlers → p < 1 + points (code_at f h) → (at : ℕ) × (slice_get (places_at f h) p ≡ Some at)
 place_at f h p inside lt =
-    let source = some_at f.handlers h inside in
+    let source = stands f.handlers h inside in
     place_in f (slice_get f.handlers h) source.0 source.1 p lt
 
 abbrev HaveLists : File → ℕ → Type 0

@@ -21,3 +21,4 @@ pub mod Unique
 pub mod VarLemmas
 pub mod WalkSteps
 pub mod WarmLemmas
+pub use Rattle.symbolic_ops.proofs.Orders

@@ -8,7 +8,7 @@ use Rattle.symbolic_ops.specs.declared.arg.Arg.{Arg}
 use Rattle.symbolic_ops.specs.declared.arg.Arg.TheVariants.{Known, Var, Any}
 use Rattle.symbolic_ops.specs.declared.symbol.Symbol.{Symbol}
 use Rattle.symbolic_ops.specs.Instantiate.{ArgWithin}
-use Rattle.syntax_trees.specs.declared.file.File.{File}
+use Rattle.handler_check.specs.File.{File}
 use Rattle.check_meaning.specs.declared.tree.CheckedAtom.{CheckedAtom}
 use Rattle.check_meaning.specs.declared.tree.CheckedAtom.TheVariants as atom
 use Rattle.check_meaning.specs.declared.tree.CheckedCall.{CheckedCall}

@@ -96,10 +96,6 @@ recorded_extends (Loop at p n x body rest) A old new r =
     extends_trans old (r.0 ++ r.1 ∷ []) new (extends_push old r.0 (r.0 ++ r.1 ∷ []) r.1 (recorded_extends rest A old r.0 r.2) refl) (recorded_extends body (Head x body (Flow rest A)) (r.0 ++ r.1 ∷ []) new r.4)
 recorded_extends (Quit es rest) A old new r = recorded_extends rest A old new r
 
-pub on_ok : {T E : Type 0} (r : Result T E) (P : Type 0) → P → OnOk r P
-on_ok (Ok v) P p = p
-on_ok (Err e) P p = tt
-
 pub on_ok_map : {T E : Type 0} (r : Result T E) (P Q : Type 0) → (P → Q) → OnOk r P → OnOk r Q
 on_ok_map (Ok v) P Q f p = f p
 on_ok_map (Err e) P Q f p = tt

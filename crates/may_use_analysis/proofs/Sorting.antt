@@ -59,9 +59,6 @@ same_members xs ys zs p q e s =
 
 -- ---- searching
 
-not_itself : (s : Symbol) → symbol_cmp s s ≡ Less → ⊥
-not_itself s e = absurd (cc (sym e ∙ symbol_cmp_total.antisymm s s ∙ ap ordering_reverse e))
-
 sorted_plainly : (xs : List Symbol) → IsStrictlySortedBy symbol_cmp xs → IsSorted symbol_cmp xs
 sorted_plainly xs s k d from upto =
     ap is_lt (symbol_cmp_total.antisymm (get_or xs (k + 1) d) (get_or xs k d) ∙ ap ordering_reverse (Less-from_sorted symbol_cmp xs k (k + 1) d s (omega arith) upto))

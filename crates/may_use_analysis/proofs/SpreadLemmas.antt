@@ -1,7 +1,7 @@
 -- What comes to the heads of loops before the walk that keeps lists.
-use Rattle.std.proofs.Common.{◌≡◌, ℕ, ◌+◌, ◌==◌, Bool, true, false, if◌then◌else◌, List, [], ◌↔◌, refl, ap, ◌∙◌, sym, subst, inl, inr, ◌⊎◌, Contains, arith}
-use Rattle.std.specs.Prelude.{slice_index_or, ◌≢◌}
-use Rattle.std.proofs.lemmas.Bool.Decides.{nat_tests}
+use Rattle.std.proofs.Common.{◌≡◌, ℕ, ◌+◌, ◌==◌, Bool, if◌then◌else◌, List, [], ◌↔◌, ap, ◌∙◌, sym, subst, inl, inr, ◌⊎◌, Contains, arith}
+use Rattle.std.specs.Prelude.{slice_index_or}
+use Rattle.std.proofs.lemmas.Bool.{ne_eqb}
 use Rattle.symbolic_ops.specs.declared.symbol.Symbol.{Symbol}
 use Rattle.check_meaning.specs.declared.tree.CheckedStmt.{CheckedStmt}
 use Rattle.check_meaning.specs.Code.{Code, Finish, Loop, IsNumbered, points, stmt_code}
@@ -49,13 +49,6 @@ module _ (H K : List (List Symbol)) (p x low : ℕ) (body : Code) (base : List S
       let inside = stays (slice_index_or H p []) kept w.1 in
       (λ s m. w.0 s (subst (λ (l : List Symbol). Contains l s) here m), subst (λ (l : List Symbol). AreWarm K body (Contains l)) (sym here) inside, tt)
 
-not_itself : (i p : ℕ) → i ≢ p → (i == p) ≡ false
-not_itself i p h = go (i == p) refl
-  where
-    go : (b : Bool) → (i == p) ≡ b → (i == p) ≡ false
-    go false e = e
-    go true e = absurd (h (grind (arith, nat_tests)))
-
 -- a list was put in the place of the kept one, which it joined with what is new
 pub taken_in : (p : ℕ) (symbols : List Symbol) (H K : List (List Symbol)) (fresh before after : List Symbol) → before ≡ slice_index_or H p [] → Within (Contains fresh) (Contains symbols) → ((q : Symbol) → Contains after q ↔ (Contains before q ⊎ Contains fresh q)) → ((i : ℕ) → slice_index_or K i [] ≡ (if i == p then after else slice_index_or H i [])) → IsTakenIn p symbols H K fresh
 taken_in p symbols H K fresh before after was given union put =
@@ -64,7 +57,7 @@ taken_in p symbols H K fresh before after was given union put =
       there = λ s m. to_new s ((union s).1 (inr m));
       kept = λ s m. to_new s ((union s).1 (inl (subst (λ (l : List Symbol). Contains l s) (sym was) m)));
       within = λ s m. either s ((union s).0 (subst (λ (l : List Symbol). Contains l s) here m));
-      others = λ i h. put i ∙ ap (λ (b : Bool). if b then after else slice_index_or H i []) (not_itself i p h);
+      others = λ i h. put i ∙ ap (λ (b : Bool). if b then after else slice_index_or H i []) (ne_eqb i p h);
     }
   where
     here : slice_index_or K p [] ≡ after

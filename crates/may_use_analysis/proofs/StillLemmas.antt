@@ -1,7 +1,6 @@
 -- Code that changes none of the variables that symbols mention.
-use Rattle.std.proofs.Common.{◌≡◌, ℕ, zero, suc, ◌+◌, ◌<◌, ◌==◌, Bool, true, false, List, [], ◌∷◌, length, get_or, drop, refl, sym, ap, ◌∙◌, subst, inl, inr, ◌⊎◌, ◌↔◌, Contains, arith}
+use Rattle.std.proofs.Common.{◌≡◌, ℕ, zero, suc, ◌+◌, ◌<◌, ◌==◌, Bool, List, [], ◌∷◌, length, get_or, drop, refl, sym, ap, ◌∙◌, subst, inl, inr, ◌⊎◌, ◌↔◌, Contains, arith}
 use Rattle.std.specs.Prelude.{if◌then◌else◌}
-use Rattle.std.proofs.lemmas.Bool.Decides.{nat_tests}
 use Rattle.check_meaning.specs.declared.tree.CheckedAtom.TheVariants as atom
 use Rattle.symbolic_ops.specs.declared.arg.Arg.{Arg}
 use Rattle.symbolic_ops.specs.declared.arg.Arg.TheVariants.{Known, Var, Any}
@@ -12,6 +11,7 @@ use Rattle.may_use_analysis.specs.Trails.{Symbols, Back}
 use Rattle.may_use_analysis.specs.Flow.{Turned, Flow}
 use Rattle.may_use_analysis.specs.Vars.{IsMarked, IsUnmarked, IsArgMarked, Covers, IsStill}
 use Rattle.std.proofs.lemmas.List.{drop_more}
+use Rattle.std.proofs.lemmas.Bool.{ne_eqb}
 use Rattle.check_meaning.specs.declared.tree.CheckedStmt.{CheckedStmt}
 use Rattle.check_meaning.specs.Code.{stmt_code, block_code}
 use Rattle.check_meaning.proofs.Codes.{checked_cases, code_store, code_perform, code_choose, code_repeat, code_answer}
@@ -23,15 +23,8 @@ use Rattle.may_use_analysis.proofs.Sets.{Same}
 abbrev pub CoversAll : ℕ → Symbols → Type 0
 CoversAll bits A = (s : Symbol) → A s → Covers bits s
 
-not_equal : (z x : ℕ) → (z ≡ x → ⊥) → (z == x) ≡ false
-not_equal z x h = go (z == x) refl
-  where
-    go : (b : Bool) → (z == x) ≡ b → (z == x) ≡ false
-    go false e = e
-    go true e = absurd (h (grind (arith, nat_tests)))
-
 other_arg : (z x : ℕ) (a : Arg) → (z ≡ x → ⊥) → (if z == x then a else Var z) ≡ Var z
-other_arg z x a h = ap (λ (b : Bool). if b then a else Var z) (not_equal z x h)
+other_arg z x a h = ap (λ (b : Bool). if b then a else Var z) (ne_eqb z x h)
 
 module _ (bits x : ℕ) (free : IsUnmarked bits x) where
   differs : (z : ℕ) → IsMarked bits z → z ≡ x → ⊥

@@ -4,13 +4,12 @@ use Rattle.std.specs.Prelude.{◌≢◌, Some, None, slice_get, slice_index_or}
 use Rattle.std.proofs.Math.ListN.{get_or-map}
 use Rattle.std.proofs.Math.Seq.{get_or-append_seam}
 use Rattle.std.proofs.lemmas.Bool.{cases_lt, cases_order}
-use Rattle.std.proofs.lemmas.Option.{slice_get-get_or}
 use Rattle.std.proofs.lemmas.List.{get_or-reverse, length-reverse, length-map, ext_get_or, get_or_append_left}
 use Rattle.symbolic_ops.specs.Order.{symbol_cmp}
 use Rattle.symbolic_ops.proofs.Orders.{symbol_cmp_total}
 use Rattle.symbolic_ops.specs.declared.symbol.Symbol.{Symbol}
-use Rattle.syntax_trees.specs.declared.file.File.{File}
-use Rattle.syntax_trees.specs.declared.file.Handler.{Handler}
+use Rattle.handler_check.specs.File.{File}
+use Rattle.handler_check.specs.Handler.{Handler}
 use Rattle.check_meaning.specs.declared.tree.CheckedHandler.{CheckedHandler}
 use Rattle.check_meaning.specs.Code.{Code, points, IsNumbered, block_code}
 use Rattle.handler_check.specs.Resolved.{IsResolved, code_at, code_in, table_names}
@@ -30,6 +29,7 @@ use Rattle.may_use_analysis.proofs.Records.{recorded_same, recorded_length, Stac
 use Rattle.may_use_analysis.proofs.Sets.{Same, flow_same, stored_same}
 use Rattle.may_use_analysis.proofs.Unique.{none_in_nil, sorted_unique}
 use Rattle.may_use_analysis.proofs.Numbers.{point_range, fits_point}
+use Rattle.session_values.proofs.Options.{stands}
 
 abbrev Empty : Symbols
 Empty s = ⊥
@@ -230,15 +230,11 @@ same_later f a b x y =
 
 -- ---- the loop over handlers
 
-pub some_at : {X : Type 0} (xs : List X) (i : ℕ) → i < length xs → (x : X) × (slice_get xs i ≡ Some x)
-some_at [] i lt = absurd (omega arith)
-some_at (x ∷ xs) i lt = (get_or (x ∷ xs) i x, slice_get-get_or (x ∷ xs) i x lt)
-
 -- the first point of a handler that has too many symbols is that of the file, where the handlers before it have lists
 pub long_found : (f : File) (h : ℕ) (c : CheckedHandler) (e : AnalysisRefusal) (lists : ℕ → List (List Symbol)) → h < length f.handlers → ((source : Handler) → slice_get f.handlers h ≡ Some source → IsResolved (table_names f) source c) → block_code c.body ≡ code_at f h → ((k : ℕ) → k < h → HasLists (code_at f k) (lists k)) → IsTooLong c e → e ≢ NoMemory → IsTooMany f e
 long_found f h c NoMemory lists inside resolved body before long some = absurd (some refl)
 long_found f h c (TooManySymbols at count) lists inside resolved body before long some =
-    let source = some_at f.handlers h inside in
+    let source = stands f.handlers h inside in
     let place = place_is f h source.0 c source.1 (resolved source.0 source.1) body in
     subst (IsExcess f at) (sym long.count_is) (excess_found f h at long.kept long.excess lists inside (subst (λ (z : Code). ArePointLists z long.kept) body long.lists) long.first (subst (λ (z : List ℕ). slice_get z long.excess.point ≡ Some at) place long.place) before)
 

@@ -2,8 +2,8 @@
 use Rattle.std.specs.Prelude.{◌≡◌, ℕ, ◌+◌, ◌<◌, ◌≤◌, ◌⊎◌, List, [], ◌∷◌, length, Option, Some, None, slice_get, slice_index_or}
 use Rattle.session_limits.specs.Limits.{max_symbols}
 use Rattle.symbolic_ops.specs.declared.symbol.Symbol.{Symbol}
-use Rattle.syntax_trees.specs.declared.file.File.{File}
-use Rattle.syntax_trees.specs.declared.file.Handler.{Handler}
+use Rattle.handler_check.specs.File.{File}
+use Rattle.handler_check.specs.Handler.{Handler}
 use Rattle.check_meaning.specs.Code.{Code, points}
 use Rattle.handler_check.specs.Resolved.{code_at, handler_code}
 use Rattle.may_use_analysis.specs.declared.refusal.AnalysisRefusal.{AnalysisRefusal}

@@ -11,3 +11,5 @@ pub mod Stores
 pub mod Trails
 pub mod Vars
 pub mod Warm
+pub use Rattle.symbolic_ops.specs.Order
+pub use Rattle.symbolic_ops.specs.declared.symbol.Symbol

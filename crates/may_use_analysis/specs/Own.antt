@@ -5,7 +5,7 @@ use Rattle.session_values.specs.declared.kind.TableKind.{TableKind}
 use Rattle.session_values.specs.Kinds.{home}
 use Rattle.symbolic_ops.specs.Instantiate.{IsWithin}
 use Rattle.symbolic_ops.specs.declared.symbol.Symbol.{Symbol}
-use Rattle.syntax_trees.specs.declared.file.File.{File}
+use Rattle.handler_check.specs.File.{File}
 use Rattle.check_meaning.specs.Code.{points}
 use Rattle.handler_check.specs.Resolved.{code_at, shape_of, variables_at}
 

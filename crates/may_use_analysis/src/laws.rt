@@ -3,7 +3,7 @@
 ghost use Rattle.std.specs.Prelude.{◌≡◌, ◌↔◌, ℕ, List};
 ghost use Rattle.session_values.specs.declared.kind.TableKind.{TableKind};
 ghost use Rattle.symbolic_ops.specs.declared.symbol.Symbol.{Symbol};
-ghost use Rattle.syntax_trees.specs.declared.file.File.{File};
+ghost use Rattle.handler_check.specs.File.{File};
 ghost use Rattle.check_meaning.specs.Code.{Code};
 ghost use Rattle.check_meaning.specs.Within.{CodeWithin};
 ghost use Rattle.handler_check.specs.Checked.{IsKept};

@@ -1,32 +1,30 @@
 -- What an opening keeps, and that an entry with a new key keeps it.
-use Rattle.std.proofs.Common.{◌≡◌, ℕ, zero, suc, ◌+◌, ◌<◌, ◌≤◌, List, [], ◌∷◌, ◌++◌, length, get_or, replicate, Bool, true, false, ◌||◌, refl, ◌∙◌, ap, arith, length-append}
+use Rattle.std.proofs.Common.{◌≡◌, ℕ, zero, suc, ◌+◌, ◌<◌, ◌≤◌, List, [], ◌∷◌, ◌++◌, length, get_or, replicate, false, ◌||◌, refl, ◌∙◌, ap, arith, length-append, Bool, true, cond, Some, is_some}
 use Rattle.std.proofs.lemmas.List.{length-replicate}
+use Rattle.std.proofs.lemmas.Bool.{or_parts}
 use Rattle.std.specs.List.{AllByRecursion}
 use Rattle.session_values.specs.declared.value.Value.{Value}
 use Rattle.session_values.specs.declared.value.Value.TheVariants.{Nil}
 use Rattle.session_values.specs.declared.kind.TableKind.{TableKind}
 use Rattle.session_values.specs.declared.kind.TableKind.TheVariants.{Map, Set}
-use Rattle.session_values.specs.Values.{value_eq}
+use Rattle.session_values.specs.Values.{value_eq, value_cmp}
 use Rattle.session_values.proofs.Equal.{value_eq-sym}
 use Rattle.session_values.proofs.Lists.{all_join}
 use Rattle.opening_tables.proofs.Openings.{entries_few}
 use Rattle.opening_tables.specs.Opening.{Pair, AreApart, AreEntries, AreKept, HaveNil, IsEntry, IsList, IsOpening, IsPair, count_all, entries_of, has_key, with_entry}
+use Rattle.std.specs.FinMap.Entries.{find}
 
 -- ---- one table
-or_false : (a b : Bool) → (a || b) ≡ false → (a ≡ false) × (b ≡ false)
-or_false false b h = (refl, h)
-or_false true b h = cc
-
 lacks_push : (es : List Pair) (e : Pair) (k : Value) → has_key es k ≡ false → value_eq k e.0 ≡ false → has_key (es ++ e ∷ []) k ≡ false
 lacks_push [] e k a b = ap (λ t. t || false) b
 lacks_push (x ∷ es) e k a b =
-    let p = or_false (value_eq k x.0) (has_key es k) a in
+    let p = or_parts (value_eq k x.0) (has_key es k) a in
     ap (λ t. t || has_key (es ++ e ∷ []) k) p.0 ∙ lacks_push es e k p.1 b
 
 apart_push : (es : List Pair) (e : Pair) → AreApart es → has_key es e.0 ≡ false → AreApart (es ++ e ∷ [])
 apart_push [] e a h = (refl, tt)
 apart_push (x ∷ es) e a h =
-    let p = or_false (value_eq e.0 x.0) (has_key es e.0) h in
+    let p = or_parts (value_eq e.0 x.0) (has_key es e.0) h in
     (lacks_push es e x.0 a.0 (value_eq-sym e.0 x.0 p.0), apart_push es e a.1 p.1)
 
 list_push : (es : List Pair) (e : Pair) → IsList es → has_key es e.0 ≡ false → IsPair e → IsList (es ++ e ∷ [])
@@ -51,7 +49,7 @@ count_with (es ∷ lists) zero e h = omega (arith, length-append es (e ∷ []))
 count_with (es ∷ lists) (suc i) e h = omega (arith, count_with lists i e (omega arith))
 
 -- and as many tables
-length_with : (lists : List (List Pair)) (i : ℕ) (e : Pair) → length (with_entry lists i e) ≡ length lists
+pub length_with : (lists : List (List Pair)) (i : ℕ) (e : Pair) → length (with_entry lists i e) ≡ length lists
 length_with [] i e = refl
 length_with (es ∷ lists) zero e = refl
 length_with (es ∷ lists) (suc i) e = ap suc (length_with lists i e)
@@ -105,3 +103,12 @@ entries_here items lists i es is within at = at ∙ ap (λ (ls : List (List Pair
 -- each table has few entries
 pub few_each : (lists : List (List Pair)) (i : ℕ) → AreKept lists → length (entries_of lists i) ≤ 1000000
 few_each lists i k = omega (arith, entries_few lists i, k.few)
+
+-- ---- a key is found where it stands
+pub key_found : (k : Value) (es : List Pair) → is_some (find value_cmp k es) ≡ has_key es k
+key_found k [] = refl
+key_found k (e ∷ es) = go (value_eq k e.0) (key_found k es)
+  where
+    go : (b : Bool) → is_some (find value_cmp k es) ≡ has_key es k → is_some (cond b (Some e.1) (find value_cmp k es)) ≡ (b || has_key es k)
+    go true h = refl
+    go false h = h

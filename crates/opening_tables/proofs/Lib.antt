@@ -1,3 +1,4 @@
+pub mod Filling
 pub mod KeyLemmas
 pub mod KeptLemmas
 pub mod Openings

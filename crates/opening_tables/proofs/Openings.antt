@@ -1,5 +1,6 @@
 -- Tables that open with lists of entries: their kinds, values and sizes.
-use Rattle.std.proofs.Common.{◌≡◌, ℕ, zero, suc, ◌+◌, ◌≤◌, List, [], ◌∷◌, length, map as map_list, replicate, Option, Some, Bool, true, false, cond, ◌||◌, refl, sym, ◌∙◌, ap, subst, arith}
+use Rattle.std.proofs.Common.{◌≡◌, ℕ, zero, suc, ◌+◌, ◌≤◌, List, [], ◌∷◌, length, map as map_list, replicate, Some, Bool, true, false, cond, ◌||◌, refl, sym, ◌∙◌, ap, subst, arith}
+use Rattle.std.proofs.lemmas.Option.{same_Some}
 use Rattle.std.specs.List.{AllByRecursion}
 use Rattle.std.specs.FinMap as map
 use Rattle.std.specs.FinSet as set
@@ -13,7 +14,7 @@ use Rattle.session_values.proofs.Equal.{same_value}
 use Rattle.session_values.proofs.Starts.{values_none, members_none}
 
 -- ---- kinds
-kind_is : (kind : TableKind) (es : List Pair) → kind_of (container_of kind es) ≡ kind
+pub kind_is : (kind : TableKind) (es : List Pair) → kind_of (container_of kind es) ≡ kind
 kind_is Map es = refl
 kind_is Set es = refl
 
@@ -23,7 +24,7 @@ opening_kinds (kind ∷ shape) [] = λ i. kind_is kind [] i ∷ opening_kinds sh
 opening_kinds (kind ∷ shape) (es ∷ lists) = λ i. kind_is kind es i ∷ opening_kinds shape lists i
 
 -- no entries make empty tables
-none_is : (kind : TableKind) → empty_of kind ≡ container_of kind []
+pub none_is : (kind : TableKind) → empty_of kind ≡ container_of kind []
 none_is Map = refl
 none_is Set = refl
 
@@ -47,11 +48,8 @@ map_values : (es : List Pair) → AllByRecursion (IsEntry Map) es → AreValues 
 map_values [] h k v g = values_none k v g
 map_values (e ∷ es) h k v g = by_key (map_values es h.1 k v) (value_eq k e.0) refl (sym (map.get-insert value_cmp_total (map.from_entries es) e.0 e.1 k) ∙ g)
   where
-    inside : (a b : Value) → ◌≡◌ {A = Option Value} (Some a) (Some b) → a ≡ b
-    inside a b e = cc
-
     by_key : (map.get (map.from_entries {R = value_cmp} es) k ≡ Some v → IsValue k × IsValue v) → (b : Bool) → value_eq k e.0 ≡ b → cond b (Some e.1) (map.get (map.from_entries {R = value_cmp} es) k) ≡ Some v → IsValue k × IsValue v
-    by_key rest true i g = (subst IsValue (sym (same_value k e.0 i)) h.0.0, subst IsValue (inside e.1 v g) h.0.1)
+    by_key rest true i g = (subst IsValue (sym (same_value k e.0 i)) h.0.0, subst IsValue (same_Some e.1 v g) h.0.1)
     by_key rest false i g = rest g
 
 set_values : (es : List Pair) → AllByRecursion (IsEntry Set) es → AreValues (Members (set.from_list (map_list (λ (e : Pair). e.0) es)))

@@ -1,16 +1,16 @@
 -- What a search has met when it ends.
 use Rattle.std.proofs.Common.{◌≡◌, ℕ, ◌+◌, ◌-◌, ◌<◌, ◌≤◌, ◌^◌, inl, inr, Option, Some, None, eqb, true, false, List, length, get_or, sym, ◌∙◌, ap, subst, arith}
-use Rattle.std.proofs.lemmas.Bool.{cases_lt, cond-true, cond-false, eq-eqb, ne_eqb}
+use Rattle.std.proofs.lemmas.Bool.{cases_lt, cond-true, cond-false, eq-eqb, ne_eqb, false_from_ne_true, both_ways}
 use Rattle.std.proofs.lemmas.Bool.Decides.{eqb_tells}
 use Rattle.session_values.specs.declared.value.Value.{Value}
 use Rattle.session_values.specs.declared.value.Value.TheVariants.{Nil}
 use Rattle.session_values.specs.Values.{value_eq}
 use Rattle.place_index.specs.Slots.{distance, start_by, start_in, place_in, IsIndex}
-use Rattle.place_index.proofs.Values.{both_ways, some_none, is_false}
 use Rattle.place_index.proofs.Distances.{same_distance}
 use Rattle.place_index.proofs.Masks.{start-lt}
 use Rattle.place_index.proofs.Changes.{taken_in}
 use Rattle.session_values.proofs.Equal.{same_value}
+use Rattle.session_values.proofs.Options.{some_none}
 
 -- a slot that holds no place is free
 pub is_free : (x : ℕ) → place_in x ≡ None → x ≡ 0
@@ -44,7 +44,7 @@ met_at factor bits keys xs k s t p small ix s_in t_in free holds passed equal =
     let same : k ≡ get_or keys p Nil = same_value k (get_or keys p Nil) equal in
     let starts : start_in factor bits keys (get_or xs s 0) ≡ start_by factor k bits = ap (λ (q : ℕ). start_by factor (get_or keys q Nil) bits) back ∙ ap (λ (v : Value). start_by factor v bits) (sym same) in
     elim (cases_lt (distance m (start_by factor k bits) s) (distance m (start_by factor k bits) t)) [
-      | inl b ↦ both_ways (value_eq k (get_or keys p Nil)) equal (passed b)
+      | inl b ↦ both_ways (value_eq k (get_or keys p Nil)) (passed b) equal
       | inr e ↦ elim (cases_lt (distance m (start_by factor k bits) t) (distance m (start_by factor k bits) s)) [
         | inl b ↦
             let P : ℕ → Type 0 = λ h. distance (2 ^ bits) h t < distance (2 ^ bits) h s in
@@ -64,4 +64,4 @@ met factor bits keys xs k t p small ix t_in free passed l =
     let w = ix.places.there p l in
     let s_in : w.0 < 2 ^ bits = omega (arith, taken_in xs w.0 (omega (arith, w.1)), ix.places.long) in
     let back : get_or xs w.0 0 - 1 ≡ p = omega (arith, w.1) in
-    is_false (value_eq k (get_or keys p Nil)) (met_at factor bits keys xs k w.0 t p small ix s_in t_in free w.1 (λ b. ap (λ (q : ℕ). value_eq k (get_or keys q Nil)) (sym back) ∙ passed w.0 s_in b))
+    false_from_ne_true (value_eq k (get_or keys p Nil)) (met_at factor bits keys xs k w.0 t p small ix s_in t_in free w.1 (λ b. ap (λ (q : ℕ). value_eq k (get_or keys q Nil)) (sym back) ∙ passed w.0 s_in b))

@@ -1,8 +1,9 @@
 -- A desk keeps to the serial run.
-use Rattle.std.proofs.Common.{◌≡◌, ℕ, zero, suc, ◌+◌, ◌-◌, ◌<◌, ◌≤◌, List, [], ◌∷◌, ◌++◌, ◌⊎◌, inl, inr, Option, Some, None, Bool, true, false, cond, nat_lt, length, length-append, length-drop, map, slice_get, slice_range, take, drop, get_or, refl, sym, ◌∙◌, ap, subst, arith}
+use Rattle.std.proofs.Common.{◌≡◌, ℕ, zero, suc, ◌+◌, ◌-◌, ◌<◌, ◌≤◌, List, [], ◌∷◌, ◌++◌, ◌⊎◌, inl, inr, Option, Some, None, Bool, true, false, cond, nat_lt, length, length-append, length-drop, map, slice_get, slice_range, take, drop, get_or, refl, sym, ◌∙◌, ap, subst, arith, append-nil, add-zero}
 use Rattle.std.proofs.lemmas.List.{drop-append-le, take-append-le}
 use Rattle.std.proofs.lemmas.Bool.Decides.{nat_tests}
-use Rattle.std.proofs.lemmas.Option.{slice_get_read}
+use Rattle.std.proofs.lemmas.Option.{slice_get_read, same_Some}
+use Rattle.std.proofs.lemmas.Bool.{true≢false}
 use Rattle.session_values.specs.declared.op.Op.{Op}
 use Rattle.session_values.specs.declared.reply.Reply.{Reply}
 use Rattle.session_values.specs.declared.value.Value.{Value}
@@ -22,10 +23,6 @@ use Rattle.plain_desk.specs.PlainDesks.{desk_of, ended_count, tables_at}
 use Rattle.plain_desk.specs.Keeping.{HasRoom, IsIdle, IsOpen, IsSerial, Keeps, after_waiting}
 
 -- ---- entries at the end of others
-append_nil : (es : List Entry) → es ++ [] ≡ es
-append_nil [] = refl
-append_nil (e ∷ es) = ap (λ (fs : List Entry). e ∷ fs) (append_nil es)
-
 range_kept : (all : List Entry) (e : Entry) (a b : ℕ) → a ≤ b → b ≤ length all → slice_range (all ++ e ∷ []) a b ≡ slice_range all a b
 range_kept all e a b o w =
     let h : a ≤ length all = omega arith in
@@ -42,10 +39,7 @@ serial_kept s all e t x h = record {
 
 -- what stands in a list with one more at its end
 get_more : (xs : List EndedTicket) (x y : EndedTicket) (t : ℕ) → slice_get (xs ++ x ∷ []) t ≡ Some y → (slice_get xs t ≡ Some y) ⊎ ((t ≡ length xs) × (x ≡ y))
-get_more [] x y zero e = inr (refl, inside x y e)
-  where
-    inside : (x y : EndedTicket) → Some x ≡ Some y → x ≡ y
-    inside x y e = cc
+get_more [] x y zero e = inr (refl, same_Some x y e)
 get_more [] x y (suc t) e = inl e
 get_more (z ∷ xs) x y zero e = inl e
 get_more (z ∷ xs) x y (suc t) e =
@@ -181,7 +175,7 @@ ends_serially m t es r s w h a =
     let g : GoesOn (m.length t) (m.next t) before es = goes_on (m.length t) (m.next t) before es (s.ends t) w h in
     let n : g.back ≡ [] = (g.answered r a).0 in
     record {
-      entries = sym (g.entries ∙ ap (λ (fs : List Entry). es ++ fs) n ∙ append_nil es);
+      entries = sym (g.entries ∙ ap (λ (fs : List Entry). es ++ fs) n ∙ append-nil es);
       answer = (g.answered r a).1;
       after = sym (g.after ∙ ap (run (run before es)) n);
     }
@@ -191,10 +185,7 @@ answered : (f : Dialogue) (rs : List Value) (r : Reply) (op : Op) → f rs ≡ A
 answered f rs r op a c = cc
 
 never : {X : Type 0} → true ≡ false → X
-never e = absurd (differ e)
-  where
-    differ : true ≡ false → ⊥
-    differ e = cc
+never e = absurd (true≢false e)
 
 -- the tickets that have ended, with one more
 serial_more : (m : Meaning) (all : List Entry) (ended : List EndedTicket) (x : EndedTicket) (t : ℕ) → t ≡ length ended → IsSerial (session_of m) all t x → ((u : ℕ) (y : EndedTicket) → slice_get ended u ≡ Some y → IsSerial (session_of m) all u y) → (u : ℕ) (y : EndedTicket) → slice_get (ended ++ x ∷ []) u ≡ Some y → IsSerial (session_of m) all u y
@@ -228,7 +219,7 @@ end_kept m t f g w b ts symbols roomy all room first ended grown kept wider unti
     let s : EndsSerially m t (drop first all) r = ends_serially m t (drop first all) r k.script o.follows o.replays answers in
     let x : EndedTicket = record { reply = r; from = first; until = length all } in
     let at_last : grown ≡ ended ++ x ∷ [] = more ∙ ap (λ (n : ℕ). ended ++ record { reply = r; from = first; until = n } ∷ []) last in
-    let n : length ended ≡ t = k.count ∙ counted t m.requests (t + cond b 1 0) o.ticket ∙ ap (λ (c : Bool). t + cond {A = ℕ} c 1 0) going ∙ plain t in
+    let n : length ended ≡ t = k.count ∙ counted t m.requests (t + cond b 1 0) o.ticket ∙ ap (λ (c : Bool). t + cond {A = ℕ} c 1 0) going ∙ add-zero t in
     let count : suc t ≡ ended_count m (desk_of t (drop first all) g w true) = sym (counted t m.requests (t + 1) o.ticket ∙ one t) in
     let here : IsSerial (session_of m) all t x = record { order = k.within; within = omega arith; entries = whole_range all first ∙ s.entries; answer = s.answer } in
     subst P (sym at_last) (record {
@@ -248,8 +239,5 @@ end_kept m t f g w b ts symbols roomy all room first ended grown kept wider unti
       replies = omega (arith, k.replies, same);
     })
   where
-    plain : (t : ℕ) → t + 0 ≡ t
-    plain t = omega arith
-
     one : (t : ℕ) → t + 1 ≡ suc t
     one t = omega arith

@@ -1,7 +1,7 @@
 // Tables filled with what they open with.
 
 ghost use Rattle.std.specs.Prelude.{◌≡◌, ◌<◌, [], Some, OnOk, length, map, slice_get, slice_set};
-ghost use Rattle.opening_tables.specs.Opening.{container_of, entries_of};
+ghost use Rattle.session_journal.specs.Opening.{container_of, entries_of};
 ghost use Rattle.session_values.specs.Tables.{kind_of, start};
 ghost use Rattle.session_journal.specs.Script.{IsScript};
 

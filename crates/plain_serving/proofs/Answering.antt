@@ -1,6 +1,6 @@
 -- The replies of what was served can be written, and their text is the one that is asked.
 use Rattle.std.proofs.Common.{◌≡◌, ℕ, ◌≤◌, false, List, length, sym, ap, subst, arith}
-use Rattle.session_limits.specs.Limits.{max_requests}
+use Rattle.session_values.specs.Limits.{max_requests}
 use Rattle.session_values.specs.ReplyText.{reply_text}
 use Rattle.session_values.specs.Tables.{Tables}
 use Rattle.session_values.specs.declared.reply.Reply.{Reply}

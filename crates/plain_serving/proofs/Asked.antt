@@ -4,8 +4,8 @@ use Rattle.session_values.specs.Serial.{Session}
 use Rattle.session_journal.specs.Script.{session_of}
 use Rattle.handler_machine.specs.Scripts.{meaning}
 use Rattle.request_files.specs.Session.{session}
-use Rattle.serve_words.specs.declared.command.Command.{Command}
-use Rattle.serve_words.specs.declared.command.Command.TheVariants.{Serve, Dump}
+use Rattle.serve_faults.specs.Command.{Command}
+use Rattle.serve_faults.specs.Command.TheVariants.{Serve, Dump}
 use Rattle.serve_faults.specs.declared.status.Fault.{Fault}
 use Rattle.serve_faults.specs.declared.status.Status.{Status}
 use Rattle.serve_faults.specs.declared.status.Status.TheVariants as status

@@ -1,36 +1,32 @@
 -- The final tables of what was served can be written, and their text is the one that is asked.
 use Rattle.std.proofs.Common.{◌≡◌, ℕ, zero, suc, ◌+◌, ◌<◌, ◌≤◌, true, List, [], ◌∷◌, length, map, take, get_or, refl, sym, ◌∙◌, ap, subst, arith}
 use Rattle.std.specs.List.{AllByRecursion, flat_map}
-use Rattle.session_values.specs.Names.{IsNamed}
 use Rattle.session_values.specs.Tables.{Tables, kind_of}
 use Rattle.session_values.specs.declared.kind.TableKind.{TableKind}
-use Rattle.opening_tables.specs.Opening.{AreApart, Pair, tables_of}
-use Rattle.syntax_trees.specs.Mentions.{handler_mentions, table_mentions}
-use Rattle.syntax_trees.specs.declared.file.TableDecl.{TableDecl}
-use Rattle.handler_syntax.specs.Language.{HasText, HaveTexts}
-use Rattle.handler_syntax.proofs.Facts.{all_first, name_named}
-use Rattle.handler_check.proofs.Fine.{few_tables}
+use Rattle.session_values.proofs.Lists.{same_head, same_tail}
+use Rattle.session_journal.specs.Opening.{AreApart, Pair, tables_of}
+use Rattle.request_files.specs.Mentions.{handler_mentions, table_mentions}
+use Rattle.request_files.specs.TableDecl.{TableDecl}
+use Rattle.serve_faults.specs.Language.{HasText}
+use Rattle.serve_faults.proofs.Facts.{all_first}
+use Rattle.request_files.proofs.Fine.{few_tables}
 use Rattle.handler_machine.specs.Scripts.{meaning}
-use Rattle.hall_rule.specs.declared.part.Part.{Part}
-use Rattle.hall_rule.specs.Listing.{entries_in}
-use Rattle.hall_rule.proofs.Wholes.{held_is}
+use Rattle.shard_tables.specs.declared.part.Part.{Part}
+use Rattle.shard_tables.specs.Either.{entries_in}
+use Rattle.shard_tables.proofs.Either.{held_is}
 use Rattle.session_journal.specs.Script.{session_of}
-use Rattle.table_dump.specs.Dumped.{CanDumpAll, CanDumpEach, dump_text}
+use Rattle.table_text.specs.Dumped.{CanDumpAll, CanDumpEach, dump_text}
 use Rattle.serve_faults.specs.Printable.{IsPrintableTable}
 use Rattle.serve_faults.proofs.PrintableRuns.{tables_hold}
+use Rattle.serve_faults.proofs.ToldEvents.{tables_named}
 use Rattle.serve_reading.specs.declared.session.Loaded.{Loaded}
 use Rattle.serve_core.specs.Serving.{CanServe, script_of_loaded}
 use Rattle.serve_core.proofs.FinalLemmas.{entries_printable}
-use Rattle.table_lines.specs.ReadBack.{texts_of}
+use Rattle.serve_faults.specs.ReadBack.{texts_of}
 use Rattle.table_text.specs.TableText.{table_text, written_table}
 use Rattle.plain_serving.specs.Serving.{AreServed, asked_text}
-use Rattle.plain_serving.specs.Tables.{container_in, held, lists_in}
-
-first_same : {X : Type 0} (x y : X) (xs ys : List X) → x ∷ xs ≡ y ∷ ys → x ≡ y
-first_same {X} x y xs ys e = cc
-
-rest_same : {X : Type 0} (x y : X) (xs ys : List X) → x ∷ xs ≡ y ∷ ys → xs ≡ ys
-rest_same {X} x y xs ys e = cc
+use Rattle.shard_tables.specs.Whole.{container_in, held}
+use Rattle.plain_serving.specs.Tables.{lists_in}
 
 -- the entries of tables of these kinds make them
 tables_whole : (shape : List TableKind) (ps : List Part) → map kind_of (held ps) ≡ shape → tables_of shape (lists_in ps) ≡ held ps
@@ -38,8 +34,8 @@ tables_whole [] [] e = refl
 tables_whole [] (p ∷ ps) e = cc
 tables_whole (k ∷ shape) [] e = cc
 tables_whole (k ∷ shape) (p ∷ ps) e =
-    let one = held_is p k (first_same (kind_of (container_in p)) k (map kind_of (held ps)) shape e) in
-    let more = tables_whole shape ps (rest_same (kind_of (container_in p)) k (map kind_of (held ps)) shape e) in
+    let one = held_is p k (same_head (kind_of (container_in p)) k (map kind_of (held ps)) shape e) in
+    let more = tables_whole shape ps (same_tail (kind_of (container_in p)) k (map kind_of (held ps)) shape e) in
     λ i. one i ∷ more i
 
 can_each : (names : List (List ℕ)) (ts : List TableDecl) (ps : List Part) → map kind_of (held ps) ≡ map (λ (t : TableDecl). t.kind) ts → AllByRecursion AreApart (lists_in ps) → AllByRecursion (IsPrintableTable names) (held ps) → CanDumpEach names ts (lists_in ps)
@@ -48,19 +44,18 @@ can_each names [] (p ∷ ps) e apart print = cc
 can_each names (t ∷ ts) [] e apart print = cc
 can_each names (t ∷ ts) (p ∷ ps) e apart print =
     let kinds : List TableKind = map (λ (x : TableDecl). x.kind) ts in
-    let kind = first_same (kind_of (container_in p)) t.kind (map kind_of (held ps)) kinds e in (
+    let kind = same_head (kind_of (container_in p)) t.kind (map kind_of (held ps)) kinds e in (
       record {
         apart = apart.0;
         printable = entries_printable names t.kind (container_in p) (entries_in p) apart.0 (held_is p t.kind kind) print.0;
       },
-      can_each names ts ps (rest_same (kind_of (container_in p)) t.kind (map kind_of (held ps)) kinds e) apart.1 print.1,
+      can_each names ts ps (same_tail (kind_of (container_in p)) t.kind (map kind_of (held ps)) kinds e) apart.1 print.1,
     )
 
-tables_named : (names : List (List ℕ)) (ts : List TableDecl) → HaveTexts names (flat_map table_mentions ts) → AllByRecursion (λ (t : TableDecl). IsNamed names t.name) ts
-tables_named names [] h = tt
-tables_named names (t ∷ ts) h = (name_named names t.name h.0, tables_named names ts h.1)
+module _ (l : Loaded) (can : CanServe l) (ps : List Part) (rs : List _) (ts : Tables) (same : held ps ≡ ts) (served : AreServed (meaning (script_of_loaded l)) (meaning (script_of_loaded l)).requests rs ts) where
+  done : AreServed (meaning (script_of_loaded l)) (meaning (script_of_loaded l)).requests rs (held ps)
+  done = subst (AreServed (meaning (script_of_loaded l)) (meaning (script_of_loaded l)).requests rs) (sym same) served
 
-module _ (l : Loaded) (can : CanServe l) (ps : List Part) (rs : List _) (done : AreServed (meaning (script_of_loaded l)) (meaning (script_of_loaded l)).requests rs (held ps)) where
   -- the final tables can be written
   pub can_write : AllByRecursion AreApart (lists_in ps) → CanDumpAll l.names l.program.file.tables (lists_in ps)
   can_write apart = record {
@@ -72,7 +67,7 @@ module _ (l : Loaded) (can : CanServe l) (ps : List Part) (rs : List _) (done : 
 
   -- and their text is the one that is asked
   pub dumped_is : dump_text l.names l.program.file.tables (lists_in ps) ≡ asked_text true l.names l.program.file (session_of (meaning (script_of_loaded l)))
-  dumped_is = ap (λ (ts : Tables). table_text (texts_of l.names l.program.file.tables) (map (written_table l.names) ts)) (tables_whole (map (λ (t : TableDecl). t.kind) l.program.file.tables) ps done.kinds ∙ done.tables_are)
+  dumped_is = ap (λ (us : Tables). table_text (texts_of l.names l.program.file.tables) (map (written_table l.names) us)) (tables_whole (map (λ (t : TableDecl). t.kind) l.program.file.tables) ps done.kinds ∙ done.tables_are)
 
 -- ---- table by table
 -- what holds of the entries of the first tables, and of the next

@@ -1,7 +1,6 @@
 pub mod Answering
 pub mod Asked
 pub mod Dumping
-pub mod Filling
 pub mod Runs
 pub mod Served
 pub mod Whole

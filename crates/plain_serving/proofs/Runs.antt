@@ -1,9 +1,9 @@
 -- What a run that serves alone promises, from what its parts say.
 use Rattle.std.proofs.Common.{◌≡◌, ◌≢◌, ℕ, ◌+◌, ◌<◌, ◌⊎◌, inl, inr, Bool, true, false, List, length, Option, Some, None, IfSome, refl, ap, subst, arith}
-use Rattle.session_limits.specs.Limits.{max_input}
+use Rattle.session_values.specs.Limits.{max_input}
 use Rattle.byte_ends.specs.Ends.{IsAtEnd, LostAtMost, LostFirst}
-use Rattle.serve_words.specs.declared.command.Command.{Command}
-use Rattle.serve_words.specs.declared.command.Command.TheVariants.{Serve, Dump}
+use Rattle.serve_faults.specs.Command.{Command}
+use Rattle.serve_faults.specs.Command.TheVariants.{Serve, Dump}
 use Rattle.serve_faults.specs.declared.status.Fault.{Fault}
 use Rattle.serve_faults.specs.declared.status.Fault.TheVariants.{TooLarge}
 use Rattle.serve_faults.specs.declared.status.Status.{Status}
@@ -17,10 +17,7 @@ use Rattle.serve_core.specs.Commands.{OfItsBytes, serving}
 use Rattle.serve_core.specs.Runs.{Answered, Written, has_read_all}
 use Rattle.serve_core.proofs.RunLemmas.{no_answer, refused_answer}
 use Rattle.plain_serving.specs.Runs.{AnswersAlone, RunsAlone}
-
-if_some : {X : Type 0} (P Q : X → Type 0) (o : Option X) → ((x : X) → P x → Q x) → IfSome o P → IfSome o Q
-if_some P Q None f h = tt
-if_some P Q (Some x) f h = f x h
+use Rattle.session_values.proofs.Options.{if_some}
 
 untold : {X : Type 0} (P : X → Type 0) (o : Option X) → ((x : X) → P x) → IfSome o P
 untold P None f = tt

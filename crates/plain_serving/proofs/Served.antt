@@ -4,20 +4,20 @@ use Rattle.session_values.specs.declared.reply.Reply.{Reply}
 use Rattle.session_values.specs.Dialogue.{Entry}
 use Rattle.session_values.specs.Serial.{Session, answered, serial_replies, serve, tables_before}
 use Rattle.session_values.specs.Tables.{Tables, kind_of}
-use Rattle.opening_tables.proofs.Openings.{opening_kinds}
+use Rattle.session_journal.proofs.Openings.{opening_kinds}
 use Rattle.session_journal.specs.Journal.{Replays, run}
 use Rattle.session_journal.specs.Script.{IsScript, Meaning, session_of}
 use Rattle.session_journal.proofs.Serial.{GoesOn, goes_on}
 use Rattle.machine_walk.specs.Asking.{Runs, Steps}
 use Rattle.plain_serving.specs.Serving.{AreServed}
-use Rattle.plain_serving.specs.Tables.{WholeStep, held}
-use Rattle.plain_serving.specs.declared.tables.WholeTables.{WholeTables}
+use Rattle.plain_serving.specs.Tables.{WholeStep}
+use Rattle.plain_serving.specs.declared.tables.Answering.{Answering}
 
-abbrev tables_in : WholeTables → Tables
-tables_in a = held a.parts.items
+abbrev tables_in : Answering → Tables
+tables_in a = a.tables
 
 -- what steps do is what their operations do
-steps_replay : (es : List Entry) (old new : WholeTables) → Steps WholeStep old es new → Replays (tables_in old) es × (tables_in new ≡ run (tables_in old) es)
+steps_replay : (es : List Entry) (old new : Answering) → Steps WholeStep old es new → Replays (tables_in old) es × (tables_in new ≡ run (tables_in old) es)
 steps_replay [] old new s = (tt, ap tables_in s)
 steps_replay (e ∷ es) old new s =
     let rest = steps_replay es s.0 new s.2 in
@@ -25,7 +25,7 @@ steps_replay (e ∷ es) old new s =
     ((sym s.1.0, subst P s.1.1 rest.0), rest.1 ∙ ap (λ (ts : Tables). run ts es) s.1.1)
 
 -- one ticket more has its serial reply, and leaves the tables that it leaves in the serial run
-pub served_next : (m : Meaning) (t : ℕ) (old new : WholeTables) (r : Reply) (rs : List Reply) → IsScript m → AreServed m t rs (tables_in old) → Runs WholeStep (m.next t) old new r → map kind_of (tables_in new) ≡ map kind_of (tables_in old) → AreServed m (t + 1) (rs ++ r ∷ []) (tables_in new)
+pub served_next : (m : Meaning) (t : ℕ) (old new : Answering) (r : Reply) (rs : List Reply) → IsScript m → AreServed m t rs (tables_in old) → Runs WholeStep (m.next t) old new r → map kind_of (tables_in new) ≡ map kind_of (tables_in old) → AreServed m (t + 1) (rs ++ r ∷ []) (tables_in new)
 served_next m t old new r rs script before runs stays =
     let s : Session = session_of m in
     let ts : Tables = tables_before s t in

@@ -1,9 +1,9 @@
 -- What a run promises that serves a session file alone: what `serve` and `dump` promise, but that
 -- there is no hall.
 use Rattle.std.specs.Prelude.{◌≡◌, ◌≢◌, ◌+◌, ◌⊎◌, ℕ, true, List, Some}
-use Rattle.session_limits.specs.Limits.{max_input}
+use Rattle.session_values.specs.Limits.{max_input}
 use Rattle.byte_ends.specs.Ends.{IsAtEnd, LostFirst, LostAtMost}
-use Rattle.serve_words.specs.declared.command.Command.{Command}
+use Rattle.serve_faults.specs.Command.{Command}
 use Rattle.serve_faults.specs.declared.status.Fault.{Fault}
 use Rattle.serve_faults.specs.declared.status.Fault.TheVariants.{TooLarge}
 use Rattle.serve_faults.specs.declared.status.Status.{Status}

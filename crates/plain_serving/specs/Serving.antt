@@ -5,8 +5,8 @@ use Rattle.session_values.specs.ReplyText.{reply_text}
 use Rattle.session_values.specs.Serial.{Session, serial_replies, tables_before}
 use Rattle.session_values.specs.Tables.{Tables, kind_of}
 use Rattle.session_journal.specs.Script.{Meaning, session_of}
-use Rattle.handler_syntax.specs.Language.{File}
-use Rattle.table_lines.specs.ReadBack.{texts_of}
+use Rattle.serve_faults.specs.Language.{File}
+use Rattle.serve_faults.specs.ReadBack.{texts_of}
 use Rattle.table_text.specs.TableText.{table_text, written_table}
 
 -- the tickets below n were served one at a time, in order: these are their replies, one of each,

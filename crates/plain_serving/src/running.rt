@@ -1,17 +1,16 @@
 // Running the handlers of all requests, one after another.
 
-ghost use Rattle.std.specs.Prelude.{◌≡◌, ◌≤◌, [], IfOk, OnOk, length, vec_capacity};
-ghost use Rattle.session_limits.specs.Limits.{max_tables};
+ghost use Rattle.std.specs.Prelude.{◌≡◌, ◌≤◌, [], IfOk, OnOk, vec_capacity};
 ghost use Rattle.session_journal.specs.Script.{IsScript};
 ghost use Rattle.handler_machine.specs.Scripts.{meaning};
-ghost use Rattle.plain_serving.specs.Tables.{held};
 ghost use Rattle.plain_serving.specs.Serving.{AreServed};
 
 use crate::opening::opened_tables;
-use crate::tables::WholeTables;
+use crate::tables::Answering;
 use handler_machine::Scripts;
 use session_journal::{Scratch, Script};
 use session_values::{NoMemory, Reply};
+use shard_tables::WholeTables;
 use std::alloc::Global;
 
 /// What serving the requests of a session leaves.
@@ -26,15 +25,15 @@ pub(crate) struct Served {
 fn run_tickets(
     scripts: &Scripts<'_>,
     scratch: &mut Scratch,
-    tables: &mut WholeTables,
+    tables: &mut Answering,
     replies: &mut Vec<Reply>,
 ) -> Result<(), NoMemory>
     requires script { IsScript (meaning scripts.now) }
-    requires opening { held tables.old.parts.items ≡ (meaning scripts.now).opening }
+    requires opening { tables.old.tables ≡ (meaning scripts.now).opening }
     requires none { replies.old.items ≡ [] }
     requires room { (meaning scripts.now).requests ≤ vec_capacity replies.old }
     ensures { OnOk result (AreServed (meaning scripts.now) (meaning scripts.now).requests
-        replies.new.items (held tables.new.parts.items)) }
+        replies.new.items tables.new.tables) }
 {
     for t in 0..scripts.requests() {
         let reply = scripts.run_ticket(t, scratch, tables)?;
@@ -45,15 +44,16 @@ fn run_tickets(
 
 /// Serves the tickets of a script one at a time, in order. The room for all replies is taken once.
 pub(crate) fn serve_tickets(alloc: Global, scripts: &Scripts<'_>) -> Result<Served, NoMemory>
-    requires few { length (meaning scripts.now).shape ≤ max_tables }
     ensures { IfOk result (λ s. AreServed (meaning scripts.now) (meaning scripts.now).requests
-        s.replies.items (held s.tables.parts.items)) }
+        s.replies.items s.tables) }
 {
     let count = scripts.requests();
     let shape = scripts.shape(alloc)?;
-    let mut tables = opened_tables(alloc, scripts, shape.as_slice())?;
+    let opened = opened_tables(alloc, scripts, shape.as_slice())?;
+    let mut answering = Answering { tables: opened };
     let mut scratch = Scratch::new(alloc)?;
     let mut replies = Vec::with_capacity(alloc, count as usize)?;
-    run_tickets(scripts, &mut scratch, &mut tables, &mut replies)?;
+    run_tickets(scripts, &mut scratch, &mut answering, &mut replies)?;
+    let Answering { tables } = answering;
     Ok(Served { replies, tables })
 }

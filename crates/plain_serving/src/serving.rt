@@ -1,7 +1,7 @@
 // Serving alone: from a source to the lines of the replies, or of the final tables.
 
 ghost use Rattle.std.specs.Prelude.{◌≡◌, ◌≤◌, ℕ, IfOk, length};
-ghost use Rattle.session_limits.specs.Limits.{max_input};
+ghost use Rattle.session_values.specs.Limits.{max_input};
 ghost use Rattle.session_journal.specs.Script.{session_of};
 ghost use Rattle.handler_machine.specs.Scripts.{meaning};
 ghost use Rattle.serve_faults.specs.Changes.{change};
@@ -9,7 +9,6 @@ ghost use Rattle.serve_core.specs.Commands.{serving};
 ghost use Rattle.serve_core.specs.Serving.{CanServe, EndsOrWants, script_of_loaded, status_of};
 ghost use Rattle.plain_serving.specs.Runs.{AnswersAlone, RunsAlone};
 ghost use Rattle.plain_serving.specs.Serving.{AreServed, asked_text};
-ghost use Rattle.plain_serving.specs.Tables.{held};
 
 use crate::running::{Served, serve_tickets};
 use crate::writing::write_asked;
@@ -78,7 +77,7 @@ fn served(alloc: Global, loaded: &Loaded) -> Result<Served, NoMemory>
     requires { CanServe loaded.now }
     ensures { IfOk result (λ s. AreServed (meaning (script_of_loaded loaded.now))
         (meaning (script_of_loaded loaded.now)).requests s.replies.items
-        (held s.tables.parts.items)) }
+        s.tables) }
 {
     let scripts = Scripts::over(&loaded.program, &loaded.opening, &loaded.requests);
     serve_tickets(alloc, &scripts)

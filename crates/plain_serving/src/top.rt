@@ -1,7 +1,7 @@
 // The calls of this crate.
 
 ghost use Rattle.std.specs.Prelude.{ℕ};
-ghost use Rattle.serve_words.specs.declared.command.Command.TheVariants.{Dump, Serve};
+ghost use Rattle.serve_faults.specs.Command.TheVariants.{Dump, Serve};
 ghost use Rattle.serve_faults.specs.Changes.{change};
 ghost use Rattle.serve_core.specs.Runs.{Tells};
 ghost use Rattle.plain_serving.specs.Runs.{RunsAlone};

@@ -2,23 +2,24 @@
 
 ghost use Rattle.std.specs.Prelude.{◌≤◌, true, false};
 ghost use Rattle.std.specs.List.{AllByRecursion};
-ghost use Rattle.opening_tables.specs.Opening.{AreApart};
+ghost use Rattle.session_journal.specs.Opening.{AreApart};
 ghost use Rattle.session_journal.specs.Script.{session_of};
 ghost use Rattle.handler_machine.specs.Scripts.{meaning};
-ghost use Rattle.table_dump.specs.Dumped.{HaveRoom};
+ghost use Rattle.table_text.specs.Dumped.{HaveRoom};
 ghost use Rattle.serve_faults.specs.Changes.{change};
 ghost use Rattle.serve_core.specs.Serving.{CanServe, EndsOrWants, script_of_loaded};
 ghost use Rattle.plain_serving.specs.Serving.{AreServed, asked_text};
-ghost use Rattle.plain_serving.specs.Tables.{held, lists_in};
+ghost use Rattle.plain_serving.specs.Tables.{lists_in};
 
 use crate::running::Served;
+use crate::tables::Listing;
 use byte_ends::{Sink, WriteBuffer};
-use hall_rule::Part;
 use reply_sheet::write_replies;
 use serve_faults::Status;
 use serve_reading::Loaded;
+use shard_tables::Part;
 use std::alloc::Global;
-use table_dump::write_tables;
+use table_text::write_tables;
 
 /// Writes the lines of the replies; with `tables` the final tables.
 pub(crate) fn write_asked<O: Sink>(
@@ -31,7 +32,7 @@ pub(crate) fn write_asked<O: Sink>(
     requires can { CanServe loaded.now }
     requires served { AreServed (meaning (script_of_loaded loaded.now))
         (meaning (script_of_loaded loaded.now)).requests served.now.replies.items
-        (held served.now.tables.parts.items) }
+        served.now.tables }
     ensures { EndsOrWants (asked_text tables loaded.now.names loaded.now.program.file
         (session_of (meaning (script_of_loaded loaded.now))))
         (change O.held O.faults out.old out.new) result }
@@ -48,7 +49,7 @@ fn write_answers<O: Sink>(alloc: Global, loaded: &Loaded, served: &Served, out: 
     requires can { CanServe loaded.now }
     requires served { AreServed (meaning (script_of_loaded loaded.now))
         (meaning (script_of_loaded loaded.now)).requests served.now.replies.items
-        (held served.now.tables.parts.items) }
+        served.now.tables }
     ensures { EndsOrWants (asked_text false loaded.now.names loaded.now.program.file
         (session_of (meaning (script_of_loaded loaded.now))))
         (change O.held O.faults out.old out.new) result }
@@ -70,7 +71,7 @@ fn write_finals<O: Sink>(alloc: Global, loaded: &Loaded, served: &Served, out: &
     requires can { CanServe loaded.now }
     requires served { AreServed (meaning (script_of_loaded loaded.now))
         (meaning (script_of_loaded loaded.now)).requests served.now.replies.items
-        (held served.now.tables.parts.items) }
+        served.now.tables }
     ensures { EndsOrWants (asked_text true loaded.now.names loaded.now.program.file
         (session_of (meaning (script_of_loaded loaded.now))))
         (change O.held O.faults out.old out.new) result }
@@ -78,13 +79,21 @@ fn write_finals<O: Sink>(alloc: Global, loaded: &Loaded, served: &Served, out: &
     let Ok(mut buffer) = WriteBuffer::new(alloc) else {
         return Status::NoMemory;
     };
-    let most = most_entries(served.tables.parts.as_slice());
+    let parts = served.tables.parts();
+    let most = most_entries(parts);
     let Ok(mut entries) = Vec::with_capacity(alloc, most as usize) else {
         return Status::NoMemory;
     };
     let decls = loaded.program.checked().file().tables.as_slice();
-    let tables = &served.tables;
-    if write_tables(out, decls, tables, &loaded.names, &mut entries, &mut buffer) {
+    let tables = Listing { parts };
+    if write_tables(
+        out,
+        decls,
+        &tables,
+        &loaded.names,
+        &mut entries,
+        &mut buffer,
+    ) {
         Status::Fine
     } else {
         Status::WriteFault

@@ -1,5 +1,5 @@
 -- The kept tables, one of them read or written back.
-use Rattle.std.proofs.Common.{◌≡◌, ℕ, zero, suc, ◌+◌, ◌<◌, length, get_or, arith, List, [], ◌∷◌, ◌++◌, map, Some, refl, sym, ap, ◌∙◌, subst, slice_get, take, OnOk, OnErr, Result, Ok, Err}
+use Rattle.std.proofs.Common.{◌≡◌, ℕ, zero, suc, ◌+◌, ◌<◌, length, get_or, arith, List, [], ◌∷◌, ◌++◌, map, Some, refl, sym, ap, ◌∙◌, subst, slice_get, take}
 use Rattle.std.proofs.Math.ListN.{set}
 use Rattle.std.proofs.lemmas.List.{length-map, map-append, take_more}
 use Rattle.std.proofs.lemmas.Option.{slice_get_within}
@@ -7,9 +7,9 @@ use Rattle.session_values.specs.declared.kind.TableKind.{TableKind}
 use Rattle.session_values.specs.declared.op.Op.{Op}
 use Rattle.session_values.specs.Kinds.{home}
 use Rattle.session_values.specs.Tables.{Tables, start, empty_of, table, reply, reply_on, step, after_on, kind_of}
+use Rattle.session_values.proofs.KindLemmas.{set-table}
 use Rattle.plain_tables.specs.declared.table.Table.{Table}
 use Rattle.plain_tables.specs.Containers.{container_of, tables_of}
-use Rattle.session_values.proofs.Puts.{kind_after}
 
 -- one more empty table
 start-push : (shape : List TableKind) (kind : TableKind) → start (shape ++ kind ∷ []) ≡ start shape ++ empty_of kind ∷ []
@@ -32,25 +32,6 @@ tables_of-set : (ts : List Table) (i : ℕ) (t : Table) → tables_of (set ts i 
 tables_of-set [] i t = refl
 tables_of-set (x ∷ ts) zero t = refl
 tables_of-set (x ∷ ts) (suc i) t = ap (λ all. container_of x ∷ all) (tables_of-set ts i t)
-
-set-table : (all : Tables) (i : ℕ) → i < length all → set all i (table all i) ≡ all
-set-table [] i h = refl
-set-table (c ∷ all) zero h = refl
-set-table (c ∷ all) (suc i) h = ap (λ cs. c ∷ cs) (set-table all i (omega (arith, h)))
-
-kinds-after : (all : Tables) (i : ℕ) (op : Op) → map kind_of (set all i (after_on (table all i) op)) ≡ map kind_of all
-kinds-after [] i op = refl
-kinds-after (c ∷ all) zero op = ap (λ kind. kind ∷ map kind_of all) (kind_after c op)
-kinds-after (c ∷ all) (suc i) op = ap (λ kinds. kind_of c ∷ kinds) (kinds-after all i op)
-
--- an operation leaves the kinds as they were
-pub kinds-step : (all : Tables) (op : Op) → map kind_of (step all op) ≡ map kind_of all
-unfolding step
-kinds-step all op = kinds-after all op.table op
-
-pub kinds_kept : {A E : Type 0} (r : Result A E) (all now : Tables) (op : Op) → OnOk r (now ≡ step all op) → OnErr r (now ≡ all) → map kind_of now ≡ map kind_of all
-kinds_kept (Ok _) all now op after same = ap (map kind_of) after ∙ kinds-step all op
-kinds_kept (Err _) all now op after same = ap (map kind_of) same
 
 -- a table that has a kind exists
 exists : (ts : List Table) (all : Tables) (i : ℕ) (op : Op) → tables_of ts ≡ all → i ≡ op.table → slice_get (map kind_of all) op.table ≡ Some (home op.kind) → i < length ts

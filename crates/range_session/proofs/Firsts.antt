@@ -1,11 +1,12 @@
 -- The first symbol, and the least hold, with which an operation doesn't commute.
 use Rattle.std.proofs.Common.{◌≡◌, ℕ, zero, suc, ◌<◌, List, [], ◌∷◌, Bool, true, false, length, take, get_or, Option, refl, sym, subst, arith}
+use Rattle.std.proofs.lemmas.Bool.{both_ways}
 use Rattle.std.specs.Bool.{Decides}
 use Rattle.std.specs.List.{AllByRecursion}
 use Rattle.session_values.specs.declared.kind.Kind.{Kind}
 use Rattle.session_values.specs.declared.kind.TableKind.TheVariants.{Map}
 use Rattle.session_values.specs.Kinds.{home, is_on_map}
-use Rattle.commute_tables.proofs.OnMap.{told_on_map}
+use Rattle.range_tables.proofs.OnMap.{told_on_map}
 use Rattle.range_tables.specs.declared.range_op.RangeOp.{RangeOp}
 use Rattle.range_tables.specs.declared.range_symbol.RangeSymbol.{RangeSymbol}
 use Rattle.range_tables.specs.declared.range_symbol.RangeSymbol.TheVariants.{Plain, Span, Within}
@@ -33,10 +34,7 @@ first_at op (x ∷ xs) zero y l e a n = λ k. n (subst (RangeCommutesWith op) (s
 first_at op (x ∷ xs) (suc i) y l e a n = (a.0, first_at op xs i y (omega (arith, l)) e a.1 n)
 
 pub against_at : (op : RangeOp) (xs : List RangeSymbol) (i : ℕ) (y : RangeSymbol) (r : Bool) → i < length xs → y ≡ get_or xs i y → AllByRecursion (RangeCommutesWith op) (take i xs) → Decides r (RangeCommutesWith op y) → r ≡ false → IsFirstAgainst op xs i
-against_at op xs i y r l e a d f = first_at op xs i y l e a (λ k. both r (d.1 k) f)
-  where
-    both : (b : Bool) → b ≡ true → b ≡ false → ⊥
-    both b p q = cc
+against_at op xs i y r l e a d f = first_at op xs i y l e a (λ k. both_ways r f (d.1 k))
 
 pub delayed_at : (op : RangeOp) (holds : Holds) (h i : ℕ) (y : Option (List RangeSymbol)) → h < length holds → y ≡ get_or holds h y → AllByRecursion (Passes op) (take h holds) → Delays op y i → IsDelayed op holds h i
 delayed_at op [] h i y l e a n = absurd (omega (arith, l))

@@ -7,7 +7,7 @@ use Rattle.session_values.specs.declared.value.Value.{Value}
 use Rattle.session_values.specs.Values.{value_cmp}
 use Rattle.session_values.specs.Tables.{Container, empty_of, size_of}
 use Rattle.session_values.specs.declared.kind.TableKind.TheVariants.{Map}
-use Rattle.shard_tables.specs.Shards.{MapView, ShardView, map_shard}
+use Rattle.range_tables.specs.Shards.{MapView, ShardView, map_shard}
 use Rattle.text_lines.specs.Text.{Text}
 use Rattle.text_lines.specs.Rows.{Row}
 use Rattle.range_session.specs.declared.refusal.RangeRefusal.{RangeRefusal}

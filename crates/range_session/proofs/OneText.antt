@@ -1,5 +1,6 @@
 -- A text of lines writes one text at most.
 use Rattle.std.proofs.Common.{◌≡◌, ℕ, zero, suc, List, [], ◌∷◌, ◌++◌, Option, Some, None, Result, Ok, Err, ◌⊎◌, inl, inr, refl, sym, ap, ◌∙◌, subst}
+use Rattle.std.proofs.lemmas.Option.{none-some}
 use Rattle.std.specs.List.{AllByRecursion}
 use Rattle.session_values.specs.Tables.{Tables}
 use Rattle.range_tables.specs.declared.range_op.RangeOp.{RangeOp}
@@ -96,7 +97,4 @@ pub one_text : (input t u : Text) → IsRangesText input t → IsRangesText inpu
 one_text input t u a b = tells_one (names_of input) (rows_of input) first_desk t u a.tells b.tells
 
 pub fine_text : (input t : Text) (e : RangeRefusal) → IsRangesText input t → text_fault input ≡ Some e → ⊥
-fine_text input t e a f = none_some e (sym a.fine ∙ f)
-  where
-    none_some : (e : RangeRefusal) → ◌≡◌ {A = Option RangeRefusal} None (Some e) → ⊥
-    none_some e p = cc
+fine_text input t e a f = none-some e (sym a.fine ∙ f)

@@ -1,11 +1,11 @@
 -- What steps leave of a desk.
-use Rattle.std.proofs.Common.{◌≡◌, ℕ, zero, suc, ℤ, ◌+◌, ◌<◌, ◌≤◌, Bool, true, false, ◌&&◌, eqb, List, [], ◌∷◌, ◌++◌, set, Some, None, inl, inr, refl, sym, ap, arith, append-nil}
+use Rattle.std.proofs.Common.{◌≡◌, ℕ, zero, suc, ℤ, ◌+◌, ◌<◌, ◌≤◌, ◌&&◌, eqb, List, [], ◌∷◌, ◌++◌, set, Some, None, inl, inr, refl, sym, ap, arith, append-nil}
 use Rattle.std.specs.List.{AllByRecursion}
 use Rattle.session_values.specs.declared.value.Value.{Value}
 use Rattle.session_values.specs.Kinds.{is_adding}
 use Rattle.session_values.specs.Tables.{Tables, Container, size_of, step, table}
-use Rattle.session_values.proofs.Sizes.{one_if, step_few}
-use Rattle.shard_tables.specs.Shards.{MapView, ShardView, map_shard}
+use Rattle.session_values.proofs.Sizes.{one_if, step_few, one_most}
+use Rattle.range_tables.specs.Shards.{MapView, ShardView, map_shard}
 use Rattle.range_tables.specs.declared.range_op.RangeOp.{RangeOp}
 use Rattle.range_tables.specs.declared.range_op.RangeOp.TheVariants.{Plain, Between}
 use Rattle.range_tables.specs.declared.range_symbol.RangeSymbol.{RangeSymbol}
@@ -22,10 +22,6 @@ pub has_room : (op : RangeOp) (s : ShardView) → size_of s.container < s.room �
 has_room (Plain op) s l = λ a b. l
 has_room (Between i low high) s l = tt
 
-one_few : (b : Bool) → one_if b ≤ 1
-one_few true = omega arith
-one_few false = omega arith
-
 first : Tables → ℕ
 first ts = size_of (table ts 0)
 
@@ -34,7 +30,7 @@ unfolding range_step
 size_after c d (Plain op) e =
     let few : size_of (table (step (c ∷ []) op) 0) ≤ size_of c + one_if (is_adding op.kind && eqb op.table 0) = step_few (c ∷ []) op 0 in
     let same : size_of d ≡ size_of (table (step (c ∷ []) op) 0) = ap (λ (ts : Tables). size_of (table ts 0)) e in
-    omega (arith, few, same, one_few (is_adding op.kind && eqb op.table 0))
+    omega (arith, few, same, one_most (is_adding op.kind && eqb op.table 0))
 size_after c d (Between i low high) e = let same : size_of d ≡ size_of c = ap (λ (ts : Tables). size_of (table ts 0)) e in omega (arith, same)
 
 module _ (names : List Text) (m n : MapView) (holds : Holds) (asked : ℕ) (before after : Text) where

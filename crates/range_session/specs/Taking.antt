@@ -1,6 +1,6 @@
 -- What taking a step does to what a session holds. Only this crate's own functions cite it.
 use Rattle.std.specs.Prelude.{◌≡◌, ℕ, List, [], ◌∷◌, ◌++◌, Ok, map}
-use Rattle.shard_tables.specs.Shards.{MapView, map_shard}
+use Rattle.range_tables.specs.Shards.{MapView, map_shard}
 use Rattle.text_lines.specs.Text.{Text}
 use Rattle.range_session.specs.declared.step.Step.{Step}
 use Rattle.range_session.specs.Faults.{Holds}

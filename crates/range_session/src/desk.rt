@@ -3,7 +3,7 @@
 ghost use Rattle.std.specs.Prelude.{◌≡◌, ◌<◌, ◌+◌, ◌≤◌, [], ◌∷◌, ◌++◌, OnOk, IfOk};
 ghost use Rattle.std.specs.List.{AllByRecursion};
 ghost use Rattle.session_values.specs.Tables.{size_of};
-ghost use Rattle.shard_tables.specs.Shards.{map_shard};
+ghost use Rattle.range_tables.specs.Shards.{map_shard};
 ghost use Rattle.range_tables.specs.Tables.{IsOnFirst};
 ghost use Rattle.range_session.specs.Faults as faults;
 ghost use Rattle.range_session.specs.Ready.{IsReadyHold, IsReadyStep};

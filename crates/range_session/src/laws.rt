@@ -1,7 +1,7 @@
 //! Laws of range sessions: each is the contract of a function with an empty body.
 
 ghost use Rattle.std.specs.Prelude.{◌≡◌, ◌≤◌, List, ℕ, None, Some, length};
-ghost use Rattle.session_limits.specs.Limits.{max_input};
+ghost use Rattle.session_values.specs.Limits.{max_input};
 ghost use Rattle.range_session.specs.Faults.{text_fault};
 ghost use Rattle.range_session.specs.Session.{IsRangesText};
 ghost use Rattle.range_session.specs.declared.refusal.RangeRefusal.{RangeRefusal};

@@ -2,9 +2,9 @@
 
 ghost use Rattle.std.specs.Prelude.{◌≡◌, ◌≢◌, ◌<◌, ◌≤◌, ◌+◌, length, map, Some, None, Ok, IfOk, OnOk};
 ghost use Rattle.std.specs.List.{AllByRecursion};
-ghost use Rattle.session_limits.specs.Limits.{max_input};
+ghost use Rattle.session_values.specs.Limits.{max_input};
 ghost use Rattle.session_values.specs.Tables.{size_of};
-ghost use Rattle.shard_tables.specs.Shards.{map_shard};
+ghost use Rattle.range_tables.specs.Shards.{map_shard};
 ghost use Rattle.text_lines.specs.Text.{words as words_of};
 ghost use Rattle.range_session.specs.Faults as spec;
 ghost use Rattle.range_session.specs.Ready.{IsReadyHold};

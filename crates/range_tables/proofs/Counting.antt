@@ -2,6 +2,7 @@
 use Rattle.std.proofs.Common.{◌≡◌, ℕ, ℤ, pos, ◌≢◌, length, inl, inr, Bool, true, false, not, ◌||◌, eqb, refl, sym, ◌∙◌, ap, subst, arith}
 use Rattle.std.proofs.lemmas.List.{get_or-set_other}
 use Rattle.std.proofs.lemmas.Bool.Decides.{nat_tests}
+use Rattle.std.proofs.lemmas.Bool.{eqb-true, not-true, cases_lt}
 use Rattle.std.specs.FinMap as map
 use Rattle.session_values.specs.declared.kind.Kind.{Kind}
 use Rattle.session_values.specs.declared.kind.Kind.TheVariants.{Get, Put, Swap, Del, Size, Bump, Has, Add, Mark, Drop, Count}
@@ -14,8 +15,8 @@ use Rattle.session_values.specs.Kinds.{is_on_map}
 use Rattle.session_values.specs.Tables.{Tables, Container, Bindings, Members, empty_of, table, step, after_on, map_after, size_of}
 use Rattle.session_values.proofs.Bumps.{bound_to-same}
 use Rattle.commute_tables.specs.Relation.{is_number}
-use Rattle.commute_tables.proofs.Commutes.{commutes-Commute, not_true}
-use Rattle.commute_tables.proofs.OneTable.{lt_or, step_at, table_after, past_after}
+use Rattle.commute_tables.proofs.Commutes.{commutes-Commute}
+use Rattle.commute_tables.proofs.OneTable.{step_at, table_after, past_after}
 use Rattle.session_values.specs.Commuting.{Swaps, Commute}
 use Rattle.shard_tables.proofs.PartSteps.{part_stays}
 use Rattle.range_tables.specs.declared.range_op.RangeOp.{RangeOp}
@@ -62,27 +63,24 @@ same_count (Bindings m) op low high h = on (is_on_map op.kind) (changes_nothing 
     on : (x y : Bool) → is_on_map op.kind ≡ x → changes_nothing op.kind (is_number op.value) ≡ y → (not x || y || not (is_between low high op.key)) ≡ true → between_on low high (Bindings (map_after m op.kind op.key op.value)) ≡ between_on low high (Bindings m)
     on false y e f g = ap (λ (n : map.FinMap value_cmp Value). between_on low high (Bindings n)) (set_silent m op.kind op.key op.value e)
     on true true e f g = ap (λ (n : map.FinMap value_cmp Value). between_on low high (Bindings n)) (idle m op.kind op.key op.value f)
-    on true false e f g = ap (λ (c : Container). Num (pos (size_of c))) (part_stays (is_between low high) (Bindings m) op (not_true (is_between low high op.key) g))
+    on true false e f g = ap (λ (c : Container). Num (pos (size_of c))) (part_stays (is_between low high) (Bindings m) op (not-true (is_between low high op.key) g))
 
 -- what keeps a count at tables
 pub count_stays : (ts : Tables) (op : Op) (i : ℕ) (low high : ℤ) → commutes_count op (eqb op.table i) low high ≡ true → between_on low high (table (step ts op) i) ≡ between_on low high (table ts i)
 unfolding step
 count_stays ts op i low high h = by_table (eqb op.table i) refl h
   where
-    same_table : (x y : ℕ) → eqb x y ≡ true → x ≡ y
-    same_table x y e = grind (arith, nat_tests)
-
     other_table : (x y : ℕ) → eqb x y ≡ false → y ≢ x
     other_table x y e = grind (arith, nat_tests)
 
     here : (not (is_on_map op.kind) || changes_nothing op.kind (is_number op.value) || not (is_between low high op.key)) ≡ true → between_on low high (table (step_at op.table ts op) op.table) ≡ between_on low high (table ts op.table)
-    here g = elim (lt_or op.table (length ts)) [
+    here g = elim (cases_lt op.table (length ts)) [
       | inl l ↦ ap (between_on low high) (table_after op.table ts op l) ∙ same_count (table ts op.table) op low high g
       | inr l ↦ ap (λ (us : Tables). between_on low high (table us op.table)) (past_after op.table ts op l)
     ]
 
     by_table : (b : Bool) → eqb op.table i ≡ b → (not b || not (is_on_map op.kind) || changes_nothing op.kind (is_number op.value) || not (is_between low high op.key)) ≡ true → between_on low high (table (step_at op.table ts op) i) ≡ between_on low high (table ts i)
-    by_table true e g = let P : ℕ → Type 0 = λ j. between_on low high (table (step_at op.table ts op) j) ≡ between_on low high (table ts j) in subst P (same_table op.table i e) (here g)
+    by_table true e g = let P : ℕ → Type 0 = λ j. between_on low high (table (step_at op.table ts op) j) ≡ between_on low high (table ts j) in subst P (eqb-true op.table i e) (here g)
     by_table false e g = ap (between_on low high) (get_or-set_other ts op.table i (after_on (table ts op.table) op) (empty_of Map) (other_table op.table i e))
 
 pub count_beside : (op : Op) (i : ℕ) (low high : ℤ) → commutes_count op (eqb op.table i) low high ≡ true → RangeCommute (Plain op) (Between i low high)

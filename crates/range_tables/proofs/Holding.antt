@@ -2,6 +2,7 @@
 use Rattle.std.proofs.Common.{◌≡◌, ℕ, ℤ, zero, suc, ◌+◌, ◌-◌, ◌<◌, ◌≤◌, List, [], ◌∷◌, length, Option, Some, None, is_some, Bool, true, false, cond, set, refl, sym, ◌∙◌, ap, subst, arith}
 use Rattle.std.proofs.lemmas.Int.{ints}
 use Rattle.std.proofs.lemmas.List.Sums.{sum_by-cons}
+use Rattle.std.proofs.lemmas.Bool.{both_ways}
 use Rattle.std.specs.List.{count_by}
 use Rattle.std.specs.FinMap as map
 use Rattle.session_values.specs.declared.kind.Kind.{Kind}
@@ -59,10 +60,7 @@ kept_some p m k c e = go (map.len (map.retain_keys m p)) refl
     there = ap (λ (o : Option Value). is_some o) (get_kept p m k ∙ ap (λ (b : Bool). cond b (map.get m k) None) e) ∙ c
 
     go : (n : ℕ) → map.len (map.retain_keys m p) ≡ n → 0 < map.len (map.retain_keys m p)
-    go zero q = absurd (both_ways (map.contains_key (map.retain_keys m p) k) there (ap (λ (n : TheMap). map.contains_key n k) (map.empty_of_len (map.retain_keys m p) q) ∙ ap (λ (o : Option Value). is_some o) (map.get-empty {X = Value} value_cmp k)))
-      where
-        both_ways : (b : Bool) → b ≡ true → b ≡ false → ⊥
-        both_ways b x y = cc
+    go zero q = absurd (both_ways (map.contains_key (map.retain_keys m p) k) (ap (λ (n : TheMap). map.contains_key n k) (map.empty_of_len (map.retain_keys m p) q) ∙ ap (λ (o : Option Value). is_some o) (map.get-empty {X = Value} value_cmp k)) there)
     go (suc n) q = omega (arith, q)
 
 -- no more keys pass than there are

@@ -2,7 +2,7 @@
 use Rattle.std.proofs.Common.{◌≡◌, ℕ, ℤ, ◌<◌, ◌≤ℤ◌, int_le, inl, inr, Bool, true, false, cond, not, ◌&&◌, ◌||◌, eqb, ltb, refl, sym, ◌∙◌, ap, subst, arith, pos, lit<}
 use Rattle.std.specs.Bool.{MatchBool, Decides}
 use Rattle.std.proofs.lemmas.Int.{ints}
-use Rattle.std.proofs.lemmas.Bool.{or_cases, or_left, or_right}
+use Rattle.std.proofs.lemmas.Bool.{or_cases, or_left, or_right, not-true, or_parts, not-false, both_ways}
 use Rattle.std.proofs.lemmas.Bool.Decides.{nat_tests, same_from_decides}
 use Rattle.session_values.specs.declared.kind.Kind.{Kind}
 use Rattle.session_values.specs.declared.kind.Kind.TheVariants.{Get, Put, Swap, Del, Size, Bump, Has, Add, Mark, Drop, Count}
@@ -19,9 +19,10 @@ use Rattle.symbolic_ops.specs.declared.symbol.Symbol.{Symbol}
 use Rattle.symbolic_ops.specs.Symbol.{IsHeldArg, IsHeldSymbol}
 use Rattle.symbolic_ops.specs.Matching.{StandsFor, Agrees, IsNoVar, HasNoVar}
 use Rattle.commute_tables.specs.Relation.{add_up, same_bool, commutes, commutes_symbol, is_bump, is_number, is_zero, may_be_number}
-use Rattle.commute_tables.specs.Symbols.{CommutesWith, DiffersFromSome}
-use Rattle.commute_tables.proofs.Commutes.{not_true, commutes-Commute}
-use Rattle.commute_tables.proofs.TellingApart.{or_false, not_false, Decides-commute}
+use Rattle.commute_tables.specs.Symbols.{DiffersFromSome}
+use Rattle.symbolic_ops.specs.Commuting.{CommutesWith}
+use Rattle.commute_tables.proofs.Commutes.{commutes-Commute}
+use Rattle.commute_tables.proofs.TellingApart.{Decides-commute}
 use Rattle.commute_tables.proofs.AgainstSymbols.{symbol_commutes, symbol_differs, Decides-commute_symbol, and_three}
 use Rattle.range_tables.specs.declared.range_op.RangeOp.{RangeOp}
 use Rattle.range_tables.specs.declared.range_op.RangeOp.TheVariants.{Plain, Between}
@@ -34,11 +35,9 @@ use Rattle.range_tables.specs.Symbols.{IsInSpan, IsWithin, RangeStandsFor, Range
 use Rattle.range_tables.proofs.Counting.{count_beside, plain_beside, plain_only, turned, counts_beside}
 use Rattle.range_tables.proofs.Telling.{commutes-RangeDiffer, plain_differ, count_not_commute}
 use Rattle.session_values.proofs.Equal.{same_value}
+use Rattle.session_values.proofs.Numbers.{below_two}
 
 -- ---- numbers in ranges
-both_ways : (b : Bool) → b ≡ true → b ≡ false → ⊥
-both_ways b p q = cc
-
 lowest_in : (low high : ℤ) → int_le low high ≡ true → is_between low high (Num low) ≡ true
 lowest_in low high h = grind (arith, ints)
 
@@ -81,9 +80,6 @@ nil_value (Sym p) e = cc
 is_nil-nil : (v : Value) → v ≡ Nil → is_nil v ≡ true
 is_nil-nil v e = ap is_nil e
 
-one_argument : (n : ℕ) → ltb 1 n ≡ false → n < 2
-one_argument n e = grind (arith, nat_tests)
-
 two_arguments : (n : ℕ) → n < 2 → ltb 1 n ≡ false
 two_arguments n l = grind (arith, nat_tests)
 
@@ -107,7 +103,7 @@ module _ (kind : Kind) (value : Arg) where
     where
       go : (t : Bool) → ltb 1 (arguments kind) ≡ t → Agrees (cond t value (Known Nil)) b.value
       go true e = g
-      go false e = sym (h.unused.1 (let l : arguments kind < 2 = one_argument (arguments kind) e in let P : Kind → Type 0 = λ x. arguments x < 2 in subst P k l))
+      go false e = sym (h.unused.1 (let l : arguments kind < 2 = below_two (arguments kind) e in let P : Kind → Type 0 = λ x. arguments x < 2 in subst P k l))
 
   -- an operation of the kind whose value agrees shows that there is one
   shows_value : (b : Op) → kind ≡ b.kind → IsHeld b → Agrees value b.value → has_value kind value ≡ true
@@ -118,7 +114,7 @@ module _ (kind : Kind) (value : Arg) where
         where
           by : (t : Bool) → ltb 1 (arguments kind) ≡ t → (t || is_nil v) ≡ true
           by true e = refl
-          by false e = is_nil-nil v (g ∙ h.unused.1 (let l : arguments kind < 2 = one_argument (arguments kind) e in let P : Kind → Type 0 = λ x. arguments x < 2 in subst P k l))
+          by false e = is_nil-nil v (g ∙ h.unused.1 (let l : arguments kind < 2 = below_two (arguments kind) e in let P : Kind → Type 0 = λ x. arguments x < 2 in subst P k l))
       go (Var x) g = absurd g
       go Any g = refl
 
@@ -229,7 +225,7 @@ module _ (a : Op) (kind : Kind) (i : ℕ) (low high : ℤ) (value : Arg) (ha : I
           go true f =
               let same : a.key ≡ b.key = same_value a.key b.key f in
               let near : nearest low high a.key ≡ a.key = nearest_is low high a.key (ap (is_between low high) same ∙ st.key) in
-              absurd (both_ways (value_eq (nearest low high a.key) b.key) (ap (λ (v : Value). value_eq v b.key) near ∙ f) e)
+              absurd (both_ways (value_eq (nearest low high a.key) b.key) e (ap (λ (v : Value). value_eq v b.key) near ∙ f))
           go false f = f
 
       by_kind : (t : Bool) → is_keyed a.kind ≡ t → value_eq (nearest low high a.key) b.key ≡ false → Commute a b
@@ -247,8 +243,8 @@ module _ (a : Op) (kind : Kind) (i : ℕ) (low high : ℤ) (value : Arg) (ha : I
       of_one : (b : Op) → IsInSpan kind i low high value b → commutes_symbol a single ≡ true
       of_one b st = elim (or_cases _ _ h) [
         | inl p ↦ elim (or_cases _ _ p) [
-          | inl q ↦ absurd (both_ways (int_le low high) (some_in low high b.key st.key) (not_true _ q))
-          | inr q ↦ absurd (both_ways (has_value kind value) (shows_value kind value b st.kind_is st.held st.agrees) (not_true _ q))
+          | inl q ↦ absurd (both_ways (int_le low high) (not-true _ q) (some_in low high b.key st.key))
+          | inr q ↦ absurd (both_ways (has_value kind value) (not-true _ q) (shows_value kind value b st.kind_is st.held st.agrees))
         ]
         | inr p ↦ p
       ]
@@ -269,12 +265,12 @@ module _ (a : Op) (kind : Kind) (i : ℕ) (low high : ℤ) (value : Arg) (ha : I
   span_differs : range_commutes_symbol (Plain a) (Span kind i low high value) ≡ false → RangeDiffersFromSome (Plain a) (Span kind i low high value)
   unfolding single
   span_differs h =
-      let p : ((not (int_le low high) || not (has_value kind value)) ≡ false) × (commutes_symbol a single ≡ false) = or_false _ _ h in
-      let q : (not (int_le low high) ≡ false) × (not (has_value kind value) ≡ false) = or_false _ _ p.0 in
+      let p : ((not (int_le low high) || not (has_value kind value)) ≡ false) × (commutes_symbol a single ≡ false) = or_parts _ _ h in
+      let q : (not (int_le low high) ≡ false) × (not (has_value kind value) ≡ false) = or_parts _ _ p.0 in
       let d : DiffersFromSome a single = symbol_differs a single single_no_var ha single_held p.1 in
       record {
         op = Plain d.op;
-        stands = in_span d.op (not_false _ q.0) (not_false _ q.1) d.stands;
+        stands = in_span d.op (not-false _ q.0) (not-false _ q.1) d.stands;
         differ = plain_differ a d.op ha.key d.stands.held.key d.differ;
       }
 
@@ -283,7 +279,7 @@ wider : (x p q : Bool) → (q ≡ true → p ≡ true) → (x || not p) ≡ true
 wider true p q f h = refl
 wider false true true f h = cc
 wider false true false f h = refl
-wider false false true f h = absurd (both_ways false (f refl) refl)
+wider false false true f h = absurd (both_ways false refl (f refl))
 wider false false false f h = refl
 
 abbrev front : Op → Bool → Bool
@@ -428,7 +424,7 @@ symbol_beside j l h s e = record { each = each }
 
 symbol_nearest : (j : ℕ) (l h : ℤ) (s : Symbol) → HasNoVar s → AreEnds l h → IsHeldSymbol s → range_commutes_symbol (Between j l h) (PlainSymbol s) ≡ false → Nearest j l h (PlainSymbol s)
 symbol_nearest j l h s nv ends hs e =
-    let p : (front_of s.kind (eqb s.table j) (may_be_number s.value) ≡ false) × (not (meets l h s.key) ≡ false) = or_false _ _ e in
+    let p : (front_of s.kind (eqb s.table j) (may_be_number s.value) ≡ false) × (not (meets l h s.key) ≡ false) = or_parts _ _ e in
     let held : IsHeld (record { kind = s.kind; table = s.table; key = key_for l s.key; value = some_value s.value }) = record {
       key = key_held l s.key ends.0 hs.key;
       value = value_held s.value hs.value;
@@ -438,7 +434,7 @@ symbol_nearest j l h s nv ends hs e =
       op = record { kind = s.kind; table = s.table; key = key_for l s.key; value = some_value s.value };
       stands = record { held = held; kind = refl; table = refl; key = key_agrees l s.key nv.0; value = value_agrees s.value nv.1 };
       held = held;
-      against = neither (front_of s.kind (eqb s.table j) (is_number (some_value s.value))) (is_between l h (key_for l s.key)) (ap (front_of s.kind (eqb s.table j)) (some_number s.value) ∙ p.0) (key_met l h s.key (not_false _ p.1));
+      against = neither (front_of s.kind (eqb s.table j) (is_number (some_value s.value))) (is_between l h (key_for l s.key)) (ap (front_of s.kind (eqb s.table j)) (some_number s.value) ∙ p.0) (key_met l h s.key (not-false _ p.1));
     }
   where
     neither : (x y : Bool) → x ≡ false → y ≡ true → (x || not y) ≡ false
@@ -486,16 +482,16 @@ module _ (j : ℕ) (l h : ℤ) (kind : Kind) (i : ℕ) (low high : ℤ) (value :
             | inl r ↦ or_left _ _ (or_left _ _ (or_left _ _ (let P : ℕ → Type 0 = λ n. not (eqb n j) ≡ true in subst P st.table r)))
             | inr r ↦ or_left _ _ (or_right _ _ (still_nothing b.kind value b.value st.agrees (ap (λ (x : Kind). changes_nothing x (may_be_number value)) (sym st.kind_is) ∙ r)))
           ]
-          | inr q ↦ absurd (both_ways (has_value kind value) (shows_value kind value b st.kind_is st.held st.agrees) (not_true _ q))
+          | inr q ↦ absurd (both_ways (has_value kind value) (not-true _ q) (shows_value kind value b st.kind_is st.held st.agrees))
         ]
-        | inr p ↦ or_right _ _ (apart b st (not_true _ p))
+        | inr p ↦ or_right _ _ (apart b st (not-true _ p))
       ]
         where
           apart : (b : Op) → IsInSpan kind i low high value b → ranges_meet low high l h ≡ false → not (is_between l h b.key) ≡ true
           apart b st f = go (is_between l h b.key) refl
             where
               go : (t : Bool) → is_between l h b.key ≡ t → not t ≡ true
-              go true g = absurd (both_ways (ranges_meet low high l h) (meet_at low high l h b.key st.key g) f)
+              go true g = absurd (both_ways (ranges_meet low high l h) f (meet_at low high l h b.key st.key g))
               go false g = refl
 
       each : (b : RangeOp) → RangeStandsFor (Span kind i low high value) b → RangeCommute (Between j l h) b
@@ -504,10 +500,10 @@ module _ (j : ℕ) (l h : ℤ) (kind : Kind) (i : ℕ) (low high : ℤ) (value :
 
   span_nearest : AreEnds l h → AreEnds low high → IsHeldArg value → range_commutes_symbol (Between j l h) (Span kind i low high value) ≡ false → Nearest j l h (Span kind i low high value)
   span_nearest ends own hv e =
-      let p : ((not (eqb i j) || changes_nothing kind (may_be_number value) || not (has_value kind value)) ≡ false) × (not (ranges_meet low high l h) ≡ false) = or_false _ _ e in
-      let q : ((not (eqb i j) || changes_nothing kind (may_be_number value)) ≡ false) × (not (has_value kind value) ≡ false) = or_false _ _ p.0 in
-      let r : (not (eqb i j) ≡ false) × (changes_nothing kind (may_be_number value) ≡ false) = or_false _ _ q.0 in
-      let meet : ranges_meet low high l h ≡ true = not_false _ p.1 in
+      let p : ((not (eqb i j) || changes_nothing kind (may_be_number value) || not (has_value kind value)) ≡ false) × (not (ranges_meet low high l h) ≡ false) = or_parts _ _ e in
+      let q : ((not (eqb i j) || changes_nothing kind (may_be_number value)) ≡ false) × (not (has_value kind value) ≡ false) = or_parts _ _ p.0 in
+      let r : (not (eqb i j) ≡ false) × (changes_nothing kind (may_be_number value) ≡ false) = or_parts _ _ q.0 in
+      let meet : ranges_meet low high l h ≡ true = not-false _ p.1 in
       let held : IsHeld (record { kind = kind; table = i; key = Num (higher low l); value = some_value (value_for kind value) }) = record {
         key = higher_held low l own.0 ends.0;
         value = value_held (value_for kind value) (held_for kind value hv);
@@ -515,7 +511,7 @@ module _ (j : ℕ) (l h : ℤ) (kind : Kind) (i : ℕ) (low high : ℤ) (value :
       } in
       record {
         op = record { kind = kind; table = i; key = Num (higher low l); value = some_value (value_for kind value) };
-        stands = record { held = held; kind_is = refl; table = refl; key = higher_first low high l h meet; agrees = agrees_more kind value (some_value (value_for kind value)) (not_false _ q.1) (value_agrees (value_for kind value) (no_var_for kind value nv)) };
+        stands = record { held = held; kind_is = refl; table = refl; key = higher_first low high l h meet; agrees = agrees_more kind value (some_value (value_for kind value)) (not-false _ q.1) (value_agrees (value_for kind value) (no_var_for kind value nv)) };
         held = held;
         against = none (not (eqb i j)) (not (is_on_map kind)) (changes_nothing kind (is_number (some_value (value_for kind value)))) (is_between l h (Num (higher low l))) r.0 (ap not m) (still_changes kind value r.1) (higher_second low high l h meet);
       }

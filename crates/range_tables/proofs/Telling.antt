@@ -4,7 +4,9 @@ use Rattle.std.specs.Prelude.{slice_get}
 use Rattle.std.specs.Bool.{MatchBool, Decides}
 use Rattle.std.proofs.Math.ListN.{set as put_at}
 use Rattle.std.proofs.lemmas.List.{get_or-set_same, map-set}
-use Rattle.std.proofs.lemmas.Bool.Decides.{nat_tests, same_from_decides}
+use Rattle.std.proofs.lemmas.Bool.Decides.{same_from_decides}
+use Rattle.std.proofs.lemmas.Bool.{eqb-true, true≢false, or_parts, not-false}
+use Rattle.std.proofs.lemmas.Option.{slice_get_within}
 use Rattle.std.specs.FinMap as map
 use Rattle.session_values.specs.declared.kind.Kind.{Kind}
 use Rattle.session_values.specs.declared.kind.Kind.TheVariants.{Get, Put, Swap, Del, Size, Bump, Has, Add, Mark, Drop, Count}
@@ -22,7 +24,7 @@ use Rattle.session_values.proofs.Starts.{kinds_of_start, start_length, values_of
 use Rattle.commute_tables.specs.Relation.{commutes, is_number}
 use Rattle.commute_tables.specs.ToldApart.{ToldApart, Differ}
 use Rattle.commute_tables.proofs.OneTable.{step_at, table_after}
-use Rattle.commute_tables.proofs.TellingApart.{commutes-Differ, Decides-commute, or_false, not_false, not_commute, set_there, there, last_of}
+use Rattle.commute_tables.proofs.TellingApart.{commutes-Differ, Decides-commute, not_commute, set_there, last_of}
 use Rattle.commute_tables.proofs.TellingApartPairs.{no_map, got, len_one, len_none, values_one}
 use Rattle.shard_tables.proofs.PartSteps.{part_after, none_in_empty_map}
 use Rattle.range_tables.specs.declared.range_op.RangeOp.{RangeOp}
@@ -32,6 +34,7 @@ use Rattle.range_tables.specs.Commuting.{RangeSwaps, RangeCommute, RangeToldApar
 use Rattle.range_tables.specs.Relation.{changes_nothing, commutes_count, range_commutes}
 use Rattle.range_tables.proofs.Counting.{commutes-RangeCommute, plain_only, plain_swaps, turned}
 use Rattle.session_values.proofs.Puts.{values_put}
+use Rattle.session_values.proofs.Numbers.{one_zero}
 
 -- a map on which an operation changes a count
 record Changes (op : Op) (low high : ℤ) : Type 0 where
@@ -70,9 +73,6 @@ numbers_apart m n e p q = one_zero (sym p ∙ inside m n e ∙ q)
     inside : (m n : ℕ) → ◌≡◌ {A = Value} (Num (pos m)) (Num (pos n)) → m ≡ n
     inside m n e = cc
 
-    one_zero : ◌≡◌ {A = ℕ} 1 0 → ⊥
-    one_zero e = omega arith
-
 binds_more : (kind : Kind) (i : ℕ) (k v : Value) (low high : ℤ) → map_after no_map kind k v ≡ map.insert no_map k v → is_between low high k ≡ true → Changes (op_of kind i k v) low high
 binds_more kind i k v low high is h = record {
   before = no_map;
@@ -108,7 +108,7 @@ told_count : (shape : List TableKind) (op : Op) (low high : ℤ) → slice_get s
 told_count shape op low high f l t =
     let c : Container = Bindings t.before in
     let ts : Tables = put_at (start shape) op.table c in
-    let r : op.table < length (start shape) = omega (arith, there shape op.table Map f, start_length shape) in
+    let r : op.table < length (start shape) = omega (arith, slice_get_within shape op.table Map f, start_length shape) in
     let q : op.table < length ts = omega (arith, r, length-set (start shape) op.table c) in
     let here : table ts op.table ≡ c = get_or-set_same (start shape) op.table c (empty_of Map) r in
     record {
@@ -138,13 +138,10 @@ record Against (op : Op) (i : ℕ) (low high : ℤ) : Type 0 where
 
 against : (op : Op) (i : ℕ) (low high : ℤ) → commutes_count op (eqb op.table i) low high ≡ false → Against op i low high
 against op i low high h =
-    let p : ((not (eqb op.table i) || not (is_on_map op.kind) || changes_nothing op.kind (is_number op.value)) ≡ false) × (not (is_between low high op.key) ≡ false) = or_false _ _ h in
-    let q : ((not (eqb op.table i) || not (is_on_map op.kind)) ≡ false) × (changes_nothing op.kind (is_number op.value) ≡ false) = or_false _ _ p.0 in
-    let r : (not (eqb op.table i) ≡ false) × (not (is_on_map op.kind) ≡ false) = or_false _ _ q.0 in
-    record { table = same op.table i (not_false _ r.0); on_map = not_false _ r.1; changing = q.1; key = not_false _ p.1 }
-  where
-    same : (x y : ℕ) → eqb x y ≡ true → x ≡ y
-    same x y e = grind (arith, nat_tests)
+    let p : ((not (eqb op.table i) || not (is_on_map op.kind) || changes_nothing op.kind (is_number op.value)) ≡ false) × (not (is_between low high op.key) ≡ false) = or_parts _ _ h in
+    let q : ((not (eqb op.table i) || not (is_on_map op.kind)) ≡ false) × (changes_nothing op.kind (is_number op.value) ≡ false) = or_parts _ _ p.0 in
+    let r : (not (eqb op.table i) ≡ false) × (not (is_on_map op.kind) ≡ false) = or_parts _ _ q.0 in
+    record { table = eqb-true op.table i (not-false _ r.0); on_map = not-false _ r.1; changing = q.1; key = not-false _ p.1 }
 
 count_differs : (op : Op) (i : ℕ) (low high : ℤ) → IsValue op.key → commutes_count op (eqb op.table i) low high ≡ false → RangeDiffer (Plain op) (Between i low high)
 count_differs op i low high l h =
@@ -182,10 +179,7 @@ pub range_not_commute : (a b : RangeOp) → IsHeldRange a → IsHeldRange b → 
 range_not_commute (Plain a) (Plain b) p q h k = not_commute a b p.value q.value h (plain_only a b k)
 range_not_commute (Plain a) (Between i low high) p q h k = count_not_commute a i low high p.key h k
 range_not_commute (Between i low high) (Plain b) p q h k = count_not_commute b i low high q.key h (turned (Between i low high) (Plain b) k)
-range_not_commute (Between i low high) (Between j l h) p q e k = absurd (both_ways e)
-  where
-    both_ways : true ≡ false → ⊥
-    both_ways e = cc
+range_not_commute (Between i low high) (Between j l h) p q e k = absurd (true≢false e)
 
 -- the test decides
 pub range_decided : (a b : RangeOp) (r : Bool) → IsHeldRange a → IsHeldRange b → r ≡ range_commutes a b → MatchBool r (RangeCommute a b) (RangeDiffer a b)

@@ -1,7 +1,7 @@
 // Tickets that repeat an operation.
 
 ghost use Rattle.std.specs.Prelude.{◌≡◌, ◌*◌, ◌-◌, ◌<◌, ◌≤◌, ◌++◌, ◌∷◌, [], length, IfOk};
-ghost use Rattle.session_limits.specs.Limits.{max_requests, max_session_calls, max_symbols};
+ghost use Rattle.session_values.specs.Limits.{max_requests, max_session_calls, max_symbols};
 ghost use Rattle.session_values.specs.Op.{IsHeld};
 ghost use Rattle.session_values.specs.Tables.{Fits};
 ghost use Rattle.session_journal.specs.Lists.{answers_only, last_ticket, ticket_at, with_last};

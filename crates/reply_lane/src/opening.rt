@@ -2,7 +2,7 @@
 
 ghost use Rattle.std.specs.Prelude.{◌≡◌, ◌≤◌, IfOk, length};
 ghost use Rattle.std.specs.List.{AllByRecursion};
-ghost use Rattle.session_limits.specs.Limits.{max_callers};
+ghost use Rattle.session_values.specs.Limits.{max_callers};
 ghost use Rattle.session_values.specs.Serial.{serial_replies};
 ghost use Rattle.session_journal.specs.Script.{session_of};
 ghost use Rattle.reply_lane.specs.Ends.{IsNewEnd};

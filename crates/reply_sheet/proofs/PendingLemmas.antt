@@ -1,7 +1,8 @@
 -- Replies that wait, as they are stored.
 use Rattle.std.proofs.Common.{◌≡◌, ℕ, zero, suc, ◌+◌, ◌-◌, ◌<◌, ◌≤◌, Bool, true, false, List, [], ◌∷◌, ◌++◌, Option, Some, None, is_some, drop, take, length, length-append, nat_lt, if◌then◌else◌, replicate, slice_index_or, slice_set, refl, sym, ap, ◌∙◌, arith}
-use Rattle.std.proofs.lemmas.Bool.Decides.{nat_tests}
 use Rattle.std.proofs.lemmas.List.{drop-set-add, length-drop}
+use Rattle.std.proofs.lemmas.Bool.{le-ltb}
+use Rattle.std.proofs.Math.Seq.{take-nil}
 use Rattle.session_values.specs.declared.reply.Reply.{Reply}
 use Rattle.reply_sheet.specs.Pending.{PendingView, waiting_of, with_kept, with_reply}
 
@@ -26,10 +27,6 @@ nothing_more (suc n) (suc room) h =
     let e : suc room - suc n ≡ room - n = omega arith in
     ap (λ (k : ℕ). nothing (suc n) ++ nothing k) e ∙ ap (λ (ks : Kept). None ∷ ks) (nothing_more n room (omega (arith, h)))
 
-take_nothing : (n : ℕ) → ◌≡◌ {A = Kept} (take n []) []
-take_nothing zero = refl
-take_nothing (suc n) = refl
-
 pad_step : (k : Option Reply) (ks : Kept) (room : ℕ) → padded (k ∷ ks) (suc room) ≡ k ∷ padded ks room
 pad_step k ks room = let e : suc room - suc (length ks) ≡ room - length ks = omega arith in ap (λ (m : ℕ). k ∷ (ks ++ nothing m)) e
 
@@ -38,7 +35,7 @@ pub filled_same : (ks : Kept) (n room : ℕ) → length ks ≤ n → n ≤ room 
 filled_same [] n room low high =
     let all : n - 0 ≡ n = omega arith in
     let whole : room ≡ room - 0 = omega arith in
-    ap (λ (k : ℕ). padded (take n [] ++ nothing k) room) all ∙ ap (λ (xs : Kept). padded (xs ++ nothing n) room) (take_nothing n)
+    ap (λ (k : ℕ). padded (take n [] ++ nothing k) room) all ∙ ap (λ (xs : Kept). padded (xs ++ nothing n) room) (take-nil n)
     ∙ ap (λ (k : ℕ). nothing n ++ nothing (room - k)) (nothing_long n) ∙ nothing_more n room high ∙ ap nothing whole
 filled_same (k ∷ ks) zero room low high = absurd (omega (arith, low))
 filled_same (k ∷ ks) (suc n) zero low high = absurd (omega (arith, high))
@@ -88,9 +85,6 @@ with_none : (o : Option Reply) (w : Kept) (i : ℕ) (r : Reply) → o ≡ None �
 with_none None w i r e = refl
 with_none (Some y) w i r e = cc
 
-later : (t n : ℕ) → n ≤ t → nat_lt t n ≡ false
-later t n h = grind (arith, nat_tests, h)
-
 unless_taken : (b : Bool) (w v : Kept) → b ≡ false → v ≡ if b then w else v
 unless_taken true w v e = cc
 unless_taken false w v e = refl
@@ -122,5 +116,5 @@ module _ (ks ls : Kept) (first next tickets t : ℕ) (r : Reply) (low : first �
   kept_there =
       let all = set_there
       ∙ with_none (slice_index_or (waiting_of ks (next - first) (tickets - first)) (t - next) None) (waiting_of ks (next - first) (tickets - first)) (t - next) r none_waits
-      ∙ unless_taken (nat_lt t next) (waiting_of ks (next - first) (tickets - first)) (with_reply (waiting_of ks (next - first) (tickets - first)) (t - next) r) (later t next high) in
+      ∙ unless_taken (nat_lt t next) (waiting_of ks (next - first) (tickets - first)) (with_reply (waiting_of ks (next - first) (tickets - first)) (t - next) r) (le-ltb t next high) in
       λ i. record { next = next; waiting = all i }

@@ -1,7 +1,7 @@
 // Writing: the replies, line by line.
 
 ghost use Rattle.std.specs.Prelude.{◌≡◌, ◌+◌, ◌≤◌, length, true, false};
-ghost use Rattle.session_limits.specs.Limits.{max_requests};
+ghost use Rattle.session_values.specs.Limits.{max_requests};
 ghost use Rattle.byte_ends.specs.Ends.{Rose, Grew, GrewByFront};
 ghost use Rattle.session_values.specs.ReplyText.{reply_text};
 ghost use Rattle.reply_sheet.specs.Printable.{ArePrintableReplies};

@@ -1,11 +1,13 @@
 -- What each client has of the lines of a request part, line by line.
 use Rattle.std.proofs.Common.{◌≡◌, ℕ, zero, suc, ◌+◌, ◌<◌, ◌≤◌, Bool, true, false, ◌&&◌, cond, List, [], ◌∷◌, ◌++◌, length, map, sum, take, get_or, refl, sym, ap, ◌∙◌, arith, append_assoc, one-add}
 use Rattle.std.proofs.lemmas.List.Sums.{sum_by-cons, sum_by_more_le}
+use Rattle.std.proofs.lemmas.Bool.{and_parts}
 use Rattle.std.specs.List.{list_all, prefix_len}
 use Rattle.text_lines.specs.Rows.{Row, row_before, rows}
 use Rattle.text_lines.specs.Text.{Text, is_line_byte, lines, words, attach}
 use Rattle.text_lines.proofs.TextLemmas.{line_of, lines_nil}
 use Rattle.text_lines.proofs.RowLemmas.{rows_nil}
+use Rattle.text_lines.proofs.WholeTexts.{line_on}
 use Rattle.request_files.specs.Clients.{is_next_mark, marks_in, without_marks, put_first, parted, row_counts, starts_from}
 
 -- ---- how many rows
@@ -190,22 +192,10 @@ line_plain (b ∷ bs) = go (line_plain bs) (is_line_byte b) refl
     go later true e = ap (λ t. list_all is_line_byte (take (cond t (1 + prefix_len is_line_byte bs) 0) (b ∷ bs))) e ∙ ap (λ k. list_all is_line_byte (take k (b ∷ bs))) (one-add (prefix_len is_line_byte bs)) ∙ ap (λ t. t && list_all is_line_byte (line_of bs)) e ∙ later
     go later false e = ap (λ t. list_all is_line_byte (take (cond t (1 + prefix_len is_line_byte bs) 0) (b ∷ bs))) e
 
-and_left : (t u : Bool) → (t && u) ≡ true → t ≡ true
-and_left true u e = refl
-and_left false u e = e
-
-and_right : (t u : Bool) → (t && u) ≡ true → u ≡ true
-and_right true u e = e
-and_right false u e = absurd (cc)
-
-line_on : (b : ℕ) (bs : Text) → is_line_byte b ≡ true → lines (b ∷ bs) ≡ attach b (lines bs)
-unfolding lines
-line_on b bs e = ap (λ t. cond t (attach b (lines bs)) ([] ∷ lines bs)) e
-
 pub line_alone : (l : Text) → list_all is_line_byte l ≡ true → 0 < length l → lines l ≡ l ∷ []
 line_alone [] p h = absurd (omega arith)
-line_alone (b ∷ []) p h = line_on b [] (and_left (is_line_byte b) true p) ∙ ap (attach b) lines_nil
-line_alone (b ∷ c ∷ cs) p h = line_on b (c ∷ cs) (and_left (is_line_byte b) (list_all is_line_byte (c ∷ cs)) p) ∙ ap (attach b) (line_alone (c ∷ cs) (and_right (is_line_byte b) (list_all is_line_byte (c ∷ cs)) p) (omega arith))
+line_alone (b ∷ []) p h = line_on b [] (and_parts (is_line_byte b) true p).0 ∙ ap (attach b) lines_nil
+line_alone (b ∷ c ∷ cs) p h = line_on b (c ∷ cs) (and_parts (is_line_byte b) (list_all is_line_byte (c ∷ cs)) p).0 ∙ ap (attach b) (line_alone (c ∷ cs) (and_parts (is_line_byte b) (list_all is_line_byte (c ∷ cs)) p).1 (omega arith))
 
 pub none_alone : (l : Text) → list_all is_line_byte l ≡ true → lines l ≡ [] → words l ≡ []
 unfolding words

@@ -1,6 +1,7 @@
 -- The fault of one row, and its request where it has none.
 use Rattle.std.proofs.Common.{◌≡◌, ◌≢◌, ℕ, suc, ◌+◌, ◌<◌, ◌≤◌, Bool, true, false, not, ◌==◌, cond, nat_le, nat_lt, List, [], ◌∷◌, length, Option, Some, None, refl, sym, ap, ◌∙◌, subst, arith, Result, Err}
 use Rattle.std.proofs.lemmas.Bool.Decides.{nat_tests}
+use Rattle.std.proofs.lemmas.Bool.{ltb-false}
 use Rattle.std.specs.List.{list_all, AllByRecursion}
 use Rattle.session_values.specs.Names.{Begins}
 use Rattle.session_values.specs.Values.{IsValue}
@@ -79,17 +80,14 @@ fault_kept old now f t r p k = ap (λ i. cond (nat_le 20000 t.requests) (Some (T
 sums_within : (t : Tally) (line : ℕ) → t.requests ≤ 20000 → sum_fault t line ≡ None → IsWithin t
 sums_within t line few none = record { requests = few; calls = calls (nat_lt 200000 t.calls) refl none; work = work (nat_lt 200000 t.calls) (nat_lt 10000000 t.work) refl none }
   where
-    no_more : (limit n : ℕ) → nat_lt limit n ≡ false → n ≤ limit
-    no_more limit n e = grind (arith, nat_tests)
-
     calls : (b : Bool) → nat_lt 200000 t.calls ≡ b → cond b (Some (TooManyCalls line)) (cond (nat_lt 10000000 t.work) (Some (TooMuchWork line)) None) ≡ None → t.calls ≤ 200000
     calls true e h = absurd (cc)
-    calls false e h = no_more 200000 t.calls e
+    calls false e h = ltb-false 200000 t.calls e
 
     work : (b c : Bool) → nat_lt 10000000 t.work ≡ c → cond b (Some (TooManyCalls line)) (cond c (Some (TooMuchWork line)) None) ≡ None → t.work ≤ 10000000
     work true c e h = absurd (cc)
     work false true e h = absurd (cc)
-    work false false e h = no_more 10000000 t.work e
+    work false false e h = ltb-false 10000000 t.work e
 
 pub values_long : (names ws : List Text) → length (values_of names ws) ≡ length ws
 values_long names [] = refl

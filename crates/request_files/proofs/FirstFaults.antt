@@ -2,10 +2,12 @@
 use Rattle.std.proofs.Common.{◌≡◌, ℕ, ◌+◌, ◌<◌, ◌≤◌, Bool, true, false, not, cond, nat_le, nat_lt, ◌==◌, List, [], ◌∷◌, ◌++◌, length, Option, Some, None, refl, sym, ap, ◌∙◌, arith}
 use Rattle.std.proofs.lemmas.Bool.Decides.{nat_tests}
 use Rattle.std.proofs.lemmas.List.Sums.{sum_by-cons, sum_by_push}
+use Rattle.std.proofs.lemmas.Bool.{ltb-false, ltb-true, leb-true, leb-false}
+use Rattle.std.proofs.lemmas.Option.{none-some}
 use Rattle.std.specs.List.{list_all}
 use Rattle.std.specs.Option.{option_or}
 use Rattle.syntax_trees.specs.declared.file.File.{File}
-use Rattle.check_meaning.specs.Bounds.{calls_bound}
+use Rattle.handler_check.specs.Bounds.{calls_bound}
 use Rattle.handler_check.specs.Resolved.{code_at, params_at}
 use Rattle.request_files.specs.declared.tally.Tally.{Tally}
 use Rattle.request_files.specs.declared.refusal.RequestRefusal.{RequestRefusal}
@@ -76,18 +78,6 @@ module _ (names : List Text) (f : File) where
   none_told r false false true true true y h = absurd (cc)
   none_told r false false true true false y h = (refl, refl)
 
-  at_most : (limit n : ℕ) → nat_lt limit n ≡ false → n ≤ limit
-  at_most limit n e = grind (arith, nat_tests)
-
-  more : (limit n : ℕ) → nat_lt limit n ≡ true → limit < n
-  more limit n e = grind (arith, nat_tests)
-
-  as_many : (limit n : ℕ) → nat_le limit n ≡ true → limit ≤ n
-  as_many limit n e = grind (arith, nat_tests)
-
-  fewer : (limit n : ℕ) → nat_le limit n ≡ false → n < limit
-  fewer limit n e = grind (arith, nat_tests)
-
   -- ---- rows without a fault
   -- the row at the front of such rows has none, and the others have none behind it
   pub front_fine : (t : Tally) (r : Row) (rs : List Row) → first_fault names f t (r ∷ rs) ≡ None → (fault_of names f t r ≡ None) × (first_fault names f (after t r) rs ≡ None)
@@ -102,8 +92,8 @@ module _ (names : List Text) (f : File) where
   within t (r ∷ rs) h few calls =
       let p : (fault_of names f t r ≡ None) × (first_fault names f (after t r) rs ≡ None) = front_fine t r rs h in
       let q : (nat_le 20000 t.requests ≡ false) × (nat_lt 200000 (after t r).calls ≡ false) = none_told r _ _ _ _ _ _ (sym (tried_is t r) ∙ p.0) in
-      let less : t.requests < 20000 = fewer 20000 t.requests q.0 in
-      within (after t r) rs p.1 (omega (arith, less)) (at_most 200000 (after t r).calls q.1)
+      let less : t.requests < 20000 = leb-false 20000 t.requests q.0 in
+      within (after t r) rs p.1 (omega (arith, less)) (ltb-false 200000 (after t r).calls q.1)
 
   -- behind them, the first fault is that of the others
   passed : (t : Tally) (front rs : List Row) → first_fault names f t front ≡ None → first_fault names f t (front ++ rs) ≡ first_fault names f (behind t front) rs
@@ -127,10 +117,7 @@ module _ (names : List Text) (f : File) where
     pub fault : fault_of names f (behind t front) row ≡ Some e
 
   pub found : (t : Tally) (rs : List Row) (e : RequestRefusal) → first_fault names f t rs ≡ Some e → At t rs e
-  found t [] e h = absurd (nothing (sym (first_nil names f t) ∙ h))
-    where
-      nothing : ◌≡◌ {A = Option RequestRefusal} None (Some e) → ⊥
-      nothing k = cc
+  found t [] e h = absurd (none-some e (sym (first_nil names f t) ∙ h))
   found t (r ∷ rs) e h = go (λ k. found (after t r) rs e k) (fault_of names f t r) refl (sym (fault_step names f t r rs) ∙ h)
     where
       go : (first_fault names f (after t r) rs ≡ Some e → At (after t r) rs e) → (o : Option RequestRefusal) → fault_of names f t r ≡ o → option_or o (first_fault names f (after t r) rs) ≡ Some e → At t (r ∷ rs) e
@@ -155,7 +142,7 @@ module _ (names : List Text) (f : File) where
       let sums : Tally = behind no_requests a.front in
       let q : (nat_lt 200000 (after sums a.row).calls ≡ true) × (a.row.line ≡ line) = calls_told a.row line _ _ _ _ _ _ (sym (tried_is sums a.row) ∙ a.fault) in
       let w : (sums.requests ≤ 20000) × (sums.calls ≤ 200000) = within no_requests a.front a.fine (omega arith) (omega arith) in
-      let past : 200000 < (after sums a.row).calls = more 200000 (after sums a.row).calls q.0 in
+      let past : 200000 < (after sums a.row).calls = ltb-true 200000 (after sums a.row).calls q.0 in
       let is : sums.calls ≡ 0 + calls_named names f a.front = behind_calls no_requests a.front in
       record {
         at = record { front = a.front; row = a.row; back = a.back; is = a.is; line_is = q.1; fine = a.fine };
@@ -169,7 +156,7 @@ module _ (names : List Text) (f : File) where
       let sums : Tally = behind no_requests a.front in
       let q : (nat_le 20000 sums.requests ≡ true) × (a.row.line ≡ line) = many_told a.row line _ _ _ _ _ _ (sym (tried_is sums a.row) ∙ a.fault) in
       let w : (sums.requests ≤ 20000) × (sums.calls ≤ 200000) = within no_requests a.front a.fine (omega arith) (omega arith) in
-      let most : 20000 ≤ sums.requests = as_many 20000 sums.requests q.0 in
+      let most : 20000 ≤ sums.requests = leb-true 20000 sums.requests q.0 in
       let is : sums.requests ≡ 0 + length a.front = behind_requests no_requests a.front in
       record {
         at = record { front = a.front; row = a.row; back = a.back; is = a.is; line_is = q.1; fine = a.fine };

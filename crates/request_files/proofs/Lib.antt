@@ -13,3 +13,6 @@ pub mod TraceParts
 pub mod TraceSizes
 pub mod WholeParts
 pub mod WorkFaults
+pub use Rattle.handler_check.proofs.Fine
+pub use Rattle.text_lines.proofs.RowLemmas as TextRowLemmas
+pub use Rattle.text_lines.proofs.ValueLemmas

@@ -1,10 +1,10 @@
 -- Rows that are well formed, of handlers that do little, have no fault.
-use Rattle.std.proofs.Common.{◌≡◌, ℕ, suc, ◌+◌, ◌*◌, ◌<◌, ◌≤◌, true, false, cond, nat_lt, List, [], ◌∷◌, length, Some, None, refl, sym, ap, ◌∙◌, subst, arith}
-use Rattle.std.proofs.lemmas.Bool.Decides.{nat_tests}
+use Rattle.std.proofs.Common.{◌≡◌, ℕ, suc, ◌+◌, ◌*◌, ◌<◌, ◌≤◌, true, cond, nat_lt, List, [], ◌∷◌, length, Some, None, refl, sym, ap, ◌∙◌, subst, arith}
+use Rattle.std.proofs.lemmas.Bool.{le-ltb}
 use Rattle.std.specs.List.{list_all, AllByRecursion}
 use Rattle.std.specs.Option.{option_or}
 use Rattle.syntax_trees.specs.declared.file.File.{File}
-use Rattle.check_meaning.specs.Bounds.{calls_bound, work_bound}
+use Rattle.handler_check.specs.Bounds.{calls_bound, work_bound}
 use Rattle.handler_check.specs.Resolved.{code_at, params_at}
 use Rattle.request_files.specs.declared.tally.Tally.{Tally}
 use Rattle.request_files.specs.declared.refusal.RequestRefusal.TheVariants.{TooManyCalls, TooMuchWork}
@@ -26,14 +26,11 @@ pub record IsLight (names : List Text) (f : File) (r : Row) : Type 0 where
   pub calls : calls_bound (code_at f number) ≤ 10
   pub work : work_bound (code_at f number) ≤ 500
 
-not_less : (n b : ℕ) → b ≤ n → nat_lt n b ≡ false
-not_less n b l = grind (arith, nat_tests)
-
 module _ (names : List Text) (f : File) where
   no_sum : (t : Tally) (line : ℕ) → t.calls ≤ 200000 → t.work ≤ 10000000 → sum_fault t line ≡ None
   no_sum t line c w =
-      ap (λ b. cond b (Some (TooManyCalls line)) (cond (nat_lt 10000000 t.work) (Some (TooMuchWork line)) None)) (not_less 200000 t.calls c)
-      ∙ ap (λ b. cond b (Some (TooMuchWork line)) None) (not_less 10000000 t.work w)
+      ap (λ b. cond b (Some (TooManyCalls line)) (cond (nat_lt 10000000 t.work) (Some (TooMuchWork line)) None)) (le-ltb 200000 t.calls c)
+      ∙ ap (λ b. cond b (Some (TooMuchWork line)) None) (le-ltb 10000000 t.work w)
 
   pub none_found : (t : Tally) (rs : List Row) → AllByRecursion (IsLight names f) rs → t.requests + length rs ≤ 20000 → t.calls ≤ 10 * t.requests → t.work ≤ 500 * t.requests → first_fault names f t rs ≡ None
   none_found t [] a few calls work = first_nil names f t

@@ -6,7 +6,7 @@ use Rattle.std.specs.List.{AllByRecursion, sum_by}
 use Rattle.session_values.proofs.Sums.{sum_first}
 use Rattle.session_values.specs.Sums.{sum_below}
 use Rattle.syntax_trees.specs.declared.file.File.{File}
-use Rattle.check_meaning.specs.Bounds.{calls_bound, work_bound}
+use Rattle.handler_check.specs.Bounds.{calls_bound, work_bound}
 use Rattle.handler_check.specs.Resolved.{code_at}
 use Rattle.text_lines.specs.Text.{Text}
 use Rattle.session_values.specs.ReplyText.{IsPrintable}
@@ -99,7 +99,7 @@ numbers_few count ns a = omega (arith, sum_ones count, total_ones ns, total_belo
 
 -- ---- sums over picked requests
 module _ (f : Request → ℕ) where
-  sum_all : (rs : List Request) → sum_below (length rs) (λ n. f (request_at rs n)) ≡ sum_by f rs
+  pub sum_all : (rs : List Request) → sum_below (length rs) (λ n. f (request_at rs n)) ≡ sum_by f rs
   sum_all [] = refl
   sum_all (r ∷ rs) = omega (arith, sum_first (length rs) (λ n. f (request_at (r ∷ rs) n)), sum_all rs, sum_by-cons f r rs)
 

@@ -9,7 +9,7 @@ use Rattle.session_values.specs.declared.value.Value.{Value}
 use Rattle.session_values.proofs.Named.{begins_same, begins_then}
 use Rattle.syntax_trees.specs.declared.file.File.{File}
 use Rattle.syntax_trees.specs.declared.file.Handler.{Handler}
-use Rattle.check_meaning.specs.Bounds.{calls_bound, work_bound}
+use Rattle.handler_check.specs.Bounds.{calls_bound, work_bound}
 use Rattle.handler_check.specs.Resolved.{code_at}
 use Rattle.request_files.specs.declared.request.Request.{Request}
 use Rattle.request_files.specs.declared.tally.Tally.{Tally}

@@ -32,7 +32,7 @@ either true n xs ys h k = h
 either false n xs ys h k = k
 
 -- a text has no more lines than bytes
-lines_few : (bs : Text) → length (lines bs) ≤ length bs
+pub lines_few : (bs : Text) → length (lines bs) ≤ length bs
 unfolding lines
 lines_few [] = omega arith
 lines_few (b ∷ bs) =

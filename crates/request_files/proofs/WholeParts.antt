@@ -1,6 +1,7 @@
 -- The parts of a file as the whole file.
 use Rattle.std.proofs.Common.{◌≡◌, ℕ, zero, suc, ◌+◌, ◌≤◌, ◌⊎◌, inl, inr, Bool, true, false, not, ◌||◌, cond, List, [], ◌∷◌, ◌++◌, length, take, drop, refl, sym, ap, ◌∙◌, subst, arith, append_assoc, length-append}
 use Rattle.std.proofs.lemmas.List.{drop_all, take_all}
+use Rattle.std.proofs.lemmas.Bool.{true≢false, or_parts}
 use Rattle.std.specs.List.{list_all, list_any, position_or_len}
 use Rattle.text_lines.specs.Text.{Text, is_line_byte, lines}
 use Rattle.text_lines.specs.Laws.{with_feeds}
@@ -24,14 +25,6 @@ drop_past [] zero h = refl
 drop_past [] (suc n) h = refl
 drop_past (x ∷ l) zero h = absurd (omega arith)
 drop_past (x ∷ l) (suc n) h = drop_past l n (omega arith)
-
-or_left : (t u : Bool) → (t || u) ≡ false → t ≡ false
-or_left true u e = e
-or_left false u e = refl
-
-or_right : (t u : Bool) → (t || u) ≡ false → u ≡ false
-or_right true u e = absurd (cc)
-or_right false u e = e
 
 -- a text has no more bytes than its lines with a line feed behind each
 feeds_long : (text : Text) → length text ≤ length (with_feeds (lines text))
@@ -99,10 +92,7 @@ module _ (marks_line : Text → Bool) where
       (let k : position_or_len marks_line (l ∷ lines next) ≡ 1 + ps = places l (lines next) false e in omega (arith, k))
 
   parts_of : (n : ℕ) (text : Text) → length text ≤ n → list_any marks_line (lines text) ≡ true → Parts text (lines text)
-  parts_of n [] h any = absurd (no_line (sym any ∙ ap (list_any marks_line) lines_nil))
-    where
-      no_line : true ≡ false → ⊥
-      no_line k = cc
+  parts_of n [] h any = absurd (true≢false (sym any ∙ ap (list_any marks_line) lines_nil))
   parts_of zero (b ∷ bs) h any = absurd (omega arith)
   parts_of (suc n) (b ∷ bs) h any =
       let f : FirstLine (b ∷ bs) = first_line b bs in
@@ -130,16 +120,16 @@ module _ (marks_line : Text → Bool) where
   unfolding head_size
   none_heads [] h = refl
   none_heads (l ∷ ls) h =
-      let rest : head_size marks_line ls ≡ length (with_feeds ls) = none_heads ls (or_right (marks_line l) (list_any marks_line ls) h) in
-      let here : head_size marks_line (l ∷ ls) ≡ length l + 1 + head_size marks_line ls = heads l ls false (or_left (marks_line l) (list_any marks_line ls) h) in
+      let rest : head_size marks_line ls ≡ length (with_feeds ls) = none_heads ls (or_parts (marks_line l) (list_any marks_line ls) h).1 in
+      let here : head_size marks_line (l ∷ ls) ≡ length l + 1 + head_size marks_line ls = heads l ls false (or_parts (marks_line l) (list_any marks_line ls) h).0 in
       here ∙ omega (arith, rest, length-append l (10 ∷ with_feeds ls))
 
   none_marks : (ls : List Text) → list_any marks_line ls ≡ false → mark_size marks_line ls ≡ length (with_feeds ls)
   unfolding mark_size
   none_marks [] h = refl
   none_marks (l ∷ ls) h =
-      let rest : mark_size marks_line ls ≡ length (with_feeds ls) = none_marks ls (or_right (marks_line l) (list_any marks_line ls) h) in
-      let here : mark_size marks_line (l ∷ ls) ≡ length l + 1 + mark_size marks_line ls = marks l ls false (or_left (marks_line l) (list_any marks_line ls) h) in
+      let rest : mark_size marks_line ls ≡ length (with_feeds ls) = none_marks ls (or_parts (marks_line l) (list_any marks_line ls) h).1 in
+      let here : mark_size marks_line (l ∷ ls) ≡ length l + 1 + mark_size marks_line ls = marks l ls false (or_parts (marks_line l) (list_any marks_line ls) h).0 in
       here ∙ omega (arith, rest, length-append l (10 ∷ with_feeds ls))
 
   pub unmarked_is : (text : Text) → list_any marks_line (lines text) ≡ false → IsUnmarked marks_line text (before marks_line text) (behind marks_line text)

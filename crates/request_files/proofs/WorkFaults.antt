@@ -1,9 +1,9 @@
 -- The first row with which the work of all requests passes its limit.
 use Rattle.std.proofs.Common.{◌≡◌, ℕ, ◌+◌, ◌<◌, ◌≤◌, Bool, true, false, cond, nat_lt, List, [], ◌∷◌, ◌++◌, length, Some, None, refl, sym, ap, ◌∙◌, arith}
-use Rattle.std.proofs.lemmas.Bool.Decides.{nat_tests}
 use Rattle.std.proofs.lemmas.List.Sums.{sum_by-cons, sum_by_push}
+use Rattle.std.proofs.lemmas.Bool.{ltb-false, le-ltb, ltb-true, lt-ltb}
 use Rattle.syntax_trees.specs.declared.file.File.{File}
-use Rattle.check_meaning.specs.Bounds.{work_bound}
+use Rattle.handler_check.specs.Bounds.{work_bound}
 use Rattle.handler_check.specs.Resolved.{code_at}
 use Rattle.request_files.specs.declared.tally.Tally.{Tally}
 use Rattle.request_files.specs.declared.refusal.RequestRefusal.TheVariants.{TooManyCalls, TooMuchWork}
@@ -44,24 +44,12 @@ module _ (names : List Text) (f : File) where
   none_told r false false true true false true h = absurd (cc)
   none_told r false false true true false false h = refl
 
-  at_most : (limit n : ℕ) → nat_lt limit n ≡ false → n ≤ limit
-  at_most limit n e = grind (arith, nat_tests)
-
-  not_more : (limit n : ℕ) → n ≤ limit → nat_lt limit n ≡ false
-  not_more limit n e = grind (arith, nat_tests)
-
-  more : (limit n : ℕ) → nat_lt limit n ≡ true → limit < n
-  more limit n e = grind (arith, nat_tests)
-
-  is_more : (limit n : ℕ) → limit < n → nat_lt limit n ≡ true
-  is_more limit n e = grind (arith, nat_tests)
-
   within : (t : Tally) (rs : List Row) → first_fault names f t rs ≡ None → t.work ≤ 10000000 → (behind names f t rs).work ≤ 10000000
   within t [] h work = work
   within t (r ∷ rs) h work =
       let p : (fault_of names f t r ≡ None) × (first_fault names f (after names f t r) rs ≡ None) = front_fine names f t r rs h in
       let q : nat_lt 10000000 (after names f t r).work ≡ false = none_told r _ _ _ _ _ _ (sym (tried_is names f t r) ∙ p.0) in
-      within (after names f t r) rs p.1 (at_most 10000000 (after names f t r).work q)
+      within (after names f t r) rs p.1 (ltb-false 10000000 (after names f t r).work q)
 
   work_pushed : (front : List Row) (row : Row) → work_named names f (front ++ row ∷ []) ≡ work_named names f front + work_of row
   work_pushed front row = sum_by_push work_of front row
@@ -72,7 +60,7 @@ module _ (names : List Text) (f : File) where
       let sums : Tally = behind names f no_requests a.front in
       let q : (nat_lt 10000000 (after names f sums a.row).work ≡ true) × (a.row.line ≡ line) = work_told a.row line _ _ _ _ _ _ (sym (tried_is names f sums a.row) ∙ a.fault) in
       let w : sums.work ≤ 10000000 = within no_requests a.front a.fine (omega arith) in
-      let past : 10000000 < (after names f sums a.row).work = more 10000000 (after names f sums a.row).work q.0 in
+      let past : 10000000 < (after names f sums a.row).work = ltb-true 10000000 (after names f sums a.row).work q.0 in
       let is : sums.work ≡ 0 + work_named names f a.front = behind_work no_requests a.front in
       record {
         at = record { front = a.front; row = a.row; back = a.back; is = a.is; line_is = q.1; fine = a.fine };
@@ -91,5 +79,5 @@ module _ (names : List Text) (f : File) where
       let under : (after names f sums row).calls ≤ 200000 = omega (arith, calls, called, calls_pushed names f front row) in
       refused_at names f front row back (TooMuchWork row.line) h
       (fault_sums names f sums row (handler_of names f row.name) refl (omega (arith, few, count)) w.handler w.args w.values
-      ∙ ap (λ b. cond b (Some (TooManyCalls row.line)) (cond (nat_lt 10000000 (after names f sums row).work) (Some (TooMuchWork row.line)) None)) (not_more 200000 (after names f sums row).calls under)
-      ∙ ap (λ b. cond b (Some (TooMuchWork row.line)) None) (is_more 10000000 (after names f sums row).work over))
+      ∙ ap (λ b. cond b (Some (TooManyCalls row.line)) (cond (nat_lt 10000000 (after names f sums row).work) (Some (TooMuchWork row.line)) None)) (le-ltb 200000 (after names f sums row).calls under)
+      ∙ ap (λ b. cond b (Some (TooMuchWork row.line)) None) (lt-ltb 10000000 (after names f sums row).work over))

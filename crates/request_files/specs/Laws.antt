@@ -3,7 +3,7 @@ use Rattle.std.specs.Prelude.{◌≡◌, ℕ, ◌+◌, ◌<◌, ◌≤◌, Bool,
 use Rattle.std.specs.List.{list_all, list_any, sum_by}
 use Rattle.session_limits.specs.Limits.{max_requests, max_session_calls}
 use Rattle.syntax_trees.specs.declared.file.File.{File}
-use Rattle.check_meaning.specs.Bounds.{calls_bound}
+use Rattle.handler_check.specs.Bounds.{calls_bound}
 use Rattle.handler_check.specs.Resolved.{code_at, params_at}
 use Rattle.request_files.specs.Divide.{is_dividing, is_table_mark}
 use Rattle.request_files.specs.Requests.{first_fault, handler_of, no_requests}

@@ -9,3 +9,9 @@ pub mod Servable
 pub mod Session
 pub mod TracePart
 pub mod WorkSums
+pub use Rattle.text_lines.specs.Values
+pub use Rattle.syntax_trees.specs.Mentions
+pub use Rattle.syntax_trees.specs.declared.file.TableDecl
+pub use Rattle.text_lines.specs.Rows
+pub use Rattle.text_lines.specs.Text
+pub use Rattle.text_lines.specs.Bytes

@@ -4,7 +4,7 @@ use Rattle.std.specs.List.{AllByRecursion, sum_by}
 use Rattle.session_limits.specs.Limits.{max_requests, max_session_calls, max_session_work}
 use Rattle.session_values.specs.Values.{IsValue}
 use Rattle.syntax_trees.specs.declared.file.File.{File}
-use Rattle.check_meaning.specs.Bounds.{calls_bound, work_bound}
+use Rattle.handler_check.specs.Bounds.{calls_bound, work_bound}
 use Rattle.handler_check.specs.Resolved.{code_at, params_at}
 use Rattle.request_files.specs.declared.request.Request.{Request}
 

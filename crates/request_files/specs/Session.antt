@@ -4,8 +4,8 @@ use Rattle.opening_tables.specs.Opening.{Pair, tables_of}
 use Rattle.session_values.specs.Dialogue.{Dialogue}
 use Rattle.session_values.specs.Serial.{Session}
 use Rattle.syntax_trees.specs.declared.file.File.{File}
-use Rattle.check_meaning.specs.Bounds.{calls_bound}
-use Rattle.check_meaning.specs.Dialogue.{env_of, next}
+use Rattle.handler_check.specs.Bounds.{calls_bound}
+use Rattle.handler_check.specs.Dialogue.{env_of, next}
 use Rattle.handler_check.specs.Resolved.{code_at, shape_of}
 use Rattle.request_files.specs.declared.request.Request.{Request}
 

@@ -3,7 +3,7 @@ use Rattle.std.specs.Prelude.{ℕ, ◌<◌, ◌≤◌, List, [], ◌∷◌, ◌+
 use Rattle.std.specs.List.{sum_by}
 use Rattle.session_limits.specs.Limits.{max_session_work}
 use Rattle.syntax_trees.specs.declared.file.File.{File}
-use Rattle.check_meaning.specs.Bounds.{work_bound}
+use Rattle.handler_check.specs.Bounds.{work_bound}
 use Rattle.handler_check.specs.Resolved.{code_at}
 use Rattle.request_files.specs.Laws.{BeforeFault}
 use Rattle.request_files.specs.Requests.{handler_of}

@@ -1,5 +1,4 @@
-//! The request part of a session file: where it begins, its lines and their words, and the
-//! requests that they are.
+//! The request part of a session file: where it begins, and the requests that its lines are.
 #![tactic(auto)]
 
 mod arguments;

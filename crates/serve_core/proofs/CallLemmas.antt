@@ -13,10 +13,10 @@ use Rattle.session_journal.specs.Foreknown.{Foreknown}
 use Rattle.session_journal.specs.Journal.{DoneOperation, entry_of, done_operations, of_ticket, by_ticket, entries, ended, begun}
 use Rattle.session_journal.specs.Script.{Meaning, session_of}
 use Rattle.session_journal.proofs.Serial.{serve-calls, serve-answers}
-use Rattle.admission_book.proofs.Events.{only_begun}
+use Rattle.session_journal.proofs.Events.{only_begun}
 use Rattle.session_hall.specs.Closings.{ClosedView, IsDone}
 use Rattle.serve_faults.specs.Session.{serial_calls}
-use Rattle.admission_book.proofs.Foreknown.{no_more}
+use Rattle.hall_rule.proofs.Foreknown.{no_more}
 
 -- ---- the entries of a serving are what its dialogue calls
 serve_stops : (f : Dialogue) (ts : Tables) (op : Op) → f [] ≡ Calls op → serve zero f ts ≡ record { entries = []; answer = None; after = ts }

@@ -6,7 +6,7 @@ use Rattle.session_values.specs.ReplyText.{line_text, reply_text}
 use Rattle.session_journal.specs.declared.event.Event.{Event}
 use Rattle.session_journal.specs.Journal.{DoneOperation, done_operations}
 use Rattle.reply_sheet.proofs.TextLemmas.{text_more}
-use Rattle.admission_book.proofs.Events.{done_operations-append}
+use Rattle.session_journal.proofs.Events.{done_operations-append}
 
 -- one event more
 pub done_operations_more : (J : List Event) (i : ℕ) (e : Event) → i < length J → get_or J i e ≡ e → length (done_operations (take (i + 1) J)) ≡ length (done_operations (take i J)) + length (done_operations (e ∷ []))

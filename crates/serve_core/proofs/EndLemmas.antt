@@ -35,12 +35,12 @@ use Rattle.serve_core.proofs.FinalLemmas.{final_tables}
 use Rattle.std.proofs.lemmas.Bool.{false≢true}
 use Rattle.std.proofs.lemmas.List.{length-map}
 use Rattle.handler_check.specs.Resolved.{shape_of}
-use Rattle.opening_tables.specs.Opening.{tables_of}
+use Rattle.session_journal.specs.Opening.{tables_of}
 use Rattle.session_values.specs.Tables.{Tables}
 use Rattle.session_values.specs.declared.kind.TableKind.{TableKind}
 use Rattle.syntax_trees.specs.declared.file.TableDecl.{TableDecl}
-use Rattle.table_dump.specs.Dumped.{dump_text}
-use Rattle.table_lines.specs.ReadBack.{texts_of}
+use Rattle.table_text.specs.Dumped.{dump_text}
+use Rattle.serve_faults.specs.ReadBack.{texts_of}
 use Rattle.table_text.specs.TableText.{table_text, written_table}
 use Rattle.serve_core.proofs.CallLemmas.{calls_done}
 

@@ -1,13 +1,13 @@
 -- What is loaded of a session file, and what is served of it.
-use Rattle.std.proofs.Common.{◌≡◌, ℕ, zero, suc, ◌+◌, ◌*◌, ◌<◌, ◌≤◌, List, [], ◌∷◌, length, true, slice_get, Option, Some, None, refl, sym, ap, ◌∙◌, subst, arith, length-append}
+use Rattle.std.proofs.Common.{◌≡◌, ℕ, zero, suc, ◌+◌, ◌*◌, ◌<◌, ◌≤◌, List, [], ◌∷◌, length, true, slice_get, Option, Some, None, refl, sym, ap, ◌∙◌, subst, arith}
 use Rattle.std.proofs.lemmas.List.{length-map}
 use Rattle.session_values.specs.declared.reply.Reply.{Reply}
 use Rattle.session_values.specs.declared.kind.TableKind.{TableKind}
-use Rattle.session_values.specs.Serial.{Session, serial, serial_replies, answered, tables_before}
+use Rattle.session_values.specs.Serial.{serial_replies, tables_before}
 use Rattle.session_journal.specs.Script.{Meaning, session_of}
 use Rattle.session_hall.specs.Closings.{ClosedView, IsDone}
 use Rattle.syntax_trees.specs.declared.file.TableDecl.{TableDecl}
-use Rattle.handler_syntax.specs.Language.{File}
+use Rattle.serve_faults.specs.Language.{File}
 use Rattle.handler_check.specs.Checking.{IsAccepted}
 use Rattle.handler_check.specs.Resolved.{shape_of}
 use Rattle.handler_check.proofs.Fine.{few_tables}
@@ -19,6 +19,7 @@ use Rattle.serve_faults.specs.Input.{Parts, parts_of}
 use Rattle.reply_sheet.specs.Printable.{ArePrintableReplies}
 use Rattle.serve_faults.specs.Printable.{IsPrintableTable}
 use Rattle.serve_faults.proofs.PrintableRuns.{replies_said, tables_hold}
+use Rattle.serve_faults.proofs.ToldEvents.{tables_named}
 use Rattle.serve_reading.specs.declared.session.Loaded.{Loaded}
 use Rattle.serve_reading.specs.declared.unserved.Unserved.{Unserved}
 use Rattle.serve_reading.specs.declared.unserved.Unserved.TheVariants.{NoMemory}
@@ -28,42 +29,27 @@ use Rattle.serve_reading.proofs.Loading.{as_program}
 use Rattle.serve_core.specs.declared.writing.Writing.{Writing}
 use Rattle.serve_core.specs.Serving.{AreFinal, CanPrint, CanServe, EndsLoaded, EndsSession, HasRoom, HasRoomFor, HasServed, script_of_loaded, status_of}
 use Rattle.serve_core.specs.declared.writing.Writing.TheVariants.{Replies, Summary, Tables, Events}
-use Rattle.text_lines.specs.Values.{is_symbol}
+use Rattle.request_files.specs.Values.{is_symbol}
 use Rattle.serve_core.proofs.TraceLemmas.{names_symbols, told_events}
 use Rattle.serve_core.proofs.FinalLemmas.{each_dumped, each_room, entries_printable, tables_long}
 use Rattle.std.specs.List.{AllByRecursion, flat_map}
 use Rattle.std.proofs.lemmas.Option.{slice_get_within}
-use Rattle.session_values.specs.Names.{IsNamed}
 use Rattle.session_values.specs.Tables.{table}
 use Rattle.session_values.specs.Tables as tables
+use Rattle.session_values.proofs.Serial.{replies_few}
 use Rattle.session_hall.specs.Listings.{listed}
 use Rattle.syntax_trees.specs.Mentions.{handler_mentions, table_mentions}
-use Rattle.handler_syntax.specs.Language.{HasText, HaveTexts}
-use Rattle.handler_syntax.proofs.Facts.{all_first, name_named}
-use Rattle.table_dump.specs.Dumped.{CanDump}
+use Rattle.serve_faults.specs.Language.{HasText}
+use Rattle.serve_faults.proofs.Facts.{all_first}
+use Rattle.table_text.specs.Dumped.{CanDump}
 
 -- ---- tables
 pub few_kinds : (f : File) (shape : List TableKind) → IsAccepted f → shape ≡ shape_of f → length shape ≤ 7
 few_kinds f shape a e = let few = few_tables f a.keeps in let long : length shape ≡ length f.tables = ap (λ (s : List TableKind). length s) e ∙ length-map f.tables (λ (t : TableDecl). t.kind) in omega (arith, few, long)
 
--- ---- replies
-one_answer : (o : Option Reply) → length (answered o) ≤ 1
-one_answer None = omega arith
-one_answer (Some r) = omega arith
-
--- no ticket has two replies
-replies_few : (s : Session) (n : ℕ) → length (serial_replies s n) ≤ n
-replies_few s zero = omega arith
-replies_few s (suc t) = omega (arith, replies_few s t, one_answer (serial s t).answer, length-append (serial_replies s t) (answered (serial s t).answer))
-
 -- what was loaded can be served
 pub can_serve : (parts : Parts) (l : Loaded) → IsLoaded parts l → CanServe l
 can_serve parts l h = record { symbols = subst (AllByRecursion (λ (t : List ℕ). is_symbol t ≡ true)) (sym h.names_are) (names_symbols parts); accepted = (as_program parts.handlers l.program h.program_of).accepted; opens = h.opens; servable = h.servable; named = h.named; printable_opening = h.printable_opening; printable = h.printable }
-
--- the tables of a file have names
-tables_named : (names : List (List ℕ)) (ts : List TableDecl) → HaveTexts names (flat_map table_mentions ts) → AllByRecursion (λ (t : TableDecl). IsNamed names t.name) ts
-tables_named names [] h = tt
-tables_named names (t ∷ ts) h = (name_named names t.name h.0, tables_named names ts h.1)
 
 table_held : (names : List (List ℕ)) (ts : tables.Tables) (i : ℕ) → i < length ts → AllByRecursion (IsPrintableTable names) ts → IsPrintableTable names (table ts i)
 table_held names [] i lt h = absurd (omega (arith, lt))

@@ -4,12 +4,13 @@ use Rattle.std.proofs.lemmas.Option.{slice_get_within}
 use Rattle.std.proofs.lemmas.Nat.{mul-add-lt}
 use native.Mathlib.Nat.{eq_of_mul-eq-mul_right}
 use Rattle.std.proofs.Math.ListN.{set as set_at}
+use Rattle.std.proofs.lemmas.Bool.{or_right}
 use Rattle.std.specs.FinMap as map
 use Rattle.std.specs.FinMap.Entries.{find}
 use Rattle.std.specs.FinSet as set
 use Rattle.std.specs.List.{AllByRecursion, list_any}
-use Rattle.opening_tables.specs.Opening.{Pair, AreApart, container_of, entries_of, has_key, tables_of}
-use Rattle.opening_tables.proofs.Openings.{opening_kinds}
+use Rattle.session_journal.specs.Opening.{Pair, AreApart, container_of, entries_of, has_key, tables_of}
+use Rattle.session_journal.proofs.Openings.{opening_kinds}
 use Rattle.session_values.specs.Serial.{tables_before}
 use Rattle.session_values.specs.Tables.{Container, Tables, kind_of, table}
 use Rattle.session_values.specs.Values.{value_cmp, value_cmp_total, value_eq}
@@ -23,7 +24,7 @@ use Rattle.hall_rule.proofs.Shares.{length-after}
 use Rattle.session_hall.specs.Closings.{ClosedView, IsDone}
 use Rattle.session_hall.specs.Listings.{listed}
 use Rattle.serve_faults.specs.Printable.{IsPrintableTable}
-use Rattle.table_dump.specs.Dumped.{CanDump, CanDumpAll, CanDumpEach, HaveRoom, IsPrintableEntry, dump_text}
+use Rattle.table_text.specs.Dumped.{CanDump, CanDumpAll, CanDumpEach, HaveRoom, IsPrintableEntry, dump_text}
 use Rattle.serve_core.specs.Serving.{AreFinal, final_lists, lists_from}
 
 module _ (d : ClosedView) where
@@ -75,10 +76,7 @@ module _ (d : ClosedView) where
 
     pub final_tables : AreFinal d (length m.shape) → tables_of m.shape (final_lists d (length m.shape)) ≡ tables_before (session_of m) m.requests
     final_tables left = same_tables 0 m.shape (tables_before (session_of m) m.requests) tables_long
-        (λ t kind at. ap (λ (x : ℕ). container_of kind (listed d x)) (let e : 0 + t ≡ t = omega arith in e) ∙ (left m done t (inside m.shape t kind at)).are kind at)
-      where
-        inside : (shape : List TableKind) (t : ℕ) (kind : TableKind) → slice_get shape t ≡ Some kind → t < length shape
-        inside shape t kind at = slice_get_within shape t kind at
+        (λ t kind at. ap (λ (x : ℕ). container_of kind (listed d x)) (let e : 0 + t ≡ t = omega arith in e) ∙ (left m done t (slice_get_within m.shape t kind at)).are kind at)
 
 -- ---- entries of a table that can be printed
 missing : (es : List Pair) (k v : Value) → has_key es k ≡ false → find value_cmp k es ≡ Some v → ⊥
@@ -107,12 +105,8 @@ printable_set : (names : List (List ℕ)) (all es : List Pair) → ((k : Value) 
 printable_set names all [] into h = tt
 printable_set names all (e ∷ es) into h = (
   h e.0 (into e.0 (ap (λ (b : Bool). b || list_any (value_eq e.0) (map_list (λ (x : Pair). x.0) es)) (value_eq-self e.0))),
-  printable_set names all es (λ k at. into k (right (value_eq k e.0) (list_any (value_eq k) (map_list (λ (x : Pair). x.0) es)) at)) h,
+  printable_set names all es (λ k at. into k (or_right (value_eq k e.0) (list_any (value_eq k) (map_list (λ (x : Pair). x.0) es)) at)) h,
 )
-  where
-    right : (a b : Bool) → b ≡ true → (a || b) ≡ true
-    right true b h = refl
-    right false b h = h
 
 pub entries_printable : (names : List (List ℕ)) (kind : TableKind) (c : Container) (es : List Pair) → AreApart es → container_of kind es ≡ c → IsPrintableTable names c → AllByRecursion (IsPrintableEntry names kind) es
 entries_printable names Map c es a is p =

@@ -5,13 +5,13 @@ use Rattle.std.specs.Prelude.{IfSome}
 use Rattle.session_limits.specs.Limits.{max_requests}
 use Rattle.session_values.specs.declared.reply.Reply.{Reply}
 use Rattle.session_values.specs.Serial.{Session, serial, serial_replies}
-use Rattle.opening_tables.specs.Opening.{Pair}
+use Rattle.session_values.proofs.Serial.{serial_length}
+use Rattle.session_journal.specs.Opening.{Pair}
 use Rattle.session_journal.proofs.Serial.{serve_answers}
-use Rattle.check_meaning.proofs.Bounded.{ends_by}
-use Rattle.check_meaning.specs.Dialogue.{env_of}
+use Rattle.handler_check.proofs.Bounded.{ends_by}
+use Rattle.handler_check.specs.Dialogue.{env_of}
 use Rattle.handler_check.specs.Resolved.{code_at}
-use Rattle.handler_syntax.specs.Language.{File}
-use Rattle.hall_serving.proofs.SerialReplies.{serial_length}
+use Rattle.serve_faults.specs.Language.{File}
 use Rattle.session_hall.specs.Closings.{ClosedView}
 use Rattle.reply_sheet.specs.Printable.{ArePrintableReplies}
 use Rattle.request_files.specs.declared.request.Request.{Request}
@@ -19,8 +19,8 @@ use Rattle.request_files.specs.Clients.{ClientsView}
 use Rattle.request_files.specs.Picked.{picked}
 use Rattle.request_files.specs.Requests.{ArePrintable, request_of}
 use Rattle.request_files.specs.Session.{request_at, session}
-use Rattle.client_feed.specs.declared.arrival.Arrival.{Arrival}
-use Rattle.client_feed.specs.Arrivals.{IsDrawn}
+use Rattle.client_sheet.specs.declared.arrival.Arrival.{Arrival}
+use Rattle.client_sheet.specs.Arrivals.{IsDrawn}
 use Rattle.client_sheet.specs.ClientText.{clients_text}
 use Rattle.client_sheet.specs.Numbers.{numbers_of}
 use Rattle.client_rounds.specs.Rounds.{AreServed, IsLastRound, ServedView, session_by}

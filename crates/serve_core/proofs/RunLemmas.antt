@@ -18,6 +18,7 @@ use Rattle.serve_core.specs.Runs.{has_read_all, Answered, Written, Holds, IsLeft
 use Rattle.serve_core.specs.Runs.{AnswersTo}
 use Rattle.serve_faults.specs.Ways.{HasRead, StoppedAs}
 use Rattle.serve_faults.proofs.OneAnswer.{refused_once, text_or_refused}
+use Rattle.session_values.proofs.Options.{if_some}
 
 -- ---- what a command answers to its input
 module _ {O : Type 0} (c : Command) (bytes : List ℕ) (out : Change O) where
@@ -52,10 +53,6 @@ module _ {O : Type 0} (c : Command) (bytes : List ℕ) (out : Change O) where
   }
 
 -- ---- of what is told
-
-if_some : {X : Type 0} (P Q : X → Type 0) (o : Option X) → ((x : X) → P x → Q x) → IfSome o P → IfSome o Q
-if_some P Q None f h = tt
-if_some P Q (Some x) f h = f x h
 
 told_map : {S : Type 0} (c : Command) (s : Change S) (P Q : List ℕ → Type 0) → ((bytes : List ℕ) → P bytes → Q bytes) → Told (Some c) s P → Told (Some c) s Q
 told_map Check s P Q f h = if_some P Q (s.bytes s.old) f h

@@ -13,8 +13,8 @@ use Rattle.serve_faults.specs.Session.{all_names_of}
 use Rattle.serve_faults.specs.Traced.{CanBeTold, IsTraced, table_places, traced_text}
 use Rattle.serve_reading.specs.declared.unserved.Unserved.{Unserved}
 use Rattle.serve_reading.specs.Reasons.{IsInputReason}
-use Rattle.trace_audit.specs.Accepted.{Accepted}
-use Rattle.trace_audit.specs.Bare.{bare_script}
+use Rattle.trace_rules.specs.Accepted.{Accepted}
+use Rattle.trace_rules.specs.Bare.{bare_script}
 use Rattle.trace_lines.specs.EventText.{trace_text}
 use Rattle.serve_core.specs.declared.writing.Writing.TheVariants as writing
 use Rattle.serve_core.specs.Commands.{has_begun_writing}

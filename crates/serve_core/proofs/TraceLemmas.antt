@@ -4,23 +4,23 @@ use Rattle.std.specs.List.{AllByRecursion}
 use Rattle.session_limits.specs.Limits.{max_callers}
 use Rattle.session_values.specs.Serial.{Session}
 use Rattle.session_values.specs.Tables.{Fits}
-use Rattle.opening_tables.specs.Opening.{Pair}
+use Rattle.session_journal.specs.Opening.{Pair}
 use Rattle.session_journal.specs.Script.{Meaning, session_of}
 use Rattle.session_hall.specs.Closings.{ClosedView, IsDone}
-use Rattle.handler_syntax.specs.Language.{File, IsNamedFile}
+use Rattle.serve_faults.specs.Language.{File, IsNamedFile}
 use Rattle.request_files.specs.declared.request.Request.{Request}
 use Rattle.request_files.specs.Requests.{ArePrintable}
 use Rattle.request_files.specs.Session.{session}
-use Rattle.table_lines.specs.TableRows.{ArePrintable as ArePrintableEntries}
-use Rattle.text_lines.specs.Values.{is_symbol}
-use Rattle.trace_audit.specs.Accepted.{Accepted, HaveEnded}
-use Rattle.trace_audit.specs.Bare.{bare_script}
-use Rattle.trace_audit.specs.Traces.{HasKnownSymbol}
-use Rattle.trace_audit.proofs.Bare.{accepted as bare_accepted}
+use Rattle.serve_faults.specs.TableRows.{ArePrintable as ArePrintableEntries}
+use Rattle.request_files.specs.Values.{is_symbol}
+use Rattle.trace_rules.specs.Accepted.{Accepted, HaveEnded}
+use Rattle.trace_rules.specs.Bare.{bare_script}
+use Rattle.trace_rules.specs.Traces.{HasKnownSymbol}
+use Rattle.trace_rules.proofs.Bare.{accepted as bare_accepted}
 use Rattle.trace_audit.proofs.FromBook.{accepted as from_book}
 use Rattle.trace_lines.specs.Bounds.{IsHeldEvent}
 use Rattle.trace_lines.proofs.Told.{known_symbols}
-use Rattle.dump_laws.proofs.SymbolTexts.{handler_symbols, row_symbols}
+use Rattle.serve_faults.proofs.SymbolTexts.{handler_symbols, row_symbols}
 use Rattle.serve_faults.specs.Input.{Parts}
 use Rattle.serve_faults.specs.Session.{all_names_of, handler_names_of, opening_names_of, rows_of, table_rows_of}
 use Rattle.serve_faults.specs.Traced.{CanBeTold}

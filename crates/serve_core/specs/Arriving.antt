@@ -1,8 +1,8 @@
 -- How serving several clients ends. Only this crate's own functions cite it.
 use Rattle.std.specs.Prelude.{◌≡◌, ℕ, ◌+◌, ◌≤◌, List, length, Option, None}
 use Rattle.session_limits.specs.Limits.{max_session_calls}
-use Rattle.opening_tables.specs.Limits.{max_opening}
-use Rattle.opening_tables.specs.Opening.{count_all}
+use Rattle.session_journal.specs.Limits.{max_opening}
+use Rattle.session_journal.specs.Opening.{count_all}
 use Rattle.session_hall.specs.Closings.{ClosedView}
 use Rattle.client_sheet.specs.ClientText.{clients_text}
 use Rattle.client_rounds.specs.Rounds.{AreServed, ServedView}

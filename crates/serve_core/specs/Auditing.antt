@@ -1,11 +1,11 @@
 -- How an audit ends. Only this crate's own functions cite it.
 use Rattle.std.specs.Prelude.{ℕ, List}
-use Rattle.opening_tables.specs.Opening.{IsOpening}
+use Rattle.session_journal.specs.Opening.{IsOpening}
 use Rattle.handler_check.specs.Resolved.{shape_of}
 use Rattle.handler_machine.specs.Scripts.{ScriptsView, meaning}
 use Rattle.request_files.specs.Servable.{IsServable}
-use Rattle.trace_audit.specs.Verdicts.{IsVerdict}
-use Rattle.trace_audit.specs.declared.verdict.Verdict.{Verdict}
+use Rattle.trace_rules.specs.Verdicts.{IsVerdict}
+use Rattle.trace_rules.specs.declared.verdict.Verdict.{Verdict}
 use Rattle.trace_lines.specs.VerdictText.{verdict_text}
 use Rattle.serve_faults.specs.Changes.{Change, Failed, IsUntouched, Took, TookFront}
 use Rattle.serve_faults.specs.declared.status.Status.{Status}

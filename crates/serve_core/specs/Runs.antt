@@ -3,14 +3,14 @@ use Rattle.std.specs.Prelude.{◌≡◌, ◌≢◌, ◌+◌, ◌⊎◌, ◌↔�
 use Rattle.byte_ends.specs.Ends.{IsAtEnd, LostFirst, LostAtMost}
 use Rattle.serve_words.specs.declared.command.Command.{Command}
 use Rattle.serve_words.specs.declared.command.Command.TheVariants.{Check, Show, Serve, Dump, Work, Ranges, Trace, Audit, Clients}
-use Rattle.client_feed.specs.declared.arrival.Arrival.{Arrival}
-use Rattle.client_feed.specs.Arrivals.{IsDrawn}
+use Rattle.client_sheet.specs.declared.arrival.Arrival.{Arrival}
+use Rattle.client_sheet.specs.Arrivals.{IsDrawn}
 use Rattle.client_rounds.specs.Rounds.{IsLastRound}
-use Rattle.symbolic_ops.specs.declared.symbol.Symbol.{Symbol}
+use Rattle.session_journal.specs.Symbol.{Symbol}
 use Rattle.session_journal.specs.declared.event.Event.{Event}
 use Rattle.session_journal.specs.Script.{Meaning, session_of}
 use Rattle.session_hall.specs.Closings.{ClosedView, IsDone}
-use Rattle.handler_syntax.specs.Language.{File}
+use Rattle.serve_faults.specs.Language.{File}
 use Rattle.handler_machine.specs.Scripts.{meaning}
 use Rattle.serve_faults.specs.declared.status.Fault.{Fault}
 use Rattle.serve_faults.specs.declared.status.Fault.TheVariants.{TooLarge}

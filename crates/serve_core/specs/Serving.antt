@@ -4,19 +4,19 @@ use Rattle.std.specs.List.{AllByRecursion}
 use Rattle.session_limits.specs.Limits.{max_callers, max_requests}
 use Rattle.session_values.specs.ReplyText.{reply_text}
 use Rattle.session_journal.specs.Journal.{done_operations}
-use Rattle.opening_tables.specs.Opening.{Pair, IsOpening, entries_of}
+use Rattle.session_journal.specs.Opening.{Pair, IsOpening, entries_of}
 use Rattle.session_journal.specs.Script.{Meaning, room, session_of}
 use Rattle.session_hall.specs.Closings.{ClosedView, IsDone}
 use Rattle.session_hall.specs.Listings.{AreLeft, listed}
 use Rattle.handler_check.specs.Checking.{IsAccepted}
 use Rattle.handler_check.specs.Resolved.{shape_of}
-use Rattle.handler_syntax.specs.Language.{File, IsNamedFile}
+use Rattle.serve_faults.specs.Language.{File, IsNamedFile}
 use Rattle.handler_machine.specs.Scripts.{ScriptsView, meaning}
 use Rattle.request_files.specs.Requests.{ArePrintable}
 use Rattle.request_files.specs.Servable.{IsServable}
 use Rattle.reply_sheet.specs.Printable.{ArePrintableReplies}
-use Rattle.table_dump.specs.Dumped.{CanDumpAll, HaveRoom, dump_text}
-use Rattle.table_lines.specs.TableRows.{ArePrintable as ArePrintableEntries}
+use Rattle.table_text.specs.Dumped.{CanDumpAll, HaveRoom, dump_text}
+use Rattle.serve_faults.specs.TableRows.{ArePrintable as ArePrintableEntries}
 use Rattle.serve_made.specs.Summary.{summary}
 use Rattle.serve_faults.specs.declared.status.Status.{Status}
 use Rattle.serve_faults.specs.declared.status.Status.TheVariants as status
@@ -24,7 +24,7 @@ use Rattle.serve_faults.specs.Input.{Parts, parts_of}
 use Rattle.serve_faults.specs.Changes.{Change, Failed, IsUntouched, Took, TookFront}
 use Rattle.serve_faults.specs.Session.{IsSession, all_names_of, session_of_parts}
 use Rattle.serve_faults.specs.Traced.{CanBeTold, table_places}
-use Rattle.text_lines.specs.Values.{is_symbol}
+use Rattle.request_files.specs.Values.{is_symbol}
 use Rattle.trace_lines.specs.Bounds.{IsHeldEvent}
 use Rattle.trace_lines.specs.EventText.{trace_text}
 use Rattle.serve_reading.specs.Reasons.{IsInputReason}

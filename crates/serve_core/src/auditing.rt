@@ -1,8 +1,8 @@
 // Audits: from a source to what is judged of the trace with which a session file ends.
 
 ghost use Rattle.std.specs.Prelude.{◌≡◌, ◌≤◌, IfOk, Some, None, length};
-ghost use Rattle.trace_audit.specs.Bare.{bare_script};
-ghost use Rattle.trace_audit.specs.Verdicts.{IsVerdict};
+ghost use Rattle.trace_rules.specs.Bare.{bare_script};
+ghost use Rattle.trace_rules.specs.Verdicts.{IsVerdict};
 ghost use Rattle.handler_machine.specs.Scripts.{meaning};
 ghost use Rattle.session_journal.specs.Script.{session_of};
 ghost use Rattle.serve_words.specs.declared.command.Command.TheVariants.{Audit};
@@ -16,11 +16,11 @@ use byte_ends::{Sink, Source, write_all};
 use handler_machine::Scripts;
 use serve_faults::{MAX_AUDIT_INPUT, Status};
 use serve_reading::{Audited, load_audited, read_at_most};
-use session_audit::judge_session;
 use session_values::NoMemory;
 use std::alloc::Global;
-use trace_audit::Verdict;
+use trace_audit::judge_session;
 use trace_lines::verdict_line;
+use trace_rules::Verdict;
 
 /// Reads a session file that ends in a trace, and writes what is judged of the trace.
 pub(crate) fn audit_source<I: Source, O: Sink>(alloc: Global, source: &mut I, out: &mut O) -> Status

@@ -8,7 +8,7 @@ ghost use Rattle.serve_core.specs.Serving.{AreFinal};
 use session_hall::Closed;
 use session_limits::MAX_TABLES;
 use session_values::Value;
-use table_dump::TellsEntries;
+use table_text::TellsEntries;
 
 /// The tables of a closed hall, as they are at its end.
 #[derive(Clone, Copy)]

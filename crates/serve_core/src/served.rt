@@ -4,7 +4,7 @@ ghost use Rattle.std.specs.Prelude.{◌≡◌, ◌+◌, ◌<◌, ◌≤◌, ℕ,
 ghost use Rattle.session_limits.specs.Limits.{max_tables};
 ghost use Rattle.handler_check.specs.Resolved.{shape_of as shape_spec};
 ghost use Rattle.session_hall.specs.Closings.{IsDone};
-ghost use Rattle.opening_tables.specs.Opening.{entries_of};
+ghost use Rattle.session_journal.specs.Opening.{entries_of};
 ghost use Rattle.session_journal.specs.Script.{room};
 ghost use Rattle.handler_machine.specs.Scripts.{meaning};
 ghost use Rattle.serve_faults.specs.Traced.{table_places};

@@ -20,7 +20,7 @@ use serve_made::summary_text;
 use serve_reading::Loaded;
 use session_hall::Closed;
 use session_values::Names;
-use table_dump::write_tables;
+use table_text::write_tables;
 use trace_lines::{event_bounds, write_events};
 
 /// What is written of a session that was served.

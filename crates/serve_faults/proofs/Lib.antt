@@ -6,3 +6,13 @@ pub mod PrintableRuns
 pub mod PrintableTables
 pub mod SomeAnswer
 pub mod ToldEvents
+pub mod SymbolTexts
+pub use Rattle.handler_syntax.proofs.Rising
+pub use Rattle.table_lines.proofs.Going
+pub use Rattle.handler_syntax.proofs.Facts
+pub use Rattle.request_files.proofs.LightRows
+pub use Rattle.request_files.proofs.WholeParts
+pub use Rattle.trace_lines.proofs.AsRead
+pub use Rattle.trace_lines.proofs.WrittenBack
+pub use Rattle.trace_rules.proofs.Bare
+pub use Rattle.trace_rules.proofs.Counting

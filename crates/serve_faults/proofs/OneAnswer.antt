@@ -3,7 +3,7 @@ use Rattle.std.proofs.Common.{◌≡◌, ℕ, ◌⊎◌, inl, inr, Bool, true, f
 use Rattle.std.proofs.lemmas.Bool.{false≢true}
 use Rattle.handler_syntax.specs.Language.{names_of, File, canonical_text}
 use Rattle.handler_syntax.proofs.Facts.{one_tree}
-use Rattle.symbolic_ops.specs.declared.symbol.Symbol.{Symbol}
+use Rattle.session_journal.specs.Symbol.{Symbol}
 use Rattle.may_use_analysis.specs.Later.{AreLater}
 use Rattle.may_use_analysis.proofs.TopLemmas.{same_later}
 use Rattle.range_session.specs.declared.refusal.RangeRefusal.{RangeRefusal}

@@ -3,27 +3,28 @@ use Rattle.std.proofs.Common.{ℕ, zero, suc, ◌+◌, List, [], ◌∷◌, ◌+
 use Rattle.std.specs.List.{AllByRecursion, flat_map}
 use Rattle.session_values.specs.declared.value.Value.TheVariants.{Nil, Num, Sym}
 use Rattle.session_values.specs.ReplyText.{IsPrintable}
-use Rattle.syntax_trees.specs.declared.expr.Atom.{Atom}
-use Rattle.syntax_trees.specs.declared.expr.Atom.TheVariants as atom
-use Rattle.syntax_trees.specs.declared.expr.Expr.{Expr}
-use Rattle.syntax_trees.specs.declared.stmt.Cond.{Cond}
-use Rattle.syntax_trees.specs.declared.stmt.Right.{Right}
-use Rattle.syntax_trees.specs.declared.stmt.Right.TheVariants as right
-use Rattle.syntax_trees.specs.declared.stmt.Stmt.{Stmt}
-use Rattle.syntax_trees.specs.declared.stmt.Stmt.TheVariants as stmt
-use Rattle.syntax_trees.specs.declared.file.File.{File}
-use Rattle.syntax_trees.specs.declared.file.Handler.{Handler}
-use Rattle.syntax_trees.specs.Mentions.{Mention, atom_mentions, expr_mentions, call_mentions, right_mentions, cond_mentions, stmt_mentions, table_mentions, param_mentions, handler_mentions}
-use Rattle.syntax_trees.proofs.Mentions.{mentions_leaf, mentions_let, mentions_assign, mentions_perform, mentions_choose, mentions_repeat, mentions_answer, all_first}
+use Rattle.handler_check.specs.Atom.{Atom}
+use Rattle.handler_check.specs.Atom.TheVariants as atom
+use Rattle.handler_check.specs.Expr.{Expr}
+use Rattle.handler_check.specs.Cond.{Cond}
+use Rattle.handler_check.specs.Right.{Right}
+use Rattle.handler_check.specs.Right.TheVariants as right
+use Rattle.handler_check.specs.Stmt.{Stmt}
+use Rattle.handler_check.specs.Stmt.TheVariants as stmt
+use Rattle.handler_check.specs.File.{File}
+use Rattle.handler_check.specs.Handler.{Handler}
+use Rattle.handler_check.specs.Mentions.{Mention, atom_mentions, expr_mentions, call_mentions, right_mentions, cond_mentions, stmt_mentions, table_mentions, param_mentions, handler_mentions}
+use Rattle.handler_check.proofs.Mentions.{mentions_leaf, mentions_let, mentions_assign, mentions_perform, mentions_choose, mentions_repeat, mentions_answer, all_first}
+use Rattle.handler_check.proofs.SyntaxInductions.{expr_induction}
 use Rattle.handler_syntax.specs.Language.{HasText, HaveTexts, IsNamedFile}
 use Rattle.handler_syntax.proofs.Facts.{symbol_named}
-use Rattle.check_meaning.specs.declared.tree.CheckedAtom.{CheckedAtom}
-use Rattle.check_meaning.specs.declared.tree.CheckedAtom.TheVariants.{Lit, Var}
-use Rattle.check_meaning.specs.Code.{Term, Calculate, Code, Finish, Move, Ask, Fork, Loop, Quit}
-use Rattle.check_meaning.specs.Code as code
-use Rattle.check_rules.specs.Source.{Source, Finish as NoMore, Let, Assign, Do, Choose, Repeat, Answer, stmt_source, block_source}
+use Rattle.handler_check.specs.CheckedAtom.{CheckedAtom}
+use Rattle.handler_check.specs.CheckedAtom.TheVariants.{Lit, Var}
+use Rattle.handler_check.specs.Code.{Term, Calculate, Code, Finish, Move, Ask, Fork, Loop, Quit}
+use Rattle.handler_check.specs.Code as code
+use Rattle.handler_check.specs.Source.{Source, Finish as NoMore, Let, Assign, Do, Choose, Repeat, Answer, stmt_source, block_source}
 use Rattle.handler_check.specs.Resolved.{atom_of, term_of, key_of, value_of, stored, right_points, points_of, code_of, code_at, code_in, table_names, variables_of}
-use Rattle.handler_check.proofs.Cases.{expr_induction, source_let, source_assign, source_call, source_choose, source_repeat, source_reply}
+use Rattle.handler_check.proofs.Cases.{source_let, source_assign, source_call, source_choose, source_repeat, source_reply}
 use Rattle.handler_check.proofs.Codes.{term_leaf, term_binary}
 use Rattle.handler_check.proofs.Inductions.{stmt_induction}
 

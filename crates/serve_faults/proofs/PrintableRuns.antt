@@ -12,19 +12,19 @@ use Rattle.session_values.specs.ReplyText.{IsPrintable}
 use Rattle.session_values.specs.Serial.{Session, Served, serve, serial, serial_replies, tables_before, answered}
 use Rattle.session_values.specs.Tables.{Tables, reply, step}
 use Rattle.session_journal.proofs.Serial.{serve-calls, serve-answers}
-use Rattle.syntax_trees.specs.declared.expr.Calc.{Calc}
-use Rattle.syntax_trees.specs.declared.expr.Calc.TheVariants.{Plus, Minus, Times}
-use Rattle.syntax_trees.specs.declared.file.File.{File}
+use Rattle.handler_check.specs.Calc.{Calc}
+use Rattle.handler_check.specs.Calc.TheVariants.{Plus, Minus, Times}
+use Rattle.handler_check.specs.File.{File}
 use Rattle.handler_syntax.specs.Language.{IsNamedFile}
-use Rattle.check_meaning.specs.declared.tree.CheckedAtom.{CheckedAtom}
-use Rattle.check_meaning.specs.declared.tree.CheckedAtom.TheVariants.{Lit, Var}
-use Rattle.check_meaning.specs.Code.{Term, Atom, Calculate, Code, Finish, Move, Ask, Fork, Loop, Quit}
-use Rattle.check_meaning.specs.Dialogue.{Env, env_of, with_value, in_range, calculated, atom_value, value_of, holds, Place, Outcome, Calls, Answers, Goes, after, then_do, pass, with_reply, turns, run, ended, next}
+use Rattle.handler_check.specs.CheckedAtom.{CheckedAtom}
+use Rattle.handler_check.specs.CheckedAtom.TheVariants.{Lit, Var}
+use Rattle.handler_check.specs.Code.{Term, Atom, Calculate, Code, Finish, Move, Ask, Fork, Loop, Quit}
+use Rattle.handler_check.specs.Dialogue.{Env, env_of, with_value, in_range, calculated, atom_value, value_of, holds, Place, Outcome, Calls, Answers, Goes, after, then_do, pass, with_reply, turns, run, ended, next}
 use Rattle.handler_check.specs.Resolved.{code_at}
 use Rattle.request_files.specs.declared.request.Request.{Request}
 use Rattle.request_files.specs.Requests.{ArePrintable}
-use Rattle.reply_sheet.specs.Printable.{ArePrintableReplies}
-use Rattle.opening_tables.specs.Opening.{Pair}
+use Rattle.client_sheet.specs.Printable.{ArePrintableReplies}
+use Rattle.session_journal.specs.Opening.{Pair}
 use Rattle.table_lines.specs.TableRows.{ArePrintable as ArePrintableEntries}
 use Rattle.request_files.specs.Session.{session, request_at}
 use Rattle.serve_faults.proofs.PrintableCode.{AtomPrints, TermPrints, CodePrints, file_prints}

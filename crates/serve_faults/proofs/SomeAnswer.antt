@@ -4,7 +4,7 @@ use Rattle.std.specs.Prelude.{IsUtf8, nat_le, if◌then◌else◌}
 use Rattle.std.specs.Str.{is_utf8}
 use Rattle.std.proofs.lemmas.Bool.{cases_lt, false≢true}
 use Rattle.std.proofs.lemmas.Str.{IsUtf8-from_is_utf8, is_utf8-from_IsUtf8}
-use Rattle.session_limits.specs.Limits.{max_input}
+use Rattle.session_values.specs.Limits.{max_input}
 use Rattle.trace_lines.specs.declared.refusal.TraceRefusal.{TraceRefusal}
 use Rattle.handler_syntax.specs.Language.{names_of, File, SyntaxRefusal, IsSourceOf, HasFault, canonical_text}
 use Rattle.handler_syntax.proofs.Facts.{file_or_fault, fault_certain}

@@ -14,10 +14,10 @@ use Rattle.session_values.specs.Names.{IsNamed}
 use Rattle.session_values.specs.Reply.{values_of}
 use Rattle.session_values.specs.ReplyText.{IsPrintable}
 use Rattle.session_values.specs.Tables.{Fits, Tables}
-use Rattle.opening_tables.specs.Opening.{Pair}
+use Rattle.session_journal.specs.Opening.{Pair}
 use Rattle.session_journal.specs.declared.event.Event.{Event}
-use Rattle.syntax_trees.specs.declared.file.TableDecl.{TableDecl}
-use Rattle.syntax_trees.specs.Mentions.{handler_mentions, table_mentions}
+use Rattle.handler_check.specs.TableDecl.{TableDecl}
+use Rattle.handler_check.specs.Mentions.{handler_mentions, table_mentions}
 use Rattle.handler_syntax.specs.Language.{File, HasText, HaveTexts, IsNamedFile}
 use Rattle.handler_syntax.proofs.Facts.{all_first, name_named}
 use Rattle.handler_check.specs.Resolved.{shape_of}
@@ -25,10 +25,10 @@ use Rattle.request_files.specs.declared.request.Request.{Request}
 use Rattle.request_files.specs.Requests.{ArePrintable}
 use Rattle.request_files.specs.Session.{session}
 use Rattle.table_lines.specs.TableRows.{ArePrintable as ArePrintableEntries}
-use Rattle.text_lines.specs.Values.{is_symbol}
-use Rattle.trace_audit.specs.Accepted.{AreAllowed}
-use Rattle.trace_audit.specs.Bare.{bare_script}
-use Rattle.trace_audit.specs.Traces.{HasKnownSymbol}
+use Rattle.request_files.specs.Values.{is_symbol}
+use Rattle.trace_rules.specs.Accepted.{AreAllowed}
+use Rattle.trace_rules.specs.Bare.{bare_script}
+use Rattle.trace_rules.specs.Traces.{HasKnownSymbol}
 use Rattle.trace_lines.specs.Bounds.{IsHeldEvent}
 use Rattle.trace_lines.specs.EventText.{CanWrite, HasTable}
 use Rattle.trace_lines.specs.EventWords.{IsReadableEvent}
@@ -38,7 +38,7 @@ use Rattle.serve_faults.proofs.PrintableTables.{Holds, opening_holds, reply_prin
 use Rattle.serve_faults.proofs.PrintableRuns.{NextSaid, ticket_prints}
 
 -- the tables of a file have names
-tables_named : (names : List (List ℕ)) (ts : List TableDecl) → HaveTexts names (flat_map table_mentions ts) → AllByRecursion (λ (t : TableDecl). IsNamed names t.name) ts
+pub tables_named : (names : List (List ℕ)) (ts : List TableDecl) → HaveTexts names (flat_map table_mentions ts) → AllByRecursion (λ (t : TableDecl). IsNamed names t.name) ts
 tables_named names [] h = tt
 tables_named names (t ∷ ts) h = (name_named names t.name h.0, tables_named names ts h.1)
 

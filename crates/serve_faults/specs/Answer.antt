@@ -1,6 +1,6 @@
 -- What is answered to a command line and an input.
 use Rattle.std.specs.Prelude.{◌≡◌, ◌≢◌, ℕ, ◌⊎◌, true, false, IsUtf8, List, [], length, Option, Some, None}
-use Rattle.symbolic_ops.specs.declared.symbol.Symbol.{Symbol}
+use Rattle.session_journal.specs.Symbol.{Symbol}
 use Rattle.handler_syntax.specs.Language.{names_of, File, HasFault, IsSourceOf, SyntaxRefusal, canonical_text, shown_text}
 use Rattle.handler_syntax.specs.Language.syntax_refusal
 use Rattle.check_rules.specs.declared.refusal.CheckRefusal.{CheckRefusal}

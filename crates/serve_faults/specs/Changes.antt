@@ -1,6 +1,6 @@
 -- A source or a sink before and after a call, and what it took of a text.
 use Rattle.std.specs.Prelude.{◌≡◌, ℕ, List, Option}
-use Rattle.byte_ends.specs.Ends.{Rose, Grew, GrewByFront}
+use Rattle.declaration_insertion.specs.Ends.{Rose, Grew, GrewByFront}
 
 -- A source or a sink before and after a call: the bytes that it tells, and how often it failed.
 pub record Change (S : Type 0) : Type 0 where

@@ -1,7 +1,7 @@
 -- The requests of several clients, served in the order in which they come, and their replies.
 use Rattle.std.specs.Prelude.{◌≡◌, ℕ, List, length, sum}
-use Rattle.client_feed.specs.Arrivals.{IsDrawn}
-use Rattle.client_feed.specs.declared.arrival.Arrival.{Arrival}
+use Rattle.client_sheet.specs.Arrivals.{IsDrawn}
+use Rattle.client_sheet.specs.declared.arrival.Arrival.{Arrival}
 use Rattle.client_sheet.specs.ClientText.{clients_text}
 use Rattle.client_sheet.specs.Numbers.{numbers_of}
 use Rattle.handler_syntax.specs.Language.{File}
@@ -9,7 +9,7 @@ use Rattle.request_files.specs.Clients.{row_counts}
 use Rattle.request_files.specs.Picked.{picked}
 use Rattle.request_files.specs.Session.{session}
 use Rattle.session_values.specs.Serial.{Session, serial_replies}
-use Rattle.text_lines.specs.Text.{lines}
+use Rattle.request_files.specs.Text.{lines}
 use Rattle.serve_faults.specs.Input.{client_parts, parts_of}
 use Rattle.serve_faults.specs.Session.{IsSession, all_names_of, opened_of, requests_of}
 

@@ -1,8 +1,8 @@
 -- The parts of a session file, and what a command finds in its input.
 use Rattle.std.specs.Prelude.{◌≡◌, ℕ, ◌<◌, ◌≤◌, ◌⊎◌, Bool, nat_le, if◌then◌else◌, IsUtf8, List, [], length, Option, Some, None}
 use Rattle.std.specs.List.{list_any}
-use Rattle.session_limits.specs.Limits.{max_input}
-use Rattle.text_lines.specs.Text.{lines}
+use Rattle.session_values.specs.Limits.{max_input}
+use Rattle.request_files.specs.Text.{lines}
 use Rattle.request_files.specs.Clients.{marks_in, unmarked}
 use Rattle.request_files.specs.Divide.{is_dividing, is_mark, is_table_mark, before, behind, line_behind}
 use Rattle.request_files.specs.TracePart.{before_trace, has_trace}

@@ -1,23 +1,23 @@
 -- The session of a session file: what is served.
 use Rattle.std.specs.Prelude.{◌≡◌, ℕ, zero, suc, ◌+◌, List, [], length, map, Option, None}
-use Rattle.opening_tables.specs.Opening.{Pair}
+use Rattle.session_journal.specs.Opening.{Pair}
 use Rattle.session_values.specs.ReplyText.{reply_text}
 use Rattle.session_values.specs.Serial.{Session, serial, serial_replies, tables_before}
-use Rattle.symbolic_ops.specs.declared.symbol.Symbol.{Symbol}
+use Rattle.session_journal.specs.Symbol.{Symbol}
 use Rattle.handler_syntax.specs.Language.{names_of, File, IsSourceOf}
 use Rattle.handler_check.specs.Checking.{IsAccepted}
 use Rattle.may_use_analysis.specs.Later.{AreLater}
 use Rattle.request_files.specs.declared.refusal.RequestRefusal.{RequestRefusal}
 use Rattle.request_files.specs.declared.request.Request.{Request}
-use Rattle.text_lines.specs.Text.{lines}
+use Rattle.request_files.specs.Text.{lines}
 use Rattle.request_files.specs.Requests.{first_fault, no_requests, request_of}
-use Rattle.text_lines.specs.Rows.{Row, rows, names_behind}
+use Rattle.request_files.specs.Rows.{Row, rows, names_behind}
 use Rattle.request_files.specs.Session.{session}
 use Rattle.table_lines.specs.declared.refusal.TableRefusal.{TableRefusal}
 use Rattle.table_lines.specs.Opened.{opened_by}
 use Rattle.table_lines.specs.ReadBack.{texts_of}
 use Rattle.table_lines.specs.TableRows.{first_table_fault}
-use Rattle.table_text.specs.TableText.{table_text, written_table}
+use Rattle.table_lines.specs.TableText.{table_text, written_table}
 use Rattle.serve_faults.specs.Input.{Parts}
 
 -- the text of handlers has this tree, which breaks no rule, and at no point too many operations may

@@ -1,6 +1,6 @@
 -- What reading a source leaves: all of it was read, or why the reading stopped.
 use Rattle.std.specs.Prelude.{◌≡◌, ℕ, ◌+◌, ◌<◌, ◌≤◌, Bool, if◌then◌else◌, List, length, IfSome}
-use Rattle.byte_ends.specs.Ends.{IsAtEnd, LostFirst, LostAtMost}
+use Rattle.declaration_insertion.specs.Ends.{IsAtEnd, LostFirst, LostAtMost}
 use Rattle.serve_words.specs.declared.command.Command.{Command}
 use Rattle.serve_words.specs.declared.command.Command.TheVariants.{Check, Show}
 use Rattle.serve_faults.specs.declared.status.Fault.TheVariants.{TooLarge}

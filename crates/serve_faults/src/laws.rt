@@ -2,7 +2,7 @@
 
 ghost use Rattle.std.specs.Prelude.{◌≡◌, ℕ, List, true};
 ghost use Rattle.std.specs.List.{AllByRecursion};
-ghost use Rattle.opening_tables.specs.Opening.{Pair};
+ghost use Rattle.session_journal.specs.Opening.{Pair};
 ghost use Rattle.session_values.specs.Serial.{serial_replies, tables_before};
 ghost use Rattle.handler_syntax.specs.Language.{File, IsNamedFile};
 ghost use Rattle.request_files.specs.declared.request.Request.{Request};
@@ -11,17 +11,17 @@ ghost use Rattle.request_files.specs.Session.{session};
 ghost use Rattle.serve_faults.specs.Answer.{Answer, AreOne, HasAnswer, IsAnswer};
 ghost use Rattle.serve_faults.specs.Printable.{IsPrintableTable};
 ghost use Rattle.table_lines.specs.TableRows.{ArePrintable as ArePrintableEntries};
-ghost use Rattle.reply_sheet.specs.Printable.{ArePrintableReplies};
+ghost use Rattle.client_sheet.specs.Printable.{ArePrintableReplies};
 ghost use Rattle.session_journal.specs.declared.event.Event.{Event};
 ghost use Rattle.session_values.specs.Dialogue.{Calls};
 ghost use Rattle.session_values.specs.Tables.{Fits};
 ghost use Rattle.session_values.specs.declared.op.Op.{Op};
 ghost use Rattle.session_values.specs.declared.value.Value.{Value};
 ghost use Rattle.handler_check.specs.Resolved.{shape_of};
-ghost use Rattle.text_lines.specs.Values.{is_symbol};
-ghost use Rattle.trace_audit.specs.Accepted.{Accepted};
-ghost use Rattle.trace_audit.specs.Bare.{bare_script};
-ghost use Rattle.trace_audit.specs.Traces.{HasKnownSymbol};
+ghost use Rattle.request_files.specs.Values.{is_symbol};
+ghost use Rattle.trace_rules.specs.Accepted.{Accepted};
+ghost use Rattle.trace_rules.specs.Bare.{bare_script};
+ghost use Rattle.trace_rules.specs.Traces.{HasKnownSymbol};
 ghost use Rattle.trace_lines.specs.Bounds.{IsHeldEvent};
 ghost use Rattle.serve_faults.specs.Traced.{CanBeTold};
 

@@ -1,5 +1,5 @@
-//! What the program answers to a command line and an input: how a run may end, the line that tells
-//! it, and what a whole run promises.
+//! What the program answers to a command line and an input: how a run may end, and the line that
+//! tells it.
 #![tactic(auto)]
 
 mod certain;

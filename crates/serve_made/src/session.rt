@@ -1,7 +1,7 @@
 // The text of a made session.
 
 ghost use Rattle.std.specs.Prelude.{◌≡◌, ◌+◌, ◌<◌, ◌≤◌, ◌++◌, codes, decimal, length, string_bytes, string_len, IfOk, OnOk};
-ghost use Rattle.session_limits.specs.Limits.{max_requests};
+ghost use Rattle.session_values.specs.Limits.{max_requests};
 ghost use Rattle.serve_made.specs.Draws.{next_state, drawn};
 ghost use Rattle.serve_made.specs.Session as spec;
 

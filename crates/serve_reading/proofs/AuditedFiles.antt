@@ -12,11 +12,11 @@ use Rattle.handler_syntax.proofs.Facts.{all_first, name_named}
 use Rattle.handler_check.specs.Resolved.{shape_of}
 use Rattle.request_files.specs.Divide.{Divides}
 use Rattle.request_files.proofs.TraceSizes.{before_whole, front_long, line_within}
-use Rattle.text_lines.specs.Rows.{Row, rows}
-use Rattle.text_lines.specs.Text.{lines}
-use Rattle.trace_audit.specs.Traces.{TraceView}
+use Rattle.request_files.specs.Rows.{Row, rows}
+use Rattle.request_files.specs.Text.{lines}
+use Rattle.trace_rules.specs.Traces.{TraceView}
 use Rattle.trace_lines.specs.EventRows.{AreKnown, IsTrace, first_event_fault}
-use Rattle.serve_words.specs.declared.command.Command.TheVariants.{Audit}
+use Rattle.serve_faults.specs.Command.TheVariants.{Audit}
 use Rattle.serve_faults.specs.declared.status.Fault.TheVariants as fault
 use Rattle.serve_faults.specs.Audited.{audited_parts, event_rows_of}
 use Rattle.serve_faults.specs.Traced.{table_places}

@@ -14,9 +14,9 @@ use Rattle.declaration_insertion.specs.Program.{ProgramView}
 use Rattle.table_lines.specs.Opened.{entries_from, opened_by}
 use Rattle.table_lines.specs.TableRows.{entries_for, first_table_fault, pair_in, table_fault, table_of}
 use Rattle.table_lines.specs.declared.refusal.TableRefusal.{TableRefusal}
-use Rattle.text_lines.specs.Rows.{Row, rows}
-use Rattle.text_lines.specs.Text.{Text, lines}
-use Rattle.serve_words.specs.declared.command.Command.TheVariants.{Clients}
+use Rattle.request_files.specs.Rows.{Row, rows}
+use Rattle.request_files.specs.Text.{Text, lines}
+use Rattle.serve_faults.specs.Command.TheVariants.{Clients}
 use Rattle.serve_faults.specs.declared.status.Fault.TheVariants as fault
 use Rattle.serve_faults.specs.Input.{IsInput, Parts, client_marks, client_parts, clients_fault, is_divided}
 use Rattle.serve_reading.specs.declared.unserved.Unserved.{Unserved}

@@ -1,32 +1,17 @@
 -- Session files: how many lines stand before their parts, the parts, and why one isn't read.
-use Rattle.std.proofs.Common.{◌≡◌, ℕ, suc, ◌+◌, ◌≤◌, Bool, true, false, cond, List, [], ◌∷◌, length, ap, ◌∙◌, subst, arith, length-drop, length-take}
+use Rattle.std.proofs.Common.{◌≡◌, ℕ, ◌+◌, ◌≤◌, Bool, List, length, ap, ◌∙◌, subst, arith, length-drop, length-take}
 use Rattle.std.specs.Prelude.{not}
 use Rattle.std.specs.List.{position_or_len}
 use Rattle.std.proofs.lemmas.List.Sums.{prefix_len-le-length}
 use Rattle.request_files.specs.Divide.{Divides, before, behind, head_size, is_dividing, is_table_mark, line_behind, mark_size}
-use Rattle.text_lines.specs.Text.{Text, is_line_byte, attach, lines}
+use Rattle.request_files.proofs.TraceSizes.{lines_few}
+use Rattle.request_files.specs.Text.{Text, lines}
 use Rattle.serve_faults.specs.declared.status.Fault.TheVariants as fault
 use Rattle.serve_faults.specs.Input.{Parts, parts_by, parts_of}
 use Rattle.serve_reading.specs.declared.unserved.Unserved.{Unserved}
 use Rattle.serve_reading.specs.declared.unserved.Unserved.TheVariants.{Refused, NoMemory}
 use Rattle.serve_reading.specs.Reasons.{IsInputReason, IsSessionReason}
 use Rattle.serve_reading.specs.Sessions.{IsSessionInput}
-
-attached : (b n : ℕ) (ls : List Text) → length ls ≤ n → length (attach b ls) ≤ suc n
-attached b n [] h = omega arith
-attached b n (l ∷ ls) h = omega (arith, h)
-
-either : (b : Bool) (n : ℕ) (xs ys : List Text) → length xs ≤ n → length ys ≤ n → length (cond b xs ys) ≤ n
-either true n xs ys h k = h
-either false n xs ys h k = k
-
--- a text has no more lines than bytes
-lines_few : (bs : Text) → length (lines bs) ≤ length bs
-unfolding lines
-lines_few [] = omega arith
-lines_few (b ∷ bs) =
-    let rest = lines_few bs in
-    either (is_line_byte b) (suc (length bs)) (attach b (lines bs)) ([] ∷ lines bs) (attached b (length bs) (lines bs) rest) (omega (arith, rest))
 
 pub first_few : (is : Text → Bool) (bs : Text) (first : ℕ) → first ≡ line_behind is bs → length bs ≤ 4194304 → first ≤ 4194306
 first_few is bs first e h = let within : position_or_len is (lines bs) ≤ length (lines bs) = prefix_len-le-length (λ l. not (is l)) (lines bs) in omega (arith, e, h, within, lines_few bs)

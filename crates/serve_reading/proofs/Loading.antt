@@ -3,7 +3,8 @@ use Rattle.std.proofs.Common.{◌≡◌, ℕ, Bool, true, false, if◌then◌els
 use Rattle.std.specs.Prelude.{IsUtf8}
 use Rattle.session_limits.specs.Limits.{max_input}
 use Rattle.session_values.specs.Names.{Begins}
-use Rattle.syntax_trees.specs.Mentions.{AreNamed, IsBelow, Mention, a_name, a_number, a_symbol, file_mentions}
+use Rattle.syntax_trees.specs.Mentions.{AreNamed, Mention, file_mentions}
+use Rattle.syntax_trees.proofs.Mentions.{below_kept}
 use Rattle.handler_syntax.proofs.TextsKept.{texts_kept}
 use Rattle.handler_syntax.specs.Language.{names_of, File, IsNamedFile, canonical_text, shown_text}
 use Rattle.handler_check.specs.Checking.{IsAccepted}
@@ -11,7 +12,7 @@ use Rattle.may_use_analysis.specs.Later.{AreLater, HasLater}
 use Rattle.declaration_insertion.specs.Program.{ProgramView}
 use Rattle.declaration_insertion.specs.Shown.{shown_of}
 use Rattle.request_files.specs.declared.request.Request.{Request}
-use Rattle.text_lines.specs.Text.{lines}
+use Rattle.request_files.specs.Text.{lines}
 use Rattle.request_files.specs.Requests.{request_of, AreRequests, ArePrintable, first_fault, no_requests}
 use Rattle.request_files.specs.declared.refusal.RequestRefusal.{RequestRefusal}
 use Rattle.opening_tables.specs.Opening.{Pair, IsOpening}
@@ -22,7 +23,7 @@ use Rattle.handler_check.specs.Resolved.{shape_of}
 use Rattle.session_values.specs.ReplyText.{IsPrintable}
 use Rattle.session_values.proofs.Named.{begins_then, printable_kept}
 use Rattle.std.specs.List.{AllByRecursion}
-use Rattle.text_lines.specs.Rows.{Row, names_behind}
+use Rattle.request_files.specs.Rows.{Row, names_behind}
 use Rattle.request_files.specs.Servable.{IsServable}
 use Rattle.serve_faults.specs.declared.status.Fault.{Fault}
 use Rattle.serve_faults.specs.declared.status.Fault.TheVariants as fault
@@ -49,12 +50,6 @@ entries_kept old new (e ∷ es) b h = ((printable_kept old new e.0 b h.0.0, prin
 lists_kept : (old new : List (List ℕ)) (lists : List (List Pair)) → Begins old new → ArePrintableEntries old lists → ArePrintableEntries new lists
 lists_kept old new [] b h = tt
 lists_kept old new (es ∷ lists) b h = (entries_kept old new es b h.0, lists_kept old new lists b h.1)
-
-below_kept : (n m : ℕ) (ms : List Mention) → n ≤ m → AllByRecursion (IsBelow n) ms → AllByRecursion (IsBelow m) ms
-below_kept n m [] le h = tt
-below_kept n m (a_name place ∷ ms) le h = (omega (arith, le, h.0), below_kept n m ms le h.1)
-below_kept n m (a_symbol place ∷ ms) le h = (omega (arith, le, h.0), below_kept n m ms le h.1)
-below_kept n m (a_number z ∷ ms) le h = (tt, below_kept n m ms le h.1)
 
 -- what is mentioned is below a longer list too
 pub mentions_kept : (old new : List (List ℕ)) (ms : List Mention) → Begins old new → AreNamed old ms → AreNamed new ms

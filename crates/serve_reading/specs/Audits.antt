@@ -4,7 +4,7 @@ use Rattle.opening_tables.specs.Opening.{IsOpening}
 use Rattle.handler_syntax.specs.Language.{File}
 use Rattle.handler_check.specs.Resolved.{shape_of}
 use Rattle.request_files.specs.Servable.{IsServable}
-use Rattle.text_lines.specs.Rows.{Row}
+use Rattle.request_files.specs.Rows.{Row}
 use Rattle.trace_lines.specs.EventRows.{IsTrace, first_event_fault}
 use Rattle.trace_lines.specs.declared.refusal.TraceRefusal.{TraceRefusal}
 use Rattle.serve_faults.specs.declared.status.Fault.TheVariants as fault

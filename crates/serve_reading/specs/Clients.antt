@@ -3,7 +3,7 @@ use Rattle.std.specs.Prelude.{◌≡◌, ℕ, ◌≤◌, List}
 use Rattle.opening_tables.specs.Limits.{max_table_lines}
 use Rattle.opening_tables.specs.Opening.{count_all}
 use Rattle.request_files.specs.Clients.{AreShared, row_counts, unmarked}
-use Rattle.text_lines.specs.Text.{lines}
+use Rattle.request_files.specs.Text.{lines}
 use Rattle.serve_faults.specs.Input.{Parts, parts_by, parts_of}
 use Rattle.serve_reading.specs.declared.clients.LoadedClients.{LoadedClients}
 use Rattle.serve_reading.specs.declared.session.Loaded.{Loaded}

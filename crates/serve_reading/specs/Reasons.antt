@@ -6,8 +6,8 @@ use Rattle.handler_check.specs.Checking.{IsAccepted, IsRefusal}
 use Rattle.may_use_analysis.specs.Later.{IsTooMany}
 use Rattle.request_files.specs.Requests.{first_fault, no_requests}
 use Rattle.table_lines.specs.TableRows.{first_table_fault}
-use Rattle.text_lines.specs.Rows.{Row, names_behind}
-use Rattle.serve_words.specs.declared.command.Command.{Command}
+use Rattle.request_files.specs.Rows.{Row, names_behind}
+use Rattle.serve_faults.specs.Command.{Command}
 use Rattle.serve_faults.specs.declared.status.Fault.TheVariants as fault
 use Rattle.serve_faults.specs.Answer.{HasSyntaxFault, HasCheckFault, HasAnalysisFault, HasRequestFault, HasTableFault, IsRefused}
 use Rattle.serve_faults.specs.Input.{Parts, parts_of, is_divided}

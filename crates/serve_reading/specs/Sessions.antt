@@ -11,7 +11,7 @@ use Rattle.request_files.specs.Requests.{ArePrintable, first_fault, no_requests,
 use Rattle.request_files.specs.Servable.{IsServable}
 use Rattle.table_lines.specs.TableRows.{ArePrintable as ArePrintableEntries, first_table_fault}
 use Rattle.table_lines.specs.Opened.{opened_by}
-use Rattle.text_lines.specs.Rows.{Row, names_behind}
+use Rattle.request_files.specs.Rows.{Row, names_behind}
 use Rattle.serve_faults.specs.Input.{Parts, is_divided}
 use Rattle.serve_faults.specs.Session.{all_names_of, opened_of, requests_of, request_fault, table_fault}
 use Rattle.serve_reading.specs.declared.session.Loaded.{Loaded}

@@ -5,10 +5,10 @@ ghost use Rattle.session_limits.specs.Limits.{max_input};
 ghost use Rattle.handler_check.specs.Resolved.{shape_of};
 ghost use Rattle.handler_syntax.specs.Language.{IsNamedFile};
 ghost use Rattle.request_files.specs.TracePart.{IsTracePlace, has_trace};
-ghost use Rattle.text_lines.specs.Rows.{rows};
-ghost use Rattle.text_lines.specs.Text.{lines};
+ghost use Rattle.request_files.specs.Rows.{rows};
+ghost use Rattle.request_files.specs.Text.{lines};
 ghost use Rattle.trace_lines.specs.EventRows.{IsTrace};
-ghost use Rattle.serve_words.specs.declared.command.Command.TheVariants.{Audit};
+ghost use Rattle.serve_faults.specs.Command.TheVariants.{Audit};
 ghost use Rattle.serve_faults.specs.Traced.{table_places};
 ghost use Rattle.serve_faults.specs.Input.{IsInput, max_audit_input, parts_by};
 ghost use Rattle.serve_reading.specs.Audits.{AreTraced, IsAuditOf, IsEventsReason, IsTracedReason};
@@ -24,8 +24,8 @@ use session_limits::MAX_INPUT;
 use session_values::{Names, NoMemory, TableKind};
 use std::alloc::Global;
 use syntax_trees::File;
-use trace_audit::Trace;
 use trace_lines::{TraceRefusal, read_trace};
+use trace_rules::Trace;
 
 /// A session whose requests a trace tells of, and the trace.
 #[derive(Drop)]

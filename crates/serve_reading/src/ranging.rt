@@ -2,7 +2,7 @@
 
 ghost use Rattle.std.specs.Prelude.{◌≤◌, length, IfOk, IfErr};
 ghost use Rattle.session_limits.specs.Limits.{max_input};
-ghost use Rattle.serve_words.specs.declared.command.Command.TheVariants.{Ranges};
+ghost use Rattle.serve_faults.specs.Command.TheVariants.{Ranges};
 ghost use Rattle.serve_faults.specs.Answer.{IsTextOf};
 ghost use Rattle.serve_faults.specs.Input.{IsInput};
 ghost use Rattle.serve_reading.specs.Reasons.{IsReason};

@@ -3,8 +3,8 @@
 ghost use Rattle.std.specs.Prelude.{◌≤◌, ◌+◌, ◌*◌, length, IfOk, IfErr, OnOk};
 ghost use Rattle.session_limits.specs.Limits.{max_input};
 ghost use Rattle.syntax_trees.specs.Mentions.{AreNamed, file_mentions};
-ghost use Rattle.text_lines.specs.Rows.{rows};
-ghost use Rattle.text_lines.specs.Text.{lines};
+ghost use Rattle.request_files.specs.Rows.{rows};
+ghost use Rattle.request_files.specs.Text.{lines};
 ghost use Rattle.serve_faults.specs.Input.{parts_by, parts_of};
 ghost use Rattle.serve_reading.specs.Sessions.{AreOpened, IsLoaded, IsSessionInput};
 ghost use Rattle.serve_reading.specs.Reasons.{IsInputReason, IsLinesReason, IsSessionReason};

@@ -1,5 +1,6 @@
 -- A caller's operation is admitted, or delayed.
 use Rattle.std.proofs.Common.{◌≡◌, ◌≢◌, ℕ, ◌<◌, List, [], ◌∷◌, ◌++◌, length, Option, Some, Bool, true, false, cond, refl, sym, ◌∙◌, ap, append-nil, arith}
+use Rattle.std.proofs.lemmas.Option.{same_Some}
 use Rattle.std.specs.List.{AllByRecursion}
 use Rattle.session_values.specs.declared.op.Op.{Op}
 use Rattle.symbolic_ops.specs.declared.symbol.Symbol.{Symbol}
@@ -9,12 +10,12 @@ use Rattle.session_journal.specs.Journal.{done_operations, of_ticket, entries, o
 use Rattle.session_journal.specs.Script.{Meaning}
 use Rattle.admission_book.specs.Book.{Book, Serving, IsBlocker, record_of, with_event, after_admit, after_delay}
 use Rattle.admission_book.specs.Lawful.{Lawful}
-use Rattle.admission_book.specs.EventsInTurn.{is_delayed}
+use Rattle.session_journal.specs.EventsInTurn.{is_delayed}
 use Rattle.admission_book.specs.Methods as books
 use Rattle.admission_book.specs.Methods.{BookView, IsOldestOpen}
 use Rattle.admission_book.specs.declared.admission.Admission.{Admission}
 use Rattle.admission_book.specs.declared.admission.Admission.TheVariants as admission
-use Rattle.admission_book.proofs.Events.{done_operations_stay}
+use Rattle.session_journal.proofs.Events.{done_operations_stay}
 use Rattle.admission_book.proofs.Records.{within}
 use Rattle.turn_board.specs.Boards.{IsSeatOf, SameNote, BookedAll, turn_count, held, caller, caller_count}
 use Rattle.turn_board.specs.Hands.{put_back}
@@ -22,7 +23,6 @@ use Rattle.hall_rule.specs.declared.held.Held.TheVariants as value
 use Rattle.hall_rule.specs.Contents.{Register}
 use Rattle.hall_rule.specs.Shards.{content_of}
 use Rattle.hall_rule.specs.Tie.{Moves}
-use Rattle.hall_rule.specs.Law.{inside}
 use Rattle.session_hall.specs.declared.caller.Caller.{Caller}
 use Rattle.session_hall.specs.declared.hall.Hall.{Hall}
 use Rattle.session_hall.specs.declared.stage.Stage.TheVariants.{Serving as Serves, InFlight}
@@ -96,7 +96,7 @@ module _ {S : Type 0} (meaning : S → Meaning) (h : Hall S) (c : Caller S) (k :
         let z : IsBlocker b.book t op older y = delays.0 in
         let near : z.caller < length b.book.records = within b.book.records z.caller z.serving z.is in
         let e : z.caller ≡ caller c.seat = omega (arith, near, f.finds.callers_are, one, f.finds.near) in
-        let s : z.serving ≡ waiting t (foresight_of c) = inside z.serving (waiting t (foresight_of c)) (sym z.is ∙ ap (record_of b.book) e ∙ own_record meaning h c k q b v f t st) in
+        let s : z.serving ≡ waiting t (foresight_of c) = same_Some z.serving (waiting t (foresight_of c)) (sym z.is ∙ ap (record_of b.book) e ∙ own_record meaning h c k q b v f t st) in
         let u : z.serving.ticket ≡ t = ap (λ (x : Serving). x.ticket) s in
         omega (arith, u, z.ticket, z.is_older)
 

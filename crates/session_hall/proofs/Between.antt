@@ -1,7 +1,7 @@
 -- A caller that serves no ticket begins one.
-use Rattle.std.proofs.Common.{◌≡◌, ◌≢◌, ℕ, ◌<◌, ◌≤◌, List, [], ◌∷◌, length, Option, Some, None, Bool, false, cond, eqb, refl, sym, ◌∙◌, ap, subst, append-nil, arith}
+use Rattle.std.proofs.Common.{◌≡◌, ℕ, ◌<◌, ◌≤◌, List, [], ◌∷◌, length, Option, Some, None, Bool, cond, refl, sym, ◌∙◌, ap, subst, append-nil, arith}
 use Rattle.std.specs.List.{AllByRecursion}
-use Rattle.std.proofs.lemmas.Bool.Decides.{nat_tests}
+use Rattle.std.proofs.lemmas.Bool.{ne_eqb}
 use Rattle.symbolic_ops.specs.declared.symbol.Symbol.{Symbol}
 use Rattle.symbolic_ops.specs.Matching.{Covered, HasNoVar}
 use Rattle.symbolic_ops.proofs.Above.{covered_itself}
@@ -12,7 +12,7 @@ use Rattle.admission_book.specs.Book.{Book, Serving, record_of, after_begin}
 use Rattle.admission_book.specs.Lawful.{Lawful}
 use Rattle.admission_book.specs.Methods as books
 use Rattle.admission_book.specs.Methods.{BookView, IsOldestOpen}
-use Rattle.admission_book.proofs.Events.{OnlyBegun, only_begun, owner_new, done_operations_stay}
+use Rattle.session_journal.proofs.Events.{OnlyBegun, only_begun, owner_new, done_operations_stay}
 use Rattle.turn_board.specs.Boards.{IsSeatOf, SameNote, BookedAll, turn_count, caller}
 use Rattle.hall_rule.specs.declared.held.Held.{Held}
 use Rattle.hall_rule.specs.Contents.{Register}
@@ -27,13 +27,10 @@ use Rattle.session_hall.specs.Names.{script_of}
 use Rattle.session_hall.specs.Stages.{SeatOf, HoldsNone, Stands, IsBetween, waiting}
 use Rattle.session_hall.proofs.Giving.{Changes, one_record, same_records, at_script, near, own_set, left_is, who, holds_none, gave_back, caller_after, foresight_left}
 
-other_test : (a b : ℕ) → a ≢ b → eqb a b ≡ false
-other_test a b e = grind (arith, nat_tests)
-
 none_yet : (t : ℕ) (ds : List DoneOperation) → AllByRecursion (λ d. d.ticket < t) ds → of_ticket t ds ≡ []
 none_yet t [] a = refl
 none_yet t (d ∷ ds) a =
-    ap (λ (x : Bool). cond x (record { op = d.op; reply = d.reply } ∷ of_ticket t ds) (of_ticket t ds)) (other_test d.ticket t (λ e. omega (arith, a.0, e)))
+    ap (λ (x : Bool). cond x (record { op = d.op; reply = d.reply } ∷ of_ticket t ds) (of_ticket t ds)) (ne_eqb d.ticket t (λ e. omega (arith, a.0, e)))
     ∙ none_yet t ds a.1
 
 -- ---- a caller that serves no ticket

@@ -1,10 +1,11 @@
 -- The contents of what is in the hands.
 use Rattle.std.proofs.Common.{◌≡◌, ℕ, zero, suc, ◌+◌, ◌<◌, ◌≤◌, List, [], ◌∷◌, ◌++◌, length, length-append, map, append_assoc, append-nil, Option, Some, None, Bool, cond, eqb, ℤ, pos, refl, sym, ◌∙◌, ap, subst, arith}
+use Rattle.std.proofs.lemmas.Bool.{eq-eqb, ne_eqb}
+use Rattle.std.proofs.lemmas.Option.{same_Some, none-some}
 use Rattle.std.specs.Prelude.{slice_get}
 use Rattle.std.specs.List.{AllByRecursion}
 use Rattle.session_values.specs.declared.kind.Kind.{Kind}
 use Rattle.session_values.specs.declared.kind.Kind.TheVariants.{Get, Put, Swap, Del, Size, Bump, Has, Add, Mark, Drop, Count}
-use Rattle.session_values.specs.declared.kind.TableKind.{TableKind}
 use Rattle.session_values.specs.declared.kind.TableKind.TheVariants.{Map, Set}
 use Rattle.session_values.specs.declared.op.Op.{Op}
 use Rattle.session_values.specs.declared.value.Value.{Value}
@@ -13,53 +14,45 @@ use Rattle.session_values.specs.Kinds.{arguments}
 use Rattle.session_values.specs.Tables.{Container, Bindings, Members, kind_of, reply_on, map_reply, set_reply, size_of}
 use Rattle.session_values.specs.Kinds.{home}
 use Rattle.session_values.specs.Sums.{sum_below}
+use Rattle.session_values.proofs.KindLemmas.{map_set}
+use Rattle.session_values.proofs.Numbers.{one_zero, two_zero}
 use Rattle.turn_board.specs.Hands.{in_hands, Once}
 use Rattle.hall_rule.specs.declared.held.Held.{Held}
 use Rattle.hall_rule.specs.Contents.{Content, Register, Shard}
-use Rattle.hall_rule.specs.Law.{inside, none_some}
 use Rattle.hall_rule.specs.Shards.{content_of}
 use Rattle.session_hall.specs.Working.{AllCan, AreShards, CanDo, Counting, HasKeysAt, HasShardAt, IsAnyShard, all_keys, contents, keys_in}
-use Rattle.session_hall.proofs.TurnSets.{same_test, other_test, up, up_more, up_none}
+use Rattle.session_hall.proofs.TurnSets.{up, up_more, up_none}
 
 -- ---- the reply of an operation without a key
-zero_one : ◌≡◌ {A = ℕ} 1 0 → ⊥
-zero_one e = omega arith
-
-zero_two : ◌≡◌ {A = ℕ} 2 0 → ⊥
-zero_two e = omega arith
-
-map_set : ◌≡◌ {A = TableKind} Map Set → ⊥
-map_set e = cc
-
 pub keyless_reply : (c : Container) (op : Op) → arguments op.kind ≡ 0 → kind_of c ≡ home op.kind → reply_on c op ≡ Num (pos (size_of c))
 keyless_reply (Bindings m) op none k = go op.kind none k
   where
     go : (x : Kind) → arguments x ≡ 0 → Map ≡ home x → map_reply m x op.key ≡ Num (pos (size_of (Bindings m)))
     go Size n h = refl
     go Count n h = absurd (map_set h)
-    go Get n h = absurd (zero_one n)
-    go Put n h = absurd (zero_two n)
-    go Swap n h = absurd (zero_two n)
-    go Bump n h = absurd (zero_two n)
-    go Del n h = absurd (zero_one n)
-    go Has n h = absurd (zero_one n)
-    go Add n h = absurd (zero_one n)
-    go Mark n h = absurd (zero_one n)
-    go Drop n h = absurd (zero_one n)
+    go Get n h = absurd (one_zero n)
+    go Put n h = absurd (two_zero n)
+    go Swap n h = absurd (two_zero n)
+    go Bump n h = absurd (two_zero n)
+    go Del n h = absurd (one_zero n)
+    go Has n h = absurd (one_zero n)
+    go Add n h = absurd (one_zero n)
+    go Mark n h = absurd (one_zero n)
+    go Drop n h = absurd (one_zero n)
 keyless_reply (Members s) op none k = go op.kind none k
   where
     go : (x : Kind) → arguments x ≡ 0 → Set ≡ home x → set_reply s x op.key ≡ Num (pos (size_of (Members s)))
     go Count n h = refl
     go Size n h = absurd (map_set (sym h))
-    go Get n h = absurd (zero_one n)
-    go Put n h = absurd (zero_two n)
-    go Swap n h = absurd (zero_two n)
-    go Bump n h = absurd (zero_two n)
-    go Del n h = absurd (zero_one n)
-    go Has n h = absurd (zero_one n)
-    go Add n h = absurd (zero_one n)
-    go Mark n h = absurd (zero_one n)
-    go Drop n h = absurd (zero_one n)
+    go Get n h = absurd (one_zero n)
+    go Put n h = absurd (two_zero n)
+    go Swap n h = absurd (two_zero n)
+    go Bump n h = absurd (two_zero n)
+    go Del n h = absurd (one_zero n)
+    go Has n h = absurd (one_zero n)
+    go Add n h = absurd (one_zero n)
+    go Mark n h = absurd (one_zero n)
+    go Drop n h = absurd (one_zero n)
 
 pub number_is : (a b : ℤ) → ◌≡◌ {A = Value} (Num a) (Num b) → a ≡ b
 number_is a b e = cc
@@ -115,8 +108,8 @@ module _ {S : Type 0} where
   pub each_of : (P : ℕ → Content S → Type 0) (zs : List (ℕ × Content S)) → once_in zs → ((u : ℕ) (x : Content S) → find_in zs u ≡ Some x → P u x) → AllByRecursion (λ z. P z.0 z.1) zs
   each_of P [] o f = tt
   each_of P (z ∷ zs) o f = (
-    f z.0 z.1 (ap (λ (b : Bool). cond b (Some z.1) (find_in zs z.0)) (same_test z.0 z.0 refl)),
-    each_of P zs o.2 (λ u x e. f u x (ap (λ (b : Bool). cond b (Some z.1) (find_in zs u)) (other_test z.0 u (λ h. none_some x (sym o.1 ∙ ap (find_in zs) h ∙ e))) ∙ e)),
+    f z.0 z.1 (ap (λ (b : Bool). cond b (Some z.1) (find_in zs z.0)) (eq-eqb z.0 z.0 refl)),
+    each_of P zs o.2 (λ u x e. f u x (ap (λ (b : Bool). cond b (Some z.1) (find_in zs u)) (ne_eqb z.0 u (λ h. none-some x (sym o.1 ∙ ap (find_in zs) h ∙ e))) ∙ e)),
   )
 
   -- ---- the number of keys
@@ -144,9 +137,9 @@ module _ {S : Type 0} where
 
   -- what stands at a place of the pairs stands there among their contents
   content_at : (pairs : List (ℕ × Held S)) (i : ℕ) (x : ℕ × Held S) → slice_get pairs i ≡ Some x → slice_get (contents pairs) i ≡ Some (x.0, content_of x.1)
-  content_at [] zero x e = absurd (none_some x e)
-  content_at [] (suc i) x e = absurd (none_some x e)
-  content_at (y ∷ ys) zero x e = ap (λ (z : ℕ × Held S). let o : Option (ℕ × Content S) = Some (z.0, content_of z.1) in o) (inside y x e)
+  content_at [] zero x e = absurd (none-some x e)
+  content_at [] (suc i) x e = absurd (none-some x e)
+  content_at (y ∷ ys) zero x e = ap (λ (z : ℕ × Held S). let o : Option (ℕ × Content S) = Some (z.0, content_of z.1) in o) (same_Some y x e)
   content_at (y ∷ ys) (suc i) x e = content_at ys i x e
 
   -- what stands behind a front
@@ -177,7 +170,7 @@ module _ {S : Type 0} where
     at : (x : ℕ × Held S) → slice_get pairs done ≡ Some x → next.z ≡ (x.0, content_of x.1)
     at x e =
         let here : slice_get (contents pairs) done ≡ Some next.z = ap (λ (b : List (ℕ × Content S)). slice_get b done) whole ∙ ap (slice_get (k.front ++ next.z ∷ next.zs)) (sym k.long) ∙ behind k.front next.z next.zs in
-        inside next.z (x.0, content_of x.1) (sym here ∙ content_at pairs done x e)
+        same_Some next.z (x.0, content_of x.1) (sym here ∙ content_at pairs done x e)
 
     pub count_can : HasShardAt done pairs
     count_can x e = let P : ℕ × Content S → Type 0 = λ y. IsAnyShard y.1 in subst P (at x e) shards_next.0
@@ -224,8 +217,3 @@ module _ {S : Type 0} where
   pub turns_of : (xs : List (ℕ × Held S)) → map (λ (z : ℕ × Content S). z.0) (contents xs) ≡ map (λ (x : ℕ × Held S). x.0) xs
   turns_of [] = refl
   turns_of (x ∷ xs) = ap (λ (l : List ℕ). x.0 ∷ l) (turns_of xs)
-
--- sums of what is the same
-pub sum_same : (n : ℕ) (f k : ℕ → ℕ) → ((i : ℕ) → i < n → f i ≡ k i) → sum_below n f ≡ sum_below n k
-sum_same zero f k e = refl
-sum_same (suc n) f k e = let h : sum_below n f ≡ sum_below n k = sum_same n f k (λ i l. e i (omega (arith, l))) in let z : f n ≡ k n = e n (omega arith) in omega (arith, h, z)

@@ -3,6 +3,8 @@ use Rattle.std.proofs.Common.{◌≡◌, ◌≢◌, ℕ, suc, ◌+◌, ◌*◌, 
 use Rattle.std.specs.Int.{bit_at}
 use Rattle.std.proofs.lemmas.Nat.{div-mul-add, mod-mul-add}
 use Rattle.std.proofs.lemmas.Nat.Bits.{bit_at-lt, bit_at_mask_below}
+use Rattle.std.proofs.lemmas.Bool.{eqb-true, eqb-false, eq-eqb, ne_eqb}
+use Rattle.std.proofs.lemmas.Option.{none-some, slice_get_within}
 use Rattle.session_values.specs.declared.op.Op.{Op}
 use Rattle.session_values.specs.declared.value.Value.{Value}
 use Rattle.session_values.specs.declared.value.Value.TheVariants.{Num}
@@ -15,6 +17,7 @@ use Rattle.session_journal.specs.Journal.{done_operations, in_order}
 use Rattle.session_journal.specs.Script.{Meaning, adds_on, room}
 use Rattle.session_journal.proofs.Serving.{opening_few}
 use Rattle.session_values.specs.Sums.{sum_below}
+use Rattle.session_values.proofs.Sums.{sum_alike}
 use Rattle.turn_board.specs.Seated.{TableId}
 use Rattle.shard_tables.specs.Parts.{part, shard_of}
 use Rattle.shard_tables.proofs.PartSizes.{part_sizes}
@@ -26,7 +29,7 @@ use Rattle.turn_board.specs.Maps.{bits_of}
 use Rattle.turn_board.proofs.Rows.{two}
 use Rattle.hall_rule.specs.declared.held.Held.{Held}
 use Rattle.hall_rule.specs.Contents.{Content, Shard, IsShard, share, shards_in, tables_after}
-use Rattle.hall_rule.specs.Law.{none_some, lies_within, same_container}
+use Rattle.hall_rule.specs.Law.{same_container}
 use Rattle.hall_rule.specs.Shards.{content_of}
 use Rattle.hall_rule.specs.Tie.{Tied}
 use Rattle.hall_rule.specs.Turns.{ChangedBy, IsTurnOf, WasDone, place, span, turn_set}
@@ -41,11 +44,11 @@ use Rattle.session_hall.specs.Findings.{Finds}
 use Rattle.session_hall.specs.Names.{script_of}
 use Rattle.session_hall.specs.Stages.{SeatOf, HoldsNone, Stands, OnFlight, flying, foresight_in}
 use Rattle.session_hall.specs.Working.{CanDo, CanWork, HasWorked, WorkedFirst, WorkedTo, all_keys, contents, keys_in}
-use Rattle.session_hall.proofs.Counts.{each_of, find_in, found_once, in_find, keyless_reply, keys_sum, once_found, once_in, sum_over, sum_same, sum_up, turns_of}
+use Rattle.session_hall.proofs.Counts.{each_of, find_in, found_once, in_find, keyless_reply, keys_sum, once_found, once_in, sum_over, sum_up, turns_of}
 use Rattle.session_hall.proofs.Finding.{finds_book, is_tied, shard_at}
 use Rattle.session_hall.proofs.Giving.{opens, caller_on}
-use Rattle.session_hall.proofs.TurnSets.{bit_inside, bits_row, few_span, in_row, length-up, other_test, row_low, same_test, some_span, some_turns, turn_in, turn_out, up, up_one}
-use Rattle.session_hall.proofs.OneShard.{to_shard, changed, single, same, differs, shards_are, product_small}
+use Rattle.session_hall.proofs.TurnSets.{bit_inside, bits_row, few_span, in_row, length-up, row_low, some_span, some_turns, turn_in, turn_out, up, up_one}
+use Rattle.session_hall.proofs.OneShard.{to_shard, changed, single, shards_are, product_small}
 
 module _ {S : Type 0} (meaning : S → Meaning) (h : Hall S) (c : Caller S) (k : IsCallerOf meaning h c) (t : ℕ) (op : Op) (st : c.stage ≡ InFlight t op) where
   abbrev m : Meaning
@@ -73,7 +76,7 @@ module _ {S : Type 0} (meaning : S → Meaning) (h : Hall S) (c : Caller S) (k :
   fits = k.script_kept.fits t (replies (entries_of c t)) op (noted_flight.flight op refl)
 
   in_table : op.table < length (meaning (script_of h)).shape
-  in_table = lies_within m.shape op.table (home op.kind) fits.table
+  in_table = slice_get_within m.shape op.table (home op.kind) fits.table
 
   shards_known : shards_in (meaning (script_of h)) (turn_count h.board) ≡ h.sizes.shards
   shards_known =
@@ -147,7 +150,7 @@ module _ {S : Type 0} (meaning : S → Meaning) (h : Hall S) (c : Caller S) (k :
 
       -- a turn that is held is one of the operation's
       bit_held : (u : ℕ) (x : Content S) → held q u ≡ Some x → bit_at set u ≡ 1
-      bit_held u x e = two (bit_at set u) (λ b. b ≡ 1) (bit_at-lt set u) (λ z. absurd (none_some x (sym ((g.others u z).0 ∙ nothing.free u) ∙ e))) (λ z. refl)
+      bit_held u x e = two (bit_at set u) (λ b. b ≡ 1) (bit_at-lt set u) (λ z. absurd (none-some x (sym ((g.others u z).0 ∙ nothing.free u) ∙ e))) (λ z. refl)
 
       pub record IsBehind (u : ℕ) (x : Content S) : Type 0 where
         pub place_of : ℕ
@@ -198,11 +201,11 @@ module _ {S : Type 0} (meaning : S → Meaning) (h : Hall S) (c : Caller S) (k :
           ∙ ap (sum_over (keys_at K)) (turns_of xs ∙ rising)
           ∙ sum_up (keys_at K) lo (span n op)
           ∙ ap (λ (a : ℕ). sum_below a (λ i. keys_at K (lo + i))) all_shards
-          ∙ sum_same n (λ i. keys_at K (lo + i)) (λ i. size_of (part n i (table (tables_after m K) op.table))) part_at
+          ∙ sum_alike n (λ i. keys_at K (lo + i)) (λ i. size_of (part n i (table (tables_after m K) op.table))) part_at
           ∙ part_sizes n (table (tables_after m K) op.table) k.some_shards
         where
           no_key : eqb (arguments op.kind) 0 ≡ true
-          no_key = same_test (arguments op.kind) 0 none
+          no_key = eq-eqb (arguments op.kind) 0 none
 
           all_shards : span n op ≡ n
           all_shards = ap (λ (b : Bool). cond b n 1) no_key
@@ -255,7 +258,7 @@ module _ {S : Type 0} (meaning : S → Meaning) (h : Hall S) (c : Caller S) (k :
 
         one_shard : 0 < arguments op.kind → IsKeyed
         one_shard keyed =
-            let one : span n op ≡ 1 = ap (λ (b : Bool). cond b n 1) (other_test (arguments op.kind) 0 (λ e. omega (arith, e, keyed))) in
+            let one : span n op ≡ 1 = ap (λ (b : Bool). cond b n 1) (ne_eqb (arguments op.kind) 0 (λ e. omega (arith, e, keyed))) in
             let s : (x : ℕ × Held S) × (xs ≡ x ∷ []) × (x.0 ≡ lo) = single xs lo (rising ∙ ap (up lo) one ∙ up_one lo) in
             let P : List (ℕ × Held S) → Type 0 = λ l. WorkedFirst op l ys answer in
             let z : WorkedFirst op (s.0 ∷ []) ys answer = subst P s.1 (w.1 keyed) in
@@ -265,8 +268,8 @@ module _ {S : Type 0} (meaning : S → Meaning) (h : Hall S) (c : Caller S) (k :
         by_key P a b = go (eqb (arguments op.kind) 0) refl
           where
             go : (x : Bool) → eqb (arguments op.kind) 0 ≡ x → P
-            go true e = a (same (arguments op.kind) 0 e)
-            go false e = let z : arguments op.kind ≢ 0 = differs (arguments op.kind) 0 e in b (omega (arith, z))
+            go true e = a (eqb-true (arguments op.kind) 0 e)
+            go false e = let z : arguments op.kind ≢ 0 = eqb-false (arguments op.kind) 0 e in b (omega (arith, z))
 
         pub once_worked : Once (content_of {S = S}) ys
         once_worked = by_key (Once (content_of {S = S}) ys)
@@ -319,7 +322,7 @@ module _ {S : Type 0} (meaning : S → Meaning) (h : Hall S) (c : Caller S) (k :
             keyed key =
                 let o : IsKeyed = one_shard key in
                 let s : (d : Container) × (r : ℕ) × (content_of o.x.1 ≡ Shard d r) × (content_of o.y ≡ Shard (after_on d op) r) × (answer ≡ reply_on d op) = to_shard op (content_of o.x.1) (content_of o.y) answer o.worked in
-                let in_place : in_hands (content_of {S = S}) (o.x ∷ []) lo ≡ Some (content_of o.x.1) = ap (λ (b : Bool). cond {A = Option (Content S)} b (Some (content_of o.x.1)) None) (same_test o.x.0 lo o.turn_is) in
+                let in_place : in_hands (content_of {S = S}) (o.x ∷ []) lo ≡ Some (content_of o.x.1) = ap (λ (b : Bool). cond {A = Option (Content S)} b (Some (content_of o.x.1)) None) (eq-eqb o.x.0 lo o.turn_is) in
                 let here : held q lo ≡ Some (Shard s.0 s.1) = sym (hold lo) ∙ ap (λ (l : List (ℕ × Held S)). in_hands (content_of {S = S}) l lo) o.before ∙ in_place ∙ ap Some s.2 in
                 let at : IsTurnOf n op (place n op) = turn_in n op k.some_shards (place n op) (omega arith) (omega (arith, some_span n op k.some_shards)) in
                 share_reply m turns K (place n op) op (at_shards (place n op) at) key ∙ ap (λ (d : Container). reply_on d op) (sym (shares (place n op) s.0 s.1 here)) ∙ sym s.4
@@ -336,7 +339,7 @@ module _ {S : Type 0} (meaning : S → Meaning) (h : Hall S) (c : Caller S) (k :
               let P : ℕ → Type 0 = λ a. IsTurnOf a op j in
               let r : (place n op ≤ j) × (j < place n op + span n op) = turn_out n op k.some_shards j (subst P shards_known i) in
               let one : bit_at set (suc j) ≡ 1 = ap (λ (x : ℕ). bit_at x (suc j)) is ∙ bit_inside lo (span n op) (suc j) (omega (arith, r.0)) (omega (arith, r.1)) in
-              none_some (g.here (suc j) one).0 (sym e ∙ (g.here (suc j) one).1);
+              none-some (g.here (suc j) one).0 (sym e ∙ (g.here (suc j) one).1);
           settled = settled;
         }
 

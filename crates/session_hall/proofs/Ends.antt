@@ -6,10 +6,10 @@ use Rattle.session_journal.specs.Journal.{of_ticket, entries, begun, ended}
 use Rattle.session_journal.specs.Script.{Meaning}
 use Rattle.admission_book.specs.Book.{Book, record_of, after_end}
 use Rattle.admission_book.specs.Lawful.{Lawful}
-use Rattle.admission_book.specs.EventsInTurn.{IsOpen}
+use Rattle.session_journal.specs.EventsInTurn.{IsOpen}
 use Rattle.admission_book.specs.Methods as books
 use Rattle.admission_book.specs.Methods.{BookView, IsOldestOpen}
-use Rattle.admission_book.proofs.Events.{done_operations_stay, begun_stays, ended_new}
+use Rattle.session_journal.proofs.Events.{done_operations_stay, begun_stays, ended_new}
 use Rattle.turn_board.specs.Boards.{IsSeatOf, SameNote, BookedAll, turn_count, held, caller}
 use Rattle.turn_board.specs.Hands.{put_back}
 use Rattle.hall_rule.specs.declared.held.Held.TheVariants as value

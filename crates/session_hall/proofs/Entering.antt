@@ -1,6 +1,7 @@
 -- An operation that was done on its shards is entered in the book.
 use Rattle.std.proofs.Common.{◌≡◌, ℕ, zero, suc, ◌<◌, List, [], ◌∷◌, ◌++◌, length, Option, Some, None, refl, sym, ◌∙◌, ap, subst, arith}
 use Rattle.std.proofs.lemmas.List.{length-set, get_or-set_other}
+use Rattle.std.proofs.lemmas.Option.{none-some, same_Some, slice_get_within}
 use Rattle.session_values.specs.declared.op.Op.{Op}
 use Rattle.session_values.specs.declared.value.Value.{Value}
 use Rattle.session_values.specs.Dialogue.{Entry, rest, replies}
@@ -14,13 +15,12 @@ use Rattle.session_journal.specs.Script.{Meaning, IsForesight}
 use Rattle.admission_book.specs.Book.{Book, Holds, record_of, after_done}
 use Rattle.admission_book.specs.Lawful.{Lawful}
 use Rattle.admission_book.specs.Methods.{BookView, MayDo, DidIt}
-use Rattle.admission_book.proofs.Events.{first_stays, entries_more}
+use Rattle.session_journal.proofs.Events.{first_stays, entries_more}
 use Rattle.turn_board.specs.Boards.{IsSeatOf, SameNote, BookedAll, turn_count, held, caller}
 use Rattle.turn_board.specs.Hands.{in_hands, put_back}
 use Rattle.turn_board.specs.Maps.{SameTurns}
 use Rattle.hall_rule.specs.declared.held.Held.TheVariants as value
 use Rattle.hall_rule.specs.Contents.{Content, Register, Shard, tables_after}
-use Rattle.hall_rule.specs.Law.{none_some, inside, lies_within}
 use Rattle.hall_rule.specs.Shards.{content_of}
 use Rattle.hall_rule.specs.Tie.{Moves}
 use Rattle.hall_rule.specs.Turns.{ChangedBy, WasDone}
@@ -47,20 +47,20 @@ is_applied m Out f b next may = may
 
 -- ---- what was in a turn and what is in the hands
 worked_held : {S : Type 0} (op : Op) (o k : Option (Content S)) (x : Content S) → ChangedBy op o k → k ≡ Some x → (c : Container) × (room : ℕ) × (o ≡ Some (Shard c room)) × (x ≡ Shard (after_on c op) room)
-worked_held op None None x w e = absurd (none_some x e)
+worked_held op None None x w e = absurd (none-some x e)
 worked_held op None (Some y) x w e = absurd w
 worked_held op (Some z) None x w e = absurd w
-worked_held op (Some z) (Some y) x w e = (w.0, w.1, ap Some w.2, sym (inside y x e) ∙ w.3)
+worked_held op (Some z) (Some y) x w e = (w.0, w.1, ap Some w.2, sym (same_Some y x e) ∙ w.3)
 
 worked_free : {S : Type 0} (op : Op) (o k : Option (Content S)) → ChangedBy op o k → k ≡ None → o ≡ None
 worked_free op None k w e = refl
 worked_free op (Some z) None w e = absurd w
-worked_free op (Some z) (Some y) w e = absurd (none_some y (sym e))
+worked_free op (Some z) (Some y) w e = absurd (none-some y (sym e))
 
 free_worked : {S : Type 0} (op : Op) (o k : Option (Content S)) → ChangedBy op o k → o ≡ None → k ≡ None
 free_worked op o None w e = refl
 free_worked op None (Some y) w e = absurd w
-free_worked op (Some z) (Some y) w e = absurd (none_some z (sym e))
+free_worked op (Some z) (Some y) w e = absurd (none-some z (sym e))
 
 module _ {S : Type 0} (meaning : S → Meaning) (h : Hall S) (c : Caller S) (k : IsCallerOf meaning h c) (q : SeatOf S) (b : BookView S) (v : SameNote c.seat q) (f : HasBook c.seat q meaning (script_of h) (turn_count h.board) b) (t : ℕ) (op : Op) (answer : Value) (st : c.stage ≡ Applied t op answer) where
   abbrev m : Meaning
@@ -85,7 +85,7 @@ module _ {S : Type 0} (meaning : S → Meaning) (h : Hall S) (c : Caller S) (k :
   fits = k.script_kept.fits t (replies (entries b.book.journal t)) op (holds.flight op refl)
 
   in_table : op.table < length (meaning (script_of h)).shape
-  in_table = lies_within (meaning (script_of h)).shape op.table (home op.kind) fits.table
+  in_table = slice_get_within (meaning (script_of h)).shape op.table (home op.kind) fits.table
 
   shard_held : (j : ℕ) → held q (suc j) ≡ held c.seat (suc j)
   shard_held j = f.others (suc j) (λ e. omega arith)
@@ -117,11 +117,11 @@ module _ {S : Type 0} (meaning : S → Meaning) (h : Hall S) (c : Caller S) (k :
   same_turns d = (λ u e. forth u e, λ u e. back u e)
     where
       forth : (u : ℕ) → held q u ≡ None → put_back content_of (value.Register d) c.hands.pairs u ≡ None
-      forth zero e = absurd (none_some (Register (script_of h) b.book) (sym e ∙ f.here))
+      forth zero e = absurd (none-some (Register (script_of h) b.book) (sym e ∙ f.here))
       forth (suc j) e = free_worked op _ _ (worked.each j) (sym (shard_held j) ∙ e)
 
       back : (u : ℕ) → put_back content_of (value.Register d) c.hands.pairs u ≡ None → held q u ≡ None
-      back zero e = absurd (none_some (content_of (value.Register d)) (sym e))
+      back zero e = absurd (none-some (content_of (value.Register d)) (sym e))
       back (suc j) e = shard_held j ∙ worked_free op _ _ (worked.each j) e
 
   module _ (next : List Symbol) (d : BookView S) (kept : d.script ≡ b.script) (lawful : Lawful (meaning d.script) d.book) (did : DidIt b.book t answer next d.book) where

@@ -1,5 +1,6 @@
 -- What a caller finds when it takes the book.
 use Rattle.std.proofs.Common.{◌≡◌, ℕ, suc, ◌<◌, List, Some, length, sym, ◌∙◌, ap, subst, arith}
+use Rattle.std.proofs.lemmas.Option.{same_Some, slice_get_within}
 use Rattle.std.specs.Prelude.{slice_get}
 use Rattle.session_values.specs.Tables.{Container}
 use Rattle.session_journal.specs.Script.{Meaning}
@@ -8,7 +9,7 @@ use Rattle.admission_book.specs.Lawful.{Lawful}
 use Rattle.admission_book.specs.Methods.{BookView}
 use Rattle.turn_board.specs.Boards.{SameNote, Gained, Tells, held, note, caller, caller_count}
 use Rattle.hall_rule.specs.Contents.{Content, Register, Shard, IsShard, IsSince, IsNote, share}
-use Rattle.hall_rule.specs.Law.{inside, lies_within, same_script, same_book, same_container, apart_contents}
+use Rattle.hall_rule.specs.Law.{same_script, same_book, same_container, apart_contents}
 use Rattle.hall_rule.specs.Tie.{Tied}
 use Rattle.session_hall.specs.Callers.{book_in}
 use Rattle.session_hall.specs.Findings.{Finds, HasBook, IsTied, turns_at}
@@ -57,7 +58,7 @@ module _ {S : Type 0} (meaning : S → Meaning) (script : S) (turns : ℕ) (p q 
   finds_book =
       let P : S → Type 0 = λ s. Lawful (meaning s) t.tied.book in
       let Q : Book → Type 0 = λ d. IsSince d t.tied.book (caller p) in
-      let near : caller p < length t.notes = lies_within t.notes (caller p) (Register script (book_in (note p))) note_at in
+      let near : caller p < length t.notes = slice_get_within t.notes (caller p) (Register script (book_in (note p))) note_at in
       let e : length t.notes ≡ caller_count q = t.callers in
       let r : caller_count q ≡ caller_count p = v.caller_count_is in
       record {
@@ -82,7 +83,7 @@ module _ {S : Type 0} (meaning : S → Meaning) (script : S) (turns : ℕ) (p q 
   -- the book was taken
   module _ (b : BookView S) (g : Gained p q 0 (Register b.script b.book)) where
     registers : ◌≡◌ {A = Content S} (Register t.tied.script t.tied.book) (Register b.script b.book)
-    registers = inside _ _ (sym t.tied.register ∙ t.own 0 (Register b.script b.book) g.here)
+    registers = same_Some _ _ (sym t.tied.register ∙ t.own 0 (Register b.script b.book) g.here)
 
     script_is : b.script ≡ script
     script_is = sym (same_script t.tied.script b.script t.tied.book b.book registers) ∙ script_here
@@ -110,4 +111,4 @@ module _ {S : Type 0} (meaning : S → Meaning) (script : S) (turns : ℕ) (p q 
 
 -- the book's turn holds the book
 pub no_shard : {S : Type 0} (meaning : S → Meaning) (turns : ℕ) (p q : SeatOf S) (t : Tells (Tied meaning) turns q) (c : Container) (room : ℕ) → Gained p q 0 (Shard c room) → ⊥
-no_shard {S} meaning turns p q t c room g = apart_contents t.tied.script t.tied.book c room (inside _ _ (sym t.tied.register ∙ t.own 0 (Shard c room) g.here))
+no_shard {S} meaning turns p q t c room g = apart_contents t.tied.script t.tied.book c room (same_Some _ _ (sym t.tied.register ∙ t.own 0 (Shard c room) g.here))

@@ -4,8 +4,9 @@ use Rattle.std.specs.Prelude.{slice_get}
 use Rattle.std.specs.List.{AllByRecursion}
 use Rattle.turn_board.specs.Seated.{TableId}
 use Rattle.std.proofs.lemmas.List.{length-set, get_or-set_other, get_or-set_same}
+use Rattle.std.proofs.lemmas.Option.{none-some}
 use Rattle.session_values.specs.Tables.{kind_of}
-use Rattle.opening_tables.proofs.Openings.{opening_kinds}
+use Rattle.session_journal.proofs.Openings.{opening_kinds}
 use Rattle.symbolic_ops.specs.declared.symbol.Symbol.{Symbol}
 use Rattle.session_journal.specs.declared.event.Event.{Event}
 use Rattle.session_journal.specs.Journal.{done_operations, owner, ticket_of}
@@ -19,7 +20,6 @@ use Rattle.turn_board.specs.Hands.{HandsView, Once, in_hands, put_back}
 use Rattle.hall_rule.specs.declared.held.Held.{Held}
 use Rattle.hall_rule.specs.declared.held.Held.TheVariants as value
 use Rattle.hall_rule.specs.Contents.{Content, Register, share, opening_tables}
-use Rattle.hall_rule.specs.Law.{none_some}
 use Rattle.hall_rule.specs.Shards.{content_of}
 use Rattle.hall_rule.specs.Tie.{Moves}
 use Rattle.hall_rule.specs.Turns.{WasDone}
@@ -124,7 +124,7 @@ module _ {S : Type 0} (meaning : S → Meaning) (h : Hall S) (c : Caller S) (k :
           more = more;
           grows = ch.grows;
           own = ch.own;
-          held = λ j x e. absurd (none_some x e);
+          held = λ j x e. absurd (none-some x e);
           free = λ j e. share_quiet m (turn_count h.board) b.book.journal more j quiet ∙ ap (λ (J : List Event). share m (turn_count h.board) J j) ch.grows;
         }))
 

@@ -2,6 +2,7 @@
 use Rattle.std.proofs.Common.{◌≡◌, ℕ, zero, suc, ◌+◌, ◌*◌, ◌/◌, ◌%◌, ◌<◌, ◌≤◌, List, [], ◌∷◌, ◌++◌, length, map, drop, get_or, append_assoc, append-nil, Option, Some, IsSome, is_some, refl, sym, ◌∙◌, ap, subst, arith}
 use Rattle.std.specs.Prelude.{slice_get}
 use Rattle.std.proofs.lemmas.List.{length-map, map-append}
+use Rattle.std.proofs.lemmas.Option.{slice_get_within, same_Some}
 use Rattle.std.specs.List.{AllByRecursion}
 use Rattle.session_values.specs.declared.reply.Reply.{Reply}
 use Rattle.session_values.specs.Serial.{serial_replies, tables_before}
@@ -16,11 +17,12 @@ use Rattle.admission_book.specs.Lawful.{Lawful}
 use Rattle.turn_board.specs.Boards.{AllEnd, Ends, note, turn_count}
 use Rattle.hall_rule.specs.declared.held.Held.{Held}
 use Rattle.hall_rule.specs.declared.held.Held.TheVariants as value
-use Rattle.hall_rule.specs.declared.part.Part.{Part}
+use Rattle.shard_tables.specs.declared.part.Part.{Part}
 use Rattle.hall_rule.specs.Contents.{Content, Register, Shard, shards_in}
 use Rattle.hall_rule.specs.Halls.{AllEnded, IsOut}
-use Rattle.hall_rule.specs.Law.{none_some, inside, same_script, same_book, same_container, apart_contents}
-use Rattle.hall_rule.specs.Shards.{content_of, shard_view}
+use Rattle.hall_rule.specs.Law.{same_script, same_book, same_container, apart_contents}
+use Rattle.shard_tables.specs.Either.{shard_view}
+use Rattle.hall_rule.specs.Shards.{content_of}
 use Rattle.hall_rule.specs.Tie.{Tied}
 use Rattle.hall_rule.proofs.Counting.{note_grows, whole_note}
 use Rattle.hall_rule.proofs.Halls.{all_ended}
@@ -51,7 +53,7 @@ module _ {S : Type 0} (meaning : S → Meaning) (h : Hall S) (i : ℕ) (c : Call
   out_here : (x : Content S) → note c.seat ≡ Some x → IsOut (meaning (script_of h)) (script_of h) i x
   out_here x e = record {
     book = book_of c;
-    is = inside x (Register (script_of h) (book_of c)) (sym e ∙ l.caller.noted);
+    is = same_Some x (Register (script_of h) (book_of c)) (sym e ∙ l.caller.noted);
     no_ticket = ap (record_of (book_of c)) (sym (l.caller.number_is ∙ l.number_is)) ∙ stands_out.0;
     all = stands_out.1;
   }
@@ -102,7 +104,7 @@ module _ {S : Type 0} (meaning : S → Meaning) (h : Hall S) (callers : List (Ca
     -- there is a record for each caller
     as_many_records : (a : ℕ) (e : AllEnded (meaning (script_of h)) (script_of h) (map content_of values) a) → length e.book.records ≡ h.sizes.callers
     as_many_records a e =
-        let same : tied.book ≡ e.book = same_book tied.script (script_of h) tied.book e.book (inside _ _ (sym tied.register ∙ e.register)) in
+        let same : tied.book ≡ e.book = same_book tied.script (script_of h) tied.book e.book (same_Some _ _ (sym tied.register ∙ e.register)) in
         ap (λ (b : Book). length b.records) (sym same) ∙ tied.callers ∙ notes_many ∙ as_many
 
     -- what stands in the callers' notes
@@ -128,7 +130,7 @@ module _ {S : Type 0} (meaning : S → Meaning) (h : Hall S) (callers : List (Ca
 
     noted_by : (a : ℕ) (e : AllEnded (meaning (script_of h)) (script_of h) (map content_of values) a) → IsNotedBy callers e.book.journal
     noted_by a e =
-        let same : tied.book ≡ e.book = same_book tied.script (script_of h) tied.book e.book (inside _ _ (sym tied.register ∙ e.register)) in
+        let same : tied.book ≡ e.book = same_book tied.script (script_of h) tied.book e.book (same_Some _ _ (sym tied.register ∙ e.register)) in
         let P : Book → Type 0 = λ b. IsNotedBy callers b.journal in
         subst P same (record { whole = whole_journal; fronts = front_journal })
 
@@ -158,7 +160,7 @@ module _ {S : Type 0} (meaning : S → Meaning) (h : Hall S) (callers : List (Ca
   m = meaning (script_of h)
 
   register_at : content_of v ≡ Register (script_of h) l.ended.book
-  register_at = inside _ _ (ap (λ (xs : List (Held S)). slice_get (map content_of xs) 0) (sym is) ∙ l.ended.register)
+  register_at = same_Some _ _ (ap (λ (xs : List (Held S)). slice_get (map content_of xs) 0) (sym is) ∙ l.ended.register)
 
   pub no_table : (p : Part) → v ≡ value.Table p → ⊥
   no_table p e = apart_contents (script_of h) l.ended.book (shard_view p).container (shard_view p).room (sym register_at ∙ ap content_of e)
@@ -220,13 +222,8 @@ module _ {S : Type 0} (meaning : S → Meaning) (h : Hall S) (callers : List (Ca
           let here : (shard_view x).container ≡ part sh (j % sh) (table (tables_before (session_of m) m.requests) (j / sh)) = same_container {S = S} (shard_view x).container (part sh (j % sh) (table (tables_before (session_of m) m.requests) (j / sh))) (shard_view x).room p.0 p.1 in
           here ∙ ap (λ (a : ℕ). part a (j % a) (table (tables_before (session_of m) m.requests) (j / a))) shards_known
         where
-          within : {X : Type 0} (xs : List X) (i : ℕ) (y : X) → slice_get xs i ≡ Some y → i < length xs
-          within [] i y h = absurd (none_some y h)
-          within (z ∷ xs) zero y h = omega arith
-          within (z ∷ xs) (suc i) y h = omega (arith, within xs i y h)
-
           shards_known : sh ≡ h.sizes.shards
-          shards_known = shards_are (length values) (length m.shape) h.sizes.shards l.long (some_tables (length m.shape) h.sizes.shards (omega (arith, within parts j x e, parts_many)))
+          shards_known = shards_are (length values) (length m.shape) h.sizes.shards l.long (some_tables (length m.shape) h.sizes.shards (omega (arith, slice_get_within parts j x e, parts_many)))
             where
               some_tables : (a n : ℕ) → 0 < a * n → 0 < a
               some_tables zero n p = absurd (omega (arith, p))

@@ -20,3 +20,7 @@ pub mod Left
 pub mod Listed
 pub mod Tried
 pub mod Waited
+pub use Rattle.turn_board.proofs.Rows
+pub use Rattle.hall_rule.proofs.Shares
+pub use Rattle.session_journal.proofs.Serial
+pub use Rattle.shard_tables.proofs.PartSteps

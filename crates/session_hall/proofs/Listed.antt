@@ -1,24 +1,26 @@
 -- The entries with which a closed hall leaves its tables.
-use Rattle.std.proofs.Common.{◌≡◌, ℕ, zero, suc, ◌+◌, ◌*◌, ◌-◌, ◌<◌, ◌≤◌, ◌⊎◌, inl, inr, List, [], ◌∷◌, ◌++◌, length, length-append, length-drop, take, drop, get_or, Some, mul-le-mul, refl, sym, ◌∙◌, ap, subst, arith}
+use Rattle.std.proofs.Common.{◌≡◌, ℕ, zero, suc, ◌+◌, ◌*◌, ◌-◌, ◌<◌, ◌≤◌, inl, inr, List, [], ◌∷◌, ◌++◌, length, length-append, length-drop, drop, get_or, Some, mul-le-mul, refl, sym, ◌∙◌, ap, subst, arith, le_refl}
 use Rattle.std.specs.Prelude.{slice_get}
 use Rattle.std.specs.List.{AllByRecursion}
 use Rattle.std.proofs.lemmas.List.{length-take-le}
 use Rattle.std.proofs.lemmas.Nat.{div-mul-add, mod-mul-add}
+use Rattle.std.proofs.lemmas.Bool.{cases_lt}
+use Rattle.std.proofs.lemmas.Option.{none-some}
 use Rattle.session_values.specs.declared.kind.TableKind.{TableKind}
 use Rattle.session_values.specs.Serial.{tables_before}
 use Rattle.session_values.specs.Tables.{Container, Tables, kind_of, size_of, table}
-use Rattle.opening_tables.specs.Opening.{Pair, AreApart, entries_of, tables_of}
-use Rattle.opening_tables.proofs.Openings.{entries_few, opening_size}
+use Rattle.session_values.proofs.Options.{in_drop, in_take}
+use Rattle.session_journal.specs.Opening.{Pair, AreApart, entries_of, tables_of}
+use Rattle.session_journal.proofs.Openings.{entries_few, opening_size}
 use Rattle.session_journal.specs.declared.event.Event.{Event}
 use Rattle.session_journal.specs.Script.{Meaning, room, session_of}
 use Rattle.shard_tables.specs.Parts.{part}
 use Rattle.admission_book.proofs.Keys.{keys_few}
 use Rattle.turn_board.proofs.Rows.{get-within}
-use Rattle.hall_rule.specs.declared.part.Part.{Part}
+use Rattle.shard_tables.specs.declared.part.Part.{Part}
 use Rattle.hall_rule.specs.Contents.{tables_after}
-use Rattle.hall_rule.specs.Law.{none_some}
-use Rattle.hall_rule.specs.Listing.{all_entries, all_sizes, entries_in}
-use Rattle.hall_rule.specs.Shards.{shard_view}
+use Rattle.shard_tables.specs.Either.{entries_in, shard_view}
+use Rattle.hall_rule.specs.Listing.{all_entries, all_sizes}
 use Rattle.hall_rule.proofs.Shares.{kind_table}
 use Rattle.hall_rule.proofs.Wholes.{AreParts, apart_all, sizes_whole, whole}
 use Rattle.session_hall.specs.Closings.{ClosedView, IsDone}
@@ -26,42 +28,20 @@ use Rattle.session_hall.specs.Listings.{AreLeft, listed, shards_at}
 use Rattle.session_hall.proofs.Giving.{opens}
 
 -- ---- places
-lt_or : (a b : ℕ) → (a < b) ⊎ (b ≤ a)
-lt_or a b = grind arith
-
 -- a table of which a shard stands below the end
 below : (i tables n : ℕ) → i * n < tables * n → i < tables
-below i tables n h = elim (lt_or i tables) [
+below i tables n h = elim (cases_lt i tables) [
   | inl l ↦ l
-  | inr g ↦ (let z : tables * n ≤ i * n = mul-le-mul g (le n) in absurd (omega (arith, h, z)))
+  | inr g ↦ (let z : tables * n ≤ i * n = mul-le-mul g (le_refl n) in absurd (omega (arith, h, z)))
 ]
-  where
-    le : (a : ℕ) → a ≤ a
-    le a = omega arith
 
 ends_within : (i tables n : ℕ) → i < tables → i * n + n ≤ tables * n
 ends_within i tables n l =
-    let z : suc i * n ≤ tables * n = mul-le-mul (up l) (le n) in
+    let z : suc i * n ≤ tables * n = mul-le-mul (up l) (le_refl n) in
     omega (arith, z)
   where
-    le : (a : ℕ) → a ≤ a
-    le a = omega arith
-
     up : i < tables → suc i ≤ tables
     up h = omega (arith, h)
-
--- what stands in a piece of a list
-in_drop : {X : Type 0} (xs : List X) (a j : ℕ) (x : X) → slice_get (drop a xs) j ≡ Some x → slice_get xs (a + j) ≡ Some x
-in_drop [] zero j x e = absurd (none_some x e)
-in_drop [] (suc a) j x e = absurd (none_some x e)
-in_drop (y ∷ xs) zero j x e = let z : j ≡ 0 + j = omega arith in ap (slice_get (y ∷ xs)) (sym z) ∙ e
-in_drop (y ∷ xs) (suc a) j x e = let z : suc (a + j) ≡ suc a + j = omega arith in ap (slice_get (y ∷ xs)) (sym z) ∙ in_drop xs a j x e
-
-in_take : {X : Type 0} (xs : List X) (n j : ℕ) (x : X) → slice_get (take n xs) j ≡ Some x → (j < n) × (slice_get xs j ≡ Some x)
-in_take xs zero j x e = absurd (none_some x e)
-in_take [] (suc n) j x e = absurd (none_some x e)
-in_take (y ∷ xs) (suc n) zero x e = (omega arith, e)
-in_take (y ∷ xs) (suc n) (suc j) x e = let r : (j < n) × (slice_get xs j ≡ Some x) = in_take xs n j x e in (omega (arith, r.0), r.1)
 
 module _ (n : ℕ) (c : Container) where
   parts_from : (a : ℕ) (ps : List Part) → ((j : ℕ) (p : Part) → slice_get ps j ≡ Some p → (shard_view p).container ≡ part n (a + j) c) → AreParts n c a ps
@@ -155,7 +135,7 @@ module _ (ps : List Part) (i : ℕ) (p : Part) (l : i < length ps) (e : p ≡ ge
   entry_here j x h = ap (λ (qs : List Part). slice_get (all_entries qs) j) (shard_next ps i p l e) ∙ in_front (entries_in p) (all_entries (drop (i + 1) ps)) j x h
     where
       in_front : {X : Type 0} (xs ys : List X) (j : ℕ) (x : X) → slice_get xs j ≡ Some x → slice_get (xs ++ ys) j ≡ Some x
-      in_front [] ys j x h = absurd (none_some x h)
+      in_front [] ys j x h = absurd (none-some x h)
       in_front (y ∷ xs) ys zero x h = h
       in_front (y ∷ xs) ys (suc j) x h = in_front xs ys j x h
 

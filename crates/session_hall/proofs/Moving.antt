@@ -1,7 +1,7 @@
 -- Lists whose first elements are moved to another list.
 use Rattle.std.proofs.Common.{◌≡◌, ℕ, suc, ◌<◌, ◌≤◌, List, [], ◌∷◌, ◌++◌, length, map, drop, get_or, append_assoc, append-nil, refl, sym, ap, ◌∙◌, arith}
+use Rattle.std.proofs.lemmas.Option.{none-some}
 use Rattle.std.specs.Prelude.{Some, slice_get}
-use Rattle.hall_rule.specs.Law.{none_some}
 
 module _ {A : Type 0} where
   -- the first element, and the others
@@ -13,7 +13,7 @@ module _ {A : Type 0} where
   first_at xs a h e = ap (λ (l : List A). slice_get l 0) (first_of xs a h e)
 
   pub shifted : (xs : List A) (i : ℕ) (a : A) → slice_get (drop 1 xs) i ≡ Some a → slice_get xs (suc i) ≡ Some a
-  shifted [] i a e = absurd (none_some a e)
+  shifted [] i a e = absurd (none-some a e)
   shifted (x ∷ xs) i a e = e
 
 -- one more was moved

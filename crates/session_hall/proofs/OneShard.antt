@@ -1,6 +1,5 @@
 -- One shard, before and after an operation; and how many shards a table has.
-use Rattle.std.proofs.Common.{◌≡◌, ◌≢◌, ℕ, ◌+◌, ◌*◌, ◌-◌, ◌/◌, ◌<◌, ◌≤◌, List, [], ◌∷◌, map, Some, None, Bool, true, false, cond, eqb, refl, ◌∙◌, ap, arith}
-use Rattle.std.proofs.lemmas.Bool.Decides.{nat_tests}
+use Rattle.std.proofs.Common.{◌≡◌, ℕ, ◌+◌, ◌*◌, ◌-◌, ◌/◌, ◌<◌, ◌≤◌, List, [], ◌∷◌, map, Some, None, Bool, true, false, cond, refl, ◌∙◌, ap, arith}
 use Rattle.std.proofs.lemmas.Nat.{div-mul-add}
 use Rattle.session_values.specs.declared.op.Op.{Op}
 use Rattle.session_values.specs.declared.value.Value.{Value}
@@ -31,12 +30,6 @@ single {S} (x ∷ y ∷ xs) u e = absurd (two_one x.0 y.0 u (map (λ (z : ℕ ×
   where
     two_one : (a b d : ℕ) (l : List ℕ) → ◌≡◌ {A = List ℕ} (a ∷ b ∷ l) (d ∷ []) → ⊥
     two_one a b d l h = cc
-
-pub same : (a b : ℕ) → eqb a b ≡ true → a ≡ b
-same a b e = grind (arith, nat_tests)
-
-pub differs : (a b : ℕ) → eqb a b ≡ false → a ≢ b
-differs a b e = grind (arith, nat_tests)
 
 pub shards_are : (turns tables n : ℕ) → turns ≡ 1 + tables * n → 0 < tables → shards_of turns tables ≡ n
 shards_are turns tables n e l =

@@ -3,9 +3,10 @@ use Rattle.std.proofs.Common.{◌≡◌, ℕ, zero, suc, ◌+◌, ◌*◌, ◌-�
 use Rattle.std.specs.Prelude.{slice_get}
 use Rattle.std.proofs.lemmas.List.{length-map, map-append}
 use Rattle.std.proofs.lemmas.Nat.{div-mul-add}
+use Rattle.std.proofs.lemmas.Option.{none-some, slice_get_within}
 use Rattle.session_values.specs.declared.kind.TableKind.{TableKind}
 use Rattle.session_values.specs.Tables.{Container, Tables, table, size_of}
-use Rattle.opening_tables.specs.Opening.{Pair, container_of, entries_of}
+use Rattle.session_journal.specs.Opening.{Pair, container_of, entries_of}
 use Rattle.session_journal.specs.Script.{Meaning, IsScript, room}
 use Rattle.shard_tables.specs.Parts.{part}
 use Rattle.shard_tables.specs.Shards.{ShardView}
@@ -18,10 +19,9 @@ use Rattle.turn_board.specs.Hands.{Once}
 use Rattle.turn_board.proofs.Rows.{get-snoc, map-read}
 use Rattle.hall_rule.specs.declared.held.Held.{Held}
 use Rattle.hall_rule.specs.declared.held.Held.TheVariants as value
-use Rattle.hall_rule.specs.declared.part.Part.{Part}
+use Rattle.shard_tables.specs.declared.part.Part.{Part}
 use Rattle.hall_rule.specs.Contents.{Content, Register, Shard, shards_in, shards_of, share}
 use Rattle.hall_rule.specs.Halls.{IsFresh, first_content}
-use Rattle.hall_rule.specs.Law.{none_some, lies_within}
 use Rattle.hall_rule.specs.Shards.{content_of}
 use Rattle.hall_rule.specs.Tie.{Tied}
 use Rattle.hall_rule.proofs.Halls.{opened_tied}
@@ -47,7 +47,7 @@ pub part_place : (j tables shards : ℕ) → 0 < shards → j < tables * shards 
 part_place j tables shards some l = (div-lt_iff_lt-mul some).1 l
 
 pub no_parts : {S : Type 0} (m : Meaning) (shards : ℕ) → NewParts {S = S} m shards 0 []
-no_parts {S} m shards = record { parts = []; are = refl; long = refl; each = λ j p e. absurd (none_some p e) }
+no_parts {S} m shards = record { parts = []; are = refl; long = refl; each = λ j p e. absurd (none-some p e) }
 
 pub parts_more : {S : Type 0} (m : Meaning) (shards n : ℕ) (values later : List (Held S)) (p : Part) → NewParts m shards n values → IsNewPart m shards n p → later ≡ values ++ value.Table p ∷ [] → NewParts m shards (n + 1) later
 parts_more {S} m shards n values later p k new is = record {
@@ -59,11 +59,6 @@ parts_more {S} m shards n values later p k new is = record {
     | inr h ↦ (let P : Part → Type 0 = λ y. IsNewPart m shards j y in let Q : ℕ → Type 0 = λ i. IsNewPart m shards i p in subst P h.1 (subst Q (sym (h.0 ∙ k.long)) new))
   ];
 }
-
-pub as_get : {A : Type 0} (xs : List A) (i : ℕ) (d : A) → i < length xs → slice_get xs i ≡ Some (get_or xs i d)
-as_get [] i d h = absurd (omega (arith, h))
-as_get (x ∷ xs) zero d h = refl
-as_get (x ∷ xs) (suc i) d h = as_get xs i d (omega (arith, h))
 
 pub few_turns : (a b n : ℕ) → a ≤ 7 → b ≤ 8 → n ≡ 1 + a * b → n ≤ 57
 few_turns a b n h k e = let p : a * b ≤ 7 * 8 = mul-le-mul h k in omega (arith, p, e)
@@ -100,7 +95,7 @@ module _ {S : Type 0} (meaning : S → Meaning) (script : S) (shards callers : �
       let new : IsNewPart m shards j p.0 = n.each j p.0 p.1 in
       let turns : ℕ = suc (length shard_contents) in
       let es : List Pair = entries_of m.opened (j / shards) in
-      let low : j / shards < length m.shape = lies_within m.shape (j / shards) new.kind new.kind_is in
+      let low : j / shards < length m.shape = slice_get_within m.shape (j / shards) new.kind new.kind_is in
       let sh : shards_in m turns ≡ shards = ap (λ (a : ℕ). shards_of (suc a) (length m.shape)) as_many ∙ shards_are (length m.shape) shards (omega (arith, low)) in
       let table_is : table m.opening (j / shards) ≡ container_of new.kind es = ap (λ (ts : Tables). table ts (j / shards)) script_here.opening ∙ opening_at m.shape m.opened (j / shards) new.kind new.kind_is in
       let share_is : share m turns [] j ≡ part shards (j % shards) (container_of new.kind es) = ap (λ (a : ℕ). part a (j % a) (table m.opening (j / a))) sh ∙ ap (part shards (j % shards)) table_is in

@@ -1,5 +1,6 @@
 -- A turn of an operation was found taken.
 use Rattle.std.proofs.Common.{◌≡◌, ◌≢◌, ℕ, suc, ◌+◌, ◌<◌, ◌≤◌, ◌⊎◌, inl, inr, Option, refl, sym, ◌∙◌, ap, subst, arith}
+use Rattle.std.proofs.lemmas.Bool.{cases_lt}
 use Rattle.std.specs.Int.{bit_at}
 use Rattle.session_values.specs.declared.op.Op.{Op}
 use Rattle.session_journal.specs.Script.{Meaning}
@@ -19,7 +20,7 @@ use Rattle.session_hall.specs.Callers.{IsCallerOf, book_in}
 use Rattle.session_hall.specs.Calls.{IsBusyAt}
 use Rattle.session_hall.specs.Names.{script_of}
 use Rattle.session_hall.specs.Stages.{SeatOf, OnFlight, foresight_in}
-use Rattle.session_hall.proofs.TurnSets.{bit_inside, lower, turn_out}
+use Rattle.session_hall.proofs.TurnSets.{bit_inside, turn_out}
 use Rattle.session_hall.proofs.Doing.{busy_turn}
 use Rattle.session_hall.proofs.Finding.{is_tied}
 
@@ -39,9 +40,9 @@ module _ {S : Type 0} (meaning : S → Meaning) (h : Hall S) (c : Caller S) (k :
   module _ (set : ℕ) (is : set ≡ turn_set h.sizes.shards op) where
     module _ (q : SeatOf S) (v : SameNote c.seat q) (u : ℕ) (g : MissedAll c.seat q set u) (several : caller_count c.seat ≢ 1) (hands : HandsView (Held S)) (pairs : hands.pairs ≡ c.hands.pairs) (seat : IsSeatOf h.board q) (told : Tells (Tied meaning) (turn_count h.board) q) where
       missed_lost : (w : ℕ) → lost c.seat w ≤ lost q w
-      missed_lost w = elim (lower w u) [
+      missed_lost w = elim (cases_lt w u) [
         | inl p ↦ (let e : lost q w ≡ lost c.seat w = g.below w p in omega (arith, e))
-        | inr p ↦ elim (lower u w) [
+        | inr p ↦ elim (cases_lt u w) [
           | inl z ↦ more (g.above w z)
           | inr z ↦ (let e : w ≡ u = omega (arith, p, z) in let P : ℕ → Type 0 = λ a. lost c.seat a ≤ lost q a in subst P (sym e) (let f : lost q u ≡ lost c.seat u + 1 = g.here in omega (arith, f)))
         ]

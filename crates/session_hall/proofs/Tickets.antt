@@ -11,7 +11,7 @@ use Rattle.session_journal.specs.Script.{Meaning, IsForesight}
 use Rattle.admission_book.specs.Book.{Holds, record_of}
 use Rattle.admission_book.specs.Methods as books
 use Rattle.admission_book.specs.Methods.{BookView, IsOldestOpen}
-use Rattle.admission_book.proofs.Events.{first_stays}
+use Rattle.session_journal.proofs.Events.{first_stays}
 use Rattle.turn_board.specs.Boards.{SameNote, turn_count, caller}
 use Rattle.hall_rule.proofs.Entries.{entries_since}
 use Rattle.session_hall.specs.declared.caller.Caller.{Caller}

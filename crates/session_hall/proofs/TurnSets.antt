@@ -1,35 +1,16 @@
 -- The turns of an operation, as a set.
-use Rattle.std.proofs.Common.{◌≡◌, ◌≢◌, ℕ, zero, suc, ◌+◌, ◌*◌, ◌-◌, ◌%◌, ◌^◌, ◌<◌, ◌≤◌, ◌⊎◌, inl, inr, List, [], ◌∷◌, ◌++◌, length, length-append, Bool, true, false, cond, eqb, refl, sym, ◌∙◌, ap, subst, mod-lt, div-add-mod', arith}
+use Rattle.std.proofs.Common.{◌≡◌, ◌≢◌, ℕ, zero, suc, ◌+◌, ◌*◌, ◌-◌, ◌%◌, ◌^◌, ◌<◌, ◌≤◌, inl, inr, List, [], ◌∷◌, ◌++◌, length, length-append, Bool, true, false, cond, eqb, refl, sym, ◌∙◌, ap, subst, mod-lt, div-add-mod', arith}
 use Rattle.std.specs.Int.{bit_at}
-use Rattle.std.proofs.lemmas.Bool.Decides.{nat_tests}
 use Rattle.std.proofs.lemmas.Nat.{div-mul-add, mod-mul-add}
 use Rattle.std.proofs.lemmas.Nat.Bits.{bit_at_mask_inside, bit_at_mask_below, bit_at_mask_above}
+use Rattle.std.proofs.lemmas.Bool.{eq-eqb, ne_eqb, eqb-true, eqb-false, cases_lt}
 use Rattle.session_values.specs.declared.op.Op.{Op}
 use Rattle.session_values.specs.Kinds.{arguments}
+use Rattle.session_values.proofs.Numbers.{one_zero}
 use Rattle.shard_tables.specs.Parts.{shard_of}
 use Rattle.shard_tables.proofs.PartSizes.{shard_below}
 use Rattle.turn_board.specs.Maps.{bits_of}
 use Rattle.hall_rule.specs.Turns.{IsTurnOf, place, span, turn_set}
-
-pub same_test : (a b : ℕ) → a ≡ b → eqb a b ≡ true
-same_test a b e = grind (arith, nat_tests)
-
-pub other_test : (a b : ℕ) → a ≢ b → eqb a b ≡ false
-other_test a b e = grind (arith, nat_tests)
-
-same : (a b : ℕ) → eqb a b ≡ true → a ≡ b
-same a b e = grind (arith, nat_tests)
-
-differs : (a b : ℕ) → eqb a b ≡ false → a ≢ b
-differs a b e = grind (arith, nat_tests)
-
-pub lower : (a b : ℕ) → (a < b) ⊎ (b ≤ a)
-lower a zero = inr (omega arith)
-lower zero (suc b) = inl (omega arith)
-lower (suc a) (suc b) = elim (lower a b) [ inl p ↦ inl (omega (arith, p)) | inr p ↦ inr (omega (arith, p)) ]
-
-one_zero : ◌≡◌ {A = ℕ} 1 0 → ⊥
-one_zero e = omega arith
 
 -- the n numbers from lo on
 abbrev pub up : ℕ → ℕ → List ℕ
@@ -58,19 +39,19 @@ module _ (lo n : ℕ) where
   bit_inside u from below = bit_at_mask_inside lo (lo + n) u from below
 
   pub in_row : (u : ℕ) → bit_at (2 ^ (lo + n) - 2 ^ lo) u ≡ 1 → (lo ≤ u) × (u < lo + n)
-  in_row u e = elim (lower u lo) [
+  in_row u e = elim (cases_lt u lo) [
     | inl p ↦ absurd (one_zero (sym e ∙ bit_at_mask_below lo (lo + n) u p))
-    | inr p ↦ elim (lower u (lo + n)) [
+    | inr p ↦ elim (cases_lt u (lo + n)) [
       | inl z ↦ (p, z)
       | inr z ↦ absurd (one_zero (sym e ∙ bit_at_mask_above lo (lo + n) u z))
     ]
   ]
 
   with_one : (t : ℕ) → bit_at row_set t ≡ 1 → bits_of row_set (suc t) ≡ bits_of row_set t ++ t ∷ []
-  with_one t e = ap (λ (b : Bool). cond b (bits_of row_set t ++ t ∷ []) (bits_of row_set t)) (same_test (bit_at row_set t) 1 e)
+  with_one t e = ap (λ (b : Bool). cond b (bits_of row_set t ++ t ∷ []) (bits_of row_set t)) (eq-eqb (bit_at row_set t) 1 e)
 
   with_none : (t : ℕ) → bit_at row_set t ≡ 0 → bits_of row_set (suc t) ≡ bits_of row_set t
-  with_none t e = ap (λ (b : Bool). cond b (bits_of row_set t ++ t ∷ []) (bits_of row_set t)) (other_test (bit_at row_set t) 1 (λ h. one_zero (sym h ∙ e)))
+  with_none t e = ap (λ (b : Bool). cond b (bits_of row_set t ++ t ∷ []) (bits_of row_set t)) (ne_eqb (bit_at row_set t) 1 (λ h. one_zero (sym h ∙ e)))
 
   bits_below : (t : ℕ) → t ≤ lo → bits_of row_set t ≡ []
   bits_below zero l = refl
@@ -129,7 +110,7 @@ module _ (n : ℕ) (op : Op) (some : 0 < n) where
 
       go : (b : Bool) → eqb (arguments op.kind) 0 ≡ b → (j : ℕ) → key_place b ≤ j → j < key_place b + key_span b → IsTurnOf n op j
       go true e j from below =
-          let none : arguments op.kind ≡ 0 = same (arguments op.kind) 0 e in
+          let none : arguments op.kind ≡ 0 = eqb-true (arguments op.kind) 0 e in
           let is : op.table * n + (j - op.table * n) ≡ j = omega (arith, from) in
           subst (IsTurnOf n op) is (at (j - op.table * n) (omega (arith, from, below)) (λ z. absurd (omega (arith, z, none))))
       go false e j from below =
@@ -145,7 +126,7 @@ module _ (n : ℕ) (op : Op) (some : 0 < n) where
       go : (b : Bool) → eqb (arguments op.kind) 0 ≡ b → (key_place b ≤ j) × (j < key_place b + key_span b)
       go true e = let l : j % n < n = mod-lt j some in (omega (arith, is, l), omega (arith, is, l))
       go false e =
-          let none : arguments op.kind ≢ 0 = differs (arguments op.kind) 0 e in
+          let none : arguments op.kind ≢ 0 = eqb-false (arguments op.kind) 0 e in
           let k : shard_of n op.key ≡ j % n = at.shard (omega (arith, none)) in
           (omega (arith, is, k), omega (arith, is, k))
 

@@ -9,7 +9,7 @@ use Rattle.symbolic_ops.specs.Matching.{Covered, Matches}
 use Rattle.session_journal.specs.Journal.{begun, ended, entries}
 use Rattle.session_journal.specs.Script.{Meaning, IsForesight}
 use Rattle.admission_book.specs.Book.{Book, IsFree, IsBlocker, after_begin, after_narrow, after_admit, after_delay, after_done, after_end}
-use Rattle.admission_book.specs.EventsInTurn.{now}
+use Rattle.session_journal.specs.EventsInTurn.{now}
 use Rattle.admission_book.specs.Methods.{IsOldestOpen}
 use Rattle.turn_board.specs.Boards.{held, note, caller, caller_count, given, lost, asks, givings, last_change}
 use Rattle.turn_board.specs.Hands.{in_hands}

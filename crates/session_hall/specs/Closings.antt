@@ -14,10 +14,11 @@ use Rattle.turn_board.specs.Boards.{asks, given, givings, lost}
 use Rattle.turn_board.specs.Limits.{max_board_turns}
 use Rattle.hall_rule.specs.declared.held.Held.{Held}
 use Rattle.hall_rule.specs.declared.held.Held.TheVariants.{Register, Table}
-use Rattle.hall_rule.specs.declared.part.Part.{Part}
+use Rattle.shard_tables.specs.declared.part.Part.{Part}
 use Rattle.hall_rule.specs.Contents.{tables_after}
 use Rattle.hall_rule.specs.Halls.{AllEnded}
-use Rattle.hall_rule.specs.Shards.{content_of, shard_view}
+use Rattle.shard_tables.specs.Either.{shard_view}
+use Rattle.hall_rule.specs.Shards.{content_of}
 use Rattle.session_hall.specs.declared.caller.Caller.{Caller}
 use Rattle.session_hall.specs.declared.hall.Hall.{Hall}
 use Rattle.session_hall.specs.declared.stage.Stage.TheVariants.{Idle, Out}

@@ -8,3 +8,9 @@ pub mod Working
 pub mod Openings
 pub mod Closings
 pub mod Listings
+pub use Rattle.session_journal.specs.Lists
+pub use Rattle.turn_board.specs.Boards
+pub use Rattle.hall_rule.specs.Listing
+pub use Rattle.session_journal.specs.Script
+pub use Rattle.shard_tables.specs.Either
+pub use Rattle.shard_tables.specs.declared.part.Part

@@ -3,9 +3,9 @@ use Rattle.std.specs.Prelude.{◌≡◌, ℕ, ◌+◌, ◌*◌, ◌≤◌, List,
 use Rattle.session_values.specs.declared.kind.TableKind.{TableKind}
 use Rattle.session_values.specs.Serial.{tables_before}
 use Rattle.session_values.specs.Tables.{table}
-use Rattle.opening_tables.specs.Opening.{Pair, AreApart, container_of, entries_of}
+use Rattle.session_journal.specs.Opening.{Pair, AreApart, container_of, entries_of}
 use Rattle.session_journal.specs.Script.{Meaning, room, session_of}
-use Rattle.hall_rule.specs.declared.part.Part.{Part}
+use Rattle.shard_tables.specs.declared.part.Part.{Part}
 use Rattle.hall_rule.specs.Listing.{all_entries}
 use Rattle.session_hall.specs.Closings.{ClosedView}
 

@@ -2,15 +2,16 @@
 use Rattle.std.specs.Prelude.{◌≡◌, ℕ, ◌+◌, ◌*◌, ◌/◌, ◌%◌, List, [], Some, length, map, replicate, slice_get}
 use Rattle.session_limits.specs.Limits.{max_shards}
 use Rattle.session_values.specs.declared.kind.TableKind.{TableKind}
-use Rattle.opening_tables.specs.Opening.{container_of, entries_of}
+use Rattle.session_journal.specs.Opening.{container_of, entries_of}
 use Rattle.session_journal.specs.Script.{Meaning, IsScript, room}
 use Rattle.shard_tables.specs.Parts.{part}
 use Rattle.hall_rule.specs.declared.held.Held.{Held}
 use Rattle.hall_rule.specs.declared.held.Held.TheVariants.{Table}
-use Rattle.hall_rule.specs.declared.part.Part.{Part}
+use Rattle.shard_tables.specs.declared.part.Part.{Part}
 use Rattle.hall_rule.specs.Filling.{count_in}
 use Rattle.hall_rule.specs.Halls.{first_content}
-use Rattle.hall_rule.specs.Shards.{content_of, shard_view}
+use Rattle.shard_tables.specs.Either.{shard_view}
+use Rattle.hall_rule.specs.Shards.{content_of}
 use Rattle.hall_rule.specs.Tie.{Tied}
 use Rattle.session_hall.specs.declared.caller.Caller.{Caller}
 use Rattle.session_hall.specs.declared.stage.Stage.TheVariants.{Idle}

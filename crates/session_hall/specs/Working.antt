@@ -1,7 +1,7 @@
 -- An operation on the shards in a caller's hands. Only this crate's own functions cite it.
 use Rattle.std.specs.Prelude.{◌≡◌, ℕ, ◌+◌, ◌<◌, ◌≤◌, pos, true, List, [], ◌∷◌, ◌++◌, Some, length, map, slice_get}
 use Rattle.std.specs.List.{AllByRecursion}
-use Rattle.opening_tables.specs.Limits.{max_keys}
+use Rattle.session_journal.specs.Limits.{max_keys}
 use Rattle.session_values.specs.declared.op.Op.{Op}
 use Rattle.session_values.specs.declared.value.Value.{Value}
 use Rattle.session_values.specs.declared.value.Value.TheVariants.{Num}

@@ -1,7 +1,7 @@
 // Doing an operation on its shards.
 
 ghost use Rattle.std.specs.Prelude.{◌≡◌, ◌+◌, ◌*◌, ◌<◌, ◌≤◌, length};
-ghost use Rattle.opening_tables.specs.Limits.{max_keys};
+ghost use Rattle.session_journal.specs.Limits.{max_keys};
 ghost use Rattle.session_limits.specs.Limits.{max_shards};
 ghost use Rattle.session_values.specs.Kinds.{arguments};
 ghost use Rattle.turn_board.specs.Boards.{turn_count};

@@ -7,9 +7,9 @@ ghost use Rattle.session_hall.specs.Listings.{AreLeft, listed, shards_at};
 
 use crate::listing::{count_entries, entry_at};
 use admission_book::Replies;
-use hall_rule::Part;
 use session_journal::Journal;
 use session_values::{Listed, Value};
+use shard_tables::Part;
 use std::marker::Model;
 
 /// The shards of a hall, by turn.

@@ -10,9 +10,10 @@ ghost use Rattle.session_hall.specs.Names.{script_of};
 use crate::caller::{Caller, Callers};
 use crate::closed::Closed;
 use crate::hall::{Hall, Spare};
-use hall_rule::{HallRule, Held, Part};
+use hall_rule::{HallRule, Held};
 use session_journal::Script;
 use session_values::Listed;
+use shard_tables::Part;
 use turn_board::{Seat, Seats};
 
 // The seats of callers that leave.

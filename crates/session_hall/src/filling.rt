@@ -2,18 +2,17 @@
 
 ghost use Rattle.std.specs.Prelude.{◌≡◌, ◌*◌, ◌<◌, ◌≤◌, ◌/◌, [], Some, IfOk, length, slice_get};
 ghost use Rattle.session_limits.specs.Limits.{max_shards, max_tables};
-ghost use Rattle.session_values.specs.Tables.{empty_of};
-ghost use Rattle.opening_tables.specs.Opening.{container_of, entries_of};
+ghost use Rattle.session_journal.specs.Opening.{container_of, entries_of};
 ghost use Rattle.session_journal.specs.Script.{IsScript};
 ghost use Rattle.shard_tables.specs.Parts.{part as part_of};
 ghost use Rattle.hall_rule.specs.Filling.{count_in};
-ghost use Rattle.hall_rule.specs.Shards.{shard_view};
+ghost use Rattle.shard_tables.specs.Either.{shard_view};
 ghost use Rattle.session_hall.specs.Openings.{IsNewPart, NewParts};
 
-use hall_rule::{Held, Part};
+use hall_rule::Held;
 use session_journal::{Script, opening_op};
 use session_values::{NoMemory, TableKind};
-use shard_tables::{MapShard, SetShard, shard_of};
+use shard_tables::{Part, shard_of};
 use std::alloc::Global;
 use turn_board::MAX_BOARD_TURNS;
 
@@ -31,18 +30,6 @@ fn count_entries<S: Script>(script: &S, table: u32, shards: u32, shard: u32) -> 
         }
     }
     count
-}
-
-// An empty shard of a table of this kind.
-fn empty_part(alloc: Global, kind: TableKind, room: u32) -> Result<Part, NoMemory>
-    requires { room ≤ 1073741824 }
-    ensures { IfOk result (λ p. shard_view p ≡ record { container = empty_of kind; room = room }) }
-{
-    let part = match kind {
-        TableKind::Map => Part::Bindings(Box::new(alloc, MapShard::with_room(alloc, room)?)?),
-        TableKind::Set => Part::Members(Box::new(alloc, SetShard::with_room(alloc, room)?)?),
-    };
-    Ok(part)
 }
 
 // Puts the entries of a table that are of a shard into it, the last one first.
@@ -91,7 +78,7 @@ fn new_part<S: Script>(
     let table = place / shards;
     let shard = place % shards;
     let room = script.room(table) + count_entries(script, table, shards, shard);
-    let mut part = empty_part(alloc, kind, room)?;
+    let mut part = Part::with_room(alloc, kind, room)?;
     fill(script, kind, table, shards, shard, &mut part);
     Ok(part)
 }

@@ -4,8 +4,9 @@ ghost use Rattle.std.specs.Prelude.{◌≡◌, ◌<◌, ◌≤◌, [], vec_capac
 ghost use Rattle.session_limits.specs.Limits.{max_callers};
 ghost use Rattle.turn_board.specs.Limits.{max_board_turns};
 
-use hall_rule::{HallRule, Held, Part};
+use hall_rule::{HallRule, Held};
 use session_journal::Script;
+use shard_tables::Part;
 use std::snapshot::Snapshot;
 use std::sync::Mutex;
 use std::sync::atomic::{AtomicU32, Ordering};

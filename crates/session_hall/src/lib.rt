@@ -22,6 +22,7 @@ pub use answers::{Admitting, Applying, Began, Declared, Ending, Finishing};
 pub use caller::{Caller, Callers};
 pub use closed::{Closed, Parts};
 pub use hall::Hall;
-pub use hall_rule::{Held, Part};
+pub use hall_rule::Held;
+pub use shard_tables::Part;
 pub use stage::Stage;
 pub use waits::Waits;

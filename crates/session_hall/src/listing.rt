@@ -2,11 +2,12 @@
 
 ghost use Rattle.std.specs.Prelude.{◌≡◌, ◌<◌, ◌^◌, Some, length, slice_get};
 ghost use Rattle.std.specs.List.{AllByRecursion};
-ghost use Rattle.opening_tables.specs.Opening.{AreApart};
-ghost use Rattle.hall_rule.specs.Listing.{all_entries, all_sizes, entries_in};
+ghost use Rattle.session_journal.specs.Opening.{AreApart};
+ghost use Rattle.shard_tables.specs.Either.{entries_in};
+ghost use Rattle.hall_rule.specs.Listing.{all_entries, all_sizes};
 
-use hall_rule::Part;
 use session_values::Value;
+use shard_tables::Part;
 
 /// How many entries these shards have together.
 pub(crate) fn count_entries(parts: &[Part]) -> u32

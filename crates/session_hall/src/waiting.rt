@@ -30,7 +30,7 @@ impl<S: Script + Drop> Caller<S> {
         self.begin_with(rt, hall, &mut Waits::none())
     }
 
-    /// The same, which counts its tries in vain.
+    /// The same, which counts its failed attempts.
     pub fn begin_with<R: Wait>(&mut self, rt: &R, hall: &Hall<S>, waits: &mut Waits) -> Option<u32>
         requires caller { IsCallerOf S.meaning hall.now self.old }
         requires stage { IsBetween self.old.stage }
@@ -61,7 +61,7 @@ impl<S: Script + Drop> Caller<S> {
         self.declare_with(rt, hall, f, &mut Waits::none());
     }
 
-    /// The same, which counts its tries in vain.
+    /// The same, which counts its failed attempts.
     pub fn declare_with<R: Wait>(
         &mut self,
         rt: &R,
@@ -125,7 +125,7 @@ impl<S: Script + Drop> Caller<S> {
         self.admit_with(rt, hall, op, &mut Waits::none());
     }
 
-    /// The same, which counts its tries in vain.
+    /// The same, which counts its failed attempts.
     pub fn admit_with<R: Wait>(&mut self, rt: &R, hall: &Hall<S>, op: Op, waits: &mut Waits)
         requires caller { IsCallerOf S.meaning hall.now self.old }
         requires may { ByNote (S.meaning (script_of hall.now)) self.old
@@ -159,7 +159,7 @@ impl<S: Script + Drop> Caller<S> {
         self.apply_with(rt, hall, &mut Waits::none())
     }
 
-    /// The same, which counts its tries in vain.
+    /// The same, which counts its failed attempts.
     pub fn apply_with<R: Wait>(&mut self, rt: &R, hall: &Hall<S>, waits: &mut Waits) -> Value
         requires caller { IsCallerOf S.meaning hall.now self.old }
         requires stage { IsInFlight self.old.stage }
@@ -188,7 +188,7 @@ impl<S: Script + Drop> Caller<S> {
         self.finish_with(rt, hall, next, &mut Waits::none());
     }
 
-    /// The same, which counts its tries in vain.
+    /// The same, which counts its failed attempts.
     pub fn finish_with<R: Wait>(
         &mut self,
         rt: &R,
@@ -249,7 +249,7 @@ impl<S: Script + Drop> Caller<S> {
         self.end_with(rt, hall, reply, &mut Waits::none());
     }
 
-    /// The same, which counts its tries in vain.
+    /// The same, which counts its failed attempts.
     pub fn end_with<R: Wait>(&mut self, rt: &R, hall: &Hall<S>, reply: Reply, waits: &mut Waits)
         requires caller { IsCallerOf S.meaning hall.now self.old }
         requires may { ByNote (S.meaning (script_of hall.now)) self.old (MayAnswer reply) }

@@ -5,7 +5,7 @@ use session_journal::Script;
 use std::sync::atomic::Ordering;
 use std::thread;
 
-/// After how many tries in vain the yields between two tries double no more, where a turn was taken.
+/// After how many failed attempts the yields between two double no more, if a turn was taken.
 const DOUBLINGS: u32 = 3;
 
 /// The same where an operation was delayed: what delays it is a ticket, which takes longer than a
@@ -38,7 +38,7 @@ impl Waits {
         }
     }
 
-    /// How many tries were in vain; it stands still at the last u32.
+    /// How many attempts failed; it stays at the last u32.
     pub fn count(&self) -> u32 {
         self.count
     }

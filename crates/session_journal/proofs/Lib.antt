@@ -6,3 +6,8 @@ pub mod Rows
 pub mod Serial
 pub mod Serving
 pub mod Values
+pub mod Events
+pub mod EventCounts
+pub use Rattle.opening_tables.proofs.Openings
+pub use Rattle.opening_tables.proofs.Filling
+pub use Rattle.opening_tables.proofs.KeptLemmas

@@ -1,7 +1,7 @@
 -- What a list of tickets keeps when a ticket, an operation or a symbol is added.
 use Rattle.std.proofs.Common.{◌≡◌, ℕ, zero, suc, ◌+◌, ◌-◌, ◌^◌, ◌<◌, ◌≤◌, List, [], ◌∷◌, ◌++◌, length, take, drop, get_or, cond, ◌&&◌, eqb, inl, inr, refl, sym, ◌∙◌, ap, subst, arith, length-append}
 use Rattle.std.proofs.Math.ListN.{set}
-use Rattle.std.proofs.lemmas.List.{length-set}
+use Rattle.std.proofs.lemmas.List.{length-set, map_push}
 use Rattle.std.specs.List.{AllByRecursion}
 use Rattle.session_values.specs.declared.kind.TableKind.{TableKind}
 use Rattle.session_values.specs.declared.op.Op.{Op}
@@ -13,12 +13,13 @@ use Rattle.symbolic_ops.specs.declared.symbol.Symbol.{Symbol}
 use Rattle.symbolic_ops.specs.Matching.{HasNoVar, Matches, exact_symbol}
 use Rattle.session_journal.specs.declared.list_script.Row.{Row}
 use Rattle.session_values.specs.Op.{IsHeld}
+use Rattle.session_values.proofs.Lists.{all_push, all_weaker}
 use Rattle.symbolic_ops.proofs.Above.{exact_stands}
 use Rattle.session_journal.specs.Script.{HasValues, IsScript, calls, room}
 use Rattle.session_journal.specs.Lists.{Ticket, ListView, HasPlace, ticket_at, last_ticket, with_last, adding, IsTicket, list_meaning, answers_only, calls_more, allows_more}
 use Rattle.session_journal.specs.ListRows.{ticket_of_row, tickets_of, Follow, KeepsRows}
 use Rattle.session_journal.proofs.ListLawful.{HasFew, list_lawful, at_ticket, sum_tickets}
-use Rattle.session_journal.proofs.Rows.{front_stays, last_grows, last_end, follow_more, follow_push, rows_stay, last_set, last_is, map-push, length-rows, total_is, row_within, ticket_is}
+use Rattle.session_journal.proofs.Rows.{front_stays, last_grows, last_end, follow_more, follow_push, rows_stay, last_set, last_is, length-rows, total_is, row_within, ticket_is}
 
 -- ---- how many operations may add a key
 pub adding-append : (i : ℕ) (xs ys : List Op) → adding i (xs ++ ys) ≡ adding i xs + adding i ys
@@ -36,14 +37,6 @@ adding_front i [] (suc k) = omega arith
 adding_front i (x ∷ ops) (suc k) = omega (arith, adding_front i ops k)
 
 -- ---- all of a list
-pub all_push : {X : Type 0} (P : X → Type 0) (xs : List X) (x : X) → AllByRecursion P xs → P x → AllByRecursion P (xs ++ x ∷ [])
-all_push P [] x a h = (h, tt)
-all_push P (y ∷ xs) x a h = (a.0, all_push P xs x a.1 h)
-
-all_weaker : {X : Type 0} (P Q : X → Type 0) → ((x : X) → P x → Q x) → (xs : List X) → AllByRecursion P xs → AllByRecursion Q xs
-all_weaker P Q f [] a = tt
-all_weaker P Q f (x ∷ xs) a = (f x a.0, all_weaker P Q f xs a.1)
-
 all_with_last : (P : Ticket → Type 0) (xs : List Ticket) (z : Ticket) → AllByRecursion P xs → P z → AllByRecursion P (with_last xs z)
 all_with_last P [] z a h = tt
 all_with_last P (x ∷ []) z a h = (h, tt)
@@ -120,7 +113,7 @@ module _ (shape : List TableKind) (rows : List Row) (ops : List Op) (symbols : L
       let fresh : IsTicket shape (answers_only reply) = record { fits = tt; values = tt; answer = v; few = omega arith; known = tt; matched = tt } in
       record {
         follow = follow_push 0 0 rows (length ops) (length symbols) z keep.follow p q refl refl;
-        tickets = subst (AllByRecursion (IsTicket shape)) (sym (map-push (ticket_of_row ops symbols) rows z)) (all_push (IsTicket shape) (tickets_of ops symbols rows) (answers_only reply) keep.tickets fresh);
+        tickets = subst (AllByRecursion (IsTicket shape)) (sym (map_push (ticket_of_row ops symbols) rows z)) (all_push (IsTicket shape) (tickets_of ops symbols rows) (answers_only reply) keep.tickets fresh);
         rows_within = omega (arith, length-append rows (z ∷ []), l);
         ops_within = keep.ops_within;
         symbols_within = keep.symbols_within;

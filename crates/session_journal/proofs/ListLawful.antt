@@ -16,19 +16,14 @@ use Rattle.session_values.specs.Sums.{sum_below}
 use Rattle.session_journal.specs.Script.{HasValues, IsForesight, IsScript, adds_on}
 use Rattle.session_journal.specs.Lists.{Ticket, ticket_at, says, adding, IsTicket, list_meaning}
 use Rattle.session_values.proofs.Sums.{sum_first}
+use Rattle.session_values.proofs.Entries.{same_call, no_call}
 use Rattle.opening_tables.specs.Opening.{Pair, entries_of, no_entries}
 use Rattle.opening_tables.proofs.Openings.{start_is, no_opening}
-
-calls_it : (o p : Op) → Calls o ≡ Calls p → o ≡ p
-calls_it o p e = cc
-
-no_call : {A : Type 0} (r : Reply) (p : Op) → Answers r ≡ Calls p → A
-no_call r p e = cc
 
 -- what is true of each operation is true of the one that is called
 called : (P : Op → Type 0) (ops : List Op) (r : Reply) (replies : List Value) (op : Op) → AllByRecursion P ops → says ops r replies ≡ Calls op → P op
 called P [] r replies op a e = no_call r op e
-called P (o ∷ ops) r [] op a e = subst P (calls_it o op e) a.0
+called P (o ∷ ops) r [] op a e = subst P (same_call o op e) a.0
 called P (o ∷ ops) r (v ∷ replies) op a e = called P ops r replies op a.1 e
 
 -- what comes next has values
@@ -37,7 +32,7 @@ has_values [] r replies a h = h
 has_values (o ∷ ops) r [] a h = a.0
 has_values (o ∷ ops) r (v ∷ replies) a h = has_values ops r replies a.1 h
 
-ends : (ops : List Op) (r : Reply) (replies : List Value) → length ops ≤ length replies → says ops r replies ≡ Answers r
+pub ends : (ops : List Op) (r : Reply) (replies : List Value) → length ops ≤ length replies → says ops r replies ≡ Answers r
 ends [] r replies h = refl
 ends (o ∷ ops) r [] h = absurd (omega arith)
 ends (o ∷ ops) r (v ∷ replies) h = ends ops r replies (omega arith)
@@ -46,7 +41,7 @@ few_adds : (i : ℕ) (ops : List Op) (r : Reply) (es : List Entry) → Follows (
 few_adds i ops r [] w = omega arith
 few_adds i [] r (e ∷ es) w = no_call r e.op w.0
 few_adds i (o ∷ ops) r (e ∷ es) w =
-    let same : cond {A = ℕ} (is_adding o.kind && eqb o.table i) 1 0 ≡ cond (is_adding e.op.kind && eqb e.op.table i) 1 0 = ap (λ (p : Op). cond {A = ℕ} (is_adding p.kind && eqb p.table i) 1 0) (calls_it o e.op w.0) in
+    let same : cond {A = ℕ} (is_adding o.kind && eqb o.table i) 1 0 ≡ cond (is_adding e.op.kind && eqb e.op.table i) 1 0 = ap (λ (p : Op). cond {A = ℕ} (is_adding p.kind && eqb p.table i) 1 0) (same_call o e.op w.0) in
     omega (arith, same, few_adds i ops r es w.1)
 
 no_reply : IsReply 1 Nil Nil Nil

@@ -6,8 +6,10 @@ use Rattle.session_values.specs.declared.op.Op.{Op}
 use Rattle.session_values.specs.Tables.{Tables, step}
 use Rattle.session_values.specs.Commuting.{Commute}
 use Rattle.session_values.specs.Dialogue.{Entry}
+use Rattle.session_values.proofs.Numbers.{lesser}
 use Rattle.session_journal.specs.Journal.{DoneOperation, entry_of, of_ticket, in_order, by_ticket, run, Replays, InversionsCommute}
 use Rattle.session_journal.proofs.Replay.{run-append, Replays-append, Replays-front, Replays-back, Instead, moves_right}
+use Rattle.session_values.proofs.Lists.{all_push}
 
 -- the done_operations of other tickets
 abbrev without : ℕ → List DoneOperation → List DoneOperation
@@ -38,9 +40,6 @@ All-in_order P (d ∷ ds) a = (a.0, All-in_order P ds a.1)
 both : (P Q : DoneOperation → Type 0) (ds : List DoneOperation) → AllByRecursion P ds → AllByRecursion Q ds → AllByRecursion (λ d. P d × Q d) ds
 both P Q [] a b = tt
 both P Q (d ∷ ds) a b = ((a.0, b.0), both P Q ds a.1 b.1)
-
-lesser : (a n : ℕ) → a < suc n → eqb a n ≡ false → a < n
-lesser a n h e = grind (arith, nat_tests)
 
 below_it : (a b n : ℕ) → a < suc n → eqb a n ≡ false → eqb b n ≡ true → a < b
 below_it a b n h e f = grind (arith, nat_tests)
@@ -92,3 +91,8 @@ regrouped_replays (suc n) ts ds b c h =
       replays = Replays-append ts _ _ front.replays back;
       same = run-append ts (by_ticket n (without n ds)) (of_ticket n ds) ∙ ap (λ (us : Tables). run us (of_ticket n ds)) front.same ∙ sym (run-append ts (in_order (without n ds)) (of_ticket n ds)) ∙ m.same;
     })
+
+-- ---- one operation more
+pub InversionsCommute-push : (ds : List DoneOperation) (d : DoneOperation) → InversionsCommute ds → AllByRecursion (λ e. d.ticket < e.ticket → Commute e.op d.op) ds → InversionsCommute (ds ++ d ∷ [])
+InversionsCommute-push [] d c a = (tt, tt)
+InversionsCommute-push (x ∷ ds) d c a = (all_push (λ (e : DoneOperation). e.ticket < x.ticket → Commute x.op e.op) ds d c.0 a.0, InversionsCommute-push ds d c.1 a.1)

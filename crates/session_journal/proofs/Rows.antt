@@ -132,10 +132,6 @@ last_is f (x ∷ []) (suc k) r l e = absurd (omega (arith, l))
 last_is f (x ∷ y ∷ rows) zero r l e = absurd (omega (arith, l))
 last_is f (x ∷ y ∷ rows) (suc k) r l e = last_is f (y ∷ rows) k r (omega (arith, l)) e
 
-pub map-push : (f : Row → Ticket) (rows : List Row) (z : Row) → map f (rows ++ z ∷ []) ≡ map f rows ++ f z ∷ []
-map-push f [] z = refl
-map-push f (r ∷ rows) z = ap (λ l. f r ∷ l) (map-push f rows z)
-
 pub length-rows : (f : Row → Ticket) (rows : List Row) → length (map f rows) ≡ length rows
 length-rows f [] = refl
 length-rows f (r ∷ rows) = ap suc (length-rows f rows)

@@ -1,5 +1,5 @@
 -- Entries that follow a dialogue and replay from the serial tables are the first of the serial ones, and the rest moves past what commutes with it.
-use Rattle.std.proofs.Common.{◌≡◌, ℕ, zero, suc, ◌+◌, ◌<◌, ◌≤◌, List, [], ◌∷◌, ◌++◌, ◌⊎◌, inl, inr, Some, None, refl, sym, ◌∙◌, ap, subst, append_assoc, arith}
+use Rattle.std.proofs.Common.{◌≡◌, ℕ, zero, suc, ◌+◌, ◌<◌, ◌≤◌, List, [], ◌∷◌, ◌++◌, length, ◌⊎◌, inl, inr, Some, None, refl, sym, ◌∙◌, ap, subst, append_assoc, arith, append-nil}
 use Rattle.std.specs.List.{AllByRecursion}
 use Rattle.session_values.specs.declared.op.Op.{Op}
 use Rattle.session_values.specs.declared.value.Value.{Value}
@@ -135,12 +135,8 @@ abbrev from_ticket : ℕ → ℕ → List DoneOperation → List Entry
 from_ticket k zero ds = []
 from_ticket k (suc m) ds = of_ticket k ds ++ from_ticket (suc k) m ds
 
-append_nil : (es : List Entry) → es ++ [] ≡ es
-append_nil [] = refl
-append_nil (e ∷ es) = ap (λ (fs : List Entry). e ∷ fs) (append_nil es)
-
 by_ticket-from : (m k : ℕ) (ds : List DoneOperation) → by_ticket k ds ++ from_ticket k m ds ≡ by_ticket (m + k) ds
-by_ticket-from zero k ds = append_nil (by_ticket k ds) ∙ ap (λ (n : ℕ). by_ticket n ds) (the k)
+by_ticket-from zero k ds = append-nil (by_ticket k ds) ∙ ap (λ (n : ℕ). by_ticket n ds) (the k)
   where
     the : (k : ℕ) → k ≡ 0 + k
     the k = omega arith
@@ -238,3 +234,11 @@ serve_answers (suc n) f ts e =
       | Calls op ↦ λ c. let p : (r : Reply) × ((serve n (rest f (reply ts op ∷ [])) (step ts op)).answer ≡ Some r) = serve_answers n (rest f (reply ts op ∷ [])) (step ts op) (EndsBy-rest n f (reply ts op) e) in (p.0, ap (λ (s : Served). s.answer) (serve-calls n f ts op c) ∙ p.1)
       | Answers r ↦ λ a. (r, ap (λ (s : Served). s.answer) (serve-answers (suc n) f ts r a))
     ] refl
+
+-- a list that follows a dialogue is no longer than the dialogue
+pub follows_few : (n : ℕ) (f : Dialogue) (es : List Entry) → EndsBy n f → Follows f es → length es ≤ n
+follows_few n f [] e w = omega arith
+follows_few n f (x ∷ es) e w =
+    let k : (k : ℕ) × (n ≡ suc k) = not_ended n f x.op e w.0 in
+    let P : ℕ → Type 0 = λ j. EndsBy j f in
+    omega (arith, k.1, follows_few k.0 (rest f (x.reply ∷ [])) es (EndsBy-rest k.0 f x.reply (subst P k.1 e)) w.1)

@@ -1,5 +1,6 @@
 -- Tables whose keys and values a program can hold keep that, and reply such values.
 use Rattle.std.proofs.Common.{◌≡◌, ℕ, zero, suc, ◌+◌, ◌<◌, ◌≤◌, ◌^◌, pos, List, [], ◌∷◌, Option, Some, None, Bool, true, false, cond, not, ◌&&◌, ◌||◌, refl, sym, ◌∙◌, subst, arith, lit<}
+use Rattle.std.proofs.lemmas.Option.{same_Some, none-some}
 use Rattle.std.specs.Prelude.{unwrap_or, if◌then◌else◌}
 use Rattle.std.specs.List.{AllByRecursion}
 use Rattle.std.specs.FinMap as map
@@ -29,21 +30,15 @@ AreReplies es = AllByRecursion (λ e. IsValue e.reply) es
 map_insert_values : (m : map.FinMap value_cmp Value) (k v : Value) → AreValues (Bindings m) → IsValue k → IsValue v → AreValues (Bindings (map.insert m k v))
 map_insert_values m k v h p q l x g = by_key (value_eq l k) refl (sym (map.get-insert value_cmp_total m k v l) ∙ g)
   where
-    inside : (a b : Value) → ◌≡◌ {A = Option Value} (Some a) (Some b) → a ≡ b
-    inside a b e = cc
-
     by_key : (b : Bool) → value_eq l k ≡ b → cond b (Some v) (map.get m l) ≡ Some x → IsValue l × IsValue x
-    by_key true e g = (subst IsValue (sym (same_value l k e)) p, subst IsValue (inside v x g) q)
+    by_key true e g = (subst IsValue (sym (same_value l k e)) p, subst IsValue (same_Some v x g) q)
     by_key false e g = h l x g
 
 map_remove_values : (m : map.FinMap value_cmp Value) (k : Value) → AreValues (Bindings m) → AreValues (Bindings (map.remove m k))
 map_remove_values m k h l x g = by_key (value_eq l k) (sym (map.get-remove value_cmp_total m k l) ∙ g)
   where
-    none_some : ◌≡◌ {A = Option Value} None (Some x) → ⊥
-    none_some e = cc
-
     by_key : (b : Bool) → cond b None (map.get m l) ≡ Some x → IsValue l × IsValue x
-    by_key true g = absurd (none_some g)
+    by_key true g = absurd (none-some x g)
     by_key false g = h l x g
 
 set_insert_values : (s : set.FinSet value_cmp) (k : Value) → AreValues (Members s) → IsValue k → AreValues (Members (set.insert s k))

@@ -5,3 +5,10 @@ pub mod ListRows
 pub mod Lists
 pub mod Script
 pub mod Served
+pub mod EventsInTurn
+pub use Rattle.symbolic_ops.specs.declared.symbol.Symbol
+pub use Rattle.opening_tables.specs.Opening
+pub use Rattle.symbolic_ops.specs.declared.arg.Arg
+pub use Rattle.opening_tables.specs.Limits
+pub use Rattle.symbolic_ops.specs.Commuting
+pub use Rattle.symbolic_ops.specs.Matching

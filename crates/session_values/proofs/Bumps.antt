@@ -4,6 +4,7 @@ use Rattle.std.specs.Int.{w64}
 use Rattle.std.specs.Int.RustNames.{FitsSigned}
 use Rattle.std.specs.FinMap as map
 use Rattle.std.proofs.lemmas.Int.{SFits-int_wrap}
+use Rattle.std.proofs.lemmas.Option.{same_Some}
 use Rattle.session_values.specs.declared.value.Value.{Value}
 use Rattle.session_values.specs.declared.value.Value.TheVariants.{Nil, Num, Sym}
 use Rattle.session_values.specs.Values.{value_cmp, value_eq, value_cmp_total, value_cmp-IsAntisymmetric, IsValue}
@@ -63,10 +64,7 @@ fits_number (pos n) h = record { sfits = h }
 fits_number (negsuc n) h = record { sfits = h }
 
 held : (v x : Value) → IsValue v → ◌≡◌ {A = Option Value} (Some v) (Some x) → IsValue x
-held v x h e = subst IsValue (inside v x e) h
-  where
-    inside : (v x : Value) → ◌≡◌ {A = Option Value} (Some v) (Some x) → v ≡ x
-    inside v x e = cc
+held v x h e = subst IsValue (same_Some v x e) h
 
 -- what a program can hold stays so
 pub bumped_value : (v x : Value) (o : Option Value) → IsValue v → ((w : Value) → o ≡ Some w → IsValue w) → bumped v o ≡ Some x → IsValue x

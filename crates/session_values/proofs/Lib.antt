@@ -2,10 +2,14 @@ pub mod Bumps
 pub mod Congruent
 pub mod Entries
 pub mod Equal
+pub mod KindLemmas
 pub mod Lists
 pub mod Named
 pub mod NamesLemmas
+pub mod Numbers
+pub mod Options
 pub mod Puts
+pub mod Serial
 pub mod Sizes
 pub mod Starts
 pub mod Sums

@@ -1,8 +1,9 @@
 -- How many keys operations leave.
-use Rattle.std.proofs.Common.{◌≡◌, ℕ, ◌+◌, ◌-◌, ◌<◌, ◌≤◌, ◌≢◌, length, ◌⊎◌, inl, inr, Bool, true, false, cond, ◌&&◌, eqb, get_or, refl, ◌∙◌, ap, subst, arith}
+use Rattle.std.proofs.Common.{◌≡◌, ℕ, ◌+◌, ◌-◌, ◌≤◌, ◌≢◌, length, inl, inr, Bool, true, false, cond, ◌&&◌, eqb, get_or, refl, ◌∙◌, ap, subst, arith}
 use Rattle.std.proofs.Math.ListN.{set as put_at}
 use Rattle.std.proofs.lemmas.List.{get_or-set_same, get_or-set_other, set_past}
 use Rattle.std.proofs.lemmas.Bool.Decides.{nat_tests}
+use Rattle.std.proofs.lemmas.Bool.{eqb-true, cases_lt}
 use Rattle.std.specs.FinMap as map
 use Rattle.std.specs.FinSet as set
 use Rattle.session_values.specs.declared.kind.Kind.{Kind}
@@ -80,21 +81,15 @@ pub step_few : (ts : Tables) (op : Op) (i : ℕ) → size_of (table (step ts op)
 unfolding step
 step_few ts op i = by_table (eqb op.table i) refl
   where
-    same : (x y : ℕ) → eqb x y ≡ true → x ≡ y
-    same x y e = grind (arith, nat_tests)
-
     differs : (x y : ℕ) → eqb x y ≡ false → y ≢ x
     differs x y e = grind (arith, nat_tests)
-
-    lt_or : (a b : ℕ) → (a < b) ⊎ (b ≤ a)
-    lt_or a b = grind arith
 
     and_true : (b : Bool) → (b && true) ≡ b
     and_true true = refl
     and_true false = refl
 
     here : (j : ℕ) → size_of (get_or (put_at ts j (after_on (table ts j) op)) j (empty_of Map)) ≤ size_of (table ts j) + one_if (is_adding op.kind)
-    here j = elim (lt_or j (length ts)) [
+    here j = elim (cases_lt j (length ts)) [
       | inl l ↦ let e : size_of (get_or (put_at ts j (after_on (table ts j) op)) j (empty_of Map)) ≡ size_of (after_on (table ts j) op) = ap size_of (get_or-set_same ts j (after_on (table ts j) op) (empty_of Map) l) in omega (arith, e, on_few (table ts j) op)
       | inr g ↦ let e : size_of (get_or (put_at ts j (after_on (table ts j) op)) j (empty_of Map)) ≡ size_of (table ts j) = ap (λ (us : Tables). size_of (table us j)) (set_past ts j (after_on (table ts j) op) g) in omega (arith, e)
     ]
@@ -103,5 +98,9 @@ step_few ts op i = by_table (eqb op.table i) refl
     by_table true e =
         let P : ℕ → Type 0 = λ j. size_of (get_or (put_at ts op.table (after_on (table ts op.table) op)) j (empty_of Map)) ≤ size_of (table ts j) + one_if (is_adding op.kind) in
         let q : one_if (is_adding op.kind && eqb op.table i) ≡ one_if (is_adding op.kind) = ap (λ (b : Bool). one_if (is_adding op.kind && b)) e ∙ ap one_if (and_true (is_adding op.kind)) in
-        omega (arith, q, subst P (same op.table i e) (here op.table))
+        omega (arith, q, subst P (eqb-true op.table i e) (here op.table))
     by_table false e = let q : size_of (get_or (put_at ts op.table (after_on (table ts op.table) op)) i (empty_of Map)) ≡ size_of (table ts i) = ap size_of (get_or-set_other ts op.table i (after_on (table ts op.table) op) (empty_of Map) (differs op.table i e)) in omega (arith, q)
+
+pub one_most : (b : Bool) → one_if b ≤ 1
+one_most true = omega arith
+one_most false = omega arith

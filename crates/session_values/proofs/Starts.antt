@@ -1,5 +1,6 @@
 -- Empty tables: their kinds, their values, their sizes.
-use Rattle.std.proofs.Common.{◌≡◌, ℕ, zero, suc, List, [], ◌∷◌, length, map, Option, Some, None, Bool, true, false, refl, sym, ◌∙◌, ap}
+use Rattle.std.proofs.Common.{◌≡◌, ℕ, zero, suc, List, [], ◌∷◌, length, map, Bool, true, false, refl, sym, ◌∙◌, ap}
+use Rattle.std.proofs.lemmas.Option.{none-some}
 use Rattle.std.specs.List.{AllByRecursion}
 use Rattle.std.specs.FinMap as map
 use Rattle.std.specs.FinSet as set
@@ -20,10 +21,7 @@ start_length (Map ∷ shape) = ap suc (start_length shape)
 start_length (Set ∷ shape) = ap suc (start_length shape)
 
 pub values_none : AreValues (Bindings map.empty)
-values_none k v h = absurd (none_some (sym (map.get-empty value_cmp k) ∙ h))
-  where
-    none_some : ◌≡◌ {A = Option Value} None (Some v) → ⊥
-    none_some e = cc
+values_none k v h = absurd (none-some v (sym (map.get-empty value_cmp k) ∙ h))
 
 pub members_none : AreValues (Members set.empty)
 members_none k h = absurd (both_ways (set.contains set.empty k) h (set.contains-empty value_cmp k))

@@ -52,3 +52,8 @@ sum_more (suc n) u x f h = by_last (eqb u n) refl (λ l. sum_more n u x f l)
 pub sum_first : (n : ℕ) (f : ℕ → ℕ) → sum_below (suc n) f ≡ f 0 + sum_below n (λ t. f (suc t))
 sum_first zero f = omega arith
 sum_first (suc n) f = omega (arith, sum_first n f)
+
+-- numbers that are the same below the bound have the same sum
+pub sum_alike : (n : ℕ) (f g : ℕ → ℕ) → ((t : ℕ) → t < n → f t ≡ g t) → sum_below n f ≡ sum_below n g
+sum_alike zero f g h = refl
+sum_alike (suc n) f g h = omega (arith, sum_alike n f g (λ t l. h t (omega (arith, l))), h n (omega arith))

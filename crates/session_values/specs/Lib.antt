@@ -12,3 +12,4 @@ pub mod Sorts
 pub mod Sums
 pub mod Tables
 pub mod Values
+pub use Rattle.session_limits.specs.Limits

@@ -1,5 +1,4 @@
-//! Values, operations, replies and names, the list and the box that trees are made of, and the
-//! definitions that every layer above speaks of.
+//! Values, operations, replies and names, and the definitions that every layer above speaks of.
 #![tactic(auto)]
 
 mod bump;

@@ -3,6 +3,7 @@ use Rattle.std.proofs.Common.{◌≡◌, ℕ, zero, suc, ◌+◌, ◌<◌, ◌�
 use Rattle.std.proofs.lemmas.List.{take_all, take-append-drop, length-take-le, length-drop}
 use Rattle.std.proofs.lemmas.Bool.Decides.{nat_tests}
 use Rattle.std.proofs.Math.Seq.{take-add}
+use Rattle.std.proofs.lemmas.Bool.{ltb-true, not-false, not-true, cases_lt}
 use Rattle.std.specs.List.{AllByRecursion}
 use Rattle.session_values.specs.declared.reply.Reply.{Reply}
 use Rattle.session_values.specs.Reply.{values_of}
@@ -28,9 +29,6 @@ pub take_rest : (k : ℕ) (rs : List Reply) → take (length rs - k) (drop k rs)
 take_rest k rs = take_all (length rs - k) (drop k rs) (omega (arith, length-drop k rs))
 
 -- ---- before and behind a ticket
-before : (t n : ℕ) → nat_lt t n ≡ true → t < n
-before t n e = grind (arith, nat_tests, e)
-
 not_before : (t n : ℕ) → nat_lt t n ≡ false → n + (t - n) ≡ t
 not_before t n e = let l : n ≤ t = grind (arith, nat_tests, e) in omega (arith, l)
 
@@ -107,7 +105,7 @@ unless_still true p t r u h = h
 unless_still false p t r u h = with_still (slice_index_or p.waiting (t - p.next) None) p.waiting (t - p.next) r u h
 
 pub keeps_still : (p q : PendingView) (t : ℕ) (r : Reply) → q ≡ with_kept p t r → (u : ℕ) → IsKept p u → IsKept q u
-keeps_still p q t r is u (inl before) = inl (omega (arith, before, ap (λ (v : PendingView). v.next) is))
+keeps_still p q t r is u (inl ltb-true) = inl (omega (arith, ltb-true, ap (λ (v : PendingView). v.next) is))
 keeps_still p q t r is u (inr at) =
     let h = unless_still (nat_lt t p.next) p t r at.0 (at.1, at.3) in
     let P : PendingView → Type 0 = λ v. IsThere v.waiting at.0 in
@@ -130,7 +128,7 @@ own_by None ks t r e low = set_own ks t r low
 own_by (Some y) ks t r e low = at_own ks t y e
 
 own_unless : (b : Bool) (p : PendingView) (t : ℕ) (r : Reply) → nat_lt t p.next ≡ b → t < p.next + length p.waiting → IsKept (record { next = p.next; waiting = if b then p.waiting else with_reply p.waiting (t - p.next) r }) t
-own_unless true p t r is low = inl (before t p.next is)
+own_unless true p t r is low = inl (ltb-true t p.next is)
 own_unless false p t r is low =
     let at : p.next + (t - p.next) ≡ t = not_before t p.next is in
     let own = own_by (slice_index_or p.waiting (t - p.next) None) p.waiting (t - p.next) r refl (omega (arith, at, low)) in
@@ -156,11 +154,8 @@ keeps_behind replies p q n next is low k = record {
 
 pub kept_behind : (p q : PendingView) (n : ℕ) → q.next ≡ p.next + n → q.waiting ≡ drop n p.waiting → (t : ℕ) → IsKept p t → IsKept q t
 kept_behind p q n next is t (inl low) = inl (omega (arith, low, next))
-kept_behind p q n next is t (inr at) = by (lt_or at.0 n)
+kept_behind p q n next is t (inr at) = by (cases_lt at.0 n)
   where
-    lt_or : (x y : ℕ) → (x < y) ⊎ (y ≤ x)
-    lt_or x y = grind arith
-
     by : (at.0 < n) ⊎ (n ≤ at.0) → IsKept q t
     by (inl l) = let same = at.2 in inl (omega (arith, same, l, next))
     by (inr g) =
@@ -210,14 +205,6 @@ first_at : (n : ℕ) (ks : List (Option Reply)) (rs : List Reply) → ((u : ℕ)
 first_at n ks rs spoken = first_of ks (drop n rs) (λ u x e. get_drop n u rs ∙ spoken u x e)
 
 -- ---- what was written
-pub not_false : (b : Bool) → not b ≡ false → b ≡ true
-not_false true e = refl
-not_false false e = cc
-
-pub not_true : (b : Bool) → not b ≡ true → b ≡ false
-not_true true e = cc
-not_true false e = refl
-
 pub stays : (replies : List Reply) (names : List (List ℕ)) (p : Progress) → GoesOn replies names p p
 stays replies names p = record { on = λ first faults w. w }
 
@@ -256,13 +243,13 @@ module _ (replies : List Reply) (names : List (List ℕ)) where
         let left = length-drop p.next replies in
         record {
           later = let was = w.later in omega (arith, was, later);
-          within = λ ok. let n = is_next (not_false whole ok) in omega (arith, n, low, few, left);
-          so_far = λ ok. subst (λ k. Grew first held (reply_text names 0 (take k replies))) (sym (is_next (not_false whole ok)))
+          within = λ ok. let n = is_next (not-false whole ok) in omega (arith, n, low, few, left);
+          so_far = λ ok. subst (λ k. Grew first held (reply_text names 0 (take k replies))) (sym (is_next (not-false whole ok)))
               (subst (Grew first held) (sym (front_cut p.next m low)) (grew_more first p.held held (reply_text names 0 (take p.next replies)) (reply_text names p.next (take m (drop p.next replies))) (w.so_far sound)
-              (subst (λ l. Grew p.held held (reply_text names p.next l)) same (grew (not_false whole ok)))));
-          rose = λ no. rose_since faults p.faults now_faults w.later (rose (not_true whole no));
+              (subst (λ l. Grew p.held held (reply_text names p.next l)) same (grew (not-false whole ok)))));
+          rose = λ no. rose_since faults p.faults now_faults w.later (rose (not-true whole no));
           front = λ no. subst (GrewByFront first held) (sym (all_cut p.next m low)) (grew_front_within first p.held held (reply_text names 0 (take p.next replies)) (reply_text names p.next (take m (drop p.next replies))) _ (w.so_far sound)
-              (subst (λ l. GrewByFront p.held held (reply_text names p.next l)) same (front (not_true whole no))));
+              (subst (λ l. GrewByFront p.held held (reply_text names p.next l)) same (front (not-true whole no))));
         };
   }
 

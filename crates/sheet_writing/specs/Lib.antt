@@ -1,1 +1,3 @@
 pub mod Sheets
+pub use Rattle.reply_sheet.specs.Pending
+pub use Rattle.reply_sheet.specs.Printable

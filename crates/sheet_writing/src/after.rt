@@ -1,7 +1,7 @@
 // Writing after a ticket has ended.
 
 ghost use Rattle.std.specs.Prelude.{◌≡◌, ◌+◌, ◌<◌, ◌≤◌, ℕ, List, [], Some, false, true, length, slice_get};
-ghost use Rattle.session_limits.specs.Limits.{max_requests};
+ghost use Rattle.session_values.specs.Limits.{max_requests};
 ghost use Rattle.session_values.specs.declared.reply.Reply.{Reply};
 ghost use Rattle.reply_lane.specs.Ends.{IsEndOf, state_of};
 ghost use Rattle.reply_lane.specs.Lanes.{IsMoment, times};

@@ -1,7 +1,7 @@
 // Writing when all is served.
 
 ghost use Rattle.std.specs.Prelude.{◌≡◌, ◌≤◌, true, false, length};
-ghost use Rattle.session_limits.specs.Limits.{max_requests};
+ghost use Rattle.session_values.specs.Limits.{max_requests};
 ghost use Rattle.reply_sheet.specs.Printable.{ArePrintableReplies};
 ghost use Rattle.sheet_writing.specs.Sheets.{Ends, progress};
 

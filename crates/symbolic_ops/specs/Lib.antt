@@ -4,3 +4,4 @@ pub mod Instantiate
 pub mod Order
 pub mod Symbol
 pub mod Matching
+pub mod Commuting

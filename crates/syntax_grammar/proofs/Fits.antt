@@ -1,7 +1,7 @@
 -- An expression is passed with no fault exactly where it is within the limits.
 use Rattle.std.proofs.Common.{◌≡◌, ◌≤◌, ◌<◌, ◌+◌, ℕ, Bool, true, false, nat_lt, nat_le, Option, None, List, ◌∷◌, refl, sym, ap, ◌∙◌, arith}
 use Rattle.std.proofs.lemmas.Bool.{ltb-true, ltb-false, leb-true, leb-false}
-use Rattle.session_limits.specs.Limits.{max_open, max_signs}
+use Rattle.session_values.specs.Limits.{max_open, max_signs}
 use Rattle.syntax_tokens.specs.declared.word.Word.{Word}
 use Rattle.syntax_tokens.specs.declared.word.Sort.TheVariants as sort
 use Rattle.syntax_grammar.specs.declared.refusals.SyntaxRefusal.{SyntaxRefusal}

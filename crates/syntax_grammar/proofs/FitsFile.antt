@@ -1,6 +1,6 @@
 -- A file is passed with no fault exactly where it is within the limits.
 use Rattle.std.proofs.Common.{◌≡◌, ◌≤◌, ◌+◌, ℕ, zero, suc, Option, None, List, [], ◌∷◌, ◌++◌, refl, sym, ap, ◌∙◌, arith}
-use Rattle.session_limits.specs.Limits.{max_depth}
+use Rattle.session_values.specs.Limits.{max_depth}
 use Rattle.session_values.specs.declared.kind.TableKind.{TableKind}
 use Rattle.syntax_tokens.specs.declared.word.Word.{Word}
 use Rattle.syntax_tokens.specs.declared.word.Sort.TheVariants as sort

@@ -1,6 +1,6 @@
 -- The limits that the walk finds broken in the words of a phrase are those that the phrase breaks.
 use Rattle.std.proofs.Common.{◌≡◌, ◌≤◌, ◌+◌, ℕ, zero, suc, nat_le, List, [], ◌∷◌, ◌++◌, Option, Some, None, refl, ap, ◌∙◌, arith}
-use Rattle.session_limits.specs.Limits.{max_depth, max_open}
+use Rattle.session_values.specs.Limits.{max_depth, max_open}
 use Rattle.session_values.specs.declared.kind.TableKind.{TableKind}
 use Rattle.syntax_tokens.specs.declared.word.Word.{Word}
 use Rattle.syntax_tokens.specs.declared.word.Sort.TheVariants as sort

@@ -8,3 +8,6 @@ pub mod Next
 pub mod FirstFault
 pub mod Limits
 pub mod Parsed
+pub use Rattle.syntax_tokens.specs.Keyword
+pub use Rattle.syntax_tokens.specs.Scan
+pub use Rattle.syntax_tokens.specs.Words

@@ -1,6 +1,6 @@
 -- The limits of a file, on its phrase.
 use Rattle.std.specs.Prelude.{◌≡◌, ℕ, ◌+◌, ◌<◌, ◌≤◌, List, []}
-use Rattle.session_limits.specs.Limits.{max_open, max_signs, max_depth}
+use Rattle.session_values.specs.Limits.{max_open, max_signs, max_depth}
 use Rattle.syntax_tokens.specs.declared.word.Word.{Word}
 use Rattle.syntax_trees.specs.declared.file.File.{File}
 use Rattle.syntax_grammar.specs.Bounds.{max_number, max_negative}

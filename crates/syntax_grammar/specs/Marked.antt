@@ -1,7 +1,7 @@
 -- The words of a phrase in the order of the text, each with the limit that it breaks, if it breaks
 -- one. Those of each phrase are followed by a given rest.
 use Rattle.std.specs.Prelude.{ℕ, ◌+◌, Bool, nat_lt, nat_le, List, [], ◌∷◌, Option, None}
-use Rattle.session_limits.specs.Limits.{max_depth, max_open, max_signs}
+use Rattle.session_values.specs.Limits.{max_depth, max_open, max_signs}
 use Rattle.syntax_tokens.specs.declared.word.Sort.{Sort}
 use Rattle.syntax_tokens.specs.declared.word.Sort.TheVariants as sort
 use Rattle.syntax_tokens.specs.declared.word.Word.{Word}

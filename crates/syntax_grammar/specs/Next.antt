@@ -1,7 +1,7 @@
 -- What may come next: the parts that are still to come, the words that each takes, and the limits.
 -- Only the functions within `syntax_parser` cite it.
 use Rattle.std.specs.Prelude.{◌≡◌, ℕ, suc, ◌+◌, Bool, true, false, List, [], ◌∷◌, ◌++◌, Option, Some, None, nat_lt, nat_le, if◌then◌else◌}
-use Rattle.session_limits.specs.Limits.{max_depth, max_open, max_signs}
+use Rattle.session_values.specs.Limits.{max_depth, max_open, max_signs}
 use Rattle.session_values.specs.declared.kind.Kind.{Kind}
 use Rattle.session_values.specs.declared.kind.TableKind.{TableKind}
 use Rattle.syntax_tokens.specs.declared.word.Sort.{Sort}

@@ -7,9 +7,7 @@ use Rattle.syntax_tokens.specs.declared.word.Sort.TheVariants as sort
 use Rattle.syntax_trees.specs.declared.expr.Atom.{Atom}
 use Rattle.syntax_trees.specs.declared.expr.Atom.TheVariants as atom
 use Rattle.syntax_trees.specs.declared.expr.Calc.{Calc}
-use Rattle.syntax_trees.specs.declared.expr.Expr.{Expr, roll-Expr, map-Expr, the_lemmas}
-use Rattle.syntax_trees.specs.declared.expr.Expr.TheFolds.{ind-Expr}
-use Rattle.syntax_trees.specs.declared.expr.Expr.TheOpen.{Expr-F}
+use Rattle.syntax_trees.specs.declared.expr.Expr.{Expr, the_lemmas}
 use Rattle.syntax_trees.specs.declared.expr.Expr.TheVariants as expr
 use Rattle.syntax_trees.specs.declared.stmt.Call.{Call}
 use Rattle.syntax_trees.specs.declared.stmt.Cond.{Cond}
@@ -22,18 +20,6 @@ use Rattle.syntax_trees.specs.Alone.{alone}
 use Rattle.syntax_printer.specs.declared.expr.Level.{Level}
 use Rattle.syntax_printer.specs.Canonical.{atom_text, opening, closing, left_level, right_level, operator_text, expr_text, stmt_text, indent, assignment_text, call_text, choice_text, repeat_text, listed, whole_text}
 use Rattle.syntax_printer.specs.CanonicalWords.{atom_sorts, opening_sorts, closing_sorts, calc_sort, expr_sorts, stmt_sorts, assignment_sorts, call_sorts, choice_sorts, repeat_sorts, listed_sorts, whole_sorts}
-
--- ---- expressions
-
-module _ (P : Expr → Type 0) (leaf : (a : Atom) → P (alone a)) (binary : (c : Calc) (l r : Expr) → P l → P r → P (expr.Binary c (l, r))) where
-  expr_rolled : (y : Expr-F ((e : Expr) × P e)) → P (roll-Expr (map-Expr ((e : Expr) × P e) Expr (λ e. e.0) y))
-  unfolding roll-Expr denote.Hole.Carrier.roll
-  expr_rolled (Expr-F.Lit v) = leaf (atom.Lit v)
-  expr_rolled (Expr-F.Name n p) = leaf (atom.Name n p)
-  expr_rolled (Expr-F.Binary c s) = binary c s.0.0 s.1.0 s.0.1 s.1.1
-
-  pub expr_induction : (e : Expr) → P e
-  expr_induction = ind-Expr P (λ x y is. subst (λ z. P (roll-Expr z)) is (expr_rolled y))
 
 -- ---- statements
 

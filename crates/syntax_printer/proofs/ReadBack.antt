@@ -38,6 +38,7 @@ use Rattle.syntax_printer.specs.Readable.{ReadsBack}
 use Rattle.syntax_printer.specs.Writing.{Text}
 use Rattle.syntax_printer.proofs.Chunks.{one, left_paren, right_paren, assign, negative, operator, comparison, let_word, if_word, repeat_word, reply_word, handler_word, table, operation_word, semicolon_line, left_brace_line, right_brace_line, else_line, params_end, comma_space, as_between}
 use Rattle.syntax_printer.proofs.Inductions as trees
+use Rattle.syntax_trees.proofs.Inductions.{expr_induction}
 use Rattle.syntax_printer.proofs.Lexing.{Reading, reading, behind, blank, nothing}
 use Rattle.syntax_trees.proofs.Mentions as parts
 use Rattle.syntax_trees.proofs.Mentions.{all_first}
@@ -174,7 +175,7 @@ module _ (names : List (List ℕ)) (distinct : AreDistinct names) where
       ∙ sym (ap (λ ss. (ss, (read rest).1)) (trees.sorts_binary c left right l (read rest).0))
 
   expr_reads : (e : Expr) → ExprReads e
-  expr_reads = trees.expr_induction ExprReads leaf_reads binary_reads
+  expr_reads = expr_induction ExprReads leaf_reads binary_reads
 
   whole_reads : (e : Expr) → Readable (expr_mentions e) → Reads (Canonical.whole_text names e) (CanonicalWords.whole_sorts e)
   whole_reads e h = expr_reads e h level.Whole

@@ -8,7 +8,7 @@ use Rattle.std.specs.Prelude.{codes}
 use Rattle.std.specs.Str.{bytes_eq}
 use Rattle.std.specs.Str.Pattern.{StartsWithChar}
 use Rattle.std.proofs.iter.FirstChar.{at_start, beside_ascii, before_text, in_one, in_two, in_three, in_four}
-use Rattle.std.proofs.lemmas.List.Sums.{prefix_len_passes}
+use Rattle.std.proofs.lemmas.List.Sums.{prefix_len_passes, prefix_len-le-length}
 use Rattle.std.proofs.lemmas.Bool.Decides.{nat_tests}
 use Rattle.syntax_tokens.specs.declared.scan.Class.{Class}
 use Rattle.syntax_tokens.specs.declared.scan.Class.TheVariants as class
@@ -80,24 +80,20 @@ char_cut bs u some =
     (λ h. pick C (nat_lt b 240) _ _ (λ i. let k = in_three bs u some (grind (arith, nat_tests)) (grind (arith, nat_tests)) in by_char bs _ 3 k.1)
     (λ i. let k = in_four bs u some (grind (arith, nat_tests)) in by_char bs _ 4 k.1)))
 
-pub prefix_le : (p : ℕ → Bool) (xs : List ℕ) → prefix_len p xs ≤ length xs
-prefix_le p [] = omega arith
-prefix_le p (x ∷ xs) = pick (λ n. n ≤ suc (length xs)) (p x) (1 + prefix_len p xs) 0 (λ _. omega (arith, prefix_le p xs)) (λ _. omega arith)
-
 prefix_some : (p : ℕ → Bool) (x : ℕ) (xs : List ℕ) → p x ≡ true → 0 < prefix_len p (x ∷ xs)
 prefix_some p x xs h = rw h (omega arith)
 
 run_cut : (c : Class) (bs : List ℕ) → IsUtf8 bs → 0 < prefix_len (is_in c) bs → IsCharBoundary bs (prefix_len (is_in c) bs)
 run_cut c bs u some =
     let n = prefix_len (is_in c) bs in
-    behind_ascii bs n u some (prefix_le (is_in c) bs) (is_ascii c _ (prefix_len_passes (is_in c) bs (n - 1) 0 (omega arith)))
+    behind_ascii bs n u some (prefix_len-le-length (is_in c) bs) (is_ascii c _ (prefix_len_passes (is_in c) bs (n - 1) 0 (omega arith)))
 
 -- behind a quote and a run
 quoted_cut : (b : ℕ) (r : List ℕ) → IsUtf8 (b ∷ r) → 0 < prefix_len (is_in class.Symbol) r → IsCharBoundary (b ∷ r) (prefix_len (is_in class.Symbol) r + 1)
 quoted_cut b r u some =
     let n = prefix_len (is_in class.Symbol) r in
     let e : 1 + n - 1 ≡ n + 1 - 1 = omega arith in
-    behind_ascii (b ∷ r) (n + 1) u (omega arith) (omega (arith, prefix_le (is_in class.Symbol) r))
+    behind_ascii (b ∷ r) (n + 1) u (omega arith) (omega (arith, prefix_len-le-length (is_in class.Symbol) r))
     (subst (λ i. get_or (b ∷ r) i 0 < 128) e (at_later b r n some (is_ascii class.Symbol _ (prefix_len_passes (is_in class.Symbol) r (n - 1) 0 (omega arith)))))
 
 symbol_run : (r : List ℕ) → is_ascii_alphabetic (get_or r 0 0) ≡ true → 0 < prefix_len (is_in class.Symbol) r

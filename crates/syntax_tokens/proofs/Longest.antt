@@ -6,6 +6,8 @@ use Rattle.std.specs.List.{prefix_len, AllByRecursion}
 use Rattle.std.specs.Str.{bytes_eq}
 use Rattle.std.proofs.lemmas.Bool.Decides.{nat_tests}
 use Rattle.std.proofs.lemmas.Slice.Eq.{bytes_eq-Decides}
+use Rattle.std.proofs.lemmas.Bool.{both_ways, and_parts, or_parts}
+use Rattle.std.proofs.lemmas.List.Sums.{prefix_len-le-length}
 use Rattle.syntax_tokens.specs.declared.scan.Class.TheVariants as class
 use Rattle.syntax_tokens.specs.declared.token_kind.TokenKind.{TokenKind}
 use Rattle.syntax_tokens.specs.declared.token_kind.TokenKind.TheVariants as kind
@@ -15,17 +17,14 @@ use Rattle.syntax_tokens.specs.Longest.{IsDigits, IsLongRun, IsQuoted, IsShape, 
 use Rattle.syntax_tokens.specs.Scan.{Scanned, begins_two, is_single, is_in, scan, scan_name, scan_bad, scan_symbol, scan_sign}
 use Rattle.syntax_tokens.specs.Texts.{IsSymbolText}
 use Rattle.syntax_tokens.specs.Tokens.{with_reserved}
-use Rattle.syntax_tokens.proofs.Cut.{pick, prefix_le}
-use Rattle.syntax_tokens.proofs.WordKinds.{one_sign, told_two, and_first, and_second}
+use Rattle.syntax_tokens.proofs.Cut.{pick}
+use Rattle.syntax_tokens.proofs.WordKinds.{one_sign, told_two}
 use Rattle.syntax_tokens.proofs.TextTokens.{run_of, name_letter, symbol_letter, not_some, run_taken, run_begins}
 
 -- ---- runs
 
 abbrev pub AllPass : (ℕ → Bool) → List ℕ → Type 0
 AllPass p xs = AllByRecursion (λ b. p b ≡ true) xs
-
-pub clash : (b : Bool) → b ≡ true → b ≡ false → ⊥
-clash b h k = let e : true ≡ false = sym h ∙ k in cc
 
 -- no longer front passes a test than the longest that does
 longer_run : (p : ℕ → Bool) (xs : List ℕ) (m : ℕ) → prefix_len p xs < m → m ≤ length xs → AllPass p (take m xs) → ⊥
@@ -116,14 +115,6 @@ sign_form t = in_rows IsSigns signs t (
 
 -- ---- what the first byte excludes
 
-pub or_left : (x y : Bool) → (x || y) ≡ false → x ≡ false
-or_left true y h = h
-or_left false y h = refl
-
-pub or_right : (x y : Bool) → (x || y) ≡ false → y ≡ false
-or_right true y h = absurd (let f : true ≡ false = h in cc)
-or_right false y h = h
-
 -- a front that isn't empty begins as the text does
 front_first : (b : ℕ) (r : List ℕ) (m : ℕ) → 0 < m → get_or (take m (b ∷ r)) 0 0 ≡ b
 front_first b r zero h = absurd (omega (arith, h))
@@ -159,7 +150,7 @@ module _ (b : ℕ) (r : List ℕ) (m : ℕ) (some : 0 < m) where
       by (suc n) h e = let k : suc n - 1 ≡ n = omega arith in subst (λ i. P (take i r)) (sym k) (subst P (sym (ap (drop 1) e)) q.good)
 
   no_letter : is_ascii_alphabetic b ≡ false → is_ascii_alphabetic (get_or (take m (b ∷ r)) 0 0) ≡ true → ⊥
-  no_letter h k = clash (is_ascii_alphabetic b) (ap is_ascii_alphabetic (sym first) ∙ k) h
+  no_letter h k = both_ways (is_ascii_alphabetic b) h (ap is_ascii_alphabetic (sym first) ∙ k)
 
 -- ---- names and reserved words
 
@@ -173,14 +164,14 @@ longest_name b r letter k m h l s = by k s
     longer a = longer_run (is_in class.Name) (b ∷ r) m h l a
 
     quote : b ≡ 39 → ⊥
-    quote e = clash (is_ascii_alphabetic b) letter (ap is_ascii_alphabetic e)
+    quote e = both_ways (is_ascii_alphabetic b) (ap is_ascii_alphabetic e) letter
 
     by : (k : TokenKind) → IsShape k (take m (b ∷ r)) → ⊥
     by kind.Name t = longer t.run.run
     by kind.Key t = longer (key_letters (take m (b ∷ r)) t).run
     by kind.Symbol t = quote (quoted_first b r m some _ t)
     by kind.Number t = longer (digits_in_name (take m (b ∷ r)) t.run)
-    by kind.Sign t = clash (is_ascii_alphabetic b) letter (ap is_ascii_alphabetic (sym (first b r m some)) ∙ or_left _ _ (sign_form (take m (b ∷ r)) t).other)
+    by kind.Sign t = both_ways (is_ascii_alphabetic b) (ap is_ascii_alphabetic (sym (first b r m some)) ∙ (or_parts _ _ (sign_form (take m (b ∷ r)) t).other).0) letter
     by kind.Long (inl t) = longer t.run
     by kind.Long (inr t) = quote (quoted_first b r m some _ t)
     by kind.Bad t = t
@@ -198,14 +189,14 @@ longest_number b r digit k m h l s = by k s
     letter e = no_letter b r m some (digit_no_letter b digit) e
 
     quote : b ≡ 39 → ⊥
-    quote e = clash (is_ascii_digit b) digit (ap is_ascii_digit e)
+    quote e = both_ways (is_ascii_digit b) (ap is_ascii_digit e) digit
 
     by : (k : TokenKind) → IsShape k (take m (b ∷ r)) → ⊥
     by kind.Name t = letter t.run.letter
     by kind.Key t = letter (key_letters (take m (b ∷ r)) t).letter
     by kind.Symbol t = quote (quoted_first b r m some _ t)
     by kind.Number t = longer_run (is_in class.Digit) (b ∷ r) m h l t.run
-    by kind.Sign t = clash (is_ascii_digit b) digit (ap is_ascii_digit (sym (first b r m some)) ∙ or_right _ _ (sign_form (take m (b ∷ r)) t).other)
+    by kind.Sign t = both_ways (is_ascii_digit b) (ap is_ascii_digit (sym (first b r m some)) ∙ (or_parts _ _ (sign_form (take m (b ∷ r)) t).other).1) digit
     by kind.Long (inl t) = letter t.letter
     by kind.Long (inr t) = quote (quoted_first b r m some _ t)
     by kind.Bad t = t
@@ -238,7 +229,7 @@ first_letter (x ∷ r) (suc n) h = h
 
 none_quoted : (r : List ℕ) → is_ascii_alphabetic (get_or r 0 0) ≡ false → IsLongest (39 ∷ r) 0
 none_quoted r off k m h l s =
-    at_quote r m h k s ⊥ (λ t. clash _ (first_letter r (m - 1) t.run.letter) off) (λ t. clash _ (first_letter r (m - 1) t.letter) off)
+    at_quote r m h k s ⊥ (λ t. both_ways _ off (first_letter r (m - 1) t.run.letter)) (λ t. both_ways _ off (first_letter r (m - 1) t.letter))
 
 -- ---- signs
 
@@ -266,7 +257,7 @@ at_sign b r m some l letter digit quote k s = by k s
     by kind.Name t = absurd (no_letter b r m some letter t.run.letter)
     by kind.Key t = absurd (no_letter b r m some letter (key_letters (take m (b ∷ r)) t).letter)
     by kind.Symbol t = absurd (no_quote (quoted_first b r m some _ t))
-    by kind.Number t = absurd (clash (is_ascii_digit b) (ap is_ascii_digit (sym (first b r m some)) ∙ first_digit (take m (b ∷ r)) t) digit)
+    by kind.Number t = absurd (both_ways (is_ascii_digit b) digit (ap is_ascii_digit (sym (first b r m some)) ∙ first_digit (take m (b ∷ r)) t))
     by kind.Sign t = of_form (sign_form (take m (b ∷ r)) t).form
     by kind.Long (inl t) = absurd (no_letter b r m some letter t.letter)
     by kind.Long (inr t) = absurd (no_quote (quoted_first b r m some _ t))
@@ -289,15 +280,15 @@ first_name b r letter =
     let n = prefix_len (is_in class.Name) bs in
     let longest = longest_name b r letter in
     pick (IsFirst bs) (nat_lt 64 n) _ _
-    (λ h. (inl (record { letter = run_letter; run = run_taken (is_in class.Name) bs; long = omega (arith, length-take n bs, prefix_le (is_in class.Name) bs, long h) }), longest, fits, unquoted))
+    (λ h. (inl (record { letter = run_letter; run = run_taken (is_in class.Name) bs; long = omega (arith, length-take n bs, prefix_len-le-length (is_in class.Name) bs, long h) }), longest, fits, unquoted))
     (λ h. pick (λ k. IsFirstToken bs k n) (is_some (keyword_of (take n bs))) kind.Key kind.Name (λ key. (key, longest, fits, unquoted))
     (λ free. (record { run = run_of class.Name name_letter bs letter (grind (arith, nat_tests)); free = not_some (keyword_of (take n bs)) free }, longest, fits, unquoted)))
   where
     fits : prefix_len (is_in class.Name) (b ∷ r) ≤ length (b ∷ r)
-    fits = prefix_le (is_in class.Name) (b ∷ r)
+    fits = prefix_len-le-length (is_in class.Name) (b ∷ r)
 
     unquoted : IsQuotedNil (b ∷ r) → ⊥
-    unquoted q = clash (is_ascii_alphabetic b) letter (ap is_ascii_alphabetic q.quote)
+    unquoted q = both_ways (is_ascii_alphabetic b) (ap is_ascii_alphabetic q.quote) letter
 
     long : nat_lt 64 (prefix_len (is_in class.Name) (b ∷ r)) ≡ true → 64 < prefix_len (is_in class.Name) (b ∷ r)
     long h = grind (arith, nat_tests)
@@ -314,19 +305,19 @@ first_symbol r =
     let cut : take (n + 1) bs ≡ 39 ∷ take n r = ap (λ i. take i bs) one in
     pick (IsFirst bs) (is_ascii_alphabetic (get_or r 0 0)) _ _
     (λ letter. pick (IsFirst bs) (nat_lt 64 n) _ _
-    (λ h. (inr (record { run = take n r; is = cut; good = record { letter = letter_of r letter; run = run_taken (is_in class.Symbol) r; long = omega (arith, length-take n r, prefix_le (is_in class.Symbol) r, long h) } }), longest_quoted r, fits, λ q. short_nil q (long h)))
+    (λ h. (inr (record { run = take n r; is = cut; good = record { letter = letter_of r letter; run = run_taken (is_in class.Symbol) r; long = omega (arith, length-take n r, prefix_len-le-length (is_in class.Symbol) r, long h) } }), longest_quoted r, fits, λ q. short_nil q (long h)))
     (λ h. pick (IsFirst bs) (bytes_eq (take n r) (codes "nil")) _ _
     (λ nil. first_bad bs (inr (record { quote = refl; run = (bytes_eq-Decides (take n r) (codes "nil")).0 nil })))
-    (λ free. (record { run = take n r; is = cut; good = record { run = run_of class.Symbol symbol_letter r letter (grind (arith, nat_tests)); not_nil = free } }, longest_quoted r, fits, λ q. clash _ ((bytes_eq-Decides (take n r) (codes "nil")).1 q.run) free))))
+    (λ free. (record { run = take n r; is = cut; good = record { run = run_of class.Symbol symbol_letter r letter (grind (arith, nat_tests)); not_nil = free } }, longest_quoted r, fits, λ q. both_ways _ free ((bytes_eq-Decides (take n r) (codes "nil")).1 q.run)))))
     (λ off. first_bad bs (inl (none_quoted r off)))
   where
     fits : prefix_len (is_in class.Symbol) r + 1 ≤ length (39 ∷ r)
-    fits = omega (arith, prefix_le (is_in class.Symbol) r)
+    fits = omega (arith, prefix_len-le-length (is_in class.Symbol) r)
 
     short_nil : IsQuotedNil (39 ∷ r) → 64 < prefix_len (is_in class.Symbol) r → ⊥
     short_nil q l =
         let e : length (take (prefix_len (is_in class.Symbol) r) r) ≡ 3 = ap length q.run in
-        absurd (omega (arith, e, l, length-take (prefix_len (is_in class.Symbol) r) r, prefix_le (is_in class.Symbol) r))
+        absurd (omega (arith, e, l, length-take (prefix_len (is_in class.Symbol) r) r, prefix_len-le-length (is_in class.Symbol) r))
 
     long : nat_lt 64 (prefix_len (is_in class.Symbol) r) ≡ true → 64 < prefix_len (is_in class.Symbol) r
     long h = grind (arith, nat_tests)
@@ -339,16 +330,16 @@ first_number : (b : ℕ) (r : List ℕ) → is_ascii_digit b ≡ true → IsFirs
 first_number b r digit =
     let n = prefix_len (is_in class.Digit) (b ∷ r) in
     let on : n ≡ 1 + prefix_len (is_in class.Digit) r = ap (λ t. cond t (1 + prefix_len (is_in class.Digit) r) 0) digit in
-    (record { some = omega (arith, length-take n (b ∷ r), prefix_le (is_in class.Digit) (b ∷ r), on); run = run_taken (is_in class.Digit) (b ∷ r) }, longest_number b r digit, prefix_le (is_in class.Digit) (b ∷ r), λ q. clash (is_ascii_digit b) digit (ap is_ascii_digit q.quote))
+    (record { some = omega (arith, length-take n (b ∷ r), prefix_len-le-length (is_in class.Digit) (b ∷ r), on); run = run_taken (is_in class.Digit) (b ∷ r) }, longest_number b r digit, prefix_len-le-length (is_in class.Digit) (b ∷ r), λ q. both_ways (is_ascii_digit b) (ap is_ascii_digit q.quote) digit)
 
 first_sign : (b : ℕ) (r : List ℕ) → is_ascii_alphabetic b ≡ false → is_ascii_digit b ≡ false → nat_eq b 39 ≡ false → IsFirst (b ∷ r) (scan_sign (b ∷ r))
 unfolding scan_sign
 first_sign b r letter digit quote =
     pick (IsFirst (b ∷ r)) (begins_two b && nat_eq (get_or r 0 0) 61) _ _
-    (λ two. (told_two b r (and_first (begins_two b) _ two) (and_second (begins_two b) _ two), no_more 2 (λ m h f. omega (arith, h, f.0)) (λ m h f. omega (arith, h, f.0)), omega (arith, second r (and_second (begins_two b) _ two)), unquoted))
+    (λ two. (told_two b r (and_parts (begins_two b) _ two).0 (and_parts (begins_two b) _ two).1, no_more 2 (λ m h f. omega (arith, h, f.0)) (λ m h f. omega (arith, h, f.0)), omega (arith, second r (and_parts (begins_two b) _ two).1), unquoted))
     (λ not_two. pick (IsFirst (b ∷ r)) (is_single b) _ _
-    (λ one. (one_sign b one, no_more 1 (λ m h f. omega (arith, h, f.0)) (λ m h f. clash _ f.1 not_two), omega arith, unquoted))
-    (λ not_one. first_bad (b ∷ r) (inl (no_more 0 (λ m h f. clash _ f.1 not_one) (λ m h f. clash _ f.1 not_two)))))
+    (λ one. (one_sign b one, no_more 1 (λ m h f. omega (arith, h, f.0)) (λ m h f. both_ways _ not_two f.1), omega arith, unquoted))
+    (λ not_one. first_bad (b ∷ r) (inl (no_more 0 (λ m h f. both_ways _ not_one f.1) (λ m h f. both_ways _ not_two f.1)))))
   where
     second : (r : List ℕ) → nat_eq (get_or r 0 0) 61 ≡ true → 0 < length r
     second [] e = absurd (let f : false ≡ true = e in cc)

@@ -2,14 +2,14 @@
 use Rattle.std.proofs.Common.{◌≡◌, ℕ, zero, suc, ◌<◌, ◌≤◌, ◌⊎◌, inl, inr, Bool, true, false, if◌then◌else◌, List, [], ◌∷◌, length, get_or, take, drop, refl, sym, ap, ◌∙◌, subst, arith, nat_lt, nat_eq, rules}
 use Rattle.std.specs.Prelude.{is_some}
 use Rattle.std.specs.Char.{is_ascii_digit, is_ascii_alphabetic}
-use Rattle.std.proofs.lemmas.Bool.{cases_order}
+use Rattle.std.proofs.lemmas.Bool.{cases_order, or_parts}
 use Rattle.std.proofs.lemmas.Bool.Decides.{nat_tests}
 use Rattle.syntax_tokens.specs.declared.token_kind.TokenKind.{TokenKind}
 use Rattle.syntax_tokens.specs.declared.token_kind.TokenKind.TheVariants as kind
 use Rattle.syntax_tokens.specs.Keyword.{sort_in, keyword_of, sign_of, operation_of, statement_word_of, operations, statement_words}
 use Rattle.syntax_tokens.specs.Longest.{IsDigits, IsShape, IsLongest, IsQuotedNil, IsFirstToken}
 use Rattle.syntax_tokens.specs.Scan.{char_length, is_single}
-use Rattle.syntax_tokens.proofs.Longest.{in_rows, is_pair, in_either, key_letters, sign_form, or_left, or_right, digit_no_letter, first_digit}
+use Rattle.syntax_tokens.proofs.Longest.{in_rows, is_pair, in_either, key_letters, sign_form, digit_no_letter, first_digit}
 
 -- ---- one kind
 
@@ -58,8 +58,8 @@ module _ (t : List ℕ) where
   sign_told : is_some (sign_of t) ≡ true → told t ≡ kind.Sign
   sign_told h =
       let s = sign_form t h in
-      ap (λ (x : Bool). tell x (is_ascii_digit (get_or t 0 0)) (nat_eq (get_or t 0 0) 39) (nat_lt 64 (length t)) (is_some (keyword_of t)) (nat_lt 64 (length (drop 1 t)))) (or_left _ _ s.other)
-      ∙ ap (λ (x : Bool). tell false x (nat_eq (get_or t 0 0) 39) (nat_lt 64 (length t)) (is_some (keyword_of t)) (nat_lt 64 (length (drop 1 t)))) (or_right _ _ s.other)
+      ap (λ (x : Bool). tell x (is_ascii_digit (get_or t 0 0)) (nat_eq (get_or t 0 0) 39) (nat_lt 64 (length t)) (is_some (keyword_of t)) (nat_lt 64 (length (drop 1 t)))) (or_parts _ _ s.other).0
+      ∙ ap (λ (x : Bool). tell false x (nat_eq (get_or t 0 0) 39) (nat_lt 64 (length t)) (is_some (keyword_of t)) (nat_lt 64 (length (drop 1 t)))) (or_parts _ _ s.other).1
       ∙ ap (λ (x : Bool). tell false false x (nat_lt 64 (length t)) (is_some (keyword_of t)) (nat_lt 64 (length (drop 1 t)))) s.unquoted
 
   shape_told : (k : TokenKind) → IsShape k t → told t ≡ k

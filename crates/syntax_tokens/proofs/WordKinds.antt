@@ -5,6 +5,7 @@ use Rattle.std.specs.Char.{is_ascii_digit, is_ascii_alphabetic}
 use Rattle.std.specs.List.{prefix_len, AllByRecursion}
 use Rattle.std.specs.Str.{bytes_eq}
 use Rattle.std.proofs.lemmas.Bool.Decides.{nat_tests}
+use Rattle.std.proofs.lemmas.Bool.{and_parts}
 use Rattle.syntax_tokens.specs.declared.scan.Class.TheVariants as class
 use Rattle.syntax_tokens.specs.declared.token_kind.TokenKind.{TokenKind}
 use Rattle.syntax_tokens.specs.declared.token_kind.TokenKind.TheVariants as kind
@@ -103,14 +104,6 @@ told_symbol bs =
     (λ _. pick (CutsTold bs) (nat_lt 64 n) _ _ (λ _. tt) (λ _. pick (CutsTold bs) (bytes_eq (take n (drop 1 bs)) (codes "nil")) _ _ (λ _. told_bad bs) (λ _. tt)))
     (λ _. told_bad bs)
 
-pub and_first : (x y : Bool) → (x && y) ≡ true → x ≡ true
-and_first true y h = refl
-and_first false y h = h
-
-pub and_second : (x y : Bool) → (x && y) ≡ true → y ≡ true
-and_second true y h = h
-and_second false y h = absurd (let f : false ≡ true = h in cc)
-
 pub told_two : (b : ℕ) (r : List ℕ) → begins_two b ≡ true → nat_eq (get_or r 0 0) 61 ≡ true → IsSignText (take 2 (b ∷ r))
 told_two b [] h k = absurd (let f : false ≡ true = k in cc)
 told_two b (x ∷ r) h k = let e : 61 ≡ x = grind (arith, nat_tests) in subst (λ y. IsSignText (b ∷ y ∷ [])) e (two_sign b h)
@@ -119,7 +112,7 @@ told_sign : (b : ℕ) (r : List ℕ) → CutsTold (b ∷ r) (scan_sign (b ∷ r)
 unfolding scan_sign
 told_sign b r =
     pick (CutsTold (b ∷ r)) (begins_two b && nat_eq (get_or r 0 0) 61) _ _
-    (λ h. told_two b r (and_first (begins_two b) _ h) (and_second (begins_two b) _ h))
+    (λ h. told_two b r (and_parts (begins_two b) _ h).0 (and_parts (begins_two b) _ h).1)
     (λ _. pick (CutsTold (b ∷ r)) (is_single b) _ _ (λ h. one_sign b h) (λ _. told_bad (b ∷ r)))
 
 told_scan : (b : ℕ) (r : List ℕ) → CutsTold (b ∷ r) (scan (b ∷ r))

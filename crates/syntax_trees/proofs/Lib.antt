@@ -1,2 +1,4 @@
+pub mod Inductions
 pub mod Mentions
 pub mod Sizes
+pub mod Statements

@@ -1,5 +1,5 @@
 -- What a tree mentions, part by part, and lists of facts.
-use Rattle.std.proofs.Common.{◌≡◌, ℕ, pos, List, [], ◌∷◌, ◌++◌, map, refl, ap, ◌∙◌, rules}
+use Rattle.std.proofs.Common.{◌≡◌, ℕ, ◌≤◌, pos, List, [], ◌∷◌, ◌++◌, map, refl, ap, ◌∙◌, arith, rules}
 use Rattle.std.specs.List.{AllByRecursion, flat_map}
 use Rattle.syntax_trees.specs.declared.expr.Atom.{Atom}
 use Rattle.syntax_trees.specs.declared.expr.Atom.TheVariants as atom
@@ -12,7 +12,7 @@ use Rattle.syntax_trees.specs.declared.stmt.Right.{Right}
 use Rattle.syntax_trees.specs.declared.stmt.Stmt.{Stmt, the_lemmas as stmt_lemmas}
 use Rattle.syntax_trees.specs.declared.stmt.Stmt.TheVariants as stmt
 use Rattle.syntax_trees.specs.Alone.{alone}
-use Rattle.syntax_trees.specs.Mentions.{a_name, a_number, joined, atom_mentions, expr_mentions, call_mentions, right_mentions, cond_mentions, stmt_mentions}
+use Rattle.syntax_trees.specs.Mentions.{Mention, IsBelow, a_name, a_symbol, a_number, joined, atom_mentions, expr_mentions, call_mentions, right_mentions, cond_mentions, stmt_mentions}
 
 pub mentions_leaf : (a : Atom) → expr_mentions (alone a) ≡ atom_mentions a
 mentions_leaf (atom.Lit v) = search (rules, the_lemmas)
@@ -56,3 +56,10 @@ mentions_answer p values = search (rules, stmt_lemmas)
 pub all_first : {X : Type 0} (P : X → Type 0) (xs ys : List X) → AllByRecursion P (xs ++ ys) → AllByRecursion P xs × AllByRecursion P ys
 all_first P [] ys h = (tt, h)
 all_first P (x ∷ xs) ys h = let k = all_first P xs ys h.1 in ((h.0, k.0), k.1)
+
+-- what is mentioned is below a longer list too
+pub below_kept : (n m : ℕ) (ms : List Mention) → n ≤ m → AllByRecursion (IsBelow n) ms → AllByRecursion (IsBelow m) ms
+below_kept n m [] le h = tt
+below_kept n m (a_name place ∷ ms) le h = (omega (arith, le, h.0), below_kept n m ms le h.1)
+below_kept n m (a_symbol place ∷ ms) le h = (omega (arith, le, h.0), below_kept n m ms le h.1)
+below_kept n m (a_number z ∷ ms) le h = (tt, below_kept n m ms le h.1)

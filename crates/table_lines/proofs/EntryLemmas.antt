@@ -151,11 +151,6 @@ with_by (es ∷ lists) (suc t) (suc i) p b e h = with_by lists t i p b (pred_by 
 pub entries_with : (lists : List (List Pair)) (t i : ℕ) (p : Pair) → t < length lists → entries_of (with_entry lists t p) i ≡ entries_of lists i ++ cond (t == i) (p ∷ []) []
 entries_with lists t i p h = with_by lists t i p (t == i) refl h
 
-pub count_tables : (lists : List (List Pair)) (t : ℕ) (p : Pair) → length (with_entry lists t p) ≡ length lists
-count_tables [] t p = refl
-count_tables (es ∷ lists) zero p = refl
-count_tables (es ∷ lists) (suc t) p = ap suc (count_tables lists t p)
-
 abbrev pub kinds : List TableDecl → List TableKind
 kinds tables = map (λ (t : TableDecl). t.kind) tables
 
@@ -178,11 +173,6 @@ nil_start [] (suc n) e = absurd (omega (arith, e))
 nil_start (kind ∷ shape) zero e = absurd (omega (arith, e))
 nil_start (Map ∷ shape) (suc n) e = nil_start shape n (omega (arith, e))
 nil_start (Set ∷ shape) (suc n) e = (tt, nil_start shape n (omega (arith, e)))
-
-pub none_at : (n i : ℕ) → entries_of (replicate n []) i ≡ []
-none_at zero i = refl
-none_at (suc n) zero = refl
-none_at (suc n) (suc i) = none_at n i
 
 -- ---- printable entries
 abbrev pub IsPrintablePair : List Text → Pair → Type 0

@@ -1,6 +1,8 @@
 -- The fault of a row, test by test.
-use Rattle.std.proofs.Common.{◌≡◌, ◌≢◌, ℕ, zero, suc, ◌<◌, ◌≤◌, ◌==◌, Bool, true, false, not, cond, nat_le, List, [], ◌∷◌, length, slice_get, Option, Some, None, Result, Err, refl, sym, ◌∙◌, ap, subst, arith}
+use Rattle.std.proofs.Common.{◌≡◌, ◌≢◌, ℕ, ◌<◌, ◌≤◌, Bool, true, false, not, cond, nat_le, List, length, slice_get, Option, Some, None, Result, Err, refl, sym, ◌∙◌, ap, subst, arith}
 use Rattle.std.proofs.lemmas.Bool.Decides.{nat_tests}
+use Rattle.std.proofs.lemmas.Bool.{eq-eqb}
+use Rattle.std.proofs.lemmas.Option.{slice_get_past}
 use Rattle.std.specs.List.{list_all}
 use Rattle.std.specs.Option.{option_or}
 use Rattle.opening_tables.specs.Opening.{Pair, count_all, entries_of, has_key, with_entry}
@@ -14,19 +16,10 @@ use Rattle.table_lines.specs.TableRows.{arity, decl_fault, pair_in, table_of, wo
 use Rattle.table_lines.specs.declared.refusal.TableRefusal.{TableRefusal}
 use Rattle.table_lines.specs.declared.refusal.TableRefusal.TheVariants.{UnknownTable, Arity, BadWord, Twice, TooManyEntries, NoMemory}
 
--- nothing stands behind the end
-pub none_past : (xs : List TableDecl) (i : ℕ) → length xs ≤ i → slice_get xs i ≡ None
-none_past [] i h = refl
-none_past (x ∷ xs) zero h = absurd (omega arith)
-none_past (x ∷ xs) (suc i) h = none_past xs i (omega arith)
-
-pub same_count : (m n : ℕ) → m ≡ n → (m == n) ≡ true
-same_count m n e = grind (arith, nat_tests)
-
 -- words that were read have no fault
 pub fine_words : (old new : List Text) (kind : TableKind) (ws : List Text) (p : Pair) (line : ℕ) → Reads old new kind ws p → word_fault kind line ws ≡ None
 fine_words old new kind ws p line r =
-    ap (λ (b : Bool). cond (not b) (Some (Arity line)) (cond (not (list_all is_value ws)) (Some (BadWord line)) None)) (same_count (arity kind) (length ws) r.many)
+    ap (λ (b : Bool). cond (not b) (Some (Arity line)) (cond (not (list_all is_value ws)) (Some (BadWord line)) None)) (eq-eqb (arity kind) (length ws) r.many)
     ∙ ap (λ (b : Bool). cond (not b) (Some (BadWord line)) None) r.values
 
 module _ (names : List Text) (tables : List TableDecl) (found : List (List Pair)) (r : Row) where
@@ -50,7 +43,7 @@ module _ (names : List Text) (tables : List TableDecl) (found : List (List Pair)
   few h = grind (arith, nat_tests)
 
   pub fault_unknown : count_all found < 100000 → length tables ≤ place → row_fault names tables found r ≡ Some (UnknownTable r.line)
-  fault_unknown h l = fault_by false (Some (UnknownTable r.line)) _ (few h) (ap (λ (o : Option TableDecl). decl_fault o r.line r.args) (none_past tables place l)) refl
+  fault_unknown h l = fault_by false (Some (UnknownTable r.line)) _ (few h) (ap (λ (o : Option TableDecl). decl_fault o r.line r.args) (slice_get_past tables place l)) refl
 
   pub fault_words : (t : TableDecl) (e : TableRefusal) → count_all found < 100000 → slice_get tables place ≡ Some t → word_fault t.kind r.line r.args ≡ Some e → row_fault names tables found r ≡ Some e
   fault_words t e h at w = fault_by false (Some e) _ (few h) (ap (λ (o : Option TableDecl). decl_fault o r.line r.args) at ∙ w) refl

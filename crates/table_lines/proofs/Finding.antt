@@ -1,36 +1,22 @@
 -- The table of a name, also while the list of names grows.
-use Rattle.std.proofs.Common.{◌≡◌, ℕ, zero, suc, ◌+◌, ◌<◌, ◌≤◌, Bool, true, false, not, cond, List, [], ◌∷◌, ◌++◌, length, slice_get, Option, Some, refl, ◌∙◌, ap, arith, length-append}
+use Rattle.std.proofs.Common.{◌≡◌, ℕ, zero, suc, ◌+◌, ◌<◌, ◌≤◌, Bool, true, false, not, cond, List, [], ◌∷◌, length, slice_get, Option, Some, refl, ◌∙◌, ap, arith, length-append}
 use Rattle.std.specs.List.{position_or_len, AllByRecursion}
 use Rattle.std.specs.Option.{unwrap_or}
 use Rattle.std.specs.Str.{bytes_eq}
 use Rattle.session_values.specs.Names.{Begins}
+use Rattle.session_values.proofs.Numbers.{past_first, past_on, here_first, here_on}
+use Rattle.session_values.proofs.Options.{get_front}
 use Rattle.syntax_trees.specs.declared.file.TableDecl.{TableDecl}
 use Rattle.table_text.specs.Written.{text_at}
 use Rattle.text_lines.specs.Text.{Text}
 use Rattle.table_lines.specs.TableRows.{AreKnown, table_of}
 
 -- ---- the first place that passes a test
-past_first : (b : Bool) (n : ℕ) → b ≡ false → 0 + 1 ≤ cond (not b) (1 + n) 0
-past_first true n e = cc
-past_first false n e = omega arith
-
-past_on : (b : Bool) (i n : ℕ) → suc i ≤ cond (not b) (1 + n) 0 → (i ≤ n → i + 1 ≤ n) → suc i + 1 ≤ cond (not b) (1 + n) 0
-past_on true i n l f = absurd (omega (arith, l))
-past_on false i n l f = omega (arith, f (omega (arith, l)))
-
 -- a place that fails the test isn't the first that passes it
 past : (p : TableDecl → Bool) (xs : List TableDecl) (i : ℕ) (x : TableDecl) → slice_get xs i ≡ Some x → p x ≡ false → i ≤ position_or_len p xs → i + 1 ≤ position_or_len p xs
 past p [] i x h f l = cc
 past p (y ∷ ys) zero x h f l = past_first (p y) (position_or_len p ys) (let same : y ≡ x = cc in ap p same ∙ f)
 past p (y ∷ ys) (suc i) x h f l = past_on (p y) i (position_or_len p ys) l (past p ys i x h f)
-
-here_first : (b : Bool) (n : ℕ) → b ≡ true → 0 ≡ cond (not b) (1 + n) 0
-here_first true n e = refl
-here_first false n e = cc
-
-here_on : (b : Bool) (i n : ℕ) → suc i ≤ cond (not b) (1 + n) 0 → (i ≤ n → i ≡ n) → suc i ≡ cond (not b) (1 + n) 0
-here_on true i n l f = absurd (omega (arith, l))
-here_on false i n l f = omega (arith, f (omega (arith, l)))
 
 -- a place that passes it, with none before, is the first
 here : (p : TableDecl → Bool) (xs : List TableDecl) (i : ℕ) (x : TableDecl) → slice_get xs i ≡ Some x → p x ≡ true → i ≤ position_or_len p xs → i ≡ position_or_len p xs
@@ -56,13 +42,8 @@ unfolding table_of
 table_here names tables name i t text at named same l = here (λ (d : TableDecl). bytes_eq (text_at names d.name) name) tables i t at (test_is names t text name named ∙ same) l
 
 -- ---- more names
-front_same : (old more : List Text) (i : ℕ) → i < length old → slice_get (old ++ more) i ≡ slice_get old i
-front_same [] more i h = absurd (omega arith)
-front_same (x ∷ old) more zero h = refl
-front_same (x ∷ old) more (suc i) h = front_same old more i (omega arith)
-
-text_kept : (old now : List Text) (i : ℕ) → Begins old now → i < length old → text_at now i ≡ text_at old i
-text_kept old now i b h = ap (λ (ns : List Text). text_at ns i) b.1 ∙ ap (λ (o : Option Text). unwrap_or o []) (front_same old b.0 i h)
+pub text_kept : (old now : List Text) (i : ℕ) → Begins old now → i < length old → text_at now i ≡ text_at old i
+text_kept old now i b h = ap (λ (ns : List Text). text_at ns i) b.1 ∙ ap (λ (o : Option Text). unwrap_or o []) (get_front old b.0 i h)
 
 pub table_kept : (old now : List Text) (tables : List TableDecl) (name : Text) → Begins old now → AreKnown old tables → table_of now tables name ≡ table_of old tables name
 unfolding table_of

@@ -2,10 +2,12 @@
 use Rattle.std.proofs.Common.{◌≡◌, ℕ, zero, suc, ◌+◌, ◌<◌, ◌==◌, Bool, true, false, not, cond, nat_le, List, [], ◌∷◌, ◌++◌, length, replicate, slice_get, Option, Some, None, refl, sym, ◌∙◌, ap, subst, arith, append_assoc, append-nil, length-append}
 use Rattle.std.proofs.lemmas.Bool.{eqb-true}
 use Rattle.std.proofs.lemmas.List.{length-replicate}
+use Rattle.std.proofs.lemmas.Option.{slice_get_within}
 use Rattle.std.specs.List.{list_all, list_any, AllByRecursion, flat_map}
 use Rattle.std.specs.Option.{option_or, unwrap_or}
 use Rattle.opening_tables.specs.Opening.{HaveNil, Pair, count_all, entries_of, has_key, with_entry}
-use Rattle.opening_tables.proofs.KeptLemmas.{count_with, none_counted}
+use Rattle.opening_tables.proofs.KeptLemmas.{count_with, none_counted, length_with}
+use Rattle.opening_tables.proofs.Filling.{none_there}
 use Rattle.session_values.specs.Names.{Begins}
 use Rattle.session_values.specs.Values.{value_eq}
 use Rattle.session_values.specs.declared.kind.TableKind.{TableKind}
@@ -27,7 +29,7 @@ use Rattle.table_lines.specs.Accepting.{Accepts, fault_at, row_fault}
 use Rattle.table_lines.specs.TableRows.{AreKnown, ArePrintable, AreTables, arity, decl_fault, entries_for, first_table_fault, gives_key, key_word, pair_in, pair_of, says_same, table_fault, table_of, word_says}
 use Rattle.table_lines.specs.declared.refusal.TableRefusal.{TableRefusal}
 use Rattle.table_lines.specs.declared.refusal.TableRefusal.TheVariants.{Arity, BadWord, Twice, TooManyEntries}
-use Rattle.table_lines.proofs.EntryLemmas.{HasKey, IsPrintablePair, behind_push, brought, count_tables, each_list, entries_push, entries_same, entries_with, has_entries, has_key_word, key_is, kinds, nil_start, nil_with, none_at, none_for, printable_for, stand_all, stands_row}
+use Rattle.table_lines.proofs.EntryLemmas.{HasKey, IsPrintablePair, behind_push, brought, each_list, entries_push, entries_same, entries_with, has_entries, has_key_word, key_is, kinds, nil_start, nil_with, none_for, printable_for, stand_all, stands_row}
 use Rattle.table_lines.proofs.Finding.{table_kept}
 use Rattle.table_lines.proofs.KeyLemmas.{Stands, keys_same}
 
@@ -50,7 +52,7 @@ going_start old tables rs0 = record {
   faults = refl;
   behind = sym (behind_nil old);
   many = length-replicate (length tables) (the_empty);
-  entries = λ i h. none_at (length tables) i ∙ sym (none_for old tables old i);
+  entries = λ i h. none_there (length tables) i ∙ sym (none_for old tables old i);
   count = none_counted (length tables);
   keys = tt;
   nil = nil_start (kinds tables) (length tables) (sym (kinds_length tables));
@@ -95,11 +97,6 @@ fine_words : (o : Option TableDecl) (line : ℕ) (ws : List Text) → decl_fault
 fine_words None line ws h = cc
 fine_words (Some t) line ws h = fine_by t line ws (arity t.kind == length ws) (list_all is_value ws) refl refl h
 
-within : (tables : List TableDecl) (i : ℕ) (t : TableDecl) → slice_get tables i ≡ Some t → i < length tables
-within [] i t h = cc
-within (x ∷ xs) zero t h = omega arith
-within (x ∷ xs) (suc i) t h = omega (arith, within xs i t h)
-
 -- the row's own key and that of each row before it
 same_keys : (names : List Text) (r : Row) (before : List Row) → HasKey r → Stands names (key_word r) → AllByRecursion HasKey before → AllByRecursion (λ (b : Row). Stands names (key_word b)) before → AllByRecursion (λ (b : Row). value_eq (pair_in names r).0 (pair_in names b).0 ≡ says_same (word_says (key_word r)) (word_says (key_word b))) before
 same_keys names r [] h s k t = tt
@@ -134,7 +131,7 @@ seen_before old tables before names r found behind entries keys fine =
     let t : ℕ = table_of old tables r.name in
     let new : List Text = placed_all names r.args in
     let words = fine_words (slice_get tables t) r.line r.args fine in
-    let here : t < length tables = within tables t words.decl words.at in
+    let here : t < length tables = slice_get_within tables t words.decl words.at in
     let own : HasKey r = has_key_word r words.some words.values in
     let front : Begins names new = placed_all_begins names r.args in
     let start : Begins (names_behind old before) names = subst (λ ns. Begins ns names) behind (begins_same names) in
@@ -194,7 +191,7 @@ going_turn old tables rs0 names r rs found new next k g a =
     let kept : table_of names tables r.name ≡ t = table_kept old names tables r.name (names_kept old tables rs0 names (r ∷ rs) found g) k in
     let P : ℕ → Type 0 = λ j. slice_get tables j ≡ Some a.decl in
     let at : slice_get tables t ≡ Some a.decl = subst P kept a.at in
-    let here : t < length tables = within tables t a.decl at in
+    let here : t < length tables = slice_get_within tables t a.decl at in
     let there : t < length found = omega (arith, here, g.many) in
     let is : next ≡ with_entry found t p = a.is ∙ ap (λ (j : ℕ). with_entry found j p) kept in
     let fine : table_fault old tables g.before r ≡ None = sym (fault_same old tables rs0 names r rs found k g) ∙ a.fine in
@@ -206,7 +203,7 @@ going_turn old tables rs0 names r rs found new next k g a =
       split = append_assoc g.before (r ∷ []) rs ∙ g.split;
       faults = ap (λ (w : Option TableRefusal). option_or w (first_table_fault old tables (g.before ++ r ∷ []) rs)) (sym fine) ∙ sym (fault_step old tables g.before r rs) ∙ g.faults;
       behind = names_are;
-      many = ap length is ∙ count_tables found t p ∙ g.many;
+      many = ap length is ∙ length_with found t p ∙ g.many;
       entries = λ i h.
           ap (λ (lists : List (List Pair)). entries_of lists i) is ∙ entries_with found t i p there
           ∙ ap (λ (es : List Pair). es ++ brought old tables new r i) (g.entries i h ∙ entries_same old tables old g.before names new i start (begins_then _ _ _ start front))

@@ -7,3 +7,5 @@ pub mod NoFault
 pub mod OpenedLemmas
 pub mod ReadBack
 pub mod WordLemmas
+pub use Rattle.table_text.proofs.WrittenOrder
+pub use Rattle.table_text.proofs.WordsBack

@@ -1,6 +1,6 @@
 -- The lines of tables have no fault, where they are few enough.
 use Rattle.std.proofs.Common.{◌≡◌, ℕ, ℤ, zero, suc, ◌+◌, ◌<◌, ◌≤◌, ◌==◌, Bool, true, false, cond, not, nat_le, ◌&&◌, ◌||◌, T, List, [], ◌∷◌, ◌++◌, length, map, slice_get, slice_index_or, codes, Option, Some, None, refl, sym, ◌∙◌, ap, subst, arith, length-append}
-use Rattle.std.proofs.lemmas.Bool.{eqb-true}
+use Rattle.std.proofs.lemmas.Bool.{eqb-true, eq-eqb}
 use Rattle.std.proofs.lemmas.Bool.Decides.{nat_tests}
 use Rattle.std.specs.Cmp.{Equal-is, tied_itself}
 use Rattle.std.specs.FinMap as finite
@@ -17,7 +17,7 @@ use Rattle.table_text.specs.Listed.{WrittenPair}
 use Rattle.table_text.specs.Reading.{AreReadable, IsReadable, IsReadableEntry, read_as, rows_from}
 use Rattle.table_text.specs.TableText.{Entry, WrittenTable, WrittenMap, WrittenSet, all_entries, entries_in, entry_of, entry_values, entry_words, values_told}
 use Rattle.table_text.specs.Written.{Written, NilWord, NumberWord, SymbolWord, word, written, written_cmp}
-use Rattle.table_text.proofs.Order.{written_cmp_exact, written_cmp_total}
+use Rattle.table_text.proofs.WrittenOrder.{written_cmp_exact, written_cmp_total}
 use Rattle.table_text.proofs.ValuesBack.{word_back}
 use Rattle.text_lines.specs.Rows.{Row, row_of}
 use Rattle.text_lines.specs.Text.{Text}
@@ -26,7 +26,6 @@ use Rattle.text_lines.proofs.ValueLemmas.{is_value_is}
 use Rattle.table_lines.specs.TableRows.{arity, decl_fault, first_table_fault, gives_key, key_word, says_same, table_fault, table_of, word_fault, word_says}
 use Rattle.table_lines.specs.declared.refusal.TableRefusal.{TableRefusal}
 use Rattle.table_lines.specs.declared.refusal.TableRefusal.TheVariants.{Arity, BadWord, Twice}
-use Rattle.table_lines.proofs.FaultLemmas.{same_count}
 use Rattle.table_lines.specs.ReadBack.{AreWritable, texts_of, written_kind, written_rows}
 use Rattle.table_lines.proofs.Going.{by_count, fault_end, fault_is, fault_step}
 use Rattle.table_lines.proofs.KeyLemmas.{says_by, value_in, value_says}
@@ -139,7 +138,7 @@ module _ (old : List Text) (decls : List TableDecl) where
   fine_decl r e re he s =
       ap (λ (o : Option TableDecl). decl_fault o r.line r.args) (ap (λ (t : Text). slice_get decls (table_of old decls t)) re.name ∙ s.at)
       ∙ ap (word_fault s.decl.kind r.line) re.args
-      ∙ ap (λ (b : Bool). cond (not b) (Some (Arity r.line)) (cond (not (list_all is_value (entry_words e))) (Some (BadWord r.line)) None)) (same_count (arity s.decl.kind) (length (entry_words e)) s.many)
+      ∙ ap (λ (b : Bool). cond (not b) (Some (Arity r.line)) (cond (not (list_all is_value (entry_words e))) (Some (BadWord r.line)) None)) (eq-eqb (arity s.decl.kind) (length (entry_words e)) s.many)
       ∙ ap (λ (b : Bool). cond (not b) (Some (BadWord r.line)) None) (are_values (entry_values e) he.values)
 
   few_rows : (n : ℕ) → n < 100000 → nat_le 100000 n ≡ false
@@ -176,11 +175,11 @@ module _ (old : List Text) (decls : List TableDecl) where
   entries_fine n es h s a few = no_fault [] [] es n tt tt h s a (none_before es) (omega (arith, few))
 
 -- ---- the entries of tables
-true_first : (a b : Bool) → T (a && b) → T a
+pub true_first : (a b : Bool) → T (a && b) → T a
 true_first true b h = tt
 true_first false b h = h
 
-true_second : (a b : Bool) → T (a && b) → T b
+pub true_second : (a b : Bool) → T (a && b) → T b
 true_second true b h = h
 true_second false b h = absurd h
 

@@ -1,6 +1,7 @@
 -- The lines of tables are read as these tables.
 use Rattle.std.proofs.Common.{◌≡◌, ℕ, zero, suc, ◌+◌, ◌<◌, ◌==◌, Bool, true, false, cond, List, [], ◌∷◌, ◌++◌, length, map, slice_get, Option, Some, None, refl, sym, ◌∙◌, ap, subst, arith, append-nil}
 use Rattle.std.proofs.lemmas.Bool.{eq-eqb, ne_eqb}
+use Rattle.std.proofs.lemmas.Option.{slice_get_within}
 use Rattle.std.specs.FinMap as finite
 use Rattle.std.specs.List.{AllByRecursion}
 use Rattle.std.specs.Option.{option_map, unwrap_or}
@@ -9,6 +10,7 @@ use Rattle.session_values.specs.Names.{Begins}
 use Rattle.session_values.specs.declared.value.Value.{Value}
 use Rattle.session_values.specs.declared.value.Value.TheVariants.{Nil}
 use Rattle.session_values.proofs.Named.{begins_same, begins_then}
+use Rattle.session_values.proofs.Lists.{same_head, same_tail}
 use Rattle.syntax_trees.specs.declared.file.TableDecl.{TableDecl}
 use Rattle.syntax_trees.proofs.Mentions.{all_first}
 use Rattle.table_text.specs.Listed.{HavePrintableKeys, WrittenPair, written_of, written_pair}
@@ -16,7 +18,7 @@ use Rattle.table_text.specs.Reading.{AreReadable, read_as, rows_from}
 use Rattle.table_text.specs.TableText.{Entry, WrittenTable, WrittenMap, WrittenSet, all_entries, entries_in, entry_of, entry_values, entry_words, member, written_table}
 use Rattle.table_text.specs.Written.{Written, word, written, written_cmp}
 use Rattle.table_text.proofs.Listing.{written_is}
-use Rattle.table_text.proofs.Order.{written_cmp_exact, written_cmp_total}
+use Rattle.table_text.proofs.WrittenOrder.{written_cmp_exact, written_cmp_total}
 use Rattle.table_text.proofs.ValuesBack.{values_back}
 use Rattle.text_lines.specs.Rows.{Row, names_behind}
 use Rattle.text_lines.specs.Text.{Text}
@@ -145,17 +147,11 @@ written_at : (new : List Text) (o : Option Value) (x : Written) → option_map (
 written_at new None x e = cc
 written_at new (Some v) x e = cc
 
-firsts : {A : Type 0} (x y : A) (xs ys : List A) → x ∷ xs ≡ y ∷ ys → x ≡ y
-firsts x y xs ys e = cc
-
-rests : {A : Type 0} (x y : A) (xs ys : List A) → x ∷ xs ≡ y ∷ ys → xs ≡ ys
-rests x y xs ys e = cc
-
 pairs_map : (name : List ℕ) (names : List Text) (ps : List WrittenPair) → AllByRecursion (IsBack names) (map (λ (p : WrittenPair). entry_of name p.0 (Some p.1)) ps) → map (written_pair names) (map (pair_at names) (map (λ (p : WrittenPair). entry_of name p.0 (Some p.1)) ps)) ≡ ps
 pairs_map name names [] h = refl
 pairs_map name names (p ∷ ps) h =
-    let key : written names (unwrap_or (value_of names (word p.0)) Nil) ≡ p.0 = written_at names (value_of names (word p.0)) p.0 (firsts _ _ _ _ h.0) in
-    let value : written names (unwrap_or (value_of names (word p.1)) Nil) ≡ p.1 = written_at names (value_of names (word p.1)) p.1 (firsts _ _ _ _ (rests _ _ _ _ h.0)) in
+    let key : written names (unwrap_or (value_of names (word p.0)) Nil) ≡ p.0 = written_at names (value_of names (word p.0)) p.0 (same_head _ _ _ _ h.0) in
+    let value : written names (unwrap_or (value_of names (word p.1)) Nil) ≡ p.1 = written_at names (value_of names (word p.1)) p.1 (same_head _ _ _ _ (same_tail _ _ _ _ h.0)) in
     let make : Written → Written → List WrittenPair → List WrittenPair = λ k v l. (k, v) ∷ l in
     let rest : List WrittenPair = map (written_pair names) (map (pair_at names) (map (λ (q : WrittenPair). entry_of name q.0 (Some q.1)) ps)) in
     ap (λ (k : Written). make k (written names (unwrap_or (value_of names (word p.1)) Nil)) rest) key
@@ -165,7 +161,7 @@ pairs_map name names (p ∷ ps) h =
 keys_set : (name : List ℕ) (names : List Text) (ks : List Written) → AllByRecursion (IsBack names) (map (λ (k : Written). entry_of name k None) ks) → map (λ (p : WrittenPair). member p.0) (map (written_pair names) (map (pair_at names) (map (λ (k : Written). entry_of name k None) ks))) ≡ map member ks
 keys_set name names [] h = refl
 keys_set name names (k ∷ ks) h =
-    let key : written names (unwrap_or (value_of names (word k)) Nil) ≡ k = written_at names (value_of names (word k)) k (firsts _ _ _ _ h.0) in
+    let key : written names (unwrap_or (value_of names (word k)) Nil) ≡ k = written_at names (value_of names (word k)) k (same_head _ _ _ _ h.0) in
     let rest : List (Written × Unit {0}) = map (λ (p : WrittenPair). member p.0) (map (written_pair names) (map (pair_at names) (map (λ (k : Written). entry_of name k None) ks))) in
     ap (λ (x : Written). member x ∷ rest) key ∙ ap (λ (l : List (Written × Unit {0})). member k ∷ l) (keys_set name names ks h.1)
 
@@ -188,11 +184,6 @@ pub texts_length : (old : List Text) (decls : List TableDecl) → length (texts_
 texts_length old [] = refl
 texts_length old (d ∷ decls) = ap suc (texts_length old decls)
 
-within_tables : (tables : List WrittenTable) (i : ℕ) (t : WrittenTable) → slice_get tables i ≡ Some t → i < length tables
-within_tables [] i t h = cc
-within_tables (x ∷ xs) zero t h = omega arith
-within_tables (x ∷ xs) (suc i) t h = omega (arith, within_tables xs i t h)
-
 pub tables_back : (old new : List Text) (decls : List TableDecl) (n : ℕ) (tables : List WrittenTable) (found : List (List Pair)) → AreReadBack old new decls n tables found → (i : ℕ) (t : WrittenTable) → slice_get tables i ≡ Some t → written_table new (container_of (written_kind t) (entries_of found i)) ≡ t
 tables_back old new decls n tables found r i t at =
     let texts : List Text = texts_of old decls in
@@ -201,7 +192,7 @@ tables_back old new decls n tables found r i t at =
     let last : Begins (names_behind old rs) new = subst (λ ns. Begins ns new) r.read.names (begins_same new) in
     let back = all_back old new n es r.readable last in
     let one = one_taken old new decls (IsBack new) 0 texts tables i t (omega (arith, r.count, texts_length old decls)) (from_differ old decls 0 texts (λ k u h. let zero_more : k ≡ 0 + k = omega arith in r.differ k u h ∙ zero_more)) back at in
-    let here : i < length decls = omega (arith, within_tables tables i t at, r.count) in
+    let here : i < length decls = omega (arith, slice_get_within tables i t at, r.count) in
     let shift : i ≡ 0 + i = omega arith in
     let is : entries_of found i ≡ map (pair_at new) (entries_in one.name t) = r.read.entries i here ∙ taken_is old new decls n es i ∙ ap (taken old new decls es) shift ∙ one.is in
     let printable = keys_of_pairs new (entries_of found i) (subst (AllByRecursion (IsPrintablePair new)) (sym (r.read.entries i here)) (printable_for old decls old rs new i last)) in

@@ -1,4 +1,9 @@
 pub mod Listing
-pub mod Order
+pub mod WrittenOrder
 pub mod ValuesBack
 pub mod WordsBack
+pub mod Apart
+pub mod PartText
+pub mod Parts
+pub mod Rising
+pub mod Waiting

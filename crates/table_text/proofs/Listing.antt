@@ -1,5 +1,7 @@
 -- Tables whose entries are listed: how they are written, and in which order.
-use Rattle.std.proofs.Common.{◌≡◌, ℕ, Bool, true, false, cond, ◌||◌, List, [], ◌∷◌, map as map_list, Option, Some, None, slice_get, length, refl, sym, ◌∙◌, ap, subst, arith}
+use Rattle.std.proofs.Common.{◌≡◌, ℕ, Bool, true, false, cond, ◌||◌, List, [], ◌∷◌, map as map_list, Option, Some, None, slice_get, refl, sym, ◌∙◌, ap, subst}
+use Rattle.std.proofs.lemmas.List.{nil_from_length}
+use Rattle.std.proofs.lemmas.Bool.{or_right}
 use Rattle.std.specs.Cmp.{Equal-is, tied_itself}
 use Rattle.std.specs.FinMap as map
 use Rattle.std.specs.FinMap.Entries.{by_order, find, put}
@@ -21,7 +23,7 @@ use Rattle.session_values.proofs.Equal.{same_value, value_eq-self}
 use Rattle.table_text.specs.Listed.{AreRising, HavePrintableKeys, WrittenPair, entries_told, keys_of, written_of, written_pair}
 use Rattle.table_text.specs.TableText.{Entry, WrittenMap, WrittenSet, entries_in, entry_of, member, written_table}
 use Rattle.table_text.specs.Written.{Written, NumberWord, SymbolWord, text_at, written, written_cmp}
-use Rattle.table_text.proofs.Order.{written_cmp_exact, written_cmp_total}
+use Rattle.table_text.proofs.WrittenOrder.{written_cmp_exact, written_cmp_total}
 
 -- ---- different values are written differently
 number_same : (x y : _) → ◌≡◌ {A = Written} (NumberWord x) (NumberWord y) → x ≡ y
@@ -33,7 +35,7 @@ symbol_same t u e = cc
 text_is : (names : List (List ℕ)) (p : ℕ) (t : List ℕ) → slice_get names p ≡ Some t → text_at names p ≡ t
 text_is names p t h = ap (λ (o : Option (List ℕ)). unwrap_or o []) h
 
-one_value : (names : List (List ℕ)) (x y : Value) → AreDistinct names → IsPrintable names x → IsPrintable names y → written names x ≡ written names y → x ≡ y
+pub one_value : (names : List (List ℕ)) (x y : Value) → AreDistinct names → IsPrintable names x → IsPrintable names y → written names x ≡ written names y → x ≡ y
 one_value names Nil Nil d a b e = refl
 one_value names Nil (Num y) d a b e = cc
 one_value names Nil (Sym q) d a b e = cc
@@ -47,12 +49,8 @@ one_value names (Sym p) (Sym q) d a b e =
     ap Sym (d p q b.text (a.at ∙ ap (λ (t : List ℕ). Some t) same) b.at)
 
 -- ---- maps
-none_left : {A : Type 0} (xs : List A) → length xs ≡ 0 → xs ≡ []
-none_left [] e = refl
-none_left (x ∷ xs) e = absurd (omega (arith, e))
-
 no_entries : {K X : Type 0} (R : K → K → Ordering) → map.entries (map.empty {K = K} {X = X} {R = R}) ≡ []
-no_entries {K} {X} R = none_left (map.entries (map.empty {X = X} {R = R})) (sym (map.len-entries (map.empty {X = X} {R = R})) ∙ map.len-empty R X)
+no_entries {K} {X} R = nil_from_length (map.entries (map.empty {X = X} {R = R})) (sym (map.len-entries (map.empty {X = X} {R = R})) ∙ map.len-empty R X)
 
 by_keys : (b c : Bool) (x y z : Option Written) → (b ≡ true → c ≡ true → ⊥) → cond c y (cond b x z) ≡ cond b x (cond c y z)
 by_keys true true x y z f = absurd (f refl refl)
@@ -119,10 +117,6 @@ same_bool : (a b : Bool) → (a ≡ true → b ≡ true) → (b ≡ true → a �
 same_bool true b f g = sym (f refl)
 same_bool false true f g = g refl
 same_bool false false f g = refl
-
-or_right : (a b : Bool) → b ≡ true → (a || b) ≡ true
-or_right true b e = refl
-or_right false b e = e
 
 found_one : (f : Value → Bool) (x y : Value) (ys : List Value) (b : Bool) → value_eq x y ≡ b → f x ≡ true → (list_any (value_eq x) ys ≡ true → list_any f ys ≡ true) → (b || list_any (value_eq x) ys) ≡ true → (f y || list_any f ys) ≡ true
 found_one f x y ys true e fx g h = ap (λ (t : Bool). t || list_any f ys) (ap f (sym (same_value x y e)) ∙ fx)

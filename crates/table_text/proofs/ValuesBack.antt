@@ -9,7 +9,7 @@ use Rattle.session_values.proofs.NamesLemmas.{known_at, slice_get_last, stands_a
 use Rattle.text_lines.specs.Text.{Text}
 use Rattle.text_lines.specs.Values.{is_symbol, placed, placed_all}
 use Rattle.text_lines.proofs.ValueLemmas.{placed_all_begins, placed_all_step, placed_by, value_by, value_kept}
-use Rattle.line_words.proofs.ValuesBack.{nil_value, number_value}
+use Rattle.text_lines.proofs.ValuesBack.{nil_value, number_value}
 use Rattle.table_text.specs.Reading.{IsReadable, read_as}
 use Rattle.table_text.specs.Written.{Written, NilWord, NumberWord, SymbolWord, text_at, word, written}
 

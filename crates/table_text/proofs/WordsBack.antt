@@ -5,14 +5,14 @@ use Rattle.text_lines.specs.Rows.{Row, row_of, rows}
 use Rattle.text_lines.specs.Text.{Text, lines}
 use Rattle.text_lines.proofs.RowLemmas.{rows_more, rows_nil}
 use Rattle.text_lines.proofs.TextLemmas.{lines_nil}
-use Rattle.line_words.specs.Words.{IsWord, spaced}
-use Rattle.line_words.proofs.WordsBack.{line_front, nil_word, number_word, symbol_word, words_back}
+use Rattle.text_lines.specs.Words.{IsWord, spaced}
+use Rattle.text_lines.proofs.WordsBack.{line_front, nil_word, number_word, symbol_word, words_back}
 use Rattle.table_text.specs.Reading.{AreReadable, IsReadable, IsReadableEntry, rows_from}
 use Rattle.table_text.specs.TableText.{Entry, entries_text, entry_line, entry_values, entry_words, told_text, values_told}
 use Rattle.table_text.specs.Written.{Written, NilWord, NumberWord, SymbolWord, word}
 
 -- what is written is a word
-readable_word : (w : Written) → IsReadable w → IsWord (word w)
+pub readable_word : (w : Written) → IsReadable w → IsWord (word w)
 readable_word NilWord h = nil_word
 readable_word (NumberWord z) h = number_word z h
 readable_word (SymbolWord t) h = symbol_word t h

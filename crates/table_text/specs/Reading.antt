@@ -6,7 +6,7 @@ use Rattle.session_values.specs.Values.{IsValue}
 use Rattle.session_values.specs.declared.value.Value.TheVariants.{Num}
 use Rattle.text_lines.specs.Rows.{Row, row_of}
 use Rattle.text_lines.specs.Values.{is_symbol, value_of}
-use Rattle.line_words.specs.Words.{IsWord}
+use Rattle.text_lines.specs.Words.{IsWord}
 use Rattle.table_text.specs.TableText.{Entry, entry_words, entry_values}
 use Rattle.table_text.specs.Written.{Written, NilWord, NumberWord, SymbolWord, written}
 

@@ -11,6 +11,7 @@ use Rattle.symbolic_ops.specs.Foresight.{ForesightView}
 use Rattle.symbolic_ops.specs.Matching.{Covered, Matches, StandsFor, exact_symbol}
 use Rattle.session_values.specs.Op.{IsHeld}
 use Rattle.session_values.specs.Values.{IsValue}
+use Rattle.session_values.proofs.Entries.{same_call}
 use Rattle.std.specs.List.{AllByRecursion}
 use Rattle.std.specs.Option.{IsSome}
 use Rattle.symbolic_ops.proofs.Above.{covered_itself, exact_stands}
@@ -45,10 +46,7 @@ no_calls more op values e = impossible nil_reply op e
     impossible r op e = cc
 
 pub calls_put : (more : List Value) (op : Op) → AllByRecursion IsValue more → says (put_of 1 7 ∷ []) nil_reply more ≡ Calls op → Matches (exact_symbol (put_of 1 7) ∷ []) op
-calls_put [] op values e = let P : Op → Type 0 = λ o. StandsFor (exact_symbol (put_of 1 7)) o in inl (subst P (inside (put_of 1 7) op e) (put_stands 1 7 (omega arith) (omega arith)))
-  where
-    inside : (a b : Op) → Calls a ≡ Calls b → a ≡ b
-    inside a b e = cc
+calls_put [] op values e = let P : Op → Type 0 = λ o. StandsFor (exact_symbol (put_of 1 7)) o in inl (subst P (same_call (put_of 1 7) op e) (put_stands 1 7 (omega arith) (omega arith)))
 calls_put (v ∷ more) op values e = absurd (no_calls more op values.1 e)
 
 pub put_is_nil : (ts : Tables) (k v : ℕ) → Nil ≡ reply ts (put_of k v)

@@ -1,5 +1,6 @@
 -- What the calls of two callers ask, and what they leave.
 use Rattle.std.proofs.Common.{◌≡◌, ℕ, zero, suc, List, [], ◌∷◌, ◌++◌, length, drop, get_or, Some, inl, inr, refl, sym, ◌∙◌, ap, subst, arith}
+use Rattle.std.proofs.lemmas.Option.{same_Some, none-some}
 use Rattle.std.specs.Prelude.{slice_get}
 use Rattle.session_values.specs.declared.op.Op.{Op}
 use Rattle.session_values.specs.declared.reply.Reply.{Reply}
@@ -29,7 +30,6 @@ use Rattle.session_hall.specs.Stages.{IsBetween, IsInFlight, OnFlight}
 use Rattle.session_hall.specs.Waits.{AdmittedAfter, AppliedAfter, DeclaredAfter, EndedAfter, FinishedAfter, FinishedAfterFrom}
 use Rattle.session_hall.proofs.Moving.{first_at, shifted}
 use Rattle.session_hall.proofs.Tickets.{of_serving, on_serving}
-use Rattle.hall_rule.specs.Law.{inside, none_some}
 use Rattle.tests_desks.specs.BookRows.{get_of, list_entry, meaning_of, nil_reply, put_of}
 use Rattle.tests_desks.specs.HallRows.{Stands, done, gets_and_puts}
 use Rattle.tests_desks.proofs.BookRows.{calls_put, no_calls, put_stands}
@@ -173,7 +173,7 @@ both_leave h xs ys zs list a b two r s is first second i d e = go zs (ap length 
     none (w ∷ v ∷ ws) l = omega (arith, l)
 
     go : (ws : List (Caller ListView)) → length ws ≡ 0 → (i : ℕ) → slice_get ((ws ++ a ∷ []) ++ b ∷ []) i ≡ Some d → Leaves meaning_of h i d
-    go [] l zero e = let P : Caller ListView → Type 0 = λ z. Leaves meaning_of h 0 z in subst P (inside a d e) first
-    go [] l (suc zero) e = let P : Caller ListView → Type 0 = λ z. Leaves meaning_of h 1 z in subst P (inside b d e) second
-    go [] l (suc (suc i)) e = absurd (none_some d e)
+    go [] l zero e = let P : Caller ListView → Type 0 = λ z. Leaves meaning_of h 0 z in subst P (same_Some a d e) first
+    go [] l (suc zero) e = let P : Caller ListView → Type 0 = λ z. Leaves meaning_of h 1 z in subst P (same_Some b d e) second
+    go [] l (suc (suc i)) e = absurd (none-some d e)
     go (w ∷ ws) l i e = absurd (omega (arith, l))

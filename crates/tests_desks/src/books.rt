@@ -1,7 +1,7 @@
 // A book over a list of tickets: the youngest of three waits until both others narrow, and all end.
 
 ghost use Rattle.std.specs.Prelude.{◌≡◌, ◌<◌, ◌≤◌, None, IfOk, length};
-ghost use Rattle.session_limits.specs.Limits.{max_symbols};
+ghost use Rattle.session_values.specs.Limits.{max_symbols};
 ghost use Rattle.session_journal.specs.Journal.{begun};
 ghost use Rattle.admission_book.specs.Book.{after_begin, record_of};
 ghost use Rattle.admission_book.specs.Lawful.{Lawful};

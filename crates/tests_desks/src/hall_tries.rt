@@ -2,7 +2,7 @@
 // the older one has ended, and puts once more.
 
 ghost use Rattle.std.specs.Prelude.{◌≡◌, ◌≤◌, [], ◌∷◌};
-ghost use Rattle.session_limits.specs.Limits.{max_symbols};
+ghost use Rattle.session_values.specs.Limits.{max_symbols};
 ghost use Rattle.session_hall.specs.declared.stage.Stage.TheVariants.{Idle, Out, Serving};
 ghost use Rattle.session_hall.specs.Callers.{IsCallerOf};
 ghost use Rattle.session_hall.specs.Names.{script_of};

@@ -2,7 +2,7 @@
 // holds, and then waits until the older one declares less.
 
 ghost use Rattle.std.specs.Prelude.{◌≡◌, ◌≤◌, [], ◌∷◌, ◌++◌, IfOk};
-ghost use Rattle.session_limits.specs.Limits.{max_symbols};
+ghost use Rattle.session_values.specs.Limits.{max_symbols};
 ghost use Rattle.symbolic_ops.specs.Matching.{exact_symbol};
 ghost use Rattle.session_values.specs.declared.value.Value.TheVariants.{Nil};
 ghost use Rattle.session_values.specs.declared.kind.TableKind.TheVariants.{Map};
@@ -14,11 +14,10 @@ ghost use Rattle.tests_desks.specs.BookRows.{get_of, list_entry, meaning_of, put
 ghost use Rattle.tests_desks.specs.HallRows.{HasTwo, Stands, done, gets_and_puts};
 
 use crate::books::{are_nil, get_1, nil, put_1, put_2};
-use hall_rule::Part;
 use session_hall::{Admitting, Applying, Caller, Closed, Hall};
 use session_journal::{Event, ListScript};
 use session_values::{Kind, Listed, NoMemory, Op, TableKind, Value};
-use shard_tables::{MapShard, shard_of};
+use shard_tables::{MapShard, Part, shard_of};
 use std::alloc::Global;
 use std::process::Abort;
 use std::sync::Wait;

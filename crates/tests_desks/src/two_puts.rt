@@ -2,7 +2,7 @@
 // one is still open, and its reply is told then. The third caller finds all tickets begun.
 
 ghost use Rattle.std.specs.Prelude.{◌≡◌, ◌≤◌, IfOk};
-ghost use Rattle.session_limits.specs.Limits.{max_symbols};
+ghost use Rattle.session_values.specs.Limits.{max_symbols};
 ghost use Rattle.admission_book.specs.Lawful.{Lawful};
 ghost use Rattle.tests_desks.specs.BookRows.{IsAt, meaning_of};
 ghost use Rattle.tests_desks.specs.TwoPuts.{both_begun, both_ended, first_put, get_or_puts, second_put, younger_ended};

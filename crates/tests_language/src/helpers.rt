@@ -2,7 +2,7 @@
 
 ghost use Rattle.std.specs.Prelude.{◌≤◌, length};
 ghost use Rattle.session_limits.specs.Limits.{max_input};
-ghost use Rattle.syntax_trees.specs.Mentions.{AreNamed, file_mentions};
+ghost use Rattle.handler_check.specs.Mentions.{AreNamed, file_mentions};
 
 use handler_syntax::{File, SyntaxRefusal, parse, reprint};
 use session_values::Names;

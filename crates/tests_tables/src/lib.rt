@@ -16,3 +16,5 @@ mod shards;
 mod symbols;
 #[cfg(test)]
 mod values;
+#[cfg(test)]
+mod whole;

@@ -33,11 +33,6 @@ module _ {R : Type 0} where
 
 -- reads of lists
 module _ {A : Type 0} where
-  pub as-get : (xs : List A) (i : ℕ) (d : A) → i < length xs → slice_get xs i ≡ Some (get_or xs i d)
-  as-get [] i d h = absurd (omega arith)
-  as-get (x ∷ xs) zero d h = refl
-  as-get (x ∷ xs) (suc i) d h = as-get xs i d (omega arith)
-
   pub front-of : (n : ℕ) (xs ys : List A) → n ≡ length xs → take n (xs ++ ys) ≡ xs
   front-of zero [] ys e = refl
   front-of zero (x ∷ xs) ys e = absurd (omega arith)

@@ -1,5 +1,6 @@
 -- The only caller of a hall.
 use Rattle.std.proofs.Common.{◌≡◌, ℕ, zero, suc, List, [], ◌∷◌, ◌++◌, length, drop, Some, refl, sym, ◌∙◌, ap, subst, arith}
+use Rattle.std.proofs.lemmas.Option.{same_Some, none-some}
 use Rattle.std.specs.Prelude.{slice_get}
 use Rattle.session_journal.specs.Script.{Meaning}
 use Rattle.session_hall.specs.declared.caller.Caller.{Caller}
@@ -8,7 +9,6 @@ use Rattle.session_hall.specs.declared.stage.Stage.{Stage}
 use Rattle.session_hall.specs.declared.stage.Stage.TheVariants.{Idle}
 use Rattle.session_hall.specs.Closings.{Leaves}
 use Rattle.session_hall.specs.Stages.{IsBetween}
-use Rattle.hall_rule.specs.Law.{inside, none_some}
 
 pub between : (st : Stage) → st ≡ Idle → IsBetween st
 between st e = let P : Stage → Type 0 = λ s. IsBetween s in subst P (sym e) tt
@@ -22,6 +22,6 @@ one_leaves {S} meaning h xs ys list a one r is leaves i d e = go ys (ap length r
     none (w ∷ ws) l = omega (arith, l)
 
     go : (ws : List (Caller S)) → length ws ≡ 0 → (i : ℕ) → slice_get (ws ++ a ∷ []) i ≡ Some d → Leaves meaning h i d
-    go [] l zero e = let P : Caller S → Type 0 = λ z. Leaves meaning h 0 z in subst P (inside a d e) leaves
-    go [] l (suc i) e = absurd (none_some d e)
+    go [] l zero e = let P : Caller S → Type 0 = λ z. Leaves meaning h 0 z in subst P (same_Some a d e) leaves
+    go [] l (suc i) e = absurd (none-some d e)
     go (w ∷ ws) l i e = absurd (omega (arith, l))

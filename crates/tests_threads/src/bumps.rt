@@ -5,10 +5,10 @@ ghost use Rattle.session_values.specs.declared.kind.TableKind.TheVariants.{Map};
 ghost use Rattle.session_values.specs.Tables.{Fits};
 
 use crate::four_callers::served_by;
-use hall_rule::Part;
 use repeated_calls::RepeatedCalls;
 use session_hall::Closed;
 use session_values::{Kind, NoMemory, Op, TableKind, Value};
+use shard_tables::Part;
 use std::alloc::Global;
 use std::process::Abort;
 

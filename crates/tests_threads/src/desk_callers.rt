@@ -2,7 +2,7 @@
 // goes on: it begins the next ticket, or is told that all are begun.
 
 ghost use Rattle.std.specs.Prelude.{◌≡◌, ◌≤◌, ◌∷◌, [], IfOk, length};
-ghost use Rattle.session_limits.specs.Limits.{max_tables};
+ghost use Rattle.session_values.specs.Limits.{max_tables};
 ghost use Rattle.session_values.specs.declared.kind.TableKind.TheVariants.{Map};
 ghost use Rattle.session_hall.specs.declared.stage.Stage.TheVariants.{Out};
 ghost use Rattle.session_hall.specs.Callers.{IsCallerOf};

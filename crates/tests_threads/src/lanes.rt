@@ -2,7 +2,7 @@
 
 ghost use Rattle.std.specs.Prelude.{◌≡◌, ◌<◌, ◌≤◌, ◌∷◌, [], IfOk, length};
 ghost use Rattle.std.specs.List.{AllByRecursion};
-ghost use Rattle.session_limits.specs.Limits.{max_callers};
+ghost use Rattle.session_values.specs.Limits.{max_callers};
 ghost use Rattle.reply_lane.specs.Ends.{IsEndOf};
 ghost use Rattle.reply_lane.specs.Lanes.{IsSpoken};
 ghost use Rattle.tests_threads.specs.OneReply.{nil_reply, one_reply, one_ticket};

@@ -1,6 +1,6 @@
 // Boards of a few turns, under the rule that asks nothing.
 ghost use Rattle.std.specs.Prelude.{◌≡◌, ℕ, ◌+◌, ◌<◌, ◌≤◌, [], None, IfOk, vec_len};
-ghost use Rattle.session_limits.specs.Limits.{max_callers};
+ghost use Rattle.session_values.specs.Limits.{max_callers};
 ghost use Rattle.turn_board.specs.Limits.{max_board_turns};
 ghost use Rattle.turn_board.specs.Boards.{turn_count, held, IsSeatOf, SameNote, Gained, Ends, AllEnd};
 

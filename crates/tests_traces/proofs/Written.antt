@@ -1,5 +1,6 @@
 -- The events of the test of lines can be written.
-use Rattle.std.proofs.Common.{◌≡◌, ℕ, List, [], ◌∷◌, codes, Option, Some, None, arith}
+use Rattle.std.proofs.Common.{◌≡◌, [], ◌∷◌, codes, Some, arith}
+use Rattle.std.proofs.lemmas.Option.{none-some}
 use Rattle.session_values.specs.Names.{IsNamed}
 use Rattle.session_values.specs.declared.value.Value.TheVariants.{Sym}
 use Rattle.symbolic_ops.specs.declared.arg.Arg.TheVariants.{Known}
@@ -19,7 +20,4 @@ symbol_there = record { text = codes "x"; at = refl_at; short = omega arith }
     refl_at = cc
 
 pub no_name : CanWriteArg two_names (Known (Sym 2))
-no_name = λ text e. absurd (none_some text e)
-  where
-    none_some : (text : List ℕ) → ◌≡◌ {A = Option (List ℕ)} None (Some text) → ⊥
-    none_some text e = cc
+no_name = λ text e. absurd (none-some text e)

@@ -7,7 +7,7 @@ ghost use Rattle.session_journal.specs.Journal.{entries};
 ghost use Rattle.session_journal.specs.Lists.{ticket_at};
 ghost use Rattle.session_journal.specs.Script.{IsScript};
 ghost use Rattle.trace_audit.specs.Desk.{fresh, replay_at};
-ghost use Rattle.trace_audit.specs.Traces.{HasKnownSymbol};
+ghost use Rattle.trace_lines.specs.Traces.{HasKnownSymbol};
 ghost use Rattle.tests_traces.specs.Swaps.{HasRun, meaning_of, nil_reply, swap_of, two_swaps};
 
 use machine_walk::Answerer;

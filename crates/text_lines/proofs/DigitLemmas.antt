@@ -1,7 +1,8 @@
 -- The number that the first digits of a list say.
-use Rattle.std.proofs.Common.{◌≡◌, ℕ, zero, suc, ◌+◌, ◌-◌, ◌*◌, ◌<◌, ◌≤◌, Bool, true, false, ◌&&◌, [], ◌∷◌, length, take, get_or, Some, None, cond, refl, sym, ap, ◌∙◌, subst, arith}
+use Rattle.std.proofs.Common.{◌≡◌, ℕ, zero, suc, ◌+◌, ◌-◌, ◌*◌, ◌<◌, ◌≤◌, true, false, [], ◌∷◌, length, take, get_or, Some, None, cond, refl, sym, ap, ◌∙◌, subst, arith, le_refl}
 use Rattle.std.proofs.lemmas.Bool.Decides.{nat_tests}
 use Rattle.std.proofs.lemmas.List.{take_all}
+use Rattle.std.proofs.lemmas.Bool.{and_from, and_left, and_right, and_parts}
 use Rattle.std.specs.Char.{is_ascii_digit}
 use Rattle.std.specs.Str.{all_ascii_digits}
 use Rattle.text_lines.specs.Text.{Text}
@@ -13,13 +14,10 @@ ten_to zero = 1
 ten_to (suc i) = 10 * ten_to i
 
 ten_up : (i j k : ℕ) → i + j ≡ k → ten_to i ≤ ten_to k
-ten_up i zero k e = subst (λ n. ten_to i ≤ ten_to n) (same i k e) (itself (ten_to i))
+ten_up i zero k e = subst (λ n. ten_to i ≤ ten_to n) (same i k e) (le_refl (ten_to i))
   where
     same : (i k : ℕ) → i + 0 ≡ k → i ≡ k
     same i k e = omega (arith, e)
-
-    itself : (n : ℕ) → n ≤ n
-    itself n = omega arith
 ten_up i (suc j) zero e = absurd (omega (arith, e))
 ten_up i (suc j) (suc k) e = omega (arith, ten_up i j k (omega (arith, e)))
 
@@ -34,30 +32,15 @@ number_step n [] k b l e = absurd (omega (arith, l))
 number_step n (d ∷ ds) zero b l e = ap (λ c. n * 10 + (c - 48)) (sym e)
 number_step n (d ∷ ds) (suc k) b l e = number_step (n * 10 + (d - 48)) ds k b (omega (arith, l)) e
 
-both : (x y : Bool) → x ≡ true → y ≡ true → (x && y) ≡ true
-both x y a b = grind (arith, a, b)
-
-first : (x y : Bool) → (x && y) ≡ true → x ≡ true
-first x y p = grind (arith, p)
-
-second : (x y : Bool) → (x && y) ≡ true → y ≡ true
-second x y p = grind (arith, p)
-
-neither : (x y : Bool) → x ≡ false → (x && y) ≡ false
-neither x y p = grind (arith, p)
-
-later : (x y : Bool) → y ≡ false → (x && y) ≡ false
-later x y p = grind (arith, p)
-
 pub digits_step : (ds : Text) (k b : ℕ) → k < length ds → b ≡ get_or ds k 0 → all_ascii_digits (take k ds) ≡ true → is_ascii_digit b ≡ true → all_ascii_digits (take (suc k) ds) ≡ true
 digits_step [] k b l e a h = absurd (omega (arith, l))
-digits_step (d ∷ ds) zero b l e a h = both (is_ascii_digit d) true (ap is_ascii_digit (sym e) ∙ h) refl
-digits_step (d ∷ ds) (suc k) b l e a h = both (is_ascii_digit d) (all_ascii_digits (take (suc k) ds)) (first (is_ascii_digit d) (all_ascii_digits (take k ds)) a) (digits_step ds k b (omega (arith, l)) e (second (is_ascii_digit d) (all_ascii_digits (take k ds)) a) h)
+digits_step (d ∷ ds) zero b l e a h = and_from (is_ascii_digit d) true (ap is_ascii_digit (sym e) ∙ h) refl
+digits_step (d ∷ ds) (suc k) b l e a h = and_from (is_ascii_digit d) (all_ascii_digits (take (suc k) ds)) (and_parts (is_ascii_digit d) (all_ascii_digits (take k ds)) a).0 (digits_step ds k b (omega (arith, l)) e (and_parts (is_ascii_digit d) (all_ascii_digits (take k ds)) a).1 h)
 
 pub digits_fail : (ds : Text) (k b : ℕ) → k < length ds → b ≡ get_or ds k 0 → is_ascii_digit b ≡ false → all_ascii_digits ds ≡ false
 digits_fail [] k b l e h = absurd (omega (arith, l))
-digits_fail (d ∷ ds) zero b l e h = neither (is_ascii_digit d) (all_ascii_digits ds) (ap is_ascii_digit (sym e) ∙ h)
-digits_fail (d ∷ ds) (suc k) b l e h = later (is_ascii_digit d) (all_ascii_digits ds) (digits_fail ds k b (omega (arith, l)) e h)
+digits_fail (d ∷ ds) zero b l e h = and_left (is_ascii_digit d) (all_ascii_digits ds) (ap is_ascii_digit (sym e) ∙ h)
+digits_fail (d ∷ ds) (suc k) b l e h = and_right (is_ascii_digit d) (all_ascii_digits ds) (digits_fail ds k b (omega (arith, l)) e h)
 
 -- one digit more
 pub record Longer (ds : Text) (k b n : ℕ) : Type 0 where

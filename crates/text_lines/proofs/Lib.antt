@@ -7,3 +7,6 @@ pub mod TextLemmas
 pub mod ValueLemmas
 pub mod WholeLines
 pub mod WholeTexts
+pub mod NumbersBack
+pub mod ValuesBack
+pub mod WordsBack

@@ -7,6 +7,7 @@ use Rattle.std.specs.Result.{OkIff, result_ok}
 use Rattle.std.specs.Str.{all_ascii_digits}
 use Rattle.std.specs.Str.Parse.{ParsesSigned}
 use Rattle.std.proofs.lemmas.Str.Parse.{IsNumeralModel, numerals_by_fold, parse_signed_plain, parse_signed_minus}
+use Rattle.std.proofs.lemmas.Bool.{true≢false}
 use Rattle.std.specs.Int.{w64}
 use Rattle.text_lines.specs.Text.{Text}
 use Rattle.text_lines.specs.Values.{has_minus, number_from, number}
@@ -91,10 +92,7 @@ digit_first (b ∷ bs) h = (grind (arith, nat_tests, h), omega arith)
 
 by_digits : (w : Text) (t : Bool) → all_ascii_digits w ≡ t → 0 < length w → (t ≡ true → number_from 0 w < 1000000000000000000) → by_test (reads w (2 ^ 63 - 1)) (pos (number_from 0 w)) ≡ counted (cond t (Some (number_from 0 w)) None)
 by_digits w true e l small = ap (λ t. by_test t (pos (number_from 0 w))) (reads_true w (2 ^ 63 - 1) (e, l, omega (arith, small refl)))
-by_digits w false e l small = gives_none w (2 ^ 63 - 1) (pos (number_from 0 w)) (reads w (2 ^ 63 - 1)) refl (λ r. true_is_false (sym r.0 ∙ e))
-  where
-    true_is_false : true ≡ false → ⊥
-    true_is_false p = cc
+by_digits w false e l small = gives_none w (2 ^ 63 - 1) (pos (number_from 0 w)) (reads w (2 ^ 63 - 1)) refl (λ r. true≢false (sym r.0 ∙ e))
 
 -- a few digits are read in one go
 pub few_number : (w : Text) (o : Option ℕ) → is_ascii_digit (get_or w 0 0) ≡ true → o ≡ cond (all_ascii_digits w) (Some (number_from 0 w)) None → IfSome o (λ n. n < 1000000000000000000) → number w ≡ counted o

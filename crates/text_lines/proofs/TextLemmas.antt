@@ -125,7 +125,7 @@ pub words_end : (b : ℕ) (bs : Text) → is_word_byte b ≡ false → is_blank 
 unfolding words
 words_end b bs is e = ap (λ t. cond t (inside b bs) (outside b bs)) is ∙ ap (λ t. cond t (words bs) []) e
 
-words_nil : words [] ≡ []
+pub words_nil : words [] ≡ []
 unfolding words
 words_nil = refl
 

@@ -5,13 +5,9 @@ use Rattle.std.specs.List.{list_all}
 use Rattle.text_lines.specs.Bytes.{is_blank}
 use Rattle.text_lines.specs.Text.{Text, is_word_byte, attach, in_word, words}
 use Rattle.text_lines.specs.Laws.{before_comment, with_gaps, AreApart, AreWordsOf}
-use Rattle.text_lines.proofs.TextLemmas.{words_more, words_alone, words_end}
+use Rattle.text_lines.proofs.TextLemmas.{words_more, words_alone, words_end, words_nil}
 
 -- ---- the four rules of `words`
-
-words_none : words [] ≡ []
-unfolding words
-words_none = refl
 
 words_blank : (b : ℕ) (bs : Text) → is_word_byte b ≡ false → is_blank b ≡ true → words (b ∷ bs) ≡ words bs
 unfolding words
@@ -108,7 +104,7 @@ spaced_stop b bs none e = record {
 }
 
 spaced : (line : Text) → Spaced line (words line)
-spaced [] = subst (Spaced []) (sym words_none) spaced_none
+spaced [] = subst (Spaced []) (sym words_nil) spaced_none
 spaced (b ∷ bs) = go (spaced bs) (is_word_byte b) (in_word bs) (is_blank b) refl refl refl
   where
     longer : (s : Spaced bs (words bs)) → is_word_byte b ≡ true → in_word bs ≡ true → Spaced (b ∷ bs) (attach b (words bs))

@@ -7,7 +7,7 @@ use Rattle.text_lines.proofs.TextLemmas.{line_stop_is, lines_nil}
 
 -- ---- the first line of a text
 
-line_on : (b : ℕ) (bs : Text) → is_line_byte b ≡ true → lines (b ∷ bs) ≡ attach b (lines bs)
+pub line_on : (b : ℕ) (bs : Text) → is_line_byte b ≡ true → lines (b ∷ bs) ≡ attach b (lines bs)
 unfolding lines
 line_on b bs e = ap (λ t. cond t (attach b (lines bs)) ([] ∷ lines bs)) e
 

@@ -4,3 +4,5 @@ pub mod Rows
 pub mod Steps
 pub mod Text
 pub mod Values
+pub mod ValueWords
+pub mod Words

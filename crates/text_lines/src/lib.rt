@@ -1,5 +1,5 @@
 //! What is read by lines: classes of bytes, the lines of a text, the words of a line, and the
-//! values that words are.
+//! values that words are. What is written as words on lines reads back.
 #![tactic(auto)]
 
 mod bytes;

@@ -4,12 +4,12 @@ use Rattle.std.proofs.lemmas.List.{get_or-set_same, get_or-set_other, length-set
 use Rattle.session_values.specs.declared.op.Op.{Op}
 use Rattle.session_values.specs.declared.reply.Reply.{Reply}
 use Rattle.session_values.specs.declared.value.Value.{Value}
-use Rattle.session_values.specs.Dialogue.{Dialogue, EndsBy, Entry, Follows, rest}
+use Rattle.session_values.specs.Dialogue.{Entry}
 use Rattle.session_values.specs.Sums.{sum_below}
 use Rattle.session_journal.specs.declared.event.Event.{Event}
 use Rattle.session_journal.specs.Journal.{entries}
 use Rattle.session_journal.specs.Script.{IsScript, Meaning}
-use Rattle.session_journal.proofs.Serial.{EndsBy-rest, not_ended}
+use Rattle.session_journal.proofs.Serial.{follows_few}
 use Rattle.machine_walk.specs.Asking.{Runs, Steps}
 use Rattle.trace_audit.specs.Desk.{Answering, AuditStep, AuditView, IsAnswered, IsTurnAnswered, KeepsOthers, Kept, MayAnswer, ReplayView, TurnAnswers, fresh, more, replay_at}
 use Rattle.trace_audit.proofs.Runs.{ran}
@@ -74,13 +74,6 @@ few_calls old new (e ∷ ds) st =
     let one : st.0.kept.calls ≡ more old.kept.calls = calls_are old.entries old.kept e.op e.reply st.0.kept st.1.kept in
     let on : new.kept.calls ≤ st.0.kept.calls + length ds = few_calls st.0 new ds st.2 in
     omega (arith, one, on, more_one old.kept.calls)
-
-follows_few : (n : ℕ) (f : Dialogue) (es : List Entry) → EndsBy n f → Follows f es → length es ≤ n
-follows_few n f [] e w = omega arith
-follows_few n f (x ∷ es) e w =
-    let k : (k : ℕ) × (n ≡ suc k) = not_ended n f x.op e w.0 in
-    let P : ℕ → Type 0 = λ j. EndsBy j f in
-    omega (arith, k.1, follows_few k.0 (rest f (x.reply ∷ [])) es (EndsBy-rest k.0 f x.reply (subst P k.1 e)) w.1)
 
 one_of : (f : ℕ → ℕ) (n t : ℕ) → t < n → f t ≤ sum_below n f
 one_of f zero t l = absurd (omega arith)

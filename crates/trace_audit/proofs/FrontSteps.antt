@@ -1,9 +1,11 @@
 -- The next event is decided by what a judge keeps, which then is that of one event more.
-use Rattle.std.proofs.Common.{◌≡◌, ◌≢◌, ℕ, suc, ◌+◌, ◌<◌, ◌≤◌, ◌⊎◌, inl, inr, List, [], ◌∷◌, ◌++◌, length, take, Bool, true, false, cond, eqb, not, ◌&&◌, ◌==◌, Option, Some, None, is_some, map, refl, sym, ◌∙◌, ap, subst, arith, Decides, length-append}
+use Rattle.std.proofs.Common.{◌≡◌, ◌≢◌, ℕ, suc, ◌+◌, ◌<◌, ◌≤◌, ◌⊎◌, inl, inr, List, [], ◌∷◌, ◌++◌, length, take, Bool, true, false, cond, not, ◌&&◌, ◌==◌, Option, Some, None, is_some, map, refl, sym, ◌∙◌, ap, subst, arith, Decides, length-append}
 use Rattle.std.specs.Prelude.{slice_get, nat_lt}
 use Rattle.std.specs.Option.{option_map}
 use Rattle.std.proofs.lemmas.Bool.Decides.{nat_tests}
 use Rattle.std.proofs.lemmas.List.{length-set, take_at}
+use Rattle.std.proofs.lemmas.Bool.{and_parts, and_from, false≢true, ltb-true, lt-ltb, cases_lt, cases_eq, eq-eqb}
+use Rattle.std.proofs.lemmas.Option.{same_Some, none-some}
 use Rattle.session_limits.specs.Limits.{max_callers}
 use Rattle.session_values.specs.declared.op.Op.{Op}
 use Rattle.session_values.specs.declared.reply.Reply.{Reply}
@@ -16,14 +18,14 @@ use Rattle.session_journal.specs.declared.event.Event.TheVariants.{Begin, Done, 
 use Rattle.session_journal.specs.Journal.{DoneOperation, after, begun, done_operations, ended, entries, in_order, of_ticket, run}
 use Rattle.session_journal.specs.Script.{Meaning}
 use Rattle.session_journal.proofs.Replay.{run-append}
-use Rattle.admission_book.specs.EventsInTurn.{IsOpen, MayBegin, MayBeDone, MayEnd, now}
-use Rattle.admission_book.proofs.Events.{OnlyBegun, begun_more, begun_stays, done_operations-append, done_operations_stay, entries_more, entries_other, in_order-append, of_ticket-append}
+use Rattle.session_journal.specs.EventsInTurn.{IsOpen, MayBegin, MayBeDone, MayEnd, now}
+use Rattle.session_journal.proofs.Events.{OnlyBegun, begun_more, begun_stays, done_operations-append, done_operations_stay, entries_more, entries_other, in_order-append, of_ticket-append}
 use Rattle.trace_audit.specs.declared.standing.Standing.{Standing}
-use Rattle.trace_audit.specs.Accepted.{AreAllowed, IsDelayAllowed}
+use Rattle.trace_rules.specs.Accepted.{AreAllowed, IsDelayAllowed}
 use Rattle.trace_audit.specs.Desk.{Break, Kept, ReplayView, given_entries, kept_next, next_call, next_of, replay_at}
 use Rattle.trace_audit.specs.Judging.{AnswersNow, CallsNow, FrontView, IsFront, IsStanding, WasRun, WereRun, begins, call_of, delayed_at, done_at, ends_at, is_free, is_open, latest_of, may_begin, standing_at}
-use Rattle.trace_audit.proofs.Allowed.{only_begun}
-use Rattle.trace_audit.proofs.Serial.{told}
+use Rattle.trace_rules.proofs.Allowed.{only_begun}
+use Rattle.trace_rules.proofs.Serial.{told}
 use Rattle.trace_audit.proofs.Runs.{tells}
 use Rattle.trace_audit.proofs.Fronts.{allowed_push, free_decides, latest_set, latest_stays, stands_begin, stands_begun, stands_delay, stands_delay_now, stands_done, stands_done_now, stands_end, stands_end_now, standings_set, undelayed}
 
@@ -31,16 +33,6 @@ few_begun : (m : Meaning) (F : List Event) → AreAllowed m [] F → begun F ≤
 few_begun m F a = (told m F a).few
 
 -- ---- a Begin
-and_both : (a b : Bool) → (a && b) ≡ true → (a ≡ true) × (b ≡ true)
-and_both true b e = (refl, e)
-and_both false b e = absurd (no e)
-  where
-    no : ◌≡◌ {A = Bool} false true → ⊥
-    no e = cc
-
-and_from : (a b : Bool) → a ≡ true → b ≡ true → (a && b) ≡ true
-and_from a b p q = ap (λ (x : Bool). x && b) p ∙ q
-
 pub begin_decides : (m : Meaning) (rs : List ReplayView) (F : List Event) (f : FrontView) (t c : ℕ) → IsFront m rs F f → Decides (may_begin f t c) (MayBegin m max_callers F t c)
 begin_decides m rs F f t c k = (to, from)
   where
@@ -58,7 +50,7 @@ begin_decides m rs F f t c k = (to, from)
 
     to : may_begin f t c ≡ true → MayBegin m max_callers F t c
     to e =
-        let p : (ready ≡ true) × (free ≡ true) = and_both ready free e in
+        let p : (ready ≡ true) × (free ≡ true) = and_parts ready free e in
         let q : (t ≡ f.begun) × (t < length f.standings) × (c < length f.latest) = numbers t f.begun (length f.standings) (length f.latest) p.0 in
         let l : c < max_callers = omega (arith, q.2, k.callers) in
         record {
@@ -91,9 +83,6 @@ begin_front m rs F f t c k may =
     one : (n : ℕ) → n + 1 ≡ suc n
     one n = omega arith
 
-    cases_eq : (a b : ℕ) → (a ≡ b) ⊎ (a ≢ b)
-    cases_eq a b = grind (arith, nat_tests)
-
     stands : (u : ℕ) → u < m.requests → IsStanding (F ++ Begin t c ∷ []) u (standing_at f.standings u)
     stands u l = by (cases_eq u t)
       where
@@ -119,28 +108,19 @@ module _ (m : Meaning) (J : List Event) (rs : List ReplayView) (F K : List Event
 
   pub open_to : (t : ℕ) → is_open f t ≡ true → IsOpen F t
   open_to t e =
-      let p : (nat_lt t f.begun ≡ true) × (not (standing_at f.standings t).ended ≡ true) = and_both (nat_lt t f.begun) (not (standing_at f.standings t).ended) e in
-      let l : t < begun F = omega (arith, below t f.begun p.0, k.begun) in
+      let p : (nat_lt t f.begun ≡ true) × (not (standing_at f.standings t).ended ≡ true) = and_parts (nat_lt t f.begun) (not (standing_at f.standings t).ended) e in
+      let l : t < begun F = omega (arith, ltb-true t f.begun p.0, k.begun) in
       let st : IsStanding F t (standing_at f.standings t) = k.each t (omega (arith, l, few_begun m F k.allowed)) in
       record { begun = l; not_ended = none (ended F t) (sym (ap not st.ended) ∙ p.1) }
     where
-      below : (x y : ℕ) → nat_lt x y ≡ true → x < y
-      below x y q = grind (arith, nat_tests)
-
       none : (o : Option Reply) → not (is_some o) ≡ true → o ≡ None
       none None q = refl
-      none (Some r) q = absurd (no q)
-        where
-          no : ◌≡◌ {A = Bool} false true → ⊥
-          no q = cc
+      none (Some r) q = absurd (false≢true q)
 
   pub open_from : (t : ℕ) → IsOpen F t → is_open f t ≡ true
   open_from t o =
       let st : IsStanding F t (standing_at f.standings t) = k.each t (open_ticket t o) in
-      and_from (nat_lt t f.begun) (not (standing_at f.standings t).ended) (under t f.begun (omega (arith, o.begun, k.begun))) (ap not (st.ended ∙ ap is_some o.not_ended))
-    where
-      under : (x y : ℕ) → x < y → nat_lt x y ≡ true
-      under x y q = grind (arith, nat_tests)
+      and_from (nat_lt t f.begun) (not (standing_at f.standings t).ended) (lt-ltb t f.begun (omega (arith, o.begun, k.begun))) (ap not (st.ended ∙ ap is_some o.not_ended))
 
   pub now_is : (t : ℕ) (l : t < m.requests) → now m F t ≡ next_of (w.each t l).reply (call_of f rs t)
   now_is t l =
@@ -187,10 +167,7 @@ module _ (m : Meaning) (J : List Event) (rs : List ReplayView) (F K : List Event
       let o : IsOpen F t = open_to t a.0 in
       let l : t < m.requests = open_ticket t o in
       let x : WasRun m J t (replay_at rs t) = w.each t l in
-      record { is_open = o; answers = now_is t l ∙ ap (next_of x.reply) a.1 ∙ ap (λ (q : Reply). Answers q) (same x.reply r (sym x.answer ∙ a.2)) }
-    where
-      same : (a b : Reply) → ◌≡◌ {A = Option Reply} (Some a) (Some b) → a ≡ b
-      same a b e = cc
+      record { is_open = o; answers = now_is t l ∙ ap (next_of x.reply) a.1 ∙ ap (λ (q : Reply). Answers q) (same_Some x.reply r (sym x.answer ∙ a.2)) }
 
   pub end_from : (t : ℕ) (r : Reply) → MayEnd m F t r → AnswersNow f rs t r
   end_from t r may =
@@ -252,14 +229,11 @@ at_break es kept n op e c = go kept.broken refl
     last : option_map (λ (b : Break). b.op) kept.broken ≡ Some op
     last = sym (ap (λ (t : Bool). cond t (option_map (λ (x : Entry). x.op) (slice_get es n)) (option_map (λ (b : Break). b.op) kept.broken)) (past n (given_entries kept) e)) ∙ c
 
-    none_some : ◌≡◌ {A = Option Op} None (Some op) → ⊥
-    none_some q = cc
-
     inside : (p : Op) → ◌≡◌ {A = Option Op} (Some p) (Some op) → p ≡ op
     inside p q = cc
 
     go : (o : Option Break) → kept.broken ≡ o → AtBreak kept n op
-    go None q = absurd (none_some (sym (ap (option_map (λ (b : Break). b.op)) q) ∙ last))
+    go None q = absurd (none-some op (sym (ap (option_map (λ (b : Break). b.op)) q) ∙ last))
     go (Some b) q = record {
       gap = b;
       is = q;
@@ -272,10 +246,7 @@ at_end [] fs e = refl
 at_end (x ∷ es) fs e = at_end es fs e
 
 first_entry : (t : ℕ) (op : Op) (v : Value) (K : List Event) → entries (Done t op v ∷ K) t ≡ record { op = op; reply = v } ∷ entries K t
-first_entry t op v K = ap (λ (b : Bool). cond b (record { op = op; reply = v } ∷ entries K t) (entries K t)) (self t)
-  where
-    self : (t : ℕ) → eqb t t ≡ true
-    self t = grind (arith, nat_tests)
+first_entry t op v K = ap (λ (b : Bool). cond b (record { op = op; reply = v } ∷ entries K t) (entries K t)) (eq-eqb t t refl)
 
 module _ (m : Meaning) (J : List Event) (rs : List ReplayView) (F K : List Event) (f : FrontView) (t : ℕ) (op : Op) (v : Value) (w : WereRun m J rs) (is : J ≡ F ++ Done t op v ∷ K) (k : IsFront m rs F f) (calls : CallsNow f rs t op) where
   here : IsOpen F t
@@ -285,11 +256,8 @@ module _ (m : Meaning) (J : List Event) (rs : List ReplayView) (F K : List Event
   below = open_ticket m J rs F (Done t op v ∷ K) f w is k t here
 
   done_given : length (entries F t) + 1 ≤ given_entries (replay_at rs t).kept
-  done_given = by (lt_or (length (entries F t)) (given_entries (replay_at rs t).kept))
+  done_given = by (cases_lt (length (entries F t)) (given_entries (replay_at rs t).kept))
     where
-      lt_or : (x y : ℕ) → (x < y) ⊎ (y ≤ x)
-      lt_or x y = grind arith
-
       by : (length (entries F t) < given_entries (replay_at rs t).kept) ⊎ (given_entries (replay_at rs t).kept ≤ length (entries F t)) → length (entries F t) + 1 ≤ given_entries (replay_at rs t).kept
       by (inl l) = omega (arith, l)
       by (inr l) =
@@ -318,9 +286,6 @@ module _ (m : Meaning) (J : List Event) (rs : List ReplayView) (F K : List Event
         kinds = kinds;
       }
     where
-      cases_eq : (a b : ℕ) → (a ≡ b) ⊎ (a ≢ b)
-      cases_eq a b = grind (arith, nat_tests)
-
       more_given : (u : ℕ) → u < m.requests → (u ≡ t) ⊎ (u ≢ t) → length (entries (F ++ Done t op v ∷ []) u) ≤ given_entries (replay_at rs u).kept
       more_given u n (inl e) =
           let Q : ℕ → Type 0 = λ j. length (entries (F ++ Done t op v ∷ []) j) ≤ given_entries (replay_at rs j).kept in

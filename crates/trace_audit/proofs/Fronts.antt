@@ -1,29 +1,28 @@
 -- What a judge keeps of the events so far decides the next event, and is kept by it.
-use Rattle.std.proofs.Common.{◌≡◌, ◌≢◌, ℕ, suc, ◌+◌, ◌<◌, ◌≤◌, ◌⊎◌, inl, inr, List, [], ◌∷◌, ◌++◌, length, Bool, true, false, cond, eqb, Option, Some, None, IsSome, is_some, refl, sym, ◌∙◌, ap, subst, append-nil, append_assoc, arith, Decides, length-append}
+use Rattle.std.proofs.Common.{◌≡◌, ◌≢◌, ℕ, suc, ◌+◌, ◌<◌, ◌≤◌, ◌⊎◌, inl, inr, List, [], ◌∷◌, ◌++◌, length, Bool, true, false, cond, Option, Some, None, IsSome, is_some, refl, sym, ◌∙◌, ap, subst, append-nil, append_assoc, arith, Decides, length-append}
 use Rattle.std.specs.Prelude.{slice_set}
-use Rattle.std.proofs.lemmas.Bool.Decides.{nat_tests}
 use Rattle.std.proofs.lemmas.List.{get_or-set_same, get_or-set_other}
+use Rattle.std.proofs.lemmas.Bool.{ne_eqb, false≢true, cases_lt, cases_eq, eq-eqb}
+use Rattle.std.proofs.lemmas.Option.{same_Some}
 use Rattle.session_limits.specs.Limits.{max_callers}
 use Rattle.session_values.specs.declared.op.Op.{Op}
 use Rattle.session_values.specs.declared.reply.Reply.{Reply}
 use Rattle.session_values.specs.declared.value.Value.{Value}
 use Rattle.session_values.specs.Dialogue.{Entry}
+use Rattle.session_values.proofs.Options.{some_none}
 use Rattle.symbolic_ops.specs.declared.symbol.Symbol.{Symbol}
 use Rattle.session_journal.specs.declared.event.Event.{Event}
 use Rattle.session_journal.specs.declared.event.Event.TheVariants.{Begin, Done, Delay, End}
 use Rattle.session_journal.specs.Journal.{DoneOperation, begun, caller_of, end_of, ended, entries, of_ticket, owner}
 use Rattle.session_journal.specs.Script.{Meaning}
-use Rattle.admission_book.specs.EventsInTurn.{delayed_after, is_delayed, is_delayed_from}
-use Rattle.admission_book.proofs.Events.{OnlyBegun, begun_more, begun_stays, done_operations_stay, ended_new, ended_other, entries_more, entries_other, first_same, first_stays, owner_new, owner_other}
+use Rattle.session_journal.specs.EventsInTurn.{is_delayed}
+use Rattle.session_journal.proofs.Events.{OnlyBegun, begun_more, begun_stays, done_operations_stay, ended_new, ended_other, entries_more, entries_other, first_same, first_stays, owner_new, owner_other}
+use Rattle.session_journal.proofs.EventCounts.{is_delayed-append}
 use Rattle.trace_audit.specs.declared.standing.Standing.{Standing}
-use Rattle.trace_audit.specs.Accepted.{AreAllowed, IsAllowed}
+use Rattle.trace_rules.specs.Accepted.{AreAllowed, IsAllowed}
 use Rattle.trace_audit.specs.Desk.{ReplayView}
 use Rattle.trace_audit.specs.Judging.{FrontView, IsFront, IsLatest, IsStanding, is_free, latest_of, no_standing, standing_at}
-use Rattle.trace_audit.proofs.Allowed.{only_begun, through_allowed}
-use Rattle.trace_audit.proofs.Serial.{some_none}
-
-cases_eq : (a b : ℕ) → (a ≡ b) ⊎ (a ≢ b)
-cases_eq a b = grind (arith, nat_tests)
+use Rattle.trace_rules.proofs.Allowed.{only_begun, through_allowed}
 
 pub allowed_push : (m : Meaning) (front J : List Event) (e : Event) → AreAllowed m front J → IsAllowed m (front ++ J) e → AreAllowed m front (J ++ e ∷ [])
 allowed_push m front [] e a h = let P : List Event → Type 0 = λ K. IsAllowed m K e in (subst P (append-nil front) h, tt)
@@ -31,44 +30,34 @@ allowed_push m front (x ∷ J) e a h =
     let P : List Event → Type 0 = λ K. IsAllowed m K e in
     (a.0, allowed_push m (front ++ x ∷ []) J e a.1 (subst P (sym (append_assoc front (x ∷ []) J)) h))
 
-delayed_push : (b : Bool) (J : List Event) (e : Event) (t : ℕ) → is_delayed_from b (J ++ e ∷ []) t ≡ delayed_after t e (is_delayed_from b J t)
-delayed_push b [] e t = refl
-delayed_push b (x ∷ J) e t = delayed_push (delayed_after t x b) J e t
-
-eqb_self : (t : ℕ) → eqb t t ≡ true
-eqb_self t = grind (arith, nat_tests)
-
-eqb_other : (u t : ℕ) → u ≢ t → eqb u t ≡ false
-eqb_other u t h = grind (arith, nat_tests)
-
 -- ---- how tickets stand after one event more
 module _ (F : List Event) (u : ℕ) (s : Standing) (is : IsStanding F u s) where
   -- an event of another ticket, or a Begin
   pub stands_begin : (t c : ℕ) → u ≢ t → IsStanding (F ++ Begin t c ∷ []) u s
   stands_begin t c d = record {
     done = is.done ∙ sym (ap (λ (ds : List DoneOperation). length (of_ticket u ds)) (done_operations_stay F (Begin t c) refl));
-    delayed = is.delayed ∙ sym (delayed_push false F (Begin t c) u ∙ ap (λ (b : Bool). cond b false (is_delayed F u)) (eqb_other t u (λ e. d (sym e))));
+    delayed = is.delayed ∙ sym (is_delayed-append false F (Begin t c) u ∙ ap (λ (b : Bool). cond b false (is_delayed F u)) (ne_eqb t u (λ e. d (sym e))));
     ended = is.ended ∙ sym (ap is_some (first_same (end_of u) F (Begin t c) refl));
   }
 
   pub stands_done : (t : ℕ) (op : Op) (v : Value) → u ≢ t → IsStanding (F ++ Done t op v ∷ []) u s
   stands_done t op v d = record {
     done = is.done ∙ sym (ap (λ (es : List Entry). length es) (entries_other F t op v u d));
-    delayed = is.delayed ∙ sym (delayed_push false F (Done t op v) u ∙ ap (λ (b : Bool). cond b false (is_delayed F u)) (eqb_other t u (λ e. d (sym e))));
+    delayed = is.delayed ∙ sym (is_delayed-append false F (Done t op v) u ∙ ap (λ (b : Bool). cond b false (is_delayed F u)) (ne_eqb t u (λ e. d (sym e))));
     ended = is.ended ∙ sym (ap is_some (first_same (end_of u) F (Done t op v) refl));
   }
 
   pub stands_delay : (t : ℕ) (op : Op) (older : ℕ) (y : Symbol) → u ≢ t → IsStanding (F ++ Delay t op older y ∷ []) u s
   stands_delay t op older y d = record {
     done = is.done ∙ sym (ap (λ (ds : List DoneOperation). length (of_ticket u ds)) (done_operations_stay F (Delay t op older y) refl));
-    delayed = is.delayed ∙ sym (delayed_push false F (Delay t op older y) u ∙ ap (λ (b : Bool). cond b true (is_delayed F u)) (eqb_other t u (λ e. d (sym e))));
+    delayed = is.delayed ∙ sym (is_delayed-append false F (Delay t op older y) u ∙ ap (λ (b : Bool). cond b true (is_delayed F u)) (ne_eqb t u (λ e. d (sym e))));
     ended = is.ended ∙ sym (ap is_some (first_same (end_of u) F (Delay t op older y) refl));
   }
 
   pub stands_end : (t : ℕ) (r : Reply) → u ≢ t → IsStanding (F ++ End t r ∷ []) u s
   stands_end t r d = record {
     done = is.done ∙ sym (ap (λ (ds : List DoneOperation). length (of_ticket u ds)) (done_operations_stay F (End t r) refl));
-    delayed = is.delayed ∙ sym (delayed_push false F (End t r) u ∙ ap (λ (b : Bool). cond b false (is_delayed F u)) (eqb_other t u (λ e. d (sym e))));
+    delayed = is.delayed ∙ sym (is_delayed-append false F (End t r) u ∙ ap (λ (b : Bool). cond b false (is_delayed F u)) (ne_eqb t u (λ e. d (sym e))));
     ended = is.ended ∙ sym (ap is_some (ended_other F t r u d));
   }
 
@@ -76,7 +65,7 @@ module _ (F : List Event) (u : ℕ) (s : Standing) (is : IsStanding F u s) where
 pub stands_begun : (F : List Event) (t c : ℕ) (s : Standing) → OnlyBegun F → begun F ≤ t → IsStanding F t s → s.delayed ≡ false → IsStanding (F ++ Begin t c ∷ []) t s
 stands_begun F t c s o l is n = record {
   done = is.done ∙ sym (ap (λ (ds : List DoneOperation). length (of_ticket t ds)) (done_operations_stay F (Begin t c) refl));
-  delayed = n ∙ sym (delayed_push false F (Begin t c) t ∙ ap (λ (b : Bool). cond b false (is_delayed F t)) (eqb_self t));
+  delayed = n ∙ sym (is_delayed-append false F (Begin t c) t ∙ ap (λ (b : Bool). cond b false (is_delayed F t)) (eq-eqb t t refl));
   ended = is.ended ∙ sym (ap is_some (first_same (end_of t) F (Begin t c) refl));
 }
 
@@ -84,21 +73,21 @@ stands_begun F t c s o l is n = record {
 pub stands_done_now : (F : List Event) (t : ℕ) (op : Op) (v : Value) (s : Standing) → IsStanding F t s → ended F t ≡ None → IsStanding (F ++ Done t op v ∷ []) t (record { done = s.done + 1; delayed = false; ended = false })
 stands_done_now F t op v s is o = record {
   done = ap (λ (n : ℕ). n + 1) is.done ∙ sym (ap (λ (es : List Entry). length es) (entries_more F t op v) ∙ length-append (entries F t) (record { op = op; reply = v } ∷ []));
-  delayed = sym (delayed_push false F (Done t op v) t ∙ ap (λ (b : Bool). cond b false (is_delayed F t)) (eqb_self t));
+  delayed = sym (is_delayed-append false F (Done t op v) t ∙ ap (λ (b : Bool). cond b false (is_delayed F t)) (eq-eqb t t refl));
   ended = sym (ap is_some (first_same (end_of t) F (Done t op v) refl ∙ o));
 }
 
 pub stands_delay_now : (F : List Event) (t : ℕ) (op : Op) (older : ℕ) (y : Symbol) (s : Standing) → IsStanding F t s → ended F t ≡ None → IsStanding (F ++ Delay t op older y ∷ []) t (record { done = s.done; delayed = true; ended = false })
 stands_delay_now F t op older y s is o = record {
   done = is.done ∙ sym (ap (λ (ds : List DoneOperation). length (of_ticket t ds)) (done_operations_stay F (Delay t op older y) refl));
-  delayed = sym (delayed_push false F (Delay t op older y) t ∙ ap (λ (b : Bool). cond b true (is_delayed F t)) (eqb_self t));
+  delayed = sym (is_delayed-append false F (Delay t op older y) t ∙ ap (λ (b : Bool). cond b true (is_delayed F t)) (eq-eqb t t refl));
   ended = sym (ap is_some (first_same (end_of t) F (Delay t op older y) refl ∙ o));
 }
 
 pub stands_end_now : (F : List Event) (t : ℕ) (r : Reply) (s : Standing) → IsStanding F t s → ended F t ≡ None → IsStanding (F ++ End t r ∷ []) t (record { done = s.done; delayed = false; ended = true })
 stands_end_now F t r s is o = record {
   done = is.done ∙ sym (ap (λ (ds : List DoneOperation). length (of_ticket t ds)) (done_operations_stay F (End t r) refl));
-  delayed = sym (delayed_push false F (End t r) t ∙ ap (λ (b : Bool). cond b false (is_delayed F t)) (eqb_self t));
+  delayed = sym (is_delayed-append false F (End t r) t ∙ ap (λ (b : Bool). cond b false (is_delayed F t)) (eq-eqb t t refl));
   ended = sym (ap is_some (ended_new F t r o));
 }
 
@@ -120,24 +109,21 @@ NotDelayed F = (t : ℕ) → begun F ≤ t → is_delayed F t ≡ false
 undelayed_step : (m : Meaning) (F : List Event) (e : Event) → NotDelayed F → IsAllowed m F e → NotDelayed (F ++ e ∷ [])
 undelayed_step m F (Begin u c) h may t l =
     let n : begun (F ++ Begin u c ∷ []) ≡ suc (begun F) = begun_more F u c in
-    delayed_push false F (Begin u c) t ∙ ap (λ (b : Bool). cond b false (is_delayed F t)) (eqb_other u t (λ e. omega (arith, n, l, e, may.next))) ∙ h t (omega (arith, n, l))
+    is_delayed-append false F (Begin u c) t ∙ ap (λ (b : Bool). cond b false (is_delayed F t)) (ne_eqb u t (λ e. omega (arith, n, l, e, may.next))) ∙ h t (omega (arith, n, l))
 undelayed_step m F (Done u op v) h may t l =
     let n : begun (F ++ Done u op v ∷ []) ≡ begun F = begun_stays F (Done u op v) refl in
-    delayed_push false F (Done u op v) t ∙ ap (λ (b : Bool). cond b false (is_delayed F t)) (eqb_other u t (λ e. omega (arith, n, l, e, may.0.is_open.begun))) ∙ h t (omega (arith, n, l))
+    is_delayed-append false F (Done u op v) t ∙ ap (λ (b : Bool). cond b false (is_delayed F t)) (ne_eqb u t (λ e. omega (arith, n, l, e, may.0.is_open.begun))) ∙ h t (omega (arith, n, l))
 undelayed_step m F (Delay u op older s) h may t l =
     let n : begun (F ++ Delay u op older s ∷ []) ≡ begun F = begun_stays F (Delay u op older s) refl in
-    delayed_push false F (Delay u op older s) t ∙ ap (λ (b : Bool). cond b true (is_delayed F t)) (eqb_other u t (λ e. omega (arith, n, l, e, may.is_open.begun))) ∙ h t (omega (arith, n, l))
+    is_delayed-append false F (Delay u op older s) t ∙ ap (λ (b : Bool). cond b true (is_delayed F t)) (ne_eqb u t (λ e. omega (arith, n, l, e, may.is_open.begun))) ∙ h t (omega (arith, n, l))
 undelayed_step m F (End u r) h may t l =
     let n : begun (F ++ End u r ∷ []) ≡ begun F = begun_stays F (End u r) refl in
-    delayed_push false F (End u r) t ∙ ap (λ (b : Bool). cond b false (is_delayed F t)) (eqb_other u t (λ e. omega (arith, n, l, e, may.is_open.begun))) ∙ h t (omega (arith, n, l))
+    is_delayed-append false F (End u r) t ∙ ap (λ (b : Bool). cond b false (is_delayed F t)) (ne_eqb u t (λ e. omega (arith, n, l, e, may.is_open.begun))) ∙ h t (omega (arith, n, l))
 
 pub undelayed : (m : Meaning) (F : List Event) → AreAllowed m [] F → NotDelayed F
 undelayed m F a = through_allowed m NotDelayed (λ K e p h. undelayed_step m K e p h) [] F (λ t l. refl) a
 
 -- ---- the latest ticket of a caller
-some_is : {X : Type 0} (x y : X) → ◌≡◌ {A = Option X} (Some x) (Some y) → x ≡ y
-some_is x y e = cc
-
 none_not : (X : Type 0) → IsSome {T = X} None → ⊥
 none_not X i = cc
 
@@ -166,7 +152,7 @@ latest_other F t b c o only is d h = go o h
     old u q = by (cases_eq u t)
       where
         by : (u ≡ t) ⊎ (u ≢ t) → owner F u ≡ Some c
-        by (inl e) = absurd (d (some_is c b (sym q ∙ ap (owner (F ++ Begin t b ∷ [])) e ∙ new)))
+        by (inl e) = absurd (d (same_Some c b (sym q ∙ ap (owner (F ++ Begin t b ∷ [])) e ∙ new)))
         by (inr n) = sym (owner_other F t b u n) ∙ q
 
     not_new : (u : ℕ) → owner F u ≡ Some c → u ≢ t
@@ -196,10 +182,7 @@ latest_set F t c ls n only is l others each d m = by (cases_eq d c)
 
 -- ---- whether a caller is free
 is_some-true : {X : Type 0} (o : Option X) → is_some o ≡ true → IsSome o
-is_some-true None e = absurd (no e)
-  where
-    no : ◌≡◌ {A = Bool} false true → ⊥
-    no e = cc
+is_some-true None e = absurd (false≢true e)
 is_some-true (Some x) e = some_so x
 
 pub is_some-from : {X : Type 0} (o : Option X) → IsSome o → is_some o ≡ true
@@ -212,11 +195,8 @@ free_decides m rs F f c k few l = by (latest_of f.latest c) (k.latest c l)
     only : OnlyBegun F
     only = only_begun m F k.allowed
 
-    lt_or : (x y : ℕ) → (x < y) ⊎ (y ≤ x)
-    lt_or x y = grind arith
-
     begun_owner : (t : ℕ) → owner F t ≡ Some c → t < m.requests
-    begun_owner t q = go (lt_or t (begun F))
+    begun_owner t q = go (cases_lt t (begun F))
       where
         go : (t < begun F) ⊎ (begun F ≤ t) → t < m.requests
         go (inl h) = omega (arith, h, few)

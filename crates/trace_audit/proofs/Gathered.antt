@@ -1,20 +1,17 @@
 -- The entries of each ticket, gathered event by event.
 use Rattle.std.proofs.Common.{◌≡◌, ◌≢◌, ℕ, ◌+◌, ◌<◌, ◌≤◌, ◌⊎◌, inl, inr, List, [], ◌∷◌, ◌++◌, length, replicate, take, Bool, true, false, cond, ltb, refl, sym, ◌∙◌, ap, subst, arith, drop, get_or}
 use Rattle.std.specs.Prelude.{slice_set}
-use Rattle.std.proofs.lemmas.Bool.Decides.{nat_tests}
 use Rattle.std.proofs.lemmas.List.{get_or-replicate, get_or-set_same, get_or-set_other, length-replicate, length-set, take_all, take_at, take_more}
+use Rattle.std.proofs.lemmas.Bool.{ltb-true, ltb-false, cases_eq}
 use Rattle.session_values.specs.declared.op.Op.{Op}
 use Rattle.session_values.specs.declared.value.Value.{Value}
 use Rattle.session_values.specs.Dialogue.{Entry}
 use Rattle.session_journal.specs.declared.event.Event.{Event}
 use Rattle.session_journal.specs.declared.event.Event.TheVariants.{Begin, Done, Delay, End}
 use Rattle.session_journal.specs.Journal.{DoneOperation, done_operations, entries, of_ticket}
-use Rattle.admission_book.proofs.Events.{done_operations_stay, entries_more, entries_other}
+use Rattle.session_journal.proofs.Events.{done_operations_stay, entries_more, entries_other}
 use Rattle.trace_audit.specs.Desk.{AreGathered, ReplayView, fresh, replay_at}
 use Rattle.trace_audit.specs.Keeping.{noted, with_entry}
-
-cases_eq : (a b : ℕ) → (a ≡ b) ⊎ (a ≢ b)
-cases_eq a b = grind (arith, nat_tests)
 
 pub gathered_none : (n : ℕ) (xs : List ReplayView) → xs ≡ replicate n (fresh []) → AreGathered n [] xs
 gathered_none n xs is = record {
@@ -50,15 +47,9 @@ gathered_step n J xs (Delay t op older s) g = quiet n J xs (Delay t op older s) 
 gathered_step n J xs (End t r) g = quiet n J xs (End t r) refl g
 gathered_step n J xs (Done t op v) g = by (ltb t (length xs)) refl
   where
-    below : (x y : ℕ) → ltb x y ≡ true → x < y
-    below x y q = grind (arith, nat_tests)
-
-    above : (x y : ℕ) → ltb x y ≡ false → y ≤ x
-    above x y q = grind (arith, nat_tests)
-
     by : (b : Bool) → ltb t (length xs) ≡ b → AreGathered n (J ++ Done t op v ∷ []) (cond b (slice_set xs t (with_entry (replay_at xs t) (record { op = op; reply = v }))) xs)
-    by true q = done_noted n J xs t op v g (omega (arith, below t (length xs) q, g.count))
-    by false q = done_past n J xs t op v g (omega (arith, above t (length xs) q, g.count))
+    by true q = done_noted n J xs t op v g (omega (arith, ltb-true t (length xs) q, g.count))
+    by false q = done_past n J xs t op v g (omega (arith, ltb-false t (length xs) q, g.count))
 
 -- one event more of a list
 pub gathered_more : (n : ℕ) (J : List Event) (i : ℕ) (e : Event) (xs ys : List ReplayView) → i < length J → e ≡ get_or J i e → ys ≡ noted xs e → AreGathered n (take i J) xs → AreGathered n (take (i + 1) J) ys

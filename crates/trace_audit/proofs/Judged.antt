@@ -1,7 +1,9 @@
 -- The verdict on a trace from what its parts were judged.
-use Rattle.std.proofs.Common.{◌≡◌, ℕ, zero, suc, ◌+◌, ◌<◌, ◌≤◌, ◌⊎◌, inl, inr, List, [], ◌∷◌, ◌++◌, length, map, take, Bool, true, false, Option, Some, None, IfOk, IsSome, Result, Ok, Err, is_some, refl, sym, ◌∙◌, ap, subst, arith, get_or, length-append}
+use Rattle.std.proofs.Common.{◌≡◌, ℕ, zero, suc, ◌+◌, ◌<◌, ◌≤◌, ◌⊎◌, inl, inr, List, [], ◌∷◌, ◌++◌, length, map, take, true, false, Option, Some, None, IfOk, IsSome, Result, Ok, Err, is_some, refl, sym, ◌∙◌, ap, subst, arith, get_or, length-append}
 use Rattle.std.specs.List.{AllByRecursion}
 use Rattle.std.proofs.lemmas.List.{get_or-replicate, get_or_at, get_or_default, length-replicate, take_all}
+use Rattle.std.proofs.lemmas.Option.{none-some}
+use Rattle.std.proofs.lemmas.Bool.{false≢true, true≢false, cases_lt}
 use Rattle.session_limits.specs.Limits.{max_callers}
 use Rattle.session_values.specs.declared.kind.TableKind.{TableKind}
 use Rattle.session_values.specs.declared.op.Op.{Op}
@@ -9,37 +11,35 @@ use Rattle.session_values.specs.declared.reply.Reply.{Reply}
 use Rattle.session_values.specs.declared.value.Value.{Value}
 use Rattle.session_values.specs.Dialogue.{Calls, Dialogue, Entry, Follows, rest}
 use Rattle.session_values.specs.Tables.{Fits, Tables, kind_of}
-use Rattle.opening_tables.proofs.Openings.{opening_kinds}
+use Rattle.session_values.proofs.Options.{some_none}
+use Rattle.session_journal.proofs.Openings.{opening_kinds}
 use Rattle.session_journal.specs.declared.event.Event.{Event}
 use Rattle.session_journal.specs.Journal.{Replays, begun, by_ticket, done_operations, ended, entries}
 use Rattle.session_journal.specs.Script.{IsScript, Meaning}
 use Rattle.trace_audit.specs.declared.standing.Standing.{Standing}
-use Rattle.trace_audit.specs.declared.verdict.Verdict.{Verdict}
-use Rattle.trace_audit.specs.declared.verdict.Verdict.TheVariants.{Accepted as IsFine, Event as AtEvent, Ticket as AtTicket}
-use Rattle.trace_audit.specs.Accepted.{HaveEnded}
+use Rattle.trace_rules.specs.declared.verdict.Verdict.{Verdict}
+use Rattle.trace_rules.specs.declared.verdict.Verdict.TheVariants.{Accepted as IsFine, Event as AtEvent, Ticket as AtTicket}
+use Rattle.trace_rules.specs.Accepted.{HaveEnded}
 use Rattle.trace_audit.specs.Desk.{AreAnswered, AuditView, ReplayView, fresh, replay_at}
 use Rattle.trace_audit.specs.Keeping.{KeepsAudit, KeepsReplay}
-use Rattle.trace_audit.specs.Traces.{HasKnownSymbol, max_events}
+use Rattle.trace_rules.specs.Traces.{HasKnownSymbol, max_events}
 use Rattle.trace_audit.specs.Judging.{FindsOpen, FrontView, IsAgainst, IsFirst, IsFront, IsLatest, IsStanding, Judged, JudgesEvents, MayJudge, WasRun, WereRun, no_standing, opened, standing_at}
 use Rattle.trace_audit.specs.Replaying.{AllFit, EntriesFit, TicketsFit, TicketsJudged, joined}
-use Rattle.trace_audit.specs.Verdicts.{IsVerdict, rule_of}
-use Rattle.trace_audit.proofs.Allowed.{only_begun}
-use Rattle.trace_audit.proofs.Serial.{some_none, told}
+use Rattle.trace_rules.specs.Verdicts.{IsVerdict, rule_of}
+use Rattle.trace_rules.proofs.Allowed.{only_begun}
+use Rattle.trace_rules.proofs.Serial.{told}
 use Rattle.trace_audit.proofs.Tickets.{joined_more}
 
 -- ---- before any event
 script_kinds : (m : Meaning) → IsScript m → map kind_of m.opening ≡ m.shape
 script_kinds m s = ap (map kind_of) s.opening ∙ opening_kinds m.shape m.opened
 
-none_some : {X : Type 0} (x : X) → ◌≡◌ {A = Option X} None (Some x) → ⊥
-none_some x e = cc
-
 opened_front : (m : Meaning) (J : List Event) (rs : List ReplayView) (n : ℕ) → WereRun m J rs → n ≡ m.requests → IsFront m rs [] (opened m.opening n)
 opened_front m J rs n w is = record {
   allowed = tt;
   begun = refl;
   callers = length-replicate {A = Option ℕ} max_callers None;
-  latest = λ c l. (let P : Option ℕ → Type 0 = λ o. IsLatest [] c o in subst P (sym (get_or-replicate {A = Option ℕ} max_callers c None None l)) (λ u e. none_some c e));
+  latest = λ c l. (let P : Option ℕ → Type 0 = λ o. IsLatest [] c o in subst P (sym (get_or-replicate {A = Option ℕ} max_callers c None None l)) (λ u e. none-some c e));
   count = length-replicate n no_standing ∙ is;
   each = λ t l. (let P : Standing → Type 0 = λ s. IsStanding [] t s in subst P (sym (get_or-replicate n t no_standing no_standing (omega (arith, l, is)))) (record { done = refl; delayed = refl; ended = refl }));
   given = λ t l. omega arith;
@@ -64,18 +64,12 @@ event_verdict m J at e rule a is rule_is =
 
 -- ---- a ticket that hasn't ended
 ended_some : (o : Option Reply) → is_some o ≡ true → (r : Reply) × (o ≡ Some r)
-ended_some None e = absurd (differ e)
-  where
-    differ : ◌≡◌ {A = Bool} false true → ⊥
-    differ e = cc
+ended_some None e = absurd (false≢true e)
 ended_some (Some r) e = (r, refl)
 
 ended_none : (o : Option Reply) → is_some o ≡ false → o ≡ None
 ended_none None e = refl
-ended_none (Some r) e = absurd (differ e)
-  where
-    differ : ◌≡◌ {A = Bool} true false → ⊥
-    differ e = cc
+ended_none (Some r) e = absurd (true≢false e)
 
 has_ended : (m : Meaning) (rs : List ReplayView) (J : List Event) (f : FrontView) (t : ℕ) → IsFront m rs J f → t < m.requests → (standing_at f.standings t).ended ≡ true → (r : Reply) × (ended J t ≡ Some r)
 has_ended m rs J f t k l e = ended_some (ended J t) (sym (k.each t l).ended ∙ e)
@@ -121,11 +115,8 @@ tickets_verdict m start rs J f v opens w k o judged = by v judged
     ends : HaveEnded m.requests J
     ends = all_ended m rs J f k o
 
-    lt_or : (x y : ℕ) → (x < y) ⊎ (y ≤ x)
-    lt_or x y = grind arith
-
     all_begun : begun J ≡ m.requests
-    all_begun = go (lt_or (begun J) m.requests)
+    all_begun = go (cases_lt (begun J) m.requests)
       where
         go : (begun J < m.requests) ⊎ (m.requests ≤ begun J) → begun J ≡ m.requests
         go (inl l) = let e = ends (begun J) l in absurd (some_none e.0 (sym e.1 ∙ (only_begun m J k.allowed).ended (begun J) (omega arith)))

@@ -1,8 +1,9 @@
 -- What an audit's desk keeps stands through its calls.
 use Rattle.std.proofs.Common.{◌≡◌, ◌≢◌, ℕ, ◌<◌, ◌⊎◌, inl, inr, List, [], length, Option, Some, None, refl, sym, ◌∙◌, ap, subst, arith, get_or}
 use Rattle.std.specs.Prelude.{slice_set}
-use Rattle.std.proofs.lemmas.Bool.Decides.{nat_tests}
 use Rattle.std.proofs.lemmas.List.{get_or-set_same, get_or-set_other, get_or_default, length-set}
+use Rattle.std.proofs.lemmas.Option.{none-some, same_Some}
+use Rattle.std.proofs.lemmas.Bool.{cases_eq}
 use Rattle.session_values.specs.declared.op.Op.{Op}
 use Rattle.session_values.specs.declared.reply.Reply.{Reply}
 use Rattle.session_values.specs.declared.value.Value.{Value}
@@ -13,15 +14,6 @@ use Rattle.session_journal.specs.Script.{IsScript, Meaning}
 use Rattle.trace_audit.specs.Desk.{Answering, AreGathered, AuditStep, AuditView, IsAnswered, IsRun, IsTurnAnswered, Kept, MayAnswer, ReplayView, TurnAnswers, fresh, replay_at, tickets_answered, with_answer}
 use Rattle.trace_audit.specs.Keeping.{KeepsAudit, KeepsReplay}
 
-cases_eq : (a b : ℕ) → (a ≡ b) ⊎ (a ≢ b)
-cases_eq a b = grind (arith, nat_tests)
-
-none_some : {X : Type 0} (x : X) → ◌≡◌ {A = Option X} None (Some x) → ⊥
-none_some x e = cc
-
-some_is : {X : Type 0} (x y : X) → ◌≡◌ {A = Option X} (Some x) (Some y) → x ≡ y
-some_is x y e = cc
-
 -- a gathered desk
 pub keeps_gathered : (m : Meaning) (J : List Event) (rs : List ReplayView) → IsScript m → AreGathered m.requests J rs → KeepsAudit m J None rs
 keeps_gathered m J rs script g = record {
@@ -29,9 +21,9 @@ keeps_gathered m J rs script g = record {
   count = g.count;
   each = λ t l. record {
     from_trace = ap (λ (x : ReplayView). x.entries) (g.each t l);
-    run = λ r e. absurd (none_some r (sym (ap (λ (x : ReplayView). x.answer) (g.each t l)) ∙ e));
+    run = λ r e. absurd (none-some r (sym (ap (λ (x : ReplayView). x.answer) (g.each t l)) ∙ e));
   };
-  set = λ t e. absurd (none_some t e);
+  set = λ t e. absurd (none-some t e);
 }
 
 -- another ticket is set
@@ -40,7 +32,7 @@ keeps_turn m J o rs t es k l f = record {
   script = k.script;
   count = k.count;
   each = k.each;
-  set = λ u e. (let P : ℕ → Type 0 = λ j. (j < m.requests) × ((replay_at rs j).answer ≡ None) in subst P (some_is t u e) (l, ap (λ (x : ReplayView). x.answer) f));
+  set = λ u e. (let P : ℕ → Type 0 = λ j. (j < m.requests) × ((replay_at rs j).answer ≡ None) in subst P (same_Some t u e) (l, ap (λ (x : ReplayView). x.answer) f));
 }
 
 -- one ticket's replay is another one
@@ -71,9 +63,9 @@ keeps_answer m J o rs t x y is read es an k =
       count = length-set rs t y ∙ k.count;
       each = keeps_set m J m.requests rs t y k.count s.0 (record {
         from_trace = es ∙ ap (λ (z : ReplayView). z.entries) at ∙ (k.each t s.0).from_trace;
-        run = λ r e. absurd (none_some r (sym none ∙ e));
+        run = λ r e. absurd (none-some r (sym none ∙ e));
       }) k.each;
-      set = λ u e. (let q : t ≡ u = some_is t u (sym is ∙ e) in let P : ℕ → Type 0 = λ j. (j < m.requests) × ((replay_at (slice_set rs t y) j).answer ≡ None) in subst P q (s.0, ap (λ (z : ReplayView). z.answer) (get_or-set_same rs t y (fresh []) (omega (arith, s.0, k.count))) ∙ none));
+      set = λ u e. (let q : t ≡ u = same_Some t u (sym is ∙ e) in let P : ℕ → Type 0 = λ j. (j < m.requests) × ((replay_at (slice_set rs t y) j).answer ≡ None) in subst P q (s.0, ap (λ (z : ReplayView). z.answer) (get_or-set_same rs t y (fresh []) (omega (arith, s.0, k.count))) ∙ none));
     }
 
 -- its answer is kept
@@ -81,7 +73,7 @@ pub keeps_answered : {S : Type 0} (m : Meaning) (d : AuditView S) (t : ℕ) (x y
 keeps_answered m d t x y r is read made may k =
     let s : (t < m.requests) × ((replay_at d.tickets t).answer ≡ None) = k.set t is in
     let at : x ≡ replay_at d.tickets t = read_is d.tickets t x (omega (arith, s.0, k.count)) read in
-    let same : may.ticket ≡ t = some_is may.ticket t (sym may.set ∙ is) in
+    let same : may.ticket ≡ t = same_Some may.ticket t (sym may.set ∙ is) in
     let R : ℕ → Type 0 = λ j. IsRun (m.next j) (entries d.events j) (replay_at d.tickets j).kept r in
     let run : IsRun (m.next t) (entries d.events t) (replay_at d.tickets t).kept r = subst R same may.run in
     let kept : (replay_at d.tickets t).kept ≡ y.kept = ap (λ (z : ReplayView). z.kept) (sym at) ∙ ap (λ (z : ReplayView). z.kept) (sym made) in
@@ -91,9 +83,9 @@ keeps_answered m d t x y r is read made may k =
       count = length-set d.tickets t y ∙ k.count;
       each = keeps_set m d.events m.requests d.tickets t y k.count s.0 (record {
         from_trace = ap (λ (z : ReplayView). z.entries) made ∙ ap (λ (z : ReplayView). z.entries) at ∙ (k.each t s.0).from_trace;
-        run = λ q e. subst T (some_is r q (sym (ap (λ (z : ReplayView). z.answer) made) ∙ e)) (with_kept kept run);
+        run = λ q e. subst T (same_Some r q (sym (ap (λ (z : ReplayView). z.answer) made) ∙ e)) (with_kept kept run);
       }) k.each;
-      set = λ u e. absurd (none_some u e);
+      set = λ u e. absurd (none-some u e);
     }
   where
     with_kept : (replay_at d.tickets t).kept ≡ y.kept → IsRun (m.next t) (entries d.events t) (replay_at d.tickets t).kept r → IsRun (m.next t) (entries d.events t) y.kept r

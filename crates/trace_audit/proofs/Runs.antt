@@ -2,6 +2,8 @@
 use Rattle.std.proofs.Common.{◌≡◌, ℕ, zero, suc, ◌+◌, ◌-◌, ◌<◌, ◌≤◌, inl, inr, List, [], ◌∷◌, ◌++◌, length, length-append, take, replicate, Bool, true, false, cond, eqb, Option, Some, None, refl, sym, ◌∙◌, ap, subst, append_assoc, append-nil, arith, ltb}
 use Rattle.std.specs.Prelude.{if◌then◌else◌, slice_get}
 use Rattle.std.proofs.lemmas.Bool.Decides.{nat_tests}
+use Rattle.std.proofs.lemmas.Option.{none-some, same_Some}
+use Rattle.std.proofs.lemmas.Bool.{ltb-true, ltb-false}
 use Rattle.session_values.specs.declared.op.Op.{Op}
 use Rattle.session_values.specs.declared.reply.Reply.{Reply}
 use Rattle.session_values.specs.declared.value.Value.{Value}
@@ -23,24 +25,15 @@ pub record SoFar (f : Dialogue) (es : List Entry) (k : Kept) (done : List Entry)
   pub within : given_entries k ≤ length es
 
 pub begins : (f : Dialogue) (es : List Entry) → SoFar f es nothing_kept []
-begins f es = record { given_is = refl; follows = tt; breaks = λ b e. absurd (none_some b e); other = λ b e. absurd (none_some b e); calls = refl; some = omega arith; within = omega arith }
-  where
-    none_some : (b : Break) → ◌≡◌ {A = Option Break} None (Some b) → ⊥
-    none_some b e = cc
+begins f es = record { given_is = refl; follows = tt; breaks = λ b e. absurd (none-some b e); other = λ b e. absurd (none-some b e); calls = refl; some = omega arith; within = omega arith }
 
 replies-append : (es fs : List Entry) → replies (es ++ fs) ≡ replies es ++ replies fs
 replies-append [] fs = refl
 replies-append (e ∷ es) fs = ap (λ (vs : List Value). e.reply ∷ vs) (replies-append es fs)
 
 take_more : (es : List Entry) (n : ℕ) (e : Entry) → slice_get es n ≡ Some e → take (n + 1) es ≡ take n es ++ e ∷ []
-take_more [] n e h = absurd (none_some h)
-  where
-    none_some : ◌≡◌ {A = Option Entry} None (Some e) → ⊥
-    none_some q = cc
-take_more (x ∷ es) zero e h = ap (λ (y : Entry). y ∷ []) (inside x e h)
-  where
-    inside : (a b : Entry) → ◌≡◌ {A = Option Entry} (Some a) (Some b) → a ≡ b
-    inside a b q = cc
+take_more [] n e h = absurd (none-some e h)
+take_more (x ∷ es) zero e h = ap (λ (y : Entry). y ∷ []) (same_Some x e h)
 take_more (x ∷ es) (suc n) e h = ap (λ (m : ℕ). take m (x ∷ es)) (add n) ∙ ap (λ (ys : List Entry). x ∷ ys) (take_more es n e h)
   where
     add : (n : ℕ) → suc n + 1 ≡ suc (n + 1)
@@ -97,10 +90,7 @@ calls_up (e ∷ ds) old new st =
     omega (arith, u, w)
 
 there_is : (es : List Entry) (n : ℕ) (e : Entry) → slice_get es n ≡ Some e → n + 1 ≤ length es
-there_is [] n e h = absurd (none_some h)
-  where
-    none_some : ◌≡◌ {A = Option Entry} None (Some e) → ⊥
-    none_some q = cc
+there_is [] n e h = absurd (none-some e h)
 there_is (x ∷ es) zero e h = omega arith
 there_is (x ∷ es) (suc n) e h = omega (arith, there_is es n e h)
 
@@ -121,15 +111,12 @@ module _ (f : Dialogue) (es : List Entry) where
       subst P (sym l_is) (record {
         given_is = replies-append done (e ∷ []) ∙ ap (λ (vs : List Value). vs ++ v ∷ []) had ∙ sym (ap replies longer ∙ replies-append (take k.calls es) (e ∷ [])) ∙ sym (unbroken es (k.calls + 1));
         follows = subst R (sym longer) (follows_more f (take k.calls es) e followed (sym (ap f had) ∙ c));
-        breaks = λ b q. absurd (none_some b q);
-        other = λ b q. absurd (none_some b q);
+        breaks = λ b q. absurd (none-some b q);
+        other = λ b q. absurd (none-some b q);
         calls = length-append done (e ∷ []) ∙ ap (λ (m : ℕ). m + 1) s.calls;
         some = omega arith;
         within = there_is es k.calls e a.there;
       })
-    where
-      none_some : (b : Break) → ◌≡◌ {A = Option Break} None (Some b) → ⊥
-      none_some b q = cc
   one_more k l done op v s few c (inr (inl a)) =
       let P : Kept → Type 0 = λ x. SoFar f es x (done ++ record { op = op; reply = v } ∷ []) in
       let gap : Break = record { place = k.calls; op = op } in
@@ -143,15 +130,12 @@ module _ (f : Dialogue) (es : List Entry) where
       subst P (sym l_is) (record {
         given_is = replies-append done (record { op = op; reply = v } ∷ []) ∙ ap (λ (vs : List Value). vs ++ v ∷ []) (had ∙ sym before) ∙ ap (λ (x : Value). given es (record { calls = k.calls; broken = Some gap }) ++ x ∷ []) a.nil ∙ sym (broken_given es k gap k.calls (omega arith));
         follows = followed;
-        breaks = λ b q. ap (λ (x : Break). f (replies (take x.place es))) (sym (inside gap b q)) ∙ sym (ap f had) ∙ c ∙ ap (λ (x : Break). Calls x.op) (inside gap b q);
-        other = λ b q. (let B : Break → Type 0 = λ x. HasOther es x.place x.op in subst B (inside gap b q) a.other);
+        breaks = λ b q. ap (λ (x : Break). f (replies (take x.place es))) (sym (same_Some gap b q)) ∙ sym (ap f had) ∙ c ∙ ap (λ (x : Break). Calls x.op) (same_Some gap b q);
+        other = λ b q. (let B : Break → Type 0 = λ x. HasOther es x.place x.op in subst B (same_Some gap b q) a.other);
         calls = length-append done (record { op = op; reply = v } ∷ []) ∙ ap (λ (m : ℕ). m + 1) s.calls;
         some = omega arith;
         within = (let W : Kept → Type 0 = λ x. given_entries x ≤ length es in subst W k_is s.within);
       })
-    where
-      inside : (a b : Break) → ◌≡◌ {A = Option Break} (Some a) (Some b) → a ≡ b
-      inside a b q = cc
   one_more k l done op v s few c (inr (inr a)) =
       let P : Kept → Type 0 = λ x. SoFar f es x (done ++ record { op = op; reply = v } ∷ []) in
       let n : more k.calls ≡ k.calls + 1 = more_is k.calls few in
@@ -215,12 +199,6 @@ follows_at f (x ∷ es) (suc g) (suc n) w l o e m r = follows_at (rest f (x.repl
 pub tells : (f : Dialogue) (es : List Entry) (k : Kept) (r : Reply) (n : ℕ) → IsRun f es k r → n ≤ given_entries k → f (replies (take n es)) ≡ kept_next es k r n
 tells f es k r n a l = by (ltb n (given_entries k)) refl
   where
-    below : (x y : ℕ) → ltb x y ≡ true → x < y
-    below x y e = grind (arith, nat_tests)
-
-    not_below : (x y : ℕ) → ltb x y ≡ false → y ≤ x
-    not_below x y e = grind (arith, nat_tests)
-
     last : (o : Option Break) → k.broken ≡ o → f (replies (take (given_entries k) es)) ≡ last_next r k.broken
     last None e =
         let k_is : k ≡ record { calls = k.calls; broken = None } = ap (λ (b : Option Break). record { calls = k.calls; broken = b }) e in
@@ -231,5 +209,5 @@ tells f es k r n a l = by (ltb n (given_entries k)) refl
         ap (λ (x : Kept). f (replies (take (given_entries x) es))) k_is ∙ a.breaks b e ∙ ap (last_next r) (sym e)
 
     by : (t : Bool) → ltb n (given_entries k) ≡ t → f (replies (take n es)) ≡ next_of r (if t then option_map (λ (e : Entry). e.op) (slice_get es n) else option_map (λ (b : Break). b.op) k.broken)
-    by true e = follows_at f es (given_entries k) n a.follows (below n (given_entries k) e) (slice_get es n) refl (omega (arith, below n (given_entries k) e, a.within)) r
-    by false e = let same : n ≡ given_entries k = omega (arith, not_below n (given_entries k) e, l) in ap (λ (m : ℕ). f (replies (take m es))) same ∙ last k.broken refl
+    by true e = follows_at f es (given_entries k) n a.follows (ltb-true n (given_entries k) e) (slice_get es n) refl (omega (arith, ltb-true n (given_entries k) e, a.within)) r
+    by false e = let same : n ≡ given_entries k = omega (arith, ltb-false n (given_entries k) e, l) in ap (λ (m : ℕ). f (replies (take m es))) same ∙ last k.broken refl

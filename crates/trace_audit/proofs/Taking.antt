@@ -4,6 +4,7 @@ use Rattle.std.specs.Prelude.{slice_get, nat_lt}
 use Rattle.std.specs.Bool.{MatchBool}
 use Rattle.std.specs.List.{AllByRecursion}
 use Rattle.std.proofs.lemmas.Bool.Decides.{nat_tests}
+use Rattle.std.proofs.lemmas.Bool.{both_ways}
 use Rattle.session_limits.specs.Limits.{max_callers}
 use Rattle.session_values.specs.declared.kind.TableKind.{TableKind}
 use Rattle.session_values.specs.declared.op.Op.{Op}
@@ -14,13 +15,13 @@ use Rattle.session_values.specs.Kinds.{home}
 use Rattle.session_values.specs.Tables.{Tables, kind_of, reply, step}
 use Rattle.symbolic_ops.specs.declared.symbol.Symbol.{Symbol}
 use Rattle.symbolic_ops.specs.Matching.{HasNoVar}
-use Rattle.commute_tables.specs.Symbols.{CommutesWith}
+use Rattle.symbolic_ops.specs.Commuting.{CommutesWith}
 use Rattle.session_journal.specs.declared.event.Event.{Event}
 use Rattle.session_journal.specs.declared.event.Event.TheVariants.{Begin, Done, Delay, End}
 use Rattle.session_journal.specs.Journal.{DoneOperation, after, done_operations, entries, entry_of, of_ticket}
-use Rattle.admission_book.specs.EventsInTurn.{MayBegin, MayBeDone, MayEnd}
-use Rattle.trace_audit.specs.Traces.{HasKnownSymbol}
-use Rattle.trace_audit.specs.Accepted.{IsAllowed, IsDelayAllowed}
+use Rattle.session_journal.specs.EventsInTurn.{MayBegin, MayBeDone, MayEnd}
+use Rattle.trace_rules.specs.Traces.{HasKnownSymbol}
+use Rattle.trace_rules.specs.Accepted.{IsAllowed, IsDelayAllowed}
 use Rattle.trace_audit.specs.Desk.{ReplayView}
 use Rattle.trace_audit.specs.Judging.{AnswersNow, CallsNow, FrontView, IsFront, IsNext, Takes, begins, delayed_at, done_at, ends_at, is_free, is_open, latest_of, may_begin, standing_at}
 use Rattle.trace_audit.proofs.FrontSteps.{begin_decides, begin_front, delay_front, done_from, done_front, done_to, end_from, end_front, end_to, open_ticket, open_to}
@@ -32,11 +33,8 @@ begin_numbers x y n l c b e = (grind (arith, nat_tests), grind (arith, nat_tests
 pub may_begin_numbers : (f : FrontView) (t c : ℕ) → may_begin f t c ≡ true → (t ≡ f.begun) × (t < length f.standings) × (c < length f.latest)
 may_begin_numbers f t c e = begin_numbers t f.begun (length f.standings) (length f.latest) c (is_free f.standings (latest_of f.latest c)) e
 
-both_ways : (b : Bool) → b ≡ true → b ≡ false → ⊥
-both_ways b p q = cc
-
 pub begin_no : (f g : FrontView) (t c : ℕ) → may_begin f t c ≡ false → (rs : List ReplayView) → Takes rs (Begin t c) f false g
-begin_no f g t c e rs m J F K w is k = λ may. both_ways (may_begin f t c) ((begin_decides m rs F f t c k).1 may) e
+begin_no f g t c e rs m J F K w is k = λ may. both_ways (may_begin f t c) e ((begin_decides m rs F f t c k).1 may)
 
 pub begin_yes : (f g : FrontView) (t c : ℕ) → may_begin f t c ≡ true → g ≡ begins f t c → (rs : List ReplayView) → Takes rs (Begin t c) f true g
 begin_yes f g t c e made rs m J F K w is k =
@@ -59,7 +57,7 @@ done_took rs f g t op v given b calls reply_is made kinds d m J F K w is k = by 
         let P : FrontView → Type 0 = λ x. IsFront m rs (F ++ Done t op v ∷ []) x in
         let q : map kind_of (step f.tables op) ≡ m.shape = ap (λ (x : FrontView). map kind_of x.tables) (sym made) ∙ kinds ∙ k.kinds in
         ((done_to m J rs F (Done t op v ∷ K) f w is k t op calls, r), subst P (sym made) (done_front m J rs F K f t op v w is k calls r q))
-    by false d = λ a. both_ways false (d.1 (sym same ∙ a.1)) refl
+    by false d = λ a. both_ways false refl (d.1 (sym same ∙ a.1))
 
 pub delay_no : (rs : List ReplayView) (f g : FrontView) (t : ℕ) (op : Op) (older : ℕ) (s : Symbol) → ((older < t) → (CommutesWith op s → ⊥) → (standing_at f.standings t).delayed ≡ false → CallsNow f rs t op → ⊥) → Takes rs (Delay t op older s) f false g
 delay_no rs f g t op older s never m J F K w is k = λ a.
@@ -130,4 +128,4 @@ pub holds : {P : Type 0} (r : Bool) → r ≡ true → Decides r P → P
 holds r e d = d.0 e
 
 pub fails : {P : Type 0} (r : Bool) → r ≡ false → Decides r P → P → ⊥
-fails r e d p = both_ways r (d.1 p) e
+fails r e d p = both_ways r e (d.1 p)

@@ -1,10 +1,6 @@
-pub mod Accepted
-pub mod Bare
 pub mod Desk
 pub mod Judging
 pub mod Keeping
 pub mod Noted
 pub mod Replaying
-pub mod Tables
-pub mod Traces
-pub mod Verdicts
+pub mod Running

@@ -7,11 +7,11 @@ ghost use Rattle.session_values.specs.Kinds.{home};
 ghost use Rattle.session_values.specs.Tables.{kind_of, reply};
 ghost use Rattle.trace_audit.specs.Judging.{AnswersNow, CallsNow, FindsOpen, begins, call_of, delayed_at, done_at, ends_at, front_of, is_free, is_open, may_begin, no_standing, opened, standing_at};
 
-use crate::judge_tables::JudgeTables;
 use crate::standing::Standing;
 use crate::ticket_replay::{TicketReplay, same_op, same_reply};
 use session_limits::MAX_CALLERS;
 use session_values::{NoMemory, Op, Reply, Value};
+use shard_tables::WholeTables;
 use std::alloc::Global;
 
 /// How many tickets have begun, for each caller its latest ticket, how each ticket stands, and the
@@ -21,7 +21,7 @@ pub(crate) struct Front {
     begun: u32,
     latest: Vec<Option<u32>>,
     standings: Vec<Standing>,
-    tables: JudgeTables,
+    tables: WholeTables,
 }
 
 /// Whether a caller with this latest ticket may begin another one.
@@ -65,7 +65,7 @@ fn fresh_standings(alloc: Global, requests: u32) -> Result<Vec<Standing>, NoMemo
 
 impl Front {
     /// Before any event, with so many tickets, over the tables with which the session opens.
-    pub(crate) fn new(alloc: Global, tables: JudgeTables, requests: u32) -> Result<Front, NoMemory>
+    pub(crate) fn new(alloc: Global, tables: WholeTables, requests: u32) -> Result<Front, NoMemory>
         ensures { IfOk result (λ f. front_of f ≡ opened tables requests) }
     {
         Ok(Front {

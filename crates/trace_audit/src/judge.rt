@@ -4,21 +4,21 @@ ghost use Rattle.std.specs.Prelude.{◌≡◌, ◌<◌, ◌≤◌, IfOk, List, l
 ghost use Rattle.session_values.specs.Tables.{kind_of};
 ghost use Rattle.session_journal.specs.declared.event.Event.{Event as SpecEvent};
 ghost use Rattle.session_journal.specs.Script.{Meaning};
-ghost use Rattle.trace_audit.specs.Traces.{max_events};
+ghost use Rattle.trace_rules.specs.Traces.{max_events};
 ghost use Rattle.trace_audit.specs.Judging.{IsAgainst, IsFront, IsWhole, Judged, MayJudge, WereRun, front_of};
 ghost use Rattle.trace_audit.specs.Replaying.{TicketsFit, TicketsJudged};
-ghost use Rattle.trace_audit.specs.Verdicts as verdicts;
-ghost use Rattle.trace_audit.specs.Verdicts.{IsVerdict};
+ghost use Rattle.trace_rules.specs.Verdicts as verdicts;
+ghost use Rattle.trace_rules.specs.Verdicts.{IsVerdict};
 
 use crate::front::Front;
-use crate::judge_tables::JudgeTables;
 use crate::judging::first_against;
 use crate::replaying::first_unreplayed;
 use crate::ticket_replay::TicketReplay;
-use crate::verdict::Verdict;
 use session_journal::Event;
 use session_values::NoMemory;
+use shard_tables::WholeTables;
 use std::alloc::Global;
+use trace_rules::Verdict;
 
 /// The number of the rule that an event of this kind breaks.
 fn rule_of(e: Event) -> u32
@@ -34,7 +34,7 @@ fn rule_of(e: Event) -> u32
 
 /// The verdict on the tickets one after another from these tables, where all events are allowed and
 /// all tickets have ended.
-fn judge_tickets(tables: &mut JudgeTables, replays: &[TicketReplay]) -> Result<Verdict, NoMemory>
+fn judge_tickets(tables: &mut WholeTables, replays: &[TicketReplay]) -> Result<Verdict, NoMemory>
     requires { TicketsFit (map kind_of tables.old) replays.now }
     ensures { IfOk result (λ v. TicketsJudged tables.old replays.now v) }
 {
@@ -61,7 +61,7 @@ fn judge_event(events: &[Event], at: usize) -> Verdict
 
 /// The verdict where all events are allowed, with the tables with which the session opens.
 fn judge_whole(
-    tables: &mut JudgeTables,
+    tables: &mut WholeTables,
     replays: &[TicketReplay],
     front: &Front,
 ) -> Result<Verdict, NoMemory>
@@ -83,8 +83,8 @@ fn judge_whole(
 /// for the events in their order, and once for the tickets one after another.
 pub(crate) fn judge_trace(
     alloc: Global,
-    tables: JudgeTables,
-    again: &mut JudgeTables,
+    tables: WholeTables,
+    again: &mut WholeTables,
     replays: &[TicketReplay],
     events: &[Event],
 ) -> Result<Verdict, NoMemory>

@@ -1,21 +1,18 @@
-//! Traces: lists of events with their lines, and whether one is the journal of a session.
+//! Traces of sessions judged: the handler of each request is run on what the trace tells.
 #![tactic(auto)]
 
 mod audit_desk;
 mod front;
 mod gathering;
 mod judge;
-mod judge_table;
-mod judge_tables;
 mod judging;
 pub mod laws;
 mod opening;
 mod replaying;
+mod sessions;
 mod standing;
 mod ticket_replay;
-mod trace;
-mod verdict;
 
 pub use audit_desk::AuditDesk;
-pub use trace::{MAX_EVENTS, Trace};
-pub use verdict::Verdict;
+pub use sessions::judge_session;
+pub use trace_rules::{MAX_EVENTS, Trace, Verdict};

@@ -1,91 +1,48 @@
-// Tables filled with what they open with.
+// Tables with what a script opens them with.
 
-ghost use Rattle.std.specs.Prelude.{◌≡◌, ◌<◌, [], IfOk, OnOk, Some, length, map, slice_get, slice_set};
-ghost use Rattle.opening_tables.specs.Opening.{container_of, entries_of};
-ghost use Rattle.session_values.specs.Tables.{kind_of, start};
+ghost use Rattle.std.specs.Prelude.{◌≡◌, IfOk};
 ghost use Rattle.session_journal.specs.Script.{IsScript};
 
-use crate::judge_tables::JudgeTables;
-use session_journal::{Script, opening_op};
-use session_values::{NoMemory, TableKind};
+use session_journal::Script;
+use session_values::{NoMemory, TableKind, Value};
+use shard_tables::{TellsOpening, WholeTables};
 use std::alloc::Global;
 
-/// The most keys for which a table is given room.
-const MOST_ROOM: u32 = 1_073_741_824;
-
-/// Enters what a table opens with, the last entry first.
-fn fill_table<S: Script>(
-    script: &S,
-    kind: TableKind,
-    table: u32,
-    tables: &mut JudgeTables,
-) -> Result<(), NoMemory>
-    requires within { table < length (S.meaning script.now).shape }
-    requires kind { slice_get (map kind_of tables.old) table ≡ Some kind }
-    requires empty { slice_get tables.old table ≡ Some (container_of kind []) }
-    ensures { OnOk result (tables.new ≡ slice_set tables.old table
-        (container_of kind (entries_of (S.meaning script.now).opened table))) }
-{
-    let len = script.opening_len(table);
-    for done in 0..len {
-        let (key, value) = script.opening_entry(table, len - 1 - done);
-        tables.apply(opening_op(kind, table, key, value))?;
-    }
-    Ok(())
+/// What a script's tables open with.
+#[derive(Drop)]
+struct OpeningOf<'a, S: Script> {
+    script: &'a S,
 }
 
-/// Enters what each table opens with. More tables than numbers name are want of memory.
-fn fill_tables<S: Script>(
-    script: &S,
-    shape: &[TableKind],
-    tables: &mut JudgeTables,
-) -> Result<(), NoMemory>
-    requires script { IsScript (S.meaning script.now) }
-    requires shape { shape.now ≡ (S.meaning script.now).shape }
-    requires empty { tables.old ≡ start shape.now }
-    ensures { OnOk result (tables.new ≡ (S.meaning script.now).opening) }
-{
-    let Ok(count) = u32::try_from(shape.len()) else {
-        return Err(NoMemory);
-    };
-    for table in 0..count {
-        fill_table(script, shape[table as usize], table, tables)?;
+impl<'a, S: Script> TellsOpening for OpeningOf<'a, S> {
+    ghost shape = { λ o. (S.meaning o.script.now).shape };
+
+    ghost opened = { λ o. (S.meaning o.script.now).opened };
+
+    fn room(&self, table: u32) -> u32 {
+        self.script.room(table)
     }
-    Ok(())
+
+    fn opening_len(&self, table: u32) -> u32 {
+        self.script.opening_len(table)
+    }
+
+    fn opening_entry(&self, table: u32, i: u32) -> (Value, Value) {
+        self.script.opening_entry(table, i)
+    }
 }
 
-/// Empty tables of these kinds, each with the room that the script may fill.
-pub(crate) fn empty_tables<S: Script>(
-    alloc: Global,
-    script: &S,
-    shape: &[TableKind],
-) -> Result<JudgeTables, NoMemory>
-    requires script { IsScript (S.meaning script.now) }
-    requires shape { shape.now ≡ (S.meaning script.now).shape }
-    ensures { IfOk result (λ ts. ts ≡ start shape.now) }
-{
-    let Ok(count) = u32::try_from(shape.len()) else {
-        return Err(NoMemory);
-    };
-    let mut tables = JudgeTables::new(alloc);
-    for table in 0..count {
-        let room = script.room(table).saturating_add(script.opening_len(table));
-        tables.push(alloc, shape[table as usize], room.min(MOST_ROOM))?;
-    }
-    Ok(tables)
-}
-
-/// The tables with which a script opens, which are of these kinds.
+/// The tables with which a script opens, which are of these kinds, each with the room that the
+/// script may fill.
 pub(crate) fn opened_tables<S: Script>(
     alloc: Global,
     script: &S,
     shape: &[TableKind],
-) -> Result<JudgeTables, NoMemory>
+) -> Result<WholeTables, NoMemory>
     requires script { IsScript (S.meaning script.now) }
     requires shape { shape.now ≡ (S.meaning script.now).shape }
     ensures { IfOk result (λ ts. ts ≡ (S.meaning script.now).opening) }
 {
-    let mut tables = empty_tables(alloc, script, shape)?;
-    fill_tables(script, shape, &mut tables)?;
-    Ok(tables)
+    let told = OpeningOf { script };
+    WholeTables::opened(alloc, &told, shape)
 }

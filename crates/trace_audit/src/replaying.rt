@@ -7,13 +7,13 @@ ghost use Rattle.session_journal.specs.Journal.{Replays, run};
 ghost use Rattle.trace_audit.specs.Noted.{entries_of};
 ghost use Rattle.trace_audit.specs.Replaying.{AllFit, EntriesFit, FindsUnreplayed, Replayed};
 
-use crate::judge_tables::JudgeTables;
 use crate::ticket_replay::{Noted, TicketReplay, same_value};
 use session_values::NoMemory;
+use shard_tables::WholeTables;
 
 /// Does these entries on the tables, up to the first that the tables give another reply; whether
 /// there is none.
-fn replay_entries(tables: &mut JudgeTables, entries: &[Noted]) -> Result<bool, NoMemory>
+fn replay_entries(tables: &mut WholeTables, entries: &[Noted]) -> Result<bool, NoMemory>
     requires { EntriesFit (map kind_of tables.old) (entries_of entries.now) }
     ensures took { IfOk result
         (λ took. Replayed tables.old (entries_of entries.now) took tables.new) }
@@ -31,7 +31,7 @@ fn replay_entries(tables: &mut JudgeTables, entries: &[Noted]) -> Result<bool, N
 /// The first ticket with an entry that the tables give another reply, where the tickets' entries
 /// are done one ticket after another; None where there is none.
 pub(crate) fn first_unreplayed(
-    tables: &mut JudgeTables,
+    tables: &mut WholeTables,
     replays: &[TicketReplay],
 ) -> Result<Option<usize>, NoMemory>
     requires { AllFit (map kind_of tables.old) replays.now }

@@ -1,5 +1,6 @@
 -- Whether words are an event's doesn't depend on the places that symbols have.
 use Rattle.std.proofs.Common.{◌≡◌, ℕ, zero, suc, ◌<◌, ◌&&◌, Bool, true, false, cond, nat_le, nat_lt, List, [], ◌∷◌, ◌++◌, codes, length, map, drop, slice_get, Option, Some, None, is_some, refl, sym, ap, ◌∙◌, subst, arith}
+use Rattle.std.proofs.lemmas.Option.{same_Some}
 use Rattle.std.specs.Option.{option_and_then, option_map, unwrap_or}
 use Rattle.std.specs.Prelude.{slice_index, ◌==◌}
 use Rattle.std.specs.Str.{bytes_eq}
@@ -19,7 +20,7 @@ use Rattle.session_journal.specs.declared.event.Event.{Event}
 use Rattle.session_journal.specs.declared.event.Event.TheVariants.{Done, Delay, End}
 use Rattle.text_lines.specs.Text.{Text}
 use Rattle.text_lines.specs.Values.{as_value, is_nil, is_symbol, number}
-use Rattle.line_words.specs.ValueWords.{literal_value}
+use Rattle.text_lines.specs.ValueWords.{literal_value}
 use Rattle.trace_lines.specs.EventRows.{AreKnown}
 use Rattle.trace_lines.specs.EventText.{text_at}
 use Rattle.trace_lines.specs.EventWords.{Front, all_literals, arg_value, arguments_front, as_reply, begin_of, delay_of, done_of, end_of, event_of, first_word, head_front, none_left, op_front, small_number, symbol_front, table_names, then_read}
@@ -182,16 +183,13 @@ module _ (old new : List Text) (tables : List ℕ) (shape : List TableKind) (sam
       pick t true r s = refl
       pick t false r s = refl
 
-      inside : (m n : ℕ) → ◌≡◌ {A = Option ℕ} (Some m) (Some n) → m ≡ n
-      inside m n e = cc
-
       go : (t : ℕ) (o p : Option (List Value)) → option_map (λ (vs : List Value). length vs) o ≡ option_map (λ (vs : List Value). length vs) p → is_some (option_map (λ (x : Reply). End t x) (option_and_then as_reply o)) ≡ is_some (option_map (λ (x : Reply). End t x) (option_and_then as_reply p))
       go t None None e = refl
       go t None (Some us) e = cc
       go t (Some vs) None e = cc
       go t (Some vs) (Some us) e =
           pick t (test (length vs)) (reply_of vs) (reply_of us)
-          ∙ ap (λ (n : ℕ). is_some (option_map (λ (x : Reply). End t x) (cond (test n) (Some (reply_of us)) None))) (inside (length vs) (length us) e)
+          ∙ ap (λ (n : ℕ). is_some (option_map (λ (x : Reply). End t x) (cond (test n) (Some (reply_of us)) None))) (same_Some (length vs) (length us) e)
 
   choose : (b : Bool) (x y u v : Option Event) → is_some x ≡ is_some u → is_some y ≡ is_some v → is_some (cond b x y) ≡ is_some (cond b u v)
   choose true x y u v e f = e

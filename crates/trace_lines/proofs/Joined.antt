@@ -2,7 +2,7 @@
 use Rattle.std.proofs.Common.{◌≡◌, ℕ, zero, suc, ◌<◌, List, [], ◌∷◌, ◌++◌, refl, sym, ap, ◌∙◌, arith, append_assoc, take}
 use Rattle.std.specs.List.{AllByRecursion}
 use Rattle.session_values.specs.declared.value.Value.{Value}
-use Rattle.line_words.specs.Words.{after_spaces}
+use Rattle.text_lines.specs.Words.{after_spaces}
 
 pub joined : (ws vs : List (List ℕ)) → after_spaces (ws ++ vs) ≡ after_spaces ws ++ after_spaces vs
 joined [] vs = refl

@@ -21,7 +21,7 @@ use Rattle.session_journal.specs.declared.event.Event.{Event}
 use Rattle.session_journal.specs.declared.event.Event.TheVariants.{Done, Delay, End}
 use Rattle.text_lines.specs.Text.{Text}
 use Rattle.text_lines.specs.Values.{is_symbol}
-use Rattle.line_words.specs.ValueWords.{literal_value}
+use Rattle.text_lines.specs.ValueWords.{literal_value}
 use Rattle.trace_lines.specs.declared.words.Word.{Word}
 use Rattle.trace_lines.specs.EventWords.{Front, all_literals, arg_value, arguments_front, as_reply, begin_of, delay_of, done_of, end_of, event_of, first_word, head_front, kind_of, table_of, none_left, op_front, small_number, symbol_front, table_names, then_read}
 use Rattle.trace_lines.specs.Fronts.{plain_value}

@@ -20,9 +20,9 @@ use Rattle.session_journal.specs.declared.event.Event.{Event}
 use Rattle.session_journal.specs.declared.event.Event.TheVariants.{Begin, Done, Delay, End}
 use Rattle.text_lines.specs.Text.{lines, words}
 use Rattle.text_lines.specs.Values.{is_symbol}
-use Rattle.line_words.specs.ValueWords.{IsWritable, literal_text}
-use Rattle.line_words.specs.Words.{IsWord, rows_text, spaced}
-use Rattle.line_words.proofs.WordsBack.{nil_word, number_word, rows_back, symbol_word}
+use Rattle.text_lines.specs.ValueWords.{IsWritable, literal_text}
+use Rattle.text_lines.specs.Words.{IsWord, rows_text, spaced}
+use Rattle.text_lines.proofs.WordsBack.{nil_word, number_word, rows_back, symbol_word}
 use Rattle.trace_lines.specs.EventText.{arg_text, event_words, events_text, op_words, symbol_text, symbol_words, text_at}
 use Rattle.trace_lines.specs.EventWords.{IsReadableArg, IsReadableEvent, IsReadableOp, IsReadableSymbol, as_read, event_of, table_names}
 use Rattle.trace_lines.proofs.Reading.{event_back}

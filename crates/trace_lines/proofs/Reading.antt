@@ -25,9 +25,9 @@ use Rattle.symbolic_ops.specs.declared.arg.Arg.TheVariants.{Known, Var, Any}
 use Rattle.symbolic_ops.specs.declared.symbol.Symbol.{Symbol}
 use Rattle.session_journal.specs.declared.event.Event.{Event}
 use Rattle.session_journal.specs.declared.event.Event.TheVariants.{Begin, Done, Delay, End}
-use Rattle.line_words.specs.ValueWords.{IsWritable, literal_text, literal_value}
-use Rattle.line_words.proofs.NumbersBack.{numeral}
-use Rattle.line_words.proofs.ValuesBack.{literal_back}
+use Rattle.text_lines.specs.ValueWords.{IsWritable, literal_text, literal_value}
+use Rattle.text_lines.proofs.NumbersBack.{numeral}
+use Rattle.text_lines.proofs.ValuesBack.{literal_back}
 use Rattle.trace_lines.specs.EventText.{arg_text, event_words, op_words, symbol_text, symbol_words, text_at}
 use Rattle.session_values.specs.Names.{AreDistinct, place_of}
 use Rattle.session_values.proofs.NamesLemmas.{bytes_eq_same, place_is}

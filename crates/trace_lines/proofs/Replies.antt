@@ -4,7 +4,7 @@ use Rattle.std.specs.Option.{option_and_then, option_map}
 use Rattle.session_values.specs.declared.reply.Reply.{Reply}
 use Rattle.session_values.specs.declared.value.Value.{Value}
 use Rattle.text_lines.specs.Text.{Text}
-use Rattle.line_words.specs.ValueWords.{literal_value}
+use Rattle.text_lines.specs.ValueWords.{literal_value}
 use Rattle.trace_lines.specs.EventWords.{all_literals, as_reply, first_word}
 use Rattle.trace_lines.specs.Fronts.{reply_with}
 

@@ -1,13 +1,11 @@
 -- Events that are accepted can be written and read back, where each text of the names is a symbol's, and what is called, replied and answered has texts.
-use Rattle.std.proofs.Common.{◌≡◌, ℕ, zero, suc, ◌+◌, ◌<◌, ◌≤◌, ◌==◌, ◌⊎◌, inl, inr, Bool, true, false, not, ◌&&◌, ◌||◌, List, [], ◌∷◌, ◌++◌, length, take, get_or, cond, Some, slice_get, refl, sym, ap, ◌∙◌, subst, arith}
+use Rattle.std.proofs.Common.{◌≡◌, ℕ, zero, suc, ◌+◌, ◌<◌, ◌≤◌, ◌==◌, Bool, true, false, not, ◌&&◌, ◌||◌, List, [], ◌∷◌, ◌++◌, length, take, get_or, cond, Some, slice_get, refl, sym, ap, ◌∙◌, subst, arith}
 use Rattle.std.specs.List.{AllByRecursion}
 use Rattle.std.proofs.lemmas.Bool.{eqb-true, false≢true}
 use Rattle.std.proofs.lemmas.Bool.Decides.{nat_tests}
 use Rattle.std.proofs.lemmas.List.{take_more}
 use Rattle.session_values.specs.declared.kind.Kind.{Kind}
-use Rattle.session_values.specs.declared.kind.Kind.TheVariants.{Get, Put, Swap, Del, Size, Bump, Has, Add, Mark, Drop, Count}
 use Rattle.session_values.specs.declared.kind.TableKind.{TableKind}
-use Rattle.session_values.specs.declared.kind.TableKind.TheVariants.{Map, Set}
 use Rattle.session_values.specs.declared.op.Op.{Op}
 use Rattle.session_values.specs.declared.reply.Reply.{Reply}
 use Rattle.session_values.specs.declared.value.Value.{Value}
@@ -19,26 +17,27 @@ use Rattle.session_values.specs.Reply.{IsHeldReply, values_of}
 use Rattle.session_values.specs.ReplyText.{IsPrintable}
 use Rattle.session_values.specs.Tables.{Fits, Tables, reply, step}
 use Rattle.session_values.specs.Values.{IsValue}
-use Rattle.session_values.proofs.Lists.{all_join}
+use Rattle.session_values.proofs.Lists.{all_join, all_push}
 use Rattle.symbolic_ops.specs.declared.arg.Arg.{Arg}
 use Rattle.symbolic_ops.specs.declared.arg.Arg.TheVariants.{Known, Var, Any}
 use Rattle.symbolic_ops.specs.declared.symbol.Symbol.{Symbol}
 use Rattle.symbolic_ops.specs.Matching.{HasNoVar, IsNoVar}
 use Rattle.symbolic_ops.specs.Symbol.{IsHeldArg, IsHeldSymbol}
 use Rattle.commute_tables.specs.Relation.{is_apart, is_same, same_bool, sums_symbol}
-use Rattle.commute_tables.specs.Symbols.{CommutesWith}
+use Rattle.symbolic_ops.specs.Commuting.{CommutesWith}
 use Rattle.commute_tables.proofs.AgainstSymbols.{symbol_commutes}
+use Rattle.commute_tables.proofs.ListedPairs.{one_home}
 use Rattle.session_journal.specs.declared.event.Event.{Event}
 use Rattle.session_journal.specs.declared.event.Event.TheVariants.{Begin, Done, Delay, End}
 use Rattle.session_journal.specs.Journal.{DoneOperation, after, done_operations, entries, in_order, of_ticket, run}
 use Rattle.session_journal.specs.Script.{Meaning}
 use Rattle.session_journal.proofs.Replay.{run-append}
-use Rattle.admission_book.specs.EventsInTurn.{ComeInTurn}
-use Rattle.admission_book.proofs.Events.{All-push, done_operations-append, done_operations_stay, in_order-append}
+use Rattle.session_journal.specs.EventsInTurn.{ComeInTurn}
+use Rattle.session_journal.proofs.Events.{done_operations-append, done_operations_stay, in_order-append}
 use Rattle.text_lines.specs.Values.{is_symbol}
-use Rattle.line_words.specs.ValueWords.{IsWritable}
-use Rattle.trace_audit.specs.Accepted.{AreAllowed, IsAllowed}
-use Rattle.trace_audit.specs.Traces.{HasKnownSymbol}
+use Rattle.text_lines.specs.ValueWords.{IsWritable}
+use Rattle.trace_rules.specs.Accepted.{AreAllowed, IsAllowed}
+use Rattle.trace_rules.specs.Traces.{HasKnownSymbol}
 use Rattle.trace_lines.specs.Bounds.{IsHeldEvent}
 use Rattle.trace_lines.specs.EventText.{CanWrite, CanWriteArg, CanWriteOp, CanWriteSymbol, HasTable}
 use Rattle.trace_lines.specs.EventWords.{HasHome, IsReadableArg, IsReadableEvent, IsReadableOp, IsReadableSymbol}
@@ -56,31 +55,6 @@ all_at P (y ∷ ys) zero x h e = let same : y ≡ x = cc in subst P same h.0
 all_at P (y ∷ ys) (suc i) x h e = all_at P ys i x h.1 e
 
 -- ---- the table and the kind of a symbol with which an operation doesn't commute
-
-side : (k : Kind) → ((home k ≡ Map) × (is_on_map k ≡ true)) ⊎ ((home k ≡ Set) × (is_on_map k ≡ false))
-side Get = inl (refl, refl)
-side Put = inl (refl, refl)
-side Swap = inl (refl, refl)
-side Del = inl (refl, refl)
-side Size = inl (refl, refl)
-side Bump = inl (refl, refl)
-side Has = inr (refl, refl)
-side Add = inr (refl, refl)
-side Mark = inr (refl, refl)
-side Drop = inr (refl, refl)
-side Count = inr (refl, refl)
-
-home_by : (a b : Kind) → same_bool (is_on_map a) (is_on_map b) ≡ true → home a ≡ home b
-home_by a b e = go (side a) (side b)
-  where
-    apart : (p q : Bool) → is_on_map a ≡ p → is_on_map b ≡ q → same_bool p q ≡ true
-    apart p q f g = sym (ap (λ (r : Bool). same_bool r (is_on_map b)) f ∙ ap (same_bool p) g) ∙ e
-
-    go : ((home a ≡ Map) × (is_on_map a ≡ true)) ⊎ ((home a ≡ Set) × (is_on_map a ≡ false)) → ((home b ≡ Map) × (is_on_map b ≡ true)) ⊎ ((home b ≡ Set) × (is_on_map b ≡ false)) → home a ≡ home b
-    go (inl x) (inl y) = x.0 ∙ sym y.0
-    go (inr x) (inr y) = x.0 ∙ sym y.0
-    go (inl x) (inr y) = absurd (false≢true (apart true false x.1 y.1))
-    go (inr x) (inl y) = absurd (false≢true (apart false true x.1 y.1))
 
 or_first : (a b c d e f : Bool) → a ≡ true → (a || b || c || d || e || f) ≡ true
 or_first true b c d e f h = refl
@@ -119,7 +93,7 @@ module _ (op : Op) (s : Symbol) (held : IsHeld op) (differ : CommutesWith op s �
   same_home = go (same_bool (is_on_map op.kind) (is_on_map s.kind)) refl
     where
       go : (b : Bool) → same_bool (is_on_map op.kind) (is_on_map s.kind) ≡ b → home op.kind ≡ home s.kind
-      go true e = home_by op.kind s.kind e
+      go true e = one_home op.kind s.kind e
       go false e = absurd (differ (symbol_commutes op s held (or_second apart unlike reads keys plain (sums_symbol op s) (ap not e))))
 
 -- one held event more
@@ -263,7 +237,7 @@ module _ (names : List (List ℕ)) (symbols : AllByRecursion (λ (t : List ℕ).
           let p : V op.key × V op.value = calls t (replies (entries F t)) op (given_to F t s) a.0.calls in
           let last : run m.opening (in_order (done_operations F ++ d ∷ [])) ≡ step (after m.opening F) op = ap (run m.opening) (in_order-append (done_operations F) (d ∷ [])) ∙ run-append m.opening (in_order (done_operations F)) (in_order (d ∷ [])) in
           record {
-            given = subst (AllByRecursion (λ (d : DoneOperation). V d.reply)) (sym more) (All-push (λ (d : DoneOperation). V d.reply) (done_operations F) d s.given (replied F op v s a.1));
+            given = subst (AllByRecursion (λ (d : DoneOperation). V d.reply)) (sym more) (all_push (λ (d : DoneOperation). V d.reply) (done_operations F) d s.given (replied F op v s a.1));
             holds = subst (λ (ds : List DoneOperation). Holds (run m.opening (in_order ds))) (sym more)
                 (subst Holds (sym last) (keeps (after m.opening F) op s.holds p.0 p.1));
           }

@@ -5,6 +5,7 @@ use Rattle.std.proofs.lemmas.Fmt.{decimal-digits_value, decimal_digit, decimal_n
 use Rattle.std.proofs.lemmas.Int.{to_z-of_z}
 use Rattle.std.proofs.lemmas.List.Sums.{prefix_len-le-length}
 use Rattle.std.proofs.lemmas.Slice.Eq.{bytes_eq-Decides}
+use Rattle.std.proofs.lemmas.Bool.{and_parts}
 use Rattle.std.specs.Char.{is_ascii_digit}
 use Rattle.std.specs.Fmt.{decimal}
 use Rattle.std.specs.List.{position_or_len}
@@ -14,6 +15,7 @@ use Rattle.std.specs.Prelude.{◌==◌, slice_index, unsigned_abs}
 use Rattle.std.specs.Result.{OkIff, result_ok}
 use Rattle.std.specs.Str.{all_ascii_digits, bytes_eq}
 use Rattle.session_values.specs.Names.{place_of}
+use Rattle.session_values.proofs.Numbers.{past_first, past_on, here_first, here_on}
 use Rattle.text_lines.specs.Text.{Text}
 use Rattle.text_lines.specs.Values.{has_minus, number_from, number}
 use Rattle.text_lines.proofs.NumberLemmas.{numerals}
@@ -52,10 +54,6 @@ Reads w = (all_ascii_digits w ≡ true) × (0 < length w) × (number_from 0 w < 
 abbrev by_test : Bool → ℕ → Option ℕ
 by_test t n = cond t (Some n) None
 
-both_true : (a b : Bool) → (a && b) ≡ true → (a ≡ true) × (b ≡ true)
-both_true true b e = (refl, e)
-both_true false b e = cc
-
 small_by : (w : Text) → nat_le (number_from 0 w) 4294967295 ≡ true → number_from 0 w < 2 ^ 32
 small_by w e = grind (arith, nat_tests)
 
@@ -65,7 +63,7 @@ reads_by w n e small l =
 
 test_reads : (w : Text) → (bytes_eq w (decimal (number_from 0 w)) && nat_le (number_from 0 w) 4294967295) ≡ true → Reads w
 test_reads w e =
-    let both = both_true (bytes_eq w (decimal (number_from 0 w))) (nat_le (number_from 0 w) 4294967295) e in
+    let both = and_parts (bytes_eq w (decimal (number_from 0 w))) (nat_le (number_from 0 w) 4294967295) e in
     let l : number_from 0 w < 2 ^ 32 = small_by w both.1 in
     reads_by w (number_from 0 w) ((bytes_eq-Decides w (decimal (number_from 0 w))).0 both.0) (omega (arith, l)) l
 
@@ -111,13 +109,13 @@ zeros w z l = go (bytes_eq w (decimal (number_from 0 w)) && nat_le (number_from 
   where
     go : (t : Bool) → (bytes_eq w (decimal (number_from 0 w)) && nat_le (number_from 0 w) 4294967295) ≡ t → by_test t (number_from 0 w) ≡ None
     go true e =
-        let both = both_true (bytes_eq w (decimal (number_from 0 w))) (nat_le (number_from 0 w) 4294967295) e in
+        let both = and_parts (bytes_eq w (decimal (number_from 0 w))) (nat_le (number_from 0 w) 4294967295) e in
         let small : number_from 0 w < 2 ^ 32 = small_by w both.1 in
         absurd (zero_reads w (number_from 0 w) z l ((bytes_eq-Decides w (decimal (number_from 0 w))).0 both.0) (omega (arith, small)))
     go false e = refl
 
 pub small_zero : (w : Text) → front_zero w ≡ true → small_number w ≡ None
-small_zero w f = let both = both_true (slice_index w 0 == 48) (nat_lt 1 (length w)) f in zeros w (is_48 (slice_index w 0) both.0) (above_1 (length w) both.1)
+small_zero w f = let both = and_parts (slice_index w 0 == 48) (nat_lt 1 (length w)) f in zeros w (is_48 (slice_index w 0) both.0) (above_1 (length w) both.1)
 
 -- ---- words that begin with a digit
 abbrev reads : Text → ℕ → Bool
@@ -206,27 +204,11 @@ small_kept w z r s h =
     narrowed (number_from 0 w) r (subst (λ (y : ℤ). OkIff r (FitsUnsignedBits 32 y) (unsigned_abs y)) (back ∙ s.number) h) ∙ sym s.small
 
 -- ---- tables by their names
-past_first : (b : Bool) (n : ℕ) → b ≡ false → 0 + 1 ≤ cond (not b) (1 + n) 0
-past_first true n e = cc
-past_first false n e = omega arith
-
-past_on : (b : Bool) (i n : ℕ) → suc i ≤ cond (not b) (1 + n) 0 → (i ≤ n → i + 1 ≤ n) → suc i + 1 ≤ cond (not b) (1 + n) 0
-past_on true i n l f = absurd (omega (arith, l))
-past_on false i n l f = omega (arith, f (omega (arith, l)))
-
 -- a place that fails the test isn't the first that passes it
 past : (p : Text → Bool) (xs : List Text) (i : ℕ) (x : Text) → slice_get xs i ≡ Some x → p x ≡ false → i ≤ position_or_len p xs → i + 1 ≤ position_or_len p xs
 past p [] i x h f l = cc
 past p (y ∷ ys) zero x h f l = past_first (p y) (position_or_len p ys) (let same : y ≡ x = cc in ap p same ∙ f)
 past p (y ∷ ys) (suc i) x h f l = past_on (p y) i (position_or_len p ys) l (past p ys i x h f)
-
-here_first : (b : Bool) (n : ℕ) → b ≡ true → 0 ≡ cond (not b) (1 + n) 0
-here_first true n e = refl
-here_first false n e = cc
-
-here_on : (b : Bool) (i n : ℕ) → suc i ≤ cond (not b) (1 + n) 0 → (i ≤ n → i ≡ n) → suc i ≡ cond (not b) (1 + n) 0
-here_on true i n l f = absurd (omega (arith, l))
-here_on false i n l f = omega (arith, f (omega (arith, l)))
 
 -- a place that passes it, with none before, is the first
 here : (p : Text → Bool) (xs : List Text) (i : ℕ) (x : Text) → slice_get xs i ≡ Some x → p x ≡ true → i ≤ position_or_len p xs → i ≡ position_or_len p xs

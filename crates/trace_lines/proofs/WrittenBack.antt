@@ -14,6 +14,7 @@ use Rattle.session_values.specs.Kinds.{arguments, word_of as kind_word}
 use Rattle.session_values.specs.Names.{AreDistinct, with_text}
 use Rattle.session_values.proofs.NamesLemmas.{known_at, with_known}
 use Rattle.session_values.specs.Reply.{values_of}
+use Rattle.session_values.proofs.Lists.{same_head, same_tail}
 use Rattle.symbolic_ops.specs.declared.arg.Arg.{Arg}
 use Rattle.symbolic_ops.specs.declared.arg.Arg.TheVariants.{Known, Var, Any}
 use Rattle.symbolic_ops.specs.declared.symbol.Symbol.{Symbol}
@@ -23,14 +24,14 @@ use Rattle.text_lines.specs.Rows.{Row, rows}
 use Rattle.text_lines.specs.Text.{Text, lines, words}
 use Rattle.text_lines.specs.Values.{is_symbol}
 use Rattle.text_lines.proofs.RowLemmas.{rows_more, rows_nil}
-use Rattle.line_words.specs.ValueWords.{IsWritable, literal_text}
-use Rattle.line_words.proofs.NumbersBack.{numeral}
-use Rattle.trace_audit.specs.Traces.{TraceView, max_events}
+use Rattle.text_lines.specs.ValueWords.{IsWritable, literal_text}
+use Rattle.text_lines.proofs.NumbersBack.{numeral}
+use Rattle.trace_rules.specs.Traces.{TraceView, max_events}
 use Rattle.trace_lines.specs.EventRows.{IsTrace, first_event_fault, names_after, placed_literal, placed_literals, placed_symbol, row_event}
 use Rattle.trace_lines.specs.EventText.{arg_text, event_words, events_text, op_words, symbol_text, symbol_words, text_at}
 use Rattle.trace_lines.specs.EventWords.{IsReadableArg, IsReadableEvent, IsReadableOp, IsReadableSymbol, IsTableName, as_read, event_of, table_names}
 use Rattle.trace_lines.proofs.Lines.{each_back, words_back_of}
-use Rattle.line_words.specs.Words.{IsWord}
+use Rattle.text_lines.specs.Words.{IsWord}
 use Rattle.trace_lines.proofs.Placed.{after_nil, after_step, literals_nil, literals_step}
 use Rattle.trace_lines.proofs.Rows.{fault_none, first_nil, first_step, row_is}
 
@@ -110,20 +111,14 @@ abbrev HasWord : List Text → Type 0
 HasWord [] = ⊥
 HasWord (w ∷ ws) = Unit {0}
 
-head_is : {X : Type 0} (x y : X) (xs ys : List X) → x ∷ xs ≡ y ∷ ys → x ≡ y
-head_is x y xs ys e = cc
-
-tail_is : {X : Type 0} (x y : X) (xs ys : List X) → x ∷ xs ≡ y ∷ ys → xs ≡ ys
-tail_is x y xs ys e = cc
-
 rows_words : (n : ℕ) (ls : List Text) (wss : List (List Text)) → map words ls ≡ wss → AllByRecursion HasWord wss → map all_words (rows n ls) ≡ wss
 rows_words n [] [] e h = ap (map all_words) (rows_nil n)
 rows_words n [] (ws ∷ wss) e h = cc
 rows_words n (l ∷ ls) [] e h = cc
 rows_words n (l ∷ ls) ([] ∷ wss) e h = absurd h.0
 rows_words n (l ∷ ls) ((w ∷ ws) ∷ wss) e h =
-    ap (map all_words) (rows_more n l ls w ws (head_is (words l) (w ∷ ws) (map words ls) wss e))
-    ∙ ap (λ (xs : List (List Text)). (w ∷ ws) ∷ xs) (rows_words (n + 1) ls wss (tail_is (words l) (w ∷ ws) (map words ls) wss e) h.1)
+    ap (map all_words) (rows_more n l ls w ws (same_head (words l) (w ∷ ws) (map words ls) wss e))
+    ∙ ap (λ (xs : List (List Text)). (w ∷ ws) ∷ xs) (rows_words (n + 1) ls wss (same_tail (words l) (w ∷ ws) (map words ls) wss e) h.1)
 
 events_of_rows : (names : List Text) (tables : List ℕ) (shape : List TableKind) (rs : List Row) → map (row_event names tables shape) rs ≡ map (event_of names tables shape) (map all_words rs)
 events_of_rows names tables shape [] = refl
@@ -150,8 +145,8 @@ some_is [] [] e = refl
 some_is [] (y ∷ ys) e = cc
 some_is (x ∷ xs) [] e = cc
 some_is (x ∷ xs) (y ∷ ys) e =
-    let tails : xs ≡ ys = some_is xs ys (tail_is (Some x) (Some y) (map (λ (z : Event). Some z) xs) (map (λ (z : Event). Some z) ys) e) in
-    let heads : ◌≡◌ {A = Option Event} (Some x) (Some y) = head_is (Some x) (Some y) (map (λ (z : Event). Some z) xs) (map (λ (z : Event). Some z) ys) e in
+    let tails : xs ≡ ys = some_is xs ys (same_tail (Some x) (Some y) (map (λ (z : Event). Some z) xs) (map (λ (z : Event). Some z) ys) e) in
+    let heads : ◌≡◌ {A = Option Event} (Some x) (Some y) = same_head (Some x) (Some y) (map (λ (z : Event). Some z) xs) (map (λ (z : Event). Some z) ys) e in
     let same : x ≡ y = cc in
     ap (λ (z : Event). z ∷ xs) same ∙ ap (λ (zs : List Event). y ∷ zs) tails
 
@@ -159,8 +154,8 @@ no_fault : (names : List Text) (tables : List ℕ) (shape : List TableKind) (see
 no_fault names tables shape seen [] es e l = first_nil names tables shape seen
 no_fault names tables shape seen (r ∷ rs) [] e l = cc
 no_fault names tables shape seen (r ∷ rs) (x ∷ es) e l =
-    first_step names tables shape seen r rs (fault_none names tables shape seen r x (omega (arith, l)) (head_is (row_event names tables shape r) (Some x) (map (row_event names tables shape) rs) (map (λ (z : Event). Some z) es) e))
-    ∙ no_fault names tables shape (seen + 1) rs es (tail_is (row_event names tables shape r) (Some x) (map (row_event names tables shape) rs) (map (λ (z : Event). Some z) es) e) (omega (arith, l))
+    first_step names tables shape seen r rs (fault_none names tables shape seen r x (omega (arith, l)) (same_head (row_event names tables shape r) (Some x) (map (row_event names tables shape) rs) (map (λ (z : Event). Some z) es) e))
+    ∙ no_fault names tables shape (seen + 1) rs es (same_tail (row_event names tables shape r) (Some x) (map (row_event names tables shape) rs) (map (λ (z : Event). Some z) es) e) (omega (arith, l))
 
 module _ (names : List Text) (tables : List ℕ) (shape : List TableKind) (named : AllByRecursion IsTableName (table_names names tables)) where
   op_stay : (op : Op) → IsReadableOp names tables shape op → AllStay names (op_words names tables op)

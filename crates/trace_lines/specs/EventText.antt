@@ -2,7 +2,7 @@
 use Rattle.std.specs.Prelude.{◌≡◌, ℕ, ◌<◌, ◌≤◌, List, [], ◌∷◌, ◌++◌, codes, length, map, slice_get, slice_index, Option, Some, None, take, unwrap_or}
 use Rattle.std.specs.Fmt.{decimal}
 use Rattle.std.specs.List.{AllByRecursion}
-use Rattle.session_limits.specs.Limits.{max_name}
+use Rattle.session_values.specs.Limits.{max_name}
 use Rattle.session_values.specs.declared.kind.Kind.{Kind}
 use Rattle.session_values.specs.declared.op.Op.{Op}
 use Rattle.session_values.specs.declared.reply.Reply.{Reply}
@@ -17,8 +17,8 @@ use Rattle.symbolic_ops.specs.declared.arg.Arg.TheVariants.{Known, Var, Any}
 use Rattle.symbolic_ops.specs.declared.symbol.Symbol.{Symbol}
 use Rattle.session_journal.specs.declared.event.Event.{Event}
 use Rattle.session_journal.specs.declared.event.Event.TheVariants.{Begin, Done, Delay, End}
-use Rattle.line_words.specs.ValueWords.{literal_text}
-use Rattle.line_words.specs.Words.{spaced}
+use Rattle.text_lines.specs.ValueWords.{literal_text}
+use Rattle.text_lines.specs.Words.{spaced}
 
 -- ---- words
 

@@ -24,8 +24,8 @@ use Rattle.symbolic_ops.specs.Symbol.{IsSymbol}
 use Rattle.session_journal.specs.declared.event.Event.{Event}
 use Rattle.session_journal.specs.declared.event.Event.TheVariants.{Begin, Done, Delay, End}
 use Rattle.text_lines.specs.Values.{is_symbol, number_from}
-use Rattle.line_words.specs.ValueWords.{IsWritable, literal_value}
-use Rattle.line_words.specs.Words.{IsWord}
+use Rattle.text_lines.specs.ValueWords.{IsWritable, literal_value}
+use Rattle.text_lines.specs.Words.{IsWord}
 use Rattle.trace_lines.specs.EventText.{text_at}
 
 -- ---- single words

@@ -6,3 +6,4 @@ pub mod Fronts
 pub mod Placing
 pub mod Pushing
 pub mod VerdictText
+pub use Rattle.trace_rules.specs.Traces

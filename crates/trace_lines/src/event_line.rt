@@ -5,8 +5,8 @@ ghost use Rattle.std.specs.Fmt.{decimal};
 ghost use Rattle.session_values.specs.ReplyText.{IsPrintable};
 ghost use Rattle.session_values.specs.declared.value.Value.TheVariants.{Sym};
 ghost use Rattle.symbolic_ops.specs.declared.arg.Arg.TheVariants.{Known};
-ghost use Rattle.line_words.specs.ValueWords.{literal_text};
-ghost use Rattle.line_words.specs.Words.{after_spaces, spaced};
+ghost use Rattle.text_lines.specs.ValueWords.{literal_text};
+ghost use Rattle.text_lines.specs.Words.{after_spaces, spaced};
 ghost use Rattle.trace_lines.specs.EventText.{CanWrite, CanWriteArg, CanWriteOp, CanWriteReply, CanWriteSymbol, HasTable, arg_text, event_text, event_words, head_words, known_text, op_words, reply_words, symbol_text, symbol_words};
 
 use itoa::Buffer;

@@ -7,7 +7,7 @@ ghost use Rattle.session_values.specs.declared.value.Value.TheVariants.{Nil};
 ghost use Rattle.symbolic_ops.specs.declared.arg.Arg.TheVariants.{Known};
 ghost use Rattle.symbolic_ops.specs.Matching.{HasNoVar, IsNoVar};
 ghost use Rattle.symbolic_ops.specs.Symbol.{IsSymbol};
-ghost use Rattle.line_words.specs.ValueWords.{literal_value};
+ghost use Rattle.text_lines.specs.ValueWords.{literal_value};
 ghost use Rattle.trace_lines.specs.EventRows.{AreKnown};
 ghost use Rattle.trace_lines.specs.EventWords as spec;
 ghost use Rattle.trace_lines.specs.Fronts.{IsFront};

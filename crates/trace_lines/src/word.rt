@@ -3,7 +3,7 @@
 ghost use Rattle.std.specs.Prelude.{◌≡◌, ◌<◌, ◌≤◌, ◌==◌, ◌&&◌, nat_lt, IfSome, Some, length, slice_get, slice_index};
 ghost use Rattle.session_values.specs.Names.{place_of};
 ghost use Rattle.symbolic_ops.specs.Matching.{IsNoVar};
-ghost use Rattle.line_words.specs.ValueWords.{literal_value};
+ghost use Rattle.text_lines.specs.ValueWords.{literal_value};
 ghost use Rattle.trace_lines.specs.EventRows.{AreKnown};
 ghost use Rattle.trace_lines.specs.EventWords as spec;
 ghost use Rattle.trace_lines.specs.Fronts as fronts;

@@ -1,4 +1,3 @@
-pub use Rattle.turn_steps.proofs.Rows
 pub mod AtSeat
 pub mod Takes
 pub mod Returns
@@ -7,3 +6,4 @@ pub mod Opened
 pub mod Closes
 pub mod Sets
 pub mod Fills
+pub use Rattle.turn_steps.proofs.Rows

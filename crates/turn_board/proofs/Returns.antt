@@ -4,6 +4,7 @@ use Rattle.std.specs.Prelude.{Option, Some, None, ◌==◌, slice_index_or}
 use Rattle.std.proofs.lemmas.Nat.{pow_below}
 use Rattle.std.proofs.lemmas.Nat.Bits.{bit_at-pow_same, bit_at-pow_other, bit_at_not}
 use Rattle.std.proofs.lemmas.Option.{none-some}
+use Rattle.std.proofs.lemmas.List.{get_or_past}
 use mathlib.Core.Logic.{dite}
 use native.Mathlib.Decide.{dec_lt, ℕ_discrete}
 use Rattle.std.specs.Int.{bit_at, bit_not, w64}
@@ -17,7 +18,7 @@ use Rattle.turn_board.specs.Hands.{HandsView, put_back}
 use Rattle.turn_board.specs.Boards.{SameNote, Released, Booked, Changed}
 use Rattle.turn_board.proofs.AtSeat.{at}
 use Rattle.turn_steps.specs.Maps.{SameTurns}
-use Rattle.turn_steps.proofs.Rows.{row-length, row-here, row-past, past-end}
+use Rattle.turn_steps.proofs.Rows.{row-length, row-here, row-past}
 use Rattle.turn_steps.proofs.Gives.{cases}
 
 -- the complement of one bit
@@ -77,7 +78,7 @@ module _ {V C : Type 0} (id : TableId) (v : View C) (t mask : ℕ) (new : ℕ �
 
 -- a turn that is held stands below the number of turns
 pub held-near : {C : Type 0} (v : View C) (n t : ℕ) (c : C) → length v.counts ≡ n → counted v t ≡ Some c → t < n
-held-near v n t c long e = dite (dec_lt t n) (λ h. h) (λ h. absurd (none-some c (sym (past-end v.counts t None (let k : length v.counts ≤ t = omega arith in k)) ∙ e)))
+held-near v n t c long e = dite (dec_lt t n) (λ h. h) (λ h. absurd (none-some c (sym (get_or_past v.counts t None (let k : length v.counts ≤ t = omega arith in k)) ∙ e)))
 
 -- one turn is given back as it was: p before, m after its value was laid into the slot, q after the step
 module _ {V C : Type 0} (id : TableId) (few : id.slots ≤ 57) (p : Token V C) (seated : IsSeated id p) (t : ℕ) (x : C) (is : held p t ≡ Some x) (m : Token V C) (m-is : m.me ≡ (put_place t (Lies x) p.me.0, [])) where
@@ -111,7 +112,7 @@ module _ {V C : Type 0} (id : TableId) (few : id.slots ≤ 57) (p : Token V C) (
       others = λ u ne. dite (dec_lt u id.slots)
           (λ h. held-else id (put_place t (Lies x) p.me.0) t (bit_not w64 (2 ^ t)) (counted p.me.0) p.me.0.speaks p.me.0.given p.me.0.change q q-now zero-bit one-bits below u h ne)
           (λ h. let k : id.slots ≤ u = omega arith in held-past id (put_place t (Lies x) p.me.0) t (bit_not w64 (2 ^ t)) (counted p.me.0) p.me.0.speaks p.me.0.given p.me.0.change q q-now zero-bit one-bits below u k
-          ∙ sym (past-end p.me.0.counts u None (let l : length p.me.0.counts ≡ id.slots = seated.placed.counts in omega arith)));
+          ∙ sym (get_or_past p.me.0.counts u None (let l : length p.me.0.counts ≡ id.slots = seated.placed.counts in omega arith)));
       lost_is = λ u. lost-same id (put_place t (Lies x) p.me.0) t (bit_not w64 (2 ^ t)) (counted p.me.0) p.me.0.speaks p.me.0.given p.me.0.change q q-now zero-bit one-bits below u;
       asks_is = ap (λ y. y.0.asks) q-now;
       givings_is = ap (λ y. y.0.givings) q-now;
@@ -151,7 +152,7 @@ module _ {V C : Type 0} (id : TableId) (few : id.slots ≤ 57) (p : Token V C) (
   others-new u pos = dite (dec_lt u id.slots)
       (λ h. held-else id (put_place 0 (Lies b) p.me.0) 0 mask new (noted (Some b) p.me.0.speaks) (p.me.0.given + 1) change q book-now zero-bit one-else private-below u h (λ e. omega arith))
       (λ h. let k : id.slots ≤ u = omega arith in held-past id (put_place 0 (Lies b) p.me.0) 0 mask new (noted (Some b) p.me.0.speaks) (p.me.0.given + 1) change q book-now zero-bit one-else private-below u k
-      ∙ sym (same.0 u (past-end p.me.0.counts u None (let l : length p.me.0.counts ≡ id.slots = seated.placed.counts in omega arith))))
+      ∙ sym (same.0 u (get_or_past p.me.0.counts u None (let l : length p.me.0.counts ≡ id.slots = seated.placed.counts in omega arith))))
 
   book-noted : note_of q.me.0.speaks ≡ new 0
   book-noted = ap (λ y. note_of y.0.speaks) book-now ∙ ap note_of speaks-now ∙ sym has

@@ -4,6 +4,7 @@ use Rattle.std.specs.Prelude.{Some, None, slice_get, ◌==◌, bit_and}
 use Rattle.std.proofs.lemmas.Nat.{and_le_l}
 use Rattle.std.proofs.lemmas.Nat.Bits.{bit_at_and, bit_at-lt, bit_at_not, bit_at-zero, bit_at-trailing_zeros}
 use Rattle.std.proofs.lemmas.Option.{none-some}
+use Rattle.std.proofs.lemmas.List.{get_or_past}
 use mathlib.Core.Logic.{dite}
 use native.Mathlib.Decide.{dec_lt}
 use Rattle.std.specs.Int.{bit_at, bit_not, trailing_zeros, w64}
@@ -16,7 +17,7 @@ use Rattle.turn_steps.specs.Passes.{Token, Placed, IsSeated, held, lost}
 use Rattle.turn_board.specs.Moving.{Emptied}
 use Rattle.turn_board.specs.Boards.{SameNote, Tells, MissedAll}
 use Rattle.turn_board.proofs.AtSeat.{at, told}
-use Rattle.turn_steps.proofs.Rows.{two, row-length, row-here, row-past, changed-here, changed-else, get-within, past-end}
+use Rattle.turn_steps.proofs.Rows.{two, row-length, row-here, row-past, changed-here, changed-else, get-within}
 
 -- no turn of the set was found taken
 pub none-taken : (found set : ℕ) → bit_and found set ≡ 0 → (u : ℕ) → bit_at set u ≡ 1 → bit_at found u ≡ 0
@@ -133,7 +134,7 @@ module _ {V C : Type 0} (holds : List C → List C → Type 0) (id : TableId) (p
   }
 
   places-past : (u : ℕ) → id.slots ≤ u → place q.me.0 u ≡ Vacant
-  places-past u h = past-end q.me.0.places u Vacant (let l = set-placed.places in omega arith)
+  places-past u h = get_or_past q.me.0.places u Vacant (let l = set-placed.places in omega arith)
 
   -- the values were moved out
   module _ (r : Token V C) (e : Emptied set id.slots q r) where
@@ -206,7 +207,7 @@ module _ {V C : Type 0} (holds : List C → List C → Type 0) (id : TableId) (p
           (λ h. row-here id.slots (λ y. cond (gone y) None (counted q.me.0 y)) None u h ∙ two (bit_at (bit_not w64 (bit_and set (bit_not w64 found))) u) (λ x. cond (x == 0) None (counted q.me.0 u) ≡ held p u) (bit_at-lt (bit_not w64 (bit_and set (bit_not w64 found))) u)
           (λ z. sym (free u (cleared found set f-fits s-fits u (omega arith) z).0))
           (λ o. held-else u (lost-bits u h o)))
-          (λ h. let k : id.slots ≤ u = omega arith in row-past 0 id.slots (λ y. cond (gone y) None (counted q.me.0 y)) None u k ∙ sym (past-end v.counts u None (let l = seated.placed.counts in omega arith)))
+          (λ h. let k : id.slots ≤ u = omega arith in row-past 0 id.slots (λ y. cond (gone y) None (counted q.me.0 y)) None u k ∙ sym (get_or_past v.counts u None (let l = seated.placed.counts in omega arith)))
 
       back-place : (u : ℕ) → place r.me.0 u ≡ Vacant
       back-place u = ap (λ (x : View C). place x u) r-view ∙ dite (dec_lt u id.slots)

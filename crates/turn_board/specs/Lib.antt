@@ -1,8 +1,3 @@
-pub use Rattle.turn_steps.specs.Limits
-pub use Rattle.turn_steps.specs.Seated
-pub use Rattle.turn_steps.specs.Maps
-pub use Rattle.turn_steps.specs.Tied
-pub use Rattle.turn_steps.specs.Passes
 pub mod Hands
 pub mod Lending
 pub mod Changes
@@ -11,3 +6,8 @@ pub mod Openings
 pub mod Closings
 pub mod Boards
 pub mod States
+pub use Rattle.turn_steps.specs.Limits
+pub use Rattle.turn_steps.specs.Seated
+pub use Rattle.turn_steps.specs.Maps
+pub use Rattle.turn_steps.specs.Tied
+pub use Rattle.turn_steps.specs.Passes

@@ -1,6 +1,7 @@
 -- Rows, overlays and cases.
 use Rattle.std.proofs.lemmas.Option.{none-some, same_Some, slice_get-map}
 use Rattle.std.proofs.Common.{◌≡◌, ◌≢◌, ℕ, zero, suc, ◌+◌, ◌<◌, ◌≤◌, ◌⊎◌, inl, inr, ⊎_elim, ◌++◌, List, [], ◌∷◌, length, map, get_or, set, Bool, true, false, cond, refl, sym, ap, ◌∙◌, arith}
+use Rattle.std.proofs.lemmas.List.{get_or_past}
 use Rattle.std.specs.Prelude.{Option, Some, None, option_map, slice_get}
 use mathlib.Core.Logic.{dite}
 use native.Mathlib.Decide.{dec_lt}
@@ -87,11 +88,6 @@ module _ {A : Type 0} where
   set-set (x ∷ xs) zero a b = refl
   set-set (x ∷ xs) (suc i) a b = ap (λ (l : List A). x ∷ l) (set-set xs i a b)
 
-  pub past-end : (l : List A) (j : ℕ) (d : A) → length l ≤ j → get_or l j d ≡ d
-  past-end [] j d h = refl
-  past-end (x ∷ xs) zero d h = absurd (omega arith)
-  past-end (x ∷ xs) (suc j) d h = past-end xs j d (omega arith)
-
   module _ (n : ℕ) (l : List A) (d : A) (test : ℕ → Bool) (x : ℕ → A) where
     pub changed-here : (u : ℕ) → u < n → test u ≡ true → get_or (row 0 n (λ t. cond (test t) (x t) (get_or l t d))) u d ≡ x u
     changed-here u h e = row-here n (λ t. cond (test t) (x t) (get_or l t d)) d u h ∙ ap (λ (b : Bool). cond b (x u) (get_or l u d)) e
@@ -99,7 +95,7 @@ module _ {A : Type 0} where
     pub changed-else : (u : ℕ) → length l ≡ n → test u ≡ false → get_or (row 0 n (λ t. cond (test t) (x t) (get_or l t d))) u d ≡ get_or l u d
     changed-else u long e = dite (dec_lt u n)
         (λ h. row-here n (λ t. cond (test t) (x t) (get_or l t d)) d u h ∙ ap (λ (b : Bool). cond b (x u) (get_or l u d)) e)
-        (λ h. let g : n ≤ u = omega arith in row-past 0 n (λ t. cond (test t) (x t) (get_or l t d)) d u g ∙ sym (past-end l u d (let k : length l ≤ u = omega arith in k)))
+        (λ h. let g : n ≤ u = omega arith in row-past 0 n (λ t. cond (test t) (x t) (get_or l t d)) d u g ∙ sym (get_or_past l u d (let k : length l ≤ u = omega arith in k)))
 
   pub get-snoc : (l : List A) (a b : A) (j : ℕ) → slice_get (l ++ a ∷ []) j ≡ Some b → (slice_get l j ≡ Some b) ⊎ ((j ≡ length l) × (a ≡ b))
   get-snoc [] a b zero e = inr (refl, same_Some a b e)

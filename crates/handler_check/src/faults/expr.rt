@@ -3,7 +3,7 @@
 ghost use Rattle.std.specs.Prelude.{ℕ, List};
 ghost use Rattle.std.specs.List.{flat_map};
 ghost use Rattle.syntax_trees.specs.declared.file.TableDecl.{TableDecl};
-ghost use Rattle.check_rules.specs.Marks.{atom_marks, call_marks, cond_marks, expr_marks, right_marks};
+ghost use Rattle.syntax_trees.specs.Marks.{atom_marks, call_marks, cond_marks, expr_marks, right_marks};
 ghost use Rattle.check_rules.specs.Scan.{Found, of_variables, scan};
 
 use super::names::{count_arguments, find_table, see};

@@ -2,9 +2,9 @@
 
 ghost use Rattle.std.specs.Prelude.{◌≡◌, ◌++◌, ◌∷◌, [], OnOk};
 ghost use Rattle.handler_check.specs.Shown.{shown};
-ghost use Rattle.check_rules.specs.Marks.{declared, marks};
+ghost use Rattle.syntax_trees.specs.Marks.{declared, marks};
 ghost use Rattle.check_rules.specs.Scan.{Found, of_variables, scan};
-ghost use Rattle.check_rules.specs.Source.{Finish, block_source, stmt_source};
+ghost use Rattle.syntax_trees.specs.Source.{Finish, block_source, stmt_source};
 
 use super::expr::{find_in_call, find_in_cond, find_in_right, find_in_values};
 use super::names::{count_turns, declare_variable, see};

@@ -1,7 +1,7 @@
 use Rattle.std.proofs.Common.{map, take}
 use Rattle.std.specs.List.{AllByRecursion}
 use Rattle.symbolic_ops.specs.Instantiate.{symbol_in}
-use Rattle.commute_tables.specs.Symbols.{CommutesWith}
+use Rattle.symbolic_ops.specs.Commuting.{CommutesWith}
 use Rattle.admission_book.proofs.site_symbols.first_at_site.Given as goal
 
 abbrev pub invariant-loop-s : goal.invariant-loop-s

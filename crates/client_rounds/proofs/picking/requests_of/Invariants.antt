@@ -1,6 +1,6 @@
 -- While numbers are listed: those of the arrivals so far are there.
 use Rattle.std.proofs.Common.{◌≡◌, ◌≤◌, length, take, vec_capacity}
-use Rattle.client_sheet.specs.Numbers.{numbers_of}
+use Rattle.client_feed.specs.Numbers.{numbers_of}
 use Rattle.client_rounds.proofs.picking.requests_of.Given as goal
 
 abbrev pub invariant-loop-arrival : goal.invariant-loop-arrival

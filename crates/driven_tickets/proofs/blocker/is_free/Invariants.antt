@@ -1,6 +1,6 @@
 use Rattle.std.proofs.Common.{take}
 use Rattle.std.specs.List.{AllByRecursion}
-use Rattle.commute_tables.specs.Symbols.{CommutesWith}
+use Rattle.symbolic_ops.specs.Commuting.{CommutesWith}
 use Rattle.driven_tickets.proofs.blocker.is_free.Given as goal
 
 abbrev pub invariant-loop-s : goal.invariant-loop-s

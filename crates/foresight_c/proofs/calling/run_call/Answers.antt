@@ -1,4 +1,4 @@
-use Rattle.serve_words.specs.declared.command.Command.TheVariants as command
+use Rattle.serve_faults.specs.Command.TheVariants as command
 use Rattle.foresight_c.specs.declared.calling.Call.TheVariants.{Check, Show, Ranges, Audit, Serve, Dump}
 use Rattle.foresight_c.proofs.Endings.{of_call, ran, ran_alone}
 use Rattle.foresight_c.proofs.calling.run_call.Goals as goal

@@ -1,6 +1,6 @@
 -- The session from its opening to the last line.
 use Rattle.std.proofs.Common.{rules, ◌∙◌}
-use Rattle.session_limits.specs.Limits.{max_requests}
+use Rattle.session_values.specs.Limits.{max_requests}
 use Rattle.hall_writing.proofs.Sessions.{ready, leave, few_replies, keeps_start}
 use Rattle.hall_writing.proofs.Closing.{few_left, within_left, written}
 use Rattle.hall_writing.proofs.serving.serve_and_write.Goals as goal

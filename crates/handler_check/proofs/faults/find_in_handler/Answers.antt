@@ -2,7 +2,7 @@ use Rattle.std.proofs.Common.{◌≡◌, [], ◌∙◌}
 use Rattle.std.proofs.lemmas.Result.{err_from_is_err_and}
 use Rattle.handler_check.proofs.Scans.{later, stops, exits}
 use Rattle.handler_check.proofs.Walks.{handler_parts, handler_names}
-use Rattle.check_rules.specs.Marks.{param_names}
+use Rattle.syntax_trees.specs.Marks.{param_names}
 use Rattle.handler_check.proofs.faults.find_in_handler.Goals as goal
 
 pub returns-in_err-names-clause-found : goal.returns-in_err-names-clause-found

@@ -1,6 +1,6 @@
 use Rattle.std.proofs.Common.{◌≡◌, ◌++◌, [], ℕ, List, drop}
 use Rattle.syntax_trees.specs.declared.file.TableDecl.{TableDecl}
-use Rattle.check_rules.specs.Marks.{param_marks, param_names}
+use Rattle.syntax_trees.specs.Marks.{param_marks, param_names}
 use Rattle.check_rules.specs.Scan.{of_variables, scan}
 use Rattle.handler_check.proofs.faults.find_in_params.Given as goal
 

@@ -1,6 +1,6 @@
 use Rattle.std.proofs.Common.{◌≡◌, ◌++◌, [], drop, map}
 use Rattle.syntax_trees.specs.declared.file.TableDecl.{TableDecl}
-use Rattle.check_rules.specs.Marks.{table_marks}
+use Rattle.syntax_trees.specs.Marks.{table_marks}
 use Rattle.check_rules.specs.Scan.{of_tables, scan}
 use Rattle.handler_check.proofs.faults.find_in_tables.Given as goal
 

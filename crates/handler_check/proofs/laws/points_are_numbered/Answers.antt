@@ -1,6 +1,6 @@
 use Rattle.handler_check.specs.Resolved.{table_names, variables_of}
 use Rattle.handler_check.proofs.Numbers.{numbered, counted}
-use Rattle.check_rules.specs.Source.{block_source}
+use Rattle.syntax_trees.specs.Source.{block_source}
 use Rattle.handler_check.proofs.laws.points_are_numbered.Goals as goal
 
 pub returns : goal.returns

@@ -2,7 +2,7 @@ use Rattle.std.proofs.Common.{◌≡◌, ◌+◌, drop}
 use Rattle.handler_check.specs.Resolved.{code_of, points_of}
 use Rattle.handler_check.proofs.Resolving.{onto}
 use Rattle.syntax_trees.proofs.Sizes.{stmt_size, block_size}
-use Rattle.check_rules.specs.Source.{block_source}
+use Rattle.syntax_trees.specs.Source.{block_source}
 use Rattle.handler_check.proofs.resolution.+resolution.Given as goal
 
 abbrev pub decreases-resolve_stmt : goal.decreases-resolve_stmt

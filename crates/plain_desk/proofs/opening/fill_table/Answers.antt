@@ -1,8 +1,8 @@
 use Rattle.std.proofs.Common.{◌≡◌, ℕ, ◌+◌, ◌-◌, List, Some, map, slice_get, sym, ap, ◌∙◌, arith}
 use Rattle.session_values.specs.declared.kind.TableKind.{TableKind}
-use Rattle.opening_tables.specs.Opening.{Pair, entries_of}
+use Rattle.session_journal.specs.Opening.{Pair, entries_of}
+use Rattle.session_journal.proofs.Filling.{one_more, none_yet, holding}
 use Rattle.session_values.specs.Tables.{kind_of}
-use Rattle.plain_desk.proofs.Filling.{holding, none_yet, one_more}
 use Rattle.plain_desk.proofs.opening.fill_table.Goals as goal
 
 pub loop-done-init : goal.loop-done-init

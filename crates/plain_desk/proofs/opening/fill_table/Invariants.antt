@@ -1,7 +1,7 @@
 use Rattle.std.proofs.Common.{◌≡◌, ◌-◌, Some, map, slice_get}
-use Rattle.opening_tables.specs.Opening.{entries_of}
+use Rattle.session_journal.specs.Opening.{entries_of}
+use Rattle.session_journal.proofs.Filling.{holding}
 use Rattle.session_values.specs.Tables.{kind_of}
-use Rattle.plain_desk.proofs.Filling.{holding}
 use Rattle.plain_desk.proofs.opening.fill_table.Given as goal
 
 -- the last entries have entered

@@ -1,5 +1,5 @@
 use Rattle.std.proofs.Common.{◌≡◌, take}
-use Rattle.opening_tables.specs.Opening.{tables_of}
+use Rattle.session_journal.specs.Opening.{tables_of}
 use Rattle.plain_desk.proofs.opening.fill_tables.Given as goal
 
 -- the first tables are filled

@@ -3,7 +3,6 @@ use Rattle.session_values.specs.declared.reply.Reply.{Reply}
 use Rattle.session_journal.specs.Script.{Meaning}
 use Rattle.handler_machine.specs.Scripts.{meaning}
 use Rattle.plain_serving.specs.Serving.{AreServed}
-use Rattle.plain_serving.specs.Tables.{held}
 use Rattle.plain_serving.proofs.Served.{none_served, served_next}
 use Rattle.plain_serving.proofs.running.run_tickets.Goals as goal
 
@@ -23,7 +22,7 @@ loop-t-preserved c =
     let m : Meaning = meaning c.args.scripts.now in
     let inv = c.loop-t.invariant in
     record {
-      served = subst (λ (rs : List Reply). AreServed m (c.loop-t.t + 1) rs (held c.run_ticket.new.who.parts.items)) (sym c.push_reserved.ensures.items)
+      served = subst (λ (rs : List Reply). AreServed m (c.loop-t.t + 1) rs c.run_ticket.new.who.tables) (sym c.push_reserved.ensures.items)
           (served_next m c.loop-t.t c.loop-t.tables c.run_ticket.new.who c.in_ok-reply.reply c.loop-t.replies.items c.requires.script inv.served c.in_ok-reply.ensures.runs c.in_ok-reply.ensures.stays.same_shape);
       room = omega (arith, inv.room, c.push_reserved.ensures.capacity);
     }
@@ -31,4 +30,4 @@ loop-t-preserved c =
 pub returns : goal.returns
 returns c =
     let all : c.loop-t.t ≡ (meaning c.args.scripts.now).requests = omega (arith, c.loop-t-test.false, c.loop-t.auto.t-end, c.requests-t-end.ensures.requests) in
-    subst (λ (n : ℕ). AreServed (meaning c.args.scripts.now) n c.loop-t.replies.items (held c.loop-t.tables.parts.items)) all c.loop-t.invariant.served
+    subst (λ (n : ℕ). AreServed (meaning c.args.scripts.now) n c.loop-t.replies.items c.loop-t.tables.tables) all c.loop-t.invariant.served

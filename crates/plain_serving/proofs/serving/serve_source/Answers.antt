@@ -1,5 +1,5 @@
 use Rattle.std.proofs.Common.{ℕ, List, refl, rules, subst}
-use Rattle.session_limits.specs.Limits.{max_input}
+use Rattle.session_values.specs.Limits.{max_input}
 use Rattle.serve_faults.specs.Changes.{change}
 use Rattle.serve_faults.specs.Ways.{HasRead}
 use Rattle.plain_serving.proofs.Runs.{served_alone, unread_alone}

@@ -1,9 +1,9 @@
 use Rattle.std.proofs.Common.{◌≡◌, ◌≤◌, List, length, arith, subst, take}
 use Rattle.std.proofs.lemmas.List.{take_all}
 use Rattle.std.specs.List.{AllByRecursion}
-use Rattle.opening_tables.specs.Opening.{AreApart, Pair}
-use Rattle.hall_rule.specs.declared.part.Part.{Part}
-use Rattle.table_dump.specs.Dumped.{HaveRoom}
+use Rattle.session_journal.specs.Opening.{AreApart, Pair}
+use Rattle.shard_tables.specs.declared.part.Part.{Part}
+use Rattle.table_text.specs.Dumped.{HaveRoom}
 use Rattle.plain_serving.specs.Tables.{lists_in}
 use Rattle.plain_serving.proofs.Dumping.{all_more, more_room}
 use Rattle.plain_serving.proofs.writing.most_entries.Goals as goal

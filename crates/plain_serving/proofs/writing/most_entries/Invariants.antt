@@ -1,7 +1,7 @@
 use Rattle.std.proofs.Common.{take}
 use Rattle.std.specs.List.{AllByRecursion}
-use Rattle.opening_tables.specs.Opening.{AreApart}
-use Rattle.table_dump.specs.Dumped.{HaveRoom}
+use Rattle.session_journal.specs.Opening.{AreApart}
+use Rattle.table_text.specs.Dumped.{HaveRoom}
 use Rattle.plain_serving.specs.Tables.{lists_in}
 use Rattle.plain_serving.proofs.writing.most_entries.Given as goal
 

@@ -1,4 +1,4 @@
-use Rattle.shard_tables.specs.Shards.{map_shard}
+use Rattle.range_tables.specs.Shards.{map_shard}
 use Rattle.range_session.proofs.Taken.{size_after}
 use Rattle.range_session.proofs.desk.ask.Goals as goal
 

@@ -1,5 +1,5 @@
 use Rattle.std.proofs.Common.{ℕ, ◌+◌, length, arith}
-use Rattle.opening_tables.specs.Opening.{entries_of}
+use Rattle.session_journal.specs.Opening.{entries_of}
 use Rattle.session_journal.specs.Script.{Meaning, room}
 use Rattle.serve_core.proofs.FinalLemmas.{most_more}
 use Rattle.serve_core.proofs.served.most_entries.Goals as goal

@@ -1,5 +1,5 @@
 use Rattle.std.proofs.Common.{ℕ, ◌+◌, ◌<◌, ◌≤◌, length}
-use Rattle.opening_tables.specs.Opening.{entries_of}
+use Rattle.session_journal.specs.Opening.{entries_of}
 use Rattle.session_journal.specs.Script.{room}
 use Rattle.serve_core.proofs.served.most_entries.Given as goal
 

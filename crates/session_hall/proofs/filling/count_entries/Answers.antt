@@ -1,7 +1,7 @@
-use Rattle.std.proofs.Common.{◌≡◌, ◌+◌, List, drop, ap, arith}
-use Rattle.opening_tables.specs.Opening.{Pair, entries_of}
+use Rattle.std.proofs.Common.{◌≡◌, ◌+◌, List, drop, ap, arith, drop_of_length-le}
+use Rattle.session_journal.specs.Opening.{Pair, entries_of}
 use Rattle.hall_rule.specs.Filling.{count_in}
-use Rattle.hall_rule.proofs.Filling.{count_elsewhere, count_here, count_length, drop_all}
+use Rattle.hall_rule.proofs.Filling.{count_elsewhere, count_here, count_length}
 use Rattle.session_hall.proofs.filling.count_entries.Goals as goal
 use Rattle.session_hall.proofs.filling.count_entries.Goals.{then-shard_of-shard, else-shard_of-shard}
 
@@ -26,5 +26,5 @@ loop-i-preserved g c =
 pub returns : goal.returns
 returns g c =
     let es : List Pair = entries_of (g.S.Script.meaning c.args.script.now).opened c.args.table in
-    let none : count_in c.args.shards c.args.shard (drop c.loop-i.i es) ≡ 0 = ap (count_in c.args.shards c.args.shard) (drop_all es c.loop-i.i (omega (arith, c.loop-i-test.false, c.opening_len-i-end.ensures))) in
+    let none : count_in c.args.shards c.args.shard (drop c.loop-i.i es) ≡ 0 = ap (count_in c.args.shards c.args.shard) (drop_of_length-le es {i = c.loop-i.i} (omega (arith, c.loop-i-test.false, c.opening_len-i-end.ensures))) in
     omega (arith, none, c.loop-i.invariant)

@@ -1,5 +1,5 @@
 use Rattle.std.proofs.Common.{◌+◌, ◌≡◌, drop}
-use Rattle.opening_tables.specs.Opening.{entries_of}
+use Rattle.session_journal.specs.Opening.{entries_of}
 use Rattle.hall_rule.specs.Filling.{count_in}
 use Rattle.session_hall.proofs.filling.count_entries.Given as goal
 

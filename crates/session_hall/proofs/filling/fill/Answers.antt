@@ -1,10 +1,10 @@
 use Rattle.std.proofs.Common.{◌≡◌, ◌+◌, ◌-◌, ◌<◌, ℕ, List, drop, slice_get, refl, sym, ap, ◌∙◌, arith}
-use Rattle.opening_tables.specs.Opening.{Pair, container_of, entries_of}
+use Rattle.session_journal.specs.Opening.{Pair, container_of, entries_of}
 use Rattle.session_values.specs.Tables.{size_of}
 use Rattle.shard_tables.specs.Parts.{part}
 use Rattle.shard_tables.specs.Shards.{ShardView}
 use Rattle.hall_rule.specs.Filling.{count_in}
-use Rattle.hall_rule.specs.Shards.{shard_view}
+use Rattle.shard_tables.specs.Either.{shard_view}
 use Rattle.session_hall.proofs.Filled.{entered, fits_more, none_entered, passed}
 use Rattle.session_hall.proofs.filling.fill.Goals as goal
 use Rattle.session_hall.proofs.filling.fill.Goals.{then-shard_of-shard, else-shard_of-shard}

@@ -1,7 +1,7 @@
 use Rattle.std.proofs.Common.{◌-◌, ◌≡◌, drop}
-use Rattle.opening_tables.specs.Opening.{container_of, entries_of}
+use Rattle.session_journal.specs.Opening.{container_of, entries_of}
 use Rattle.shard_tables.specs.Parts.{part}
-use Rattle.hall_rule.specs.Shards.{shard_view}
+use Rattle.shard_tables.specs.Either.{shard_view}
 use Rattle.session_hall.proofs.filling.fill.Given as goal
 
 -- the last entries have entered

@@ -1,5 +1,5 @@
 use Rattle.std.proofs.Common.{List, length, ap, arith}
-use Rattle.opening_tables.specs.Opening.{Pair}
+use Rattle.session_journal.specs.Opening.{Pair}
 use Rattle.session_hall.proofs.Listed.{apart_next, count_next, no_more, none_apart, none_sized, sizes_next}
 use Rattle.session_hall.proofs.listing.count_entries.Goals as goal
 

@@ -1,7 +1,8 @@
 use Rattle.std.proofs.Common.{◌≡◌, ◌+◌, drop, length}
 use Rattle.std.specs.List.{AllByRecursion}
-use Rattle.opening_tables.specs.Opening.{AreApart}
-use Rattle.hall_rule.specs.Listing.{all_entries, all_sizes, entries_in}
+use Rattle.session_journal.specs.Opening.{AreApart}
+use Rattle.shard_tables.specs.Either.{entries_in}
+use Rattle.hall_rule.specs.Listing.{all_entries, all_sizes}
 use Rattle.session_hall.proofs.listing.count_entries.Given as goal
 
 -- what is counted, and what is still to be counted

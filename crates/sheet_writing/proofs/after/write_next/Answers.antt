@@ -1,6 +1,7 @@
 -- The lines that are next are those of the replies, and then none is next.
+use Rattle.std.proofs.lemmas.Bool.{not-false}
 use Rattle.sheet_writing.specs.Sheets.{progress}
-use Rattle.sheet_writing.proofs.Sheets.{keeps_behind, kept_behind, not_false, stops_behind, writes_next}
+use Rattle.sheet_writing.proofs.Sheets.{keeps_behind, kept_behind, stops_behind, writes_next}
 use Rattle.sheet_writing.proofs.after.write_next.Goals as goal
 
 pub returns-clause-on : goal.returns-clause-on
@@ -13,7 +14,7 @@ pub returns-clause-stops : goal.returns-clause-stops
 returns-clause-stops g c _ ok =
     let w = c.write_ready-whole in
     let far = w.ensures.onward in
-    stops_behind c.args.sheet.now.pending w.new.pending far.0 far.1 far.2 (w.ensures.next (not_false w.result ok))
+    stops_behind c.args.sheet.now.pending w.new.pending far.0 far.1 far.2 (w.ensures.next (not-false w.result ok))
 
 pub returns-clause-keeps : goal.returns-clause-keeps
 returns-clause-keeps g c replies keeps =

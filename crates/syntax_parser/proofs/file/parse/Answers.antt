@@ -1,4 +1,5 @@
-use Rattle.std.proofs.Common.{◌≡◌, ◌≤◌, ℕ, List, length, None, Some, Result, Ok, Err, sym, ap, ◌∙◌, subst, arith}
+use Rattle.std.proofs.Common.{◌≡◌, ◌≤◌, ℕ, List, length, None, Some, sym, ap, ◌∙◌, subst, arith}
+use Rattle.std.proofs.lemmas.Result.{on_ok_weaker}
 use Rattle.std.specs.Prelude.{◌≢◌, IfOk, IfErr, OnOk}
 use Rattle.session_values.specs.Names.{Begins}
 use Rattle.syntax_tokens.specs.declared.word.Word.{Word}
@@ -14,11 +15,6 @@ use Rattle.syntax_parser.proofs.file.parse.Goals as goal
 pub whole-found-requires-clause-few : goal.whole-found-requires-clause-few
 whole-found-requires-clause-few c =
     omega (arith, ap length c.over.ensures.words, words_few c.args.names.now c.args.source.now, c.requires.short)
-
--- what follows from a success
-so : {T E P Q : Type 0} (r : Result T E) → (P → Q) → OnOk r P → OnOk r Q
-so (Ok v) f h = f h
-so (Err e) f h = tt
 
 pub returns : goal.returns
 returns c =
@@ -39,6 +35,6 @@ returns c =
     (subst (λ (ws : List Word). IfOk r (λ file. IsFile ws file)) over.words read.ok)
     (subst (λ (ws : List Word). OnOk r (fault (length source) whole_file 0 ws ≡ None)) over.words (subst (λ (n : ℕ). OnOk r (fault n whole_file 0 c.over.result.words ≡ None)) over.end read.within))
     (subst (λ (ws : List Word). IfErr r (λ e. e ≢ NoMemory → fault (length source) whole_file 0 ws ≡ Some e)) over.words (subst (λ (n : ℕ). IfErr r (λ e. e ≢ NoMemory → fault n whole_file 0 c.over.result.words ≡ Some e)) over.end read.exact))
-    (so r (λ none. left.all none ∙ all) read.finished)
+    (on_ok_weaker r (λ none. left.all none ∙ all) read.finished)
     (two_fronts old new (names_of old source) (names_begin old source) front grown)
     (omega (arith, begins_length new (names_of old source) front, names_few old source)))

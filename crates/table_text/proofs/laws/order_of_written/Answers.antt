@@ -1,4 +1,4 @@
-use Rattle.table_text.proofs.Order.{written_cmp_exact, written_cmp_total}
+use Rattle.table_text.proofs.WrittenOrder.{written_cmp_exact, written_cmp_total}
 use Rattle.table_text.proofs.laws.order_of_written.Goals as goal
 
 pub returns-clause-total : goal.returns-clause-total

@@ -1,12 +1,13 @@
 use Rattle.std.proofs.Common.{sym, ap, ◌∙◌, subst, length, drop, get_or}
+use Rattle.std.proofs.lemmas.Option.{slice_get-get_or}
 use Rattle.std.specs.Prelude.{slice_get}
 use Rattle.turn_board.specs.Boards.{Ends}
-use Rattle.tests_threads.proofs.Counting.{as-get, front-of, read-as}
+use Rattle.tests_threads.proofs.Counting.{front-of, read-as}
 use Rattle.tests_threads.proofs.callers.work_each.Goals as goal
 
 pub work_all-requires-clause-seats : goal.work_all-requires-clause-seats
 work_all-requires-clause-seats g c = λ κs _ i d h. let l = c.as_mut_slice.result.now in
-    c.requires.seats i (get_or l i d) (ap (λ y. slice_get y i) (sym c.as_mut_slice.ensures.value) ∙ as-get l i d h)
+    c.requires.seats i (get_or l i d) (ap (λ y. slice_get y i) (sym c.as_mut_slice.ensures.value) ∙ slice_get-get_or l i d h)
 
 pub returns-clause-each : goal.returns-clause-each
 returns-clause-each g c = λ i s e.

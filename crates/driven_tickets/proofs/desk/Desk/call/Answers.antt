@@ -1,4 +1,5 @@
 use Rattle.std.proofs.Common.{◌≡◌, Bool, true, false, List, refl, sym, ap, ◌∙◌, subst}
+use Rattle.std.proofs.lemmas.Bool.{both_ways}
 use Rattle.session_values.specs.Kinds.{is_adding}
 use Rattle.session_values.specs.Tables.{Tables}
 use Rattle.symbolic_ops.specs.declared.symbol.Symbol.{Symbol}
@@ -15,9 +16,6 @@ use Rattle.driven_tickets.proofs.Keeping.{Acted, called}
 use Rattle.driven_tickets.proofs.Tickets.{Opened, open_at}
 use Rattle.driven_tickets.proofs.desk.Desk.call.Goals as goal
 
-both : (b : Bool) → b ≡ true → b ≡ false → ⊥
-both b p q = cc
-
 -- what alone may want memory
 wants : (b : Bool) → (b ≡ false → false ≡ true) → b ≡ true
 wants true sure = refl
@@ -33,7 +31,7 @@ returns-then-not-fits c =
     let P : DeskView → Type 0 = λ x. FitsDesk x c.args.op → ⊥ in
     let Q : DeskView → Type 0 = λ x. IsOpen x t in (
       refl,
-      subst P c.self.view_is (λ h. both c.fits.result (c.fits.ensures.1 h) c.if-not-fits.true),
+      subst P c.self.view_is (λ h. both_ways c.fits.result c.if-not-fits.true (c.fits.ensures.1 h)),
       subst Q c.self.view_is (record { list = one.list; is = one.is }),
     )
 
@@ -52,7 +50,7 @@ returns-then-not-is_declared c =
       subst Q c.self.view_is (record {
         list = r.declared.symbols;
         is = found d.tickets t c.in-Some.place r at c.index.ensures;
-        missing = λ m. both c.is_declared.result (c.is_declared.ensures.1 (subst M (sym c.symbols.ensures.symbols) m)) c.if-not-is_declared.true;
+        missing = λ m. both_ways c.is_declared.result c.if-not-is_declared.true (c.is_declared.ensures.1 (subst M (sym c.symbols.ensures.symbols) m));
       }),
     )
 

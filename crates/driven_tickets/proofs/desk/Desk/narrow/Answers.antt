@@ -1,4 +1,5 @@
-use Rattle.std.proofs.Common.{◌≡◌, Bool, true, false, List, set, refl, ap, subst}
+use Rattle.std.proofs.Common.{List, set, refl, ap, subst}
+use Rattle.std.proofs.lemmas.Bool.{both_ways}
 use Rattle.driven_tickets.specs.declared.history.History.{History}
 use Rattle.driven_tickets.specs.declared.open_ticket.OpenTicket.{OpenTicket}
 use Rattle.driven_tickets.specs.Acts.{Narrows}
@@ -22,12 +23,9 @@ returns-then-not-covered c =
       subst P c.self.view_is (record {
         list = r.declared.symbols;
         is = found d.tickets t i r at c.index.ensures;
-        uncovered = λ h. both c.covered.result (c.covered.ensures.1 h) c.if-not-covered.true;
+        uncovered = λ h. both_ways c.covered.result c.if-not-covered.true (c.covered.ensures.1 h);
       }),
     )
-  where
-    both : (b : Bool) → b ≡ true → b ≡ false → ⊥
-    both b p q = cc
 
 pub invariant_of-self : goal.invariant_of-self
 invariant_of-self c =

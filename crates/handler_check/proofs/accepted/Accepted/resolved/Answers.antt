@@ -1,7 +1,7 @@
 use Rattle.std.proofs.Common.{◌≡◌, List, ℕ, length, slice_get, Some, ap, ◌∙◌, subst, arith}
 use Rattle.syntax_trees.specs.declared.file.File.{File}
 use Rattle.syntax_trees.specs.declared.file.Handler.{Handler}
-use Rattle.check_rules.specs.Bounds.{KeepsBounds}
+use Rattle.syntax_trees.specs.Bounds.{KeepsBounds}
 use Rattle.handler_check.specs.Checking.{IsAccepted}
 use Rattle.handler_check.specs.Resolved.{IsResolved, table_names}
 use Rattle.handler_check.proofs.Codes.{all_within}

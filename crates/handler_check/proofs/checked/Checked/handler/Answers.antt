@@ -1,17 +1,18 @@
 use Rattle.std.proofs.Common.{◌≡◌, length, slice_get, Some, ap, subst, arith}
+use Rattle.std.proofs.lemmas.Slice.Zip.{AllZip-long}
 use Rattle.syntax_trees.specs.declared.file.File.{File}
 use Rattle.syntax_trees.specs.declared.file.Handler.{Handler}
-use Rattle.check_rules.specs.Bounds.{KeepsBounds}
+use Rattle.syntax_trees.specs.Bounds.{KeepsBounds}
 use Rattle.handler_check.specs.Checking.{IsAccepted}
 use Rattle.handler_check.specs.Resolved.{IsResolved, table_names}
 use Rattle.handler_check.proofs.Codes.{all_within}
-use Rattle.handler_check.proofs.Resolving.{IsHandlerAt, handler_at, zip_get, zip_length}
+use Rattle.handler_check.proofs.Resolving.{IsHandlerAt, handler_at, zip_get}
 use Rattle.handler_check.proofs.checked.Checked.handler.Goals as goal
 
 pub get-requires : goal.get-requires
 get-requires c =
     let f = c.self.inside.file in
-    let same = zip_length (IsResolved (table_names f)) f.handlers c.self.inside.handlers c.self.invariant.resolved in
+    let same = AllZip-long (IsResolved (table_names f)) f.handlers c.self.inside.handlers c.self.invariant.resolved in
     let view : f ≡ c.args.self.now = c.self.view_is in
     let long : length f.handlers ≡ length (c.args.self.now).handlers = ap (λ (x : File). length x.handlers) view in
     omega arith

@@ -1,19 +1,20 @@
 use Rattle.std.proofs.Common.{◌≡◌, ◌∙◌, length, ap, subst, arith}
+use Rattle.std.proofs.lemmas.Slice.Zip.{AllZip-long}
 use Rattle.syntax_trees.specs.declared.file.File.{File}
 use Rattle.check_meaning.specs.Bounds.{work_bound}
-use Rattle.check_rules.specs.Bounds.{KeepsBounds}
+use Rattle.syntax_trees.specs.Bounds.{KeepsBounds}
 use Rattle.handler_check.specs.Checked.{AreBoundsOf}
 use Rattle.handler_check.specs.Checking.{IsAccepted}
 use Rattle.handler_check.specs.Resolved.{IsResolved, code_at, table_names}
 use Rattle.handler_check.proofs.Codes.{all_within}
-use Rattle.handler_check.proofs.Resolving.{bounds_at, zip_length}
+use Rattle.handler_check.proofs.Resolving.{bounds_at}
 use Rattle.handler_check.proofs.checked.Checked.work_bound.Goals as goal
 
 pub get-requires : goal.get-requires
 get-requires c =
     let f = c.self.inside.file in
-    let first = zip_length (IsResolved (table_names f)) f.handlers c.self.inside.handlers c.self.invariant.resolved in
-    let second = zip_length AreBoundsOf c.self.inside.handlers c.self.inside.bounds c.self.invariant.counted in
+    let first = AllZip-long (IsResolved (table_names f)) f.handlers c.self.inside.handlers c.self.invariant.resolved in
+    let second = AllZip-long AreBoundsOf c.self.inside.handlers c.self.inside.bounds c.self.invariant.counted in
     let view : f ≡ c.args.self.now = c.self.view_is in
     let long : length f.handlers ≡ length (c.args.self.now).handlers = ap (λ (x : File). length x.handlers) view in
     omega arith

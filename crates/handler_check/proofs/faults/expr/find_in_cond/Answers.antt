@@ -1,5 +1,5 @@
 use Rattle.std.proofs.lemmas.Result.{err_from_is_err_and}
-use Rattle.check_rules.specs.Marks.{expr_marks}
+use Rattle.syntax_trees.specs.Marks.{expr_marks}
 use Rattle.check_rules.specs.Scan.{of_variables}
 use Rattle.handler_check.proofs.Scans.{expr_declares, goes_on, stops, exits}
 use Rattle.handler_check.proofs.Walks.{silent_both}

@@ -1,7 +1,7 @@
 use Rattle.std.proofs.Common.{◌++◌, [], ◌∷◌, List, ℕ, append_assoc, refl, sym, ap, ◌∙◌, rules}
 use Rattle.std.proofs.lemmas.Result.{err_from_is_err_and}
-use Rattle.check_rules.specs.Marks.{declared, marks}
-use Rattle.check_rules.specs.Source.{Finish, block_source, stmt_source}
+use Rattle.syntax_trees.specs.Marks.{declared, marks}
+use Rattle.syntax_trees.specs.Source.{Finish, block_source, stmt_source}
 use Rattle.handler_check.specs.Shown.{shown}
 use Rattle.handler_check.proofs.Scans.{goes_on, stops, exits, later}
 use Rattle.syntax_trees.proofs.Sizes.{member_smaller}

@@ -1,6 +1,6 @@
 use Rattle.std.proofs.Common.{rules, map, None, true, ap, ◌∙◌}
 use Rattle.session_values.specs.Tables.{kind_of}
-use Rattle.opening_tables.proofs.Openings.{opening_kinds}
+use Rattle.session_journal.proofs.Openings.{opening_kinds}
 use Rattle.plain_desk.proofs.Filling.{first_tables}
 use Rattle.plain_desk.proofs.desk.PlainDesk.new.Goals as goal
 

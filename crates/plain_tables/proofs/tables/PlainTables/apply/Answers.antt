@@ -2,7 +2,8 @@ use Rattle.std.proofs.Common.{◌≡◌, sym, ap, subst, IfOk}
 use Rattle.std.proofs.lemmas.Result.{on_ok_weaker, on_err_weaker}
 use Rattle.session_values.specs.declared.op.Op.{Op}
 use Rattle.session_values.specs.declared.value.Value.{Value}
-use Rattle.plain_tables.proofs.TableLemmas.{kinds_kept, reply_kept, written_step, written_same}
+use Rattle.session_values.proofs.KindLemmas.{kinds_kept}
+use Rattle.plain_tables.proofs.TableLemmas.{reply_kept, written_step, written_same}
 use Rattle.plain_tables.proofs.tables.PlainTables.apply.Goals as goal
 
 pub returns-clause-reply : goal.returns-clause-reply

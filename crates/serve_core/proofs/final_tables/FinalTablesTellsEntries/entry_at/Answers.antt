@@ -1,5 +1,5 @@
 use Rattle.std.proofs.Common.{◌≡◌, ◌<◌, List, length, Some, slice_get, sym, subst, arith}
-use Rattle.opening_tables.specs.Opening.{Pair}
+use Rattle.session_journal.specs.Opening.{Pair}
 use Rattle.serve_core.proofs.FinalLemmas.{final_at, final_long, shard_within}
 use Rattle.serve_core.proofs.final_tables.FinalTablesTellsEntries.entry_at.Goals as goal
 

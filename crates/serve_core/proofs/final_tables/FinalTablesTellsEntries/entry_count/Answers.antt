@@ -1,6 +1,6 @@
 use Rattle.std.proofs.Common.{◌<◌, List, length, sym, ap, ◌∙◌, arith}
 use Rattle.std.proofs.lemmas.Option.{get_or_from_slice_get}
-use Rattle.opening_tables.specs.Opening.{Pair}
+use Rattle.session_journal.specs.Opening.{Pair}
 use Rattle.serve_core.proofs.FinalLemmas.{final_at, final_long}
 use Rattle.serve_core.proofs.final_tables.FinalTablesTellsEntries.entry_count.Goals as goal
 

@@ -1,5 +1,5 @@
 use Rattle.std.proofs.Common.{List, ap, arith}
-use Rattle.hall_rule.specs.declared.part.Part.{Part}
+use Rattle.shard_tables.specs.declared.part.Part.{Part}
 use Rattle.hall_rule.specs.Listing.{all_sizes}
 use Rattle.session_hall.proofs.Listed.{are_left, sizes_small}
 use Rattle.session_hall.proofs.closed.Closed.len.Goals as goal

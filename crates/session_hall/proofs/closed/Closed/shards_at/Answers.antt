@@ -1,5 +1,5 @@
 use Rattle.std.proofs.Common.{◌*◌, ◌<◌, List, length, ap, subst, sym, arith}
-use Rattle.hall_rule.specs.declared.part.Part.{Part}
+use Rattle.shard_tables.specs.declared.part.Part.{Part}
 use Rattle.session_hall.specs.Closings.{ClosedView}
 use Rattle.session_hall.proofs.Listed.{shards_end}
 use Rattle.session_hall.proofs.closed.Closed.shards_at.Goals as goal

@@ -1,3 +1,0 @@
-pub mod NumbersBack
-pub mod ValuesBack
-pub mod WordsBack

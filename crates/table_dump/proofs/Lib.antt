@@ -1,5 +1,0 @@
-mod Apart
-mod PartText
-mod Parts
-mod Rising
-mod Waiting

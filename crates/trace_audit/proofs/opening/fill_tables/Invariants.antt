@@ -1,7 +1,0 @@
-use Rattle.std.proofs.Common.{◌≡◌, take}
-use Rattle.opening_tables.specs.Opening.{tables_of}
-use Rattle.trace_audit.proofs.opening.fill_tables.Given as goal
-
--- the first tables are filled
-abbrev pub invariant-loop-table : goal.invariant-loop-table
-invariant-loop-table g l = l.tables ≡ tables_of l.shape (take l.table (g.S.Script.meaning l.script).opened)

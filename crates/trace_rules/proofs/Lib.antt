@@ -1,0 +1,5 @@
+pub mod Allowed
+pub mod Bare
+pub mod Counting
+pub mod OneVerdict
+pub mod Serial

@@ -1,0 +1,4 @@
+pub mod Accepted
+pub mod Bare
+pub mod Traces
+pub mod Verdicts
