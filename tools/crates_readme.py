@@ -2,7 +2,7 @@
 """Makes the list of crates by layer: tools/crates_readme.py > crates/README.md.
 
 Layers and crates are those of crates.txt, in its order; what a crate is for, and where to enter it,
-are from the table of docs/MAP.md. A crate that the table lacks ends this with status 1, and so does
+are from the table of docs/MAP.md; the name of a crate with a page of its own links it. A crate that the table lacks ends this with status 1, and so does
 one of the table that is no crate.
 """
 import os
@@ -11,7 +11,11 @@ import sys
 
 HEAD = """# Crates by layer
 
-Made by `tools/crates_readme.py` from `crates.txt` and `docs/MAP.md`. The lowest layer comes first: {order}. A layer's entry crate is bold. In each crate `specs/` has the definitions that its contracts cite (read these first), `src/` the code with its contracts, `proofs/` the proofs."""
+Made by `tools/crates_readme.py` from `crates.txt` and `docs/MAP.md`. The lowest layer comes first: {order}. A layer's entry crate is bold. A crate whose name is a link has a page that says what its contracts see, what is proved of it with the clauses, what is only tested, what isn't claimed, and a use. In each crate `specs/` has the definitions that its contracts cite (read these first), `src/` the code with its contracts, `proofs/` the proofs."""
+
+
+# Crates whose page is another one's.
+SHARED = {"trace_rules": "trace_audit"}
 
 
 def rows_of(path):
@@ -38,6 +42,12 @@ def order_of(crates):
         f", except that {', '.join(later)}" if later else "")
 
 
+def linked(name):
+    """The name of a crate, which links its page if it has one, or shares one."""
+    page_of = f"{SHARED.get(name, name)}/README.md"
+    return f"[`{name}`]({page_of})" if os.path.isfile(f"crates/{page_of}") else f"`{name}`"
+
+
 def page(crates, rows):
     """The lines of the page, and the names of the crates that it has."""
     lines, names, doors = [HEAD.format(order=order_of(crates))], [], []
@@ -52,7 +62,7 @@ def page(crates, rows):
             names.append(name)
             mark = "**" if name in doors else ""
             purpose, entry = rows.get(name, ("", ""))
-            lines.append(f"| {mark}`{name}`{mark} | {purpose} | {entry} |")
+            lines.append(f"| {mark}{linked(name)}{mark} | {purpose} | {entry} |")
     return lines, names
 
 

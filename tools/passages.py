@@ -3,12 +3,15 @@
 
 No paragraph, bullet or row of a table has more than 900 characters; a file that is named in back
 quotes is there, and so are the clauses that README.md names; README.md is a page of 120 lines and
-1,500 words at most; and no document has the words of PLAIN.
+1,500 words at most; and no document has the words of PLAIN. The pages of crates are documents too, and
+tools/crate_pages.py looks at what they name.
 """
 import glob
 import os
 import re
 import sys
+
+import crate_pages
 
 LONGEST, LINES, WORDS = 900, 120, 1500
 USERS = ["README.md", "SECURITY.md", "CONTRIBUTING.md", "docs/TOUR.md", "docs/LANGUAGE.md",
@@ -50,7 +53,9 @@ def clauses(text):
 def faults():
     """What is wrong with the documents."""
     found = []
-    for name in USERS + READERS + ["CHANGELOG.md", "crates/README.md"] + glob.glob("*/README.md"):
+    pages = sorted(glob.glob("crates/*/README.md"))
+    others = ["CHANGELOG.md", "crates/README.md", *glob.glob("*/README.md")]
+    for name in USERS + READERS + pages + others:
         if not os.path.exists(name):
             continue
         with open(name, encoding="utf-8") as document:
@@ -58,7 +63,7 @@ def faults():
         for first, passage in passages(text):
             if len(passage) > LONGEST:
                 found.append(f"{name}:{first}: {len(passage)} characters")
-            if name in USERS + READERS and (said := PLAIN.search(passage)):
+            if name in USERS + READERS + pages and (said := PLAIN.search(passage)):
                 found.append(f"{name}:{first}: '{said[0]}'")
         for file in FILE.findall(text):
             path = file.split(":")[0].rstrip(".")
@@ -70,7 +75,7 @@ def faults():
             found += clauses(text)
             if text.count("\n") > LINES or len(text.split()) > WORDS:
                 found.append(f"{name}: more than {LINES} lines or {WORDS} words")
-    return found
+    return found + crate_pages.faults()
 
 
 if __name__ == "__main__":

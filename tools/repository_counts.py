@@ -11,7 +11,8 @@ import os
 import re
 import sys
 
-DOCUMENTS = ["README.md", "SECURITY.md", "CONTRIBUTING.md", *sorted(glob.glob("*/README.md"))]
+DOCUMENTS = ["README.md", "SECURITY.md", "CONTRIBUTING.md", *sorted(glob.glob("*/README.md")),
+             *sorted(glob.glob("crates/*/README.md"))]
 
 
 def files(*patterns):
