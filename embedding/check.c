@@ -1,5 +1,5 @@
 /* Answers to the bytes of standard input as `foresight check` does, without that program; with one
- * of the words show, ranges, audit, serve, dump as that command. `oracle/embedding.sh` builds and
+ * of the words show, ranges, audit, serve, dump as that command. `.ci/embedding` builds and
  * runs it. */
 #include "foresight.h"
 

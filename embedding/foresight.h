@@ -203,7 +203,8 @@ uint8_t foresight_hall_call(struct foresight_hall *hall,
     const struct foresight_operation *operation);
 
 /* Adds a symbol to what the last ticket declares: as if it might call each operation of this kind
- * with this key and this value. */
+ * with this key and this value. Its table isn't looked up: a symbol of a table that there isn't, or
+ * whose kind is of other tables, is added too, and means no operation. */
 uint8_t foresight_hall_allow(struct foresight_hall *hall,
     const struct foresight_operation *symbol);
 

@@ -1,5 +1,5 @@
 /* Bookings that two callers serve by turns, a step at a time: who asks for a seat takes it, marks
- * himself as a guest, and counts the seats. `oracle/embedding.sh` builds and runs it, and compares
+ * himself as a guest, and counts the seats. `.ci/embedding` builds and runs it, and compares
  * what it prints with `hall.stdout`. */
 #include "foresight.h"
 
