@@ -1,7 +1,7 @@
 -- What a record knows of what its ticket may still call. Only this crate's own functions cite it.
 use Rattle.std.specs.Prelude.{◌≡◌, ◌≤◌, List, [], ◌++◌, Option, Some, None, length, drop, replicate}
 use Rattle.std.specs.List.{AllByRecursion}
-use Rattle.session_limits.specs.Limits.{max_symbols, max_variables}
+use Rattle.session_values.specs.Limits.{max_symbols, max_variables}
 use Rattle.session_values.specs.declared.value.Value.{Value}
 use Rattle.session_values.specs.declared.value.Value.TheVariants.{Nil}
 use Rattle.symbolic_ops.specs.declared.symbol.Symbol.{Symbol}

@@ -1,7 +1,7 @@
 // Books.
 
 ghost use Rattle.std.specs.Prelude.{◌≡◌, ℕ, ◌+◌, ◌*◌, ◌<◌, ◌≤◌, None, Some, IsSome, IfOk, IfSome, length, map};
-ghost use Rattle.session_limits.specs.Limits.{max_callers};
+ghost use Rattle.session_values.specs.Limits.{max_callers};
 ghost use Rattle.session_values.specs.Serial.{serial, serial_replies, tables_before};
 ghost use Rattle.session_journal.specs.Journal.{after, begun, ended};
 ghost use Rattle.session_journal.specs.Script.{HasSite, IsScript, calls, declared_with, session_of};

@@ -2,7 +2,7 @@
 
 ghost use Rattle.std.specs.Prelude.{◌≡◌, ◌<◌, ◌≤◌, None, Some, IsSome, IfOk, false, length};
 ghost use Rattle.std.specs.Bool.{Decides};
-ghost use Rattle.session_limits.specs.Limits.{max_symbols, max_variables};
+ghost use Rattle.session_values.specs.Limits.{max_symbols, max_variables};
 ghost use Rattle.session_journal.specs.Script.{Meaning};
 ghost use Rattle.admission_book.specs.CallerRecord.{IsRecord, idle_record, with_flight, with_site, after_flight_at, after_ticket};
 

@@ -2,7 +2,7 @@
 
 ghost use Rattle.std.specs.Prelude.{◌≡◌, ◌<◌, ◌≤◌, MatchOption, IfOk, length};
 ghost use Rattle.std.specs.List.{AllByRecursion};
-ghost use Rattle.session_limits.specs.Limits.{max_symbols, max_variables};
+ghost use Rattle.session_values.specs.Limits.{max_symbols, max_variables};
 ghost use Rattle.session_journal.specs.Script.{Meaning};
 ghost use Rattle.symbolic_ops.specs.Commuting.{CommutesWith};
 ghost use Rattle.admission_book.specs.Book.{IsFirstAgainst};
@@ -12,8 +12,7 @@ use crate::blocker::first_against;
 use crate::site_symbols::first_at_site;
 use crate::touched_tables::TouchedTables;
 use session_journal::{Script, Site};
-use session_limits::{MAX_SYMBOLS, MAX_VARIABLES};
-use session_values::{NoMemory, Op, Value};
+use session_values::{MAX_SYMBOLS, MAX_VARIABLES, NoMemory, Op, Value};
 use std::alloc::Global;
 use std::marker::Model;
 use symbolic_ops::{Foresight, Symbol};
@@ -36,7 +35,7 @@ pub(crate) struct MarkedForesight {
 
 impl Model for MarkedForesight {
     ghost use Rattle.std.specs.Prelude.{◌≡◌, length};
-    ghost use Rattle.session_limits.specs.Limits.{max_variables};
+    ghost use Rattle.session_values.specs.Limits.{max_variables};
     ghost use Rattle.admission_book.specs.Foresights.{MarkedView};
 
     ghost Value = { MarkedView };

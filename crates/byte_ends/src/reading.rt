@@ -1,11 +1,11 @@
 // All bytes of a source.
 
 ghost use Rattle.std.specs.Prelude.{◌≡◌, ◌+◌, ◌<◌, ◌≤◌, length, vec_len, IfOk, OnOk, IfSome, IsErrOf};
-ghost use Rattle.session_limits.specs.Limits.{max_input};
+ghost use Rattle.session_values.specs.Limits.{max_input};
 ghost use Rattle.byte_ends.specs.Ends.{Rose, IsAtEnd, LostFirst, LostAtMost};
 
 use crate::source::{Got, Source};
-use session_limits::MAX_INPUT;
+use session_values::MAX_INPUT;
 use std::alloc::Global;
 use thiserror::Error;
 

@@ -2,7 +2,7 @@
 
 ghost use Rattle.std.specs.Prelude.{◌≡◌, ◌≤◌, ◌+◌, ◌++◌, IfOk, replicate};
 ghost use Rattle.std.specs.Bool.{Decides};
-ghost use Rattle.session_limits.specs.Limits.{max_tables};
+ghost use Rattle.session_values.specs.Limits.{max_tables};
 ghost use Rattle.session_values.specs.declared.kind.TableKind.TheVariants.{Map, Set};
 ghost use Rattle.hall_desk.specs.Desks.{AllowOn, CallOn, IsWithin, PlansAs, TicketOn, one, planned_number};
 
@@ -10,8 +10,7 @@ use crate::desk::Desk;
 use crate::reading::{op_of, symbol_of, value_of};
 use crate::values::{HallOperation, HallValue};
 use hall_stepping::{Plan, Planned};
-use session_limits::{MAX_REQUESTS, MAX_TABLES};
-use session_values::{NoMemory, Reply, TableKind, Value};
+use session_values::{MAX_REQUESTS, MAX_TABLES, NoMemory, Reply, TableKind, Value};
 use std::alloc::Global;
 
 // The tables, maps first.

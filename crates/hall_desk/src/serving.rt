@@ -8,7 +8,7 @@ use crate::desk::Desk;
 use crate::telling::{told, told_value};
 use crate::values::{HallStep, HallValue};
 use hall_stepping::Stepping;
-use session_limits::{MAX_CALLERS, MAX_SHARDS};
+use session_values::{MAX_CALLERS, MAX_SHARDS};
 use std::alloc::Global;
 use std::mem::replace;
 

@@ -3,6 +3,7 @@ use Rattle.std.specs.Prelude.{◌≡◌, ◌≢◌, ℕ, zero, suc, ◌+◌, ◌
 use Rattle.std.specs.List.{AllByRecursion}
 use Rattle.std.proofs.Common.{inl, inr, refl, sym, ap, ◌∙◌, subst, append_assoc, append-nil, arith, set}
 use Rattle.std.proofs.lemmas.List.{length-set}
+use Rattle.std.proofs.lemmas.Option.{none-some, same_Some}
 use Rattle.session_values.specs.Tables.{Container}
 use Rattle.session_journal.specs.declared.event.Event.{Event}
 use Rattle.session_journal.specs.Journal.{owner, caller_of, ticket_of}
@@ -14,12 +15,6 @@ use Rattle.hall_rule.specs.Contents.{Content, Register, Shard, share, needed, Is
 use Rattle.hall_rule.specs.Tie.{Tied, Moves}
 
 -- ---- contents in places
-pub none_some : {X : Type 0} (x : X) → ◌≡◌ {A = Option X} None (Some x) → ⊥
-none_some {X} x e = cc
-
-pub inside : {X : Type 0} (x y : X) → ◌≡◌ {A = Option X} (Some x) (Some y) → x ≡ y
-inside {X} x y e = cc
-
 pub same_script : {S : Type 0} (s z : S) (b d : Book)
     → ◌≡◌ {A = Content S} (Register s b) (Register z d) → s ≡ z
 same_script {S} s z b d e = cc
@@ -41,14 +36,14 @@ pub apart_contents : {S : Type 0} (s : S) (b : Book) (c : Container) (r : ℕ)
 apart_contents {S} s b c r e = cc
 
 pub lies_within : {X : Type 0} (l : List X) (i : ℕ) (x : X) → slice_get l i ≡ Some x → i < length l
-lies_within {X} [] i x h = absurd (none_some x h)
+lies_within {X} [] i x h = absurd (none-some x h)
 lies_within (y ∷ l) zero x h = omega arith
 lies_within (y ∷ l) (suc i) x h = omega (arith, lies_within l i x h)
 
 got_set : {X : Type 0} (l : List X) (c d : ℕ) (x y : X) → slice_get (set l c x) d ≡ Some y
     → ((d ≡ c) × (x ≡ y)) ⊎ ((d ≢ c) × (slice_get l d ≡ Some y))
-got_set {X} [] c d x y h = absurd (none_some y h)
-got_set {X} (z ∷ l) zero zero x y h = inl (refl, inside x y h)
+got_set {X} [] c d x y h = absurd (none-some y h)
+got_set {X} (z ∷ l) zero zero x y h = inl (refl, same_Some x y h)
 got_set (z ∷ l) zero (suc d) x y h = inr (λ e. omega arith, h)
 got_set (z ∷ l) (suc c) zero x y h = inr (λ e. omega arith, h)
 got_set (z ∷ l) (suc c) (suc d) x y h = elim (got_set l c d x y h) [
@@ -131,7 +126,7 @@ module _ {S : Type 0} (meaning : S → Meaning) (contents notes : List (Content 
     (old new : ℕ → Option (Content S))
     (t : Tied meaning contents notes) (agrees : FitsTurns contents old) (k : Moves meaning (length contents) caller old new) where
   same_register : ◌≡◌ {A = Content S} (Register t.script t.book) (Register k.script k.before)
-  same_register = inside _ _ (sym t.register ∙ agrees 0 (Register k.script k.before) k.was)
+  same_register = same_Some _ _ (sym t.register ∙ agrees 0 (Register k.script k.before) k.was)
 
   script_is : t.script ≡ k.script
   script_is = same_script t.script k.script t.book k.before same_register
@@ -180,7 +175,7 @@ module _ {S : Type 0} (meaning : S → Meaning) (contents notes : List (Content 
           (ap new (from_zero (suc j)) ∙ e)) ∙ h)
       go (Some y) e =
           let w : suc j < length contents = omega (arith, lies_within (overlay new contents) (suc j) x h, overlay_length new 0 contents) in
-          let q : y ≡ x = inside y x (sym (overlay_given new 0 (suc j) y contents (ap new (from_zero (suc j)) ∙ e) w) ∙ h) in
+          let q : y ≡ x = same_Some y x (sym (overlay_given new 0 (suc j) y contents (ap new (from_zero (suc j)) ∙ e) w) ∙ h) in
           let P : Content S → Type 0 = λ z. IsShard (meaning k.script) (length contents) k.now.journal j z in
           subst P q (given_shard j y e)
 
@@ -219,6 +214,6 @@ pub tie_kept : {S : Type 0} (meaning : S → Meaning) (contents notes : List (Co
     → caller < length notes → Moves meaning (length contents) caller old new
     → Tied meaning (overlay new contents) (slice_set notes caller book)
 tie_kept {S} meaning contents notes caller old new book t fits same has near k =
-    let e : Register k.script k.now ≡ book = inside (Register k.script k.now) book (sym k.is ∙ has) in
+    let e : Register k.script k.now ≡ book = same_Some (Register k.script k.now) book (sym k.is ∙ has) in
     let P : Content S → Type 0 = λ b. Tied meaning (overlay new contents) (slice_set notes caller b) in
     subst P e (moves_keep meaning contents notes caller old new t fits k)

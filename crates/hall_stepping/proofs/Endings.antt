@@ -1,7 +1,7 @@
 -- A hall that is opened to be stepped, and one whose callers are all out.
 use Rattle.std.proofs.Common.{◌≡◌, ℕ, zero, suc, ◌≤◌, arith, List, [], ◌∷◌, Some, length, slice_get, get_or, sym, ◌∙◌, ap, subst}
 use Rattle.std.proofs.lemmas.Option.{slice_get_within, slice_get-get_or, same_Some}
-use Rattle.session_limits.specs.Limits.{max_symbols}
+use Rattle.session_values.specs.Limits.{max_symbols}
 use Rattle.symbolic_ops.specs.Foresight.{ForesightView}
 use Rattle.session_journal.specs.Lists.{ListView}
 use Rattle.session_hall.specs.declared.stage.Stage.TheVariants.{Out}

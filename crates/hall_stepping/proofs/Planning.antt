@@ -3,7 +3,7 @@ use Rattle.std.proofs.Common.{◌≡◌, ℕ, zero, suc, ◌-◌, ◌<◌, ◌�
 use Rattle.std.specs.Prelude.{slice_set}
 use Rattle.std.proofs.lemmas.List.{length-map, length-set}
 use Rattle.std.proofs.lemmas.Bool.{cases_lt}
-use Rattle.session_limits.specs.Limits.{max_symbols}
+use Rattle.session_values.specs.Limits.{max_symbols}
 use Rattle.session_values.specs.declared.kind.TableKind.{TableKind}
 use Rattle.session_values.specs.declared.op.Op.{Op}
 use Rattle.symbolic_ops.specs.declared.symbol.Symbol.{Symbol}

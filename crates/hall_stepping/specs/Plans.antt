@@ -1,6 +1,6 @@
 -- A list of tickets that is planned, and what each call adds to it.
 use Rattle.std.specs.Prelude.{◌≡◌, ℕ, ◌+◌, ◌-◌, ◌<◌, ◌≤◌, ◌⊎◌, List, [], ◌∷◌, ◌++◌, length}
-use Rattle.session_limits.specs.Limits.{max_symbols, max_tables}
+use Rattle.session_values.specs.Limits.{max_symbols, max_tables}
 use Rattle.session_values.specs.declared.kind.TableKind.{TableKind}
 use Rattle.session_values.specs.declared.op.Op.{Op}
 use Rattle.session_values.specs.declared.reply.Reply.{Reply}

@@ -1,6 +1,6 @@
 -- A hall with callers that are stepped.
 use Rattle.std.specs.Prelude.{◌≡◌, ◌≢◌, ℕ, suc, ◌≤◌, List, Some, length, slice_get}
-use Rattle.session_limits.specs.Limits.{max_symbols}
+use Rattle.session_values.specs.Limits.{max_symbols}
 use Rattle.symbolic_ops.specs.Foresight.{ForesightView}
 use Rattle.session_hall.specs.declared.stage.Stage.TheVariants.{Out}
 use Rattle.session_hall.specs.Names.{script_of}

@@ -2,15 +2,14 @@
 
 ghost use Rattle.std.specs.Prelude.{◌≤◌, IfOk};
 ghost use Rattle.std.specs.Bool.{Decides};
-ghost use Rattle.session_limits.specs.Limits.{max_callers, max_shards};
+ghost use Rattle.session_values.specs.Limits.{max_callers, max_shards};
 ghost use Rattle.hall_stepping.specs.Endings.{AreOut, ClosesAs, IsOpenedFor};
 
 use crate::plan::Plan;
 use crate::stepping::Stepping;
 use session_hall::{Caller, Closed, Hall, Stage};
 use session_journal::ListScript;
-use session_limits::MAX_SYMBOLS;
-use session_values::{Listed, NoMemory};
+use session_values::{Listed, MAX_SYMBOLS, NoMemory};
 use std::alloc::Global;
 use symbolic_ops::Foresight;
 

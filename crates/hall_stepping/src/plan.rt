@@ -2,15 +2,14 @@
 
 ghost use Rattle.std.specs.Prelude.{◌≡◌, ◌≤◌, ◌⊎◌, [], IfOk, length};
 ghost use Rattle.std.specs.Bool.{Decides};
-ghost use Rattle.session_limits.specs.Limits.{max_requests, max_session_calls, max_symbols, max_tables};
+ghost use Rattle.session_values.specs.Limits.{max_requests, max_session_calls, max_symbols, max_tables};
 ghost use Rattle.session_values.specs.Tables.{Fits};
 ghost use Rattle.hall_stepping.specs.Plans.{AddsCall, AddsSymbol, AddsTicket};
 
 use crate::planned::Planned;
 use crate::row::Row;
 use session_journal::ListScript;
-use session_limits::MAX_SYMBOLS;
-use session_values::{NoMemory, Op, Reply, TableKind};
+use session_values::{MAX_SYMBOLS, NoMemory, Op, Reply, TableKind};
 use std::alloc::Global;
 use std::marker::Model;
 use symbolic_ops::Symbol;

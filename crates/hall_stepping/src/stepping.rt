@@ -1,7 +1,7 @@
 // Halls whose callers are stepped.
 
 ghost use Rattle.std.specs.Prelude.{◌≡◌, ◌≤◌};
-ghost use Rattle.session_limits.specs.Limits.{max_symbols};
+ghost use Rattle.session_values.specs.Limits.{max_symbols};
 ghost use Rattle.session_hall.specs.Callers.{StaysCaller};
 ghost use Rattle.session_hall.specs.Names.{script_of};
 ghost use Rattle.hall_stepping.specs.Rows.{tickets_of};

@@ -1,7 +1,7 @@
 -- Checked files.
 use Rattle.std.specs.Prelude.{◌≡◌, ℕ, ◌≤◌, List, length}
 use Rattle.std.specs.List.{AllZip}
-use Rattle.session_limits.specs.Limits.{max_calls, max_variables, max_work}
+use Rattle.session_values.specs.Limits.{max_calls, max_variables, max_work}
 use Rattle.syntax_trees.specs.declared.file.File.{File}
 use Rattle.check_meaning.specs.declared.tree.CheckedHandler.{CheckedHandler}
 use Rattle.check_meaning.specs.Bounds.{calls_bound, work_bound}

@@ -1,7 +1,7 @@
 -- What the checker accepts, and what it refuses.
 use Rattle.std.specs.Prelude.{◌≡◌, ◌<◌, ◌⊎◌}
 use Rattle.std.specs.List.{Contains}
-use Rattle.session_limits.specs.Limits.{max_calls, max_work}
+use Rattle.session_values.specs.Limits.{max_calls, max_work}
 use Rattle.syntax_trees.specs.declared.file.File.{File}
 use Rattle.syntax_trees.specs.declared.file.Handler.{Handler}
 use Rattle.check_meaning.specs.Bounds.{calls_bound, work_bound}

@@ -2,7 +2,7 @@
 -- crate's own functions cite it.
 use Rattle.std.specs.Prelude.{◌≡◌, ℕ, nat_lt, List, [], ◌∷◌, None}
 use Rattle.std.specs.List.{AllZip}
-use Rattle.session_limits.specs.Limits.{max_calls, max_work}
+use Rattle.session_values.specs.Limits.{max_calls, max_work}
 use Rattle.syntax_trees.specs.declared.file.Handler.{Handler}
 use Rattle.check_meaning.specs.declared.tree.CheckedHandler.{CheckedHandler}
 use Rattle.check_meaning.specs.Bounds.{calls_bound, work_bound}

@@ -2,7 +2,7 @@
 
 ghost use Rattle.std.specs.Prelude.{◌≡◌, ◌≢◌, ◌+◌, ◌<◌, ◌≤◌, ◌==◌, ℕ, IfNone, IfOk, IfSome, MatchResult, Some, length, slice_get};
 ghost use Rattle.std.specs.List.{position};
-ghost use Rattle.session_limits.specs.Limits.{max_calls, max_handlers, max_work};
+ghost use Rattle.session_values.specs.Limits.{max_calls, max_handlers, max_work};
 ghost use Rattle.syntax_trees.specs.declared.file.Handler.{Handler};
 ghost use Rattle.handler_check.specs.Checked.{HandlerWithin};
 ghost use Rattle.handler_check.specs.Checking.{IsAccepted, IsRefusal};

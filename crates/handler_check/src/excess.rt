@@ -12,8 +12,7 @@ use crate::resolution::listed;
 use crate::work::count_work;
 use check_meaning::CheckedHandler;
 use check_rules::CheckRefusal;
-use session_limits::{MAX_CALLS, MAX_WORK};
-use session_values::Listed;
+use session_values::{Listed, MAX_CALLS, MAX_WORK};
 use std::alloc::Global;
 
 /// The bounds of handlers, or the first handler, in their order, that may make more than 10,000

@@ -16,8 +16,7 @@ use self::names::declare_variable;
 use self::stmt::find_in_block;
 use crate::resolution::listed;
 use check_rules::CheckRefusal;
-use session_limits::MAX_TABLES;
-use session_values::{Listed, NoMemory};
+use session_values::{Listed, MAX_TABLES, NoMemory};
 use std::alloc::Global;
 use syntax_trees::{Handler, Param, TableDecl};
 

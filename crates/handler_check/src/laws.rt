@@ -2,7 +2,7 @@
 
 ghost use Rattle.std.specs.Prelude.{◌≡◌, ◌≤◌, ◌⊎◌, ℕ, List, length};
 ghost use Rattle.std.specs.List.{Contains};
-ghost use Rattle.session_limits.specs.Limits.{max_handlers, max_tables};
+ghost use Rattle.session_values.specs.Limits.{max_handlers, max_tables};
 ghost use Rattle.syntax_trees.specs.declared.file.File.{File};
 ghost use Rattle.syntax_trees.specs.declared.file.Handler.{Handler};
 ghost use Rattle.session_values.specs.declared.kind.Kind.{Kind};

@@ -19,8 +19,7 @@ use crate::faults::{declare, find_in_handler, find_in_tables};
 use check_meaning::{CheckedBlock, CheckedHandler, CheckedStmt};
 use check_rules::CheckRefusal;
 use check_rules::laws::walk_finds_first;
-use session_limits::MAX_HANDLERS;
-use session_values::{Listed, NoMemory};
+use session_values::{Listed, MAX_HANDLERS, NoMemory};
 use std::alloc::Global;
 use syntax_trees::{Call, File, Handler, Right, Stmt, TableDecl};
 

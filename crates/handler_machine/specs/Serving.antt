@@ -1,7 +1,7 @@
 -- A handler's run at a desk.
 use Rattle.std.specs.Prelude.{◌≡◌, ℕ, ◌+◌, ◌<◌, ◌≤◌, ◌++◌, List, [], ◌∷◌, Option, Some, None, Bool, true, false, if◌then◌else◌, length, map}
 use Rattle.std.specs.List.{AllByRecursion}
-use Rattle.session_limits.specs.Limits.{max_symbols}
+use Rattle.session_values.specs.Limits.{max_symbols}
 use Rattle.session_values.specs.declared.op.Op.{Op}
 use Rattle.session_values.specs.declared.value.Value.{Value}
 use Rattle.session_values.specs.Dialogue.{Calls as NextCalls, Entry, Follows, replies}

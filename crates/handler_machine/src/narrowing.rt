@@ -2,7 +2,7 @@
 
 ghost use Rattle.std.specs.Prelude.{◌≡◌, ℕ, ◌+◌, ◌<◌, ◌≤◌, [], true, IfOk, length, slice_index_or};
 ghost use Rattle.std.specs.Bool.{OnTrue};
-ghost use Rattle.session_limits.specs.Limits.{max_variables};
+ghost use Rattle.session_values.specs.Limits.{max_variables};
 ghost use Rattle.session_values.specs.declared.value.Value.TheVariants.{Nil};
 ghost use Rattle.session_values.specs.Values.{IsValue};
 ghost use Rattle.session_journal.specs.Served.{IsStopped};

@@ -2,7 +2,7 @@
 
 ghost use Rattle.std.specs.Prelude.{◌≡◌, ◌+◌, ◌≤◌, ◌<◌, [], None, false, length, IfOk, OnErr};
 ghost use Rattle.std.specs.List.{AllByRecursion};
-ghost use Rattle.session_limits.specs.Limits.{max_variables};
+ghost use Rattle.session_values.specs.Limits.{max_variables};
 ghost use Rattle.session_values.specs.Values.{IsValue};
 ghost use Rattle.check_meaning.specs.Code.{block_code, points};
 ghost use Rattle.check_meaning.specs.Dialogue.{entry, env_of, run};

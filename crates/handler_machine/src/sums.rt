@@ -1,7 +1,7 @@
 // Sums over the requests of a session.
 
 ghost use Rattle.std.specs.Prelude.{◌≡◌, ◌<◌, ◌≤◌, ℕ, length, slice_index_or};
-ghost use Rattle.session_limits.specs.Limits.{max_calls, max_handlers};
+ghost use Rattle.session_values.specs.Limits.{max_calls, max_handlers};
 ghost use Rattle.session_values.specs.Sums.{sum_below};
 ghost use Rattle.check_meaning.specs.Bounds as bounds;
 ghost use Rattle.handler_check.specs.Resolved.{code_at};
@@ -10,8 +10,7 @@ ghost use Rattle.request_files.specs.Session.{request_at};
 
 use handler_check::Checked;
 use request_files::Requests;
-use session_limits::MAX_HANDLERS;
-use session_values::Value;
+use session_values::{MAX_HANDLERS, Value};
 
 /// The handler of a request, by its number.
 pub(crate) fn handler_of(requests: &Requests, t: u32) -> u32

@@ -1,6 +1,6 @@
 -- The canonical words of an expression are read again.
 use Rattle.std.proofs.Common.{◌≡◌, ℕ, ◌+◌, ◌<◌, ◌≤◌, List, ◌∷◌, refl, sym, ap, ◌∙◌, subst, arith}
-use Rattle.session_limits.specs.Limits.{max_open}
+use Rattle.session_values.specs.Limits.{max_open}
 use Rattle.syntax_tokens.specs.declared.word.Sort.{Sort}
 use Rattle.syntax_tokens.specs.declared.word.Sort.TheVariants as sort
 use Rattle.syntax_trees.specs.declared.expr.Calc.{Calc}

@@ -1,6 +1,6 @@
 -- The canonical words of statements and blocks are read again.
 use Rattle.std.proofs.Common.{◌≡◌, ℕ, ◌+◌, ◌<◌, List, ◌∷◌, map, refl, sym, ap, ◌∙◌}
-use Rattle.session_limits.specs.Limits.{max_depth}
+use Rattle.session_values.specs.Limits.{max_depth}
 use Rattle.syntax_tokens.specs.declared.word.Sort.{Sort}
 use Rattle.syntax_tokens.specs.declared.word.Sort.TheVariants as sort
 use Rattle.syntax_tokens.specs.declared.word.Word.{Word}

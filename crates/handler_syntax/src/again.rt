@@ -1,7 +1,7 @@
 // A file that is printed and read again.
 
 ghost use Rattle.std.specs.Prelude.{◌≡◌, ◌≢◌, ◌≤◌, ◌<◌, ◌↔◌, IfOk, IfErr, IfSome, MatchResult, length, None};
-ghost use Rattle.session_limits.specs.Limits.{max_input};
+ghost use Rattle.session_values.specs.Limits.{max_input};
 ghost use Rattle.session_values.specs.Names.{Begins};
 ghost use Rattle.syntax_trees.specs.Mentions.{AreNamed, file_mentions};
 ghost use Rattle.syntax_tokens.specs.Texts.{IsNamedFile};
@@ -13,8 +13,7 @@ ghost use Rattle.handler_syntax.specs.SameTree.{SameTree};
 use crate::file::File;
 use crate::printing::print;
 use crate::reading::parse;
-use session_limits::MAX_INPUT;
-use session_values::Names;
+use session_values::{MAX_INPUT, Names};
 use std::alloc::Global;
 use syntax_parser::SyntaxRefusal;
 

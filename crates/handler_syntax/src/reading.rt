@@ -1,7 +1,7 @@
 // Reading.
 
 ghost use Rattle.std.specs.Prelude.{◌≤◌, length};
-ghost use Rattle.session_limits.specs.Limits.{max_input};
+ghost use Rattle.session_values.specs.Limits.{max_input};
 ghost use Rattle.syntax_grammar.specs.Parsed.{Parsed};
 
 use crate::file::File;

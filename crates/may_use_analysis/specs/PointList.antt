@@ -1,6 +1,6 @@
 -- What is kept of the list of a point.
 use Rattle.std.specs.Prelude.{◌≡◌, ℕ, ◌<◌, ◌≤◌, List, [], length, map, Option, Some, None, slice_index_or}
-use Rattle.session_limits.specs.Limits.{max_symbols}
+use Rattle.session_values.specs.Limits.{max_symbols}
 use Rattle.symbolic_ops.specs.declared.symbol.Symbol.{Symbol}
 use Rattle.may_use_analysis.specs.declared.kept.Kept.{Kept}
 use Rattle.may_use_analysis.specs.declared.kept.Kept.TheVariants.{Own, Same, Short, Count}

@@ -7,8 +7,7 @@ ghost use Rattle.may_use_analysis.specs.PointList.{AllReferBack, AreKept, Counte
 
 use crate::ordered::is_same;
 use crate::recent::Recent;
-use session_limits::MAX_SYMBOLS;
-use session_values::{Listed, NoMemory};
+use session_values::{Listed, MAX_SYMBOLS, NoMemory};
 use std::alloc::Global;
 use std::marker::Model;
 use symbolic_ops::Symbol;

@@ -1,6 +1,6 @@
 -- What the fields of a plain desk keep.
 use Rattle.std.specs.Prelude.{◌≡◌, ℕ, ◌≤◌, ◌<◌, List, Option, Some, None, true, false, length, map, slice_get, slice_range}
-use Rattle.session_limits.specs.Limits.{max_symbols}
+use Rattle.session_values.specs.Limits.{max_symbols}
 use Rattle.session_values.specs.declared.op.Op.{Op}
 use Rattle.session_values.specs.Dialogue.{Calls, Entry, Follows}
 use Rattle.session_values.specs.Serial.{Session, serial, tables_before}

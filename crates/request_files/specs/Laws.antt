@@ -1,7 +1,7 @@
 -- What the definitions of parts and faults come to on whole files and whole lists of rows.
 use Rattle.std.specs.Prelude.{◌≡◌, ℕ, ◌+◌, ◌<◌, ◌≤◌, Bool, true, false, ◌⊎◌, List, [], ◌∷◌, ◌++◌, length, None}
 use Rattle.std.specs.List.{list_all, list_any, sum_by}
-use Rattle.session_limits.specs.Limits.{max_requests, max_session_calls}
+use Rattle.session_values.specs.Limits.{max_requests, max_session_calls}
 use Rattle.syntax_trees.specs.declared.file.File.{File}
 use Rattle.handler_check.specs.Bounds.{calls_bound}
 use Rattle.handler_check.specs.Resolved.{code_at, params_at}

@@ -2,7 +2,7 @@
 use Rattle.std.specs.Prelude.{◌≡◌, ℕ, ◌+◌, ◌<◌, ◌≤◌, true, false, not, ◌==◌, nat_le, nat_lt, if◌then◌else◌, List, [], ◌∷◌, length, map, Option, Some, None, MatchOption}
 use Rattle.std.specs.List.{list_all, position_or_len, AllByRecursion}
 use Rattle.std.specs.Option.{option_or}
-use Rattle.session_limits.specs.Limits.{max_requests, max_session_calls, max_session_work}
+use Rattle.session_values.specs.Limits.{max_requests, max_session_calls, max_session_work}
 use Rattle.session_values.specs.Names.{place_of}
 use Rattle.session_values.specs.ReplyText.{IsPrintable}
 use Rattle.session_values.specs.declared.value.Value.{Value}

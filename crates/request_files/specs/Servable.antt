@@ -1,7 +1,7 @@
 -- Requests that a checked file can serve, within the limits on all of them together.
 use Rattle.std.specs.Prelude.{◌≡◌, ℕ, ◌<◌, ◌≤◌, List, length}
 use Rattle.std.specs.List.{AllByRecursion, sum_by}
-use Rattle.session_limits.specs.Limits.{max_requests, max_session_calls, max_session_work}
+use Rattle.session_values.specs.Limits.{max_requests, max_session_calls, max_session_work}
 use Rattle.session_values.specs.Values.{IsValue}
 use Rattle.syntax_trees.specs.declared.file.File.{File}
 use Rattle.handler_check.specs.Bounds.{calls_bound, work_bound}

@@ -1,7 +1,7 @@
 -- What the fault of too much work comes to on a whole list of rows.
 use Rattle.std.specs.Prelude.{ℕ, ◌<◌, ◌≤◌, List, [], ◌∷◌, ◌++◌}
 use Rattle.std.specs.List.{sum_by}
-use Rattle.session_limits.specs.Limits.{max_session_work}
+use Rattle.session_values.specs.Limits.{max_session_work}
 use Rattle.syntax_trees.specs.declared.file.File.{File}
 use Rattle.handler_check.specs.Bounds.{work_bound}
 use Rattle.handler_check.specs.Resolved.{code_at}

@@ -2,7 +2,7 @@
 
 ghost use Rattle.std.specs.Prelude.{◌≡◌, ◌<◌, ◌≤◌, ◌∷◌, [], MatchOption, true, length};
 ghost use Rattle.std.specs.List.{list_all};
-ghost use Rattle.session_limits.specs.Limits.{max_input};
+ghost use Rattle.session_values.specs.Limits.{max_input};
 ghost use Rattle.text_lines.specs.Text.{is_line_byte, lines as lines_of, words as words_of};
 ghost use Rattle.request_files.specs.Clients.{marks_in};
 

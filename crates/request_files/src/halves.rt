@@ -2,7 +2,7 @@
 
 ghost use Rattle.std.specs.Prelude.{◌≡◌, ◌≤◌, length};
 ghost use Rattle.std.specs.List.{list_any};
-ghost use Rattle.session_limits.specs.Limits.{max_input};
+ghost use Rattle.session_values.specs.Limits.{max_input};
 ghost use Rattle.text_lines.specs.Text.{lines};
 ghost use Rattle.request_files.specs.Divide as spec;
 ghost use Rattle.request_files.specs.Marks.{says};

@@ -1,7 +1,7 @@
 //! Laws of the definitions: each is the contract of a function with an empty body.
 
 ghost use Rattle.std.specs.Prelude.{◌≡◌, ℕ, ◌+◌, ◌<◌, ◌≤◌, List, [], ◌∷◌, ◌++◌, length, sum, None, Some};
-ghost use Rattle.session_limits.specs.Limits.{max_requests, max_session_calls, max_session_work};
+ghost use Rattle.session_values.specs.Limits.{max_requests, max_session_calls, max_session_work};
 ghost use Rattle.syntax_trees.specs.declared.file.File.{File};
 ghost use Rattle.request_files.specs.declared.refusal.RequestRefusal.TheVariants.{TooManyCalls, TooManyRequests, TooMuchWork};
 ghost use Rattle.request_files.specs.Clients.{marks_in, row_counts, unmarked, without_marks};

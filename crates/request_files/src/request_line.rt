@@ -14,8 +14,7 @@ use crate::recent::Recent;
 use crate::refusal::RequestRefusal;
 use crate::tally::{Tally, look_at_sums, with_request};
 use handler_check::Checked;
-use session_limits::MAX_REQUESTS;
-use session_values::{Names, Value};
+use session_values::{MAX_REQUESTS, Names, Value};
 use text_lines::Line;
 
 /// The number of the handler with this name.

@@ -5,7 +5,7 @@ ghost use Rattle.request_files.specs.Requests as spec;
 
 use crate::refusal::RequestRefusal;
 use handler_check::Checked;
-use session_limits::{MAX_SESSION_CALLS, MAX_SESSION_WORK};
+use session_values::{MAX_SESSION_CALLS, MAX_SESSION_WORK};
 
 /// The sums over the requests so far, which are limited.
 #[derive(Clone, Copy, Debug)]

@@ -1,6 +1,6 @@
 -- What a command answers to its input, from what its parts say.
 use Rattle.std.proofs.Common.{◌≡◌, ℕ, ◌≤◌, Bool, ◌&&◌, true, false, if◌then◌else◌, is_some, List, length, map, Option, Some, None, refl, sym, ap, ◌∙◌, subst}
-use Rattle.session_limits.specs.Limits.{max_input}
+use Rattle.session_values.specs.Limits.{max_input}
 use Rattle.session_values.specs.declared.reply.Reply.{Reply}
 use Rattle.session_values.specs.Serial.{Session, serial_replies, tables_before}
 use Rattle.session_values.specs.ReplyText.{reply_text}

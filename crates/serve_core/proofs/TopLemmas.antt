@@ -1,6 +1,6 @@
 -- Whole runs, from what their parts say.
 use Rattle.std.proofs.Common.{◌≡◌, ℕ, ◌+◌, ◌≤◌, Bool, true, false, List, [], ap, Option, Some, None, IfSome, refl, sym, subst, arith}
-use Rattle.session_limits.specs.Limits.{max_input, max_requests}
+use Rattle.session_values.specs.Limits.{max_input, max_requests}
 use Rattle.byte_ends.specs.Ends.{Grew, GrewByFront, LostAtMost}
 use Rattle.byte_ends.proofs.EndsLemmas.{front_of_all}
 use Rattle.session_hall.specs.Closings.{ClosedView}

@@ -1,7 +1,7 @@
 -- The events of a closed hall are accepted, and can be told with the names of its session.
 use Rattle.std.proofs.Common.{◌≡◌, ℕ, ◌≤◌, true, List, [], ◌∷◌, ◌++◌, length, sym, ap, ◌∙◌, subst, arith}
 use Rattle.std.specs.List.{AllByRecursion}
-use Rattle.session_limits.specs.Limits.{max_callers}
+use Rattle.session_values.specs.Limits.{max_callers}
 use Rattle.session_values.specs.Serial.{Session}
 use Rattle.session_values.specs.Tables.{Fits}
 use Rattle.session_journal.specs.Opening.{Pair}

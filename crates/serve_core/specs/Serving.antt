@@ -1,7 +1,7 @@
 -- What serving a session file promises. This crate's functions and those of plain_serving cite it.
 use Rattle.std.specs.Prelude.{◌≡◌, ℕ, zero, suc, ◌+◌, ◌*◌, ◌<◌, ◌≤◌, List, [], ◌∷◌, length, true, Option, Some, None}
 use Rattle.std.specs.List.{AllByRecursion}
-use Rattle.session_limits.specs.Limits.{max_callers, max_requests}
+use Rattle.session_values.specs.Limits.{max_callers, max_requests}
 use Rattle.session_values.specs.ReplyText.{reply_text}
 use Rattle.session_journal.specs.Journal.{done_operations}
 use Rattle.session_journal.specs.Opening.{Pair, IsOpening, entries_of}

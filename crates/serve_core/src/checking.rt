@@ -1,7 +1,7 @@
 // Checking and showing: from a source to the text of its handlers.
 
 ghost use Rattle.std.specs.Prelude.{◌≤◌, length, Some, None};
-ghost use Rattle.session_limits.specs.Limits.{max_input};
+ghost use Rattle.session_values.specs.Limits.{max_input};
 ghost use Rattle.serve_faults.specs.Changes.{change};
 ghost use Rattle.serve_core.specs.Runs.{Runs};
 ghost use Rattle.serve_core.specs.Runs.{AnswersTo};

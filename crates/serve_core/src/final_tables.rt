@@ -1,13 +1,12 @@
 // The tables of a closed hall.
 
 ghost use Rattle.std.specs.Prelude.{◌≡◌, ◌*◌, ◌<◌, ◌≤◌, ℕ, Some, length, slice_get};
-ghost use Rattle.session_limits.specs.Limits.{max_tables};
+ghost use Rattle.session_values.specs.Limits.{max_tables};
 ghost use Rattle.session_hall.specs.Listings.{listed};
 ghost use Rattle.serve_core.specs.Serving.{AreFinal};
 
 use session_hall::Closed;
-use session_limits::MAX_TABLES;
-use session_values::Value;
+use session_values::{MAX_TABLES, Value};
 use table_text::TellsEntries;
 
 /// The tables of a closed hall, as they are at its end.

@@ -1,7 +1,7 @@
 // Several clients: from a source to the replies that each of them has.
 
 ghost use Rattle.std.specs.Prelude.{◌≤◌, length, Some};
-ghost use Rattle.session_limits.specs.Limits.{max_input};
+ghost use Rattle.session_values.specs.Limits.{max_input};
 ghost use Rattle.client_rounds.specs.Rounds.{AreServed};
 ghost use Rattle.serve_words.specs.declared.command.Command.TheVariants.{Clients};
 ghost use Rattle.serve_faults.specs.Changes.{change};

@@ -1,5 +1,6 @@
 //! The top call: the words of a command line and an input in, the command's text out: handlers as
-//! they are printed, replies, final tables, events, a verdict, or the summary of a generated workload.
+//! they are printed, replies, final tables, events, a verdict, or the summary of a generated
+//! workload.
 #![tactic(auto)]
 
 mod auditing;

@@ -1,7 +1,7 @@
 // A session that was loaded, served while the lines of its replies are written.
 
 ghost use Rattle.std.specs.Prelude.{◌≡◌, ◌≤◌, IfOk};
-ghost use Rattle.session_limits.specs.Limits.{max_requests};
+ghost use Rattle.session_values.specs.Limits.{max_requests};
 ghost use Rattle.hall_writing.specs.Jobs.{replies_of};
 ghost use Rattle.handler_machine.specs.Scripts.{meaning};
 ghost use Rattle.reply_sheet.specs.Printable.{ArePrintableReplies};

@@ -1,7 +1,7 @@
 // Range sessions: from a source to what its lines write.
 
 ghost use Rattle.std.specs.Prelude.{◌≤◌, length, Some, None};
-ghost use Rattle.session_limits.specs.Limits.{max_input};
+ghost use Rattle.session_values.specs.Limits.{max_input};
 ghost use Rattle.serve_words.specs.declared.command.Command.TheVariants.{Ranges};
 ghost use Rattle.serve_faults.specs.Changes.{change};
 ghost use Rattle.serve_core.specs.Runs.{AnswersTo, Runs};

@@ -1,7 +1,7 @@
 // A session that was loaded and is served through a hall.
 
 ghost use Rattle.std.specs.Prelude.{◌≡◌, ◌+◌, ◌<◌, ◌≤◌, ℕ, length, map, IfOk, vec_capacity};
-ghost use Rattle.session_limits.specs.Limits.{max_tables};
+ghost use Rattle.session_values.specs.Limits.{max_tables};
 ghost use Rattle.handler_check.specs.Resolved.{shape_of as shape_spec};
 ghost use Rattle.session_hall.specs.Closings.{IsDone};
 ghost use Rattle.session_journal.specs.Opening.{entries_of};

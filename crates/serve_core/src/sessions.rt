@@ -1,7 +1,7 @@
 // Sessions: from the bytes of a session file to what is written of it.
 
 ghost use Rattle.std.specs.Prelude.{◌≡◌, ◌≢◌, ◌≤◌, length, vec_capacity};
-ghost use Rattle.session_limits.specs.Limits.{max_callers, max_input};
+ghost use Rattle.session_values.specs.Limits.{max_callers, max_input};
 ghost use Rattle.handler_machine.specs.Scripts.{meaning};
 ghost use Rattle.serve_faults.specs.Changes.{change};
 ghost use Rattle.serve_faults.specs.Traced.{table_places};

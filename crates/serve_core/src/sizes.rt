@@ -1,7 +1,7 @@
 // How many serve, and over how many shards.
 
 ghost use Rattle.std.specs.Prelude.{◌≤◌};
-ghost use Rattle.session_limits.specs.Limits.{max_callers, max_shards};
+ghost use Rattle.session_values.specs.Limits.{max_callers, max_shards};
 
 /// How many callers serve a session, and over how many shards a table.
 #[derive(Clone, Copy)]

@@ -1,7 +1,7 @@
 // Tracing: from a source to the events of the run that served it.
 
 ghost use Rattle.std.specs.Prelude.{◌≤◌, length, Some};
-ghost use Rattle.session_limits.specs.Limits.{max_input};
+ghost use Rattle.session_values.specs.Limits.{max_input};
 ghost use Rattle.serve_words.specs.declared.command.Command.TheVariants.{Trace};
 ghost use Rattle.serve_faults.specs.Changes.{change};
 ghost use Rattle.serve_core.specs.Runs.{AnswersTo, Runs};

@@ -1,7 +1,7 @@
 // Working: a made session, and its summary.
 
 ghost use Rattle.std.specs.Prelude.{◌≤◌, ℕ, List};
-ghost use Rattle.session_limits.specs.Limits.{max_requests};
+ghost use Rattle.session_values.specs.Limits.{max_requests};
 ghost use Rattle.serve_words.specs.declared.command.Command.TheVariants.{Work};
 ghost use Rattle.serve_faults.specs.Changes.{change};
 ghost use Rattle.serve_core.specs.Runs.{AnswersTo};

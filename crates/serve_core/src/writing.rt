@@ -1,7 +1,7 @@
 // Writing what is asked of a session that was served.
 
 ghost use Rattle.std.specs.Prelude.{◌≡◌, ◌≢◌, ◌≤◌, length, vec_capacity};
-ghost use Rattle.session_limits.specs.Limits.{max_callers, max_requests};
+ghost use Rattle.session_values.specs.Limits.{max_callers, max_requests};
 ghost use Rattle.session_journal.specs.Journal.{done_operations};
 ghost use Rattle.session_values.specs.ReplyText.{reply_text};
 ghost use Rattle.serve_made.specs.Summary.{summary};

@@ -1,7 +1,7 @@
 -- What is loaded, and why nothing is, from what the parts of the reading say.
 use Rattle.std.proofs.Common.{◌≡◌, ℕ, Bool, true, false, if◌then◌else◌, List, [], ◌∷◌, ◌<◌, length, map, ◌≤◌, arith, length-append, None, Some, refl, sym, ap, ◌∙◌, subst}
 use Rattle.std.specs.Prelude.{IsUtf8}
-use Rattle.session_limits.specs.Limits.{max_input}
+use Rattle.session_values.specs.Limits.{max_input}
 use Rattle.session_values.specs.Names.{Begins}
 use Rattle.syntax_trees.specs.Mentions.{AreNamed, Mention, file_mentions}
 use Rattle.syntax_trees.proofs.Mentions.{below_kept}

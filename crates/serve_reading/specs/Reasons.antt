@@ -1,6 +1,6 @@
 -- Why nothing is made of a text: memory ran out, or this is the first broken rule.
 use Rattle.std.specs.Prelude.{◌≡◌, ℕ, ◌≤◌, false, IsUtf8, List, [], length, None, Some}
-use Rattle.session_limits.specs.Limits.{max_input}
+use Rattle.session_values.specs.Limits.{max_input}
 use Rattle.syntax_trees.specs.declared.file.File.{File}
 use Rattle.handler_check.specs.Checking.{IsAccepted, IsRefusal}
 use Rattle.may_use_analysis.specs.Later.{IsTooMany}

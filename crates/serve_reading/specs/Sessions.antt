@@ -1,6 +1,6 @@
 -- What is made of the parts of a session file before it is served.
 use Rattle.std.specs.Prelude.{◌≡◌, ℕ, ◌≤◌, true, IsUtf8, List, [], length, map, None}
-use Rattle.session_limits.specs.Limits.{max_input}
+use Rattle.session_values.specs.Limits.{max_input}
 use Rattle.opening_tables.specs.Opening.{Pair, IsOpening}
 use Rattle.session_values.specs.Names.{Begins}
 use Rattle.handler_syntax.specs.Language.{IsNamedFile}

@@ -1,7 +1,7 @@
 // Reading an audit: from the bytes of a session file that ends in a trace to what can be judged.
 
 ghost use Rattle.std.specs.Prelude.{◌≡◌, ◌≤◌, ◌*◌, IfOk, IfErr, IsCharBoundary, IsUtf8, false, length, true};
-ghost use Rattle.session_limits.specs.Limits.{max_input};
+ghost use Rattle.session_values.specs.Limits.{max_input};
 ghost use Rattle.handler_check.specs.Resolved.{shape_of};
 ghost use Rattle.handler_syntax.specs.Language.{IsNamedFile};
 ghost use Rattle.request_files.specs.TracePart.{IsTracePlace, has_trace};
@@ -20,8 +20,7 @@ use declaration_insertion::Program;
 use opening_tables::Opening;
 use request_files::{Divided, Requests, TracePlace, divide, find_trace};
 use serve_faults::{Certain, Fault};
-use session_limits::MAX_INPUT;
-use session_values::{Names, NoMemory, TableKind};
+use session_values::{MAX_INPUT, Names, NoMemory, TableKind};
 use std::alloc::Global;
 use syntax_trees::File;
 use trace_lines::{TraceRefusal, read_trace};

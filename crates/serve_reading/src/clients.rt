@@ -2,7 +2,7 @@
 // to what can be served.
 
 ghost use Rattle.std.specs.Prelude.{◌≡◌, ◌≤◌, ◌+◌, ℕ, length, IfOk, IfErr};
-ghost use Rattle.session_limits.specs.Limits.{max_input};
+ghost use Rattle.session_values.specs.Limits.{max_input};
 ghost use Rattle.opening_tables.specs.Limits.{max_table_lines};
 ghost use Rattle.opening_tables.specs.Opening.{count_all};
 ghost use Rattle.request_files.specs.Clients.{AreShared, marks_in, row_counts, unmarked, without_marks};

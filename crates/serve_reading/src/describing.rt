@@ -1,7 +1,7 @@
 // Describing: from the bytes of a file of handlers to what is printed of it.
 
 ghost use Rattle.std.specs.Prelude.{◌≡◌, ◌≤◌, [], Bool, true, false, length, IfOk, IfErr};
-ghost use Rattle.session_limits.specs.Limits.{max_input};
+ghost use Rattle.session_values.specs.Limits.{max_input};
 ghost use Rattle.handler_syntax.specs.Language.{AreNamed, IsSourceOf, file_mentions, names_of};
 ghost use Rattle.serve_faults.specs.Input.{IsInput};
 ghost use Rattle.serve_faults.specs.Answer.{IsTextOf};

@@ -1,7 +1,7 @@
 // Handlers of a text, with their declarations.
 
 ghost use Rattle.std.specs.Prelude.{◌≡◌, ◌≤◌, [], length, IfOk, IfErr, OnOk};
-ghost use Rattle.session_limits.specs.Limits.{max_input};
+ghost use Rattle.session_values.specs.Limits.{max_input};
 ghost use Rattle.handler_check.specs.Checking.{IsAccepted};
 ghost use Rattle.handler_syntax.specs.Language.{names_of, file_mentions, AreNamed, IsSourceOf, IsNamedFile};
 ghost use Rattle.may_use_analysis.specs.Later.{AreLater, HasLater};

@@ -1,7 +1,7 @@
 // Range sessions: from the bytes of an input to what its lines write.
 
 ghost use Rattle.std.specs.Prelude.{◌≤◌, length, IfOk, IfErr};
-ghost use Rattle.session_limits.specs.Limits.{max_input};
+ghost use Rattle.session_values.specs.Limits.{max_input};
 ghost use Rattle.serve_faults.specs.Command.TheVariants.{Ranges};
 ghost use Rattle.serve_faults.specs.Answer.{IsTextOf};
 ghost use Rattle.serve_faults.specs.Input.{IsInput};

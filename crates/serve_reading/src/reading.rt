@@ -1,13 +1,13 @@
 // All of a source.
 
 ghost use Rattle.std.specs.Prelude.{◌<◌, IfOk, IfErr};
-ghost use Rattle.session_limits.specs.Limits.{max_input};
+ghost use Rattle.session_values.specs.Limits.{max_input};
 ghost use Rattle.serve_faults.specs.Changes.{change};
 ghost use Rattle.serve_faults.specs.Ways.{HasRead, StoppedAs};
 
 use byte_ends::{Source, Unread, read_up_to};
 use serve_faults::{Fault, Status};
-use session_limits::MAX_INPUT;
+use session_values::MAX_INPUT;
 use std::alloc::Global;
 
 /// All that the source has, up to so many bytes, or how a run ends that can't read it.

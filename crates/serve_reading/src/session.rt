@@ -1,7 +1,7 @@
 // Reading a session: from the bytes of a session file to what can be served.
 
 ghost use Rattle.std.specs.Prelude.{◌≤◌, ◌+◌, ◌*◌, length, IfOk, IfErr, OnOk};
-ghost use Rattle.session_limits.specs.Limits.{max_input};
+ghost use Rattle.session_values.specs.Limits.{max_input};
 ghost use Rattle.syntax_trees.specs.Mentions.{AreNamed, file_mentions};
 ghost use Rattle.request_files.specs.Rows.{rows};
 ghost use Rattle.request_files.specs.Text.{lines};

@@ -1,6 +1,6 @@
 -- A caller of a hall between two calls.
 use Rattle.std.specs.Prelude.{◌≡◌, ℕ, ◌+◌, ◌*◌, ◌<◌, ◌≤◌, List, Option, Some, None, length}
-use Rattle.session_limits.specs.Limits.{max_shards}
+use Rattle.session_values.specs.Limits.{max_shards}
 use Rattle.session_values.specs.Dialogue.{Entry}
 use Rattle.symbolic_ops.specs.declared.symbol.Symbol.{Symbol}
 use Rattle.session_journal.specs.Foreknown.{Foreknown}

@@ -1,6 +1,6 @@
 -- What a hall is opened with. Only this crate's own functions cite it.
 use Rattle.std.specs.Prelude.{◌≡◌, ℕ, ◌+◌, ◌*◌, ◌/◌, ◌%◌, List, [], Some, length, map, replicate, slice_get}
-use Rattle.session_limits.specs.Limits.{max_shards}
+use Rattle.session_values.specs.Limits.{max_shards}
 use Rattle.session_values.specs.declared.kind.TableKind.{TableKind}
 use Rattle.session_journal.specs.Opening.{container_of, entries_of}
 use Rattle.session_journal.specs.Script.{Meaning, IsScript, room}

@@ -2,7 +2,7 @@
 
 ghost use Rattle.std.specs.Prelude.{◌≡◌, ◌+◌, ◌*◌, ◌<◌, ◌≤◌, length};
 ghost use Rattle.session_journal.specs.Limits.{max_keys};
-ghost use Rattle.session_limits.specs.Limits.{max_shards};
+ghost use Rattle.session_values.specs.Limits.{max_shards};
 ghost use Rattle.session_values.specs.Kinds.{arguments};
 ghost use Rattle.turn_board.specs.Boards.{turn_count};
 ghost use Rattle.turn_board.specs.Limits.{max_board_turns};

@@ -1,7 +1,7 @@
 // Shards with what their tables open with.
 
 ghost use Rattle.std.specs.Prelude.{◌≡◌, ◌*◌, ◌<◌, ◌≤◌, ◌/◌, [], Some, IfOk, length, slice_get};
-ghost use Rattle.session_limits.specs.Limits.{max_shards, max_tables};
+ghost use Rattle.session_values.specs.Limits.{max_shards, max_tables};
 ghost use Rattle.session_journal.specs.Opening.{container_of, entries_of};
 ghost use Rattle.session_journal.specs.Script.{IsScript};
 ghost use Rattle.shard_tables.specs.Parts.{part as part_of};

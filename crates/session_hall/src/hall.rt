@@ -1,7 +1,7 @@
 // Halls.
 
 ghost use Rattle.std.specs.Prelude.{◌≡◌, ◌<◌, ◌≤◌, [], vec_capacity};
-ghost use Rattle.session_limits.specs.Limits.{max_callers};
+ghost use Rattle.session_values.specs.Limits.{max_callers};
 ghost use Rattle.turn_board.specs.Limits.{max_board_turns};
 
 use hall_rule::{HallRule, Held};

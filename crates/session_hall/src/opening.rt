@@ -1,7 +1,7 @@
 // Opening a hall.
 
 ghost use Rattle.std.specs.Prelude.{◌≡◌, ℕ, ◌<◌, ◌≤◌, Some, IfOk, length, slice_get, vec_len};
-ghost use Rattle.session_limits.specs.Limits.{max_callers, max_shards, max_tables};
+ghost use Rattle.session_values.specs.Limits.{max_callers, max_shards, max_tables};
 ghost use Rattle.session_hall.specs.declared.caller.Caller.{Caller as CallerOf};
 ghost use Rattle.session_hall.specs.Closings.{Opens};
 ghost use Rattle.session_hall.specs.Names.{script_of};
@@ -14,8 +14,7 @@ use crate::stage::Stage;
 use admission_book::Book;
 use hall_rule::{HallRule, Held};
 use session_journal::Script;
-use session_limits::{MAX_CALLERS, MAX_SHARDS};
-use session_values::{Listed, NoMemory, TableKind};
+use session_values::{Listed, MAX_CALLERS, MAX_SHARDS, NoMemory, TableKind};
 use shard_tables::Part;
 use std::alloc::Global;
 use std::snapshot::Snapshot;

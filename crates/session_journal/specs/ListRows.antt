@@ -1,7 +1,7 @@
 -- The rows of a list of tickets, whose operations and symbols lie one after another.
 use Rattle.std.specs.Prelude.{◌≡◌, ℕ, ◌+◌, ◌≤◌, List, [], ◌∷◌, length, map, take, drop}
 use Rattle.std.specs.List.{AllByRecursion}
-use Rattle.session_limits.specs.Limits.{max_requests, max_session_calls}
+use Rattle.session_values.specs.Limits.{max_requests, max_session_calls}
 use Rattle.session_values.specs.declared.kind.TableKind.{TableKind}
 use Rattle.session_values.specs.declared.op.Op.{Op}
 use Rattle.symbolic_ops.specs.declared.symbol.Symbol.{Symbol}

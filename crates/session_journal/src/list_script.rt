@@ -2,7 +2,7 @@
 
 ghost use Rattle.std.specs.Prelude.{◌≡◌, ℕ, ◌<◌, ◌≤◌, ◌-◌, ◌++◌, ◌∷◌, ◌&&◌, ◌==◌, [], cond, length, IfOk};
 ghost use Rattle.std.specs.List.{AllByRecursion};
-ghost use Rattle.session_limits.specs.Limits.{max_requests, max_session_calls};
+ghost use Rattle.session_values.specs.Limits.{max_requests, max_session_calls};
 ghost use Rattle.session_values.specs.Kinds.{is_adding};
 ghost use Rattle.session_values.specs.Tables.{Fits};
 ghost use Rattle.symbolic_ops.specs.Matching.{HasNoVar};

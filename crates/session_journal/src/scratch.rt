@@ -1,10 +1,9 @@
 // The room that serving takes.
 
 ghost use Rattle.std.specs.Prelude.{◌≡◌, ◌≤◌, vec_len};
-ghost use Rattle.session_limits.specs.Limits.{max_symbols, max_variables};
+ghost use Rattle.session_values.specs.Limits.{max_symbols, max_variables};
 
-use session_limits::{MAX_SYMBOLS, MAX_VARIABLES};
-use session_values::{NoMemory, Value};
+use session_values::{MAX_SYMBOLS, MAX_VARIABLES, NoMemory, Value};
 use std::alloc::Global;
 use symbolic_ops::Foresight;
 

@@ -1,6 +1,6 @@
 // The list of names.
 
-ghost use Rattle.std.specs.Prelude.{◌≡◌, ◌<◌, [], IfOk, IfSome, IfNone, OnErr, length, Some, slice_get, Contains};
+ghost use Rattle.std.specs.Prelude.{◌≡◌, ◌<◌, [], IfOk, IfSome, IfNone, OnErr, length, take, Some, slice_get, Contains};
 ghost use Rattle.std.specs.List.{position};
 ghost use Rattle.std.specs.Str.{bytes_eq};
 ghost use Rattle.session_values.specs.Names.{with_text, place_of, AreDistinct};
@@ -84,6 +84,13 @@ impl Names {
         ensures { slice_get self.now place ≡ Some result.now }
     {
         self.texts.as_slice()[place as usize].as_str()
+    }
+
+    /// Keeps so many of the first names, and takes the others back.
+    pub fn truncate(&mut self, len: u32)
+        ensures { self.new ≡ take len self.old }
+    {
+        self.texts.truncate(len as usize);
     }
 
     /// How many names there are.

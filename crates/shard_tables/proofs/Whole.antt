@@ -3,7 +3,7 @@ use Rattle.std.proofs.Common.{◌≡◌, Option, ℕ, zero, suc, ◌+◌, ◌<�
 use Rattle.std.proofs.Math.ListN.{set}
 use Rattle.std.proofs.lemmas.List.{drop_all, length-map, map-append}
 use Rattle.std.specs.Prelude.{slice_index_or}
-use Rattle.std.proofs.lemmas.Option.{slice_get_within}
+use Rattle.std.proofs.lemmas.Option.{same_Some, slice_get_within}
 use Rattle.session_values.specs.declared.kind.TableKind.{TableKind}
 use Rattle.session_values.specs.declared.kind.TableKind.TheVariants.{Map, Set}
 use Rattle.opening_tables.specs.Opening.{Pair, container_of, entries_of, tables_of}
@@ -13,7 +13,7 @@ use Rattle.session_values.specs.Tables.{Container, Tables, empty_of, table, repl
 use Rattle.shard_tables.specs.declared.part.Part.{Part}
 use Rattle.shard_tables.specs.Either.{with_entry}
 use Rattle.shard_tables.specs.Whole.{container_in, held}
-use Rattle.session_values.proofs.Puts.{kind_after}
+use Rattle.session_values.proofs.KindLemmas.{set-table}
 
 -- the container of a kept table
 table-kept : (ts : List Part) (i : ℕ) (t : Part) → i < length ts → get_or ts i t ≡ t → table (held ts) i ≡ container_in t
@@ -26,32 +26,10 @@ held-set [] i t = refl
 held-set (x ∷ ts) zero t = refl
 held-set (x ∷ ts) (suc i) t = ap (λ all. container_in x ∷ all) (held-set ts i t)
 
-set-table : (all : Tables) (i : ℕ) → i < length all → set all i (table all i) ≡ all
-set-table [] i h = refl
-set-table (c ∷ all) zero h = refl
-set-table (c ∷ all) (suc i) h = ap (λ cs. c ∷ cs) (set-table all i (omega (arith, h)))
-
-kinds-after : (all : Tables) (i : ℕ) (op : Op) → map kind_of (set all i (after_on (table all i) op)) ≡ map kind_of all
-kinds-after [] i op = refl
-kinds-after (c ∷ all) zero op = ap (λ kind. kind ∷ map kind_of all) (kind_after c op)
-kinds-after (c ∷ all) (suc i) op = ap (λ kinds. kind_of c ∷ kinds) (kinds-after all i op)
-
--- an operation leaves the kinds as they were
-pub kinds-step : (all : Tables) (op : Op) → map kind_of (step all op) ≡ map kind_of all
-unfolding step
-kinds-step all op = kinds-after all op.table op
-
-pub kinds_kept : {A E : Type 0} (r : Result A E) (all now : Tables) (op : Op) → OnOk r (now ≡ step all op) → OnErr r (now ≡ all) → map kind_of now ≡ map kind_of all
-kinds_kept (Ok _) all now op after same = ap (map kind_of) after ∙ kinds-step all op
-kinds_kept (Err _) all now op after same = ap (map kind_of) same
-
 -- ---- one table among them
-inside : {X : Type 0} (x y : X) → ◌≡◌ {A = Option X} (Some x) (Some y) → x ≡ y
-inside {X} x y e = cc
-
 kind_at : (ts : List Part) (i : ℕ) (old : Part) (k : TableKind) → slice_get (map kind_of (held ts)) i ≡ Some k → get_or ts i old ≡ old → kind_of (container_in old) ≡ k
 kind_at [] i old k h e = cc
-kind_at (x ∷ ts) zero old k h e = ap (λ (t : Part). kind_of (container_in t)) (sym e) ∙ inside (kind_of (container_in x)) k h
+kind_at (x ∷ ts) zero old k h e = ap (λ (t : Part). kind_of (container_in t)) (sym e) ∙ same_Some (kind_of (container_in x)) k h
 kind_at (x ∷ ts) (suc i) old k h e = kind_at ts i old k h e
 
 -- a table that has a kind exists
@@ -94,7 +72,7 @@ one_more ts t all seen = map-append container_in ts (t ∷ []) ∙ ap (λ cs. cs
 -- ---- entries from a place on
 pub drop_step : (es : List Pair) (i : ℕ) (e : Pair) → slice_get es i ≡ Some e → drop i es ≡ e ∷ drop (i + 1) es
 drop_step [] i e h = cc
-drop_step (x ∷ es) zero e h = ap (λ (y : Pair). y ∷ es) (inside x e h)
+drop_step (x ∷ es) zero e h = ap (λ (y : Pair). y ∷ es) (same_Some x e h)
 drop_step (x ∷ es) (suc i) e h = let n : suc i + 1 ≡ suc (i + 1) = omega arith in drop_step es i e h ∙ ap (λ (k : ℕ). e ∷ drop k (x ∷ es)) (sym n)
 
 -- ---- what tables open with

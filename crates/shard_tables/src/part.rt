@@ -134,7 +134,7 @@ impl Part {
         }
     }
 
-    /// Does one operation on the part. One that may add a key to a full part is want of memory,
+    /// Does one operation on the part. One that may add a key to a full part is out of memory,
     /// whatever the key.
     pub fn try_apply(&mut self, op: Op) -> Result<Value, NoMemory>
         requires kind { kind_of (shard_view self.old).container ≡ home op.kind }
@@ -152,7 +152,7 @@ impl Part {
     }
 
     /// Puts an entry into it: of a map it binds the key, of a set it makes the key a member. A full
-    /// part is want of memory, whatever the key.
+    /// part is out of memory, whatever the key.
     pub fn enter(&mut self, key: Value, value: Value) -> Result<(), NoMemory>
         ensures entered { OnOk result (shard_view self.new ≡ record {
           container = with_entry (key, value) (shard_view self.old).container;

@@ -2,7 +2,7 @@
 use Rattle.std.proofs.Common.{◌≡◌, ◌≤◌, ℕ, List, [], ◌∷◌, ◌++◌, Some, leb, refl, sym, ap, ◌∙◌, arith}
 use Rattle.std.proofs.lemmas.Bool.{le-leb}
 use Rattle.std.specs.Prelude.{Result, Ok, Err}
-use Rattle.session_limits.specs.Limits.{max_signs}
+use Rattle.session_values.specs.Limits.{max_signs}
 use Rattle.syntax_tokens.specs.declared.word.Word.{Word}
 use Rattle.syntax_tokens.specs.declared.word.Sort.{Sort}
 use Rattle.syntax_tokens.specs.declared.word.Sort.TheVariants as sort

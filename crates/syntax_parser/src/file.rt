@@ -1,7 +1,7 @@
 // Whole files, and the call that reads them.
 
 ghost use Rattle.std.specs.Prelude.{◌≡◌, ◌≢◌, ◌≤◌, ◌<◌, ◌+◌, ◌^◌, [], length, None, Some, IfOk, OnOk, IfErr};
-ghost use Rattle.session_limits.specs.Limits.{max_input};
+ghost use Rattle.session_values.specs.Limits.{max_input};
 ghost use Rattle.syntax_grammar.specs.FirstFault.{IsFile};
 ghost use Rattle.syntax_grammar.specs.Next.{Inside, fault, whole_file};
 ghost use Rattle.syntax_grammar.specs.Phrase as spec;

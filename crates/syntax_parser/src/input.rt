@@ -1,13 +1,12 @@
 // What the parser reads from.
 
 ghost use Rattle.std.specs.Prelude.{◌≡◌, ◌≤◌, ◌+◌, length, drop, IfOk, IfErr, OnOk};
-ghost use Rattle.session_limits.specs.Limits.{max_signs};
+ghost use Rattle.session_values.specs.Limits.{max_signs};
 ghost use Rattle.syntax_tokens.specs.Words.{first_word};
 ghost use Rattle.syntax_grammar.specs.declared.refusals.SyntaxRefusal.TheVariants as refusal;
 ghost use Rattle.syntax_parser.specs.Reads.{NamesStay};
 
-use session_limits::MAX_SIGNS;
-use session_values::NoMemory;
+use session_values::{MAX_SIGNS, NoMemory};
 use syntax_grammar::SyntaxRefusal;
 use syntax_tokens::{Reader, Word};
 

@@ -1,7 +1,7 @@
 // Blocks, and the statements that have blocks of their own.
 
 ghost use Rattle.std.specs.Prelude.{◌≡◌, ◌≤◌, ◌<◌, ◌^◌, ◌∷◌, [], length, OnOk, Some};
-ghost use Rattle.session_limits.specs.Limits.{max_depth};
+ghost use Rattle.session_values.specs.Limits.{max_depth};
 ghost use Rattle.syntax_tokens.specs.Words.{first_word};
 ghost use Rattle.syntax_tokens.specs.declared.word.Sort.TheVariants as sort;
 ghost use Rattle.syntax_grammar.specs.Next.{Inside, a_block, or_else, statements};
@@ -15,8 +15,7 @@ use crate::list::list;
 use crate::parse_call::{condition, repeat_head};
 use crate::parse_stmt::{assignment, call_statement, let_statement, reply_statement};
 use crate::parse_words::mark;
-use session_limits::MAX_DEPTH;
-use session_values::{Boxed, Listed};
+use session_values::{Boxed, Listed, MAX_DEPTH};
 use std::alloc::Global;
 use syntax_grammar::{Start, SyntaxRefusal, refusal, statement_start};
 use syntax_tokens::Sort;

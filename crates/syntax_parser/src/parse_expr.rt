@@ -1,7 +1,7 @@
 // Expressions, where `*` binds tighter than `+` and `-`.
 
 ghost use Rattle.std.specs.Prelude.{◌≡◌, ◌≤◌, ◌∷◌, [], IfOk};
-ghost use Rattle.session_limits.specs.Limits.{max_open};
+ghost use Rattle.session_values.specs.Limits.{max_open};
 ghost use Rattle.syntax_grammar.specs.Next.{Anywhere, Opened, expression, operand, more_factors, more_terms, closing};
 ghost use Rattle.syntax_grammar.specs.Phrase as spec;
 ghost use Rattle.syntax_grammar.specs.Tree.{factor_tree, term_tree, expr_tree};
@@ -11,8 +11,7 @@ ghost use Rattle.syntax_trees.specs.declared.expr.Expr.TheVariants as expr;
 
 use crate::input::Input;
 use crate::parse_atom::atom;
-use session_limits::MAX_OPEN;
-use session_values::{Boxed, NoMemory};
+use session_values::{Boxed, MAX_OPEN, NoMemory};
 use std::alloc::Global;
 use syntax_grammar::{SyntaxRefusal, refusal};
 use syntax_tokens::Sort;

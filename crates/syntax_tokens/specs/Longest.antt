@@ -2,7 +2,7 @@
 use Rattle.std.specs.Prelude.{◌≡◌, ℕ, ◌<◌, ◌≤◌, ◌⊎◌, true, List, ◌∷◌, length, take, drop, slice_index, is_some, codes}
 use Rattle.std.specs.Char.{is_ascii_alphabetic}
 use Rattle.std.specs.List.{prefix_len, AllByRecursion}
-use Rattle.session_limits.specs.Limits.{max_name}
+use Rattle.session_values.specs.Limits.{max_name}
 use Rattle.syntax_tokens.specs.declared.scan.Class.{Class}
 use Rattle.syntax_tokens.specs.declared.scan.Class.TheVariants as class
 use Rattle.syntax_tokens.specs.declared.token_kind.TokenKind.{TokenKind}

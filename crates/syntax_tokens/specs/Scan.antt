@@ -3,7 +3,7 @@ use Rattle.std.specs.Prelude.{ℕ, ◌+◌, Bool, true, false, ◌||◌, ◌&&�
 use Rattle.std.specs.Char.{is_ascii_digit, is_ascii_alphabetic, is_ascii_alphanumeric}
 use Rattle.std.specs.List.{prefix_len}
 use Rattle.std.specs.Str.{bytes_eq}
-use Rattle.session_limits.specs.Limits.{max_name}
+use Rattle.session_values.specs.Limits.{max_name}
 use Rattle.text_lines.specs.Bytes.{is_blank, is_symbol_byte}
 use Rattle.syntax_tokens.specs.declared.scan.Class.{Class}
 use Rattle.syntax_tokens.specs.declared.scan.Class.TheVariants as class

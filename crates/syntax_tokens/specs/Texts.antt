@@ -3,7 +3,7 @@ use Rattle.std.specs.Prelude.{◌≡◌, ℕ, ◌≤◌, true, false, List, [], 
 use Rattle.std.specs.Char.{is_ascii_alphabetic}
 use Rattle.std.specs.List.{AllByRecursion}
 use Rattle.std.specs.Str.{bytes_eq}
-use Rattle.session_limits.specs.Limits.{max_name}
+use Rattle.session_values.specs.Limits.{max_name}
 use Rattle.session_values.specs.declared.value.Value.TheVariants.{Num}
 use Rattle.session_values.specs.Values.{IsValue}
 use Rattle.syntax_trees.specs.declared.file.File.{File}

@@ -2,7 +2,7 @@
 
 ghost use Rattle.std.specs.Prelude.{◌≡◌, ◌≢◌, ◌+◌, ◌≤◌, ◌<◌, [], length, drop, IfOk, OnOk, OnErr, None};
 ghost use Rattle.std.specs.List.{AllByRecursion};
-ghost use Rattle.session_limits.specs.Limits.{max_input};
+ghost use Rattle.session_values.specs.Limits.{max_input};
 ghost use Rattle.session_values.specs.Names.{Begins};
 ghost use Rattle.syntax_tokens.specs.Reading.{words_left, names_left, end_of};
 ghost use Rattle.syntax_tokens.specs.Words.{words_of, names_of, first_word, IsNamedWord};

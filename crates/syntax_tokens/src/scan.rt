@@ -5,7 +5,7 @@ ghost use Rattle.std.specs.List.{prefix_len};
 ghost use Rattle.syntax_tokens.specs.Scan as spec;
 
 use crate::token_kind::TokenKind;
-use session_limits::MAX_NAME;
+use session_values::MAX_NAME;
 use text_lines::{is_blank, is_symbol_byte};
 
 /// The bytes that runs are made of.

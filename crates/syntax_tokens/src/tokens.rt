@@ -1,7 +1,7 @@
 // The tokens of a source.
 
 ghost use Rattle.std.specs.Prelude.{◌≡◌, ◌≤◌, ◌<◌, ◌+◌, ◌++◌, ◌^◌, length, false};
-ghost use Rattle.session_limits.specs.Limits.{max_input};
+ghost use Rattle.session_values.specs.Limits.{max_input};
 ghost use Rattle.syntax_tokens.specs.Gap.{IsGap};
 ghost use Rattle.syntax_tokens.specs.Scan.{gap};
 ghost use Rattle.syntax_tokens.specs.Tokens.{Cuts, with_reserved, reserved_by};

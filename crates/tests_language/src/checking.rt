@@ -2,8 +2,7 @@
 
 use handler_check::{Checked, check};
 use handler_syntax::parse;
-use session_limits::MAX_INPUT;
-use session_values::Names;
+use session_values::{MAX_INPUT, Names};
 use std::alloc::Global;
 use std::test::Fail;
 

@@ -1,7 +1,7 @@
 // The text of a file with a line at each point.
 
 ghost use Rattle.std.specs.Prelude.{◌≤◌, length};
-ghost use Rattle.session_limits.specs.Limits.{max_input};
+ghost use Rattle.session_values.specs.Limits.{max_input};
 ghost use Rattle.handler_check.specs.Mentions.{AreNamed, file_mentions};
 
 use handler_syntax::{Declarations, File, parse, print_with_declarations};

@@ -1,7 +1,7 @@
 // Sources as plain texts: their tree, or why they have none.
 
 ghost use Rattle.std.specs.Prelude.{◌≤◌, length};
-ghost use Rattle.session_limits.specs.Limits.{max_input};
+ghost use Rattle.session_values.specs.Limits.{max_input};
 ghost use Rattle.handler_check.specs.Mentions.{AreNamed, file_mentions};
 
 use handler_syntax::{File, SyntaxRefusal, parse, reprint};

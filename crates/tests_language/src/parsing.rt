@@ -1,7 +1,7 @@
 // Trees of sources and of canonical texts, and the fronts of a source that are files.
 
 ghost use Rattle.std.specs.Prelude.{◌≤◌, length};
-ghost use Rattle.session_limits.specs.Limits.{max_input};
+ghost use Rattle.session_values.specs.Limits.{max_input};
 
 use crate::helpers::{is_again, shown_otherwise};
 use handler_syntax::parse;

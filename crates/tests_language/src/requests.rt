@@ -2,7 +2,7 @@
 // the sums of their calls and work, are stored runs, in `checks/`.
 
 ghost use Rattle.std.specs.Prelude.{◌≤◌, length};
-ghost use Rattle.session_limits.specs.Limits.{max_input};
+ghost use Rattle.session_values.specs.Limits.{max_input};
 ghost use Rattle.handler_check.specs.Mentions.{AreNamed, file_mentions};
 
 use handler_check::{Checked, check};

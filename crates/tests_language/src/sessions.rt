@@ -1,7 +1,7 @@
 // Session files with a table part: why they are refused, in which order, and what is loaded.
 
 ghost use Rattle.std.specs.Prelude.{◌≤◌, length};
-ghost use Rattle.session_limits.specs.Limits.{max_input};
+ghost use Rattle.session_values.specs.Limits.{max_input};
 
 use serve_faults::{Status, message_of};
 use serve_reading::{Loaded, Unserved, load_session, read_description};

@@ -1,7 +1,7 @@
 // The table part of a session file, with values from outside.
 
 ghost use Rattle.std.specs.Prelude.{◌≤◌, length};
-ghost use Rattle.session_limits.specs.Limits.{max_input};
+ghost use Rattle.session_values.specs.Limits.{max_input};
 ghost use Rattle.handler_check.specs.Mentions.{AreNamed, file_mentions};
 
 use handler_check::{Checked, check};

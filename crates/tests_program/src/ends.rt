@@ -4,7 +4,7 @@ use byte_ends::{
     Got, MemorySink, MemorySource, Put, Sink, Source, SureSink, SureSource, Unread, read_all,
     write_all,
 };
-use session_limits::MAX_INPUT;
+use session_values::MAX_INPUT;
 use std::alloc::Global;
 use std::test::Fail;
 

@@ -3,7 +3,7 @@ use Rattle.std.specs.Prelude.{ℕ, ◌+◌, ◌-◌, ◌*◌, ◌^◌, ℤ, pos,
 use Rattle.std.specs.Char.{is_ascii_alphabetic}
 use Rattle.std.specs.List.{list_all}
 use Rattle.std.specs.Str.{bytes_eq, all_ascii_digits}
-use Rattle.session_limits.specs.Limits.{max_name}
+use Rattle.session_values.specs.Limits.{max_name}
 use Rattle.text_lines.specs.Bytes.{is_symbol_byte}
 use Rattle.session_values.specs.Names.{with_text, place_of}
 use Rattle.session_values.specs.declared.value.Value.{Value}

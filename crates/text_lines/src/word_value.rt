@@ -7,8 +7,7 @@ ghost use Rattle.text_lines.specs.Bytes as classes;
 ghost use Rattle.text_lines.specs.Values as spec;
 
 use crate::bytes::is_symbol_byte;
-use session_limits::MAX_NAME;
-use session_values::{Names, NoMemory, Value};
+use session_values::{MAX_NAME, Names, NoMemory, Value};
 
 /// The word's first byte, or 0 where it has none.
 #[inline]

@@ -1,6 +1,6 @@
 -- The journal of a lawful book in which all tickets have ended is accepted.
 use Rattle.std.proofs.Common.{◌≡◌, ℕ, ◌≤◌, List, [], ◌∷◌, ◌++◌, length, sym, ◌∙◌, ap, subst, append_assoc, arith}
-use Rattle.session_limits.specs.Limits.{max_callers}
+use Rattle.session_values.specs.Limits.{max_callers}
 use Rattle.session_values.specs.Dialogue.{Entry}
 use Rattle.session_journal.specs.declared.event.Event.{Event}
 use Rattle.session_journal.specs.declared.event.Event.TheVariants.{Begin, Done, Delay, End}

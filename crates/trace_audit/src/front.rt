@@ -2,15 +2,14 @@
 
 ghost use Rattle.std.specs.Prelude.{◌≡◌, ◌<◌, IfOk, None, Some, length, map, replicate, slice_get};
 ghost use Rattle.std.specs.Bool.{Decides};
-ghost use Rattle.session_limits.specs.Limits.{max_callers};
+ghost use Rattle.session_values.specs.Limits.{max_callers};
 ghost use Rattle.session_values.specs.Kinds.{home};
 ghost use Rattle.session_values.specs.Tables.{kind_of, reply};
 ghost use Rattle.trace_audit.specs.Judging.{AnswersNow, CallsNow, FindsOpen, begins, call_of, delayed_at, done_at, ends_at, front_of, is_free, is_open, may_begin, no_standing, opened, standing_at};
 
 use crate::standing::Standing;
 use crate::ticket_replay::{TicketReplay, same_op, same_reply};
-use session_limits::MAX_CALLERS;
-use session_values::{NoMemory, Op, Reply, Value};
+use session_values::{MAX_CALLERS, NoMemory, Op, Reply, Value};
 use shard_tables::WholeTables;
 use std::alloc::Global;
 

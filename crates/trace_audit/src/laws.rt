@@ -1,7 +1,7 @@
 //! Laws on the journals of lawful books, and on what an audit's desk keeps of a run.
 
 ghost use Rattle.std.specs.Prelude.{◌≡◌, ℕ, ◌<◌, ◌≤◌, List, Some, length, take};
-ghost use Rattle.session_limits.specs.Limits.{max_callers};
+ghost use Rattle.session_values.specs.Limits.{max_callers};
 ghost use Rattle.session_journal.specs.Journal.{entries};
 ghost use Rattle.session_journal.specs.Script.{Meaning, IsScript};
 ghost use Rattle.admission_book.specs.Book.{Book};

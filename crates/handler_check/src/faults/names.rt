@@ -7,8 +7,7 @@ ghost use Rattle.check_rules.specs.Rules.{kind_of};
 ghost use Rattle.check_rules.specs.Scan.{Found, count_fault, declared_fault, fault_if, is_among, is_same_kind, of_variables, or_else, table_fault, turns_fault, unseen_fault};
 
 use check_rules::CheckRefusal;
-use session_limits::{MAX_TURNS, MAX_VARIABLES};
-use session_values::{Kind, TableKind};
+use session_values::{Kind, MAX_TURNS, MAX_VARIABLES, TableKind};
 use syntax_trees::TableDecl;
 
 /// Declares a name behind the earlier ones, unless it is one of them, or there are too many.

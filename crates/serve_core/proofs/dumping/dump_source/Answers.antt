@@ -1,5 +1,5 @@
 use Rattle.std.proofs.Common.{true, refl, rules, subst, List, ℕ}
-use Rattle.session_limits.specs.Limits.{max_input}
+use Rattle.session_values.specs.Limits.{max_input}
 use Rattle.serve_faults.specs.Changes.{change}
 use Rattle.serve_faults.specs.Ways.{HasRead}
 use Rattle.serve_core.proofs.TopLemmas.{served_run, unserved_run}

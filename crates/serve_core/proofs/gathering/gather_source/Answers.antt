@@ -1,6 +1,6 @@
 use Rattle.std.proofs.Common.{refl, rules, subst, List, ℕ}
 use Rattle.serve_faults.specs.Changes.{change}
-use Rattle.session_limits.specs.Limits.{max_input}
+use Rattle.session_values.specs.Limits.{max_input}
 use Rattle.serve_faults.specs.Ways.{HasRead}
 use Rattle.serve_core.proofs.TopLemmas.{rounds_run, unrounded_run}
 use Rattle.serve_core.proofs.gathering.gather_source.Goals as goal

@@ -1,5 +1,5 @@
 use Rattle.std.proofs.Common.{◌≤◌, sym, subst}
-use Rattle.session_limits.specs.Limits.{max_requests}
+use Rattle.session_values.specs.Limits.{max_requests}
 use Rattle.handler_machine.specs.Scripts.{ScriptsView, meaning}
 use Rattle.reply_sheet.specs.Printable.{ArePrintableReplies}
 use Rattle.hall_writing.specs.Jobs.{replies_of}

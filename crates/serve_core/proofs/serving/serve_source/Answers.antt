@@ -1,6 +1,6 @@
 use Rattle.std.proofs.Common.{false, refl, rules, subst, List, ℕ}
 use Rattle.serve_faults.specs.Changes.{change}
-use Rattle.session_limits.specs.Limits.{max_input}
+use Rattle.session_values.specs.Limits.{max_input}
 use Rattle.serve_faults.specs.Ways.{HasRead}
 use Rattle.serve_core.proofs.TopLemmas.{served_run, unserved_run}
 use Rattle.serve_core.proofs.serving.serve_source.Goals as goal

@@ -1,5 +1,5 @@
 use Rattle.std.proofs.Common.{ℕ, ◌≤◌, sym, subst}
-use Rattle.session_limits.specs.Limits.{max_callers}
+use Rattle.session_values.specs.Limits.{max_callers}
 use Rattle.handler_machine.specs.Scripts.{meaning}
 use Rattle.serve_core.specs.Serving.{HasRoomFor}
 use Rattle.serve_core.proofs.FileLemmas.{has_room}

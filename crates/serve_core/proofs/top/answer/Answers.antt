@@ -1,5 +1,5 @@
 use Rattle.std.proofs.Common.{◌≡◌, ◌≤◌, Option, Some, refl, rules, subst, sym}
-use Rattle.session_limits.specs.Limits.{max_requests}
+use Rattle.session_values.specs.Limits.{max_requests}
 use Rattle.serve_words.specs.declared.command.Command.{Command}
 use Rattle.serve_words.specs.declared.command.Command.TheVariants.{Work}
 use Rattle.serve_faults.specs.Changes.{change}

@@ -1,6 +1,6 @@
 use Rattle.std.proofs.Common.{◌≡◌, ◌≤◌, arith, length, rules}
 use Rattle.request_files.proofs.TraceSizes.{line_within}
-use Rattle.session_limits.specs.Limits.{max_input}
+use Rattle.session_values.specs.Limits.{max_input}
 use Rattle.serve_reading.proofs.AuditedFiles.{first_few, first_table_few}
 use Rattle.serve_reading.proofs.auditing.load_traced.Goals as goal
 

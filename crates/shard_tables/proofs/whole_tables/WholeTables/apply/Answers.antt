@@ -4,7 +4,8 @@ use Rattle.session_values.specs.declared.op.Op.{Op}
 use Rattle.session_values.specs.declared.value.Value.{Value}
 use Rattle.shard_tables.specs.Shards.{ShardView}
 use Rattle.shard_tables.specs.Whole.{container_in}
-use Rattle.shard_tables.proofs.Whole.{kind_kept, kinds_kept, reply_kept, written_step, written_same}
+use Rattle.session_values.proofs.KindLemmas.{kinds_kept}
+use Rattle.shard_tables.proofs.Whole.{kind_kept, reply_kept, written_step, written_same}
 use Rattle.shard_tables.proofs.whole_tables.WholeTables.apply.Goals as goal
 
 pub returns-clause-reply : goal.returns-clause-reply
