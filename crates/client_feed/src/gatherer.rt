@@ -11,7 +11,8 @@ use crossbeam_channel::{Pass, RuledReceiver};
 use std::marker::Model;
 use std::sync::Wait;
 
-/// What takes the requests of all clients, in the order in which they arrive.
+/// What takes the requests of all clients, in the order in which they arrive. The channel has room
+/// for all of them, so no send waits.
 #[derive(Drop)]
 pub struct Gatherer {
     pub(crate) receiver: RuledReceiver<Arrival, Hand, InOrder>,
@@ -20,9 +21,9 @@ pub struct Gatherer {
 }
 
 impl Model for Gatherer {
-    ghost use Rattle.std.specs.Prelude.{◌≡◌, ◌+◌, length, sum, true};
+    ghost use Rattle.std.specs.Prelude.{◌≡◌, ◌+◌, ◌≤◌, length, sum, true};
     ghost use Rattle.crossbeam_channel.specs.Claims.{IsSeatAt};
-    ghost use Rattle.crossbeam_channel.specs.Ends.{receives_on};
+    ghost use Rattle.crossbeam_channel.specs.Ends.{receives_on, ruled_capacity};
     ghost use Rattle.client_sheet.specs.Arrivals.{IsDrawn};
     ghost use Rattle.client_feed.specs.Ends.{GathererView};
     ghost use Rattle.client_feed.specs.Passes.{knows};
@@ -34,7 +35,8 @@ impl Model for Gatherer {
     ghost invariant = { λ g. IsSeatAt (receives_on g.receiver) g.pass
         × ((knows g.pass).gets ≡ true)
         × IsDrawn (knows g.pass).counts (knows g.pass).got
-        × (g.left + length (knows g.pass).got ≡ sum (knows g.pass).counts) };
+        × (g.left + length (knows g.pass).got ≡ sum (knows g.pass).counts)
+        × (sum (knows g.pass).counts ≤ ruled_capacity (receives_on g.receiver)) };
 }
 
 impl Gatherer {

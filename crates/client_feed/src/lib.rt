@@ -14,4 +14,4 @@ pub use beside::feed_all;
 pub use client_sheet::Arrival;
 pub use feeder::{Feeder, Feeders};
 pub use gatherer::Gatherer;
-pub use opening::open;
+pub use opening::Feed;

@@ -14,14 +14,19 @@ use session_values::{Listed, NoMemory};
 use std::alloc::Global;
 use std::marker::Brand;
 
-/// A feeder for each client, and the gatherer, of clients with so many requests each.
-pub fn open(alloc: Global, counts: &[u32]) -> Result<(Feeders, Gatherer), NoMemory>
-    requires clients { (1 ≤ length counts.now) × (length counts.now ≤ max_clients) }
-    requires requests { sum counts.now ≤ max_requests }
-    ensures feeders { IfOk result (λ r. AreFeeders counts.now r.0) }
-    ensures gatherer { IfOk result (λ r. r.1 ≡ record { counts = counts.now; got = [] }) }
-{
-    opened::<Brand>(alloc, counts)
+/// The channel between clients and the one who gathers their requests.
+pub struct Feed;
+
+impl Feed {
+    /// A feeder for each client, and the gatherer, of clients with so many requests each.
+    pub fn open(alloc: Global, counts: &[u32]) -> Result<(Feeders, Gatherer), NoMemory>
+        requires clients { (1 ≤ length counts.now) × (length counts.now ≤ max_clients) }
+        requires requests { sum counts.now ≤ max_requests }
+        ensures feeders { IfOk result (λ r. AreFeeders counts.now r.0) }
+        ensures gatherer { IfOk result (λ r. r.1 ≡ record { counts = counts.now; got = [] }) }
+    {
+        opened::<Brand>(alloc, counts)
+    }
 }
 
 // The same, where a type names how many requests each client has.

@@ -11,7 +11,7 @@ ghost use Rattle.client_rounds.specs.Rounds.{AreServed};
 
 use crate::rounds::serve_rounds;
 use crate::served::Served;
-use client_feed::{Feeder, Gatherer, feed_all, open};
+use client_feed::{Feed, Feeder, Gatherer, feed_all};
 use declaration_insertion::Program;
 use opening_tables::Opening;
 use request_files::ClientRequests;
@@ -42,7 +42,7 @@ pub fn serve_clients<R: Threads + Wait + Sync, G: Gate + Sync>(
 {
     // There are 1 to 16 clients.
     let _clients = clients.clients();
-    let (feeders, gatherer) = open(alloc, clients.counts())?;
+    let (feeders, gatherer) = Feed::open(alloc, clients.counts())?;
     let feeders = feeders.into_vec();
     // If no thread can be made, `join` runs its first closure last, so the clients send first. The
     // gatherer is given back, and dropped after both: no send comes back while a client sends.

@@ -38,6 +38,7 @@ impl<'a> Bookings<'a> {
     pub fn served<R: Threads + Wait + Sync>(self, rt: &R, alloc: Global) -> Result<Closed, NoMemory>
         ensures done { IfOk result (IsDone (bookings_meaning self.entry.list.now)) }
         ensures shards { IfOk result (λ c. c.shards ≡ 2) }
+        ensures callers { IfOk result (λ c. c.callers ≡ 2) }
     {
         // The kinds of `SEATS` and `WAITING`, two shards for each of them, and two callers.
         let session = open_session(alloc, self, &[TableKind::Map, TableKind::Set], 2, 2)?;

@@ -27,5 +27,5 @@ AreOut callers = AllByRecursion (λ c. c.stage ≡ Out) callers
 -- back
 abbrev pub ClosesAs : SteppingView → Result ClosedView SteppingView → Type 0
 ClosesAs s (Ok d) = AreOut s.callers × IsDone (meaning_of s.hall) d × IsNotedBy s.callers d.journal
-    × (d.shards ≡ s.hall.sizes.shards)
+    × (d.shards ≡ s.hall.sizes.shards) × (d.callers ≡ s.hall.sizes.callers)
 ClosesAs s (Err r) = (AreOut s.callers → ⊥) × (r ≡ s)

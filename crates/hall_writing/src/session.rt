@@ -63,7 +63,7 @@ pub fn open_writing<S: Script + Drop>(
     ensures shards { IfOk result (λ s. s.shards ≡ shards) }
 {
     let sheet = make_sheet(alloc, script.requests(), callers)?;
-    let (lane, ends) = reply_lane::open(alloc, &script, callers)?;
+    let (lane, ends) = Lane::open(alloc, &script, callers)?;
     let mut ends = ends.into_vec();
     let mut scratches = make_scratches(alloc, callers)?;
     let mut jobs = Vec::with_capacity(alloc, callers as usize)?;

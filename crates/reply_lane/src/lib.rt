@@ -8,5 +8,4 @@ mod opening;
 mod rule;
 
 pub use lane::{End, Ends, Lane};
-pub use opening::open;
 pub use rule::Spoken;

@@ -18,14 +18,16 @@ use std::marker::Brand;
 // How many messages a lane has room for; the definition is `lane_room`.
 const ROOM: usize = 1024;
 
-/// A lane that holds nothing, and an end for each caller, for the serial replies of a script.
-pub fn open<S: Script>(alloc: Global, plan: &S, callers: u32) -> Result<(Lane, Ends), NoMemory>
-    requires callers { (1 ≤ callers) × (callers ≤ max_callers) }
-    ensures count { IfOk result (λ r. length r.1 ≡ callers) }
-    ensures ends { IfOk result (λ r. AllByRecursion (IsNewEnd r.0 callers
-        (serial_replies (session_of (S.meaning plan.now)) (S.meaning plan.now).requests)) r.1) }
-{
-    opened::<S, Brand>(alloc, plan, callers)
+impl Lane {
+    /// A lane that holds nothing, and an end for each caller, for the serial replies of a script.
+    pub fn open<S: Script>(alloc: Global, plan: &S, callers: u32) -> Result<(Lane, Ends), NoMemory>
+        requires callers { (1 ≤ callers) × (callers ≤ max_callers) }
+        ensures count { IfOk result (λ r. length r.1 ≡ callers) }
+        ensures ends { IfOk result (λ r. AllByRecursion (IsNewEnd r.0 callers
+            (serial_replies (session_of (S.meaning plan.now)) (S.meaning plan.now).requests)) r.1) }
+    {
+        opened::<S, Brand>(alloc, plan, callers)
+    }
 }
 
 // The same, where a type names the replies and the number of callers.

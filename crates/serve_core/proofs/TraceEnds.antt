@@ -7,7 +7,7 @@ use Rattle.serve_words.specs.declared.command.Command.{Command}
 use Rattle.serve_words.specs.declared.command.Command.TheVariants.{Trace}
 use Rattle.serve_faults.specs.declared.status.Status.{Status}
 use Rattle.serve_faults.specs.declared.status.Status.TheVariants as status
-use Rattle.serve_faults.specs.Changes.{Change, IsUntouched, Took}
+use Rattle.serve_faults.specs.Changes.{Change, IsUntouched, Took, TookFront}
 use Rattle.serve_faults.specs.Input.{parts_of}
 use Rattle.serve_faults.specs.Session.{all_names_of}
 use Rattle.serve_faults.specs.Traced.{CanBeTold, IsTraced, table_places, traced_text}
@@ -40,6 +40,15 @@ took out status.Usage text e h = absurd e
 took out status.NoMemory text e h = absurd e
 took out status.ReadFault text e h = absurd e
 
+-- and a front of it, where the sink failed
+took_front : {O : Type 0} (out : Change O) (s : Status) (text : List ℕ) → EndsBy text out s → s ≡ status.WriteFault → TookFront out text
+took_front out status.Fine text e h = absurd (cc)
+took_front out status.WriteFault text e h = e.1
+took_front out (status.Refused f) text e h = absurd e
+took_front out status.Usage text e h = absurd e
+took_front out status.NoMemory text e h = absurd e
+took_front out status.ReadFault text e h = absurd e
+
 module _ {O : Type 0} (callers shards : ℕ) (few : callers ≤ max_callers) (input : List ℕ) (out : Change O) where
   abbrev command : Command
   command = Trace callers shards
@@ -59,10 +68,11 @@ module _ {O : Type 0} (callers shards : ℕ) (few : callers ≤ max_callers) (in
     }
 
     wrote : WroteJournal (Some command) input out s (Some d)
-    wrote = λ w fine. record {
+    wrote = λ w begun. record {
       file = e.served.file;
       is_session = e.served.is_session;
-      took = subst (Took out) text_is (took out s (text_of writing.Events e.names e.served.file d) e.ends fine);
+      took = λ fine. subst (Took out) text_is (took out s (text_of writing.Events e.names e.served.file d) e.ends fine);
+      front = λ failed. subst (TookFront out) text_is (took_front out s (text_of writing.Events e.names e.served.file d) e.ends failed);
     }
 
     traced_to : AnswersTo command input out s (Some d)

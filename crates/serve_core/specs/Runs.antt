@@ -25,7 +25,7 @@ use Rattle.serve_faults.specs.Input.{Parts, client_parts, most_of, parts_of}
 use Rattle.serve_faults.specs.Session.{IsSession, opened_of, requests_of, session_of_parts}
 use Rattle.serve_faults.specs.Traced.{traced_text}
 use Rattle.serve_faults.specs.Message.{message_of}
-use Rattle.serve_core.specs.Commands.{Told, has_served, has_ticket, opens_always, writes_events}
+use Rattle.serve_core.specs.Commands.{Told, has_begun_writing, has_served, has_ticket, opens_always, writes_events}
 use Rattle.serve_core.specs.Replied.{text_of_arrivals}
 
 -- ---- what is read
@@ -95,7 +95,7 @@ pub record IsServedThrough (command : Command) (input : List ℕ) (closed : Clos
 
 -- The requests of the input's clients arrived in this order, all of them and each client's in its
 -- own, and were served so, in rounds, the last of them through this hall. Where the run ended well,
--- it wrote the replies that they have in this order.
+-- it wrote the replies that they have in this order; where the sink failed, a front of them.
 pub record IsServedInRounds {O : Type 0} (command : Command) (input : List ℕ) (out : Change O)
     (s : Status) (closed : ClosedView) : Type 0 where
   pub file : File
@@ -109,6 +109,7 @@ pub record IsServedInRounds {O : Type 0} (command : Command) (input : List ℕ) 
         counts = client_counts input;
       }) got (callers_of command) (shards_of command) closed
   pub took : s ≡ status.Fine → Took out (text_of_arrivals input file got)
+  pub front : s ≡ status.WriteFault → TookFront out (text_of_arrivals input file got)
 
 -- what a hall that is left holds: a line for each command
 abbrev pub IsLeft : {O : Type 0} → Command → List ℕ → Change O → Status → ClosedView → Type 0
@@ -136,19 +137,22 @@ Opens None bytes s closed = closed ≡ None
 Opens (Some command) bytes s closed = is_some closed
     ≡ (has_ticket command (input_of command bytes) && has_served (Some command) s)
 
--- these events were written, with the names of the input's session
-pub record WroteEvents {O : Type 0} (input : List ℕ) (out : Change O) (events : List Event)
-    : Type 0 where
+-- these events were written, with the names of the input's session, or a front of them where the sink
+-- failed
+pub record WroteEvents {O : Type 0} (input : List ℕ) (out : Change O) (s : Status)
+    (events : List Event) : Type 0 where
   pub file : File
   pub is_session : IsSession (parts_of input) file
-  pub took : Took out (traced_text (parts_of input) file events)
+  pub took : s ≡ status.Fine → Took out (traced_text (parts_of input) file events)
+  pub front : s ≡ status.WriteFault → TookFront out (traced_text (parts_of input) file events)
 
--- where a command writes the events of its run, and ended well, it wrote those of the hall's journal
+-- where a command writes the events of its run, they are those of the hall's journal
 abbrev pub WroteJournal : {O : Type 0} → Option Command → List ℕ → Change O → Status
     → Option ClosedView → Type 0
 WroteJournal None bytes out s closed = Unit {0}
-WroteJournal (Some command) bytes out s closed = writes_events command ≡ true → s ≡ status.Fine
-    → IfSome closed (λ (d : ClosedView). WroteEvents (input_of command bytes) out d.journal)
+WroteJournal (Some command) bytes out s closed = writes_events command ≡ true
+    → has_begun_writing s ≡ true
+    → IfSome closed (λ (d : ClosedView). WroteEvents (input_of command bytes) out s d.journal)
 
 -- ---- what is promised
 
@@ -198,7 +202,7 @@ pub record Runs {I O : Type 0} (command : Option Command) (source : Change I) (o
   pub ticketed : Told command source (λ bytes. Opens command bytes s closed)
   -- Through it the session was served, or the last round of it.
   pub hall : Told command source (λ bytes. Holds command bytes out s closed)
-  -- Where `trace` ends well, it wrote the events of the journal of that hall.
+  -- What `trace` writes are the events of the journal of that hall.
   pub traced : Told command source (λ bytes. WroteJournal command bytes out s closed)
 
 -- The line on the error output is the status's, or a front of it where that output failed.

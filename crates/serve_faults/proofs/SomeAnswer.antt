@@ -26,9 +26,14 @@ use Rattle.serve_faults.specs.declared.status.Fault.{Fault}
 use Rattle.serve_faults.specs.declared.status.Fault.TheVariants as fault
 use Rattle.serve_faults.specs.Commands.{has_text, input_of, has_handlers, has_requests}
 use Rattle.serve_faults.specs.Audited.{audited_parts, trace_fault}
+use Rattle.serve_faults.specs.Clients.{client_counts, session_of_arrivals}
+use Rattle.client_sheet.specs.declared.arrival.Arrival.{Arrival}
+use Rattle.client_sheet.specs.ClientText.{clients_text}
+use Rattle.client_sheet.proofs.InOrder.{in_order, in_order_drawn, in_order_length}
+use Rattle.session_values.specs.Serial.{serial_replies}
 use Rattle.request_files.specs.TracePart.{before_trace, has_trace}
 use Rattle.serve_faults.specs.Input.{parts_in, parts_of, parts_fault, alone_fault, divided_fault, traced_fault, clients_fault, client_marks, client_parts, has_mark, is_divided, handlers_of, max_audit_input, IsInput, IsShort, IsTooLarge}
-use Rattle.serve_faults.specs.Session.{IsProgram, IsSession, request_fault, table_fault}
+use Rattle.serve_faults.specs.Session.{IsProgram, IsSession, all_names_of, request_fault, table_fault}
 use Rattle.serve_faults.specs.Answer.{Answer, Answers, CommandAnswers, HasAnswer, IsRefused, IsUnrefused, LacksText}
 use Rattle.serve_faults.specs.Answer as answer
 use Rattle.serve_faults.proofs.OneAnswer.{session_unrefused, unbroken}
@@ -68,7 +73,10 @@ of_program (Trace callers shards) input f h i p =
     of_tables (Trace callers shards) input f i refl p (λ s. inr (refl, λ e r. session_unrefused (Trace callers shards) input f e refl refl i s r)) (table_fault (parts_of input) f) refl
 of_program Audit input f h i p = of_tables Audit input f i refl p (λ s. of_trace input f i s (trace_fault input f) refl) (table_fault (audited_parts input) f) refl
 of_program (Clients callers shards) input f h i p =
-    of_tables (Clients callers shards) input f i refl p (λ s. inr (refl, λ e r. session_unrefused (Clients callers shards) input f e refl refl i s r)) (table_fault (client_parts input) f) refl
+    of_tables (Clients callers shards) input f i refl p (λ s. inl (answer.Text (clients_text (all_names_of (client_parts input)) got (serial_replies (session_of_arrivals input f got) (length got)) (length (client_counts input))), (i, record { file = f; is_session = s; got = got; drawn = in_order_drawn (client_counts input); all = in_order_length 0 (client_counts input); text_is = refl }))) (table_fault (client_parts input) f) refl
+  where
+    got : List Arrival
+    got = in_order 0 (client_counts input)
 
 -- ---- handlers
 

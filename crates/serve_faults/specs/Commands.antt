@@ -126,4 +126,4 @@ has_text (Work requests start) = true
 has_text Ranges = true
 has_text (Trace callers shards) = false
 has_text Audit = false
-has_text (Clients callers shards) = false
+has_text (Clients callers shards) = true

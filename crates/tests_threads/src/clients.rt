@@ -3,7 +3,7 @@
 ghost use Rattle.std.specs.Prelude.{◌<◌, ◌≤◌, ◌+◌, length, sum, vec_len};
 ghost use denote.Param.Send.{IsSync};
 
-use client_feed::{Arrivals, Feeder, Gatherer, feed_all, open};
+use client_feed::{Arrivals, Feed, Feeder, Gatherer, feed_all};
 use session_values::NoMemory;
 use std::process::Abort;
 use std::sync::Wait;
@@ -57,7 +57,7 @@ fn fed_and_gathered<R: Threads + Wait + Sync, G: Gate + Sync>(
 fn each_client_comes_in_order(rt: HostRuntime) -> Result<(), NoMemory> {
     let counts = [200, 0, 300, 100];
     let out = Arrivals::with_room(rt.alloc(), 600)?;
-    let (feeders, gatherer) = open(rt.alloc(), &counts)?;
+    let (feeders, gatherer) = Feed::open(rt.alloc(), &counts)?;
     let (_feeders, (gatherer, out)) = fed_and_gathered(
         &rt,
         &OpenGate,
@@ -83,7 +83,7 @@ fn each_client_comes_in_order(rt: HostRuntime) -> Result<(), NoMemory> {
 #[test]
 fn feeders_run_beside_each_other(rt: HostRuntime) -> Result<(), NoMemory> {
     let out = Arrivals::with_room(rt.alloc(), 3)?;
-    let (feeders, gatherer) = open(rt.alloc(), &[2, 1])?;
+    let (feeders, gatherer) = Feed::open(rt.alloc(), &[2, 1])?;
     let gate = HoldGate::new(Place::Sent(0, 0), Place::Sent(1, 0), 10_000_000);
     let (_feeders, (_gatherer, out)) = fed_and_gathered(
         &rt,

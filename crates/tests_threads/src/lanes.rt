@@ -7,7 +7,7 @@ ghost use Rattle.reply_lane.specs.Ends.{IsEndOf};
 ghost use Rattle.reply_lane.specs.Lanes.{IsSpoken};
 ghost use Rattle.tests_threads.specs.OneReply.{nil_reply, one_reply, one_ticket};
 
-use reply_lane::{End, Lane, Spoken, open};
+use reply_lane::{End, Lane, Spoken};
 use session_journal::ListScript;
 use session_values::{NoMemory, Reply, TableKind, Value};
 use std::alloc::Global;
@@ -47,7 +47,7 @@ fn opened(alloc: Global, callers: u32) -> Result<(Lane, Vec<End>), NoMemory>
     ensures ends { IfOk result (λ r. AllByRecursion (IsEndOf r.0 one_reply) r.1.items) }
 {
     let plan = plan(alloc)?;
-    let (lane, ends) = open(alloc, &plan, callers)?;
+    let (lane, ends) = Lane::open(alloc, &plan, callers)?;
     Ok((lane, ends.into_vec()))
 }
 

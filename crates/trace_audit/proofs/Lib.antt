@@ -1,4 +1,5 @@
 pub mod Audits
+pub mod Deciding
 pub mod FromBook
 pub mod FrontSteps
 pub mod Fronts

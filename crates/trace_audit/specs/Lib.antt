@@ -1,3 +1,4 @@
+pub mod Deciding
 pub mod Desk
 pub mod Judging
 pub mod Keeping

@@ -1,12 +1,17 @@
 //! Laws on the journals of lawful books, and on what an audit's desk keeps of a run.
 
 ghost use Rattle.std.specs.Prelude.{◌≡◌, ℕ, ◌<◌, ◌≤◌, List, Some, length, take};
+ghost use Rattle.std.specs.List.{AllByRecursion};
 ghost use Rattle.session_values.specs.Limits.{max_callers};
+ghost use Rattle.session_journal.specs.declared.event.Event.{Event};
 ghost use Rattle.session_journal.specs.Journal.{entries};
 ghost use Rattle.session_journal.specs.Script.{Meaning, IsScript};
 ghost use Rattle.admission_book.specs.Book.{Book};
 ghost use Rattle.admission_book.specs.Lawful.{Lawful};
 ghost use Rattle.trace_rules.specs.Accepted.{Accepted, HaveEnded};
+ghost use Rattle.trace_rules.specs.declared.verdict.Verdict.{Verdict};
+ghost use Rattle.trace_rules.specs.Verdicts.{IsVerdict};
+ghost use Rattle.trace_audit.specs.Deciding.{CanBeJudged};
 ghost use Rattle.session_values.specs.Dialogue.{Dialogue, Entry, replies};
 ghost use Rattle.machine_walk.specs.Asking.{Runs};
 ghost use Rattle.trace_audit.specs.Desk.{AuditStep, AuditView, IsRun, KeepsOthers, Kept, MayAnswer, fresh, given_entries, kept_next, replay_at};
@@ -18,6 +23,13 @@ use session_values::Reply;
 pub fn journals_are_accepted()
     ensures { (m : Meaning) (b : Book) → Lawful m b → length b.records ≤ max_callers
         → HaveEnded m.requests b.journal → Accepted m b.journal }
+{}
+
+/// Each list of events has a verdict, by any script, if a program can hold the operations in it that
+/// are delayed and the symbols that delay them, and these have no variable.
+pub fn some_verdict()
+    ensures { (m : Meaning) (events : List Event) → AllByRecursion CanBeJudged events
+        → (v : Verdict) × IsVerdict m events v }
 {}
 
 /// What the desk keeps of a ticket whose handler was run on it, from nothing kept, is what it may

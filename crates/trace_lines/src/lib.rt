@@ -2,7 +2,8 @@
 #![tactic(auto)]
 
 mod bounds;
-mod event_line;
+mod event_buf;
+mod event_lines;
 mod event_words;
 mod front;
 pub mod laws;
@@ -14,7 +15,8 @@ mod words;
 mod writing;
 
 pub use bounds::event_bounds;
-pub use event_line::push_event_line;
+pub use event_buf::EventBuf;
+pub use event_lines::{event_line, push_event_line};
 pub use refusal::TraceRefusal;
 pub use trace_part::read_trace;
 pub use verdict::verdict_line;

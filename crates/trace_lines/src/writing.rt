@@ -5,7 +5,7 @@ ghost use Rattle.std.specs.List.{AllByRecursion};
 ghost use Rattle.byte_ends.specs.Ends.{Rose, Grew, GrewByFront};
 ghost use Rattle.trace_lines.specs.EventText.{CanWrite, head_text, trace_text};
 
-use crate::event_line::{LONGEST, push_event_line};
+use crate::event_lines::{LONGEST, push_event_line};
 use byte_ends::{Sink, WriteBuffer, write_all};
 use session_journal::Event;
 use session_values::Names;

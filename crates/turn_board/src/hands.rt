@@ -78,6 +78,19 @@ impl<V> Hands<V> {
         self.list.push_reserved((turn, value));
     }
 
+    /// Takes the first pair out, and keeps its room. The others move up.
+    pub fn take_first(&mut self) -> Option<(u32, V)>
+        ensures pairs { MatchOption result ((self.old.pairs ≡ []) × (self.new.pairs ≡ []))
+            (λ p. self.old.pairs ≡ p ∷ self.new.pairs) }
+        ensures room { self.new.room ≡ self.old.room }
+    {
+        if self.list.is_empty() {
+            None
+        } else {
+            Some(self.list.remove(0))
+        }
+    }
+
     /// Takes the last pair out, and keeps its room.
     pub fn take_last(&mut self) -> Option<(u32, V)>
         ensures pairs { MatchOption result ((self.old.pairs ≡ []) × (self.new.pairs ≡ []))

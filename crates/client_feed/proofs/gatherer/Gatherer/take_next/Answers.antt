@@ -22,6 +22,7 @@ invariant_of-self g c =
       ap (λ (h : Hand). h.gets) is,
       subst P (sym is) c.in-Ok.ensures.rule.drawn,
       omega (arith, long, same, got, counts, c.self.invariant.3, c.requires),
+      omega (arith, same, c.self.invariant.4),
     )
 
 pub invariant_of-self-in-Err : goal.invariant_of-self-in-Err
@@ -34,4 +35,5 @@ invariant_of-self-in-Err g c =
       ap (λ (h : Hand). h.gets) is ∙ c.self.invariant.1,
       subst P (sym is) c.self.invariant.2,
       omega (arith, long, same, c.self.invariant.3),
+      omega (arith, same, c.self.invariant.4),
     )

@@ -9,6 +9,7 @@ ghost use Rattle.text_lines.specs.ValueWords.{literal_text};
 ghost use Rattle.text_lines.specs.Words.{after_spaces, spaced};
 ghost use Rattle.trace_lines.specs.EventText.{CanWrite, CanWriteArg, CanWriteOp, CanWriteReply, CanWriteSymbol, HasTable, arg_text, event_text, event_words, head_words, known_text, op_words, reply_words, symbol_text, symbol_words};
 
+use crate::event_buf::EventBuf;
 use itoa::Buffer;
 use reply_sheet::TextRoom;
 use session_journal::Event;
@@ -17,6 +18,17 @@ use symbolic_ops::{Arg, Symbol};
 
 /// The longest line: that of a Delay of a call with two arguments, by a symbol with two.
 pub(crate) const LONGEST: usize = 434;
+
+/// Puts the line of an event, with its line feed, in place of what the buffer held. Tables are
+/// written by their names, whose places in the list of names these are, in the order of their
+/// numbers.
+pub fn event_line(e: &Event, tables: &[u32], names: &Names, out: &mut EventBuf)
+    requires { CanWrite names.now tables.now e.now }
+    ensures { out.new ≡ event_text names.now tables.now e.now }
+{
+    out.clear();
+    push_event_line(e, tables, names, out);
+}
 
 /// Appends the line of an event, with its line feed. Tables are written by their names, whose
 /// places in the list of names these are, in the order of their numbers.

@@ -2,7 +2,7 @@ use Rattle.std.proofs.Common.{arith, ap, subst, sym}
 use Rattle.session_values.specs.declared.reply.Reply.{Reply}
 use Rattle.session_values.specs.ReplyText.{IsPrintable}
 use Rattle.trace_lines.proofs.Joined.{second, third}
-use Rattle.trace_lines.proofs.event_line.push_reply.Goals as goal
+use Rattle.trace_lines.proofs.event_lines.push_reply.Goals as goal
 
 pub push_literal-requires-then-reply-gt1-clause-printable : goal.push_literal-requires-then-reply-gt1-clause-printable
 push_literal-requires-then-reply-gt1-clause-printable g c =
