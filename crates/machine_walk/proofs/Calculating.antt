@@ -4,8 +4,9 @@ use Rattle.session_values.specs.declared.value.Value.{Value}
 use Rattle.session_values.specs.declared.value.Value.TheVariants.{Nil, Num, Sym}
 use Rattle.syntax_trees.specs.declared.expr.Calc.{Calc}
 use Rattle.syntax_trees.specs.declared.expr.Calc.TheVariants.{Plus, Minus, Times}
+use Rattle.syntax_trees.specs.declared.stmt.Compare.TheVariants.{Less, LessOrSame}
 use Rattle.check_meaning.specs.Code.{Term, Atom, Calculate}
-use Rattle.check_meaning.specs.Dialogue.{calculated}
+use Rattle.check_meaning.specs.Dialogue.{calculated, compared}
 use Rattle.machine_walk.specs.Numbers.{number_of, number_or_nil}
 
 pub number_back : (n : Option ℤ) → number_of (number_or_nil n) ≡ n
@@ -32,6 +33,21 @@ sees_numbers Times (Sym s) w = refl
 sees_numbers Times (Num a) Nil = refl
 sees_numbers Times (Num a) (Num b) = refl
 sees_numbers Times (Num a) (Sym t) = refl
+
+-- what orders numbers sees no more
+pub less_sees_numbers : (v w : Value) → compared Less (number_or_nil (number_of v)) (number_or_nil (number_of w)) ≡ compared Less v w
+less_sees_numbers Nil w = refl
+less_sees_numbers (Sym s) w = refl
+less_sees_numbers (Num a) Nil = refl
+less_sees_numbers (Num a) (Num b) = refl
+less_sees_numbers (Num a) (Sym t) = refl
+
+pub at_most_sees_numbers : (v w : Value) → compared LessOrSame (number_or_nil (number_of v)) (number_or_nil (number_of w)) ≡ compared LessOrSame v w
+at_most_sees_numbers Nil w = refl
+at_most_sees_numbers (Sym s) w = refl
+at_most_sees_numbers (Num a) Nil = refl
+at_most_sees_numbers (Num a) (Num b) = refl
+at_most_sees_numbers (Num a) (Sym t) = refl
 
 -- the size of a term, which falls at each call
 abbrev pub term_size : Term → ℕ

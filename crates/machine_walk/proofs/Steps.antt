@@ -1,5 +1,5 @@
 -- What each step of the walk leaves ahead.
-use Rattle.std.proofs.Common.{◌≡◌, ℕ, zero, suc, ◌+◌, ◌-◌, ◌<◌, ◌≤◌, arith, Bool, true, false, if◌then◌else◌, List, [], ◌∷◌, length, get_or, drop, map, Option, Result, Ok, Err, IsErr, MatchResult, refl, sym, ap, ◌∙◌, subst}
+use Rattle.std.proofs.Common.{◌≡◌, ℕ, zero, suc, ◌+◌, ◌-◌, ◌<◌, ◌≤◌, arith, Bool, true, false, if◌then◌else◌, List, [], ◌∷◌, length, get_or, drop, map, Option, Some, Result, Ok, Err, IsErr, MatchResult, refl, sym, ap, ◌∙◌, subst}
 use Rattle.std.specs.Prelude.{pos}
 use Rattle.std.specs.List.{AllByRecursion}
 use Rattle.std.proofs.lemmas.List.{drop_more, drop_all}
@@ -20,6 +20,7 @@ use Rattle.check_meaning.specs.Within.{TermWithin, VarWithin}
 use Rattle.machine_walk.specs.declared.walk.Flow.{Flow}
 use Rattle.machine_walk.specs.declared.walk.Flow.TheVariants.{On, Answered}
 use Rattle.machine_walk.specs.Leading.{Leads}
+use Rattle.machine_walk.specs.Rounds.{rounds_then}
 use Rattle.machine_walk.specs.Runnable.{IsCallWithin, IsRunnable}
 use Rattle.check_meaning.proofs.Codes.{code_store, code_perform, code_choose, code_repeat, code_answer}
 use Rattle.machine_walk.proofs.Codes.{code_cases}
@@ -73,6 +74,11 @@ within_answer n s es is h =
     let w : IsRunnable n (Quit (map expr_term es) Finish) = subst (IsRunnable n) (ap (λ (z : CheckedStmt). stmt_code z Finish) is ∙ code_answer es Finish) h in
     record { some = w.1.0; few = w.1.1; terms = w.1.2 }
 
+-- the turns of a loop, as rounds with the number in its variable
+turns_are_rounds : (body : (Env → Ahead) → Env → Ahead) (x n i : ℕ) (k : Env → Ahead) → rounds_then body (Some x) n i k ≡ turns_then body x n i k
+turns_are_rounds body x zero i k = λ j env. k env
+turns_are_rounds body x (suc n) i k = λ j env. body (turns_are_rounds body x n (i + 1) k j) (with_value env x (Num (pos i)))
+
 -- where what is ahead has the property S
 module _ (S : Ahead → Type 0) (k : Env → Ahead) where
   pub block_ahead : (ss : List CheckedStmt) (i : ℕ) (s d : CheckedStmt) (env : Env) → i < length ss → s ≡ get_or ss i d
@@ -109,22 +115,25 @@ module _ (S : Ahead → Type 0) (k : Env → Ahead) where
   no_ahead s at p q c a b env is tells now = fork_ahead s at p q c a b env false is tells now
 
   pub loop_ahead : (s : CheckedStmt) (at p n x : ℕ) (body : List CheckedStmt) (env : Env) → s ≡ Repeat at p n x body
-      → S (run_then (stmt_code s Finish) k env) → S (turns_then (run_then (block_code body)) x n 0 (λ e. passing p e false (k e)) env)
-  loop_ahead s at p n x body env is now = subst (λ (z : Code). S (run_then z k env)) (ap (λ (z : CheckedStmt). stmt_code z Finish) is ∙ code_repeat at p n x body Finish) now
+      → S (run_then (stmt_code s Finish) k env) → S (rounds_then (run_then (block_code body)) (Some x) n 0 (λ e. passing p e false (k e)) env)
+  loop_ahead s at p n x body env is now =
+      let to : Env → Ahead = λ e. passing p e false (k e) in
+      let one : S (turns_then (run_then (block_code body)) x n 0 to env) = subst (λ (z : Code). S (run_then z k env)) (ap (λ (z : CheckedStmt). stmt_code z Finish) is ∙ code_repeat at p n x body Finish) now in
+      subst (λ (z : (Env → Ahead)). S (z env)) (sym (turns_are_rounds (run_then (block_code body)) x n 0 to)) one
 
   pub answer_ahead : (s : CheckedStmt) (es : List CheckedExpr) (env : Env) → s ≡ Answer es → S (run_then (stmt_code s Finish) k env) → S (answering (map (λ e. value_of e env) (map expr_term es)))
   answer_ahead s es env is now = subst (λ (z : Code). S (run_then z k env)) (ap (λ (z : CheckedStmt). stmt_code z Finish) is ∙ code_answer es Finish) now
 
-  pub turn_ahead : (body : (Env → Ahead) → Env → Ahead) (x n i : ℕ) (env : Env) → i < n
-      → S (turns_then body x (n - i) i k env) → S (body (turns_then body x (n - (i + 1)) (i + 1) k) (with_value env x (Num (pos i))))
-  turn_ahead body x n i env h now =
+  pub round_ahead : (body : (Env → Ahead) → Env → Ahead) (x : Option ℕ) (n i : ℕ) (env : Env) → i < n
+      → S (rounds_then body x (n - i) i k env) → S (body (rounds_then body x (n - (i + 1)) (i + 1) k) (with_reply x (Num (pos i)) env))
+  round_ahead body x n i env h now =
       let e : n - i ≡ suc (n - (i + 1)) = omega arith in
-      subst (λ (z : ℕ). S (turns_then body x z i k env)) e now
+      subst (λ (z : ℕ). S (rounds_then body x z i k env)) e now
 
-  pub turns_end : (body : (Env → Ahead) → Env → Ahead) (x n i : ℕ) (env : Env) → n ≤ i → S (turns_then body x (n - i) i k env) → S (k env)
-  turns_end body x n i env h now =
+  pub rounds_end : (body : (Env → Ahead) → Env → Ahead) (x : Option ℕ) (n i : ℕ) (env : Env) → n ≤ i → S (rounds_then body x (n - i) i k env) → S (k env)
+  rounds_end body x n i env h now =
       let e : n - i ≡ 0 = omega arith in
-      subst (λ (z : ℕ). S (turns_then body x z i k env)) e now
+      subst (λ (z : ℕ). S (rounds_then body x z i k env)) e now
 
 -- where a part led, of which the result is known
 pub leads_on : {E : Type 0} (S : Ahead → Type 0) (T : Type 0) (k : Env → Ahead) (env : Env) (a : Reply) (flow : Flow) (r : Result Flow E) → r ≡ Ok flow → flow ≡ On → Leads S T k env a r → S (k env)

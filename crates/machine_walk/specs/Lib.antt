@@ -1,4 +1,5 @@
 pub mod Asking
 pub mod Leading
 pub mod Numbers
+pub mod Rounds
 pub mod Runnable

@@ -4,6 +4,7 @@ ghost use Rattle.std.specs.Prelude.{◌≡◌, length};
 ghost use Rattle.session_values.specs.declared.value.Value.TheVariants.{Num};
 ghost use Rattle.session_values.specs.Values.{value_eq};
 ghost use Rattle.syntax_trees.specs.declared.expr.Calc.{Calc};
+ghost use Rattle.syntax_trees.specs.declared.stmt.Compare.{Compare};
 ghost use Rattle.check_meaning.specs.Code.{cond_test, expr_term};
 ghost use Rattle.check_meaning.specs.Dialogue as meaning;
 ghost use Rattle.check_meaning.specs.Dialogue.{env_of};
@@ -143,34 +144,45 @@ fn same(left: Value, right: Value) -> bool
     }
 }
 
+/// Whether both are numbers, and the first is less.
 #[inline(always)]
-fn compared(compare: Compare, left: Value, right: Value) -> bool
-    ensures { result ≡ meaning.compared compare left right }
+fn less(left: Option<i64>, right: Option<i64>) -> bool
+    ensures { result ≡ meaning.compared Compare.Less (numbers.number_or_nil left)
+        (numbers.number_or_nil right) }
 {
-    match compare {
-        Compare::Same => same(left, right),
-        Compare::Differ => !same(left, right),
-        Compare::Less => match (left, right) {
-            (Value::Num(a), Value::Num(b)) => a < b,
-            _ => false,
-        },
-        Compare::LessOrSame => match (left, right) {
-            (Value::Num(a), Value::Num(b)) => a <= b,
-            _ => false,
-        },
+    match (left, right) {
+        (Some(a), Some(b)) => a < b,
+        _ => false,
     }
 }
 
-/// Whether a condition holds.
+/// Whether both are numbers, and the first isn't greater.
+#[inline(always)]
+fn less_or_same(left: Option<i64>, right: Option<i64>) -> bool
+    ensures { result ≡ meaning.compared Compare.LessOrSame (numbers.number_or_nil left)
+        (numbers.number_or_nil right) }
+{
+    match (left, right) {
+        (Some(a), Some(b)) => a <= b,
+        _ => false,
+    }
+}
+
+/// Whether a condition holds. What orders numbers asks for the sides' numbers alone.
 #[inline(always)]
 pub(crate) fn holds(env: &[Value], cond: &CheckedCond) -> bool
     requires left { TermWithin (length env.now) (expr_term cond.now.left) }
     requires right { TermWithin (length env.now) (expr_term cond.now.right) }
     ensures { result ≡ meaning.holds (cond_test cond.now) (env_of env.now) }
 {
-    let left = value_of(env, &cond.left);
-    let right = value_of(env, &cond.right);
-    compared(cond.compare, left, right)
+    let left = &cond.left;
+    let right = &cond.right;
+    match cond.compare {
+        Compare::Same => same(value_of(env, left), value_of(env, right)),
+        Compare::Differ => !same(value_of(env, left), value_of(env, right)),
+        Compare::Less => less(number_in(env, left), number_in(env, right)),
+        Compare::LessOrSame => less_or_same(number_in(env, left), number_in(env, right)),
+    }
 }
 
 /// The operation that a call makes.

@@ -1,10 +1,12 @@
 // The walk over the statements of a handler.
 
-ghost use Rattle.std.specs.Prelude.{◌<◌, ◌≤◌, length};
-ghost use Rattle.check_meaning.specs.Ahead.{Ahead, run_then, turns_then};
+ghost use Rattle.std.specs.Prelude.{◌≤◌, length};
+ghost use Rattle.check_meaning.specs.Ahead.{Ahead, run_then};
 ghost use Rattle.check_meaning.specs.Code.{Finish, block_code, stmt_code};
 ghost use Rattle.check_meaning.specs.Dialogue.{Env, env_of, run};
+ghost use Rattle.check_meaning.specs.Within.{VarWithin};
 ghost use Rattle.machine_walk.specs.Leading.{Ends, Leads};
+ghost use Rattle.machine_walk.specs.Rounds.{rounds_then};
 ghost use Rattle.machine_walk.specs.Runnable.{IsRunnable};
 
 use crate::exprs::{holds, op_of, value_of};
@@ -40,7 +42,7 @@ pub fn walk_body<H, G: Guide<H>>(
         result }
 {
     let mut reply = nil_reply();
-    match walk_block(guide, host, env, body, &mut reply)? {
+    match walk_rounds(guide, host, env, 1, None, body, &mut reply)? {
         Flow::On => Ok(nil_reply()),
         Flow::Answered => Ok(reply),
     }
@@ -48,6 +50,7 @@ pub fn walk_body<H, G: Guide<H>>(
 
 /// Does the statements of a block.
 #[cycle(walk)]
+#[inline(always)]
 fn walk_block<H, G: Guide<H>>(
     guide: &mut G,
     host: &mut H,
@@ -126,10 +129,10 @@ fn walk_stmt<H, G: Guide<H>>(
         } => {
             if holds(env, cond) {
                 guide.passed(host, *yes_point, env);
-                walk_block(guide, host, env, yes, reply)
+                walk_side(guide, host, env, yes, reply)
             } else {
                 guide.passed(host, *no_point, env);
-                walk_block(guide, host, env, no, reply)
+                walk_side(guide, host, env, no, reply)
             }
         }
         CheckedStmt::Repeat {
@@ -139,7 +142,7 @@ fn walk_stmt<H, G: Guide<H>>(
             body,
             ..
         } => {
-            match walk_turns(guide, host, env, *turns, *var, body, reply)? {
+            match walk_rounds(guide, host, env, *turns, Some(*var), body, reply)? {
                 Flow::On => {
                     guide.passed(host, *point, env);
                     Ok(Flow::On)
@@ -154,34 +157,65 @@ fn walk_stmt<H, G: Guide<H>>(
     }
 }
 
-/// Does the turns of a loop.
+/// Does one side of a choice. An empty one, as of an `if` without `else`, costs no call.
 #[cycle(walk)]
 #[inline(always)]
-fn walk_turns<H, G: Guide<H>>(
+fn walk_side<H, G: Guide<H>>(
     guide: &mut G,
     host: &mut H,
     env: &mut [Value],
-    turns: u32,
-    var: u32,
-    body: &CheckedBlock,
+    side: &CheckedBlock,
     reply: &mut Reply,
 ) -> Result<Flow, NoMemory>
-    requires var { var < length env.old }
     requires variables { G.variables ≤ length env.old }
-    requires within { IsRunnable (length env.old) (block_code body.now) }
+    requires within { IsRunnable (length env.old) (block_code side.now) }
     requires serves { (whole : Ahead) × (start : G × H) × (k : Env → Ahead)
         × G.Serves guide.old whole start host.old
-        (turns_then (run_then (block_code body.now)) var turns 0 k (env_of env.old)) }
+        (run_then (block_code side.now) k (env_of env.old)) }
     ensures { (whole : Ahead) (start : G × H) (k : Env → Ahead)
         → G.Serves guide.old whole start host.old
-        (turns_then (run_then (block_code body.now)) var turns 0 k (env_of env.old))
+        (run_then (block_code side.now) k (env_of env.old))
         → Leads (G.Serves guide.new whole start host.new)
         (G.Stops guide.new whole start host.new) k (env_of env.new) reply.new
         result }
 {
-    for turn in 0..turns {
-        put(env, var, turn_number(turn));
-        match walk_block(guide, host, env, body, reply)? {
+    if side.as_slice().is_empty() {
+        Ok(Flow::On)
+    } else {
+        walk_rounds(guide, host, env, 1, None, side, reply)
+    }
+}
+
+/// Does the statements of a block some times over, with the number of the time in a variable, where
+/// one is named for it: those of a loop as often as it has turns, those of any other block once. So
+/// the turns of a loop share a frame.
+#[cycle(walk)]
+#[inline(never)]
+fn walk_rounds<H, G: Guide<H>>(
+    guide: &mut G,
+    host: &mut H,
+    env: &mut [Value],
+    rounds: u32,
+    var: Option<u32>,
+    block: &CheckedBlock,
+    reply: &mut Reply,
+) -> Result<Flow, NoMemory>
+    requires var { VarWithin (length env.old) var }
+    requires variables { G.variables ≤ length env.old }
+    requires within { IsRunnable (length env.old) (block_code block.now) }
+    requires serves { (whole : Ahead) × (start : G × H) × (k : Env → Ahead)
+        × G.Serves guide.old whole start host.old
+        (rounds_then (run_then (block_code block.now)) var rounds 0 k (env_of env.old)) }
+    ensures { (whole : Ahead) (start : G × H) (k : Env → Ahead)
+        → G.Serves guide.old whole start host.old
+        (rounds_then (run_then (block_code block.now)) var rounds 0 k (env_of env.old))
+        → Leads (G.Serves guide.new whole start host.new)
+        (G.Stops guide.new whole start host.new) k (env_of env.new) reply.new
+        result }
+{
+    for round in 0..rounds {
+        keep(env, var, turn_number(round));
+        match walk_block(guide, host, env, block, reply)? {
             Flow::On => {}
             Flow::Answered => return Ok(Flow::Answered),
         }

@@ -16,6 +16,7 @@ use crate::recent::Recent;
 use crate::refusal::RequestRefusal;
 use crate::request_line::request;
 use crate::requests::Requests;
+use crate::room::make_room;
 use crate::tally::no_requests;
 use handler_check::Checked;
 use session_values::Names;
@@ -50,6 +51,7 @@ pub fn read_clients(
 {
     let mut found = Vec::new(alloc);
     let mut values = Vec::new(alloc);
+    make_room(&mut found, &mut values, text.len());
     let mut recent = Recent::none();
     let mut counts = Vec::new(alloc);
     let mut mine = 0;

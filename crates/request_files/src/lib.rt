@@ -18,6 +18,7 @@ mod refusal;
 mod request;
 mod request_line;
 mod requests;
+mod room;
 mod tally;
 mod trace_part;
 

@@ -12,6 +12,7 @@ use crate::recent::Recent;
 use crate::refusal::RequestRefusal;
 use crate::request_line::request;
 use crate::requests::Requests;
+use crate::room::make_room;
 use crate::tally::Tally;
 use handler_check::Checked;
 use session_values::Names;
@@ -43,6 +44,7 @@ pub fn read_requests(
 {
     let mut found = Vec::new(alloc);
     let mut values = Vec::new(alloc);
+    make_room(&mut found, &mut values, text.len());
     let mut recent = Recent::none();
     let mut tally = Tally {
         requests: 0,

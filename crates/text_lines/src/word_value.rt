@@ -21,6 +21,7 @@ pub fn first_byte(word: &str) -> u8
 const FEW_DIGITS: usize = 18;
 
 /// The number that a few digits say, or None where a byte is no digit.
+#[inline]
 fn few_digits(digits: &[u8]) -> Option<u64>
     requires { length digits.now ≤ 18 }
     ensures number { result ≡ cond (all_ascii_digits digits.now)
@@ -37,7 +38,21 @@ fn few_digits(digits: &[u8]) -> Option<u64>
     Some(number)
 }
 
+/// The number that a word is, if it is one, by `parse`. That takes a plus sign too, which a
+/// session's numbers don't have.
+#[inline(never)]
+fn parsed_number(word: &str) -> Option<i64>
+    ensures { result ≡ spec.number word.now }
+{
+    let first = first_byte(word);
+    if first == b'+' {
+        return None;
+    }
+    word.parse::<i64>().ok()
+}
+
 /// The number that the word is, if it is one: an optional minus, then digits, within 64 bits.
+#[inline]
 pub fn number(word: &str) -> Option<i64>
     ensures { result ≡ spec.number word.now }
 {
@@ -49,11 +64,7 @@ pub fn number(word: &str) -> Option<i64>
             None => None,
         };
     }
-    // `parse` takes a plus sign, which a session's numbers don't have
-    if first == b'+' {
-        return None;
-    }
-    word.parse::<i64>().ok()
+    parsed_number(word)
 }
 
 fn are_symbol_bytes(bytes: &[u8]) -> bool
@@ -92,8 +103,26 @@ fn number_value(word: &str) -> Option<Value>
     }
 }
 
-/// The value of a word, if it is one. A symbol is placed in the list of names.
+/// The value of a word, if it is one, where it may be a symbol or `nil`.
+#[inline(never)]
 #[tactic(auto, unfolding(crate::specs::Values::value_of, crate::specs::Values::placed))]
+fn named_value(word: &str, names: &mut Names) -> Result<Option<Value>, NoMemory>
+    requires { length names.old < 4294967295 }
+    ensures value { IfOk result (λ v. v ≡ spec.value_of names.new word.now) }
+    ensures names { OnOk result (names.new ≡ spec.placed names.old word.now) }
+    ensures err { OnErr result (names.new ≡ names.old) }
+{
+    if is_symbol(word) {
+        return Ok(Some(Value::Sym(names.place(word)?)));
+    }
+    if word == "nil" {
+        return Ok(Some(Value::Nil));
+    }
+    Ok(number_value(word))
+}
+
+/// The value of a word, if it is one. A symbol is placed in the list of names.
+#[inline]
 pub fn value(word: &str, names: &mut Names) -> Result<Option<Value>, NoMemory>
     requires { length names.old < 4294967295 }
     ensures value { IfOk result (λ v. v ≡ spec.value_of names.new word.now) }
@@ -104,11 +133,5 @@ pub fn value(word: &str, names: &mut Names) -> Result<Option<Value>, NoMemory>
     if !first_byte(word).is_ascii_alphabetic() {
         return Ok(number_value(word));
     }
-    if is_symbol(word) {
-        return Ok(Some(Value::Sym(names.place(word)?)));
-    }
-    if word == "nil" {
-        return Ok(Some(Value::Nil));
-    }
-    Ok(number_value(word))
+    named_value(word, names)
 }

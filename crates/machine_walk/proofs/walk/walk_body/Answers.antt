@@ -6,22 +6,22 @@ use Rattle.check_meaning.proofs.Runs.{run_goes}
 use Rattle.machine_walk.proofs.Wholes.{ends_on, ends_answered, ends_err}
 use Rattle.machine_walk.proofs.walk.walk_body.Goals as goal
 
-pub walk_block-requires-clause-serves : goal.walk_block-requires-clause-serves
-walk_block-requires-clause-serves g c =
+pub walk_rounds-requires-clause-serves : goal.walk_rounds-requires-clause-serves
+walk_rounds-requires-clause-serves g c =
     let r = c.requires.serves in
     (r.0, r.1, goes, subst (λ (a : Ahead). g.G.Guide.Serves c.args.guide.now r.0 r.1 c.args.host.now a) (sym (run_goes (block_code c.args.body.now) (env_of c.args.env.now))) r.2)
 
-pub returns-in_err-walk_block : goal.returns-in_err-walk_block
-returns-in_err-walk_block g c whole start now =
-    let led = c.walk_block.ensures whole start goes (subst (λ (a : Ahead). g.G.Guide.Serves c.args.guide.now whole start c.args.host.now a) (sym (run_goes (block_code c.args.body.now) (env_of c.args.env.now))) now) in
-    ends_err (g.G.Guide.Serves c.walk_block.new.guide whole start c.walk_block.new.host) (g.G.Guide.Stops c.walk_block.new.guide whole start c.walk_block.new.host) (env_of c.walk_block.new.env) c.walk_block.new.reply c.walk_block.result led _ c.from_residual.result c.in_err-walk_block.was c.from_residual.ensures.0
+pub returns-in_err-walk_rounds : goal.returns-in_err-walk_rounds
+returns-in_err-walk_rounds g c whole start now =
+    let led = c.walk_rounds.ensures whole start goes (subst (λ (a : Ahead). g.G.Guide.Serves c.args.guide.now whole start c.args.host.now a) (sym (run_goes (block_code c.args.body.now) (env_of c.args.env.now))) now) in
+    ends_err (g.G.Guide.Serves c.walk_rounds.new.guide whole start c.walk_rounds.new.host) (g.G.Guide.Stops c.walk_rounds.new.guide whole start c.walk_rounds.new.host) (env_of c.walk_rounds.new.env) c.walk_rounds.new.reply c.walk_rounds.result led _ c.from_residual.result c.in_err-walk_rounds.was c.from_residual.ensures.0
 
 pub returns-in-On : goal.returns-in-On
 returns-in-On g c whole start now =
-    let led = c.walk_block.ensures whole start goes (subst (λ (a : Ahead). g.G.Guide.Serves c.args.guide.now whole start c.args.host.now a) (sym (run_goes (block_code c.args.body.now) (env_of c.args.env.now))) now) in
-    ends_on (g.G.Guide.Serves c.walk_block.new.guide whole start c.walk_block.new.host) (g.G.Guide.Stops c.walk_block.new.guide whole start c.walk_block.new.host) (env_of c.walk_block.new.env) c.walk_block.new.reply c.walk_block.result led _ c.nil_reply.result c.in_ok-walk_block.was c.in-On.is c.nil_reply.ensures
+    let led = c.walk_rounds.ensures whole start goes (subst (λ (a : Ahead). g.G.Guide.Serves c.args.guide.now whole start c.args.host.now a) (sym (run_goes (block_code c.args.body.now) (env_of c.args.env.now))) now) in
+    ends_on (g.G.Guide.Serves c.walk_rounds.new.guide whole start c.walk_rounds.new.host) (g.G.Guide.Stops c.walk_rounds.new.guide whole start c.walk_rounds.new.host) (env_of c.walk_rounds.new.env) c.walk_rounds.new.reply c.walk_rounds.result led _ c.nil_reply.result c.in_ok-walk_rounds.was c.in-On.is c.nil_reply.ensures
 
 pub returns-in-Answered : goal.returns-in-Answered
 returns-in-Answered g c whole start now =
-    let led = c.walk_block.ensures whole start goes (subst (λ (a : Ahead). g.G.Guide.Serves c.args.guide.now whole start c.args.host.now a) (sym (run_goes (block_code c.args.body.now) (env_of c.args.env.now))) now) in
-    ends_answered (g.G.Guide.Serves c.walk_block.new.guide whole start c.walk_block.new.host) (g.G.Guide.Stops c.walk_block.new.guide whole start c.walk_block.new.host) (env_of c.walk_block.new.env) c.walk_block.new.reply c.walk_block.result led _ c.in_ok-walk_block.was c.in-Answered.is
+    let led = c.walk_rounds.ensures whole start goes (subst (λ (a : Ahead). g.G.Guide.Serves c.args.guide.now whole start c.args.host.now a) (sym (run_goes (block_code c.args.body.now) (env_of c.args.env.now))) now) in
+    ends_answered (g.G.Guide.Serves c.walk_rounds.new.guide whole start c.walk_rounds.new.host) (g.G.Guide.Stops c.walk_rounds.new.guide whole start c.walk_rounds.new.host) (env_of c.walk_rounds.new.env) c.walk_rounds.new.reply c.walk_rounds.result led _ c.in_ok-walk_rounds.was c.in-Answered.is

@@ -19,9 +19,9 @@ lines-init c =
     let all = lines c.args.text.now in
     record {
       utf8 = search rules;
-      going = going_first _ _ _ c.args.names.now _ _ (ap (requests_in c.new-values.result.items) c.new-found.ensures.items) c.no_requests-tally.ensures;
+      going = going_first _ _ _ c.args.names.now _ _ (ap (requests_in c.make_room.new.values.items) (c.make_room.ensures.found ∙ c.new-found.ensures.items)) c.no_requests-tally.ensures;
       counting = subst (λ cs. Counting all cs 0 all) (sym c.new-counts.ensures.items) (counting_start all);
-      within = subst (AreWithin (length c.new-values.result.items)) (sym c.new-found.ensures.items) tt;
+      within = subst (AreWithin (length c.make_room.new.values.items)) (sym (c.make_room.ensures.found ∙ c.new-found.ensures.items)) tt;
       room = omega (arith, total_le c.args.text.now);
       number = omega arith;
       mine = omega arith;

@@ -23,9 +23,9 @@ lines-init c =
     record {
       next = tt;
       finite = tt;
-      going = subst (λ rs. Going c.args.names.now c.args.checked.now (rows c.args.first (lines c.args.text.now)) c.args.names.now rs (requests_in c.new-values.result.items c.new-found.result.items) no_requests) e
-          (subst (λ f. Going c.args.names.now c.args.checked.now (rows c.args.first (lines c.args.text.now)) c.args.names.now (rows c.args.first (lines c.args.text.now)) (requests_in c.new-values.result.items f) no_requests) (sym c.new-found.ensures.items) start);
-      within = subst (AreWithin (length c.new-values.result.items)) (sym c.new-found.ensures.items) tt;
+      going = subst (λ rs. Going c.args.names.now c.args.checked.now (rows c.args.first (lines c.args.text.now)) c.args.names.now rs (requests_in c.make_room.new.values.items c.make_room.new.found.items) no_requests) e
+          (subst (λ f. Going c.args.names.now c.args.checked.now (rows c.args.first (lines c.args.text.now)) c.args.names.now (rows c.args.first (lines c.args.text.now)) (requests_in c.make_room.new.values.items f) no_requests) (sym (c.make_room.ensures.found ∙ c.new-found.ensures.items)) start);
+      within = subst (AreWithin (length c.make_room.new.values.items)) (sym (c.make_room.ensures.found ∙ c.new-found.ensures.items)) tt;
       room = omega (arith, total_le c.args.text.now, ap (λ t. total (lines t)) c.over-lines.ensures.rest);
     }
 

@@ -3,15 +3,9 @@ use Rattle.std.proofs.lemmas.Int.{to_z_pos}
 use Rattle.std.specs.Char.{is_ascii_digit}
 use Rattle.std.specs.Str.{all_ascii_digits}
 use Rattle.text_lines.specs.Values.{number, number_from}
-use Rattle.text_lines.proofs.NumberLemmas.{parsed, number_plus, few_number, counted}
+use Rattle.text_lines.proofs.NumberLemmas.{few_number, counted}
 use Rattle.text_lines.proofs.word_value.number.Goals as goal
 use Rattle.text_lines.proofs.word_value.number.Goals.{in-Some, in-None}
-
-pub returns-then-first-eq43 : goal.returns-then-first-eq43
-returns-then-first-eq43 c = sym (number_plus c.args.word.now (sym c.first_byte-first.ensures ∙ c.if-first-eq43.true))
-
-pub returns : goal.returns
-returns c = c.ok.ensures.value ∙ sym (parsed c.args.word.now c.parse.result _ refl (λ e. c.if-first-eq43.false (c.first_byte-first.ensures ∙ e)) c.parse.ensures.value.0)
 
 -- the value of a word that begins with a digit and is short
 pub returns-then-bytes-le-FEW_DIGITS : goal.returns-then-bytes-le-FEW_DIGITS
