@@ -103,9 +103,29 @@ fn number_in(env: &[Value], expr: &CheckedExpr) -> Option<i64>
     }
 }
 
-/// The number that a calculation gives.
+/// The number that a calculation gives. Where no side is one itself, it takes no further call.
 #[cycle(numbers)]
 fn calculated(env: &[Value], calc: Calc, left: &CheckedExpr, right: &CheckedExpr) -> Option<i64>
+    requires left { TermWithin (length env.now) (expr_term left.now) }
+    requires right { TermWithin (length env.now) (expr_term right.now) }
+    ensures { numbers.number_or_nil result ≡ meaning.calculated calc
+        (meaning.value_of (expr_term left.now) (env_of env.now))
+        (meaning.value_of (expr_term right.now) (env_of env.now)) }
+{
+    match (left, right) {
+        (CheckedExpr::Leaf(a), CheckedExpr::Leaf(b)) => calculate(
+            calc,
+            number_of(value_of_atom(env, *a)),
+            number_of(value_of_atom(env, *b)),
+        ),
+        _ => nested(env, calc, left, right),
+    }
+}
+
+/// The number that a calculation gives, of whose sides some are calculations.
+#[cycle(numbers)]
+#[inline(never)]
+fn nested(env: &[Value], calc: Calc, left: &CheckedExpr, right: &CheckedExpr) -> Option<i64>
     requires left { TermWithin (length env.now) (expr_term left.now) }
     requires right { TermWithin (length env.now) (expr_term right.now) }
     ensures { numbers.number_or_nil result ≡ meaning.calculated calc

@@ -35,7 +35,8 @@ fn value_at(env: &[Value], values: &[CheckedExpr], i: usize) -> Value
 }
 
 /// The reply of these expressions.
-pub(crate) fn reply_of(env: &[Value], values: &[CheckedExpr]) -> Reply
+#[inline]
+fn reply_of(env: &[Value], values: &[CheckedExpr]) -> Reply
     requires some { 0 < length values.now }
     requires few { length values.now ≤ 4 }
     requires within { AllByRecursion (TermWithin (length env.now)) (map expr_term values.now) }
@@ -48,4 +49,17 @@ pub(crate) fn reply_of(env: &[Value], values: &[CheckedExpr]) -> Reply
     let c = value_at(env, values, 2);
     let d = value_at(env, values, 3);
     Reply::new(count, a, b, c, d)
+}
+
+/// Makes the reply that of these expressions. It is a function of its own so that the walk needs no
+/// place for a reply, which would be made empty at each statement.
+#[inline(never)]
+pub(crate) fn put_reply(env: &[Value], values: &[CheckedExpr], reply: &mut Reply)
+    requires some { 0 < length values.now }
+    requires few { length values.now ≤ 4 }
+    requires within { AllByRecursion (TermWithin (length env.now)) (map expr_term values.now) }
+    ensures { reply.new ≡ spec.reply_of (map (λ e. meaning.value_of e (env_of env.now))
+        (map expr_term values.now)) }
+{
+    *reply = reply_of(env, values);
 }

@@ -11,7 +11,7 @@ ghost use Rattle.machine_walk.specs.Runnable.{IsRunnable};
 
 use crate::exprs::{holds, op_of, value_of};
 use crate::guide::Guide;
-use crate::replies::{nil_reply, reply_of};
+use crate::replies::{nil_reply, put_reply};
 use crate::variables::{keep, put, turn_number};
 use check_meaning::{CheckedBlock, CheckedStmt};
 use session_values::{NoMemory, Reply, Value};
@@ -151,7 +151,7 @@ fn walk_stmt<H, G: Guide<H>>(
             }
         }
         CheckedStmt::Answer { values } => {
-            *reply = reply_of(env, values.as_slice());
+            put_reply(env, values.as_slice(), reply);
             Ok(Flow::Answered)
         }
     }

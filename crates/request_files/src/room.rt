@@ -10,7 +10,8 @@ const MAX_ARGUMENTS: usize = MAX_REQUESTS as usize * MAX_VARIABLES;
 
 /// Asks once for the capacity that the requests of a text of so many bytes can come to, and their
 /// arguments, each of which takes two bytes at least: so the lists aren't moved while they grow.
-/// Capacity that isn't used is never touched. Where none is to be had, they grow as they are filled.
+/// Capacity that isn't used is never touched. Where there is none, the lists grow as they are
+/// filled.
 pub(crate) fn make_room(found: &mut Vec<Entry>, values: &mut Vec<Value>, bytes: usize)
     ensures found { found.new.items ≡ found.old.items }
     ensures values { values.new.items ≡ values.old.items }

@@ -4,7 +4,10 @@ use Rattle.machine_walk.proofs.Calculating.{term_size}
 use Rattle.machine_walk.proofs.exprs.+numbers.Given as goal
 
 abbrev pub decreases-number_in : goal.decreases-number_in
-decreases-number_in l = 2 * term_size (expr_term l.expr.now)
+decreases-number_in l = 3 * term_size (expr_term l.expr.now)
 
 abbrev pub decreases-calculated : goal.decreases-calculated
-decreases-calculated l = 2 * (term_size (expr_term l.left.now) + term_size (expr_term l.right.now)) + 1
+decreases-calculated l = 3 * (term_size (expr_term l.left.now) + term_size (expr_term l.right.now)) + 2
+
+abbrev pub decreases-nested : goal.decreases-nested
+decreases-nested l = 3 * (term_size (expr_term l.left.now) + term_size (expr_term l.right.now)) + 1

@@ -193,14 +193,14 @@ walk_stmt-returns-in-Answered g t c whole start k now =
     let led = c.walk_rounds.ensures whole start to (loop_ahead (g.G.Guide.Serves c.args.guide.now whole start c.args.host.now) k c.args.stmt.now p.at p.point p.turns p.var p.body E p.is now) in
     leads_answered (g.G.Guide.Serves c.walk_rounds.new.guide whole start c.walk_rounds.new.host) (g.G.Guide.Stops c.walk_rounds.new.guide whole start c.walk_rounds.new.host) to (env_of c.walk_rounds.new.env) c.walk_rounds.new.reply _ c.walk_rounds.result c.in_ok-walk_rounds-in-Repeat.was c.in-Answered.is led
 
-pub walk_stmt-reply_of-requires-clause-some : goal.walk_stmt-reply_of-requires-clause-some
-walk_stmt-reply_of-requires-clause-some g t c =
+pub walk_stmt-put_reply-requires-clause-some : goal.walk_stmt-put_reply-requires-clause-some
+walk_stmt-put_reply-requires-clause-some g t c =
     let p = c.in-Answer in
     let w = within_answer (length c.args.env.now) c.args.stmt.now p.values p.is c.requires.within in
     subst (λ (es : List CheckedExpr). 0 < length es) (sym c.as_slice.ensures) (subst (λ (n : ℕ). 0 < n) (lengths_once expr_term p.values) w.some)
 
-pub walk_stmt-reply_of-requires-clause-few : goal.walk_stmt-reply_of-requires-clause-few
-walk_stmt-reply_of-requires-clause-few g t c =
+pub walk_stmt-put_reply-requires-clause-few : goal.walk_stmt-put_reply-requires-clause-few
+walk_stmt-put_reply-requires-clause-few g t c =
     let p = c.in-Answer in
     let w = within_answer (length c.args.env.now) c.args.stmt.now p.values p.is c.requires.within in
     subst (λ (es : List CheckedExpr). length es ≤ 4) (sym c.as_slice.ensures) (subst (λ (n : ℕ). n ≤ 4) (lengths_once expr_term p.values) w.few)
