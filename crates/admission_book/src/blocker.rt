@@ -11,7 +11,7 @@ ghost use Rattle.admission_book.specs.Found.{Found, NextFound, bound};
 
 use crate::caller_record::CallerRecord;
 use commute_tables::commute_symbol;
-use session_journal::Script;
+use session_journal::Tickets;
 use session_values::Op;
 use symbolic_ops::Symbol;
 
@@ -49,7 +49,7 @@ fn limit(found: &Option<Blocker>, t: u32) -> u32
 }
 
 /// The blocker of one record, where it is older than the one that was found before.
-fn older_blocker<S: Script>(
+fn older_blocker<S: Tickets>(
     script: &S,
     found: Option<Blocker>,
     r: &CallerRecord,
@@ -72,7 +72,7 @@ fn older_blocker<S: Script>(
 }
 
 /// The least older open ticket with a symbol against the operation, and its first one.
-pub(crate) fn least_against<S: Script>(
+pub(crate) fn least_against<S: Tickets>(
     script: &S,
     records: &[CallerRecord],
     t: u32,

@@ -14,7 +14,7 @@ use crate::blocker::least_against;
 use crate::caller_record::CallerRecord;
 use crate::fields::{idle_records, least_ticket, note_delay, place_of};
 use crate::kept_replies::{KeptReplies, Replies};
-use session_journal::{Event, Journal, Script, Site};
+use session_journal::{Event, Journal, Site, Tickets};
 use session_values::{NoMemory, Op, Reply, Value};
 use std::alloc::Global;
 use std::marker::Model;
@@ -22,7 +22,7 @@ use symbolic_ops::Foresight;
 
 /// What a book holds.
 #[derive(Drop)]
-struct Inner<S: Script + Drop> {
+struct Inner<S: Tickets + Drop> {
     /// What the tickets call, answer and declare. No call changes it.
     script: S,
     /// How many tickets are begun, so the next one's number.
@@ -38,11 +38,11 @@ struct Inner<S: Script + Drop> {
 /// A script, the journal of what was done of it, the replies of its tickets that have ended, and
 /// for each caller the ticket that it serves. They are in a box, so that a book moves in one word.
 #[derive(Drop)]
-pub struct Book<S: Script + Drop> {
+pub struct Book<S: Tickets + Drop> {
     inner: Box<Inner<S>>,
 }
 
-impl<S: Script + Drop> Model for Book<S> {
+impl<S: Tickets + Drop> Model for Book<S> {
     ghost use Rattle.admission_book.specs.Methods.{BookView};
     ghost use Rattle.admission_book.specs.Kept.{Keeps, book_of};
 
@@ -58,7 +58,7 @@ impl<S: Script + Drop> Model for Book<S> {
         (S.meaning inner.script) inner.begun inner.journal inner.kept inner.records.items };
 }
 
-impl<S: Script + Drop> Book<S> {
+impl<S: Tickets + Drop> Book<S> {
     /// A book in which no ticket is begun. No later call takes memory.
     pub fn open(alloc: Global, script: S, callers: u32) -> Result<Book<S>, NoMemory>
         requires some { 1 ≤ callers }

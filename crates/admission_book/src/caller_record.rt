@@ -7,7 +7,7 @@ ghost use Rattle.session_journal.specs.Script.{Meaning};
 ghost use Rattle.admission_book.specs.CallerRecord.{IsRecord, idle_record, with_flight, with_site, after_flight_at, after_ticket};
 
 use crate::marked_foresight::MarkedForesight;
-use session_journal::{Script, Site};
+use session_journal::{Site, Tickets};
 use session_values::{NoMemory, Op, Value};
 use std::alloc::Global;
 use symbolic_ops::Foresight;
@@ -62,7 +62,7 @@ impl CallerRecord {
     }
 
     /// Takes over a ticket of a script with what it declares at its beginning.
-    pub(crate) fn begin_entry<S: Script>(&mut self, script: &S, t: u32)
+    pub(crate) fn begin_entry<S: Tickets>(&mut self, script: &S, t: u32)
         requires ticket { t < (S.meaning script.now).requests }
         requires room { max_symbols ≤ self.old.foresight.list.room }
         ensures { IsRecord (S.meaning script.now)

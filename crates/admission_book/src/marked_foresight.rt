@@ -11,7 +11,7 @@ ghost use Rattle.admission_book.specs.Foresights.{IsKnown, KeepsForesight, at_si
 use crate::blocker::first_against;
 use crate::site_symbols::first_at_site;
 use crate::touched_tables::TouchedTables;
-use session_journal::{Script, Site};
+use session_journal::{Site, Tickets};
 use session_values::{MAX_SYMBOLS, MAX_VARIABLES, NoMemory, Op, Value};
 use std::alloc::Global;
 use std::marker::Model;
@@ -86,7 +86,7 @@ impl MarkedForesight {
     }
 
     /// Takes what a ticket of a script declares at its beginning in place of its own symbols.
-    pub(crate) fn take_entry<S: Script>(&mut self, script: &S, t: u32)
+    pub(crate) fn take_entry<S: Tickets>(&mut self, script: &S, t: u32)
         requires ticket { t < (S.meaning script.now).requests }
         requires room { max_symbols ≤ self.old.list.room }
         ensures { IsKnown (S.meaning script.now) self.new ((S.meaning script.now).entry t) }
@@ -116,7 +116,7 @@ impl MarkedForesight {
     }
 
     /// The first symbol with which the operation doesn't commute.
-    pub(crate) fn first_against<S: Script>(&self, script: &S, op: &Op) -> Option<Symbol>
+    pub(crate) fn first_against<S: Tickets>(&self, script: &S, op: &Op) -> Option<Symbol>
         requires { KeepsForesight (S.meaning script.now) self.now }
         ensures { MatchOption result
             (AllByRecursion (λ y. CommutesWith op.now y)

@@ -1,7 +1,7 @@
 // The rule of a hall.
 
 use crate::held::{Counted, Held};
-use session_journal::Script;
+use session_journal::Tickets;
 use std::marker::PhantomData;
 use turn_board::TieRule;
 
@@ -11,7 +11,7 @@ pub struct HallRule<S> {
     marker: PhantomData<S>,
 }
 
-impl<S: Script + Drop> TieRule<Held<S>> for HallRule<S> {
+impl<S: Tickets + Drop> TieRule<Held<S>> for HallRule<S> {
     ghost use Rattle.hall_rule.specs.Shards.{content_of};
     ghost use Rattle.hall_rule.specs.Tie.{Tied, Moves};
     ghost use Rattle.hall_rule.specs.Law.{tie_kept};

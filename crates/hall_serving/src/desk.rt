@@ -6,7 +6,7 @@ ghost use Rattle.session_hall.specs.Names.{script_of};
 ghost use Rattle.hall_serving.specs.Desks.{IsCallerOfDesk, IsServing, desk_at, ticket_of};
 
 use session_hall::{Caller, Hall, Stage, Waits};
-use session_journal::{Desk, Script, Site};
+use session_journal::{Desk, Site, Tickets};
 use session_values::{NoMemory, Op, Reply, Value};
 use std::marker::Model;
 use std::sync::Wait;
@@ -16,7 +16,7 @@ use worker_gate::{Gate, Place};
 
 /// A desk at which a caller of a hall serves its ticket. It never wants memory.
 #[derive(Drop)]
-pub struct HallDesk<'a, S: Script + Drop, G: Gate> {
+pub struct HallDesk<'a, S: Tickets + Drop, G: Gate> {
     pub(crate) hall: &'a Hall<S>,
     pub(crate) caller: &'a mut Caller<S>,
     pub(crate) gate: &'a G,
@@ -30,7 +30,7 @@ pub struct HallDesk<'a, S: Script + Drop, G: Gate> {
     pub(crate) waits: Waits,
 }
 
-impl<'a, S: Script + Drop, G: Gate> Model for HallDesk<'a, S, G> {
+impl<'a, S: Tickets + Drop, G: Gate> Model for HallDesk<'a, S, G> {
     ghost use Rattle.session_hall.specs.Names.{script_of};
     ghost use Rattle.hall_serving.specs.Desks.{HallView, DeskStands, desk_at};
 
@@ -45,7 +45,7 @@ impl<'a, S: Script + Drop, G: Gate> Model for HallDesk<'a, S, G> {
     ghost invariant = { λ d. DeskStands S.meaning d.hall.now d.caller.now d.ticket d.reply };
 }
 
-impl<'a, S: Script + Drop, G: Gate> HallDesk<'a, S, G> {
+impl<'a, S: Tickets + Drop, G: Gate> HallDesk<'a, S, G> {
     /// The desk of a caller that serves a ticket.
     pub fn over(hall: &'a Hall<S>, caller: &'a mut Caller<S>, gate: &'a G) -> HallDesk<'a, S, G>
         requires caller { IsCallerOf S.meaning hall.now caller.old }
@@ -99,7 +99,7 @@ impl<'a, S: Script + Drop, G: Gate> HallDesk<'a, S, G> {
     }
 }
 
-impl<'a, S: Script + Drop, G: Gate> Desk for HallDesk<'a, S, G> {
+impl<'a, S: Tickets + Drop, G: Gate> Desk for HallDesk<'a, S, G> {
     type Served = S;
 
     ghost script = { λ d. d.script };

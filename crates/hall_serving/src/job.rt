@@ -7,14 +7,14 @@ ghost use Rattle.hall_serving.specs.Jobs.{IsJobOf, HasServed};
 use crate::next::serve_next;
 use crate::pause::Pause;
 use session_hall::{Caller, Hall};
-use session_journal::{Scratch, Script, Serves};
+use session_journal::{Scratch, Serves, Tickets};
 use std::sync::Wait;
 use std::thread::Threads;
 use worker_gate::Gate;
 
 /// A caller and the room that it serves with.
 #[derive(Drop)]
-pub struct Job<S: Script + Drop> {
+pub struct Job<S: Tickets + Drop> {
     pub(crate) caller: Caller<S>,
     pub(crate) scratch: Scratch,
 }

@@ -7,14 +7,14 @@ ghost use Rattle.hall_serving.specs.Jobs.{IsJobOf, HasServed, JobOf, callers_of}
 
 use crate::job::{Job, serve_tickets};
 use session_hall::{Caller, Hall};
-use session_journal::{Scratch, Script, Serves};
+use session_journal::{Scratch, Serves, Tickets};
 use std::sync::Wait;
 use std::thread;
 use std::thread::Threads;
 use worker_gate::Gate;
 
 // Gives each caller a scratch.
-pub(crate) fn begin_jobs<S: Script + Drop>(
+pub(crate) fn begin_jobs<S: Tickets + Drop>(
     callers: &mut Vec<Caller<S>>,
     scratches: &mut Vec<Scratch>,
     jobs: &mut Vec<Job<S>>,
@@ -63,7 +63,7 @@ pub(crate) fn serve_all<R: Threads + Wait + Sync, S: Serves + Drop + Send + Sync
 }
 
 // Takes each caller back.
-pub(crate) fn end_jobs<S: Script + Drop>(mut jobs: Vec<Job<S>>, callers: &mut Vec<Caller<S>>)
+pub(crate) fn end_jobs<S: Tickets + Drop>(mut jobs: Vec<Job<S>>, callers: &mut Vec<Caller<S>>)
     requires empty { callers.old.items ≡ [] }
     requires room { vec_len jobs ≤ vec_capacity callers.old }
     ensures { callers.new.items ≡ callers_of jobs.items }

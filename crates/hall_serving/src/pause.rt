@@ -3,7 +3,7 @@
 ghost use Rattle.std.specs.Prelude.{◌≡◌};
 
 use session_hall::Hall;
-use session_journal::Script;
+use session_journal::Tickets;
 use std::thread;
 
 /// How many yields a pause grows by, and the most that it has.
@@ -43,7 +43,7 @@ impl Pause {
 
     // Yields the thread for as long, and no longer than until the last tickets are served: whoever
     // waits for this caller then waits for nothing.
-    pub(crate) fn wait<S: Script + Drop>(&self, hall: &Hall<S>, requests: u32) {
+    pub(crate) fn wait<S: Tickets + Drop>(&self, hall: &Hall<S>, requests: u32) {
         for done in 0..self.yields {
             if done % YIELDS_A_LOOK == 0 && hall.is_near_end(requests) {
                 break;

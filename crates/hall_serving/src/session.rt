@@ -7,7 +7,7 @@ ghost use Rattle.session_hall.specs.Closings.{IsDone};
 use crate::job::Job;
 use crate::jobs::{begin_jobs, end_jobs, serve_all};
 use session_hall::{Caller, Closed, Hall};
-use session_journal::{Scratch, Script, Serves};
+use session_journal::{Scratch, Script, Serves, Tickets};
 use session_values::{Listed, NoMemory, TableKind};
 use std::alloc::Global;
 use std::marker::Model;
@@ -18,7 +18,7 @@ use worker_gate::Gate;
 /// A session whose hall is open. Only `open_session` makes one. It has all the memory that serving
 /// its tickets and closing its hall take.
 #[derive(Drop)]
-pub struct OpenSession<S: Script + Drop> {
+pub struct OpenSession<S: Tickets + Drop> {
     hall: Hall<S>,
     /// One for each caller.
     jobs: Vec<Job<S>>,
@@ -26,7 +26,7 @@ pub struct OpenSession<S: Script + Drop> {
     left: Vec<Caller<S>>,
 }
 
-impl<S: Script + Drop> Model for OpenSession<S> {
+impl<S: Tickets + Drop> Model for OpenSession<S> {
     ghost use Rattle.std.specs.Prelude.{vec_capacity};
     ghost use Rattle.session_hall.specs.Names.{script_of};
     ghost use Rattle.hall_serving.specs.Sessions.{IsOpened, SessionView};

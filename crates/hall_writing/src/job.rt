@@ -7,14 +7,14 @@ ghost use Rattle.hall_writing.specs.Jobs.{HasServed, IsJobOf, replies_of};
 use hall_serving::{Pause, serve_next};
 use reply_lane::{End, Lane, Spoken};
 use session_hall::{Caller, Hall};
-use session_journal::{Scratch, Script, Serves};
+use session_journal::{Scratch, Serves, Tickets};
 use std::sync::Wait;
 use std::thread::Threads;
 use worker_gate::Gate;
 
 /// A caller, the room that it serves with, and its end of the lane.
 #[derive(Drop)]
-pub struct Job<S: Script + Drop> {
+pub struct Job<S: Tickets + Drop> {
     pub(crate) caller: Caller<S>,
     pub(crate) scratch: Scratch,
     pub(crate) end: End,

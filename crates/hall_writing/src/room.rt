@@ -6,10 +6,10 @@ ghost use Rattle.hall_writing.specs.Jobs.{callers_of, ends_of};
 use crate::job::Job;
 use reply_lane::End;
 use session_hall::Caller;
-use session_journal::{Scratch, Script};
+use session_journal::{Scratch, Tickets};
 
 // Gives each caller a scratch and an end of the lane.
-pub(crate) fn begin_jobs<S: Script + Drop>(
+pub(crate) fn begin_jobs<S: Tickets + Drop>(
     callers: &mut Vec<Caller<S>>,
     scratches: &mut Vec<Scratch>,
     ends: &mut Vec<End>,
@@ -38,7 +38,7 @@ pub(crate) fn begin_jobs<S: Script + Drop>(
 }
 
 // The first job, and the others.
-pub(crate) fn part_first<S: Script + Drop>(mut jobs: Vec<Job<S>>) -> (Job<S>, Vec<Job<S>>)
+pub(crate) fn part_first<S: Tickets + Drop>(mut jobs: Vec<Job<S>>) -> (Job<S>, Vec<Job<S>>)
     requires { 0 < vec_len jobs }
     ensures { jobs.items ≡ result.0 ∷ result.1.items }
 {
@@ -47,7 +47,7 @@ pub(crate) fn part_first<S: Script + Drop>(mut jobs: Vec<Job<S>>) -> (Job<S>, Ve
 }
 
 // Takes each caller back.
-pub(crate) fn end_jobs<S: Script + Drop>(
+pub(crate) fn end_jobs<S: Tickets + Drop>(
     first: Job<S>,
     mut jobs: Vec<Job<S>>,
     callers: &mut Vec<Caller<S>>,

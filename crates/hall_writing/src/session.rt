@@ -8,7 +8,7 @@ use crate::room::begin_jobs;
 use hall_serving::make_scratches;
 use reply_lane::Lane;
 use session_hall::{Caller, Hall};
-use session_journal::Script;
+use session_journal::{Script, Tickets};
 use session_values::{NoMemory, TableKind};
 use sheet_writing::{Sheet, make_sheet};
 use std::alloc::Global;
@@ -17,7 +17,7 @@ use std::marker::Model;
 /// A session whose hall is open, with a lane for its replies. Only `open_writing` makes one. It has
 /// all the memory that serving its tickets, writing their lines and closing its hall take.
 #[derive(Drop)]
-pub struct WritingSession<S: Script + Drop> {
+pub struct WritingSession<S: Tickets + Drop> {
     pub(crate) hall: Hall<S>,
     pub(crate) lane: Lane,
     /// One for each caller.
@@ -27,7 +27,7 @@ pub struct WritingSession<S: Script + Drop> {
     pub(crate) sheet: Sheet,
 }
 
-impl<S: Script + Drop> Model for WritingSession<S> {
+impl<S: Tickets + Drop> Model for WritingSession<S> {
     ghost use Rattle.std.specs.Prelude.{vec_capacity};
     ghost use Rattle.session_hall.specs.Names.{script_of};
     ghost use Rattle.hall_writing.specs.Sessions.{IsOpened, SessionView};

@@ -12,7 +12,8 @@ use Rattle.handler_check.proofs.Codes.{all_within}
 use Rattle.may_use_analysis.specs.Own.{IsOfHandler}
 use Rattle.declaration_insertion.specs.Program.{declared_at}
 use Rattle.declaration_insertion.proofs.Programs.{program_own, program_vars}
-use Rattle.handler_machine.specs.Scripts.{KeepsScripts, ScriptsView, meaning, points_in}
+use Rattle.opening_tables.specs.Opening.{Pair}
+use Rattle.handler_machine.specs.Scripts.{KeepsScripts, ScriptsView, meaning, meaning_over, points_in}
 use Rattle.handler_machine.specs.Serving.{DeclaresHandler}
 
 -- ---- points
@@ -56,3 +57,10 @@ module _ (s : ScriptsView) (k : KeepsScripts s) (h : ℕ) (inside : h < length s
   -- and it has the handler's entry, where as many variables as a handler may have are enough
   pub has_entry : HasSite (meaning s) (record { part = h; point = 0 }) 32
   has_entry = record { there = there 0 (omega arith); few = omega arith; within = program_vars s.program k.program h inside 0 }
+
+-- with which entries the tables open makes no difference to what is declared
+pub declares_over : (s : ScriptsView) (opening : List (List Pair)) (h : ℕ) → DeclaresHandler (meaning s) s.program h → DeclaresHandler (meaning_over s opening) s.program h
+declares_over s opening h d = record {
+  sites = λ point l. let k = d.sites point l in record { there = k.there; few = k.few; within = k.within };
+  lists = d.lists;
+}

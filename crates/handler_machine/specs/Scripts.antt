@@ -58,3 +58,8 @@ pub record KeepsScripts (s : ScriptsView) : Type 0 where
   pub program : IsProgram s.program
   pub opening : IsOpening (shape_of s.program.file) s.opening
   pub servable : IsServable s.program.file s.requests
+
+-- what the same program's same requests mean where the tables open with these entries
+abbrev pub meaning_over : ScriptsView → List (List Pair) → Meaning
+meaning_over s opening =
+    meaning (record { program = s.program; opening = opening; requests = s.requests })

@@ -1,11 +1,12 @@
 // The requests of a program as a script.
 
-ghost use Rattle.std.specs.Prelude.{◌≡◌, ◌<◌, false, IfOk, OnErr};
-ghost use Rattle.opening_tables.specs.Opening.{IsOpening};
+ghost use Rattle.std.specs.Prelude.{◌≡◌, ◌<◌, List, [], None, false, IfOk, OnErr};
+ghost use Rattle.opening_tables.specs.Opening.{IsOpening, Pair};
+ghost use Rattle.session_journal.specs.Served.{IsServed, IsStopped};
 ghost use Rattle.handler_check.specs.Resolved.{shape_of};
 ghost use Rattle.machine_walk.specs.Asking.{Breaks, Runs, Stays};
 ghost use Rattle.request_files.specs.Servable.{IsServable};
-ghost use Rattle.handler_machine.specs.Scripts.{meaning};
+ghost use Rattle.handler_machine.specs.Scripts.{meaning, meaning_over};
 
 use crate::running::run_handler;
 use crate::serving::serve_one;
@@ -106,6 +107,40 @@ impl<'a> Scripts<'a> {
         let h = handler_of(self.requests, t);
         run_handler(self.checked, h, args_of(self.requests, t), scratch, who)
     }
+
+    /// Serves the desk's ticket, which has just begun, to its end, by the handler of this script's
+    /// ticket of the same number. The desk's script may open its tables otherwise.
+    pub fn serve_at<R: Threads + Wait + Sync, D: Desk>(
+        &self,
+        rt: &R,
+        ticket: u32,
+        scratch: &mut Scratch,
+        desk: &mut D,
+    ) -> Result<(), NoMemory>
+        requires same { (opening : List (List Pair)) × (D.Served.meaning (D.script desk.old)
+            ≡ meaning_over self.now opening) }
+        requires ticket { (D.at desk.old).ticket ≡ ticket }
+        requires within { ticket < (meaning self.now).requests }
+        requires fresh { (D.at desk.old).entries ≡ [] }
+        requires idle { (D.at desk.old).waiting ≡ None }
+        requires going { (D.at desk.old).ended ≡ false }
+        requires present { (D.at desk.old).present ≡ (meaning self.now).entry ticket }
+        ensures script { D.script desk.new ≡ D.script desk.old }
+        ensures served { IfOk result (λ _. IsServed (D.Served.meaning (D.script desk.old))
+            (D.at desk.old) (D.at desk.new)) }
+        ensures stopped { OnErr result (IsStopped (D.Served.meaning (D.script desk.old))
+            (D.at desk.old) (D.at desk.new)) }
+    {
+        let h = handler_of(self.requests, ticket);
+        serve_one(
+            rt,
+            self.program,
+            h,
+            args_of(self.requests, ticket),
+            scratch,
+            desk,
+        )
+    }
 }
 
 impl<'a> Script for Scripts<'a> {
@@ -162,14 +197,6 @@ impl<'a> Serves for Scripts<'a> {
         scratch: &mut Scratch,
         desk: &mut D,
     ) -> Result<(), NoMemory> {
-        let h = handler_of(self.requests, ticket);
-        serve_one(
-            rt,
-            self.program,
-            h,
-            args_of(self.requests, ticket),
-            scratch,
-            desk,
-        )
+        self.serve_at(rt, ticket, scratch, desk)
     }
 }

@@ -16,6 +16,7 @@ pub mod Trying
 pub mod Moving
 pub mod Filled
 pub mod Opened
+pub mod Reopened
 pub mod Left
 pub mod Listed
 pub mod Tried

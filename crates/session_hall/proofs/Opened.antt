@@ -38,7 +38,7 @@ use Rattle.session_hall.proofs.Giving.{is_told}
 use Rattle.session_hall.proofs.Moving.{first_at, shifted}
 
 -- ---- shards
-shards_are : (tables n : ℕ) → 0 < tables → shards_of (suc (tables * n)) tables ≡ n
+pub shards_are : (tables n : ℕ) → 0 < tables → shards_of (suc (tables * n)) tables ≡ n
 shards_are tables n l =
     let z : suc (tables * n) - 1 ≡ n * tables + 0 = omega arith in
     ap (λ (a : ℕ). a / tables) z ∙ div-mul-add n tables 0 l

@@ -6,6 +6,7 @@ pub mod Calls
 pub mod Waits
 pub mod Working
 pub mod Openings
+pub mod Reopenings
 pub mod Closings
 pub mod Listings
 pub use Rattle.session_journal.specs.Lists

@@ -19,7 +19,7 @@ use crate::caller::Caller;
 use crate::hall::Hall;
 use crate::stage::{Stage, in_flight};
 use hall_rule::Held;
-use session_journal::Script;
+use session_journal::Tickets;
 use session_values::{Op, Value};
 use shard_tables::shard_of;
 use turn_board::{Hands, TookAll};
@@ -57,7 +57,7 @@ fn turns_of(op: &Op, shards: u32) -> u64
 }
 
 // Does the operation on a shard.
-fn work_on<S: Script + Drop>(held: &mut Held<S>, op: &Op) -> Value
+fn work_on<S: Tickets + Drop>(held: &mut Held<S>, op: &Op) -> Value
     requires { CanDo op.now (content_of held.old) }
     ensures { WorkedTo op.now (content_of held.old) (content_of held.new) result }
 {
@@ -68,7 +68,7 @@ fn work_on<S: Script + Drop>(held: &mut Held<S>, op: &Op) -> Value
 }
 
 // Does the operation on the first shard in the hands, where it lies.
-fn work_first<S: Script + Drop>(hands: &mut Hands<Held<S>>, op: &Op) -> Value
+fn work_first<S: Tickets + Drop>(hands: &mut Hands<Held<S>>, op: &Op) -> Value
     requires { FirstCan op.now hands.old.pairs }
     ensures worked { WorkedFirst op.now hands.old.pairs hands.new.pairs result }
     ensures room { hands.new.room ≡ hands.old.room }
@@ -77,7 +77,7 @@ fn work_first<S: Script + Drop>(hands: &mut Hands<Held<S>>, op: &Op) -> Value
 }
 
 // The number of keys of a shard in the hands, by its place from 0.
-fn keys_at<S: Script + Drop>(hands: &Hands<Held<S>>, i: u32) -> u32
+fn keys_at<S: Tickets + Drop>(hands: &Hands<Held<S>>, i: u32) -> u32
     requires within { i < length hands.now.pairs }
     requires shard { HasShardAt i hands.now.pairs }
     ensures { HasKeysAt i hands.now.pairs result }
@@ -90,7 +90,7 @@ fn keys_at<S: Script + Drop>(hands: &Hands<Held<S>>, i: u32) -> u32
 }
 
 // The number of keys of all shards in the hands.
-fn count_all<S: Script + Drop>(hands: &Hands<Held<S>>) -> u32
+fn count_all<S: Tickets + Drop>(hands: &Hands<Held<S>>) -> u32
     requires shards { AreShards (contents hands.now.pairs) }
     requires few { all_keys (contents hands.now.pairs) ≤ max_keys }
     ensures { result ≡ all_keys (contents hands.now.pairs) }
@@ -103,7 +103,7 @@ fn count_all<S: Script + Drop>(hands: &Hands<Held<S>>) -> u32
 }
 
 // Does the operation on the shards in the hands.
-fn work<S: Script + Drop>(hands: &mut Hands<Held<S>>, op: &Op) -> Value
+fn work<S: Tickets + Drop>(hands: &mut Hands<Held<S>>, op: &Op) -> Value
     requires { CanWork op.now hands.old.pairs }
     ensures worked { HasWorked op.now hands.old.pairs hands.new.pairs result }
     ensures room { hands.new.room ≡ hands.old.room }
@@ -115,7 +115,7 @@ fn work<S: Script + Drop>(hands: &mut Hands<Held<S>>, op: &Op) -> Value
     }
 }
 
-impl<S: Script + Drop> Caller<S> {
+impl<S: Tickets + Drop> Caller<S> {
     /// Takes the operation's shards, all in one step or none, does it there, and keeps them.
     pub fn try_apply(&mut self, hall: &Hall<S>) -> Applying
         requires caller { IsCallerOf S.meaning hall.now self.old }

@@ -11,13 +11,13 @@ use crate::caller::{Caller, Callers};
 use crate::closed::Closed;
 use crate::hall::{Hall, Spare};
 use hall_rule::{HallRule, Held};
-use session_journal::Script;
+use session_journal::Tickets;
 use session_values::Listed;
 use shard_tables::Part;
 use turn_board::{Seat, Seats};
 
 // The seats of callers that leave.
-fn seats_of<S: Script + Drop>(
+fn seats_of<S: Tickets + Drop>(
     callers: Vec<Caller<S>>,
     list: Vec<Seat<Held<S>, HallRule<S>>>,
 ) -> Vec<Seat<Held<S>, HallRule<S>>>
@@ -39,7 +39,7 @@ fn seats_of<S: Script + Drop>(
 }
 
 // The shards behind the book.
-fn parts_of<S: Script + Drop>(values: Vec<Held<S>>, list: Vec<Part>) -> Vec<Part>
+fn parts_of<S: Tickets + Drop>(values: Vec<Held<S>>, list: Vec<Part>) -> Vec<Part>
     requires tables { AllByRecursion IsTable values.items }
     requires room { (list.items ≡ []) × (vec_len values ≤ vec_capacity list) }
     ensures { map Table result.items ≡ values.items }
@@ -56,7 +56,7 @@ fn parts_of<S: Script + Drop>(values: Vec<Held<S>>, list: Vec<Part>) -> Vec<Part
 }
 
 // The values of the turns in the order of their turns, and how many shards each table has.
-fn values_of<S: Script + Drop>(hall: Hall<S>, callers: Callers<S>) -> (Vec<Held<S>>, Vec<Part>)
+fn values_of<S: Tickets + Drop>(hall: Hall<S>, callers: Callers<S>) -> (Vec<Held<S>>, Vec<Part>)
     requires all { length callers ≡ hall.sizes.callers }
     requires callers { (i : ℕ) (c : CallerOf S) → slice_get callers i ≡ Some c
         → Leaves S.meaning hall i c }
@@ -76,7 +76,7 @@ fn values_of<S: Script + Drop>(hall: Hall<S>, callers: Callers<S>) -> (Vec<Held<
     (values.into_vec(), parts)
 }
 
-impl<S: Script + Drop> Hall<S> {
+impl<S: Tickets + Drop> Hall<S> {
     /// What was done, when all callers are out: the journal, the replies of all tickets, and the
     /// shards. It can't be refused.
     pub fn close(self, callers: Callers<S>) -> Closed

@@ -11,11 +11,11 @@ use crate::caller::Caller;
 use crate::hall::Hall;
 use crate::stage::{Stage, applied};
 use hall_rule::Held;
-use session_journal::{Script, Site};
+use session_journal::{Site, Tickets};
 use session_values::Value;
 use symbolic_ops::Foresight;
 
-impl<S: Script + Drop> Caller<S> {
+impl<S: Tickets + Drop> Caller<S> {
     /// Enters the operation that was done on its shards, with its reply, makes `next` the ticket's
     /// foresight, and gives the shards back with the book.
     pub fn try_finish(&mut self, hall: &Hall<S>, next: &Foresight) -> Finishing

@@ -5,7 +5,7 @@ ghost use Rattle.session_values.specs.Limits.{max_callers};
 ghost use Rattle.turn_board.specs.Limits.{max_board_turns};
 
 use hall_rule::{HallRule, Held};
-use session_journal::Script;
+use session_journal::Tickets;
 use shard_tables::Part;
 use std::snapshot::Snapshot;
 use std::sync::Mutex;
@@ -36,7 +36,7 @@ pub(crate) struct Sizes {
 /// The tables of a script in shards, and the book of what was done on them, each behind a turn of
 /// one board. Turn 0 is the book's, and turn `1 + table * shards + shard` a shard's.
 #[derive(Drop)]
-pub struct Hall<S: Script + Drop> {
+pub struct Hall<S: Tickets + Drop> {
     pub(crate) board: Board<Held<S>, HallRule<S>>,
     /// The script as it was when the hall was opened. It has no bytes.
     pub(crate) script: Snapshot<S>,
@@ -49,7 +49,7 @@ pub struct Hall<S: Script + Drop> {
     pub(crate) kept: Mutex<Spare<Seat<Held<S>, HallRule<S>>, Part>>,
 }
 
-impl<S: Script + Drop> Hall<S> {
+impl<S: Tickets + Drop> Hall<S> {
     /// Whether no ticket may be left to begin, of so many: fewer than there are callers aren't ended.
     /// Nothing is claimed of it.
     pub fn is_near_end(&self, requests: u32) -> bool {

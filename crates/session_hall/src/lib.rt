@@ -12,6 +12,7 @@ mod finishing;
 mod hall;
 mod listing;
 mod opening;
+mod reopening;
 mod serving;
 mod stage;
 mod taking;

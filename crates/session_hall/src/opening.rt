@@ -13,7 +13,7 @@ use crate::hall::{Hall, Sizes, Spare};
 use crate::stage::Stage;
 use admission_book::Book;
 use hall_rule::{HallRule, Held};
-use session_journal::Script;
+use session_journal::{Script, Tickets};
 use session_values::{Listed, MAX_CALLERS, MAX_SHARDS, NoMemory, TableKind};
 use shard_tables::Part;
 use std::alloc::Global;
@@ -41,8 +41,8 @@ fn first_values<S: Script + Drop>(
     Ok(values)
 }
 
-// Empty lists for what a hall leaves.
-fn spare_lists<S: Script + Drop>(
+/// Empty lists for what a hall leaves.
+pub(crate) fn spare_lists<S: Tickets + Drop>(
     alloc: Global,
 ) -> Result<Spare<Seat<Held<S>, HallRule<S>>, Part>, NoMemory> {
     let seats = Vec::with_capacity(alloc, MAX_CALLERS as usize)?;
@@ -51,7 +51,7 @@ fn spare_lists<S: Script + Drop>(
 }
 
 // A caller with this seat, which serves no ticket yet.
-fn new_caller<S: Script + Drop>(
+fn new_caller<S: Tickets + Drop>(
     alloc: Global,
     seat: Seat<Held<S>, HallRule<S>>,
     number: u32,
@@ -70,8 +70,8 @@ fn new_caller<S: Script + Drop>(
     })
 }
 
-// A caller for each seat.
-fn new_callers<S: Script + Drop>(
+/// A caller for each seat.
+pub(crate) fn new_callers<S: Tickets + Drop>(
     alloc: Global,
     seats: Vec<Seat<Held<S>, HallRule<S>>>,
 ) -> Result<Vec<Caller<S>>, NoMemory>

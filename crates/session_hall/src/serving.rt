@@ -13,11 +13,11 @@ use crate::hall::Hall;
 use crate::stage::Stage;
 use admission_book::Admission;
 use hall_rule::Held;
-use session_journal::{Script, Site};
+use session_journal::{Site, Tickets};
 use session_values::{Op, Reply, Value};
 use symbolic_ops::Foresight;
 
-impl<S: Script + Drop> Caller<S> {
+impl<S: Tickets + Drop> Caller<S> {
     /// Begins the next ticket, or tells that all are begun.
     pub fn try_begin(&mut self, hall: &Hall<S>) -> Began
         requires caller { IsCallerOf S.meaning hall.now self.old }

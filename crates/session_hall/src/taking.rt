@@ -10,10 +10,10 @@ ghost use Rattle.session_hall.specs.Names.{script_of};
 use crate::hall::Hall;
 use admission_book::Book;
 use hall_rule::{HallRule, Held};
-use session_journal::Script;
+use session_journal::Tickets;
 use turn_board::{Seat, Taken};
 
-impl<S: Script + Drop> Hall<S> {
+impl<S: Tickets + Drop> Hall<S> {
     // Takes the book, if no other caller has it.
     pub(crate) fn take_book(&self, seat: &mut Seat<Held<S>, HallRule<S>>) -> Option<Book<S>>
         requires seat { IsSeatOf self.now.board seat.old }

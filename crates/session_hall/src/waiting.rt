@@ -13,13 +13,13 @@ use crate::answers::{Admitting, Applying, Began, Declared, Ending, Finishing};
 use crate::caller::Caller;
 use crate::hall::Hall;
 use crate::waits::Waits;
-use session_journal::{Script, Site};
+use session_journal::{Site, Tickets};
 use session_values::{Op, Reply, Value};
 use std::sync::Wait;
 use std::sync::atomic::Ordering;
 use symbolic_ops::Foresight;
 
-impl<S: Script + Drop> Caller<S> {
+impl<S: Tickets + Drop> Caller<S> {
     /// Begins the next ticket, however often the book is taken, or tells that all are begun.
     pub fn begin<R: Wait>(&mut self, rt: &R, hall: &Hall<S>) -> Option<u32>
         requires caller { IsCallerOf S.meaning hall.now self.old }

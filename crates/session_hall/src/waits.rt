@@ -1,7 +1,7 @@
 // How a caller waits between its tries, and how often it had to.
 
 use crate::hall::Hall;
-use session_journal::Script;
+use session_journal::Tickets;
 use std::sync::atomic::Ordering;
 use std::thread;
 
@@ -55,12 +55,12 @@ impl Waits {
     }
 
     // Notes how often a ticket was ended, before a try.
-    pub(crate) fn note<S: Script + Drop>(&mut self, hall: &Hall<S>) {
+    pub(crate) fn note<S: Tickets + Drop>(&mut self, hall: &Hall<S>) {
         self.ends = hall.ends.load(Ordering::SeqCst);
     }
 
     // Waits after a delay, no longer than until a ticket is ended.
-    pub(crate) fn delayed<S: Script + Drop>(&mut self, hall: &Hall<S>) {
+    pub(crate) fn delayed<S: Tickets + Drop>(&mut self, hall: &Hall<S>) {
         for _ in 0..1u32 << self.round.min(DELAY_DOUBLINGS) {
             if hall.ends.load(Ordering::SeqCst) != self.ends {
                 break;
@@ -72,7 +72,7 @@ impl Waits {
 
     // Waits until the turn is seen free. To look writes nothing, so that whoever has the turn gives
     // it back undisturbed.
-    pub(crate) fn until_free<S: Script + Drop>(&mut self, hall: &Hall<S>, turn: u32) {
+    pub(crate) fn until_free<S: Tickets + Drop>(&mut self, hall: &Hall<S>, turn: u32) {
         for _ in 0..1u32 << self.round.min(DOUBLINGS) {
             thread::yield_now();
         }

@@ -6,8 +6,8 @@ ghost use Rattle.symbolic_ops.specs.Matching.{Matches};
 ghost use Rattle.session_journal.specs.Desks.{DeskView, next_of, due_of, MayNarrow, MayFinish, finished, with_waiting, with_present, with_end};
 ghost use Rattle.session_journal.specs.Script.{HasSite, declared_with};
 
-use crate::script::Script;
 use crate::site::Site;
+use crate::tickets::Tickets;
 use session_values::{NoMemory, Op, Reply, Value};
 use std::sync::Wait;
 use std::thread::Threads;
@@ -16,7 +16,7 @@ use symbolic_ops::Foresight;
 /// A place at which one ticket of a script is served: its operations are called, it declares what
 /// it may still call, and it ends.
 pub trait Desk {
-    type Served: Script;
+    type Served: Tickets;
 
     /// The script whose ticket is served. No call changes it.
     ghost script: { Self → Self.Served };

@@ -12,6 +12,7 @@ mod scratch;
 mod script;
 mod serves;
 mod site;
+mod tickets;
 
 pub use desk::Desk;
 pub use entering::opening_op;
@@ -22,3 +23,4 @@ pub use scratch::Scratch;
 pub use script::Script;
 pub use serves::Serves;
 pub use site::Site;
+pub use tickets::Tickets;

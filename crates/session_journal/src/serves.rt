@@ -6,13 +6,13 @@ ghost use Rattle.session_journal.specs.Served.{IsServed, IsStopped};
 
 use crate::desk::Desk;
 use crate::scratch::Scratch;
-use crate::script::Script;
+use crate::tickets::Tickets;
 use session_values::NoMemory;
 use std::sync::Wait;
 use std::thread::Threads;
 
 /// A script whose tickets can be served, each at a desk.
-pub trait Serves: Script {
+pub trait Serves: Tickets {
     /// Serves the desk's ticket, which has just begun, to its end. Want of memory comes only where
     /// the desk isn't sure, and then the desk is left as the call that wanted it left it.
     fn serve<R: Threads + Wait + Sync, D: Desk<Served = Self>>(

@@ -14,7 +14,7 @@ use crate::bumps::{first_entry, op_of};
 use hall_serving::HallDesk;
 use repeated_calls::{RepeatedCalls, RepeatedScript};
 use session_hall::{Caller, Closed, Hall};
-use session_journal::{Scratch, Serves};
+use session_journal::{Scratch, Script, Serves};
 use session_values::{Listed, NoMemory, TableKind, Value};
 use std::alloc::Global;
 use std::process::Abort;
@@ -74,7 +74,7 @@ fn serve_both<R: Threads + Wait + Abort + Sync, S: Serves + Drop>(
 }
 
 /// A hall of one caller and one shard of each table.
-fn open_one<S: Serves + Drop>(
+fn open_one<S: Script + Drop>(
     alloc: Global,
     script: S,
     shape: &[TableKind],
@@ -91,16 +91,13 @@ fn open_one<S: Serves + Drop>(
 fn served_at_desks<R: Threads + Wait + Abort + Sync, S: Serves + Drop>(
     rt: &R,
     alloc: Global,
-    script: S,
     plan: &S,
-    shape: &[TableKind],
+    hall: Hall<S>,
+    mut left: Vec<Caller<S>>,
 ) -> Closed
-    requires shape { shape.now ≡ (S.meaning script).shape }
-    requires tables { length shape.now ≤ max_tables }
-    requires plan { script ≡ plan.now }
+    requires one { HasOne S.meaning plan.now hall left.items }
 {
     let mut scratch = Scratch::new(alloc).expect(rt, "memory");
-    let (hall, mut left) = open_one(alloc, script, shape).expect(rt, "memory");
     let mut caller = left.remove(0);
     serve_both(rt, plan, &hall, &mut caller, &mut scratch);
     left.push_reserved(caller);
@@ -117,7 +114,8 @@ fn list_at_desks<R: Threads + Wait + Abort + Sync>(
 {
     let script = RepeatedScript { list };
     let plan = RepeatedScript { list };
-    served_at_desks(rt, alloc, script, &plan, &[TableKind::Map])
+    let (hall, left) = open_one(alloc, script, &[TableKind::Map]).expect(rt, "memory");
+    served_at_desks(rt, alloc, &plan, hall, left)
 }
 
 /// The two tickets add 0 and 1 to one key.

@@ -5,8 +5,8 @@ use Rattle.hall_writing.proofs.first.serve_and_write_on.Given as goal
 
 abbrev pub invariant-loop : goal.invariant-loop
 invariant-loop g l = record {
-  job : IsJobOf g.S.Script.meaning l.hall l.lane (replies_of (g.S.Script.meaning l.plan)) l.job;
+  job : IsJobOf g.S.Tickets.meaning l.hall l.lane (replies_of (g.S.Tickets.meaning l.plan)) l.job;
   number : l.job.caller.number ≡ l.fn.job.caller.number;
-  keeps : Keeps (replies_of (g.S.Script.meaning l.plan)) l.sheet.pending;
-  on : GoesOn (replies_of (g.S.Script.meaning l.plan)) l.names (progress (g.O.Sink.held l.fn.out) (g.O.Sink.faults l.fn.out) l.fn.sheet) (progress (g.O.Sink.held l.out) (g.O.Sink.faults l.out) l.sheet);
+  keeps : Keeps (replies_of (g.S.Tickets.meaning l.plan)) l.sheet.pending;
+  on : GoesOn (replies_of (g.S.Tickets.meaning l.plan)) l.names (progress (g.O.Sink.held l.fn.out) (g.O.Sink.faults l.fn.out) l.fn.sheet) (progress (g.O.Sink.held l.out) (g.O.Sink.faults l.out) l.sheet);
 }

@@ -10,7 +10,7 @@ use Rattle.hall_writing.proofs.jobs.run_beside.Goals as goal
 
 pub join-others-requires-send-F : goal.join-others-requires-send-F
 join-others-requires-send-F g c κs within =
-    let jobs = Vec-send _ (job.the_send _ g.S.Script c.type_bounds.send-S) in
+    let jobs = Vec-send _ (job.the_send _ g.S.Tickets c.type_bounds.send-S) in
     record {
       owned = λ x vs vss. (
         tt,
@@ -19,7 +19,7 @@ join-others-requires-send-F g c κs within =
           (
             (tt, c.type_bounds.sync-S.shared x.1.now x.1.ref_ptr.0 x.1.ref_ptr.1 κs.1.1.1.1.1.1.1.0),
             (
-              (tt, (hall_sync _ g.S.Script c.type_bounds.send-S).shared x.2.now x.2.ref_ptr.0 x.2.ref_ptr.1 κs.1.1.1.1.1.1.1.1.0),
+              (tt, (hall_sync _ g.S.Tickets c.type_bounds.send-S).shared x.2.now x.2.ref_ptr.0 x.2.ref_ptr.1 κs.1.1.1.1.1.1.1.1.0),
               (
                 (tt, c.type_bounds.sync-G.shared x.3.now x.3.ref_ptr.0 x.3.ref_ptr.1 κs.1.1.1.1.1.1.1.1.1.0),
                 (

@@ -6,48 +6,48 @@ use Rattle.hall_writing.proofs.Closing.{few_left, within_left, written}
 use Rattle.hall_writing.proofs.serving.serve_and_write.Goals as goal
 
 pub run_jobs-first-requires-clause-first : goal.run_jobs-first-requires-clause-first
-run_jobs-first-requires-clause-first g c κs within = (ready g.S.Script.meaning _ _ c.args.plan.now _ _ _ _ c.session.invariant (search rules) _ _ c.part_first-first.ensures).0
+run_jobs-first-requires-clause-first g c κs within = (ready g.S.Tickets.meaning _ _ c.args.plan.now _ _ _ _ c.session.invariant (search rules) _ _ c.part_first-first.ensures).0
 
 pub run_jobs-first-requires-clause-jobs : goal.run_jobs-first-requires-clause-jobs
-run_jobs-first-requires-clause-jobs g c κs within = (ready g.S.Script.meaning _ _ c.args.plan.now _ _ _ _ c.session.invariant (search rules) _ _ c.part_first-first.ensures).1
+run_jobs-first-requires-clause-jobs g c κs within = (ready g.S.Tickets.meaning _ _ c.args.plan.now _ _ _ _ c.session.invariant (search rules) _ _ c.part_first-first.ensures).1
 
 pub run_jobs-first-requires-clause-keeps : goal.run_jobs-first-requires-clause-keeps
-run_jobs-first-requires-clause-keeps g c κs within = keeps_start g.S.Script.meaning _ _ c.answering.ensures c.args.plan.now _ _ _ _ c.session.invariant (search rules)
+run_jobs-first-requires-clause-keeps g c κs within = keeps_start g.S.Tickets.meaning _ _ c.answering.ensures c.args.plan.now _ _ _ _ c.session.invariant (search rules)
 
 pub run_jobs-first-requires-clause-few : goal.run_jobs-first-requires-clause-few
-run_jobs-first-requires-clause-few g c κs within = few_replies g.S.Script.meaning _ _ c.answering.ensures c.args.plan.now _ _ _ _ _ c.session.invariant (search rules) (search rules)
+run_jobs-first-requires-clause-few g c κs within = few_replies g.S.Tickets.meaning _ _ c.answering.ensures c.args.plan.now _ _ _ _ _ c.session.invariant (search rules) (search rules)
 
 pub close-closed-requires-clause-callers : goal.close-closed-requires-clause-callers
 close-closed-requires-clause-callers g c =
-    leave g.S.Script.meaning c.session.inside.hall c.session.inside.lane _ _ _ c.run_jobs-first.result.0 c.run_jobs-first.result.1.items c.from_vec.result
+    leave g.S.Tickets.meaning c.session.inside.hall c.session.inside.lane _ _ _ c.run_jobs-first.result.0 c.run_jobs-first.result.1.items c.from_vec.result
     c.part_first-first.ensures (c.from_vec.ensures ∙ c.end_jobs.ensures) c.run_jobs-first.ensures.len c.session.invariant.opens c.run_jobs-first.ensures.first c.run_jobs-first.ensures.jobs
 
 pub write_rest-whole-requires-clause-few : goal.write_rest-whole-requires-clause-few
 write_rest-whole-requires-clause-few g c =
-    few_left g.S.Script.meaning c.session.inside.hall c.args.plan.now (search rules) c.close-closed.result c.close-closed.ensures.done _ (c.as_slice.ensures ∙ c.replies.ensures) max_requests
-    (few_replies g.S.Script.meaning _ _ c.answering.ensures c.args.plan.now _ _ _ _ max_requests c.session.invariant (search rules) (search rules))
+    few_left g.S.Tickets.meaning c.session.inside.hall c.args.plan.now (search rules) c.close-closed.result c.close-closed.ensures.done _ (c.as_slice.ensures ∙ c.replies.ensures) max_requests
+    (few_replies g.S.Tickets.meaning _ _ c.answering.ensures c.args.plan.now _ _ _ _ max_requests c.session.invariant (search rules) (search rules))
 
 pub write_rest-whole-requires-clause-within : goal.write_rest-whole-requires-clause-within
 write_rest-whole-requires-clause-within g c =
-    within_left g.S.Script.meaning c.session.inside.hall c.args.plan.now (search rules) c.close-closed.result c.close-closed.ensures.done _ (c.as_slice.ensures ∙ c.replies.ensures) _ _ _ _ _ c.session.invariant
+    within_left g.S.Tickets.meaning c.session.inside.hall c.args.plan.now (search rules) c.close-closed.result c.close-closed.ensures.done _ (c.as_slice.ensures ∙ c.replies.ensures) _ _ _ _ _ c.session.invariant
     c.args.names.now (g.O.Sink.held c.args.out.now) (g.O.Sink.faults c.args.out.now) _ c.run_jobs-first.ensures.on
 
 pub returns-clause-all : goal.returns-clause-all
 returns-clause-all g c =
-    (written g.S.Script.meaning c.session.inside.hall c.args.plan.now (search rules) c.close-closed.result c.close-closed.ensures.done _ (c.as_slice.ensures ∙ c.replies.ensures) _ _ _ _ _ c.session.invariant
+    (written g.S.Tickets.meaning c.session.inside.hall c.args.plan.now (search rules) c.close-closed.result c.close-closed.ensures.done _ (c.as_slice.ensures ∙ c.replies.ensures) _ _ _ _ _ c.session.invariant
     c.args.names.now (g.O.Sink.held c.args.out.now) (g.O.Sink.faults c.args.out.now) _ c.run_jobs-first.ensures.on _ _ _ c.write_rest-whole.ensures.ends).all
 
 pub returns-clause-rose : goal.returns-clause-rose
 returns-clause-rose g c =
-    (written g.S.Script.meaning c.session.inside.hall c.args.plan.now (search rules) c.close-closed.result c.close-closed.ensures.done _ (c.as_slice.ensures ∙ c.replies.ensures) _ _ _ _ _ c.session.invariant
+    (written g.S.Tickets.meaning c.session.inside.hall c.args.plan.now (search rules) c.close-closed.result c.close-closed.ensures.done _ (c.as_slice.ensures ∙ c.replies.ensures) _ _ _ _ _ c.session.invariant
     c.args.names.now (g.O.Sink.held c.args.out.now) (g.O.Sink.faults c.args.out.now) _ c.run_jobs-first.ensures.on _ _ _ c.write_rest-whole.ensures.ends).rose
 
 pub returns-clause-front : goal.returns-clause-front
 returns-clause-front g c =
-    (written g.S.Script.meaning c.session.inside.hall c.args.plan.now (search rules) c.close-closed.result c.close-closed.ensures.done _ (c.as_slice.ensures ∙ c.replies.ensures) _ _ _ _ _ c.session.invariant
+    (written g.S.Tickets.meaning c.session.inside.hall c.args.plan.now (search rules) c.close-closed.result c.close-closed.ensures.done _ (c.as_slice.ensures ∙ c.replies.ensures) _ _ _ _ _ c.session.invariant
     c.args.names.now (g.O.Sink.held c.args.out.now) (g.O.Sink.faults c.args.out.now) _ c.run_jobs-first.ensures.on _ _ _ c.write_rest-whole.ensures.ends).front
 
 pub returns-clause-later : goal.returns-clause-later
 returns-clause-later g c =
-    (written g.S.Script.meaning c.session.inside.hall c.args.plan.now (search rules) c.close-closed.result c.close-closed.ensures.done _ (c.as_slice.ensures ∙ c.replies.ensures) _ _ _ _ _ c.session.invariant
+    (written g.S.Tickets.meaning c.session.inside.hall c.args.plan.now (search rules) c.close-closed.result c.close-closed.ensures.done _ (c.as_slice.ensures ∙ c.replies.ensures) _ _ _ _ _ c.session.invariant
     c.args.names.now (g.O.Sink.held c.args.out.now) (g.O.Sink.faults c.args.out.now) _ c.run_jobs-first.ensures.on _ _ _ c.write_rest-whole.ensures.ends).later

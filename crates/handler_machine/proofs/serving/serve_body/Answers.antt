@@ -37,7 +37,7 @@ walk_body-requires-clause-serves g c =
     let start = c.args.desk.now in
     let n = c.args.guide.now in
     let E = env_of c.args.env.now in
-    let course : Course = course_of (g.D.Served.Script.meaning (g.D.Desk.script start)) (at start) n.program.now n.handler (run (block_code c.args.body.now) E) in
+    let course : Course = course_of (g.D.Served.Tickets.meaning (g.D.Desk.script start)) (at start) n.program.now n.handler (run (block_code c.args.body.now) E) in
     let b = begins course n.late n.settled (list_with course.declared n.point n.values.now) (entry E) r.gives r.declares r.promises r.fresh r.idle r.going r.present r.settled r.told n.point (sym r.first) in
     (course.whole, (n, start), (refl, b.0, b.1, b.2, refl, b.3))
 
@@ -48,7 +48,7 @@ returns-in_err-reply-clause-script g c =
     let start = c.args.desk.now in
     let n = c.args.guide.now in
     let E = env_of c.args.env.now in
-    let course : Course = course_of (g.D.Served.Script.meaning (g.D.Desk.script start)) (at start) n.program.now n.handler (run (block_code c.args.body.now) E) in
+    let course : Course = course_of (g.D.Served.Tickets.meaning (g.D.Desk.script start)) (at start) n.program.now n.handler (run (block_code c.args.body.now) E) in
     let b = begins course n.late n.settled (list_with course.declared n.point n.values.now) (entry E) r.gives r.declares r.promises r.fresh r.idle r.going r.present r.settled r.told n.point (sym r.first) in
     let h = c.in_err-reply.ensures course.whole (n, start) (refl, b.0, b.1, b.2, refl, b.3) in
     h.0
@@ -60,7 +60,7 @@ returns-in_err-reply-clause-stopped g c =
     let start = c.args.desk.now in
     let n = c.args.guide.now in
     let E = env_of c.args.env.now in
-    let course : Course = course_of (g.D.Served.Script.meaning (g.D.Desk.script start)) (at start) n.program.now n.handler (run (block_code c.args.body.now) E) in
+    let course : Course = course_of (g.D.Served.Tickets.meaning (g.D.Desk.script start)) (at start) n.program.now n.handler (run (block_code c.args.body.now) E) in
     let b = begins course n.late n.settled (list_with course.declared n.point n.values.now) (entry E) r.gives r.declares r.promises r.fresh r.idle r.going r.present r.settled r.told n.point (sym r.first) in
     let h = c.in_err-reply.ensures course.whole (n, start) (refl, b.0, b.1, b.2, refl, b.3) in
     on_err c.from_residual.result _ h.1
@@ -72,7 +72,7 @@ slice_bounds-tell-end g c =
     let start = c.args.desk.now in
     let n = c.args.guide.now in
     let E = env_of c.args.env.now in
-    let course : Course = course_of (g.D.Served.Script.meaning (g.D.Desk.script start)) (at start) n.program.now n.handler (run (block_code c.args.body.now) E) in
+    let course : Course = course_of (g.D.Served.Tickets.meaning (g.D.Desk.script start)) (at start) n.program.now n.handler (run (block_code c.args.body.now) E) in
     let b = begins course n.late n.settled (list_with course.declared n.point n.values.now) (entry E) r.gives r.declares r.promises r.fresh r.idle r.going r.present r.settled r.told n.point (sym r.first) in
     let h = c.in_ok-reply.ensures course.whole (n, start) (refl, b.0, b.1, b.2, refl, b.3) in
     let m = c.walk_body.new.guide in
@@ -88,7 +88,7 @@ tell-requires-clause-site g c =
     let start = c.args.desk.now in
     let n = c.args.guide.now in
     let E = env_of c.args.env.now in
-    let course : Course = course_of (g.D.Served.Script.meaning (g.D.Desk.script start)) (at start) n.program.now n.handler (run (block_code c.args.body.now) E) in
+    let course : Course = course_of (g.D.Served.Tickets.meaning (g.D.Desk.script start)) (at start) n.program.now n.handler (run (block_code c.args.body.now) E) in
     let b = begins course n.late n.settled (list_with course.declared n.point n.values.now) (entry E) r.gives r.declares r.promises r.fresh r.idle r.going r.present r.settled r.told n.point (sym r.first) in
     let h = c.in_ok-reply.ensures course.whole (n, start) (refl, b.0, b.1, b.2, refl, b.3) in
     let m = c.walk_body.new.guide in
@@ -96,7 +96,7 @@ tell-requires-clause-site g c =
     let late : Course = course_of course.meaning course.start m.program.now m.handler course.whole in
     let declares : Declares course.meaning m.handler late.variables late.points late.declared = h.1.1.declares in
     let site : Site = record { part = m.handler; point = m.point } in
-    subst (λ z. HasSite (g.D.Served.Script.meaning z) site (length (take m.variables m.values.now))) (sym h.1.0) (front_site course.meaning m.handler late.variables late.points late.declared declares m.point m.within m.variables m.counted m.values.now (long m.values.now m.room))
+    subst (λ z. HasSite (g.D.Served.Tickets.meaning z) site (length (take m.variables m.values.now))) (sym h.1.0) (front_site course.meaning m.handler late.variables late.points late.declared declares m.point m.within m.variables m.counted m.values.now (long m.values.now m.room))
 
 pub tell-requires-clause-idle : goal.tell-requires-clause-idle
 tell-requires-clause-idle g c =
@@ -105,7 +105,7 @@ tell-requires-clause-idle g c =
     let start = c.args.desk.now in
     let n = c.args.guide.now in
     let E = env_of c.args.env.now in
-    let course : Course = course_of (g.D.Served.Script.meaning (g.D.Desk.script start)) (at start) n.program.now n.handler (run (block_code c.args.body.now) E) in
+    let course : Course = course_of (g.D.Served.Tickets.meaning (g.D.Desk.script start)) (at start) n.program.now n.handler (run (block_code c.args.body.now) E) in
     let b = begins course n.late n.settled (list_with course.declared n.point n.values.now) (entry E) r.gives r.declares r.promises r.fresh r.idle r.going r.present r.settled r.told n.point (sym r.first) in
     let h = c.in_ok-reply.ensures course.whole (n, start) (refl, b.0, b.1, b.2, refl, b.3) in
     h.1.1.waits
@@ -117,7 +117,7 @@ tell-requires-clause-going g c =
     let start = c.args.desk.now in
     let n = c.args.guide.now in
     let E = env_of c.args.env.now in
-    let course : Course = course_of (g.D.Served.Script.meaning (g.D.Desk.script start)) (at start) n.program.now n.handler (run (block_code c.args.body.now) E) in
+    let course : Course = course_of (g.D.Served.Tickets.meaning (g.D.Desk.script start)) (at start) n.program.now n.handler (run (block_code c.args.body.now) E) in
     let b = begins course n.late n.settled (list_with course.declared n.point n.values.now) (entry E) r.gives r.declares r.promises r.fresh r.idle r.going r.present r.settled r.told n.point (sym r.first) in
     let h = c.in_ok-reply.ensures course.whole (n, start) (refl, b.0, b.1, b.2, refl, b.3) in
     h.1.1.going
@@ -129,7 +129,7 @@ tell-requires-clause-may g c =
     let start = c.args.desk.now in
     let n = c.args.guide.now in
     let E = env_of c.args.env.now in
-    let course : Course = course_of (g.D.Served.Script.meaning (g.D.Desk.script start)) (at start) n.program.now n.handler (run (block_code c.args.body.now) E) in
+    let course : Course = course_of (g.D.Served.Tickets.meaning (g.D.Desk.script start)) (at start) n.program.now n.handler (run (block_code c.args.body.now) E) in
     let b = begins course n.late n.settled (list_with course.declared n.point n.values.now) (entry E) r.gives r.declares r.promises r.fresh r.idle r.going r.present r.settled r.told n.point (sym r.first) in
     let h = c.in_ok-reply.ensures course.whole (n, start) (refl, b.0, b.1, b.2, refl, b.3) in
     let m = c.walk_body.new.guide in
@@ -141,7 +141,7 @@ tell-requires-clause-may g c =
     let f = declared_with course.meaning site values in
     let last = list_with late.declared m.point m.values.now in
     let same : f ≡ last = front_list course.meaning m.handler late.variables late.points late.declared declares m.point m.within m.variables m.counted m.values.now (long m.values.now m.room) in
-    subst (λ z. MayTell (g.D.Served.Script.meaning z) m.late (declared_with (g.D.Served.Script.meaning z) site values) host) (sym h.1.0)
+    subst (λ z. MayTell (g.D.Served.Tickets.meaning z) m.late (declared_with (g.D.Served.Tickets.meaning z) site values) host) (sym h.1.0)
     (subst (λ (l : List Symbol). MayTell course.meaning m.late l host) (sym same) h.1.3)
 
 pub end-requires-clause-idle : goal.end-requires-clause-idle
@@ -151,7 +151,7 @@ end-requires-clause-idle g c =
     let start = c.args.desk.now in
     let n = c.args.guide.now in
     let E = env_of c.args.env.now in
-    let course : Course = course_of (g.D.Served.Script.meaning (g.D.Desk.script start)) (at start) n.program.now n.handler (run (block_code c.args.body.now) E) in
+    let course : Course = course_of (g.D.Served.Tickets.meaning (g.D.Desk.script start)) (at start) n.program.now n.handler (run (block_code c.args.body.now) E) in
     let b = begins course n.late n.settled (list_with course.declared n.point n.values.now) (entry E) r.gives r.declares r.promises r.fresh r.idle r.going r.present r.settled r.told n.point (sym r.first) in
     let h = c.in_ok-reply.ensures course.whole (n, start) (refl, b.0, b.1, b.2, refl, b.3) in
     let m = c.walk_body.new.guide in
@@ -164,7 +164,7 @@ end-requires-clause-idle g c =
     let last = list_with late.declared m.point m.values.now in
     let same : f ≡ last = front_list course.meaning m.handler late.variables late.points late.declared declares m.point m.within m.variables m.counted m.values.now (long m.values.now m.room) in
     let now = at c.tell.new.self in
-    let is : now ≡ once_told m.late f host = subst (λ z. now ≡ once_told m.late (declared_with (g.D.Served.Script.meaning z) site values) host) h.1.0 c.tell.ensures.told in
+    let is : now ≡ once_told m.late f host = subst (λ z. now ≡ once_told m.late (declared_with (g.D.Served.Tickets.meaning z) site values) host) h.1.0 c.tell.ensures.told in
     let serving : IsServing late now h.0 = serving_told late m.late f last host now h.0 same is h.1.1 in
     serving.waits
 
@@ -175,7 +175,7 @@ end-requires-clause-going g c =
     let start = c.args.desk.now in
     let n = c.args.guide.now in
     let E = env_of c.args.env.now in
-    let course : Course = course_of (g.D.Served.Script.meaning (g.D.Desk.script start)) (at start) n.program.now n.handler (run (block_code c.args.body.now) E) in
+    let course : Course = course_of (g.D.Served.Tickets.meaning (g.D.Desk.script start)) (at start) n.program.now n.handler (run (block_code c.args.body.now) E) in
     let b = begins course n.late n.settled (list_with course.declared n.point n.values.now) (entry E) r.gives r.declares r.promises r.fresh r.idle r.going r.present r.settled r.told n.point (sym r.first) in
     let h = c.in_ok-reply.ensures course.whole (n, start) (refl, b.0, b.1, b.2, refl, b.3) in
     let m = c.walk_body.new.guide in
@@ -188,7 +188,7 @@ end-requires-clause-going g c =
     let last = list_with late.declared m.point m.values.now in
     let same : f ≡ last = front_list course.meaning m.handler late.variables late.points late.declared declares m.point m.within m.variables m.counted m.values.now (long m.values.now m.room) in
     let now = at c.tell.new.self in
-    let is : now ≡ once_told m.late f host = subst (λ z. now ≡ once_told m.late (declared_with (g.D.Served.Script.meaning z) site values) host) h.1.0 c.tell.ensures.told in
+    let is : now ≡ once_told m.late f host = subst (λ z. now ≡ once_told m.late (declared_with (g.D.Served.Tickets.meaning z) site values) host) h.1.0 c.tell.ensures.told in
     let serving : IsServing late now h.0 = serving_told late m.late f last host now h.0 same is h.1.1 in
     serving.going
 
@@ -199,7 +199,7 @@ end-requires-clause-answers g c =
     let start = c.args.desk.now in
     let n = c.args.guide.now in
     let E = env_of c.args.env.now in
-    let course : Course = course_of (g.D.Served.Script.meaning (g.D.Desk.script start)) (at start) n.program.now n.handler (run (block_code c.args.body.now) E) in
+    let course : Course = course_of (g.D.Served.Tickets.meaning (g.D.Desk.script start)) (at start) n.program.now n.handler (run (block_code c.args.body.now) E) in
     let b = begins course n.late n.settled (list_with course.declared n.point n.values.now) (entry E) r.gives r.declares r.promises r.fresh r.idle r.going r.present r.settled r.told n.point (sym r.first) in
     let h = c.in_ok-reply.ensures course.whole (n, start) (refl, b.0, b.1, b.2, refl, b.3) in
     let m = c.walk_body.new.guide in
@@ -212,9 +212,9 @@ end-requires-clause-answers g c =
     let last = list_with late.declared m.point m.values.now in
     let same : f ≡ last = front_list course.meaning m.handler late.variables late.points late.declared declares m.point m.within m.variables m.counted m.values.now (long m.values.now m.room) in
     let now = at c.tell.new.self in
-    let is : now ≡ once_told m.late f host = subst (λ z. now ≡ once_told m.late (declared_with (g.D.Served.Script.meaning z) site values) host) h.1.0 c.tell.ensures.told in
+    let is : now ≡ once_told m.late f host = subst (λ z. now ≡ once_told m.late (declared_with (g.D.Served.Tickets.meaning z) site values) host) h.1.0 c.tell.ensures.told in
     let serving : IsServing late now h.0 = serving_told late m.late f last host now h.0 same is h.1.1 in
-    subst (λ z. next_of (g.D.Served.Script.meaning z) now ≡ Answers c.in_ok-reply.reply) (sym (c.tell.ensures.script ∙ h.1.0)) (end_answers late now h.0 c.in_ok-reply.reply serving h.2.answers)
+    subst (λ z. next_of (g.D.Served.Tickets.meaning z) now ≡ Answers c.in_ok-reply.reply) (sym (c.tell.ensures.script ∙ h.1.0)) (end_answers late now h.0 c.in_ok-reply.reply serving h.2.answers)
 
 pub end-requires-clause-due : goal.end-requires-clause-due
 end-requires-clause-due g c =
@@ -223,7 +223,7 @@ end-requires-clause-due g c =
     let start = c.args.desk.now in
     let n = c.args.guide.now in
     let E = env_of c.args.env.now in
-    let course : Course = course_of (g.D.Served.Script.meaning (g.D.Desk.script start)) (at start) n.program.now n.handler (run (block_code c.args.body.now) E) in
+    let course : Course = course_of (g.D.Served.Tickets.meaning (g.D.Desk.script start)) (at start) n.program.now n.handler (run (block_code c.args.body.now) E) in
     let b = begins course n.late n.settled (list_with course.declared n.point n.values.now) (entry E) r.gives r.declares r.promises r.fresh r.idle r.going r.present r.settled r.told n.point (sym r.first) in
     let h = c.in_ok-reply.ensures course.whole (n, start) (refl, b.0, b.1, b.2, refl, b.3) in
     let m = c.walk_body.new.guide in
@@ -236,9 +236,9 @@ end-requires-clause-due g c =
     let last = list_with late.declared m.point m.values.now in
     let same : f ≡ last = front_list course.meaning m.handler late.variables late.points late.declared declares m.point m.within m.variables m.counted m.values.now (long m.values.now m.room) in
     let now = at c.tell.new.self in
-    let is : now ≡ once_told m.late f host = subst (λ z. now ≡ once_told m.late (declared_with (g.D.Served.Script.meaning z) site values) host) h.1.0 c.tell.ensures.told in
+    let is : now ≡ once_told m.late f host = subst (λ z. now ≡ once_told m.late (declared_with (g.D.Served.Tickets.meaning z) site values) host) h.1.0 c.tell.ensures.told in
     let serving : IsServing late now h.0 = serving_told late m.late f last host now h.0 same is h.1.1 in
-    subst (λ z. now.present ≡ due_of (g.D.Served.Script.meaning z) now) (sym (c.tell.ensures.script ∙ h.1.0)) (end_due late now h.0 c.in_ok-reply.reply serving h.2.answers h.2.passes)
+    subst (λ z. now.present ≡ due_of (g.D.Served.Tickets.meaning z) now) (sym (c.tell.ensures.script ∙ h.1.0)) (end_due late now h.0 c.in_ok-reply.reply serving h.2.answers h.2.passes)
 
 pub returns-clause-served : goal.returns-clause-served
 returns-clause-served g c =
@@ -247,7 +247,7 @@ returns-clause-served g c =
     let start = c.args.desk.now in
     let n = c.args.guide.now in
     let E = env_of c.args.env.now in
-    let course : Course = course_of (g.D.Served.Script.meaning (g.D.Desk.script start)) (at start) n.program.now n.handler (run (block_code c.args.body.now) E) in
+    let course : Course = course_of (g.D.Served.Tickets.meaning (g.D.Desk.script start)) (at start) n.program.now n.handler (run (block_code c.args.body.now) E) in
     let b = begins course n.late n.settled (list_with course.declared n.point n.values.now) (entry E) r.gives r.declares r.promises r.fresh r.idle r.going r.present r.settled r.told n.point (sym r.first) in
     let h = c.in_ok-reply.ensures course.whole (n, start) (refl, b.0, b.1, b.2, refl, b.3) in
     let m = c.walk_body.new.guide in
@@ -260,7 +260,7 @@ returns-clause-served g c =
     let last = list_with late.declared m.point m.values.now in
     let same : f ≡ last = front_list course.meaning m.handler late.variables late.points late.declared declares m.point m.within m.variables m.counted m.values.now (long m.values.now m.room) in
     let now = at c.tell.new.self in
-    let is : now ≡ once_told m.late f host = subst (λ z. now ≡ once_told m.late (declared_with (g.D.Served.Script.meaning z) site values) host) h.1.0 c.tell.ensures.told in
+    let is : now ≡ once_told m.late f host = subst (λ z. now ≡ once_told m.late (declared_with (g.D.Served.Tickets.meaning z) site values) host) h.1.0 c.tell.ensures.told in
     let serving : IsServing late now h.0 = serving_told late m.late f last host now h.0 same is h.1.1 in
     end_served late now h.0 c.in_ok-reply.reply serving h.2.answers (at c.end.new.self) c.end.ensures.ended
 
@@ -271,7 +271,7 @@ returns-clause-script g c =
     let start = c.args.desk.now in
     let n = c.args.guide.now in
     let E = env_of c.args.env.now in
-    let course : Course = course_of (g.D.Served.Script.meaning (g.D.Desk.script start)) (at start) n.program.now n.handler (run (block_code c.args.body.now) E) in
+    let course : Course = course_of (g.D.Served.Tickets.meaning (g.D.Desk.script start)) (at start) n.program.now n.handler (run (block_code c.args.body.now) E) in
     let b = begins course n.late n.settled (list_with course.declared n.point n.values.now) (entry E) r.gives r.declares r.promises r.fresh r.idle r.going r.present r.settled r.told n.point (sym r.first) in
     let h = c.in_ok-reply.ensures course.whole (n, start) (refl, b.0, b.1, b.2, refl, b.3) in
     c.end.ensures.script ∙ c.tell.ensures.script ∙ h.1.0
@@ -283,7 +283,7 @@ returns-in_err-reply-clause-values g c =
     let start = c.args.desk.now in
     let n = c.args.guide.now in
     let E = env_of c.args.env.now in
-    let course : Course = course_of (g.D.Served.Script.meaning (g.D.Desk.script start)) (at start) n.program.now n.handler (run (block_code c.args.body.now) E) in
+    let course : Course = course_of (g.D.Served.Tickets.meaning (g.D.Desk.script start)) (at start) n.program.now n.handler (run (block_code c.args.body.now) E) in
     let b = begins course n.late n.settled (list_with course.declared n.point n.values.now) (entry E) r.gives r.declares r.promises r.fresh r.idle r.going r.present r.settled r.told n.point (sym r.first) in
     let h = c.in_err-reply.ensures course.whole (n, start) (refl, b.0, b.1, b.2, refl, b.3) in
     h.2
@@ -295,7 +295,7 @@ returns-clause-values g c =
     let start = c.args.desk.now in
     let n = c.args.guide.now in
     let E = env_of c.args.env.now in
-    let course : Course = course_of (g.D.Served.Script.meaning (g.D.Desk.script start)) (at start) n.program.now n.handler (run (block_code c.args.body.now) E) in
+    let course : Course = course_of (g.D.Served.Tickets.meaning (g.D.Desk.script start)) (at start) n.program.now n.handler (run (block_code c.args.body.now) E) in
     let b = begins course n.late n.settled (list_with course.declared n.point n.values.now) (entry E) r.gives r.declares r.promises r.fresh r.idle r.going r.present r.settled r.told n.point (sym r.first) in
     let h = c.in_ok-reply.ensures course.whole (n, start) (refl, b.0, b.1, b.2, refl, b.3) in
     h.1.4

@@ -12,25 +12,25 @@ use Rattle.admission_book.proofs.book.Book.close.Goals as goal
 
 pub all-requires : goal.all-requires
 all-requires g c =
-    let seen = view_lent g.S.Script.meaning _ _ _ c.into_inner-journal.ensures c.self.view_is in
-    let keeps = keeps_lent g.S.Script.meaning _ _ c.into_inner-journal.ensures c.self.invariant in
-    let L = here Lawful g.S.Script.meaning _ _ _ seen c.requires.lawful in
-    let done = here (λ (m : Meaning) (b : Book). (t : ℕ) → t < m.requests → IsSome (ended b.journal t)) g.S.Script.meaning _ _ _ seen c.requires.ended in
+    let seen = view_lent g.S.Tickets.meaning _ _ _ c.into_inner-journal.ensures c.self.view_is in
+    let keeps = keeps_lent g.S.Tickets.meaning _ _ c.into_inner-journal.ensures c.self.invariant in
+    let L = here Lawful g.S.Tickets.meaning _ _ _ seen c.requires.lawful in
+    let done = here (λ (m : Meaning) (b : Book). (t : ℕ) → t < m.requests → IsSome (ended b.journal t)) g.S.Tickets.meaning _ _ _ seen c.requires.ended in
     kept_some _ _ keeps.script L done c.into_inner-journal.result.kept refl keeps.one_each
 
 pub returns-clause-tables : goal.returns-clause-tables
 returns-clause-tables g c =
-    let seen = view_lent g.S.Script.meaning _ _ _ c.into_inner-journal.ensures c.self.view_is in
-    let keeps = keeps_lent g.S.Script.meaning _ _ c.into_inner-journal.ensures c.self.invariant in
-    let L = here Lawful g.S.Script.meaning _ _ _ seen c.requires.lawful in
-    let done = here (λ (m : Meaning) (b : Book). (t : ℕ) → t < m.requests → IsSome (ended b.journal t)) g.S.Script.meaning _ _ _ seen c.requires.ended in
-    there (λ (m : Meaning) (b : Book). after m.opening c.into_inner-journal.result.journal.events ≡ tables_before (session_of m) m.requests) g.S.Script.meaning _ _ _ seen (tables_serial _ _ keeps.script L done)
+    let seen = view_lent g.S.Tickets.meaning _ _ _ c.into_inner-journal.ensures c.self.view_is in
+    let keeps = keeps_lent g.S.Tickets.meaning _ _ c.into_inner-journal.ensures c.self.invariant in
+    let L = here Lawful g.S.Tickets.meaning _ _ _ seen c.requires.lawful in
+    let done = here (λ (m : Meaning) (b : Book). (t : ℕ) → t < m.requests → IsSome (ended b.journal t)) g.S.Tickets.meaning _ _ _ seen c.requires.ended in
+    there (λ (m : Meaning) (b : Book). after m.opening c.into_inner-journal.result.journal.events ≡ tables_before (session_of m) m.requests) g.S.Tickets.meaning _ _ _ seen (tables_serial _ _ keeps.script L done)
 
 pub returns-clause-serial : goal.returns-clause-serial
 returns-clause-serial g c =
-    let seen = view_lent g.S.Script.meaning _ _ _ c.into_inner-journal.ensures c.self.view_is in
-    let keeps = keeps_lent g.S.Script.meaning _ _ c.into_inner-journal.ensures c.self.invariant in
-    let L = here Lawful g.S.Script.meaning _ _ _ seen c.requires.lawful in
-    let done = here (λ (m : Meaning) (b : Book). (t : ℕ) → t < m.requests → IsSome (ended b.journal t)) g.S.Script.meaning _ _ _ seen c.requires.ended in
-    there (λ (m : Meaning) (b : Book). c.all.result ≡ serial_replies (session_of m) m.requests) g.S.Script.meaning _ _ _ seen
+    let seen = view_lent g.S.Tickets.meaning _ _ _ c.into_inner-journal.ensures c.self.view_is in
+    let keeps = keeps_lent g.S.Tickets.meaning _ _ c.into_inner-journal.ensures c.self.invariant in
+    let L = here Lawful g.S.Tickets.meaning _ _ _ seen c.requires.lawful in
+    let done = here (λ (m : Meaning) (b : Book). (t : ℕ) → t < m.requests → IsSome (ended b.journal t)) g.S.Tickets.meaning _ _ _ seen c.requires.ended in
+    there (λ (m : Meaning) (b : Book). c.all.result ≡ serial_replies (session_of m) m.requests) g.S.Tickets.meaning _ _ _ seen
     (replies_serial _ _ keeps.script L done c.all.result c.all.ensures keeps.one_each)

@@ -8,5 +8,5 @@ use Rattle.admission_book.proofs.book.Book.journal.Goals as goal
 
 pub returns-clause-few : goal.returns-clause-few
 returns-clause-few g c =
-    let L = here Lawful g.S.Script.meaning _ _ _ c.self.view_is c.requires.lawful in
-    there (λ (m : Meaning) (b : Book). length b.journal ≤ 2 * m.requests + 2 * calls m) g.S.Script.meaning _ _ _ c.self.view_is (few_events _ _ c.self.invariant.script L)
+    let L = here Lawful g.S.Tickets.meaning _ _ _ c.self.view_is c.requires.lawful in
+    there (λ (m : Meaning) (b : Book). length b.journal ≤ 2 * m.requests + 2 * calls m) g.S.Tickets.meaning _ _ _ c.self.view_is (few_events _ _ c.self.invariant.script L)

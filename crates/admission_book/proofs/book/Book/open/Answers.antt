@@ -28,7 +28,7 @@ lawful_in : {S : Type 0} (meaning : S → Meaning) (x y : Inner S) → x ≡ y �
 lawful_in {S} meaning x y e is = let P : Inner S → Type 0 = λ z. Lawful (meaning z.script) (view_in meaning z).book in subst P (sym e) is
 
 pub returns-clause-opened : goal.returns-clause-opened
-returns-clause-opened g c = shows_in g.S.Script.meaning _ _ _ c.in_ok-new.ensures.ok (shows (g.S.Script.meaning c.args.script) _ _ _ _ _ _ (events_are _ _ _ c.in_ok-journal.ensures) c.in_ok-kept.ensures c.requests-requests.ensures.requests c.in_ok-records.ensures)
+returns-clause-opened g c = shows_in g.S.Tickets.meaning _ _ _ c.in_ok-new.ensures.ok (shows (g.S.Tickets.meaning c.args.script) _ _ _ _ _ _ (events_are _ _ _ c.in_ok-journal.ensures) c.in_ok-kept.ensures c.requests-requests.ensures.requests c.in_ok-records.ensures)
 
 pub returns-clause-lawful : goal.returns-clause-lawful
-returns-clause-lawful g c = lawful_in g.S.Script.meaning _ _ c.in_ok-new.ensures.ok (lawful_same _ _ _ (shows (g.S.Script.meaning c.args.script) _ _ _ _ _ _ (events_are _ _ _ c.in_ok-journal.ensures) c.in_ok-kept.ensures c.requests-requests.ensures.requests c.in_ok-records.ensures) (opened_lawful _ _))
+returns-clause-lawful g c = lawful_in g.S.Tickets.meaning _ _ c.in_ok-new.ensures.ok (lawful_same _ _ _ (shows (g.S.Tickets.meaning c.args.script) _ _ _ _ _ _ (events_are _ _ _ c.in_ok-journal.ensures) c.in_ok-kept.ensures c.requests-requests.ensures.requests c.in_ok-records.ensures) (opened_lawful _ _))

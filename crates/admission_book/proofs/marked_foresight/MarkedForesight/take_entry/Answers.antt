@@ -11,7 +11,7 @@ use Rattle.admission_book.proofs.marked_foresight.MarkedForesight.take_entry.Goa
 
 pub returns-in-Some : goal.returns-in-Some
 returns-in-Some g c =
-    let m : Meaning = g.S.Script.meaning c.args.script.now in
+    let m : Meaning = g.S.Tickets.meaning c.args.script.now in
     let all : length c.entry_site.new.values ≡ c.self.inside.values.len = omega (arith, c.entry_site.ensures.room, c.self.invariant, c.self.inside.values.ok.0) in
     let told : declared_with m c.in-Some.site c.entry_site.new.values ≡ m.entry c.args.t = c.in-Some.ensures.site.1 in
     let roomy : 256 ≤ c.self.inside.list.room = omega (arith, c.requires.room, ap (λ (f : MarkedView). f.list.room) c.self.view_is) in
@@ -22,4 +22,4 @@ returns-in-None g c =
     let roomy : 256 ≤ c.self.inside.list.room = omega (arith, c.requires.room, ap (λ (f : MarkedView). f.list.room) c.self.view_is) in
     let P : List Symbol → Type 0 = λ l. AllByRecursion (λ s. IsTouched c.of-self-inside-in-None.result s) l in
     let are = c.symbols.ensures.symbols ∙ ap (λ (f : ForesightView). f.symbols) c.entry.ensures in
-    taken_known (g.S.Script.meaning c.args.script.now) _ _ _ refl c.entry.ensures roomy (subst P are c.of-self-inside-in-None.ensures)
+    taken_known (g.S.Tickets.meaning c.args.script.now) _ _ _ refl c.entry.ensures roomy (subst P are c.of-self-inside-in-None.ensures)

@@ -20,7 +20,7 @@ returns-then-self g c whole start next so_far =
     let last = list_with (declared_at n.program.now n.handler) n.point n.values.now in
     let then = once_told n.late last now in
     let env = env_of c.args.env.now in
-    let course : Course = course_of (g.D.Served.Script.meaning (g.D.Desk.script start.1)) (at start.1) n.program.now n.handler whole in
+    let course : Course = course_of (g.D.Served.Tickets.meaning (g.D.Desk.script start.1)) (at start.1) n.program.now n.handler whole in
     (so_far.0, passes_settled course then c.args.point env next so_far.1 (so_far.2 c.if-self.true), so_far.2, so_far.3, so_far.4, so_far.5)
 
 pub is_as_told-requires-clause-point : goal.is_as_told-requires-clause-point
@@ -31,7 +31,7 @@ is_as_told-requires-clause-point g c =
     let last = list_with (declared_at n.program.now n.handler) n.point n.values.now in
     let now = at c.args.host.now in
     let then = once_told n.late last now in
-    let course : Course = course_of (g.D.Served.Script.meaning (g.D.Desk.script s.1.1)) (at s.1.1) n.program.now n.handler (s.0) in
+    let course : Course = course_of (g.D.Served.Tickets.meaning (g.D.Desk.script s.1.1)) (at s.1.1) n.program.now n.handler (s.0) in
     let within = point_within course then then.entries None c.args.point (env_of c.args.env.now) false s.2 s.3.1 in
     within
 
@@ -43,7 +43,7 @@ returns-then-is_as_told g c whole start next so_far =
     let last = list_with (declared_at n.program.now n.handler) n.point n.values.now in
     let then = once_told n.late last now in
     let env = env_of c.args.env.now in
-    let course : Course = course_of (g.D.Served.Script.meaning (g.D.Desk.script start.1)) (at start.1) n.program.now n.handler whole in
+    let course : Course = course_of (g.D.Served.Tickets.meaning (g.D.Desk.script start.1)) (at start.1) n.program.now n.handler whole in
     let f = list_with course.declared c.args.point c.args.env.now in
     let may = declare_may course then c.args.point env next f so_far.1 refl in
     let same = c.if-is_as_told.ensures in
@@ -58,7 +58,7 @@ are_as_many-requires-clause-point g c =
     let last = list_with (declared_at n.program.now n.handler) n.point n.values.now in
     let now = at c.args.host.now in
     let then = once_told n.late last now in
-    let course : Course = course_of (g.D.Served.Script.meaning (g.D.Desk.script s.1.1)) (at s.1.1) n.program.now n.handler (s.0) in
+    let course : Course = course_of (g.D.Served.Tickets.meaning (g.D.Desk.script s.1.1)) (at s.1.1) n.program.now n.handler (s.0) in
     let within = point_within course then then.entries None c.args.point (env_of c.args.env.now) false s.2 s.3.1 in
     within
 
@@ -70,7 +70,7 @@ invariant_of-self-clause-within g c =
     let last = list_with (declared_at n.program.now n.handler) n.point n.values.now in
     let now = at c.args.host.now in
     let then = once_told n.late last now in
-    let course : Course = course_of (g.D.Served.Script.meaning (g.D.Desk.script s.1.1)) (at s.1.1) n.program.now n.handler (s.0) in
+    let course : Course = course_of (g.D.Served.Tickets.meaning (g.D.Desk.script s.1.1)) (at s.1.1) n.program.now n.handler (s.0) in
     let within = point_within course then then.entries None c.args.point (env_of c.args.env.now) false s.2 s.3.1 in
     within
 
@@ -82,7 +82,7 @@ invariant_of-self-2-clause-within g c =
     let last = list_with (declared_at n.program.now n.handler) n.point n.values.now in
     let now = at c.args.host.now in
     let then = once_told n.late last now in
-    let course : Course = course_of (g.D.Served.Script.meaning (g.D.Desk.script s.1.1)) (at s.1.1) n.program.now n.handler (s.0) in
+    let course : Course = course_of (g.D.Served.Tickets.meaning (g.D.Desk.script s.1.1)) (at s.1.1) n.program.now n.handler (s.0) in
     let within = point_within course then then.entries None c.args.point (env_of c.args.env.now) false s.2 s.3.1 in
     within
 
@@ -94,7 +94,7 @@ keep_values-requires-clause-room g c =
     let last = list_with (declared_at n.program.now n.handler) n.point n.values.now in
     let now = at c.args.host.now in
     let then = once_told n.late last now in
-    let course : Course = course_of (g.D.Served.Script.meaning (g.D.Desk.script s.1.1)) (at s.1.1) n.program.now n.handler (s.0) in
+    let course : Course = course_of (g.D.Served.Tickets.meaning (g.D.Desk.script s.1.1)) (at s.1.1) n.program.now n.handler (s.0) in
     let within = point_within course then then.entries None c.args.point (env_of c.args.env.now) false s.2 s.3.1 in
     let few = (s.3.1.declares.sites c.args.point within).few in
     let counted = n.counted in
@@ -109,7 +109,7 @@ keep_values-requires-clause-variables g c =
     let last = list_with (declared_at n.program.now n.handler) n.point n.values.now in
     let now = at c.args.host.now in
     let then = once_told n.late last now in
-    let course : Course = course_of (g.D.Served.Script.meaning (g.D.Desk.script s.1.1)) (at s.1.1) n.program.now n.handler (s.0) in
+    let course : Course = course_of (g.D.Served.Tickets.meaning (g.D.Desk.script s.1.1)) (at s.1.1) n.program.now n.handler (s.0) in
     let within = point_within course then then.entries None c.args.point (env_of c.args.env.now) false s.2 s.3.1 in
     front_within course.meaning n.handler course.variables course.points course.declared s.3.1.declares c.args.point within n.variables n.counted c.args.env.now c.requires.variables
 
@@ -121,7 +121,7 @@ returns-then-are_as_many g c whole start next so_far =
     let last = list_with (declared_at n.program.now n.handler) n.point n.values.now in
     let then = once_told n.late last now in
     let env = env_of c.args.env.now in
-    let course : Course = course_of (g.D.Served.Script.meaning (g.D.Desk.script start.1)) (at start.1) n.program.now n.handler whole in
+    let course : Course = course_of (g.D.Served.Tickets.meaning (g.D.Desk.script start.1)) (at start.1) n.program.now n.handler whole in
     let within = point_within course then then.entries None c.args.point env false next so_far.1 in
     let values = c.keep_values.new.values in
     let f = list_with (declared_at n.program.now n.handler) c.args.point values in
@@ -142,7 +142,7 @@ declares_nothing-self-requires-clause-point g c =
     let last = list_with (declared_at n.program.now n.handler) n.point n.values.now in
     let now = at c.args.host.now in
     let then = once_told n.late last now in
-    let course : Course = course_of (g.D.Served.Script.meaning (g.D.Desk.script s.1.1)) (at s.1.1) n.program.now n.handler (s.0) in
+    let course : Course = course_of (g.D.Served.Tickets.meaning (g.D.Desk.script s.1.1)) (at s.1.1) n.program.now n.handler (s.0) in
     let within = point_within course then then.entries None c.args.point (env_of c.args.env.now) false s.2 s.3.1 in
     within
 
@@ -154,7 +154,7 @@ slice_bounds-declare_at-end g c =
     let last = list_with (declared_at n.program.now n.handler) n.point n.values.now in
     let now = at c.args.host.now in
     let then = once_told n.late last now in
-    let course : Course = course_of (g.D.Served.Script.meaning (g.D.Desk.script s.1.1)) (at s.1.1) n.program.now n.handler (s.0) in
+    let course : Course = course_of (g.D.Served.Tickets.meaning (g.D.Desk.script s.1.1)) (at s.1.1) n.program.now n.handler (s.0) in
     let within = point_within course then then.entries None c.args.point (env_of c.args.env.now) false s.2 s.3.1 in
     front_length course.meaning n.handler course.variables course.points course.declared s.3.1.declares c.args.point within n.variables n.counted c.args.env.now c.requires.variables
 
@@ -166,10 +166,10 @@ declare_at-requires-clause-site g c =
     let last = list_with (declared_at n.program.now n.handler) n.point n.values.now in
     let now = at c.args.host.now in
     let then = once_told n.late last now in
-    let course : Course = course_of (g.D.Served.Script.meaning (g.D.Desk.script s.1.1)) (at s.1.1) n.program.now n.handler (s.0) in
+    let course : Course = course_of (g.D.Served.Tickets.meaning (g.D.Desk.script s.1.1)) (at s.1.1) n.program.now n.handler (s.0) in
     let within = point_within course then then.entries None c.args.point (env_of c.args.env.now) false s.2 s.3.1 in
     let site : Site = record { part = n.handler; point = c.args.point } in
-    subst (λ z. HasSite (g.D.Served.Script.meaning z) site (length (take n.variables c.args.env.now))) (sym s.3.0)
+    subst (λ z. HasSite (g.D.Served.Tickets.meaning z) site (length (take n.variables c.args.env.now))) (sym s.3.0)
     (front_site course.meaning n.handler course.variables course.points course.declared s.3.1.declares c.args.point within n.variables n.counted c.args.env.now c.requires.variables)
 
 pub declare_at-requires-clause-narrows : goal.declare_at-requires-clause-narrows
@@ -180,14 +180,14 @@ declare_at-requires-clause-narrows g c =
     let last = list_with (declared_at n.program.now n.handler) n.point n.values.now in
     let now = at c.args.host.now in
     let then = once_told n.late last now in
-    let course : Course = course_of (g.D.Served.Script.meaning (g.D.Desk.script s.1.1)) (at s.1.1) n.program.now n.handler (s.0) in
+    let course : Course = course_of (g.D.Served.Tickets.meaning (g.D.Desk.script s.1.1)) (at s.1.1) n.program.now n.handler (s.0) in
     let within = point_within course then then.entries None c.args.point (env_of c.args.env.now) false s.2 s.3.1 in
     let site : Site = record { part = n.handler; point = c.args.point } in
     let values = take n.variables c.args.env.now in
     let f = declared_with course.meaning site values in
     let is_list = front_list course.meaning n.handler course.variables course.points course.declared s.3.1.declares c.args.point within n.variables n.counted c.args.env.now c.requires.variables in
     let may = may_still course.meaning n.late last f now s.3.3 (declare_may course then c.args.point (env_of c.args.env.now) s.2 f s.3.1 is_list) in
-    subst (λ z. MayNarrow (g.D.Served.Script.meaning z) now.ticket now.entries now.present (declared_with (g.D.Served.Script.meaning z) site values)) (sym s.3.0) may
+    subst (λ z. MayNarrow (g.D.Served.Tickets.meaning z) now.ticket now.entries now.present (declared_with (g.D.Served.Tickets.meaning z) site values)) (sym s.3.0) may
 
 pub returns : goal.returns
 returns g c whole start next so_far =
@@ -197,12 +197,12 @@ returns g c whole start next so_far =
     let last = list_with (declared_at n.program.now n.handler) n.point n.values.now in
     let then = once_told n.late last now in
     let env = env_of c.args.env.now in
-    let course : Course = course_of (g.D.Served.Script.meaning (g.D.Desk.script start.1)) (at start.1) n.program.now n.handler whole in
+    let course : Course = course_of (g.D.Served.Tickets.meaning (g.D.Desk.script start.1)) (at start.1) n.program.now n.handler whole in
     let within = point_within course then then.entries None c.args.point env false next so_far.1 in
     let new = at c.declare_at.new.self in
     let site : Site = record { part = n.handler; point = c.args.point } in
     let values = take n.variables c.args.env.now in
     let f = declared_with course.meaning site values in
     let is_list = front_list course.meaning n.handler course.variables course.points course.declared so_far.1.declares c.args.point within n.variables n.counted c.args.env.now c.requires.variables in
-    let is : new ≡ with_present now f = subst (λ z. new ≡ with_present now (declared_with (g.D.Served.Script.meaning z) site values)) so_far.0 c.declare_at.ensures.narrowed in
+    let is : new ≡ with_present now f = subst (λ z. new ≡ with_present now (declared_with (g.D.Served.Tickets.meaning z) site values)) so_far.0 c.declare_at.ensures.narrowed in
     (c.declare_at.ensures.script ∙ so_far.0, declare_serves course then c.args.point env next f so_far.1 is_list new is, (λ e. ap (λ (d : DeskView). d.present) is ∙ is_list ∙ ap (map (symbol_at env)) (c.declares_nothing-self.ensures e)), (λ e. cc), so_far.4, (env, ap (λ (d : DeskView). d.present) is ∙ is_list))

@@ -1,56 +1,10 @@
-use Rattle.std.proofs.Common.{◌≡◌, ◌<◌, ℕ, List, length, sym, ap, ◌∙◌, subst}
+use Rattle.std.proofs.Common.{ap}
 use denote.Param.Send.{given_sync, param_sync}
-use Rattle.session_values.specs.declared.value.Value.{Value}
-use Rattle.check_meaning.specs.Dialogue.{entry, env_of, run}
-use Rattle.handler_check.specs.Resolved.{code_at, params_at}
-use Rattle.request_files.specs.Servable.{IsRequestOf}
-use Rattle.request_files.specs.Session.{request_at}
-use Rattle.declaration_insertion.specs.Promises.{list_at}
-use Rattle.declaration_insertion.specs.Program.{declared_at}
 use Rattle.handler_machine.specs.Scripts.{ScriptsView, meaning}
-use Rattle.handler_machine.specs.Serving.{DeclaresHandler, Gives}
-use Rattle.handler_machine.proofs.Lawful.{gives_ticket, request_is}
-use Rattle.handler_machine.proofs.Sites.{declares_handler}
 use Rattle.handler_machine.proofs.scripts.ScriptsServes.serve.Goals as goal
 
-pub serve_one-requires-sync-R : goal.serve_one-requires-sync-R
-serve_one-requires-sync-R g c κs within = param_sync 0 g.row.R (given_sync 1 g.row.R c.requires.shared)
+pub serve_at-requires-sync-R : goal.serve_at-requires-sync-R
+serve_at-requires-sync-R g c κs within = param_sync 0 g.row.R (given_sync 1 g.row.R c.requires.shared)
 
-pub serve_one-requires-clause-args : goal.serve_one-requires-clause-args
-serve_one-requires-clause-args g c κs within =
-    let s : ScriptsView = record { program = c.self.inside.program.now; opening = c.self.inside.opening.now; requests = c.self.inside.requests.now } in
-    let r = request_at s.requests c.args.ticket in
-    let below : c.args.ticket < length s.requests = subst (λ (z : ScriptsView). c.args.ticket < (meaning z).requests) (sym c.self.view_is) c.requires.within in
-    let is : IsRequestOf s.program.file r = request_is s.program.file s.requests c.args.ticket below c.self.invariant.0.servable.each in
-    ap (λ (vs : List Value). length vs) c.args_of.ensures ∙ is.args ∙ ap (λ (h : ℕ). params_at s.program.file h) (sym c.handler_of-h.ensures)
-
-pub serve_one-requires-clause-present : goal.serve_one-requires-clause-present
-serve_one-requires-clause-present g c κs within =
-    let s : ScriptsView = record { program = c.self.inside.program.now; opening = c.self.inside.opening.now; requests = c.self.inside.requests.now } in
-    let r = request_at s.requests c.args.ticket in
-    let here : (g.D.Desk.at c.args.desk.now).present ≡ list_at (declared_at s.program r.handler) (entry (env_of r.args)) =
-    subst (λ (z : ScriptsView). (g.D.Desk.at c.args.desk.now).present ≡ (meaning z).entry c.args.ticket) (sym c.self.view_is) c.requires.present in
-    here ∙ ap (λ (h : ℕ). list_at (declared_at s.program h) (entry (env_of r.args))) (sym c.handler_of-h.ensures)
-    ∙ ap (λ (vs : List Value). list_at (declared_at s.program c.handler_of-h.result) (entry (env_of vs))) (sym c.args_of.ensures)
-
-pub serve_one-requires-clause-gives : goal.serve_one-requires-clause-gives
-serve_one-requires-clause-gives g c κs within =
-    let s : ScriptsView = record { program = c.self.inside.program.now; opening = c.self.inside.opening.now; requests = c.self.inside.requests.now } in
-    let r = request_at s.requests c.args.ticket in
-    let p = s.program in
-    let one : Gives (meaning s) c.args.ticket (declared_at p c.handler_of-h.result) (entry (env_of r.args)) (run (code_at p.file c.handler_of-h.result) (env_of r.args)) =
-    subst (λ (h : ℕ). Gives (meaning s) c.args.ticket (declared_at p h) (entry (env_of r.args)) (run (code_at p.file h) (env_of r.args))) (sym c.handler_of-h.ensures) (gives_ticket s c.args.ticket) in
-    let two : Gives (meaning s) c.args.ticket (declared_at p c.handler_of-h.result) (entry (env_of c.args_of.result.now)) (run (code_at p.file c.handler_of-h.result) (env_of c.args_of.result.now)) =
-    subst (λ (vs : List Value). Gives (meaning s) c.args.ticket (declared_at p c.handler_of-h.result) (entry (env_of vs)) (run (code_at p.file c.handler_of-h.result) (env_of vs))) (sym c.args_of.ensures) one in
-    subst (λ (t : ℕ). Gives (meaning (g.D.Desk.script c.args.desk.now)) t (declared_at p c.handler_of-h.result) (entry (env_of c.args_of.result.now)) (run (code_at p.file c.handler_of-h.result) (env_of c.args_of.result.now))) (sym c.requires.ticket)
-    (subst (λ (z : ScriptsView). Gives (meaning z) c.args.ticket (declared_at p c.handler_of-h.result) (entry (env_of c.args_of.result.now)) (run (code_at p.file c.handler_of-h.result) (env_of c.args_of.result.now))) (c.self.view_is ∙ sym c.requires.plan) two)
-
-pub serve_one-requires-clause-declares : goal.serve_one-requires-clause-declares
-serve_one-requires-clause-declares g c κs within =
-    let s : ScriptsView = record { program = c.self.inside.program.now; opening = c.self.inside.opening.now; requests = c.self.inside.requests.now } in
-    let r = request_at s.requests c.args.ticket in
-    let below : c.args.ticket < length s.requests = subst (λ (z : ScriptsView). c.args.ticket < (meaning z).requests) (sym c.self.view_is) c.requires.within in
-    let is : IsRequestOf s.program.file r = request_is s.program.file s.requests c.args.ticket below c.self.invariant.0.servable.each in
-    let one : DeclaresHandler (meaning s) s.program c.handler_of-h.result =
-    subst (DeclaresHandler (meaning s) s.program) (sym c.handler_of-h.ensures) (declares_handler s c.self.invariant.0 r.handler is.handler) in
-    subst (λ (z : ScriptsView). DeclaresHandler (meaning z) s.program c.handler_of-h.result) (c.self.view_is ∙ sym c.requires.plan) one
+pub serve_at-requires-clause-same : goal.serve_at-requires-clause-same
+serve_at-requires-clause-same g c κs within = (c.args.self.now.opening, ap (λ (s : ScriptsView). meaning s) c.requires.plan)

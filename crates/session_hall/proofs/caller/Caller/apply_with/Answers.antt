@@ -3,12 +3,12 @@ use Rattle.session_hall.proofs.Tried.{flight_still, no_shard_tried, one_shard_tr
 use Rattle.session_hall.proofs.caller.Caller.apply_with.Goals as goal
 
 pub loop-init : goal.loop-init
-loop-init g c = record { caller = c.requires.caller; stage = c.requires.stage; since = no_shard_tried (g.S.Script.meaning (script_of c.args.hall.now)) c.args.hall.now.sizes.shards c.args.self.now }
+loop-init g c = record { caller = c.requires.caller; stage = c.requires.stage; since = no_shard_tried (g.S.Tickets.meaning (script_of c.args.hall.now)) c.args.hall.now.sizes.shards c.args.self.now }
 
 pub loop-preserved : goal.loop-preserved
 loop-preserved g c =
     let inv = c.loop.invariant in
-    let m = g.S.Script.meaning (script_of c.args.hall.now) in
+    let m = g.S.Tickets.meaning (script_of c.args.hall.now) in
     let shards = c.args.hall.now.sizes.shards in
     record {
       caller = c.in-Busy.ensures.caller.0;

@@ -10,7 +10,7 @@ loop-init g c = record { caller = c.requires.caller; stage = c.requires.stage; s
 pub loop-preserved : goal.loop-preserved
 loop-preserved g c =
     let inv = c.loop.invariant in
-    let m = g.S.Script.meaning (script_of c.args.hall.now) in
+    let m = g.S.Tickets.meaning (script_of c.args.hall.now) in
     record {
       caller = c.in-Busy.ensures.caller.0;
       stage = subst (λ s. IsBetween s) (sym c.in-Busy.ensures.began.1.stage_still) inv.stage;

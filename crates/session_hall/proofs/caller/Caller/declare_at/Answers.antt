@@ -11,7 +11,7 @@ loop-init g c = record { caller = c.requires.caller; may = c.requires.may; since
 pub loop-preserved : goal.loop-preserved
 loop-preserved g c =
     let inv = c.loop.invariant in
-    let m = g.S.Script.meaning (script_of c.args.hall.now) in
+    let m = g.S.Tickets.meaning (script_of c.args.hall.now) in
     record {
       caller = c.in-Busy.ensures.caller.0;
       may = still_may m (λ s l b. OnServing s (λ t. MayDeclare l (declared_with m c.args.site c.args.values.now) m b t)) c.loop.self c.try_declare_at.new.self _ _ c.in-Busy.ensures.declared.1 inv.may;

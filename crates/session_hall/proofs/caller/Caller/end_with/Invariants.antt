@@ -6,7 +6,7 @@ use Rattle.session_hall.proofs.caller.Caller.end_with.Given as goal
 
 abbrev pub invariant-loop : goal.invariant-loop
 invariant-loop g l = record {
-  caller : IsCallerOf g.S.Script.meaning l.hall l.self;
-  may : ByNote (g.S.Script.meaning (script_of l.hall)) l.self (MayAnswer l.reply);
+  caller : IsCallerOf g.S.Tickets.meaning l.hall l.self;
+  may : ByNote (g.S.Tickets.meaning (script_of l.hall)) l.self (MayAnswer l.reply);
   since : OnlyBookLost l.fn.self l.self;
 }

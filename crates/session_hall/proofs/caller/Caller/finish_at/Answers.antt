@@ -10,7 +10,7 @@ loop-init g c = record { caller = c.requires.caller; may = c.requires.may; since
 pub loop-preserved : goal.loop-preserved
 loop-preserved g c =
     let inv = c.loop.invariant in
-    let m = g.S.Script.meaning (script_of c.args.hall.now) in
+    let m = g.S.Tickets.meaning (script_of c.args.hall.now) in
     record {
       caller = c.in-Busy.ensures.caller.0;
       may = still_may m (λ s l b. MayFinishAt m s l b (declared_with m c.args.site c.args.values.now)) c.loop.self c.try_finish_at.new.self _ _ c.in-Busy.ensures.finished.1 inv.may;

@@ -7,7 +7,7 @@ use Rattle.session_hall.proofs.caller.Caller.finish_at.Given as goal
 
 abbrev pub invariant-loop : goal.invariant-loop
 invariant-loop g l = record {
-  caller : IsCallerOf g.S.Script.meaning l.hall l.self;
-  may : MayFinish (g.S.Script.meaning (script_of l.hall)) l.self (declared_with (g.S.Script.meaning (script_of l.hall)) l.site l.values);
+  caller : IsCallerOf g.S.Tickets.meaning l.hall l.self;
+  may : MayFinish (g.S.Tickets.meaning (script_of l.hall)) l.self (declared_with (g.S.Tickets.meaning (script_of l.hall)) l.site l.values);
   since : OnlyBookLost l.fn.self l.self;
 }

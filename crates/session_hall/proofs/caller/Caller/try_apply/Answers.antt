@@ -5,38 +5,38 @@ use Rattle.session_hall.proofs.Taken.{busy_at}
 use Rattle.session_hall.proofs.caller.Caller.try_apply.Goals as goal
 
 pub turns_of-turns-requires-clause-few : goal.turns_of-turns-requires-clause-few
-turns_of-turns-requires-clause-few g c = few g.S.Script.meaning c.args.hall.now c.args.self.now c.requires.caller c.in_flight-t.result.0 c.in_flight-t.result.1.now c.in_flight-t.ensures
+turns_of-turns-requires-clause-few g c = few g.S.Tickets.meaning c.args.hall.now c.args.self.now c.requires.caller c.in_flight-t.result.0 c.in_flight-t.result.1.now c.in_flight-t.ensures
 
 pub try_take_all-requires-clause-set : goal.try_take_all-requires-clause-set
-try_take_all-requires-clause-set g c = can_ask g.S.Script.meaning c.args.hall.now c.args.self.now c.requires.caller c.in_flight-t.result.0 c.in_flight-t.result.1.now c.in_flight-t.ensures c.turns_of-turns.result c.turns_of-turns.ensures
+try_take_all-requires-clause-set g c = can_ask g.S.Tickets.meaning c.args.hall.now c.args.self.now c.requires.caller c.in_flight-t.result.0 c.in_flight-t.result.1.now c.in_flight-t.ensures c.turns_of-turns.result c.turns_of-turns.ensures
 
 pub try_take_all-requires-clause-some : goal.try_take_all-requires-clause-some
-try_take_all-requires-clause-some g c = asks_some g.S.Script.meaning c.args.hall.now c.args.self.now c.requires.caller c.in_flight-t.result.0 c.in_flight-t.result.1.now c.in_flight-t.ensures c.turns_of-turns.result c.turns_of-turns.ensures
+try_take_all-requires-clause-some g c = asks_some g.S.Tickets.meaning c.args.hall.now c.args.self.now c.requires.caller c.in_flight-t.result.0 c.in_flight-t.result.1.now c.in_flight-t.ensures c.turns_of-turns.result c.turns_of-turns.ensures
 
 pub try_take_all-requires-clause-room : goal.try_take_all-requires-clause-room
-try_take_all-requires-clause-room g c = ask_room g.S.Script.meaning c.args.hall.now c.args.self.now c.requires.caller c.in_flight-t.result.0 c.in_flight-t.result.1.now c.in_flight-t.ensures c.turns_of-turns.result c.turns_of-turns.ensures
+try_take_all-requires-clause-room g c = ask_room g.S.Tickets.meaning c.args.hall.now c.args.self.now c.requires.caller c.in_flight-t.result.0 c.in_flight-t.result.1.now c.in_flight-t.ensures c.turns_of-turns.result c.turns_of-turns.ensures
 
 pub returns-in-Busy-clause-caller : goal.returns-in-Busy-clause-caller
 returns-in-Busy-clause-caller g c = (
-  busy_on g.S.Script.meaning c.args.hall.now c.args.self.now c.requires.caller c.try_take_all.new.seat c.try_take_all.ensures.seat.0 c.try_take_all.ensures.seat.1 c.in-Busy.ensures.answer.1.held_is
+  busy_on g.S.Tickets.meaning c.args.hall.now c.args.self.now c.requires.caller c.try_take_all.new.seat c.try_take_all.ensures.seat.0 c.try_take_all.ensures.seat.1 c.in-Busy.ensures.answer.1.held_is
       c.try_take_all.new.hands c.in-Busy.ensures.answer.0 c.try_take_all.ensures.room,
   refl,
 )
 
 pub returns-in-Busy-clause-applied : goal.returns-in-Busy-clause-applied
 returns-in-Busy-clause-applied g c =
-    busy_at g.S.Script.meaning c.args.hall.now c.args.self.now c.requires.caller c.in_flight-t.result.0 c.in_flight-t.result.1.now c.in_flight-t.ensures c.turns_of-turns.result c.turns_of-turns.ensures
+    busy_at g.S.Tickets.meaning c.args.hall.now c.args.self.now c.requires.caller c.in_flight-t.result.0 c.in_flight-t.result.1.now c.in_flight-t.ensures c.turns_of-turns.result c.turns_of-turns.ensures
     c.try_take_all.new.seat c.try_take_all.ensures.seat.1 c.in-Busy.turn c.in-Busy.ensures.answer.1 c.in-Busy.ensures.answer.2 c.try_take_all.new.hands c.in-Busy.ensures.answer.0
     c.try_take_all.ensures.seat.0 c.in-Busy.ensures.answer.3
 
 pub work-reply-requires : goal.work-reply-requires
 work-reply-requires g c =
-    can_work g.S.Script.meaning c.args.hall.now c.args.self.now c.requires.caller c.in_flight-t.result.0 c.in_flight-t.result.1.now c.in_flight-t.ensures c.turns_of-turns.result c.turns_of-turns.ensures
+    can_work g.S.Tickets.meaning c.args.hall.now c.args.self.now c.requires.caller c.in_flight-t.result.0 c.in_flight-t.result.1.now c.in_flight-t.ensures c.turns_of-turns.result c.turns_of-turns.ensures
     c.try_take_all.new.seat c.try_take_all.new.hands.pairs c.try_take_all.ensures.seat.1 c.in-Here.ensures.answer.0 c.in-Here.ensures.answer.1
 
 pub returns-clause-caller : goal.returns-clause-caller
 returns-clause-caller g c = (
-  applied_caller g.S.Script.meaning c.args.hall.now c.args.self.now c.requires.caller c.in_flight-t.result.0 c.in_flight-t.result.1.now c.in_flight-t.ensures c.turns_of-turns.result c.turns_of-turns.ensures
+  applied_caller g.S.Tickets.meaning c.args.hall.now c.args.self.now c.requires.caller c.in_flight-t.result.0 c.in_flight-t.result.1.now c.in_flight-t.ensures c.turns_of-turns.result c.turns_of-turns.ensures
       c.try_take_all.new.seat c.try_take_all.new.hands.pairs c.try_take_all.ensures.seat.1 c.in-Here.ensures.answer.0 c.in-Here.ensures.answer.1
       c.work-reply.new.hands.pairs c.work-reply.result c.work-reply.ensures.worked c.try_take_all.ensures.seat.0 c.work-reply.new.hands refl (c.work-reply.ensures.room ∙ c.try_take_all.ensures.room),
   refl,
@@ -44,6 +44,6 @@ returns-clause-caller g c = (
 
 pub returns-clause-applied : goal.returns-clause-applied
 returns-clause-applied g c =
-    applied_at g.S.Script.meaning c.args.hall.now c.args.self.now c.requires.caller c.in_flight-t.result.0 c.in_flight-t.result.1.now c.in_flight-t.ensures c.turns_of-turns.result c.turns_of-turns.ensures
+    applied_at g.S.Tickets.meaning c.args.hall.now c.args.self.now c.requires.caller c.in_flight-t.result.0 c.in_flight-t.result.1.now c.in_flight-t.ensures c.turns_of-turns.result c.turns_of-turns.ensures
     c.try_take_all.new.seat c.try_take_all.new.hands.pairs c.try_take_all.ensures.seat.1 c.in-Here.ensures.answer.0 c.in-Here.ensures.answer.1
     c.work-reply.new.hands.pairs c.work-reply.result c.work-reply.ensures.worked c.try_take_all.ensures.seat.0 c.work-reply.new.hands refl (c.work-reply.ensures.room ∙ c.try_take_all.ensures.room)

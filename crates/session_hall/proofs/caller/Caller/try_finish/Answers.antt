@@ -6,35 +6,35 @@ use Rattle.session_hall.specs.Names.{script_of}
 use Rattle.session_hall.proofs.caller.Caller.try_finish.Goals as goal
 
 pub applied-t-requires : goal.applied-t-requires
-applied-t-requires g c = is_applied (g.S.Script.meaning (script_of c.args.hall.now)) c.args.self.now.stage (foresight_of c.args.self.now) (book_of c.args.self.now) c.args.next.now.symbols c.requires.may
+applied-t-requires g c = is_applied (g.S.Tickets.meaning (script_of c.args.hall.now)) c.args.self.now.stage (foresight_of c.args.self.now) (book_of c.args.self.now) c.args.next.now.symbols c.requires.may
 
 pub returns-in-None-clause-caller : goal.returns-in-None-clause-caller
 returns-in-None-clause-caller g c = (
-  busy_caller g.S.Script.meaning c.args.hall.now c.args.self.now c.requires.caller c.take_book.new.seat c.take_book.ensures.seat.0 c.take_book.ensures.seat.1 c.in-None.ensures.took.held_still,
+  busy_caller g.S.Tickets.meaning c.args.hall.now c.args.self.now c.requires.caller c.take_book.new.seat c.take_book.ensures.seat.0 c.take_book.ensures.seat.1 c.in-None.ensures.took.held_still,
   refl,
 )
 
 pub done-requires-clause-may : goal.done-requires-clause-may
 done-requires-clause-may g c =
-    may_do g.S.Script.meaning c.args.hall.now c.args.self.now c.requires.caller c.take_book.new.seat c.in-Some.book c.take_book.ensures.seat.1 c.in-Some.ensures.took
+    may_do g.S.Tickets.meaning c.args.hall.now c.args.self.now c.requires.caller c.take_book.new.seat c.in-Some.book c.take_book.ensures.seat.1 c.in-Some.ensures.took
     c.applied-t.result.0 c.applied-t.result.1.now c.applied-t.result.2 c.applied-t.ensures
     c.args.next.now.symbols c.requires.may
 
 pub give_all-requires-clause-held : goal.give_all-requires-clause-held
 give_all-requires-clause-held g c =
-    same_turns g.S.Script.meaning c.args.hall.now c.args.self.now c.requires.caller c.take_book.new.seat c.in-Some.book c.take_book.ensures.seat.1 c.in-Some.ensures.took
+    same_turns g.S.Tickets.meaning c.args.hall.now c.args.self.now c.requires.caller c.take_book.new.seat c.in-Some.book c.take_book.ensures.seat.1 c.in-Some.ensures.took
     c.applied-t.result.0 c.applied-t.result.1.now c.applied-t.result.2 c.applied-t.ensures
     c.done.new.self
 
 pub give_all-requires-clause-moves : goal.give_all-requires-clause-moves
 give_all-requires-clause-moves g c =
-    finish_moves g.S.Script.meaning c.args.hall.now c.args.self.now c.requires.caller c.take_book.new.seat c.in-Some.book c.take_book.ensures.seat.1 c.in-Some.ensures.took
+    finish_moves g.S.Tickets.meaning c.args.hall.now c.args.self.now c.requires.caller c.take_book.new.seat c.in-Some.book c.take_book.ensures.seat.1 c.in-Some.ensures.took
     c.applied-t.result.0 c.applied-t.result.1.now c.applied-t.result.2 c.applied-t.ensures
     c.args.next.now.symbols c.done.new.self c.done.ensures.stays.script c.done.ensures.stays.lawful c.done.ensures.did
 
 pub returns-clause-caller : goal.returns-clause-caller
 returns-clause-caller g c = (
-  finished_caller g.S.Script.meaning c.args.hall.now c.args.self.now c.requires.caller c.take_book.new.seat c.in-Some.book c.take_book.ensures.seat.1 c.in-Some.ensures.took
+  finished_caller g.S.Tickets.meaning c.args.hall.now c.args.self.now c.requires.caller c.take_book.new.seat c.in-Some.book c.take_book.ensures.seat.1 c.in-Some.ensures.took
       c.applied-t.result.0 c.applied-t.result.1.now c.applied-t.result.2 c.applied-t.ensures
       c.args.next.now.symbols c.done.new.self c.done.ensures.stays.script c.done.ensures.stays.lawful c.done.ensures.did
       _ c.give_all.ensures.seat c.give_all.ensures.booked c.give_all.ensures.hands.0 c.give_all.ensures.hands.1 refl refl,
@@ -43,7 +43,7 @@ returns-clause-caller g c = (
 
 pub returns-clause-finished : goal.returns-clause-finished
 returns-clause-finished g c =
-    finished_at g.S.Script.meaning c.args.hall.now c.args.self.now c.requires.caller c.take_book.new.seat c.in-Some.book c.take_book.ensures.seat.1 c.in-Some.ensures.took
+    finished_at g.S.Tickets.meaning c.args.hall.now c.args.self.now c.requires.caller c.take_book.new.seat c.in-Some.book c.take_book.ensures.seat.1 c.in-Some.ensures.took
     c.applied-t.result.0 c.applied-t.result.1.now c.applied-t.result.2 c.applied-t.ensures
     c.args.next.now.symbols c.done.new.self c.done.ensures.stays.script c.done.ensures.stays.lawful c.done.ensures.did
     _ c.give_all.ensures.seat c.give_all.ensures.booked c.give_all.ensures.hands.0 c.give_all.ensures.hands.1 refl refl
