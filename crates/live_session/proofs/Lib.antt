@@ -1,0 +1,17 @@
+pub mod Alone
+pub mod Batching
+pub mod DumpLemmas
+pub mod EntriesPrinted
+pub mod Faults
+pub mod Keeping
+pub mod Lines
+pub mod OneFile
+pub mod OneRow
+pub mod OpenLemmas
+pub mod Reading
+pub mod Room
+pub mod Runs
+pub mod Seeds
+pub mod Steps
+pub mod Whole
+pub mod Words

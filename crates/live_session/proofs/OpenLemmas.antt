@@ -1,0 +1,190 @@
+-- What is loaded of a session file without requests, as a session.
+use Rattle.std.proofs.Common.{◌≡◌, ◌≢◌, ℕ, ◌<◌, ◌≤◌, List, [], ◌∷◌, length, map, None, Result, Ok, Err, IfOk, IfErr, refl, sym, ◌∙◌, ap, subst, arith}
+use Rattle.std.proofs.lemmas.List.{length-map}
+use Rattle.std.specs.List.{AllByRecursion}
+use Rattle.session_values.specs.Limits.{max_variables}
+use Rattle.session_values.specs.Tables.{Tables, kind_of}
+use Rattle.session_values.specs.declared.kind.TableKind.{TableKind}
+use Rattle.opening_tables.specs.Opening.{tables_of}
+use Rattle.opening_tables.proofs.Filling.{entries_length}
+use Rattle.opening_tables.proofs.Openings.{opening_kinds}
+use Rattle.handler_check.specs.File.{File}
+use Rattle.handler_check.specs.TableDecl.{TableDecl}
+use Rattle.handler_check.proofs.Fine.{few_tables}
+use Rattle.handler_check.specs.Resolved.{shape_of}
+use Rattle.text_lines.specs.Rows.{Row, names_behind, rows}
+use Rattle.text_lines.specs.Text.{Text}
+use Rattle.text_lines.proofs.RowLemmas.{behind_nil, rows_nil}
+use Rattle.request_files.specs.declared.request.Request.{Request}
+use Rattle.request_files.specs.Requests.{request_of}
+use Rattle.shard_tables.specs.declared.part.Part.{Part}
+use Rattle.serve_faults.specs.Input.{Parts, parts_of}
+use Rattle.serve_faults.specs.Session.{IsSession, all_names_of, opening_names_of, rows_of}
+use Rattle.serve_faults.specs.declared.status.Fault.{Fault}
+use Rattle.serve_faults.specs.declared.status.Fault.TheVariants as fault
+use Rattle.serve_reading.specs.declared.session.Loaded.{Loaded}
+use Rattle.serve_reading.specs.declared.unserved.Unserved.{Unserved}
+use Rattle.serve_reading.specs.declared.unserved.Unserved.TheVariants as unserved
+use Rattle.serve_reading.specs.Reasons.{IsInputReason}
+use Rattle.serve_reading.specs.Sessions.{IsLoaded, IsSessionInput}
+use Rattle.serve_reading.proofs.Loading.{as_program}
+use Rattle.live_session.specs.declared.history.History.{History}
+use Rattle.live_session.specs.declared.opening.OpenError.{OpenError}
+use Rattle.live_session.specs.declared.opening.OpenError.TheVariants as unopened
+use Rattle.live_session.specs.Held.{AreAdds, container_in, held}
+use Rattle.live_session.specs.Live.{IsKept, IsLive, LiveView, requests_in}
+use Rattle.live_session.specs.Openings.{CanOpen, HasOpened, IsFileOf, IsMade, IsUnmade, IsUnopened, first_view, unopened_by}
+use Rattle.live_session.specs.Served.{AreServed, line_fault}
+use Rattle.live_session.proofs.Lines.{handlers_known}
+
+-- ---- no line was served
+first_live : (l : Loaded) (most : ℕ) → CanOpen l most → IsLive (first_view l most)
+first_live l most can =
+    let v : LiveView = first_view l most in
+    let none : rows 0 [] ≡ [] = rows_nil 0 in
+    record {
+      accepted = can.accepted;
+      opens = can.opens;
+      named = can.named;
+      known = can.known;
+      printable = can.printable;
+      fine = subst (λ (rs : List Row). AllByRecursion (λ (r : Row). line_fault l.names l.program.file r ≡ None) rs) (sym none) tt;
+      names_are = sym (ap (names_behind l.names) none ∙ behind_nil l.names);
+      few = can.few;
+      served = subst (λ (rs : List Row). AreServed l.program.file v.tables (map (request_of l.names l.names l.program.file) rs) [] v.tables) (sym none) refl;
+    }
+
+-- a history that begins
+abbrev begun : Loaded → List Text → History
+begun l names = record { opened = l.opening; first_names = names; lines = []; replies = [] }
+
+-- what is seen of a session over this file, with this history
+abbrev seen : Loaded → ℕ → List Text → Tables → History → LiveView
+seen l most names ts h = record {
+  file = l.program.file;
+  opened = h.opened;
+  first_names = h.first_names;
+  most_names = most;
+  names = names;
+  tables = ts;
+  lines = h.lines;
+  replies = h.replies;
+}
+
+-- the same names, tables as they open and a history that begins are seen so
+pub live_made : (l : Loaded) (most : ℕ) → CanOpen l most → (names : List Text) (ts : Tables) (h : History) → names ≡ l.names → ts ≡ tables_of (shape_of l.program.file) l.opening → h ≡ begun l names → IsLive (seen l most names ts h)
+live_made l most can names ts h same is begins =
+    let first : IsLive (seen l most names (tables_of (shape_of l.program.file) l.opening) (begun l names)) =
+    subst (λ (ns : List Text). IsLive (seen l most ns (tables_of (shape_of l.program.file) l.opening) (begun l ns))) (sym same) (first_live l most can) in
+    let filled : IsLive (seen l most names ts (begun l names)) = subst (λ (us : Tables). IsLive (seen l most names us (begun l names))) (sym is) first in
+    subst (λ (x : History). IsLive (seen l most names ts x)) (sym begins) filled
+
+-- ---- what is made of what was loaded
+module _ (l : Loaded) (most : ℕ) (can : CanOpen l most) where
+  abbrev shape : List TableKind
+  shape = shape_of l.program.file
+
+  -- there are few tables
+  pub few_kinds : length shape ≤ 7
+  few_kinds = let long = length-map l.program.file.tables (λ (t : TableDecl). t.kind) in omega (arith, long, few_tables l.program.file can.accepted.keeps)
+
+  -- and a list of entries for each
+  pub lists_long : length l.opening ≡ length shape
+  lists_long = entries_length shape l.opening can.opens.entries
+
+  -- tables that are filled so are kept, with the bounds of all handlers
+  pub kept : (adds : List (List ℕ)) (ps : List Part) (capacity : ℕ) → AreAdds l.program.file (length shape) adds → held ps ≡ tables_of shape l.opening → max_variables ≤ capacity → most ≤ 4000000000 → IsKept l.program.file most adds ps capacity
+  kept adds ps capacity bounds is room few =
+      let kinds : map kind_of (held ps) ≡ shape = ap (map kind_of) is ∙ opening_kinds shape l.opening in
+      let long : length ps ≡ length shape =
+      sym (length-map ps container_in) ∙ sym (length-map (held ps) kind_of) ∙ ap (λ (ks : List TableKind). length ks) kinds in
+      record {
+        kinds = kinds;
+        adds_are = subst (λ (n : ℕ). AreAdds l.program.file n adds) (sym long) bounds;
+        args = room;
+        most_few = few;
+      }
+
+-- ---- what was loaded
+map_none : {X Y : Type 0} (g : X → Y) (xs : List X) → length (map g xs) ≡ 0 → xs ≡ []
+map_none g [] e = refl
+map_none g (x ∷ xs) e = absurd (omega (arith, e))
+
+module _ (text : Text) (l : Loaded) (input : IsSessionInput text) (is : IsLoaded (parts_of text) l) where
+  abbrev parts : Parts
+  parts = parts_of text
+
+  file_of : IsFileOf text l.program.file
+  file_of = record { input = input; is_session = record { program = as_program parts.handlers l.program is.program_of; tables = is.tables_fine; requests = is.fine } }
+
+  pub can_open : (most : ℕ) → length l.names ≤ most → CanOpen l most
+  can_open most few = record {
+    accepted = (as_program parts.handlers l.program is.program_of).accepted;
+    opens = is.opens;
+    named = is.named;
+    known = handlers_known l.names l.program.file is.named;
+    printable = is.printable_opening;
+    few = few;
+  }
+
+  bare_of : length l.requests ≡ 0 → rows_of parts ≡ []
+  bare_of e = map_none (request_of (opening_names_of parts) (all_names_of parts) l.program.file) (rows_of parts) (sym (ap (λ (rs : List Request). length rs) is.requests_are) ∙ e)
+
+  has_requests : 0 < length l.requests → rows_of parts ≢ []
+  has_requests some none =
+      let long : length l.requests ≡ 0 = ap (λ (rs : List Request). length rs) is.requests_are ∙ ap (λ (rs : List Row). length (map (request_of (opening_names_of parts) (all_names_of parts) l.program.file) rs)) none in
+      omega (arith, some, long)
+
+  many_names : (most : ℕ) → most < length l.names → most < length (all_names_of parts)
+  many_names most h = subst (λ (ns : List Text). most < length ns) is.names_are h
+
+  opened : (most : ℕ) (s : LiveView) → length l.requests ≡ 0 → s ≡ first_view l most → HasOpened text most s
+  opened most s none e =
+      let bare = bare_of none in
+      subst (HasOpened text most) (sym e) (record {
+        input = input;
+        is_session = file_of.is_session;
+        bare = bare;
+        opened_are = is.opening_is;
+        first_are = is.names_are ∙ ap (names_behind (opening_names_of parts)) bare ∙ behind_nil (opening_names_of parts);
+        names_are = refl;
+        most_is = refl;
+        tables_are = refl;
+        no_lines = refl;
+        no_replies = refl;
+      })
+
+  pub unmade : (most : ℕ) (e : OpenError) → IsUnmade l most e → IsUnopened text most e
+  unmade most (unopened.Refused e) h = absurd h
+  unmade most unopened.HasRequests h = (l.program.file, file_of, has_requests h)
+  unmade most unopened.TooManyNames h = (l.program.file, file_of, many_names most h)
+  unmade most unopened.NoMemory h = tt
+
+  pub all_made : (most : ℕ) (r : Result LiveView OpenError) → IfOk r (IsMade l most) → IfOk r (HasOpened text most)
+  all_made most (Ok s) h = opened most s h.0 h.1
+  all_made most (Err e) h = tt
+
+  pub none_made : (most : ℕ) (r : Result LiveView OpenError) → IfErr r (IsUnmade l most) → IfErr r (IsUnopened text most)
+  none_made most (Ok s) h = tt
+  none_made most (Err e) h = unmade most e h
+
+-- the rule that a text breaks
+refused : (text : Text) (most : ℕ) (e : Fault) → IsInputReason text (unserved.Refused e) → IsUnopened text most (unopened.Refused e)
+refused text most fault.TooLarge h = absurd h
+refused text most fault.NoRequests h = h
+refused text most fault.HasRequests h = h
+refused text most fault.NotText h = h
+refused text most fault.NoTrace h = h
+refused text most fault.TooManyClients h = h
+refused text most (fault.Syntax x) h = h
+refused text most (fault.Check x) h = h
+refused text most (fault.Analysis x) h = h
+refused text most (fault.Tables x) h = h
+refused text most (fault.Request x) h = h
+refused text most (fault.Trace x) h = h
+refused text most (fault.Ranges x) h = h
+
+-- why nothing is opened
+pub not_loaded : (text : Text) (most : ℕ) (why : Unserved) → IsInputReason text why → IsUnopened text most (unopened_by why)
+not_loaded text most (unserved.Refused e) h = refused text most e h
+not_loaded text most unserved.NoMemory h = tt

@@ -1,0 +1,16 @@
+use Rattle.std.proofs.Common.{vec_capacity, arith}
+use Rattle.live_session.specs.Held.{held}
+use Rattle.live_session.proofs.OpenLemmas.{few_kinds, kept, lists_long, live_made}
+use Rattle.live_session.proofs.opening.made.Goals as goal
+
+pub tables_and_adds-requires-clause-long : goal.tables_and_adds-requires-clause-long
+tables_and_adds-requires-clause-long c = lists_long c.args.loaded c.args.most_names c.requires.can
+
+pub tables_and_adds-requires-clause-few : goal.tables_and_adds-requires-clause-few
+tables_and_adds-requires-clause-few c = few_kinds c.args.loaded c.args.most_names c.requires.can
+
+pub invariant_of-result : goal.invariant_of-result
+invariant_of-result c = (
+  live_made c.args.loaded c.args.most_names c.requires.can c.in_ok-names.names (held c.in_ok-tables.tables.parts.items) c.opened-history.result c.in_ok-names.ensures c.in_ok-tables.ensures.held c.opened-history.ensures,
+  kept c.args.loaded c.args.most_names c.requires.can c.in_ok-tables.adds.items c.in_ok-tables.tables.parts.items (vec_capacity c.in_ok-args.args) c.in_ok-tables.ensures.adds c.in_ok-tables.ensures.held (omega (arith, c.in_ok-args.ensures.capacity)) c.requires.bound,
+)

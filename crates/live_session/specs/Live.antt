@@ -1,0 +1,87 @@
+-- What contracts see of a session that lives, and what every one keeps.
+use Rattle.std.specs.Prelude.{◌≡◌, ℕ, ◌≤◌, List, length, map, None}
+use Rattle.std.specs.List.{AllByRecursion}
+use Rattle.session_values.specs.Limits.{max_variables}
+use Rattle.session_values.specs.declared.reply.Reply.{Reply}
+use Rattle.session_values.specs.Serial.{Session}
+use Rattle.session_values.specs.Tables.{Tables, kind_of}
+use Rattle.opening_tables.specs.Opening.{IsOpening, Pair, tables_of}
+use Rattle.handler_check.specs.File.{File}
+use Rattle.serve_faults.specs.Language.{IsNamedFile}
+use Rattle.handler_check.specs.Checking.{IsAccepted}
+use Rattle.handler_check.specs.Resolved.{shape_of}
+use Rattle.text_lines.specs.Rows.{Row, names_behind, rows}
+use Rattle.text_lines.specs.Text.{Text, lines}
+use Rattle.request_files.specs.declared.request.Request.{Request}
+use Rattle.request_files.specs.Requests.{AreKnown, request_of}
+use Rattle.request_files.specs.Session.{session}
+use Rattle.serve_faults.specs.ReadBack.{texts_of}
+use Rattle.serve_faults.specs.TableRows.{ArePrintable}
+use Rattle.table_text.specs.TableText.{table_text, written_table}
+use Rattle.serve_faults.specs.Input.{Parts}
+use Rattle.serve_faults.specs.Session.{opened_of, opening_names_of}
+use Rattle.shard_tables.specs.declared.part.Part.{Part}
+use Rattle.live_session.specs.Held.{AreAdds, held}
+use Rattle.live_session.specs.Served.{AreServed, line_fault}
+
+-- the handlers; the entries with which the tables opened and the names at that time; the most names
+-- that there may be; the names and the tables now; and the lines that were served with their
+-- replies, which no code reads
+pub record LiveView : Type 0 where
+  pub file : File
+  pub opened : List (List Pair)
+  pub first_names : List Text
+  pub most_names : ℕ
+  pub names : List Text
+  pub tables : Tables
+  pub lines : List Text
+  pub replies : List Reply
+
+-- the rows of the lines that were served
+abbrev pub rows_in : LiveView → List Row
+rows_in v = rows 0 v.lines
+
+-- their requests: handlers go by the names at the opening, symbols by those now
+abbrev pub requests_in : LiveView → List Request
+requests_in v = map (request_of v.first_names v.names v.file) (rows_in v)
+
+-- the session of one file with all these lines
+abbrev pub session_in : LiveView → Session
+session_in v = session v.file v.opened (requests_in v)
+
+-- the tables as `dump` writes them
+abbrev pub dump_of : LiveView → Text
+dump_of v = table_text (texts_of v.names v.file.tables) (map (written_table v.names) v.tables)
+
+-- what every session keeps: it was opened over a file that breaks no rule and entries for its
+-- tables; no line that was served has a fault; the names are those at the opening and those of the
+-- lines, and no more than there may be; and the requests were served one after another, each alone
+-- from the tables that the one before left
+pub record IsLive (v : LiveView) : Type 0 where
+  pub accepted : IsAccepted v.file
+  pub opens : IsOpening (shape_of v.file) v.opened
+  pub named : IsNamedFile v.first_names v.file
+  pub known : AreKnown v.first_names v.file
+  pub printable : ArePrintable v.first_names v.opened
+  pub fine : AllByRecursion (λ (r : Row). line_fault v.first_names v.file r ≡ None) (rows_in v)
+  pub names_are : v.names ≡ names_behind v.first_names (rows_in v)
+  pub few : length v.names ≤ v.most_names
+  pub served : AreServed v.file (tables_of (shape_of v.file) v.opened) (requests_in v) v.replies
+      v.tables
+
+-- these parts of a session file are those over which the session was opened, with the lines that it
+-- served
+pub record IsOneFile (v : LiveView) (parts : Parts) : Type 0 where
+  pub names_are : opening_names_of parts ≡ v.first_names
+  pub opened_are : opened_of parts v.file ≡ v.opened
+  pub lines_are : lines parts.requests ≡ v.lines
+
+-- what a session keeps beside that: the kinds of its tables, the bounds on what its handlers may add
+-- to them, room for the arguments of a request, and a bound on the names that a program can hold.
+-- Only this crate's own functions cite this.
+pub record IsKept (f : File) (most : ℕ) (adds : List (List ℕ)) (parts : List Part)
+    (capacity : ℕ) : Type 0 where
+  pub kinds : map kind_of (held parts) ≡ shape_of f
+  pub adds_are : AreAdds f (length parts) adds
+  pub args : max_variables ≤ capacity
+  pub most_few : most ≤ 4000000000

@@ -1,0 +1,91 @@
+-- What opening a session answers.
+use Rattle.std.specs.Prelude.{◌≡◌, ◌≢◌, ℕ, ◌<◌, ◌≤◌, List, [], length}
+use Rattle.session_values.specs.Limits.{max_input}
+use Rattle.opening_tables.specs.Opening.{IsOpening, tables_of}
+use Rattle.handler_check.specs.Checking.{IsAccepted}
+use Rattle.handler_check.specs.Resolved.{shape_of}
+use Rattle.serve_faults.specs.Language.{IsNamedFile}
+use Rattle.handler_check.specs.File.{File}
+use Rattle.text_lines.specs.Text.{Text}
+use Rattle.request_files.specs.Requests.{AreKnown}
+use Rattle.serve_faults.specs.TableRows.{ArePrintable}
+use Rattle.serve_faults.specs.Input.{Parts, parts_of}
+use Rattle.serve_faults.specs.Session.{IsSession, all_names_of, opened_of, opening_names_of, rows_of}
+use Rattle.serve_faults.specs.declared.status.Fault.TheVariants.{TooLarge}
+use Rattle.serve_reading.specs.declared.session.Loaded.{Loaded}
+use Rattle.serve_reading.specs.declared.unserved.Unserved.{Unserved}
+use Rattle.serve_reading.specs.declared.unserved.Unserved.TheVariants as unserved
+use Rattle.serve_reading.specs.Reasons.{IsInputReason}
+use Rattle.serve_reading.specs.Sessions.{IsSessionInput}
+use Rattle.live_session.specs.declared.opening.OpenError.{OpenError}
+use Rattle.live_session.specs.declared.opening.OpenError.TheVariants as unopened
+use Rattle.live_session.specs.Live.{LiveView}
+
+-- a session over this file, with these entries and names, before any line was served
+abbrev pub first_view : Loaded → ℕ → LiveView
+first_view l most = record {
+  file = l.program.file;
+  opened = l.opening;
+  first_names = l.names;
+  most_names = most;
+  names = l.names;
+  tables = tables_of (shape_of l.program.file) l.opening;
+  lines = [];
+  replies = [];
+}
+
+-- the text is a session file without requests, and the session is the one over its handlers, the
+-- entries of its table part and their names
+pub record HasOpened (text : Text) (most : ℕ) (v : LiveView) : Type 0 where
+  pub input : IsSessionInput text
+  pub is_session : IsSession (parts_of text) v.file
+  pub bare : rows_of (parts_of text) ≡ []
+  pub opened_are : v.opened ≡ opened_of (parts_of text) v.file
+  pub first_are : v.first_names ≡ opening_names_of (parts_of text)
+  pub names_are : v.names ≡ v.first_names
+  pub most_is : v.most_names ≡ most
+  pub tables_are : v.tables ≡ tables_of (shape_of v.file) v.opened
+  pub no_lines : v.lines ≡ []
+  pub no_replies : v.replies ≡ []
+
+-- the text is a session file of this file
+pub record IsFileOf (text : Text) (file : File) : Type 0 where
+  pub input : IsSessionInput text
+  pub is_session : IsSession (parts_of text) file
+
+-- why a text isn't opened
+abbrev pub IsUnopened : Text → ℕ → OpenError → Type 0
+IsUnopened text most (unopened.Refused TooLarge) = max_input < length text
+IsUnopened text most (unopened.Refused e) = IsInputReason text (unserved.Refused e)
+IsUnopened text most unopened.HasRequests =
+    (file : File) × IsFileOf text file × (rows_of (parts_of text) ≢ [])
+IsUnopened text most unopened.TooManyNames =
+    (file : File) × IsFileOf text file × (most < length (all_names_of (parts_of text)))
+IsUnopened text most unopened.NoMemory = Unit {0}
+
+-- what is loaded can be opened. Only this crate's own functions cite this.
+pub record CanOpen (l : Loaded) (most : ℕ) : Type 0 where
+  pub accepted : IsAccepted l.program.file
+  pub opens : IsOpening (shape_of l.program.file) l.opening
+  pub named : IsNamedFile l.names l.program.file
+  pub known : AreKnown l.names l.program.file
+  pub printable : ArePrintable l.names l.opening
+  pub few : length l.names ≤ most
+
+-- ---- on the way. Only this crate's own functions cite these.
+
+-- a session was made of what was loaded, which has no requests
+abbrev pub IsMade : Loaded → ℕ → LiveView → Type 0
+IsMade l most v = (length l.requests ≡ 0) × (v ≡ first_view l most)
+
+-- why none was made
+abbrev pub IsUnmade : Loaded → ℕ → OpenError → Type 0
+IsUnmade l most (unopened.Refused e) = ⊥
+IsUnmade l most unopened.HasRequests = 0 < length l.requests
+IsUnmade l most unopened.TooManyNames = most < length l.names
+IsUnmade l most unopened.NoMemory = Unit {0}
+
+-- why nothing is opened where nothing is loaded
+abbrev pub unopened_by : Unserved → OpenError
+unopened_by (unserved.Refused e) = unopened.Refused e
+unopened_by unserved.NoMemory = unopened.NoMemory

@@ -1,0 +1,186 @@
+// Accepting a line: its handler, its arguments, and the room that it takes.
+
+ghost use Rattle.std.specs.Prelude.{◌≡◌, ◌≢◌, ◌<◌, ◌≤◌, ℕ, List, [], length, take, true, false, IfErr, IfOk, OnErr, OnOk, Some, None, vec_capacity};
+ghost use Rattle.std.specs.List.{list_all};
+ghost use Rattle.session_values.specs.Limits.{max_variables};
+ghost use Rattle.session_values.specs.Names.{Begins};
+ghost use Rattle.handler_check.specs.Resolved.{code_at};
+ghost use Rattle.text_lines.specs.Rows.{row_of};
+ghost use Rattle.text_lines.specs.Text.{words as words_of};
+ghost use Rattle.text_lines.specs.Values.{is_value, placed_all, values_of};
+ghost use Rattle.request_files.specs.Requests.{AreKnown, IsHandler};
+ghost use Rattle.live_session.specs.Accepting.{IsAccepted, IsDeclined, IsUnread};
+ghost use Rattle.live_session.specs.Held.{AreAdds, HaveRoomFor, held};
+
+use crate::answers::{Answered, LineRefusal};
+use crate::arguments::{are_values, count, known_values, placed_values};
+use crate::growing::make_room_for;
+use handler_check::Checked;
+use session_values::{MAX_HANDLERS, Names, Value};
+use shard_tables::Part;
+use std::alloc::Global;
+use text_lines::Line;
+
+/// The number of the handler with this name.
+fn handler(checked: &Checked, names: &Names, name: &str) -> Option<u32>
+    requires { AreKnown names.now checked.now }
+    ensures { IsHandler names.now checked.now name.now result }
+{
+    match names.find(name) {
+        Some(place) => checked.find(place),
+        None => None,
+    }
+}
+
+/// Takes back the names behind so many.
+fn forget(names: &mut Names, count: u32)
+    ensures { names.new ≡ take count names.old }
+{
+    names.truncate(count);
+}
+
+/// Reads the arguments of words that are values and of which some place a new name, unless there
+/// would be more names than there may be.
+fn place_args(
+    words: Line<'_>,
+    names: &mut Names,
+    most: u32,
+    args: &mut Vec<Value>,
+) -> Result<(), Answered>
+    requires few { length (words_of words.rest.now) ≤ max_variables }
+    requires most { length names.old ≤ most }
+    requires bound { most ≤ 4000000000 }
+    requires room { max_variables ≤ vec_capacity args.old }
+    requires values { list_all is_value (words_of words.rest.now) ≡ true }
+    requires new { placed_all names.old (words_of words.rest.now) ≢ names.old }
+    ensures names { OnOk result (names.new ≡ placed_all names.old (words_of words.entry.rest.now)) }
+    ensures few { OnOk result (length names.new ≤ most) }
+    ensures args { OnOk result (args.new.items
+        ≡ values_of names.new (words_of words.entry.rest.now)) }
+    ensures unread { IfErr result (IsUnread names.old most (words_of words.entry.rest.now)) }
+    ensures same { OnErr result (names.new ≡ names.old) }
+    ensures capacity { vec_capacity args.new ≡ vec_capacity args.old }
+{
+    args.clear();
+    let before = names.len();
+    match placed_values(words, names, args) {
+        Ok(_) => {
+            if names.len() <= most {
+                return Ok(());
+            }
+            forget(names, before);
+            Err(Answered::TooManyNames)
+        }
+        Err(_) => {
+            forget(names, before);
+            Err(Answered::NoMemory)
+        }
+    }
+}
+
+/// Reads the arguments that the words are. Their symbols are placed, unless there would be more
+/// names than there may be.
+fn read_args(
+    words: Line<'_>,
+    names: &mut Names,
+    most: u32,
+    args: &mut Vec<Value>,
+) -> Result<(), Answered>
+    requires few { length (words_of words.rest.now) ≤ max_variables }
+    requires most { length names.old ≤ most }
+    requires bound { most ≤ 4000000000 }
+    requires room { max_variables ≤ vec_capacity args.old }
+    ensures values { OnOk result (list_all is_value (words_of words.entry.rest.now) ≡ true) }
+    ensures names { OnOk result (names.new ≡ placed_all names.old (words_of words.entry.rest.now)) }
+    ensures few { OnOk result (length names.new ≤ most) }
+    ensures args { OnOk result (args.new.items
+        ≡ values_of names.new (words_of words.entry.rest.now)) }
+    ensures unread { IfErr result (IsUnread names.old most (words_of words.entry.rest.now)) }
+    ensures same { OnErr result (names.new ≡ names.old) }
+    ensures capacity { vec_capacity args.new ≡ vec_capacity args.old }
+{
+    args.clear();
+    if known_values(words, names, args) {
+        return Ok(());
+    }
+    if !are_values(words) {
+        return Err(Answered::Refused(LineRefusal::BadWord));
+    }
+    place_args(words, names, most, args)
+}
+
+/// Finds the handler that a line's first word names, and reads its arguments.
+fn read_line(
+    checked: &Checked,
+    name: &str,
+    words: Line<'_>,
+    names: &mut Names,
+    most: u32,
+    args: &mut Vec<Value>,
+) -> Result<u32, Answered>
+    requires known { AreKnown names.old checked.now }
+    requires most { length names.old ≤ most }
+    requires bound { most ≤ 4000000000 }
+    requires room { max_variables ≤ vec_capacity args.old }
+    ensures accepted { IfOk result (IsAccepted checked.now names.old most
+        (row_of 0 name.now (words_of words.entry.rest.now)) names.new args.new.items) }
+    ensures declined { IfErr result (IsDeclined checked.now names.old most
+        (row_of 0 name.now (words_of words.entry.rest.now))) }
+    ensures same { OnErr result (names.new ≡ names.old) }
+    ensures capacity { vec_capacity args.new ≡ vec_capacity args.old }
+{
+    let Some(h) = handler(checked, names, name) else {
+        return Err(Answered::Refused(LineRefusal::UnknownHandler));
+    };
+    if count(words) != checked.handler(h).params as usize {
+        return Err(Answered::Refused(LineRefusal::Arity));
+    }
+    match read_args(words, names, most, args) {
+        Ok(()) => Ok(h),
+        Err(why) => Err(why),
+    }
+}
+
+/// Accepts a line: answers its handler, with its arguments in the list, its symbols among the names
+/// and room in each table for the keys that the handler may add. Where it doesn't, names are as they
+/// were and tables hold what they held.
+pub(crate) fn accept(
+    alloc: Global,
+    checked: &Checked,
+    adds: &[[u32; MAX_HANDLERS]],
+    name: &str,
+    words: Line<'_>,
+    names: &mut Names,
+    most: u32,
+    args: &mut Vec<Value>,
+    parts: &mut Vec<Part>,
+) -> Result<u32, Answered>
+    requires known { AreKnown names.old checked.now }
+    requires most { length names.old ≤ most }
+    requires bound { most ≤ 4000000000 }
+    requires room { max_variables ≤ vec_capacity args.old }
+    requires adds { AreAdds checked.now (length parts.old.items) adds.now }
+    ensures accepted { IfOk result (IsAccepted checked.now names.old most
+        (row_of 0 name.now (words_of words.entry.rest.now)) names.new args.new.items) }
+    ensures room { IfOk result (λ h. HaveRoomFor (code_at checked.now h) parts.new.items) }
+    ensures declined { IfErr result (IsDeclined checked.now names.old most
+        (row_of 0 name.now (words_of words.entry.rest.now))) }
+    ensures same { OnErr result (names.new ≡ names.old) }
+    ensures held { held parts.new.items ≡ held parts.old.items }
+    ensures capacity { vec_capacity args.new ≡ vec_capacity args.old }
+{
+    // There are few handlers.
+    let _handlers = checked.handlers();
+    let before = names.len();
+    let h = match read_line(checked, name, words, names, most, args) {
+        Ok(h) => h,
+        Err(why) => return Err(why),
+    };
+    match make_room_for(alloc, adds, h, parts) {
+        Ok(()) => Ok(h),
+        Err(_) => {
+            forget(names, before);
+            Err(Answered::NoMemory)
+        }
+    }
+}

@@ -1,0 +1,38 @@
+// What the calls of a session answer.
+
+use thiserror::Error;
+
+/// Why a line isn't served: the first rule that it breaks.
+#[derive(Clone, Copy, Debug, PartialEq, Eq, Error)]
+pub enum LineRefusal {
+    /// It is more than one line.
+    #[error("more than one line")]
+    ManyLines,
+    /// It has more than 4,194,304 bytes.
+    #[error("a line too long")]
+    TooLong,
+    /// Its first word is no handler's name.
+    #[error("unknown handler")]
+    UnknownHandler,
+    /// Its other words are not as many as the handler's parameters.
+    #[error("wrong number of arguments")]
+    Arity,
+    /// One of its other words is no value.
+    #[error("a word that is no value")]
+    BadWord,
+}
+
+/// What a line is answered. Only a line that is served changes anything.
+#[derive(Clone, Copy, Debug, PartialEq, Eq)]
+pub enum Answered {
+    /// Its request was served.
+    Served,
+    /// It has no words.
+    Nothing,
+    /// It breaks this rule.
+    Refused(LineRefusal),
+    /// It breaks none, but with its symbols there would be more names than the session may have.
+    TooManyNames,
+    /// Memory ran out.
+    NoMemory,
+}

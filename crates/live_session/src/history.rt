@@ -1,0 +1,54 @@
+// What was served by a session.
+
+ghost use Rattle.std.specs.Prelude.{◌≡◌, ℕ, List, [], ◌∷◌, ◌++◌};
+ghost use Rattle.session_values.specs.declared.reply.Reply.{Reply as Given};
+ghost use Rattle.opening_tables.specs.Opening.{Pair};
+
+use opening_tables::Opening;
+use session_values::{Names, Reply};
+use std::marker::Model;
+
+/// What a session was opened with, and the lines that it has served with their replies. Only proofs
+/// read them: it takes no memory, and its calls do nothing when they run.
+#[derive(Drop)]
+pub(crate) struct History {
+    pub ghost opened: { List (List Pair) },
+    pub ghost first_names: { List (List ℕ) },
+    pub ghost lines: { List (List ℕ) },
+    pub ghost replies: { List Given },
+}
+
+impl Model for History {
+    ghost use Rattle.std.specs.Borrow.{ftrue};
+
+    ghost also_owns = { λ _. ftrue };
+}
+
+// It owns nothing.
+unsafe impl Send for History {}
+
+impl History {
+    /// A session was opened with these names and entries.
+    pub(crate) fn opened(_names: &Names, _opening: &Opening) -> History
+        ensures { result ≡ record {
+          opened = _opening.now;
+          first_names = _names.now;
+          lines = [];
+          replies = [];
+        } }
+    {
+        History {}
+    }
+
+    /// A line was served, with this reply.
+    pub(crate) fn served(&self, line: &&str, reply: &Reply) -> History
+        ensures { result ≡ record {
+          opened = self.now.opened;
+          first_names = self.now.first_names;
+          lines = self.now.lines ++ line.now.now ∷ [];
+          replies = self.now.replies ++ reply.now ∷ [];
+        } }
+    {
+        History {}
+    }
+}

@@ -1,0 +1,26 @@
+//! A session that lives: handlers that were read once, and requests served one by one while a
+//! program runs, on tables of its own. Its calls wait for nothing and need no runtime.
+#![tactic(auto)]
+
+mod accepting;
+mod adds;
+mod answers;
+mod arguments;
+mod batch;
+mod dumping;
+mod first_line;
+mod growing;
+mod history;
+mod naming;
+mod opening;
+mod reply_line;
+mod running;
+mod session;
+mod tables;
+
+pub use answers::{Answered, LineRefusal};
+pub use batch::{Batch, Ended};
+pub use dumping::Dumped;
+pub use opening::OpenError;
+pub use reply_line::LONGEST_REPLY;
+pub use session::LiveSession;

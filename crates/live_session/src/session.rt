@@ -1,0 +1,177 @@
+// A session that lives.
+
+ghost use Rattle.std.specs.Prelude.{◌≡◌, ◌∷◌, ◌++◌, ◌+◌, ◌≤◌, List, ℕ, length, true};
+ghost use Rattle.std.specs.List.{list_all};
+ghost use Rattle.text_lines.specs.Rows.{row_of};
+ghost use Rattle.text_lines.specs.Text.{is_line_byte, words as words_of};
+ghost use Rattle.live_session.specs.Answers.{IsAnswered, LineAnswered, RowAnswered, TextAnswered};
+
+use crate::accepting::accept;
+use crate::answers::{Answered, LineRefusal};
+use crate::first_line::{first_line, first_word};
+use crate::history::History;
+use crate::reply_line::push_reply;
+use crate::running::run_alone;
+use crate::tables::LiveTables;
+use declaration_insertion::Program;
+use reply_sheet::TextRoom;
+use session_journal::Scratch;
+use session_values::{MAX_HANDLERS, MAX_INPUT, Names, Value};
+use std::alloc::Global;
+use std::marker::Model;
+use text_lines::Line;
+
+/// Handlers that were read once, and tables on which requests are served one by one, as long as the
+/// program that keeps it runs. A program that shares a session between threads gives it to one call
+/// at a time.
+#[derive(Drop)]
+pub struct LiveSession {
+    pub(crate) alloc: Global,
+    pub(crate) program: Program,
+    /// How many keys each handler may add to each table, by table.
+    pub(crate) adds: Vec<[u32; MAX_HANDLERS]>,
+    pub(crate) most_names: u32,
+    pub(crate) names: Names,
+    pub(crate) tables: LiveTables,
+    /// Room for the arguments of a request.
+    pub(crate) args: Vec<Value>,
+    /// Room for the variables of a handler.
+    pub(crate) scratch: Scratch,
+    /// What was served, for proofs alone.
+    pub(crate) history: History,
+}
+
+impl Model for LiveSession {
+    ghost use Rattle.std.specs.Prelude.{vec_capacity};
+    ghost use Rattle.std.specs.Coded.{codes};
+    ghost use Rattle.session_values.specs.Containers.{container_code};
+    ghost use Rattle.syntax_trees.specs.contracts.stmt.Stmt as stmt;
+    ghost use Rattle.live_session.specs.Held.{held};
+    ghost use Rattle.live_session.specs.Live.{IsKept, IsLive, LiveView};
+
+    ghost Value = { LiveView };
+
+    ghost coded = { Prim.hlevel (codes, container_code, stmt.the_row.coded) };
+
+    ghost view = { λ s. record {
+      file = s.program.file;
+      opened = s.history.opened;
+      first_names = s.history.first_names;
+      most_names = s.most_names;
+      names = s.names;
+      tables = held s.tables.parts.items;
+      lines = s.history.lines;
+      replies = s.history.replies;
+    } };
+
+    ghost invariant = { λ s. IsLive (record {
+      file = s.program.file;
+      opened = s.history.opened;
+      first_names = s.history.first_names;
+      most_names = s.most_names;
+      names = s.names;
+      tables = held s.tables.parts.items;
+      lines = s.history.lines;
+      replies = s.history.replies;
+    }) × IsKept s.program.file s.most_names s.adds.items s.tables.parts.items
+        (vec_capacity s.args) };
+}
+
+impl LiveSession {
+    // Serves the request of a line with words.
+    fn serve_row<T: TextRoom>(
+        &mut self,
+        line: &str,
+        name: &str,
+        words: Line<'_>,
+        out: &mut T,
+    ) -> Answered
+        requires words { words_of line.now ≡ name.now ∷ words_of words.rest.now }
+        requires room { 264 ≤ T.spare out.old }
+        ensures answered { IsAnswered (T.held out.old) (T.held out.new)
+            (λ text. RowAnswered self.old line.now (row_of 0 name.now (words_of words.entry.rest.now))
+            result text self.new) }
+    {
+        let h = match accept(
+            self.alloc,
+            self.program.checked(),
+            self.adds.as_slice(),
+            name,
+            words,
+            &mut self.names,
+            self.most_names,
+            &mut self.args,
+            &mut self.tables.parts,
+        ) {
+            Ok(h) => h,
+            Err(why) => return why,
+        };
+        let reply = run_alone(
+            self.program.checked(),
+            h,
+            self.args.as_slice(),
+            &mut self.scratch,
+            &mut self.tables,
+        );
+        self.history = self.history.served(&line, &reply);
+        push_reply(&reply, &self.names, out);
+        Answered::Served
+    }
+
+    // Serves the request of a line.
+    pub(crate) fn serve_line<T: TextRoom>(&mut self, line: &str, out: &mut T) -> Answered
+        requires line { list_all is_line_byte line.now ≡ true }
+        requires room { 264 ≤ T.spare out.old }
+        ensures answered { IsAnswered (T.held out.old) (T.held out.new)
+            (λ text. LineAnswered self.old line.now result text self.new) }
+    {
+        if line.len() > MAX_INPUT {
+            return Answered::Refused(LineRefusal::TooLong);
+        }
+        match first_word(line) {
+            Some((name, words)) => self.serve_row(line, name, words, out),
+            None => Answered::Nothing,
+        }
+    }
+
+    /// Serves the request of a line, on the tables that the requests before it left, and appends its
+    /// reply's line: that of `serve` without its ticket and the blank behind it. A line that isn't
+    /// served changes nothing.
+    pub fn request<T: TextRoom>(&mut self, text: &str, out: &mut T) -> Answered
+        requires room { 264 ≤ T.spare out.old }
+        ensures answered { IsAnswered (T.held out.old) (T.held out.new)
+            (λ line. TextAnswered self.old text.now result line self.new) }
+    {
+        if text.is_empty() {
+            return Answered::Nothing;
+        }
+        let (line, rest) = first_line(text);
+        if !rest.is_empty() {
+            return Answered::Refused(LineRefusal::ManyLines);
+        }
+        self.serve_line(line, out)
+    }
+
+    ghost use Rattle.session_values.specs.ReplyText.{reply_text};
+    ghost use Rattle.session_values.specs.Serial.{serial_replies, tables_before};
+    ghost use Rattle.serve_faults.specs.Input.{Parts};
+    ghost use Rattle.serve_faults.specs.Session.{replies_text, tables_text};
+    ghost use Rattle.live_session.specs.Live.{IsLive, IsOneFile, dump_of, session_in};
+
+    /// What is known of every session, whatever calls were made: its replies and tables are those of
+    /// the serial run of one session, whose requests are the lines that it served; so what it replied
+    /// and what `dump` writes are what `serve` and `dump` write of one file with all these lines.
+    pub fn answered_as_served(&self)
+        ensures live { IsLive self.now }
+        ensures replies { self.now.replies
+            ≡ serial_replies (session_in self.now) (session_in self.now).requests }
+        ensures tables { self.now.tables
+            ≡ tables_before (session_in self.now) (session_in self.now).requests }
+        ensures text { (parts : Parts) → IsOneFile self.now parts
+            → replies_text parts self.now.file ≡ reply_text self.now.names 0 self.now.replies }
+        ensures dump { (parts : Parts) → IsOneFile self.now parts
+            → tables_text parts self.now.file ≡ dump_of self.now }
+    {
+        let _ = &self.most_names;
+    }
+}
