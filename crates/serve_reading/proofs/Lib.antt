@@ -3,4 +3,3 @@ pub mod ClientFiles
 pub mod Inputs
 pub mod Loading
 pub use Rattle.handler_check.proofs.Counting
-pub use Rattle.may_use_analysis.proofs.PlaceLemmas

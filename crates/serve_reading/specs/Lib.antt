@@ -10,6 +10,5 @@ pub use Rattle.declaration_insertion.specs.Program
 pub use Rattle.declaration_insertion.specs.Promises
 pub use Rattle.handler_syntax.specs.Language
 pub use Rattle.request_files.specs.Divide
-pub use Rattle.may_use_analysis.specs.Places
 pub use Rattle.serve_faults.specs.ExitStatus
 pub use Rattle.serve_faults.specs.Message
