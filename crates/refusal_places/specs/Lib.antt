@@ -4,3 +4,4 @@ pub mod PlaceText
 pub mod Refusals
 pub mod RuleTable
 pub mod Spots
+pub use Rattle.text_lines.specs.Text

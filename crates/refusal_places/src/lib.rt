@@ -17,6 +17,7 @@ mod spot;
 
 pub use answering::{answer, names_place};
 pub use finding::rule_of;
+pub use pieces::push_place;
 pub use placing::place_text;
 pub use reading::refusal_of;
 pub use refusal::{Place, Refusal};

@@ -19,7 +19,7 @@ fn push_number(text: &mut Vec<u8>, n: u64) -> Result<(), NoMemory>
 }
 
 /// Appends the file, the line and the column.
-pub(crate) fn push_place(text: &mut Vec<u8>, name: &str, spot: &Spot<'_>) -> Result<(), NoMemory>
+pub fn push_place(text: &mut Vec<u8>, name: &str, spot: &Spot<'_>) -> Result<(), NoMemory>
     requires { length spot.now.front.now < 4294967296 }
     ensures { OnOk result (text.new.items
         ≡ text.old.items ++ spec.place_name name.now (spot_of spot.now)) }

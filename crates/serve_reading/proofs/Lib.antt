@@ -2,3 +2,4 @@ pub mod AuditedFiles
 pub mod ClientFiles
 pub mod Inputs
 pub mod Loading
+pub use Rattle.handler_check.proofs.Counting

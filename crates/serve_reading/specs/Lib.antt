@@ -4,3 +4,11 @@ pub mod Programs
 pub mod Reasons
 pub mod Sessions
 pub mod Described
+pub use Rattle.handler_check.specs.Resolved
+pub use Rattle.may_use_analysis.specs.Steps
+pub use Rattle.declaration_insertion.specs.Program
+pub use Rattle.declaration_insertion.specs.Promises
+pub use Rattle.handler_syntax.specs.Language
+pub use Rattle.request_files.specs.Divide
+pub use Rattle.serve_faults.specs.ExitStatus
+pub use Rattle.serve_faults.specs.Message

@@ -8,7 +8,7 @@ use std::hash::{DefaultHasher, Hasher};
 
 /// No names yet. Their hashes begin from a hash of all that is read, so whoever changes a name
 /// changes all of them, and can't choose names that collide.
-pub(crate) fn names_of_input(alloc: Global, handlers: &str, tables: &str, requests: &str) -> Names
+pub fn names_of_input(alloc: Global, handlers: &str, tables: &str, requests: &str) -> Names
     ensures { result ≡ [] }
 {
     let mut hasher = DefaultHasher::new();

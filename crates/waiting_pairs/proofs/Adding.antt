@@ -1,0 +1,66 @@
+-- Lists to which those that delay were appended.
+use Rattle.std.proofs.Common.{◌≡◌, Bool, true, false, ℕ, suc, ◌+◌, ◌<◌, ◌≤◌, ◌⊎◌, inl, inr, List, [], ◌∷◌, ◌++◌, map, length, take, get_or, append_assoc, append-nil, refl, sym, ap, subst, ◌∙◌, arith}
+use Rattle.std.proofs.lemmas.List.{map-append, take_more, take_all}
+use Rattle.std.proofs.lemmas.List.Concat.{flat_map-append}
+use Rattle.std.specs.Bool.{Decides}
+use Rattle.std.specs.List.{flat_map}
+use Rattle.symbolic_ops.specs.declared.symbol.Symbol.{Symbol}
+use Rattle.waiting_pairs.specs.declared.asked.Asked.{Asked}
+use Rattle.waiting_pairs.specs.declared.waiting.Wait.{Wait}
+use Rattle.waiting_pairs.specs.Waits.{Adds, IsDelay, Picks, against, gather, wait}
+
+pub picks_append : (xs ys a b : List Wait) → Picks xs a → Picks ys b → Picks (xs ++ ys) (a ++ b)
+picks_append [] ys a b p q = subst (λ (z : List Wait). Picks ys (z ++ b)) (sym p) q
+picks_append (w ∷ ws) ys a b (inl (d, (rest, r, e))) q = inl (d, (rest ++ b, picks_append ws ys rest b r q, ap (λ (z : List Wait). z ++ b) e))
+picks_append (w ∷ ws) ys a b (inr (n, r)) q = inr (n, picks_append ws ys a b r q)
+
+-- nothing yet
+pub adds_none : (old : List Wait) → Adds [] old old
+adds_none old = ([], refl, sym (append-nil old))
+
+pub adds_append : (xs ys old mid new : List Wait) → Adds xs old mid → Adds ys mid new → Adds (xs ++ ys) old new
+adds_append xs ys old mid new (f, p, e) (g, q, k) = (f ++ g, picks_append xs ys f g p q, k ∙ ap (λ (z : List Wait). z ++ g) e ∙ append_assoc old f g)
+
+against_more : (h p : ℕ) (s : Symbol) (xs : List Asked) (i : ℕ) (a : Asked) → i < length xs → a ≡ get_or xs i a → against h p (take (i + 1) xs) s ≡ against h p (take i xs) s ++ wait h p s a ∷ []
+against_more h p s xs i a lt is = ap (λ (z : List Asked). against h p z s) (take_more xs i a lt) ∙ map-append (wait h p s) (take i xs) (get_or xs i a ∷ []) ∙ ap (λ (z : Asked). against h p (take i xs) s ++ wait h p s z ∷ []) (sym is)
+
+-- one pair, whether it delays or not
+pub one_hit : (w : Wait) (old new : List Wait) (r : Bool) → r ≡ true → Decides r (IsDelay w) → new ≡ old ++ w ∷ [] → Adds (w ∷ []) old new
+one_hit w old new r e d is = (w ∷ [], inl (d.0 e, ([], refl, refl)), is)
+
+pub one_miss : (w : Wait) (old : List Wait) (r : Bool) → r ≡ false → Decides r (IsDelay w) → Adds (w ∷ []) old old
+one_miss w old r e d = ([], inr (λ y. clash (sym e ∙ d.1 y), refl), sym (append-nil old))
+  where
+    clash : false ≡ true → ⊥
+    clash f = cc
+
+pub adds_one : (h p : ℕ) (s : Symbol) (xs : List Asked) (i : ℕ) (a : Asked) (old mid new : List Wait) → i < length xs → a ≡ get_or xs i a
+    → Adds (wait h p s a ∷ []) mid new → Adds (against h p (take i xs) s) old mid → Adds (against h p (take (i + 1) xs) s) old new
+adds_one h p s xs i a old mid new lt is one so_far =
+    subst (λ (z : List Wait). Adds z old new) (sym (against_more h p s xs i a lt is)) (adds_append (against h p (take i xs) s) (wait h p s a ∷ []) old mid new so_far one)
+
+pub adds_against : (h p : ℕ) (s : Symbol) (xs : List Asked) (i : ℕ) (old new : List Wait) → length xs ≤ i → Adds (against h p (take i xs) s) old new → Adds (against h p xs s) old new
+adds_against h p s xs i old new le = subst (λ (z : List Asked). Adds (against h p z s) old new) (take_all i xs le)
+
+-- ---- one more symbol, point, handler
+pub adds_symbol : (h p : ℕ) (asked : List Asked) (xs : List Symbol) (i : ℕ) (s : Symbol) (old mid new : List Wait) → i < length xs → s ≡ get_or xs i s
+    → Adds (against h p asked s) mid new → Adds (flat_map (against h p asked) (take i xs)) old mid → Adds (flat_map (against h p asked) (take (i + 1) xs)) old new
+adds_symbol h p asked xs i s old mid new lt is one so_far =
+    let F : List Symbol → List Wait = flat_map (against h p asked) in
+    let more : F (take (i + 1) xs) ≡ F (take i xs) ++ against h p asked s =
+    ap F (take_more xs i s lt) ∙ flat_map-append (against h p asked) (take i xs) (get_or xs i s ∷ [])
+    ∙ ap (λ (z : List Wait). F (take i xs) ++ z) (append-nil (against h p asked (get_or xs i s)) ∙ ap (against h p asked) (sym is)) in
+    subst (λ (z : List Wait). Adds z old new) (sym more) (adds_append (F (take i xs)) (against h p asked s) old mid new so_far one)
+
+pub adds_symbols : (h p : ℕ) (asked : List Asked) (xs : List Symbol) (i : ℕ) (old new : List Wait) → length xs ≤ i
+    → Adds (flat_map (against h p asked) (take i xs)) old new → Adds (flat_map (against h p asked) xs) old new
+adds_symbols h p asked xs i old new le = subst (λ (z : List Symbol). Adds (flat_map (against h p asked) z) old new) (take_all i xs le)
+
+pub adds_gather : (f : ℕ → List Wait) (n : ℕ) (old mid new : List Wait) → Adds (f n) mid new → Adds (gather f n) old mid → Adds (gather f (n + 1)) old new
+adds_gather f n old mid new one so_far =
+    let on : suc n ≡ n + 1 = omega arith in
+    subst (λ (z : ℕ). Adds (gather f z) old new) on (adds_append (gather f n) (f n) old mid new so_far one)
+
+-- what was appended to nothing
+pub adds_all : (ws new : List Wait) → Adds ws [] new → Picks ws new
+adds_all ws new (f, p, e) = subst (λ (z : List Wait). Picks ws z) (sym e) p

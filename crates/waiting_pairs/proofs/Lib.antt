@@ -1,0 +1,9 @@
+mod Adding
+mod Deciding
+mod Exact
+mod Fronts
+mod Opening
+mod Operations
+mod Tied
+mod TiedPairs
+mod Written

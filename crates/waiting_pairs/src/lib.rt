@@ -1,0 +1,18 @@
+//! Which handler makes which other one wait: a symbol of what may still come at a point against an
+//! operation.
+#![tactic(auto)]
+
+mod asked;
+mod delaying;
+pub mod laws;
+mod lines;
+mod telling;
+mod waiting;
+
+pub use asked::Asked;
+pub use delaying::delays;
+pub use lines::wait_lines;
+pub use serve_reading::{Fault, Status, Unserved, message_of};
+pub use session_values::MAX_INPUT;
+pub use telling::told;
+pub use waiting::{Wait, waits};

@@ -1,0 +1,52 @@
+// From the bytes of a file to the lines that tell who waits for whom.
+
+ghost use Rattle.std.specs.Prelude.{◌≡◌, ◌≤◌, IfErr, IfOk, length};
+ghost use Rattle.session_values.specs.Limits.{max_input};
+ghost use Rattle.serve_reading.specs.Reasons.{IsProgramReason};
+ghost use Rattle.waiting_pairs.specs.Told.{IsTold, IsToldOf, IsUntold, handlers_of};
+
+use crate::lines::wait_lines;
+use crate::waiting::waits;
+use serve_reading::{Fault, Unserved, divide, names_of_input, read_program};
+use std::alloc::Global;
+
+/// The handlers of a file: of a session file what stands before its tables and requests.
+#[tactic(auto, using(crate::proofs::Fronts::front_divided, crate::proofs::Fronts::front_undivided, crate::proofs::Fronts::front_short))]
+fn handlers_part(text: &str) -> &str
+    requires { length text.now ≤ max_input }
+    ensures part { result.now ≡ handlers_of text.now }
+    ensures short { length result.now ≤ max_input }
+{
+    match divide(text) {
+        Some(parts) => parts.handlers,
+        None => text,
+    }
+}
+
+/// The lines that tell who waits for whom in the handlers of a file.
+pub fn told(alloc: Global, bytes: &[u8]) -> Result<Vec<u8>, Unserved>
+    requires { length bytes.now ≤ max_input }
+    ensures told { IfOk result (λ text. IsTold bytes.now text.items) }
+    ensures refused { IfErr result (IsUntold bytes.now) }
+{
+    let Ok(text) = std::str::from_utf8(bytes) else {
+        return Err(Unserved::Refused(Fault::NotText));
+    };
+    match told_of(alloc, handlers_part(text)) {
+        Ok(told) => Ok(told),
+        Err(e) => Err(e),
+    }
+}
+
+/// The lines that tell who waits for whom in handlers.
+fn told_of(alloc: Global, text: &str) -> Result<Vec<u8>, Unserved>
+    requires { length text.now ≤ max_input }
+    ensures told { IfOk result (λ told. IsToldOf text.now told.items) }
+    ensures refused { IfErr result (IsProgramReason text.now) }
+{
+    let mut names = names_of_input(alloc, text, "", "");
+    let program = read_program(alloc, text, &mut names)?;
+    let found = waits(alloc, &program)?;
+    let lines = wait_lines(alloc, &program, &names, text.as_bytes(), &found)?;
+    Ok(lines)
+}
