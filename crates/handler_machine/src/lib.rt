@@ -10,6 +10,8 @@ mod serving;
 mod sums;
 mod telling;
 
+pub use declaration_insertion::Program;
+pub use machine_walk::Answerer;
 pub use on_tables::TablesAnswerer;
 pub use running::run_handler;
 pub use scripts::Scripts;

@@ -11,7 +11,7 @@ use Rattle.handler_check.specs.Mentions.{file_mentions, handler_mentions, table_
 use Rattle.handler_check.specs.TableDecl.{TableDecl}
 use Rattle.serve_faults.specs.Language.{HasText, IsNamedFile}
 use Rattle.serve_faults.proofs.Facts.{all_first}
-use Rattle.handler_syntax.proofs.TextsKept.{texts_kept}
+use Rattle.serve_reading.proofs.TextsKept.{texts_kept}
 use Rattle.handler_check.proofs.Fine.{few_tables}
 use Rattle.handler_check.specs.Resolved.{shape_of}
 use Rattle.request_files.specs.Requests.{ArePrintable}

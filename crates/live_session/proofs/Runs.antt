@@ -14,7 +14,7 @@ use Rattle.handler_check.specs.Bounds.{adding, adds_bound, calls_bound, weight_o
 use Rattle.handler_check.specs.Code.{Code}
 use Rattle.handler_check.specs.Dialogue.{Env, next}
 use Rattle.handler_check.proofs.Bounded.{counted, ends_by}
-use Rattle.machine_walk.specs.Asking.{Runs, Steps}
+use Rattle.handler_machine.specs.Asking.{Runs, Steps}
 use Rattle.shard_tables.specs.declared.part.Part.{Part}
 use Rattle.shard_tables.specs.Either.{shard_view}
 use Rattle.live_session.specs.Held.{HasRoom, HaveRoomFor, LiveStep, held, room_at, rooms}

@@ -14,7 +14,7 @@ use Rattle.opening_tables.specs.Opening.{tables_of}
 use Rattle.handler_check.specs.File.{File}
 use Rattle.handler_check.specs.Mentions.{file_mentions}
 use Rattle.serve_faults.specs.Language.{IsNamedFile}
-use Rattle.handler_syntax.proofs.TextsKept.{texts_kept}
+use Rattle.serve_reading.proofs.TextsKept.{texts_kept}
 use Rattle.handler_check.specs.Bounds.{calls_bound}
 use Rattle.handler_check.specs.Dialogue.{env_of, next}
 use Rattle.handler_check.specs.Resolved.{code_at, shape_of}

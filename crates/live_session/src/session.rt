@@ -13,7 +13,7 @@ use crate::history::History;
 use crate::reply_line::push_reply;
 use crate::running::run_alone;
 use crate::tables::LiveTables;
-use declaration_insertion::Program;
+use handler_machine::Program;
 use reply_sheet::TextRoom;
 use session_journal::Scratch;
 use session_values::{MAX_HANDLERS, MAX_INPUT, Names, Value};

@@ -1,6 +1,6 @@
 // The tables of a session.
 
-use machine_walk::Answerer;
+use handler_machine::Answerer;
 use session_values::{NoMemory, Op, Value};
 use shard_tables::Part;
 use table_text::TellsEntries;

@@ -3,3 +3,4 @@ pub mod ClientFiles
 pub mod Inputs
 pub mod Loading
 pub use Rattle.handler_check.proofs.Counting
+pub use Rattle.handler_syntax.proofs.TextsKept
