@@ -22,6 +22,7 @@ pub(crate) fn nil_reply() -> Reply
 }
 
 /// The value of an expression of the list, or nil past its end.
+#[inline(always)]
 fn value_at(env: &[Value], values: &[CheckedExpr], i: usize) -> Value
     requires { AllByRecursion (TermWithin (length env.now)) (map expr_term values.now) }
     ensures { result ≡ slice_index_or (map (λ e. meaning.value_of e (env_of env.now))
