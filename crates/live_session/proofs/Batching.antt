@@ -1,5 +1,5 @@
 -- A batch of lines so far, and one line more.
-use Rattle.std.proofs.Common.{◌≡◌, ℕ, zero, suc, ◌+◌, ◌-◌, ◌<◌, ◌≤◌, ◌⊎◌, inl, inr, Bool, true, false, nat_lt, List, [], ◌∷◌, ◌++◌, length, drop, Option, Some, None, refl, sym, ◌∙◌, ap, subst, arith, append-nil, append_assoc}
+use Rattle.std.proofs.Common.{◌≡◌, ℕ, ◌+◌, ◌-◌, ◌<◌, ◌≤◌, ◌⊎◌, inl, inr, Bool, true, false, nat_lt, List, [], ◌∷◌, ◌++◌, length, drop, Option, Some, None, refl, sym, ◌∙◌, ap, subst, arith, append-nil, append_assoc}
 use Rattle.std.proofs.lemmas.Bool.Decides.{nat_tests}
 use Rattle.std.proofs.lemmas.List.{drop-drop}
 use Rattle.std.proofs.lemmas.Option.{same_Some}
@@ -11,7 +11,6 @@ use Rattle.live_session.specs.declared.answers.Answered.{Answered}
 use Rattle.live_session.specs.declared.answers.Answered.TheVariants as answered
 use Rattle.live_session.specs.declared.answers.LineRefusal.{LineRefusal}
 use Rattle.live_session.specs.declared.answers.LineRefusal.TheVariants as rule
-use Rattle.live_session.specs.declared.batch.Batch.{Batch}
 use Rattle.live_session.specs.declared.batch.Ended.TheVariants as ended
 use Rattle.live_session.specs.Answers.{AnsweredBy, IsStill, LineAnswered, RowAnswered, WordsAnswered}
 use Rattle.live_session.specs.Batches.{BatchAnswered, EndsAs, IsStop, LineDone, LinesDone, count_of, stop_at}

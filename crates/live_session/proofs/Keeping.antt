@@ -1,5 +1,5 @@
 -- What a session keeps, whatever a line is answered.
-use Rattle.std.proofs.Common.{◌≡◌, ℕ, ◌≤◌, List, [], ◌∷◌, ◌++◌, length, map, refl, sym, ◌∙◌, ap, subst, arith, append-nil}
+use Rattle.std.proofs.Common.{◌≡◌, ℕ, ◌≤◌, List, [], length, map, refl, sym, ◌∙◌, ap, subst, arith, append-nil}
 use Rattle.std.proofs.lemmas.List.{length-map}
 use Rattle.session_values.specs.Limits.{max_variables}
 use Rattle.session_values.specs.Tables.{Tables, kind_of}
@@ -17,7 +17,6 @@ use Rattle.live_session.specs.Accepting.{IsDeclined}
 use Rattle.live_session.specs.Answers.{IsAnswered, RowAnswered}
 use Rattle.live_session.specs.Held.{AreAdds, container_in, held}
 use Rattle.live_session.specs.Live.{IsKept, IsLive, LiveView}
-use Rattle.live_session.proofs.Room.{held_long}
 use Rattle.live_session.proofs.Steps.{first_begins}
 
 pub known_now : (v : LiveView) → IsLive v → AreKnown v.names v.file

@@ -1,13 +1,12 @@
 -- Lines that were served, with one line more.
-use Rattle.std.proofs.Common.{◌≡◌, ℕ, ◌+◌, ◌<◌, List, [], ◌∷◌, ◌++◌, length, map, take, None, refl, sym, ◌∙◌, ap, subst, arith, append_assoc}
-use Rattle.std.proofs.lemmas.List.{map-append}
+use Rattle.std.proofs.Common.{◌≡◌, ℕ, ◌+◌, ◌<◌, List, [], ◌∷◌, ◌++◌, length, map, take, refl, sym, ◌∙◌, ap, subst, arith}
 use Rattle.std.specs.List.{AllByRecursion, flat_map}
 use Rattle.std.proofs.lemmas.Option.{slice_get_within}
 use Rattle.opening_tables.specs.Opening.{Pair}
 use Rattle.session_values.specs.Names.{Begins}
 use Rattle.session_values.specs.ReplyText.{IsPrintable}
 use Rattle.session_values.specs.declared.value.Value.{Value}
-use Rattle.session_values.proofs.Named.{begins_same, begins_then, printable_kept}
+use Rattle.session_values.proofs.Named.{begins_then, printable_kept}
 use Rattle.handler_check.specs.File.{File}
 use Rattle.handler_check.specs.Handler.{Handler}
 use Rattle.handler_check.specs.Mentions.{handler_mentions, table_mentions}
@@ -15,11 +14,10 @@ use Rattle.serve_faults.specs.Language.{HasText, HaveTexts, IsNamedFile}
 use Rattle.serve_faults.proofs.Facts.{all_first, name_named}
 use Rattle.text_lines.specs.Rows.{Row, names_behind, row_of, rows}
 use Rattle.text_lines.specs.Text.{Text, words}
-use Rattle.text_lines.specs.Values.{placed_all, values_of}
+use Rattle.text_lines.specs.Values.{placed_all}
 use Rattle.text_lines.proofs.PrintableLemmas.{values_printable}
 use Rattle.text_lines.proofs.RowLemmas.{behind_begins, behind_nil, behind_step, rows_more, rows_nil, rows_skip}
-use Rattle.text_lines.proofs.ValueLemmas.{placed_all_begins, values_kept}
-use Rattle.request_files.specs.declared.request.Request.{Request}
+use Rattle.text_lines.proofs.ValueLemmas.{values_kept}
 use Rattle.request_files.specs.Requests.{AreKnown, ArePrintable, request_of}
 use Rattle.serve_faults.specs.TableRows.{ArePrintable as ArePrintableEntries}
 

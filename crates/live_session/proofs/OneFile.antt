@@ -1,13 +1,12 @@
 -- What a session replied and holds is what is written of one file with all its lines.
-use Rattle.std.proofs.Common.{◌≡◌, ℕ, List, length, map, refl, sym, ◌∙◌, ap}
+use Rattle.std.proofs.Common.{◌≡◌, ℕ, List, map, refl, sym, ◌∙◌, ap}
 use Rattle.session_values.specs.ReplyText.{reply_text}
-use Rattle.session_values.specs.Serial.{Session, serial_replies, tables_before}
+use Rattle.session_values.specs.Serial.{serial_replies, tables_before}
 use Rattle.session_values.specs.Tables.{Tables}
 use Rattle.session_values.specs.declared.reply.Reply.{Reply}
 use Rattle.handler_check.specs.File.{File}
-use Rattle.text_lines.specs.Rows.{Row, names_behind, row_of, rows}
+use Rattle.text_lines.specs.Rows.{names_behind, row_of, rows}
 use Rattle.text_lines.specs.Text.{Text}
-use Rattle.request_files.specs.declared.request.Request.{Request}
 use Rattle.request_files.specs.Requests.{request_of}
 use Rattle.request_files.specs.Session.{session}
 use Rattle.serve_faults.specs.ReadBack.{texts_of}

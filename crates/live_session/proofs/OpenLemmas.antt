@@ -8,7 +8,6 @@ use Rattle.session_values.specs.declared.kind.TableKind.{TableKind}
 use Rattle.opening_tables.specs.Opening.{tables_of}
 use Rattle.opening_tables.proofs.Filling.{entries_length}
 use Rattle.opening_tables.proofs.Openings.{opening_kinds}
-use Rattle.handler_check.specs.File.{File}
 use Rattle.handler_check.specs.TableDecl.{TableDecl}
 use Rattle.handler_check.proofs.Fine.{few_tables}
 use Rattle.handler_check.specs.Resolved.{shape_of}
@@ -19,7 +18,7 @@ use Rattle.request_files.specs.declared.request.Request.{Request}
 use Rattle.request_files.specs.Requests.{request_of}
 use Rattle.shard_tables.specs.declared.part.Part.{Part}
 use Rattle.serve_faults.specs.Input.{Parts, parts_of}
-use Rattle.serve_faults.specs.Session.{IsSession, all_names_of, opening_names_of, rows_of}
+use Rattle.serve_faults.specs.Session.{all_names_of, opening_names_of, rows_of}
 use Rattle.serve_faults.specs.declared.status.Fault.{Fault}
 use Rattle.serve_faults.specs.declared.status.Fault.TheVariants as fault
 use Rattle.serve_reading.specs.declared.session.Loaded.{Loaded}
@@ -32,7 +31,7 @@ use Rattle.live_session.specs.declared.history.History.{History}
 use Rattle.live_session.specs.declared.opening.OpenError.{OpenError}
 use Rattle.live_session.specs.declared.opening.OpenError.TheVariants as unopened
 use Rattle.live_session.specs.Held.{AreAdds, container_in, held}
-use Rattle.live_session.specs.Live.{IsKept, IsLive, LiveView, requests_in}
+use Rattle.live_session.specs.Live.{IsKept, IsLive, LiveView}
 use Rattle.live_session.specs.Openings.{CanOpen, HasOpened, IsFileOf, IsMade, IsUnmade, IsUnopened, first_view, unopened_by}
 use Rattle.live_session.specs.Served.{AreServed, line_fault}
 use Rattle.live_session.proofs.Lines.{handlers_known}

@@ -1,8 +1,7 @@
 -- Lines that are accepted, and why others aren't.
-use Rattle.std.proofs.Common.{◌≡◌, ◌≢◌, ℕ, ◌+◌, ◌<◌, ◌≤◌, ◌⊎◌, inl, inr, true, false, List, length, take, Some, None, refl, sym, ◌∙◌, ap, subst, arith}
+use Rattle.std.proofs.Common.{◌≡◌, ◌≢◌, ℕ, ◌<◌, ◌≤◌, inl, inr, true, List, length, take, Some, None, sym, ◌∙◌, ap, subst, arith}
 use Rattle.std.specs.List.{list_all}
 use Rattle.session_values.specs.Names.{Begins}
-use Rattle.session_values.specs.Tables.{size_of, table}
 use Rattle.session_values.specs.declared.value.Value.{Value}
 use Rattle.handler_check.specs.File.{File}
 use Rattle.handler_check.specs.Bounds.{adds_bound}
@@ -16,8 +15,8 @@ use Rattle.shard_tables.specs.declared.part.Part.{Part}
 use Rattle.live_session.specs.declared.answers.Answered.{Answered}
 use Rattle.live_session.specs.declared.answers.Answered.TheVariants as answered
 use Rattle.live_session.specs.declared.answers.LineRefusal.TheVariants as rule
-use Rattle.live_session.specs.Accepting.{IsAccepted, IsDeclined, IsUnread, TakesMemory}
-use Rattle.live_session.specs.Held.{AreAdds, HaveRoom, HaveRoomFor, adds_in, held, room_at}
+use Rattle.live_session.specs.Accepting.{IsAccepted, IsDeclined, IsUnread}
+use Rattle.live_session.specs.Held.{AreAdds, HaveRoom, HaveRoomFor, adds_in}
 use Rattle.live_session.specs.Served.{fault_at, line_fault}
 use Rattle.live_session.proofs.Faults.{fault_arity, fault_bad, fault_none, fault_unknown}
 use Rattle.live_session.proofs.Lines.{front_back}

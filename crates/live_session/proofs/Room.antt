@@ -1,5 +1,5 @@
 -- Room for keys, and the bounds on how many handlers may add.
-use Rattle.std.proofs.Common.{◌≡◌, ℕ, zero, suc, ◌+◌, ◌<◌, ◌≤◌, ◌⊎◌, inl, inr, ⊎_elim, List, [], ◌∷◌, ◌++◌, length, get_or, refl, sym, ◌∙◌, ap, subst, arith}
+use Rattle.std.proofs.Common.{◌≡◌, ℕ, zero, suc, ◌+◌, ◌<◌, ◌≤◌, ◌⊎◌, ⊎_elim, List, [], ◌∷◌, ◌++◌, length, get_or, refl, sym, ◌∙◌, ap, subst, arith}
 use Rattle.std.proofs.Math.ListN.{set}
 use Rattle.std.proofs.lemmas.List.{get_or_push, get_or_append_left, length_push}
 use Rattle.session_values.specs.Limits.{max_calls}
@@ -9,7 +9,7 @@ use Rattle.handler_check.specs.Bounds.{adds_bound}
 use Rattle.handler_check.specs.Resolved.{code_at}
 use Rattle.shard_tables.specs.declared.part.Part.{Part}
 use Rattle.shard_tables.specs.Either.{shard_view}
-use Rattle.live_session.specs.Held.{AreAdds, adds_in, container_in, held, room_at, rooms}
+use Rattle.live_session.specs.Held.{AreAdds, adds_in, container_in, held, room_at}
 
 -- ---- bounds by table
 

@@ -1,16 +1,15 @@
 -- A handler that runs on tables with room for all keys that it may add runs as it does alone.
-use Rattle.std.proofs.Common.{◌≡◌, ℕ, ◌+◌, ◌<◌, ◌≤◌, ◌==◌, ◌&&◌, Bool, true, false, cond, if◌then◌else◌, eqb, List, [], ◌∷◌, length, map, Option, Some, refl, sym, ◌∙◌, ap, subst, arith}
+use Rattle.std.proofs.Common.{◌≡◌, ℕ, ◌+◌, ◌<◌, ◌≤◌, ◌==◌, ◌&&◌, Bool, true, false, if◌then◌else◌, List, [], ◌∷◌, length, Some, refl, sym, ◌∙◌, ap, subst, arith}
 use Rattle.std.proofs.lemmas.List.{length-map}
-use Rattle.session_values.specs.declared.op.Op.{Op}
 use Rattle.session_values.specs.declared.reply.Reply.{Reply}
-use Rattle.session_values.specs.Dialogue.{Entry, Follows}
+use Rattle.session_values.specs.Dialogue.{Entry}
 use Rattle.session_values.specs.Kinds.{is_adding}
 use Rattle.session_values.specs.Serial.{serve}
 use Rattle.session_values.specs.Tables.{Tables, size_of, table}
 use Rattle.session_values.proofs.Sizes.{one_if, step_few}
 use Rattle.session_journal.specs.Journal.{Replays, run}
 use Rattle.session_journal.proofs.Serial.{GoesOn, goes_on}
-use Rattle.handler_check.specs.Bounds.{adding, adds_bound, calls_bound, weight_of}
+use Rattle.handler_check.specs.Bounds.{adding, calls_bound, weight_of}
 use Rattle.handler_check.specs.Code.{Code}
 use Rattle.handler_check.specs.Dialogue.{Env, next}
 use Rattle.handler_check.proofs.Bounded.{counted, ends_by}

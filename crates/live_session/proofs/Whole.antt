@@ -12,7 +12,7 @@ use Rattle.session_values.specs.Kinds.{home}
 use Rattle.session_values.specs.Tables.{Container, Tables, after_on, kind_of, reply, reply_on, step, table}
 use Rattle.session_values.specs.declared.kind.TableKind.{TableKind}
 use Rattle.session_values.specs.declared.op.Op.{Op}
-use Rattle.live_session.specs.Held.{HasRoom, IsDone, container_in, held, lists_in, room_at, rooms}
+use Rattle.live_session.specs.Held.{container_in, held, lists_in, rooms}
 
 table_held : (ps : List Part) (i : ℕ) (p : Part) → i < length ps → get_or ps i p ≡ p → table (held ps) i ≡ container_in p
 table_held [] i p h e = absurd (omega (arith, h))

@@ -50,8 +50,8 @@ pub record BatchAnswered (v : LiveView) (text : Text) (most : ℕ) (before : Tex
 
 -- ---- on the way. Only this crate's own functions cite these.
 
--- where a batch goes on that a line with this answer ends: at the line, or behind it; none, where it
--- isn't ended
+-- where a batch goes on that a line with this answer ends: at the line, or behind it; none, where
+-- it isn't ended
 abbrev pub stop_at : Answered → ℕ → ℕ → Option ℕ
 stop_at answered.Served at behind = None
 stop_at answered.Nothing at behind = None

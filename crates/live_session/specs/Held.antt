@@ -3,7 +3,7 @@ use Rattle.std.specs.Prelude.{◌≡◌, ℕ, ◌+◌, ◌<◌, ◌≤◌, List,
 use Rattle.session_values.specs.declared.op.Op.{Op}
 use Rattle.session_values.specs.declared.value.Value.{Value}
 use Rattle.session_values.specs.Kinds.{is_adding}
-use Rattle.session_values.specs.Tables.{Container, Tables, reply, size_of, step, table}
+use Rattle.session_values.specs.Tables.{reply, size_of, step, table}
 use Rattle.opening_tables.specs.Opening.{Pair}
 use Rattle.session_values.specs.Limits.{max_calls}
 use Rattle.handler_check.specs.File.{File}

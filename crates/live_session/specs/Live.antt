@@ -76,9 +76,9 @@ pub record IsOneFile (v : LiveView) (parts : Parts) : Type 0 where
   pub opened_are : opened_of parts v.file ≡ v.opened
   pub lines_are : lines parts.requests ≡ v.lines
 
--- what a session keeps beside that: the kinds of its tables, the bounds on what its handlers may add
--- to them, room for the arguments of a request, and a bound on the names that a program can hold.
--- Only this crate's own functions cite this.
+-- what a session keeps beside that: the kinds of its tables, the bounds on what its handlers may
+-- add to them, room for the arguments of a request, and a bound on the names that a program can
+-- hold. Only this crate's own functions cite this.
 pub record IsKept (f : File) (most : ℕ) (adds : List (List ℕ)) (parts : List Part)
     (capacity : ℕ) : Type 0 where
   pub kinds : map kind_of (held parts) ≡ shape_of f

@@ -1,5 +1,5 @@
 -- What opening a session answers.
-use Rattle.std.specs.Prelude.{◌≡◌, ◌≢◌, ℕ, ◌<◌, ◌≤◌, List, [], length}
+use Rattle.std.specs.Prelude.{◌≡◌, ◌≢◌, ℕ, ◌<◌, ◌≤◌, [], length}
 use Rattle.session_values.specs.Limits.{max_input}
 use Rattle.opening_tables.specs.Opening.{IsOpening, tables_of}
 use Rattle.handler_check.specs.Checking.{IsAccepted}
@@ -9,7 +9,7 @@ use Rattle.handler_check.specs.File.{File}
 use Rattle.text_lines.specs.Text.{Text}
 use Rattle.request_files.specs.Requests.{AreKnown}
 use Rattle.serve_faults.specs.TableRows.{ArePrintable}
-use Rattle.serve_faults.specs.Input.{Parts, parts_of}
+use Rattle.serve_faults.specs.Input.{parts_of}
 use Rattle.serve_faults.specs.Session.{IsSession, all_names_of, opened_of, opening_names_of, rows_of}
 use Rattle.serve_faults.specs.declared.status.Fault.TheVariants.{TooLarge}
 use Rattle.serve_reading.specs.declared.session.Loaded.{Loaded}

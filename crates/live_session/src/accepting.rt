@@ -141,9 +141,9 @@ fn read_line(
     }
 }
 
-/// Accepts a line: answers its handler, with its arguments in the list, its symbols among the names
-/// and room in each table for the keys that the handler may add. Where it doesn't, names are as they
-/// were and tables hold what they held.
+/// Accepts a line: answers its handler, with its arguments in the list, its symbols among the
+/// names and room in each table for the keys that the handler may add. Where it doesn't, names are
+/// as they were and tables hold what they held.
 pub(crate) fn accept(
     alloc: Global,
     checked: &Checked,

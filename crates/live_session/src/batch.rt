@@ -33,8 +33,8 @@ pub struct Batch {
 
 impl LiveSession {
     /// Serves the requests of lines, one after another, as long as the replies have at most so many
-    /// bytes and the buffer has room, up to a line that isn't served. A line for which memory ran out
-    /// isn't used, so that it can be tried again.
+    /// bytes and the buffer has room, up to a line that isn't served. A line for which memory ran
+    /// out isn't used, so that it can be tried again.
     pub fn serve(&mut self, text: &str, most: usize, out: &mut WriteBuffer) -> Batch
         ensures { BatchAnswered self.old text.now most out.old.held result self.new out.new.held }
     {

@@ -5,8 +5,8 @@ ghost use Rattle.std.specs.Prelude.{◌≡◌, ◌<◌, IfOk, length};
 use session_values::{Names, NoMemory};
 use std::alloc::Global;
 
-/// The same names, looked up by hashes that begin from another seed, which whoever chooses the names
-/// doesn't know.
+/// The same names, looked up by hashes that begin from another seed, which whoever chooses the
+/// names doesn't know.
 pub(crate) fn reseeded(alloc: Global, names: &Names, seed: u64) -> Result<Names, NoMemory>
     ensures { IfOk result (λ new. new ≡ names.now) }
 {

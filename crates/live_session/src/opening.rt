@@ -45,8 +45,8 @@ pub enum OpenError {
     NoMemory,
 }
 
-// A table as it opens, with room for its entries and some more, whose searches begin as the seed has
-// it. The last entry enters first.
+// A table as it opens, with room for its entries and some more, whose searches begin as the seed
+// has it. The last entry enters first.
 fn opened_part(
     alloc: Global,
     opening: &Opening,
@@ -168,10 +168,10 @@ fn unloaded(why: Unserved) -> OpenError
 }
 
 impl LiveSession {
-    /// Opens a session over a session file without requests: its handlers, perhaps a table part, and
-    /// the dividing line. Searches in its tables and among its names begin as the seed has it, which
-    /// is to come from where nobody who sends requests can know it. There may be so many names, of
-    /// handlers, tables, variables and symbols together.
+    /// Opens a session over a session file without requests: its handlers, perhaps a table part,
+    /// and the dividing line. Searches in its tables and among its names begin as the seed has it,
+    /// which is to come from where nobody who sends requests can know it. There may be so many
+    /// names, of handlers, tables, variables and symbols together.
     pub fn open(
         alloc: Global,
         text: &[u8],

@@ -89,8 +89,8 @@ impl LiveSession {
         requires words { words_of line.now ≡ name.now ∷ words_of words.rest.now }
         requires room { 264 ≤ T.spare out.old }
         ensures answered { IsAnswered (T.held out.old) (T.held out.new)
-            (λ text. RowAnswered self.old line.now (row_of 0 name.now (words_of words.entry.rest.now))
-            result text self.new) }
+            (λ text. RowAnswered self.old line.now (row_of 0 name.now
+            (words_of words.entry.rest.now)) result text self.new) }
     {
         let h = match accept(
             self.alloc,
@@ -134,9 +134,9 @@ impl LiveSession {
         }
     }
 
-    /// Serves the request of a line, on the tables that the requests before it left, and appends its
-    /// reply's line: that of `serve` without its ticket and the blank behind it. A line that isn't
-    /// served changes nothing.
+    /// Serves the request of a line, on the tables that the requests before it left, and appends
+    /// its reply's line: that of `serve` without its ticket and the blank behind it. A line that
+    /// isn't served changes nothing.
     pub fn request<T: TextRoom>(&mut self, text: &str, out: &mut T) -> Answered
         requires room { 264 ≤ T.spare out.old }
         ensures answered { IsAnswered (T.held out.old) (T.held out.new)
@@ -158,9 +158,10 @@ impl LiveSession {
     ghost use Rattle.serve_faults.specs.Session.{replies_text, tables_text};
     ghost use Rattle.live_session.specs.Live.{IsLive, IsOneFile, dump_of, session_in};
 
-    /// What is known of every session, whatever calls were made: its replies and tables are those of
-    /// the serial run of one session, whose requests are the lines that it served; so what it replied
-    /// and what `dump` writes are what `serve` and `dump` write of one file with all these lines.
+    /// What is known of every session, whatever calls were made: its replies and tables are those
+    /// of the serial run of one session, whose requests are the lines that it served; so what it
+    /// replied and what `dump` writes are what `serve` and `dump` write of one file with all these
+    /// lines.
     pub fn answered_as_served(&self)
         ensures live { IsLive self.now }
         ensures replies { self.now.replies

@@ -9,6 +9,8 @@ mod ends;
 #[cfg(test)]
 mod held;
 #[cfg(test)]
+mod living;
+#[cfg(test)]
 mod memory;
 #[cfg(test)]
 mod refusing;

@@ -1,4 +1,4 @@
-use Rattle.std.proofs.Common.{List, sym, subst}
+use Rattle.std.proofs.Common.{sym, subst}
 use Rattle.session_values.specs.Names.{Begins}
 use Rattle.text_lines.specs.Text.{words}
 use Rattle.text_lines.proofs.ValueLemmas.{placed_all_begins}

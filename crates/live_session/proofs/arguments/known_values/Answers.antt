@@ -1,4 +1,4 @@
-use Rattle.std.proofs.Common.{◌≡◌, ◌∷◌, [], List, length, refl, sym, ap, ◌∙◌, subst, arith, length-append}
+use Rattle.std.proofs.Common.{◌∷◌, [], List, length, refl, sym, ap, ◌∙◌, subst, arith, length-append}
 use Rattle.session_values.specs.declared.value.Value.{Value}
 use Rattle.text_lines.specs.Text.{Text, words}
 use Rattle.text_lines.specs.Values.{placed, value_of}

@@ -3,7 +3,7 @@ use Rattle.session_values.specs.declared.value.Value.{Value}
 use Rattle.text_lines.specs.Text.{Text, words}
 use Rattle.text_lines.specs.Values.{value_of, placed}
 use Rattle.session_values.specs.Names.{Begins}
-use Rattle.text_lines.proofs.ValueLemmas.{Behind, behind_start, behind_turn, behind_values, left_bad, left_kept, left_room, left_names}
+use Rattle.text_lines.proofs.ValueLemmas.{Behind, behind_start, behind_turn, behind_values, left_bad, left_kept, left_names}
 use Rattle.live_session.proofs.arguments.placed_values.Goals as goal
 
 pub words-init : goal.words-init

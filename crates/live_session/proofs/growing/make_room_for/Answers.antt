@@ -1,4 +1,4 @@
-use Rattle.std.proofs.Common.{◌<◌, List, length, sym, ◌∙◌, arith}
+use Rattle.std.proofs.Common.{◌<◌, List, length, ◌∙◌, arith}
 use Rattle.shard_tables.specs.declared.part.Part.{Part}
 use Rattle.live_session.specs.Held.{adds_in}
 use Rattle.live_session.proofs.Room.{held_long, held_same, room_more}

@@ -1,5 +1,4 @@
-use Rattle.std.proofs.Common.{◌≡◌, ◌≤◌, ◌++◌, List, length, drop, sym, ◌∙◌, ap, subst, arith, length-drop}
-use Rattle.session_values.specs.ReplyText.{line_text}
+use Rattle.std.proofs.Common.{◌≡◌, ◌≤◌, ◌++◌, length, drop, sym, ◌∙◌, ap, subst, arith, length-drop}
 use Rattle.text_lines.specs.Text.{Text}
 use Rattle.live_session.specs.Answers.{reply_line}
 use Rattle.live_session.proofs.OneRow.{line_dropped, line_long}

@@ -1,11 +1,11 @@
-use Rattle.std.proofs.Common.{◌≡◌, List, rules, refl, sym, ap, ◌∙◌, subst, arith, true}
+use Rattle.std.proofs.Common.{◌≡◌, List, rules, refl, sym, ap, ◌∙◌, subst, arith}
 use Rattle.std.specs.List.{AllByRecursion}
 use Rattle.opening_tables.specs.Opening.{AreApart}
 use Rattle.shard_tables.specs.declared.part.Part.{Part}
 use Rattle.handler_check.specs.TableDecl.{TableDecl}
 use Rattle.table_text.specs.Dumped.{CanDumpAll, HaveRoom, dump_text}
 use Rattle.text_lines.specs.Text.{Text}
-use Rattle.serve_faults.specs.Changes.{Change, Failed, Took, TookFront, change}
+use Rattle.serve_faults.specs.Changes.{Took, TookFront, change}
 use Rattle.live_session.specs.Held.{lists_in}
 use Rattle.live_session.specs.Live.{LiveView, dump_of}
 use Rattle.live_session.specs.contracts.session.LiveSession.{the_view}

@@ -1,6 +1,5 @@
-use Rattle.std.proofs.Common.{◌≡◌, ℕ, min, sym, ap, ◌∙◌, subst, arith}
-use Rattle.serve_faults.specs.Input.{parts_of}
-use Rattle.live_session.specs.Openings.{CanOpen, HasOpened, IsUnopened, unopened_by}
+use Rattle.std.proofs.Common.{ℕ, min, sym, subst}
+use Rattle.live_session.specs.Openings.{HasOpened, IsUnopened}
 use Rattle.std.specs.Prelude.{IfErr, IfOk}
 use Rattle.live_session.proofs.OpenLemmas.{all_made, can_open, none_made, not_loaded}
 use Rattle.live_session.proofs.session.LiveSession.open.Goals as goal

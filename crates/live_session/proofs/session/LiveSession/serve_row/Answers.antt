@@ -1,5 +1,5 @@
-use Rattle.std.proofs.Common.{◌≡◌, ℕ, List, [], ◌∷◌, ◌++◌, map, vec_capacity, refl, sym, ◌∙◌, ap, subst}
-use Rattle.session_values.specs.Tables.{Tables, kind_of}
+use Rattle.std.proofs.Common.{◌≡◌, List, [], vec_capacity, sym, ◌∙◌, ap, subst}
+use Rattle.session_values.specs.Tables.{Tables}
 use Rattle.session_values.specs.declared.reply.Reply.{Reply}
 use Rattle.session_values.specs.declared.value.Value.{Value}
 use Rattle.handler_check.specs.File.{File}
@@ -11,7 +11,7 @@ use Rattle.live_session.specs.declared.history.History.{History}
 use Rattle.live_session.specs.Accepting.{IsDeclined}
 use Rattle.live_session.specs.Answers.{LineServed, RowAnswered, reply_line}
 use Rattle.live_session.specs.Held.{held}
-use Rattle.live_session.specs.Live.{IsKept, IsLive, LiveView}
+use Rattle.live_session.specs.Live.{IsLive, LiveView}
 use Rattle.live_session.specs.contracts.session.LiveSession.{the_view}
 use Rattle.live_session.proofs.Keeping.{declined, kept_held, kept_kinds, known_now, still, wrote_none}
 use Rattle.live_session.proofs.OneRow.{Ran, ran}
