@@ -3,7 +3,7 @@ use Rattle.std.specs.Prelude.{◌≡◌, ℕ, ◌⊎◌, Option, Some, None}
 use Rattle.std.specs.declared.result.Result.TheVariants.{Err, Ok}
 use Rattle.hall_desk.specs.declared.desk.Desk.{Desk}
 use Rattle.hall_desk.specs.declared.values.HallValue.{HallValue}
-use Rattle.hall_desk.specs.Desks.{fine, no_memory, wrong_desk}
+use Rattle.hall_desk.specs.Desks.{fine, wrong_desk}
 use Rattle.hall_desk.specs.Tickets.{OpensTickets}
 use Rattle.foresight_c.specs.HallCalls.{OnDesk}
 
