@@ -1,8 +1,7 @@
 // Desks: what a handle stands for.
 
 use driven_tickets::Desk as TicketDesk;
-use hall_stepping::{Plan, Stepping};
-use session_hall::Closed;
+use hall_stepping::{Closed, Plan, Stepping};
 
 /// A plan, then its hall, and then what that leaves; or tables with the tickets that are open on
 /// them.
