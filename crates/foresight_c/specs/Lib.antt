@@ -4,3 +4,5 @@ pub mod Endings
 pub mod Fronts
 pub mod Held
 pub mod HallCalls
+pub mod TicketCalls
+pub mod Version

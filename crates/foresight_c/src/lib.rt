@@ -13,5 +13,7 @@ mod handing;
 mod handle;
 mod slice_source;
 mod text_store;
+mod ticket_exports;
+mod version;
 
 pub use answer::Answer;

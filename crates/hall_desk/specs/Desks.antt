@@ -9,8 +9,8 @@ use Rattle.session_values.specs.declared.reply.Reply.{Reply}
 use Rattle.session_values.specs.declared.value.Value.{Value}
 use Rattle.session_values.specs.declared.value.Value.TheVariants.{Nil}
 use Rattle.symbolic_ops.specs.declared.symbol.Symbol.{Symbol}
-use Rattle.session_hall.specs.Lists.{ListView}
-use Rattle.session_hall.specs.Closings.{ClosedView}
+use Rattle.hall_stepping.specs.Lists.{ListView}
+use Rattle.hall_stepping.specs.Closings.{ClosedView}
 use Rattle.hall_stepping.specs.declared.planned.Planned.{Planned}
 use Rattle.hall_stepping.specs.declared.planned.Planned.TheVariants as planned
 use Rattle.hall_stepping.specs.declared.stepped.Stepped.{Stepped}

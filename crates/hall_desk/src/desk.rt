@@ -1,9 +1,10 @@
-// Desks: what a handle of the hall stands for.
+// Desks: what a handle stands for.
 
-use hall_stepping::{Plan, Stepping};
-use session_hall::Closed;
+use driven_tickets::Desk as TicketDesk;
+use hall_stepping::{Closed, Plan, Stepping};
 
-/// A plan, then its hall, and then what that leaves.
+/// A plan, then its hall, and then what that leaves; or tables with the tickets that are open on
+/// them.
 #[derive(Drop)]
 pub enum Desk {
     /// Nothing: the plan was lost when memory was wanting for its hall.
@@ -11,4 +12,5 @@ pub enum Desk {
     Planned(Plan),
     Open(Stepping),
     Done(Closed),
+    Tickets(TicketDesk),
 }

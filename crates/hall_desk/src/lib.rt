@@ -1,5 +1,6 @@
-//! A plan, its hall and what that leaves, as one value that a program in C keeps: each call tests
-//! what it is given, and tells by a number what came of it.
+//! What a handle stands for, as one value that a program in C keeps: a plan, its hall and what that
+//! leaves; or tables with the tickets that are open on them. Each call tests what it is given, and
+//! tells by a number what came of it.
 #![tactic(auto)]
 
 mod desk;
@@ -7,6 +8,7 @@ mod planning;
 mod reading;
 mod serving;
 mod telling;
+mod ticketing;
 mod values;
 
 pub use desk::Desk;

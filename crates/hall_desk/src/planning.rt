@@ -14,7 +14,7 @@ use session_values::{MAX_REQUESTS, MAX_TABLES, NoMemory, Reply, TableKind, Value
 use std::alloc::Global;
 
 // The tables, maps first.
-fn shape_of(alloc: Global, maps: u8, sets: u8) -> Result<Vec<TableKind>, NoMemory>
+pub(crate) fn shape_of(alloc: Global, maps: u8, sets: u8) -> Result<Vec<TableKind>, NoMemory>
     ensures { IfOk result (λ v. v.items ≡ replicate maps Map ++ replicate sets Set) }
 {
     let mut shape = Vec::from_elem(alloc, TableKind::Map, maps as usize)?;

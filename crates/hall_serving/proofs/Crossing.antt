@@ -7,7 +7,7 @@ use Rattle.std.specs.contracts.snapshot.Snapshot as snapshot
 use Rattle.std.specs.contracts.sync.Mutex as mutex
 use Rattle.std.proofs.sync.Mutex.TheSendSync as locked
 use Rattle.std.proofs.sync.atomic.AtomicU32.TheSendSync as counted
-use Rattle.session_journal.specs.declared.script.Script.{Ghosts}
+use Rattle.session_journal.specs.declared.tickets.Tickets.{Ghosts}
 use Rattle.turn_board.proofs.board.Board.TheSendSync as board
 use Rattle.turn_board.specs.contracts.seat.Seat as seat_row
 use Rattle.turn_board.proofs.seat.Seat.TheSendSync as seat

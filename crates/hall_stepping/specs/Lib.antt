@@ -6,3 +6,5 @@ pub mod Progress
 pub mod Stepping
 pub mod Codes
 pub mod Endings
+pub use Rattle.session_hall.specs.Closings
+pub use Rattle.session_hall.specs.Lists

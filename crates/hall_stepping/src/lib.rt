@@ -14,5 +14,6 @@ mod stepping;
 
 pub use plan::Plan;
 pub use planned::Planned;
+pub use session_hall::Closed;
 pub use stepped::Stepped;
 pub use stepping::Stepping;

@@ -1,0 +1,54 @@
+#!/usr/bin/env bash
+# Installs the program and the library for C: tools/install.sh PREFIX [LIBRARY [PROGRAM]]. Without
+# words behind PREFIX they are those that `rt lib` and `rt ci` prove and leave. LIBRARIES=lib/ARCH in
+# the environment puts the archive there, in place of lib.
+#
+# In PREFIX: bin/foresight with its manual pages, lib/libforesight.a (the library and the kit's part for
+# memory, in one archive), lib/pkgconfig/foresight.pc, the headers in include/, and in
+# share/doc/foresight/ what they were built with.
+set -euo pipefail
+cd "$(dirname "$0")/.."
+[ $# -ge 1 ] || { echo "words: PREFIX [LIBRARY [PROGRAM]]" >&2; exit 2; }
+mkdir -p "$1"
+prefix=$(realpath "$1")
+library=$(realpath "${2:-crates/foresight_c/out/libforesight_c.a}")
+program=$(realpath "${3:-crates/foresight/out/foresight}")
+kit=$(dirname "$(rt doc)")
+libraries=${LIBRARIES:-lib}
+version=$(sed -n 's/^#define FORESIGHT_VERSION "\(.*\)"/\1/p' embedding/foresight_tickets.h)
+for file in "$library" "$program"; do
+  [ -f "$file" ] || { echo "install: no $file: rt ci, and rt lib in crates/foresight_c" >&2; exit 1; }
+done
+
+install -d "$prefix"/{bin,include,share/man/man{1,5},share/doc/foresight} \
+  "$prefix/$libraries/pkgconfig"
+install -m 755 "$program" "$prefix/bin/foresight"
+install -m 644 embedding/foresight*.h "$prefix/include/"
+install -m 644 man/foresight.1 "$prefix/share/man/man1/"
+install -m 644 man/foresight.5 "$prefix/share/man/man5/"
+rm -f "$prefix/$libraries/libforesight.a"
+ar -M <<ARCHIVE
+create $prefix/$libraries/libforesight.a
+addlib $library
+addlib $kit/c/liblibc_c.a
+save
+end
+ARCHIVE
+cat > "$prefix/$libraries/pkgconfig/foresight.pc" <<PC
+prefix=${PC_PREFIX:-$prefix}
+includedir=\${prefix}/include
+libdir=\${prefix}/$libraries
+
+Name: foresight
+Description: Session tables: driven tickets, and what the program foresight answers
+Version: $version
+Cflags: -I\${includedir}
+Libs: -L\${libdir} -lforesight
+PC
+{
+  echo "foresight $version, built with:"
+  rt version | head -n 1
+  echo
+  sha256sum "$library" "$program" | sed 's: .*/:  :'
+} > "$prefix/share/doc/foresight/BUILT"
+cp README.md CHANGELOG.md docs/LIBRARY.md "$prefix/share/doc/foresight/"
