@@ -1,5 +1,6 @@
 #!/usr/bin/env bash
-# Builds foresight and foresight_where WITHOUT their proofs, for a first look: tools/look.sh [NAME..].
+# Builds foresight, foresight_where and foresight_waits WITHOUT their proofs, for a first look:
+# tools/look.sh [NAME..].
 # With names it builds these programs of crates/.
 #
 # They are left in target/look/, where README.md and docs/TOUR.md name them. They do what the proved
@@ -41,7 +42,7 @@ LINKER
   mv "$own/kept" "target/look/$name"
 }
 
-[ $# -gt 0 ] || set -- foresight foresight_where
+[ $# -gt 0 ] || set -- foresight foresight_where foresight_waits
 echo "building $* without proof (one to three minutes)"
 builders=()
 for name; do
