@@ -67,7 +67,7 @@ $ foresight trace < seats.session > events
 $ cat seats.session events | foresight audit
 ```
 # SEE ALSO
-*foresight_where*(1), *foresight*(5)
+*foresight_where*(1), *foresight_waits*(1), *foresight*(5)
 """
 
 PLACES = r"""
@@ -94,6 +94,26 @@ A pipe like this loses the status and mixes the outputs. This function keeps bot
 the output, the place to the error output, and the status is that of `foresight`:
 
 <From a refusal to the place|function
+# SEE ALSO
+*foresight*(1), *foresight*(5)
+"""
+
+WAITS = r"""
+# NAME
+foresight_waits \- list which operations may wait for which handlers
+# SYNOPSIS
+@ `foresight_waits` [*FILE*]
+# DESCRIPTION
+<Who may wait for whom|first
+# EXIT STATUS
+<Who may wait for whom|Status
+# EXAMPLES
+How often each handler is waited for, and what waits for the handler `book`:
+
+```
+$ foresight_waits seats.handlers | cut -f 3 | sort | uniq -c
+$ foresight_waits seats.handlers | awk -F '\t' '$3 == "book"'
+```
 # SEE ALSO
 *foresight*(1), *foresight*(5)
 """
@@ -132,10 +152,11 @@ the entries with which the tables open, then a line `%%`, and requests, one a li
 # LIMITS
 <Limits
 # SEE ALSO
-*foresight*(1), *foresight_where*(1)
+*foresight*(1), *foresight_where*(1), *foresight_waits*(1)
 """
 
-PAGES = {"foresight.1": RUNNER, "foresight_where.1": PLACES, "foresight.5": FORMAT}
+PAGES = {"foresight.1": RUNNER, "foresight_where.1": PLACES, "foresight_waits.1": WAITS,
+         "foresight.5": FORMAT}
 
 
 def read(name):

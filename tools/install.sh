@@ -1,10 +1,11 @@
 #!/usr/bin/env bash
-# Installs the program and the library for C: tools/install.sh PREFIX [LIBRARY [PROGRAM]]. Without
+# Installs the programs and the library for C: tools/install.sh PREFIX [LIBRARY [PROGRAM]]. Without
 # words behind PREFIX they are those that `rt lib` and `rt ci` prove and leave. LIBRARIES=lib/ARCH in
 # the environment puts the archive there, in place of lib.
 #
-# In PREFIX: bin/foresight with its manual pages, lib/libforesight.a (the library and the kit's part for
-# memory, in one archive), lib/pkgconfig/foresight.pc, the headers in include/, and in
+# In PREFIX: bin/foresight, bin/foresight_where and bin/foresight_waits with their manual pages (the
+# last two from beside PROGRAM, where they are there), lib/libforesight.a (the library and the kit's
+# part for memory, in one archive), lib/pkgconfig/foresight.pc, the headers in include/, and in
 # share/doc/foresight/ what they were built with.
 set -euo pipefail
 cd "$(dirname "$0")/.."
@@ -23,6 +24,16 @@ done
 install -d "$prefix"/{bin,include,share/man/man{1,5},share/doc/foresight} \
   "$prefix/$libraries/pkgconfig"
 install -m 755 "$program" "$prefix/bin/foresight"
+for name in foresight_where foresight_waits; do
+  beside=crates/$name/out/$name
+  if [ $# -ge 3 ]; then beside=$(dirname "$program")/$name; fi
+  if [ -f "$beside" ]; then
+    install -m 755 "$beside" "$prefix/bin/$name"
+    install -m 644 "man/$name.1" "$prefix/share/man/man1/"
+  else
+    echo "install: no $beside, so it is left out"
+  fi
+done
 install -m 644 embedding/foresight*.h "$prefix/include/"
 install -m 644 man/foresight.1 "$prefix/share/man/man1/"
 install -m 644 man/foresight.5 "$prefix/share/man/man5/"
