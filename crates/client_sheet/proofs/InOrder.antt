@@ -59,16 +59,16 @@ rises_at : (p q : ℕ) (counts : List ℕ) → Rises 0 (of (q + p) (in_order q c
 rises_at p q [] = refl
 rises_at zero q (n ∷ counts) =
     let own : of (q + 0) (in_order q (n ∷ counts)) ≡ of q (row q 0 n) =
-      ap (λ (c : ℕ). of c (in_order q (n ∷ counts))) (let e : q + 0 ≡ q = omega arith in e)
-      ∙ of_more q (row q 0 n) (in_order (suc q) counts)
-      ∙ ap (λ (xs : List ℕ). of q (row q 0 n) ++ xs) (none_before q (suc q) counts (omega arith))
-      ∙ append-nil (of q (row q 0 n)) in
+    ap (λ (c : ℕ). of c (in_order q (n ∷ counts))) (let e : q + 0 ≡ q = omega arith in e)
+    ∙ of_more q (row q 0 n) (in_order (suc q) counts)
+    ∙ ap (λ (xs : List ℕ). of q (row q 0 n) ++ xs) (none_before q (suc q) counts (omega arith))
+    ∙ append-nil (of q (row q 0 n)) in
     subst (λ (xs : List ℕ). Rises 0 xs n) (sym own) (subst (λ (m : ℕ). Rises 0 (of q (row q 0 n)) m) (let e : 0 + n ≡ n = omega arith in e) (row_own q 0 n))
 rises_at (suc p) q (n ∷ counts) =
     let others : of (q + suc p) (in_order q (n ∷ counts)) ≡ of (suc q + p) (in_order (suc q) counts) =
-      of_more (q + suc p) (row q 0 n) (in_order (suc q) counts)
-      ∙ ap (λ (xs : List ℕ). xs ++ of (q + suc p) (in_order (suc q) counts)) (row_other (q + suc p) q 0 n (λ e. omega (arith, e)))
-      ∙ ap (λ (c : ℕ). of c (in_order (suc q) counts)) (let e : q + suc p ≡ suc q + p = omega arith in e) in
+    of_more (q + suc p) (row q 0 n) (in_order (suc q) counts)
+    ∙ ap (λ (xs : List ℕ). xs ++ of (q + suc p) (in_order (suc q) counts)) (row_other (q + suc p) q 0 n (λ e. omega (arith, e)))
+    ∙ ap (λ (c : ℕ). of c (in_order (suc q) counts)) (let e : q + suc p ≡ suc q + p = omega arith in e) in
     subst (λ (xs : List ℕ). Rises 0 xs (count_at counts p)) (sym others) (rises_at p (suc q) counts)
 
 -- each client's arrive in its order, and all that it has

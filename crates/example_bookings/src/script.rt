@@ -1,7 +1,10 @@
 // Bookings as a script: a ticket for each.
 
-ghost use Rattle.std.specs.Prelude.{◌≤◌, length};
+ghost use Rattle.std.specs.Prelude.{◌≡◌, ◌<◌, ◌≤◌, [], None, false, length, IfOk, OnErr};
+ghost use denote.Param.Send.{IsSync};
 ghost use Rattle.session_values.specs.Limits.{max_requests};
+ghost use Rattle.session_journal.specs.Served.{IsServed, IsStopped};
+ghost use Rattle.example_bookings.specs.Bookings.{bookings_meaning};
 
 use crate::booking::Booking;
 use session_journal::{Desk, Scratch, Script, Serves, Site};
@@ -18,8 +21,6 @@ pub struct Bookings<'a> {
 }
 
 impl<'a> Script for Bookings<'a> {
-    ghost use Rattle.example_bookings.specs.Bookings.{bookings_meaning};
-
     ghost meaning = { λ s. bookings_meaning s.list.now };
 
     fn requests(&self) -> u32 {
@@ -58,8 +59,6 @@ impl<'a> Script for Bookings<'a> {
 }
 
 impl<'a> Serves for Bookings<'a> {
-    // Looks the seat up; the customer takes it if nobody has it, else waits, and is answered who
-    // has it then. After each call the booking declares what is left.
     fn serve<R: Threads + Wait + Sync, D: Desk<Served = Self>>(
         &self,
         rt: &R,
@@ -67,6 +66,38 @@ impl<'a> Serves for Bookings<'a> {
         scratch: &mut Scratch,
         desk: &mut D,
     ) -> Result<(), NoMemory> {
+        self.book(rt, ticket, scratch, desk)
+    }
+}
+
+impl<'a> Bookings<'a> {
+    // Looks the seat up; the customer takes it if nobody has it, else waits, and is answered who
+    // has it then. After each call the booking declares what is left. It is a function of its own,
+    // for a desk of any tickets that mean the same, since the toolchain can't prove one that names
+    // a desk of a type with a lifetime.
+    fn book<R: Threads + Wait + Sync, D: Desk>(
+        &self,
+        rt: &R,
+        ticket: u32,
+        scratch: &mut Scratch,
+        desk: &mut D,
+    ) -> Result<(), NoMemory>
+        requires shared { IsSync R.row }
+        requires plan { D.Served.meaning (D.script desk.old)
+            ≡ bookings_meaning self.now.list.now }
+        requires ticket { (D.at desk.old).ticket ≡ ticket }
+        requires within { ticket < length self.now.list.now }
+        requires fresh { (D.at desk.old).entries ≡ [] }
+        requires idle { (D.at desk.old).waiting ≡ None }
+        requires going { (D.at desk.old).ended ≡ false }
+        requires present { (D.at desk.old).present
+            ≡ (bookings_meaning self.now.list.now).entry ticket }
+        ensures script { D.script desk.new ≡ D.script desk.old }
+        ensures served { IfOk result (λ _. IsServed (bookings_meaning self.now.list.now)
+            (D.at desk.old) (D.at desk.new)) }
+        ensures stopped { OnErr result (IsStopped (bookings_meaning self.now.list.now)
+            (D.at desk.old) (D.at desk.new)) }
+    {
         let [look_up, take_seat, wait] = self.list[ticket as usize].calls();
         let found = desk.call(rt, look_up)?;
         let (second, holder) = match found {
