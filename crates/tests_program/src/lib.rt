@@ -9,8 +9,6 @@ mod ends;
 #[cfg(test)]
 mod held;
 #[cfg(test)]
-mod living;
-#[cfg(test)]
 mod memory;
 #[cfg(test)]
 mod refusing;
