@@ -5,7 +5,8 @@ Makes three sessions of 20,000 requests: seats and sign-ins, ten operations on k
 ten on one key. Of each it times, in turns and within one run, `serve` by one caller; `trace` by
 one caller; `audit` of that trace, and of the same with a delay before each operation (up to
 440,000 events); and `clients` over the first 600 requests, divided among three clients, and over
-all, among 16, each beside `serve` of the same requests with as many callers. A line a row: the
+all, among 16, each beside `serve` of the same requests with as many callers; and so where the table
+opens with 100,000 entries. A line a row: the
 times of the two, the least of all runs, and their ratio; and the median of the ratios run by run.
 """
 import argparse
@@ -110,6 +111,9 @@ def main():
         judged(name, given.program, given.runs, handlers, requests)
         gathered(name, given.program, given.runs, handlers, requests[:600], 3)
         gathered(name, given.program, given.runs, handlers, requests, 16)
+    entries = "".join(f"m {key} {key}\n" for key in range(100_000))
+    gathered("opening", given.program, given.runs, KEYS + "%% tables\n" + entries,
+             [f"fill {n}" for n in range(20000)], 16)
 
 
 if __name__ == "__main__":

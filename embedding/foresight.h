@@ -89,10 +89,11 @@ uint8_t foresight_dump(const uint8_t *text, size_t text_size, uint8_t *out, size
  * at any time, and leaves FORESIGHT_NO_HALL.
  *
  * The program sees to these: nobody but the calls writes a handle after its beginning; of a handle
- * that is copied, only one copy is used from then on; a handle is used by one call at a time, and all
- * its calls come from one thread; a handle that is let go without `free` leaks its memory. The handle
- * and what else a pointer leads to don't overlap, no pointer is NULL, and all that a pointer leads to
- * has been written before. Whatever the numbers are, each call answers one of these.
+ * that is copied, only one copy is used from then on; a handle is used by one call at a time, from any
+ * thread, where the program orders its calls by a lock of its own, or by a thread's start or join; a
+ * handle that is let go without `free` leaks its memory. The handle and what else a pointer leads to
+ * don't overlap, no pointer is NULL, and all that a pointer leads to has been written before. Whatever
+ * the numbers are, each call answers one of these.
  */
 enum foresight_hall_status {
     /* All was done. */

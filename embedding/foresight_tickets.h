@@ -3,8 +3,8 @@
  *
  * The tables are kept by a handle. The program sees to these: nobody but the calls writes a handle
  * after its beginning; of a handle that is copied, only one copy is used from then on; a handle is
- * used by one call at a time, and all its calls come from one thread; a handle that is let go without
- * its close leaks its memory. All
+ * used by one call at a time, from any thread: the program orders its calls by a lock of its own, or
+ * by a thread's start or join; a handle that is let go without its close leaks its memory. All
  * pointers lead to what is said of them, which doesn't overlap and has been written before, and none
  * is NULL; foresight_guard.h asks that first, for programs that don't know.
  */

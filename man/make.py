@@ -88,6 +88,8 @@ $ foresight serve < refused.session 2>&1 | foresight_where refused.session
 refused.session:2:37: a token with which no file goes on
 handler look(k) { let v = get(m, k) reply v; }
                                     ^
+= unexpected reserved word `reply`: `;` is wanted here
+= a statement ends with `;`
 ```
 
 A pipe like this loses the status and mixes the outputs. This function keeps both: the replies go to

@@ -2,7 +2,7 @@
 """Judges `clients` by a plain model: oracle/clients.py PROGRAM [--serve] [--runs N] [--seed N].
 
 Each made session has 1 to 16 clients with up to 120 requests in all, each tenth with up to 2,000,
-which takes three rounds, and is served with a number of callers and shards that is drawn too. The
+which takes eight rounds, and is served with a number of callers and shards that is drawn too. The
 output has to have a line for each request, client by client and in order, with the client's number,
 a ticket and the reply. The tickets have to be 0, 1, 2 and so on, each once, and rise within a
 client; and the replies those of the model, which serves the requests one at a time in the order of
@@ -17,8 +17,7 @@ import sys
 import made
 import model
 
-# The most requests of a session: the first two rounds serve 256 each, and each later one three
-# times as many as all before it.
+# The most requests of a session; a round serves 256.
 MOST = [5, 5, 5, 30, 30, 30, 120, 120, 120, 2000]
 
 

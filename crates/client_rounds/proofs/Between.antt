@@ -1,5 +1,5 @@
 -- What holds between rounds, and that the next round keeps it.
-use Rattle.std.proofs.Common.{◌≡◌, ℕ, zero, suc, ◌+◌, ◌*◌, ◌<◌, ◌≤◌, ◌⊎◌, inl, inr, min, true, false, List, [], ◌∷◌, ◌++◌, length, length-append, sum, take, drop, nat_lt, Option, Some, None, is_some, refl, sym, ap, ◌∙◌, subst, arith}
+use Rattle.std.proofs.Common.{◌≡◌, ℕ, suc, ◌+◌, ◌<◌, ◌≤◌, ◌⊎◌, inl, inr, min, true, false, List, [], ◌∷◌, ◌++◌, length, length-append, sum, take, drop, nat_lt, Option, Some, None, is_some, refl, sym, ap, ◌∙◌, subst, arith}
 use Rattle.std.specs.Prelude.{IfSome, MatchOption}
 use Rattle.std.proofs.lemmas.List.{length-take-le}
 use Rattle.std.proofs.lemmas.Bool.Decides.{nat_tests}
@@ -122,6 +122,11 @@ module _ (p : ProgramView) (opened : List (List Pair)) (clients : ClientsView) (
     last_reopens got None drawn h = tt
     last_reopens got (Some d) drawn h = can_reopen got d drawn h
 
+  -- and its shards are those of each round
+  pub last_shards : (got : List Arrival) (o : Option ClosedView) → IfSome o (Last got) → IfSome o (λ d. d.shards ≡ shards)
+  last_shards got None h = tt
+  last_shards got (Some d) h = h.shards_are
+
   -- the next round opens with what all before it left
   opens_next : (got : List Arrival) (o : Option ClosedView) (opening : List (List Pair)) → is_some o ≡ nat_lt 0 (length got) → IfSome o (Last got) → MatchOption o (opening ≡ opened) (λ b. Reopens b (shape_of p.file) opening)
       → tables_of (shape_of p.file) opening ≡ tables_before (by got) (length got)
@@ -169,17 +174,6 @@ module _ (p : ProgramView) (opened : List (List Pair)) (clients : ClientsView) (
   pub all_served : (got : List Arrival) (replies : List Reply) (last : Option ClosedView) → AreServedSoFar p opened clients callers shards got replies last → length got ≡ sum clients.counts
       → AreServed p opened clients callers shards (record { arrivals = got; replies = replies; closed = last })
   all_served got replies last h all = record { drawn = h.drawn; all = all; replies = h.replies_are; last = h.last; hall = h.hall }
-
--- ---- where rounds begin
-later_begin : (r : ℕ) → 512 ≤ round_begin (suc (suc r))
-later_begin zero = omega arith
-later_begin (suc r) = omega (arith, later_begin r)
-
--- how far the next round begins behind this one
-next_begin : (r : ℕ) → (round_begin r < 512 → round_begin (suc r) ≡ round_begin r + 256) × (512 ≤ round_begin r → round_begin (suc r) ≡ round_begin r + 3 * round_begin r)
-next_begin zero = (λ _. omega arith, λ h. absurd (omega (arith, h)))
-next_begin (suc zero) = (λ _. omega arith, λ h. absurd (omega (arith, h)))
-next_begin (suc (suc r)) = (λ h. absurd (omega (arith, h, later_begin r)), λ _. omega arith)
 
 -- ---- the state between two rounds
 -- some rounds were served; there is room for all arrivals and replies
@@ -245,7 +239,7 @@ module _ (p : ProgramView) (opened : List (List Pair)) (clients : ClientsView) (
       came_long : length h.got ≡ length a.list + length came
       came_long = ap (λ (xs : List Arrival). length xs) (gathered.got ∙ ap (λ (xs : List Arrival). xs ++ came) got_is) ∙ length-append a.list came
 
-      module _ (left : ℕ) (left_is : left + length g.got ≡ sum g.counts) (some : 0 < left) (before size : ℕ) (before_is : before + left ≡ sum g.counts) (first : before < 512 → size ≡ 256) (later : 512 ≤ before → size ≡ 3 * before) (either : (size ≤ left → most ≡ size) × (left ≤ size → most ≡ left)) where
+      module _ (left : ℕ) (left_is : left + length g.got ≡ sum g.counts) (some : 0 < left) (either : (256 ≤ left → most ≡ 256) × (left ≤ 256 → most ≡ left)) where
         record Counted : Type 0 where
           begins : length a.list ≡ round_begin now.rounds
           came_some : 0 < length came
@@ -255,27 +249,18 @@ module _ (p : ProgramView) (opened : List (List Pair)) (clients : ClientsView) (
         cases : (x y : ℕ) → (x ≤ y) ⊎ (y ≤ x)
         cases x y = grind arith
 
-        small_or_large : (x : ℕ) → (x < 512) ⊎ (512 ≤ x)
-        small_or_large x = grind arith
-
         at_begin : length a.list ≡ round_begin now.rounds
         at_begin = let many = now.many in let got = ap (λ (xs : List Arrival). length xs) got_is in omega (arith, many, got, total_is, left_is, some)
 
-        -- a round's size is how far the next one begins behind it
-        size_is : length a.list + size ≡ round_begin (suc now.rounds)
-        size_is =
-            let got = ap (λ (xs : List Arrival). length xs) got_is in
-            let next = next_begin now.rounds in
-            elim (small_or_large before) [
-              | inl l ↦ (let b : round_begin now.rounds < 512 = omega (arith, l, before_is, left_is, got, at_begin) in let s = first l in let n = next.0 b in omega (arith, at_begin, s, n))
-              | inr l ↦ (let b : 512 ≤ round_begin now.rounds = omega (arith, l, before_is, left_is, got, at_begin) in let s = later l in let n = next.1 b in omega (arith, at_begin, s, n, before_is, left_is, got))
-            ]
+        -- how far the next one begins behind it
+        size_is : length a.list + 256 ≡ round_begin (suc now.rounds)
+        size_is = omega (arith, at_begin)
 
         counted : Counted
         counted =
             let many = gathered.many in
             let got = ap (λ (xs : List Arrival). length xs) got_is in
-            elim (cases left size) [
+            elim (cases left 256) [
               | inl l ↦ (let m = either.1 l in record {
                 begins = at_begin;
                 came_some = omega (arith, many, got, total_is, left_is, m, l, came_long, some);
@@ -284,17 +269,10 @@ module _ (p : ProgramView) (opened : List (List Pair)) (clients : ClientsView) (
               })
               | inr l ↦ (let m = either.0 l in record {
                 begins = at_begin;
-                came_some = omega (arith, many, got, total_is, left_is, m, l, came_long, some, size_is, at_begin, grows);
+                came_some = omega (arith, many, got, total_is, left_is, m, l, came_long, some, size_is, at_begin);
                 came_few = omega (arith, many, got, total_is, left_is, m, l, came_long, size_is);
                 all_many = omega (arith, many, got, total_is, left_is, m, l, came_long, size_is);
               })
-            ]
-          where
-            -- no round is empty
-            grows : round_begin now.rounds < round_begin (suc now.rounds)
-            grows = elim (small_or_large (round_begin now.rounds)) [
-              | inl l ↦ omega (arith, (next_begin now.rounds).0 l)
-              | inr l ↦ omega (arith, l, (next_begin now.rounds).1 l)
             ]
 
         module _ (d : ClosedView) (behind : IsServedBehind p opened closed (asked clients came) callers shards d) where

@@ -6,3 +6,7 @@ pub mod Between
 pub mod FewTables
 pub mod Filling
 pub mod Slices
+pub mod FinalValues
+pub mod LeftLists
+pub mod OverLists
+pub mod Crossing

@@ -1,5 +1,6 @@
 -- What came in a round, as a slice of all arrivals.
-use Rattle.std.proofs.Common.{◌≡◌, ℕ, zero, suc, ◌-◌, ◌≤◌, List, [], ◌∷◌, ◌++◌, length, length-drop, take, drop, Option, sym, ap, ◌∙◌, subst, arith}
+use Rattle.std.proofs.Common.{◌≡◌, ℕ, zero, suc, ◌-◌, ◌≤◌, List, [], ◌∷◌, ◌++◌, length, length-append, length-drop, take, drop, Option, sym, ap, ◌∙◌, subst, arith}
+use Rattle.std.proofs.lemmas.List.{length-take-le}
 use Rattle.session_values.specs.declared.reply.Reply.{Reply}
 use Rattle.opening_tables.specs.Opening.{Pair}
 use Rattle.session_hall.specs.Closings.{ClosedView}
@@ -18,6 +19,10 @@ take_whole [] zero l = (λ j. [])
 take_whole [] (suc i) l = (λ j. [])
 take_whole (x ∷ xs) zero l = absurd (omega (arith, l))
 take_whole (x ∷ xs) (suc i) l = ap (λ ys. x ∷ ys) (take_whole xs i (omega (arith, l)))
+
+-- a list that is written from its beginning on is as long as before
+pub kept_long : (n : ℕ) (xs ys : List ℕ) → length ys ≡ n → length xs ≡ n → length (take n (xs ++ drop (length xs) ys)) ≡ n
+kept_long n xs ys old new = length-take-le n (xs ++ drop (length xs) ys) (omega (arith, length-append xs (drop (length xs) ys), length-drop (length xs) ys, old, new))
 
 module _ (p : ProgramView) (opened : List (List Pair)) (clients : ClientsView) (callers shards : ℕ) (g h : GathererView) (a b : ArrivalsView) (replies : List Reply) (room : ℕ) (closed : Option ClosedView) (now : IsBetween p opened clients callers shards g a replies room closed) (most : ℕ) (gathered : HasGathered g h a b most) (k : ℕ) (xs : List Arrival) (k_is : k ≡ length a.list) (xs_is : xs ≡ b.list) where
   abbrev slice : List Arrival

@@ -1,5 +1,5 @@
 -- Requests of several clients, served in rounds as they arrive.
-use Rattle.std.specs.Prelude.{◌≡◌, ℕ, zero, suc, ◌*◌, ◌<◌, ◌≤◌, List, length, sum, drop, Option, is_some, nat_lt, IfSome}
+use Rattle.std.specs.Prelude.{◌≡◌, ℕ, suc, ◌*◌, ◌<◌, ◌≤◌, List, length, sum, drop, Option, is_some, nat_lt, IfSome}
 use Rattle.session_values.specs.declared.reply.Reply.{Reply}
 use Rattle.session_values.specs.Serial.{Session, serial_replies, tables_before}
 use Rattle.opening_tables.specs.Opening.{Pair, tables_of}
@@ -14,13 +14,9 @@ use Rattle.client_feed.specs.Arrival.{Arrival}
 use Rattle.client_feed.specs.Arrivals.{IsDrawn}
 use Rattle.client_feed.specs.Numbers.{numbers_of}
 
--- At which ticket a round begins, by how many rounds were before it: the first two rounds serve 256
--- requests each, and each later one three times as many as all before it.
+-- at which ticket a round begins, by how many rounds were before it
 abbrev pub round_begin : ℕ → ℕ
-round_begin zero = 0
-round_begin (suc zero) = 256
-round_begin (suc (suc zero)) = 512
-round_begin (suc (suc (suc r))) = 4 * round_begin (suc (suc r))
+round_begin r = 256 * r
 
 -- what was served: the arrivals in their order, a reply for each, and the closed hall of the last
 -- round

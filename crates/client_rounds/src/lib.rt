@@ -3,6 +3,7 @@
 #![tactic(auto)]
 
 mod beside;
+mod continued;
 mod picking;
 mod plan;
 mod reopening;
@@ -12,6 +13,6 @@ mod serving;
 
 pub use beside::serve_clients;
 pub use picking::requests_of;
-pub use reopening::reopened;
-pub use rounds::{FIRST_ROUND, serve_rounds};
+pub use reopening::look_at_tables;
+pub use rounds::{ROUND, serve_rounds};
 pub use served::Served;

@@ -1,7 +1,6 @@
 // The requests of arrivals.
 
-ghost use Rattle.std.specs.Prelude.{◌≡◌, ◌++◌, IfOk};
-ghost use Rattle.client_feed.specs.Arrivals.{IsDrawn};
+ghost use Rattle.std.specs.Prelude.{◌≡◌, IfOk};
 ghost use Rattle.client_rounds.specs.Picking.{AreArrivals};
 ghost use Rattle.client_feed.specs.Numbers.{numbers_of};
 ghost use Rattle.request_files.specs.Picked.{picked};

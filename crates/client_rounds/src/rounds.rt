@@ -1,7 +1,7 @@
 // Rounds, one after another.
 
-ghost use Rattle.std.specs.Prelude.{◌≡◌, ◌+◌, ◌*◌, ◌<◌, ◌≤◌, [], ◌++◌, length, IfOk, vec_capacity};
-ghost use Rattle.session_values.specs.Limits.{max_callers, max_requests, max_session_calls, max_shards};
+ghost use Rattle.std.specs.Prelude.{◌≡◌, ◌+◌, ◌≤◌, [], ◌++◌, length, IfOk, vec_capacity};
+ghost use Rattle.session_values.specs.Limits.{max_callers, max_session_calls, max_shards};
 ghost use Rattle.opening_tables.specs.Limits.{max_opening};
 ghost use Rattle.opening_tables.specs.Opening.{IsOpening, count_all};
 ghost use Rattle.handler_check.specs.Resolved.{shape_of as shape_spec};
@@ -22,14 +22,13 @@ use std::sync::Wait;
 use std::thread::Threads;
 use worker_gate::Gate;
 
-/// How many requests each of the first two rounds serves.
-pub const FIRST_ROUND: u32 = 256;
+/// How many requests each round serves but the last, which serves what is left.
+pub const ROUND: u32 = 256;
 
-/// Serves all requests in the order in which they arrive, in rounds: the first two serve 256 each,
-/// and each later one three times as many as all before it, so that the tables are opened again a few
-/// times and not once for each 256 requests. The tables of a round open as the round before left
-/// them. The room of all arrivals and replies is taken before the first round, and each round gives
-/// back what it takes beside it.
+/// Serves all requests in the order in which they arrive, in rounds of 256, or of what is left. The
+/// hall of a round takes over the tables that the round before left, so that nothing is entered
+/// again. The room of all arrivals and replies is taken before the first round, and each round
+/// gives back what it takes beside it and the room of its keys.
 pub fn serve_rounds<R: Threads + Wait + Sync, G: Gate + Sync>(
     rt: &R,
     alloc: Global,
@@ -47,7 +46,8 @@ pub fn serve_rounds<R: Threads + Wait + Sync, G: Gate + Sync>(
     requires callers { (1 ≤ callers) × (callers ≤ max_callers) }
     requires shards { (1 ≤ shards) × (shards ≤ max_shards) }
     requires gatherer { gatherer.old ≡ record { counts = clients.now.counts; got = [] } }
-    ensures { IfOk result (AreServed program.now opening.now clients.now callers shards) }
+    ensures served { IfOk result (AreServed program.now opening.now clients.now callers shards) }
+    ensures took { IfOk result (λ v. v.arrivals ≡ gatherer.new.got) }
 {
     let shape = shape_of(alloc, program)?;
     let plan = Plan {
@@ -63,30 +63,18 @@ pub fn serve_rounds<R: Threads + Wait + Sync, G: Gate + Sync>(
     let requests = gatherer.left();
     let mut arrivals = Arrivals::with_room(alloc, requests)?;
     let mut replies = Vec::with_capacity(alloc, requests as usize)?;
+    let mut later = plan.adds(alloc)?;
     let mut closed = None;
     'rounds: while gatherer.left() > 0 {
         let left = gatherer.left();
         let before = requests - left;
-        gatherer.gather(rt, fewer(round_size(before), left), &mut arrivals);
+        gatherer.gather(rt, fewer(ROUND, left), &mut arrivals);
         let came = &arrivals.list()[before as usize..];
-        let hall = serve_behind(rt, alloc, &plan, closed, came, gate)?;
+        let hall = serve_behind(rt, alloc, &plan, closed, later.as_mut_slice(), came, gate)?;
         push_replies(&hall, &mut replies);
         closed = Some(hall);
     }
     Ok(Served::over(arrivals, replies, closed))
-}
-
-// How many requests the round serves before which so many were served.
-fn round_size(before: u32) -> u32
-    requires { before ≤ max_requests }
-    ensures first { before < 512 → result ≡ 256 }
-    ensures later { 512 ≤ before → result ≡ 3 * before }
-{
-    if before < 2 * FIRST_ROUND {
-        FIRST_ROUND
-    } else {
-        3 * before
-    }
 }
 
 // The smaller of two numbers.

@@ -1,38 +1,43 @@
 // The hall of a round.
 
-ghost use Rattle.std.specs.Prelude.{◌≡◌, IfOk, IfSome};
+ghost use Rattle.std.specs.Prelude.{◌≡◌, ◌≤◌, Some, IfOk, IfSome, length};
+ghost use Rattle.session_values.specs.Limits.{max_callers, max_shards, max_tables};
 ghost use Rattle.opening_tables.specs.Opening.{IsOpening};
 ghost use Rattle.handler_check.specs.Resolved.{shape_of};
 ghost use Rattle.request_files.specs.Clients.{AreShared};
 ghost use Rattle.request_files.specs.Picked.{picked};
 ghost use Rattle.request_files.specs.Servable.{IsServable};
 ghost use Rattle.client_feed.specs.Numbers.{numbers_of};
+ghost use Rattle.session_hall.specs.Closings.{IsDone};
+ghost use Rattle.session_hall.specs.Reopenings.{OpensOver};
 ghost use Rattle.client_rounds.specs.Picking.{AreArrivals};
 ghost use Rattle.client_rounds.specs.Behind.{IsServedBehind, IsServedOver};
 ghost use Rattle.client_rounds.specs.Reopening.{CanReopen};
 
+use crate::continued::Continued;
 use crate::picking::requests_of;
 use crate::plan::Plan;
-use crate::reopening::reopened;
+use crate::reopening::look_at_tables;
 use client_feed::Arrival;
-use hall_serving::{open_session, serve_session};
+use hall_serving::{Serves, Tickets, open_session, reopen_session, serve_session};
 use handler_machine::Scripts;
-use opening_tables::Opening;
 use request_files::Requests;
 use session_hall::Closed;
-use session_values::NoMemory;
+use session_values::{NoMemory, TableKind};
 use std::alloc::Global;
 use std::sync::Wait;
 use std::thread::Threads;
 use worker_gate::Gate;
 
-/// Serves the requests of arrivals through a hall whose tables open as the hall of the round before
-/// left its own, or in the first round with the entries of the plan.
+/// Serves the requests of arrivals through a hall over the tables that the hall of the round before
+/// left, or in the first round over the entries of the plan. `later` has the most keys that may
+/// still be added to each table, and is less these requests' afterwards.
 pub(crate) fn serve_behind<R: Threads + Wait + Sync, G: Gate + Sync>(
     rt: &R,
     alloc: Global,
     plan: &Plan<'_>,
     last: Option<Closed>,
+    later: &mut [u32],
     arrivals: &[Arrival],
     gate: &G,
 ) -> Result<Closed, NoMemory>
@@ -40,39 +45,117 @@ pub(crate) fn serve_behind<R: Threads + Wait + Sync, G: Gate + Sync>(
     requires servable { IsServable plan.now.program.now.file plan.now.clients.now.requests }
     requires shared { AreShared plan.now.clients.now }
     requires last { IfSome last (CanReopen (shape_of plan.now.program.now.file)) }
+    requires shards { IfSome last (λ d. d.shards ≡ plan.now.shards) }
+    requires later { length later.old ≡ length plan.now.shape.now }
     requires arrivals { AreArrivals plan.now.clients.now.counts arrivals.now }
-    ensures { IfOk result (IsServedBehind plan.now.program.now plan.now.opening.now last
+    ensures served { IfOk result (IsServedBehind plan.now.program.now plan.now.opening.now last
         (picked plan.now.clients.now.requests
         (numbers_of plan.now.clients.now.counts arrivals.now)) plan.now.callers plan.now.shards) }
+    ensures later { length later.new ≡ length later.old }
 {
     let requests = requests_of(alloc, plan.clients, arrivals)?;
     match last {
-        None => serve_over(rt, alloc, plan, plan.opening, &requests, gate),
-        Some(closed) => {
-            let opening = reopened(alloc, &closed, plan.shape)?;
-            // Its memory is given back before the next hall takes its own.
-            drop(closed);
-            serve_over(rt, alloc, plan, &opening, &requests, gate)
-        }
+        None => serve_first(rt, alloc, plan, &requests, later, gate),
+        Some(closed) => serve_next(rt, alloc, plan, closed, &requests, later, gate),
     }
 }
 
-// Serves requests through a hall whose tables open with these entries.
-fn serve_over<R: Threads + Wait + Sync, G: Gate + Sync>(
+// Serves requests through a hall whose tables open with the entries of the plan.
+fn serve_first<R: Threads + Wait + Sync, G: Gate + Sync>(
     rt: &R,
     alloc: Global,
     plan: &Plan<'_>,
-    opening: &Opening,
     requests: &Requests,
+    later: &mut [u32],
     gate: &G,
 ) -> Result<Closed, NoMemory>
-    requires opening { IsOpening (shape_of plan.now.program.now.file) opening.now }
+    requires opening { IsOpening (shape_of plan.now.program.now.file) plan.now.opening.now }
     requires servable { IsServable plan.now.program.now.file requests.now }
-    ensures { IfOk result (IsServedOver plan.now.program.now opening.now requests.now
-        plan.now.callers plan.now.shards) }
+    requires later { length later.old ≡ length plan.now.shape.now }
+    ensures served { IfOk result (IsServedOver plan.now.program.now plan.now.opening.now
+        requests.now plan.now.callers plan.now.shards) }
+    ensures later { length later.new ≡ length later.old }
 {
-    let script = Scripts::over(plan.program, opening, requests);
-    let again = Scripts::over(plan.program, opening, requests);
+    let script = Scripts::over(plan.program, plan.opening, requests);
+    let again = Scripts::over(plan.program, plan.opening, requests);
+    take_off(&again, later);
     let session = open_session(alloc, script, plan.shape, plan.shards, plan.callers)?;
     Ok(serve_session(rt, session, &again, gate))
+}
+
+// Serves requests through a hall over the tables that a closed one left.
+fn serve_next<R: Threads + Wait + Sync, G: Gate + Sync>(
+    rt: &R,
+    alloc: Global,
+    plan: &Plan<'_>,
+    closed: Closed,
+    requests: &Requests,
+    later: &mut [u32],
+    gate: &G,
+) -> Result<Closed, NoMemory>
+    requires opening { IsOpening (shape_of plan.now.program.now.file) plan.now.opening.now }
+    requires servable { IsServable plan.now.program.now.file requests.now }
+    requires can { CanReopen (shape_of plan.now.program.now.file) closed }
+    requires shards { closed.shards ≡ plan.now.shards }
+    requires later { length later.old ≡ length plan.now.shape.now }
+    ensures served { IfOk result (IsServedBehind plan.now.program.now plan.now.opening.now
+        (Some closed) requests.now plan.now.callers plan.now.shards) }
+    ensures later { length later.new ≡ length later.old }
+{
+    look_at_tables(&closed, plan.shape);
+    let tickets = Continued::over(plan.program, plan.opening, requests, &closed);
+    let again = Continued::over(plan.program, plan.opening, requests, &closed);
+    serve_over(
+        rt,
+        alloc,
+        tickets,
+        &again,
+        plan.shape,
+        closed,
+        later,
+        plan.callers,
+        gate,
+    )
+}
+
+// Serves tickets through a hall over the shards that a closed one left. `again` is the same
+// tickets. It is generic, since the borrow checker covers no open session of a type at which two
+// impls of `Tickets` may be meant.
+fn serve_over<R: Threads + Wait + Sync, S: Serves + Drop + Send + Sync, G: Gate + Sync>(
+    rt: &R,
+    alloc: Global,
+    tickets: S,
+    again: &S,
+    shape: &[TableKind],
+    closed: Closed,
+    later: &mut [u32],
+    callers: u32,
+    gate: &G,
+) -> Result<Closed, NoMemory>
+    requires again { again.now ≡ tickets }
+    requires opens { OpensOver (S.meaning tickets) closed }
+    requires shape { shape.now ≡ (S.meaning tickets).shape }
+    requires tables { length shape.now ≤ max_tables }
+    requires shards { closed.shards ≤ max_shards }
+    requires later { length later.old ≡ length shape.now }
+    requires callers { (1 ≤ callers) × (callers ≤ max_callers) }
+    ensures done { IfOk result (IsDone (S.meaning tickets)) }
+    ensures callers { IfOk result (λ d. d.callers ≡ callers) }
+    ensures shards { IfOk result (λ d. d.shards ≡ closed.shards) }
+    ensures later { length later.new ≡ length later.old }
+{
+    let session = reopen_session(alloc, tickets, shape, closed, later, callers)?;
+    take_off(again, later);
+    Ok(serve_session(rt, session, again, gate))
+}
+
+// Takes off the keys that these tickets may add to each table.
+fn take_off<S: Tickets>(tickets: &S, later: &mut [u32])
+    requires { length later.old ≤ max_tables }
+    ensures { length later.new ≡ length later.old }
+{
+    for table in 0..later.len() as u32 {
+        let left = later[table as usize];
+        later[table as usize] = left.saturating_sub(tickets.room(table));
+    }
 }

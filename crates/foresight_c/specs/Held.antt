@@ -17,7 +17,7 @@ abbrev pub desk_code : Coded Desk
 desk_code = the_row.coded
 
 -- the heap that desks lie in
-abbrev the_heap : Global
+abbrev pub the_heap : Global
 the_heap = record { memory = record { seal = tt } }
 
 -- a pointer to a desk owns it, with the right to free its block; one to nothing owns nothing

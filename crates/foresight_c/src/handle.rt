@@ -21,6 +21,9 @@ impl Model for Held {
     ghost also_owns = { λ h. held h.at h.value };
 }
 
+// What it owns may go to another thread.
+unsafe impl Send for Held {}
+
 impl Held {
     /// A pointer to nothing.
     pub fn none() -> Held
@@ -49,7 +52,8 @@ impl Held {
     }
 }
 
-/// What C keeps: whether there is a desk, and the pointer to it.
+/// What C keeps: whether there is a desk, and the pointer to it. It may go to another thread, and is
+/// used by one call at a time.
 #[repr(C)]
 #[derive(Drop)]
 pub struct Handle {

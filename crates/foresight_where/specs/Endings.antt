@@ -1,6 +1,7 @@
 -- How a run ends, and what it writes before.
-use Rattle.std.specs.Prelude.{◌≡◌, ◌⊎◌, ℕ, ⊤, List, Option, Some, None}
+use Rattle.std.specs.Prelude.{◌≡◌, ◌⊎◌, ℕ, ⊤, List, Option, None}
 use Rattle.std.specs.Io.KnownBytes.{Appends}
+use Rattle.refusal_advice.specs.Told.{IsTold}
 use Rattle.refusal_places.specs.Answers.{answer}
 use Rattle.refusal_places.specs.RuleTable.{rules_text}
 use Rattle.foresight_where.specs.declared.ending.Ending.{Ending}
@@ -15,11 +16,11 @@ exit_status NoMemory = 3
 exit_status ReadFault = 4
 exit_status WriteFault = 5
 
--- What was written for a line and a file: with status 0 the text of the place, with status 1 the
--- line as it came. Faults of reading and other words end before that.
+-- What was written for a line and a file: with status 0 the text of the place, and behind it what
+-- is advised there; with status 1 the line as it came. Faults of reading and other words end before that.
 abbrev pub IsShown : List ℕ → List ℕ → List ℕ → Option (List ℕ) → Option (List ℕ) → Ending → Type 0
 IsShown name file input old new Told =
-    (text : List ℕ) × (answer name file input ≡ Some text) × Appends old new text
+    (text : List ℕ) × IsTold name file input text × Appends old new text
 IsShown name file input old new HandedOn = (answer name file input ≡ None) × Appends old new input
 IsShown name file input old new Usage = ⊥
 IsShown name file input old new NoMemory = ⊤

@@ -4,14 +4,16 @@ ghost use Rattle.std.specs.Prelude.{◌≤◌, length};
 ghost use Rattle.foresight_where.specs.Endings.{AreRulesShown, IsShown, IsWritten};
 
 use crate::ending::Ending;
-use refusal_places::{answer, rules_text};
+use refusal_advice::told;
+use refusal_places::rules_text;
 use std::alloc::Global;
 use std::io::Write;
 
 /// The most bytes of an input or a file.
 pub(crate) const MOST: usize = 67108864;
 
-/// Writes the text of the place that the line names, or the line as it is.
+/// Writes the text of the place that the line names, with what is advised there, or the line as it
+/// is.
 pub(crate) fn show<W: Write>(
     alloc: Global,
     name: &str,
@@ -24,7 +26,7 @@ pub(crate) fn show<W: Write>(
     ensures { IsShown name.now file.now input.now (W.contents out.old) (W.contents out.new)
         result }
 {
-    match answer(alloc, name, file, input) {
+    match told(alloc, name, file, input) {
         Ok(Some(text)) => written(out, &text, Ending::Told),
         Ok(None) => written(out, input, Ending::HandedOn),
         Err(_) => Ending::NoMemory,

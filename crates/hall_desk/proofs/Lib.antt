@@ -1,1 +1,2 @@
 mod Symbols
+pub mod Crossing

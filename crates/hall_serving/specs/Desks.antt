@@ -1,5 +1,5 @@
 -- What contracts see of a desk over a caller of a hall.
-use Rattle.std.specs.Prelude.{◌≡◌, ℕ, ◌<◌, ◌∷◌, Option, Some, None, Bool, true, false}
+use Rattle.std.specs.Prelude.{◌≡◌, ℕ, ◌<◌, ◌∷◌, ◌++◌, length, Option, Some, None, Bool, true, false}
 use Rattle.session_values.specs.declared.reply.Reply.{Reply}
 use Rattle.session_values.specs.Dialogue.{Entry}
 use Rattle.session_journal.specs.Desks.{DeskView}
@@ -9,6 +9,7 @@ use Rattle.session_hall.specs.declared.hall.Hall.{Hall}
 use Rattle.session_hall.specs.declared.caller.Caller.{Caller}
 use Rattle.session_hall.specs.declared.stage.Stage.{Stage}
 use Rattle.session_hall.specs.declared.stage.Stage.TheVariants.{Idle, Serving, Applied}
+use Rattle.session_hall.specs.Begun.{begun_by}
 use Rattle.session_hall.specs.Callers.{IsCallerOf, book_of, entries_of, foresight_of}
 use Rattle.session_hall.specs.Names.{hall_name, script_of}
 
@@ -32,7 +33,8 @@ abbrev pub has_ended : Stage → Bool
 has_ended Idle = true
 has_ended _ = false
 
--- what a desk over the caller is at, while the caller is behind the reference of that name
+-- What a desk over the caller is at, while the caller is behind the reference of that name. Among
+-- what names its home are the tickets that the caller has begun, so no call of a desk begins one.
 abbrev pub desk_at : {S : Type 0} → Hall S → Caller S → ℕ → ℕ → DeskView
 desk_at h c t name = record {
   ticket = t;
@@ -40,7 +42,7 @@ desk_at h c t name = record {
   present = foresight_of c;
   waiting = waiting_of c.stage;
   ended = has_ended c.stage;
-  home = name ∷ c.number ∷ hall_name h;
+  home = name ∷ c.number ∷ length (begun_by c) ∷ begun_by c ++ hall_name h;
   sure = true;
 }
 

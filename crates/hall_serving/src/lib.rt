@@ -11,4 +11,6 @@ mod session;
 pub use desk::HallDesk;
 pub use next::serve_next;
 pub use pause::Pause;
-pub use session::{OpenSession, make_scratches, open_session, serve_session};
+pub use session::{OpenSession, make_scratches, open_session, reopen_session, serve_session};
+pub use session_journal::{Desk, Scratch, Script, Serves, Site, Tickets};
+pub use symbolic_ops::{Foresight, Symbol};

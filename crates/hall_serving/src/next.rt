@@ -1,6 +1,6 @@
 // One ticket, from its beginning to its end.
 
-ghost use Rattle.std.specs.Prelude.{◌≡◌, ◌<◌, [], Some, MatchOption};
+ghost use Rattle.std.specs.Prelude.{◌≡◌, ◌<◌, [], Some};
 ghost use Rattle.session_values.specs.Serial.{serial_replies};
 ghost use Rattle.session_journal.specs.Journal.{begun, ended};
 ghost use Rattle.session_journal.specs.Script.{session_of};
@@ -8,7 +8,7 @@ ghost use Rattle.session_hall.specs.Callers.{IsCallerOf, StaysCaller, book_of, e
 ghost use Rattle.session_hall.specs.Names.{script_of};
 ghost use Rattle.session_hall.specs.Stages.{IsBetween};
 ghost use Rattle.session_hall.specs.declared.stage.Stage.TheVariants.{Idle, Out, Serving};
-ghost use Rattle.hall_serving.specs.Jobs.{HasServedNext};
+ghost use Rattle.hall_serving.specs.Jobs.{HasBegunNone, ServesNext};
 
 use crate::desk::HallDesk;
 use crate::pause::Pause;
@@ -20,8 +20,8 @@ use std::sync::Wait;
 use std::thread::Threads;
 use worker_gate::{Gate, Place};
 
-/// Begins the next ticket, after the pause, and serves it to its end: it answers the ticket and its
-/// reply, which is its serial one. None comes where all tickets are begun; the caller is out then.
+/// Begins the next ticket, after the pause, and serves it alone, to its end: it answers the ticket
+/// and its reply, which is its serial one. None comes where all tickets are begun; the caller is out then.
 pub fn serve_next<R: Threads + Wait + Sync, S: Serves + Drop, G: Gate>(
     rt: &R,
     plan: &S,
@@ -35,9 +35,9 @@ pub fn serve_next<R: Threads + Wait + Sync, S: Serves + Drop, G: Gate>(
     requires between { IsBetween caller.old.stage }
     requires plan { script_of hall.now ≡ plan.now }
     ensures caller { StaysCaller S.meaning hall.now caller.old caller.new }
-    ensures served { MatchOption result (caller.new.stage ≡ Out) (λ x. HasServedNext
+    ensures served { ServesNext
         (serial_replies (session_of (S.meaning plan.now)) (S.meaning plan.now).requests)
-        caller.new x.0 x.1) }
+        caller.old caller.new result }
 {
     answering();
     pause.wait(hall, plan.requests());
@@ -67,6 +67,7 @@ fn serve_ticket<R: Threads + Wait + Sync, S: Serves + Drop, G: Gate>(
     requires fresh { entries_of caller.old ticket ≡ [] }
     requires entry { foresight_of caller.old ≡ (S.meaning plan.now).entry ticket }
     ensures caller { StaysCaller S.meaning hall.now caller.old caller.new }
+    ensures begun { HasBegunNone caller.old caller.new }
     ensures idle { caller.new.stage ≡ Idle }
     ensures known { (ticket < begun (book_of caller.new).journal)
         × (ended (book_of caller.new).journal ticket ≡ Some result) }

@@ -3,6 +3,7 @@
 ghost use Rattle.std.specs.Prelude.{◌≡◌, ◌≤◌, IfOk, length, vec_len};
 ghost use Rattle.session_values.specs.Limits.{max_callers, max_shards, max_tables};
 ghost use Rattle.session_hall.specs.Closings.{IsDone};
+ghost use Rattle.session_hall.specs.Reopenings.{OpensOver};
 
 use crate::job::Job;
 use crate::jobs::{begin_jobs, end_jobs, serve_all};
@@ -74,6 +75,37 @@ pub fn open_session<S: Script + Drop>(
     let mut scratches = make_scratches(alloc, callers)?;
     let mut jobs = Vec::with_capacity(alloc, callers as usize)?;
     let (hall, list) = Hall::open(alloc, script, shape, shards, callers)?;
+    let mut left = list.into_vec();
+    begin_jobs(&mut left, &mut scratches, &mut jobs);
+    Ok(OpenSession { hall, jobs, left })
+}
+
+/// Opens the hall of tickets over the shards that a closed hall left, with so many callers, and takes
+/// all memory that the session needs. `later` has the most keys that may still be added to each
+/// table, by these and later tickets.
+pub fn reopen_session<S: Tickets + Drop>(
+    alloc: Global,
+    tickets: S,
+    shape: &[TableKind],
+    closed: Closed,
+    later: &[u32],
+    callers: u32,
+) -> Result<OpenSession<S>, NoMemory>
+    requires opens { OpensOver (S.meaning tickets) closed }
+    requires shape { shape.now ≡ (S.meaning tickets).shape }
+    requires tables { length shape.now ≤ max_tables }
+    requires shards { closed.shards ≤ max_shards }
+    requires later { length later.now ≡ length shape.now }
+    requires callers { (1 ≤ callers) × (callers ≤ max_callers) }
+    ensures script { IfOk result (λ s. s.script ≡ tickets) }
+    ensures callers { IfOk result (λ s. s.callers ≡ callers) }
+    ensures shards { IfOk result (λ s. s.shards ≡ closed.shards) }
+{
+    let mut scratches = make_scratches(alloc, callers)?;
+    let mut jobs = Vec::with_capacity(alloc, callers as usize)?;
+    let Ok((hall, list)) = Hall::reopen(alloc, tickets, shape, closed, later, callers) else {
+        return Err(NoMemory);
+    };
     let mut left = list.into_vec();
     begin_jobs(&mut left, &mut scratches, &mut jobs);
     Ok(OpenSession { hall, jobs, left })

@@ -6,3 +6,4 @@ mod Advancing
 mod Replaced
 mod Planning
 mod Endings
+pub mod Crossing

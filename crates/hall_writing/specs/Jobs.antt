@@ -1,5 +1,6 @@
 -- What contracts say of the jobs of a session whose replies are written while it is served.
-use Rattle.std.specs.Prelude.{◌≡◌, List, map}
+use Rattle.std.specs.Prelude.{◌≡◌, ℕ, List, [], ◌∷◌, ◌++◌, Bool, map}
+use Rattle.std.specs.List.{AllByRecursion}
 use Rattle.session_values.specs.declared.reply.Reply.{Reply}
 use Rattle.session_values.specs.Serial.{serial_replies}
 use Rattle.session_journal.specs.Script.{Meaning, session_of}
@@ -10,7 +11,12 @@ use Rattle.session_hall.specs.Callers.{IsCallerOf}
 use Rattle.session_hall.specs.Stages.{IsBetween}
 use Rattle.reply_lane.specs.declared.lane.Lane.{Lane}
 use Rattle.reply_lane.specs.declared.lane.End.{End}
+use Rattle.reply_lane.specs.declared.rule.EndState.{EndState}
 use Rattle.reply_lane.specs.Ends.{IsEndOf}
+use Rattle.reply_lane.specs.Lanes.{Offered}
+use Rattle.sheet_writing.specs.Pending.{PendingView}
+use Rattle.session_hall.specs.Begun.{begun_by}
+use Rattle.sheet_writing.specs.Sheets.{IsKept}
 use Rattle.hall_writing.specs.declared.job.Job.{Job}
 
 abbrev pub JobOf : Type 0 → Type 0
@@ -41,3 +47,23 @@ pub record HasServed {S : Type 0} (meaning : S → Meaning) (h : Hall S) (p q : 
   pub caller : IsCallerOf meaning h q.caller
   pub number_still : q.caller.number ≡ p.caller.number
   pub out : q.caller.stage ≡ Out
+
+-- The replies of these tickets were offered to the lane, one after another, by the end that knew
+-- this: each was put in, or the lane was full. Nothing else was put in, and nothing was taken out.
+abbrev pub Offers : List ℕ → EndState → EndState → Type 0
+Offers [] v w = w ≡ v
+Offers (t ∷ ts) v w = (u : EndState) × (r : Reply) × (room : Bool)
+    × Offered v (record { ticket = t; reply = r }) u room × Offers ts u w
+
+-- the tickets that the caller has begun since are these, and each one's reply was offered
+pub record HasOffered {S : Type 0} (p q : Caller S) (v w : EndState) : Type 0 where
+  pub served : List ℕ
+  pub begun_more : begun_by q ≡ begun_by p ++ served
+  pub offers : Offers served v w
+
+-- the tickets that the caller has begun since are these, and each one's line is written or waits
+-- for an earlier one
+pub record HasKept {S : Type 0} (p q : Caller S) (sheet : PendingView) : Type 0 where
+  pub served : List ℕ
+  pub begun_more : begun_by q ≡ begun_by p ++ served
+  pub kept : AllByRecursion (IsKept sheet) served

@@ -1,10 +1,11 @@
 // The first caller's job, which writes.
 
-ghost use Rattle.std.specs.Prelude.{◌≡◌, ◌≤◌, length};
+ghost use Rattle.std.specs.Prelude.{◌≡◌, ◌≤◌, [], false, length, true};
 ghost use Rattle.session_values.specs.Limits.{max_requests};
 ghost use Rattle.session_hall.specs.Names.{script_of};
 ghost use Rattle.sheet_writing.specs.Printable.{ArePrintableReplies};
-ghost use Rattle.hall_writing.specs.Jobs.{HasServed, IsJobOf, replies_of};
+ghost use Rattle.sheet_writing.specs.Ready.{ready};
+ghost use Rattle.hall_writing.specs.Jobs.{HasKept, HasServed, IsJobOf, replies_of};
 ghost use Rattle.sheet_writing.specs.Sheets.{GoesOn, Keeps, progress};
 
 use crate::job::Job;
@@ -38,6 +39,10 @@ pub(crate) fn serve_and_write_on<R: Threads + Wait + Sync, S: Serves + Drop, G: 
     requires few { length (replies_of (S.meaning plan.now)) ≤ max_requests }
     requires printable { ArePrintableReplies names.now (replies_of (S.meaning plan.now)) }
     ensures served { HasServed S.meaning hall.now job.old job.new }
+    ensures kept { HasKept job.old.caller job.new.caller sheet.new.pending }
+    ensures stops { (sheet.old.failed ≡ false → ready sheet.old.pending ≡ [])
+        → sheet.new.failed ≡ false → ready sheet.new.pending ≡ [] }
+    ensures quiet { sheet.old.failed ≡ true → out.new ≡ out.old }
     ensures on { GoesOn (replies_of (S.meaning plan.now)) names.now
         (progress (O.held out.old) (O.faults out.old) sheet.old)
         (progress (O.held out.new) (O.faults out.new) sheet.new) }

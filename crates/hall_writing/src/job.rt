@@ -2,7 +2,8 @@
 
 ghost use Rattle.std.specs.Prelude.{◌≡◌};
 ghost use Rattle.session_hall.specs.Names.{script_of};
-ghost use Rattle.hall_writing.specs.Jobs.{HasServed, IsJobOf, replies_of};
+ghost use Rattle.reply_lane.specs.Ends.{state_of};
+ghost use Rattle.hall_writing.specs.Jobs.{HasOffered, HasServed, IsJobOf, replies_of};
 
 use hall_serving::{Pause, serve_next};
 use reply_lane::{End, Lane, Spoken};
@@ -32,7 +33,9 @@ pub(crate) fn serve_and_offer<R: Threads + Wait + Sync, S: Serves + Drop, G: Gat
 )
     requires job { IsJobOf S.meaning hall.now lane.now (replies_of (S.meaning plan.now)) job.old }
     requires plan { script_of hall.now ≡ plan.now }
-    ensures { HasServed S.meaning hall.now job.old job.new }
+    ensures served { HasServed S.meaning hall.now job.old job.new }
+    ensures offered { HasOffered job.old.caller job.new.caller (state_of job.old.end)
+        (state_of job.new.end) }
 {
     let mut pause = Pause::none();
     for _ in rt.forever() {

@@ -1,13 +1,25 @@
 -- What is answered to the line of a refusal, beside the file that was refused.
-use Rattle.std.specs.Prelude.{if◌then◌else◌, Option, Some, None}
+use Rattle.std.specs.Prelude.{Bool, true, false, if◌then◌else◌, Option, Some, None}
 use Rattle.std.specs.Str.{is_utf8}
 use Rattle.text_lines.specs.Text.{Text}
+use Rattle.refusal_places.specs.declared.refusal.Place.{Place}
+use Rattle.refusal_places.specs.declared.refusal.Place.TheVariants.{Nowhere}
 use Rattle.refusal_places.specs.PlaceText.{place_text}
 use Rattle.refusal_places.specs.Refusals.{Said, refusal_of}
 
 -- the refusal that an input is, if it is one: a line of UTF-8 with its words
 abbrev pub said_of : Text → Option Said
 said_of input = if is_utf8 input then refusal_of input else None
+
+-- it is a byte or a line
+abbrev pub is_somewhere : Place → Bool
+is_somewhere Nowhere = false
+is_somewhere _ = true
+
+-- a refusal that names a place
+abbrev pub names_place : Option Said → Bool
+names_place None = false
+names_place (Some r) = is_somewhere r.place
 
 -- the text of a refusal, if there is one
 abbrev pub answer_by : Text → Text → Option Said → Option Text

@@ -14,8 +14,9 @@ use std::alloc::Global;
 /// Whether the answer depends on what the file holds: the refusal names a place.
 pub fn names_place(input: &[u8]) -> bool
     requires { length input.now < 4294967295 }
+    ensures names { result ≡ spec.names_place (spec.said_of input.now) }
     // If it doesn't, any file will do.
-    ensures { result ≡ false → (name file other : List ℕ)
+    ensures any { result ≡ false → (name file other : List ℕ)
         → spec.answer name file input.now ≡ spec.answer name other input.now }
 {
     match refusal_in(input) {

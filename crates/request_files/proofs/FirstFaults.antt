@@ -87,7 +87,7 @@ module _ (names : List Text) (f : File) where
       go None e k = (e, k)
       go (Some x) e k = absurd (cc)
 
-  within : (t : Tally) (rs : List Row) → first_fault names f t rs ≡ None → t.requests ≤ 20000 → t.calls ≤ 200000 → ((behind t rs).requests ≤ 20000) × ((behind t rs).calls ≤ 200000)
+  pub within : (t : Tally) (rs : List Row) → first_fault names f t rs ≡ None → t.requests ≤ 20000 → t.calls ≤ 200000 → ((behind t rs).requests ≤ 20000) × ((behind t rs).calls ≤ 200000)
   within t [] h few calls = (few, calls)
   within t (r ∷ rs) h few calls =
       let p : (fault_of names f t r ≡ None) × (first_fault names f (after t r) rs ≡ None) = front_fine t r rs h in

@@ -64,7 +64,7 @@ handler_some names f name place o e is =
 
 -- ---- the same handler among more names
 
-place_new : (t : Text) (names more : List Text) → known t names ≡ false → length names ≤ place_of (names ++ more) t
+pub place_new : (t : Text) (names more : List Text) → known t names ≡ false → length names ≤ place_of (names ++ more) t
 place_new t [] more h = omega arith
 place_new t (x ∷ xs) more h = go (bytes_eq t x) refl (place_new t xs more) where
   go : (b : Bool) → bytes_eq t x ≡ b → (known t xs ≡ false → length xs ≤ place_of (xs ++ more) t) → suc (length xs) ≤ place_of (x ∷ xs ++ more) t

@@ -8,6 +8,7 @@ pub mod HandlerLemmas
 pub mod LightRows
 pub mod PickedLemmas
 pub mod PrintableLemmas
+pub mod RowFaults
 pub mod RowLemmas
 pub mod TraceParts
 pub mod TraceSizes

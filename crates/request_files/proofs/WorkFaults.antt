@@ -19,7 +19,7 @@ module _ (names : List Text) (f : File) where
   abbrev work_of : Row → ℕ
   work_of r = work_bound (code_at f (handler_of names f r.name))
 
-  behind_work : (t : Tally) (rs : List Row) → (behind names f t rs).work ≡ t.work + work_named names f rs
+  pub behind_work : (t : Tally) (rs : List Row) → (behind names f t rs).work ≡ t.work + work_named names f rs
   behind_work t [] = omega arith
   behind_work t (r ∷ rs) =
       let sum : work_named names f (r ∷ rs) ≡ work_of r + work_named names f rs = sum_by-cons work_of r rs in
@@ -44,7 +44,7 @@ module _ (names : List Text) (f : File) where
   none_told r false false true true false true h = absurd (cc)
   none_told r false false true true false false h = refl
 
-  within : (t : Tally) (rs : List Row) → first_fault names f t rs ≡ None → t.work ≤ 10000000 → (behind names f t rs).work ≤ 10000000
+  pub within : (t : Tally) (rs : List Row) → first_fault names f t rs ≡ None → t.work ≤ 10000000 → (behind names f t rs).work ≤ 10000000
   within t [] h work = work
   within t (r ∷ rs) h work =
       let p : (fault_of names f t r ≡ None) × (first_fault names f (after names f t r) rs ≡ None) = front_fine names f t r rs h in

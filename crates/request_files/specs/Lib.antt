@@ -5,6 +5,7 @@ pub mod Laws
 pub mod Marks
 pub mod Picked
 pub mod Requests
+pub mod RowLaws
 pub mod Servable
 pub mod Session
 pub mod TracePart

@@ -37,7 +37,7 @@ use Rattle.session_hall.specs.Stages.{SeatOf, Stands}
 use Rattle.session_hall.proofs.OneShard.{shards_are}
 use Rattle.session_hall.proofs.Giving.{is_told}
 use Rattle.turn_board.proofs.Rows.{get-within, map-get, map-read}
-use Rattle.session_hall.proofs.Moving.{first_of}
+use Rattle.turn_board.proofs.Moving.{first_of}
 
 -- ---- the callers' seats
 pub same_seats : {S : Type 0} (xs ys : List (Caller S)) → xs ≡ ys → map (λ (c : Caller S). c.seat) xs ≡ map (λ (c : Caller S). c.seat) ys

@@ -13,15 +13,16 @@ pub mod OneShard
 pub mod Doing
 pub mod Taken
 pub mod Trying
-pub mod Moving
 pub mod Filled
 pub mod Opened
 pub mod Reopened
 pub mod Left
 pub mod Listed
+pub mod Begun
 pub mod Tried
 pub mod Waited
 pub use Rattle.turn_board.proofs.Rows
+pub use Rattle.turn_board.proofs.Moving
 pub use Rattle.hall_rule.proofs.Shares
 pub use Rattle.session_journal.proofs.Serial
 pub use Rattle.shard_tables.proofs.PartSteps

@@ -15,7 +15,7 @@ use Rattle.admission_book.specs.Methods.{BookView}
 use Rattle.admission_book.specs.Lawful.{Lawful}
 use Rattle.admission_book.proofs.Foreknown.{opened_lawful}
 use Rattle.turn_board.specs.Boards.{Begins, caller, turn_count}
-use Rattle.turn_board.specs.Hands.{Once}
+use Rattle.turn_board.specs.Hands.{HandsView, Once}
 use Rattle.turn_board.proofs.Rows.{get-snoc, map-read}
 use Rattle.hall_rule.specs.declared.held.Held.{Held}
 use Rattle.hall_rule.specs.declared.held.Held.TheVariants as value
@@ -32,10 +32,10 @@ use Rattle.session_hall.specs.declared.stage.Stage.{Stage}
 use Rattle.session_hall.specs.Callers.{book_in, book_of, foresight_of}
 use Rattle.session_hall.specs.Closings.{Opens}
 use Rattle.session_hall.specs.Names.{script_of}
-use Rattle.session_hall.specs.Openings.{AllNew, FirstValues, IsNew, IsNewPart, NewParts}
+use Rattle.session_hall.specs.Openings.{AllNew, AreEmpty, FirstValues, IsNew, IsNewPart, NewParts}
 use Rattle.session_hall.specs.Stages.{SeatOf, Stands}
 use Rattle.session_hall.proofs.Giving.{is_told}
-use Rattle.session_hall.proofs.Moving.{first_at, shifted}
+use Rattle.turn_board.proofs.Moving.{first_at, shifted}
 
 -- ---- shards
 pub shards_are : (tables n : ℕ) → 0 < tables → shards_of (suc (tables * n)) tables ≡ n
@@ -135,6 +135,35 @@ new_more {S} seats n callers later c s k at new is = record {
     | inr h ↦ (let P : Caller S → Type 0 = λ x. (z : SeatOf S) × (slice_get seats i ≡ Some z) × IsNew z i x in let Q : ℕ → Type 0 = λ j. (z : SeatOf S) × (slice_get seats j ≡ Some z) × IsNew z j c in subst P h.1 (subst Q (sym (h.0 ∙ k.long)) (s, at, new)))
   ];
 }
+
+pub none_new : {S : Type 0} (seats : List (SeatOf S)) (callers : List (Caller S)) → callers ≡ [] → AllNew seats 0 callers
+none_new {S} seats callers e = record { long = ap length e; each = λ i c at. absurd (none-some c (ap (λ (l : List (Caller S)). slice_get l i) (sym e) ∙ at)) }
+
+-- ---- empty hands
+pub no_hands : (S : Type 0) (hands : List (HandsView (Held S))) → hands ≡ [] → AreEmpty 0 hands
+no_hands S hands e = record { long = ap length e; each = λ i h at. absurd (none-some h (ap (λ (l : List (HandsView (Held S))). slice_get l i) (sym e) ∙ at)) }
+
+pub hands_more : {S : Type 0} (n : ℕ) (hands later : List (HandsView (Held S))) (h : HandsView (Held S)) → AreEmpty n hands → (h.pairs ≡ []) × (h.room ≡ 8) → later ≡ hands ++ h ∷ [] → AreEmpty (n + 1) later
+hands_more {S} n hands later h k new is = record {
+  long = ap length is ∙ length-append hands (h ∷ []) ∙ (let l : length hands ≡ n = k.long in omega (arith, l));
+  each = λ i d e. elim (get-snoc hands h d i (ap (λ (l : List (HandsView (Held S))). slice_get l i) (sym is) ∙ e)) [
+    | inl x ↦ k.each i d x
+    | inr x ↦ (let P : HandsView (Held S) → Type 0 = λ y. (y.pairs ≡ []) × (y.room ≡ 8) in subst P x.1 new)
+  ];
+}
+
+pub first_hands : {S : Type 0} (n : ℕ) (hands : List (HandsView (Held S))) (h : HandsView (Held S)) → AreEmpty n hands → 0 < length hands → h ≡ get_or hands 0 h → (h.pairs ≡ []) × (h.room ≡ 8)
+first_hands {S} n hands h k some e = k.each 0 h (first_at hands h some e)
+
+pub rest_hands : {S : Type 0} (n left : ℕ) (hands rest : List (HandsView (Held S))) → AreEmpty n hands → rest ≡ drop 1 hands → left + 1 ≡ n → AreEmpty left rest
+rest_hands {S} n left hands rest k is l = record {
+  long = ap length is ∙ one_less hands left (k.long ∙ sym l);
+  each = λ i h e. k.each (suc i) h (shifted hands i h (ap (λ (l : List (HandsView (Held S))). slice_get l i) (sym is) ∙ e));
+}
+  where
+    one_less : {A : Type 0} (xs : List A) (a : ℕ) → length xs ≡ a + 1 → length (drop 1 xs) ≡ a
+    one_less [] a e = absurd (omega (arith, e))
+    one_less (x ∷ xs) a e = omega (arith, e)
 
 none_at : (n i : ℕ) → get_or (replicate n (let o : Option Serving = None in o)) i None ≡ None
 none_at zero i = refl

@@ -1,6 +1,6 @@
 -- A caller that tries again after a turn was found taken.
 use Rattle.std.proofs.Common.{◌≡◌, ℕ, suc, ◌+◌, List, [], append-nil, refl, sym, ◌∙◌, ap, subst, arith}
-use Rattle.turn_board.specs.Boards.{lost, givings, turn_count}
+use Rattle.turn_board.specs.Boards.{caller, lost, givings, turn_count}
 use Rattle.symbolic_ops.specs.declared.symbol.Symbol.{Symbol}
 use Rattle.session_journal.specs.Journal.{entries}
 use Rattle.session_journal.specs.Script.{Meaning}
@@ -10,7 +10,8 @@ use Rattle.session_hall.specs.declared.caller.Caller.{Caller}
 use Rattle.session_hall.specs.declared.hall.Hall.{Hall}
 use Rattle.session_hall.specs.declared.stage.Stage.{Stage}
 use Rattle.session_hall.specs.declared.stage.Stage.TheVariants.{Idle, Serving as Serves, InFlight, Applied, Out}
-use Rattle.session_hall.specs.Callers.{IsCallerOf, book_in, book_of, foresight_of}
+use Rattle.session_hall.specs.Callers.{IsCallerOf, StaysCaller, book_in, book_of, foresight_of}
+use Rattle.session_hall.specs.Begun.{tickets_by}
 use Rattle.session_hall.specs.Calls.{IsBusy, IsBusyAt}
 use Rattle.session_hall.specs.Names.{script_of}
 use Rattle.session_hall.specs.Stages.{HoldsNone, IsInFlight, OnFlight, OnServing, Stands}
@@ -25,12 +26,20 @@ each_serving (InFlight t op) P Q f x = x
 each_serving (Applied t op v) P Q f x = x
 
 module _ {S : Type 0} where
-  none_lost : (p : Caller S) → OnlyLost p p 0
-  none_lost p = record { number_still = refl; stage_still = refl; foresight_still = refl; note_still = refl; given_still = refl; change_still = refl; held_still = λ u. refl; hands_still = refl; lost_grows = λ u. omega arith; asked = omega arith }
+  -- two callers with one number, whose seats are one caller's
+  abbrev pub IsSame : Caller S → Caller S → Type 0
+  IsSame p q = (q.number ≡ p.number) × (caller q.seat ≡ caller p.seat)
 
-  lost_more : (m : Meaning) (p via q : Caller S) (u after tries : ℕ) → OnlyLost p via tries → q.number ≡ via.number → IsBusy m via q u after → OnlyLost p q (suc tries)
+  pub both_same : (meaning : S → Meaning) (h : Hall S) (p q : Caller S) → IsCallerOf meaning h p → StaysCaller meaning h p q → IsSame p q
+  both_same meaning h p q k s = (s.1, s.0.number_is ∙ s.1 ∙ sym k.number_is)
+
+  none_lost : (p : Caller S) → OnlyLost p p 0
+  none_lost p = record { number_still = refl; caller_still = refl; stage_still = refl; foresight_still = refl; note_still = refl; given_still = refl; change_still = refl; held_still = λ u. refl; hands_still = refl; lost_grows = λ u. omega arith; asked = omega arith }
+
+  lost_more : (m : Meaning) (p via q : Caller S) (u after tries : ℕ) → OnlyLost p via tries → IsSame via q → IsBusy m via q u after → OnlyLost p q (suc tries)
   lost_more m p via q u after tries o n b = record {
-    number_still = n ∙ o.number_still;
+    number_still = n.0 ∙ o.number_still;
+    caller_still = n.1 ∙ o.caller_still;
     stage_still = b.stage_still ∙ o.stage_still;
     foresight_still = b.foresight_still ∙ o.foresight_still;
     note_still = b.note_still ∙ o.note_still;
@@ -55,7 +64,7 @@ module _ {S : Type 0} where
   pub none_tried : (p : Caller S) → OnlyBookLost p p
   none_tried p = record { tries = 0; only = none_lost p; found = omega arith; givings_still = refl }
 
-  pub one_tried : (m : Meaning) (p via q : Caller S) (u : ℕ) → OnlyBookLost p via → q.number ≡ via.number → (u ≡ 0) × IsBusy m via q u (givings via.seat) → OnlyBookLost p q
+  pub one_tried : (m : Meaning) (p via q : Caller S) (u : ℕ) → OnlyBookLost p via → IsSame via q → (u ≡ 0) × IsBusy m via q u (givings via.seat) → OnlyBookLost p q
   one_tried m p via q u o n b = record {
     tries = suc o.tries;
     only = lost_more m p via q u (givings via.seat) o.tries o.only n b.1;
@@ -67,7 +76,7 @@ module _ {S : Type 0} where
   pub no_shard_tried : (m : Meaning) (shards : ℕ) (p : Caller S) → OnlyShardLost m shards p p
   no_shard_tried m shards p = record { tries = 0; only = none_lost p; each = refl }
 
-  pub one_shard_tried : (m : Meaning) (shards : ℕ) (p via q : Caller S) (u : ℕ) → OnlyShardLost m shards p via → q.number ≡ via.number → OnFlight via.stage (IsBusyAt m via q shards u) → OnlyShardLost m shards p q
+  pub one_shard_tried : (m : Meaning) (shards : ℕ) (p via q : Caller S) (u : ℕ) → OnlyShardLost m shards p via → IsSame via q → OnFlight via.stage (IsBusyAt m via q shards u) → OnlyShardLost m shards p q
   one_shard_tried m shards p via q u o n b = go via.stage b
     where
       vain : (st : Stage) → OnFlight st (IsBusyAt m via q shards u) → OnFlight st (λ t op. (w : ℕ) × IsBusyAt m via q shards w t op)
@@ -98,6 +107,8 @@ module _ {S : Type 0} where
   pub none_delayed : (p : Caller S) (t : ℕ) → OnlyDelayed p p t
   none_delayed p t = record {
     number_still = refl;
+    caller_still = refl;
+    begun_still = refl;
     stage_still = refl;
     foresight_still = refl;
     journal_grows = record { more = []; is = sym (append-nil (book_of p).journal) };
@@ -117,14 +128,16 @@ module _ {S : Type 0} where
   pub nothing_delayed : (p : Caller S) (P : ℕ → Type 0) → OnServing p.stage P → OnServing p.stage (OnlyDelayed p p)
   nothing_delayed p P s = each_serving p.stage P (OnlyDelayed p p) (λ t x. none_delayed p t) s
 
-  pub one_lost : (m : Meaning) (p via q : Caller S) (u : ℕ) → OnServing p.stage (OnlyDelayed p via) → q.number ≡ via.number → (u ≡ 0) × IsBusy m via q u (givings via.seat) → OnServing p.stage (OnlyDelayed p q)
+  pub one_lost : (m : Meaning) (p via q : Caller S) (u : ℕ) → OnServing p.stage (OnlyDelayed p via) → IsSame via q → (u ≡ 0) × IsBusy m via q u (givings via.seat) → OnServing p.stage (OnlyDelayed p q)
   one_lost m p via q u s n b = each_serving p.stage (OnlyDelayed p via) (OnlyDelayed p q) (λ t o.
       let same : book_of q ≡ book_of via = ap book_in b.1.note_still in
       let J : Book → Type 0 = λ w. Grows (book_of p).journal w.journal in
       let P : ℕ → Type 0 = λ w. lost q.seat w ≡ lost via.seat w + 1 in
       let rose : lost q.seat 0 ≡ lost via.seat 0 + 1 = subst P b.0 b.1.rose in
       record {
-        number_still = n ∙ o.number_still;
+        number_still = n.0 ∙ o.number_still;
+        caller_still = n.1 ∙ o.caller_still;
+        begun_still = (λ i. tickets_by (n.1 i) (same i).journal) ∙ o.begun_still;
         stage_still = b.1.stage_still ∙ o.stage_still;
         foresight_still = b.1.foresight_still ∙ o.foresight_still;
         journal_grows = subst J (sym same) o.journal_grows;

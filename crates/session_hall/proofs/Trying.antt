@@ -10,13 +10,17 @@ use Rattle.session_journal.specs.Script.{Meaning}
 use Rattle.admission_book.specs.Book.{Book, after_delay, with_event}
 use Rattle.session_journal.specs.EventsInTurn.{is_delayed}
 use Rattle.admission_book.specs.Methods.{Grows}
+use Rattle.turn_board.specs.Boards.{caller}
 use Rattle.session_hall.specs.declared.caller.Caller.{Caller}
 use Rattle.session_hall.specs.declared.stage.Stage.{Stage}
 use Rattle.session_hall.specs.declared.stage.Stage.TheVariants.{Idle, Serving as Serves, InFlight, Applied, Out}
 use Rattle.session_hall.specs.Callers.{book_of, foresight_of}
 use Rattle.session_hall.specs.Calls.{ByNote, MayCall, DelayedAt}
 use Rattle.session_hall.specs.Stages.{HoldsNone, OnServing}
+use Rattle.session_hall.specs.Begun.{tickets_by}
 use Rattle.session_hall.specs.Waits.{OnlyDelayed}
+use Rattle.session_hall.proofs.Begun.{begun_since, delay_begun}
+use Rattle.session_hall.proofs.Tried.{IsSame}
 
 delay_grows : (b : Book) (t : ℕ) (op : Op) (older : ℕ) (y : Symbol) → Grows b.journal (after_delay b t op older y).journal
 delay_grows b t op older y = go (is_delayed b.journal t)
@@ -56,12 +60,15 @@ module _ {S : Type 0} where
     delayed_stage (InFlight w o) z = absurd z
     delayed_stage (Applied w o v) z = absurd z
 
-    pub delay_more : q.number ≡ via.number → HoldsNone via.seat via.hands.pairs → HoldsNone q.seat q.hands.pairs → OnServing p.stage (OnlyDelayed p q)
-    delay_more number none still = one_ticket p.stage via.stage (OnlyDelayed p via) (DelayedAt m via q op older y) (OnlyDelayed p q) (stage_of p via p.stage s) s d (λ t a x.
+    pub delay_more : IsSame via q → HoldsNone via.seat via.hands.pairs → HoldsNone q.seat q.hands.pairs → OnServing p.stage (OnlyDelayed p q)
+    delay_more same none still = one_ticket p.stage via.stage (OnlyDelayed p via) (DelayedAt m via q op older y) (OnlyDelayed p q) (stage_of p via p.stage s) s d (λ t a x.
         let since : Grows (book_of via).journal x.found.journal = record { more = x.gave.finds.since.since; is = sym x.gave.finds.since.grows } in
         let P : Book → Type 0 = λ w. Grows (book_of via).journal w.journal in
         record {
-          number_still = number ∙ a.number_still;
+          number_still = same.0 ∙ a.number_still;
+          caller_still = same.1 ∙ a.caller_still;
+          begun_still = (λ i. tickets_by (same.1 i) (x.gave.noted i).journal) ∙ delay_begun (caller via.seat) x.found t op older y
+              ∙ begun_since m (book_of via) x.found (caller via.seat) x.gave.finds.lawful x.gave.finds.since ∙ a.begun_still;
           stage_still = delayed_stage via.stage d ∙ a.stage_still;
           foresight_still = x.foresight_still ∙ a.foresight_still;
           journal_grows = grows_on (book_of p).journal (book_of via).journal (book_of q).journal a.journal_grows

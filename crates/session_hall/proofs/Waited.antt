@@ -10,7 +10,7 @@ use Rattle.session_hall.specs.declared.stage.Stage.TheVariants.{Idle, Serving as
 use Rattle.session_hall.specs.Calls.{DelayedAt, IsBusy}
 use Rattle.session_hall.specs.Stages.{HoldsNone, OnServing}
 use Rattle.session_hall.specs.Waits.{IsFailedAdmit, OnlyDelayed, OnlyWaited}
-use Rattle.session_hall.proofs.Tried.{nothing_delayed, one_lost}
+use Rattle.session_hall.proofs.Tried.{IsSame, nothing_delayed, one_lost}
 use Rattle.session_hall.proofs.Trying.{delay_more}
 
 each_serving : (st : Stage) (P Q : ℕ → Type 0) → ((t : ℕ) → P t → Q t) → OnServing st P → OnServing st Q
@@ -34,13 +34,13 @@ module _ {S : Type 0} (m : Meaning) (op : Op) where
   pub only_delayed : (p q : Caller S) → OnServing p.stage (OnlyWaited m op p q) → OnServing p.stage (OnlyDelayed p q)
   only_delayed p q s = each_serving p.stage (OnlyWaited m op p q) (OnlyDelayed p q) (λ t o. o.only) s
 
-  pub waited_lost : (p via q : Caller S) (u : ℕ) (P : ℕ → Type 0) → OnServing p.stage (OnlyWaited m op p via) → q.number ≡ via.number → (u ≡ 0) × IsBusy m via q u (givings via.seat) → OnServing via.stage P → OnServing p.stage (OnlyWaited m op p q)
+  pub waited_lost : (p via q : Caller S) (u : ℕ) (P : ℕ → Type 0) → OnServing p.stage (OnlyWaited m op p via) → IsSame via q → (u ≡ 0) × IsBusy m via q u (givings via.seat) → OnServing via.stage P → OnServing p.stage (OnlyWaited m op p q)
   waited_lost p via q u P s n b may =
       let B : ℕ → Type 0 = λ v. IsBusy m via q v (givings via.seat) in
       let w : IsFailedAdmit m op via q = each_serving via.stage P (λ t. IsBusy m via q 0 (givings via.seat) ⊎ ((older : ℕ) × (y : Symbol) × DelayedAt m via q op older y t)) (λ t x. inl (subst B b.0 b.1)) may in
       both_serving p.stage (OnlyWaited m op p via) (OnlyDelayed p q) (OnlyWaited m op p q) (λ t o d. record { tries = suc o.tries; only = d; each = (via, o.each, w) }) s (one_lost m p via q u (only_delayed p via s) n b)
 
-  pub waited_delay : (p via q : Caller S) (s : OnServing p.stage (OnlyWaited m op p via)) (older : ℕ) (y : Symbol) (d : OnServing via.stage (DelayedAt m via q op older y)) → q.number ≡ via.number → HoldsNone via.seat via.hands.pairs → HoldsNone q.seat q.hands.pairs → OnServing p.stage (OnlyWaited m op p q)
+  pub waited_delay : (p via q : Caller S) (s : OnServing p.stage (OnlyWaited m op p via)) (older : ℕ) (y : Symbol) (d : OnServing via.stage (DelayedAt m via q op older y)) → IsSame via q → HoldsNone via.seat via.hands.pairs → HoldsNone q.seat q.hands.pairs → OnServing p.stage (OnlyWaited m op p q)
   waited_delay p via q s older y d number none still =
       let w : IsFailedAdmit m op via q = each_serving via.stage (DelayedAt m via q op older y) (λ t. IsBusy m via q 0 (givings via.seat) ⊎ ((o : ℕ) × (z : Symbol) × DelayedAt m via q op o z t)) (λ t x. inr (older, y, x)) d in
       both_serving p.stage (OnlyWaited m op p via) (OnlyDelayed p q) (OnlyWaited m op p q) (λ t o e. record { tries = suc o.tries; only = e; each = (via, o.each, w) }) s (delay_more m p via q op (only_delayed p via s) older y d number none still)

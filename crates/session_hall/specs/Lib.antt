@@ -3,6 +3,7 @@ pub mod Stages
 pub mod Callers
 pub mod Findings
 pub mod Calls
+pub mod Begun
 pub mod Waits
 pub mod Working
 pub mod Openings

@@ -5,6 +5,7 @@ use Rattle.session_values.specs.declared.kind.TableKind.{TableKind}
 use Rattle.session_journal.specs.Opening.{container_of, entries_of}
 use Rattle.session_journal.specs.Script.{Meaning, IsScript, room}
 use Rattle.shard_tables.specs.Parts.{part}
+use Rattle.turn_board.specs.Hands.{HandsView}
 use Rattle.hall_rule.specs.declared.held.Held.{Held}
 use Rattle.hall_rule.specs.declared.held.Held.TheVariants.{Table}
 use Rattle.shard_tables.specs.declared.part.Part.{Part}
@@ -60,3 +61,9 @@ pub record AllNew {S : Type 0} (seats : List (SeatOf S)) (n : ℕ)
   pub long : length callers ≡ n
   pub each : (i : ℕ) (c : Caller S) → slice_get callers i ≡ Some c
       → (s : SeatOf S) × (slice_get seats i ≡ Some s) × IsNew s i c
+
+-- empty hands for so many callers
+pub record AreEmpty {S : Type 0} (n : ℕ) (hands : List (HandsView (Held S))) : Type 0 where
+  pub long : length hands ≡ n
+  pub each : (i : ℕ) (h : HandsView (Held S)) → slice_get hands i ≡ Some h
+      → (h.pairs ≡ []) × (h.room ≡ max_shards)

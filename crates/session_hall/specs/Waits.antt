@@ -7,10 +7,11 @@ use Rattle.session_values.specs.declared.value.Value.{Value}
 use Rattle.symbolic_ops.specs.declared.symbol.Symbol.{Symbol}
 use Rattle.session_journal.specs.Script.{Meaning}
 use Rattle.admission_book.specs.Methods.{Grows}
-use Rattle.turn_board.specs.Boards.{held, note, given, lost, asks, givings, last_change}
+use Rattle.turn_board.specs.Boards.{held, note, caller, given, lost, asks, givings, last_change}
 use Rattle.session_hall.specs.declared.caller.Caller.{Caller}
 use Rattle.session_hall.specs.declared.stage.Stage.{Stage}
 use Rattle.session_hall.specs.declared.stage.Stage.TheVariants.{Applied}
+use Rattle.session_hall.specs.Begun.{begun_by}
 use Rattle.session_hall.specs.Callers.{book_of, entries_of, foresight_of}
 use Rattle.session_hall.specs.Calls.{BeganTicket, FoundAllBegun, DeclaredAt, AdmittedAt, DelayedAt, AppliedAt, FinishedAt, EndedAt, IsBusy, IsBusyAt}
 use Rattle.session_hall.specs.Stages.{OnServing, OnFlight}
@@ -20,6 +21,7 @@ module _ {S : Type 0} (p q : Caller S) where
   -- step of theirs changed a counted content.
   pub record OnlyLost (tries : ℕ) : Type 0 where
     pub number_still : q.number ≡ p.number
+    pub caller_still : caller q.seat ≡ caller p.seat
     pub stage_still : q.stage ≡ p.stage
     pub foresight_still : foresight_of q ≡ foresight_of p
     pub note_still : note q.seat ≡ note p.seat
@@ -41,6 +43,8 @@ module _ {S : Type 0} (p q : Caller S) where
   -- lost it or gave it back once. The caller holds what it held.
   pub record OnlyDelayed (t : ℕ) : Type 0 where
     pub number_still : q.number ≡ p.number
+    pub caller_still : caller q.seat ≡ caller p.seat
+    pub begun_still : begun_by q ≡ begun_by p
     pub stage_still : q.stage ≡ p.stage
     pub foresight_still : foresight_of q ≡ foresight_of p
     pub journal_grows : Grows (book_of p).journal (book_of q).journal

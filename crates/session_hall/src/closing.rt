@@ -38,8 +38,8 @@ fn seats_of<S: Tickets + Drop>(
     seats
 }
 
-// The shards behind the book.
-fn parts_of<S: Tickets + Drop>(values: Vec<Held<S>>, list: Vec<Part>) -> Vec<Part>
+/// The shards behind the book.
+pub(crate) fn parts_of<S: Tickets + Drop>(values: Vec<Held<S>>, list: Vec<Part>) -> Vec<Part>
     requires tables { AllByRecursion IsTable values.items }
     requires room { (list.items ≡ []) × (vec_len values ≤ vec_capacity list) }
     ensures { map Table result.items ≡ values.items }

@@ -1,11 +1,11 @@
 // Opening a hall.
 
-ghost use Rattle.std.specs.Prelude.{◌≡◌, ℕ, ◌<◌, ◌≤◌, Some, IfOk, length, slice_get, vec_len};
+ghost use Rattle.std.specs.Prelude.{◌≡◌, ℕ, ◌<◌, ◌≤◌, [], Some, IfOk, length, slice_get, vec_len, vec_capacity};
 ghost use Rattle.session_values.specs.Limits.{max_callers, max_shards, max_tables};
 ghost use Rattle.session_hall.specs.declared.caller.Caller.{Caller as CallerOf};
 ghost use Rattle.session_hall.specs.Closings.{Opens};
 ghost use Rattle.session_hall.specs.Names.{script_of};
-ghost use Rattle.session_hall.specs.Openings.{AllNew, FirstValues, IsNew};
+ghost use Rattle.session_hall.specs.Openings.{AllNew, AreEmpty, FirstValues};
 
 use crate::caller::{Caller, Callers};
 use crate::filling::new_parts;
@@ -50,40 +50,46 @@ pub(crate) fn spare_lists<S: Tickets + Drop>(
     Ok(Spare { seats, parts })
 }
 
-// A caller with this seat, which serves no ticket yet.
-fn new_caller<S: Tickets + Drop>(
+/// Empty hands for so many callers.
+pub(crate) fn empty_hands<S: Tickets + Drop>(
     alloc: Global,
-    seat: Seat<Held<S>, HallRule<S>>,
-    number: u32,
-) -> Result<Caller<S>, NoMemory>
-    ensures { IfOk result (λ c. IsNew seat number c) }
+    callers: u32,
+) -> Result<Vec<Hands<Held<S>>>, NoMemory>
+    ensures { IfOk result (λ hands. AreEmpty callers hands.items) }
 {
-    let hands = match Hands::with_room(alloc, MAX_SHARDS) {
-        Ok(hands) => hands,
-        Err(_) => return Err(NoMemory),
-    };
-    Ok(Caller {
-        seat,
-        number,
-        stage: Stage::Idle,
-        hands,
-    })
+    let mut list = Vec::with_capacity(alloc, callers as usize)?;
+    for made in 0..callers {
+        match Hands::with_room(alloc, MAX_SHARDS) {
+            Ok(hands) => list.push_reserved(hands),
+            Err(_) => return Err(NoMemory),
+        }
+    }
+    Ok(list)
 }
 
-/// A caller for each seat.
+/// A caller for each seat, which serves no ticket yet, in the list that is given.
 pub(crate) fn new_callers<S: Tickets + Drop>(
-    alloc: Global,
     seats: Vec<Seat<Held<S>, HallRule<S>>>,
-) -> Result<Vec<Caller<S>>, NoMemory>
-    requires { vec_len seats ≤ max_callers }
-    ensures { IfOk result (λ cs. AllNew seats.items (vec_len seats) cs.items) }
+    hands: Vec<Hands<Held<S>>>,
+    list: Vec<Caller<S>>,
+) -> Vec<Caller<S>>
+    requires few { vec_len seats ≤ max_callers }
+    requires hands { AreEmpty (vec_len seats) hands.items }
+    requires room { (list.items ≡ []) × (vec_len seats ≤ vec_capacity list) }
+    ensures { AllNew seats.items (vec_len seats) result.items }
 {
     let mut left = seats;
-    let mut callers = Vec::with_capacity(alloc, MAX_CALLERS as usize)?;
+    let mut free = hands;
+    let mut callers = list;
     for number in 0..left.len() as u32 {
-        callers.push_reserved(new_caller(alloc, left.remove(0), number)?);
+        callers.push_reserved(Caller {
+            seat: left.remove(0),
+            number,
+            stage: Stage::Idle,
+            hands: free.remove(0),
+        });
     }
-    Ok(callers)
+    callers
 }
 
 impl<S: Script + Drop> Hall<S> {
@@ -113,13 +119,15 @@ impl<S: Script + Drop> Hall<S> {
             callers,
         };
         let kept = spare_lists(alloc)?;
+        let hands = empty_hands(alloc, callers)?;
+        let list = Vec::with_capacity(alloc, callers as usize)?;
         let copy = Snapshot::of(&script);
         let values = first_values(alloc, script, shape, shards, callers)?;
         let (board, seats) = match Board::open(alloc, values, callers) {
             Ok(opened) => opened,
             Err(_) => return Err(NoMemory),
         };
-        let list = new_callers(alloc, seats.into_vec())?;
+        let callers = new_callers(seats.into_vec(), hands, list);
         let hall = Hall {
             ends: AtomicU32::new(0),
             board,
@@ -127,6 +135,6 @@ impl<S: Script + Drop> Hall<S> {
             sizes,
             kept: Mutex::new(kept),
         };
-        Ok((hall, Listed::from_vec(list)))
+        Ok((hall, Listed::from_vec(callers)))
     }
 }

@@ -65,13 +65,13 @@ back names w x st e = go (is_symbol w) (is_nil w) refl refl
     go false true a b = same_said names w x NilWord e (says_by w false true a b) refl
     go false false a b = back_number names w x (number w) e (says_by w false false a b)
 
-decides_written : (x y : Written) → Decides (is_eq (written_cmp x y)) (x ≡ y)
+pub decides_written : (x y : Written) → Decides (is_eq (written_cmp x y)) (x ≡ y)
 decides_written x y = (λ e. written_cmp_exact x y ((Equal-is (written_cmp x y)).0 e), λ e. subst (λ z. is_eq (written_cmp x z) ≡ true) e (ap is_eq (tied_itself written_cmp_total x)))
 
 decides_value : (names : List Text) (x y : Written) → written names (value_in names x) ≡ x → written names (value_in names y) ≡ y → Decides (value_eq (value_in names x) (value_in names y)) (x ≡ y)
 decides_value names x y a b = (λ e. sym a ∙ ap (written names) (same_value (value_in names x) (value_in names y) e) ∙ b, λ e. subst (λ z. value_eq (value_in names x) (value_in names z) ≡ true) e (value_eq-self (value_in names x)))
 
-said_by : (w : Text) (o : Option Written) → is_value w ≡ true → word_says w ≡ o → (x : Written) × (word_says w ≡ Some x)
+pub said_by : (w : Text) (o : Option Written) → is_value w ≡ true → word_says w ≡ o → (x : Written) × (word_says w ≡ Some x)
 said_by w None v e = absurd (both_ways (is_value w) (is_value_is [] w ∙ ap is_some (value_says [] w) ∙ ap (λ (o : Option Written). is_some (option_map (value_in []) o)) e) v)
 said_by w (Some x) v e = (x, e)
 

@@ -6,6 +6,7 @@ pub mod KeyLemmas
 pub mod NoFault
 pub mod OpenedLemmas
 pub mod ReadBack
+pub mod RowFaults
 pub mod WordLemmas
 pub use Rattle.table_text.proofs.WrittenOrder
 pub use Rattle.table_text.proofs.WordsBack

@@ -1,4 +1,5 @@
 pub mod Accepting
+pub mod Laws
 pub mod Opened
 pub mod ReadBack
 pub mod TableRows

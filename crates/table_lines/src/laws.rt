@@ -1,10 +1,15 @@
-//! Laws of table lines: the text of tables reads back.
+//! Laws of table lines: the text of tables reads back, and what the first fault of lines is.
 
-ghost use Rattle.std.specs.Prelude.{◌≡◌, ℕ, List, [], None, Some, slice_get};
+ghost use Rattle.std.specs.Prelude.{◌≡◌, ◌↔◌, ℕ, ◌<◌, List, [], ◌∷◌, ◌++◌, length, None, Some, slice_get};
+ghost use Rattle.std.specs.List.{Contains};
+ghost use Rattle.opening_tables.specs.Limits.{max_table_lines};
 ghost use Rattle.opening_tables.specs.Opening.{Pair, container_of, entries_of};
 ghost use Rattle.syntax_trees.specs.declared.file.TableDecl.{TableDecl};
 ghost use Rattle.table_text.specs.TableText.{WrittenTable, written_table};
+ghost use Rattle.text_lines.specs.Rows.{Row};
 ghost use Rattle.text_lines.specs.Text.{Text};
+ghost use Rattle.table_lines.specs.declared.refusal.TableRefusal.TheVariants.{TooManyEntries, Twice};
+ghost use Rattle.table_lines.specs.Laws.{AreWellFormed, GiveOneKey, IsGivenTwice, IsOneTooMany, IsWellFormed};
 ghost use Rattle.table_lines.specs.TableRows.{first_table_fault};
 ghost use Rattle.table_lines.specs.ReadBack.{AreReadBack, AreWritable, written_kind, written_rows};
 
@@ -21,4 +26,36 @@ pub fn written_tables_have_no_fault()
     ensures { (old : List Text) (decls : List TableDecl) (n : ℕ) (tables : List WrittenTable)
         → AreWritable old decls tables
         → first_table_fault old decls [] (written_rows old decls n tables) ≡ None }
+{}
+
+/// Table lines have no fault exactly where each names a table and has values for a key and, of a
+/// map, for what it maps to, no two give one table the same key, and they are few enough.
+pub fn rows_without_fault()
+    ensures { (names : List Text) (tables : List TableDecl) (rs : List Row)
+        → (first_table_fault names tables [] rs ≡ None) ↔ AreWellFormed names tables rs }
+{}
+
+/// The line that is refused for its key is the first that gives a table a key which a line before it
+/// gave the same table.
+pub fn keys_are_given_once()
+    ensures told { (names : List Text) (tables : List TableDecl) (rs : List Row) (line : ℕ)
+        → first_table_fault names tables [] rs ≡ Some (Twice line)
+        → IsGivenTwice names tables rs line }
+    ensures refused { (names : List Text) (tables : List TableDecl) (front : List Row) (row : Row)
+        (back : List Row) (earlier : Row) → first_table_fault names tables [] front ≡ None
+        → length front < max_table_lines → IsWellFormed names tables row
+        → Contains front earlier → GiveOneKey names tables row earlier
+        → first_table_fault names tables [] (front ++ row ∷ back) ≡ Some (Twice row.line) }
+{}
+
+/// The line behind 100,000 entries is refused, whatever it says, and no other for its place.
+pub fn entries_within_limit()
+    ensures told { (names : List Text) (tables : List TableDecl) (rs : List Row) (line : ℕ)
+        → first_table_fault names tables [] rs ≡ Some (TooManyEntries line)
+        → IsOneTooMany names tables rs line }
+    ensures refused { (names : List Text) (tables : List TableDecl) (front : List Row) (row : Row)
+        (back : List Row) → first_table_fault names tables [] front ≡ None
+        → length front ≡ max_table_lines
+        → first_table_fault names tables [] (front ++ row ∷ back)
+        ≡ Some (TooManyEntries row.line) }
 {}

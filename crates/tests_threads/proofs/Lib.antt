@@ -1,3 +1,4 @@
 mod Counting
+mod AtHome
 mod OneCaller
 pub mod OneMap

@@ -1,3 +1,4 @@
+pub mod Again
 pub mod Alike
 pub mod AsRead
 pub mod Joined

@@ -1,7 +1,7 @@
 -- Words that are an event's, and the event that they are.
-use Rattle.std.specs.Prelude.{◌≡◌, ℕ, zero, suc, ◌<◌, ◌^◌, Bool, true, false, not, ◌&&◌, nat_le, nat_lt, if◌then◌else◌, List, [], ◌∷◌, codes, length, map, slice_get, slice_index, ◌==◌, Option, Some, None}
-use Rattle.std.specs.Fmt.{decimal}
-use Rattle.std.specs.List.{AllByRecursion}
+use Rattle.std.specs.Prelude.{◌≡◌, ℕ, ℤ, zero, suc, ◌<◌, ◌^◌, Bool, true, false, not, ◌&&◌, nat_le, nat_lt, if◌then◌else◌, List, [], ◌∷◌, codes, length, map, slice_get, slice_index, ◌==◌, Option, Some, None}
+use Rattle.std.specs.Fmt.{decimal, signed_decimal}
+use Rattle.std.specs.List.{AllByRecursion, Contains}
 use Rattle.std.specs.Option.{option_map, option_and_then}
 use Rattle.std.specs.Str.{bytes_eq}
 use Rattle.session_values.specs.declared.kind.Kind.{Kind}
@@ -23,7 +23,7 @@ use Rattle.symbolic_ops.specs.declared.symbol.Symbol.{Symbol}
 use Rattle.symbolic_ops.specs.Symbol.{IsSymbol}
 use Rattle.session_journal.specs.declared.event.Event.{Event}
 use Rattle.session_journal.specs.declared.event.Event.TheVariants.{Begin, Done, Delay, End}
-use Rattle.text_lines.specs.Values.{is_symbol, number_from}
+use Rattle.text_lines.specs.Values.{is_symbol, number, number_from}
 use Rattle.text_lines.specs.ValueWords.{IsWritable, literal_value}
 use Rattle.text_lines.specs.Words.{IsWord}
 use Rattle.trace_lines.specs.EventText.{text_at}
@@ -233,3 +233,11 @@ IsReadableEvent names tables shape (Done t op v) =
 IsReadableEvent names tables shape (Delay t op older s) = (t < 2 ^ 32) × (older < 2 ^ 32)
     × IsReadableOp names tables shape op × IsReadableSymbol names tables shape s
 IsReadableEvent names tables shape (End t r) = (t < 2 ^ 32) × IsReadableReply names r
+
+-- ---- what is written again
+
+-- where it is a number, it is the decimal text of this, and where it is the literal of a symbol, the
+-- symbol's text is among the names
+pub record IsPlain (names : List (List ℕ)) (w : List ℕ) : Type 0 where
+  pub numeral : (n : ℤ) → number w ≡ Some n → w ≡ signed_decimal n
+  pub symbol : (text : List ℕ) → w ≡ 39 ∷ text → Contains names text

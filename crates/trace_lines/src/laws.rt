@@ -1,4 +1,5 @@
-//! Laws of the lines of traces: what is written of an event reads back.
+//! Laws of the lines of traces: what is written of an event reads back, and what is read is what
+//! is written.
 
 ghost use Rattle.std.specs.Prelude.{◌≡◌, ℕ, ◌≤◌, List, None, Some, length, map};
 ghost use Rattle.std.specs.List.{AllByRecursion};
@@ -12,7 +13,7 @@ ghost use Rattle.trace_rules.specs.Accepted.{Accepted};
 ghost use Rattle.trace_rules.specs.Traces.{TraceView, max_events};
 ghost use Rattle.trace_lines.specs.EventRows.{IsTrace, first_event_fault};
 ghost use Rattle.trace_lines.specs.EventText.{event_words, events_text};
-ghost use Rattle.trace_lines.specs.EventWords.{IsReadableEvent, IsTableName, as_read, event_of, table_names};
+ghost use Rattle.trace_lines.specs.EventWords.{IsPlain, IsReadableEvent, IsTableName, as_read, event_of, table_names};
 
 use session_journal::Event;
 
@@ -23,6 +24,15 @@ pub fn event_reads_back()
         → AreDistinct names → AreDistinct (table_names names tables)
         → IsReadableEvent names tables shape e
         → event_of names tables shape (event_words names tables e) ≡ Some (as_read names e) }
+{}
+
+/// Words that are an event are those that are written of it, where each number among them is written
+/// as its decimal text and each symbol's text is among the names.
+pub fn event_is_written_again()
+    ensures { (names : List (List ℕ)) (tables : List ℕ) (shape : List TableKind)
+        (ws : List (List ℕ)) (e : Event) → length shape ≡ length tables
+        → AllByRecursion (IsPlain names) ws → event_of names tables shape ws ≡ Some e
+        → event_words names tables e ≡ ws }
 {}
 
 /// The lines of some events are these events again, in their order, where the tables' names are

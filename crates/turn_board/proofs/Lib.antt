@@ -7,3 +7,4 @@ pub mod Closes
 pub mod Sets
 pub mod Fills
 pub use Rattle.turn_steps.proofs.Rows
+pub use Rattle.turn_steps.proofs.Moving

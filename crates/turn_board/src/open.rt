@@ -1,5 +1,5 @@
 // Opening a board.
-ghost use Rattle.std.specs.Prelude.{◌≡◌, ◌<◌, ◌≤◌, [], IfOk, map, Some, vec_len, vec_capacity};
+ghost use Rattle.std.specs.Prelude.{◌≡◌, ◌<◌, ◌≤◌, [], IfErr, IfOk, map, Some, vec_len, vec_capacity};
 ghost use Rattle.session_limits.specs.Limits.{max_callers};
 ghost use Rattle.turn_board.specs.Limits.{max_board_turns};
 
@@ -80,8 +80,34 @@ impl<V: Drop, R: TieRule<V>> Board<V, R> {
             → slice_get (map R.content values.items) 0 ≡ Some b → AllBegin r.0 callers b r.1) }
         ensures opened { IfOk result (λ r. AllOpened (map R.content values.items) r.1) }
     {
-        let mut list = Vec::with_capacity(alloc, callers as usize)?;
-        let kept = Vec::with_capacity(alloc, MAX_BOARD_TURNS)?;
+        match Board::open_or_return(alloc, values, callers) {
+            Ok(opened) => Ok(opened),
+            Err(_) => Err(NoMemory),
+        }
+    }
+
+    /// The same, where out of memory the values come back.
+    pub fn open_or_return(
+        alloc: Global,
+        values: Vec<V>,
+        callers: u32,
+    ) -> Result<(Board<V, R>, Seats<V, R>), Vec<V>>
+        requires turns { vec_len values ≤ max_board_turns }
+        requires callers { (0 < callers) × (callers ≤ max_callers) }
+        requires rule { CanOpen R.content R.holds values.items callers }
+        ensures sizes { IfOk result (λ r. (turn_count r.0 ≡ vec_len values)
+            × (length r.1 ≡ callers)) }
+        ensures each { IfOk result (λ r. (b : R.Content)
+            → slice_get (map R.content values.items) 0 ≡ Some b → AllBegin r.0 callers b r.1) }
+        ensures opened { IfOk result (λ r. AllOpened (map R.content values.items) r.1) }
+        ensures back { IfErr result (λ left. left.items ≡ values.items) }
+    {
+        let Ok(mut list) = Vec::with_capacity(alloc, callers as usize) else {
+            return Err(values);
+        };
+        let Ok(kept) = Vec::with_capacity(alloc, MAX_BOARD_TURNS) else {
+            return Err(values);
+        };
         match Words::open(alloc, values, callers) {
             Ok((words, pass)) => {
                 let kept = Mutex::new(Spare { list: kept });
@@ -89,7 +115,7 @@ impl<V: Drop, R: TieRule<V>> Board<V, R> {
                 board.hand_out(Seat { pass }, &mut list, callers);
                 Ok((board, Seats::from_vec(list)))
             }
-            Err(_) => Err(NoMemory),
+            Err(left) => Err(left),
         }
     }
 }

@@ -1,4 +1,5 @@
 pub mod Rows
+pub mod Moving
 pub mod Moved
 pub mod Asks
 pub mod Slots

@@ -1,21 +1,42 @@
 // Opening the words.
-ghost use Rattle.std.specs.Prelude.{◌≡◌, ◌<◌, ◌≤◌, [], IfOk, map, Some, vec_len};
+ghost use Rattle.std.specs.Prelude.{◌≡◌, ◌<◌, ◌≤◌, [], IfErr, IfOk, List, map, Some, vec_len, vec_capacity};
 ghost use Rattle.turn_steps.specs.Limits.{max_board_turns};
 
 use crate::pass::Pass;
 use crate::tie_rule::TieRule;
 use crate::view::Opening;
 use crate::words::{WORDS, Words};
-use atomic_table::Table;
-use owned_lists::NoMemory;
-use std::alloc::{AllocError, Global};
+use atomic_table::{Refused, Table};
+use std::alloc::Global;
 use std::snapshot::Snapshot;
 
-// Each value in a slot of its own.
-fn filled_slots<V: Drop>(alloc: Global, values: Vec<V>) -> Result<Vec<Option<V>>, AllocError>
-    ensures { IfOk result (λ slots. slots.items ≡ map Some values.items) }
+// Moves each value into a slot of its own.
+fn fill_slots<V: Drop>(values: &mut Vec<V>, list: Vec<Option<V>>) -> Vec<Option<V>>
+    requires room { (list.items ≡ []) × (vec_len values.old ≤ vec_capacity list) }
+    ensures slots { result.items ≡ map Some values.old.items }
+    ensures values { values.new.items ≡ [] }
+    ensures room { vec_capacity values.new ≡ vec_capacity values.old }
 {
-    values.into_iter().map(Some).collect(alloc)
+    let mut slots = list;
+    for done in 0..values.len() {
+        slots.push_reserved(Some(values.remove(0)));
+    }
+    slots
+}
+
+// Moves the values out of their slots again.
+fn empty_slots<V: Drop>(slots: Vec<Option<V>>, values: &mut Vec<V>)
+    requires slots { (all : List V) × (slots.items ≡ map Some all) }
+    requires room { (values.old.items ≡ []) × (vec_len slots ≤ vec_capacity values.old) }
+    ensures { map Some values.new.items ≡ slots.items }
+{
+    let mut left = slots;
+    for done in 0..left.len() {
+        match left.remove(0) {
+            Some(value) => values.push_reserved(value),
+            None => unreachable!(),
+        }
+    }
 }
 
 impl<V: Drop, R: TieRule<V>> Words<V, R> {
@@ -24,12 +45,13 @@ impl<V: Drop, R: TieRule<V>> Words<V, R> {
     ghost use Rattle.turn_steps.specs.Passes.{id_of, turns_of};
 
     /// Words over these values, by turn, and the pass that speaks for all callers. Nothing is taken
-    /// yet, and the content of the first value is each caller's note.
+    /// yet, and the content of the first value is each caller's note. Out of memory, the values
+    /// come back.
     pub fn open(
         alloc: Global,
         values: Vec<V>,
         callers: u32,
-    ) -> Result<(Words<V, R>, Pass<V, R::Content>), NoMemory>
+    ) -> Result<(Words<V, R>, Pass<V, R::Content>), Vec<V>>
         requires turns { vec_len values ≤ max_board_turns }
         requires rule { (b : R.Content) × (slice_get (map R.content values.items) 0 ≡ Some b)
             × R.holds (map R.content values.items) (replicate callers b) }
@@ -41,6 +63,7 @@ impl<V: Drop, R: TieRule<V>> Words<V, R> {
               first_view (vec_len values) callers b (map R.content values.items),
               [],
             ))) }
+        ensures back { IfErr result (λ v. v.items ≡ values.items) }
     {
         let about = Opening {
             turns: values.len() as u64,
@@ -48,10 +71,17 @@ impl<V: Drop, R: TieRule<V>> Words<V, R> {
             book: Snapshot::of(&values[0]),
             values: Snapshot::of(&values),
         };
-        let slots = filled_slots(alloc, values)?;
+        let mut left = values;
+        let slots = match Vec::with_capacity(alloc, left.len()) {
+            Ok(list) => fill_slots(&mut left, list),
+            Err(_) => return Err(left),
+        };
         match Table::new(alloc, &WORDS, slots, &about) {
             Ok((table, token)) => Ok((Words { table }, Pass { token })),
-            Err(_) => Err(NoMemory),
+            Err(Refused { slots }) => {
+                empty_slots(slots, &mut left);
+                Err(left)
+            }
         }
     }
 }

@@ -22,7 +22,7 @@ if executable("foresight_where")
   let s:run .= " \\| foresight_where %:S"
 endif
 execute "CompilerSet makeprg=" . escape(s:run, ' \|"')
-CompilerSet errorformat=%f:%l:%c:\ %m,
+CompilerSet errorformat=%f:%l:%c:\ %m,%-G=\ %.%#,
   \%+Erefused\ %\\w%\\+\ line\ %l,
   \%+Erefused\ %\\w%\\+\ at\ %\\d%\\+%.%#,
   \%+Erefused\ %\\w%\\+,

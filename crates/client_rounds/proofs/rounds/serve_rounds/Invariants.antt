@@ -1,10 +1,13 @@
--- Between rounds: what arrived so far is served.
-use Rattle.std.proofs.Common.{◌-◌, length, sum, vec_capacity}
+-- Between rounds: what arrived so far is served, and of each table is known what may be added.
+use Rattle.std.proofs.Common.{◌≡◌, ◌-◌, length, sum, vec_capacity}
 use Rattle.client_rounds.proofs.Between.{IsBetween}
 use Rattle.client_rounds.proofs.rounds.serve_rounds.Given as goal
 
 abbrev pub invariant-rounds : goal.invariant-rounds
-invariant-rounds g l = IsBetween l.program l.fn.opening l.clients l.callers l.shards l.gatherer l.arrivals l.replies.items (vec_capacity l.replies) l.closed
+invariant-rounds g l = record {
+  between : IsBetween l.program l.fn.opening l.clients l.callers l.shards l.gatherer l.arrivals l.replies.items (vec_capacity l.replies) l.closed;
+  later : length l.later.items ≡ length l.plan.shape.now;
+}
 
 abbrev pub decreases-rounds : goal.decreases-rounds
 decreases-rounds g l = sum l.gatherer.counts - length l.gatherer.got

@@ -5,12 +5,12 @@ use Rattle.request_files.specs.Servable.{IsServable}
 use Rattle.client_rounds.proofs.Between.{asked_servable}
 use Rattle.client_rounds.proofs.serving.serve_behind.Goals as goal
 
-pub serve_over-requires-clause-servable : goal.serve_over-requires-clause-servable
-serve_over-requires-clause-servable g c κs within =
+pub serve_first-requires-clause-servable : goal.serve_first-requires-clause-servable
+serve_first-requires-clause-servable g c κs within =
     let P : List Request → Type 0 = λ rs. IsServable c.args.plan.now.program.now.file rs in
     subst P (sym c.in_ok-requests.ensures) (asked_servable c.args.plan.now.program.now.file c.args.plan.now.clients.now c.requires.shared c.requires.servable c.requires.arrivals.before c.args.arrivals.now c.requires.arrivals.drawn)
 
-pub serve_over-requires-in-Some-clause-servable : goal.serve_over-requires-in-Some-clause-servable
-serve_over-requires-in-Some-clause-servable g c κs within =
+pub serve_next-requires-clause-servable : goal.serve_next-requires-clause-servable
+serve_next-requires-clause-servable g c κs within =
     let P : List Request → Type 0 = λ rs. IsServable c.args.plan.now.program.now.file rs in
     subst P (sym c.in_ok-requests.ensures) (asked_servable c.args.plan.now.program.now.file c.args.plan.now.clients.now c.requires.shared c.requires.servable c.requires.arrivals.before c.args.arrivals.now c.requires.arrivals.drawn)

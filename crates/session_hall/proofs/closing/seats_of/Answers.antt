@@ -1,5 +1,5 @@
 use Rattle.std.proofs.Common.{◌<◌, ◌∷◌, [], length, length-append, ap, ◌∙◌, arith}
-use Rattle.session_hall.proofs.Moving.{moved_next}
+use Rattle.turn_board.proofs.Moving.{moved_next}
 use Rattle.session_hall.proofs.closing.seats_of.Goals as goal
 
 pub loop-done-preserved : goal.loop-done-preserved

@@ -1,5 +1,5 @@
 use Rattle.session_hall.specs.Names.{script_of}
-use Rattle.session_hall.proofs.Tried.{flight_still, no_shard_tried, one_shard_tried}
+use Rattle.session_hall.proofs.Tried.{both_same, flight_still, no_shard_tried, one_shard_tried}
 use Rattle.session_hall.proofs.caller.Caller.apply_with.Goals as goal
 
 pub loop-init : goal.loop-init
@@ -13,5 +13,5 @@ loop-preserved g c =
     record {
       caller = c.in-Busy.ensures.caller.0;
       stage = flight_still m shards c.loop.self c.try_apply.new.self c.in-Busy.turn c.in-Busy.ensures.applied;
-      since = one_shard_tried m shards c.args.self.now c.loop.self c.try_apply.new.self c.in-Busy.turn inv.since c.in-Busy.ensures.caller.1 c.in-Busy.ensures.applied;
+      since = one_shard_tried m shards c.args.self.now c.loop.self c.try_apply.new.self c.in-Busy.turn inv.since (both_same g.S.Tickets.meaning c.args.hall.now c.loop.self c.try_apply.new.self inv.caller c.in-Busy.ensures.caller) c.in-Busy.ensures.applied;
     }

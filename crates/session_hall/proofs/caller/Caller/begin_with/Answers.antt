@@ -1,7 +1,7 @@
 use Rattle.std.proofs.Common.{sym, subst}
 use Rattle.session_hall.specs.Names.{script_of}
 use Rattle.session_hall.specs.Stages.{IsBetween}
-use Rattle.session_hall.proofs.Tried.{none_tried, one_tried}
+use Rattle.session_hall.proofs.Tried.{both_same, none_tried, one_tried}
 use Rattle.session_hall.proofs.caller.Caller.begin_with.Goals as goal
 
 pub loop-init : goal.loop-init
@@ -14,5 +14,5 @@ loop-preserved g c =
     record {
       caller = c.in-Busy.ensures.caller.0;
       stage = subst (λ s. IsBetween s) (sym c.in-Busy.ensures.began.1.stage_still) inv.stage;
-      since = one_tried m c.args.self.now c.loop.self c.try_begin.new.self _ inv.since c.in-Busy.ensures.caller.1 c.in-Busy.ensures.began;
+      since = one_tried m c.args.self.now c.loop.self c.try_begin.new.self _ inv.since (both_same g.S.Tickets.meaning c.args.hall.now c.loop.self c.try_begin.new.self inv.caller c.in-Busy.ensures.caller) c.in-Busy.ensures.began;
     }

@@ -1,7 +1,7 @@
 use Rattle.session_hall.specs.Calls.{MayAnswer}
 use Rattle.session_hall.specs.Stages.{OnServing}
 use Rattle.session_hall.specs.Names.{script_of}
-use Rattle.session_hall.proofs.Tried.{none_tried, one_tried, still_may}
+use Rattle.session_hall.proofs.Tried.{both_same, none_tried, one_tried, still_may}
 use Rattle.session_hall.proofs.caller.Caller.end_with.Goals as goal
 
 pub loop-init : goal.loop-init
@@ -14,5 +14,5 @@ loop-preserved g c =
     record {
       caller = c.in-Busy.ensures.caller.0;
       may = still_may m (λ s l b. OnServing s (λ t. MayAnswer c.args.reply m b t)) c.loop.self c.try_end.new.self _ _ c.in-Busy.ensures.ended.1 inv.may;
-      since = one_tried m c.args.self.now c.loop.self c.try_end.new.self _ inv.since c.in-Busy.ensures.caller.1 c.in-Busy.ensures.ended;
+      since = one_tried m c.args.self.now c.loop.self c.try_end.new.self _ inv.since (both_same g.S.Tickets.meaning c.args.hall.now c.loop.self c.try_end.new.self inv.caller c.in-Busy.ensures.caller) c.in-Busy.ensures.ended;
     }

@@ -1,26 +1,21 @@
-use Rattle.std.proofs.Common.{◌+◌, ◌*◌, ℕ, sym, ap, ◌∙◌, length, arith}
-use Rattle.std.specs.Prelude.{slice_get}
-use Rattle.hall_rule.specs.Halls.{first_content}
-use Rattle.session_hall.proofs.Opened.{few_turns, opened_here}
+use Rattle.std.proofs.Common.{List, sym, subst}
+use Rattle.shard_tables.specs.declared.part.Part.{Part}
+use Rattle.session_hall.specs.Closings.{ClosedView}
+use Rattle.session_hall.specs.Reopenings.{AreKept, HaveMovedIn, OpensOver}
+use Rattle.session_hall.proofs.Reopened.{left_as, left_done, left_opens, many_parts, opening_parts}
 use Rattle.session_hall.proofs.hall.Hall.reopen.Goals as goal
 
-pub open-requires-clause-turns : goal.open-requires-clause-turns
-open-requires-clause-turns g c =
-    let long = c.in_ok-values.ensures.long ∙ ap (λ l. 1 + length l * c.args.closed.shards) (sym c.requires.shape) in
-    let few = few_turns (length c.args.shape.now) c.args.closed.shards (length c.in_ok-values.values.items) c.requires.tables c.requires.shards long in
-    let ok = c.in_ok-values.values.ok in
-    omega (arith, few, ok)
+pub returns-in-Ok-clause-room : goal.returns-in-Ok-clause-room
+returns-in-Ok-clause-room g c = λ i d e.
+    let m = g.S.Tickets.meaning c.args.tickets in
+    let r = c.in-Ok.ensures.room i d e in
+    let by_list = subst (λ (ps : List Part). HaveMovedIn m c.args.later.now ps c.closed.inside.shards r.0) c.into_vec.ensures r.2 in
+    (r.0, r.1, subst (λ (x : ClosedView). HaveMovedIn m c.args.later.now x.parts x.shards r.0) c.closed.view_is by_list)
 
-pub returns-clause-callers : goal.returns-clause-callers
-returns-clause-callers g c = λ i d e.
-    let first = c.in_ok-values.ensures in
-    let new = c.in_ok-list.ensures.each i d (ap (λ l. slice_get l i) (sym c.from_vec.ensures) ∙ e) in
-    let begins = c.in-Ok.ensures.each (first_content g.S.Tickets.meaning c.args.tickets c.args.callers) first.first i new.0 (ap (λ l. slice_get l i) (sym c.into_vec.ensures) ∙ new.1) in
-    let long = first.long ∙ ap (λ l. 1 + length l * c.args.closed.shards) (sym c.requires.shape) in
-    let few = few_turns (length c.args.shape.now) c.args.closed.shards (length c.in_ok-values.values.items) c.requires.tables c.requires.shards long in
-    let ok = c.in_ok-values.values.ok in
-    let count = c.in-Ok.ensures.sizes.0 in
-    let some = c.requires.opens.done.some_shards in
-    let same = c.shards.ensures in
-    let turns = long ∙ ap (λ n. 1 + length c.args.shape.now * n) (sym same) in
-    opened_here g.S.Tickets.meaning _ c.args.tickets c.of-copy.ensures i d new.0 begins new.2 first.script_kept (ap length (sym c.requires.shape)) (omega (arith, some, same)) (omega (arith, c.requires.shards, same)) (omega (arith, count, ok, turns)) (omega (arith, count, ok, few))
+pub returns-in-Err-clause-again : goal.returns-in-Err-clause-again
+returns-in-Err-clause-again g c =
+    let m = g.S.Tickets.meaning c.args.tickets in
+    let opens = subst (λ (x : ClosedView). OpensOver m x) (sym c.closed.view_is) c.requires.opens in
+    let before = subst (λ (ps : List Part). AreKept ps c.in-Err.parts.items) c.into_vec.ensures c.in-Err.ensures.back in
+    let kept = subst (λ (ps : List Part). AreKept c.closed.inside.parts ps) (sym c.from_vec.ensures) before in
+    left_opens _ c.from_vec.result kept m opens

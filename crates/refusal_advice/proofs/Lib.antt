@@ -1,0 +1,7 @@
+pub mod Advised
+pub mod ClassWords
+pub mod Faults
+pub mod Following
+pub mod Kept
+pub mod Stopping
+pub mod Telling

@@ -1,0 +1,9 @@
+pub mod Advice
+pub mod Classes
+pub mod Following
+pub mod Hints
+pub mod Parts
+pub mod Sentence
+pub mod Token
+pub mod Told
+pub mod Walk
