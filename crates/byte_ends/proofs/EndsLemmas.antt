@@ -1,8 +1,8 @@
 -- Reads and writes one after another.
-use Rattle.std.proofs.Common.{◌≡◌, ℕ, ◌+◌, ◌<◌, ◌≤◌, List, [], ◌++◌, take, drop, length, Option, Some, None, IfSome, sym, ap, ◌∙◌, subst, append_assoc, arith, append-nil, length-append}
+use Rattle.std.proofs.Common.{◌≡◌, ℕ, ◌+◌, ◌<◌, ◌≤◌, Bool, List, [], ◌++◌, take, drop, length, Option, Some, None, IfSome, sym, ap, ◌∙◌, subst, append_assoc, arith, append-nil, length-append}
 use Rattle.std.proofs.lemmas.List.{take-append-le, take_all}
 use Rattle.std.proofs.Math.Seq.{take-add, take-append_seam, drop-append_seam, drop-append-add}
-use Rattle.byte_ends.specs.Ends.{Rose, Gave, LostFirst, LostAtMost, Grew, GrewByFront}
+use Rattle.byte_ends.specs.Ends.{raised, Rose, Counted, Gave, LostFirst, LostAtMost, Grew, GrewByFront}
 
 -- these bytes were taken from the front of what was there, and the rest is there still
 abbrev pub Taken : Option (List ℕ) → Option (List ℕ) → List ℕ → Type 0
@@ -53,13 +53,13 @@ grew_front (Some held) mid new xs ys first broken =
 pub grew_front_within : (old mid new : Option (List ℕ)) (xs ys zs : List ℕ) → Grew old mid xs → GrewByFront mid new ys → GrewByFront old new (xs ++ (ys ++ zs))
 grew_front_within old mid new xs ys zs first broken = grew_front old mid new xs (ys ++ zs) first (front_of_more mid new ys zs broken)
 
--- a count that rose has risen since earlier
-pub rose_since : (before mid now : ℕ) → before ≤ mid → Rose mid now → Rose before now
-rose_since before mid now later rose = omega (arith, later, rose)
+-- a count that stood and then rose
+pub rose_since : (before mid now : ℕ) → mid ≡ before → Rose mid now → Rose before now
+rose_since before mid now well rose = rose ∙ ap raised well
 
--- a count that rose stays risen
-pub rose_still : (before mid now : ℕ) → Rose before mid → mid ≤ now → Rose before now
-rose_still before mid now rose later = omega (arith, rose, later)
+-- calls of which the first went well
+pub counted_since : (well : Bool) (before mid now : ℕ) → mid ≡ before → Counted well mid now → Counted well before now
+counted_since well before mid now first counted = (λ e. counted.0 e ∙ first, λ e. rose_since before mid now first (counted.1 e))
 
 -- more was taken than so many bytes
 pub long_taken : (old now : Option (List ℕ)) (bytes : List ℕ) (n : ℕ) → Taken old now bytes → n < length bytes → IfSome old (λ all. n < length all)

@@ -1,8 +1,8 @@
 -- A text that is put in pages, step by step.
-use Rattle.std.proofs.Common.{◌≡◌, ℕ, ◌≤◌, Bool, true, false, not, List, [], ◌++◌, Option, refl, sym, ap, ◌∙◌, subst, append_assoc, append-nil, arith}
-use Rattle.byte_ends.specs.Ends.{Rose, Grew, GrewByFront}
+use Rattle.std.proofs.Common.{◌≡◌, ℕ, Bool, true, false, not, List, [], ◌++◌, Option, refl, sym, ap, ◌∙◌, subst, append_assoc, append-nil}
+use Rattle.byte_ends.specs.Ends.{Rose, Counted, Grew, GrewByFront}
 use Rattle.byte_ends.specs.Texts.{Due, Ends, IsPaged, IsPut}
-use Rattle.byte_ends.proofs.EndsLemmas.{grew_nothing, grew_more, grew_front_within, rose_since, rose_still}
+use Rattle.byte_ends.proofs.EndsLemmas.{grew_nothing, grew_more, grew_front_within, rose_since}
 
 -- what is due at the end of a text, where all of it was due before
 pub ended : {S : Type 0} {D : Due S} {bytes : List ℕ} {was now : S} → Ends D bytes was now → D was bytes was bytes → D was bytes now []
@@ -11,7 +11,7 @@ ended {S} {D} {bytes} {was} {now} e d = e.all was bytes d
 -- at the start all is to come
 pub paged_none : {old : Option (List ℕ)} {faults : ℕ} {broken : Bool} {waiting whole : List ℕ} → waiting ≡ [] → broken ≡ false → IsPaged old old faults faults broken waiting whole whole
 paged_none {old} {faults} {broken} {waiting} {whole} e s = record {
-  later = omega arith;
+  well = λ f. refl;
   sound = λ f. ([], grew_nothing old old refl, ap (λ xs. xs ++ whole) e);
   fault = λ f. absurd (cc);
 }
@@ -19,7 +19,7 @@ paged_none {old} {faults} {broken} {waiting} {whole} e s = record {
 -- more waits
 pub paged_push : {old new : Option (List ℕ)} {fo fn : ℕ} {broken : Bool} {waiting whole rest : List ℕ} (more : List ℕ) → IsPaged old new fo fn broken waiting whole (more ++ rest) → IsPaged old new fo fn broken (waiting ++ more) whole rest
 paged_push {old} {new} {fo} {fn} {broken} {waiting} {whole} {rest} more p = record {
-  later = p.later;
+  well = p.well;
   sound = λ e. let s = p.sound e in (s.0, s.1, ap (λ xs. s.0 ++ xs) (append_assoc waiting more rest) ∙ s.2);
   fault = p.fault;
 }
@@ -27,7 +27,7 @@ paged_push {old} {new} {fo} {fn} {broken} {waiting} {whole} {rest} more p = reco
 -- what waits is written
 pub paged_flush : {old mid new : Option (List ℕ)} {fo fm fn : ℕ} (was now : Bool) {waiting whole rest : List ℕ} → IsPaged old mid fo fm was waiting whole rest → IsPut mid new fm fn was now waiting → IsPaged old new fo fn now [] whole rest
 paged_flush {old} {mid} {new} {fo} {fm} {fn} was now {waiting} {whole} {rest} p w = record {
-  later = omega (arith, p.later, w.later);
+  well = λ e. w.well e ∙ p.well (w.sound e).0;
   sound = λ e.
       let put = w.sound e in
       let s = p.sound put.0 in
@@ -38,16 +38,16 @@ paged_flush {old} {mid} {new} {fo} {fm} {fn} was now {waiting} {whole} {rest} p 
     fails : (b : Bool) → was ≡ b → now ≡ true → Rose fo fn × GrewByFront old new whole
     fails true b e =
         let f = p.fault b in
-        (rose_still fo fm fn f.0 w.later, subst (λ o. GrewByFront old o whole) (sym (w.still b).1) f.1)
+        ((w.still b).2 ∙ f.0, subst (λ o. GrewByFront old o whole) (sym (w.still b).1) f.1)
     fails false b e =
         let s = p.sound b in
         let f = w.fault b e in
-        (rose_since fo fm fn p.later f.0, subst (GrewByFront old new) s.2 (grew_front_within old mid new s.0 waiting rest s.1 f.1))
+        (rose_since fo fm fn (p.well b) f.0, subst (GrewByFront old new) s.2 (grew_front_within old mid new s.0 waiting rest s.1 f.1))
 
 -- bytes are written past an empty page
 pub paged_write : {old mid new : Option (List ℕ)} {fo fm fn : ℕ} (was now : Bool) {whole rest : List ℕ} (bytes : List ℕ) → IsPaged old mid fo fm was [] whole (bytes ++ rest) → IsPut mid new fm fn was now bytes → IsPaged old new fo fn now [] whole rest
 paged_write {old} {mid} {new} {fo} {fm} {fn} was now {whole} {rest} bytes p w =
-    let q : IsPaged old mid fo fm was bytes whole rest = record { later = p.later; sound = p.sound; fault = p.fault } in
+    let q : IsPaged old mid fo fm was bytes whole rest = record { well = p.well; sound = p.sound; fault = p.fault } in
     paged_flush was now q w
 
 -- what waits is written, and a text waits then
@@ -65,22 +65,19 @@ paged_past {old} {mid} {more} {new} {fo} {fm} {fl} {fn} was mean now {waiting} {
 -- nothing is to come, and nothing waits: what was written is all of the text, or a front of it
 pub record Closed (old new : Option (List ℕ)) (fo fn : ℕ) (broken : Bool) (text : List ℕ) : Type 0 where
   pub all : not broken ≡ true → Grew old new text
-  pub fault : not broken ≡ false → Rose fo fn
+  pub faults : Counted (not broken) fo fn
   pub front : not broken ≡ false → GrewByFront old new text
-  pub later : fo ≤ fn
 
 pub paged_end : {old new : Option (List ℕ)} {fo fn : ℕ} (broken : Bool) {whole : List ℕ} → IsPaged old new fo fn broken [] whole [] → Closed old new fo fn broken whole
 paged_end {old} {new} {fo} {fn} true {whole} p = record {
   all = λ f. absurd (cc);
-  fault = λ f. (p.fault refl).0;
+  faults = (λ f. absurd (cc), λ f. (p.fault refl).0);
   front = λ f. (p.fault refl).1;
-  later = p.later;
 }
 paged_end {old} {new} {fo} {fn} false {whole} p = record {
   all = λ f. let s = p.sound refl in subst (Grew old new) (sym (append-nil s.0) ∙ s.2) s.1;
-  fault = λ f. absurd (cc);
+  faults = (λ f. p.well refl, λ f. absurd (cc));
   front = λ f. absurd (cc);
-  later = p.later;
 }
 
 -- the same of the sink that is left

@@ -1,7 +1,9 @@
 -- What reads and writes do, at sources and sinks that may tell their bytes.
-use Rattle.std.specs.Prelude.{◌≡◌, ℕ, ◌+◌, ◌-◌, ◌<◌, ◌≤◌, ◌^◌, min, List, [], ◌++◌, length, take, drop, Option, Some, IfSome}
+use Rattle.std.specs.Prelude.{◌≡◌, ℕ, ◌+◌, ◌-◌, ◌<◌, ◌≤◌, ◌^◌, min, Bool, true, false, List, [], ◌++◌, length, take, drop, Option, Some, IfSome}
 use Rattle.byte_ends.specs.declared.source.Got.{Got}
 use Rattle.byte_ends.specs.declared.source.Got.TheVariants as got
+use Rattle.byte_ends.specs.declared.reading.Unread.{Unread}
+use Rattle.byte_ends.specs.declared.reading.Unread.TheVariants as unread
 use Rattle.byte_ends.specs.declared.sink.Put.{Put}
 use Rattle.byte_ends.specs.declared.sink.Put.TheVariants as put
 
@@ -9,9 +11,30 @@ use Rattle.byte_ends.specs.declared.sink.Put.TheVariants as put
 abbrev pub raised : ℕ → ℕ
 raised count = min (count + 1) (2 ^ 64 - 1)
 
--- a count rose, or stands at the largest u64
+-- a count rose by one, or stands at the largest u64
 abbrev pub Rose : ℕ → ℕ → Type 0
-Rose before now = raised before ≤ now
+Rose before now = now ≡ raised before
+
+-- how often a source or a sink failed: as often as before where all went well, and else once more
+abbrev pub Counted : Bool → ℕ → ℕ → Type 0
+Counted well before now = (well ≡ true → now ≡ before) × (well ≡ false → Rose before now)
+
+-- so it is with a read that answers this
+abbrev pub ReadCounts : ℕ → ℕ → Got → Type 0
+ReadCounts before now (got.Bytes n) = now ≡ before
+ReadCounts before now got.End = now ≡ before
+ReadCounts before now got.Failed = Rose before now
+
+-- and with a write
+abbrev pub WriteCounts : ℕ → ℕ → Put → Type 0
+WriteCounts before now (put.Took n) = now ≡ before
+WriteCounts before now put.Failed = Rose before now
+
+-- and with the reading of a whole source that didn't come to its end
+abbrev pub UnreadCounts : ℕ → ℕ → Unread → Type 0
+UnreadCounts before now unread.TooLarge = now ≡ before
+UnreadCounts before now unread.Failed = Rose before now
+UnreadCounts before now unread.NoMemory = now ≡ before
 
 -- what is told stands as it was
 abbrev pub Stays : Option (List ℕ) → Option (List ℕ) → Type 0

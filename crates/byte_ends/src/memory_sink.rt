@@ -1,7 +1,7 @@
 // A sink in memory.
 
 ghost use Rattle.std.specs.Prelude.{◌≡◌, ◌≤◌, ◌<◌, [], length, IfOk, Some};
-ghost use Rattle.byte_ends.specs.Ends.{WriteTakes, Rose};
+ghost use Rattle.byte_ends.specs.Ends.{WriteTakes, WriteCounts};
 ghost use Rattle.byte_ends.specs.Memory.{write_answer, after_write};
 
 use crate::calls::fails_at;
@@ -86,8 +86,7 @@ impl Sink for MemorySink {
     fn write(&mut self, bytes: &[u8]) -> Put
         requires { 0 < length bytes.now }
         ensures takes { WriteTakes (Some self.old.held) (Some self.new.held) bytes.now result }
-        ensures later { self.old.faults ≤ self.new.faults }
-        ensures cause { result ≡ Put.Failed → Rose self.old.faults self.new.faults }
+        ensures counts { WriteCounts self.old.faults self.new.faults result }
         ensures answer { result ≡ write_answer self.old (length bytes.now) }
         ensures state { self.new ≡ after_write self.old bytes.now result }
     {

@@ -1,7 +1,7 @@
 // A source in memory.
 
 ghost use Rattle.std.specs.Prelude.{◌≡◌, ◌≤◌, ◌<◌, length, drop, Some};
-ghost use Rattle.byte_ends.specs.Ends.{ReadGives, Rose};
+ghost use Rattle.byte_ends.specs.Ends.{ReadGives, ReadCounts};
 ghost use Rattle.byte_ends.specs.Memory.{read_answer, after_read};
 
 use crate::calls::fails_at;
@@ -67,8 +67,7 @@ impl Source for MemorySource {
     fn read(&mut self, buf: &mut [u8]) -> Got
         requires { 0 < length buf.old }
         ensures gives { ReadGives (Some self.old.left) (Some self.new.left) buf.new result }
-        ensures later { self.old.faults ≤ self.new.faults }
-        ensures cause { result ≡ Got.Failed → Rose self.old.faults self.new.faults }
+        ensures counts { ReadCounts self.old.faults self.new.faults result }
         ensures answer { result ≡ read_answer self.old (length buf.old) }
         ensures state { self.new ≡ after_read self.old result }
     {

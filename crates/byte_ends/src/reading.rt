@@ -1,8 +1,8 @@
 // All bytes of a source.
 
-ghost use Rattle.std.specs.Prelude.{◌≡◌, ◌+◌, ◌<◌, ◌≤◌, length, vec_len, IfOk, OnOk, IfSome, IsErrOf};
+ghost use Rattle.std.specs.Prelude.{◌≡◌, ◌+◌, ◌<◌, ◌≤◌, length, vec_len, IfOk, IfErr, OnOk, IfSome, IsErrOf};
 ghost use Rattle.session_values.specs.Limits.{max_input};
-ghost use Rattle.byte_ends.specs.Ends.{Rose, IsAtEnd, LostFirst, LostAtMost};
+ghost use Rattle.byte_ends.specs.Ends.{UnreadCounts, IsAtEnd, LostFirst, LostAtMost};
 
 use crate::source::{Got, Source};
 use session_values::MAX_INPUT;
@@ -35,14 +35,14 @@ pub fn read_up_to<I: Source>(alloc: Global, source: &mut I, most: usize) -> Resu
         → IfSome (I.left source.old) (λ all. most < length all) }
     ensures gone { IsErrOf result Unread.TooLarge
         → LostFirst (I.left source.old) (I.left source.new) (most + 1) }
-    ensures failed { IsErrOf result Unread.Failed
-        → Rose (I.faults source.old) (I.faults source.new) }
+    // No read failed, or one did: where the answer says so.
+    ensures well { OnOk result (I.faults source.new ≡ I.faults source.old) }
+    ensures failed { IfErr result (UnreadCounts (I.faults source.old) (I.faults source.new)) }
     // What was read is gone, and no more: at a fault no more than the bound, and never more than
     // one byte above it.
     ensures broken { IsErrOf result Unread.Failed
         → LostAtMost (I.left source.old) (I.left source.new) most }
     ensures lost { LostAtMost (I.left source.old) (I.left source.new) (most + 1) }
-    ensures later { I.faults source.old ≤ I.faults source.new }
 {
     let mut bytes = Vec::new(alloc);
     let mut buf = [0u8; 16384];
@@ -73,14 +73,14 @@ pub fn read_all<I: Source>(alloc: Global, source: &mut I) -> Result<Vec<u8>, Unr
         → IfSome (I.left source.old) (λ all. max_input < length all) }
     ensures gone { IsErrOf result Unread.TooLarge
         → LostFirst (I.left source.old) (I.left source.new) (max_input + 1) }
-    ensures failed { IsErrOf result Unread.Failed
-        → Rose (I.faults source.old) (I.faults source.new) }
+    // No read failed, or one did: where the answer says so.
+    ensures well { OnOk result (I.faults source.new ≡ I.faults source.old) }
+    ensures failed { IfErr result (UnreadCounts (I.faults source.old) (I.faults source.new)) }
     // What was read is gone, and no more: at a fault no more than the bound, and never more than
     // one byte above it.
     ensures broken { IsErrOf result Unread.Failed
         → LostAtMost (I.left source.old) (I.left source.new) max_input }
     ensures lost { LostAtMost (I.left source.old) (I.left source.new) (max_input + 1) }
-    ensures later { I.faults source.old ≤ I.faults source.new }
 {
     read_up_to(alloc, source, MAX_INPUT)
 }

@@ -1,7 +1,7 @@
 // A source in memory that never fails.
 
 ghost use Rattle.std.specs.Prelude.{◌≡◌, ◌≤◌, ◌<◌, length, drop, Some, ℕ};
-ghost use Rattle.byte_ends.specs.Ends.{ReadGives, Rose};
+ghost use Rattle.byte_ends.specs.Ends.{ReadGives};
 ghost use Rattle.byte_ends.specs.Memory.{sure_answer};
 
 use crate::source::{Got, Source};

@@ -1,16 +1,16 @@
 // All of some bytes, written to a sink.
 
-ghost use Rattle.std.specs.Prelude.{◌≡◌, ◌≤◌, [], true, false};
-ghost use Rattle.byte_ends.specs.Ends.{Rose, Grew, GrewByFront};
+ghost use Rattle.std.specs.Prelude.{◌≡◌, [], true, false};
+ghost use Rattle.byte_ends.specs.Ends.{Counted, Grew, GrewByFront};
 
 use crate::sink::{Put, Sink};
 
-/// Writes all of the bytes, by as many writes as the sink needs. It answers `false` after a fault.
+/// Writes all of the bytes, by as many writes as the sink needs. It answers `false` after a fault,
+/// and writes nothing more.
 pub fn write_all<O: Sink>(out: &mut O, bytes: &[u8]) -> bool
     ensures all { result ≡ true → Grew (O.held out.old) (O.held out.new) bytes.now }
-    ensures fault { result ≡ false → Rose (O.faults out.old) (O.faults out.new) }
+    ensures faults { Counted result (O.faults out.old) (O.faults out.new) }
     ensures front { result ≡ false → GrewByFront (O.held out.old) (O.held out.new) bytes.now }
-    ensures later { O.faults out.old ≤ O.faults out.new }
     ensures nothing { bytes.now ≡ [] → (result ≡ true) × (out.new ≡ out.old) }
 {
     let mut at = 0;

@@ -3,7 +3,7 @@
 ghost use Rattle.std.specs.Prelude.{◌≡◌, ◌+◌, ◌<◌, ◌≤◌, ◌++◌, true, false, length};
 ghost use Rattle.std.specs.List.{AllByRecursion};
 ghost use Rattle.session_values.specs.Limits.{max_requests};
-ghost use Rattle.byte_ends.specs.Ends.{Rose, GrewByFront};
+ghost use Rattle.byte_ends.specs.Ends.{Counted, GrewByFront};
 ghost use Rattle.session_values.specs.Reply.{values_of};
 ghost use Rattle.session_values.specs.ReplyText.{IsPrintable};
 ghost use Rattle.client_sheet.specs.Arrivals.{max_clients};
@@ -33,10 +33,9 @@ pub(crate) fn gather_line<O: Sink>(
     requires printable { AllByRecursion (IsPrintable names.now) (values_of reply.now) }
     ensures all { result ≡ true → HasMoved (O.held out.old) (O.held out.new) buffer.old.held
         buffer.new.held (client_line names.now client ticket reply.now) }
-    ensures fault { result ≡ false → Rose (O.faults out.old) (O.faults out.new) }
+    ensures faults { Counted result (O.faults out.old) (O.faults out.new) }
     ensures front { result ≡ false
         → GrewByFront (O.held out.old) (O.held out.new) buffer.old.held }
-    ensures later { O.faults out.old ≤ O.faults out.new }
 {
     if !buffer.reserve(LONGEST) {
         if !write_all(out, buffer.bytes()) {

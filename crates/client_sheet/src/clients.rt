@@ -2,7 +2,7 @@
 
 ghost use Rattle.std.specs.Prelude.{◌≡◌, ◌≤◌, length, true, false};
 ghost use Rattle.session_values.specs.Limits.{max_requests};
-ghost use Rattle.byte_ends.specs.Ends.{Rose, Grew, GrewByFront};
+ghost use Rattle.byte_ends.specs.Ends.{Counted, Grew, GrewByFront};
 ghost use Rattle.reply_sheet.specs.Printable.{ArePrintableReplies};
 ghost use Rattle.client_sheet.specs.Arrivals.{max_clients};
 ghost use Rattle.client_sheet.specs.ClientText.{clients_text};
@@ -30,10 +30,9 @@ pub fn write_clients<O: Sink>(
     requires printable { ArePrintableReplies names.now replies.now }
     ensures all { result ≡ true → Grew (O.held out.old) (O.held out.new)
         (clients_text names.now arrivals.now replies.now clients) }
-    ensures fault { result ≡ false → Rose (O.faults out.old) (O.faults out.new) }
+    ensures faults { Counted result (O.faults out.old) (O.faults out.new) }
     ensures front { result ≡ false → GrewByFront (O.held out.old) (O.held out.new)
         (clients_text names.now arrivals.now replies.now clients) }
-    ensures later { O.faults out.old ≤ O.faults out.new }
 {
     buffer.clear();
     for client in 0..clients {

@@ -34,7 +34,7 @@ module _ {O : Type 0} (c : Command) (bytes : List ℕ) (out : Change O) where
     usage = λ e. cc;
     read_fault = λ e. cc;
     answered = no_answer c bytes out status.NoMemory (λ e. cc) (λ f e. cc) (λ e. cc);
-    written = record { write_fault = λ e. absurd (cc); unwritten = λ _ _. same };
+    written = record { write_fault = λ e. absurd (cc); written_well = λ e. absurd (cc); unwritten = λ _ _. same };
   }
 
   refusing : (f : Fault) → IsRefused c (input_of c bytes) f → IsUntouched out → AnswersAlone c bytes out (status.Refused f)
@@ -42,7 +42,7 @@ module _ {O : Type 0} (c : Command) (bytes : List ℕ) (out : Change O) where
     usage = λ e. cc;
     read_fault = λ e. cc;
     answered = refused_answer c bytes out f r;
-    written = record { write_fault = λ e. absurd (cc); unwritten = λ _ _. same };
+    written = record { write_fault = λ e. absurd (cc); written_well = λ e. absurd (cc); unwritten = λ _ _. same };
   }
 
   reasoned : (e : Unserved) → IsReason c (input_of c bytes) e → IsUntouched out → AnswersAlone c bytes out (status_of e)
@@ -54,13 +54,13 @@ module _ {O : Type 0} (c : Command) (bytes : List ℕ) (out : Change O) where
     usage = λ x. cc;
     read_fault = λ x. cc;
     answered = fine_answer c bytes out text i is e;
-    written = record { write_fault = λ x. absurd (cc); unwritten = λ f _. absurd (f refl) };
+    written = record { write_fault = λ x. absurd (cc); written_well = λ _. e.0; unwritten = λ f _. absurd (f refl) };
   }
   answering text status.WriteFault i is e = record {
     usage = λ x. cc;
     read_fault = λ x. cc;
     answered = front_answer c bytes out text i is e.1;
-    written = record { write_fault = λ x. e.0; unwritten = λ _ f. absurd (f refl) };
+    written = record { write_fault = λ x. e.0; written_well = λ x. absurd (cc); unwritten = λ _ f. absurd (f refl) };
   }
   answering text status.NoMemory i is e = wanting e
   answering text (status.Refused f) i is e = absurd e

@@ -10,7 +10,7 @@ use Rattle.serve_faults.specs.declared.status.Status.{Status}
 use Rattle.serve_faults.specs.declared.status.Status.TheVariants as status
 use Rattle.serve_faults.specs.Answer.{IsRefused, IsUnrefused}
 use Rattle.serve_faults.specs.Commands.{input_of}
-use Rattle.serve_faults.specs.Changes.{Change, Failed, IsUntouched}
+use Rattle.serve_faults.specs.Changes.{Change, Failed, HasNotFailed, IsUntouched}
 use Rattle.serve_faults.specs.Ways.{HasRead, StoppedAs}
 use Rattle.serve_faults.proofs.OneAnswer.{refused_once, text_or_refused}
 use Rattle.serve_core.specs.Commands.{OfItsBytes, serving}
@@ -28,6 +28,7 @@ module _ {I O : Type 0} (c : Command) (source : Change I) (out : Change O) where
   record Ends (s : Status) : Type 0 where
     usage : s ≢ status.Usage
     read_fault : s ≡ status.ReadFault → Failed source
+    read_well : s ≢ status.ReadFault → HasNotFailed source
     written : Written out s
 
   refuses : (bytes : List ℕ) (s : Status) (f : Fault) → Ends s → Answered (Some c) bytes out s → IsRefused c (input_of c bytes) f → (Failed source → ⊥) → (s ≡ status.Refused f) ⊎ (s ≡ status.NoMemory)
@@ -59,6 +60,7 @@ module _ {I O : Type 0} (c : Command) (source : Change I) (out : Change O) where
     refusing = if_some (λ bytes. Answered (Some c) bytes out s) _ left (λ bytes a f r ok. refuses bytes s f h a r ok) answered;
     complete = if_some (λ bytes. Answered (Some c) bytes out s) _ left (λ bytes a u ok ok'. completes bytes s h a u ok ok') answered;
     read_fault = h.read_fault;
+    read_well = h.read_well;
     written = h.written;
     end = end;
     gone = gone;
@@ -71,7 +73,7 @@ module _ {I O : Type 0} (c : Command) (source : Change I) (out : Change O) where
   -- all was read, and answered
   read_run : (bytes : List ℕ) (s : Status) → (IsRefused c (input_of c bytes) TooLarge → max_input < length bytes) → HasRead max_input source bytes → AnswersAlone c bytes out s → RunsAlone c source out s
   read_run bytes s large h a =
-      runs_of s (record { usage = a.usage; read_fault = λ e. absurd (a.read_fault e); written = a.written })
+      runs_of s (record { usage = a.usage; read_fault = λ e. absurd (a.read_fault e); read_well = λ _. h.well; written = a.written })
       (if_some (λ all. bytes ≡ all) _ left (λ all e. subst (λ bs. Answered (Some c) bs out s) e a.answered) h.all)
       (λ _. h.end)
       (λ e. let l = large (a.answered.refused TooLarge e) in let short = h.short in absurd (omega (arith, l, short)))
@@ -80,7 +82,7 @@ module _ {I O : Type 0} (c : Command) (source : Change I) (out : Change O) where
   -- reading stopped
   stopped_run : ((bytes : List ℕ) → max_input < length bytes → IsRefused c (input_of c bytes) TooLarge) → (s : Status) → StoppedAs max_input source s → IsUntouched out → RunsAlone c source out s
   stopped_run large (status.Refused TooLarge) h same =
-      runs_of (status.Refused TooLarge) (record { usage = λ e. cc; read_fault = λ e. absurd (cc); written = record { write_fault = λ e. absurd (cc); unwritten = λ _ _. same } })
+      runs_of (status.Refused TooLarge) (record { usage = λ e. cc; read_fault = λ e. absurd (cc); read_well = λ _. h.1.2; written = record { write_fault = λ e. absurd (cc); written_well = λ e. absurd (cc); unwritten = λ _ _. same } })
       (if_some (λ all. max_input < length all) _ left (λ bytes l. refused_answer c bytes out TooLarge (large bytes l)) h.1.0)
       (λ e. absurd (cc)) (λ _. h.1.1) h.0
   stopped_run large (status.Refused f) h same = absurd h.1
@@ -88,10 +90,10 @@ module _ {I O : Type 0} (c : Command) (source : Change I) (out : Change O) where
   stopped_run large status.Usage h same = absurd h.1
   stopped_run large status.WriteFault h same = absurd h.1
   stopped_run large status.ReadFault h same =
-      runs_of status.ReadFault (record { usage = λ e. cc; read_fault = λ _. h.1; written = record { write_fault = λ e. absurd (cc); unwritten = λ _ _. same } })
+      runs_of status.ReadFault (record { usage = λ e. cc; read_fault = λ _. h.1; read_well = λ away. absurd (away refl); written = record { write_fault = λ e. absurd (cc); written_well = λ e. absurd (cc); unwritten = λ _ _. same } })
       (unanswered status.ReadFault (λ e. cc) (λ f e. cc) (λ e. cc)) (λ e. absurd (cc)) (λ e. absurd (cc)) h.0
   stopped_run large status.NoMemory h same =
-      runs_of status.NoMemory (record { usage = λ e. cc; read_fault = λ e. absurd (cc); written = record { write_fault = λ e. absurd (cc); unwritten = λ _ _. same } })
+      runs_of status.NoMemory (record { usage = λ e. cc; read_fault = λ e. absurd (cc); read_well = λ _. h.1; written = record { write_fault = λ e. absurd (cc); written_well = λ e. absurd (cc); unwritten = λ _ _. same } })
       (unanswered status.NoMemory (λ e. cc) (λ f e. cc) (λ e. cc)) (λ e. absurd (cc)) (λ e. absurd (cc)) h.0
 
 -- of either command

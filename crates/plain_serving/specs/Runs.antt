@@ -10,7 +10,7 @@ use Rattle.serve_faults.specs.declared.status.Status.{Status}
 use Rattle.serve_faults.specs.declared.status.Status.TheVariants as status
 use Rattle.serve_faults.specs.Answer.{CommandAnswers, IsUnrefused}
 use Rattle.serve_faults.specs.Answer as answer
-use Rattle.serve_faults.specs.Changes.{Change, Failed}
+use Rattle.serve_faults.specs.Changes.{Change, Failed, HasNotFailed}
 use Rattle.serve_core.specs.Commands.{OfItsBytes}
 use Rattle.serve_core.specs.Runs.{Answered, Written, has_read_all}
 
@@ -36,9 +36,11 @@ pub record RunsAlone {I O : Type 0} (command : Command) (source : Change I) (out
   -- memory.
   pub complete : OfItsBytes source (λ bytes. IsUnrefused (Some command) bytes
       → (Failed source → ⊥) → (Failed out → ⊥) → (s ≡ status.Fine) ⊎ (s ≡ status.NoMemory))
+  -- One read failed, and none was tried after it; with any other status none failed.
   pub read_fault : s ≡ status.ReadFault → Failed source
-  -- Where the sink failed, that is told; where memory ran out, nothing was written: its clauses are
-  -- `write_fault` and `unwritten`.
+  pub read_well : s ≢ status.ReadFault → HasNotFailed source
+  -- Where a write failed, that is told, and none was tried after it; where memory ran out, nothing was
+  -- written: its clauses are `write_fault`, `written_well` and `unwritten`.
   pub written : Written out s
   -- The source was read to its end, or up to the first byte that is too many; never further.
   pub end : has_read_all s ≡ true → IsAtEnd (source.bytes source.old) (source.bytes source.new)

@@ -2,7 +2,7 @@
 
 ghost use Rattle.std.specs.Prelude.{◌≡◌, ◌+◌, ◌≤◌, ℕ, drop, length, true, false};
 ghost use Rattle.session_values.specs.Limits.{max_requests};
-ghost use Rattle.byte_ends.specs.Ends.{Rose, Grew, GrewByFront};
+ghost use Rattle.byte_ends.specs.Ends.{Counted, Grew, GrewByFront};
 ghost use Rattle.session_values.specs.ReplyText.{reply_text};
 ghost use Rattle.reply_sheet.specs.Ready.{AreKeptPrintable, ready};
 
@@ -28,10 +28,9 @@ pub fn write_ready<O: Sink>(
         → pending.new.next ≡ pending.old.next + length (ready pending.old) }
     ensures all { result ≡ true → Grew (O.held out.old) (O.held out.new)
         (reply_text names.now pending.old.next (ready pending.old)) }
-    ensures fault { result ≡ false → Rose (O.faults out.old) (O.faults out.new) }
+    ensures faults { Counted result (O.faults out.old) (O.faults out.new) }
     ensures front { result ≡ false → GrewByFront (O.held out.old) (O.held out.new)
         (reply_text names.now pending.old.next (ready pending.old)) }
-    ensures later { O.faults out.old ≤ O.faults out.new }
 {
     buffer.clear();
     while let Some((ticket, reply)) = pending.take_next() {

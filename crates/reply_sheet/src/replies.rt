@@ -2,7 +2,7 @@
 
 ghost use Rattle.std.specs.Prelude.{◌≡◌, ◌+◌, ◌≤◌, length, true, false};
 ghost use Rattle.session_values.specs.Limits.{max_requests};
-ghost use Rattle.byte_ends.specs.Ends.{Rose, Grew, GrewByFront};
+ghost use Rattle.byte_ends.specs.Ends.{Counted, Grew, GrewByFront};
 ghost use Rattle.session_values.specs.ReplyText.{reply_text};
 ghost use Rattle.reply_sheet.specs.Printable.{ArePrintableReplies};
 
@@ -24,10 +24,9 @@ pub fn write_replies<O: Sink>(
     requires printable { ArePrintableReplies names.now replies.now }
     ensures all { result ≡ true
         → Grew (O.held out.old) (O.held out.new) (reply_text names.now start replies.now) }
-    ensures fault { result ≡ false → Rose (O.faults out.old) (O.faults out.new) }
+    ensures faults { Counted result (O.faults out.old) (O.faults out.new) }
     ensures front { result ≡ false
         → GrewByFront (O.held out.old) (O.held out.new) (reply_text names.now start replies.now) }
-    ensures later { O.faults out.old ≤ O.faults out.new }
 {
     buffer.clear();
     for (i, reply) in replies.iter().enumerate() {

@@ -51,7 +51,7 @@ module _ {O : Type 0} (c : Command) (bytes : List ℕ) (out : Change O) (same : 
     usage = λ e. cc;
     read_fault = λ e. cc;
     answered = refused_answer c bytes out f r;
-    written = record { write_fault = λ e. absurd (cc); unwritten = λ _ _. same };
+    written = record { write_fault = λ e. absurd (cc); written_well = λ e. absurd (cc); unwritten = λ _ _. same };
     served = not_opened c bytes (status.Refused f) (λ e. cc) (λ e. cc);
     hall = tt;
     traced = λ _ e. absurd (cc);
@@ -62,7 +62,7 @@ module _ {O : Type 0} (c : Command) (bytes : List ℕ) (out : Change O) (same : 
     usage = λ e. cc;
     read_fault = λ e. cc;
     answered = no_answer c bytes out status.NoMemory (λ e. cc) (λ f e. cc) (λ e. cc);
-    written = record { write_fault = λ e. absurd (cc); unwritten = λ _ _. same };
+    written = record { write_fault = λ e. absurd (cc); written_well = λ e. absurd (cc); unwritten = λ _ _. same };
     served = not_opened c bytes status.NoMemory (λ e. cc) (λ e. cc);
     hall = tt;
     traced = λ _ e. absurd (cc);
@@ -79,7 +79,7 @@ module _ {O : Type 0} (c : Command) (bytes : List ℕ) (out : Change O) (text : 
     usage = λ x. cc;
     read_fault = λ x. cc;
     answered = fine_answer c bytes out text i is e;
-    written = record { write_fault = λ x. absurd (cc); unwritten = λ f _. absurd (f refl) };
+    written = record { write_fault = λ x. absurd (cc); written_well = λ _. e.0; unwritten = λ f _. absurd (f refl) };
     served = served;
     hall = hall;
     traced = traced;
@@ -88,7 +88,7 @@ module _ {O : Type 0} (c : Command) (bytes : List ℕ) (out : Change O) (text : 
     usage = λ x. cc;
     read_fault = λ x. cc;
     answered = front_answer c bytes out text i is e.1;
-    written = record { write_fault = λ x. e.0; unwritten = λ _ f. absurd (f refl) };
+    written = record { write_fault = λ x. e.0; written_well = λ x. absurd (cc); unwritten = λ _ f. absurd (f refl) };
     served = served;
     hall = hall;
     traced = traced;

@@ -12,7 +12,7 @@ use Rattle.serve_faults.specs.declared.status.Status.TheVariants as status
 use Rattle.serve_faults.specs.Answer.{IsRefused, IsTextOf, IsUnrefused}
 use Rattle.serve_faults.specs.Commands.{input_of, is_reading}
 use Rattle.serve_faults.specs.Input.{IsInput, IsTooLarge, most_of}
-use Rattle.serve_faults.specs.Changes.{Change, Failed, IsUntouched, Took, TookFront}
+use Rattle.serve_faults.specs.Changes.{Change, Failed, HasNotFailed, IsUntouched, Took, TookFront}
 use Rattle.serve_core.specs.Commands.{Told, has_begun_writing, has_served, has_ticket, opens_always}
 use Rattle.serve_core.specs.Runs.{has_read_all, Answered, Written, Holds, IsLeft, Opens, Runs, WroteJournal}
 use Rattle.serve_core.specs.Runs.{AnswersTo}
@@ -71,6 +71,7 @@ module _ {I O : Type 0} (c : Command) (source : Change I) (out : Change O) (clos
   pub record Ends (s : Status) : Type 0 where
     pub usage : s ≢ status.Usage
     pub read_fault : s ≡ status.ReadFault → Failed source
+    pub read_well : s ≢ status.ReadFault → HasNotFailed source
     pub written : Written out s
 
   refuses : (bytes : List ℕ) (s : Status) (f : Fault) → Ends s → Answered (Some c) bytes out s → IsRefused c (input_of c bytes) f → (Failed source → ⊥) → (s ≡ status.Refused f) ⊎ (s ≡ status.NoMemory)
@@ -107,6 +108,7 @@ module _ {I O : Type 0} (c : Command) (source : Change I) (out : Change O) (clos
     refusing = told_map c source (λ bytes. Answered (Some c) bytes out s) _ (λ bytes a f r ok. refuses bytes s f h a r ok) answered;
     complete = λ e. told_map c source (λ bytes. Answered (Some c) bytes out s) _ (λ bytes a u ok ok'. completes bytes s h a u ok ok') answered;
     read_fault = h.read_fault;
+    read_well = h.read_well;
     written = h.written;
     end = end;
     gone = gone;
@@ -233,7 +235,7 @@ module _ {I O : Type 0} (c : Command) (reads : is_reading (Some c) ≡ true) (so
   -- reading stopped
   pub stopped_run : (s : Status) → StoppedAs (most_of c) source s → IsUntouched out → Runs (Some c) source out s None
   stopped_run (status.Refused TooLarge) h same =
-      runs_of c source out None (status.Refused TooLarge) (record { usage = λ e. cc; read_fault = λ e. absurd (cc); written = record { write_fault = λ e. absurd (cc); unwritten = λ _ _. same } })
+      runs_of c source out None (status.Refused TooLarge) (record { usage = λ e. cc; read_fault = λ e. absurd (cc); read_well = λ _. h.1.2; written = record { write_fault = λ e. absurd (cc); written_well = λ e. absurd (cc); unwritten = λ _ _. same } })
       (unread_none (status.Refused TooLarge)) (made_none (status.Refused TooLarge))
       (told_some c source (λ bytes. Answered (Some c) bytes out (status.Refused TooLarge)) reads
       (if_some (λ all. most_of c < length all) _ (source.bytes source.old) (λ bytes l. refused_answer c bytes out TooLarge (too_long c (input_of c bytes) (subst (λ (bs : List ℕ). most_of c < length bs) (sym (reading_input c bytes reads)) l))) h.1.0))
@@ -243,13 +245,13 @@ module _ {I O : Type 0} (c : Command) (reads : is_reading (Some c) ≡ true) (so
   stopped_run status.Usage h same = absurd h.1
   stopped_run status.WriteFault h same = absurd h.1
   stopped_run status.ReadFault h same =
-      runs_of c source out None status.ReadFault (record { usage = λ e. cc; read_fault = λ _. h.1; written = record { write_fault = λ e. absurd (cc); unwritten = λ _ _. same } })
+      runs_of c source out None status.ReadFault (record { usage = λ e. cc; read_fault = λ _. h.1; read_well = λ away. absurd (away refl); written = record { write_fault = λ e. absurd (cc); written_well = λ e. absurd (cc); unwritten = λ _ _. same } })
       (unread_none status.ReadFault) (made_none status.ReadFault)
       (told_some c source (λ bytes. Answered (Some c) bytes out status.ReadFault) reads
       (if_some (λ all. Unit {0}) _ (source.bytes source.old) (λ bytes _. no_answer c bytes out status.ReadFault (λ e. cc) (λ f e. cc) (λ e. cc)) (untold (source.bytes source.old))))
       (λ _ e. absurd (cc)) (λ _ e. absurd (cc)) h.0 (λ _. not_served c status.ReadFault (λ e. cc) (λ e. cc)) (none_opened c source status.ReadFault reads (λ e. cc) (λ e. cc)) (nothing_held c source out status.ReadFault) (nothing_traced c source out status.ReadFault reads)
   stopped_run status.NoMemory h same =
-      runs_of c source out None status.NoMemory (record { usage = λ e. cc; read_fault = λ e. absurd (cc); written = record { write_fault = λ e. absurd (cc); unwritten = λ _ _. same } })
+      runs_of c source out None status.NoMemory (record { usage = λ e. cc; read_fault = λ e. absurd (cc); read_well = λ _. h.1; written = record { write_fault = λ e. absurd (cc); written_well = λ e. absurd (cc); unwritten = λ _ _. same } })
       (unread_none status.NoMemory) (made_none status.NoMemory)
       (told_some c source (λ bytes. Answered (Some c) bytes out status.NoMemory) reads
       (if_some (λ all. Unit {0}) _ (source.bytes source.old) (λ bytes _. no_answer c bytes out status.NoMemory (λ e. cc) (λ f e. cc) (λ e. cc)) (untold (source.bytes source.old))))
@@ -258,7 +260,7 @@ module _ {I O : Type 0} (c : Command) (reads : is_reading (Some c) ≡ true) (so
   -- all was read, and answered
   pub read_run : (bytes : List ℕ) (s : Status) (closed : Option ClosedView) → HasRead (most_of c) source bytes → AnswersTo c bytes out s closed → Runs (Some c) source out s closed
   read_run bytes s closed h a =
-      runs_of c source out closed s (record { usage = a.usage; read_fault = λ e. absurd (a.read_fault e); written = a.written })
+      runs_of c source out closed s (record { usage = a.usage; read_fault = λ e. absurd (a.read_fault e); read_well = λ _. h.well; written = a.written })
       (unread_none s) (made_none s)
       (told_some c source (λ bs. Answered (Some c) bs out s) reads (if_some (λ all. bytes ≡ all) _ (source.bytes source.old) (λ all e. subst (λ bs. Answered (Some c) bs out s) e a.answered) h.all))
       (λ _ _. h.end)

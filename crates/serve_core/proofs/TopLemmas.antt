@@ -1,8 +1,7 @@
 -- Whole runs, from what their parts say.
-use Rattle.std.proofs.Common.{◌≡◌, ℕ, ◌+◌, ◌≤◌, Bool, true, false, List, [], ap, Option, Some, None, IfSome, refl, sym, subst, arith}
+use Rattle.std.proofs.Common.{◌≡◌, ℕ, ◌+◌, ◌≤◌, ◌⊎◌, inl, inr, Bool, true, false, List, [], ap, Option, Some, None, IfSome, refl, sym, subst, arith}
 use Rattle.session_values.specs.Limits.{max_input, max_requests}
-use Rattle.byte_ends.specs.Ends.{Grew, GrewByFront, LostAtMost}
-use Rattle.byte_ends.proofs.EndsLemmas.{front_of_all}
+use Rattle.byte_ends.specs.Ends.{Counted, Grew, GrewByFront, LostAtMost}
 use Rattle.session_hall.specs.Closings.{ClosedView}
 use Rattle.serve_words.specs.declared.command.Command.{Command}
 use Rattle.serve_words.specs.declared.command.Command.TheVariants.{Work, Ranges, Trace, Audit, Clients}
@@ -10,7 +9,7 @@ use Rattle.serve_words.specs.Commands.{IsWithinBounds}
 use Rattle.serve_faults.specs.declared.status.Status.{Status}
 use Rattle.serve_faults.specs.declared.status.Status.TheVariants as status
 use Rattle.serve_faults.specs.Commands.{is_reading}
-use Rattle.serve_faults.specs.Changes.{Change, IsUntouched}
+use Rattle.serve_faults.specs.Changes.{Change, Failed, IsUntouched, Took, TookFront}
 use Rattle.serve_faults.specs.Input.{max_audit_input, most_of}
 use Rattle.made_sessions.proofs.MadeSession.{unrefused}
 use Rattle.serve_core.specs.Commands.{serving}
@@ -24,10 +23,10 @@ nothing_lost : (o p : Option (List ℕ)) (most : ℕ) → p ≡ o → LostAtMost
 nothing_lost None p most e = tt
 nothing_lost (Some bytes) p most e = (0, omega arith, omega arith, e)
 
--- all of a text was written, or a front of it
-pub front_either : (b : Bool) (old new : Option (List ℕ)) (text : List ℕ) → (b ≡ true → Grew old new text) → (b ≡ false → GrewByFront old new text) → GrewByFront old new text
-front_either true old new text h k = front_of_all old new text (h refl)
-front_either false old new text h k = k refl
+-- all of a line was written, or a write failed
+pub told_line : {S : Type 0} (c : Change S) (text line : List ℕ) → text ≡ line → (b : Bool) → Counted b (c.faults c.old) (c.faults c.new) → (b ≡ true → Grew (c.bytes c.old) (c.bytes c.new) text) → (b ≡ false → GrewByFront (c.bytes c.old) (c.bytes c.new) text) → Took c line ⊎ Failed c × TookFront c line
+told_line c text line is true counted all front = inl (counted.0 refl, subst (Grew (c.bytes c.old) (c.bytes c.new)) is (all refl))
+told_line c text line is false counted all front = inr (counted.1 refl, subst (GrewByFront (c.bytes c.old) (c.bytes c.new)) is (front refl))
 
 -- the words of `work` are within their bounds
 pub few_requests : (o : Option Command) (requests start : ℕ) → o ≡ Some (Work requests start) → IfSome o IsWithinBounds → requests ≤ max_requests
@@ -36,6 +35,9 @@ few_requests o requests start is within = (let bounds : IsWithinBounds (Work req
 module _ {I O : Type 0} (source : Change I) (out : Change O) where
   abbrev same_bytes : IsUntouched source → source.bytes source.new ≡ source.bytes source.old
   same_bytes e = (let f : I → Option (List ℕ) = source.bytes in ap f e)
+
+  abbrev same_faults : IsUntouched source → source.faults source.new ≡ source.faults source.old
+  same_faults e = (let f : I → ℕ = source.faults in ap f e)
 
   -- the words are no command line
   pub usage_run : IsUntouched source → IsUntouched out → Runs None source out status.Usage None
@@ -47,7 +49,8 @@ module _ {I O : Type 0} (source : Change I) (out : Change O) where
     refusing = λ bytes f h ok. absurd h;
     complete = λ e. absurd (cc);
     read_fault = λ e. absurd (cc);
-    written = record { write_fault = λ e. absurd (cc); unwritten = λ _ _. same };
+    read_well = λ _. same_faults still;
+    written = record { write_fault = λ e. absurd (cc); written_well = λ e. absurd (cc); unwritten = λ _ _. same };
     end = λ e. absurd (cc);
     gone = λ e. absurd (cc);
     lost = nothing_lost (source.bytes source.old) (source.bytes source.new) 0 (same_bytes still);
@@ -61,7 +64,7 @@ module _ {I O : Type 0} (source : Change I) (out : Change O) where
   pub work_run : (requests start : ℕ) → requests ≤ max_requests → (s : Status) (closed : Option ClosedView) → IsUntouched source → ((bytes : List ℕ) → AnswersTo (Work requests start) bytes out s closed) → Runs (Some (Work requests start)) source out s closed
   work_run requests start few s closed still a =
       let one = a [] in
-      runs_of (Work requests start) source out closed s (record { usage = one.usage; read_fault = λ e. absurd (one.read_fault e); written = one.written })
+      runs_of (Work requests start) source out closed s (record { usage = one.usage; read_fault = λ e. absurd (one.read_fault e); read_well = λ _. same_faults still; written = one.written })
       (λ e. (still, one.read_fault))
       (λ e fault is. unrefused requests start few fault (one.answered.refused fault is))
       (λ bytes. (a bytes).answered)

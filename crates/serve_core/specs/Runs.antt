@@ -19,7 +19,7 @@ use Rattle.serve_faults.specs.declared.status.Status.TheVariants as status
 use Rattle.serve_faults.specs.Answer.{CommandAnswers, IsUnrefused}
 use Rattle.serve_faults.specs.Answer as answer
 use Rattle.serve_faults.specs.Clients.{client_counts}
-use Rattle.serve_faults.specs.Changes.{Change, Failed, IsUntouched, Took, TookFront}
+use Rattle.serve_faults.specs.Changes.{Change, Failed, HasNotFailed, IsUntouched, Took, TookFront}
 use Rattle.serve_faults.specs.Commands.{callers_of, input_of, is_reading, shards_of}
 use Rattle.serve_faults.specs.Input.{Parts, client_parts, most_of, parts_of}
 use Rattle.serve_faults.specs.Session.{IsSession, opened_of, requests_of, session_of_parts}
@@ -62,7 +62,10 @@ pub record Answered {O : Type 0} (command : Option Command) (bytes : List ℕ) (
 
 -- what becomes of the output
 pub record Written {O : Type 0} (out : Change O) (s : Status) : Type 0 where
+  -- One write failed, and none was tried after it.
   pub write_fault : s ≡ status.WriteFault → Failed out
+  -- Where a run ends well, none failed.
+  pub written_well : s ≡ status.Fine → HasNotFailed out
   -- With any other status than these two nothing is written.
   pub unwritten : s ≢ status.Fine → s ≢ status.WriteFault → IsUntouched out
 
@@ -186,8 +189,10 @@ pub record Runs {I O : Type 0} (command : Option Command) (source : Change I) (o
   -- wants memory.
   pub complete : is_some command ≡ true → Told command source (λ bytes. IsUnrefused command bytes
       → (Failed source → ⊥) → (Failed out → ⊥) → (s ≡ status.Fine) ⊎ (s ≡ status.NoMemory))
+  -- One read failed, and none was tried after it; with any other status none failed.
   pub read_fault : s ≡ status.ReadFault → Failed source
-  -- Its clauses are `write_fault` and `unwritten`.
+  pub read_well : s ≢ status.ReadFault → HasNotFailed source
+  -- Its clauses are `write_fault`, `written_well` and `unwritten`.
   pub written : Written out s
   -- The source was read to its end, or up to the first byte that is too many; never further.
   pub end : is_reading command ≡ true → has_read_all s ≡ true
@@ -205,7 +210,9 @@ pub record Runs {I O : Type 0} (command : Option Command) (source : Change I) (o
   -- What `trace` writes are the events of the journal of that hall.
   pub traced : Told command source (λ bytes. WroteJournal command bytes out s closed)
 
--- The line on the error output is the status's, or a front of it where that output failed.
+-- The line on the error output is the status's and no write of it failed; or a write failed, none was
+-- tried after it, and a front of the line stands there.
 pub record Tells {E : Type 0} (err : Change E) (s : Status) : Type 0 where
-  pub line : (Failed err → ⊥) → Took err (message_of s)
-  pub line_front : TookFront err (message_of s)
+  pub line : Took err (message_of s) ⊎ Failed err × TookFront err (message_of s)
+  -- A run that ends well writes none.
+  pub quiet : s ≡ status.Fine → IsUntouched err

@@ -29,8 +29,8 @@ use worker_gate::Gate;
 /// `source`, writes the command's text to `out` and, where it doesn't end well, one line to `err`;
 /// callers that serve pass the gate at each of its places. Its promises stand by name in
 /// `specs/Runs.antt`: usage, unread and made; fine, refused and front; refusing
-/// and complete; read_fault, write_fault and unwritten; end, gone and lost; served, ticketed, hall
-/// and traced; and, of the line, line and line_front.
+/// and complete; read_fault, read_well, write_fault, written_well and unwritten; end, gone and lost;
+/// served, ticketed, hall and traced; and, of the line, line and quiet.
 pub fn run<R: Threads + Wait + Sync, I: Source, O: Sink, E: Sink, G: Gate + Sync>(
     rt: &R,
     alloc: Global,

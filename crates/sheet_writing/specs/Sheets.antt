@@ -2,7 +2,7 @@
 use Rattle.std.specs.Prelude.{◌≡◌, ℕ, ◌+◌, ◌<◌, ◌≤◌, ◌⊎◌, List, Option, Some, Bool, true, false, length, take, slice_get}
 use Rattle.session_values.specs.declared.reply.Reply.{Reply}
 use Rattle.session_values.specs.ReplyText.{reply_text}
-use Rattle.byte_ends.specs.Ends.{Rose, Grew, GrewByFront}
+use Rattle.byte_ends.specs.Ends.{Counted, Rose, Grew, GrewByFront}
 use Rattle.reply_sheet.specs.Pending.{PendingView}
 use Rattle.sheet_writing.specs.declared.sheet.Sheet.{Sheet}
 
@@ -38,7 +38,7 @@ progress held faults sheet = record {
 -- written, or a fault broke writing off
 pub record Written (replies : List Reply) (names : List (List ℕ)) (first : Option (List ℕ))
     (first_faults : ℕ) (p : Progress) : Type 0 where
-  pub later : first_faults ≤ p.faults
+  pub well : p.failed ≡ false → p.faults ≡ first_faults
   pub within : p.failed ≡ false → p.next ≤ length replies
   pub so_far : p.failed ≡ false → Grew first p.held (reply_text names 0 (take p.next replies))
   pub rose : p.failed ≡ true → Rose first_faults p.faults
@@ -53,9 +53,8 @@ pub record GoesOn (replies : List Reply) (names : List (List ℕ)) (p q : Progre
 pub record IsWritten (replies : List Reply) (names : List (List ℕ)) (first now : Option (List ℕ))
     (first_faults now_faults : ℕ) (whole : Bool) : Type 0 where
   pub all : whole ≡ true → Grew first now (reply_text names 0 replies)
-  pub rose : whole ≡ false → Rose first_faults now_faults
+  pub faults : Counted whole first_faults now_faults
   pub front : whole ≡ false → GrewByFront first now (reply_text names 0 replies)
-  pub later : first_faults ≤ now_faults
 
 -- however far writing was, it ends so
 pub record Ends (replies : List Reply) (names : List (List ℕ)) (p : Progress)

@@ -1,7 +1,7 @@
 // Writing: the lines of a table.
 
-ghost use Rattle.std.specs.Prelude.{◌≡◌, ◌≤◌, ℕ, List, true, false};
-ghost use Rattle.byte_ends.specs.Ends.{Rose, Grew, GrewByFront};
+ghost use Rattle.std.specs.Prelude.{◌≡◌, ℕ, List, true, false};
+ghost use Rattle.byte_ends.specs.Ends.{Counted, Grew, GrewByFront};
 ghost use Rattle.session_values.specs.Names.{IsNamed};
 ghost use Rattle.session_values.specs.ReplyText.{IsPrintable};
 ghost use Rattle.session_values.specs.declared.value.Value.{Value};
@@ -35,10 +35,9 @@ pub fn write_entries<O: Sink>(
     requires entries { CanDump names.now kind entries.old }
     ensures all { result ≡ true
         → Grew (O.held out.old) (O.held out.new) (part_text names.now table kind entries.old) }
-    ensures fault { result ≡ false → Rose (O.faults out.old) (O.faults out.new) }
+    ensures faults { Counted result (O.faults out.old) (O.faults out.new) }
     ensures front { result ≡ false → GrewByFront (O.held out.old) (O.held out.new)
         (part_text names.now table kind entries.old) }
-    ensures later { O.faults out.old ≤ O.faults out.new }
 {
     put_in_order(entries, names);
     let _names = names.len();
@@ -58,10 +57,9 @@ fn write_lines<O: Sink>(
     requires printable { AllByRecursion (IsPrintableEntry names.now kind) entries.now }
     ensures all { result ≡ true
         → Grew (O.held out.old) (O.held out.new) (lines_of names.now table kind entries.now) }
-    ensures fault { result ≡ false → Rose (O.faults out.old) (O.faults out.new) }
+    ensures faults { Counted result (O.faults out.old) (O.faults out.new) }
     ensures front { result ≡ false → GrewByFront (O.held out.old) (O.held out.new)
         (lines_of names.now table kind entries.now) }
-    ensures later { O.faults out.old ≤ O.faults out.new }
 {
     buffer.clear();
     for i in 0..entries.len() {

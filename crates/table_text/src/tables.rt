@@ -1,7 +1,7 @@
 // Writing: the text of tables.
 
 ghost use Rattle.std.specs.Prelude.{◌≡◌, ◌<◌, ◌≤◌, Some, true, false, length, slice_get, vec_capacity};
-ghost use Rattle.byte_ends.specs.Ends.{Rose, Grew, GrewByFront};
+ghost use Rattle.byte_ends.specs.Ends.{Counted, Grew, GrewByFront};
 ghost use Rattle.opening_tables.specs.Opening.{entries_of};
 ghost use Rattle.table_text.specs.Dumped.{CanDumpAll, HaveRoom, dump_text};
 ghost use Rattle.table_text.specs.Lines.{head_text};
@@ -59,10 +59,9 @@ pub fn write_tables<O: Sink, T: TellsEntries>(
     requires room { HaveRoom (vec_capacity entries.old) (T.lists tables.now) }
     ensures all { result ≡ true → Grew (O.held out.old) (O.held out.new)
         (dump_text names.now decls.now (T.lists tables.now)) }
-    ensures fault { result ≡ false → Rose (O.faults out.old) (O.faults out.new) }
+    ensures faults { Counted result (O.faults out.old) (O.faults out.new) }
     ensures front { result ≡ false → GrewByFront (O.held out.old) (O.held out.new)
         (dump_text names.now decls.now (T.lists tables.now)) }
-    ensures later { O.faults out.old ≤ O.faults out.new }
 {
     if !write_head(out) {
         return false;
@@ -86,9 +85,8 @@ pub fn write_tables<O: Sink, T: TellsEntries>(
 // Writes the line with which the text begins.
 fn write_head<O: Sink>(out: &mut O) -> bool
     ensures all { result ≡ true → Grew (O.held out.old) (O.held out.new) head_text }
-    ensures fault { result ≡ false → Rose (O.faults out.old) (O.faults out.new) }
+    ensures faults { Counted result (O.faults out.old) (O.faults out.new) }
     ensures front { result ≡ false → GrewByFront (O.held out.old) (O.held out.new) head_text }
-    ensures later { O.faults out.old ≤ O.faults out.new }
 {
     write_all(out, b"%% tables\n")
 }

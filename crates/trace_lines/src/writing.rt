@@ -1,8 +1,8 @@
 // Writing: the text of a trace.
 
-ghost use Rattle.std.specs.Prelude.{◌≡◌, ◌≤◌, true, false};
+ghost use Rattle.std.specs.Prelude.{◌≡◌, true, false};
 ghost use Rattle.std.specs.List.{AllByRecursion};
-ghost use Rattle.byte_ends.specs.Ends.{Rose, Grew, GrewByFront};
+ghost use Rattle.byte_ends.specs.Ends.{Counted, Grew, GrewByFront};
 ghost use Rattle.trace_lines.specs.EventText.{CanWrite, head_text, trace_text};
 
 use crate::event_lines::{LONGEST, push_event_line};
@@ -24,10 +24,9 @@ pub fn write_events<O: Sink>(
     requires writable { AllByRecursion (CanWrite names.now tables.now) events.now }
     ensures all { result ≡ true
         → Grew (O.held out.old) (O.held out.new) (trace_text names.now tables.now events.now) }
-    ensures fault { result ≡ false → Rose (O.faults out.old) (O.faults out.new) }
+    ensures faults { Counted result (O.faults out.old) (O.faults out.new) }
     ensures front { result ≡ false → GrewByFront (O.held out.old) (O.held out.new)
         (trace_text names.now tables.now events.now) }
-    ensures later { O.faults out.old ≤ O.faults out.new }
 {
     push_head(buffer);
     for i in 0..events.len() {

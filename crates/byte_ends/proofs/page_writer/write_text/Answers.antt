@@ -9,4 +9,4 @@ returns g c =
     let paged = paged_end _ (paged_flush _ _ due.1 c.flush.ensures.put) in
     let name = c.flush.ensures.name ∙ due.0 ∙ over.name in
     let closed = closed_at g.O.Sink.held g.O.Sink.faults _ _ c.flush.new.self.out.now _ over.out (search rules) paged in
-    record { all = closed.all; fault = closed.fault; front = closed.front; later = closed.later }
+    record { all = closed.all; faults = closed.faults; front = closed.front }

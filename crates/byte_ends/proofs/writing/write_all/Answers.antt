@@ -1,4 +1,4 @@
-use Rattle.std.proofs.Common.{◌≡◌, ◌-◌, ◌++◌, IfSome, Some, take, drop, length, ap, subst, arith, length-drop}
+use Rattle.std.proofs.Common.{◌≡◌, ◌-◌, ◌++◌, IfSome, Some, take, drop, length, ap, ◌∙◌, subst, arith, length-drop}
 use Rattle.std.proofs.Math.Seq.{take-add}
 use Rattle.std.proofs.lemmas.List.{take_all}
 use Rattle.byte_ends.proofs.EndsLemmas.{grew_more}
@@ -15,5 +15,5 @@ pieces-preserved g c =
       grew = rw (take-add at c.in-Took.n bytes) (grew_more _ _ _ (take at bytes) (take c.in-Took.n (drop at bytes)) c.pieces.invariant.grew wrote);
       still = λ empty. absurd (omega (arith, ap length empty, c.pieces-test.true));
       within = omega (arith, takes.1, ap length tail, length-drop at bytes, c.pieces.invariant.within);
-      later = omega (arith, c.in-Took.ensures.later);
+      well = c.in-Took.ensures.counts ∙ c.pieces.invariant.well;
     }

@@ -7,7 +7,7 @@ invariant-pieces g l = record {
   grew : Grew (g.O.Sink.held l.fn.out) (g.O.Sink.held l.out) (take l.at l.bytes);
   still : l.bytes ≡ [] → l.out ≡ l.fn.out;
   within : l.at ≤ length l.bytes;
-  later : g.O.Sink.faults l.fn.out ≤ g.O.Sink.faults l.out;
+  well : g.O.Sink.faults l.out ≡ g.O.Sink.faults l.fn.out;
 }
 
 abbrev pub decreases-pieces : goal.decreases-pieces

@@ -1,4 +1,4 @@
-use Rattle.std.proofs.Common.{◌≤◌}
+use Rattle.std.proofs.Common.{◌≡◌}
 use Rattle.reply_sheet.proofs.TextLemmas.{Waits}
 use Rattle.client_sheet.specs.ClientText.{clients_text}
 use Rattle.client_sheet.proofs.TextLemmas.{text_to}
@@ -7,11 +7,11 @@ use Rattle.client_sheet.proofs.clients.write_clients.Given as goal
 abbrev pub invariant-loop-client : goal.invariant-loop-client
 invariant-loop-client g l = record {
   waits : Waits (g.O.Sink.held l.fn.out) (g.O.Sink.held l.out) l.buffer.held (clients_text l.names l.arrivals l.replies l.client);
-  later : g.O.Sink.faults l.fn.out ≤ g.O.Sink.faults l.out;
+  well : g.O.Sink.faults l.out ≡ g.O.Sink.faults l.fn.out;
 }
 
 abbrev pub invariant-loop-i : goal.invariant-loop-i
 invariant-loop-i g l = record {
   waits : Waits (g.O.Sink.held l.fn.out) (g.O.Sink.held l.out) l.buffer.held (text_to l.names l.arrivals l.replies l.client l.i);
-  later : g.O.Sink.faults l.fn.out ≤ g.O.Sink.faults l.out;
+  well : g.O.Sink.faults l.out ≡ g.O.Sink.faults l.fn.out;
 }

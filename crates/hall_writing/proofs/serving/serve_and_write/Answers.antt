@@ -37,17 +37,12 @@ returns-clause-all g c =
     (written g.S.Tickets.meaning c.session.inside.hall c.args.plan.now (search rules) c.close-closed.result c.close-closed.ensures.done _ (c.as_slice.ensures ∙ c.replies.ensures) _ _ _ _ _ c.session.invariant
     c.args.names.now (g.O.Sink.held c.args.out.now) (g.O.Sink.faults c.args.out.now) _ c.run_jobs-first.ensures.on _ _ _ c.write_rest-whole.ensures.ends).all
 
-pub returns-clause-rose : goal.returns-clause-rose
-returns-clause-rose g c =
+pub returns-clause-faults : goal.returns-clause-faults
+returns-clause-faults g c =
     (written g.S.Tickets.meaning c.session.inside.hall c.args.plan.now (search rules) c.close-closed.result c.close-closed.ensures.done _ (c.as_slice.ensures ∙ c.replies.ensures) _ _ _ _ _ c.session.invariant
-    c.args.names.now (g.O.Sink.held c.args.out.now) (g.O.Sink.faults c.args.out.now) _ c.run_jobs-first.ensures.on _ _ _ c.write_rest-whole.ensures.ends).rose
+    c.args.names.now (g.O.Sink.held c.args.out.now) (g.O.Sink.faults c.args.out.now) _ c.run_jobs-first.ensures.on _ _ _ c.write_rest-whole.ensures.ends).faults
 
 pub returns-clause-front : goal.returns-clause-front
 returns-clause-front g c =
     (written g.S.Tickets.meaning c.session.inside.hall c.args.plan.now (search rules) c.close-closed.result c.close-closed.ensures.done _ (c.as_slice.ensures ∙ c.replies.ensures) _ _ _ _ _ c.session.invariant
     c.args.names.now (g.O.Sink.held c.args.out.now) (g.O.Sink.faults c.args.out.now) _ c.run_jobs-first.ensures.on _ _ _ c.write_rest-whole.ensures.ends).front
-
-pub returns-clause-later : goal.returns-clause-later
-returns-clause-later g c =
-    (written g.S.Tickets.meaning c.session.inside.hall c.args.plan.now (search rules) c.close-closed.result c.close-closed.ensures.done _ (c.as_slice.ensures ∙ c.replies.ensures) _ _ _ _ _ c.session.invariant
-    c.args.names.now (g.O.Sink.held c.args.out.now) (g.O.Sink.faults c.args.out.now) _ c.run_jobs-first.ensures.on _ _ _ c.write_rest-whole.ensures.ends).later

@@ -27,7 +27,7 @@ returns-then-write_replies g c =
     let is : c.as_slice-replies.result.now ≡ c.args.served.now.replies.items = search rules in
     wrote (reply_text l.names 0 c.as_slice-replies.result.now) (asked_text false l.names l.program.file (session_of (meaning (script_of_loaded l)))) (change g.O.Sink.held g.O.Sink.faults c.args.out.now c.write_replies.new.out)
     (ap (λ (rs : List Reply). reply_text l.names 0 rs) is ∙ replied_is l c.requires.can c.args.served.now.replies.items c.args.served.now.tables c.requires.served)
-    (c.write_replies.ensures.all c.if-write_replies.true)
+    (c.write_replies.ensures.faults.0 c.if-write_replies.true, c.write_replies.ensures.all c.if-write_replies.true)
 
 pub returns : goal.returns
 returns g c =
@@ -35,4 +35,4 @@ returns g c =
     let is : c.as_slice-replies.result.now ≡ c.args.served.now.replies.items = search rules in
     wrote_front (reply_text l.names 0 c.as_slice-replies.result.now) (asked_text false l.names l.program.file (session_of (meaning (script_of_loaded l)))) (change g.O.Sink.held g.O.Sink.faults c.args.out.now c.write_replies.new.out)
     (ap (λ (rs : List Reply). reply_text l.names 0 rs) is ∙ replied_is l c.requires.can c.args.served.now.replies.items c.args.served.now.tables c.requires.served)
-    (c.write_replies.ensures.fault c.if-write_replies.false) (c.write_replies.ensures.front c.if-write_replies.false)
+    (c.write_replies.ensures.faults.1 c.if-write_replies.false) (c.write_replies.ensures.front c.if-write_replies.false)

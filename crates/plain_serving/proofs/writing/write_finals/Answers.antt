@@ -31,7 +31,7 @@ returns-then-write_tables g c =
     let is : c.as_slice-decls.result.now ≡ l.program.file.tables = search rules in
     wrote (dump_text l.names c.as_slice-decls.result.now (lists_in ps)) (asked_text true l.names l.program.file (session_of (meaning (script_of_loaded l)))) (change g.O.Sink.held g.O.Sink.faults c.args.out.now c.write_tables.new.out)
     (ap (λ (ts : List TableDecl). dump_text l.names ts (lists_in ps)) is ∙ dumped_is l c.requires.can ps c.args.served.now.replies.items c.args.served.now.tables c.parts-parts.ensures c.requires.served)
-    (c.write_tables.ensures.all c.if-write_tables.true)
+    (c.write_tables.ensures.faults.0 c.if-write_tables.true, c.write_tables.ensures.all c.if-write_tables.true)
 
 pub returns : goal.returns
 returns g c =
@@ -40,4 +40,4 @@ returns g c =
     let is : c.as_slice-decls.result.now ≡ l.program.file.tables = search rules in
     wrote_front (dump_text l.names c.as_slice-decls.result.now (lists_in ps)) (asked_text true l.names l.program.file (session_of (meaning (script_of_loaded l)))) (change g.O.Sink.held g.O.Sink.faults c.args.out.now c.write_tables.new.out)
     (ap (λ (ts : List TableDecl). dump_text l.names ts (lists_in ps)) is ∙ dumped_is l c.requires.can ps c.args.served.now.replies.items c.args.served.now.tables c.parts-parts.ensures c.requires.served)
-    (c.write_tables.ensures.fault c.if-write_tables.false) (c.write_tables.ensures.front c.if-write_tables.false)
+    (c.write_tables.ensures.faults.1 c.if-write_tables.false) (c.write_tables.ensures.front c.if-write_tables.false)

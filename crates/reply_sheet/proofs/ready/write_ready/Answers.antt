@@ -1,5 +1,5 @@
 -- Each line that is gathered is the next one, and at the end the next one is missing.
-use Rattle.std.proofs.Common.{[], refl, rules, sym, ap, ◌∙◌, subst, arith}
+use Rattle.std.proofs.Common.{[], refl, rules, sym, ap, ◌∙◌, subst}
 use Rattle.session_values.specs.ReplyText.{line_text}
 use Rattle.byte_ends.specs.Ends.{Grew, GrewByFront}
 use Rattle.reply_sheet.proofs.ReadyLemmas.{Reached, reached_none, reached_same, reached_written, reached_line, reached_broke, reached_here, reached_past}
@@ -9,7 +9,7 @@ use Rattle.reply_sheet.proofs.ready.write_ready.Goals as goal
 pub loop-ticket-init : goal.loop-ticket-init
 loop-ticket-init g c = record {
   reached = reached_none c.args.names.now c.args.pending.now.next c.args.pending.now.waiting (g.O.Sink.held c.args.out.now) c.clear.new.self.held c.clear.ensures.held;
-  later = omega arith;
+  well = refl;
 }
 
 pub returns-then-not-write_all-clause-onward : goal.returns-then-not-write_all-clause-onward
@@ -54,9 +54,9 @@ loop-ticket-preserved g c =
                 (subst (Grew (g.O.Sink.held c.loop-ticket.out) (g.O.Sink.held w.write_all.new.out)) w.bytes.ensures (w.write_all.ensures.all w.if-not-write_all.false)) refl)
             | else-not-reserve w ↦ reached_same names start all first _ _ _ _ next rest (ap g.O.Sink.held w.out-is) (ap (λ b. b.held) w.buffer-is ∙ c.reserve.ensures.held) c.loop-ticket.invariant.reached
           ]));
-      later = elim c.if-not-reserve.branch [
-        | then-not-reserve+else-not-write_all w ↦ omega (arith, ap g.O.Sink.faults w.out-is, w.write_all.ensures.later, c.loop-ticket.invariant.later)
-        | else-not-reserve w ↦ omega (arith, ap g.O.Sink.faults w.out-is, c.loop-ticket.invariant.later)
+      well = elim c.if-not-reserve.branch [
+        | then-not-reserve+else-not-write_all w ↦ ap g.O.Sink.faults w.out-is ∙ w.write_all.ensures.faults.0 w.if-not-write_all.false ∙ c.loop-ticket.invariant.well
+        | else-not-reserve w ↦ ap g.O.Sink.faults w.out-is ∙ c.loop-ticket.invariant.well
       ];
     }
 

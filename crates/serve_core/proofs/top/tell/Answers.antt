@@ -1,13 +1,15 @@
-use Rattle.std.proofs.Common.{◌∙◌, subst, rules}
-use Rattle.byte_ends.specs.Ends.{GrewByFront}
-use Rattle.serve_core.proofs.TopLemmas.{front_either}
+use Rattle.std.proofs.Common.{◌∙◌, ap}
+use Rattle.serve_faults.specs.Changes.{change}
+use Rattle.serve_faults.specs.Message.{message_of}
+use Rattle.serve_core.proofs.TopLemmas.{told_line}
 use Rattle.serve_core.proofs.top.tell.Goals as goal
 
 pub returns : goal.returns
 returns g c =
-    let old = g.E.Sink.held c.args.err.now in
-    let new = g.E.Sink.held c.write_all-told.new.out in
+    let w = c.write_all-told in
+    let is = c.as_bytes.ensures.value ∙ c.as_str.ensures.value ∙ c.message_of.ensures in
+    let err = change g.E.Sink.held g.E.Sink.faults c.args.err.now w.new.out in
     record {
-      line = search rules;
-      line_front = subst (GrewByFront old new) (c.as_bytes.ensures.value ∙ c.as_str.ensures.value ∙ c.message_of.ensures) (front_either c.write_all-told.result old new c.as_bytes.result.now c.write_all-told.ensures.all c.write_all-told.ensures.front);
+      line = told_line err c.as_bytes.result.now (message_of c.args.status.now) is w.result w.ensures.faults w.ensures.all w.ensures.front;
+      quiet = λ fine. (w.ensures.nothing (is ∙ ap message_of fine)).1;
     }

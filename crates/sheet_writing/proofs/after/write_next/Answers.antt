@@ -8,7 +8,7 @@ pub returns-clause-on : goal.returns-clause-on
 returns-clause-on g c replies keeps =
     let w = c.write_ready-whole in
     writes_next replies c.args.names.now c.args.sheet.now.pending.waiting (progress (g.O.Sink.held c.args.out.now) (g.O.Sink.faults c.args.out.now) c.args.sheet.now) (g.O.Sink.held w.new.out) (g.O.Sink.faults w.new.out) w.new.pending.next w.result
-    keeps c.if-sheet.false w.ensures.next w.ensures.all w.ensures.fault w.ensures.front w.ensures.later
+    keeps c.if-sheet.false w.ensures.next w.ensures.all w.ensures.faults w.ensures.front
 
 pub returns-clause-stops : goal.returns-clause-stops
 returns-clause-stops g c _ ok =

@@ -19,7 +19,6 @@ returns g c =
       failed = λ f. absurd (true≢false (sym f ∙ c.if-sheet.false));
       ends = writes_rest rs names (progress before (g.O.Sink.faults c.args.out.now) c.args.sheet) now (g.O.Sink.faults w.new.out) w.result c.if-sheet.false
           (λ ok. subst (λ (k : ℕ). Grew before now (reply_text names k (drop k rs))) c.next-next.ensures (subst (λ (l : List Reply). Grew before now (reply_text names c.next-next.result l)) (take_rest c.next-next.result rs) (w.ensures.all ok)))
-          w.ensures.fault
-          (λ no. subst (λ (k : ℕ). GrewByFront before now (reply_text names k (drop k rs))) c.next-next.ensures (subst (λ (l : List Reply). GrewByFront before now (reply_text names c.next-next.result l)) (take_rest c.next-next.result rs) (w.ensures.front no)))
-          w.ensures.later;
+          w.ensures.faults
+          (λ no. subst (λ (k : ℕ). GrewByFront before now (reply_text names k (drop k rs))) c.next-next.ensures (subst (λ (l : List Reply). GrewByFront before now (reply_text names c.next-next.result l)) (take_rest c.next-next.result rs) (w.ensures.front no)));
     }

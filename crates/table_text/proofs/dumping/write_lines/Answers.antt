@@ -1,4 +1,4 @@
-use Rattle.std.proofs.Common.{[], ◌++◌, Option, get_or, refl, rules, ap, ◌∙◌, subst, arith}
+use Rattle.std.proofs.Common.{[], ◌++◌, Option, get_or, refl, rules, ap, ◌∙◌, subst}
 use Rattle.byte_ends.specs.Ends.{Grew, GrewByFront}
 use Rattle.session_values.specs.declared.value.Value.TheVariants.{Nil}
 use Rattle.reply_sheet.proofs.TextLemmas.{waits_none, waits_same, waits_written, broke_off}
@@ -13,7 +13,7 @@ use Rattle.table_text.proofs.dumping.write_lines.Goals as goal
 pub loop-i-init : goal.loop-i-init
 loop-i-init g c = record {
   waits = waits_none (g.O.Sink.held c.args.out.now) c.clear.new.self.held (lines_of c.args.names.now c.args.table c.args.kind []) c.clear.ensures.held (no_lines c.args.names.now c.args.table c.args.kind);
-  later = search rules;
+  well = search rules;
 }
 
 pub returns-then-not-write_all-clause-front : goal.returns-then-not-write_all-clause-front
@@ -40,9 +40,9 @@ loop-i-preserved g c = record {
             (subst (Grew (g.O.Sink.held c.loop-i.out) (g.O.Sink.held w.write_all.new.out)) w.bytes.ensures (w.write_all.ensures.all w.if-not-write_all.false)) refl)
         | else-not-reserve w ↦ waits_same _ _ _ _ _ _ (ap g.O.Sink.held w.out-is) (ap (λ b. b.held) w.buffer-is ∙ c.reserve.ensures.held) c.loop-i.invariant.waits
       ]);
-  later = elim c.if-not-reserve.branch [
-    | then-not-reserve+else-not-write_all w ↦ omega (arith, ap g.O.Sink.faults w.out-is, w.write_all.ensures.later, c.loop-i.invariant.later)
-    | else-not-reserve w ↦ omega (arith, ap g.O.Sink.faults w.out-is, c.loop-i.invariant.later)
+  well = elim c.if-not-reserve.branch [
+    | then-not-reserve+else-not-write_all w ↦ ap g.O.Sink.faults w.out-is ∙ w.write_all.ensures.faults.0 w.if-not-write_all.false ∙ c.loop-i.invariant.well
+    | else-not-reserve w ↦ ap g.O.Sink.faults w.out-is ∙ c.loop-i.invariant.well
   ];
 }
 

@@ -1,4 +1,4 @@
-use Rattle.std.proofs.Common.{◌≤◌, take}
+use Rattle.std.proofs.Common.{◌≡◌, take}
 use Rattle.reply_sheet.proofs.TextLemmas.{Waits}
 use Rattle.table_text.specs.Lines.{lines_of}
 use Rattle.table_text.proofs.dumping.write_lines.Given as goal
@@ -6,5 +6,5 @@ use Rattle.table_text.proofs.dumping.write_lines.Given as goal
 abbrev pub invariant-loop-i : goal.invariant-loop-i
 invariant-loop-i g l = record {
   waits : Waits (g.O.Sink.held l.fn.out) (g.O.Sink.held l.out) l.buffer.held (lines_of l.names l.table l.kind (take l.i l.entries));
-  later : g.O.Sink.faults l.fn.out ≤ g.O.Sink.faults l.out;
+  well : g.O.Sink.faults l.out ≡ g.O.Sink.faults l.fn.out;
 }

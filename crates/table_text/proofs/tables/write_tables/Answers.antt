@@ -12,7 +12,7 @@ returns-then-not-write_head-clause-front g c _ =
 pub loop-table-init : goal.loop-table-init
 loop-table-init g c = record {
   grew = none_written c.args.names.now c.args.decls.now (g.T.TellsEntries.lists c.args.tables.now) (g.O.Sink.held c.args.out.now) (g.O.Sink.held c.write_head.new.out) (c.write_head.ensures.all c.if-not-write_head.false);
-  later = c.write_head.ensures.later;
+  well = c.write_head.ensures.faults.0 c.if-not-write_head.false;
   capacity = refl;
 }
 
@@ -40,7 +40,7 @@ pub loop-table-preserved : goal.loop-table-preserved
 loop-table-preserved g c = record {
   grew = part_written c.args.names.now c.args.decls.now (g.T.TellsEntries.lists c.args.tables.now) (g.O.Sink.held c.args.out.now) (g.O.Sink.held c.loop-table.out) (g.O.Sink.held c.write_entries.new.out) _ c.loop-table.table _ c.loop-table-test.true
       (c.as_mut_slice.ensures.value ∙ c.take_entries.ensures.items) c.loop-table.invariant.grew (c.write_entries.ensures.all c.if-not-write_entries.false);
-  later = omega (arith, c.write_entries.ensures.later, c.loop-table.invariant.later);
+  well = c.write_entries.ensures.faults.0 c.if-not-write_entries.false ∙ c.loop-table.invariant.well;
   capacity = c.take_entries.ensures.capacity ∙ c.loop-table.invariant.capacity;
 }
 
