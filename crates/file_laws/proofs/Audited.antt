@@ -8,14 +8,13 @@ use Rattle.session_values.specs.Names.{AreDistinct}
 use Rattle.session_values.specs.Serial.{Session}
 use Rattle.session_journal.specs.declared.event.Event.{Event}
 use Rattle.session_journal.specs.Script.{Meaning}
-use Rattle.handler_machine.proofs.Lawful.{is_script}
 use Rattle.handler_machine.specs.Scripts.{ScriptsView, meaning}
 use Rattle.handler_syntax.specs.Language.{File}
 use Rattle.handler_check.specs.Resolved.{shape_of}
 use Rattle.text_lines.specs.Bytes.{is_blank}
 use Rattle.text_lines.specs.Rows.{Row, rows}
 use Rattle.text_lines.specs.Text.{Text, lines}
-use Rattle.request_files.specs.Divide.{is_dividing, is_table_mark}
+use Rattle.request_files.specs.Divide.{is_dividing}
 use Rattle.request_files.specs.Requests.{no_requests}
 use Rattle.request_files.specs.TracePart.{before_trace, behind_trace, has_trace, is_trace_mark, line_behind_trace}
 use Rattle.serve_faults.specs.Command.TheVariants.{Audit}
@@ -32,11 +31,11 @@ use Rattle.serve_faults.specs.VerdictText.{accepted as accepted_line}
 use Rattle.serve_faults.proofs.AsRead.{accepted_as_read}
 use Rattle.serve_faults.proofs.WrittenBack.{trace_back, written_fine, written_trace}
 use Rattle.serve_faults.specs.Audited.{IsAudited}
-use Rattle.serve_faults.specs.Input.{IsInput, Parts, front_of, is_divided, parts_of, traced_fault}
+use Rattle.serve_faults.specs.Input.{IsInput, Parts, is_divided, parts_of, traced_fault}
 use Rattle.serve_faults.specs.Session.{IsSession, all_names_of, handler_names_of, opening_names_of, session_of_parts, table_rows_of}
 use Rattle.serve_faults.specs.Traced.{CanBeTold, IsTraced, table_places, traced_text}
-use Rattle.file_laws.proofs.ReadBack.{before_few, behind_few}
-use Rattle.file_laws.proofs.Sessions.{keeps, known_mid, symbols, view}
+use Rattle.file_laws.proofs.Sessions.{known_mid, lawful, symbols, view}
+use Rattle.file_laws.proofs.ShortParts.{AreShort, are_short}
 use Rattle.serve_faults.proofs.SymbolTexts.{handler_symbols, row_symbols}
 use Rattle.file_laws.proofs.Utf8.{ascii_behind}
 use Rattle.file_laws.specs.Joined.{AreReadBack, IsAcceptedTrace, MeetsLimits, joined}
@@ -80,23 +79,14 @@ module _ (input : Text) (marked : is_divided input ≡ true) (short : length inp
 
   -- ---- there are no more events than a trace may have
 
-  front_few : length (front_of input) ≤ 4194304
-  front_few = omega (arith, before_few is_dividing input, short)
-
-  handlers_few : length parts.handlers ≤ 4194304
-  handlers_few = omega (arith, before_few is_table_mark (front_of input), front_few)
-
-  tables_few : length parts.tables ≤ 4194304
-  tables_few = omega (arith, behind_few is_table_mark (front_of input), front_few)
-
-  requests_few : length parts.requests ≤ 4194304
-  requests_few = omega (arith, behind_few is_dividing input, short)
+  short_parts : AreShort parts
+  short_parts = are_short input short
 
   abbrev whole : ScriptsView
-  whole = view parts file is handlers_few tables_few requests_few
+  whole = view parts file is short_parts.handlers short_parts.tables short_parts.requests
 
   few : length es ≤ 440000
-  few = accepted_few (meaning whole) es (is_script whole (keeps parts file is handlers_few tables_few requests_few)) (accepted_back (meaning whole) es accepted)
+  few = accepted_few (meaning whole) es (lawful parts file is short_parts.handlers short_parts.tables short_parts.requests) (accepted_back (meaning whole) es accepted)
 
   -- ---- they read back
 

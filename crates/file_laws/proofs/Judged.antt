@@ -2,11 +2,9 @@
 use Rattle.std.proofs.Common.{◌≡◌, ℕ, ◌≤◌, List, [], ◌∷◌, length, ap, arith}
 use Rattle.session_journal.specs.declared.event.Event.{Event}
 use Rattle.session_journal.specs.Script.{Meaning, IsScript}
-use Rattle.handler_machine.proofs.Lawful.{is_script}
 use Rattle.handler_machine.specs.Scripts.{ScriptsView, meaning}
 use Rattle.handler_syntax.specs.Language.{File}
 use Rattle.text_lines.specs.Text.{Text}
-use Rattle.request_files.specs.Divide.{is_dividing, is_table_mark}
 use Rattle.request_files.specs.TracePart.{before_trace}
 use Rattle.serve_faults.specs.Command.TheVariants.{Audit}
 use Rattle.trace_rules.specs.Accepted.{Accepted}
@@ -19,10 +17,10 @@ use Rattle.trace_rules.proofs.Bare.{accepted_back}
 use Rattle.trace_rules.proofs.Serial.{same_entries, same_answer}
 use Rattle.serve_faults.specs.VerdictText.{accepted, verdict_text}
 use Rattle.serve_faults.specs.Audited.{IsAudited, audited_parts}
-use Rattle.serve_faults.specs.Input.{IsInput, Parts, front_of}
+use Rattle.serve_faults.specs.Input.{IsInput, Parts}
 use Rattle.serve_faults.specs.Session.{IsSession, session_of_parts}
-use Rattle.file_laws.proofs.ReadBack.{before_few, behind_few}
-use Rattle.file_laws.proofs.Sessions.{keeps, view}
+use Rattle.file_laws.proofs.Sessions.{lawful, view}
+use Rattle.file_laws.proofs.ShortParts.{AreShort, are_short}
 use Rattle.file_laws.specs.Judged.{AreSerial, IsSerialTrace}
 
 abbrev first_of : Text → ℕ
@@ -40,31 +38,22 @@ module _ (input : Text) (short : length (before_trace input) ≤ 4194304) (file 
   abbrev parts : Parts
   parts = audited_parts input
 
-  front_few : length (front_of (before_trace input)) ≤ 4194304
-  front_few = omega (arith, before_few is_dividing (before_trace input), short)
-
-  handlers_few : length parts.handlers ≤ 4194304
-  handlers_few = omega (arith, before_few is_table_mark (front_of (before_trace input)), front_few)
-
-  tables_few : length parts.tables ≤ 4194304
-  tables_few = omega (arith, behind_few is_table_mark (front_of (before_trace input)), front_few)
-
-  requests_few : length parts.requests ≤ 4194304
-  requests_few = omega (arith, behind_few is_dividing (before_trace input), short)
+  few : AreShort parts
+  few = are_short (before_trace input) short
 
   abbrev whole : ScriptsView
-  whole = view parts file is handlers_few tables_few requests_few
+  whole = view parts file is few.handlers few.tables few.requests
 
-  lawful : IsScript (meaning whole)
-  lawful = is_script whole (keeps parts file is handlers_few tables_few requests_few)
+  script : IsScript (meaning whole)
+  script = lawful parts file is few.handlers few.tables few.requests
 
   of_script : Accepted (meaning whole) J
   of_script = accepted_back (meaning whole) J a
 
   pub serial_are : AreSerial (session_of_parts parts file) J
   serial_are = record {
-    entries_are = λ t l. same_entries (meaning whole) J lawful of_script t l;
-    answers_are = λ t l. same_answer (meaning whole) J lawful of_script t l;
+    entries_are = λ t l. same_entries (meaning whole) J script of_script t l;
+    answers_are = λ t l. same_answer (meaning whole) J script of_script t l;
   }
 
 pub judged : (input : Text) (n : ℕ) → IsInput Audit input → IsAudited input (accepted n) → IsSerialTrace input

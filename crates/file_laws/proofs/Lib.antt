@@ -18,3 +18,8 @@ pub mod TraceSessions
 pub mod TraceNames
 pub mod Unmarked
 pub mod Judged
+pub mod JudgedRows
+pub mod SerialTrace
+pub mod ShortParts
+pub mod SomeAnswer
+pub mod SomeText

@@ -1,18 +1,16 @@
 -- What was dumped of a session reads back.
-use Rattle.std.proofs.Common.{◌≡◌, ℕ, suc, ◌<◌, ◌≤◌, Bool, true, false, List, [], ◌∷◌, ◌++◌, length, length-drop, map, IsUtf8, slice_get, Some, None, codes, refl, sym, ap, ◌∙◌, subst, arith}
-use Rattle.std.proofs.lemmas.List.{length-take}
+use Rattle.std.proofs.Common.{◌≡◌, ℕ, suc, ◌<◌, ◌≤◌, Bool, true, false, List, [], ◌∷◌, ◌++◌, length, map, IsUtf8, slice_get, Some, None, codes, refl, sym, ap, ◌∙◌, subst, arith}
 use Rattle.std.specs.List.{AllByRecursion}
 use Rattle.session_values.proofs.Lists.{all_join}
 use Rattle.serve_faults.specs.Command.TheVariants.{Dump}
 use Rattle.handler_syntax.specs.Language.{File, names_of}
 use Rattle.text_lines.specs.Text.{Text, lines}
 use Rattle.text_lines.proofs.WholeTexts.{line_joined}
-use Rattle.request_files.specs.Divide.{before, behind, head_size, is_dividing, is_table_mark, mark_size}
 use Rattle.table_lines.specs.TableText.{Entry, WrittenTable, all_entries, entries_text, table_text}
 use Rattle.table_lines.specs.ReadBack.{texts_of}
 use Rattle.table_lines.specs.TableRows.{table_of}
 use Rattle.serve_faults.specs.Answer.{IsDumped, dumped_text}
-use Rattle.serve_faults.specs.Input.{IsInput, Parts, divided_fault, front_of, is_divided, parts_of}
+use Rattle.serve_faults.specs.Input.{IsInput, Parts, divided_fault, is_divided, parts_of}
 use Rattle.serve_faults.specs.Session.{IsSession, all_names_of, table_fault, tables_text}
 use Rattle.file_laws.specs.Reopened.{EndsAlike, HasFewLines, OpensAsEnded, final_tables, reopened}
 use Rattle.file_laws.proofs.Again.{divided, final_of, first_of, new_final, new_fine, new_first, new_parts, new_session, parts_are, whole}
@@ -20,16 +18,9 @@ use Rattle.file_laws.proofs.Dividing.{IsFront, handlers_front}
 use Rattle.file_laws.proofs.EntryLines.{entries_ascii, entries_lines, line_of}
 use Rattle.file_laws.proofs.Sessions.{AreSayable, final_sayable, known, old_all}
 use Rattle.serve_faults.proofs.SymbolTexts.{AreSymbols, handler_symbols}
+use Rattle.file_laws.proofs.ShortParts.{are_short}
 use Rattle.file_laws.proofs.TableNames.{differ, texts_kept}
 use Rattle.file_laws.proofs.Utf8.{ascii_behind, handlers_utf8}
-
--- ---- the parts of an input are no longer than it
-
-pub before_few : (is : Text → Bool) (text : Text) → length (before is text) ≤ length text
-before_few is text = omega (arith, length-take (head_size is (lines text)) text)
-
-pub behind_few : (is : Text → Bool) (text : Text) → length (behind is text) ≤ length text
-behind_few is text = omega (arith, length-drop (mark_size is (lines text)) text)
 
 pub is_marked : (b : Bool) → divided_fault b ≡ None → b ≡ true
 is_marked true e = refl
@@ -49,11 +40,8 @@ module _ (input : Text) (file : File) (is : IsSession (parts_of input) file) (sh
   abbrev ws : List WrittenTable
   ws = final_tables input file
 
-  front_few : length (front_of input) ≤ 4194304
-  front_few = omega (arith, before_few is_dividing input, short)
-
   w : AreSayable old file.tables ws
-  w = final_sayable (parts_of input) file is (omega (arith, before_few is_table_mark (front_of input), front_few)) (omega (arith, behind_few is_table_mark (front_of input), front_few)) (omega (arith, behind_few is_dividing input, short))
+  w = let few = are_short input short in final_sayable (parts_of input) file is few.handlers few.tables few.requests
 
   front : IsFront handlers
   front = handlers_front input marked

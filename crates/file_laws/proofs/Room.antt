@@ -5,6 +5,8 @@ use Rattle.text_lines.specs.Text.{Text, lines, words}
 use Rattle.text_lines.specs.Values.{placed, placed_all}
 use Rattle.text_lines.proofs.RowLemmas.{behind_nil, behind_step}
 use Rattle.text_lines.proofs.TextLemmas.{total, total_le}
+use Rattle.trace_lines.specs.EventRows.{names_after, placed_literal, placed_literals}
+use Rattle.trace_lines.proofs.Placed.{after_nil, after_step, literal_length, literals_nil, literals_step}
 use Rattle.text_lines.proofs.ValueLemmas.{placed_all_nil, placed_all_step, placed_length}
 
 -- the words behind the first of each row
@@ -41,3 +43,13 @@ pub rows_few : (n : ℕ) (ls : List Text) → length (rows n ls) ≤ length ls
 unfolding rows
 rows_few n [] = omega arith
 rows_few n (l ∷ ls) = omega (arith, few_before n (words l) (rows (n + 1) ls), rows_few (n + 1) ls)
+
+-- ---- the names behind the lines of a trace part
+
+literals_room : (names ws : List Text) → length (placed_literals names ws) ≤ length names + length ws
+literals_room names [] = omega (arith, ap length (literals_nil names))
+literals_room names (w ∷ ws) = omega (arith, ap length (literals_step names w ws), literals_room (placed_literal names w) ws, literal_length names w)
+
+pub after_room : (names : List Text) (rs : List Row) → length (names_after names rs) ≤ length names + args_total rs
+after_room names [] = omega (arith, ap length (after_nil names))
+after_room names (r ∷ rs) = omega (arith, ap length (after_step names r rs), after_room (placed_literals names r.args) rs, literals_room names r.args)

@@ -16,7 +16,7 @@ use Rattle.session_journal.proofs.Serial.{serve-answers, serve-calls}
 use Rattle.session_journal.proofs.Serving.{serial_values}
 use Rattle.session_journal.proofs.Values.{AreReplies, step_values}
 
-abbrev GivesValues : Dialogue → Type 0
+abbrev pub GivesValues : Dialogue → Type 0
 GivesValues f = (more : List Value) → AllByRecursion IsValue more → HasValues (f more)
 
 record IsKept (ts : Tables) (s : Served) : Type 0 where

@@ -29,6 +29,7 @@ use Rattle.table_lines.specs.TableText.{WrittenTable, all_entries, written_table
 use Rattle.table_lines.specs.ReadBack.{texts_of, written_kind}
 use Rattle.table_lines.specs.TableRows.{AreKnown, ArePrintable as ArePrintableEntries}
 use Rattle.table_lines.proofs.Going.{named_known, tables_printable}
+use Rattle.session_journal.specs.Script.{IsScript}
 use Rattle.handler_machine.proofs.Lawful.{is_script}
 use Rattle.handler_machine.specs.Scripts.{KeepsScripts, ScriptsView, meaning}
 use Rattle.serve_faults.specs.Input.{Parts}
@@ -94,6 +95,9 @@ module _ (parts : Parts) (file : File) (is : IsSession parts file) where
   pub known_mid : AreHandlers (opening_names_of parts) file
   known_mid = handlers_kept (handler_names_of parts) (opening_names_of parts) file old_mid (handlers_known (handler_names_of parts) file below)
 
+  pub named_all : IsNamedFile (all_names_of parts) file
+  named_all = mentions_kept (handler_names_of parts) (all_names_of parts) old_all (file_mentions file) named_old
+
   pub symbols : AreSymbols (all_names_of parts)
   symbols = row_symbols (opening_names_of parts) (rows_of parts) (row_symbols (handler_names_of parts) (table_rows_of parts) (handler_symbols parts.handlers))
 
@@ -107,6 +111,9 @@ module _ (parts : Parts) (file : File) (is : IsSession parts file) where
     few_mid : length (opening_names_of parts) ≤ 8388608
     few_mid = omega (arith, behind_room (handler_names_of parts) (table_rows_of parts), few_old, text_total parts.first_table parts.tables, t)
 
+    pub few_all : length (all_names_of parts) ≤ 12582912
+    few_all = omega (arith, behind_room (opening_names_of parts) (rows_of parts), few_mid, text_total parts.first parts.requests, q)
+
     served : IsServable file (requests_of parts file)
     served = servable (opening_names_of parts) file (rows_of parts) known_mid is.requests (omega (arith, few_mid, text_total parts.first parts.requests, q))
 
@@ -119,18 +126,21 @@ module _ (parts : Parts) (file : File) (is : IsSession parts file) where
     pub keeps : KeepsScripts view
     keeps = record { program = record { accepted = is.program.accepted; bounds = bounds; later = is.program.later }; opening = opened.opens; servable = served }
 
-    held : AreHeld (meaning view) (tables_before (session_of_parts parts file) (session_of_parts parts file).requests)
-    held = held_before (meaning view) (is_script view keeps) (length (requests_of parts file)) (omega arith)
+    pub lawful : IsScript (meaning view)
+    lawful = is_script view keeps
 
-    opens_print : ArePrintableEntries (all_names_of parts) (opened_of parts file)
+    held : AreHeld (meaning view) (tables_before (session_of_parts parts file) (session_of_parts parts file).requests)
+    held = held_before (meaning view) lawful (length (requests_of parts file)) (omega arith)
+
+    pub opens_print : ArePrintableEntries (all_names_of parts) (opened_of parts file)
     opens_print = lists_kept (opening_names_of parts) (all_names_of parts) (opened_of parts file) mid_all (tables_printable (handler_names_of parts) (opening_names_of parts) file.tables (table_rows_of parts) (opened_of parts file) opened.tables)
 
-    requests_print : ArePrintable (all_names_of parts) (requests_of parts file)
+    pub requests_print : ArePrintable (all_names_of parts) (requests_of parts file)
     requests_print = printable (opening_names_of parts) (all_names_of parts) file (rows_of parts) (requests_of parts file) (are_requests (opening_names_of parts) file (rows_of parts) known_mid is.requests)
 
     print : AllByRecursion (IsPrintableTable (all_names_of parts)) (tables_before (session_of_parts parts file) (session_of_parts parts file).requests)
     print =
-        tables_hold (all_names_of parts) file (opened_of parts file) (requests_of parts file) (mentions_kept (handler_names_of parts) (all_names_of parts) old_all (file_mentions file) named_old) opens_print requests_print
+        tables_hold (all_names_of parts) file (opened_of parts file) (requests_of parts file) named_all opens_print requests_print
         (length (requests_of parts file))
 
     -- the tables behind the serial run can be written as a table part of the same handlers

@@ -1,9 +1,9 @@
-// Laws of dumps and of traces: each is the contract of a function with an empty body.
+// Laws of dumps, of traces and of answers: each is the contract of a function with an empty body.
 
 ghost use Rattle.std.specs.Prelude.{ℕ, List, [], Some};
 ghost use Rattle.serve_faults.specs.Command.TheVariants.{Audit, Dump, Trace};
 ghost use Rattle.handler_syntax.specs.Language.{File};
-ghost use Rattle.serve_faults.specs.Answer.{CommandAnswers, Text, dumped_text};
+ghost use Rattle.serve_faults.specs.Answer.{Answer, CommandAnswers, IsAnswer, Text, dumped_text};
 ghost use Rattle.serve_faults.specs.Input.{IsInput, parts_of};
 ghost use Rattle.serve_faults.specs.Session.{IsSession};
 ghost use Rattle.serve_faults.specs.VerdictText.{accepted};
@@ -46,4 +46,11 @@ pub fn traces_are_accepted()
 pub fn accepted_traces_are_serial()
     ensures { (input : List ℕ) (events : ℕ)
         → CommandAnswers (Some Audit) input (Text (accepted events)) → IsSerialTrace input }
+{}
+
+/// Each command line has an answer to each input: usage, the first rule that the input breaks, or a
+/// text.
+pub fn some_answer()
+    ensures { (words : List (List ℕ)) (bytes : List ℕ)
+        → (answer : Answer) × IsAnswer words bytes answer }
 {}

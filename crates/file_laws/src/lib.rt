@@ -1,8 +1,8 @@
-//! Laws over what whole commands answer to whole files: what `dump` writes reads back, behind the
-//! same handlers it opens the same tables; the trace of a session is accepted; and what
-//! is accepted is serial.
+//! Laws over what whole commands answer to whole files: there is an answer to each; what `dump`
+//! writes reads back, behind the same handlers it opens the same tables; the trace of a session is
+//! accepted; and what is accepted is serial.
 #![tactic(auto)]
 
 mod laws;
 
-pub use laws::{accepted_traces_are_serial, dumps_read_back, traces_are_accepted};
+pub use laws::{accepted_traces_are_serial, dumps_read_back, some_answer, traces_are_accepted};

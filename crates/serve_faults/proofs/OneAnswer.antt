@@ -89,31 +89,6 @@ text_or_refused c input t f i h r = by (inner c input f i r) where
   by (inr (inr (inr (inr (inl a))))) = no_trace c input t a.0 h a.2 a.3
   by (inr (inr (inr (inr (inr a))))) = no_range c input t a.0 h a.2 a.3
 
--- a session with a trace part without a fault breaks no rule
-pub unbroken : (input : List ℕ) (file : File) → IsInput Audit input → IsSession (audited_parts input) file → trace_fault input file ≡ None → (f : Fault) → IsRefused Audit input f → ⊥
-unbroken input file i s fine f r = by (inner Audit input f i r) where
-  by : Inner Audit input f → ⊥
-  by (inl a) = no_syntax (handlers_of Audit input) a.0 file a.2 s.program.form
-  by (inr (inl a)) = no_check (handlers_of Audit input) a.0 file a.2 s.program
-  by (inr (inr (inl a))) = no_analysis (handlers_of Audit input) a.0 file a.2 s.program
-  by (inr (inr (inr (inl a)))) = no_line_fault Audit input f file s a.1
-  by (inr (inr (inr (inr (inl a))))) = no_fault_of input file s fine a.0 a.3
-  by (inr (inr (inr (inr (inr a))))) = false≢true (sym a.2)
-
--- nor is a session, where no trace is judged
-pub session_unrefused : (c : Command) (input : List ℕ) (file : File) (f : Fault) → has_requests c ≡ true → is_judging c ≡ false → IsInput c input → IsSession (parts_in c input) file → IsRefused c input f → ⊥
-session_unrefused c input file f has other i s r = by (inner c input f i r) where
-  program : IsProgram (handlers_of c input) file
-  program = program_of c input file has s.program
-
-  by : Inner c input f → ⊥
-  by (inl a) = no_syntax (handlers_of c input) a.0 file a.2 program.form
-  by (inr (inl a)) = no_check (handlers_of c input) a.0 file a.2 program
-  by (inr (inr (inl a))) = no_analysis (handlers_of c input) a.0 file a.2 program
-  by (inr (inr (inr (inl a)))) = no_line_fault c input f file s a.1
-  by (inr (inr (inr (inr (inl a))))) = false≢true (sym other ∙ a.2)
-  by (inr (inr (inr (inr (inr a))))) = false≢true (sym a.2 ∙ serving c input has)
-
 -- ---- one answer at most
 same_text : (c : Command) (input s t : List ℕ) → fixes_text c ≡ true → IsTextOf c input s → IsTextOf c input t → s ≡ t
 same_text Check input s t e h k = h.text_is ∙ ap (canonical_text (names_of [] input)) (one_tree [] input h.file k.file h.program.form k.program.form) ∙ sym k.text_is

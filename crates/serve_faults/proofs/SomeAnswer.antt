@@ -1,4 +1,4 @@
--- Each command line has an answer to each input.
+-- Each command has an answer to each input, or has to write what the events of a session tell.
 use Rattle.std.proofs.Common.{◌≡◌, ℕ, ◌<◌, ◌≤◌, ◌⊎◌, inl, inr, Bool, true, false, List, [], length, Option, Some, None, refl, sym, ◌∙◌}
 use Rattle.std.specs.Prelude.{IsUtf8, nat_le, if◌then◌else◌}
 use Rattle.std.specs.Str.{is_utf8}
@@ -24,7 +24,7 @@ use Rattle.serve_words.specs.declared.command.Command.TheVariants.{Check, Show, 
 use Rattle.serve_words.specs.Commands.{command_of}
 use Rattle.serve_faults.specs.declared.status.Fault.{Fault}
 use Rattle.serve_faults.specs.declared.status.Fault.TheVariants as fault
-use Rattle.serve_faults.specs.Commands.{has_text, input_of, has_handlers, has_requests}
+use Rattle.serve_faults.specs.Commands.{input_of, has_handlers, has_requests}
 use Rattle.serve_faults.specs.Audited.{audited_parts, trace_fault}
 use Rattle.serve_faults.specs.Clients.{client_counts, session_of_arrivals}
 use Rattle.client_sheet.specs.declared.arrival.Arrival.{Arrival}
@@ -34,13 +34,25 @@ use Rattle.session_values.specs.Serial.{serial_replies}
 use Rattle.request_files.specs.TracePart.{before_trace, has_trace}
 use Rattle.serve_faults.specs.Input.{parts_in, parts_of, parts_fault, alone_fault, divided_fault, traced_fault, clients_fault, client_marks, client_parts, has_mark, is_divided, handlers_of, max_audit_input, IsInput, IsShort, IsTooLarge}
 use Rattle.serve_faults.specs.Session.{IsProgram, IsSession, all_names_of, request_fault, table_fault}
-use Rattle.serve_faults.specs.Answer.{Answer, Answers, CommandAnswers, HasAnswer, IsRefused, IsUnrefused, LacksText}
+use Rattle.serve_faults.specs.Answer.{Answer, Answers, CommandAnswers, IsAnswer}
 use Rattle.serve_faults.specs.Answer as answer
-use Rattle.serve_faults.proofs.OneAnswer.{session_unrefused, unbroken}
 
--- there is an answer, or no rule is broken, where the input doesn't fix the text
+-- The command has to write what events of a session tell: no rule is broken, and its text is that of
+-- a trace, or of a verdict.
+abbrev pub IsOfEvents : Command → List ℕ → Type 0
+IsOfEvents Check input = ⊥
+IsOfEvents Show input = ⊥
+IsOfEvents (Serve callers shards) input = ⊥
+IsOfEvents (Dump callers shards) input = ⊥
+IsOfEvents (Work requests start) input = ⊥
+IsOfEvents Ranges input = ⊥
+IsOfEvents (Trace callers shards) input = IsInput (Trace callers shards) input × (f : File) × IsSession (parts_of input) f
+IsOfEvents Audit input = IsInput Audit input × (f : File) × IsSession (audited_parts input) f × (trace_fault input f ≡ None)
+IsOfEvents (Clients callers shards) input = ⊥
+
+-- there is an answer, or such a text has to be written
 abbrev IsAnswered : Command → List ℕ → Type 0
-IsAnswered c input = ((a : Answer) × Answers c input a) ⊎ ((has_text c ≡ false) × ((f : Fault) → IsRefused c input f → ⊥))
+IsAnswered c input = ((a : Answer) × Answers c input a) ⊎ IsOfEvents c input
 
 -- ---- tables and requests
 
@@ -54,9 +66,9 @@ module _ (c : Command) (input : List ℕ) (f : File) (i : IsInput c input) (has 
   of_tables None e = of_requests (request_fault (parts_in c input) f) e refl
   of_tables (Some r) e = inl (answer.Refused (fault.Tables r), (i, has, record { file = f; program = p; first = e }))
 
--- a trace part with a fault is refused, and one without breaks no rule
+-- a trace part with a fault is refused, and one without is judged
 of_trace : (input : List ℕ) (f : File) → IsInput Audit input → IsSession (audited_parts input) f → (o : Option TraceRefusal) → trace_fault input f ≡ o → IsAnswered Audit input
-of_trace input f i s None e = inr (refl, unbroken input f i s e)
+of_trace input f i s None e = inr (i, f, s, e)
 of_trace input f i s (Some r) e = inl (answer.Refused (fault.Trace r), (i, refl, record { file = f; is_session = s; first = e }))
 
 of_program : (c : Command) (input : List ℕ) (f : File) → has_handlers c ≡ true → IsInput c input → IsProgram (handlers_of c input) f → IsAnswered c input
@@ -70,7 +82,7 @@ of_program (Work requests start) input f h i p =
     of_tables (Work requests start) input f i refl p (λ s. inl (answer.Text (answer.summary_of requests input f), (i, record { file = f; is_session = s; text_is = refl }))) (table_fault (parts_of input) f) refl
 of_program Ranges input f h i p = absurd (false≢true h)
 of_program (Trace callers shards) input f h i p =
-    of_tables (Trace callers shards) input f i refl p (λ s. inr (refl, λ e r. session_unrefused (Trace callers shards) input f e refl refl i s r)) (table_fault (parts_of input) f) refl
+    of_tables (Trace callers shards) input f i refl p (λ s. inr (i, f, s)) (table_fault (parts_of input) f) refl
 of_program Audit input f h i p = of_tables Audit input f i refl p (λ s. of_trace input f i s (trace_fault input f) refl) (table_fault (audited_parts input) f) refl
 of_program (Clients callers shards) input f h i p =
     of_tables (Clients callers shards) input f i refl p (λ s. inl (answer.Text (clients_text (all_names_of (client_parts input)) got (serial_replies (session_of_arrivals input f got) (length got)) (length (client_counts input))), (i, record { file = f; is_session = s; got = got; drawn = in_order_drawn (client_counts input); all = in_order_length 0 (client_counts input); text_is = refl }))) (table_fault (client_parts input) f) refl
@@ -187,14 +199,15 @@ of_size : (c : Command) (input : List ℕ) → IsTooLarge c input ⊎ IsShort c 
 of_size c input (inl long) = inl (answer.Refused fault.TooLarge, long)
 of_size c input (inr short) = of_bytes c input short (is_utf8 input) refl
 
--- what is said of a command is said of what its input is made of
-of_command : (c : Command) (bytes : List ℕ) → IsAnswered c (input_of c bytes) → ((a : Answer) × CommandAnswers (Some c) bytes a) ⊎ (LacksText (Some c) × IsUnrefused (Some c) bytes)
-of_command c bytes (inl a) = inl a
-of_command c bytes (inr u) = inr u
+-- where each such text can be written, each command line has an answer
+module _ (of_events : (c : Command) (bytes : List ℕ) → IsOfEvents c (input_of c bytes) → (a : Answer) × CommandAnswers (Some c) bytes a) where
+  of_command : (c : Command) (bytes : List ℕ) → IsAnswered c (input_of c bytes) → (a : Answer) × CommandAnswers (Some c) bytes a
+  of_command c bytes (inl a) = a
+  of_command c bytes (inr e) = of_events c bytes e
 
-of_words : (o : Option Command) (bytes : List ℕ) → ((a : Answer) × CommandAnswers o bytes a) ⊎ (LacksText o × IsUnrefused o bytes)
-of_words None bytes = inl (answer.Usage, tt)
-of_words (Some c) bytes = of_command c bytes (of_size c (input_of c bytes) (sized c (input_of c bytes)))
+  of_words : (o : Option Command) (bytes : List ℕ) → (a : Answer) × CommandAnswers o bytes a
+  of_words None bytes = (answer.Usage, tt)
+  of_words (Some c) bytes = of_command c bytes (of_size c (input_of c bytes) (sized c (input_of c bytes)))
 
-pub has_answer : (words : List (List ℕ)) (bytes : List ℕ) → HasAnswer words bytes
-has_answer words bytes = of_words (command_of words) bytes
+  pub has_answer : (words : List (List ℕ)) (bytes : List ℕ) → (a : Answer) × IsAnswer words bytes a
+  has_answer words bytes = of_words (command_of words) bytes

@@ -17,7 +17,7 @@ use Rattle.serve_words.specs.Commands.{command_of}
 use Rattle.serve_made.specs.Summary.{summary}
 use Rattle.serve_faults.specs.declared.status.Fault.{Fault}
 use Rattle.serve_faults.specs.declared.status.Fault.TheVariants as fault
-use Rattle.serve_faults.specs.Commands.{fixes_text, has_text, input_of, has_requests, has_handlers, is_judging}
+use Rattle.serve_faults.specs.Commands.{fixes_text, input_of, has_requests, has_handlers, is_judging}
 use Rattle.serve_faults.specs.Audited.{HasTraceFault, IsAudited}
 use Rattle.serve_faults.specs.Clients.{IsClientsText}
 use Rattle.serve_faults.specs.Input.{Parts, parts_in, parts_of, parts_fault, handlers_of, IsInput, IsShort, IsTooLarge}
@@ -191,16 +191,6 @@ IsAnswer words bytes answer = CommandAnswers (command_of words) bytes answer
 -- no rule is broken
 abbrev pub IsUnrefused : Option Command → List ℕ → Type 0
 IsUnrefused command bytes = (fault : Fault) → CommandAnswers command bytes (Refused fault) → ⊥
-
--- the words are a command of which it isn't said that there is a text where no rule is broken
-abbrev pub LacksText : Option Command → Type 0
-LacksText None = ⊥
-LacksText (Some command) = has_text command ≡ false
-
--- what a command answers to these bytes; of such a command, that it breaks no rule is enough
-abbrev pub HasAnswer : List (List ℕ) → List ℕ → Type 0
-HasAnswer words bytes = ((a : Answer) × IsAnswer words bytes a)
-    ⊎ (LacksText (command_of words) × IsUnrefused (command_of words) bytes)
 
 -- two answers are one, or two texts of a command whose text the input doesn't fix
 abbrev pub AreOne : List (List ℕ) → Answer → Answer → Type 0

@@ -115,15 +115,3 @@ fixes_text Ranges = true
 fixes_text (Trace callers shards) = false
 fixes_text Audit = true
 fixes_text (Clients callers shards) = false
-
--- whether it is said of a command that there is a text where no rule is broken
-abbrev pub has_text : Command → Bool
-has_text Check = true
-has_text Show = true
-has_text (Serve callers shards) = true
-has_text (Dump callers shards) = true
-has_text (Work requests start) = true
-has_text Ranges = true
-has_text (Trace callers shards) = false
-has_text Audit = false
-has_text (Clients callers shards) = true

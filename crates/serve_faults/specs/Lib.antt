@@ -19,6 +19,7 @@ pub use Rattle.table_lines.specs.TableRows
 pub use Rattle.request_files.specs.Divide
 pub use Rattle.request_files.specs.Laws
 pub use Rattle.request_files.specs.Requests
+pub use Rattle.trace_lines.specs.Bounds
 pub use Rattle.trace_lines.specs.EventRows
 pub use Rattle.trace_lines.specs.EventText
 pub use Rattle.trace_lines.specs.EventWords

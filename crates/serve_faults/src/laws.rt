@@ -8,7 +8,7 @@ ghost use Rattle.handler_syntax.specs.Language.{File, IsNamedFile};
 ghost use Rattle.request_files.specs.declared.request.Request.{Request};
 ghost use Rattle.request_files.specs.Requests.{ArePrintable};
 ghost use Rattle.request_files.specs.Session.{session};
-ghost use Rattle.serve_faults.specs.Answer.{Answer, AreOne, HasAnswer, IsAnswer};
+ghost use Rattle.serve_faults.specs.Answer.{Answer, AreOne, IsAnswer};
 ghost use Rattle.serve_faults.specs.Printable.{IsPrintableTable};
 ghost use Rattle.table_lines.specs.TableRows.{ArePrintable as ArePrintableEntries};
 ghost use Rattle.client_sheet.specs.Printable.{ArePrintableReplies};
@@ -30,12 +30,6 @@ ghost use Rattle.serve_faults.specs.Traced.{CanBeTold};
 pub fn one_answer()
     ensures { (words : List (List ℕ)) (bytes : List ℕ) (a b : Answer)
         → IsAnswer words bytes a → IsAnswer words bytes b → AreOne words a b }
-{}
-
-/// A command line and an input have an answer: usage, a first broken rule, or a text; or no rule is
-/// broken, where the input doesn't fix the command's text.
-pub fn some_answer()
-    ensures { (words : List (List ℕ)) (bytes : List ℕ) → HasAnswer words bytes }
 {}
 
 /// Where the symbols of a session's handlers, opening tables and requests have texts that a line

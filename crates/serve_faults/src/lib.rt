@@ -9,9 +9,7 @@ mod message;
 mod status;
 
 pub use certain::{Certain, Refusal};
-pub use laws::{
-    events_can_be_told, one_answer, replies_are_printable, some_answer, tables_are_printable,
-};
+pub use laws::{events_can_be_told, one_answer, replies_are_printable, tables_are_printable};
 pub use limits::MAX_AUDIT_INPUT;
 pub use message::message_of;
 pub use status::{Fault, Status};
