@@ -1,18 +1,9 @@
 //! The program: from its words, standard input and output to the top call.
 #![tactic(auto)]
 
-mod input;
-mod output;
-#[cfg(test)]
-mod tests;
-mod tries;
-mod words;
-
-use input::Input;
-use output::Output;
 use serve_core::{Status, run, tell};
+use standard_streams::{Input, Output, words};
 use std::process::ExitCode;
-use words::words;
 use worker_gate::OpenGate;
 
 fn main(rt: HostRuntime) -> ExitCode {

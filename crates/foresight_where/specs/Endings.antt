@@ -1,11 +1,11 @@
--- How a run ends, and what it writes before.
-use Rattle.std.specs.Prelude.{◌≡◌, ◌⊎◌, ℕ, ⊤, List, Option, None}
-use Rattle.std.specs.Io.KnownBytes.{Appends}
-use Rattle.refusal_advice.specs.Told.{IsTold}
-use Rattle.refusal_places.specs.Answers.{answer}
-use Rattle.refusal_places.specs.RuleTable.{rules_text}
+-- How a run ends: with which status, and with which line.
+use Rattle.std.specs.Prelude.{ℕ, List, [], ◌∷◌, ◌++◌, codes}
 use Rattle.foresight_where.specs.declared.ending.Ending.{Ending}
-use Rattle.foresight_where.specs.declared.ending.Ending.TheVariants.{Told, HandedOn, Usage, NoMemory, ReadFault, WriteFault}
+use Rattle.foresight_where.specs.declared.ending.Ending.TheVariants.{Told, HandedOn, Usage, NoMemory, ReadFault, TooLarge, WriteFault}
+
+-- the most bytes of an input or a file
+abbrev pub most : ℕ
+most = 67108864
 
 -- the number with which the program ends
 abbrev pub exit_status : Ending → ℕ
@@ -14,25 +14,23 @@ exit_status HandedOn = 1
 exit_status Usage = 2
 exit_status NoMemory = 3
 exit_status ReadFault = 4
+exit_status TooLarge = 4
 exit_status WriteFault = 5
 
--- What was written for a line and a file: with status 0 the text of the place, and behind it what
--- is advised there; with status 1 the line as it came. Faults of reading and other words end before that.
-abbrev pub IsShown : List ℕ → List ℕ → List ℕ → Option (List ℕ) → Option (List ℕ) → Ending → Type 0
-IsShown name file input old new Told =
-    (text : List ℕ) × IsTold name file input text × Appends old new text
-IsShown name file input old new HandedOn = (answer name file input ≡ None) × Appends old new input
-IsShown name file input old new Usage = ⊥
-IsShown name file input old new NoMemory = ⊤
-IsShown name file input old new ReadFault = ⊥
-IsShown name file input old new WriteFault = ⊤
+-- a text and a line feed
+abbrev pub ended : List ℕ → List ℕ
+ended text = text ++ 10 ∷ []
 
--- these bytes were written and it ended so, or writing failed
-abbrev pub IsWritten : List ℕ → Option (List ℕ) → Option (List ℕ) → Ending → Ending → Type 0
-IsWritten bytes old new wanted ending =
-    ((ending ≡ wanted) × Appends old new bytes) ⊎ (ending ≡ WriteFault)
+-- the line that tells the version
+abbrev pub version_line : List ℕ
+version_line = ended (codes "foresight_where 1.3")
 
--- what was written of the table of rules
-abbrev pub AreRulesShown : Option (List ℕ) → Option (List ℕ) → Ending → Type 0
-AreRulesShown old new ending =
-    ((ending ≡ Told) × Appends old new rules_text) ⊎ ((ending ≡ NoMemory) ⊎ (ending ≡ WriteFault))
+-- the line on the error output; none where all is written
+abbrev pub line_of : Ending → List ℕ
+line_of Told = []
+line_of HandedOn = []
+line_of Usage = ended (codes "usage: foresight_where FILE | --rules | --version")
+line_of NoMemory = ended (codes "no memory")
+line_of ReadFault = ended (codes "read fault")
+line_of TooLarge = ended (codes "too large")
+line_of WriteFault = ended (codes "write fault")

@@ -1,1 +1,4 @@
 pub mod Endings
+pub mod Reading
+pub mod Showing
+pub mod Runs

@@ -1,22 +1,45 @@
 // Reading the input and the file.
 
-ghost use Rattle.std.specs.Prelude.{◌≡◌, ◌≤◌, vec_len, IfOk, IfSome};
+ghost use Rattle.std.specs.Prelude.{IfOk, IfErr};
+ghost use Rattle.foresight_where.specs.Reading.{HasRead, StoppedAs, StopsAs};
 
 use crate::ending::Ending;
-use crate::showing::MOST;
+use byte_ends::{Source, Unread, read_up_to};
+use standard_streams::{Opened, OpensFiles};
 use std::alloc::Global;
-use std::io::{ErrorKind, Read};
 
-/// All that the reader has left, which is at most `MOST` bytes.
-pub(crate) fn read_bytes<R: Read + Drop>(alloc: Global, reader: R) -> Result<Vec<u8>, Ending>
-    ensures bound { IfOk result (λ bytes. vec_len bytes ≤ 67108864) }
-    ensures bytes { IfOk result (λ bytes. IfSome (R.remaining reader)
-        (λ all. bytes.items ≡ all)) }
+/// The most bytes of an input or a file.
+const MOST: usize = 67108864;
+
+/// All that the source has, or how a run ends that can't read it.
+pub(crate) fn read_bytes<I: Source>(alloc: Global, source: &mut I) -> Result<Vec<u8>, Ending>
+    ensures read { IfOk result (λ bytes. HasRead (I.left source.old) (I.left source.new)
+        (I.faults source.old) (I.faults source.new) bytes.items) }
+    ensures stopped { IfErr result (StoppedAs (I.left source.old) (I.left source.new)
+        (I.faults source.old) (I.faults source.new)) }
 {
-    let mut bytes = Vec::new(alloc);
-    match reader.take(MOST as u64 + 1).read_to_end(&mut bytes) {
-        Ok(_) if bytes.len() <= MOST => Ok(bytes),
-        Err(e) if e.kind() == ErrorKind::OutOfMemory => Err(Ending::NoMemory),
-        _ => Err(Ending::ReadFault),
+    match read_up_to(alloc, source, MOST) {
+        Ok(bytes) => Ok(bytes),
+        Err(Unread::TooLarge) => Err(Ending::TooLarge),
+        Err(Unread::Failed) => Err(Ending::ReadFault),
+        Err(Unread::NoMemory) => Err(Ending::NoMemory),
+    }
+}
+
+/// All bytes of the file with this name, or how a run ends that can't read it.
+pub(crate) fn read_file<F: OpensFiles>(
+    alloc: Global,
+    name: &str,
+    files: &mut F,
+) -> Result<Vec<u8>, Ending>
+    ensures read { IfOk result (λ bytes. HasRead (F.bytes_of files.old name.now)
+        (F.left files.new) (F.faults files.old) (F.faults files.new) bytes.items) }
+    ensures stopped { IfErr result (StopsAs (F.bytes_of files.old name.now)
+        (F.faults files.old) (F.faults files.new)) }
+{
+    match files.open(name) {
+        Opened::Open => read_bytes(alloc, files),
+        Opened::Failed => Err(Ending::ReadFault),
+        Opened::NoMemory => Err(Ending::NoMemory),
     }
 }

@@ -1,0 +1,71 @@
+-- What is written, and what becomes of the output.
+use Rattle.std.specs.Prelude.{◌≡◌, ◌≢◌, ◌⊎◌, ℕ, Bool, true, false, List, Option, Some, None}
+use Rattle.refusal_advice.specs.Told.{IsTold}
+use Rattle.refusal_places.specs.Answers.{answer}
+use Rattle.standard_streams.specs.Changes.{Change, Failed, HasNotFailed, IsUntouched, Took, TookFront}
+use Rattle.foresight_where.specs.declared.ending.Ending.{Ending}
+use Rattle.foresight_where.specs.declared.ending.Ending.TheVariants.{Told, HandedOn, Usage, NoMemory, ReadFault, TooLarge, WriteFault}
+
+-- whether a run that ended so has written all
+abbrev pub has_written : Ending → Bool
+has_written Told = true
+has_written HandedOn = true
+has_written Usage = false
+has_written NoMemory = false
+has_written ReadFault = false
+has_written TooLarge = false
+has_written WriteFault = false
+
+-- whether a run that ended so came to its output
+abbrev pub has_begun_writing : Ending → Bool
+has_begun_writing WriteFault = true
+has_begun_writing e = has_written e
+
+-- what becomes of the output
+pub record Written {O : Type 0} (out : Change O) (e : Ending) : Type 0 where
+  -- One write failed, and none was tried after it; with any other ending none failed.
+  pub write_fault : e ≡ WriteFault → Failed out
+  pub written_well : e ≢ WriteFault → HasNotFailed out
+  -- Where the run didn't come to its output, nothing is written.
+  pub unwritten : has_begun_writing e ≡ false → IsUntouched out
+
+-- how a run ends by the text of a place, if there is one
+abbrev pub placed : Option (List ℕ) → Ending
+placed (Some text) = Told
+placed None = HandedOn
+
+-- what a run writes that ends so: the text of the place, and behind it what is advised there, or
+-- the input as it is
+abbrev pub IsTextOf : List ℕ → List ℕ → List ℕ → List ℕ → Ending → Type 0
+IsTextOf name input file text Told = IsTold name file input text
+IsTextOf name input file text HandedOn = text ≡ input
+IsTextOf name input file text _ = ⊥
+
+-- What follows is spoken of by this crate's functions alone.
+
+-- these bytes were written and it ended as wanted, or a write failed and a front of them stands
+-- there
+abbrev pub Writes : {O : Type 0} → List ℕ → Ending → Change O → Ending → Type 0
+Writes bytes wanted out e = ((e ≡ wanted) × Took out bytes)
+    ⊎ ((e ≡ WriteFault) × Failed out × TookFront out bytes)
+
+-- a run ends so that reads nothing more: it is at its output, or wants memory
+abbrev pub is_shown : Ending → Bool
+is_shown Told = true
+is_shown HandedOn = true
+is_shown Usage = false
+is_shown NoMemory = true
+is_shown ReadFault = false
+is_shown TooLarge = false
+is_shown WriteFault = true
+
+-- what is written for an input and a file
+pub record Shows {O : Type 0} (name input file : List ℕ) (out : Change O) (e : Ending)
+    : Type 0 where
+  pub ends : is_shown e ≡ true
+  pub ending : (e ≡ placed (answer name file input)) ⊎ ((e ≡ NoMemory) ⊎ (e ≡ WriteFault))
+  pub written : has_written e ≡ true
+      → (text : List ℕ) × IsTextOf name input file text e × Took out text
+  pub front : e ≡ WriteFault → (text : List ℕ)
+      × IsTextOf name input file text (placed (answer name file input)) × TookFront out text
+  pub output : Written out e

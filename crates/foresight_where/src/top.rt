@@ -1,0 +1,122 @@
+// The top call.
+
+ghost use Rattle.std.specs.Prelude.{◌≤◌, map, length, string_bytes};
+ghost use Rattle.standard_streams.specs.Changes.{change};
+ghost use Rattle.foresight_where.specs.Endings.{most};
+ghost use Rattle.foresight_where.specs.Runs.{EndsWithLine, Runs, RunsAlone, Places, PlacesIn};
+
+use crate::ending::Ending;
+use crate::reading::{read_bytes, read_file};
+use crate::showing::{show, show_rules, show_version};
+use byte_ends::{Sink, Source, write_all};
+use refusal_places::names_place;
+use standard_streams::OpensFiles;
+use std::alloc::Global;
+
+/// All that the program does: `words` are those after the program's name. It reads an input from
+/// `source` and, where that names a place, the file with the name that is the one word, writes the
+/// text of the place or the input as it is to `out`, or the table of rules or the version, and one
+/// line to `err` where none of these is written. Its promises stand by name in `specs/Runs.antt`.
+pub(crate) fn run<I: Source, F: OpensFiles, O: Sink, E: Sink>(
+    alloc: Global,
+    words: &[String],
+    source: &mut I,
+    files: &mut F,
+    out: &mut O,
+    err: &mut E,
+) -> Ending
+    ensures runs { Runs (map string_bytes words.now) (change I.left I.faults source.old source.new)
+        (change F.left F.faults files.old files.new) (F.bytes_of files.old)
+        (change O.held O.faults out.old out.new) result }
+    ensures line { EndsWithLine (change E.held E.faults err.old err.new) result }
+{
+    let ending = answer(alloc, words, source, files, out);
+    tell(ending, err);
+    ending
+}
+
+// What is done for these words.
+fn answer<I: Source, F: OpensFiles, O: Sink>(
+    alloc: Global,
+    words: &[String],
+    source: &mut I,
+    files: &mut F,
+    out: &mut O,
+) -> Ending
+    ensures { Runs (map string_bytes words.now) (change I.left I.faults source.old source.new)
+        (change F.left F.faults files.old files.new) (F.bytes_of files.old)
+        (change O.held O.faults out.old out.new) result }
+{
+    match words {
+        [word] => alone(alloc, word.as_str(), source, files, out),
+        _ => Ending::Usage,
+    }
+}
+
+// What is done for one word.
+fn alone<I: Source, F: OpensFiles, O: Sink>(
+    alloc: Global,
+    word: &str,
+    source: &mut I,
+    files: &mut F,
+    out: &mut O,
+) -> Ending
+    ensures { RunsAlone word.now (change I.left I.faults source.old source.new)
+        (change F.left F.faults files.old files.new) (F.bytes_of files.old word.now)
+        (change O.held O.faults out.old out.new) result }
+{
+    if word == "--rules" {
+        show_rules(alloc, out)
+    } else if word == "--version" {
+        show_version(out)
+    } else {
+        place(alloc, word, source, files, out)
+    }
+}
+
+// Shows the place in the file with this name that the input names.
+fn place<I: Source, F: OpensFiles, O: Sink>(
+    alloc: Global,
+    name: &str,
+    source: &mut I,
+    files: &mut F,
+    out: &mut O,
+) -> Ending
+    ensures { Places name.now (change I.left I.faults source.old source.new)
+        (change F.left F.faults files.old files.new) (F.bytes_of files.old name.now)
+        (change O.held O.faults out.old out.new) result }
+{
+    match read_bytes(alloc, source) {
+        Ok(input) => place_in(alloc, name, &input, files, out),
+        Err(ending) => ending,
+    }
+}
+
+// Shows the place in the file with this name that these bytes name. The file is read only where
+// they name one.
+fn place_in<F: OpensFiles, O: Sink>(
+    alloc: Global,
+    name: &str,
+    input: &[u8],
+    files: &mut F,
+    out: &mut O,
+) -> Ending
+    requires { length input.now ≤ most }
+    ensures { PlacesIn name.now input.now (change F.left F.faults files.old files.new)
+        (F.bytes_of files.old name.now) (change O.held O.faults out.old out.new) result }
+{
+    if !names_place(input) {
+        return show(alloc, name, &[], input, out);
+    }
+    match read_file(alloc, name, files) {
+        Ok(file) => show(alloc, name, &file, input, out),
+        Err(ending) => ending,
+    }
+}
+
+/// Writes the line that tells how a run ended, as far as `err` takes it.
+pub(crate) fn tell<E: Sink>(ending: Ending, err: &mut E)
+    ensures { EndsWithLine (change E.held E.faults err.old err.new) ending }
+{
+    let _told = write_all(err, ending.line().as_bytes());
+}

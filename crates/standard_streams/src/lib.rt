@@ -1,0 +1,19 @@
+//! The streams of a program as sources and sinks: readers, files that are opened by name, and writers
+//! of std, each read and each write tried again where a signal interrupts it; and the words of the
+//! command line.
+#![tactic(auto)]
+
+mod command_words;
+mod file_input;
+mod input;
+mod opens_files;
+mod output;
+#[cfg(test)]
+mod tests;
+mod tries;
+
+pub use command_words::words;
+pub use file_input::FileInput;
+pub use input::Input;
+pub use opens_files::{Opened, OpensFiles};
+pub use output::Output;
