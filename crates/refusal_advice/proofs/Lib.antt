@@ -1,7 +1,13 @@
 pub mod Advised
+pub mod Appending
 pub mod ClassWords
+pub mod Earliest
 pub mod Faults
 pub mod Following
 pub mod Kept
+pub mod Nearing
+pub mod Rowing
+pub mod Ruling
 pub mod Stopping
 pub mod Telling
+pub mod Unlisted

@@ -6,8 +6,8 @@ use Rattle.std.proofs.lemmas.Str.{is_utf8-from_IsUtf8, IsUtf8-from_is_utf8}
 use Rattle.session_values.specs.Limits.{max_input}
 use Rattle.refusal_places.specs.Answers.{said_of}
 use Rattle.refusal_places.specs.Refusals.{Said}
-use Rattle.refusal_advice.specs.Advice.{IsAdvice}
-use Rattle.refusal_advice.specs.Told.{Either, IsAdviceIn, IsAdviceTo, handlers_of, is_readable}
+use Rattle.refusal_advice.specs.Told.{Either, IsAdviceIn, IsAdviceOn, IsAdviceTo, handlers_of, is_readable}
+use Rattle.refusal_advice.specs.declared.topic.Topic.{Topic}
 
 pub ok_map : {T E : Type 0} (P Q : T → Type 0) → ((x : T) → P x → Q x) → (r : Result T E) → IfOk r P → IfOk r Q
 ok_map P Q f (Ok x) h = f x h
@@ -19,17 +19,18 @@ fits n h = grind (arith, nat_tests, h)
 readable : (file : List ℕ) → length file ≤ max_input → IsUtf8 file → is_readable file ≡ true
 readable file h u = ap (λ b. b && is_utf8 file) (fits (length file) h) ∙ is_utf8-from_IsUtf8 file u
 
-pub of_text : (file : List ℕ) (at : ℕ) (part advice : List ℕ) → length file ≤ max_input → IsUtf8 file → part ≡ handlers_of file → IsAdvice part at advice → IsAdviceIn file at advice
-of_text file at part advice h u e a =
-    let A = IsAdvice (handlers_of file) at advice in
-    subst (λ b. Either b A (advice ≡ [])) (sym (readable file h u)) (subst (λ p. IsAdvice p at advice) e a)
+pub of_text : (t : Topic) (file : List ℕ) (at : ℕ) (part text advice : List ℕ) → length file ≤ max_input → IsUtf8 file → text ≡ file → part ≡ handlers_of text → IsAdviceOn t part text at advice → IsAdviceIn t file at advice
+of_text t file at part text advice h u s e a =
+    let A = IsAdviceOn t (handlers_of file) file at advice in
+    let b : IsAdviceOn t (handlers_of text) text at advice = subst (λ p. IsAdviceOn t p text at advice) e a in
+    subst (λ b. Either b A (advice ≡ [])) (sym (readable file h u)) (subst (λ l. IsAdviceOn t (handlers_of l) l at advice) s b)
 
-pub of_other : (file : List ℕ) (at : ℕ) (advice : List ℕ) → (IsUtf8 file → ⊥) → advice ≡ [] → IsAdviceIn file at advice
-of_other file at advice u e = by (is_utf8 file) refl
+pub of_other : (t : Topic) (file : List ℕ) (at : ℕ) (advice : List ℕ) → (IsUtf8 file → ⊥) → advice ≡ [] → IsAdviceIn t file at advice
+of_other t file at advice u e = by (is_utf8 file) refl
   where
-    by : (b : Bool) → is_utf8 file ≡ b → Either (nat_le (length file) max_input && is_utf8 file) (IsAdvice (handlers_of file) at advice) (advice ≡ [])
+    by : (b : Bool) → is_utf8 file ≡ b → Either (nat_le (length file) max_input && is_utf8 file) (IsAdviceOn t (handlers_of file) file at advice) (advice ≡ [])
     by true k = absurd (u (IsUtf8-from_is_utf8 file k))
-    by false k = subst (λ b. Either b (IsAdvice (handlers_of file) at advice) (advice ≡ [])) (sym (ap (λ b. nat_le (length file) max_input && b) k ∙ none (nat_le (length file) max_input))) e
+    by false k = subst (λ b. Either b (IsAdviceOn t (handlers_of file) file at advice) (advice ≡ [])) (sym (ap (λ b. nat_le (length file) max_input && b) k ∙ none (nat_le (length file) max_input))) e
       where
         none : (c : Bool) → (c && false) ≡ false
         none true = refl

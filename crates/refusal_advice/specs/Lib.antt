@@ -1,9 +1,16 @@
 pub mod Advice
 pub mod Classes
+pub mod Counts
+pub mod Earlier
 pub mod Following
 pub mod Hints
+pub mod Listings
+pub mod NoValues
 pub mod Parts
+pub mod Rows
+pub mod Rules
 pub mod Sentence
+pub mod Surroundings
 pub mod Token
 pub mod Told
 pub mod Walk

@@ -8,6 +8,12 @@ ghost use Rattle.refusal_places.specs.RuleTable.{row_of};
 ghost use Rattle.refusal_advice.specs.Told as spec;
 
 use crate::advice::advice_at;
+use crate::declared::declared_in;
+use crate::earlier::twice_advice;
+use crate::listing::Listing;
+use crate::row_line::row_advice;
+use crate::rule_line::rule_advice;
+use crate::topic::Topic;
 use refusal_places::{Place, Refusal, answer, refusal_of};
 use request_files::divide;
 use session_values::{MAX_INPUT, NoMemory};
@@ -18,6 +24,55 @@ fn is_of_grammar(word: &str) -> bool
     ensures { result ≡ spec.is_of_grammar word.now }
 {
     matches!(word, "S1" | "S2" | "S4")
+}
+
+/// What the rule with this word is about that is on a line.
+fn topic_of_line(word: &str) -> Topic
+    ensures { result ≡ spec.topic_of_line word.now }
+{
+    if word == "B1" {
+        Topic::TableLine
+    } else if word == "B2" {
+        Topic::TableCount
+    } else if word == "B3" || word == "Q3" {
+        Topic::NoValue
+    } else if word == "Q1" {
+        Topic::Request
+    } else if word == "Q2" {
+        Topic::RequestCount
+    } else {
+        Topic::Other
+    }
+}
+
+/// What the rule with this word is about.
+fn topic_of(word: &str) -> Topic
+    ensures { result ≡ spec.topic_of word.now }
+{
+    if is_of_grammar(word) {
+        Topic::Grammar
+    } else if word == "K1" {
+        Topic::Twice
+    } else if word == "K2" {
+        Topic::Unknown
+    } else if word == "K3" {
+        Topic::Arguments
+    } else if word == "K4" {
+        Topic::OtherKind
+    } else {
+        topic_of_line(word)
+    }
+}
+
+/// The byte or the number of the line that a place is.
+fn number_of(place: Place) -> Option<u32>
+    ensures { result ≡ spec.number_of place }
+{
+    match place {
+        Place::Byte(at) => Some(at),
+        Place::Line(line) => Some(line),
+        _ => None,
+    }
 }
 
 /// The handlers of a file, which are all of it where no line divides it.
@@ -31,15 +86,43 @@ fn handlers_of(text: &str) -> &str
     }
 }
 
-/// What is advised at a byte place of a file; nothing where it is no text, or too long for one.
-fn advice_in(alloc: Global, file: &[u8], at: u32) -> Result<Vec<u8>, NoMemory>
-    ensures { IfOk result (λ text. spec.IsAdviceIn file.now at text.items) }
+/// What is advised on a topic at a place of a text, of which this is the text of handlers.
+fn advice_on(
+    alloc: Global,
+    topic: Topic,
+    source: &str,
+    text: &str,
+    at: u32,
+) -> Result<Vec<u8>, NoMemory>
+    requires source { length source.now ≤ max_input }
+    requires text { length text.now ≤ max_input }
+    ensures { IfOk result (λ advice. spec.IsAdviceOn topic source.now text.now at advice.items) }
+{
+    match topic {
+        Topic::Grammar => advice_at(alloc, source, at),
+        Topic::Twice => twice_advice(alloc, source, at),
+        Topic::Unknown | Topic::Arguments | Topic::OtherKind => {
+            rule_advice(alloc, topic, source, at)
+        }
+        Topic::TableLine => declared_in(alloc, source, Listing::Tables),
+        Topic::Request => declared_in(alloc, source, Listing::Handlers),
+        Topic::RequestCount | Topic::TableCount | Topic::NoValue => {
+            row_advice(alloc, topic, source, text, at)
+        }
+        Topic::Other => Ok(Vec::new(alloc)),
+    }
+}
+
+/// What is advised on a topic at a place of a file; nothing where it is no text, or too long for
+/// one.
+fn advice_in(alloc: Global, topic: Topic, file: &[u8], at: u32) -> Result<Vec<u8>, NoMemory>
+    ensures { IfOk result (λ text. spec.IsAdviceIn topic file.now at text.items) }
 {
     if file.len() > MAX_INPUT {
         return Ok(Vec::new(alloc));
     }
     match std::str::from_utf8(file) {
-        Ok(text) => advice_at(alloc, handlers_of(text), at),
+        Ok(text) => advice_on(alloc, topic, handlers_of(text), text, at),
         Err(_) => Ok(Vec::new(alloc)),
     }
 }
@@ -49,9 +132,9 @@ pub fn advice_for(alloc: Global, file: &[u8], refusal: &Refusal) -> Result<Vec<u
     ensures { IfOk result (λ text. spec.IsAdviceFor file.now
         (said (row_of refusal.now.rule) refusal.now.place) text.items) }
 {
-    match refusal.place {
-        Place::Byte(at) if is_of_grammar(refusal.rule.word) => advice_in(alloc, file, at),
-        _ => Ok(Vec::new(alloc)),
+    match number_of(refusal.place) {
+        Some(at) => advice_in(alloc, topic_of(refusal.rule.word), file, at),
+        None => Ok(Vec::new(alloc)),
     }
 }
 

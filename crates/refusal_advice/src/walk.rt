@@ -91,7 +91,7 @@ fn whole_parts(alloc: Global) -> Result<Vec<Part>, NoMemory>
 }
 
 /// No names yet. Their hashes begin from a hash of the whole text.
-fn names_for(alloc: Global, source: &str) -> Names
+pub(crate) fn names_for(alloc: Global, source: &str) -> Names
     ensures { result ≡ [] }
 {
     let mut hasher = DefaultHasher::new();

@@ -1,0 +1,10 @@
+use Rattle.std.proofs.Common.{◌≡◌, ◌<◌, false, true, length, drop, sym, ap, ◌∙◌, arith}
+use Rattle.syntax_tokens.specs.declared.word.Sort.TheVariants as sort
+use Rattle.refusal_advice.specs.Surroundings.{is_end, nearby}
+use Rattle.refusal_advice.proofs.Nearing.{ended, passed, reached, shorter}
+use Rattle.refusal_advice.proofs.nearby.find.Goals as goal
+
+pub words-smaller : goal.words-smaller
+words-smaller c =
+    let less = shorter c.words.reader.words c.words.reader.end c.in_ok-word.word c.in_ok-word.ensures.word (sym c.is_end.ensures ∙ c.if-is_end.false) in
+    omega (arith, less, ap length c.in_ok-word.ensures.words)

@@ -1,0 +1,123 @@
+-- What is told where a rule above the grammar is broken: a function of the words around the place.
+use Rattle.std.specs.Prelude.{◌≡◌, ℕ, Bool, true, false, ◌&&◌, if◌then◌else◌, List, [], ◌∷◌, ◌++◌, Option, Some, None, codes}
+use Rattle.session_values.specs.Kinds.{home, word_of}
+use Rattle.session_values.specs.declared.kind.Kind.{Kind}
+use Rattle.session_values.specs.declared.kind.Kind.TheVariants.{Get, Put, Swap, Del, Size, Bump, Has, Add, Mark, Drop, Count}
+use Rattle.session_values.specs.declared.kind.TableKind.{TableKind}
+use Rattle.session_values.specs.declared.kind.TableKind.TheVariants.{Map, Set}
+use Rattle.syntax_tokens.specs.Words.{words_of}
+use Rattle.syntax_tokens.specs.declared.word.Sort.{Sort}
+use Rattle.syntax_tokens.specs.declared.word.Sort.TheVariants as sort
+use Rattle.refusal_advice.specs.Counts.{given_line, parts}
+use Rattle.refusal_advice.specs.Listings.{IsOfTree, line_of}
+use Rattle.refusal_advice.specs.Surroundings.{nearby}
+use Rattle.refusal_advice.specs.Token.{IsTokenAt}
+use Rattle.refusal_advice.specs.declared.listing.Listing.TheVariants as listing
+use Rattle.refusal_advice.specs.declared.nearby.Nearby.{Nearby}
+use Rattle.refusal_advice.specs.declared.topic.Topic.{Topic}
+use Rattle.refusal_advice.specs.declared.topic.Topic.TheVariants as topic
+
+-- the operation, if the word is one's
+abbrev pub operation_of : Sort → Option Kind
+operation_of (sort.Do k) = Some k
+operation_of _ = None
+
+-- the operation whose table's name stands behind these two words
+abbrev pub called : Sort → Sort → Option Kind
+called second sort.LeftParen = operation_of second
+called second _ = None
+
+abbrev pub is_assign : Sort → Bool
+is_assign sort.Assign = true
+is_assign _ = false
+
+-- ---- K2
+
+-- of a variable, behind which this word stands
+abbrev pub variable_text : List ℕ → Bool → List ℕ
+variable_text name true =
+    parts (codes "= no variable `") name (codes "` is visible here: `let ")
+    ++ (name ++ (codes " = ..` declares one" ++ 10 ∷ []))
+variable_text name false =
+    parts (codes "= no variable `") name (codes "` is visible here; a symbol has a quote, as `'")
+    ++ (name ++ (codes "`" ++ 10 ∷ []))
+
+-- of the table of an operation, or else of a variable
+abbrev pub unknown_text : Option Kind → List ℕ → Bool → List ℕ
+unknown_text (Some k) name assigned =
+    parts (codes "= no table `") name (codes "` is declared" ++ 10 ∷ [])
+unknown_text None name assigned = variable_text name assigned
+
+-- ---- K3
+
+-- what an operation takes
+abbrev pub taken_text : Kind → List ℕ
+taken_text Get = codes "` takes a key behind its table, and "
+taken_text Put = codes "` takes a key and a value behind its table, and "
+taken_text Swap = codes "` takes a key and a value behind its table, and "
+taken_text Del = codes "` takes a key behind its table, and "
+taken_text Size = codes "` takes nothing behind its table, and "
+taken_text Bump = codes "` takes a key and a number behind its table, and "
+taken_text Has = codes "` takes a key behind its table, and "
+taken_text Add = codes "` takes a key behind its table, and "
+taken_text Mark = codes "` takes a key behind its table, and "
+taken_text Drop = codes "` takes a key behind its table, and "
+taken_text Count = codes "` takes nothing behind its table, and "
+
+abbrev pub arguments_text : Option Kind → ℕ → List ℕ
+arguments_text None given = []
+arguments_text (Some k) given =
+    parts (codes "= `") (word_of k) (taken_text k) ++ given_line given
+
+-- ---- K4
+
+-- what stands between an operation's word and the name of a table of the other kind
+abbrev pub between : TableKind → List ℕ
+between Map = codes "` is an operation on maps, and `"
+between Set = codes "` is an operation on sets, and `"
+
+-- what stands behind it
+abbrev pub behind_name : TableKind → List ℕ
+behind_name Map = codes "` is a set" ++ 10 ∷ []
+behind_name Set = codes "` is a map" ++ 10 ∷ []
+
+abbrev pub kind_text : Option Kind → List ℕ → List ℕ
+kind_text None name = []
+kind_text (Some k) name =
+    parts (codes "= `") (word_of k) (between (home k)) ++ (name ++ behind_name (home k))
+
+-- ---- what is told
+
+-- the line on a word with this text
+abbrev pub rule_text : Topic → Nearby → List ℕ → List ℕ
+rule_text topic.Unknown n token = unknown_text (called n.second n.last) token (is_assign n.next)
+rule_text topic.Arguments n token = arguments_text (operation_of n.found) n.commas
+rule_text topic.OtherKind n token = kind_text (called n.second n.last) token
+rule_text t n token = []
+
+-- whether the tables are listed behind it: where one isn't declared
+abbrev pub is_listing : Topic → Option Kind → Bool
+is_listing topic.Unknown (Some k) = true
+is_listing t k = false
+
+-- the list of tables, or nothing
+abbrev pub IsList : Bool → List ℕ → List ℕ → Type 0
+IsList true source list = IsOfTree source (line_of listing.Tables) list
+IsList false source list = list ≡ []
+
+pub record IsRuleText (t : Topic) (source : List ℕ) (at : ℕ) (n : Nearby) (advice : List ℕ)
+    : Type 0 where
+  pub token : List ℕ
+  pub list : List ℕ
+  pub token_is : IsTokenAt source at token
+  pub listed : IsList (is_listing t (called n.second n.last)) source list
+  pub text_is : advice ≡ rule_text t n token ++ list
+
+-- the text on what stands around the place; nothing where no word begins there
+abbrev pub IsRuleTextBy : Topic → List ℕ → ℕ → Option Nearby → List ℕ → Type 0
+IsRuleTextBy t source at None advice = advice ≡ []
+IsRuleTextBy t source at (Some n) advice = IsRuleText t source at n advice
+
+abbrev pub IsRuleAdvice : Topic → List ℕ → ℕ → List ℕ → Type 0
+IsRuleAdvice t source at = IsRuleTextBy t source at
+    (nearby at sort.End sort.End (words_of [] source))
