@@ -4,6 +4,7 @@ use Rattle.std.specs.Io.KnownBytes.{Appends}
 use Rattle.waiting_pairs.specs.Message.{fault_line}
 use Rattle.waiting_pairs.specs.Limits.{max_input}
 use Rattle.waiting_pairs.specs.Told.{IsTold, IsUntold}
+use Rattle.waiting_pairs.specs.declared.form.Form.{Form}
 use Rattle.waiting_pairs.specs.Unserved.TheVariants as unserved
 use Rattle.foresight_waits.specs.declared.ending.Ending.{Ending}
 use Rattle.foresight_waits.specs.declared.ending.Ending.TheVariants.{Told, Refused, Usage, NoMemory, ReadFault, WriteFault}
@@ -17,17 +18,18 @@ exit_status NoMemory = 3
 exit_status ReadFault = 4
 exit_status WriteFault = 5
 
--- What was written for a file: with status 0 who waits for whom; with status 1 nothing, and the
--- file is too large or breaks the rule. Faults of reading and other words end before that.
-abbrev pub IsShown : List ℕ → Option (List ℕ) → Option (List ℕ) → Ending → Type 0
-IsShown input old new Told = (text : List ℕ) × IsTold input text × Appends old new text
-IsShown input old new (Refused fault) = (new ≡ old)
+-- What was written for a file: with status 0 who waits for whom, in this form; with status 1
+-- nothing, and the file is too large or breaks the rule. Faults of reading and other words end
+-- before that.
+abbrev pub IsShown : Form → List ℕ → Option (List ℕ) → Option (List ℕ) → Ending → Type 0
+IsShown form input old new Told = (text : List ℕ) × IsTold form input text × Appends old new text
+IsShown form input old new (Refused fault) = (new ≡ old)
     × (((max_input < length input) × (fault_line fault ≡ codes "refused T1\n"))
     ⊎ IsUntold input (unserved.Refused fault))
-IsShown input old new Usage = ⊥
-IsShown input old new NoMemory = ⊤
-IsShown input old new ReadFault = ⊥
-IsShown input old new WriteFault = ⊤
+IsShown form input old new Usage = ⊥
+IsShown form input old new NoMemory = ⊤
+IsShown form input old new ReadFault = ⊥
+IsShown form input old new WriteFault = ⊤
 
 -- these bytes were written, or writing failed
 abbrev pub IsWritten : List ℕ → Option (List ℕ) → Option (List ℕ) → Ending → Type 0

@@ -8,7 +8,7 @@ use waiting_pairs::Fault;
 /// How a run of the program ends.
 #[derive(Debug, Drop)]
 pub(crate) enum Ending {
-    /// The lines are written.
+    /// What was asked for is written.
     Told,
     /// The handlers break this rule.
     Refused(Fault),

@@ -1,40 +1,48 @@
 //! Who waits for whom: reads a file of handlers, or a session file of which it looks at the
 //! handlers alone, and writes which operations of which handlers wait for what other handlers may
-//! still call.
+//! still call: in columns, or behind `--json` as JSON.
 #![tactic(auto)]
 
+mod command;
 mod ending;
 mod reading;
 mod showing;
 mod words;
 
+use command::{Command, command_of};
 use ending::Ending;
 use reading::read_bytes;
-use showing::show;
+use showing::{show, show_version};
 use std::fs::File;
 use std::io::Write;
 use std::process::ExitCode;
-use waiting_pairs::{Status, message_of};
+use waiting_pairs::{Form, Status, message_of};
 use words::words;
 
 fn main(rt: HostRuntime) -> ExitCode {
     let ending = match words(&rt) {
-        Ok(words) => match words.as_slice() {
-            [] => shown(&rt, read_bytes(rt.alloc(), rt.stdin())),
-            [name] => shown(&rt, file_bytes(&rt, name.as_str())),
-            _ => Ending::Usage,
-        },
-        Err(_) => Ending::NoMemory,
+        Ok(words) => done(&rt, command_of(words.as_slice())),
+        Err(ending) => ending,
     };
     let number = ending.number();
     say(&rt, ending);
     ExitCode::from(number)
 }
 
-/// Writes who waits for whom in the file with these bytes.
-fn shown(rt: &HostRuntime, bytes: Result<Vec<u8>, Ending>) -> Ending {
+/// Does what the program is asked for.
+fn done(rt: &HostRuntime, command: Option<Command<'_>>) -> Ending {
+    match command {
+        Some(Command::Tell(form, Some(name))) => shown(rt, form, file_bytes(rt, name)),
+        Some(Command::Tell(form, None)) => shown(rt, form, read_bytes(rt.alloc(), rt.stdin())),
+        Some(Command::Version) => show_version(&mut rt.stdout()),
+        None => Ending::Usage,
+    }
+}
+
+/// Writes in this form who waits for whom in the file with these bytes.
+fn shown(rt: &HostRuntime, form: Form, bytes: Result<Vec<u8>, Ending>) -> Ending {
     match bytes {
-        Ok(bytes) => show(rt.alloc(), &bytes, &mut rt.stdout()),
+        Ok(bytes) => show(rt.alloc(), form, &bytes, &mut rt.stdout()),
         Err(ending) => ending,
     }
 }
@@ -53,7 +61,9 @@ fn say(rt: &HostRuntime, ending: Ending) {
         Ending::Told => Status::Fine,
         Ending::Refused(fault) => Status::Refused(fault),
         Ending::Usage => {
-            let _ = rt.stderr().write_all(b"usage: foresight_waits [FILE]\n");
+            let _ = rt
+                .stderr()
+                .write_all(b"usage: foresight_waits [--json] [FILE] | --version\n");
             Status::Fine
         }
         Ending::NoMemory => Status::NoMemory,

@@ -3,18 +3,21 @@
 ghost use Rattle.std.specs.Prelude.{◌≡◌, drop, IfOk};
 ghost use Rattle.std.specs.Vec.Iter.{into_iter_items};
 
+use crate::ending::Ending;
 use std::alloc::{AllocError, Global};
 use std::env;
 use std::env::Args;
 use std::io::ErrorKind;
 
-/// The words after the program's name. Where one isn't text there are none, which is no command
-/// line either.
-pub(crate) fn words(rt: &HostRuntime) -> Result<Vec<String>, AllocError> {
+/// The words after the program's name. Where one isn't text, they are no command line.
+pub(crate) fn words(rt: &HostRuntime) -> Result<Vec<String>, Ending> {
     match env::args(rt) {
-        Ok(args) => behind_name(rt.alloc(), args),
-        Err(e) if e.kind() == ErrorKind::OutOfMemory => Err(AllocError),
-        Err(_) => Ok(Vec::new(rt.alloc())),
+        Ok(args) => match behind_name(rt.alloc(), args) {
+            Ok(words) => Ok(words),
+            Err(_) => Err(Ending::NoMemory),
+        },
+        Err(e) if e.kind() == ErrorKind::OutOfMemory => Err(Ending::NoMemory),
+        Err(_) => Err(Ending::Usage),
     }
 }
 

@@ -3,6 +3,7 @@ mod Deciding
 mod Exact
 mod Fronts
 mod Opening
+mod Objects
 mod Operations
 mod Tied
 mod TiedPairs

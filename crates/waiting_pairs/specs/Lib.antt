@@ -1,4 +1,5 @@
 pub mod Delays
+pub mod Json
 pub mod Lines
 pub mod Opened
 pub mod Told

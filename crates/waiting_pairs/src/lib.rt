@@ -4,13 +4,18 @@
 
 mod asked;
 mod delaying;
+mod form;
+mod json;
 pub mod laws;
 mod lines;
+mod naming;
 mod telling;
 mod waiting;
 
 pub use asked::Asked;
 pub use delaying::delays;
+pub use form::Form;
+pub use json::wait_json;
 pub use lines::wait_lines;
 pub use serve_reading::{Fault, Status, Unserved, message_of};
 pub use session_values::MAX_INPUT;

@@ -1,257 +1,124 @@
 // The lines that tell who waits for whom.
 
-ghost use Rattle.std.specs.Prelude.{◌≡◌, ◌<◌, ◌++◌, ◌&&◌, IfOk, OnOk, length, slice_get};
+ghost use Rattle.std.specs.Prelude.{◌≡◌, ◌<◌, ◌++◌, ◌&&◌, IfOk, OnOk, length, codes, decimal, string_bytes};
 ghost use Rattle.std.specs.List.{flat_map};
 ghost use Rattle.session_values.specs.Kinds.{is_keyed};
-ghost use Rattle.serve_reading.specs.Resolved.{table_names, variables_at};
 ghost use Rattle.refusal_places.specs.Spots as places;
 ghost use Rattle.waiting_pairs.specs.Lines as spec;
 
 use crate::asked::Asked;
+use crate::naming::{handler_name, named, push_arg, push_symbol};
 use crate::waiting::Wait;
 use itoa::Buffer;
-use refusal_places::{byte_spot, push_place};
+use refusal_places::{Spot, byte_spot, column_of};
 use serve_reading::Program;
-use session_values::{Names, NoMemory, Value};
+use session_values::{Names, NoMemory};
 use std::alloc::Global;
-use symbolic_ops::{Arg, Symbol};
 
 /// What stands above the lines: what their columns are.
 const HEAD: &str =
     "# waits, operation, for, point, may call, keys: over paths of the text, not over runs\n";
 
-/// The name of a table.
-fn table_name(program: &Program, table: u32) -> Option<u32>
-    ensures { result ≡ slice_get (table_names program.now.file) table }
+/// Appends the line and the column of a place.
+fn push_spot(out: &mut String, spot: &Spot<'_>) -> Result<(), NoMemory>
+    requires { length spot.now.front.now < 4294967296 }
+    ensures { OnOk result (string_bytes out.new ≡ string_bytes out.old ++ codes ":"
+        ++ decimal spot.now.line ++ codes ":" ++ decimal (places.column_of spot.now.front.now)) }
 {
-    let tables = &program.checked().file().tables;
-    if table < tables.len() {
-        Some(tables.get(table).name)
-    } else {
-        None
-    }
-}
-
-/// The name of a handler.
-fn handler_name(program: &Program, handler: u32) -> Option<u32>
-    ensures { result ≡ slice_get (spec.handler_names program.now.file) handler }
-{
-    let handlers = &program.checked().file().handlers;
-    if handler < handlers.len() {
-        Some(handlers.get(handler).name)
-    } else {
-        None
-    }
-}
-
-/// The name of a variable of a handler.
-fn variable_name(program: &Program, handler: u32, variable: u32) -> Option<u32>
-    ensures { result ≡ slice_get (variables_at program.now.file handler) variable }
-{
-    let checked = program.checked();
-    if handler >= checked.handlers() {
-        return None;
-    }
-    let variables = &checked.handler(handler).variables;
-    if variable < variables.len() {
-        Some(*variables.get(variable))
-    } else {
-        None
-    }
-}
-
-/// The text of a name; nothing where there is none.
-fn named(names: &Names, place: Option<u32>) -> &str
-    ensures { result.now ≡ spec.named names.now place }
-{
-    match place {
-        Some(place) => {
-            if place < names.len() {
-                names.text(place)
-            } else {
-                ""
-            }
-        }
-        None => "",
-    }
-}
-
-/// Appends a literal.
-fn push_literal(out: &mut Vec<u8>, names: &Names, value: Value) -> Result<(), NoMemory>
-    ensures { OnOk result (out.new.items ≡ out.old.items ++ spec.literal_word names.now value) }
-{
-    match value {
-        Value::Nil => {
-            out.extend_from_slice(b"nil")?;
-            Ok(())
-        }
-        Value::Num(n) => {
-            let mut buffer = Buffer::new();
-            out.extend_from_slice(buffer.format(n).as_bytes())?;
-            Ok(())
-        }
-        Value::Sym(place) => {
-            out.push(b'\'')?;
-            out.extend_from_slice(named(names, Some(place)).as_bytes())?;
-            Ok(())
-        }
-    }
-}
-
-/// Appends an argument of a handler's symbol.
-fn push_arg(
-    out: &mut Vec<u8>,
-    program: &Program,
-    names: &Names,
-    handler: u32,
-    arg: Arg,
-) -> Result<(), NoMemory>
-    ensures { OnOk result (out.new.items ≡ out.old.items
-        ++ spec.arg_word names.now (variables_at program.now.file handler) arg) }
-{
-    match arg {
-        Arg::Known(value) => push_literal(out, names, value),
-        Arg::Var(x) => {
-            let name = named(names, variable_name(program, handler, x));
-            out.extend_from_slice(name.as_bytes())?;
-            Ok(())
-        }
-        Arg::Any => {
-            out.extend_from_slice(b"any")?;
-            Ok(())
-        }
-    }
-}
-
-/// Appends a comma, a space and the argument, if the operation has it.
-fn push_further(
-    out: &mut Vec<u8>,
-    program: &Program,
-    names: &Names,
-    handler: u32,
-    has: bool,
-    arg: Arg,
-) -> Result<(), NoMemory>
-    ensures { OnOk result (out.new.items ≡ out.old.items
-        ++ spec.further names.now (variables_at program.now.file handler) has arg) }
-{
-    if has {
-        out.extend_from_slice(b", ")?;
-        push_arg(out, program, names, handler, arg)
-    } else {
-        Ok(())
-    }
-}
-
-/// Appends a symbol of a handler.
-fn push_symbol(
-    out: &mut Vec<u8>,
-    program: &Program,
-    names: &Names,
-    handler: u32,
-    s: &Symbol,
-) -> Result<(), NoMemory>
-    ensures { OnOk result (out.new.items ≡ out.old.items
-        ++ spec.symbol_words names.now program.now.file handler s.now) }
-{
-    out.extend_from_slice(s.kind.word().as_bytes())?;
-    out.push(b'(')?;
-    out.extend_from_slice(named(names, table_name(program, s.table)).as_bytes())?;
-    let count = s.kind.arguments();
-    push_further(out, program, names, handler, 0 < count, s.key())?;
-    push_further(out, program, names, handler, 1 < count, s.value())?;
-    out.push(b')')?;
+    let mut buffer = Buffer::new();
+    out.push_str(":")?;
+    out.push_str(buffer.format(spot.line))?;
+    out.push_str(":")?;
+    out.push_str(buffer.format(column_of(spot.front)))?;
     Ok(())
 }
 
 /// Appends a name with the line and the column of a byte.
-fn push_placed(out: &mut Vec<u8>, name: &str, text: &[u8], at: u32) -> Result<(), NoMemory>
+fn push_placed(out: &mut String, name: &str, text: &[u8], at: u32) -> Result<(), NoMemory>
     requires { length text.now < 4294967296 }
-    ensures { OnOk result (out.new.items ≡ out.old.items
+    ensures { OnOk result (string_bytes out.new ≡ string_bytes out.old
         ++ spec.placed name.now (places.byte_spot text.now at)) }
 {
+    out.push_str(name)?;
     match byte_spot(text, at) {
-        Some(spot) => push_place(out, name, &spot),
-        None => {
-            out.extend_from_slice(name.as_bytes())?;
-            Ok(())
-        }
+        Some(spot) => push_spot(out, &spot),
+        None => Ok(()),
     }
 }
 
 /// Appends the operation that waits.
 fn push_waiter(
-    out: &mut Vec<u8>,
+    out: &mut String,
     program: &Program,
     names: &Names,
     text: &[u8],
     asked: &Asked,
 ) -> Result<(), NoMemory>
     requires { length text.now < 4294967296 }
-    ensures { OnOk result (out.new.items ≡ out.old.items
+    ensures { OnOk result (string_bytes out.new ≡ string_bytes out.old
         ++ spec.waiter_words names.now program.now.file text.now asked.now) }
 {
     let name = named(names, handler_name(program, asked.handler));
     push_placed(out, name, text, asked.at)?;
-    out.push(b'\t')?;
+    out.push_str("\t")?;
     push_symbol(out, program, names, asked.handler, &asked.op)?;
-    out.push(b'\t')?;
+    out.push_str("\t")?;
     Ok(())
 }
 
 /// Appends what is waited for.
 fn push_holder(
-    out: &mut Vec<u8>,
+    out: &mut String,
     program: &Program,
     names: &Names,
     wait: &Wait,
 ) -> Result<(), NoMemory>
-    ensures { OnOk result (out.new.items ≡ out.old.items
+    ensures { OnOk result (string_bytes out.new ≡ string_bytes out.old
         ++ spec.holder_words names.now program.now.file wait.now) }
 {
     let name = named(names, handler_name(program, wait.holder));
-    out.extend_from_slice(name.as_bytes())?;
-    out.push(b'\t')?;
+    out.push_str(name)?;
+    out.push_str("\t")?;
     let mut buffer = Buffer::new();
-    out.extend_from_slice(buffer.format(wait.point).as_bytes())?;
-    out.push(b'\t')?;
+    out.push_str(buffer.format(wait.point))?;
+    out.push_str("\t")?;
     push_symbol(out, program, names, wait.holder, &wait.symbol)?;
-    out.push(b'\t')?;
+    out.push_str("\t")?;
     Ok(())
 }
 
 /// Appends which arguments are equal, to the end of the line.
 fn push_keys(
-    out: &mut Vec<u8>,
+    out: &mut String,
     program: &Program,
     names: &Names,
     wait: &Wait,
 ) -> Result<(), NoMemory>
-    ensures { OnOk result (out.new.items ≡ out.old.items
+    ensures { OnOk result (string_bytes out.new ≡ string_bytes out.old
         ++ spec.key_words names.now program.now.file wait.now) }
 {
     if wait.asked.op.kind.is_keyed() && wait.symbol.kind.is_keyed() {
         push_arg(out, program, names, wait.asked.handler, wait.asked.op.key())?;
-        out.extend_from_slice(b" = ")?;
+        out.push_str(" = ")?;
         push_arg(out, program, names, wait.holder, wait.symbol.key())?;
-        out.push(b'\n')?;
+        out.push_str("\n")?;
         Ok(())
     } else {
-        out.extend_from_slice(b"any key\n")?;
+        out.push_str("any key\n")?;
         Ok(())
     }
 }
 
 /// Appends a line.
 fn push_wait(
-    out: &mut Vec<u8>,
+    out: &mut String,
     program: &Program,
     names: &Names,
     text: &[u8],
     wait: &Wait,
 ) -> Result<(), NoMemory>
     requires { length text.now < 4294967296 }
-    ensures { OnOk result (out.new.items ≡ out.old.items
+    ensures { OnOk result (string_bytes out.new ≡ string_bytes out.old
         ++ spec.line names.now program.now.file text.now wait.now) }
 {
     push_waiter(out, program, names, text, &wait.asked)?;
@@ -272,10 +139,10 @@ pub fn wait_lines(
     ensures { IfOk result (λ lines. lines.items
         ≡ spec.lines names.now program.now.file text.now waits.now) }
 {
-    let mut out = Vec::new(alloc);
-    out.extend_from_slice(HEAD.as_bytes())?;
+    let mut out = String::new(alloc);
+    out.push_str(HEAD)?;
     for wait in waits {
         push_wait(&mut out, program, names, text, wait)?;
     }
-    Ok(out)
+    Ok(out.into_bytes())
 }

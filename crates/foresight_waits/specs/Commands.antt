@@ -1,0 +1,52 @@
+-- The command lines of the program.
+use Rattle.std.specs.Prelude.{ℕ, if◌then◌else◌, List, [], ◌∷◌, Option, Some, None, codes}
+use Rattle.std.specs.Str.{bytes_eq}
+use denote.Ref.{Bor}
+use Rattle.waiting_pairs.specs.declared.form.Form.{Form}
+use Rattle.waiting_pairs.specs.declared.form.Form.TheVariants.{Lines, Json}
+use Rattle.foresight_waits.specs.declared.command.Command.{Command}
+use Rattle.foresight_waits.specs.declared.command.Command.TheVariants.{Tell, Version}
+
+-- what is asked for: who waits for whom, in this form, in the file with this name, or without one
+-- in the input; or the program's version
+pub data Asked : Type 0 where
+  waits : Form → Option (List ℕ) → Asked
+  version : Asked
+
+-- the command of one word
+abbrev pub alone : List ℕ → Asked
+alone word =
+    if bytes_eq word (codes "--json") then waits Json None
+    else (if bytes_eq word (codes "--version") then version else waits Lines (Some word))
+
+-- the command of a word and a file's name
+abbrev pub followed : List ℕ → List ℕ → Option Asked
+followed word name = if bytes_eq word (codes "--json") then Some (waits Json (Some name)) else None
+
+-- the command that the words ask for, if they are a command line
+abbrev pub command_of : List (List ℕ) → Option Asked
+command_of [] = Some (waits Lines None)
+command_of (word ∷ []) = Some (alone word)
+command_of (word ∷ name ∷ []) = followed word name
+command_of (word ∷ name ∷ more ∷ words) = None
+
+-- the line that tells the version
+abbrev pub version_line : List ℕ
+version_line = codes "foresight_waits 1.3\n"
+
+-- ---- what the code finds
+
+-- what a text of the code holds, if there is one
+abbrev pub text_option : Option (Bor (List ℕ)) → Option (List ℕ)
+text_option None = None
+text_option (Some t) = Some t.now
+
+-- what a command of the code asks for
+abbrev pub asked : Command → Asked
+asked (Tell form name) = waits form (text_option name)
+asked Version = version
+
+-- the same, if there is one
+abbrev pub asked_option : Option Command → Option Asked
+asked_option None = None
+asked_option (Some command) = Some (asked command)
