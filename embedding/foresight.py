@@ -1,17 +1,20 @@
-"""Driven tickets for Python, over the library: the whole package is this file.
+"""Sessions and driven tickets for Python, over the library: the whole package is this file.
 
 The library is a shared object, made of the archive by
 
     cc -shared -o libforesight.so -Wl,--whole-archive libforesight.a -Wl,--no-whole-archive
 
 which is looked for where FORESIGHT_LIBRARY says, else beside this file, else where the system does.
-An object is used by one call at a time, which a lock of its own sees to, so several threads may have
-one.
+A call hands over many lines, so that ctypes is paid for once. An object is used by one call at a time,
+which a lock of its own sees to, so several threads may have one.
 """
 import ctypes as c
 import os
+import secrets
 import threading
 
+MESSAGE_ROOM = 256
+REPLIES_ROOM = 65536
 VERSION_NUMBER = 10300
 NIL, NUMBER, NAME, ANY = range(4)
 KINDS = ("get", "put", "swap", "del", "size", "bump", "has", "add", "mark", "drop", "count")
@@ -25,6 +28,10 @@ class ForesightError(Exception):
         self.status = status
 
 
+class Refused(ForesightError):
+    """A file or a line breaks a rule, or has too many names."""
+
+
 class Delayed(ForesightError):
     """An older ticket is in the way."""
 
@@ -35,6 +42,14 @@ class Delayed(ForesightError):
 
 class _Handle(c.Structure):
     _fields_ = [("live", c.c_bool), ("at", c.c_void_p)]
+
+
+class _Answer(c.Structure):
+    _fields_ = [(name, c.c_size_t) for name in ("written", "needed", "told")]
+
+
+class _Served(c.Structure):
+    _fields_ = [(name, c.c_size_t) for name in ("used", "written", "requests", "told")]
 
 
 class _Value(c.Structure):
@@ -51,8 +66,8 @@ def _loaded():
     name = os.environ.get("FORESIGHT_LIBRARY") or (
         beside if os.path.exists(beside) else "libforesight.so")
     library = c.CDLL(name)
-    for call in ("tables_open", "ticket_begin", "ticket_call", "ticket_narrow", "ticket_end",
-                 "tables_close"):
+    for call in ("session_open", "session_serve", "session_dump", "session_close", "tables_open",
+                 "ticket_begin", "ticket_call", "ticket_narrow", "ticket_end", "tables_close"):
         getattr(library, f"foresight_{call}").restype = c.c_uint8
     library.foresight_version.restype = c.c_uint32
     if library.foresight_version() != VERSION_NUMBER:
@@ -63,15 +78,18 @@ def _loaded():
 _library = _loaded()
 
 
-def _error(status):
+def _error(status, why):
     """The exception of a status."""
-    return MemoryError("no memory") if status == 3 else ForesightError(status, f"status {status}")
+    if status == 3:
+        return MemoryError("no memory")
+    return (Refused if status in (1, 15) else ForesightError)(status, why or f"status {status}")
 
 
 class _Kept:
-    """What a handle stands for, closed at its end."""
+    """What a handle stands for, closed at its end by the call of its kind."""
 
-    def __init__(self):
+    def __init__(self, close):
+        self._close = close
         self._handle = _Handle()
         self._lock = threading.Lock()
 
@@ -79,7 +97,7 @@ class _Kept:
         """Gives its memory back. Later calls answer the status 11."""
         with self._lock:
             if self._handle.live:
-                _library.foresight_tables_close(c.byref(self._handle))
+                self._close(c.byref(self._handle))
 
     def __enter__(self):
         return self
@@ -90,6 +108,73 @@ class _Kept:
     def __del__(self):
         if getattr(self, "_handle", None) is not None:
             self.close()
+
+
+class Session(_Kept):
+    """Handlers that are read once, and requests served on tables that stay.
+
+    >>> s = Session("map m; handler f(k) { let a = get(m, k); put(m, k, 1); reply a; }\\n%%\\n")
+    >>> s.serve(["f a", "f a"])
+    ['nil', '1']
+    """
+
+    def __init__(self, text, most_names=1_000_000, seed=None):
+        super().__init__(_library.foresight_session_close)
+        text = text.encode() if isinstance(text, str) else text
+        seed = secrets.randbits(64) if seed is None else seed
+        why, answer = c.create_string_buffer(MESSAGE_ROOM), _Answer()
+        status = _library.foresight_session_open(
+            c.byref(self._handle), text, c.c_size_t(len(text)), c.c_uint64(seed),
+            c.c_uint32(most_names), why, c.c_size_t(MESSAGE_ROOM), c.byref(answer))
+        if status:
+            raise _error(status, why.raw[:answer.told].decode().strip())
+        self._out = c.create_string_buffer(REPLIES_ROOM)
+
+    def serve(self, lines):
+        """Serves requests, and answers their reply lines. A line that isn't served raises, after the
+        lines before it; `error.replies` has theirs, and `error.used` how many lines are used."""
+        lines = list(lines)
+        for line in lines:
+            if "\n" in line:
+                raise ValueError("more than one line")
+        return self._replies("".join(f"{line}\n" for line in lines).encode())
+
+    def request(self, line):
+        """Serves one request: the words of its reply."""
+        replies = self.serve([line])
+        return replies[0].split() if replies else []
+
+    def _replies(self, text):
+        why, served = c.create_string_buffer(MESSAGE_ROOM), _Served()
+        replies, at, status = bytearray(), 0, 5
+        base = c.create_string_buffer(text, len(text) + 1)
+        with self._lock:
+            while status == 5:
+                status = _library.foresight_session_serve(
+                    c.byref(self._handle), c.byref(base, at), c.c_size_t(len(text) - at), self._out,
+                    c.c_size_t(REPLIES_ROOM), why, c.c_size_t(MESSAGE_ROOM), c.byref(served))
+                at += served.used
+                replies += c.string_at(self._out, served.written)
+        answered = replies.decode().splitlines()
+        if status == 0:
+            return answered
+        error = _error(status, why.raw[:served.told].decode().strip())
+        error.replies, error.used = answered, text[:at].count(b"\n")
+        raise error
+
+    def tables(self):
+        """The tables, as `foresight dump` writes them."""
+        why, answer, status = c.create_string_buffer(MESSAGE_ROOM), _Answer(0, REPLIES_ROOM, 0), 5
+        with self._lock:
+            while status == 5:
+                size = answer.needed
+                out = c.create_string_buffer(size)
+                status = _library.foresight_session_dump(
+                    c.byref(self._handle), out, c.c_size_t(size), why, c.c_size_t(MESSAGE_ROOM),
+                    c.byref(answer))
+        if status:
+            raise _error(status, why.raw[:answer.told].decode().strip())
+        return out.raw[:answer.written].decode()
 
 
 def _value(given):
@@ -117,14 +202,14 @@ class Tables(_Kept):
     """
 
     def __init__(self, maps=0, sets=0):
-        super().__init__()
+        super().__init__(_library.foresight_tables_close)
         self._do(_library.foresight_tables_open, c.c_uint8(maps), c.c_uint8(sets))
 
     def _do(self, call, *words):
         with self._lock:
             status = call(c.byref(self._handle), *words)
         if status not in (0, 20):
-            raise _error(status)
+            raise _error(status, None)
         return status
 
     @staticmethod

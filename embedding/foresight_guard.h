@@ -15,7 +15,9 @@ static inline bool foresight_guard_null(const void *at, size_t size) {
 /* The same pointer, or one to an empty list. */
 static inline const struct foresight_operation *foresight_guard_list(
     const struct foresight_operation *at) {
-    static const struct foresight_operation empty[1];
+    static const struct foresight_operation empty[1] = {
+        { FORESIGHT_GET, 0, { 0, 0, 0 }, { 0, 0, 0 } }
+    };
     return at == NULL ? empty : at;
 }
 

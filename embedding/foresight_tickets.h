@@ -1,6 +1,10 @@
 /* Tickets that a program drives, for programs in C and for those that call C: more of the library that
  * foresight.h declares, whose first lines hold here too.
  *
+ * A TICKET THAT IS NEVER ENDED is in the way of all younger ones that don't commute with what it has
+ * declared, for ever: there is no time-out. A program whose connection dies ends its tickets (what
+ * they did stays).
+ *
  * The tables are kept by a handle. The program sees to these: nobody but the calls writes a handle
  * after its beginning; of a handle that is copied, only one copy is used from then on; a handle is
  * used by one call at a time, from any thread: the program orders its calls by a lock of its own, or
@@ -64,10 +68,6 @@ struct foresight_tables {
  * doesn't commute with it. Nothing is undone. Whatever the calls are, the operations that were done,
  * ticket after ticket in the order in which they began, replay with the same replies and give the
  * same tables.
- *
- * A TICKET THAT IS NEVER ENDED is in the way of all younger ones that don't commute with what it has
- * declared, for ever: there is no time-out. A program whose connection dies ends its tickets (what
- * they did stays).
  */
 
 /* Empty tables for a handle that is FORESIGHT_NO_TABLES: `maps` that are maps, from 0 on, and behind

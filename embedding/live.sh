@@ -1,14 +1,90 @@
 # Sourced behind programs.sh by .ci/embedding and oracle/embedding.sh: builds and runs what lives over
-# the library: tickets that a program drives. `live_wrong` is told what isn't as it should be.
+# the library: sessions, tickets, servers, and what other languages call it by. `live_wrong` is told
+# what isn't as it should be. What isn't at hand is said: NOT RUN.
 
-# The part in C: each call, with each request for memory refused; the bank; some of the drives that
-# oracle/tickets.sh judges, through embedding/foresight.py.
+# A case for all bindings: handlers, requests, and what the program answers to a file with both.
+live_case() {
+  mkdir -p "$work/case"
+  cat > "$work/case/handlers" <<'HANDLERS'
+map seats; set online;
+handler login(u, now) { let old = swap(seats, u, now); mark(online, u); reply old; }
+handler logout(u) { del(seats, u); drop(online, u); }
+handler seen(u) { let at = get(seats, u); let on = has(online, u); reply at, on; }
+handler crowd() { let n = count(online); reply n; }
+%%
+HANDLERS
+  awk 'BEGIN { for (i = 0; i < 3000; i++) { u = "u" (i * 7919) % 101
+    print i % 7 == 0 ? "crowd" : i % 5 == 0 ? "logout " u : i % 3 == 0 ? "seen " u : "login " u " " i
+  } }' > "$work/case/requests"
+  cat "$work/case/handlers" "$work/case/requests" > "$work/case/session"
+  "$foresight" serve < "$work/case/session" | cut -d ' ' -f 2- > "$work/case/replies"
+  "$foresight" dump < "$work/case/session" > "$work/case/tables"
+}
+
+# Servers, each tried by clients that also do what they may not: a name, how it ends, the program.
+live_server() {
+  if ! command -v python3 > "$work/log"; then
+    echo "embedding: NOT RUN: $1, since there is no python3"
+  else
+    timeout 110 python3 embedding/tests/servers.py "$foresight" "$2" "$3" || live_wrong "$1"
+  fi
+}
+
+# A shared object of the archive, for languages that load one.
+live_shared() {
+  cc -shared -o "$work/libforesight.so" -Wl,--whole-archive "$library" "$kit/c/liblibc_c.a" \
+    -Wl,--no-whole-archive
+  export FORESIGHT_LIBRARY=$work/libforesight.so PYTHONDONTWRITEBYTECODE=1
+}
+
+# Some of what oracle/tickets.sh and oracle/sessions.sh judge: drives of tickets, sessions of each kind.
+live_judged() {
+  if ! command -v python3 > "$work/log"; then
+    echo "embedding: NOT RUN: the judges of tickets and sessions, since there is no python3"
+    return
+  fi
+  live_shared
+  timeout 60 python3 oracle/tickets.py --runs 300 || live_wrong "driven tickets"
+  timeout 60 python3 oracle/sessions.py "$foresight" --runs 20 || live_wrong "sessions that live"
+}
+
+# The part in C: each call, with each request for memory refused; the server; the bank; the judges.
 live_c() {
   local threads=(-std=gnu99 -pthread)
+  compile sessions embedding/tests/sessions.c "${heap[@]}"
   compile tickets embedding/tests/tickets.c "${heap[@]}"
+  timeout 60 "$work/sessions" || live_wrong "embedding/tests/sessions.c"
   timeout 60 "$work/tickets" || live_wrong "embedding/tests/tickets.c"
+  compile server "${threads[@]}" embedding/server.c
   compile bank "${threads[@]}" embedding/bank.c
+  live_server embedding/server.c term "$work/server"
   timeout 60 "$work/bank" 8 20 50 1 tickets > "$work/log" || live_wrong "embedding/bank.c: tickets"
   timeout 60 "$work/bank" 8 20 50 1 mutex > "$work/log" || live_wrong "embedding/bank.c: mutex"
-  timeout 100 oracle/tickets.sh "$library" 300 || live_wrong "driven tickets"
+  live_judged
+}
+
+# The parts in Rust, Python and Go.
+live_others() {
+  live_case
+  if command -v rustc > "$work/log"; then
+    rustc --edition 2024 -O embedding/server.rs -o "$work/server_rs" \
+      -C link-arg="$library" -C link-arg="$kit/c/liblibc_c.a"
+    live_server embedding/server.rs stdin "$work/server_rs"
+  else
+    echo "embedding: NOT RUN: embedding/server.rs, since there is no rustc"
+  fi
+  if command -v python3 > "$work/log"; then
+    live_shared
+    timeout 60 python3 embedding/tests/package.py "$work/case" \
+      || live_wrong "embedding/foresight.py"
+  else
+    echo "embedding: NOT RUN: embedding/foresight.py, since there is no python3"
+  fi
+  if command -v go > "$work/log"; then
+    (cd embedding/go && FORESIGHT_CASE=$work/case CGO_ENABLED=1 GOFLAGS=-mod=mod GOPROXY=off \
+      GOCACHE=$work/go CGO_CFLAGS="-I$PWD/.." CGO_LDFLAGS="$library $kit/c/liblibc_c.a" \
+      timeout 110 go test -count=1 .) || live_wrong "embedding/go"
+  else
+    echo "embedding: NOT RUN: embedding/go, since there is no go"
+  fi
 }

@@ -3,8 +3,8 @@
 # `rustc`, as far as these are at hand, and has each answer to every file of examples/ and checks/
 # that is for `check`, `show`, `ranges`, `audit`, `serve` or `dump`; the program runs with all words
 # of the file, so with its callers and shards. embedding/hall.c, over a handle of the hall, is built
-# by `cc` too, and what it prints is compared with embedding/hall.stdout. Then tickets
-# (embedding/live.sh). Ends with 1 where a text, a
+# by `cc` too, and what it prints is compared with embedding/hall.stdout. Then sessions, tickets and
+# servers in C and Rust, and the packages for Python and Go (embedding/live.sh). Ends with 1 where a text, a
 # message or a status is another than the program's, where the hall's lines are others, or where
 # nothing was compared. Needs the program as `rt ci` leaves it, or its path as a word; a second word
 # is the path of a library that is built already. The gate does the same on some of the files
@@ -45,6 +45,7 @@ live=0
 live_wrong() { echo "embedding: NOT AS IT SHOULD BE: $*"; live=1; }
 if command -v cc > "$work/log"; then
   live_c
+  live_others
 fi
 echo "${#programs[@]} programs, $compared answers, $differ differences"
 [ "$compared" -gt 0 ] && [ "$differ" -eq 0 ] && [ "$hall" -eq 0 ] && [ "$live" -eq 0 ]

@@ -51,7 +51,7 @@ includedir=\${prefix}/include
 libdir=\${prefix}/$libraries
 
 Name: foresight
-Description: Session tables: driven tickets, and what the program foresight answers
+Description: Session tables: sessions that live, driven tickets, and what the program answers
 Version: $version
 Cflags: -I\${includedir}
 Libs: -L\${libdir} -lforesight

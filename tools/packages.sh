@@ -53,7 +53,7 @@ for name in foresight libforesight-dev; do
 done
 pc=$work/root/usr/$libraries/pkgconfig/foresight.pc
 if command -v pkg-config > "$work/log"; then
-  export PKG_CONFIG_SYSROOT_DIR=$work/root PKG_CONFIG_LIBDIR=${pc%/*}
+  export PKG_CONFIG_PATH= PKG_CONFIG_SYSROOT_DIR=$work/root PKG_CONFIG_LIBDIR=${pc%/*}
   read -ra words < <(pkg-config --cflags --libs foresight)
 else
   words=("-I$work/root/usr/include" "-L$work/root/usr/$libraries" -lforesight)

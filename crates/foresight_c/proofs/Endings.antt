@@ -19,7 +19,7 @@ use Rattle.foresight_c.specs.declared.answer.Answer.{Answer}
 use Rattle.foresight_c.specs.Endings.{ending, handed}
 
 -- what an empty store holds of a text that it took is the text
-whole : (o p : Option (List ℕ)) (text got : List ℕ) → o ≡ Some [] → p ≡ Some got → Grew o p text → text ≡ got
+pub whole : (o p : Option (List ℕ)) (text got : List ℕ) → o ≡ Some [] → p ≡ Some got → Grew o p text → text ≡ got
 whole o p text got empty held grew =
     let first : Grew (Some []) p text = subst (λ (q : Option (List ℕ)). Grew q p text) empty grew in
     let now : Grew (Some []) (Some got) text = subst (λ (q : Option (List ℕ)). Grew (Some []) q text) held first in
@@ -56,7 +56,7 @@ module _ {I O : Type 0} (command : Command) (input text : List ℕ) (room : ℕ)
   fine_text : Answered (Some command) input store status.Fine → CommandAnswers (Some command) input (answer.Text text)
   fine_text a =
       let got = a.fine refl in
-      subst (λ (t : List ℕ). CommandAnswers (Some command) input (answer.Text t)) (whole (store.bytes store.old) (store.bytes store.new) got.0 text empty held got.2) got.1
+      subst (λ (t : List ℕ). CommandAnswers (Some command) input (answer.Text t)) (whole (store.bytes store.old) (store.bytes store.new) got.0 text empty held got.2.1) got.1
 
   unrefused : (fault : Fault) → (status.Fine ≡ status.Refused fault) ⊎ (status.Fine ≡ status.NoMemory) → ⊥
   unrefused fault (inl e) = cc

@@ -1,3 +1,7 @@
+pub mod Crossing
 pub mod Endings
 mod BoxedDesk
+mod BoxedSession
 mod DeskDrops
+mod SessionDrops
+pub mod Serving

@@ -4,5 +4,9 @@ pub mod Endings
 pub mod Fronts
 pub mod Held
 pub mod HallCalls
+pub mod HeldSession
+pub mod SessionCalls
+pub mod SessionMessages
+pub mod Sessions
 pub mod TicketCalls
 pub mod Version

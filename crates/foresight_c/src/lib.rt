@@ -1,7 +1,8 @@
 //! A static library for programs in C and others: what `check`, `show`, `ranges`, `audit`, `serve`
-//! and `dump` answer to bytes in memory, and a hall over a handle, whose callers are stepped. It
-//! starts no thread, takes no lock, opens no file and keeps nothing between calls, but for what a
-//! handle stands for. `embedding/foresight.h` declares it.
+//! and `dump` answer to bytes in memory; and over a handle a hall, whose callers are stepped, a
+//! session that lives, or tables, on which tickets are driven. It starts no thread, takes no lock,
+//! opens no file and keeps nothing between calls, but for what a handle stands for. The headers of
+//! `embedding/` declare it.
 #![tactic(auto)]
 
 mod answer;
@@ -11,9 +12,16 @@ mod fronts;
 mod hall_exports;
 mod handing;
 mod handle;
+mod served;
+mod session_desk;
+mod session_exports;
+mod session_handle;
+mod session_messages;
+mod sessions;
 mod slice_source;
 mod text_store;
 mod ticket_exports;
 mod version;
 
 pub use answer::Answer;
+pub use served::Served;

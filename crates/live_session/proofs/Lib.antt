@@ -1,5 +1,6 @@
 pub mod Alone
 pub mod Batching
+pub mod Crossing
 pub mod DumpLemmas
 pub mod EntriesPrinted
 pub mod Faults

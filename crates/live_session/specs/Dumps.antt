@@ -4,7 +4,8 @@ use Rattle.serve_faults.specs.Changes.{Change, Failed, IsUntouched, Took, TookFr
 use Rattle.live_session.specs.declared.dumping.Dumped.{Dumped}
 use Rattle.live_session.specs.declared.dumping.Dumped.TheVariants as dumped
 
--- the text was written; or a front of it, where the sink failed; or nothing, where memory ran out
+-- the text was written, and no write failed; or a front of it, where one failed; or nothing, where
+-- memory ran out
 abbrev pub DumpEnds : {O : Type 0} → Text → Change O → Dumped → Type 0
 DumpEnds text out dumped.Written = Took out text
 DumpEnds text out dumped.Failed = Failed out × TookFront out text

@@ -34,7 +34,7 @@ returns-then-write_tables g c =
     let is : dump_text v.names c.as_slice-decls.result.now (lists_in ps) ≡ dump_of c.args.self.now =
     ap (λ (ts : List TableDecl). dump_text v.names ts (lists_in ps)) decls ∙ dumped_is v c.self.invariant.0 ps refl c.self.invariant.1.kinds ∙ ap dump_of c.self.view_is in
     let P : Text → Type 0 = λ t. Took (change g.O.Sink.held g.O.Sink.faults c.args.out.now c.write_tables.new.out) t in
-    subst P is (c.write_tables.ensures.all c.if-write_tables.true)
+    subst P is (c.write_tables.ensures.faults.0 c.if-write_tables.true, c.write_tables.ensures.all c.if-write_tables.true)
 
 pub returns : goal.returns
 returns g c =
@@ -44,4 +44,4 @@ returns g c =
     let is : dump_text v.names c.as_slice-decls.result.now (lists_in ps) ≡ dump_of c.args.self.now =
     ap (λ (ts : List TableDecl). dump_text v.names ts (lists_in ps)) decls ∙ dumped_is v c.self.invariant.0 ps refl c.self.invariant.1.kinds ∙ ap dump_of c.self.view_is in
     let P : Text → Type 0 = λ t. TookFront (change g.O.Sink.held g.O.Sink.faults c.args.out.now c.write_tables.new.out) t in
-    (c.write_tables.ensures.fault c.if-write_tables.false, subst P is (c.write_tables.ensures.front c.if-write_tables.false))
+    (c.write_tables.ensures.faults.1 c.if-write_tables.false, subst P is (c.write_tables.ensures.front c.if-write_tables.false))

@@ -1,0 +1,108 @@
+// What C calls over a handle of a session. `embedding/foresight_session.h` declares each by the
+// same name.
+
+ghost use Rattle.foresight_c.specs.SessionCalls.{ClosesOn, DumpsOn, OpensOn, ServesOn};
+
+use crate::answer::Answer;
+use crate::served::Served;
+use crate::session_handle::{SessionHandle, taken};
+use crate::session_messages::{tell_unopened, unopened_number};
+use crate::sessions::{dump_of, opened, serve_at, tell};
+use std::alloc::Global;
+
+/// A session over a session file without requests: handlers, perhaps a table part, and the dividing
+/// line. Searches begin as the seed has it, and there may be so many names.
+#[unsafe(no_mangle)]
+pub extern "C" fn foresight_session_open(
+    alloc: Global,
+    handle: &mut SessionHandle,
+    text: &[u8],
+    seed: u64,
+    most_names: u32,
+    message: &mut [u8],
+    answer: &mut Answer,
+) -> u8
+    ensures { OpensOn handle.old.held.value handle.new.held.value text.now most_names message.old
+        message.new answer.new result }
+{
+    answer.written = 0;
+    answer.needed = 0;
+    answer.told = 0;
+    if let Some(desk) = taken(handle, alloc) {
+        *handle = SessionHandle::of(desk);
+        return 11;
+    }
+    match opened(alloc, text, seed, most_names) {
+        Ok(desk) => {
+            *handle = SessionHandle::of(desk);
+            0
+        }
+        Err(why) => {
+            let number = unopened_number(&why);
+            answer.told = tell_unopened(why, message);
+            number
+        }
+    }
+}
+
+/// Serves the requests of lines, one after another, up to a line that isn't served or until there
+/// may be no room for one more reply.
+#[unsafe(no_mangle)]
+pub extern "C" fn foresight_session_serve(
+    alloc: Global,
+    handle: &mut SessionHandle,
+    lines: &[u8],
+    out: &mut [u8],
+    message: &mut [u8],
+    served: &mut Served,
+) -> u8
+    ensures { ServesOn handle.old.held.value handle.new.held.value lines.now out.old out.new
+        message.old message.new served.new result }
+{
+    match taken(handle, alloc) {
+        Some(mut desk) => {
+            let number = serve_at(&mut desk, lines, out, message, served);
+            *handle = SessionHandle::of(desk);
+            number
+        }
+        None => tell(served, 11, "", message),
+    }
+}
+
+/// Writes the tables as they are: a table part that a session can open with again.
+#[unsafe(no_mangle)]
+pub extern "C" fn foresight_session_dump(
+    alloc: Global,
+    handle: &mut SessionHandle,
+    out: &mut [u8],
+    message: &mut [u8],
+    answer: &mut Answer,
+) -> u8
+    ensures { DumpsOn handle.old.held.value handle.new.held.value out.old out.new message.old
+        message.new answer.new result }
+{
+    match taken(handle, alloc) {
+        Some(desk) => {
+            let number = dump_of(alloc, &desk.session, out, message, answer);
+            *handle = SessionHandle::of(desk);
+            number
+        }
+        None => {
+            answer.written = 0;
+            answer.needed = 0;
+            answer.told = 0;
+            11
+        }
+    }
+}
+
+/// Gives back all memory of the handle.
+#[unsafe(no_mangle)]
+pub extern "C" fn foresight_session_close(alloc: Global, handle: &mut SessionHandle) -> u8
+    ensures { ClosesOn handle.old.held.value handle.new.held.value result }
+{
+    match taken(handle, alloc) {
+        Some(_) => 0,
+        None => 11,
+    }
+}

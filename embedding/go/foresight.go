@@ -1,0 +1,140 @@
+// Package foresight has sessions that live, over the library for C. Build it with
+// CGO_CFLAGS=-I.. and CGO_LDFLAGS naming the archive, or with foresight.pc installed.
+package foresight
+
+/*
+#include "foresight_session.h"
+*/
+import "C"
+
+import (
+	"errors"
+	"fmt"
+	"runtime"
+	"strings"
+	"sync"
+	"unsafe"
+)
+
+const (
+	messageRoom = 256
+	repliesRoom = 65536
+)
+
+// ErrMemory says that malloc or realloc gave nothing.
+var ErrMemory = errors.New("foresight: no memory")
+
+// Refused says why a file isn't opened, or the line behind those that are used isn't served.
+type Refused struct {
+	Status int
+	Why    string
+}
+
+func (r *Refused) Error() string { return fmt.Sprintf("foresight: %s", r.Why) }
+
+// Session is handlers that are read once, and tables that stay. Any number of goroutines may use it:
+// requests are served in the order in which these have its lock.
+type Session struct {
+	mu     sync.Mutex
+	handle C.struct_foresight_session
+	out    []byte
+}
+
+func at(b []byte) *C.uint8_t {
+	if len(b) == 0 {
+		b = make([]byte, 1)
+	}
+	return (*C.uint8_t)(unsafe.Pointer(&b[0]))
+}
+
+func failed(status C.uint8_t, why []byte) error {
+	if status == 3 {
+		return ErrMemory
+	}
+	text := strings.TrimSpace(string(why))
+	if text == "" {
+		text = fmt.Sprintf("status %d", status)
+	}
+	return &Refused{int(status), text}
+}
+
+// Open opens a session over a session file without requests, with a seed that nobody who sends
+// requests knows, and so many names at most.
+func Open(text []byte, seed uint64, mostNames uint32) (*Session, error) {
+	s := &Session{out: make([]byte, repliesRoom)}
+	why := make([]byte, messageRoom)
+	var answer C.struct_foresight_answer
+	status := C.foresight_session_open(&s.handle, at(text), C.size_t(len(text)), C.uint64_t(seed),
+		C.uint32_t(mostNames), at(why), messageRoom, &answer)
+	if status != 0 {
+		return nil, failed(status, why[:answer.told])
+	}
+	runtime.SetFinalizer(s, (*Session).Close)
+	return s, nil
+}
+
+// Serve serves requests, many at a time: their reply lines. Where one isn't served, those before it
+// are, and the error says why.
+func (s *Session) Serve(lines []string) ([]string, error) {
+	for _, line := range lines {
+		if strings.Contains(line, "\n") {
+			return nil, &Refused{1, "more than one line"}
+		}
+	}
+	text := []byte(strings.Join(append(append([]string{}, lines...), ""), "\n"))
+	why := make([]byte, messageRoom)
+	var served C.struct_foresight_served
+	var replies strings.Builder
+	s.mu.Lock()
+	defer s.mu.Unlock()
+	for {
+		status := C.foresight_session_serve(&s.handle, at(text), C.size_t(len(text)), at(s.out),
+			repliesRoom, at(why), messageRoom, &served)
+		replies.Write(s.out[:served.written])
+		text = text[served.used:]
+		if status == 5 {
+			continue
+		}
+		answered := strings.Split(replies.String(), "\n")
+		answered = answered[:len(answered)-1]
+		if status != 0 {
+			return answered, failed(status, why[:served.told])
+		}
+		return answered, nil
+	}
+}
+
+// Request serves one request: the words of its reply.
+func (s *Session) Request(line string) ([]string, error) {
+	replies, err := s.Serve([]string{line})
+	if err != nil || len(replies) == 0 {
+		return nil, err
+	}
+	return strings.Fields(replies[0]), nil
+}
+
+// Tables are the tables, as `foresight dump` writes them.
+func (s *Session) Tables() (string, error) {
+	why := make([]byte, messageRoom)
+	answer := C.struct_foresight_answer{needed: repliesRoom}
+	s.mu.Lock()
+	defer s.mu.Unlock()
+	for {
+		out := make([]byte, answer.needed)
+		status := C.foresight_session_dump(&s.handle, at(out), C.size_t(len(out)), at(why),
+			messageRoom, &answer)
+		if status == 0 {
+			return string(out[:answer.written]), nil
+		}
+		if status != 5 {
+			return "", failed(status, why[:answer.told])
+		}
+	}
+}
+
+// Close gives the memory back. Later calls are refused.
+func (s *Session) Close() {
+	s.mu.Lock()
+	defer s.mu.Unlock()
+	C.foresight_session_close(&s.handle)
+}

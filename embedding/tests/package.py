@@ -1,0 +1,99 @@
+#!/usr/bin/env python3
+"""Tries foresight.py: package.py CASE, a folder of `handlers`, `requests`, `replies`, `tables`, as the
+program answers them; FORESIGHT_LIBRARY names the shared object."""
+import os
+import sys
+import threading
+
+sys.path.insert(0, os.path.join(os.path.dirname(os.path.abspath(__file__)), ".."))
+import foresight  # noqa: E402  pylint: disable=wrong-import-position
+
+
+def read(name):
+    """A file of the case."""
+    with open(f"{sys.argv[1]}/{name}", encoding="utf-8") as file:
+        return file.read()
+
+
+def refused(call, status, why):
+    """The error that a call raises, which has this status and says so."""
+    try:
+        call()
+    except foresight.ForesightError as error:
+        assert (error.status, str(error)) == (status, why), (error.status, str(error), why)
+        return error
+    raise AssertionError(f"not refused: {why}")
+
+
+def try_session():
+    """A session that is answered as the program answers a file."""
+    lines = read("requests").splitlines()
+    with foresight.Session(read("handlers")) as session:
+        replies = session.serve(lines)
+        assert "".join(f"{reply}\n" for reply in replies) == read("replies"), "other replies"
+        assert session.tables() == read("tables"), "other tables"
+    with foresight.Session(read("handlers")) as session:
+        words = [" ".join(session.request(line)) for line in lines[:300]]
+        assert words == replies[:300], "other replies one by one"
+
+
+def try_refusals():
+    """What each call refuses."""
+    text = "map m; handler f(k) { let a = get(m, k); put(m, k, 1); reply a; }\n%%\n"
+    refused(lambda: foresight.Session("map ;\n%%\n"), 1, "refused S2 at 4")
+    refused(lambda: foresight.Session(text, most_names=2), 15, "too many names")
+    session = foresight.Session(text, most_names=6)
+    for line, why in (("g", "unknown handler"), ("f", "wrong number of arguments"),
+                      ("f !", "a word that is no value")):
+        error = refused(lambda line=line: session.serve(["f 1", line, "f 2"]), 1, why)
+        assert error.used == 2 and len(error.replies) == 1, (error.used, error.replies)
+    refused(lambda: session.serve(["f x", "f y", "f z", "f u"]), 15, "too many names")
+    try:
+        session.serve(["f 1\nf 2"])
+        raise AssertionError("two lines in one")
+    except ValueError:
+        pass
+    threads = [threading.Thread(target=session.serve, args=([f"f {i * 1000 + j}" for j in range(500)],))
+               for i in range(1, 5)]
+    for thread in threads:
+        thread.start()
+    for thread in threads:
+        thread.join()
+    assert len(session.tables().splitlines()) == 2004, "other tables of four threads"
+    session.close()
+    session.close()
+    refused(lambda: session.serve(["f 1"]), 11, "status 11")
+
+
+def try_tickets():
+    """Tickets that are done, delayed and refused."""
+    with foresight.Tables(maps=1, sets=1) as tables:
+        older = tables.begin([("get", 0, 1), ("bump", 0, 2, any)])
+        younger = tables.begin([("get", 0, 2)])
+        assert tables.call(older, "get", 0, 1) is None
+        assert tables.call(older, "bump", 0, 2, 5) is None
+        try:
+            tables.call(younger, "get", 0, 2)
+            raise AssertionError("not delayed")
+        except foresight.Delayed as delayed:
+            assert delayed.older == older
+        tables.narrow(older, [])
+        assert tables.call(younger, "get", 0, 2) == 5
+        refused(lambda: tables.call(older, "get", 0, 1), 21, "status 21")
+        tables.end(older)
+        refused(lambda: tables.end(older), 13, "status 13")
+        refused(lambda: tables.call(younger, "add", 0, 2), 22, "status 22")
+        refused(lambda: tables.begin([("size", 0, 1)]), 10, "status 10")
+        refused(lambda: tables.begin([("get", 0, 1)] * 257), 12, "status 12")
+        try:
+            tables.call(younger, "get", 0, 2**63)
+            raise AssertionError("a number past 64 bits")
+        except OverflowError:
+            pass
+    refused(lambda: foresight.Tables(maps=8), 10, "status 10")
+
+
+try_session()
+try_refusals()
+try_tickets()
+print("package: foresight.py, as it should be")
