@@ -215,7 +215,8 @@ class Words:
         self.bounds = bounds_of(text, read(LIMITS))
         self.serving = [name for name, rest in self.commands.items() if "--callers" in rest]
         self.options = self.commands[self.serving[0]][::2]
-        self.rules = re.search(r'usage: foresight_where FILE \| ([\w-]+)\\n', read(PLACES))[1]
+        usage = r'usage: foresight_where FILE \| ([\w-]+) \| --version\\n'
+        self.rules = re.search(usage, read(PLACES))[1]
         missing = set(self.commands) - set(SAYS)
         if missing:
             sys.exit(f"completion/make.py: SAYS has no sentence for {', '.join(sorted(missing))}")

@@ -76,6 +76,7 @@ foresight_where \- turn a refusal of foresight into line and column
 # SYNOPSIS
 @ `foresight_where` *FILE*
 @ `foresight_where` `--rules`
+@ `foresight_where` `--version`
 # DESCRIPTION
 <From a refusal to the place|first
 # EXIT STATUS
@@ -104,7 +105,8 @@ WAITS = r"""
 # NAME
 foresight_waits \- list which operations may wait for which handlers
 # SYNOPSIS
-@ `foresight_waits` [*FILE*]
+@ `foresight_waits` [`--json`] [*FILE*]
+@ `foresight_waits` `--version`
 # DESCRIPTION
 <Who may wait for whom|first
 # EXIT STATUS
@@ -115,6 +117,12 @@ How often each handler is waited for, and what waits for the handler `book`:
 ```
 $ foresight_waits seats.handlers | cut -f 3 | sort | uniq -c
 $ foresight_waits seats.handlers | awk -F '\t' '$3 == "book"'
+```
+
+The same of the JSON, by *jq*(1):
+
+```
+$ foresight_waits --json seats.handlers | jq '.[] | select(.for == "book")'
 ```
 # SEE ALSO
 *foresight*(1), *foresight*(5)
@@ -215,7 +223,8 @@ def chosen(blocks, part):
         return [block for block in blocks if block[1][0].startswith("| Status")]
     if part == "first":
         end = next((at for at, head in enumerate(heads) if head.startswith("    ")), 0)
-        return blocks[:end] + [block for block in blocks if "--rules" in block[1][0]]
+        return blocks[:end] + [block for block in blocks[end:] if block[0] == "text"
+                               and re.search("--(rules|json|version)", block[1][0])]
     if part == "function":
         return [block for block in blocks if block[1][:1] == ["```text"]]
     if part:
