@@ -1,5 +1,5 @@
 -- The walk to the first declaration of a name: what it does with each word.
-use Rattle.std.proofs.Common.{◌≡◌, ℕ, Bool, true, false, if◌then◌else◌, ◌==◌, List, [], ◌∷◌, drop, Option, Some, None, refl, sym, ap, ◌∙◌}
+use Rattle.std.proofs.Common.{◌≡◌, ℕ, Bool, true, false, if◌then◌else◌, ◌==◌, List, [], ◌∷◌, drop, Option, None, sym, ap, ◌∙◌}
 use Rattle.syntax_tokens.specs.Words.{first_word}
 use Rattle.syntax_tokens.specs.declared.word.Sort.{Sort}
 use Rattle.syntax_tokens.specs.declared.word.Word.{Word}

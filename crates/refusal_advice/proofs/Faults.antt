@@ -8,10 +8,9 @@ use Rattle.syntax_grammar.specs.Bounds.{Limit, limit_refusal, number_size, block
 use Rattle.syntax_grammar.specs.FirstFault.{IsUnexpected, IsOverLimit}
 use Rattle.syntax_grammar.specs.Parsed.{HasFault}
 use Rattle.syntax_grammar.specs.Phrase.{word}
-use Rattle.syntax_grammar.specs.Refusal.{refusal, refusal_of}
+use Rattle.syntax_grammar.specs.Refusal.{refusal_of}
 use Rattle.syntax_grammar.specs.declared.refusals.SyntaxRefusal.{SyntaxRefusal}
 use Rattle.refusal_advice.specs.Advice.{NoneStands, fault_place}
-use Rattle.refusal_advice.specs.Following.{Stands}
 
 refused_there : (s : Sort) (at : ℕ) → fault_place (refusal_of s at) ≡ at
 refused_there sort.Bad at = refl

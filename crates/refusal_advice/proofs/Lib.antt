@@ -8,6 +8,7 @@ pub mod Kept
 pub mod Nearing
 pub mod Rowing
 pub mod Ruling
+pub mod Seeing
 pub mod Stopping
 pub mod Telling
 pub mod Unlisted

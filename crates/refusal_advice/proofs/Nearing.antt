@@ -1,5 +1,5 @@
 -- The walk to a place: what it does with each word.
-use Rattle.std.proofs.Common.{◌≡◌, ◌<◌, ◌≤◌, ◌+◌, ℕ, Bool, true, false, if◌then◌else◌, ◌==◌, List, [], ◌∷◌, drop, length, Option, Some, None, refl, sym, ap, ◌∙◌, arith}
+use Rattle.std.proofs.Common.{◌≡◌, ◌<◌, ◌≤◌, ◌+◌, ℕ, true, false, if◌then◌else◌, ◌==◌, List, [], ◌∷◌, drop, length, Option, Some, None, refl, sym, ap, ◌∙◌, arith}
 use Rattle.syntax_tokens.specs.Words.{first_word}
 use Rattle.syntax_tokens.specs.declared.word.Sort.{Sort}
 use Rattle.syntax_tokens.specs.declared.word.Sort.TheVariants as sort

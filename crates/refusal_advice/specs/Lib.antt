@@ -13,4 +13,5 @@ pub mod Sentence
 pub mod Surroundings
 pub mod Token
 pub mod Told
+pub mod Visible
 pub mod Walk

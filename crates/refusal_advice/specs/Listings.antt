@@ -9,6 +9,7 @@ use Rattle.syntax_trees.specs.declared.file.TableDecl.{TableDecl}
 use Rattle.syntax_tokens.specs.Words.{names_of}
 use Rattle.syntax_grammar.specs.Parsed.{IsSourceOf}
 use Rattle.refusal_advice.specs.Counts.{given_line, parts, takes_text}
+use Rattle.refusal_advice.specs.Visible.{visible_in}
 use Rattle.refusal_advice.specs.declared.listing.Listing.{Listing}
 use Rattle.refusal_advice.specs.declared.listing.Listing.TheVariants as listing
 
@@ -96,12 +97,29 @@ columns_by name given (Some k) = parts (line_front k) name (line_wants k) ++ giv
 abbrev pub columns_line : List ℕ → ℕ → List (List ℕ) → File → List ℕ
 columns_line name given names f = columns_by name given (kind_of names name f.tables)
 
+-- ---- which variables are visible
+
+abbrev pub visible_text : List (List ℕ) → List ℕ → List ℕ
+visible_text names [] = codes "= no variable is visible here" ++ 10 ∷ []
+visible_text names (v ∷ vs) =
+    names_line (codes "= the variables here are: ") (map (name_text names) (v ∷ vs))
+
+-- nothing where none is mentioned
+abbrev pub visible_by : List (List ℕ) → Option (List ℕ) → List ℕ
+visible_by names None = []
+visible_by names (Some visible) = visible_text names visible
+
+-- where one is mentioned at this place
+abbrev pub visible_line : ℕ → List (List ℕ) → File → List ℕ
+visible_line at names f = visible_by names (visible_in at f.handlers)
+
 -- the line that lists names, or is on the words of a line
 abbrev pub line_of : Listing → List (List ℕ) → File → List ℕ
 line_of listing.Tables names f = tables_line names f
 line_of listing.Handlers names f = handlers_line names f
 line_of (listing.Arguments row) names f = arguments_line row.name.now row.given names f
 line_of (listing.Columns row) names f = columns_line row.name.now row.given names f
+line_of (listing.Visible at) names f = visible_line at names f
 
 -- the line on the tree that the source has, or nothing where it isn't a file of handlers
 abbrev pub IsOfTree : List ℕ → (List (List ℕ) → File → List ℕ) → List ℕ → Type 0

@@ -1,5 +1,5 @@
 -- What is told where a rule above the grammar is broken: a function of the words around the place.
-use Rattle.std.specs.Prelude.{◌≡◌, ℕ, Bool, true, false, ◌&&◌, if◌then◌else◌, List, [], ◌∷◌, ◌++◌, Option, Some, None, codes}
+use Rattle.std.specs.Prelude.{◌≡◌, ℕ, Bool, true, false, List, [], ◌∷◌, ◌++◌, Option, Some, None, codes}
 use Rattle.session_values.specs.Kinds.{home, word_of}
 use Rattle.session_values.specs.declared.kind.Kind.{Kind}
 use Rattle.session_values.specs.declared.kind.Kind.TheVariants.{Get, Put, Swap, Del, Size, Bump, Has, Add, Mark, Drop, Count}
@@ -95,22 +95,19 @@ rule_text topic.Arguments n token = arguments_text (operation_of n.found) n.comm
 rule_text topic.OtherKind n token = kind_text (called n.second n.last) token
 rule_text t n token = []
 
--- whether the tables are listed behind it: where one isn't declared
-abbrev pub is_listing : Topic → Option Kind → Bool
-is_listing topic.Unknown (Some k) = true
-is_listing t k = false
-
--- the list of tables, or nothing
-abbrev pub IsList : Bool → List ℕ → List ℕ → Type 0
-IsList true source list = IsOfTree source (line_of listing.Tables) list
-IsList false source list = list ≡ []
+-- what is listed behind it: the tables where one isn't declared, or the variables that are visible
+-- where one isn't
+abbrev pub IsList : Topic → Option Kind → List ℕ → ℕ → List ℕ → Type 0
+IsList topic.Unknown (Some k) source at list = IsOfTree source (line_of listing.Tables) list
+IsList topic.Unknown None source at list = IsOfTree source (line_of (listing.Visible at)) list
+IsList t k source at list = list ≡ []
 
 pub record IsRuleText (t : Topic) (source : List ℕ) (at : ℕ) (n : Nearby) (advice : List ℕ)
     : Type 0 where
   pub token : List ℕ
   pub list : List ℕ
   pub token_is : IsTokenAt source at token
-  pub listed : IsList (is_listing t (called n.second n.last)) source list
+  pub listed : IsList t (called n.second n.last) source at list
   pub text_is : advice ≡ rule_text t n token ++ list
 
 -- the text on what stands around the place; nothing where no word begins there

@@ -3,8 +3,10 @@
 ghost use Rattle.std.specs.Prelude.{◌≡◌, ◌≤◌, ◌++◌, length, map, IfOk, OnOk};
 ghost use Rattle.session_values.specs.Limits.{max_input};
 ghost use Rattle.refusal_advice.specs.Listings as spec;
+ghost use Rattle.refusal_advice.specs.Visible.{visible_in};
 
 use crate::listing::Listing;
+use crate::visible::visible_in;
 use crate::walk::names_for;
 use crate::wanted_words::{arguments_line, columns_line};
 use session_values::{Names, NoMemory};
@@ -103,7 +105,38 @@ fn handler_names(alloc: Global, handlers: &[Handler]) -> Result<Vec<u32>, NoMemo
     Ok(found)
 }
 
-/// The line that lists the names of a file's tables or handlers, or tells how many words one wants.
+/// The line on the variables that are visible.
+fn visible_text(alloc: Global, names: &Names, places: &[u32]) -> Result<Vec<u8>, NoMemory>
+    ensures { IfOk result (λ text. text.items ≡ spec.visible_text names.now places.now) }
+{
+    match places.split_first() {
+        Some(_) => names_line(alloc, "= the variables here are: ", names, places),
+        None => {
+            let mut text = Vec::new(alloc);
+            text.extend_from_slice(b"= no variable is visible here\n")?;
+            Ok(text)
+        }
+    }
+}
+
+/// The same where handlers mention a variable at this place; nothing where they mention none.
+fn visible_line(
+    alloc: Global,
+    at: u32,
+    names: &Names,
+    handlers: &[Handler],
+) -> Result<Vec<u8>, NoMemory>
+    ensures { IfOk result (λ text. text.items
+        ≡ spec.visible_by names.now (visible_in at handlers.now)) }
+{
+    match visible_in(alloc, at, handlers)? {
+        Some(places) => visible_text(alloc, names, places.as_slice()),
+        None => Ok(Vec::new(alloc)),
+    }
+}
+
+/// The line that lists the names of a file's tables or handlers or of variables, or tells how many
+/// words one wants.
 fn listed(
     alloc: Global,
     listing: Listing<'_>,
@@ -123,6 +156,7 @@ fn listed(
         }
         Listing::Arguments(row) => { arguments_line(alloc, row, names, file.handlers.as_slice()) }
         Listing::Columns(row) => columns_line(alloc, row, names, file.tables.as_slice()),
+        Listing::Visible(at) => visible_line(alloc, at, names, file.handlers.as_slice()),
     }
 }
 

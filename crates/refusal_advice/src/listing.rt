@@ -18,4 +18,6 @@ pub(crate) enum Listing<'a> {
     Arguments(Row<'a>),
     /// What a line of the table that the row names has.
     Columns(Row<'a>),
+    /// The variables that are visible where one is mentioned at this byte place.
+    Visible(u32),
 }

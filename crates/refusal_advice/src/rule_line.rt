@@ -148,14 +148,20 @@ fn push_rule(text: &mut Vec<u8>, topic: Topic, nearby: Nearby, token: &str) -> R
     }
 }
 
-/// The list of tables where one isn't declared, or nothing.
-fn list_for(alloc: Global, topic: Topic, nearby: Nearby, source: &str) -> Result<Vec<u8>, NoMemory>
+/// The list of tables where one isn't declared, or of the visible variables, or nothing.
+fn list_for(
+    alloc: Global,
+    topic: Topic,
+    call: Option<Kind>,
+    source: &str,
+    at: u32,
+) -> Result<Vec<u8>, NoMemory>
     requires { length source.now ≤ max_input }
-    ensures { IfOk result (λ list. spec.IsList (spec.is_listing topic
-        (spec.called nearby.second nearby.last)) source.now list.items) }
+    ensures { IfOk result (λ list. spec.IsList topic call source.now at list.items) }
 {
-    match (topic, called(nearby.second, nearby.last)) {
+    match (topic, call) {
         (Topic::Unknown, Some(_)) => declared_in(alloc, source, Listing::Tables),
+        (Topic::Unknown, None) => declared_in(alloc, source, Listing::Visible(at)),
         _ => Ok(Vec::new(alloc)),
     }
 }
@@ -173,7 +179,8 @@ fn rule_text(
 {
     let mut text = Vec::new(alloc);
     push_rule(&mut text, topic, nearby, token_at(source, at))?;
-    let list = list_for(alloc, topic, nearby, source)?;
+    let call = called(nearby.second, nearby.last);
+    let list = list_for(alloc, topic, call, source, at)?;
     text.extend_from_slice(list.as_slice())?;
     Ok(text)
 }

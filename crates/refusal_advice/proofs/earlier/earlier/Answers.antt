@@ -1,4 +1,4 @@
-use Rattle.std.proofs.Common.{◌≡◌, ◌<◌, false, true, length, sym, ap, ◌∙◌, arith}
+use Rattle.std.proofs.Common.{length, sym, ap, ◌∙◌, arith}
 use Rattle.refusal_advice.proofs.Nearing.{shorter}
 use Rattle.refusal_advice.proofs.earlier.earlier.Goals as goal
 

@@ -1,5 +1,5 @@
-use Rattle.std.proofs.Common.{◌≡◌, ◌<◌, ◌≤◌, ◌+◌, false, true, length, drop, sym, ap, ◌∙◌, arith}
-use Rattle.refusal_advice.specs.Surroundings.{comma, commas, is_last}
+use Rattle.std.proofs.Common.{◌≡◌, false, length, sym, ap, ◌∙◌, arith}
+use Rattle.refusal_advice.specs.Surroundings.{commas, is_last}
 use Rattle.refusal_advice.proofs.Nearing.{comma_few, commas_end, commas_on, commas_shorter}
 use Rattle.refusal_advice.proofs.nearby.commas.Goals as goal
 

@@ -1,7 +1,5 @@
-use Rattle.std.proofs.Common.{◌≡◌, ◌<◌, false, true, length, drop, sym, ap, ◌∙◌, arith}
-use Rattle.syntax_tokens.specs.declared.word.Sort.TheVariants as sort
-use Rattle.refusal_advice.specs.Surroundings.{is_end, nearby}
-use Rattle.refusal_advice.proofs.Nearing.{ended, passed, reached, shorter}
+use Rattle.std.proofs.Common.{length, sym, ap, ◌∙◌, arith}
+use Rattle.refusal_advice.proofs.Nearing.{shorter}
 use Rattle.refusal_advice.proofs.nearby.find.Goals as goal
 
 pub words-smaller : goal.words-smaller

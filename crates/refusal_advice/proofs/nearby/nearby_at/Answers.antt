@@ -1,4 +1,4 @@
-use Rattle.std.proofs.Common.{◌≤◌, length, ap, arith}
+use Rattle.std.proofs.Common.{length, ap, arith}
 use Rattle.syntax_grammar.proofs.Whole.{words_few}
 use Rattle.refusal_advice.proofs.nearby.nearby_at.Goals as goal
 

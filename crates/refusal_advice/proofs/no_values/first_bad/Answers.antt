@@ -1,4 +1,4 @@
-use Rattle.std.proofs.Common.{◌≡◌, true, false, sym, ap, ◌∙◌}
+use Rattle.std.proofs.Common.{◌≡◌, true, false, sym, ◌∙◌}
 use Rattle.text_lines.specs.Values.{is_value}
 use Rattle.refusal_advice.proofs.Rowing.{bad_here, good_on, none_bad}
 use Rattle.refusal_advice.proofs.no_values.first_bad.Goals as goal

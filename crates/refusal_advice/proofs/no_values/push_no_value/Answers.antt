@@ -1,4 +1,4 @@
-use Rattle.std.proofs.Common.{◌≡◌, ℕ, ◌++◌, ap, ◌∙◌}
+use Rattle.std.proofs.Common.{ℕ, ◌++◌, ap, ◌∙◌}
 use Rattle.refusal_advice.specs.NoValues.{reason_by}
 use Rattle.refusal_advice.proofs.Appending.{three_right}
 use Rattle.refusal_advice.proofs.no_values.push_no_value.Goals as goal

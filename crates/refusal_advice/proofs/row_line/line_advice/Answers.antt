@@ -1,4 +1,3 @@
-use Rattle.std.proofs.Common.{◌≡◌}
 use Rattle.refusal_advice.proofs.Rowing.{words_none, words_some}
 use Rattle.refusal_advice.proofs.row_line.line_advice.Goals as goal
 

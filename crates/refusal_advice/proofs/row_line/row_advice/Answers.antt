@@ -1,4 +1,4 @@
-use Rattle.std.proofs.Common.{◌≡◌, ap}
+use Rattle.std.proofs.Common.{ap}
 use Rattle.refusal_advice.specs.Rows.{line_option}
 use Rattle.refusal_advice.proofs.Rowing.{line_none, line_some}
 use Rattle.refusal_advice.proofs.row_line.row_advice.Goals as goal

@@ -1,4 +1,4 @@
-use Rattle.std.proofs.Common.{◌≡◌, ap}
+use Rattle.std.proofs.Common.{ap}
 use Rattle.refusal_advice.specs.Rules as spec
 use Rattle.refusal_advice.proofs.Appending.{on_two}
 use Rattle.refusal_advice.proofs.rule_line.push_variable.Goals as goal

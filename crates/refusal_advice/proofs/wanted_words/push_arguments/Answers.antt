@@ -1,4 +1,4 @@
-use Rattle.std.proofs.Common.{◌≡◌, ap}
+use Rattle.std.proofs.Common.{ap}
 use Rattle.refusal_advice.specs.Listings as spec
 use Rattle.refusal_advice.proofs.Appending.{three}
 use Rattle.refusal_advice.proofs.wanted_words.push_arguments.Goals as goal
