@@ -2,17 +2,16 @@
 use Rattle.std.proofs.Common.{◌≡◌, ℕ, ◌≤◌, Bool, true, false, ◌&&◌, List, length, Option, Some, None, IfSome, inr, sym, ap, ◌∙◌, subst}
 use Rattle.std.proofs.lemmas.Bool.{le-leb, and_parts}
 use Rattle.byte_ends.specs.Ends.{IsAtEnd}
-use Rattle.refusal_places.specs.Answers.{names_place, said_of}
 use Rattle.standard_streams.specs.Changes.{Change, IsUntouched}
 use Rattle.foresight_where.specs.declared.ending.Ending.{Ending}
 use Rattle.foresight_where.specs.Endings.{most}
 use Rattle.foresight_where.specs.Reading.{HasRead}
 use Rattle.foresight_where.specs.Showing.{has_begun_writing}
-use Rattle.foresight_where.specs.Runs.{Answered, Places, PlacesIn, is_looked_at, looked_at}
+use Rattle.foresight_where.specs.Runs.{Answered, Places, PlacesIn, asks_for_file, is_looked_at, looked_at}
 
 -- an input that isn't too long, beside which no file is looked at, names no place
-unlooked : (input : List ℕ) → length input ≤ most → is_looked_at input ≡ false → names_place (said_of input) ≡ false
-unlooked input short h = ap (λ (b : Bool). b && names_place (said_of input)) (sym (le-leb (length input) most short)) ∙ h
+unlooked : (input : List ℕ) → length input ≤ most → is_looked_at input ≡ false → asks_for_file input ≡ false
+unlooked input short h = ap (λ (b : Bool). b && asks_for_file input) (sym (le-leb (length input) most short)) ∙ h
 
 -- what holds of these bytes holds of those that are told
 of_told : (o : Option (List ℕ)) (bytes : List ℕ) (P : List ℕ → Type 0) → IfSome o (λ all. bytes ≡ all) → P bytes → IfSome o P

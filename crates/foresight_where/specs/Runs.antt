@@ -8,26 +8,31 @@ use Rattle.refusal_places.specs.RuleTable.{rules_text}
 use Rattle.standard_streams.specs.Changes.{Change, Failed, HasNotFailed, IsUntouched, Took, TookFront}
 use Rattle.foresight_where.specs.declared.ending.Ending.{Ending}
 use Rattle.foresight_where.specs.declared.ending.Ending.TheVariants.{Told, Usage, NoMemory, ReadFault, TooLarge, WriteFault}
+use Rattle.foresight_where.specs.Chosen.{refusal_line}
 use Rattle.foresight_where.specs.Endings.{line_of, most, version_line}
 use Rattle.foresight_where.specs.Showing.{IsTextOf, Written, has_begun_writing, has_written, placed}
 
 -- ---- what is due
 
--- whether the file is read for this input, which isn't too long and names a place
+-- whether the first refusal of this input names a place
+abbrev pub asks_for_file : List ℕ → Bool
+asks_for_file input = names_place (said_of (refusal_line input))
+
+-- whether the file is read for this input, which isn't too long
 abbrev pub is_looked_at : List ℕ → Bool
-is_looked_at input = nat_le (length input) most && names_place (said_of input)
+is_looked_at input = nat_le (length input) most && asks_for_file input
 
 -- the bytes of the file that are looked at, where they are told: none where it isn't read
 abbrev pub looked_at : List ℕ → Option (List ℕ) → Option (List ℕ)
 looked_at input file = if is_looked_at input then file else (Some [])
 
 -- How a run ends in which nothing fails and memory suffices: an input or a file is too large, or
--- what the input names is a place of the file, or it is handed on.
+-- the first refusal of the input names nothing or a place of the file, or the input is handed on.
 abbrev pub due : List ℕ → List ℕ → List ℕ → Ending
 due name input file =
     if nat_lt most (length input) then TooLarge
     else (if nat_lt most (length file) then TooLarge
-    else (placed (answer name file input)))
+    else (placed (answer name file (refusal_line input))))
 
 -- what an input and a file are answered with, and what of the answer was written
 pub record Answered {O : Type 0} (name input file : List ℕ) (out : Change O) (e : Ending)
@@ -61,9 +66,9 @@ pub record PlacesIn {F O : Type 0} (name input : List ℕ) (files : Change F)
   pub read_fault : e ≡ ReadFault → Failed files
   pub read_well : e ≢ ReadFault → HasNotFailed files
   pub written : Written out e
-  -- The file is opened only where the input names a place, and is read to its end.
-  pub unopened : names_place (said_of input) ≡ false → IsUntouched files
-  pub file_end : names_place (said_of input) ≡ true → has_begun_writing e ≡ true
+  -- The file is opened only where the first refusal names a place, and is read to its end.
+  pub unopened : asks_for_file input ≡ false → IsUntouched files
+  pub file_end : asks_for_file input ≡ true → has_begun_writing e ≡ true
       → IsAtEnd file (files.bytes files.new)
   pub answered : IfSome (looked_at input file) (λ f. Answered name input f out e)
 
@@ -81,7 +86,7 @@ pub record Places {I F O : Type 0} (name : List ℕ) (source : Change I) (files 
   -- The input is read to its end, or up to the first byte that is too many; never further.
   pub end : has_begun_writing e ≡ true → IsAtEnd (source.bytes source.old) (source.bytes source.new)
   pub lost : LostAtMost (source.bytes source.old) (source.bytes source.new) (most + 1)
-  -- The file is opened only where the input names a place, and is read to its end.
+  -- The file is opened only where the first refusal names a place, and is read to its end.
   pub unopened : IfSome (source.bytes source.old)
       (λ input. is_looked_at input ≡ false → IsUntouched files)
   pub file_end : IfSome (source.bytes source.old)

@@ -1,8 +1,9 @@
 -- What is written, and what becomes of the output.
-use Rattle.std.specs.Prelude.{◌≡◌, ◌≢◌, ◌⊎◌, ℕ, Bool, true, false, List, Option, Some, None}
+use Rattle.std.specs.Prelude.{◌≡◌, ◌≢◌, ◌⊎◌, ℕ, Bool, true, false, List, ◌++◌, Option, Some, None}
 use Rattle.refusal_advice.specs.Told.{IsTold}
 use Rattle.refusal_places.specs.Answers.{answer}
 use Rattle.standard_streams.specs.Changes.{Change, Failed, HasNotFailed, IsUntouched, Took, TookFront}
+use Rattle.foresight_where.specs.Chosen.{back_of, front_of, refusal_line}
 use Rattle.foresight_where.specs.declared.ending.Ending.{Ending}
 use Rattle.foresight_where.specs.declared.ending.Ending.TheVariants.{Told, HandedOn, Usage, NoMemory, ReadFault, TooLarge, WriteFault}
 
@@ -34,10 +35,16 @@ abbrev pub placed : Option (List ℕ) → Ending
 placed (Some text) = Told
 placed None = HandedOn
 
--- what a run writes that ends so: the text of the place, and behind it what is advised there, or
--- the input as it is
+-- The first refusal of an input is told of: in place of its line stands the text of the place, and
+-- behind that what is advised there; the lines before and behind it stand as they were.
+pub record IsToldWithin (name input file text : List ℕ) : Type 0 where
+  pub told : List ℕ
+  pub told_is : IsTold name file (refusal_line input) told
+  pub text_is : text ≡ front_of input ++ (told ++ back_of input)
+
+-- what a run writes that ends so: its first refusal is told of, or the input stands as it is
 abbrev pub IsTextOf : List ℕ → List ℕ → List ℕ → List ℕ → Ending → Type 0
-IsTextOf name input file text Told = IsTold name file input text
+IsTextOf name input file text Told = IsToldWithin name input file text
 IsTextOf name input file text HandedOn = text ≡ input
 IsTextOf name input file text _ = ⊥
 
@@ -63,9 +70,10 @@ is_shown WriteFault = true
 pub record Shows {O : Type 0} (name input file : List ℕ) (out : Change O) (e : Ending)
     : Type 0 where
   pub ends : is_shown e ≡ true
-  pub ending : (e ≡ placed (answer name file input)) ⊎ ((e ≡ NoMemory) ⊎ (e ≡ WriteFault))
+  pub ending : (e ≡ placed (answer name file (refusal_line input))) ⊎ ((e ≡ NoMemory) ⊎ (e ≡ WriteFault))
   pub written : has_written e ≡ true
       → (text : List ℕ) × IsTextOf name input file text e × Took out text
   pub front : e ≡ WriteFault → (text : List ℕ)
-      × IsTextOf name input file text (placed (answer name file input)) × TookFront out text
+      × IsTextOf name input file text (placed (answer name file (refusal_line input)))
+      × TookFront out text
   pub output : Written out e

@@ -8,7 +8,8 @@ ghost use Rattle.foresight_where.specs.Endings as spec;
 pub(crate) enum Ending {
     /// The text of a place, or the table, is written.
     Told,
-    /// The input is handed on as it is: it is no refusal, or names no place of the file.
+    /// The input is handed on as it is: no line of it is a refusal's, or the first that is one
+    /// names a place that the file hasn't.
     HandedOn,
     /// The words are none of the program's; nothing is read.
     Usage,

@@ -1,8 +1,9 @@
-//! From a refusal of `foresight` to the place in the file: the refusal's line comes on the standard
-//! input, the file's name is the one word, and the place with a sentence is written. Any other
-//! input is handed on as it is.
+//! From a refusal of `foresight` to the place in the file: the file's name is the one word, and in
+//! place of the first line of the standard input that is a refusal's the place with a sentence is
+//! written. All other lines are handed on as they are.
 #![tactic(auto)]
 
+mod choosing;
 mod ending;
 mod reading;
 mod showing;

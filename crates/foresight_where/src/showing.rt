@@ -1,36 +1,66 @@
 // What is written for a refusal's line.
 
-ghost use Rattle.std.specs.Prelude.{◌≢◌, ◌≤◌, length};
+ghost use Rattle.std.specs.Prelude.{◌≡◌, ◌≢◌, ◌++◌, ◌≤◌, length};
 ghost use Rattle.standard_streams.specs.Changes.{change};
 ghost use Rattle.refusal_places.specs.RuleTable.{rules_text};
-ghost use Rattle.foresight_where.specs.declared.ending.Ending.TheVariants.{NoMemory};
+ghost use Rattle.foresight_where.specs.declared.ending.Ending.TheVariants.{NoMemory, Told};
+ghost use Rattle.foresight_where.specs.Chosen.{back_of, front_of, refusal_line};
 ghost use Rattle.foresight_where.specs.Endings.{most, version_line};
 ghost use Rattle.foresight_where.specs.Runs.{Prints};
 ghost use Rattle.foresight_where.specs.Showing.{Shows, Writes};
 
+use crate::choosing::Cut;
 use crate::ending::Ending;
 use byte_ends::{Sink, write_all};
 use refusal_advice::told;
 use refusal_places::rules_text;
 use std::alloc::Global;
 
-/// Writes the text of the place that the line names, with what is advised there, or the line as it
-/// is.
+/// Writes the input with the text of the place that its first refusal names in place of that line,
+/// and behind that what is advised there, or the input as it is.
+#[tactic(auto, using(crate::proofs::Writing::shows_told, crate::proofs::Writing::shows_input))]
 pub(crate) fn show<O: Sink>(
     alloc: Global,
     name: &str,
     file: &[u8],
     input: &[u8],
+    cut: &Cut<'_>,
     out: &mut O,
 ) -> Ending
     requires file { length file.now ≤ most }
-    requires input { length input.now ≤ most }
+    requires front { cut.now.front.now ≡ front_of input.now }
+    requires line { cut.now.line.now ≡ refusal_line input.now }
+    requires back { cut.now.back.now ≡ back_of input.now }
+    requires short { length cut.now.line.now ≤ most }
     ensures { Shows name.now input.now file.now (change O.held O.faults out.old out.new) result }
 {
-    match told(alloc, name, file, input) {
-        Ok(Some(text)) => written(out, &text, Ending::Told),
+    match told(alloc, name, file, cut.line) {
+        Ok(Some(text)) => write_within(out, cut.front, &text, cut.back),
         Ok(None) => written(out, input, Ending::HandedOn),
         Err(_) => Ending::NoMemory,
+    }
+}
+
+/// Writes a text between what stands before it and behind it.
+fn write_within<O: Sink>(out: &mut O, front: &[u8], text: &[u8], back: &[u8]) -> Ending
+    ensures { Writes (front.now ++ (text.now ++ back.now)) Told
+        (change O.held O.faults out.old out.new) result }
+{
+    if write_all(out, front) {
+        write_before(out, text, back)
+    } else {
+        Ending::WriteFault
+    }
+}
+
+/// Writes a text and what stands behind it.
+fn write_before<O: Sink>(out: &mut O, text: &[u8], back: &[u8]) -> Ending
+    ensures { Writes (text.now ++ back.now) Told (change O.held O.faults out.old out.new) result }
+{
+    if write_all(out, text) {
+        written(out, back, Ending::Told)
+    } else {
+        Ending::WriteFault
     }
 }
 

@@ -152,3 +152,18 @@ fn runs_with_a_fault(rt: HostRuntime) -> Result<(), Fail> {
     }
     Ok(())
 }
+
+#[test]
+fn a_refusal_among_other_lines(rt: HostRuntime) -> Result<(), Fail> {
+    let mut out = String::from_str(rt.alloc(), "refused S2 at x\n")?;
+    out.push_str(PLACE)?;
+    out.push_str("refused S2 at 3\nand the end")?;
+    let row = Row {
+        words: "small",
+        input: "refused S2 at x\nrefused S2 at 51\nrefused S2 at 3\nand the end",
+        fails: (&[], &[], &[]),
+    };
+    let found = end_of(rt.alloc(), row, out.as_str())?;
+    assert_eq!(rt; found, (Ending::Told, true, true));
+    Ok(())
+}

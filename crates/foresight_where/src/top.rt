@@ -5,6 +5,7 @@ ghost use Rattle.standard_streams.specs.Changes.{change};
 ghost use Rattle.foresight_where.specs.Endings.{most};
 ghost use Rattle.foresight_where.specs.Runs.{EndsWithLine, Runs, RunsAlone, Places, PlacesIn};
 
+use crate::choosing::cut_input;
 use crate::ending::Ending;
 use crate::reading::{read_bytes, read_file};
 use crate::showing::{show, show_rules, show_version};
@@ -14,9 +15,10 @@ use standard_streams::OpensFiles;
 use std::alloc::Global;
 
 /// All that the program does: `words` are those after the program's name. It reads an input from
-/// `source` and, where that names a place, the file with the name that is the one word, writes the
-/// text of the place or the input as it is to `out`, or the table of rules or the version, and one
-/// line to `err` where none of these is written. Its promises stand by name in `specs/Runs.antt`.
+/// `source` and, where its first refusal names a place, the file with the name that is the one
+/// word; it writes the input to `out`, with what is told of that refusal in place of its line, or
+/// as it is, or the table of rules or the version, and one line to `err` where none of these is
+/// written. Its promises stand by name in `specs/Runs.antt`.
 pub(crate) fn run<I: Source, F: OpensFiles, O: Sink, E: Sink>(
     alloc: Global,
     words: &[String],
@@ -74,7 +76,7 @@ fn alone<I: Source, F: OpensFiles, O: Sink>(
     }
 }
 
-// Shows the place in the file with this name that the input names.
+// Shows the place in the file with this name that the first refusal of the input names.
 fn place<I: Source, F: OpensFiles, O: Sink>(
     alloc: Global,
     name: &str,
@@ -92,8 +94,8 @@ fn place<I: Source, F: OpensFiles, O: Sink>(
     }
 }
 
-// Shows the place in the file with this name that these bytes name. The file is read only where
-// they name one.
+// Shows the place in the file with this name that the first refusal among these bytes names. The
+// file is read only where that names one.
 fn place_in<F: OpensFiles, O: Sink>(
     alloc: Global,
     name: &str,
@@ -105,11 +107,12 @@ fn place_in<F: OpensFiles, O: Sink>(
     ensures { PlacesIn name.now input.now (change F.left F.faults files.old files.new)
         (F.bytes_of files.old name.now) (change O.held O.faults out.old out.new) result }
 {
-    if !names_place(input) {
-        return show(alloc, name, &[], input, out);
+    let cut = cut_input(input);
+    if !names_place(cut.line) {
+        return show(alloc, name, &[], input, &cut, out);
     }
     match read_file(alloc, name, files) {
-        Ok(file) => show(alloc, name, &file, input, out),
+        Ok(file) => show(alloc, name, &file, input, &cut, out),
         Err(ending) => ending,
     }
 }
