@@ -1,5 +1,7 @@
 #!/usr/bin/env bash
-# What a live session costs: bench/live.sh LIBRARY FOLDER [PEER..]. For each *.session of the folder:
+# What a live session costs: bench/live.sh LIBRARY FOLDER [PEER..]. LIBRARY is the static library, as
+# `rt lib` leaves it (crates/foresight_c/out/libforesight_c.a), or as embedding/library.py builds it
+# over what `rt ci` left in a clone; both are proved. For each *.session of the folder:
 # nanoseconds a request in this process, one line a call and a hundred a call, and, where PEER (a
 # program and its words, which reads a session file and ends) is given, its processor time over the
 # requests, less that for the same file without requests. Then, for work.session, requests a second
@@ -11,6 +13,8 @@ set -euo pipefail
 [ $# -ge 2 ] || { echo "words: LIBRARY FOLDER [PEER..]" >&2; exit 2; }
 library=$(realpath "$1")
 folder=$(realpath "$2")
+[ -s "$library" ] || { echo "no library at $library" >&2; exit 2; }
+[ -d "$folder" ] || { echo "no folder at $folder" >&2; exit 2; }
 shift 2
 cd "$(dirname "$0")/.."
 work=$(mktemp -d)

@@ -84,9 +84,10 @@ uint8_t foresight_dump(const uint8_t *text, size_t text_size, uint8_t *out, size
 
 /* ---- The hall: tickets that several callers serve on shared tables. Each of its calls is made when
  * the program says so, and none waits. A handle begins as FORESIGHT_NO_HALL. `plan` gives it a plan,
- * to which tickets are added; `open` makes that a hall; `step` makes one caller's next try; `close`
- * ends the hall, and then `reply` tells what the tickets were answered. `free` gives the memory back,
- * at any time, and leaves FORESIGHT_NO_HALL.
+ * to which entries of its tables and tickets are added; `open` makes that a hall; `step` makes one
+ * caller's next try; `close` ends the hall, and then `reply` tells what the tickets were answered,
+ * `size` and `entry_at` what the tables hold. `free` gives the memory back, at any time, and leaves
+ * FORESIGHT_NO_HALL.
  *
  * The program sees to these: nobody but the calls writes a handle after its beginning; of a handle
  * that is copied, only one copy is used from then on; a handle is used by one call at a time, from any
@@ -102,7 +103,7 @@ enum foresight_hall_status {
      * and each later call but `free` answers 11. */
     FORESIGHT_HALL_NO_MEMORY = 3,
     /* A number means nothing here: a table or a kind that there isn't, a field that isn't nil and
-     * has no use, a size past its limit, a ticket that there isn't. Nothing was done. */
+     * has no use, a size past its limit, a ticket or an entry that there isn't. Nothing was done. */
     FORESIGHT_HALL_UNREAD = 10,
     /* The handle isn't at this. Nothing was done. */
     FORESIGHT_HALL_WRONG = 11,
@@ -111,7 +112,9 @@ enum foresight_hall_status {
     /* There is no ticket yet. Nothing was done. */
     FORESIGHT_HALL_NO_TICKET = 13,
     /* Some caller hasn't found yet that no ticket is left to begin. Nothing was done. */
-    FORESIGHT_HALL_NOT_OUT = 14
+    FORESIGHT_HALL_NOT_OUT = 14,
+    /* The table opens with an entry of this key already. Nothing was done. */
+    FORESIGHT_HALL_TWICE = 17
 };
 
 struct foresight_hall {
@@ -195,6 +198,13 @@ struct foresight_step {
 uint8_t foresight_hall_plan(struct foresight_hall *hall, uint8_t maps, uint8_t sets,
     uint32_t tickets, uint32_t calls, uint32_t symbols);
 
+/* Adds an entry with which a table opens, before or between the tickets: a key and what it is bound
+ * to, or a member of a set and nil. Each key stands once for its table. All tables together open with
+ * 100,000 entries at most. Keys are searched for by their hashes: each of many keys that were chosen
+ * to have one hash costs a search through them. */
+uint8_t foresight_hall_entry(struct foresight_hall *hall, uint32_t table,
+    const struct foresight_value *key, const struct foresight_value *value);
+
 /* Adds a ticket, which answers this value and calls nothing yet. Tickets are numbered from 0 on. */
 uint8_t foresight_hall_ticket(struct foresight_hall *hall, const struct foresight_value *reply);
 
@@ -223,6 +233,14 @@ uint8_t foresight_hall_close(struct foresight_hall *hall);
 /* What a ticket of a hall that is closed was answered. */
 uint8_t foresight_hall_reply(struct foresight_hall *hall, uint32_t ticket,
     struct foresight_value *reply);
+
+/* How many entries a table of a hall that is closed was left with. */
+uint8_t foresight_hall_size(struct foresight_hall *hall, uint32_t table, uint32_t *size);
+
+/* The entry at a place of these, from 0 on: a key and what it is bound to, or a member and nil. Their
+ * order depends on how the callers went on by turns, and stays. It takes no memory. */
+uint8_t foresight_hall_entry_at(struct foresight_hall *hall, uint32_t table, uint32_t place,
+    struct foresight_value *key, struct foresight_value *value);
 
 /* Gives back all memory of the handle. */
 uint8_t foresight_hall_free(struct foresight_hall *hall);

@@ -15,7 +15,7 @@ import threading
 
 MESSAGE_ROOM = 256
 REPLIES_ROOM = 65536
-VERSION_NUMBER = 10300
+VERSION_NUMBER = 10400
 NIL, NUMBER, NAME, ANY = range(4)
 KINDS = ("get", "put", "swap", "del", "size", "bump", "has", "add", "mark", "drop", "count")
 
@@ -33,7 +33,7 @@ class Refused(ForesightError):
 
 
 class Delayed(ForesightError):
-    """An older ticket is in the way."""
+    """A ticket is in the way of a call, or of a line."""
 
     def __init__(self, older):
         super().__init__(20, f"ticket {older} is in the way")
@@ -49,7 +49,8 @@ class _Answer(c.Structure):
 
 
 class _Served(c.Structure):
-    _fields_ = [(name, c.c_size_t) for name in ("used", "written", "requests", "told")]
+    _fields_ = [(name, c.c_size_t) for name in ("used", "written", "requests", "told")] + [
+        ("older", c.c_uint64)]
 
 
 class _Value(c.Structure):
@@ -66,7 +67,9 @@ def _loaded():
     name = os.environ.get("FORESIGHT_LIBRARY") or (
         beside if os.path.exists(beside) else "libforesight.so")
     library = c.CDLL(name)
-    for call in ("session_open", "session_serve", "session_dump", "session_close", "tables_open",
+    for call in ("session_open", "session_serve", "session_dump", "session_close", "session_begin",
+                 "session_call", "session_narrow", "session_end", "session_name", "session_text",
+                 "tables_open",
                  "ticket_begin", "ticket_call", "ticket_narrow", "ticket_end", "tables_close"):
         getattr(library, f"foresight_{call}").restype = c.c_uint8
     library.foresight_version.restype = c.c_uint32
@@ -98,6 +101,13 @@ class _Kept:
         with self._lock:
             if self._handle.live:
                 self._close(c.byref(self._handle))
+
+    def _do(self, call, *words):
+        with self._lock:
+            status = call(c.byref(self._handle), *words)
+        if status not in (0, 20):
+            raise _error(status, None)
+        return status
 
     def __enter__(self):
         return self
@@ -158,9 +168,45 @@ class Session(_Kept):
         answered = replies.decode().splitlines()
         if status == 0:
             return answered
-        error = _error(status, why.raw[:served.told].decode().strip())
+        error = Delayed(served.older) if status == 20 else _error(
+            status, why.raw[:served.told].decode().strip())
         error.replies, error.used = answered, text[:at].count(b"\n")
         raise error
+
+    def name(self, text):
+        """The number of a symbol's text, as `Name`, to be used as a key or a value of a ticket."""
+        text, number = text.encode(), c.c_uint32()
+        self._do(_library.foresight_session_name, text, c.c_size_t(len(text)), c.byref(number))
+        return Name(number.value)
+
+    def text(self, name):
+        """The text of a name."""
+        out, size = c.create_string_buffer(64), c.c_size_t()
+        self._do(_library.foresight_session_text, c.c_uint32(name.number), out, c.c_size_t(64),
+                 c.byref(size))
+        return out.raw[:min(size.value, 64)].decode()
+
+    def begin(self, declared):
+        """Begins a ticket on the tables of the session; answers its number."""
+        ticket = c.c_uint64()
+        self._do(_library.foresight_session_begin, *_list(declared), c.byref(ticket))
+        return ticket.value
+
+    def call(self, ticket, kind, table, key=None, value=None):
+        """Calls an operation of a ticket: its reply, or `Delayed`."""
+        operation, reply, older = _operation(kind, table, key, value), _Value(), c.c_uint64()
+        if self._do(_library.foresight_session_call, c.c_uint64(ticket), c.byref(operation),
+                    c.byref(reply), c.byref(older)):
+            raise Delayed(older.value)
+        return _replied(reply)
+
+    def narrow(self, ticket, declared):
+        """Declares these in place of the ticket's own."""
+        self._do(_library.foresight_session_narrow, c.c_uint64(ticket), *_list(declared))
+
+    def end(self, ticket):
+        """Ends a ticket."""
+        self._do(_library.foresight_session_end, c.c_uint64(ticket))
 
     def tables(self):
         """The tables, as `foresight dump` writes them."""
@@ -177,8 +223,36 @@ class Session(_Kept):
         return out.raw[:answer.written].decode()
 
 
+class Name:
+    """A symbol, by its number among the names of a session."""
+
+    def __init__(self, number):
+        self.number = number
+
+    def __eq__(self, other):
+        return isinstance(other, Name) and self.number == other.number
+
+    def __hash__(self):
+        return hash(self.number)
+
+
+def _replied(reply):
+    """A reply: a number, a name, or None."""
+    if reply.sort == NAME:
+        return Name(reply.name)
+    return reply.number if reply.sort == NUMBER else None
+
+
+def _list(declared):
+    """Symbols as the library takes them, and how many."""
+    declared = [_operation(*symbol) for symbol in declared]
+    return (_Operation * max(1, len(declared)))(*declared), c.c_size_t(len(declared))
+
+
 def _value(given):
-    """None is nil, a number itself, `any` any value."""
+    """None is nil, a number itself, a `Name` its symbol, `any` any value."""
+    if isinstance(given, Name):
+        return _Value(NAME, given.number, 0)
     if given is None:
         return _Value(NIL, 0, 0)
     if given is any:
@@ -205,22 +279,10 @@ class Tables(_Kept):
         super().__init__(_library.foresight_tables_close)
         self._do(_library.foresight_tables_open, c.c_uint8(maps), c.c_uint8(sets))
 
-    def _do(self, call, *words):
-        with self._lock:
-            status = call(c.byref(self._handle), *words)
-        if status not in (0, 20):
-            raise _error(status, None)
-        return status
-
-    @staticmethod
-    def _list(declared):
-        declared = [_operation(*symbol) for symbol in declared]
-        return (_Operation * max(1, len(declared)))(*declared), c.c_size_t(len(declared))
-
     def begin(self, declared):
         """Begins a ticket that may call these; answers its number."""
         ticket = c.c_uint64()
-        self._do(_library.foresight_ticket_begin, *self._list(declared), c.byref(ticket))
+        self._do(_library.foresight_ticket_begin, *_list(declared), c.byref(ticket))
         return ticket.value
 
     def call(self, ticket, kind, table, key=None, value=None):
@@ -233,7 +295,7 @@ class Tables(_Kept):
 
     def narrow(self, ticket, declared):
         """Declares these in place of the ticket's own."""
-        self._do(_library.foresight_ticket_narrow, c.c_uint64(ticket), *self._list(declared))
+        self._do(_library.foresight_ticket_narrow, c.c_uint64(ticket), *_list(declared))
 
     def end(self, ticket):
         """Ends a ticket."""

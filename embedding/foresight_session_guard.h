@@ -50,6 +50,52 @@ static inline uint8_t foresight_guard_dump(struct foresight_session *session, ui
         foresight_guard_room(message), message_size, answer);
 }
 
+static inline uint8_t foresight_guard_session_begin(struct foresight_session *session,
+    const struct foresight_operation *declared, size_t size, uint64_t *ticket) {
+    if (session == NULL || ticket == NULL || foresight_guard_null(declared, size)) {
+        return FORESIGHT_SESSION_NULL;
+    }
+    return foresight_session_begin(session, foresight_guard_list(declared), size, ticket);
+}
+
+static inline uint8_t foresight_guard_session_call(struct foresight_session *session,
+    uint64_t ticket, const struct foresight_operation *operation, struct foresight_value *reply,
+    uint64_t *older) {
+    if (session == NULL || operation == NULL || reply == NULL || older == NULL) {
+        return FORESIGHT_SESSION_NULL;
+    }
+    return foresight_session_call(session, ticket, operation, reply, older);
+}
+
+static inline uint8_t foresight_guard_session_narrow(struct foresight_session *session,
+    uint64_t ticket, const struct foresight_operation *declared, size_t size) {
+    if (session == NULL || foresight_guard_null(declared, size)) {
+        return FORESIGHT_SESSION_NULL;
+    }
+    return foresight_session_narrow(session, ticket, foresight_guard_list(declared), size);
+}
+
+static inline uint8_t foresight_guard_session_end(struct foresight_session *session,
+    uint64_t ticket) {
+    return session == NULL ? FORESIGHT_SESSION_NULL : foresight_session_end(session, ticket);
+}
+
+static inline uint8_t foresight_guard_session_name(struct foresight_session *session,
+    const uint8_t *text, size_t text_size, uint32_t *number) {
+    if (session == NULL || number == NULL || foresight_guard_null(text, text_size)) {
+        return FORESIGHT_SESSION_NULL;
+    }
+    return foresight_session_name(session, foresight_guard_text(text), text_size, number);
+}
+
+static inline uint8_t foresight_guard_session_text(struct foresight_session *session,
+    uint32_t number, uint8_t *out, size_t out_size, size_t *size) {
+    if (session == NULL || size == NULL || foresight_guard_null(out, out_size)) {
+        return FORESIGHT_SESSION_NULL;
+    }
+    return foresight_session_text(session, number, foresight_guard_room(out), out_size, size);
+}
+
 static inline uint8_t foresight_guard_close(struct foresight_session *session) {
     return session == NULL ? FORESIGHT_SESSION_NULL : foresight_session_close(session);
 }

@@ -73,7 +73,8 @@ static int serve_some(struct client *client, const uint8_t *lines, size_t size,
     pthread_mutex_unlock(&lock);
     if (status == FORESIGHT_SESSION_FINE || status == FORESIGHT_SESSION_NO_ROOM) return status;
     if (status == FORESIGHT_SESSION_NOT_TEXT && first_line(lines, size) < size) return status;
-    if (status == FORESIGHT_SESSION_NO_MEMORY || status == FORESIGHT_SESSION_NOT_TEXT) {
+    if (status == FORESIGHT_SESSION_NO_MEMORY || status == FORESIGHT_SESSION_NOT_TEXT
+        || status == FORESIGHT_SESSION_FULL) {
         served->used += first_line(lines + served->used, size - served->used);
     }
     served->written += (size_t)sprintf((char *)client->out + served->written, "! %.*s",
@@ -86,7 +87,7 @@ static int serve_some(struct client *client, const uint8_t *lines, size_t size,
 static bool serve(struct client *client, const uint8_t *lines, size_t size) {
     bool one_by_one = false;
     while (size > 0) {
-        struct foresight_served served = { 0, 0, 0, 0 };
+        struct foresight_served served = { 0, 0, 0, 0, 0 };
         size_t most = one_by_one ? first_line(lines, size) : size;
         int status = serve_some(client, lines, most, &served);
         if (status == FORESIGHT_SESSION_WRONG) return false;

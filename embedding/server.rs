@@ -43,6 +43,7 @@ struct Served {
     written: usize,
     requests: usize,
     told: usize,
+    older: u64,
 }
 
 unsafe extern "C" {

@@ -1,42 +1,6 @@
-/* Calls each of the nine calls over a handle of the hall: where all is done, with what each
+/* Calls each of the twelve calls over a handle of the hall: where all is done, with what each
  * refuses, and with each request for memory refused. .ci/embedding builds and runs it. */
-#include "../foresight.h"
-#include "heap.h"
-
-#include <stdio.h>
-#include <string.h>
-
-typedef struct foresight_value value;
-typedef struct foresight_operation operation;
-typedef struct foresight_hall handle;
-
-enum { MAP = 0, SET = 1 };
-
-#define NIL { FORESIGHT_NIL, 0, 0 }
-#define NUMBER(n) { FORESIGHT_NUMBER, 0, n }
-#define NAME(n) { FORESIGHT_NAME, n, 0 }
-#define ANY { FORESIGHT_ANY, 0, 0 }
-
-static const handle no_hall = FORESIGHT_NO_HALL;
-static const value nil = NIL, any = ANY, no_sort = { 4, 0, 0 };
-static size_t failures;
-
-static void want(bool is_well, const char *what) {
-    if (is_well) return;
-    fprintf(stderr, "halls: %s\n", what);
-    failures++;
-}
-
-/* Wants of a call that it answers this; where that is a refusal no memory is kept. */
-#define WANT(due, call) do { \
-        size_t before = heap_blocks(); \
-        want((call) == (due), #call " isn't " #due); \
-        if ((due) != FORESIGHT_HALL_FINE) want(heap_blocks() == before, #call ": memory is kept"); \
-    } while (0)
-
-static bool is_same(const value *a, const value *b) {
-    return a->sort == b->sort && a->name == b->name && a->number == b->number;
-}
+#include "hall_checks.h"
 
 /* ---- what each call refuses, by what the handle is at */
 
@@ -46,10 +10,12 @@ enum stage { NOTHING, PLANNED, GONE, OPEN, CLOSED };
 static void want_wrong(handle *hall, enum stage stage) {
     static const operation size = { FORESIGHT_SIZE, MAP, NIL, NIL };
     const value was = NUMBER(-7);
-    value reply = was;
+    value reply = was, key = was;
+    uint32_t count = 96;
     struct foresight_step step = { 99, 98, 97, NUMBER(-7) };
     if (stage != NOTHING) WANT(FORESIGHT_HALL_WRONG, foresight_hall_plan(hall, 1, 1, 1, 1, 1));
     if (stage != PLANNED) {
+        WANT(FORESIGHT_HALL_WRONG, foresight_hall_entry(hall, MAP, &nil, &nil));
         WANT(FORESIGHT_HALL_WRONG, foresight_hall_ticket(hall, &nil));
         WANT(FORESIGHT_HALL_WRONG, foresight_hall_call(hall, &size));
         WANT(FORESIGHT_HALL_WRONG, foresight_hall_allow(hall, &size));
@@ -60,9 +26,14 @@ static void want_wrong(handle *hall, enum stage stage) {
         want(step.answer == 99 && step.ticket == 98 && step.other == 97, "a step was written");
         WANT(FORESIGHT_HALL_WRONG, foresight_hall_close(hall));
     }
-    if (stage != CLOSED) WANT(FORESIGHT_HALL_WRONG, foresight_hall_reply(hall, 0, &reply));
+    if (stage != CLOSED) {
+        WANT(FORESIGHT_HALL_WRONG, foresight_hall_reply(hall, 0, &reply));
+        WANT(FORESIGHT_HALL_WRONG, foresight_hall_size(hall, MAP, &count));
+        WANT(FORESIGHT_HALL_WRONG, foresight_hall_entry_at(hall, MAP, 0, &key, &reply));
+    }
     if (stage == NOTHING) WANT(FORESIGHT_HALL_WRONG, foresight_hall_free(hall));
     want(is_same(&reply, &was) && is_same(&step.reply, &was), "a value was written");
+    want(is_same(&key, &was) && count == 96, "a key or a size was written");
 }
 
 /* Sizes that no plan may have, and the largest one. */
@@ -131,12 +102,32 @@ static void test_tickets(void) {
 
 /* ---- a hall that is served */
 
+/* The entries with which its tables open, and those that it leaves. */
+static const struct entry {
+    uint32_t table;
+    value key, value;
+} opening[] = {
+    { MAP, NUMBER(50), NAME(6) },
+    { SET, NUMBER(8), NIL },
+    { MAP, NUMBER(1), NUMBER(3) },
+}, left[] = {
+    { MAP, NUMBER(50), NAME(6) },
+    { MAP, NAME(2), NUMBER(42) },
+    { MAP, NUMBER(100), NUMBER(6) },
+    { SET, NUMBER(8), NIL },
+    { SET, NAME(4), NIL },
+};
+
+enum { OPENING = sizeof opening / sizeof opening[0], LEFT = sizeof left / sizeof left[0] };
+
 /* The operations of a ticket, and what each replies where they are served alone. */
 static const struct row {
     operation made;
     value reply;
 } alone[] = {
-    { { FORESIGHT_SIZE, MAP, NIL, NIL }, NUMBER(0) },
+    { { FORESIGHT_SIZE, MAP, NIL, NIL }, NUMBER(2) },
+    { { FORESIGHT_GET, MAP, NUMBER(1), NIL }, NUMBER(3) },
+    { { FORESIGHT_GET, MAP, NUMBER(50), NIL }, NAME(6) },
     { { FORESIGHT_PUT, MAP, NUMBER(1), NUMBER(5) }, NIL },
     { { FORESIGHT_GET, MAP, NUMBER(1), NIL }, NUMBER(5) },
     { { FORESIGHT_SWAP, MAP, NUMBER(1), NAME(9) }, NUMBER(5) },
@@ -145,12 +136,13 @@ static const struct row {
     { { FORESIGHT_BUMP, MAP, NAME(2), NUMBER(2) }, NIL },
     { { FORESIGHT_GET, MAP, NAME(2), NIL }, NUMBER(42) },
     { { FORESIGHT_DEL, MAP, NUMBER(1), NIL }, NIL },
-    { { FORESIGHT_SIZE, MAP, NIL, NIL }, NUMBER(1) },
+    { { FORESIGHT_SIZE, MAP, NIL, NIL }, NUMBER(2) },
+    { { FORESIGHT_HAS, SET, NUMBER(8), NIL }, NUMBER(1) },
     { { FORESIGHT_HAS, SET, NUMBER(4), NIL }, NUMBER(0) },
     { { FORESIGHT_ADD, SET, NUMBER(4), NIL }, NUMBER(1) },
     { { FORESIGHT_ADD, SET, NUMBER(4), NIL }, NUMBER(0) },
     { { FORESIGHT_MARK, SET, NAME(4), NIL }, NIL },
-    { { FORESIGHT_COUNT, SET, NIL, NIL }, NUMBER(2) },
+    { { FORESIGHT_COUNT, SET, NIL, NIL }, NUMBER(3) },
     { { FORESIGHT_DROP, SET, NUMBER(4), NIL }, NIL },
     { { FORESIGHT_HAS, SET, NUMBER(4), NIL }, NUMBER(0) },
     { { FORESIGHT_HAS, SET, NAME(4), NIL }, NUMBER(1) },
@@ -227,6 +219,36 @@ static void serve(handle *hall) {
     WANT(FORESIGHT_HALL_FINE, foresight_hall_close(hall));
 }
 
+/* How often an entry stands in a table of so many. */
+static int times(handle *hall, const struct entry *due, uint32_t size) {
+    int count = 0;
+    for (uint32_t place = 0; place < size; place++) {
+        value key = NUMBER(-7), found = NUMBER(-7);
+        WANT(FORESIGHT_HALL_FINE, foresight_hall_entry_at(hall, due->table, place, &key, &found));
+        count += is_same(&key, &due->key) && is_same(&found, &due->value);
+    }
+    return count;
+}
+
+/* The tables that a hall leaves that is closed. */
+static void want_tables(handle *hall) {
+    const value was = NUMBER(-7);
+    value key = was, found = was;
+    uint32_t sizes[] = { 96, 96 }, none = 96;
+    WANT(FORESIGHT_HALL_FINE, foresight_hall_size(hall, MAP, &sizes[MAP]));
+    WANT(FORESIGHT_HALL_FINE, foresight_hall_size(hall, SET, &sizes[SET]));
+    want(sizes[MAP] == 3 && sizes[SET] == 2, "tables of other sizes");
+    for (size_t i = 0; i < LEFT; i++) {
+        want(times(hall, &left[i], sizes[left[i].table]) == 1, "an entry that isn't there once");
+    }
+    WANT(FORESIGHT_HALL_UNREAD, foresight_hall_size(hall, 2, &none));
+    WANT(FORESIGHT_HALL_UNREAD, foresight_hall_size(hall, UINT32_MAX, &none));
+    WANT(FORESIGHT_HALL_UNREAD, foresight_hall_entry_at(hall, MAP, 3, &key, &found));
+    WANT(FORESIGHT_HALL_UNREAD, foresight_hall_entry_at(hall, SET, UINT32_MAX, &key, &found));
+    WANT(FORESIGHT_HALL_UNREAD, foresight_hall_entry_at(hall, 2, 0, &key, &found));
+    want(is_same(&key, &was) && is_same(&found, &was) && none == 96, "an entry of no table");
+}
+
 /* What a hall leaves that is closed. */
 static void want_replies(handle *hall) {
     const value was = NUMBER(-7);
@@ -266,8 +288,12 @@ static void plan(handle *hall) {
         AGAIN(status, foresight_hall_plan(hall, 1, 1, 3, 100, 100));
     }
     want(status == FORESIGHT_HALL_FINE && hall->live, "there is no plan");
+    DO(foresight_hall_entry(hall, opening[0].table, &opening[0].key, &opening[0].value));
     DO(foresight_hall_ticket(hall, &replies[0]));
     for (size_t i = 0; i < ALONE; i++) DO(foresight_hall_call(hall, &alone[i].made));
+    for (size_t i = 1; i < OPENING; i++) {
+        DO(foresight_hall_entry(hall, opening[i].table, &opening[i].key, &opening[i].value));
+    }
     DO(foresight_hall_ticket(hall, &replies[1]));
     DO(foresight_hall_call(hall, &reads));
     DO(foresight_hall_allow(hall, &may_put));
@@ -306,6 +332,7 @@ static bool is_refused(size_t number, bool also_later) {
     size_t before = heap_requests();
     serve(&hall);
     want_replies(&hall);
+    want_tables(&hall);
     WANT(FORESIGHT_HALL_FINE, foresight_hall_free(&hall));
     want(heap_requests() == before, "memory is taken once the hall is open");
     want(!hall.live && heap_blocks() == 0, "memory wasn't given back");

@@ -93,7 +93,41 @@ def try_tickets():
     refused(lambda: foresight.Tables(maps=8), 10, "status 10")
 
 
+def try_tickets_beside_requests():
+    """Tickets on the tables of a session, and lines that wait for them."""
+    text = ("map m; handler store(k, v) { put(m, k, v); reply k; }\n"
+            "handler load(k) { let v = get(m, k); reply v; }\n%%\n")
+    with foresight.Session(text, most_names=7) as session:
+        assert session.serve(["store ann 7"]) == ["ann"]
+        ann = session.name("ann")
+        assert session.text(ann) == "ann"
+        ticket = session.begin([("get", 0, ann), ("put", 0, ann, any)])
+        assert session.call(ticket, "get", 0, ann) == 7
+        try:
+            session.serve(["store bob 1", "load ann", "load bob"])
+            raise AssertionError("not delayed")
+        except foresight.Delayed as delayed:
+            assert (delayed.older, delayed.replies, delayed.used) == (ticket, ["bob"], 1)
+        assert session.call(ticket, "put", 0, ann, 8) is None
+        younger = session.begin([("get", 0, ann)])
+        try:
+            session.call(younger, "get", 0, ann)
+            raise AssertionError("not delayed")
+        except foresight.Delayed as delayed:
+            assert delayed.older == ticket
+        session.narrow(ticket, [])
+        assert session.call(younger, "get", 0, ann) == 8
+        assert session.serve(["load ann"]) == ["8"]
+        refused(lambda: session.call(ticket, "get", 0, ann), 21, "status 21")
+        session.end(ticket)
+        refused(lambda: session.end(ticket), 13, "status 13")
+        refused(lambda: session.call(younger, "add", 0, ann), 22, "status 22")
+        refused(lambda: session.name("carl"), 15, "status 15")
+        refused(lambda: session.name("5"), 1, "status 1")
+
+
 try_session()
 try_refusals()
 try_tickets()
+try_tickets_beside_requests()
 print("package: foresight.py, as it should be")

@@ -282,6 +282,62 @@ static void want_null(void) {
     WANT(23, foresight_guard_close(NULL));
 }
 
+/* ---- tickets on the tables of a session */
+static void want_tickets(void) {
+    static const struct foresight_operation get_5 = {
+        FORESIGHT_GET, 0, { FORESIGHT_NUMBER, 0, 5 }, { FORESIGHT_NIL, 0, 0 }
+    };
+    struct foresight_operation get_a = get_5, other = get_5;
+    struct foresight_value reply = { 9, 9, 9 };
+    uint64_t ticket = 9, older = 9;
+    uint32_t name = 99;
+    size_t size = 99;
+    handle session = none;
+    WANT(11, foresight_session_begin(&session, &get_5, 1, &ticket));
+    WANT(11, foresight_session_name(&session, (const uint8_t *)"a", 1, &name));
+    want(ticket == 9 && name == 99, "a handle of nothing tells a number");
+    WANT(0, open_with(&session, handlers, 9));
+    /* The first line commutes with what the ticket has declared, the second doesn't, and isn't used. */
+    WANT(0, foresight_session_begin(&session, &get_5, 1, &ticket));
+    want(ticket == 0, "the first ticket has another number");
+    WANT(20, serve(&session, "f a\nf 5\nf a\n"));
+    want_served(4, 1, "3 1\n", "delayed\n");
+    want(done.older == 0, "another ticket is in the way");
+    WANT(0, foresight_session_call(&session, ticket, &get_5, &reply, &older));
+    want(reply.sort == FORESIGHT_NIL && older == 9, "the reply of a call");
+    /* A name has the number of its text, and the text of its number. */
+    WANT(0, foresight_session_name(&session, (const uint8_t *)"a", 1, &name));
+    fill();
+    WANT(0, foresight_session_text(&session, name, out, ROOM, &size));
+    want(stands(out, sizeof out, "a", size), "the text of a name");
+    WANT(10, foresight_session_text(&session, 1000, out, ROOM, &size));
+    WANT(1, foresight_session_name(&session, (const uint8_t *)"5", 1, &name));
+    get_a.key.sort = FORESIGHT_NAME;
+    get_a.key.name = name;
+    WANT(21, foresight_session_call(&session, ticket, &get_a, &reply, &older));
+    other.key = get_a.key;
+    other.key.name = 1000;
+    WANT(22, foresight_session_call(&session, ticket, &other, &reply, &older));
+    other = get_5;
+    other.kind = 200;
+    WANT(10, foresight_session_call(&session, ticket, &other, &reply, &older));
+    WANT(13, foresight_session_call(&session, 7, &get_5, &reply, &older));
+    WANT(21, foresight_session_narrow(&session, ticket, &get_a, 1));
+    /* Once it has narrowed it is in nobody's way. */
+    WANT(0, foresight_session_narrow(&session, ticket, &get_5, 0));
+    WANT(0, serve(&session, "f 5\n"));
+    want_served(4, 1, "nil 2\n", "");
+    WANT(0, foresight_session_end(&session, ticket));
+    WANT(13, foresight_session_end(&session, ticket));
+    /* Each line took a number: two were served. */
+    WANT(0, foresight_session_begin(&session, &get_a, 1, &ticket));
+    want(ticket == 3, "the next ticket has another number");
+    WANT(0, foresight_session_call(&session, ticket, &get_a, &reply, &older));
+    want(reply.sort == FORESIGHT_NUMBER && reply.number == 1, "the reply of a call by name");
+    WANT(0, foresight_session_close(&session));
+    want(heap_blocks() == 0, "memory is kept after close");
+}
+
 int main(void) {
     want(foresight_version() == FORESIGHT_VERSION_NUMBER, "header and archive are of two versions");
     want_lines();
@@ -290,6 +346,7 @@ int main(void) {
     want_unopened();
     want_handles();
     want_null();
+    want_tickets();
     want(!is_refused(0), "memory is wanting");
     size_t requests = 0;
     while (is_refused(requests + 1)) requests++;

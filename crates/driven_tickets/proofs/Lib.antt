@@ -4,7 +4,10 @@ pub mod Blocking
 pub mod Declared
 pub mod Delays
 pub mod EmptyStruct
+pub mod Following
+pub mod InTheWay
 pub mod Keeping
 pub mod Matched
+pub mod Requests
 pub mod Runs
 pub mod Tickets

@@ -135,6 +135,11 @@ declared-removed n m (x ∷ os) (suc i) t u h a =
     swapped : (a b : ℕ) → eqb b a ≡ false → eqb a b ≡ false
     swapped a b e = grind (arith, nat_tests)
 
+-- a later limit
+pub ascending-more : (n m l : ℕ) (os : List OpenTicket) → m ≤ l → AreAscending n os m → AreAscending n os l
+ascending-more n m l [] k h = omega (arith, k, h)
+ascending-more n m l (o ∷ os) k h = (h.0, ascending-more (suc o.ticket) m l os k h.1)
+
 -- ---- who is open
 pub record Opened (os : List OpenTicket) (t : ℕ) : Type 0 where
   pub list : List Symbol

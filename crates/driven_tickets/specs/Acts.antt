@@ -1,7 +1,8 @@
 -- Tickets that a program drives: what a desk holds, what each act leaves, and runs of acts.
-use Rattle.std.specs.Prelude.{◌≡◌, ℕ, suc, ◌<◌, ◌==◌, List, [], ◌∷◌, Option, Some, None, cond}
+use Rattle.std.specs.Prelude.{◌≡◌, ℕ, suc, ◌<◌, ◌==◌, List, [], ◌∷◌, ◌++◌, Option, Some, None, cond}
 use Rattle.session_values.specs.declared.op.Op.{Op}
 use Rattle.session_values.specs.declared.value.Value.{Value}
+use Rattle.session_values.specs.Dialogue.{Entry}
 use Rattle.session_values.specs.Tables.{Tables, reply, step}
 use Rattle.symbolic_ops.specs.declared.symbol.Symbol.{Symbol}
 use Rattle.symbolic_ops.specs.Matching.{Covered, Matches}
@@ -89,3 +90,12 @@ done_in (Begins f ∷ acts) = done_in acts
 done_in (Calls t op v ∷ acts) = record { ticket = t; op = op; reply = v } ∷ done_in acts
 done_in (Narrows t g ∷ acts) = done_in acts
 done_in (Ends t ∷ acts) = done_in acts
+
+-- the operations of one ticket, in order
+abbrev pub calls_of : ℕ → List Entry → List Act
+calls_of t [] = []
+calls_of t (e ∷ es) = Calls t e.op e.reply ∷ calls_of t es
+
+-- a ticket that begins with this list, does these operations and ends, and nobody else between
+abbrev pub whole_ticket : ℕ → List Symbol → List Entry → List Act
+whole_ticket t f es = Begins f ∷ calls_of t es ++ Ends t ∷ []

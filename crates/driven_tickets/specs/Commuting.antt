@@ -6,7 +6,8 @@ use Rattle.session_values.specs.Commuting.{Commute}
 use Rattle.symbolic_ops.specs.declared.symbol.Symbol.{Symbol}
 use Rattle.symbolic_ops.specs.Matching.{Matches}
 use Rattle.driven_tickets.specs.Acts.{Act, Begins, Calls, Ends, Narrows}
-use Rattle.driven_tickets.specs.Desk.{DeskView, declared}
+use Rattle.driven_tickets.specs.Desk.{DeskView, TicketsView, declared}
+use Rattle.driven_tickets.specs.Tickets.{declared_in}
 
 -- each operation of one list commutes with each of the other
 abbrev pub ListsCommute : List Symbol → List Symbol → Type 0
@@ -33,3 +34,16 @@ AllListsCommute (f ∷ fs) = AllByRecursion (λ g. ListsCommute g f) fs × AllLi
 -- no open ticket is older than this one
 abbrev pub IsOldest : DeskView → ℕ → Type 0
 IsOldest d t = (u : ℕ) → u < t → declared d u ≡ None
+
+-- what the list stands for commutes with all that the open tickets have declared
+abbrev pub IsClear : TicketsView → List Symbol → Type 0
+IsClear k f = (t : ℕ) (g : List Symbol) → declared_in k.tickets t ≡ Some g → ListsCommute f g
+
+-- u is the least open ticket that has declared something with which something that the list stands
+-- for doesn't commute
+pub record IsHeldUpBy (k : TicketsView) (f : List Symbol) (u : ℕ) : Type 0 where
+  pub list : List Symbol
+  pub is : declared_in k.tickets u ≡ Some list
+  pub against : ListsCommute f list → ⊥
+  pub least : (t : ℕ) (g : List Symbol) → t < u → declared_in k.tickets t ≡ Some g
+      → ListsCommute f g

@@ -1,5 +1,5 @@
 -- What every desk keeps, and what its calls leave.
-use Rattle.std.specs.Prelude.{◌≡◌, ℕ, ◌<◌, ◌-◌, ◌^◌, List, [], ◌∷◌, ◌++◌, Option, Some, None, Result, Ok, Err, map, true}
+use Rattle.std.specs.Prelude.{◌≡◌, ℕ, ◌<◌, ◌-◌, ◌^◌, List, [], ◌∷◌, ◌++◌, Option, Some, None, Result, Ok, Err, Bool, map, true, false}
 use Rattle.session_values.specs.Kinds.{is_adding}
 use Rattle.session_values.specs.declared.op.Op.{Op}
 use Rattle.session_values.specs.Tables.{Fits, Tables, kind_of}
@@ -25,6 +25,23 @@ pub record DeskView : Type 0 where
   pub next : ℕ
   pub tickets : List OpenTicket
   pub acts : List Act
+
+-- what contracts see of open tickets without their tables: the number of the next ticket, those that
+-- are open, and what was done, which no code reads
+pub record TicketsView : Type 0 where
+  pub next : ℕ
+  pub tickets : List OpenTicket
+  pub acts : List Act
+
+-- the desk that open tickets make over tables, which opened so
+abbrev pub desk_over : Tables → Tables → TicketsView → DeskView
+desk_over opening tables k = record {
+  opening = opening;
+  tables = tables;
+  next = k.next;
+  tickets = k.tickets;
+  acts = k.acts;
+}
 
 -- its state
 abbrev pub state_of : DeskView → DeskState
@@ -96,17 +113,32 @@ BegunAs d e f (Err unbegun.NoNumber) = (e ≡ d) × (d.next ≡ last_number)
 BegunAs d e f (Err unbegun.NoMemory) = (e ≡ d) × (d.next < last_number)
 
 -- the operation is done; or nothing happens, since an older ticket is in the way, the ticket hasn't
--- declared it, it is none of the desk's tables, the ticket isn't open, or there is no memory for an
+-- declared it, it is none of those that fit, the ticket isn't open, or there is no memory for an
 -- operation that may add a key
-abbrev pub CalledAs : DeskView → DeskView → ℕ → Op → Called → Type 0
-CalledAs d e t op (called.Done v) = FitsDesk d op × HasActed d e (Calls t op v)
-CalledAs d e t op (called.Delayed u) = (e ≡ d) × FitsDesk d op × IsDeclared d t op
+abbrev pub CalledBy : (Op → Type 0) → DeskView → DeskView → ℕ → Op → Called → Type 0
+CalledBy Fit d e t op (called.Done v) = Fit op × HasActed d e (Calls t op v)
+CalledBy Fit d e t op (called.Delayed u) = (e ≡ d) × Fit op × IsDeclared d t op
     × IsDelayedBy d t op u
-CalledAs d e t op called.Undeclared = (e ≡ d) × FitsDesk d op × IsUndeclared d t op
-CalledAs d e t op called.Misfit = (e ≡ d) × (FitsDesk d op → ⊥) × IsOpen d t
-CalledAs d e t op called.NoTicket = (e ≡ d) × (declared d t ≡ None)
-CalledAs d e t op called.NoMemory = (e ≡ d) × FitsDesk d op × IsDeclared d t op
+CalledBy Fit d e t op called.Undeclared = (e ≡ d) × Fit op × IsUndeclared d t op
+CalledBy Fit d e t op called.Misfit = (e ≡ d) × (Fit op → ⊥) × IsOpen d t
+CalledBy Fit d e t op called.NoTicket = (e ≡ d) × (declared d t ≡ None)
+CalledBy Fit d e t op called.NoMemory = (e ≡ d) × Fit op × IsDeclared d t op
     × IsFree (state_of d) t op × (is_adding op.kind ≡ true)
+
+-- the same, where those operations fit that are the tables' own
+abbrev pub CalledAs : DeskView → DeskView → ℕ → Op → Called → Type 0
+CalledAs d e t op answer = CalledBy (FitsDesk d) d e t op answer
+
+-- why an operation isn't done, where it is known whether it fits; None, where nothing is against it
+abbrev pub CheckedAs : DeskView → ℕ → Bool → Op → Option Called → Type 0
+CheckedAs d t fits op None = (fits ≡ true) × IsDeclared d t op × IsFree (state_of d) t op
+CheckedAs d t fits op (Some (called.Done v)) = ⊥
+CheckedAs d t fits op (Some (called.Delayed u)) = (fits ≡ true) × IsDeclared d t op
+    × IsDelayedBy d t op u
+CheckedAs d t fits op (Some called.Undeclared) = (fits ≡ true) × IsUndeclared d t op
+CheckedAs d t fits op (Some called.Misfit) = (fits ≡ false) × IsOpen d t
+CheckedAs d t fits op (Some called.NoTicket) = declared d t ≡ None
+CheckedAs d t fits op (Some called.NoMemory) = ⊥
 
 -- the ticket is narrowed; or nothing happens, since what it had declared doesn't cover the list, or
 -- it isn't open

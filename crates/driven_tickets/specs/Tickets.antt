@@ -3,7 +3,7 @@ use Rattle.std.specs.Prelude.{◌≡◌, ℕ, suc, ◌<◌, ◌≤◌, ◌==◌,
 use Rattle.std.specs.List.{AllByRecursion}
 use Rattle.session_values.specs.declared.op.Op.{Op}
 use Rattle.symbolic_ops.specs.declared.symbol.Symbol.{Symbol}
-use Rattle.symbolic_ops.specs.Commuting.{CommutesWith}
+use Rattle.symbolic_ops.specs.Commuting.{CommutesWith, SymbolsCommute}
 use Rattle.driven_tickets.specs.declared.open_ticket.OpenTicket.{OpenTicket}
 
 -- what a ticket has declared, if it is open
@@ -47,3 +47,7 @@ pub record IsSought (op : Op) (t : ℕ) (os first : List OpenTicket) (found : Op
     : Type 0 where
   pub free : AreFreeBelow op limit first
   pub what : MatchOption found (limit ≡ t) (λ u. (u ≡ limit) × (u < t) × IsAgainstIn op u os)
+
+-- all that the one list stands for commutes with all that the other stands for, symbol by symbol
+abbrev pub AllPairsCommute : List Symbol → List Symbol → Type 0
+AllPairsCommute f g = AllByRecursion (λ x. AllByRecursion (λ y. SymbolsCommute x y) g) f

@@ -1,27 +1,41 @@
 // Beginning a ticket.
 
+ghost use Rattle.session_values.specs.Tables.{Tables};
+ghost use Rattle.driven_tickets.specs.Desk.{BegunAs, desk_over};
+ghost use Rattle.driven_tickets.specs.Tickets.{AreAscending};
+
 use crate::answers::BeginError;
 use crate::desk::Desk;
 use crate::open_ticket::OpenTicket;
+use crate::open_tickets::OpenTickets;
 use symbolic_ops::Foresight;
 
-impl Desk {
-    ghost use Rattle.driven_tickets.specs.Desk.{BegunAs};
-
+impl OpenTickets {
     /// Begins the next ticket, which declares this list, and answers its number.
     pub fn begin(&mut self, declared: Foresight) -> Result<u64, BeginError>
-        ensures { BegunAs self.old self.new declared.symbols result }
+        ensures begun { (opening tables : Tables) → BegunAs (desk_over opening tables self.old)
+            (desk_over opening tables self.new) declared.symbols result }
+        ensures ascending { AreAscending 0 self.new.tickets self.new.next }
     {
         let ticket = self.next;
         if ticket == u64::MAX {
             return Err(BeginError::NoNumber);
         }
-        let Ok(()) = self.tickets.reserve(1) else {
+        let Ok(()) = self.list.reserve(1) else {
             return Err(BeginError::NoMemory);
         };
         self.history = self.history.begun(&declared);
-        self.tickets.push_reserved(OpenTicket { ticket, declared });
+        self.list.push_reserved(OpenTicket { ticket, declared });
         self.next = ticket + 1;
         Ok(ticket)
+    }
+}
+
+impl Desk {
+    /// Begins the next ticket, which declares this list, and answers its number.
+    pub fn begin(&mut self, declared: Foresight) -> Result<u64, BeginError>
+        ensures { BegunAs self.old self.new declared.symbols result }
+    {
+        self.tickets.begin(declared)
     }
 }

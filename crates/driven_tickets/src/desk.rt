@@ -4,8 +4,8 @@ ghost use Rattle.std.specs.Prelude.{◌≡◌, ℕ, ◌≤◌, [], None, IfOk};
 ghost use Rattle.session_values.specs.Tables.{start};
 
 use crate::desk_tables::DeskTables;
-use crate::history::History;
-use crate::open_ticket::OpenTicket;
+use crate::open_tickets::OpenTickets;
+use crate::origin::Origin;
 use session_values::{NoMemory, TableKind};
 use std::alloc::Global;
 use std::marker::Model;
@@ -15,38 +15,23 @@ use std::marker::Model;
 #[derive(Drop)]
 pub struct Desk {
     pub(crate) tables: DeskTables,
-    /// The open tickets, by number.
-    pub(crate) tickets: Vec<OpenTicket>,
-    /// The number of the next ticket.
-    pub(crate) next: u64,
-    /// What was done, for proofs alone.
-    pub(crate) history: History,
+    pub(crate) tickets: OpenTickets,
+    /// What the tables were, for proofs alone.
+    pub(crate) origin: Origin,
 }
 
 impl Model for Desk {
     ghost use Rattle.std.specs.Coded.{codes};
     ghost use Rattle.session_values.specs.Containers.{container_code};
-    ghost use Rattle.driven_tickets.specs.Desk.{DeskView, IsDesk};
+    ghost use Rattle.driven_tickets.specs.Desk.{DeskView, IsDesk, desk_over};
 
     ghost Value = { DeskView };
 
     ghost coded = { Prim.hlevel (codes, container_code) };
 
-    ghost view = { λ d. record {
-      opening = d.history.opening;
-      tables = d.tables;
-      next = d.next;
-      tickets = d.tickets.items;
-      acts = d.history.acts;
-    } };
+    ghost view = { λ d. desk_over d.origin.opening d.tables d.tickets };
 
-    ghost invariant = { λ d. IsDesk (record {
-      opening = d.history.opening;
-      tables = d.tables;
-      next = d.next;
-      tickets = d.tickets.items;
-      acts = d.history.acts;
-    }) };
+    ghost invariant = { λ d. IsDesk (desk_over d.origin.opening d.tables d.tickets) };
 }
 
 impl Desk {
@@ -65,12 +50,11 @@ impl Desk {
         }) }
     {
         let tables = DeskTables::open(alloc, shape)?;
-        let history = History::opened(&tables);
+        let origin = Origin::of(&tables);
         Ok(Desk {
             tables,
-            tickets: Vec::new(alloc),
-            next: 0,
-            history,
+            tickets: OpenTickets::new(alloc),
+            origin,
         })
     }
 
@@ -86,6 +70,6 @@ impl Desk {
         ensures tables { run self.now.opening (by_ticket self.now.next (done_in self.now.acts))
             ≡ self.now.tables }
     {
-        let _ = &self.next;
+        let _ = &self.tickets;
     }
 }

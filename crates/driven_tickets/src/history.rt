@@ -1,20 +1,16 @@
-// What was done at a desk.
+// What was done with tickets.
 
 ghost use Rattle.std.specs.Prelude.{◌≡◌, List, [], ◌∷◌, ◌++◌};
-ghost use Rattle.session_values.specs.Tables.{Tables};
-ghost use Rattle.plain_tables.specs.Containers.{tables_code};
 ghost use Rattle.driven_tickets.specs.Acts.{Act, Begins, Calls, Ends, Narrows};
 
-use crate::desk_tables::DeskTables;
 use session_values::{Op, Value};
 use std::marker::Model;
 use symbolic_ops::Foresight;
 
-/// The tables that a desk was opened over, and the acts that were done at it. Only proofs read
-/// them: it takes no memory, and its calls do nothing when they run.
+/// The acts that were done. Only proofs read them: it takes no memory, and its calls do nothing when
+/// they run.
 #[derive(Drop)]
-pub(crate) struct History {
-    pub ghost opening: { Tables } by { tables_code },
+pub struct History {
     pub ghost acts: { List Act },
 }
 
@@ -28,12 +24,9 @@ impl Model for History {
 unsafe impl Send for History {}
 
 impl History {
-    /// A desk was opened over these tables.
-    pub(crate) fn opened(_tables: &DeskTables) -> History
-        ensures { result ≡ record {
-          opening = _tables.now;
-          acts = [];
-        } }
+    /// Nothing was done, and this is the number of the first ticket.
+    pub(crate) fn opened(_next: &u64) -> History
+        ensures { result ≡ record { acts = [] } }
     {
         History {}
     }
@@ -41,7 +34,6 @@ impl History {
     /// A ticket began, and declared this.
     pub(crate) fn begun(&self, declared: &Foresight) -> History
         ensures { result ≡ record {
-          opening = self.now.opening;
           acts = self.now.acts ++ Begins declared.now.symbols ∷ [];
         } }
     {
@@ -51,7 +43,6 @@ impl History {
     /// An operation of a ticket was done, with this reply.
     pub(crate) fn called(&self, ticket: &u64, op: &Op, reply: &Value) -> History
         ensures { result ≡ record {
-          opening = self.now.opening;
           acts = self.now.acts ++ Calls ticket.now op.now reply.now ∷ [];
         } }
     {
@@ -61,7 +52,6 @@ impl History {
     /// A ticket narrowed to this.
     pub(crate) fn narrowed(&self, ticket: &u64, declared: &Foresight) -> History
         ensures { result ≡ record {
-          opening = self.now.opening;
           acts = self.now.acts ++ Narrows ticket.now declared.now.symbols ∷ [];
         } }
     {
@@ -71,9 +61,15 @@ impl History {
     /// A ticket ended.
     pub(crate) fn ended(&self, ticket: &u64) -> History
         ensures { result ≡ record {
-          opening = self.now.opening;
           acts = self.now.acts ++ Ends ticket.now ∷ [];
         } }
+    {
+        History {}
+    }
+
+    /// These acts were done too.
+    pub(crate) fn joined(&self, more: &History) -> History
+        ensures { result ≡ record { acts = self.now.acts ++ more.now.acts } }
     {
         History {}
     }

@@ -25,7 +25,12 @@ mod history;
 pub mod laws;
 mod narrowing;
 mod open_ticket;
+mod open_tickets;
+mod origin;
 mod place;
+mod standing;
 
 pub use answers::{BeginError, Called, NarrowError, NoTicket};
 pub use desk::Desk;
+pub use history::History;
+pub use open_tickets::OpenTickets;

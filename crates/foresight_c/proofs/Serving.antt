@@ -11,7 +11,7 @@ use Rattle.live_session.specs.declared.dumping.Dumped.TheVariants as dumped
 use Rattle.live_session.specs.declared.batch.Batch.{Batch}
 use Rattle.foresight_c.specs.declared.session_desk.SessionDesk.{SessionDesk}
 use Rattle.foresight_c.specs.Fronts.{put_at_front}
-use Rattle.foresight_c.specs.SessionMessages.{ended_line, ended_number}
+use Rattle.foresight_c.specs.SessionMessages.{ended_line, ended_number, ended_older}
 use Rattle.foresight_c.specs.Answered.{IsHandedOver}
 use Rattle.foresight_c.specs.Endings.{ending, handed}
 use Rattle.foresight_c.specs.Sessions.{HasMessage, IsDumped, IsServing, dump_status}
@@ -29,9 +29,9 @@ shorter a b l = omega (arith, l)
 
 -- lines were served with a room that held nothing
 module _ (d e : SessionDesk) (lines out out_new message message_new : List ℕ) (s : Served) (n : ℕ) (batch : Batch) (before replies : List ℕ) where
-  pub serving_is : before ≡ [] → BatchAnswered d.session lines (length out) before batch e.session replies → s.used ≡ batch.used → s.requests ≡ batch.requests → s.written ≡ min (length out) (length replies) → out_new ≡ put_at_front out replies → HasMessage message message_new (ended_line batch.ended) s.told → n ≡ ended_number batch.ended
+  pub serving_is : before ≡ [] → BatchAnswered d.session lines (length out) before batch e.session replies → s.used ≡ batch.used → s.requests ≡ batch.requests → s.older ≡ ended_older batch.ended → s.written ≡ min (length out) (length replies) → out_new ≡ put_at_front out replies → HasMessage message message_new (ended_line batch.ended) s.told → n ≡ ended_number batch.ended
       → IsServing d e lines out out_new message message_new s n
-  serving_is empty answered used requests written out_is has number =
+  serving_is empty answered used requests older written out_is has number =
       let from_none = subst (λ (t : List ℕ). BatchAnswered d.session lines (length out) t batch e.session replies) empty answered in
       let whole : length replies ≤ length out = fits replies from_none.replies (length out) from_none.after_is from_none.within in
       record {
@@ -41,6 +41,7 @@ module _ (d e : SessionDesk) (lines out out_new message message_new : List ℕ) 
         whole = whole;
         used = used;
         requests = requests;
+        older = older;
         out_is = out_is;
         written = written ∙ shorter (length out) (length replies) whole;
         message_has = has;

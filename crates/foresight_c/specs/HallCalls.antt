@@ -11,6 +11,11 @@ abbrev pub OnDesk : Option Desk → Option Desk → ℕ → (Desk → Desk → T
 OnDesk None e n P = (e ≡ None) × (n ≡ wrong_desk)
 OnDesk (Some d) e n P = (x : Desk) × (e ≡ Some x) × P d x
 
+-- the same of a call that tells something: where there is no desk, it leaves that as it was
+abbrev pub OnDeskOr : Option Desk → Option Desk → ℕ → Type 0 → (Desk → Desk → Type 0) → Type 0
+OnDeskOr None e n stays P = OnDesk None e n P × stays
+OnDeskOr (Some d) e n stays P = OnDesk (Some d) e n P
+
 -- a handle without a desk has a plan, or none where numbers or memory don't suffice; a handle with
 -- a desk keeps it
 abbrev pub PlansOn : Option Desk → Option Desk → ℕ → ℕ → ℕ → ℕ → ℕ → ℕ → Type 0

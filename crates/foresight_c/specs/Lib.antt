@@ -2,11 +2,12 @@ pub mod Answered
 pub mod Calls
 pub mod Endings
 pub mod Fronts
-pub mod Held
 pub mod HallCalls
+pub mod Held
 pub mod HeldSession
 pub mod SessionCalls
 pub mod SessionMessages
+pub mod SessionTickets
 pub mod Sessions
 pub mod TicketCalls
 pub mod Version

@@ -13,8 +13,8 @@ use Rattle.live_session.specs.declared.opening.OpenError.{OpenError}
 use Rattle.live_session.specs.declared.opening.OpenError.TheVariants as unopened
 
 -- ---- the numbers: all was done; a rule is broken; memory ran out; there may be no room for one
--- more reply; the handle has no session, or has one already; there would be too many names; the
--- bytes are no text
+-- more reply; the handle has no session, or has one already; no ticket number is left; there would
+-- be too many names; the bytes are no text; an open ticket is in the way
 abbrev pub fine : ℕ
 fine = 0
 
@@ -30,6 +30,12 @@ no_room = 5
 abbrev pub wrong : ℕ
 wrong = 11
 
+abbrev pub no_number : ℕ
+no_number = 12
+
+abbrev pub delayed : ℕ
+delayed = 20
+
 abbrev pub too_many_names : ℕ
 too_many_names = 15
 
@@ -41,12 +47,29 @@ answered_number answered.Served = fine
 answered_number answered.Nothing = fine
 answered_number (answered.Refused why) = refused
 answered_number answered.TooManyNames = too_many_names
+answered_number (answered.Delayed u) = delayed
+answered_number answered.NoNumber = no_number
 answered_number answered.NoMemory = no_memory
 
 abbrev pub ended_number : Ended → ℕ
 ended_number batch.All = fine
 ended_number batch.Full = no_room
 ended_number (batch.Stopped a) = answered_number a
+
+-- the open ticket that is in the way of a line that is delayed, and else 0
+abbrev pub answered_older : Answered → ℕ
+answered_older answered.Served = 0
+answered_older answered.Nothing = 0
+answered_older (answered.Refused why) = 0
+answered_older answered.TooManyNames = 0
+answered_older (answered.Delayed u) = u
+answered_older answered.NoNumber = 0
+answered_older answered.NoMemory = 0
+
+abbrev pub ended_older : Ended → ℕ
+ended_older batch.All = 0
+ended_older batch.Full = 0
+ended_older (batch.Stopped a) = answered_older a
 
 abbrev pub unopened_number : OpenError → ℕ
 unopened_number (unopened.Refused fault) = refused
@@ -67,6 +90,8 @@ answered_line answered.Served = []
 answered_line answered.Nothing = []
 answered_line (answered.Refused why) = refused_line why
 answered_line answered.TooManyNames = ended (codes "too many names")
+answered_line (answered.Delayed u) = ended (codes "delayed")
+answered_line answered.NoNumber = ended (codes "no number left")
 answered_line answered.NoMemory = ended (codes "no memory")
 
 -- there is none where all lines are used, nor where room is wanting

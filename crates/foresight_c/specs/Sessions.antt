@@ -14,7 +14,7 @@ use Rattle.foresight_c.specs.declared.session_desk.SessionDesk.{SessionDesk}
 use Rattle.foresight_c.specs.Answered.{IsHandedOver}
 use Rattle.foresight_c.specs.Endings.{ending}
 use Rattle.foresight_c.specs.Fronts.{put_at_front}
-use Rattle.foresight_c.specs.SessionMessages.{ended_line, ended_number, not_text, wrong}
+use Rattle.foresight_c.specs.SessionMessages.{ended_line, ended_number, ended_older, not_text, wrong}
 use Rattle.foresight_c.specs.declared.answer.Answer.{Answer}
 use Rattle.foresight_c.specs.declared.served.Served.{Served}
 
@@ -44,6 +44,7 @@ pub record IsTold (message message_new : List ℕ) (s : Served) (why : ℕ) (lin
   pub used : s.used ≡ 0
   pub written : s.written ≡ 0
   pub requests : s.requests ≡ 0
+  pub older : s.older ≡ 0
   pub message_has : HasMessage message message_new line s.told
   pub number_is : number ≡ why
 
@@ -57,6 +58,7 @@ pub record IsServing (d e : SessionDesk) (lines out out_new message message_new 
   pub whole : length replies ≤ length out
   pub used : s.used ≡ batch.used
   pub requests : s.requests ≡ batch.requests
+  pub older : s.older ≡ ended_older batch.ended
   pub out_is : out_new ≡ put_at_front out replies
   pub written : s.written ≡ length replies
   pub message_has : HasMessage message message_new (ended_line batch.ended) s.told

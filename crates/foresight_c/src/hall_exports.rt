@@ -2,15 +2,16 @@
 // call takes the desk out of the handle, and puts it back; while it runs the handle has none.
 
 ghost use Rattle.std.specs.Prelude.{◌≡◌};
-ghost use Rattle.hall_desk.specs.Desks.{AllowOn, CallOn, CloseOn, OpenOn, ReplyOn, StepOn, TicketOn};
-ghost use Rattle.foresight_c.specs.HallCalls.{FreesOn, OnDesk, PlansOn};
+ghost use Rattle.hall_desk.specs.Desks.{AllowOn, CallOn, CloseOn, EntryOn, OpenOn, ReplyOn, StepOn, TicketOn};
+ghost use Rattle.hall_desk.specs.Left.{EntryAtOn, SizeOn};
+ghost use Rattle.foresight_c.specs.HallCalls.{FreesOn, OnDesk, OnDeskOr, PlansOn};
 
 use crate::handle::{Handle, taken};
 use hall_desk::{Desk, HallOperation, HallStep, HallValue};
 use std::alloc::Global;
 
-/// A plan without tickets, over so many maps and behind them so many sets, with room for so many
-/// tickets, operations and symbols.
+/// A plan without tickets, over so many maps and behind them so many sets, which open empty, with
+/// room for so many tickets, operations and symbols.
 #[unsafe(no_mangle)]
 pub extern "C" fn foresight_hall_plan(
     alloc: Global,
@@ -39,6 +40,28 @@ pub extern "C" fn foresight_hall_plan(
             },
             Err(number) => number,
         },
+    }
+}
+
+/// A table opens with one entry more.
+#[unsafe(no_mangle)]
+pub extern "C" fn foresight_hall_entry(
+    alloc: Global,
+    handle: &mut Handle,
+    table: u32,
+    key: &HallValue,
+    value: &HallValue,
+) -> u8
+    ensures { OnDesk handle.old.held.value handle.new.held.value result
+        (λ d e. EntryOn d e table key.now value.now result) }
+{
+    match taken(handle, alloc) {
+        Some(mut desk) => {
+            let number = desk.entry(table, key, value);
+            *handle = Handle::of(desk);
+            number
+        }
+        None => 11,
     }
 }
 
@@ -127,7 +150,7 @@ pub extern "C" fn foresight_hall_step(
     caller: u32,
     out: &mut HallStep,
 ) -> u8
-    ensures { OnDesk handle.old.held.value handle.new.held.value result
+    ensures { OnDeskOr handle.old.held.value handle.new.held.value result (out.new ≡ out.old)
         (λ d e. StepOn d e caller out.old out.new result) }
 {
     match taken(handle, alloc) {
@@ -164,12 +187,57 @@ pub extern "C" fn foresight_hall_reply(
     ticket: u32,
     out: &mut HallValue,
 ) -> u8
-    ensures { OnDesk handle.old.held.value handle.new.held.value result
+    ensures { OnDeskOr handle.old.held.value handle.new.held.value result (out.new ≡ out.old)
         (λ d e. (e ≡ d) × ReplyOn d ticket out.old out.new result) }
 {
     match taken(handle, alloc) {
         Some(desk) => {
             let number = desk.reply(ticket, out);
+            *handle = Handle::of(desk);
+            number
+        }
+        None => 11,
+    }
+}
+
+/// How many entries a table was left with, once the hall is closed.
+#[unsafe(no_mangle)]
+pub extern "C" fn foresight_hall_size(
+    alloc: Global,
+    handle: &mut Handle,
+    table: u32,
+    out: &mut u32,
+) -> u8
+    ensures { OnDeskOr handle.old.held.value handle.new.held.value result (out.new ≡ out.old)
+        (λ d e. (e ≡ d) × SizeOn d table out.old out.new result) }
+{
+    match taken(handle, alloc) {
+        Some(desk) => {
+            let number = desk.size(table, out);
+            *handle = Handle::of(desk);
+            number
+        }
+        None => 11,
+    }
+}
+
+/// An entry that a table was left with, once the hall is closed.
+#[unsafe(no_mangle)]
+pub extern "C" fn foresight_hall_entry_at(
+    alloc: Global,
+    handle: &mut Handle,
+    table: u32,
+    place: u32,
+    key: &mut HallValue,
+    value: &mut HallValue,
+) -> u8
+    ensures { OnDeskOr handle.old.held.value handle.new.held.value result
+        ((key.new ≡ key.old) × (value.new ≡ value.old))
+        (λ d e. (e ≡ d) × EntryAtOn d table place key.old key.new value.old value.new result) }
+{
+    match taken(handle, alloc) {
+        Some(desk) => {
+            let number = desk.entry_at(table, place, key, value);
             *handle = Handle::of(desk);
             number
         }

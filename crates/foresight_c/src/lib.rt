@@ -17,6 +17,8 @@ mod session_desk;
 mod session_exports;
 mod session_handle;
 mod session_messages;
+mod session_ticket_exports;
+mod session_ticketing;
 mod sessions;
 mod slice_source;
 mod text_store;

@@ -12,4 +12,6 @@ pub struct Served {
     pub requests: usize,
     /// How many bytes of the message stand at the front of the room for it.
     pub told: usize,
+    /// The open ticket that is in the way, where a line is delayed, and else 0.
+    pub older: u64,
 }

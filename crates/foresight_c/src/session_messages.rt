@@ -27,7 +27,30 @@ fn answered_number(answer: Answered) -> u8
         Answered::Served | Answered::Nothing => 0,
         Answered::Refused(_) => 1,
         Answered::TooManyNames => 15,
+        Answered::Delayed { .. } => 20,
+        Answered::NoNumber => 12,
         Answered::NoMemory => 3,
+    }
+}
+
+/// The open ticket that is in the way of a line, where it is delayed, and else 0.
+pub(crate) fn ended_older(ended: Ended) -> u64
+    ensures { result ≡ spec.ended_older ended }
+{
+    match ended {
+        Ended::All | Ended::Full => 0,
+        Ended::Stopped(answer) => answered_older(answer),
+    }
+}
+
+// The open ticket that is in the way of a line with this answer, and else 0.
+fn answered_older(answer: Answered) -> u64
+    ensures { result ≡ spec.answered_older answer }
+{
+    match answer {
+        Answered::Delayed { older } => older,
+        Answered::Served | Answered::Nothing | Answered::Refused(_) => 0,
+        Answered::TooManyNames | Answered::NoNumber | Answered::NoMemory => 0,
     }
 }
 
@@ -50,6 +73,8 @@ fn answered_line(answer: Answered) -> &'static str
         Answered::Served | Answered::Nothing => "",
         Answered::Refused(why) => refused_line(why),
         Answered::TooManyNames => "too many names\n",
+        Answered::Delayed { .. } => "delayed\n",
+        Answered::NoNumber => "no number left\n",
         Answered::NoMemory => "no memory\n",
     }
 }

@@ -9,7 +9,7 @@ use crate::fronts::put_front;
 use crate::handing::hand_over;
 use crate::served::Served;
 use crate::session_desk::SessionDesk;
-use crate::session_messages::{ended_line, ended_number};
+use crate::session_messages::{ended_line, ended_number, ended_older};
 use crate::text_store::TextStore;
 use byte_ends::WriteBuffer;
 use live_session::{Dumped, LiveSession, OpenError};
@@ -78,6 +78,7 @@ fn serve_text(
     let batch = desk.session.serve(text, out.len(), &mut desk.replies);
     served.used = batch.used;
     served.requests = batch.requests;
+    served.older = ended_older(batch.ended);
     served.written = put_front(out, desk.replies.bytes());
     served.told = put_front(message, ended_line(batch.ended).as_bytes());
     ended_number(batch.ended)
@@ -90,6 +91,7 @@ pub(crate) fn tell(served: &mut Served, number: u8, line: &str, message: &mut [u
     served.used = 0;
     served.written = 0;
     served.requests = 0;
+    served.older = 0;
     served.told = put_front(message, line.as_bytes());
     number
 }

@@ -1,2 +1,3 @@
 mod Symbols
+mod TablesLeft
 pub mod Crossing

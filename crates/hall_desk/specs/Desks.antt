@@ -9,24 +9,26 @@ use Rattle.session_values.specs.declared.reply.Reply.{Reply}
 use Rattle.session_values.specs.declared.value.Value.{Value}
 use Rattle.session_values.specs.declared.value.Value.TheVariants.{Nil}
 use Rattle.symbolic_ops.specs.declared.symbol.Symbol.{Symbol}
-use Rattle.hall_stepping.specs.Lists.{ListView}
+use Rattle.hall_stepping.specs.Opening.{no_entries}
+use Rattle.hall_stepping.specs.Script.{PlanView}
 use Rattle.hall_stepping.specs.Closings.{ClosedView}
 use Rattle.hall_stepping.specs.declared.planned.Planned.{Planned}
 use Rattle.hall_stepping.specs.declared.planned.Planned.TheVariants as planned
 use Rattle.hall_stepping.specs.declared.stepped.Stepped.{Stepped}
 use Rattle.hall_stepping.specs.Endings.{ClosesAs, IsOpenedFor}
-use Rattle.hall_stepping.specs.Plans.{AddsCall, AddsSymbol, AddsTicket}
+use Rattle.hall_stepping.specs.Plans.{AddsCall, AddsEntry, AddsSymbol, AddsTicket}
 use Rattle.hall_stepping.specs.Stepping.{IsStep, SteppingView}
 use Rattle.hall_desk.specs.declared.desk.Desk.{Desk}
 use Rattle.hall_desk.specs.declared.desk.Desk.TheVariants.{Gone, Planned as Plans, Open, Done}
 use Rattle.hall_desk.specs.declared.values.HallOperation.{HallOperation}
 use Rattle.hall_desk.specs.declared.values.HallStep.{HallStep}
 use Rattle.hall_desk.specs.declared.values.HallValue.{HallValue}
-use Rattle.hall_desk.specs.Reading.{IsOperationOf, IsSymbolOf, IsUnread, IsValueOf}
+use Rattle.hall_desk.specs.Reading.{IsEntryOf, IsOperationOf, IsSymbolOf, IsUnread, IsValueOf}
 use Rattle.hall_desk.specs.Telling.{told, told_value}
 
 -- ---- the numbers: all was done; memory was wanting; a number that C gives means nothing here; the
--- desk is not at this; no place is left; there is no ticket yet; not all callers are out
+-- desk is not at this; no place is left; there is no ticket yet; not all callers are out; the table
+-- opens with an entry of this key already
 abbrev pub fine : ℕ
 fine = 0
 
@@ -48,10 +50,14 @@ no_ticket = 13
 abbrev pub not_out : ℕ
 not_out = 14
 
+abbrev pub twice : ℕ
+twice = 17
+
 abbrev pub planned_number : Planned → ℕ
 planned_number planned.Added = fine
 planned_number planned.NoTicket = no_ticket
 planned_number planned.Misfit = unread
+planned_number planned.Twice = twice
 planned_number planned.Full = full
 planned_number planned.NoMemory = no_memory
 
@@ -67,10 +73,11 @@ pub record IsWithin (maps sets tickets calls symbols : ℕ) : Type 0 where
   pub few_calls : calls ≤ max_session_calls
   pub few_symbols : symbols ≤ 400000
 
--- the plan without tickets
-abbrev pub first_plan : ℕ → ℕ → ℕ → ℕ → ℕ → ListView
+-- the plan without tickets, whose tables open empty
+abbrev pub first_plan : ℕ → ℕ → ℕ → ℕ → ℕ → PlanView
 first_plan maps sets tickets calls symbols = record {
   shape = replicate maps Map ++ replicate sets Set;
+  entries = no_entries (replicate maps Map ++ replicate sets Set);
   tickets = [];
   tickets_left = tickets;
   calls_left = calls;
@@ -83,6 +90,14 @@ PlansAs maps sets tickets calls symbols (Ok d) =
 PlansAs maps sets tickets calls symbols (Err n) = (n ≡ no_memory)
     ⊎ ((n ≡ unread) × (IsWithin maps sets tickets calls symbols → ⊥))
 
+-- a table opens with the entry
+abbrev pub EntryOn : Desk → Desk → ℕ → HallValue → HallValue → ℕ → Type 0
+EntryOn (Plans s) e i k v n =
+    (((3 ≤ k.sort) ⊎ (3 ≤ v.sort)) × Stays (Plans s) e unread n)
+    ⊎ ((x : Value × Value) × IsEntryOf k v x × (a : Planned) × (t : PlanView)
+    × AddsEntry s t i x a × (e ≡ Plans t) × (n ≡ planned_number a))
+EntryOn d e i k v n = Stays d e wrong_desk n
+
 -- the reply of this value alone
 abbrev pub one : Value → Reply
 one v = record { count = 1; a = v; b = Nil; c = Nil; d = Nil }
@@ -90,21 +105,21 @@ one v = record { count = 1; a = v; b = Nil; c = Nil; d = Nil }
 -- a ticket that answers the value is added
 abbrev pub TicketOn : Desk → Desk → HallValue → ℕ → Type 0
 TicketOn (Plans s) e g n = ((3 ≤ g.sort) × Stays (Plans s) e unread n)
-    ⊎ ((v : Value) × IsValueOf g v × (a : Planned) × (t : ListView) × AddsTicket s t (one v) a
+    ⊎ ((v : Value) × IsValueOf g v × (a : Planned) × (t : PlanView) × AddsTicket s t (one v) a
     × (e ≡ Plans t) × (n ≡ planned_number a))
 TicketOn d e g n = Stays d e wrong_desk n
 
 -- the last ticket calls the operation
 abbrev pub CallOn : Desk → Desk → HallOperation → ℕ → Type 0
 CallOn (Plans s) e g n = (IsUnread 3 g × Stays (Plans s) e unread n)
-    ⊎ ((op : Op) × IsOperationOf g op × (a : Planned) × (t : ListView) × AddsCall s t op a
+    ⊎ ((op : Op) × IsOperationOf g op × (a : Planned) × (t : PlanView) × AddsCall s t op a
     × (e ≡ Plans t) × (n ≡ planned_number a))
 CallOn d e g n = Stays d e wrong_desk n
 
 -- the last ticket declares the symbol
 abbrev pub AllowOn : Desk → Desk → HallOperation → ℕ → Type 0
 AllowOn (Plans s) e g n = (IsUnread 4 g × Stays (Plans s) e unread n)
-    ⊎ ((y : Symbol) × IsSymbolOf g y × (a : Planned) × (t : ListView) × AddsSymbol s t y a
+    ⊎ ((y : Symbol) × IsSymbolOf g y × (a : Planned) × (t : PlanView) × AddsSymbol s t y a
     × (e ≡ Plans t) × (n ≡ planned_number a))
 AllowOn d e g n = Stays d e wrong_desk n
 

@@ -1,4 +1,5 @@
 pub mod Reading
 pub mod Telling
 pub mod Desks
+pub mod Left
 pub mod Tickets

@@ -17,6 +17,11 @@ IsValueOf g Nil = g.sort ≡ 0
 IsValueOf g (Num z) = (g.sort ≡ 1) × (z ≡ g.number)
 IsValueOf g (Sym p) = (g.sort ≡ 2) × (p ≡ g.name)
 
+-- the entry has the key and the value that C gives
+pub record IsEntryOf (k v : HallValue) (e : Value × Value) : Type 0 where
+  pub key : IsValueOf k e.0
+  pub value : IsValueOf v e.1
+
 -- the argument is the one that C gives
 abbrev pub IsArgOf : HallValue → Arg → Type 0
 IsArgOf g (Known v) = IsValueOf g v

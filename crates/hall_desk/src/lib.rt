@@ -4,6 +4,7 @@
 #![tactic(auto)]
 
 mod desk;
+mod left;
 mod planning;
 mod reading;
 mod serving;
@@ -12,4 +13,7 @@ mod ticketing;
 mod values;
 
 pub use desk::Desk;
+pub use reading::op_of;
+pub use telling::told_value;
+pub use ticketing::{begun_number, called_number, foresight_of, narrowed_number};
 pub use values::{HallOperation, HallStep, HallValue};

@@ -4,10 +4,10 @@ ghost use Rattle.std.specs.Prelude.{◌≡◌, ◌≤◌, ◌+◌, ◌++◌, IfO
 ghost use Rattle.std.specs.Bool.{Decides};
 ghost use Rattle.session_values.specs.Limits.{max_tables};
 ghost use Rattle.session_values.specs.declared.kind.TableKind.TheVariants.{Map, Set};
-ghost use Rattle.hall_desk.specs.Desks.{AllowOn, CallOn, IsWithin, PlansAs, TicketOn, one, planned_number};
+ghost use Rattle.hall_desk.specs.Desks.{AllowOn, CallOn, EntryOn, IsWithin, PlansAs, TicketOn, one, planned_number};
 
 use crate::desk::Desk;
-use crate::reading::{op_of, symbol_of, value_of};
+use crate::reading::{entry_of, op_of, symbol_of, value_of};
 use crate::values::{HallOperation, HallValue};
 use hall_stepping::{Plan, Planned};
 use session_values::{MAX_REQUESTS, MAX_TABLES, NoMemory, Reply, TableKind, Value};
@@ -40,14 +40,15 @@ fn number_of(answer: Planned) -> u8
         Planned::Added => 0,
         Planned::NoTicket => 13,
         Planned::Misfit => 10,
+        Planned::Twice => 17,
         Planned::Full => 12,
         Planned::NoMemory => 3,
     }
 }
 
 impl Desk {
-    /// A plan without tickets, over so many maps and behind them so many sets, with room for so
-    /// many tickets, operations and symbols.
+    /// A plan without tickets, over so many maps and behind them so many sets, which open empty,
+    /// with room for so many tickets, operations and symbols.
     pub fn plan(
         alloc: Global,
         maps: u8,
@@ -67,6 +68,19 @@ impl Desk {
         match Plan::with_room(alloc, shape.as_slice(), tickets, calls, symbols) {
             Ok(plan) => Ok(Desk::Planned(plan)),
             Err(_) => Err(3),
+        }
+    }
+
+    /// A table opens with one entry more: a key and its value, or a member of a set and nil.
+    pub fn entry(&mut self, table: u32, key: &HallValue, value: &HallValue) -> u8
+        ensures { EntryOn self.old self.new table key.now value.now result }
+    {
+        match self {
+            Desk::Planned(plan) => match entry_of(key, value) {
+                Some(entry) => number_of(plan.entry(table, entry.0, entry.1)),
+                None => 10,
+            },
+            _ => 11,
         }
     }
 

@@ -5,7 +5,7 @@ ghost use Rattle.std.specs.Bool.{Decides};
 ghost use Rattle.session_values.specs.declared.value.Value.TheVariants.{Nil};
 ghost use Rattle.session_values.specs.Kinds.{arguments, kind_place};
 ghost use Rattle.symbolic_ops.specs.declared.arg.Arg.TheVariants.{Known};
-ghost use Rattle.hall_desk.specs.Reading.{IsArgOf, IsOperationOf, IsSymbolOf, IsUnread, IsValueOf};
+ghost use Rattle.hall_desk.specs.Reading.{IsArgOf, IsEntryOf, IsOperationOf, IsSymbolOf, IsUnread, IsValueOf};
 
 use crate::values::{HallOperation, HallValue};
 use session_values::{Kind, Op, Value};
@@ -43,6 +43,20 @@ pub(crate) fn value_of(given: &HallValue) -> Option<Value>
     }
 }
 
+// The entry that C gives: a key and its value.
+pub(crate) fn entry_of(key: &HallValue, value: &HallValue) -> Option<(Value, Value)>
+    ensures { MatchOption result ((3 ≤ key.now.sort) ⊎ (3 ≤ value.now.sort))
+        (IsEntryOf key.now value.now) }
+{
+    let Some(found) = value_of(key) else {
+        return None;
+    };
+    let Some(bound) = value_of(value) else {
+        return None;
+    };
+    Some((found, bound))
+}
+
 // The argument that C gives.
 fn arg_of(given: &HallValue) -> Option<Arg>
     ensures { MatchOption result (4 ≤ given.now.sort) (IsArgOf given.now) }
@@ -67,8 +81,8 @@ fn has_unused(kind: Kind, given: &HallOperation) -> bool
     kind.arguments() < 2 && given.value.sort != 0
 }
 
-// The operation that C gives.
-pub(crate) fn op_of(given: &HallOperation) -> Option<Op>
+/// The operation that C gives.
+pub fn op_of(given: &HallOperation) -> Option<Op>
     ensures { MatchOption result (IsUnread 3 given.now) (IsOperationOf given.now) }
 {
     let Some(kind) = kind_at(given.kind) else {

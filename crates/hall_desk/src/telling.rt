@@ -7,8 +7,8 @@ use crate::values::{HallStep, HallValue};
 use hall_stepping::Stepped;
 use session_values::Value;
 
-// A value as C has it.
-pub(crate) fn told_value(value: Value) -> HallValue
+/// A value as C has it.
+pub fn told_value(value: Value) -> HallValue
     ensures { result ≡ told_value value }
 {
     let (sort, name, number) = match value {

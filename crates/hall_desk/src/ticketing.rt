@@ -13,8 +13,8 @@ use session_values::{MAX_SYMBOLS, MAX_TABLES};
 use std::alloc::Global;
 use symbolic_ops::Foresight;
 
-// The list of the symbols that C gives.
-fn foresight_of(alloc: Global, given: &[HallOperation]) -> Result<Foresight, u8>
+/// The list of the symbols that C gives, or the number of why there is none.
+pub fn foresight_of(alloc: Global, given: &[HallOperation]) -> Result<Foresight, u8>
     ensures { ReadAs given.now result }
 {
     if given.len() > MAX_SYMBOLS as usize {
@@ -32,8 +32,8 @@ fn foresight_of(alloc: Global, given: &[HallOperation]) -> Result<Foresight, u8>
     Ok(list)
 }
 
-// The number of why no ticket was begun.
-fn begun_number(why: BeginError) -> u8
+/// The number of why no ticket was begun.
+pub fn begun_number(why: BeginError) -> u8
     ensures { result ≡ begun_number why }
 {
     match why {
@@ -42,8 +42,8 @@ fn begun_number(why: BeginError) -> u8
     }
 }
 
-// The number of what a call answers.
-fn called_number(answer: Called) -> u8
+/// The number of what a call answers.
+pub fn called_number(answer: Called) -> u8
     ensures { result ≡ called_number answer }
 {
     match answer {
@@ -56,8 +56,8 @@ fn called_number(answer: Called) -> u8
     }
 }
 
-// The number of why a ticket wasn't narrowed.
-fn narrowed_number(why: NarrowError) -> u8
+/// The number of why a ticket wasn't narrowed.
+pub fn narrowed_number(why: NarrowError) -> u8
     ensures { result ≡ narrowed_number why }
 {
     match why {

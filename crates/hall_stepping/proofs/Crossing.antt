@@ -14,10 +14,6 @@ use Rattle.std.specs.contracts.sync.Mutex as mutex
 use Rattle.std.proofs.sync.Mutex.TheSendSync as locked
 use Rattle.std.proofs.sync.atomic.AtomicU32.TheSendSync as counted
 use Rattle.session_journal.specs.declared.tickets.Tickets.{Ghosts}
-use Rattle.session_journal.specs.Lists.{ListView}
-use Rattle.session_journal.specs.contracts.list_script.ListScript as list_script
-use Rattle.session_journal.specs.contracts.list_script.ListScriptScript.TheImpl as script
-use Rattle.session_journal.proofs.list_script.ListScript.TheSendSync as list_script_sends
 use Rattle.symbolic_ops.specs.contracts.foresight.Foresight as foresight_row
 use Rattle.symbolic_ops.proofs.foresight.Foresight.TheSendSync as foresight
 use Rattle.turn_board.proofs.board.Board.TheSendSync as board
@@ -39,6 +35,10 @@ use Rattle.session_hall.proofs.caller.Caller.TheSendSync as caller
 use Rattle.session_hall.specs.contracts.closed.Closed as closed_row
 use Rattle.session_hall.proofs.closed.Closed.TheSendSync as closed
 use Rattle.hall_stepping.proofs.row.Row.TheSendSync as row
+use Rattle.hall_stepping.specs.Script.{PlanView}
+use Rattle.hall_stepping.specs.contracts.planned_script.PlannedScript as planned_script
+use Rattle.hall_stepping.specs.contracts.planned_script.PlannedScriptScript.TheImpl as script
+use Rattle.hall_stepping.proofs.planned_script.PlannedScript.TheSendSync as planned_script_sends
 use Rattle.hall_stepping.specs.contracts.stepping.Stepping as stepping
 use Rattle.hall_stepping.specs.contracts.stepping.Stepping.TheInside as inside
 
@@ -58,15 +58,15 @@ module _ (T : RattleType) (g : Ghosts T.Denot) where
       let kept = as_row_send (mutex.the_field SpareRow) (locked.the_send SpareRow lists) in
       declared_send (hall.the_type T g) (turns, (as_row_send (snapshot.the_field T) (snapshot_send T), (sizes.the_send, (counted.the_send, (kept, tt)))))
 
--- what the tickets of a list mean
-abbrev ghosts_of : Ghosts ListView
+-- what plans mean
+abbrev ghosts_of : Ghosts PlanView
 ghosts_of = record { meaning = script.ghosts.meaning }
 
-hall_of_lists : IsSend (hall.the_row list_script.the_row ghosts_of)
-hall_of_lists = hall_send list_script.the_row ghosts_of list_script_sends.the_send
+hall_of_plans : IsSend (hall.the_row planned_script.the_row ghosts_of)
+hall_of_plans = hall_send planned_script.the_row ghosts_of planned_script_sends.the_send
 
-caller_of_lists : IsSend (caller_row.the_row list_script.the_row ghosts_of)
-caller_of_lists = caller.the_send list_script.the_row ghosts_of list_script_sends.the_send
+caller_of_plans : IsSend (caller_row.the_row planned_script.the_row ghosts_of)
+caller_of_plans = caller.the_send planned_script.the_row ghosts_of planned_script_sends.the_send
 
 number : IsSend (UInt w64)
 number = search sendable
@@ -77,9 +77,9 @@ listed T s = as_row_send (vec.the_field T heap.the_row ghosts) (Vec-send T s)
 pub stepping_send : IsSend stepping.the_row
 stepping_send =
     view_send inside.the_row _ _ _ _ (declared_send inside.the_type (
-      hall_of_lists,
+      hall_of_plans,
       (
-        listed _ caller_of_lists,
+        listed _ caller_of_plans,
         (
           listed (UInt w64) number,
           (

@@ -3,21 +3,21 @@ use Rattle.std.proofs.Common.{◌≡◌, ℕ, zero, suc, ◌≤◌, arith, List,
 use Rattle.std.proofs.lemmas.Option.{slice_get_within, slice_get-get_or, same_Some}
 use Rattle.session_values.specs.Limits.{max_symbols}
 use Rattle.symbolic_ops.specs.Foresight.{ForesightView}
-use Rattle.session_journal.specs.Lists.{ListView}
 use Rattle.session_hall.specs.declared.stage.Stage.TheVariants.{Out}
 use Rattle.session_hall.specs.Closings.{Leaves, Opens}
 use Rattle.session_hall.specs.Names.{script_of}
 use Rattle.hall_stepping.specs.declared.row.Row.{Row}
 use Rattle.hall_stepping.specs.Rows.{tickets_of}
 use Rattle.hall_stepping.specs.Endings.{AreOut}
-use Rattle.hall_stepping.specs.Standing.{StandsFrom, meaning}
+use Rattle.hall_stepping.specs.Script.{PlanView, meaning}
+use Rattle.hall_stepping.specs.Standing.{StandsFrom}
 use Rattle.hall_stepping.specs.Stepping.{IsStepping}
 use Rattle.hall_stepping.specs.Steps.{CallerOf, HallOf}
 
-pub opens_stepping : (s : ListView) (h : HallOf) (cs : List CallerOf) (ks : List ℕ) (rows : List Row) (list : ForesightView) (callers : ℕ) → script_of h ≡ s → s.tickets ≡ tickets_of rows → length cs ≡ callers → h.sizes.callers ≡ callers → length ks ≡ callers → max_symbols ≤ list.room
+pub opens_stepping : (s : PlanView) (h : HallOf) (cs : List CallerOf) (ks : List ℕ) (rows : List Row) (list : ForesightView) (callers : ℕ) → script_of h ≡ s → s.tickets ≡ tickets_of rows → length cs ≡ callers → h.sizes.callers ≡ callers → length ks ≡ callers → max_symbols ≤ list.room
     → ((i : ℕ) (c : CallerOf) → slice_get cs i ≡ Some c → Opens meaning h i c) → IsStepping h cs ks rows list
 opens_stepping s h cs ks rows list callers script same count sizes done room opens = record {
-  rows_are = ap (λ (x : ListView). x.tickets) script ∙ same;
+  rows_are = ap (λ (x : PlanView). x.tickets) script ∙ same;
   all = count ∙ sym sizes;
   each_done = done ∙ sym count;
   room = room;

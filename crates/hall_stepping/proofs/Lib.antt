@@ -1,3 +1,4 @@
+mod Openings
 mod Saying
 mod Serving
 mod Finishing

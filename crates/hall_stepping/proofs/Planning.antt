@@ -9,8 +9,24 @@ use Rattle.session_values.specs.declared.op.Op.{Op}
 use Rattle.symbolic_ops.specs.declared.symbol.Symbol.{Symbol}
 use Rattle.session_journal.specs.Lists.{HasPlace, ListView, Ticket, allows_more, calls_more, last_ticket, with_last}
 use Rattle.hall_stepping.specs.declared.row.Row.{Row}
-use Rattle.hall_stepping.specs.Plans.{IsFull, IsPlan, with_call, with_symbol}
+use Rattle.hall_stepping.specs.Plans.{IsFull, IsPlan}
+use Rattle.hall_stepping.specs.Script.{plan_of}
+use Rattle.opening_tables.specs.Opening.{Pair}
 use Rattle.hall_stepping.specs.Rows.{ticket_of, tickets_of}
+
+-- the list whose last ticket calls one operation more, or declares one symbol more
+abbrev pub list_called : ListView → Op → ListView
+list_called s op = record s {
+  tickets = with_last s.tickets (calls_more (last_ticket s.tickets) op);
+  calls_left = s.calls_left - 1;
+  symbols_left = s.symbols_left - 1;
+}
+
+abbrev pub list_allowed : ListView → Symbol → ListView
+list_allowed s y = record s {
+  tickets = with_last s.tickets (allows_more (last_ticket s.tickets) y);
+  symbols_left = s.symbols_left - 1;
+}
 
 last_row : (rows : List Row) (n : ℕ) (r : Row) → length rows ≡ suc n → r ≡ get_or rows n r → last_ticket (tickets_of rows) ≡ ticket_of r
 last_row [] n r l e = absurd (omega (arith, l))
@@ -48,7 +64,7 @@ module _ (s : ListView) (rows : List Row) (shape : List TableKind) (room tickets
     roomy = omega (arith, count, roomy);
   }
 
-  pub plan_called : (op : Op) (r : Row) → ticket_of r ≡ calls_more (ticket_of was) op → IsPlan (with_call s op) (slice_set rows n r) shape room tickets (calls - 1) (symbols - 1)
+  pub plan_called : (op : Op) (r : Row) → ticket_of r ≡ calls_more (ticket_of was) op → IsPlan (list_called s op) (slice_set rows n r) shape room tickets (calls - 1) (symbols - 1)
   plan_called op r more = let count = length-set rows n r in let roomy = plan.roomy in record {
     rows_are = ap (λ (xs : List Ticket). with_last xs (calls_more (last_ticket s.tickets) op)) plan.rows_are ∙ ap (λ (x : Ticket). with_last (tickets_of rows) (calls_more x op)) last_is ∙ ap (λ (x : Ticket). with_last (tickets_of rows) x) (sym more) ∙ sym (row_set rows n r long);
     shape_is = plan.shape_is;
@@ -59,7 +75,7 @@ module _ (s : ListView) (rows : List Row) (shape : List TableKind) (room tickets
     roomy = omega (arith, count, roomy);
   }
 
-  pub plan_allowed : (y : Symbol) (r : Row) → ticket_of r ≡ allows_more (ticket_of was) y → IsPlan (with_symbol s y) (slice_set rows n r) shape room tickets calls (symbols - 1)
+  pub plan_allowed : (y : Symbol) (r : Row) → ticket_of r ≡ allows_more (ticket_of was) y → IsPlan (list_allowed s y) (slice_set rows n r) shape room tickets calls (symbols - 1)
   plan_allowed y r more = let count = length-set rows n r in let roomy = plan.roomy in record {
     rows_are = ap (λ (xs : List Ticket). with_last xs (allows_more (last_ticket s.tickets) y)) plan.rows_are ∙ ap (λ (x : Ticket). with_last (tickets_of rows) (allows_more x y)) last_is ∙ ap (λ (x : Ticket). with_last (tickets_of rows) x) (sym more) ∙ sym (row_set rows n r long);
     shape_is = plan.shape_is;
@@ -78,6 +94,12 @@ module _ (s : ListView) (rows : List Row) (shape : List TableKind) (room tickets
       let low : max_symbols ≤ length was.symbols.items → ⊥ = λ l. free (inr l) in
       record { some = omega (arith, count, long); few = ⊎_elim (λ (l : length was.symbols.items < max_symbols). omega (arith, e, l)) (λ (l : max_symbols ≤ length was.symbols.items). absurd (low l)) (cases_lt (length was.symbols.items) max_symbols) }
 
-  pub is_full : (symbols ≡ 0) ⊎ (max_symbols ≤ length was.symbols.items) → IsFull s
-  is_full (inl none) = inl (plan.symbols_left ∙ none)
-  is_full (inr many) = inr (let e = ap (λ (x : Ticket). length x.entry) last_is in omega (arith, e, many))
+  pub some_symbols : ((symbols ≡ 0) ⊎ (max_symbols ≤ length was.symbols.items) → ⊥) → 0 < s.symbols_left
+  some_symbols free =
+      let e = plan.symbols_left in
+      let low : symbols ≤ 0 → ⊥ = λ l. free (inl (omega (arith, l))) in
+      ⊎_elim (λ (l : 0 < symbols). omega (arith, e, l)) (λ (l : symbols ≤ 0). absurd (low l)) (cases_lt 0 symbols)
+
+  pub is_full : (entries : List (List Pair)) → (symbols ≡ 0) ⊎ (max_symbols ≤ length was.symbols.items) → IsFull (plan_of s entries)
+  is_full entries (inl none) = inl (plan.symbols_left ∙ none)
+  is_full entries (inr many) = inr (let e = ap (λ (x : Ticket). length x.entry) last_is in omega (arith, e, many))

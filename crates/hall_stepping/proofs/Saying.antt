@@ -4,7 +4,6 @@ use Rattle.std.proofs.lemmas.Option.{same_Some, none-some}
 use Rattle.std.specs.List.{AllByRecursion}
 use Rattle.session_values.specs.declared.value.Value.{Value}
 use Rattle.session_values.specs.declared.value.Value.TheVariants.{Nil}
-use Rattle.session_values.specs.declared.kind.TableKind.{TableKind}
 use Rattle.session_values.specs.declared.op.Op.{Op}
 use Rattle.session_values.specs.declared.reply.Reply.{Reply}
 use Rattle.session_values.specs.Dialogue.{Calls, rest}
@@ -12,7 +11,8 @@ use Rattle.session_values.specs.Values.{IsValue}
 use Rattle.symbolic_ops.specs.declared.symbol.Symbol.{Symbol}
 use Rattle.symbolic_ops.specs.Matching.{Matches}
 use Rattle.session_journal.specs.Script.{IsForesight, IsScript}
-use Rattle.session_journal.specs.Lists.{Ticket, list_meaning, says, ticket_at}
+use Rattle.session_journal.specs.Lists.{says, ticket_at}
+use Rattle.hall_stepping.specs.Script.{PlanView, meaning}
 
 -- ---- the dialogue looks at the number of replies alone
 pub says_calls : (ops : List Op) (r : Reply) (xs : List Value) (n : ℕ) (op : Op) → length xs ≡ n → slice_get ops n ≡ Some op → says ops r xs ≡ Calls op
@@ -45,8 +45,8 @@ nils_values zero = tt
 nils_values (suc n) = (tt, nils_values n)
 
 -- what a ticket declares stands for what it calls, after any replies
-pub matched : (shape : List TableKind) (xs : List Ticket) → IsScript (list_meaning shape xs) → (t n : ℕ) (op : Op) → slice_get (ticket_at xs t).ops n ≡ Some op → Matches (ticket_at xs t).entry op
-matched shape xs s t n op e = (s.entry t).covers.each (nils n) op (nils_values n) (says_calls (ticket_at xs t).ops (ticket_at xs t).reply (nils n) n op (nils_count n) e)
+pub matched : (p : PlanView) → IsScript (meaning p) → (t n : ℕ) (op : Op) → slice_get (ticket_at p.tickets t).ops n ≡ Some op → Matches (ticket_at p.tickets t).entry op
+matched p s t n op e = (s.entry t).covers.each (nils n) op (nils_values n) (says_calls (ticket_at p.tickets t).ops (ticket_at p.tickets t).reply (nils n) n op (nils_count n) e)
 
 pub still_covers : (ops : List Op) (r : Reply) (f : List Symbol) (xs : List Value) → IsForesight (says ops r) f → IsForesight (rest (says ops r) xs) f
 still_covers ops r f xs k = record {

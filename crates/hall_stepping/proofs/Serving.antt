@@ -23,7 +23,8 @@ use Rattle.session_hall.specs.Stages.{OnServing}
 use Rattle.session_hall.specs.Boards.{turn_count}
 use Rattle.hall_stepping.specs.declared.stepped.Stepped.{Stepped}
 use Rattle.hall_stepping.specs.Steps.{CallerOf, HallOf, StepsAs, StepsFrom, meaning_of, of_admitting, of_ending}
-use Rattle.hall_stepping.specs.Standing.{IsAt, IsStepped, StandsAt, StandsFrom, meaning}
+use Rattle.hall_stepping.specs.Standing.{IsAt, IsStepped, StandsAt, StandsFrom}
+use Rattle.hall_stepping.specs.Script.{meaning}
 use Rattle.hall_stepping.proofs.Saying.{says_calls, matched}
 
 same_op : (xs : List Op) (n : ℕ) (x y : Op) → slice_get xs n ≡ Some x → slice_get xs n ≡ Some y → x ≡ y
@@ -47,7 +48,7 @@ module _ (h : HallOf) (p : CallerOf) (done t : ℕ) where
       let a = is_at s e in let x = ticket_at (script_of h).tickets t in
       subst (λ u. OnServing u (λ v. MayCall (foresight_of p) op m (book_of p) v)) (sym e) (
         says_calls x.ops x.reply (replies (entries_of p t)) done op (replied a) next,
-        subst (λ f. Rattle.symbolic_ops.specs.Matching.Matches f op) (sym a.declared) (matched (script_of h).shape (script_of h).tickets s.0.script_kept t done op next),
+        subst (λ f. Rattle.symbolic_ops.specs.Matching.Matches f op) (sym a.declared) (matched (script_of h) s.0.script_kept t done op next),
       )
 
   pub may_answer : (r : Reply) → IsStepped h p done → p.stage ≡ Serves t → length (ticket_at (script_of h).tickets t).ops ≤ done → (ticket_at (script_of h).tickets t).reply ≡ r → ByNote m p (MayAnswer r)

@@ -3,17 +3,16 @@ use Rattle.std.specs.Prelude.{◌≡◌, ℕ, List, Some, length, slice_get}
 use Rattle.std.specs.List.{AllByRecursion}
 use Rattle.std.specs.declared.result.Result.{Result}
 use Rattle.std.specs.declared.result.Result.TheVariants.{Ok, Err}
-use Rattle.session_journal.specs.Lists.{ListView}
 use Rattle.session_hall.specs.declared.stage.Stage.TheVariants.{Out}
 use Rattle.session_hall.specs.Closings.{ClosedView, IsDone, IsNotedBy, Opens}
 use Rattle.session_hall.specs.Names.{script_of}
-use Rattle.hall_stepping.specs.Standing.{meaning}
+use Rattle.hall_stepping.specs.Script.{PlanView, meaning}
 use Rattle.hall_stepping.specs.Stepping.{SteppingView}
 use Rattle.hall_stepping.specs.Steps.{CallerOf, meaning_of}
 
--- the hall of a plan, with so many shards of each table and so many callers, none of which has
--- begun a ticket
-pub record IsOpenedFor (s : ListView) (shards callers : ℕ) (v : SteppingView) : Type 0 where
+-- the hall of a plan, whose tables open with the plan's entries, with so many shards of each table and
+-- so many callers, none of which has begun a ticket
+pub record IsOpenedFor (s : PlanView) (shards callers : ℕ) (v : SteppingView) : Type 0 where
   pub script_is : script_of v.hall ≡ s
   pub shards_are : v.hall.sizes.shards ≡ shards
   pub callers_are : length v.callers ≡ callers

@@ -1,4 +1,5 @@
 pub mod Rows
+pub mod Script
 pub mod Steps
 pub mod Plans
 pub mod Standing
@@ -6,5 +7,7 @@ pub mod Progress
 pub mod Stepping
 pub mod Codes
 pub mod Endings
+pub use Rattle.opening_tables.specs.Opening
 pub use Rattle.session_hall.specs.Closings
-pub use Rattle.session_hall.specs.Lists
+pub use Rattle.session_hall.specs.Listings
+pub use Rattle.session_hall.specs.Script as Meaning

@@ -1,16 +1,12 @@
 -- What a caller stands at between two steps.
 use Rattle.std.specs.Prelude.{◌≡◌, ℕ, ◌<◌, List, length}
-use Rattle.session_journal.specs.Lists.{ListView, Ticket, list_meaning, ticket_at}
-use Rattle.session_journal.specs.Script.{Meaning}
+use Rattle.session_journal.specs.Lists.{Ticket, ticket_at}
 use Rattle.session_hall.specs.declared.stage.Stage.{Stage}
 use Rattle.session_hall.specs.declared.stage.Stage.TheVariants.{Idle, Serving as Serves, InFlight, Applied, Out}
 use Rattle.session_hall.specs.Callers.{IsCallerOf, entries_of, foresight_of}
 use Rattle.session_hall.specs.Names.{script_of}
+use Rattle.hall_stepping.specs.Script.{meaning}
 use Rattle.hall_stepping.specs.Steps.{CallerOf, HallOf}
-
--- what a list of tickets means
-abbrev pub meaning : ListView → Meaning
-meaning s = list_meaning s.shape s.tickets
 
 module _ (tickets : List Ticket) (c : CallerOf) (done : ℕ) where
   -- the caller serves this ticket, of which so many operations are entered, and which may still

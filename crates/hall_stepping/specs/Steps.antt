@@ -3,7 +3,7 @@ use Rattle.std.specs.Prelude.{◌≡◌, ℕ, ◌≤◌, List, Some, length, sli
 use Rattle.session_values.specs.declared.op.Op.{Op}
 use Rattle.session_values.specs.declared.reply.Reply.{Reply}
 use Rattle.session_values.specs.Serial.{serial_replies}
-use Rattle.session_journal.specs.Lists.{ListView, Ticket, list_meaning, ticket_at}
+use Rattle.session_journal.specs.Lists.{Ticket, ticket_at}
 use Rattle.session_journal.specs.Script.{Meaning, session_of}
 use Rattle.session_hall.specs.declared.answers.Admitting.{Admitting}
 use Rattle.session_hall.specs.declared.answers.Admitting.TheVariants as admitting
@@ -25,13 +25,14 @@ use Rattle.session_hall.specs.Names.{script_of}
 use Rattle.session_hall.specs.Boards.{turn_count}
 use Rattle.hall_stepping.specs.declared.stepped.Stepped.{Stepped}
 use Rattle.hall_stepping.specs.declared.stepped.Stepped.TheVariants as stepped
+use Rattle.hall_stepping.specs.Script.{PlanView, meaning}
 
--- a caller of a hall over a list of tickets, and such a hall
+-- a caller of a hall over a plan, and such a hall
 abbrev pub CallerOf : Type 0
-CallerOf = Caller ListView
+CallerOf = Caller PlanView
 
 abbrev pub HallOf : Type 0
-HallOf = Hall ListView
+HallOf = Hall PlanView
 
 -- ---- the answers of the try calls as answers of a step
 abbrev pub of_began : Began → Stepped
@@ -87,9 +88,9 @@ module _ (m : Meaning) (tickets : List Ticket) (shards turns : ℕ) (p q : Calle
   StepsFrom (InFlight t op) = Applies t
   StepsFrom (Applied t op v) = Finishes t
 
--- the meaning of the script that the hall was opened with
+-- the meaning of the plan that the hall was opened with
 abbrev pub meaning_of : HallOf → Meaning
-meaning_of h = list_meaning (script_of h).shape (script_of h).tickets
+meaning_of h = meaning (script_of h)
 
 -- a step of a hall's caller, with its answer
 abbrev pub StepsAs : HallOf → CallerOf → CallerOf → Stepped → Type 0

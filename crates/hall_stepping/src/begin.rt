@@ -2,17 +2,18 @@
 
 ghost use Rattle.session_hall.specs.Callers.{StaysCaller};
 ghost use Rattle.session_hall.specs.Stages.{IsBetween};
-ghost use Rattle.hall_stepping.specs.Standing.{IsStepped, meaning};
+ghost use Rattle.hall_stepping.specs.Script.{meaning};
+ghost use Rattle.hall_stepping.specs.Standing.{IsStepped};
 ghost use Rattle.hall_stepping.specs.Steps.{IsSerialEnd, StepsAs, meaning_of};
 
+use crate::planned_script::PlannedScript;
 use crate::stepped::Stepped;
 use session_hall::{Began, Caller, Hall};
-use session_journal::ListScript;
 
 // Begins the next ticket, or tells that all are begun.
 pub(crate) fn begin(
-    hall: &Hall<ListScript>,
-    caller: &mut Caller<ListScript>,
+    hall: &Hall<PlannedScript>,
+    caller: &mut Caller<PlannedScript>,
     done: &mut usize,
 ) -> Stepped
     requires caller { IsStepped hall.now caller.old done.old }

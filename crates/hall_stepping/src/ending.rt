@@ -6,15 +6,15 @@ ghost use Rattle.session_values.specs.Limits.{max_callers, max_shards};
 ghost use Rattle.hall_stepping.specs.Endings.{AreOut, ClosesAs, IsOpenedFor};
 
 use crate::plan::Plan;
+use crate::planned_script::PlannedScript;
 use crate::stepping::Stepping;
 use session_hall::{Caller, Closed, Hall, Stage};
-use session_journal::ListScript;
 use session_values::{Listed, MAX_SYMBOLS, NoMemory};
 use std::alloc::Global;
 use symbolic_ops::Foresight;
 
 // Whether all callers are out.
-fn are_out(callers: &[Caller<ListScript>]) -> bool
+fn are_out(callers: &[Caller<PlannedScript>]) -> bool
     ensures { Decides result (AreOut callers.now) }
 {
     for caller in callers {
@@ -27,8 +27,8 @@ fn are_out(callers: &[Caller<ListScript>]) -> bool
 }
 
 impl Stepping {
-    /// Opens the hall of a plan, with so many shards of each of its tables and so many callers. No
-    /// step takes memory. Where memory is wanting the plan is gone.
+    /// Opens the hall of a plan, with so many shards of each of its tables, which hold the plan's
+    /// entries, and so many callers. No step takes memory. Where memory is wanting the plan is gone.
     pub fn open(alloc: Global, plan: Plan, shards: u32, callers: u32) -> Result<Stepping, NoMemory>
         requires shards { (1 ≤ shards) × (shards ≤ max_shards) }
         requires callers { (1 ≤ callers) × (callers ≤ max_callers) }
@@ -36,12 +36,14 @@ impl Stepping {
     {
         let Plan {
             script,
+            opening,
             rows,
             shape,
             tickets: _,
             calls: _,
             symbols: _,
         } = plan;
+        let script = PlannedScript::over(script, opening);
         let done = Vec::from_elem(alloc, 0usize, callers as usize)?;
         let list = Foresight::with_room(alloc, MAX_SYMBOLS)?;
         let (hall, opened) = Hall::open(alloc, script, shape.as_slice(), shards, callers)?;

@@ -7,20 +7,21 @@ ghost use Rattle.session_hall.specs.Names.{script_of};
 ghost use Rattle.session_hall.specs.Stages.{IsInFlight};
 ghost use Rattle.session_hall.specs.declared.stage.Stage.TheVariants.{Applied, InFlight};
 ghost use Rattle.hall_stepping.specs.Rows.{tickets_of};
-ghost use Rattle.hall_stepping.specs.Standing.{IsStepped, meaning};
+ghost use Rattle.hall_stepping.specs.Script.{meaning};
+ghost use Rattle.hall_stepping.specs.Standing.{IsStepped};
 ghost use Rattle.hall_stepping.specs.Steps.{IsSerialEnd, StepsAs, meaning_of};
 
+use crate::planned_script::PlannedScript;
 use crate::row::Row;
 use crate::stepped::Stepped;
 use session_hall::{Applying, Caller, Finishing, Hall};
-use session_journal::ListScript;
 use session_values::{Op, Value};
 use symbolic_ops::Foresight;
 
 // Does the ticket's operation on its shards.
 pub(crate) fn apply(
-    hall: &Hall<ListScript>,
-    caller: &mut Caller<ListScript>,
+    hall: &Hall<PlannedScript>,
+    caller: &mut Caller<PlannedScript>,
     done: usize,
     ticket: u32,
     op: Op,
@@ -41,10 +42,10 @@ pub(crate) fn apply(
 // Enters the ticket's operation that was done on its shards. The ticket declares again what it
 // declared at its beginning.
 pub(crate) fn finish(
-    hall: &Hall<ListScript>,
+    hall: &Hall<PlannedScript>,
     rows: &[Row],
     list: &mut Foresight,
-    caller: &mut Caller<ListScript>,
+    caller: &mut Caller<PlannedScript>,
     done: &mut usize,
     ticket: u32,
     op: Op,

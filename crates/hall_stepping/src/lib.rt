@@ -7,6 +7,7 @@ mod ending;
 mod finish;
 mod plan;
 mod planned;
+mod planned_script;
 mod row;
 mod serve;
 mod stepped;

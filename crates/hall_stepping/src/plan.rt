@@ -4,21 +4,24 @@ ghost use Rattle.std.specs.Prelude.{◌≡◌, ◌≤◌, ◌⊎◌, [], IfOk, l
 ghost use Rattle.std.specs.Bool.{Decides};
 ghost use Rattle.session_values.specs.Limits.{max_requests, max_session_calls, max_symbols, max_tables};
 ghost use Rattle.session_values.specs.Tables.{Fits};
-ghost use Rattle.hall_stepping.specs.Plans.{AddsCall, AddsSymbol, AddsTicket};
+ghost use Rattle.opening_tables.specs.Opening.{no_entries};
+ghost use Rattle.hall_stepping.specs.Plans.{AddsCall, AddsEntry, AddsSymbol, AddsTicket, MayOpen};
 
 use crate::planned::Planned;
 use crate::row::Row;
+use opening_tables::{MAX_TABLE_LINES, Opening, laws};
 use session_journal::ListScript;
-use session_values::{MAX_SYMBOLS, NoMemory, Op, Reply, TableKind};
+use session_values::{MAX_SYMBOLS, NoMemory, Op, Reply, TableKind, Value};
 use std::alloc::Global;
 use std::marker::Model;
 use symbolic_ops::Symbol;
 
-/// Tickets that are listed one by one, with what each calls, declares and answers. Contracts see it
-/// as the list script that its hall is opened with.
+/// Tickets that are listed one by one, with what each calls, declares and answers, and the entries
+/// with which their tables open. Contracts see it as the script that its hall is opened with.
 #[derive(Drop)]
 pub struct Plan {
     pub(crate) script: ListScript,
+    pub(crate) opening: Opening,
     /// The tickets, by number, with room for those that are left.
     pub(crate) rows: Vec<Row>,
     /// The kinds of the tables, by table number.
@@ -31,15 +34,16 @@ pub struct Plan {
 
 impl Model for Plan {
     ghost use Rattle.std.specs.Prelude.{vec_capacity};
-    ghost use Rattle.session_journal.specs.Lists.{ListView};
+    ghost use Rattle.opening_tables.specs.Opening.{HaveNil};
     ghost use Rattle.hall_stepping.specs.Plans.{IsPlan};
+    ghost use Rattle.hall_stepping.specs.Script.{PlanView, plan_of};
 
-    ghost Value = { ListView };
+    ghost Value = { PlanView };
 
-    ghost view = { λ p. p.script };
+    ghost view = { λ p. plan_of p.script p.opening };
 
     ghost invariant = { λ p. IsPlan p.script p.rows.items p.shape.items (vec_capacity p.rows)
-        p.tickets p.calls p.symbols };
+        p.tickets p.calls p.symbols × HaveNil p.shape.items p.opening };
 }
 
 // Whether an operation fits tables of these kinds.
@@ -50,6 +54,19 @@ fn fits(shape: &[TableKind], op: &Op) -> bool
     match shape.get(op.table as usize) {
         Some(TableKind::Map) => op.kind.on_map(),
         Some(TableKind::Set) => !op.kind.on_map(),
+        None => false,
+    }
+}
+
+// Whether a table of these may open with an entry.
+fn may_open(shape: &[TableKind], table: u32, key: Value, value: Value) -> bool
+    ensures { Decides result (MayOpen shape.now table (key, value)) }
+{
+    key.bounds();
+    value.bounds();
+    match shape.get(table as usize) {
+        Some(TableKind::Map) => true,
+        Some(TableKind::Set) => matches!(value, Value::Nil),
         None => false,
     }
 }
@@ -65,7 +82,7 @@ fn is_full(row: &Row, left: u32) -> bool
 }
 
 impl Plan {
-    /// No tickets yet, over tables of these kinds, with room for so many tickets, operations and
+    /// No tickets yet, over tables of these kinds, which open empty, with room for so many tickets, operations and
     /// symbols of all tickets together.
     pub fn with_room(
         alloc: Global,
@@ -80,20 +97,42 @@ impl Plan {
         requires symbols { symbols ≤ 400000 }
         ensures { IfOk result (λ p. p ≡ record {
           shape = shape.now;
+          entries = no_entries shape.now;
           tickets = [];
           tickets_left = tickets;
           calls_left = calls;
           symbols_left = symbols;
         }) }
     {
+        laws::no_entries_open();
         Ok(Plan {
             script: ListScript::with_room(alloc, shape, tickets, calls, symbols)?,
+            opening: Opening::new(alloc, shape.len() as u32)?,
             rows: Vec::with_capacity(alloc, tickets as usize)?,
             shape: shape.to_vec(alloc)?,
             tickets,
             calls,
             symbols,
         })
+    }
+
+    /// A table opens with one entry more: a key and its value, or a member of a set and nil.
+    pub fn entry(&mut self, table: u32, key: Value, value: Value) -> Planned
+        ensures { AddsEntry self.old self.new table (key, value) result }
+    {
+        if !may_open(self.shape.as_slice(), table, key, value) {
+            return Planned::Misfit;
+        }
+        if self.opening.has(table, key) {
+            return Planned::Twice;
+        }
+        if self.opening.count() >= MAX_TABLE_LINES {
+            return Planned::Full;
+        }
+        match self.opening.push(table, key, value) {
+            Ok(()) => Planned::Added,
+            Err(_) => Planned::NoMemory,
+        }
     }
 
     /// Adds a ticket that calls nothing and answers this reply.
@@ -143,17 +182,17 @@ impl Plan {
     pub fn allow(&mut self, symbol: Symbol) -> Planned
         ensures { AddsSymbol self.old self.new symbol result }
     {
-        let count = self.rows.len();
-        if count == 0 {
+        let tickets = self.rows.len();
+        if tickets == 0 {
             return Planned::NoTicket;
         }
         if !symbol.has_no_var() {
             return Planned::Misfit;
         }
-        if is_full(&self.rows[count - 1], self.symbols) {
+        if is_full(&self.rows[tickets - 1], self.symbols) {
             return Planned::Full;
         }
-        if !self.rows[count - 1].allow(symbol) {
+        if !self.rows[tickets - 1].allow(symbol) {
             return Planned::NoMemory;
         }
         self.script.allow(symbol);

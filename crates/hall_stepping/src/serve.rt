@@ -6,20 +6,21 @@ ghost use Rattle.session_hall.specs.Callers.{StaysCaller};
 ghost use Rattle.session_hall.specs.Names.{script_of};
 ghost use Rattle.session_hall.specs.declared.stage.Stage.TheVariants.{Serving};
 ghost use Rattle.hall_stepping.specs.Rows.{tickets_of};
-ghost use Rattle.hall_stepping.specs.Standing.{IsStepped, meaning};
+ghost use Rattle.hall_stepping.specs.Script.{meaning};
+ghost use Rattle.hall_stepping.specs.Standing.{IsStepped};
 ghost use Rattle.hall_stepping.specs.Steps.{IsSerialEnd, StepsAs, meaning_of};
 
+use crate::planned_script::PlannedScript;
 use crate::row::Row;
 use crate::stepped::Stepped;
 use admission_book::laws::answering;
 use session_hall::{Admitting, Caller, Ending, Hall};
-use session_journal::ListScript;
 use session_values::{Op, Reply};
 
 // Puts the ticket's next operation in flight, or tells what delays it.
 fn admit(
-    hall: &Hall<ListScript>,
-    caller: &mut Caller<ListScript>,
+    hall: &Hall<PlannedScript>,
+    caller: &mut Caller<PlannedScript>,
     done: usize,
     ticket: u32,
     op: Op,
@@ -45,8 +46,8 @@ fn admit(
 
 // Ends the ticket, of which all operations are entered, with its reply.
 fn end(
-    hall: &Hall<ListScript>,
-    caller: &mut Caller<ListScript>,
+    hall: &Hall<PlannedScript>,
+    caller: &mut Caller<PlannedScript>,
     done: usize,
     ticket: u32,
     reply: Reply,
@@ -69,9 +70,9 @@ fn end(
 
 // The ticket's next operation is called, or the ticket ends.
 pub(crate) fn serve(
-    hall: &Hall<ListScript>,
+    hall: &Hall<PlannedScript>,
     rows: &[Row],
-    caller: &mut Caller<ListScript>,
+    caller: &mut Caller<PlannedScript>,
     done: usize,
     ticket: u32,
 ) -> Stepped

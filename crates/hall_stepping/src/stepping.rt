@@ -5,17 +5,18 @@ ghost use Rattle.session_values.specs.Limits.{max_symbols};
 ghost use Rattle.session_hall.specs.Callers.{StaysCaller};
 ghost use Rattle.session_hall.specs.Names.{script_of};
 ghost use Rattle.hall_stepping.specs.Rows.{tickets_of};
-ghost use Rattle.hall_stepping.specs.Standing.{IsStepped, meaning};
+ghost use Rattle.hall_stepping.specs.Script.{meaning};
+ghost use Rattle.hall_stepping.specs.Standing.{IsStepped};
 ghost use Rattle.hall_stepping.specs.Stepping.{IsStep};
 ghost use Rattle.hall_stepping.specs.Steps.{IsSerialEnd, StepsAs, meaning_of};
 
 use crate::begin::begin;
 use crate::finish::{apply, finish};
+use crate::planned_script::PlannedScript;
 use crate::row::Row;
 use crate::serve::serve;
 use crate::stepped::Stepped;
 use session_hall::{Caller, Hall, Stage};
-use session_journal::ListScript;
 use std::marker::Model;
 use symbolic_ops::Foresight;
 
@@ -23,9 +24,9 @@ use symbolic_ops::Foresight;
 /// of it are the hall and the callers.
 #[derive(Drop)]
 pub struct Stepping {
-    pub(crate) hall: Hall<ListScript>,
+    pub(crate) hall: Hall<PlannedScript>,
     /// The callers, by number.
-    pub(crate) callers: Vec<Caller<ListScript>>,
+    pub(crate) callers: Vec<Caller<PlannedScript>>,
     /// How many operations are entered of the ticket that each caller serves.
     pub(crate) done: Vec<usize>,
     /// The tickets, by number.
@@ -49,10 +50,10 @@ impl Model for Stepping {
 
 // The next try of a caller, by its stage.
 fn step_caller(
-    hall: &Hall<ListScript>,
+    hall: &Hall<PlannedScript>,
     rows: &[Row],
     list: &mut Foresight,
-    caller: &mut Caller<ListScript>,
+    caller: &mut Caller<PlannedScript>,
     done: &mut usize,
 ) -> Stepped
     requires caller { IsStepped hall.now caller.old done.old }

@@ -33,6 +33,8 @@ Ends answered.Served = ⊥
 Ends answered.Nothing = ⊥
 Ends (answered.Refused e) = Unit {0}
 Ends answered.TooManyNames = Unit {0}
+Ends (answered.Delayed u) = Unit {0}
+Ends answered.NoNumber = Unit {0}
 Ends answered.NoMemory = Unit {0}
 
 -- the same, where the line is used
@@ -41,20 +43,45 @@ EndsUsed answered.Served = ⊥
 EndsUsed answered.Nothing = ⊥
 EndsUsed (answered.Refused e) = Unit {0}
 EndsUsed answered.TooManyNames = Unit {0}
+EndsUsed (answered.Delayed u) = ⊥
+EndsUsed answered.NoNumber = ⊥
 EndsUsed answered.NoMemory = ⊥
+
+-- and where it isn't
+abbrev pub EndsUnused : Answered → Type 0
+EndsUnused answered.Served = ⊥
+EndsUnused answered.Nothing = ⊥
+EndsUnused (answered.Refused e) = ⊥
+EndsUnused answered.TooManyNames = ⊥
+EndsUnused (answered.Delayed u) = Unit {0}
+EndsUnused answered.NoNumber = Unit {0}
+EndsUnused answered.NoMemory = Unit {0}
 
 as_end : (a : Answered) → EndsUsed a → Ends a
 as_end answered.Served e = absurd e
 as_end answered.Nothing e = absurd e
 as_end (answered.Refused x) e = tt
 as_end answered.TooManyNames e = tt
+as_end (answered.Delayed u) e = absurd e
+as_end answered.NoNumber e = absurd e
 as_end answered.NoMemory e = absurd e
+
+as_unused : (a : Answered) → EndsUnused a → Ends a
+as_unused answered.Served e = absurd e
+as_unused answered.Nothing e = absurd e
+as_unused (answered.Refused x) e = absurd e
+as_unused answered.TooManyNames e = absurd e
+as_unused (answered.Delayed u) e = tt
+as_unused answered.NoNumber e = tt
+as_unused answered.NoMemory e = tt
 
 row_still : (v : LiveView) (line : Text) (r : Row) (a : Answered) (t : Text) (w : LiveView) → RowAnswered v line r a t w → Ends a → IsStill v t w
 row_still v line r answered.Served t w h e = absurd e
 row_still v line r answered.Nothing t w h e = absurd e
 row_still v line r (answered.Refused x) t w h e = h.0
 row_still v line r answered.TooManyNames t w h e = h.0
+row_still v line r (answered.Delayed u) t w h e = h.0
+row_still v line r answered.NoNumber t w h e = h.0
 row_still v line r answered.NoMemory t w h e = h.0
 
 words_still : (v : LiveView) (line : Text) (us : List Text) (a : Answered) (t : Text) (w : LiveView) → WordsAnswered v line us a t w → Ends a → IsStill v t w
@@ -94,15 +121,22 @@ line_stop v line a t w h e =
     other k (inl d) = absurd (omega (arith, d.0))
     other k (inr d) = not_done v line a [] [] v v k e d.1
 
-ends_wanting : (w : LiveView) (text : Text) (most : ℕ) (after : Text) (done : List Text) (used : ℕ) (a : Answered) (line : Text) (more : List Text) → a ≡ answered.NoMemory → lines text ≡ done ++ line ∷ more → lines (drop used text) ≡ line ∷ more → IsStop w line a → EndsAs w text most after done used (ended.Stopped a)
-ends_wanting w text most after done used a line more is whole behind stop =
-    subst (λ (x : Answered). EndsAs w text most after done used (ended.Stopped x)) (sym is) (line, more, whole, behind, subst (IsStop w line) is stop)
+ends_wanting : (w : LiveView) (text : Text) (most : ℕ) (after : Text) (done : List Text) (used : ℕ) (a : Answered) (line : Text) (more : List Text) → EndsUnused a → lines text ≡ done ++ line ∷ more → lines (drop used text) ≡ line ∷ more → IsStop w line a → EndsAs w text most after done used (ended.Stopped a)
+ends_wanting w text most after done used answered.Served line more e whole behind stop = absurd e
+ends_wanting w text most after done used answered.Nothing line more e whole behind stop = absurd e
+ends_wanting w text most after done used (answered.Refused x) line more e whole behind stop = absurd e
+ends_wanting w text most after done used answered.TooManyNames line more e whole behind stop = absurd e
+ends_wanting w text most after done used (answered.Delayed u) line more e whole behind stop = (line, more, whole, behind, stop)
+ends_wanting w text most after done used answered.NoNumber line more e whole behind stop = (line, more, whole, behind, stop)
+ends_wanting w text most after done used answered.NoMemory line more e whole behind stop = (line, more, whole, behind, stop)
 
 ends_refused : (w : LiveView) (text : Text) (most : ℕ) (after : Text) (done : List Text) (used : ℕ) (a : Answered) (line : Text) (more : List Text) → EndsUsed a → lines text ≡ done ++ line ∷ more → lines (drop used text) ≡ more → IsStop w line a → EndsAs w text most after done used (ended.Stopped a)
 ends_refused w text most after done used answered.Served line more e whole behind stop = absurd e
 ends_refused w text most after done used answered.Nothing line more e whole behind stop = absurd e
 ends_refused w text most after done used (answered.Refused x) line more e whole behind stop = (line, more, whole, behind, stop)
 ends_refused w text most after done used answered.TooManyNames line more e whole behind stop = (line, more, whole, behind, stop)
+ends_refused w text most after done used (answered.Delayed u) line more e whole behind stop = absurd e
+ends_refused w text most after done used answered.NoNumber line more e whole behind stop = absurd e
 ends_refused w text most after done used answered.NoMemory line more e whole behind stop = absurd e
 
 none_some : (n : ℕ) → ◌≡◌ {A = Option ℕ} None (Some n) → ⊥
@@ -117,6 +151,8 @@ goes_on v line answered.Served t w at behind e h = inl (refl, h)
 goes_on v line answered.Nothing t w at behind e h = inr (refl, h)
 goes_on v line (answered.Refused x) t w at behind e h = absurd (some_none behind e)
 goes_on v line answered.TooManyNames t w at behind e h = absurd (some_none behind e)
+goes_on v line (answered.Delayed u) t w at behind e h = absurd (some_none at e)
+goes_on v line answered.NoNumber t w at behind e h = absurd (some_none at e)
 goes_on v line answered.NoMemory t w at behind e h = absurd (some_none at e)
 
 -- ---- many
@@ -243,12 +279,12 @@ module _ (v : LiveView) (text : Text) (most : ℕ) (before : Text) (u : LiveView
             ends = ends;
           }))
 
-      -- memory ran out, and the line isn't used
-      when_wanting : (used : ℕ) → a ≡ answered.NoMemory → used ≡ length text - length rest → BatchAnswered v text most before (record { used = used; requests = n; ended = ended.Stopped a }) w more
-      when_wanting used wants at =
-          let stop : IsStop u line a = line_stop u line a s w d (subst Ends (sym wants) tt) in
-          ended_by (subst Ends (sym wants) tt) used
-          (ends_wanting u text most after h.done used a line (lines next) wants whole (ap lines (left_over used at) ∙ is) stop)
+      -- the line may be tried again, and isn't used
+      when_wanting : (used : ℕ) → EndsUnused a → used ≡ length text - length rest → BatchAnswered v text most before (record { used = used; requests = n; ended = ended.Stopped a }) w more
+      when_wanting used stops at =
+          let stop : IsStop u line a = line_stop u line a s w d (as_unused a stops) in
+          ended_by (as_unused a stops) used
+          (ends_wanting u text most after h.done used a line (lines next) stops whole (ap lines (left_over used at) ∙ is) stop)
 
       -- the line broke a rule, and is used
       when_refused : (used : ℕ) → EndsUsed a → used ≡ length text - length next → BatchAnswered v text most before (record { used = used; requests = n; ended = ended.Stopped a }) w more
@@ -268,4 +304,6 @@ module _ (v : LiveView) (text : Text) (most : ℕ) (before : Text) (u : LiveView
           go answered.Nothing p q = absurd (none_some used q)
           go (answered.Refused e) p q = when_refused used (subst EndsUsed (sym p) tt) (sym (same_Some behind used q) ∙ there)
           go answered.TooManyNames p q = when_refused used (subst EndsUsed (sym p) tt) (sym (same_Some behind used q) ∙ there)
-          go answered.NoMemory p q = when_wanting used p (sym (same_Some at used q) ∙ here)
+          go (answered.Delayed o) p q = when_wanting used (subst EndsUnused (sym p) tt) (sym (same_Some at used q) ∙ here)
+          go answered.NoNumber p q = when_wanting used (subst EndsUnused (sym p) tt) (sym (same_Some at used q) ∙ here)
+          go answered.NoMemory p q = when_wanting used (subst EndsUnused (sym p) tt) (sym (same_Some at used q) ∙ here)

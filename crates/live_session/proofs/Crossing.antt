@@ -44,7 +44,10 @@ use Rattle.declaration_insertion.proofs.facts.PointFacts.TheSendSync as point_fa
 use Rattle.session_values.specs.contracts.names.Names as names_row
 use Rattle.session_values.proofs.names.Names.TheSendSync as names
 use Rattle.session_journal.proofs.scratch.Scratch.TheSendSync as scratch
+use Rattle.driven_tickets.specs.contracts.open_tickets.OpenTickets as tickets_row
+use Rattle.driven_tickets.proofs.open_tickets.OpenTickets.TheSendSync as tickets
 use Rattle.live_session.proofs.history.History.TheSendSync as history
+use Rattle.live_session.proofs.arguments.Arguments.TheSendSync as arguments
 use Rattle.live_session.proofs.tables.LiveTables.TheSendSync as tables
 use Rattle.live_session.specs.contracts.session.LiveSession as live
 use Rattle.live_session.specs.contracts.session.LiveSession.TheInside as inside
@@ -133,8 +136,8 @@ live_send =
               (
                 tables.the_send,
                 (
-                  listed _ value.the_send,
-                  (scratch.the_send, (history.the_send, tt)),
+                  arguments.the_send,
+                  (scratch.the_send, (as_row_send tickets_row.the_field tickets.the_send, (history.the_send, tt))),
                 ),
               ),
             ),

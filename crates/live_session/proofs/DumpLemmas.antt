@@ -1,11 +1,9 @@
 -- The tables of a session can be written, and their text is the one that is asked.
 use Rattle.std.proofs.Common.{◌≡◌, ℕ, zero, suc, ◌+◌, ◌<◌, ◌≤◌, List, [], ◌∷◌, length, map, take, get_or, refl, sym, ◌∙◌, ap, subst, arith}
 use Rattle.std.specs.List.{AllByRecursion, flat_map}
-use Rattle.session_values.specs.Names.{Begins}
 use Rattle.session_values.specs.Tables.{Tables, kind_of}
 use Rattle.session_values.specs.declared.kind.TableKind.{TableKind}
 use Rattle.session_values.proofs.Lists.{same_head, same_tail}
-use Rattle.session_values.proofs.Named.{begins_same}
 use Rattle.opening_tables.specs.Opening.{AreApart, Pair, tables_of}
 use Rattle.handler_check.specs.Mentions.{file_mentions, handler_mentions, table_mentions}
 use Rattle.handler_check.specs.TableDecl.{TableDecl}
@@ -14,24 +12,17 @@ use Rattle.serve_faults.proofs.Facts.{all_first}
 use Rattle.serve_reading.proofs.TextsKept.{texts_kept}
 use Rattle.handler_check.proofs.Fine.{few_tables}
 use Rattle.handler_check.specs.Resolved.{shape_of}
-use Rattle.request_files.specs.Requests.{ArePrintable}
 use Rattle.serve_faults.specs.ReadBack.{texts_of}
-use Rattle.serve_faults.specs.TableRows.{ArePrintable as ArePrintableEntries}
 use Rattle.table_text.specs.TableText.{table_text, written_table}
-use Rattle.text_lines.specs.Text.{Text}
 use Rattle.shard_tables.specs.declared.part.Part.{Part}
 use Rattle.shard_tables.specs.Either.{entries_in}
 use Rattle.shard_tables.proofs.Either.{held_is}
 use Rattle.table_text.specs.Dumped.{CanDumpAll, CanDumpEach, dump_text}
 use Rattle.serve_faults.specs.Printable.{IsPrintableTable}
-use Rattle.serve_faults.proofs.PrintableRuns.{tables_hold}
 use Rattle.serve_faults.proofs.ToldEvents.{tables_named}
 use Rattle.live_session.specs.Held.{container_in, held, lists_in}
-use Rattle.live_session.specs.Live.{IsLive, LiveView, dump_of, requests_in, rows_in}
-use Rattle.live_session.proofs.Alone.{serial_tables}
+use Rattle.live_session.specs.Live.{IsLive, LiveView, dump_of}
 use Rattle.live_session.proofs.EntriesPrinted.{entries_printed}
-use Rattle.live_session.proofs.Lines.{lists_kept, requests_printable}
-use Rattle.live_session.proofs.Steps.{first_begins}
 
 -- the entries of tables of these kinds make them
 tables_whole : (shape : List TableKind) (ps : List Part) → map kind_of (held ps) ≡ shape → tables_of shape (lists_in ps) ≡ held ps
@@ -59,18 +50,10 @@ can_each names (t ∷ ts) (p ∷ ps) e apart print =
 
 module _ (v : LiveView) (live : IsLive v) (ps : List Part) (is : held ps ≡ v.tables) (kinds : map kind_of (held ps) ≡ shape_of v.file) where
   named : IsNamedFile v.names v.file
-  named = texts_kept v.first_names v.names (first_begins v live) (file_mentions v.file) live.named
-
-  entries : ArePrintableEntries v.names v.opened
-  entries = lists_kept v.first_names v.names v.opened (first_begins v live) live.printable
-
-  requests : ArePrintable v.names (requests_in v)
-  requests = requests_printable v.first_names v.first_names v.file (rows_in v) v.names (subst (λ (ns : List Text). Begins ns v.names) live.names_are (begins_same v.names))
+  named = texts_kept v.first_names v.names live.begins (file_mentions v.file) live.named
 
   tables_print : AllByRecursion (IsPrintableTable v.names) (held ps)
-  tables_print =
-      subst (AllByRecursion (IsPrintableTable v.names)) (sym (is ∙ serial_tables v.file v.opened (requests_in v) v.replies v.tables live.served))
-      (tables_hold v.names v.file v.opened (requests_in v) named entries requests (length (requests_in v)))
+  tables_print = subst (AllByRecursion (IsPrintableTable v.names)) (sym is) live.prints
 
   -- the tables can be written
   pub can_write : AllByRecursion AreApart (lists_in ps) → CanDumpAll v.names v.file.tables (lists_in ps)

@@ -8,19 +8,18 @@ use Rattle.handler_check.specs.File.{File}
 use Rattle.handler_check.specs.Resolved.{shape_of}
 use Rattle.text_lines.specs.Rows.{Row}
 use Rattle.text_lines.specs.Text.{Text}
-use Rattle.request_files.specs.Requests.{AreKnown}
+use Rattle.request_files.specs.Requests.{AreKnown, request_of}
 use Rattle.request_files.proofs.RowLemmas.{known_kept}
 use Rattle.shard_tables.specs.declared.part.Part.{Part}
 use Rattle.live_session.specs.declared.answers.Answered.{Answered}
 use Rattle.live_session.specs.declared.answers.Answered.TheVariants as answered
-use Rattle.live_session.specs.Accepting.{IsDeclined}
+use Rattle.live_session.specs.Accepting.{IsTurnedAway}
 use Rattle.live_session.specs.Answers.{IsAnswered, RowAnswered}
 use Rattle.live_session.specs.Held.{AreAdds, container_in, held}
-use Rattle.live_session.specs.Live.{IsKept, IsLive, LiveView}
-use Rattle.live_session.proofs.Steps.{first_begins}
+use Rattle.live_session.specs.Live.{IsKept, IsLive, LiveView, program_in}
 
 pub known_now : (v : LiveView) → IsLive v → AreKnown v.names v.file
-known_now v live = known_kept v.first_names v.names v.file (first_begins v live) live.known
+known_now v live = known_kept v.first_names v.names v.file live.begins live.known
 
 -- names and tables that are as they were leave all as it was
 pub still : (v : LiveView) (names : List Text) (ts : Tables) → names ≡ v.names → ts ≡ v.tables → record v { names = names; tables = ts } ≡ v
@@ -46,11 +45,14 @@ module _ (f : File) (most : ℕ) (adds : List (List ℕ)) (ps qs : List Part) (r
   kept_held e = kept_kinds (ap (map kind_of) e ∙ k.kinds)
 
 -- why a row wasn't accepted is what it is answered
-pub declined : (v w : LiveView) (line : Text) (r : Row) (a : Answered) → w ≡ v → IsDeclined v.file v.names v.most_names r a → RowAnswered v line r a [] w
+pub declined : (v w : LiveView) (line : Text) (r : Row) (a : Answered) → w ≡ v → IsTurnedAway (program_in v) v.tickets v.names v.most_names r a → RowAnswered v line r a [] w
+unfolding request_of
 declined v w line r answered.Served e h = absurd h
 declined v w line r answered.Nothing e h = absurd h
 declined v w line r (answered.Refused why) e h = ((e, refl), h)
 declined v w line r answered.TooManyNames e h = ((e, refl), h.0, h.1)
+declined v w line r (answered.Delayed u) e h = ((e, refl), h.0, h.1)
+declined v w line r answered.NoNumber e h = ((e, refl), h.0, h.1, h.2)
 declined v w line r answered.NoMemory e h = ((e, refl), h.0, h.1)
 
 -- nothing was written

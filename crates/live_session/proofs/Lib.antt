@@ -1,6 +1,7 @@
 pub mod Alone
 pub mod Batching
 pub mod Crossing
+pub mod DrivenActs
 pub mod DumpLemmas
 pub mod EntriesPrinted
 pub mod Faults
@@ -12,6 +13,7 @@ pub mod OpenLemmas
 pub mod Reading
 pub mod Room
 pub mod Runs
+pub mod Said
 pub mod Seeds
 pub mod Steps
 pub mod Whole

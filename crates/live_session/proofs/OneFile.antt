@@ -13,7 +13,7 @@ use Rattle.serve_faults.specs.ReadBack.{texts_of}
 use Rattle.table_text.specs.TableText.{table_text, written_table}
 use Rattle.serve_faults.specs.Input.{Parts}
 use Rattle.serve_faults.specs.Session.{all_names_of, replies_text, requests_of, rows_of, session_of_parts, tables_text}
-use Rattle.live_session.specs.Live.{IsLive, IsOneFile, LiveView, dump_of, requests_in, session_in}
+use Rattle.live_session.specs.Live.{IsLive, IsOneFile, IsUndriven, LiveView, dump_of, requests_in, session_in}
 use Rattle.live_session.proofs.Alone.{serial_answers, serial_tables}
 use Rattle.live_session.proofs.Lines.{behind_from, rows_from}
 
@@ -22,12 +22,12 @@ unnumbered : (first names : List Text) (f : File) (n m : ℕ) (w : Text) (ws : L
 unfolding request_of
 unnumbered first names f n m w ws = refl
 
-module _ (v : LiveView) (live : IsLive v) where
+module _ (v : LiveView) (live : IsLive v) (alone : IsUndriven v) where
   pub answers_are : v.replies ≡ serial_replies (session_in v) (session_in v).requests
-  answers_are = serial_answers v.file v.opened (requests_in v) v.replies v.tables live.served
+  answers_are = serial_answers v.file v.opened (requests_in v) v.replies v.tables (live.served alone)
 
   pub tables_are : v.tables ≡ tables_before (session_in v) (session_in v).requests
-  tables_are = serial_tables v.file v.opened (requests_in v) v.replies v.tables live.served
+  tables_are = serial_tables v.file v.opened (requests_in v) v.replies v.tables (live.served alone)
 
   module _ (parts : Parts) (one : IsOneFile v parts) where
     rows_same : rows_of parts ≡ rows parts.first v.lines
@@ -36,7 +36,7 @@ module _ (v : LiveView) (live : IsLive v) where
     names_same : all_names_of parts ≡ v.names
     names_same =
         ap (λ (ns : List Text). names_behind ns (rows_of parts)) one.names_are ∙ ap (names_behind v.first_names) rows_same
-        ∙ behind_from v.first_names parts.first 0 v.lines ∙ sym live.names_are
+        ∙ behind_from v.first_names parts.first 0 v.lines ∙ sym (live.names_are alone)
 
     requests_same : requests_of parts v.file ≡ requests_in v
     requests_same =

@@ -1,6 +1,9 @@
 -- A row that was accepted and whose handler has run, and its reply's line.
 use Rattle.std.proofs.Common.{◌≡◌, ℕ, ◌≤◌, List, [], ◌∷◌, ◌++◌, length, drop, Some, refl, subst, arith, length-append}
 use Rattle.std.specs.Fmt.{decimal}
+use Rattle.std.specs.List.{AllByRecursion}
+use Rattle.session_values.specs.Dialogue.{Entry}
+use Rattle.session_values.specs.Values.{IsValue}
 use Rattle.std.proofs.lemmas.Fmt.{decimal_nonempty, length-decimal-le_succ}
 use Rattle.session_values.specs.Reply.{values_of}
 use Rattle.session_values.specs.ReplyText.{line_text, values_text}
@@ -16,28 +19,32 @@ use Rattle.text_lines.specs.Rows.{row_of}
 use Rattle.text_lines.specs.Text.{Text}
 use Rattle.live_session.specs.Accepting.{IsAccepted}
 use Rattle.live_session.specs.Answers.{reply_line}
-use Rattle.live_session.specs.Live.{LiveView}
+use Rattle.live_session.specs.Entries.{IsAdmitted}
+use Rattle.live_session.specs.Live.{LiveView, program_in}
 
--- the row is accepted, and its handler run alone from the session's tables gives this reply and those
--- tables
+-- the row is accepted and let run, and its handler run alone from the session's tables gives this
+-- reply and those tables
 pub record Ran (v : LiveView) (name : Text) (ws : List Text) (new : List Text) (vals : List Value) (h : ℕ) (reply : Reply) (after : Tables) : Type 0 where
   pub ok : IsAccepted v.file v.names v.most_names (row_of 0 name ws) new vals h
+  pub admitted : IsAdmitted (program_in v) v.tickets h vals
   pub answer : (serve (calls_bound (code_at v.file h)) (next (code_at v.file h) (env_of vals)) v.tables).answer ≡ Some reply
   pub left : after ≡ (serve (calls_bound (code_at v.file h)) (next (code_at v.file h) (env_of vals)) v.tables).after
+  pub values : AllByRecursion (λ (e : Entry). IsValue e.reply) (serve (calls_bound (code_at v.file h)) (next (code_at v.file h) (env_of vals)) v.tables).entries
 
 module _ (v : LiveView) (name : Text) (ws : List Text) (new : List Text) (vals : List Value) (h : ℕ) (reply : Reply) (after : Tables) where
-  abbrev Answer : File → List Value → Tables → Type 0
-  Answer f vs ts = (serve (calls_bound (code_at f h)) (next (code_at f h) (env_of vs)) ts).answer ≡ Some reply
+  -- what is known of its run, over a file, arguments and tables that are the session's
+  record Run (f : File) (vs : List Value) (ts : Tables) : Type 0 where
+    answer : (serve (calls_bound (code_at f h)) (next (code_at f h) (env_of vs)) ts).answer ≡ Some reply
+    left : after ≡ (serve (calls_bound (code_at f h)) (next (code_at f h) (env_of vs)) ts).after
+    values : AllByRecursion (λ (e : Entry). IsValue e.reply) (serve (calls_bound (code_at f h)) (next (code_at f h) (env_of vs)) ts).entries
 
-  abbrev Left : File → List Value → Tables → Type 0
-  Left f vs ts = after ≡ (serve (calls_bound (code_at f h)) (next (code_at f h) (env_of vs)) ts).after
-
-  pub ran : (f g : File) (vs : List Value) (ts : Tables) → f ≡ v.file → g ≡ v.file → vs ≡ vals → ts ≡ v.tables → IsAccepted f v.names v.most_names (row_of 0 name ws) new vals h → Answer g vs ts → Left g vs ts → Ran v name ws new vals h reply after
-  ran f g vs ts ef eg ev et ok answer left = record {
-    ok = subst (λ (x : File). IsAccepted x v.names v.most_names (row_of 0 name ws) new vals h) ef ok;
-    answer = subst (λ (x : File). Answer x vals v.tables) eg (subst (λ (x : List Value). Answer g x v.tables) ev (subst (λ (x : Tables). Answer g vs x) et answer));
-    left = subst (λ (x : File). Left x vals v.tables) eg (subst (λ (x : List Value). Left g x v.tables) ev (subst (λ (x : Tables). Left g vs x) et left));
-  }
+  pub ran : (f : File) (vs : List Value) (ts : Tables) → f ≡ v.file → vs ≡ vals → ts ≡ v.tables → IsAccepted v.file v.names v.most_names (row_of 0 name ws) new vals h → IsAdmitted (program_in v) v.tickets h vals
+      → (serve (calls_bound (code_at f h)) (next (code_at f h) (env_of vs)) ts).answer ≡ Some reply → after ≡ (serve (calls_bound (code_at f h)) (next (code_at f h) (env_of vs)) ts).after
+      → AllByRecursion (λ (e : Entry). IsValue e.reply) (serve (calls_bound (code_at f h)) (next (code_at f h) (env_of vs)) ts).entries → Ran v name ws new vals h reply after
+  ran f vs ts ef ev et ok admitted answer left values =
+      let here : Run f vs ts = record { answer = answer; left = left; values = values } in
+      let run : Run v.file vals v.tables = subst (λ (x : File). Run x vals v.tables) ef (subst (λ (x : List Value). Run f x v.tables) ev (subst (λ (x : Tables). Run f vs x) et here)) in
+      record { ok = ok; admitted = admitted; answer = run.answer; left = run.left; values = run.values }
 
 -- ---- the line of a reply, from that of ticket 0
 one_digit : length (decimal 0) ≡ 1

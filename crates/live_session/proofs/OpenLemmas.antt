@@ -27,6 +27,10 @@ use Rattle.serve_reading.specs.declared.unserved.Unserved.TheVariants as unserve
 use Rattle.serve_reading.specs.Reasons.{IsInputReason}
 use Rattle.serve_reading.specs.Sessions.{IsLoaded, IsSessionInput}
 use Rattle.serve_reading.proofs.Loading.{as_program}
+use Rattle.session_values.proofs.Named.{begins_same}
+use Rattle.serve_faults.proofs.PrintableTables.{opening_holds}
+use Rattle.declaration_insertion.specs.Program.{IsProgram}
+use Rattle.driven_tickets.specs.Desk.{TicketsView}
 use Rattle.live_session.specs.declared.history.History.{History}
 use Rattle.live_session.specs.declared.opening.OpenError.{OpenError}
 use Rattle.live_session.specs.declared.opening.OpenError.TheVariants as unopened
@@ -37,46 +41,58 @@ use Rattle.live_session.specs.Served.{AreServed, line_fault}
 use Rattle.live_session.proofs.Lines.{handlers_known}
 
 -- ---- no line was served
-first_live : (l : Loaded) (most : ℕ) → CanOpen l most → IsLive (first_view l most)
-first_live l most can =
+first_live : (l : Loaded) (most : ℕ) → IsProgram l.program → CanOpen l most → IsLive (first_view l most)
+first_live l most program can =
     let v : LiveView = first_view l most in
     let none : rows 0 [] ≡ [] = rows_nil 0 in
     record {
+      program = program;
       accepted = can.accepted;
       opens = can.opens;
       named = can.named;
       known = can.known;
       printable = can.printable;
       fine = subst (λ (rs : List Row). AllByRecursion (λ (r : Row). line_fault l.names l.program.file r ≡ None) rs) (sym none) tt;
-      names_are = sym (ap (names_behind l.names) none ∙ behind_nil l.names);
+      begins = begins_same l.names;
       few = can.few;
-      served = subst (λ (rs : List Row). AreServed l.program.file v.tables (map (request_of l.names l.names l.program.file) rs) [] v.tables) (sym none) refl;
+      prints = opening_holds l.names (shape_of l.program.file) l.opening can.printable;
+      desk = record { ascending = omega arith; run = refl };
+      names_are = λ alone. sym (ap (names_behind l.names) none ∙ behind_nil l.names);
+      served = λ alone. subst (λ (rs : List Row). AreServed l.program.file v.tables (map (request_of l.names l.names l.program.file) rs) [] v.tables) (sym none) refl;
     }
 
 -- a history that begins
 abbrev begun : Loaded → List Text → History
-begun l names = record { opened = l.opening; first_names = names; lines = []; replies = [] }
+begun l names = record { opened = l.opening; first_names = names; driven = 0; lines = []; replies = [] }
+
+-- no ticket was open yet
+abbrev none_open : TicketsView
+none_open = record { next = 0; tickets = []; acts = [] }
 
 -- what is seen of a session over this file, with this history
-abbrev seen : Loaded → ℕ → List Text → Tables → History → LiveView
-seen l most names ts h = record {
+abbrev seen : Loaded → ℕ → List Text → Tables → TicketsView → History → LiveView
+seen l most names ts k h = record {
   file = l.program.file;
+  lists = l.program.lists;
   opened = h.opened;
   first_names = h.first_names;
   most_names = most;
   names = names;
   tables = ts;
+  tickets = k;
+  driven = h.driven;
   lines = h.lines;
   replies = h.replies;
 }
 
 -- the same names, tables as they open and a history that begins are seen so
-pub live_made : (l : Loaded) (most : ℕ) → CanOpen l most → (names : List Text) (ts : Tables) (h : History) → names ≡ l.names → ts ≡ tables_of (shape_of l.program.file) l.opening → h ≡ begun l names → IsLive (seen l most names ts h)
-live_made l most can names ts h same is begins =
-    let first : IsLive (seen l most names (tables_of (shape_of l.program.file) l.opening) (begun l names)) =
-    subst (λ (ns : List Text). IsLive (seen l most ns (tables_of (shape_of l.program.file) l.opening) (begun l ns))) (sym same) (first_live l most can) in
-    let filled : IsLive (seen l most names ts (begun l names)) = subst (λ (us : Tables). IsLive (seen l most names us (begun l names))) (sym is) first in
-    subst (λ (x : History). IsLive (seen l most names ts x)) (sym begins) filled
+pub live_made : (l : Loaded) (most : ℕ) → IsProgram l.program → CanOpen l most → (names : List Text) (ts : Tables) (k : TicketsView) (h : History) → names ≡ l.names → ts ≡ tables_of (shape_of l.program.file) l.opening → k ≡ none_open → h ≡ begun l names → IsLive (seen l most names ts k h)
+live_made l most program can names ts k h same is none begins =
+    let first : IsLive (seen l most names (tables_of (shape_of l.program.file) l.opening) none_open (begun l names)) =
+    subst (λ (ns : List Text). IsLive (seen l most ns (tables_of (shape_of l.program.file) l.opening) none_open (begun l ns))) (sym same) (first_live l most program can) in
+    let filled : IsLive (seen l most names ts none_open (begun l names)) = subst (λ (us : Tables). IsLive (seen l most names us none_open (begun l names))) (sym is) first in
+    let empty : IsLive (seen l most names ts k (begun l names)) = subst (λ (x : TicketsView). IsLive (seen l most names ts x (begun l names))) (sym none) filled in
+    subst (λ (x : History). IsLive (seen l most names ts k x)) (sym begins) empty
 
 -- ---- what is made of what was loaded
 module _ (l : Loaded) (most : ℕ) (can : CanOpen l most) where
@@ -149,6 +165,8 @@ module _ (text : Text) (l : Loaded) (input : IsSessionInput text) (is : IsLoaded
         names_are = refl;
         most_is = refl;
         tables_are = refl;
+        no_tickets = refl;
+        none_driven = refl;
         no_lines = refl;
         no_replies = refl;
       })

@@ -52,12 +52,12 @@ room_before (x ∷ ps) zero t new l = absurd (omega (arith, l))
 room_before (x ∷ ps) (suc i) zero new l = refl
 room_before (x ∷ ps) (suc i) (suc t) new l = room_before ps i t new (omega (arith, l))
 
-room_here : (ps : List Part) (i : ℕ) (new : Part) → i < length ps → room_at (set ps i new) i ≡ (shard_view new).room
+pub room_here : (ps : List Part) (i : ℕ) (new : Part) → i < length ps → room_at (set ps i new) i ≡ (shard_view new).room
 room_here [] i new l = absurd (omega (arith, l))
 room_here (x ∷ ps) zero new l = refl
 room_here (x ∷ ps) (suc i) new l = room_here ps i new (omega (arith, l))
 
-table_here : (ps : List Part) (i : ℕ) (new : Part) → i < length ps → table (held (set ps i new)) i ≡ container_in new
+pub table_here : (ps : List Part) (i : ℕ) (new : Part) → i < length ps → table (held (set ps i new)) i ≡ container_in new
 table_here [] i new l = absurd (omega (arith, l))
 table_here (x ∷ ps) zero new l = refl
 table_here (x ∷ ps) (suc i) new l = table_here ps i new (omega (arith, l))

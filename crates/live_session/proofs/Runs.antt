@@ -1,6 +1,8 @@
 -- A handler that runs on tables with room for all keys that it may add runs as it does alone.
-use Rattle.std.proofs.Common.{◌≡◌, ℕ, ◌+◌, ◌<◌, ◌≤◌, ◌==◌, ◌&&◌, Bool, true, false, if◌then◌else◌, List, [], ◌∷◌, length, Some, refl, sym, ◌∙◌, ap, subst, arith}
+use Rattle.std.proofs.Common.{◌≡◌, ℕ, ◌+◌, ◌<◌, ◌≤◌, ◌==◌, ◌&&◌, Bool, true, false, if◌then◌else◌, List, [], ◌∷◌, ◌++◌, length, Some, refl, sym, ◌∙◌, ap, subst, append-nil, arith}
 use Rattle.std.proofs.lemmas.List.{length-map}
+use Rattle.std.specs.List.{AllByRecursion}
+use Rattle.session_values.specs.Values.{IsValue}
 use Rattle.session_values.specs.declared.reply.Reply.{Reply}
 use Rattle.session_values.specs.Dialogue.{Entry}
 use Rattle.session_values.specs.Kinds.{is_adding}
@@ -65,13 +67,23 @@ steps_done (e ∷ es) a b s h =
     let P : Tables → Type 0 = λ ts. Replays ts es in
     ((sym one.0, subst P one.1 more.0), more.1 ∙ ap (λ (ts : Tables). run ts es) one.1)
 
+-- a program can hold each reply
+steps_held : (es : List Entry) (a b : LiveTables) → Steps LiveStep a es b → AllByRecursion (λ (e : Entry). IsValue e.reply) es
+steps_held [] a b s = tt
+steps_held (e ∷ es) a b s = (s.1.2, steps_held es s.0 b s.2)
+
 -- a whole run is that of the handler alone
 pub served_whole : (code : Code) (env : Env) (a b : LiveTables) (r : Reply) → Runs LiveStep (next code env) a b r → HaveRoomFor code (parts a)
     → ((serve (calls_bound code) (next code env) (held (parts a))).answer ≡ Some r) × (held (parts b) ≡ (serve (calls_bound code) (next code env) (held (parts a))).after)
+    × AllByRecursion (λ (e : Entry). IsValue e.reply) (serve (calls_bound code) (next code env) (held (parts a))).entries
 served_whole code env a b r runs room =
     let ts : Tables = held (parts a) in
     let fits : Fits a runs.entries = λ t low. let few = counted (adding t) code env runs.entries runs.follows in omega (arith, room t low, few) in
     let done = steps_done runs.entries a b runs.steps fits in
     let g : GoesOn (calls_bound code) (next code env) ts runs.entries = goes_on (calls_bound code) (next code env) ts runs.entries (ends_by code env) runs.follows done.0 in
     let whole = g.answered r runs.answers in
-    (whole.1, done.1 ∙ sym (g.after ∙ ap (run (run ts runs.entries)) whole.0))
+    let all : (serve (calls_bound code) (next code env) ts).entries ≡ runs.entries = g.entries ∙ ap (λ (more : List Entry). runs.entries ++ more) whole.0 ∙ append-nil runs.entries in (
+      whole.1,
+      done.1 ∙ sym (g.after ∙ ap (run (run ts runs.entries)) whole.0),
+      subst (AllByRecursion (λ (e : Entry). IsValue e.reply)) (sym all) (steps_held runs.entries a b runs.steps),
+    )

@@ -32,7 +32,7 @@ symbol_found names w i s at is =
     let same : place_of names w ≡ i = (choice (place_of names w) (length names) i _ refl at).0 in
     (value_by names w true s ∙ ap (λ (n : ℕ). Some (Sym n)) same, placed_by names w true s ∙ with_known names w (known_at w names i is))
 
-absent : (t : Text) (names : List Text) → length names ≤ place_of names t → list_any (bytes_eq t) names ≡ false
+pub absent : (t : Text) (names : List Text) → length names ≤ place_of names t → list_any (bytes_eq t) names ≡ false
 absent t [] h = refl
 absent t (x ∷ xs) h = go (bytes_eq t x) refl (absent t xs)
   where

@@ -34,6 +34,12 @@ EndsAs w text most after done used ended.Full =
 EndsAs w text most after done used (ended.Stopped answered.NoMemory) =
     (line : Text) × (more : List Text) × (lines text ≡ done ++ line ∷ more)
     × (lines (drop used text) ≡ line ∷ more) × IsStop w line answered.NoMemory
+EndsAs w text most after done used (ended.Stopped (answered.Delayed u)) =
+    (line : Text) × (more : List Text) × (lines text ≡ done ++ line ∷ more)
+    × (lines (drop used text) ≡ line ∷ more) × IsStop w line (answered.Delayed u)
+EndsAs w text most after done used (ended.Stopped answered.NoNumber) =
+    (line : Text) × (more : List Text) × (lines text ≡ done ++ line ∷ more)
+    × (lines (drop used text) ≡ line ∷ more) × IsStop w line answered.NoNumber
 EndsAs w text most after done used (ended.Stopped a) =
     (line : Text) × (more : List Text) × (lines text ≡ done ++ line ∷ more)
     × (lines (drop used text) ≡ more) × IsStop w line a
@@ -57,6 +63,8 @@ stop_at answered.Served at behind = None
 stop_at answered.Nothing at behind = None
 stop_at (answered.Refused e) at behind = Some behind
 stop_at answered.TooManyNames at behind = Some behind
+stop_at (answered.Delayed u) at behind = Some at
+stop_at answered.NoNumber at behind = Some at
 stop_at answered.NoMemory at behind = Some at
 
 -- how many requests a line with this answer served
@@ -65,4 +73,6 @@ count_of answered.Served = 1
 count_of answered.Nothing = 0
 count_of (answered.Refused e) = 0
 count_of answered.TooManyNames = 0
+count_of (answered.Delayed u) = 0
+count_of answered.NoNumber = 0
 count_of answered.NoMemory = 0

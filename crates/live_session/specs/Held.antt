@@ -3,6 +3,7 @@ use Rattle.std.specs.Prelude.{◌≡◌, ℕ, ◌+◌, ◌<◌, ◌≤◌, List,
 use Rattle.session_values.specs.declared.op.Op.{Op}
 use Rattle.session_values.specs.declared.value.Value.{Value}
 use Rattle.session_values.specs.Kinds.{is_adding}
+use Rattle.session_values.specs.Values.{IsValue}
 use Rattle.session_values.specs.Tables.{reply, size_of, step, table}
 use Rattle.opening_tables.specs.Opening.{Pair}
 use Rattle.session_values.specs.Limits.{max_calls}
@@ -36,11 +37,11 @@ HasRoom ps op = is_adding op.kind ≡ true → op.table < length ps
 abbrev pub IsDone : List Part → Op → Value → List Part → Type 0
 IsDone old op v new = (v ≡ reply (held old) op) × (held new ≡ step (held old) op)
 
--- it is done where it has room, and the rooms stay
+-- it is done where it has room, the rooms stay, and a program can hold the reply
 abbrev pub LiveStep : LiveTables → Op → Value → LiveTables → Type 0
 LiveStep old op v new =
     (HasRoom old.parts.items op → IsDone old.parts.items op v new.parts.items)
-    × (rooms new.parts.items ≡ rooms old.parts.items)
+    × (rooms new.parts.items ≡ rooms old.parts.items) × IsValue v
 
 -- each table has room for so many more keys
 abbrev pub HaveRoom : (ℕ → ℕ) → List Part → Type 0

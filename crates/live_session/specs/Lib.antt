@@ -1,8 +1,11 @@
 pub mod Accepting
 pub mod Answers
 pub mod Batches
+pub mod Driven
 pub mod Dumps
+pub mod Entries
 pub mod Held
 pub mod Live
+pub mod Naming
 pub mod Openings
 pub mod Served

@@ -2,6 +2,7 @@
 use Rattle.std.specs.Prelude.{◌≡◌, ℕ, ◌≤◌, List, length, map, None}
 use Rattle.std.specs.List.{AllByRecursion}
 use Rattle.session_values.specs.Limits.{max_variables}
+use Rattle.session_values.specs.Names.{Begins}
 use Rattle.session_values.specs.declared.reply.Reply.{Reply}
 use Rattle.session_values.specs.Serial.{Session}
 use Rattle.session_values.specs.Tables.{Tables, kind_of}
@@ -21,21 +22,41 @@ use Rattle.table_text.specs.TableText.{table_text, written_table}
 use Rattle.serve_faults.specs.Input.{Parts}
 use Rattle.serve_faults.specs.Session.{opened_of, opening_names_of}
 use Rattle.shard_tables.specs.declared.part.Part.{Part}
+use Rattle.symbolic_ops.specs.declared.symbol.Symbol.{Symbol}
+use Rattle.declaration_insertion.specs.Program.{IsProgram, ProgramView}
+use Rattle.driven_tickets.specs.Desk.{DeskView, IsDesk, TicketsView, desk_over}
+use Rattle.serve_faults.specs.Printable.{IsPrintableTable}
 use Rattle.live_session.specs.Held.{AreAdds, held}
 use Rattle.live_session.specs.Served.{AreServed, line_fault}
 
--- the handlers; the entries with which the tables opened and the names at that time; the most names
--- that there may be; the names and the tables now; and the lines that were served with their
--- replies, which no code reads
+-- the handlers, and what they declare at their points; the entries with which the tables opened and
+-- the names at that time; the most names that there may be; the names and the tables now; the open
+-- tickets; and, which no code reads, how many acts the program did itself, beside the lines, and the
+-- lines that were served with their replies
 pub record LiveView : Type 0 where
   pub file : File
+  pub lists : List (List (List Symbol))
   pub opened : List (List Pair)
   pub first_names : List Text
   pub most_names : ℕ
   pub names : List Text
   pub tables : Tables
+  pub tickets : TicketsView
+  pub driven : ℕ
   pub lines : List Text
   pub replies : List Reply
+
+-- the handlers with their declarations
+abbrev pub program_in : LiveView → ProgramView
+program_in v = record { file = v.file; lists = v.lists }
+
+-- the desk that the open tickets make over the tables
+abbrev pub desk_in : LiveView → DeskView
+desk_in v = desk_over (tables_of (shape_of v.file) v.opened) v.tables v.tickets
+
+-- the program did nothing itself: each ticket was that of a line, and each name was placed by one
+abbrev pub IsUndriven : LiveView → Type 0
+IsUndriven v = v.driven ≡ 0
 
 -- the rows of the lines that were served
 abbrev pub rows_in : LiveView → List Row
@@ -54,20 +75,26 @@ abbrev pub dump_of : LiveView → Text
 dump_of v = table_text (texts_of v.names v.file.tables) (map (written_table v.names) v.tables)
 
 -- what every session keeps: it was opened over a file that breaks no rule and entries for its
--- tables; no line that was served has a fault; the names are those at the opening and those of the
--- lines, and no more than there may be; and the requests were served one after another, each alone
--- from the tables that the one before left
+-- tables; no line that was served has a fault; the names begin with those at the opening, and are no
+-- more than there may be; each value of its tables can be printed; and all that was done, by lines
+-- and by tickets, is a run from the opening tables to what it holds. Where the program did nothing
+-- itself, the names are those at the opening and those of the lines, and the requests were served
+-- one after another, each alone from the tables that the one before left
 pub record IsLive (v : LiveView) : Type 0 where
+  pub program : IsProgram (program_in v)
   pub accepted : IsAccepted v.file
   pub opens : IsOpening (shape_of v.file) v.opened
   pub named : IsNamedFile v.first_names v.file
   pub known : AreKnown v.first_names v.file
   pub printable : ArePrintable v.first_names v.opened
   pub fine : AllByRecursion (λ (r : Row). line_fault v.first_names v.file r ≡ None) (rows_in v)
-  pub names_are : v.names ≡ names_behind v.first_names (rows_in v)
+  pub begins : Begins v.first_names v.names
   pub few : length v.names ≤ v.most_names
-  pub served : AreServed v.file (tables_of (shape_of v.file) v.opened) (requests_in v) v.replies
-      v.tables
+  pub prints : AllByRecursion (IsPrintableTable v.names) v.tables
+  pub desk : IsDesk (desk_in v)
+  pub names_are : IsUndriven v → v.names ≡ names_behind v.first_names (rows_in v)
+  pub served : IsUndriven v → AreServed v.file (tables_of (shape_of v.file) v.opened)
+      (requests_in v) v.replies v.tables
 
 -- these parts of a session file are those over which the session was opened, with the lines that it
 -- served

@@ -25,11 +25,14 @@ use Rattle.live_session.specs.Live.{LiveView}
 abbrev pub first_view : Loaded → ℕ → LiveView
 first_view l most = record {
   file = l.program.file;
+  lists = l.program.lists;
   opened = l.opening;
   first_names = l.names;
   most_names = most;
   names = l.names;
   tables = tables_of (shape_of l.program.file) l.opening;
+  tickets = record { next = 0; tickets = []; acts = [] };
+  driven = 0;
   lines = [];
   replies = [];
 }
@@ -45,6 +48,8 @@ pub record HasOpened (text : Text) (most : ℕ) (v : LiveView) : Type 0 where
   pub names_are : v.names ≡ v.first_names
   pub most_is : v.most_names ≡ most
   pub tables_are : v.tables ≡ tables_of (shape_of v.file) v.opened
+  pub no_tickets : v.tickets ≡ record { next = 0; tickets = []; acts = [] }
+  pub none_driven : v.driven ≡ 0
   pub no_lines : v.lines ≡ []
   pub no_replies : v.replies ≡ []
 

@@ -9,13 +9,17 @@ ghost use Rattle.text_lines.specs.Rows.{row_of};
 ghost use Rattle.text_lines.specs.Text.{words as words_of};
 ghost use Rattle.text_lines.specs.Values.{is_value, placed_all, values_of};
 ghost use Rattle.request_files.specs.Requests.{AreKnown, IsHandler};
-ghost use Rattle.live_session.specs.Accepting.{IsAccepted, IsDeclined, IsUnread};
+ghost use Rattle.live_session.specs.Accepting.{IsAccepted, IsDeclined, IsTurnedAway, IsUnread};
+ghost use Rattle.live_session.specs.Entries.{IsAdmitted};
 ghost use Rattle.live_session.specs.Held.{AreAdds, HaveRoomFor, held};
 
+use crate::admitting::admit;
 use crate::answers::{Answered, LineRefusal};
 use crate::arguments::{are_values, count, known_values, placed_values};
-use crate::growing::make_room_for;
+use declaration_insertion::Program;
+use driven_tickets::OpenTickets;
 use handler_check::Checked;
+use session_journal::Scratch;
 use session_values::{MAX_HANDLERS, Names, Value};
 use shard_tables::Part;
 use std::alloc::Global;
@@ -146,41 +150,51 @@ fn read_line(
 /// as they were and tables hold what they held.
 pub(crate) fn accept(
     alloc: Global,
-    checked: &Checked,
+    program: &Program,
     adds: &[[u32; MAX_HANDLERS]],
     name: &str,
     words: Line<'_>,
     names: &mut Names,
     most: u32,
     args: &mut Vec<Value>,
+    tickets: &OpenTickets,
+    scratch: &mut Scratch,
     parts: &mut Vec<Part>,
 ) -> Result<u32, Answered>
-    requires known { AreKnown names.old checked.now }
+    requires known { AreKnown names.old program.now.file }
     requires most { length names.old ≤ most }
     requires bound { most ≤ 4000000000 }
     requires room { max_variables ≤ vec_capacity args.old }
-    requires adds { AreAdds checked.now (length parts.old.items) adds.now }
-    ensures accepted { IfOk result (IsAccepted checked.now names.old most
+    requires adds { AreAdds program.now.file (length parts.old.items) adds.now }
+    ensures accepted { IfOk result (IsAccepted program.now.file names.old most
         (row_of 0 name.now (words_of words.entry.rest.now)) names.new args.new.items) }
-    ensures room { IfOk result (λ h. HaveRoomFor (code_at checked.now h) parts.new.items) }
-    ensures declined { IfErr result (IsDeclined checked.now names.old most
+    ensures admitted { IfOk result (λ h. IsAdmitted program.now tickets.now h args.new.items) }
+    ensures room { IfOk result (λ h. HaveRoomFor (code_at program.now.file h) parts.new.items) }
+    ensures turned_away { IfErr result (IsTurnedAway program.now tickets.now names.old most
         (row_of 0 name.now (words_of words.entry.rest.now))) }
     ensures same { OnErr result (names.new ≡ names.old) }
     ensures held { held parts.new.items ≡ held parts.old.items }
     ensures capacity { vec_capacity args.new ≡ vec_capacity args.old }
 {
-    // There are few handlers.
-    let _handlers = checked.handlers();
     let before = names.len();
-    let h = match read_line(checked, name, words, names, most, args) {
+    let h = match read_line(program.checked(), name, words, names, most, args) {
         Ok(h) => h,
         Err(why) => return Err(why),
     };
-    match make_room_for(alloc, adds, h, parts) {
+    match admit(
+        alloc,
+        program,
+        adds,
+        h,
+        args.as_slice(),
+        tickets,
+        scratch,
+        parts,
+    ) {
         Ok(()) => Ok(h),
-        Err(_) => {
+        Err(why) => {
             forget(names, before);
-            Err(Answered::NoMemory)
+            Err(why)
         }
     }
 }

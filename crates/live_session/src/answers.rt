@@ -33,6 +33,27 @@ pub enum Answered {
     Refused(LineRefusal),
     /// It breaks none, but with its symbols there would be more names than the session may have.
     TooManyNames,
+    /// What its handler declares doesn't commute with what an open ticket has declared.
+    Delayed {
+        /// The least such ticket.
+        older: u64,
+    },
+    /// All ticket numbers below 2^64 - 1 are used up.
+    NoNumber,
     /// Memory ran out.
+    NoMemory,
+}
+
+/// Why a text has no number among a session's names. Nothing changes.
+#[derive(Clone, Copy, Debug, PartialEq, Eq, Error)]
+pub enum NameError {
+    /// It is no symbol's text.
+    #[error("not a symbol")]
+    NoSymbol,
+    /// It is new, and there are as many names as the session may have.
+    #[error("too many names")]
+    TooManyNames,
+    /// It is new, and memory ran out.
+    #[error("no memory")]
     NoMemory,
 }

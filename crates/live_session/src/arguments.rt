@@ -9,6 +9,12 @@ ghost use Rattle.text_lines.specs.Values as value_spec;
 use session_values::{Names, NoMemory, Value};
 use text_lines::{Line, is_symbol, number, value};
 
+/// The arguments of a request, in room that is taken once.
+#[derive(Drop)]
+pub(crate) struct Arguments {
+    pub(crate) values: Vec<Value>,
+}
+
 /// The number of words that are left.
 pub(crate) fn count(mut words: Line<'_>) -> usize
     ensures { result ≡ length (words_of words.entry.rest.now) }

@@ -1,6 +1,6 @@
 // What was served by a session.
 
-ghost use Rattle.std.specs.Prelude.{◌≡◌, ℕ, List, [], ◌∷◌, ◌++◌};
+ghost use Rattle.std.specs.Prelude.{◌≡◌, ℕ, suc, List, [], ◌∷◌, ◌++◌};
 ghost use Rattle.session_values.specs.declared.reply.Reply.{Reply as Given};
 ghost use Rattle.opening_tables.specs.Opening.{Pair};
 
@@ -8,12 +8,14 @@ use opening_tables::Opening;
 use session_values::{Names, Reply};
 use std::marker::Model;
 
-/// What a session was opened with, and the lines that it has served with their replies. Only proofs
-/// read them: it takes no memory, and its calls do nothing when they run.
+/// What a session was opened with, how many acts the program did itself, and the lines that were
+/// served with their replies. Only proofs read them: it takes no memory, and its calls do nothing when
+/// they run.
 #[derive(Drop)]
 pub(crate) struct History {
     pub ghost opened: { List (List Pair) },
     pub ghost first_names: { List (List ℕ) },
+    pub ghost driven: { ℕ },
     pub ghost lines: { List (List ℕ) },
     pub ghost replies: { List Given },
 }
@@ -33,6 +35,7 @@ impl History {
         ensures { result ≡ record {
           opened = _opening.now;
           first_names = _names.now;
+          driven = 0;
           lines = [];
           replies = [];
         } }
@@ -45,8 +48,22 @@ impl History {
         ensures { result ≡ record {
           opened = self.now.opened;
           first_names = self.now.first_names;
+          driven = self.now.driven;
           lines = self.now.lines ++ line.now.now ∷ [];
           replies = self.now.replies ++ reply.now ∷ [];
+        } }
+    {
+        History {}
+    }
+
+    /// The program did an act itself.
+    pub(crate) fn drove(&self) -> History
+        ensures { result ≡ record {
+          opened = self.now.opened;
+          first_names = self.now.first_names;
+          driven = suc self.now.driven;
+          lines = self.now.lines;
+          replies = self.now.replies;
         } }
     {
         History {}

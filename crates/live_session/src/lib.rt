@@ -3,22 +3,27 @@
 #![tactic(auto)]
 
 mod accepting;
+mod acting;
 mod adds;
+mod admitting;
 mod answers;
 mod arguments;
 mod batch;
+mod driving;
 mod dumping;
 mod first_line;
 mod growing;
 mod history;
+mod laws;
 mod naming;
 mod opening;
+mod placing;
 mod reply_line;
 mod running;
 mod session;
 mod tables;
 
-pub use answers::{Answered, LineRefusal};
+pub use answers::{Answered, LineRefusal, NameError};
 pub use batch::{Batch, Ended};
 pub use dumping::Dumped;
 pub use opening::OpenError;

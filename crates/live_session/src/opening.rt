@@ -5,6 +5,7 @@ ghost use Rattle.session_values.specs.Limits.{max_input, max_tables};
 ghost use Rattle.session_values.specs.declared.kind.TableKind.{TableKind as AnyKind};
 ghost use Rattle.opening_tables.specs.Opening.{IsOpening, container_of, entries_of, tables_of};
 ghost use Rattle.shard_tables.specs.Whole.{container_in};
+ghost use Rattle.declaration_insertion.specs.Program.{IsProgram};
 ghost use Rattle.handler_check.specs.Resolved.{shape_of};
 ghost use Rattle.serve_faults.specs.Input.{parts_of};
 ghost use Rattle.serve_reading.specs.Sessions.{IsLoaded, IsSessionInput};
@@ -12,11 +13,13 @@ ghost use Rattle.live_session.specs.Held.{AreAdds, held};
 ghost use Rattle.live_session.specs.Openings.{CanOpen, HasOpened, IsMade, IsUnmade, IsUnopened, first_view, unopened_by};
 
 use crate::adds::adds_by_table;
+use crate::arguments::Arguments;
 use crate::growing::MOST_KEYS;
 use crate::history::History;
 use crate::naming::reseeded;
 use crate::session::LiveSession;
 use crate::tables::LiveTables;
+use driven_tickets::OpenTickets;
 use handler_check::Checked;
 use opening_tables::Opening;
 use serve_faults::Fault;
@@ -106,6 +109,7 @@ fn tables_and_adds(
         ≡ tables_of (shape_of loaded.now.program.file) loaded.now.opening) }
     ensures adds { IfOk result (λ p. AreAdds loaded.now.program.file
         (length (shape_of loaded.now.program.file)) p.1.items) }
+    ensures program { IsProgram loaded.now.program }
 {
     let checked = loaded.program.checked();
     let shape = shape_in(alloc, checked)?;
@@ -121,9 +125,10 @@ fn made(alloc: Global, loaded: Loaded, seed: u64, most_names: u32) -> Result<Liv
     ensures { IfOk result (λ s. s ≡ first_view loaded most_names) }
 {
     let (tables, adds) = tables_and_adds(alloc, &loaded, seed)?;
-    let args = Vec::with_capacity(alloc, MAX_VARIABLES)?;
+    let values = Vec::with_capacity(alloc, MAX_VARIABLES)?;
     let scratch = Scratch::new(alloc)?;
     let names = reseeded(alloc, &loaded.names, seed)?;
+    let tickets = OpenTickets::new(alloc);
     let history = History::opened(&names, &loaded.opening);
     Ok(LiveSession {
         alloc,
@@ -132,8 +137,9 @@ fn made(alloc: Global, loaded: Loaded, seed: u64, most_names: u32) -> Result<Liv
         most_names,
         names,
         tables,
-        args,
+        args: Arguments { values },
         scratch,
+        tickets,
         history,
     })
 }

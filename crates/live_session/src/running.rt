@@ -1,6 +1,9 @@
 // Running a handler.
 
 ghost use Rattle.std.specs.Prelude.{◌≡◌, ◌<◌, Some, length, map};
+ghost use Rattle.std.specs.List.{AllByRecursion};
+ghost use Rattle.session_values.specs.Dialogue.{Entry};
+ghost use Rattle.session_values.specs.Values.{IsValue};
 ghost use Rattle.session_values.specs.Serial.{serve};
 ghost use Rattle.session_values.specs.Tables.{kind_of};
 ghost use Rattle.handler_check.specs.Bounds.{calls_bound};
@@ -30,6 +33,9 @@ pub(crate) fn run_alone(
         (env_of args.now)) (held tables.old.parts.items)).answer ≡ Some result }
     ensures after { held tables.new.parts.items ≡ (serve (calls_bound (code_at checked.now h))
         (next (code_at checked.now h) (env_of args.now)) (held tables.old.parts.items)).after }
+    ensures values { AllByRecursion (λ (e : Entry). IsValue e.reply)
+        (serve (calls_bound (code_at checked.now h)) (next (code_at checked.now h)
+        (env_of args.now)) (held tables.old.parts.items)).entries }
     ensures shape { map kind_of (held tables.new.parts.items) ≡ shape_of checked.now }
 {
     match run_handler(checked, h, args, scratch, tables) {

@@ -7,16 +7,19 @@ ghost use Rattle.text_lines.specs.Text.{is_line_byte, words as words_of};
 ghost use Rattle.live_session.specs.Answers.{IsAnswered, LineAnswered, RowAnswered, TextAnswered};
 
 use crate::accepting::accept;
+use crate::acting::acts;
 use crate::answers::{Answered, LineRefusal};
+use crate::arguments::Arguments;
 use crate::first_line::{first_line, first_word};
 use crate::history::History;
 use crate::reply_line::push_reply;
 use crate::running::run_alone;
 use crate::tables::LiveTables;
+use driven_tickets::OpenTickets;
 use handler_machine::Program;
 use reply_sheet::TextRoom;
 use session_journal::Scratch;
-use session_values::{MAX_HANDLERS, MAX_INPUT, Names, Value};
+use session_values::{MAX_HANDLERS, MAX_INPUT, Names};
 use std::alloc::Global;
 use std::marker::Model;
 use text_lines::Line;
@@ -34,9 +37,11 @@ pub struct LiveSession {
     pub(crate) names: Names,
     pub(crate) tables: LiveTables,
     /// Room for the arguments of a request.
-    pub(crate) args: Vec<Value>,
-    /// Room for the variables of a handler.
+    pub(crate) args: Arguments,
+    /// Room for the variables of a handler, and for what it declares.
     pub(crate) scratch: Scratch,
+    /// The tickets that a program drives on the tables.
+    pub(crate) tickets: OpenTickets,
     /// What was served, for proofs alone.
     pub(crate) history: History,
 }
@@ -55,26 +60,32 @@ impl Model for LiveSession {
 
     ghost view = { λ s. record {
       file = s.program.file;
+      lists = s.program.lists;
       opened = s.history.opened;
       first_names = s.history.first_names;
       most_names = s.most_names;
       names = s.names;
       tables = held s.tables.parts.items;
+      tickets = s.tickets;
+      driven = s.history.driven;
       lines = s.history.lines;
       replies = s.history.replies;
     } };
 
     ghost invariant = { λ s. IsLive (record {
       file = s.program.file;
+      lists = s.program.lists;
       opened = s.history.opened;
       first_names = s.history.first_names;
       most_names = s.most_names;
       names = s.names;
       tables = held s.tables.parts.items;
+      tickets = s.tickets;
+      driven = s.history.driven;
       lines = s.history.lines;
       replies = s.history.replies;
     }) × IsKept s.program.file s.most_names s.adds.items s.tables.parts.items
-        (vec_capacity s.args) };
+        (vec_capacity s.args.values) };
 }
 
 impl LiveSession {
@@ -94,26 +105,31 @@ impl LiveSession {
     {
         let h = match accept(
             self.alloc,
-            self.program.checked(),
+            &self.program,
             self.adds.as_slice(),
             name,
             words,
             &mut self.names,
             self.most_names,
-            &mut self.args,
+            &mut self.args.values,
+            &self.tickets,
+            &mut self.scratch,
             &mut self.tables.parts,
         ) {
             Ok(h) => h,
             Err(why) => return why,
         };
+        let number = self.tickets.next();
+        let done = acts(&self.program, &number, &h, &self.args, &self.tables);
         let reply = run_alone(
             self.program.checked(),
             h,
-            self.args.as_slice(),
+            self.args.values.as_slice(),
             &mut self.scratch,
             &mut self.tables,
         );
         self.history = self.history.served(&line, &reply);
+        self.tickets.passed(&done);
         push_reply(&reply, &self.names, out);
         Answered::Served
     }
@@ -150,29 +166,5 @@ impl LiveSession {
             return Answered::Refused(LineRefusal::ManyLines);
         }
         self.serve_line(line, out)
-    }
-
-    ghost use Rattle.session_values.specs.ReplyText.{reply_text};
-    ghost use Rattle.session_values.specs.Serial.{serial_replies, tables_before};
-    ghost use Rattle.serve_faults.specs.Input.{Parts};
-    ghost use Rattle.serve_faults.specs.Session.{replies_text, tables_text};
-    ghost use Rattle.live_session.specs.Live.{IsLive, IsOneFile, dump_of, session_in};
-
-    /// What is known of every session, whatever calls were made: its replies and tables are those
-    /// of the serial run of one session, whose requests are the lines that it served; so what it
-    /// replied and what `dump` writes are what `serve` and `dump` write of one file with all these
-    /// lines.
-    pub fn answered_as_served(&self)
-        ensures live { IsLive self.now }
-        ensures replies { self.now.replies
-            ≡ serial_replies (session_in self.now) (session_in self.now).requests }
-        ensures tables { self.now.tables
-            ≡ tables_before (session_in self.now) (session_in self.now).requests }
-        ensures text { (parts : Parts) → IsOneFile self.now parts
-            → replies_text parts self.now.file ≡ reply_text self.now.names 0 self.now.replies }
-        ensures dump { (parts : Parts) → IsOneFile self.now parts
-            → tables_text parts self.now.file ≡ dump_of self.now }
-    {
-        let _ = &self.most_names;
     }
 }

@@ -29,7 +29,10 @@ impl Answerer for LiveTables {
         if !self.parts[table].has_room(op.kind) {
             return Ok(Value::Nil);
         }
-        Ok(self.parts[table].apply(op))
+        let reply = self.parts[table].apply(op);
+        // A program holds it.
+        reply.bounds();
+        Ok(reply)
     }
 }
 

@@ -11,6 +11,6 @@ tables_and_adds-requires-clause-few c = few_kinds c.args.loaded c.args.most_name
 
 pub invariant_of-result : goal.invariant_of-result
 invariant_of-result c = (
-  live_made c.args.loaded c.args.most_names c.requires.can c.in_ok-names.names (held c.in_ok-tables.tables.parts.items) c.opened-history.result c.in_ok-names.ensures c.in_ok-tables.ensures.held c.opened-history.ensures,
-  kept c.args.loaded c.args.most_names c.requires.can c.in_ok-tables.adds.items c.in_ok-tables.tables.parts.items (vec_capacity c.in_ok-args.args) c.in_ok-tables.ensures.adds c.in_ok-tables.ensures.held (omega (arith, c.in_ok-args.ensures.capacity)) c.requires.bound,
+  live_made c.args.loaded c.args.most_names c.tables_and_adds.ensures.program c.requires.can c.in_ok-names.names (held c.in_ok-tables.tables.parts.items) c.new-tickets.result c.opened-history.result c.in_ok-names.ensures c.in_ok-tables.ensures.held c.new-tickets.ensures c.opened-history.ensures,
+  kept c.args.loaded c.args.most_names c.requires.can c.in_ok-tables.adds.items c.in_ok-tables.tables.parts.items (vec_capacity c.in_ok-values.values) c.in_ok-tables.ensures.adds c.in_ok-tables.ensures.held (omega (arith, c.in_ok-values.ensures.capacity)) c.requires.bound,
 )

@@ -10,3 +10,7 @@ returns-clause-answer c =
 pub returns-clause-after : goal.returns-clause-after
 returns-clause-after c =
     (served_whole (code_at c.args.checked.now c.args.h) (env_of c.args.args.now) c.args.tables.now c.run_handler.new.who c.in-Ok.reply c.in-Ok.ensures.runs c.requires.room).1
+
+pub returns-clause-values : goal.returns-clause-values
+returns-clause-values c =
+    (served_whole (code_at c.args.checked.now c.args.h) (env_of c.args.args.now) c.args.tables.now c.run_handler.new.who c.in-Ok.reply c.in-Ok.ensures.runs c.requires.room).2

@@ -46,7 +46,7 @@ module _ {M : Type 1} {𝓤 : Ura M} (𝓛 : Logic 𝓤) (at_mem : Memory → SP
   walk z =
       let a = z.0.3 in
       let vss = z.0.4 in
-      let made : History.the_row.Denot = record { opening = a.0.now.opening; acts = a.0.now.acts ++ Ends a.1.0.now ∷ [] } in
+      let made : History.the_row.Denot = record { acts = a.0.now.acts ++ Ends a.1.0.now ∷ [] } in
       let p0 = vptr a.0.ref_ptr.0 a.0.ref_ptr.1 in
       let p1 = vptr a.1.0.ref_ptr.0 a.1.0.ref_ptr.1 in
       qed 𝓛 ((raw (alive 𝓛 F.ended.signature z.0.0 z.0.1) ⊛ ‵ (owns (types_at F.ended.signature.params z.0.0) a vss)) ∷ raw ((held z.0.0 a).requires z.1) ∷ []) ∵

@@ -24,7 +24,7 @@ use denote.Triple.Entry.{alive}
 use denote.Triple.Spec.{triple_of}
 use denote.Triple.Table.{entered}
 use denote.Triple.Walked.{says, Stays, stay_dropped, walk_of, ends_at, walk_Meets, Goes-dropped}
-use Rattle.driven_tickets.specs.contracts.desk_tables.DeskTables as DeskTables
+use denote.Builtin.{u64}
 use Rattle.driven_tickets.specs.contracts.history.History as History
 use Rattle.driven_tickets.specs.contracts.history.History.opened as F
 use Rattle.driven_tickets.specs.contracts.history.History.opened.Key.{name as #self}
@@ -33,7 +33,7 @@ use Rattle.driven_tickets.proofs.history.History.opened.Statement as stated
 use Rattle.driven_tickets.proofs.history.History.opened.Code as code
 
 abbrev stayed : Stays F.ended.signature.params F.ended.kept
-stayed = (stay_dropped (RefOf (0 ∷ []) tt (plain (λ _. DeskTables.the_row)) (λ _. tt)) yes, tt)
+stayed = (stay_dropped (RefOf (0 ∷ []) tt (plain (λ _. u64)) (λ _. tt)) yes, tt)
 
 module _ {M : Type 1} {𝓤 : Ura M} (𝓛 : Logic 𝓤) (at_mem : Memory → SProp 𝓤) (run : Routine → Fun 𝓤) (𝓣 : Tables 𝓤 𝓛.H) where
   open 𝓛 use {H}
@@ -45,7 +45,7 @@ module _ {M : Type 1} {𝓤 : Ura M} (𝓛 : Logic 𝓤) (at_mem : Memory → SP
   walk z =
       let a = z.0.3 in
       let vss = z.0.4 in
-      let made : History.the_row.Denot = record { opening = a.0.now; acts = [] } in
+      let made : History.the_row.Denot = record { acts = [] } in
       let p0 = vptr a.0.ref_ptr.0 a.0.ref_ptr.1 in
       qed 𝓛 ((raw (alive 𝓛 F.ended.signature z.0.0 z.0.1) ⊛ ‵ (owns (types_at F.ended.signature.params z.0.0) a vss)) ∷ raw ((held z.0.0 a).requires z.1) ∷ []) ∵
       keep ! (0 ∷ []) $ split ! $ move ! (1 ∷ []) $
@@ -63,5 +63,5 @@ unfolding tables_of
 opened_spec 𝓤 𝓛 𝓜 𝓡 wired =
     let 𝓣 : Tables 𝓤 𝓛.H = tables_of 𝓤 𝓛.H 𝓜 (tables 𝓤 𝓛.H 𝓜 𝓡 𝓡.env) in
     entered 𝓤 𝓛.H (triple_of 𝓛 F.signature (F.spec 𝓛 𝓜.mem 𝓡.returns)) 𝓣.C 𝓣.Λ #self code.function (code.unfolded 𝓤 𝓛.H 𝓜 𝓡 wired)
-    (walk_Meets 𝓛 F.ended stayed (Goes-dropped 𝓛 1 (RefOf (0 ∷ []) tt (plain (λ _. DeskTables.the_row)) (λ _. tt)) yes (λ κs x f. refl), tt) (held 𝓛 𝓜.mem 𝓡.returns 𝓣) (WpFn 𝓤 𝓛.H 𝓣.C 𝓣.Λ code.function) (WpFn-mono 𝓤 𝓛.H 𝓛.laws 𝓣 code.function)
+    (walk_Meets 𝓛 F.ended stayed (Goes-dropped 𝓛 1 (RefOf (0 ∷ []) tt (plain (λ _. u64)) (λ _. tt)) yes (λ κs x f. refl), tt) (held 𝓛 𝓜.mem 𝓡.returns 𝓣) (WpFn 𝓤 𝓛.H 𝓣.C 𝓣.Λ code.function) (WpFn-mono 𝓤 𝓛.H 𝓛.laws 𝓣 code.function)
     (walk 𝓛 𝓜.mem 𝓡.returns 𝓣))

@@ -46,7 +46,7 @@ module _ {M : Type 1} {𝓤 : Ura M} (𝓛 : Logic 𝓤) (at_mem : Memory → SP
   walk z =
       let a = z.0.3 in
       let vss = z.0.4 in
-      let made : History.the_row.Denot = record { opened = a.0.now.opened; first_names = a.0.now.first_names; lines = a.0.now.lines ++ a.1.0.now.now ∷ []; replies = a.0.now.replies ++ a.1.1.0.now ∷ [] } in
+      let made : History.the_row.Denot = record { opened = a.0.now.opened; first_names = a.0.now.first_names; driven = a.0.now.driven; lines = a.0.now.lines ++ a.1.0.now.now ∷ []; replies = a.0.now.replies ++ a.1.1.0.now ∷ [] } in
       let p0 = vptr a.0.ref_ptr.0 a.0.ref_ptr.1 in
       let p1 = vptr a.1.0.ref_ptr.0 a.1.0.ref_ptr.1 in
       let p2 = vptr a.1.1.0.ref_ptr.0 a.1.1.0.ref_ptr.1 in

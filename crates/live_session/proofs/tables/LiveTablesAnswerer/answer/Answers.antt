@@ -1,4 +1,4 @@
-use Rattle.std.proofs.Common.{◌≡◌, List, map, refl, sym, ap, ◌∙◌, subst}
+use Rattle.std.proofs.Common.{◌≡◌, List, map, rules, refl, sym, ap, ◌∙◌, subst}
 use Rattle.session_values.specs.declared.op.Op.{Op}
 use Rattle.session_values.specs.Kinds.{is_adding}
 use Rattle.session_values.specs.Tables.{kind_of}
@@ -9,13 +9,13 @@ use Rattle.live_session.specs.Held.{held}
 use Rattle.live_session.proofs.Whole.{exists, kind_kept, kinds_step, reply_kept, room_by, rooms_same, same_item, written_step}
 use Rattle.live_session.proofs.tables.LiveTablesAnswerer.answer.Goals as goal
 
-pub apply-requires-clause-kind : goal.apply-requires-clause-kind
-apply-requires-clause-kind c =
+pub apply-reply-requires-clause-kind : goal.apply-reply-requires-clause-kind
+apply-reply-requires-clause-kind c =
     let at : c.op.inside.table ≡ c.args.op.table = ap (λ (o : Op). o.table) c.op.view_is in
     kind_kept c.args.self.now.parts.items c.op.inside.table c.args.op at c.requires.table c.index_mut.result.now (sym c.index_mut.ensures.value)
 
-pub apply-requires-clause-room : goal.apply-requires-clause-room
-apply-requires-clause-room c =
+pub apply-reply-requires-clause-room : goal.apply-reply-requires-clause-room
+apply-reply-requires-clause-room c =
     let ps : List Part = c.args.self.now.parts.items in
     let at : c.op.inside.table ≡ c.args.op.table = ap (λ (o : Op). o.table) c.op.view_is in
     let kind : c.op.inside.kind ≡ c.args.op.kind = ap (λ (o : Op). o.kind) c.op.view_is in
@@ -29,15 +29,16 @@ returns-clause-step c =
     let at : c.op.inside.table ≡ c.args.op.table = ap (λ (o : Op). o.table) c.op.view_is in
     let is = sym c.index_mut.ensures.value in (
       λ _. (
-        c.apply.ensures.reply ∙ reply_kept ps c.op.inside.table c.args.op at c.requires.table c.index_mut.result.now is,
-        written_step ps c.op.inside.table c.args.op at c.requires.table c.index_mut.result.now is c.apply.new.self (ap (λ (s : ShardView). s.container) c.apply.ensures.after),
+        c.apply-reply.ensures.reply ∙ reply_kept ps c.op.inside.table c.args.op at c.requires.table c.index_mut.result.now is,
+        written_step ps c.op.inside.table c.args.op at c.requires.table c.index_mut.result.now is c.apply-reply.new.self (ap (λ (s : ShardView). s.container) c.apply-reply.ensures.after),
       ),
-      rooms_same ps c.op.inside.table c.index_mut.result.now c.apply.new.self (exists ps c.op.inside.table c.args.op at c.requires.table) is (ap (λ (s : ShardView). s.room) c.apply.ensures.after),
+      rooms_same ps c.op.inside.table c.index_mut.result.now c.apply-reply.new.self (exists ps c.op.inside.table c.args.op at c.requires.table) is (ap (λ (s : ShardView). s.room) c.apply-reply.ensures.after),
+      search rules,
     )
 
 pub returns-clause-stays : goal.returns-clause-stays
 returns-clause-stays c =
     let ps : List Part = c.args.self.now.parts.items in
     let at : c.op.inside.table ≡ c.args.op.table = ap (λ (o : Op). o.table) c.op.view_is in
-    let after = written_step ps c.op.inside.table c.args.op at c.requires.table c.index_mut.result.now (sym c.index_mut.ensures.value) c.apply.new.self (ap (λ (s : ShardView). s.container) c.apply.ensures.after) in
+    let after = written_step ps c.op.inside.table c.args.op at c.requires.table c.index_mut.result.now (sym c.index_mut.ensures.value) c.apply-reply.new.self (ap (λ (s : ShardView). s.container) c.apply-reply.ensures.after) in
     record { same_shape = ap (map kind_of) after ∙ kinds_step (held ps) c.args.op; same_sure = refl }
