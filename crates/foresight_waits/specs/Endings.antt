@@ -6,6 +6,9 @@ use Rattle.waiting_pairs.specs.Limits.{max_input}
 use Rattle.waiting_pairs.specs.Told.{IsTold, IsUntold}
 use Rattle.waiting_pairs.specs.declared.form.Form.{Form}
 use Rattle.waiting_pairs.specs.Unserved.TheVariants as unserved
+use Rattle.delay_counts.specs.Told.{IsTraceTold}
+use Rattle.delay_counts.specs.Command.TheVariants.{Audit}
+use Rattle.delay_counts.specs.Reasons.{IsReason}
 use Rattle.foresight_waits.specs.declared.ending.Ending.{Ending}
 use Rattle.foresight_waits.specs.declared.ending.Ending.TheVariants.{Told, Refused, Usage, NoMemory, ReadFault, WriteFault}
 
@@ -30,6 +33,18 @@ IsShown form input old new Usage = ⊥
 IsShown form input old new NoMemory = ⊤
 IsShown form input old new ReadFault = ⊥
 IsShown form input old new WriteFault = ⊤
+
+-- What was written for a trace: with status 0 who waited for whom, in this form; with status 1
+-- nothing, and the file breaks the rule that `foresight audit` names.
+abbrev pub IsCounted : Form → List ℕ → Option (List ℕ) → Option (List ℕ) → Ending → Type 0
+IsCounted form input old new Told =
+    (text : List ℕ) × IsTraceTold form input text × Appends old new text
+IsCounted form input old new (Refused fault) =
+    (new ≡ old) × IsReason Audit input (unserved.Refused fault)
+IsCounted form input old new Usage = ⊥
+IsCounted form input old new NoMemory = ⊤
+IsCounted form input old new ReadFault = ⊥
+IsCounted form input old new WriteFault = ⊤
 
 -- these bytes were written, or writing failed
 abbrev pub IsWritten : List ℕ → Option (List ℕ) → Option (List ℕ) → Ending → Type 0

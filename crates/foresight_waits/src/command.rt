@@ -8,8 +8,12 @@ use waiting_pairs::Form;
 /// What the program is asked to do.
 #[derive(Clone, Copy, Debug)]
 pub(crate) enum Command<'a> {
-    /// Tell in this form who waits for whom in the file with this name; without one, in the input.
+    /// Tell in this form who may wait for whom in the file with this name; without one, in the
+    /// input.
     Tell(Form, Option<&'a str>),
+    /// Tell in this form who waited for whom in the trace of the file with this name; without one,
+    /// of the input.
+    Count(Form, Option<&'a str>),
     /// Tell the program's version.
     Version,
 }
@@ -22,6 +26,7 @@ pub(crate) fn command_of(words: &[String]) -> Option<Command<'_>>
         [] => Some(Command::Tell(Form::Lines, None)),
         [word] => Some(alone(word.as_str())),
         [word, name] => followed(word.as_str(), name.as_str()),
+        [word, next, name] => behind_both(word.as_str(), next.as_str(), name.as_str()),
         _ => None,
     }
 }
@@ -32,6 +37,8 @@ fn alone(word: &str) -> Command<'_>
 {
     if word == "--json" {
         Command::Tell(Form::Json, None)
+    } else if word == "--trace" {
+        Command::Count(Form::Lines, None)
     } else if word == "--version" {
         Command::Version
     } else {
@@ -39,12 +46,36 @@ fn alone(word: &str) -> Command<'_>
     }
 }
 
-/// The command of a word and a file's name.
-fn followed<'a>(word: &str, name: &'a str) -> Option<Command<'a>>
-    ensures { spec.asked_option result ≡ spec.followed word.now name.now }
+/// The command of two words.
+fn followed<'a>(word: &str, next: &'a str) -> Option<Command<'a>>
+    ensures { spec.asked_option result ≡ spec.followed word.now next.now }
 {
     if word == "--json" {
-        Some(Command::Tell(Form::Json, Some(name)))
+        Some(Command::Tell(Form::Json, Some(next)))
+    } else if word == "--trace" {
+        Some(behind_trace(next))
+    } else {
+        None
+    }
+}
+
+/// The command of a word behind `--trace`.
+fn behind_trace(word: &str) -> Command<'_>
+    ensures { spec.asked result ≡ spec.behind_trace word.now }
+{
+    if word == "--json" {
+        Command::Count(Form::Json, None)
+    } else {
+        Command::Count(Form::Lines, Some(word))
+    }
+}
+
+/// The command of two words and a file's name.
+fn behind_both<'a>(word: &str, next: &str, name: &'a str) -> Option<Command<'a>>
+    ensures { spec.asked_option result ≡ spec.behind_both word.now next.now name.now }
+{
+    if word == "--trace" && next == "--json" {
+        Some(Command::Count(Form::Json, Some(name)))
     } else {
         None
     }

@@ -1,6 +1,7 @@
 //! Who waits for whom: reads a file of handlers, or a session file of which it looks at the
 //! handlers alone, and writes which operations of which handlers wait for what other handlers may
-//! still call: in columns, or behind `--json` as JSON.
+//! still call: in columns, or behind `--json` as JSON. Behind `--trace` it reads a session file
+//! that ends in a trace, and writes which ones waited in it, how often, and the longest chains.
 #![tactic(auto)]
 
 mod command;
@@ -11,8 +12,8 @@ mod words;
 
 use command::{Command, command_of};
 use ending::Ending;
-use reading::read_bytes;
-use showing::{show, show_version};
+use reading::{FILE_CUT, TRACE_CUT, read_bytes};
+use showing::{count, show, show_version};
 use std::fs::File;
 use std::io::Write;
 use std::process::ExitCode;
@@ -32,14 +33,14 @@ fn main(rt: HostRuntime) -> ExitCode {
 /// Does what the program is asked for.
 fn done(rt: &HostRuntime, command: Option<Command<'_>>) -> Ending {
     match command {
-        Some(Command::Tell(form, Some(name))) => shown(rt, form, file_bytes(rt, name)),
-        Some(Command::Tell(form, None)) => shown(rt, form, read_bytes(rt.alloc(), rt.stdin())),
+        Some(Command::Tell(form, name)) => shown(rt, form, bytes_of(rt, FILE_CUT, name)),
+        Some(Command::Count(form, name)) => counted(rt, form, bytes_of(rt, TRACE_CUT, name)),
         Some(Command::Version) => show_version(&mut rt.stdout()),
         None => Ending::Usage,
     }
 }
 
-/// Writes in this form who waits for whom in the file with these bytes.
+/// Writes in this form who may wait for whom in the file with these bytes.
 fn shown(rt: &HostRuntime, form: Form, bytes: Result<Vec<u8>, Ending>) -> Ending {
     match bytes {
         Ok(bytes) => show(rt.alloc(), form, &bytes, &mut rt.stdout()),
@@ -47,10 +48,26 @@ fn shown(rt: &HostRuntime, form: Form, bytes: Result<Vec<u8>, Ending>) -> Ending
     }
 }
 
-/// All bytes of the file with this name, up to one more than it may have.
-fn file_bytes(rt: &HostRuntime, name: &str) -> Result<Vec<u8>, Ending> {
+/// Writes in this form who waited for whom in the trace of the file with these bytes.
+fn counted(rt: &HostRuntime, form: Form, bytes: Result<Vec<u8>, Ending>) -> Ending {
+    match bytes {
+        Ok(bytes) => count(rt.alloc(), form, &bytes, &mut rt.stdout()),
+        Err(ending) => ending,
+    }
+}
+
+/// The bytes of the file with this name, or without one of the input, up to so many.
+fn bytes_of(rt: &HostRuntime, cut: u64, name: Option<&str>) -> Result<Vec<u8>, Ending> {
+    match name {
+        Some(name) => file_bytes(rt, cut, name),
+        None => read_bytes(rt.alloc(), cut, rt.stdin()),
+    }
+}
+
+/// The bytes of the file with this name, up to so many.
+fn file_bytes(rt: &HostRuntime, cut: u64, name: &str) -> Result<Vec<u8>, Ending> {
     match File::open(rt, name) {
-        Ok(file) => read_bytes(rt.alloc(), file),
+        Ok(file) => read_bytes(rt.alloc(), cut, file),
         Err(_) => Err(Ending::ReadFault),
     }
 }
@@ -61,9 +78,9 @@ fn say(rt: &HostRuntime, ending: Ending) {
         Ending::Told => Status::Fine,
         Ending::Refused(fault) => Status::Refused(fault),
         Ending::Usage => {
-            let _ = rt
-                .stderr()
-                .write_all(b"usage: foresight_waits [--json] [FILE] | --version\n");
+            let _ = rt.stderr().write_all(
+                b"usage: foresight_waits [--trace] [--json] [FILE] | --version\n",
+            );
             Status::Fine
         }
         Ending::NoMemory => Status::NoMemory,

@@ -1,14 +1,15 @@
 // What is written for a file.
 
 ghost use Rattle.foresight_waits.specs.Commands.{version_line};
-ghost use Rattle.foresight_waits.specs.Endings.{IsShown, IsWritten};
+ghost use Rattle.foresight_waits.specs.Endings.{IsCounted, IsShown, IsWritten};
 
 use crate::ending::Ending;
+use delay_counts::{MAX_AUDIT_INPUT, told_trace};
 use std::alloc::Global;
 use std::io::Write;
 use waiting_pairs::{Fault, Form, MAX_INPUT, Unserved, told};
 
-/// Writes in this form who waits for whom in the handlers of a file.
+/// Writes in this form who may wait for whom in the handlers of a file.
 pub(crate) fn show<W: Write>(alloc: Global, form: Form, bytes: &[u8], out: &mut W) -> Ending
     ensures { IsShown form bytes.now (W.contents out.old) (W.contents out.new) result }
 {
@@ -22,11 +23,25 @@ pub(crate) fn show<W: Write>(alloc: Global, form: Form, bytes: &[u8], out: &mut 
     }
 }
 
+/// Writes in this form who waited for whom in the trace that a file ends in.
+pub(crate) fn count<W: Write>(alloc: Global, form: Form, bytes: &[u8], out: &mut W) -> Ending
+    ensures { IsCounted form bytes.now (W.contents out.old) (W.contents out.new) result }
+{
+    if bytes.len() > MAX_AUDIT_INPUT {
+        return Ending::Refused(Fault::TooLarge);
+    }
+    match told_trace(alloc, form, bytes) {
+        Ok(text) => written(out, &text),
+        Err(Unserved::NoMemory) => Ending::NoMemory,
+        Err(Unserved::Refused(fault)) => Ending::Refused(fault),
+    }
+}
+
 /// Writes the line that tells the program's version.
 pub(crate) fn show_version<W: Write>(out: &mut W) -> Ending
     ensures { IsWritten version_line (W.contents out.old) (W.contents out.new) result }
 {
-    written(out, b"foresight_waits 1.3\n")
+    written(out, b"foresight_waits 1.4\n")
 }
 
 /// Writes all bytes, and tells how that ended.

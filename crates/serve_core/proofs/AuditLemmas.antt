@@ -42,7 +42,7 @@ is_audited : (input : List ℕ) (a : Audited) (v : Verdict) → IsAuditOf input 
 is_audited input a v h w = record {
   file = a.program.file;
   is_session = record { program = as_program (audited_parts input).handlers a.program h.program_of; tables = h.tables_fine; requests = h.fine };
-  names = h.names;
+  names = a.names;
   trace = a.trace;
   is_trace = h.is_trace;
   verdict = v;

@@ -70,9 +70,9 @@ module _ (front handlers tables requests : List ℕ) (first_table first : ℕ) (
 
 pub are_traced : (parts : Parts) (l : Loaded) (rs : List Row) (names : List (List ℕ)) (trace : TraceView) (a : Audited) → IsLoaded parts l
     → IsTrace l.names names (table_places l.program.file) (shape_of l.program.file) rs trace
-    → a ≡ record { program = l.program; opening = l.opening; requests = l.requests; trace = trace } → AreTraced parts rs a
+    → a ≡ record { names = names; program = l.program; opening = l.opening; requests = l.requests; trace = trace } → AreTraced parts rs a
 are_traced parts l rs names trace a h t is = subst (AreTraced parts rs) (sym is) here where
-  here : AreTraced parts rs (record { program = l.program; opening = l.opening; requests = l.requests; trace = trace })
+  here : AreTraced parts rs (record { names = names; program = l.program; opening = l.opening; requests = l.requests; trace = trace })
   here = record {
     program_of = h.program_of;
     tables_fine = h.tables_fine;
@@ -81,7 +81,6 @@ are_traced parts l rs names trace a h t is = subst (AreTraced parts rs) (sym is)
     opens = h.opens;
     requests_are = h.requests_are;
     servable = h.servable;
-    names = names;
     is_trace = subst (λ (old : List (List ℕ)). IsTrace old names (table_places l.program.file) (shape_of l.program.file) rs trace) h.names_are t;
   }
 

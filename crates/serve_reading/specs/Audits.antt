@@ -19,7 +19,7 @@ use Rattle.serve_reading.specs.declared.unserved.Unserved.{Unserved}
 use Rattle.serve_reading.specs.declared.unserved.Unserved.TheVariants.{Refused, NoMemory}
 
 -- what was read is the parts' session, which can be served, and some lines are the events of the
--- trace, with the names of the parts and those that the lines add
+-- trace, with the names of the parts and those that the lines add, which are what was read too
 pub record AreTraced (parts : Parts) (rs : List Row) (a : Audited) : Type 0 where
   pub program_of : IsProgramOf parts.handlers a.program
   pub tables_fine : table_fault parts a.program.file ≡ None
@@ -28,8 +28,7 @@ pub record AreTraced (parts : Parts) (rs : List Row) (a : Audited) : Type 0 wher
   pub opens : IsOpening (shape_of a.program.file) a.opening
   pub requests_are : a.requests ≡ requests_of parts a.program.file
   pub servable : IsServable a.program.file a.requests
-  pub names : List (List ℕ)
-  pub is_trace : IsTrace (all_names_of parts) names (table_places a.program.file)
+  pub is_trace : IsTrace (all_names_of parts) a.names (table_places a.program.file)
       (shape_of a.program.file) rs a.trace
 
 -- so it is with the parts before a trace part, and its lines

@@ -29,6 +29,8 @@ use trace_rules::Trace;
 /// A session whose requests a trace tells of, and the trace.
 #[derive(Drop)]
 pub struct Audited {
+    /// The names of the session and of the trace.
+    pub names: Names,
     pub program: Program,
     /// The entries with which the tables open.
     pub opening: Opening,
@@ -128,6 +130,7 @@ fn read_traced(
     } = loaded;
     let trace = read_events(alloc, program.checked().file(), events, first, &mut names)?;
     Ok(Audited {
+        names,
         program,
         opening,
         requests,

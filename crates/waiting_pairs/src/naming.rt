@@ -23,7 +23,7 @@ fn table_name(program: &Program, table: u32) -> Option<u32>
 }
 
 /// The name of a handler.
-pub(crate) fn handler_name(program: &Program, handler: u32) -> Option<u32>
+pub fn handler_name(program: &Program, handler: u32) -> Option<u32>
     ensures { result ≡ slice_get (spec.handler_names program.now.file) handler }
 {
     let handlers = &program.checked().file().handlers;
@@ -51,7 +51,7 @@ fn variable_name(program: &Program, handler: u32, variable: u32) -> Option<u32>
 }
 
 /// The text of a name; nothing where there is none.
-pub(crate) fn named(names: &Names, place: Option<u32>) -> &str
+pub fn named(names: &Names, place: Option<u32>) -> &str
     ensures { result.now ≡ spec.named names.now place }
 {
     match place {
@@ -135,7 +135,7 @@ fn push_further(
 }
 
 /// Appends a symbol of a handler.
-pub(crate) fn push_symbol(
+pub fn push_symbol(
     out: &mut String,
     program: &Program,
     names: &Names,
@@ -156,7 +156,7 @@ pub(crate) fn push_symbol(
 }
 
 /// A symbol of a handler.
-pub(crate) fn symbol_text(
+pub fn symbol_text(
     alloc: Global,
     program: &Program,
     names: &Names,

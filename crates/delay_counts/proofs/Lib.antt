@@ -1,0 +1,13 @@
+pub mod CountLemmas
+pub mod Counted
+pub mod Distinct
+pub mod Heads
+pub mod LinkLemmas
+pub mod Longest
+pub mod Mapped
+pub mod Objects
+pub mod Same
+pub mod Settled
+pub mod Sorting
+pub mod TellingLemmas
+pub mod WayLemmas

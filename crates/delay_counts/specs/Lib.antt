@@ -1,0 +1,11 @@
+pub mod Causes
+pub mod Chains
+pub mod Delays
+pub mod Heads
+pub mod Json
+pub mod Lines
+pub mod Rows
+pub mod Steps
+pub mod Told
+pub use Rattle.serve_faults.specs.Command
+pub use Rattle.serve_reading.specs.Reasons
