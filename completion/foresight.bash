@@ -38,10 +38,10 @@ _foresight() {
 
 _foresight_where() {
   COMPREPLY=()
-  if [ "$COMP_CWORD" -gt 1 ]; then
+  if [ "$COMP_CWORD" -gt 2 ] || [[ $COMP_CWORD == 2 && ${COMP_WORDS[1]} != --json ]]; then
     return
-  elif [[ ${COMP_WORDS[1]} == -* ]]; then
-    mapfile -t COMPREPLY < <(compgen -W "--rules" -- "${COMP_WORDS[1]}")
+  elif [[ $COMP_CWORD == 1 && ${COMP_WORDS[1]} == -* ]]; then
+    mapfile -t COMPREPLY < <(compgen -W "--json --rules" -- "${COMP_WORDS[1]}")
   else
     compopt -o default
   fi

@@ -30,6 +30,7 @@ SAYS = {
     "N": "how many requests",
     "START": "where the draws begin",
     "--rules": "print the table of rules",
+    "--json": "tell of the refusal as JSON",
 }
 BASH = r"""# Completion of foresight and foresight_where in bash. Made by completion/make.py.
 
@@ -70,10 +71,10 @@ _foresight() {
 
 _foresight_where() {
   COMPREPLY=()
-  if [ "$COMP_CWORD" -gt 1 ]; then
+  if [ "$COMP_CWORD" -gt 2 ] || [[ $COMP_CWORD == 2 && ${COMP_WORDS[1]} != JSON ]]; then
     return
-  elif [[ ${COMP_WORDS[1]} == -* ]]; then
-    mapfile -t COMPREPLY < <(compgen -W "RULES" -- "${COMP_WORDS[1]}")
+  elif [[ $COMP_CWORD == 1 && ${COMP_WORDS[1]} == -* ]]; then
+    mapfile -t COMPREPLY < <(compgen -W "JSON RULES" -- "${COMP_WORDS[1]}")
   else
     compopt -o default
   fi
@@ -118,7 +119,7 @@ WORK
 }
 
 _foresight_where_words() {
-  _arguments 'RULES[SAYS_RULES]' '(RULES)1:file:_files'
+  _arguments '(RULES)JSON[SAYS_JSON]' '(JSON)RULES[SAYS_RULES]' '(RULES)1:file:_files'
 }
 
 case $service in
@@ -156,6 +157,8 @@ FISH_WHERE = """\
 # Completion of foresight_where in fish. Made by completion/make.py.
 complete -c foresight_where -n 'test (count (commandline -opc)) -gt 1' -f
 complete -c foresight_where -n 'test (count (commandline -opc)) -eq 1' -F
+complete -c foresight_where -n 'string match -qr "^\\S+ JSON\$" -- (commandline -opc | string join " ")' -F
+complete -c foresight_where -n 'test (count (commandline -opc)) -eq 1' -a 'JSON' -d 'SAYS_JSON'
 complete -c foresight_where -n 'test (count (commandline -opc)) -eq 1' -a 'RULES' -d 'SAYS_RULES'
 """
 
@@ -215,8 +218,8 @@ class Words:
         self.bounds = bounds_of(text, read(LIMITS))
         self.serving = [name for name, rest in self.commands.items() if "--callers" in rest]
         self.options = self.commands[self.serving[0]][::2]
-        usage = r'usage: foresight_where FILE \| ([\w-]+) \| --version\\n'
-        self.rules = re.search(usage, read(PLACES))[1]
+        usage = r'usage: foresight_where \[([\w-]+)\] FILE \| ([\w-]+) \| --version\\n'
+        self.json, self.rules = re.search(usage, read(PLACES)).groups()
         missing = set(self.commands) - set(SAYS)
         if missing:
             sys.exit(f"completion/make.py: SAYS has no sentence for {', '.join(sorted(missing))}")
@@ -246,7 +249,7 @@ def bash(words):
     return filled(form, {
         "ALL": " ".join(words.commands), "OPTIONS": " ".join(words.options), "SERVING": serving,
         "FIRST": words.options[0], "SECOND": words.options[1], "NUMBERS": "\n".join(numbers),
-        "RULES": words.rules})
+        "JSON": words.json, "RULES": words.rules})
 
 
 def zsh(words):
@@ -260,8 +263,7 @@ def zsh(words):
     return filled(ZSH, {
         "ALL_OPTIONS": f"{first} {second}", "FIRST": words.options[0], "SECOND_OPTION": second,
         "NUMBERS": "\n".join(numbers), "COMMANDS": "\n".join(listed), "WORK": "\n".join(work),
-        "SERVING": " | ".join(words.serving), "RULES": words.rules,
-        "SAYS_RULES": SAYS[words.rules]})
+        "SERVING": " | ".join(words.serving), **places(words)})
 
 
 def fish(words):
@@ -282,15 +284,20 @@ def fish(words):
     return FISH + "\n".join(lines) + "\n"
 
 
+def places(words):
+    """What stands for the words of foresight_where."""
+    return {"JSON": words.json, "SAYS_JSON": SAYS[words.json],
+            "RULES": words.rules, "SAYS_RULES": SAYS[words.rules]}
+
+
 def made():
     """Each file that is made, with its text."""
     words = Words()
-    rules = {"RULES": words.rules, "SAYS_RULES": SAYS[words.rules]}
     return {
         "foresight.bash": bash(words),
         "_foresight": zsh(words),
         "foresight.fish": fish(words),
-        "foresight_where.fish": filled(FISH_WHERE, rules),
+        "foresight_where.fish": filled(FISH_WHERE, places(words)),
     }
 
 

@@ -3,6 +3,7 @@ use Rattle.std.proofs.Common.{◌≡◌, ℕ, ◌≤◌, Bool, true, false, ◌&
 use Rattle.std.proofs.lemmas.Bool.{le-leb, and_parts}
 use Rattle.byte_ends.specs.Ends.{IsAtEnd}
 use Rattle.standard_streams.specs.Changes.{Change, IsUntouched}
+use Rattle.foresight_where.specs.declared.asking.Form.{Form}
 use Rattle.foresight_where.specs.declared.ending.Ending.{Ending}
 use Rattle.foresight_where.specs.Endings.{most}
 use Rattle.foresight_where.specs.Reading.{HasRead}
@@ -18,8 +19,8 @@ of_told : (o : Option (List ℕ)) (bytes : List ℕ) (P : List ℕ → Type 0) �
 of_told None bytes P is p = tt
 of_told (Some all) bytes P is p = subst P is p
 
-module _ {I F O : Type 0} (name : List ℕ) (source : Change I) (files : Change F) (file : Option (List ℕ)) (out : Change O) where
-  pub run_placed : (e : Ending) (input : List ℕ) → HasRead (source.bytes source.old) (source.bytes source.new) (source.faults source.old) (source.faults source.new) input → PlacesIn name input files file out e → Places name source files file out e
+module _ {I F O : Type 0} (form : Form) (name : List ℕ) (source : Change I) (files : Change F) (file : Option (List ℕ)) (out : Change O) where
+  pub run_placed : (e : Ending) (input : List ℕ) → HasRead (source.bytes source.old) (source.bytes source.new) (source.faults source.old) (source.faults source.new) input → PlacesIn form name input files file out e → Places form name source files file out e
   run_placed e input read h = record {
     usage = h.usage;
     read_fault = λ r. inr (read.well, h.read_fault r);
@@ -31,5 +32,5 @@ module _ {I F O : Type 0} (name : List ℕ) (source : Change I) (files : Change 
         (λ x. h.unopened (unlooked input read.short x));
     file_end = of_told (source.bytes source.old) input (λ bytes. is_looked_at bytes ≡ true → has_begun_writing e ≡ true → IsAtEnd file (files.bytes files.new)) read.all
         (λ x begun. h.file_end (and_parts _ _ x).1 begun);
-    answered = of_told (source.bytes source.old) input (λ bytes. IfSome (looked_at bytes file) (λ f. Answered name bytes f out e)) read.all h.answered;
+    answered = of_told (source.bytes source.old) input (λ bytes. IfSome (looked_at bytes file) (λ f. Answered form name bytes f out e)) read.all h.answered;
   }

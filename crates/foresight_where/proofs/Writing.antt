@@ -4,8 +4,12 @@ use Rattle.byte_ends.specs.Ends.{Rose, GrewByFront}
 use Rattle.byte_ends.proofs.EndsLemmas.{grew_more, grew_front, front_of_more, rose_since}
 use Rattle.standard_streams.specs.Changes.{Change, Failed, Took, TookFront, change}
 use Rattle.refusal_places.specs.Answers.{answer}
+use Rattle.refusal_advice.specs.Json.{IsJson}
 use Rattle.refusal_advice.specs.Told.{IsTold}
 use Rattle.foresight_where.specs.Chosen.{back_of, front_of, refusal_line}
+use Rattle.foresight_where.specs.Endings.{null_line}
+use Rattle.foresight_where.specs.declared.asking.Form.{Form}
+use Rattle.foresight_where.specs.declared.asking.Form.TheVariants as form
 use Rattle.foresight_where.specs.declared.ending.Ending.{Ending}
 use Rattle.foresight_where.specs.declared.ending.Ending.TheVariants.{Told, HandedOn, WriteFault}
 use Rattle.foresight_where.specs.Showing.{IsTextOf, Shows, Writes, has_begun_writing, is_shown, placed}
@@ -22,9 +26,9 @@ module _ {O : Type 0} (bytes : O → Option (List ℕ)) (faults : O → ℕ) whe
   pub writes_none : (old new : O) (xs ys : List ℕ) (wanted : Ending) → Rose (faults old) (faults new) → GrewByFront (bytes old) (bytes new) xs → Writes (xs ++ ys) wanted (change bytes faults old new) WriteFault
   writes_none old new xs ys wanted rose front = inr (refl, rose, front_of_more (bytes old) (bytes new) xs ys front)
 
-module _ {O : Type 0} (name input file bytes : List ℕ) (out : Change O) (w : Ending) (due : placed (answer name file (refusal_line input)) ≡ w) (text : IsTextOf name input file bytes w)
+module _ {O : Type 0} (f : Form) (name input file bytes : List ℕ) (out : Change O) (w : Ending) (due : placed (answer name file (refusal_line input)) ≡ w) (text : IsTextOf f name input file bytes w)
     (shown : is_shown w ≡ true) (begun : has_begun_writing w ≡ true) (other : w ≢ WriteFault) where
-  all : Took out bytes → Shows name input file out w
+  all : Took out bytes → Shows f name input file out w
   all took = record {
     ends = shown;
     ending = inl (sym due);
@@ -33,30 +37,41 @@ module _ {O : Type 0} (name input file bytes : List ℕ) (out : Change O) (w : E
     output = record { write_fault = λ x. absurd (other x); written_well = λ _. took.0; unwritten = λ x. absurd (cc (sym begun ∙ x)) };
   }
 
-  broken : Failed out → TookFront out bytes → Shows name input file out WriteFault
+  broken : Failed out → TookFront out bytes → Shows f name input file out WriteFault
   broken failed front = record {
     ends = refl;
     ending = inr (inr refl);
     written = λ x. absurd (cc x);
-    front = λ _. (bytes, subst (λ e. IsTextOf name input file bytes e) (sym due) text, front);
+    front = λ _. (bytes, subst (λ e. IsTextOf f name input file bytes e) (sym due) text, front);
     output = record { write_fault = λ _. failed; written_well = λ ne. absurd (ne refl); unwritten = λ x. absurd (cc x) };
   }
 
-  shows : (e : Ending) → Writes bytes w out e → Shows name input file out e
+  shows : (e : Ending) → Writes bytes w out e → Shows f name input file out e
   shows e wrote = elim wrote [
-    | inl k ↦ subst (λ e. Shows name input file out e) (sym k.0) (all k.1)
-    | inr k ↦ subst (λ e. Shows name input file out e) (sym k.0) (broken k.1 k.2)
+    | inl k ↦ subst (λ e. Shows f name input file out e) (sym k.0) (all k.1)
+    | inr k ↦ subst (λ e. Shows f name input file out e) (sym k.0) (broken k.1 k.2)
   ]
 
 -- the input with what is told of its first refusal
 pub shows_told : {O : Type 0} (name input file front line back text : List ℕ) (out : Change O) (e : Ending) → front ≡ front_of input → line ≡ refusal_line input → back ≡ back_of input → IsTold name file line text
-    → Writes (front ++ (text ++ back)) Told out e → Shows name input file out e
+    → Writes (front ++ (text ++ back)) Told out e → Shows form.Text name input file out e
 shows_told name input file front line back text out e f l b told =
     let t : IsTold name file (refusal_line input) text = subst (λ l. IsTold name file l text) l told in
     let is : front ++ (text ++ back) ≡ front_of input ++ (text ++ back_of input) = ap (λ f. f ++ (text ++ back)) f ∙ ap (λ b. front_of input ++ (text ++ b)) b in
-    shows name input file (front ++ (text ++ back)) out Told (ap placed t.placed) (record { told = text; told_is = t; text_is = is }) refl refl (λ x. cc x) e
+    shows form.Text name input file (front ++ (text ++ back)) out Told (ap placed t.placed) (record { told = text; told_is = t; text_is = is }) refl refl (λ x. cc x) e
 
 -- the input as it is
-pub shows_input : {O : Type 0} (name input file line : List ℕ) (out : Change O) (e : Ending) → line ≡ refusal_line input → answer name file line ≡ None → Writes input HandedOn out e → Shows name input file out e
+pub shows_input : {O : Type 0} (name input file line : List ℕ) (out : Change O) (e : Ending) → line ≡ refusal_line input → answer name file line ≡ None → Writes input HandedOn out e → Shows form.Text name input file out e
 shows_input name input file line out e l none =
-    shows name input file input out HandedOn (ap placed (ap (answer name file) (sym l) ∙ none)) refl refl refl (λ x. cc x) e
+    shows form.Text name input file input out HandedOn (ap placed (ap (answer name file) (sym l) ∙ none)) refl refl refl (λ x. cc x) e
+
+-- what is told as JSON
+pub shows_json : {O : Type 0} (name input file line text : List ℕ) (out : Change O) (e : Ending) → line ≡ refusal_line input → IsJson name file line text → Writes text Told out e → Shows form.Json name input file out e
+shows_json name input file line text out e l json =
+    let j : IsJson name file (refusal_line input) text = subst (λ l. IsJson name file l text) l json in
+    shows form.Json name input file text out Told (ap placed j.placed) j refl refl (λ x. cc x) e
+
+-- nothing is told
+pub shows_null : {O : Type 0} (name input file line : List ℕ) (out : Change O) (e : Ending) → line ≡ refusal_line input → answer name file line ≡ None → Writes null_line HandedOn out e → Shows form.Json name input file out e
+shows_null name input file line out e l none =
+    shows form.Json name input file null_line out HandedOn (ap placed (ap (answer name file) (sym l) ∙ none)) refl refl refl (λ x. cc x) e

@@ -23,13 +23,17 @@ ended text = text ++ 10 ∷ []
 
 -- the line that tells the version
 abbrev pub version_line : List ℕ
-version_line = ended (codes "foresight_where 1.3")
+version_line = ended (codes "foresight_where 1.4")
+
+-- the JSON that tells of nothing
+abbrev pub null_line : List ℕ
+null_line = ended (codes "null")
 
 -- the line on the error output; none where all is written
 abbrev pub line_of : Ending → List ℕ
 line_of Told = []
 line_of HandedOn = []
-line_of Usage = ended (codes "usage: foresight_where FILE | --rules | --version")
+line_of Usage = ended (codes "usage: foresight_where [--json] FILE | --rules | --version")
 line_of NoMemory = ended (codes "no memory")
 line_of ReadFault = ended (codes "read fault")
 line_of TooLarge = ended (codes "too large")

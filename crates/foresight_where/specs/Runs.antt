@@ -6,6 +6,8 @@ use Rattle.refusal_advice.specs.Told.{Either}
 use Rattle.refusal_places.specs.Answers.{answer, names_place, said_of}
 use Rattle.refusal_places.specs.RuleTable.{rules_text}
 use Rattle.standard_streams.specs.Changes.{Change, Failed, HasNotFailed, IsUntouched, Took, TookFront}
+use Rattle.foresight_where.specs.declared.asking.Form.{Form}
+use Rattle.foresight_where.specs.declared.asking.Form.TheVariants as form
 use Rattle.foresight_where.specs.declared.ending.Ending.{Ending}
 use Rattle.foresight_where.specs.declared.ending.Ending.TheVariants.{Told, Usage, NoMemory, ReadFault, TooLarge, WriteFault}
 use Rattle.foresight_where.specs.Chosen.{refusal_line}
@@ -35,17 +37,17 @@ due name input file =
     else (placed (answer name file (refusal_line input))))
 
 -- what an input and a file are answered with, and what of the answer was written
-pub record Answered {O : Type 0} (name input file : List ℕ) (out : Change O) (e : Ending)
+pub record Answered {O : Type 0} (f : Form) (name input file : List ℕ) (out : Change O) (e : Ending)
     : Type 0 where
   -- It ends as is due, unless memory runs out, a read fails or a write fails.
   pub ending : (e ≡ due name input file)
       ⊎ ((e ≡ NoMemory) ⊎ ((e ≡ ReadFault) ⊎ (e ≡ WriteFault)))
   -- All of its text was written,
   pub written : has_written e ≡ true
-      → (text : List ℕ) × IsTextOf name input file text e × Took out text
+      → (text : List ℕ) × IsTextOf f name input file text e × Took out text
   -- or, before a write failed, a front of the text that is due.
   pub front : e ≡ WriteFault → (text : List ℕ)
-      × IsTextOf name input file text (due name input file) × TookFront out text
+      × IsTextOf f name input file text (due name input file) × TookFront out text
 
 -- ---- what is promised
 
@@ -59,7 +61,7 @@ pub record Prints {O : Type 0} (text : List ℕ) (out : Change O) (e : Ending) :
   pub written : Written out e
 
 -- what is shown to an input that is read
-pub record PlacesIn {F O : Type 0} (name input : List ℕ) (files : Change F)
+pub record PlacesIn {F O : Type 0} (f : Form) (name input : List ℕ) (files : Change F)
     (file : Option (List ℕ)) (out : Change O) (e : Ending) : Type 0 where
   pub usage : e ≢ Usage
   -- An opening or one read of the file failed; with any other ending none failed.
@@ -70,10 +72,11 @@ pub record PlacesIn {F O : Type 0} (name input : List ℕ) (files : Change F)
   pub unopened : asks_for_file input ≡ false → IsUntouched files
   pub file_end : asks_for_file input ≡ true → has_begun_writing e ≡ true
       → IsAtEnd file (files.bytes files.new)
-  pub answered : IfSome (looked_at input file) (λ f. Answered name input f out e)
+  pub answered : IfSome (looked_at input file) (λ bytes. Answered f name input bytes out e)
 
--- a run whose one word is a file's name; what the file has, where that is told, is given beside it
-pub record Places {I F O : Type 0} (name : List ℕ) (source : Change I) (files : Change F)
+-- a run that is asked to tell of a file with this name in this form; what the file has, where that is
+-- told, is given beside it
+pub record Places {I F O : Type 0} (f : Form) (name : List ℕ) (source : Change I) (files : Change F)
     (file : Option (List ℕ)) (out : Change O) (e : Ending) : Type 0 where
   pub usage : e ≢ Usage
   -- One read of the input failed and no file was opened, or an opening or a read of the file
@@ -94,7 +97,7 @@ pub record Places {I F O : Type 0} (name : List ℕ) (source : Change I) (files 
       → IsAtEnd file (files.bytes files.new))
   -- Its clauses are `ending`, `written` and `front`.
   pub answered : IfSome (source.bytes source.old)
-      (λ input. IfSome (looked_at input file) (λ f. Answered name input f out e))
+      (λ input. IfSome (looked_at input file) (λ bytes. Answered f name input bytes out e))
 
 -- a run that was asked for such a text; it reads nothing
 pub record Tells {I F O : Type 0} (text : List ℕ) (source : Change I) (files : Change F)
@@ -109,14 +112,22 @@ pub record IsRefused {I F O : Type 0} (source : Change I) (files : Change F) (ou
   pub unread : IsUntouched source × IsUntouched files
   pub unwritten : IsUntouched out
 
--- a run with one word; the version takes no memory
+-- a run with one word, which is a file's name unless it is one of three; the version takes no memory
 abbrev pub RunsAlone : {I F O : Type 0} → List ℕ → Change I → Change F → Option (List ℕ)
     → Change O → Ending → Type 0
 RunsAlone word source files file out e =
     Either (bytes_eq word (codes "--rules")) (Tells rules_text source files out e)
     (Either (bytes_eq word (codes "--version"))
     (Tells version_line source files out e × (e ≢ NoMemory))
-    (Places word source files file out e))
+    (Either (bytes_eq word (codes "--json")) (IsRefused source files out e)
+    (Places form.Text word source files file out e)))
+
+-- a run with a word and a file's name
+abbrev pub RunsBefore : {I F O : Type 0} → List ℕ → List ℕ → Change I → Change F
+    → Option (List ℕ) → Change O → Ending → Type 0
+RunsBefore word name source files file out e =
+    Either (bytes_eq word (codes "--json")) (Places form.Json name source files file out e)
+    (IsRefused source files out e)
 
 -- A run with these words. Beside the files stands what the file of each name has, where that is
 -- told.
@@ -124,7 +135,10 @@ abbrev pub Runs : {I F O : Type 0} → List (List ℕ) → Change I → Change F
     → (List ℕ → Option (List ℕ)) → Change O → Ending → Type 0
 Runs (word ∷ []) source files file_of out e =
     RunsAlone word source files (file_of word) out e
-Runs _ source files file_of out e = IsRefused source files out e
+Runs (word ∷ name ∷ []) source files file_of out e =
+    RunsBefore word name source files (file_of name) out e
+Runs [] source files file_of out e = IsRefused source files out e
+Runs (word ∷ name ∷ more ∷ words) source files file_of out e = IsRefused source files out e
 
 -- The line on the error output is that of the ending and no write of it failed; or a write failed,
 -- none was tried after it, and a front of the line stands there.

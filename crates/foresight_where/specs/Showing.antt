@@ -1,9 +1,13 @@
 -- What is written, and what becomes of the output.
 use Rattle.std.specs.Prelude.{◌≡◌, ◌≢◌, ◌⊎◌, ℕ, Bool, true, false, List, ◌++◌, Option, Some, None}
+use Rattle.refusal_advice.specs.Json.{IsJson}
 use Rattle.refusal_advice.specs.Told.{IsTold}
 use Rattle.refusal_places.specs.Answers.{answer}
 use Rattle.standard_streams.specs.Changes.{Change, Failed, HasNotFailed, IsUntouched, Took, TookFront}
 use Rattle.foresight_where.specs.Chosen.{back_of, front_of, refusal_line}
+use Rattle.foresight_where.specs.Endings.{null_line}
+use Rattle.foresight_where.specs.declared.asking.Form.{Form}
+use Rattle.foresight_where.specs.declared.asking.Form.TheVariants as form
 use Rattle.foresight_where.specs.declared.ending.Ending.{Ending}
 use Rattle.foresight_where.specs.declared.ending.Ending.TheVariants.{Told, HandedOn, Usage, NoMemory, ReadFault, TooLarge, WriteFault}
 
@@ -42,11 +46,18 @@ pub record IsToldWithin (name input file text : List ℕ) : Type 0 where
   pub told_is : IsTold name file (refusal_line input) told
   pub text_is : text ≡ front_of input ++ (told ++ back_of input)
 
--- what a run writes that ends so: its first refusal is told of, or the input stands as it is
-abbrev pub IsTextOf : List ℕ → List ℕ → List ℕ → List ℕ → Ending → Type 0
-IsTextOf name input file text Told = IsToldWithin name input file text
-IsTextOf name input file text HandedOn = text ≡ input
-IsTextOf name input file text _ = ⊥
+-- What a run writes that ends so: its first refusal is told of, or the input stands as it is. As JSON
+-- the first refusal alone is told of, or nothing is; the input's other lines aren't written.
+abbrev pub IsTextOf : Form → List ℕ → List ℕ → List ℕ → List ℕ → Ending → Type 0
+IsTextOf form.Text name input file text Told = IsToldWithin name input file text
+IsTextOf form.Text name input file text HandedOn = text ≡ input
+IsTextOf form.Json name input file text Told = IsJson name file (refusal_line input) text
+IsTextOf form.Json name input file text HandedOn = text ≡ null_line
+IsTextOf f name input file text Usage = ⊥
+IsTextOf f name input file text NoMemory = ⊥
+IsTextOf f name input file text ReadFault = ⊥
+IsTextOf f name input file text TooLarge = ⊥
+IsTextOf f name input file text WriteFault = ⊥
 
 -- What follows is spoken of by this crate's functions alone.
 
@@ -67,13 +78,13 @@ is_shown TooLarge = false
 is_shown WriteFault = true
 
 -- what is written for an input and a file
-pub record Shows {O : Type 0} (name input file : List ℕ) (out : Change O) (e : Ending)
+pub record Shows {O : Type 0} (f : Form) (name input file : List ℕ) (out : Change O) (e : Ending)
     : Type 0 where
   pub ends : is_shown e ≡ true
   pub ending : (e ≡ placed (answer name file (refusal_line input))) ⊎ ((e ≡ NoMemory) ⊎ (e ≡ WriteFault))
   pub written : has_written e ≡ true
-      → (text : List ℕ) × IsTextOf name input file text e × Took out text
+      → (text : List ℕ) × IsTextOf f name input file text e × Took out text
   pub front : e ≡ WriteFault → (text : List ℕ)
-      × IsTextOf name input file text (placed (answer name file (refusal_line input)))
+      × IsTextOf f name input file text (placed (answer name file (refusal_line input)))
       × TookFront out text
   pub output : Written out e

@@ -8,8 +8,8 @@ ghost use Rattle.foresight_where.specs.Endings as spec;
 pub(crate) enum Ending {
     /// The text of a place, or the table, is written.
     Told,
-    /// The input is handed on as it is: no line of it is a refusal's, or the first that is one
-    /// names a place that the file hasn't.
+    /// Nothing is told: no line of the input is a refusal's, or the first that is one names a place
+    /// that the file hasn't. The input is handed on as it is, or `null` stands for it in JSON.
     HandedOn,
     /// The words are none of the program's; nothing is read.
     Usage,
@@ -42,7 +42,7 @@ impl Ending {
     {
         match self {
             Ending::Told | Ending::HandedOn => "",
-            Ending::Usage => "usage: foresight_where FILE | --rules | --version\n",
+            Ending::Usage => "usage: foresight_where [--json] FILE | --rules | --version\n",
             Ending::NoMemory => "no memory\n",
             Ending::ReadFault => "read fault\n",
             Ending::TooLarge => "too large\n",

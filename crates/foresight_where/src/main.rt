@@ -1,8 +1,10 @@
 //! From a refusal of `foresight` to the place in the file: the file's name is the one word, and in
 //! place of the first line of the standard input that is a refusal's the place with a sentence is
-//! written. All other lines are handed on as they are.
+//! written. All other lines are handed on as they are. Behind `--json` the place and the sentence
+//! are written as JSON, without the other lines.
 #![tactic(auto)]
 
+mod asking;
 mod choosing;
 mod ending;
 mod reading;

@@ -1,25 +1,65 @@
 // What is written for a refusal's line.
 
-ghost use Rattle.std.specs.Prelude.{◌≡◌, ◌≢◌, ◌++◌, ◌≤◌, length};
+ghost use Rattle.std.specs.Prelude.{◌≡◌, ◌≢◌, ◌++◌, ◌≤◌, List, ℕ, length};
 ghost use Rattle.standard_streams.specs.Changes.{change};
 ghost use Rattle.refusal_places.specs.RuleTable.{rules_text};
+ghost use Rattle.foresight_where.specs.declared.asking.Form.TheVariants as form;
 ghost use Rattle.foresight_where.specs.declared.ending.Ending.TheVariants.{NoMemory, Told};
 ghost use Rattle.foresight_where.specs.Chosen.{back_of, front_of, refusal_line};
 ghost use Rattle.foresight_where.specs.Endings.{most, version_line};
 ghost use Rattle.foresight_where.specs.Runs.{Prints};
 ghost use Rattle.foresight_where.specs.Showing.{Shows, Writes};
 
+use crate::asking::{Asked, Form};
 use crate::choosing::Cut;
 use crate::ending::Ending;
 use byte_ends::{Sink, write_all};
-use refusal_advice::told;
+use refusal_advice::{told, told_json};
 use refusal_places::rules_text;
 use std::alloc::Global;
+
+/// Tells of the first refusal of an input in the form that is asked for.
+pub(crate) fn show<O: Sink>(
+    alloc: Global,
+    asked: Asked<'_>,
+    file: &[u8],
+    input: &[u8],
+    cut: &Cut<'_>,
+    out: &mut O,
+) -> Ending
+    requires file { length file.now ≤ most }
+    requires front { cut.now.front.now ≡ front_of input.now }
+    requires line { cut.now.line.now ≡ refusal_line input.now }
+    requires back { cut.now.back.now ≡ back_of input.now }
+    requires short { length cut.now.line.now ≤ most }
+    ensures { Shows asked.entry.form asked.entry.name.now input.now file.now
+        (change O.held O.faults out.old out.new) result }
+{
+    match asked.form {
+        Form::Text => show_text(alloc, asked.name, file, input, cut, out),
+        Form::Json => show_json(alloc, asked.name, file, cut.line, out),
+    }
+}
+
+/// Writes what is told of a refusal's line as JSON, or `null` where nothing is.
+#[tactic(auto, using(crate::proofs::Writing::shows_json, crate::proofs::Writing::shows_null))]
+fn show_json<O: Sink>(alloc: Global, name: &str, file: &[u8], line: &[u8], out: &mut O) -> Ending
+    requires file { length file.now ≤ most }
+    requires line { length line.now ≤ most }
+    ensures { (input : List ℕ) → line.now ≡ refusal_line input
+        → Shows form.Json name.now input file.now (change O.held O.faults out.old out.new) result }
+{
+    match told_json(alloc, name, file, line) {
+        Ok(Some(text)) => written(out, &text, Ending::Told),
+        Ok(None) => written(out, b"null\n", Ending::HandedOn),
+        Err(_) => Ending::NoMemory,
+    }
+}
 
 /// Writes the input with the text of the place that its first refusal names in place of that line,
 /// and behind that what is advised there, or the input as it is.
 #[tactic(auto, using(crate::proofs::Writing::shows_told, crate::proofs::Writing::shows_input))]
-pub(crate) fn show<O: Sink>(
+fn show_text<O: Sink>(
     alloc: Global,
     name: &str,
     file: &[u8],
@@ -32,7 +72,8 @@ pub(crate) fn show<O: Sink>(
     requires line { cut.now.line.now ≡ refusal_line input.now }
     requires back { cut.now.back.now ≡ back_of input.now }
     requires short { length cut.now.line.now ≤ most }
-    ensures { Shows name.now input.now file.now (change O.held O.faults out.old out.new) result }
+    ensures { Shows form.Text name.now input.now file.now
+        (change O.held O.faults out.old out.new) result }
 {
     match told(alloc, name, file, cut.line) {
         Ok(Some(text)) => write_within(out, cut.front, &text, cut.back),
@@ -90,5 +131,5 @@ pub(crate) fn show_version<O: Sink>(out: &mut O) -> Ending
     ensures prints { Prints version_line (change O.held O.faults out.old out.new) result }
     ensures memory { result ≢ NoMemory }
 {
-    written(out, b"foresight_where 1.3\n", Ending::Told)
+    written(out, b"foresight_where 1.4\n", Ending::Told)
 }

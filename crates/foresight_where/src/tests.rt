@@ -68,6 +68,10 @@ const PLACE: &str = "small:2:25: a token with which no file goes on\nhandler two
      \x20                       ^\n= unexpected `}`: `*`, `+`, `-`, `,` or `;` is wanted here\n\
      = a statement ends with `;`\n";
 
+const JSON: &str = "{\"advice\":[\"unexpected `}`: `*`, `+`, `-`, `,` or `;` is wanted here\",\
+     \"a statement ends with `;`\"],\"column\":25,\"file\":\"small\",\"line\":2,\"rule\":\"S2\",\
+     \"sentence\":\"a token with which no file goes on\"}\n";
+
 /// The words of a command line, which stand one space apart.
 fn words_of(alloc: Global, command: &str) -> Result<Vec<String>, AllocError> {
     let mut words = Vec::new(alloc);
@@ -114,8 +118,11 @@ fn runs_without_faults(rt: HostRuntime) -> Result<(), Fail> {
         // A file is opened only where a place is named.
         ("large", "hello\n", Ending::HandedOn, "hello\n"),
         ("large", REFUSED, Ending::ReadFault, ""),
-        ("--version", REFUSED, Ending::Told, "foresight_where 1.3\n"),
+        ("--version", REFUSED, Ending::Told, "foresight_where 1.4\n"),
         ("small large", REFUSED, Ending::Usage, ""),
+        ("--json small", REFUSED, Ending::Told, JSON),
+        ("--json large", "hello\n", Ending::HandedOn, "null\n"),
+        ("--json", REFUSED, Ending::Usage, ""),
     ] {
         let fails: Fails = (&[], &[], &[]);
         let found = end_of(

@@ -3,8 +3,9 @@
 ghost use Rattle.std.specs.Prelude.{◌≤◌, map, length, string_bytes};
 ghost use Rattle.standard_streams.specs.Changes.{change};
 ghost use Rattle.foresight_where.specs.Endings.{most};
-ghost use Rattle.foresight_where.specs.Runs.{EndsWithLine, Runs, RunsAlone, Places, PlacesIn};
+ghost use Rattle.foresight_where.specs.Runs.{EndsWithLine, Runs, RunsAlone, RunsBefore, Places, PlacesIn};
 
+use crate::asking::{Asked, Form};
 use crate::choosing::cut_input;
 use crate::ending::Ending;
 use crate::reading::{read_bytes, read_file};
@@ -15,10 +16,10 @@ use standard_streams::OpensFiles;
 use std::alloc::Global;
 
 /// All that the program does: `words` are those after the program's name. It reads an input from
-/// `source` and, where its first refusal names a place, the file with the name that is the one
+/// `source` and, where its first refusal names a place, the file with the name that is the last
 /// word; it writes the input to `out`, with what is told of that refusal in place of its line, or
-/// as it is, or the table of rules or the version, and one line to `err` where none of these is
-/// written. Its promises stand by name in `specs/Runs.antt`.
+/// as it is, or what is told of it as JSON, or the table of rules or the version, and one line to
+/// `err` where none of these is written. Its promises stand by name in `specs/Runs.antt`.
 pub(crate) fn run<I: Source, F: OpensFiles, O: Sink, E: Sink>(
     alloc: Global,
     words: &[String],
@@ -51,6 +52,7 @@ fn answer<I: Source, F: OpensFiles, O: Sink>(
 {
     match words {
         [word] => alone(alloc, word.as_str(), source, files, out),
+        [word, name] => before(alloc, word.as_str(), name.as_str(), source, files, out),
         _ => Ending::Usage,
     }
 }
@@ -71,25 +73,53 @@ fn alone<I: Source, F: OpensFiles, O: Sink>(
         show_rules(alloc, out)
     } else if word == "--version" {
         show_version(out)
+    } else if word == "--json" {
+        Ending::Usage
     } else {
-        place(alloc, word, source, files, out)
+        let asked = Asked {
+            form: Form::Text,
+            name: word,
+        };
+        place(alloc, asked, source, files, out)
     }
 }
 
-// Shows the place in the file with this name that the first refusal of the input names.
-fn place<I: Source, F: OpensFiles, O: Sink>(
+// What is done for a word before a file's name.
+fn before<I: Source, F: OpensFiles, O: Sink>(
     alloc: Global,
+    word: &str,
     name: &str,
     source: &mut I,
     files: &mut F,
     out: &mut O,
 ) -> Ending
-    ensures { Places name.now (change I.left I.faults source.old source.new)
+    ensures { RunsBefore word.now name.now (change I.left I.faults source.old source.new)
         (change F.left F.faults files.old files.new) (F.bytes_of files.old name.now)
         (change O.held O.faults out.old out.new) result }
 {
+    if word == "--json" {
+        let form = Form::Json;
+        place(alloc, Asked { form, name }, source, files, out)
+    } else {
+        Ending::Usage
+    }
+}
+
+// Shows the place that the first refusal of the input names in the file that is asked for.
+fn place<I: Source, F: OpensFiles, O: Sink>(
+    alloc: Global,
+    asked: Asked<'_>,
+    source: &mut I,
+    files: &mut F,
+    out: &mut O,
+) -> Ending
+    ensures { Places asked.entry.form asked.entry.name.now
+        (change I.left I.faults source.old source.new)
+        (change F.left F.faults files.old files.new) (F.bytes_of files.old asked.entry.name.now)
+        (change O.held O.faults out.old out.new) result }
+{
     match read_bytes(alloc, source) {
-        Ok(input) => place_in(alloc, name, &input, files, out),
+        Ok(input) => place_in(alloc, asked, &input, files, out),
         Err(ending) => ending,
     }
 }
@@ -98,21 +128,22 @@ fn place<I: Source, F: OpensFiles, O: Sink>(
 // file is read only where that names one.
 fn place_in<F: OpensFiles, O: Sink>(
     alloc: Global,
-    name: &str,
+    asked: Asked<'_>,
     input: &[u8],
     files: &mut F,
     out: &mut O,
 ) -> Ending
     requires { length input.now ≤ most }
-    ensures { PlacesIn name.now input.now (change F.left F.faults files.old files.new)
-        (F.bytes_of files.old name.now) (change O.held O.faults out.old out.new) result }
+    ensures { PlacesIn asked.entry.form asked.entry.name.now input.now
+        (change F.left F.faults files.old files.new) (F.bytes_of files.old asked.entry.name.now)
+        (change O.held O.faults out.old out.new) result }
 {
     let cut = cut_input(input);
     if !names_place(cut.line) {
-        return show(alloc, name, &[], input, &cut, out);
+        return show(alloc, asked, &[], input, &cut, out);
     }
-    match read_file(alloc, name, files) {
-        Ok(file) => show(alloc, name, &file, input, &cut, out),
+    match read_file(alloc, asked.name, files) {
+        Ok(file) => show(alloc, asked, &file, input, &cut, out),
         Err(ending) => ending,
     }
 }

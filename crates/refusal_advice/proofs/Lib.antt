@@ -1,14 +1,8 @@
 pub mod Advised
-pub mod Appending
 pub mod ClassWords
-pub mod Earliest
 pub mod Faults
 pub mod Following
 pub mod Kept
-pub mod Nearing
-pub mod Rowing
-pub mod Ruling
-pub mod Seeing
+pub mod Objects
 pub mod Stopping
 pub mod Telling
-pub mod Unlisted

@@ -34,7 +34,12 @@ class_of sort.LeftBrace = Some class.LeftBrace
 class_of sort.RightBrace = Some class.RightBrace
 class_of sort.Comma = Some class.Comma
 class_of sort.Semicolon = Some class.Semicolon
-class_of _ = None
+class_of sort.MayUse = None
+class_of sort.Nothing = None
+class_of sort.Any = None
+class_of sort.Long = None
+class_of sort.Bad = None
+class_of sort.End = None
 
 -- a word of the class
 abbrev pub word_of : Class → Sort

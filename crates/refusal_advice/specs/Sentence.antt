@@ -20,7 +20,12 @@ before_token kind.End = codes "end of the handlers"
 abbrev pub has_text : TokenKind → Bool
 has_text kind.Long = false
 has_text kind.End = false
-has_text _ = true
+has_text kind.Name = true
+has_text kind.Key = true
+has_text kind.Symbol = true
+has_text kind.Number = true
+has_text kind.Sign = true
+has_text kind.Bad = true
 
 -- what was found
 abbrev pub found_text : TokenKind → List ℕ → List ℕ

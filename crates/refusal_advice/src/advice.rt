@@ -8,8 +8,8 @@ ghost use Rattle.refusal_advice.specs.Advice.{IsAdvice, advice_text};
 use crate::hint::hint;
 use crate::sentence::{push_hint, push_sentence};
 use crate::stop::Stop;
-use crate::token::token_at;
 use crate::walk::stop_at;
+use rule_advice::token_at;
 use session_values::NoMemory;
 use std::alloc::Global;
 

@@ -8,14 +8,9 @@ ghost use Rattle.refusal_places.specs.RuleTable.{row_of};
 ghost use Rattle.refusal_advice.specs.Told as spec;
 
 use crate::advice::advice_at;
-use crate::declared::declared_in;
-use crate::earlier::twice_advice;
-use crate::listing::Listing;
-use crate::row_line::row_advice;
-use crate::rule_line::rule_advice;
-use crate::topic::Topic;
 use refusal_places::{Place, Refusal, answer, refusal_of};
 use request_files::divide;
+use rule_advice::{advice_on, topic_of};
 use session_values::{MAX_INPUT, NoMemory};
 use std::alloc::Global;
 
@@ -26,52 +21,14 @@ fn is_of_grammar(word: &str) -> bool
     matches!(word, "S1" | "S2" | "S4")
 }
 
-/// What the rule with this word is about that is on a line.
-fn topic_of_line(word: &str) -> Topic
-    ensures { result ≡ spec.topic_of_line word.now }
-{
-    if word == "B1" {
-        Topic::TableLine
-    } else if word == "B2" {
-        Topic::TableCount
-    } else if word == "B3" || word == "Q3" {
-        Topic::NoValue
-    } else if word == "Q1" {
-        Topic::Request
-    } else if word == "Q2" {
-        Topic::RequestCount
-    } else {
-        Topic::Other
-    }
-}
-
-/// What the rule with this word is about.
-fn topic_of(word: &str) -> Topic
-    ensures { result ≡ spec.topic_of word.now }
-{
-    if is_of_grammar(word) {
-        Topic::Grammar
-    } else if word == "K1" {
-        Topic::Twice
-    } else if word == "K2" {
-        Topic::Unknown
-    } else if word == "K3" {
-        Topic::Arguments
-    } else if word == "K4" {
-        Topic::OtherKind
-    } else {
-        topic_of_line(word)
-    }
-}
-
 /// The byte or the number of the line that a place is.
 fn number_of(place: Place) -> Option<u32>
     ensures { result ≡ spec.number_of place }
 {
     match place {
-        Place::Byte(at) => Some(at),
+        Place::Nowhere => None,
+        Place::Byte(at) | Place::Counted(at, _) => Some(at),
         Place::Line(line) => Some(line),
-        _ => None,
     }
 }
 
@@ -86,43 +43,36 @@ fn handlers_of(text: &str) -> &str
     }
 }
 
-/// What is advised on a topic at a place of a text, of which this is the text of handlers.
-fn advice_on(
+/// What is advised where the rule with this word is broken at a place of a text, of which this is
+/// the text of handlers.
+fn advice_by(
     alloc: Global,
-    topic: Topic,
+    rule: &str,
     source: &str,
     text: &str,
     at: u32,
 ) -> Result<Vec<u8>, NoMemory>
     requires source { length source.now ≤ max_input }
     requires text { length text.now ≤ max_input }
-    ensures { IfOk result (λ advice. spec.IsAdviceOn topic source.now text.now at advice.items) }
+    ensures { IfOk result (λ advice. spec.IsAdviceBy rule.now source.now text.now at
+        advice.items) }
 {
-    match topic {
-        Topic::Grammar => advice_at(alloc, source, at),
-        Topic::Twice => twice_advice(alloc, source, at),
-        Topic::Unknown | Topic::Arguments | Topic::OtherKind => {
-            rule_advice(alloc, topic, source, at)
-        }
-        Topic::TableLine => declared_in(alloc, source, Listing::Tables),
-        Topic::Request => declared_in(alloc, source, Listing::Handlers),
-        Topic::RequestCount | Topic::TableCount | Topic::NoValue => {
-            row_advice(alloc, topic, source, text, at)
-        }
-        Topic::Other => Ok(Vec::new(alloc)),
+    if is_of_grammar(rule) {
+        advice_at(alloc, source, at)
+    } else {
+        advice_on(alloc, topic_of(rule), source, text, at)
     }
 }
 
-/// What is advised on a topic at a place of a file; nothing where it is no text, or too long for
-/// one.
-fn advice_in(alloc: Global, topic: Topic, file: &[u8], at: u32) -> Result<Vec<u8>, NoMemory>
-    ensures { IfOk result (λ text. spec.IsAdviceIn topic file.now at text.items) }
+/// The same in a file; nothing where it is no text, or too long for one.
+fn advice_in(alloc: Global, rule: &str, file: &[u8], at: u32) -> Result<Vec<u8>, NoMemory>
+    ensures { IfOk result (λ text. spec.IsAdviceIn rule.now file.now at text.items) }
 {
     if file.len() > MAX_INPUT {
         return Ok(Vec::new(alloc));
     }
     match std::str::from_utf8(file) {
-        Ok(text) => advice_on(alloc, topic, handlers_of(text), text, at),
+        Ok(text) => advice_by(alloc, rule, handlers_of(text), text, at),
         Err(_) => Ok(Vec::new(alloc)),
     }
 }
@@ -133,7 +83,7 @@ pub fn advice_for(alloc: Global, file: &[u8], refusal: &Refusal) -> Result<Vec<u
         (said (row_of refusal.now.rule) refusal.now.place) text.items) }
 {
     match number_of(refusal.place) {
-        Some(at) => advice_in(alloc, topic_of(refusal.rule.word), file, at),
+        Some(at) => advice_in(alloc, refusal.rule.word, file, at),
         None => Ok(Vec::new(alloc)),
     }
 }

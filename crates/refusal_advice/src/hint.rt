@@ -51,6 +51,12 @@ pub(crate) fn hint(last: Option<Sort>, found: Sort, token: &str, wanted: &[Class
         Sort::RightBrace => closing_hint(wanted),
         Sort::RightParen => "",
         Sort::End => end_hint(wanted),
-        _ => key_hint(wanted),
+        Sort::Let
+        | Sort::Else
+        | Sort::Repeat
+        | Sort::As
+        | Sort::Reply
+        | Sort::Nothing
+        | Sort::Any => key_hint(wanted),
     }
 }

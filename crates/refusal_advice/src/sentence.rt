@@ -28,7 +28,12 @@ fn has_text(kind: TokenKind) -> bool
 {
     match kind {
         TokenKind::Long | TokenKind::End => false,
-        _ => true,
+        TokenKind::Name
+        | TokenKind::Key
+        | TokenKind::Symbol
+        | TokenKind::Number
+        | TokenKind::Sign
+        | TokenKind::Bad => true,
     }
 }
 

@@ -12,9 +12,9 @@ use crate::class::Class;
 use crate::part::Part;
 use crate::stop::Stop;
 use crate::taking::{may_end, take};
-use session_values::{Names, NoMemory};
+use rule_advice::names_for;
+use session_values::NoMemory;
 use std::alloc::Global;
-use std::hash::{DefaultHasher, Hasher};
 use syntax_tokens::{Reader, Sort, Word};
 
 /// Whether a word of this class can come where these parts are to come.
@@ -88,15 +88,6 @@ fn whole_parts(alloc: Global) -> Result<Vec<Part>, NoMemory>
 {
     let parts = vec![in alloc; Part::Handlers, Part::Tables]?;
     Ok(parts)
-}
-
-/// No names yet. Their hashes begin from a hash of the whole text.
-pub(crate) fn names_for(alloc: Global, source: &str) -> Names
-    ensures { result ≡ [] }
-{
-    let mut hasher = DefaultHasher::new();
-    hasher.write(source.as_bytes());
-    Names::with_seed(alloc, hasher.finish())
 }
 
 /// The same by the walk over the words.

@@ -1,0 +1,10 @@
+pub mod Appending
+pub mod Dividing
+pub mod Earliest
+pub mod Mapped
+pub mod Nearing
+pub mod Rowing
+pub mod Ruling
+pub mod Seeing
+pub mod Tallying
+pub mod Unlisted

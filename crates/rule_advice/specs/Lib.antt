@@ -1,0 +1,12 @@
+pub mod Counts
+pub mod Earlier
+pub mod GivenKeys
+pub mod Limits
+pub mod Listings
+pub mod NoValues
+pub mod Rows
+pub mod Rules
+pub mod Surroundings
+pub mod Token
+pub mod Topics
+pub mod Visible
