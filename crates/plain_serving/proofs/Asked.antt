@@ -20,12 +20,11 @@ use Rattle.serve_reading.specs.declared.session.Loaded.{Loaded}
 use Rattle.serve_reading.specs.declared.unserved.Unserved.{Unserved}
 use Rattle.serve_reading.specs.declared.unserved.Unserved.TheVariants.{NoMemory, Refused}
 use Rattle.serve_reading.proofs.Loading.{as_program}
-use Rattle.serve_core.specs.Commands.{serving}
 use Rattle.serve_core.specs.Serving.{EndsOrWants, script_of_loaded, status_of}
 use Rattle.serve_core.proofs.EndLemmas.{input_reason, session_input}
 use Rattle.serve_core.proofs.RunLemmas.{fine_answer, front_answer, no_answer, refused_answer}
 use Rattle.plain_serving.specs.Runs.{AnswersAlone}
-use Rattle.plain_serving.specs.Serving.{asked_text}
+use Rattle.plain_serving.specs.Serving.{asked_text, serving}
 
 -- ---- how a command ends
 module _ {O : Type 0} (c : Command) (bytes : List ℕ) (out : Change O) where

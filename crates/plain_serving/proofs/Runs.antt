@@ -13,10 +13,11 @@ use Rattle.serve_faults.specs.Commands.{input_of}
 use Rattle.serve_faults.specs.Changes.{Change, Failed, HasNotFailed, IsUntouched}
 use Rattle.serve_faults.specs.Ways.{HasRead, StoppedAs}
 use Rattle.serve_faults.proofs.OneAnswer.{refused_once, text_or_refused}
-use Rattle.serve_core.specs.Commands.{OfItsBytes, serving}
+use Rattle.serve_core.specs.Commands.{OfItsBytes}
 use Rattle.serve_core.specs.Runs.{Answered, Written, has_read_all}
 use Rattle.serve_core.proofs.RunLemmas.{no_answer, refused_answer}
 use Rattle.plain_serving.specs.Runs.{AnswersAlone, RunsAlone}
+use Rattle.plain_serving.specs.Serving.{serving}
 use Rattle.session_values.proofs.Options.{if_some}
 
 untold : {X : Type 0} (P : X → Type 0) (o : Option X) → ((x : X) → P x) → IfSome o P

@@ -5,6 +5,8 @@ use Rattle.session_values.specs.ReplyText.{reply_text}
 use Rattle.session_values.specs.Serial.{Session, serial_replies, tables_before}
 use Rattle.session_values.specs.Tables.{Tables, kind_of}
 use Rattle.session_journal.specs.Script.{Meaning, session_of}
+use Rattle.serve_faults.specs.Command.{Command}
+use Rattle.serve_faults.specs.Command.TheVariants.{Dump, Serve}
 use Rattle.serve_faults.specs.Language.{File}
 use Rattle.serve_faults.specs.ReadBack.{texts_of}
 use Rattle.table_text.specs.TableText.{table_text, written_table}
@@ -24,3 +26,7 @@ asked_text tables names f s =
     then table_text (texts_of names f.tables)
     (map (written_table names) (tables_before s s.requests))
     else reply_text names 0 (serial_replies s s.requests)
+
+-- the command that serves a session file and writes its replies, or its final tables
+abbrev pub serving : Bool → ℕ → ℕ → Command
+serving tables callers shards = if tables then Dump callers shards else Serve callers shards

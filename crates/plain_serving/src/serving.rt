@@ -5,17 +5,17 @@ ghost use Rattle.session_values.specs.Limits.{max_input};
 ghost use Rattle.session_journal.specs.Script.{session_of};
 ghost use Rattle.handler_machine.specs.Scripts.{meaning};
 ghost use Rattle.serve_faults.specs.Changes.{change};
-ghost use Rattle.serve_core.specs.Commands.{serving};
-ghost use Rattle.serve_core.specs.Serving.{CanServe, EndsOrWants, script_of_loaded, status_of};
+ghost use Rattle.serve_core.specs.Serving.{CanServe, EndsOrWants, script_of_loaded};
 ghost use Rattle.plain_serving.specs.Runs.{AnswersAlone, RunsAlone};
-ghost use Rattle.plain_serving.specs.Serving.{AreServed, asked_text};
+ghost use Rattle.plain_serving.specs.Serving.{AreServed, asked_text, serving};
 
 use crate::running::{Served, serve_tickets};
 use crate::writing::write_asked;
 use byte_ends::{Sink, Source};
 use handler_machine::Scripts;
+use serve_core::ended;
 use serve_faults::Status;
-use serve_reading::{Loaded, Unserved, load_session, read_input};
+use serve_reading::{Loaded, load_session, read_input};
 use session_values::NoMemory;
 use std::alloc::Global;
 
@@ -46,16 +46,6 @@ fn serve_input<O: Sink>(alloc: Global, tables: bool, bytes: &[u8], out: &mut O) 
     match load_session(alloc, bytes) {
         Ok(loaded) => serve_loaded(alloc, tables, &loaded, out),
         Err(e) => ended(e),
-    }
-}
-
-// How a run ends that answers no text.
-fn ended(e: Unserved) -> Status
-    ensures { result ≡ status_of e }
-{
-    match e {
-        Unserved::Refused(fault) => Status::Refused(fault),
-        Unserved::NoMemory => Status::NoMemory,
     }
 }
 

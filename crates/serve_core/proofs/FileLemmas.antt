@@ -28,7 +28,8 @@ use Rattle.serve_reading.specs.Sessions.{IsLoaded, IsSessionInput}
 use Rattle.serve_reading.proofs.Loading.{as_program}
 use Rattle.serve_core.specs.declared.writing.Writing.{Writing}
 use Rattle.serve_core.specs.Serving.{AreFinal, CanPrint, CanServe, EndsLoaded, EndsSession, HasRoom, HasRoomFor, HasServed, script_of_loaded, status_of}
-use Rattle.serve_core.specs.declared.writing.Writing.TheVariants.{Replies, Summary, Tables, Events}
+use Rattle.serve_core.specs.declared.writing.Later.{Later}
+use Rattle.serve_core.specs.declared.writing.Later.TheVariants.{Summary, Tables, Events}
 use Rattle.request_files.specs.Values.{is_symbol}
 use Rattle.serve_core.proofs.TraceLemmas.{names_symbols, told_events}
 use Rattle.serve_core.proofs.FinalLemmas.{each_dumped, each_room, entries_printable, tables_long}
@@ -95,8 +96,7 @@ can_print l h d done = record {
         }
 
 -- and there is room for them
-pub has_room : (w : Writing) (f : File) (m : Meaning) (d : ClosedView) (capacity : ℕ) → IsDone m d → length m.shape ≡ length f.tables → HasRoom w m capacity → HasRoomFor w f d capacity
-has_room Replies f m d capacity done long h = tt
+pub has_room : (w : Later) (f : File) (m : Meaning) (d : ClosedView) (capacity : ℕ) → IsDone m d → length m.shape ≡ length f.tables → HasRoom w m capacity → HasRoomFor w f d capacity
 has_room (Summary requests) f m d capacity done long h = tt
 has_room Events f m d capacity done long h = tt
 has_room Tables f m d capacity done long h = λ left. each_room d capacity 0 (length f.tables) (λ t lt.

@@ -1,5 +1,5 @@
 -- What `clients` answers, from what was loaded, served in rounds and written.
-use Rattle.std.proofs.Common.{◌≡◌, ℕ, zero, suc, ◌+◌, ◌<◌, ◌≤◌, Bool, ◌&&◌, true, false, nat_lt, is_some, List, [], ◌∷◌, length, sum, Option, Some, None, refl, sym, ap, ◌∙◌, subst, arith}
+use Rattle.std.proofs.Common.{◌≡◌, ℕ, zero, suc, ◌≤◌, Bool, ◌&&◌, true, false, nat_lt, is_some, List, [], ◌∷◌, length, sum, Option, Some, None, refl, sym, ap, ◌∙◌, subst, arith}
 use Rattle.std.proofs.lemmas.List.{length-map}
 use Rattle.std.specs.Prelude.{IfSome}
 use Rattle.session_values.specs.Limits.{max_requests}
@@ -15,7 +15,6 @@ use Rattle.serve_faults.specs.Language.{File}
 use Rattle.session_hall.specs.Closings.{ClosedView}
 use Rattle.reply_sheet.specs.Printable.{ArePrintableReplies}
 use Rattle.request_files.specs.declared.request.Request.{Request}
-use Rattle.request_files.specs.Clients.{ClientsView}
 use Rattle.request_files.specs.Picked.{picked}
 use Rattle.request_files.specs.Requests.{ArePrintable, request_of}
 use Rattle.request_files.specs.Session.{request_at, session}
@@ -24,7 +23,6 @@ use Rattle.client_sheet.specs.Arrivals.{IsDrawn}
 use Rattle.client_sheet.specs.ClientText.{clients_text}
 use Rattle.client_sheet.specs.Numbers.{numbers_of}
 use Rattle.client_rounds.specs.Rounds.{AreServed, IsLastRound, ServedView, session_by}
-use Rattle.declaration_insertion.specs.Program.{ProgramView}
 use Rattle.serve_words.specs.declared.command.Command.TheVariants.{Clients}
 use Rattle.serve_faults.specs.declared.status.Status.{Status}
 use Rattle.serve_faults.specs.declared.status.Status.TheVariants as status
@@ -40,7 +38,7 @@ use Rattle.std.proofs.lemmas.Bool.{false≢true}
 use Rattle.serve_core.specs.Commands.{has_begun_writing}
 use Rattle.serve_core.specs.Arriving.{CanServeClients, EndsClients}
 use Rattle.serve_core.specs.Replied.{text_of_arrivals}
-use Rattle.serve_core.specs.Runs.{AnswersTo, Holds, IsServedInRounds, Opens}
+use Rattle.serve_core.specs.Runs.{AnswersTo, Holds, Opens}
 use Rattle.serve_core.specs.Serving.{EndsBy}
 use Rattle.serve_core.proofs.EndLemmas.{ends_to, memory_to}
 use Rattle.serve_core.proofs.FileLemmas.{can_serve}

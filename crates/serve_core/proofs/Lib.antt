@@ -6,6 +6,6 @@ pub mod FileLemmas
 pub mod FinalLemmas
 pub mod GatherLemmas
 pub mod RunLemmas
+pub mod SessionEnds
 pub mod TopLemmas
-pub mod TraceEnds
 pub mod TraceLemmas

@@ -1,5 +1,5 @@
 -- What a run promises, from what its parts say.
-use Rattle.std.proofs.Common.{◌≡◌, ◌≢◌, ℕ, ◌+◌, ◌<◌, ◌⊎◌, inl, inr, Bool, ◌&&◌, true, false, is_some, List, length, ◌≤◌, Option, Some, None, IfSome, refl, sym, ap, ◌∙◌, subst, arith}
+use Rattle.std.proofs.Common.{◌≡◌, ◌≢◌, ℕ, ◌+◌, ◌<◌, ◌⊎◌, inl, inr, Bool, ◌&&◌, true, false, if◌then◌else◌, is_some, List, length, nat_lt, ◌≤◌, Option, Some, None, IfSome, refl, sym, ap, ◌∙◌, subst, arith}
 use Rattle.std.proofs.lemmas.List.{drop_all}
 use Rattle.byte_ends.specs.Ends.{IsAtEnd, LostFirst, LostAtMost}
 use Rattle.session_hall.specs.Closings.{ClosedView}
@@ -10,11 +10,12 @@ use Rattle.serve_faults.specs.declared.status.Fault.TheVariants.{TooLarge}
 use Rattle.serve_faults.specs.declared.status.Status.{Status}
 use Rattle.serve_faults.specs.declared.status.Status.TheVariants as status
 use Rattle.serve_faults.specs.Answer.{IsRefused, IsTextOf, IsUnrefused}
-use Rattle.serve_faults.specs.Commands.{input_of, is_reading}
-use Rattle.serve_faults.specs.Input.{IsInput, IsTooLarge, most_of}
+use Rattle.serve_faults.specs.Commands.{input_of, is_reading, is_serving}
+use Rattle.serve_faults.specs.Input.{IsInput, IsTooLarge, client_parts, most_of}
+use Rattle.serve_faults.specs.Session.{rows_of}
 use Rattle.serve_faults.specs.Changes.{Change, Failed, HasNotFailed, IsUntouched, Took, TookFront}
-use Rattle.serve_core.specs.Commands.{Told, has_begun_writing, has_served, has_ticket, opens_always}
-use Rattle.serve_core.specs.Runs.{has_read_all, Answered, Written, Holds, IsLeft, Opens, Runs, WroteJournal}
+use Rattle.serve_core.specs.Commands.{Told, ToldBy, has_begun_writing, has_served, has_ticket, is_gathering, opens_always}
+use Rattle.serve_core.specs.Runs.{has_read_all, Answered, Written, Holds, Opens, Runs, WroteJournal}
 use Rattle.serve_core.specs.Runs.{AnswersTo}
 use Rattle.serve_faults.specs.Ways.{HasRead, StoppedAs}
 use Rattle.serve_faults.proofs.OneAnswer.{refused_once, text_or_refused}
@@ -54,16 +55,12 @@ module _ {O : Type 0} (c : Command) (bytes : List ℕ) (out : Change O) where
 
 -- ---- of what is told
 
+told_by : {S : Type 0} (reads : Bool) (s : Change S) (P Q : List ℕ → Type 0) → ((bytes : List ℕ) → P bytes → Q bytes) → ToldBy reads s P → ToldBy reads s Q
+told_by true s P Q f h = if_some P Q (s.bytes s.old) f h
+told_by false s P Q f h = λ bytes. f bytes (h bytes)
+
 told_map : {S : Type 0} (c : Command) (s : Change S) (P Q : List ℕ → Type 0) → ((bytes : List ℕ) → P bytes → Q bytes) → Told (Some c) s P → Told (Some c) s Q
-told_map Check s P Q f h = if_some P Q (s.bytes s.old) f h
-told_map Show s P Q f h = if_some P Q (s.bytes s.old) f h
-told_map (Serve callers shards) s P Q f h = if_some P Q (s.bytes s.old) f h
-told_map (Dump callers shards) s P Q f h = if_some P Q (s.bytes s.old) f h
-told_map (Work requests start) s P Q f h = λ bytes. f bytes (h bytes)
-told_map Ranges s P Q f h = if_some P Q (s.bytes s.old) f h
-told_map (Trace callers shards) s P Q f h = if_some P Q (s.bytes s.old) f h
-told_map Audit s P Q f h = if_some P Q (s.bytes s.old) f h
-told_map (Clients callers shards) s P Q f h = if_some P Q (s.bytes s.old) f h
+told_map c s P Q f h = told_by (is_reading (Some c)) s P Q f h
 
 -- ---- a whole run
 module _ {I O : Type 0} (c : Command) (source : Change I) (out : Change O) (closed : Option ClosedView) where
@@ -132,15 +129,7 @@ reading_input Audit bytes e = refl
 reading_input (Clients callers shards) bytes e = refl
 
 told_some : {S : Type 0} (c : Command) (s : Change S) (P : List ℕ → Type 0) → is_reading (Some c) ≡ true → IfSome (s.bytes s.old) P → Told (Some c) s P
-told_some Check s P e h = h
-told_some Show s P e h = h
-told_some (Serve callers shards) s P e h = h
-told_some (Dump callers shards) s P e h = h
-told_some (Work requests start) s P e h = absurd (cc)
-told_some Ranges s P e h = h
-told_some (Trace callers shards) s P e h = h
-told_some Audit s P e h = h
-told_some (Clients callers shards) s P e h = h
+told_some c s P e h = subst (λ (reads : Bool). ToldBy reads s P) (sym e) h
 
 -- an input of more bytes than the command takes is too large
 too_long : (c : Command) (input : List ℕ) → most_of c < length input → IsTooLarge c input
@@ -165,16 +154,12 @@ untold : {X : Type 0} (o : Option X) → IfSome o (λ _. Unit {0})
 untold None = tt
 untold (Some x) = tt
 
+nothing_told : {S : Type 0} (reads : Bool) (s : Change S) → ToldBy reads s (λ bytes. Unit {0})
+nothing_told true s = untold (s.bytes s.old)
+nothing_told false s = λ bytes. tt
+
 nothing_held : {S O : Type 0} (c : Command) (s : Change S) (out : Change O) (status : Status) → Told (Some c) s (λ bytes. Holds (Some c) bytes out status None)
-nothing_held Check s out status = untold (s.bytes s.old)
-nothing_held Show s out status = untold (s.bytes s.old)
-nothing_held (Serve callers shards) s out status = untold (s.bytes s.old)
-nothing_held (Dump callers shards) s out status = untold (s.bytes s.old)
-nothing_held (Work requests start) s out status = λ bytes. tt
-nothing_held Ranges s out status = untold (s.bytes s.old)
-nothing_held (Trace callers shards) s out status = untold (s.bytes s.old)
-nothing_held Audit s out status = untold (s.bytes s.old)
-nothing_held (Clients callers shards) s out status = untold (s.bytes s.old)
+nothing_held c s out status = nothing_told (is_reading (Some c)) s
 
 -- nor were events written
 nothing_traced : {S O : Type 0} (c : Command) (s : Change S) (out : Change O) (status : Status) → is_reading (Some c) ≡ true → Told (Some c) s (λ bytes. WroteJournal (Some c) bytes out status None)
@@ -188,22 +173,14 @@ unwritten status.Usage f w = refl
 unwritten status.NoMemory f w = refl
 unwritten status.ReadFault f w = refl
 
-pub not_served : (c : Command) (s : Status) → s ≢ status.Fine → s ≢ status.WriteFault → false ≡ has_served (Some c) s
-not_served Check s f w = refl
-not_served Show s f w = refl
-not_served (Serve callers shards) s f w = unwritten s f w
-not_served (Dump callers shards) s f w = unwritten s f w
-not_served (Work requests start) s f w = unwritten s f w
-not_served Ranges s f w = refl
-not_served (Trace callers shards) s f w = unwritten s f w
-not_served Audit s f w = refl
-not_served (Clients callers shards) s f w = unwritten s f w
-
--- where nothing is served, no hall is left
 and_false : (a b : Bool) → false ≡ b → false ≡ (a && b)
 and_false true b e = e
 and_false false b e = refl
 
+pub not_served : (c : Command) (s : Status) → s ≢ status.Fine → s ≢ status.WriteFault → false ≡ has_served (Some c) s
+not_served c s f w = and_false (is_serving c) (has_begun_writing s) (unwritten s f w)
+
+-- where nothing is served, no hall is left
 pub not_opened : (c : Command) (bytes : List ℕ) (s : Status) → s ≢ status.Fine → s ≢ status.WriteFault → Opens (Some c) bytes s None
 not_opened c bytes s f w = and_false (has_ticket c (input_of c bytes)) (has_served (Some c) s) (not_served c s f w)
 
@@ -211,16 +188,12 @@ none_opened : {S : Type 0} (c : Command) (source : Change S) (s : Status) → is
 none_opened c source s reads f w = told_some c source (λ bytes. Opens (Some c) bytes s None) reads (if_some (λ all. Unit {0}) _ (source.bytes source.old) (λ bytes _. not_opened c bytes s f w) (untold (source.bytes source.old)))
 
 -- where a hall is opened whatever the input is, it is left exactly where the run came to its output
+ticket_always : (gathers ticket : Bool) → (if gathers then false else true) ≡ true → (if gathers then ticket else true) ≡ true
+ticket_always true ticket e = absurd (cc)
+ticket_always false ticket e = refl
+
 has_ticket_always : (c : Command) (input : List ℕ) → opens_always (Some c) ≡ true → has_ticket c input ≡ true
-has_ticket_always Check input e = refl
-has_ticket_always Show input e = refl
-has_ticket_always (Serve callers shards) input e = refl
-has_ticket_always (Dump callers shards) input e = refl
-has_ticket_always (Work requests start) input e = refl
-has_ticket_always Ranges input e = refl
-has_ticket_always (Trace callers shards) input e = refl
-has_ticket_always Audit input e = refl
-has_ticket_always (Clients callers shards) input e = absurd (cc)
+has_ticket_always c input e = ticket_always (is_gathering c) (nat_lt 0 (length (rows_of (client_parts input)))) e
 
 pub opened_always : (c : Command) (bytes : List ℕ) (s : Status) (closed : Option ClosedView) → Opens (Some c) bytes s closed → opens_always (Some c) ≡ true → is_some closed ≡ has_served (Some c) s
 opened_always c bytes s closed o e = o ∙ ap (λ (b : Bool). b && has_served (Some c) s) (has_ticket_always c (input_of c bytes) e)

@@ -4,7 +4,7 @@ use Rattle.session_values.specs.Limits.{max_input, max_requests}
 use Rattle.byte_ends.specs.Ends.{Counted, Grew, GrewByFront, LostAtMost}
 use Rattle.session_hall.specs.Closings.{ClosedView}
 use Rattle.serve_words.specs.declared.command.Command.{Command}
-use Rattle.serve_words.specs.declared.command.Command.TheVariants.{Work, Ranges, Trace, Audit, Clients}
+use Rattle.serve_words.specs.declared.command.Command.TheVariants.{Work, Ranges, Audit}
 use Rattle.serve_words.specs.Commands.{IsWithinBounds}
 use Rattle.serve_faults.specs.declared.status.Status.{Status}
 use Rattle.serve_faults.specs.declared.status.Status.TheVariants as status
@@ -12,7 +12,9 @@ use Rattle.serve_faults.specs.Commands.{is_reading}
 use Rattle.serve_faults.specs.Changes.{Change, Failed, IsUntouched, Took, TookFront}
 use Rattle.serve_faults.specs.Input.{max_audit_input, most_of}
 use Rattle.made_sessions.proofs.MadeSession.{unrefused}
-use Rattle.serve_core.specs.Commands.{serving}
+use Rattle.serve_core.specs.declared.asked.Writes.{Writes}
+use Rattle.serve_core.specs.declared.asked.Writes.TheVariants.{ClientReplies, Events, Replies, Tables}
+use Rattle.serve_core.specs.Commands.{command_for}
 use Rattle.serve_core.specs.Runs.{Runs}
 use Rattle.serve_core.specs.Runs.{AnswersTo}
 use Rattle.serve_faults.specs.Ways.{HasRead, StoppedAs, describing}
@@ -90,25 +92,23 @@ module _ {I O : Type 0} (source : Change I) (out : Change O) where
   pub undescribed_run : (shown : Bool) (s : Status) → StoppedAs max_input source s → IsUntouched out → Runs (Some (describing shown)) source out s None
   undescribed_run shown s h same = stopped_run (describing shown) (describing_reads shown) source out s (subst (λ (n : ℕ). StoppedAs n source s) (sym (describing_most shown)) h) same
 
-  serving_reads : (tables : Bool) (callers shards : ℕ) → is_reading (Some (serving tables callers shards)) ≡ true
-  serving_reads true callers shards = refl
-  serving_reads false callers shards = refl
+  serving_reads : (w : Writes) (callers shards : ℕ) → is_reading (Some (command_for w callers shards)) ≡ true
+  serving_reads Replies callers shards = refl
+  serving_reads Tables callers shards = refl
+  serving_reads Events callers shards = refl
+  serving_reads ClientReplies callers shards = refl
 
-  serving_most : (tables : Bool) (callers shards : ℕ) → most_of (serving tables callers shards) ≡ max_input
-  serving_most true callers shards = refl
-  serving_most false callers shards = refl
+  serving_most : (w : Writes) (callers shards : ℕ) → most_of (command_for w callers shards) ≡ max_input
+  serving_most Replies callers shards = refl
+  serving_most Tables callers shards = refl
+  serving_most Events callers shards = refl
+  serving_most ClientReplies callers shards = refl
 
-  pub served_run : (tables : Bool) (callers shards : ℕ) (bytes : List ℕ) (s : Status) (closed : Option ClosedView) → HasRead max_input source bytes → AnswersTo (serving tables callers shards) bytes out s closed → Runs (Some (serving tables callers shards)) source out s closed
-  served_run tables callers shards bytes s closed h a = read_run (serving tables callers shards) (serving_reads tables callers shards) source out bytes s closed (subst (λ (n : ℕ). HasRead n source bytes) (sym (serving_most tables callers shards)) h) a
+  pub served_run : (w : Writes) (callers shards : ℕ) (bytes : List ℕ) (s : Status) (closed : Option ClosedView) → HasRead max_input source bytes → AnswersTo (command_for w callers shards) bytes out s closed → Runs (Some (command_for w callers shards)) source out s closed
+  served_run w callers shards bytes s closed h a = read_run (command_for w callers shards) (serving_reads w callers shards) source out bytes s closed (subst (λ (n : ℕ). HasRead n source bytes) (sym (serving_most w callers shards)) h) a
 
-  pub unserved_run : (tables : Bool) (callers shards : ℕ) (s : Status) → StoppedAs max_input source s → IsUntouched out → Runs (Some (serving tables callers shards)) source out s None
-  unserved_run tables callers shards s h same = stopped_run (serving tables callers shards) (serving_reads tables callers shards) source out s (subst (λ (n : ℕ). StoppedAs n source s) (sym (serving_most tables callers shards)) h) same
-
-  pub traced_run : (callers shards : ℕ) (bytes : List ℕ) (s : Status) (closed : Option ClosedView) → HasRead max_input source bytes → AnswersTo (Trace callers shards) bytes out s closed → Runs (Some (Trace callers shards)) source out s closed
-  traced_run callers shards bytes s closed h a = read_run (Trace callers shards) refl source out bytes s closed h a
-
-  pub untraced_run : (callers shards : ℕ) (s : Status) → StoppedAs max_input source s → IsUntouched out → Runs (Some (Trace callers shards)) source out s None
-  untraced_run callers shards s h same = stopped_run (Trace callers shards) refl source out s h same
+  pub unserved_run : (w : Writes) (callers shards : ℕ) (s : Status) → StoppedAs max_input source s → IsUntouched out → Runs (Some (command_for w callers shards)) source out s None
+  unserved_run w callers shards s h same = stopped_run (command_for w callers shards) (serving_reads w callers shards) source out s (subst (λ (n : ℕ). StoppedAs n source s) (sym (serving_most w callers shards)) h) same
 
   pub ranged_run : (bytes : List ℕ) (s : Status) → HasRead max_input source bytes → AnswersTo Ranges bytes out s None → Runs (Some Ranges) source out s None
   ranged_run bytes s h a = read_run Ranges refl source out bytes s None h a
@@ -121,9 +121,3 @@ module _ {I O : Type 0} (source : Change I) (out : Change O) where
 
   pub unaudited_run : (s : Status) → StoppedAs max_audit_input source s → IsUntouched out → Runs (Some Audit) source out s None
   unaudited_run s h same = stopped_run Audit refl source out s h same
-
-  pub rounds_run : (callers shards : ℕ) (bytes : List ℕ) (s : Status) (closed : Option ClosedView) → HasRead max_input source bytes → AnswersTo (Clients callers shards) bytes out s closed → Runs (Some (Clients callers shards)) source out s closed
-  rounds_run callers shards bytes s closed h a = read_run (Clients callers shards) refl source out bytes s closed h a
-
-  pub unrounded_run : (callers shards : ℕ) (s : Status) → StoppedAs max_input source s → IsUntouched out → Runs (Some (Clients callers shards)) source out s None
-  unrounded_run callers shards s h same = stopped_run (Clients callers shards) refl source out s h same

@@ -1,5 +1,5 @@
 -- The events of a closed hall are accepted, and can be told with the names of its session.
-use Rattle.std.proofs.Common.{◌≡◌, ℕ, ◌≤◌, true, List, [], ◌∷◌, ◌++◌, length, sym, ap, ◌∙◌, subst, arith}
+use Rattle.std.proofs.Common.{◌≡◌, ℕ, ◌≤◌, true, List, [], length, sym, ap, ◌∙◌, subst, arith}
 use Rattle.std.specs.List.{AllByRecursion}
 use Rattle.session_values.specs.Limits.{max_callers}
 use Rattle.session_values.specs.Serial.{Session}

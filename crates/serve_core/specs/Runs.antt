@@ -2,7 +2,6 @@
 use Rattle.std.specs.Prelude.{◌≡◌, ◌≢◌, ◌+◌, ◌⊎◌, ◌↔◌, ℕ, Bool, ◌&&◌, true, false, is_some, List, length, sum, Option, Some, None, IfSome}
 use Rattle.byte_ends.specs.Ends.{IsAtEnd, LostFirst, LostAtMost}
 use Rattle.serve_words.specs.declared.command.Command.{Command}
-use Rattle.serve_words.specs.declared.command.Command.TheVariants.{Check, Show, Serve, Dump, Work, Ranges, Trace, Audit, Clients}
 use Rattle.client_sheet.specs.declared.arrival.Arrival.{Arrival}
 use Rattle.client_sheet.specs.Arrivals.{IsDrawn}
 use Rattle.client_rounds.specs.Rounds.{IsLastRound}
@@ -25,7 +24,7 @@ use Rattle.serve_faults.specs.Input.{Parts, client_parts, most_of, parts_of}
 use Rattle.serve_faults.specs.Session.{IsSession, opened_of, requests_of, session_of_parts}
 use Rattle.serve_faults.specs.Traced.{traced_text}
 use Rattle.serve_faults.specs.Message.{message_of}
-use Rattle.serve_core.specs.Commands.{Told, has_begun_writing, has_served, has_ticket, opens_always, writes_events}
+use Rattle.serve_core.specs.Commands.{Told, has_begun_writing, has_served, has_ticket, is_gathering, opens_always, writes_events}
 use Rattle.serve_core.specs.Replied.{text_of_arrivals}
 
 -- ---- what is read
@@ -114,18 +113,14 @@ pub record IsServedInRounds {O : Type 0} (command : Command) (input : List ℕ) 
   pub took : s ≡ status.Fine → Took out (text_of_arrivals input file got)
   pub front : s ≡ status.WriteFault → TookFront out (text_of_arrivals input file got)
 
--- what a hall that is left holds: a line for each command
+-- what a hall that is left holds, by whether several clients were served in rounds
+abbrev pub IsLeftBy : {O : Type 0} → Bool → Command → List ℕ → Change O → Status → ClosedView
+    → Type 0
+IsLeftBy true command input out s d = IsServedInRounds command input out s d
+IsLeftBy false command input out s d = IsServedThrough command input d
+
 abbrev pub IsLeft : {O : Type 0} → Command → List ℕ → Change O → Status → ClosedView → Type 0
-IsLeft Check input out s d = IsServedThrough Check input d
-IsLeft Show input out s d = IsServedThrough Show input d
-IsLeft (Serve callers shards) input out s d = IsServedThrough (Serve callers shards) input d
-IsLeft (Dump callers shards) input out s d = IsServedThrough (Dump callers shards) input d
-IsLeft (Work requests start) input out s d = IsServedThrough (Work requests start) input d
-IsLeft Ranges input out s d = IsServedThrough Ranges input d
-IsLeft (Trace callers shards) input out s d = IsServedThrough (Trace callers shards) input d
-IsLeft Audit input out s d = IsServedThrough Audit input d
-IsLeft (Clients callers shards) input out s d =
-    IsServedInRounds (Clients callers shards) input out s d
+IsLeft command input out s d = IsLeftBy (is_gathering command) command input out s d
 
 -- so it is with the hall that a run leaves, if it leaves one
 abbrev pub Holds : {O : Type 0} → Option Command → List ℕ → Change O → Status

@@ -34,7 +34,9 @@ use Rattle.serve_reading.specs.declared.unserved.Unserved.{Unserved}
 use Rattle.serve_reading.specs.declared.unserved.Unserved.TheVariants.{Refused, NoMemory}
 use Rattle.serve_core.specs.Runs.{script_of_session}
 use Rattle.serve_core.specs.declared.writing.Writing.{Writing}
-use Rattle.serve_core.specs.declared.writing.Writing.TheVariants.{Replies, Summary, Tables, Events}
+use Rattle.serve_core.specs.declared.writing.Writing.TheVariants.{AtEnd, Replies}
+use Rattle.serve_core.specs.declared.writing.Later.{Later}
+use Rattle.serve_core.specs.declared.writing.Later.TheVariants.{Events, Summary, Tables}
 
 -- the script of what was loaded
 abbrev pub script_of_loaded : Loaded → ScriptsView
@@ -87,16 +89,14 @@ abbrev pub CanPrint : List (List ℕ) → File → Meaning → Type 0
 CanPrint names f m = (d : ClosedView) → IsDone m d → IsPrintable names f d
 
 -- where tables are to be written, there is room for so many entries as a table may have at the end
-abbrev pub HasRoom : Writing → Meaning → ℕ → Type 0
-HasRoom Replies m capacity = Unit {0}
+abbrev pub HasRoom : Later → Meaning → ℕ → Type 0
 HasRoom (Summary requests) m capacity = Unit {0}
 HasRoom Events m capacity = Unit {0}
 HasRoom Tables m capacity = (t : ℕ) → t < length m.shape
     → length (entries_of m.opened t) + room m t ≤ capacity
 
 -- so there is for each table
-abbrev pub HasRoomFor : Writing → File → ClosedView → ℕ → Type 0
-HasRoomFor Replies f d capacity = Unit {0}
+abbrev pub HasRoomFor : Later → File → ClosedView → ℕ → Type 0
 HasRoomFor (Summary requests) f d capacity = Unit {0}
 HasRoomFor Events f d capacity = Unit {0}
 HasRoomFor Tables f d capacity = AreFinal d (length f.tables)
@@ -106,9 +106,9 @@ HasRoomFor Tables f d capacity = AreFinal d (length f.tables)
 -- written read back
 abbrev pub HasLeft : Writing → List (List ℕ) → File → ClosedView → Type 0
 HasLeft Replies names f d = Unit {0}
-HasLeft (Summary requests) names f d = Unit {0}
-HasLeft Tables names f d = AreFinal d (length f.tables)
-HasLeft Events names f d = CanBeTold names f d.journal
+HasLeft (AtEnd (Summary requests)) names f d = Unit {0}
+HasLeft (AtEnd Tables) names f d = AreFinal d (length f.tables)
+HasLeft (AtEnd Events) names f d = CanBeTold names f d.journal
 
 -- The parts' session was served through a hall by so many callers, over so many shards a table; its
 -- names are these.
@@ -151,9 +151,10 @@ EndsOrWants text out status.ReadFault = ⊥
 -- bytes its replies take, its final tables, or its events
 abbrev pub text_of : Writing → List (List ℕ) → File → ClosedView → List ℕ
 text_of Replies names f d = reply_text names 0 d.replies
-text_of Tables names f d = dump_text names f.tables (final_lists d (length f.tables))
-text_of Events names f d = trace_text names (table_places f) d.journal
-text_of (Summary requests) names f d = summary requests (length (done_operations d.journal))
+text_of (AtEnd Tables) names f d = dump_text names f.tables (final_lists d (length f.tables))
+text_of (AtEnd Events) names f d = trace_text names (table_places f) d.journal
+text_of (AtEnd (Summary requests)) names f d =
+    summary requests (length (done_operations d.journal))
     (length (reply_text names 0 d.replies))
 
 -- a script was served through this hall, and what is asked of it was written

@@ -1,51 +1,29 @@
-// Several clients: from a source to the replies that each of them has.
+// Several clients: from the bytes of a session file to the replies that each of them has.
 
-ghost use Rattle.std.specs.Prelude.{◌≤◌, length, Some};
+ghost use Rattle.std.specs.Prelude.{◌≤◌, length};
 ghost use Rattle.session_values.specs.Limits.{max_input};
 ghost use Rattle.client_rounds.specs.Rounds.{AreServed};
 ghost use Rattle.serve_words.specs.declared.command.Command.TheVariants.{Clients};
 ghost use Rattle.serve_faults.specs.Changes.{change};
 ghost use Rattle.serve_core.specs.Arriving.{CanServeClients, EndsClients};
-ghost use Rattle.serve_core.specs.Runs.{AnswersTo, Runs};
+ghost use Rattle.serve_core.specs.Runs.{AnswersTo};
 
 use crate::outcome::{Outcome, unserved};
 use crate::sessions::ended;
 use crate::sizes::Sizes;
-use byte_ends::{Sink, Source, WriteBuffer};
+use byte_ends::{Sink, WriteBuffer};
 use client_rounds::{Served, serve_clients};
 use client_sheet::write_clients;
 use serve_faults::Status;
-use serve_reading::{LoadedClients, load_clients, read_input};
+use serve_reading::{LoadedClients, load_clients};
 use std::alloc::Global;
 use std::sync::Wait;
 use std::thread::Threads;
 use worker_gate::Gate;
 
-/// Reads a session file whose requests are several clients', serves them in the order in which they
+/// Serves the requests of a file's bytes, which are several clients', in the order in which they
 /// arrive, and writes for each client the replies that it has.
-pub(crate) fn gather_source<R: Threads + Wait + Sync, I: Source, O: Sink, G: Gate + Sync>(
-    rt: &R,
-    alloc: Global,
-    sizes: Sizes,
-    source: &mut I,
-    out: &mut O,
-    gate: &G,
-) -> Outcome
-    ensures { Runs (Some (Clients sizes.callers sizes.shards))
-        (change I.left I.faults source.old source.new)
-        (change O.held O.faults out.old out.new) result.status result.closed }
-{
-    match read_input(alloc, source) {
-        Ok(bytes) => gather_input(rt, alloc, sizes, bytes.as_slice(), out, gate),
-        Err(status) => Outcome {
-            status,
-            closed: None,
-        },
-    }
-}
-
-// Serves the requests of a file's bytes, and writes the replies.
-fn gather_input<R: Threads + Wait + Sync, O: Sink, G: Gate + Sync>(
+pub(crate) fn gather_bytes<R: Threads + Wait + Sync, O: Sink, G: Gate + Sync>(
     rt: &R,
     alloc: Global,
     sizes: Sizes,
@@ -59,10 +37,7 @@ fn gather_input<R: Threads + Wait + Sync, O: Sink, G: Gate + Sync>(
 {
     match load_clients(alloc, bytes) {
         Ok(loaded) => gather_loaded(rt, alloc, sizes, &loaded, out, gate),
-        Err(e) => Outcome {
-            status: ended(e),
-            closed: None,
-        },
+        Err(e) => unserved(ended(e)),
     }
 }
 

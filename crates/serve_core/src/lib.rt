@@ -3,10 +3,10 @@
 //! workload.
 #![tactic(auto)]
 
+mod asked;
 mod auditing;
 mod checking;
 mod counting;
-mod dumping;
 mod final_tables;
 mod gathering;
 mod lines;
@@ -17,11 +17,11 @@ mod serving;
 mod sessions;
 mod sizes;
 mod top;
-mod tracing;
 mod working;
 mod writing;
 
 pub use byte_ends::{Got, MemorySink, MemorySource, Put, Sink, Source, SureSink, SureSource};
 pub use outcome::Outcome;
 pub use serve_faults::{Fault, Status};
+pub use sessions::ended;
 pub use top::{audit, describe, ranges, run, tell};

@@ -9,8 +9,7 @@ ghost use Rattle.serve_faults.specs.Changes.{change};
 ghost use Rattle.serve_core.specs.declared.writing.Writing.TheVariants.{Replies};
 ghost use Rattle.serve_core.specs.Serving.{CanServe, EndsAsServed, EndsLoaded, script_of_loaded};
 
-use crate::outcome::Outcome;
-use crate::served::shape_of;
+use crate::outcome::{Outcome, unserved};
 use crate::sizes::Sizes;
 use byte_ends::Sink;
 use hall_writing::{WritingSession, open_writing, serve_and_write};
@@ -35,6 +34,7 @@ struct ReadyLines<'a> {
 }
 
 // Opens a hall of these sizes for the requests of a session that was loaded.
+#[tactic(auto, using(crate::proofs::FileLemmas::few_kinds))]
 fn open_lines<'a>(
     alloc: Global,
     sizes: Sizes,
@@ -45,9 +45,9 @@ fn open_lines<'a>(
     ensures callers { IfOk result (λ r. r.session.callers ≡ sizes.callers) }
     ensures shards { IfOk result (λ r. r.session.shards ≡ sizes.shards) }
 {
-    let shape = shape_of(alloc, &loaded.program)?;
     let script = Scripts::over(&loaded.program, &loaded.opening, &loaded.requests);
     let plan = Scripts::over(&loaded.program, &loaded.opening, &loaded.requests);
+    let shape = plan.shape(alloc)?;
     let session = open_writing(alloc, script, shape.as_slice(), sizes.shards, sizes.callers)?;
     Ok(ReadyLines { session, plan })
 }
@@ -74,10 +74,7 @@ pub(crate) fn serve_lines<R: Threads + Wait + Sync, O: Sink, G: Gate + Sync>(
                 closed: Some(closed),
             }
         }
-        Err(_) => Outcome {
-            status: Status::NoMemory,
-            closed: None,
-        },
+        Err(_) => unserved(Status::NoMemory),
     }
 }
 

@@ -6,9 +6,10 @@ ghost use Rattle.serve_words.specs.declared.command.Command.TheVariants.{Ranges}
 ghost use Rattle.serve_faults.specs.Changes.{change};
 ghost use Rattle.serve_core.specs.Runs.{AnswersTo, Runs};
 
+use crate::sessions::ended;
 use byte_ends::{Sink, Source, write_all};
 use serve_faults::Status;
-use serve_reading::{Unserved, ranged_text, read_input};
+use serve_reading::{ranged_text, read_input};
 use std::alloc::Global;
 
 /// Reads lines, and writes what they answer.
@@ -37,7 +38,6 @@ fn range_input<O: Sink>(alloc: Global, bytes: Vec<u8>, out: &mut O) -> Status
                 Status::WriteFault
             }
         }
-        Err(Unserved::Refused(fault)) => Status::Refused(fault),
-        Err(Unserved::NoMemory) => Status::NoMemory,
+        Err(e) => ended(e),
     }
 }

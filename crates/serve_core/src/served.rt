@@ -1,8 +1,6 @@
 // A session that was loaded and is served through a hall.
 
 ghost use Rattle.std.specs.Prelude.{◌≡◌, ◌+◌, ◌<◌, ◌≤◌, ℕ, length, map, IfOk, vec_capacity};
-ghost use Rattle.session_values.specs.Limits.{max_tables};
-ghost use Rattle.handler_check.specs.Resolved.{shape_of as shape_spec};
 ghost use Rattle.session_hall.specs.Closings.{IsDone};
 ghost use Rattle.session_journal.specs.Opening.{entries_of};
 ghost use Rattle.session_journal.specs.Script.{room};
@@ -11,15 +9,14 @@ ghost use Rattle.serve_faults.specs.Traced.{table_places};
 ghost use Rattle.serve_core.specs.Serving.{CanServe, HasRoom, script_of_loaded};
 
 use crate::sizes::Sizes;
-use crate::writing::Writing;
+use crate::writing::Later;
 use byte_ends::WriteBuffer;
-use declaration_insertion::Program;
 use hall_serving::{OpenSession, open_session, serve_session};
 use handler_machine::Scripts;
 use serve_reading::Loaded;
 use session_hall::Closed;
 use session_journal::Script;
-use session_values::{NoMemory, TableKind, Value};
+use session_values::{NoMemory, Value};
 use std::alloc::Global;
 use std::sync::Wait;
 use std::thread::Threads;
@@ -54,26 +51,27 @@ pub(crate) struct Spare {
 }
 
 /// Opens a hall of these sizes for the requests of a session that was loaded.
+#[tactic(auto, using(crate::proofs::FileLemmas::few_kinds))]
 pub(crate) fn open_loaded<'a>(
     alloc: Global,
     sizes: Sizes,
     loaded: &'a Loaded,
-    writing: Writing,
+    later: Later,
 ) -> Result<Ready<'a>, NoMemory>
     requires can { CanServe loaded.now }
     ensures script { IfOk result (λ r. r.session.script ≡ script_of_loaded loaded.now) }
-    ensures room { IfOk result (λ r. HasRoom writing (meaning (script_of_loaded loaded.now))
+    ensures room { IfOk result (λ r. HasRoom later (meaning (script_of_loaded loaded.now))
         (vec_capacity r.entries)) }
     ensures places { IfOk result (λ r. r.tables.items ≡ table_places loaded.now.program.file) }
     ensures callers { IfOk result (λ r. r.session.callers ≡ sizes.callers) }
     ensures shards { IfOk result (λ r. r.session.shards ≡ sizes.shards) }
 {
     let buffer = WriteBuffer::new(alloc)?;
-    let shape = shape_of(alloc, &loaded.program)?;
     let tables = places_of(alloc, loaded.program.checked().file())?;
     let script = Scripts::over(&loaded.program, &loaded.opening, &loaded.requests);
     let plan = Scripts::over(&loaded.program, &loaded.opening, &loaded.requests);
-    let entries = entries_room(alloc, &plan, shape.len() as u32, writing)?;
+    let shape = plan.shape(alloc)?;
+    let entries = entries_room(alloc, &plan, shape.len() as u32, later)?;
     let session = open_session(alloc, script, shape.as_slice(), sizes.shards, sizes.callers)?;
     Ok(Ready {
         session,
@@ -89,16 +87,15 @@ fn entries_room<S: Script>(
     alloc: Global,
     script: &S,
     tables: u32,
-    writing: Writing,
+    later: Later,
 ) -> Result<Vec<(Value, Value)>, NoMemory>
     requires { tables ≡ length (S.meaning script.now).shape }
-    ensures { IfOk result (λ v. HasRoom writing (S.meaning script.now) (vec_capacity v)) }
+    ensures { IfOk result (λ v. HasRoom later (S.meaning script.now) (vec_capacity v)) }
 {
-    let room = match writing {
-        Writing::Replies => 0,
-        Writing::Summary { .. } => 0,
-        Writing::Tables => most_entries(script, tables),
-        Writing::Events => 0,
+    let room = match later {
+        Later::Summary { .. } => 0,
+        Later::Tables => most_entries(script, tables),
+        Later::Events => 0,
     };
     Ok(Vec::with_capacity(alloc, room as usize)?)
 }
@@ -153,15 +150,6 @@ pub(crate) fn serve_ready<'a, R: Threads + Wait + Sync, G: Gate + Sync>(
     (closed, spare)
 }
 
-/// The kinds of the tables of a program.
-pub(crate) fn shape_of(alloc: Global, program: &Program) -> Result<Vec<TableKind>, NoMemory>
-    ensures kinds { IfOk result (λ shape. shape.items ≡ shape_spec program.now.file) }
-    ensures few { IfOk result (λ shape. length shape.items ≤ max_tables) }
-{
-    let shape = kinds_of(alloc, program.checked().file())?;
-    Ok(shape)
-}
-
 // The places of the names of a file's tables.
 fn places_of(alloc: Global, file: &File) -> Result<Vec<u32>, NoMemory>
     ensures { IfOk result (λ places. places.items ≡ table_places file.now) }
@@ -171,19 +159,6 @@ fn places_of(alloc: Global, file: &File) -> Result<Vec<u32>, NoMemory>
             .as_slice()
             .iter()
             .map(|t| t.name)
-            .collect(alloc)?,
-    )
-}
-
-// The kinds of the tables of a file.
-fn kinds_of(alloc: Global, file: &File) -> Result<Vec<TableKind>, NoMemory>
-    ensures { IfOk result (λ shape. shape.items ≡ shape_spec file.now) }
-{
-    Ok(
-        file.tables
-            .as_slice()
-            .iter()
-            .map(|t| t.kind)
             .collect(alloc)?,
     )
 }

@@ -1,18 +1,18 @@
 // Sessions: from the bytes of a session file to what is written of it.
 
-ghost use Rattle.std.specs.Prelude.{◌≡◌, ◌≢◌, ◌≤◌, length, vec_capacity};
+ghost use Rattle.std.specs.Prelude.{◌≡◌, ◌≤◌, length, vec_capacity};
 ghost use Rattle.session_values.specs.Limits.{max_callers, max_input};
 ghost use Rattle.handler_machine.specs.Scripts.{meaning};
 ghost use Rattle.serve_faults.specs.Changes.{change};
 ghost use Rattle.serve_faults.specs.Traced.{table_places};
-ghost use Rattle.serve_core.specs.declared.writing.Writing.TheVariants.{Replies};
+ghost use Rattle.serve_core.specs.declared.writing.Writing.TheVariants.{AtEnd};
 ghost use Rattle.serve_core.specs.Serving.{CanPrint, CanServe, EndsAsServed, EndsLoaded, EndsSession, HasRoom, status_of};
 
 use crate::lines::serve_lines;
-use crate::outcome::Outcome;
+use crate::outcome::{Outcome, unserved};
 use crate::served::{Ready, open_loaded, serve_ready};
 use crate::sizes::Sizes;
-use crate::writing::{Writing, write_session};
+use crate::writing::{Later, Writing, write_session};
 use byte_ends::Sink;
 use serve_faults::Status;
 use serve_reading::{Loaded, Unserved, load_session};
@@ -38,15 +38,12 @@ pub(crate) fn serve_bytes<R: Threads + Wait + Sync, O: Sink, G: Gate + Sync>(
 {
     match load_session(alloc, bytes) {
         Ok(loaded) => serve_loaded(rt, alloc, sizes, &loaded, writing, out, gate),
-        Err(e) => Outcome {
-            status: ended(e),
-            closed: None,
-        },
+        Err(e) => unserved(ended(e)),
     }
 }
 
-/// How a run ends that answers no text.
-pub(crate) fn ended(e: Unserved) -> Status
+/// How a run ends for which there is nothing to write.
+pub fn ended(e: Unserved) -> Status
     ensures { result ≡ status_of e }
 {
     match e {
@@ -71,7 +68,7 @@ fn serve_loaded<R: Threads + Wait + Sync, O: Sink, G: Gate + Sync>(
 {
     match writing {
         Writing::Replies => serve_lines(rt, alloc, sizes, loaded, out, gate),
-        _ => serve_then_write(rt, alloc, sizes, loaded, writing, out, gate),
+        Writing::AtEnd(later) => serve_then_write(rt, alloc, sizes, loaded, later, out, gate),
     }
 }
 
@@ -81,27 +78,23 @@ fn serve_then_write<R: Threads + Wait + Sync, O: Sink, G: Gate + Sync>(
     alloc: Global,
     sizes: Sizes,
     loaded: &Loaded,
-    writing: Writing,
+    later: Later,
     out: &mut O,
     gate: &G,
 ) -> Outcome
     requires can { CanServe loaded.now }
-    requires later { writing ≢ Replies }
-    ensures { EndsLoaded writing sizes.callers sizes.shards loaded.now
+    ensures { EndsLoaded (AtEnd later) sizes.callers sizes.shards loaded.now
         (change O.held O.faults out.old out.new) result.status result.closed }
 {
-    match open_loaded(alloc, sizes, loaded, writing) {
+    match open_loaded(alloc, sizes, loaded, later) {
         Ok(ready) => {
-            let (status, closed) = serve_open(rt, ready, loaded, writing, out, gate);
+            let (status, closed) = serve_open(rt, ready, loaded, later, out, gate);
             Outcome {
                 status,
                 closed: Some(closed),
             }
         }
-        Err(_) => Outcome {
-            status: Status::NoMemory,
-            closed: None,
-        },
+        Err(_) => unserved(Status::NoMemory),
     }
 }
 
@@ -111,21 +104,20 @@ fn serve_open<'a, R: Threads + Wait + Sync, O: Sink, G: Gate + Sync>(
     rt: &R,
     ready: Ready<'a>,
     loaded: &Loaded,
-    writing: Writing,
+    later: Later,
     out: &mut O,
     gate: &G,
 ) -> (Status, Closed)
-    requires later { writing ≢ Replies }
     requires print { CanPrint loaded.now.names loaded.now.program.file
         (meaning ready.session.script) }
-    requires room { HasRoom writing (meaning ready.session.script) (vec_capacity ready.entries) }
+    requires room { HasRoom later (meaning ready.session.script) (vec_capacity ready.entries) }
     requires places { ready.tables.items ≡ table_places loaded.now.program.file }
     requires callers { ready.session.callers ≤ max_callers }
-    ensures { EndsAsServed writing loaded.now.names loaded.now.program.file
+    ensures { EndsAsServed (AtEnd later) loaded.now.names loaded.now.program.file
         (meaning ready.entry.session.script) ready.entry.session.callers ready.entry.session.shards
         (change O.held O.faults out.old out.new) result.0 result.1 }
 {
     let (closed, mut spare) = serve_ready(rt, ready, gate);
-    let status = write_session(out, &closed, loaded, &mut spare, writing);
+    let status = write_session(out, &closed, loaded, &mut spare, later);
     (status, closed)
 }

@@ -7,15 +7,13 @@ ghost use Rattle.serve_faults.specs.Changes.{change};
 ghost use Rattle.serve_core.specs.Runs.{Runs, Tells};
 ghost use Rattle.serve_faults.specs.Ways.{describing};
 
+use crate::asked::{Asked, Writes};
 use crate::auditing::audit_source;
 use crate::checking::describe_source;
-use crate::dumping::dump_source;
-use crate::gathering::gather_source;
 use crate::outcome::{Outcome, unserved};
 use crate::ranging::range_source;
 use crate::serving::serve_source;
 use crate::sizes::Sizes;
-use crate::tracing::trace_source;
 use crate::working::work;
 use byte_ends::{Sink, Source, write_all};
 use serve_faults::{Status, message_of};
@@ -68,23 +66,27 @@ fn answer<R: Threads + Wait + Sync, I: Source, O: Sink, G: Gate + Sync>(
         Some(Command::Check) => unserved(describe_source(alloc, false, source, out)),
         Some(Command::Show) => unserved(describe_source(alloc, true, source, out)),
         Some(Command::Serve { callers, shards }) => {
+            let writes = Writes::Replies;
             let sizes = Sizes { callers, shards };
-            serve_source(rt, alloc, sizes, source, out, gate)
+            serve_source(rt, alloc, Asked { writes, sizes }, source, out, gate)
         }
         Some(Command::Dump { callers, shards }) => {
+            let writes = Writes::Tables;
             let sizes = Sizes { callers, shards };
-            dump_source(rt, alloc, sizes, source, out, gate)
+            serve_source(rt, alloc, Asked { writes, sizes }, source, out, gate)
         }
         Some(Command::Work { requests, start }) => { work(rt, alloc, requests, start, out, gate) }
         Some(Command::Ranges) => unserved(range_source(alloc, source, out)),
         Some(Command::Trace { callers, shards }) => {
+            let writes = Writes::Events;
             let sizes = Sizes { callers, shards };
-            trace_source(rt, alloc, sizes, source, out, gate)
+            serve_source(rt, alloc, Asked { writes, sizes }, source, out, gate)
         }
         Some(Command::Audit) => unserved(audit_source(alloc, source, out)),
         Some(Command::Clients { callers, shards }) => {
+            let writes = Writes::ClientReplies;
             let sizes = Sizes { callers, shards };
-            gather_source(rt, alloc, sizes, source, out, gate)
+            serve_source(rt, alloc, Asked { writes, sizes }, source, out, gate)
         }
         None => unserved(Status::Usage),
     }

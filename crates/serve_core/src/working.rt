@@ -6,10 +6,10 @@ ghost use Rattle.serve_words.specs.declared.command.Command.TheVariants.{Work};
 ghost use Rattle.serve_faults.specs.Changes.{change};
 ghost use Rattle.serve_core.specs.Runs.{AnswersTo};
 
-use crate::outcome::Outcome;
+use crate::outcome::{Outcome, unserved};
 use crate::sessions::serve_bytes;
 use crate::sizes::Sizes;
-use crate::writing::Writing;
+use crate::writing::{Later, Writing};
 use byte_ends::Sink;
 use serve_faults::Status;
 use serve_made::session_text;
@@ -37,12 +37,9 @@ pub(crate) fn work<R: Threads + Wait + Sync, O: Sink, G: Gate + Sync>(
                 callers: 4,
                 shards: 4,
             };
-            let writing = Writing::Summary { requests };
+            let writing = Writing::AtEnd(Later::Summary { requests });
             serve_bytes(rt, alloc, sizes, text.as_bytes(), writing, out, gate)
         }
-        Err(_) => Outcome {
-            status: Status::NoMemory,
-            closed: None,
-        },
+        Err(_) => unserved(Status::NoMemory),
     }
 }

@@ -1,6 +1,6 @@
 // Writing what is asked of a session that was served.
 
-ghost use Rattle.std.specs.Prelude.{◌≡◌, ◌≢◌, ◌≤◌, length, vec_capacity};
+ghost use Rattle.std.specs.Prelude.{◌≡◌, ◌≤◌, length, vec_capacity};
 ghost use Rattle.session_values.specs.Limits.{max_callers, max_requests};
 ghost use Rattle.session_journal.specs.Journal.{done_operations};
 ghost use Rattle.session_values.specs.ReplyText.{reply_text};
@@ -8,7 +8,8 @@ ghost use Rattle.serve_made.specs.Summary.{summary};
 ghost use Rattle.reply_sheet.specs.Printable.{ArePrintableReplies};
 ghost use Rattle.serve_faults.specs.Changes.{change};
 ghost use Rattle.serve_faults.specs.Traced.{table_places};
-ghost use Rattle.serve_core.specs.declared.writing.Writing.TheVariants.{Events, Replies, Tables};
+ghost use Rattle.serve_core.specs.declared.writing.Later.TheVariants.{Events, Tables};
+ghost use Rattle.serve_core.specs.declared.writing.Writing.TheVariants.{AtEnd};
 ghost use Rattle.serve_core.specs.Serving.{EndsBy, HasLeft, HasRoomFor, IsPrintable, text_of};
 
 use crate::counting::{count_bytes, count_calls};
@@ -23,11 +24,18 @@ use session_values::Names;
 use table_text::write_tables;
 use trace_lines::{event_bounds, write_events};
 
-/// What is written of a session that was served.
+/// What is written of a session.
 #[derive(Clone, Copy, Debug)]
 pub(crate) enum Writing {
     /// The lines of its replies, while it is served.
     Replies,
+    /// This, when all of it is served.
+    AtEnd(Later),
+}
+
+/// What is written of a session when all of it is served.
+#[derive(Clone, Copy, Debug)]
+pub(crate) enum Later {
     /// The summary of a session of so many requests.
     Summary { requests: u32 },
     /// Its final tables.
@@ -42,24 +50,21 @@ pub(crate) fn write_session<O: Sink>(
     closed: &Closed,
     loaded: &Loaded,
     spare: &mut Spare,
-    writing: Writing,
+    later: Later,
 ) -> Status
-    requires later { writing ≢ Replies }
     requires print { IsPrintable loaded.now.names loaded.now.program.file closed.now }
-    requires room { HasRoomFor writing loaded.now.program.file closed.now
+    requires room { HasRoomFor later loaded.now.program.file closed.now
         (vec_capacity spare.old.entries) }
     requires places { spare.old.tables.items ≡ table_places loaded.now.program.file }
     requires callers { closed.now.callers ≤ max_callers }
-    ensures left { HasLeft writing loaded.now.names loaded.now.program.file closed.now }
-    ensures ends { EndsBy (text_of writing loaded.now.names loaded.now.program.file closed.now)
-        (change O.held O.faults out.old out.new) result }
+    ensures left { HasLeft (AtEnd later) loaded.now.names loaded.now.program.file closed.now }
+    ensures ends { EndsBy (text_of (AtEnd later) loaded.now.names loaded.now.program.file
+        closed.now) (change O.held O.faults out.old out.new) result }
 {
-    let names = &loaded.names;
-    match writing {
-        Writing::Replies => unreachable!(),
-        Writing::Summary { requests } => write_summary(out, closed, names, requests),
-        Writing::Tables => write_finals(out, closed, loaded, spare),
-        Writing::Events => write_journal(out, closed, loaded, spare),
+    match later {
+        Later::Summary { requests } => write_summary(out, closed, &loaded.names, requests),
+        Later::Tables => write_finals(out, closed, loaded, spare),
+        Later::Events => write_journal(out, closed, loaded, spare),
     }
 }
 
@@ -68,9 +73,9 @@ fn write_finals<O: Sink>(out: &mut O, closed: &Closed, loaded: &Loaded, spare: &
     requires print { IsPrintable loaded.now.names loaded.now.program.file closed.now }
     requires room { HasRoomFor Tables loaded.now.program.file closed.now
         (vec_capacity spare.old.entries) }
-    ensures left { HasLeft Tables loaded.now.names loaded.now.program.file closed.now }
-    ensures ends { EndsBy (text_of Tables loaded.now.names loaded.now.program.file closed.now)
-        (change O.held O.faults out.old out.new) result }
+    ensures left { HasLeft (AtEnd Tables) loaded.now.names loaded.now.program.file closed.now }
+    ensures ends { EndsBy (text_of (AtEnd Tables) loaded.now.names loaded.now.program.file
+        closed.now) (change O.held O.faults out.old out.new) result }
 {
     let decls = loaded.program.checked().file().tables.as_slice();
     let tables = FinalTables::of(closed, decls.len() as u32);
@@ -96,9 +101,9 @@ fn write_journal<O: Sink>(
     requires print { IsPrintable loaded.now.names loaded.now.program.file closed.now }
     requires places { spare.old.tables.items ≡ table_places loaded.now.program.file }
     requires callers { closed.now.callers ≤ max_callers }
-    ensures left { HasLeft Events loaded.now.names loaded.now.program.file closed.now }
-    ensures ends { EndsBy (text_of Events loaded.now.names loaded.now.program.file closed.now)
-        (change O.held O.faults out.old out.new) result }
+    ensures left { HasLeft (AtEnd Events) loaded.now.names loaded.now.program.file closed.now }
+    ensures ends { EndsBy (text_of (AtEnd Events) loaded.now.names loaded.now.program.file
+        closed.now) (change O.held O.faults out.old out.new) result }
 {
     let events = closed.journal().events();
     event_bounds(events);

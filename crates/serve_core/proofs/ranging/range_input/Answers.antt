@@ -1,13 +1,13 @@
-use Rattle.std.proofs.Common.{refl, subst}
+use Rattle.std.proofs.Common.{None, refl, subst, sym}
 use Rattle.serve_words.specs.declared.command.Command.TheVariants.{Ranges}
+use Rattle.serve_faults.specs.declared.status.Status.{Status}
 use Rattle.serve_faults.specs.Changes.{change}
-use Rattle.serve_reading.specs.declared.unserved.Unserved.{Unserved}
-use Rattle.serve_reading.specs.declared.unserved.Unserved.TheVariants.{Refused}
-use Rattle.serve_reading.specs.Reasons.{IsReason}
+use Rattle.serve_core.specs.Runs.{AnswersTo}
 use Rattle.serve_core.proofs.EndLemmas.{unranged_to}
 use Rattle.serve_core.proofs.ranging.range_input.Goals as goal
 
-pub returns-in-Err-Refused : goal.returns-in-Err-Refused
-returns-in-Err-Refused g c =
-    unranged_to c.args.bytes.items (change g.O.Sink.held g.O.Sink.faults c.args.out.now c.args.out.now) (Refused c.in-Err-Refused.fault) refl
-    (subst (λ (e : Unserved). IsReason Ranges c.args.bytes.items e) c.in-Err-Refused.field-0-is c.in-Err-Refused.ensures.refused)
+pub returns : goal.returns
+returns g c =
+    let out = change g.O.Sink.held g.O.Sink.faults c.args.out.now c.args.out.now in
+    subst (λ (s : Status). AnswersTo Ranges c.args.bytes.items out s None) (sym c.ended.ensures)
+    (unranged_to c.args.bytes.items out c.in-Err.e refl c.in-Err.ensures.refused)

@@ -15,8 +15,8 @@ write_session-status-requires-clause-room g c =
     let d = c.serve_ready-closed.result.0 in
     let done = c.serve_ready-closed.ensures.done in
     let print = c.requires.print d done in
-    subst (λ (room : ℕ). HasRoomFor c.args.writing f d room) (sym c.serve_ready-closed.ensures.room)
-    (has_room c.args.writing f (meaning c.args.ready.session.script) d _ done (tables_counted (meaning c.args.ready.session.script) d _ done print.some print.parts) c.requires.room)
+    subst (λ (room : ℕ). HasRoomFor c.args.later f d room) (sym c.serve_ready-closed.ensures.room)
+    (has_room c.args.later f (meaning c.args.ready.session.script) d _ done (tables_counted (meaning c.args.ready.session.script) d _ done print.some print.parts) c.requires.room)
 
 pub write_session-status-requires-clause-callers : goal.write_session-status-requires-clause-callers
 write_session-status-requires-clause-callers g c = subst (λ (n : ℕ). n ≤ max_callers) (sym c.serve_ready-closed.ensures.callers) c.requires.callers

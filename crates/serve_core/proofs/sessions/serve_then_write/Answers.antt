@@ -12,7 +12,7 @@ serve_open-status-requires-clause-print g c κs within =
 
 pub serve_open-status-requires-clause-room : goal.serve_open-status-requires-clause-room
 serve_open-status-requires-clause-room g c κs within =
-    subst (λ (v : ScriptsView). HasRoom c.args.writing (meaning v) (vec_capacity c.in-Ok.ready.entries)) (sym c.in-Ok.ensures.script) c.in-Ok.ensures.room
+    subst (λ (v : ScriptsView). HasRoom c.args.later (meaning v) (vec_capacity c.in-Ok.ready.entries)) (sym c.in-Ok.ensures.script) c.in-Ok.ensures.room
 
 pub serve_open-status-requires-clause-callers : goal.serve_open-status-requires-clause-callers
 serve_open-status-requires-clause-callers g c κs within = subst (λ (n : ℕ). n ≤ max_callers) (sym c.in-Ok.ensures.callers) c.args.sizes.callers_fit.1

@@ -2,10 +2,11 @@ use Rattle.std.proofs.Common.{None, refl, subst, sym}
 use Rattle.serve_words.specs.declared.command.Command.TheVariants.{Clients}
 use Rattle.serve_faults.specs.declared.status.Status.{Status}
 use Rattle.serve_faults.specs.Changes.{change}
+use Rattle.serve_core.specs.declared.outcome.Outcome.{Outcome}
 use Rattle.serve_core.specs.Runs.{AnswersTo}
 use Rattle.serve_core.proofs.EndLemmas.{reason_to}
 use Rattle.serve_core.proofs.GatherLemmas.{can_gather, gathered_to}
-use Rattle.serve_core.proofs.gathering.gather_input.Goals as goal
+use Rattle.serve_core.proofs.gathering.gather_bytes.Goals as goal
 
 pub gather_loaded-requires-clause-can : goal.gather_loaded-requires-clause-can
 gather_loaded-requires-clause-can g c κs within = can_gather c.args.bytes.now c.in-Ok.loaded c.in-Ok.ensures.loaded
@@ -17,5 +18,6 @@ returns-in-Ok g c =
 pub returns-in-Err : goal.returns-in-Err
 returns-in-Err g c =
     let out = change g.O.Sink.held g.O.Sink.faults c.args.out.now c.args.out.now in
-    subst (λ (s : Status). AnswersTo (Clients c.args.sizes.callers c.args.sizes.shards) c.args.bytes.now out s None) (sym c.ended.ensures)
-    (reason_to (Clients c.args.sizes.callers c.args.sizes.shards) c.args.bytes.now out refl c.in-Err.e (c.in-Err.ensures.refused c.args.sizes.callers c.args.sizes.shards))
+    subst (λ (o : Outcome). AnswersTo (Clients c.args.sizes.callers c.args.sizes.shards) c.args.bytes.now out o.status o.closed) (sym c.unserved.ensures)
+    (subst (λ (s : Status). AnswersTo (Clients c.args.sizes.callers c.args.sizes.shards) c.args.bytes.now out s None) (sym c.ended.ensures)
+    (reason_to (Clients c.args.sizes.callers c.args.sizes.shards) c.args.bytes.now out refl c.in-Err.e (c.in-Err.ensures.refused c.args.sizes.callers c.args.sizes.shards)))
