@@ -74,7 +74,7 @@ PLACES = r"""
 # NAME
 foresight_where \- turn a refusal of foresight into line and column
 # SYNOPSIS
-@ `foresight_where` *FILE*
+@ `foresight_where` [`--json`] *FILE*
 @ `foresight_where` `--rules`
 @ `foresight_where` `--version`
 # DESCRIPTION
@@ -103,9 +103,10 @@ the output, the place to the error output, and the status is that of `foresight`
 
 WAITS = r"""
 # NAME
-foresight_waits \- list which operations may wait for which handlers
+foresight_waits \- list which operations may wait for which handlers, or count which ones waited in a trace
 # SYNOPSIS
 @ `foresight_waits` [`--json`] [*FILE*]
+@ `foresight_waits` `--trace` [`--json`] [*FILE*]
 @ `foresight_waits` `--version`
 # DESCRIPTION
 <Who may wait for whom|first
@@ -123,6 +124,15 @@ The same of the JSON, by *jq*(1):
 
 ```
 $ foresight_waits --json seats.handlers | jq '.[] | select(.for == "book")'
+```
+
+How often each handler waited in a run, and the longest chain of tickets of which each waited for the
+next:
+
+```
+$ (cat seats.session; foresight trace < seats.session) > run.trace
+$ foresight_waits --trace --json run.trace | jq -r '.delays[] | [.waits, .count] | @tsv'
+$ foresight_waits --trace run.trace | grep '^# chain' | head -n 1
 ```
 # SEE ALSO
 *foresight*(1), *foresight*(5)
