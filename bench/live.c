@@ -34,7 +34,7 @@ static size_t serve_all(struct foresight_session *session, const uint8_t *lines,
             end = (const uint8_t *)memchr(end, '\n', (size_t)(all - end)) + 1;
         }
         while (lines < end) {
-            struct foresight_served served = { 0, 0, 0, 0 };
+            struct foresight_served served = { 0, 0, 0, 0, 0 };
             int status = foresight_session_serve(session, lines, (size_t)(end - lines), out,
                 sizeof out, why, sizeof why, &served);
             if (status != 0 && status != 5) fail("serve", status, served.told);
