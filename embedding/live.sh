@@ -45,6 +45,7 @@ live_judged() {
   fi
   live_shared
   timeout 60 python3 oracle/tickets.py --runs 300 || live_wrong "driven tickets"
+  timeout 60 python3 oracle/mixed.py --runs 300 || live_wrong "tickets beside requests"
   timeout 60 python3 oracle/sessions.py "$foresight" --runs 20 || live_wrong "sessions that live"
 }
 
