@@ -22,27 +22,27 @@ exit_status ReadFault = 4
 exit_status WriteFault = 5
 
 -- What was written for a file: with status 0 who waits for whom, in this form; with status 1
--- nothing, and the file is too large or breaks the rule. Faults of reading and other words end
--- before that.
+-- nothing, and the file is too large or breaks the rule; nothing where memory ran out. Faults of
+-- reading and other words end before that.
 abbrev pub IsShown : Form → List ℕ → Option (List ℕ) → Option (List ℕ) → Ending → Type 0
 IsShown form input old new Told = (text : List ℕ) × IsTold form input text × Appends old new text
 IsShown form input old new (Refused fault) = (new ≡ old)
     × (((max_input < length input) × (fault_line fault ≡ codes "refused T1\n"))
     ⊎ IsUntold input (unserved.Refused fault))
 IsShown form input old new Usage = ⊥
-IsShown form input old new NoMemory = ⊤
+IsShown form input old new NoMemory = new ≡ old
 IsShown form input old new ReadFault = ⊥
 IsShown form input old new WriteFault = ⊤
 
 -- What was written for a trace: with status 0 who waited for whom, in this form; with status 1
--- nothing, and the file breaks the rule that `foresight audit` names.
+-- nothing, and the file breaks the rule that `foresight audit` names; nothing where memory ran out.
 abbrev pub IsCounted : Form → List ℕ → Option (List ℕ) → Option (List ℕ) → Ending → Type 0
 IsCounted form input old new Told =
     (text : List ℕ) × IsTraceTold form input text × Appends old new text
 IsCounted form input old new (Refused fault) =
     (new ≡ old) × IsReason Audit input (unserved.Refused fault)
 IsCounted form input old new Usage = ⊥
-IsCounted form input old new NoMemory = ⊤
+IsCounted form input old new NoMemory = new ≡ old
 IsCounted form input old new ReadFault = ⊥
 IsCounted form input old new WriteFault = ⊤
 
