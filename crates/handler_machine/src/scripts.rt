@@ -24,6 +24,10 @@ use std::sync::Wait;
 use std::thread::Threads;
 use symbolic_ops::{Foresight, Symbol, instantiate};
 
+/// A handler computes for long that may do more work than so much for each of its calls, and once
+/// more. The bounds are those of the checker: a statement is one, a turn of a loop one more.
+const MUCH_WORK: u32 = 256;
+
 /// A program, the entries with which its tables open, and the requests that were read for it: each
 /// request is a ticket.
 #[derive(Drop)]
@@ -190,6 +194,14 @@ impl<'a> Script for Scripts<'a> {
 }
 
 impl<'a> Serves for Scripts<'a> {
+    fn computes(&self, ticket: u32) -> bool {
+        if ticket >= self.requests.len() {
+            return false;
+        }
+        let h = handler_of(self.requests, ticket);
+        self.checked.work_bound(h) / MUCH_WORK > self.checked.calls_bound(h)
+    }
+
     fn serve<R: Threads + Wait + Sync, D: Desk<Served = Self>>(
         &self,
         rt: &R,

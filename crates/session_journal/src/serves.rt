@@ -13,6 +13,12 @@ use std::thread::Threads;
 
 /// A script whose tickets can be served, each at a desk.
 pub trait Serves: Tickets {
+    /// Whether a ticket may compute for long between two of its calls. Whoever serves it by several
+    /// callers keeps nothing meanwhile for which others may wait. Nothing is claimed of it.
+    fn computes(&self, _ticket: u32) -> bool {
+        false
+    }
+
     /// Serves the desk's ticket, which has just begun, to its end. Want of memory comes only where
     /// the desk isn't sure, and then the desk is left as the call that wanted it left it.
     fn serve<R: Threads + Wait + Sync, D: Desk<Served = Self>>(
