@@ -38,6 +38,10 @@ blocker_here m xs rs t op r b same some h =
     let Q : List CallerRecord → Type 0 = λ l. Found (servings m l) t op (Some b) in
     subst Q same (subst P some h)
 
+-- who is against an operation doesn't depend on what else the book keeps
+pub blocker_at : (m : Meaning) (J : List Event) (k : List (Option Reply)) (rs : List CallerRecord) (t : ℕ) (op : Op) (older : ℕ) (y : Symbol) → IsBlocker (book_with (servings m rs)) t op older y → IsBlocker (book_of m J k rs) t op older y
+blocker_at m J k rs t op older y x = record { caller = x.caller; serving = x.serving; is = x.is; ticket = x.ticket; is_older = x.is_older; symbol = x.symbol; least = x.least }
+
 -- the oldest open ticket has no blocker
 pub never_oldest : {A : Type 0} (m : Meaning) (b : Book) (t : ℕ) (op : Op) (older : ℕ) (y : Symbol) → Lawful m b → IsBlocker b t op older y → IsOldestOpen (Some t) b.journal → A
 never_oldest m b t op older y L x o =
@@ -69,7 +73,7 @@ module _ (m : Meaning) (J : List Event) (k : List (Option Reply)) (rs : List Cal
   -- ---- delayed
   module _ (older : ℕ) (y : Symbol) (found : IsBlocker (book_with (servings m rs)) t op older y) (each : (c : ℕ) → KeepsRecord m J (record_at rs c)) where
     pub blocker : IsBlocker (book_of m J k rs) t op older y
-    blocker = record { caller = found.caller; serving = found.serving; is = found.is; ticket = found.ticket; is_older = found.is_older; symbol = found.symbol; least = found.least }
+    blocker = blocker_at m J k rs t op older y found
 
     k_old : KeepsRecord m J old
     k_old = let P : CallerRecord → Type 0 = λ r. KeepsRecord m J r in subst P p.is (each i)

@@ -3,6 +3,7 @@ pub mod Begins
 pub mod Blocks
 pub mod Dones
 pub mod Ends
+pub mod Entries
 pub mod Firsts
 pub mod Foreknown
 mod Inside

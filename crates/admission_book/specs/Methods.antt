@@ -119,6 +119,39 @@ abbrev pub DidIt : Book → ℕ → Value → List Symbol → Book → Type 0
 DidIt b t r f d = (c : ℕ) (s : Serving) (op : Op) → record_of b c ≡ Some s → s.ticket ≡ t
     → s.flight ≡ Some op → d ≡ after_done b c s op r f
 
+-- ticket t has no operation in flight, op is the one that it calls, no older open ticket is against
+-- it, r is its reply at the tables after the journal, and f may be the foresight after it
+pub record MayEnter (m : Meaning) (b : Book) (t : ℕ) (op : Op) (r : Value) (f : List Symbol) : Type 0 where
+  pub caller : ℕ
+  pub serving : Serving
+  pub is : record_of b caller ≡ Some serving
+  pub ticket : serving.ticket ≡ t
+  pub idle : serving.flight ≡ None
+  pub calls : now m b.journal t ≡ Calls op
+  pub matches : Matches serving.foresight op
+  pub free : IsFree b t op
+  pub reply_is : r ≡ reply (after m.opening b.journal) op
+  pub covered : Covered f serving.foresight
+  pub covers : IsForesight (rest (m.next t) (replies (entries b.journal t ++ record {
+    op = op;
+    reply = r;
+  } ∷ []))) f
+  pub declared : Covered f (m.told t (replies (entries b.journal t ++ record {
+    op = op;
+    reply = r;
+  } ∷ [])))
+
+-- book d is book b after ticket t does the operation with the reply r, admitted and entered in one,
+-- and narrows to f
+abbrev pub Entered : Book → ℕ → Op → Value → List Symbol → Book → Type 0
+Entered b t op r f d = (c : ℕ) (s : Serving) → record_of b c ≡ Some s → s.ticket ≡ t
+    → d ≡ after_done b c s op r f
+
+-- who is against the operation of ticket t: no older open ticket, or the least one that is
+abbrev pub Judges : Book → ℕ → Op → Admission → Type 0
+Judges b t op Admitted = IsFree b t op
+Judges b t op (Delayed older y) = IsBlocker b t op older y
+
 -- ticket t has no operation in flight, and r is what it answers
 pub record MayEnd (m : Meaning) (b : Book) (t : ℕ) (r : Reply) : Type 0 where
   pub caller : ℕ

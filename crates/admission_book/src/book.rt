@@ -7,7 +7,7 @@ ghost use Rattle.session_journal.specs.Journal.{after, begun, ended};
 ghost use Rattle.session_journal.specs.Script.{HasSite, IsScript, calls, declared_with, session_of};
 ghost use Rattle.admission_book.specs.Book.{kept_for, opened, record_of};
 ghost use Rattle.admission_book.specs.Lawful.{Lawful};
-ghost use Rattle.admission_book.specs.Methods.{Admits, Begins, DidIt, HasEnded, IfNext, IsOldestOpen, MayAdmit, MayBeginNext, MayDo, MayEnd, MayNarrow, Narrowed, StaysLawful};
+ghost use Rattle.admission_book.specs.Methods.{Admits, Begins, DidIt, Entered, HasEnded, IfNext, IsOldestOpen, MayAdmit, MayBeginNext, MayDo, MayEnd, MayEnter, MayNarrow, Judges, Narrowed, StaysLawful};
 
 use crate::admission::Admission;
 use crate::blocker::least_against;
@@ -236,6 +236,63 @@ impl<S: Tickets + Drop> Book<S> {
         let inner = &mut *self.inner;
         let caller = place_of(inner.records.as_slice(), t);
         let op = inner.records[caller].finish_at(site, values);
+        let done = Event::Done {
+            ticket: t,
+            op,
+            reply,
+        };
+        inner.journal.push_reserved(done);
+    }
+
+    /// Whether an older open ticket may still call an operation with which this one of a ticket
+    /// doesn't commute. Nothing is noted.
+    pub fn judge(&self, t: u32, op: &Op) -> Admission
+        ensures judges { Judges self.now.book t op.now result }
+        ensures oldest { IsOldestOpen (Some t) self.now.book.journal
+            → Lawful (S.meaning self.now.script) self.now.book → result ≡ Admission.Admitted }
+    {
+        let inner = &*self.inner;
+        match least_against(&inner.script, inner.records.as_slice(), t, op) {
+            None => Admission::Admitted,
+            Some(b) => Admission::Delayed {
+                older: b.older,
+                symbol: b.symbol,
+            },
+        }
+    }
+
+    /// Admits an operation that nobody delays, notes that it was done with this reply, and narrows.
+    pub fn enter(&mut self, t: u32, op: Op, reply: Value, next: &Foresight)
+        requires lawful { Lawful (S.meaning self.old.script) self.old.book }
+        requires may { MayEnter (S.meaning self.old.script) self.old.book t op reply
+            next.now.symbols }
+        ensures entered { Entered self.old.book t op reply next.now.symbols self.new.book }
+        ensures stays { StaysLawful S S.meaning self.old self.new }
+    {
+        let inner = &mut *self.inner;
+        let caller = place_of(inner.records.as_slice(), t);
+        inner.records[caller].enter(next);
+        let done = Event::Done {
+            ticket: t,
+            op,
+            reply,
+        };
+        inner.journal.push_reserved(done);
+    }
+
+    /// The same, where the list is what the script declares at a site with these values.
+    pub fn enter_at(&mut self, t: u32, op: Op, reply: Value, site: Site, values: &[Value])
+        requires lawful { Lawful (S.meaning self.old.script) self.old.book }
+        requires site { HasSite (S.meaning self.old.script) site (length values.now) }
+        requires may { MayEnter (S.meaning self.old.script) self.old.book t op reply
+            (declared_with (S.meaning self.old.script) site values.now) }
+        ensures entered { Entered self.old.book t op reply
+            (declared_with (S.meaning self.old.script) site values.now) self.new.book }
+        ensures stays { StaysLawful S S.meaning self.old self.new }
+    {
+        let inner = &mut *self.inner;
+        let caller = place_of(inner.records.as_slice(), t);
+        inner.records[caller].enter_at(site, values);
         let done = Event::Done {
             ticket: t,
             op,

@@ -131,6 +131,30 @@ impl CallerRecord {
         op
     }
 
+    /// Notes that an operation was done that was never in flight, and makes a list the ticket's
+    /// foresight.
+    pub(crate) fn enter(&mut self, next: &Foresight)
+        requires room { max_symbols ≤ self.old.foresight.list.room }
+        requires few { length next.now.symbols ≤ max_symbols }
+        ensures { (m : Meaning) →
+            IsRecord m self.new self.old.ticket next.now.symbols None false }
+    {
+        self.flight = None;
+        self.delayed = false;
+        self.foresight.take(next);
+    }
+
+    /// The same, where the list is what is declared at a site with these values, which its own
+    /// covers.
+    pub(crate) fn enter_at(&mut self, site: Site, values: &[Value])
+        requires { length values.now ≤ max_variables }
+        ensures { self.new ≡ after_flight_at self.old site values.now }
+    {
+        self.flight = None;
+        self.delayed = false;
+        self.foresight.narrow_at(site, values);
+    }
+
     /// Gives the ticket up.
     pub(crate) fn end(&mut self)
         ensures { self.new ≡ after_ticket self.old }

@@ -1,5 +1,5 @@
 -- Turns with their values, as contracts see them, and the contents that they give to their turns.
-use Rattle.std.specs.Prelude.{◌≡◌, ℕ, zero, suc, ◌<◌, ◌==◌, cond, map, slice_index, List, [], ◌∷◌, Option, Some, None}
+use Rattle.std.specs.Prelude.{◌≡◌, ◌≢◌, ℕ, zero, suc, ◌<◌, ◌==◌, cond, map, slice_get, slice_index, List, [], ◌∷◌, Option, Some, None}
 
 -- pairs of a turn and its value
 pub record HandsView (V : Type 0) : Type 0 where
@@ -10,6 +10,11 @@ pub record HandsView (V : Type 0) : Type 0 where
 -- the turn at a place
 abbrev pub turn_at : {V : Type 0} → List (ℕ × V) → ℕ → ℕ
 turn_at pairs i = slice_index (map (λ x. x.0) pairs) i
+
+-- the place of a turn, where it stands in the hands
+abbrev pub IsPlaceOf : {V : Type 0} → List (ℕ × V) → ℕ → Option ℕ → Type 0
+IsPlaceOf pairs turn None = (i : ℕ) (x : ℕ × _) → slice_get pairs i ≡ Some x → x.0 ≢ turn
+IsPlaceOf pairs turn (Some i) = (x : ℕ × _) × (slice_get pairs i ≡ Some x) × (x.0 ≡ turn)
 
 module _ {V C : Type 0} (content : V → C) where
   -- the content of the value that stands first under a turn

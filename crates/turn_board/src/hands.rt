@@ -5,9 +5,15 @@ use owned_lists::NoMemory;
 use std::alloc::Global;
 use std::marker::Model;
 
+// How many turns have a place of their own that is remembered. It is more than a board has.
+const PLACES: u32 = 64;
+
 /// Turns with their values, in a list with reserved room.
 pub struct Hands<V> {
     list: Vec<(u32, V)>,
+    /// For each turn where it was put last, so that it need not be sought. Others may stand there by
+    /// now, so nothing is claimed of it.
+    places: [u8; 64],
 }
 
 impl<V> Model for Hands<V> {
@@ -26,14 +32,14 @@ impl<V> Model for Hands<V> {
 
 impl<V: Drop> Drop for Hands<V> {
     fn drop(self) {
-        let Hands { list } = self;
+        let Hands { list, places: _ } = self;
         drop(list);
     }
 }
 
 impl<V> Hands<V> {
     ghost use Rattle.std.specs.Borrow.{sem};
-    ghost use Rattle.turn_board.specs.Hands.{turn_at};
+    ghost use Rattle.turn_board.specs.Hands.{IsPlaceOf, turn_at};
     ghost use Rattle.turn_board.specs.Lending.{LendsValue};
 
     /// Empty hands with room for so many values.
@@ -41,7 +47,10 @@ impl<V> Hands<V> {
         ensures { IfOk result (λ hands. (hands.pairs ≡ []) × (hands.room ≡ room)) }
     {
         let list = Vec::with_capacity(alloc, room as usize)?;
-        Ok(Hands { list })
+        Ok(Hands {
+            list,
+            places: [0; 64],
+        })
     }
 
     /// How many values there are.
@@ -57,6 +66,31 @@ impl<V> Hands<V> {
         ensures { slice_get self.now.pairs i ≡ Some result.now }
     {
         &self.list[i as usize]
+    }
+
+    /// The place of a turn, from 0, or None where it isn't in the hands.
+    #[inline(always)]
+    pub fn place_of(&self, turn: u32) -> Option<u32>
+        ensures { IsPlaceOf self.now.pairs turn result }
+    {
+        let guess = u32::from(self.places[(turn % PLACES) as usize]);
+        if guess < self.len() && self.get(guess).0 == turn {
+            return Some(guess);
+        }
+        self.sought(turn)
+    }
+
+    // The same, by one pair after another.
+    #[inline(never)]
+    fn sought(&self, turn: u32) -> Option<u32>
+        ensures { IsPlaceOf self.now.pairs turn result }
+    {
+        for i in 0..self.len() {
+            if self.get(i).0 == turn {
+                return Some(i);
+            }
+        }
+        None
     }
 
     /// The value at a place, from 0, to be changed there. Its turn stays.
@@ -75,6 +109,7 @@ impl<V> Hands<V> {
         ensures pairs { self.new.pairs ≡ self.old.pairs ++ (turn, value) ∷ [] }
         ensures room { self.new.room ≡ self.old.room }
     {
+        self.places[(turn % PLACES) as usize] = (self.list.len() % 256) as u8;
         self.list.push_reserved((turn, value));
     }
 
