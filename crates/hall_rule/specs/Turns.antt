@@ -1,5 +1,5 @@
 -- Which turns an operation takes, and when it was done on their shards.
-use Rattle.std.specs.Prelude.{◌≡◌, ℕ, suc, ◌+◌, ◌*◌, ◌-◌, ◌/◌, ◌%◌, ◌^◌, ◌<◌, ◌==◌, cond, List, Option, Some, None}
+use Rattle.std.specs.Prelude.{◌≡◌, ℕ, suc, ◌+◌, ◌*◌, ◌/◌, ◌%◌, ◌<◌, ◌==◌, cond, List, Option, Some, None}
 use Rattle.session_values.specs.declared.op.Op.{Op}
 use Rattle.session_values.specs.declared.value.Value.{Value}
 use Rattle.session_values.specs.Kinds.{arguments}
@@ -35,7 +35,7 @@ pub record WasDone {S : Type 0} (m : Meaning) (turns : ℕ) (op : Op) (v : Value
       → held (suc j) ≡ Some (Shard c room) → c ≡ share m turns J j)
       → reply (tables_after m J) op ≡ v
 
--- ---- the turns as a set
+-- ---- the turns as a row
 -- how many turns an operation takes
 abbrev pub span : ℕ → Op → ℕ
 span shards op = cond (arguments op.kind == 0) shards 1
@@ -43,7 +43,3 @@ span shards op = cond (arguments op.kind == 0) shards 1
 -- the first of them, less one
 abbrev pub place : ℕ → Op → ℕ
 place shards op = op.table * shards + cond (arguments op.kind == 0) 0 (shard_of shards op.key)
-
--- the number whose bit t says whether the operation takes turn t
-abbrev pub turn_set : ℕ → Op → ℕ
-turn_set shards op = 2 ^ (suc (place shards op) + span shards op) - 2 ^ suc (place shards op)

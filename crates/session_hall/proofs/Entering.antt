@@ -46,18 +46,18 @@ is_applied m (Applied t op v) f b next may = tt
 is_applied m Out f b next may = may
 
 -- ---- what was in a turn and what is in the hands
-worked_held : {S : Type 0} (op : Op) (o k : Option (Content S)) (x : Content S) → ChangedBy op o k → k ≡ Some x → (c : Container) × (room : ℕ) × (o ≡ Some (Shard c room)) × (x ≡ Shard (after_on c op) room)
+pub worked_held : {S : Type 0} (op : Op) (o k : Option (Content S)) (x : Content S) → ChangedBy op o k → k ≡ Some x → (c : Container) × (room : ℕ) × (o ≡ Some (Shard c room)) × (x ≡ Shard (after_on c op) room)
 worked_held op None None x w e = absurd (none-some x e)
 worked_held op None (Some y) x w e = absurd w
 worked_held op (Some z) None x w e = absurd w
 worked_held op (Some z) (Some y) x w e = (w.0, w.1, ap Some w.2, sym (same_Some y x e) ∙ w.3)
 
-worked_free : {S : Type 0} (op : Op) (o k : Option (Content S)) → ChangedBy op o k → k ≡ None → o ≡ None
+pub worked_free : {S : Type 0} (op : Op) (o k : Option (Content S)) → ChangedBy op o k → k ≡ None → o ≡ None
 worked_free op None k w e = refl
 worked_free op (Some z) None w e = absurd w
 worked_free op (Some z) (Some y) w e = absurd (none-some y (sym e))
 
-free_worked : {S : Type 0} (op : Op) (o k : Option (Content S)) → ChangedBy op o k → o ≡ None → k ≡ None
+pub free_worked : {S : Type 0} (op : Op) (o k : Option (Content S)) → ChangedBy op o k → o ≡ None → k ≡ None
 free_worked op o None w e = refl
 free_worked op None (Some y) w e = absurd w
 free_worked op (Some z) (Some y) w e = absurd (none-some z (sym e))

@@ -30,7 +30,7 @@ use Rattle.session_hall.specs.declared.stage.Stage.{Stage}
 use Rattle.session_hall.specs.declared.stage.Stage.TheVariants.{Idle, Serving as Serves, InFlight, Applied, Out}
 use Rattle.session_hall.specs.Callers.{IsCallerOf, IsTold, book_in, book_of, foresight_of}
 use Rattle.session_hall.specs.Calls.{GaveBack}
-use Rattle.session_hall.specs.Findings.{HasBook}
+use Rattle.session_hall.specs.Findings.{HasBook, IsTiedWith}
 use Rattle.session_hall.specs.Names.{script_of}
 use Rattle.session_hall.specs.Stages.{SeatOf, HoldsNone, Stands, foresight_in, waiting, flying}
 
@@ -97,6 +97,20 @@ module _ {S : Type 0} (meaning : S → Meaning) (h : Hall S) (c : Caller S) (k :
   pub own_set : (x : Option Serving) (u : ℕ) → u ≡ caller c.seat → record_of (with_record b.book (caller c.seat) x) u ≡ x
   own_set x u e = ap (record_of (with_record b.book (caller c.seat) x)) e ∙ get_or-set_same b.book.records (caller c.seat) x None near
 
+  -- the rule held where the book was found
+  pub found_rule : IsTiedWith (meaning (script_of h)) c.seat b.book
+  found_rule = record {
+    script = script_of h;
+    contents = f.rule.contents;
+    notes = f.rule.notes;
+    tied = f.rule.tied;
+    turns_are = f.rule.turns_is ∙ ap (λ (i : TableId). i.slots) (sym k.seat.placed.of_table);
+    callers_are = f.rule.callers ∙ v.caller_count_is;
+    book = f.rule.own 0 (Register (script_of h) b.book) f.here;
+    shards = λ j x e. f.rule.own (suc j) x (f.others (suc j) (λ z. omega (arith, z)) ∙ e);
+    noted = ap (slice_get f.rule.notes) (sym v.caller_is) ∙ f.rule.noted ∙ v.note_is;
+  }
+
   module _ (d : BookView S) (kept : d.script ≡ b.script) (lawful : Lawful (meaning d.script) d.book) (left : Book) (is : d.book ≡ left) where
     pub lawful_left : Lawful (meaning (script_of h)) left
     lawful_left =
@@ -144,17 +158,7 @@ module _ {S : Type 0} (meaning : S → Meaning) (h : Hall S) (c : Caller S) (k :
 
       pub gave_back : GaveBack (meaning (script_of h)) c r b.book left
       gave_back = record {
-        rule = record {
-          script = script_of h;
-          contents = f.rule.contents;
-          notes = f.rule.notes;
-          tied = f.rule.tied;
-          turns_are = f.rule.turns_is ∙ ap (λ (i : TableId). i.slots) (sym k.seat.placed.of_table);
-          callers_are = f.rule.callers ∙ v.caller_count_is;
-          book = f.rule.own 0 (Register (script_of h) b.book) f.here;
-          shards = λ j x e. f.rule.own (suc j) x (f.others (suc j) (λ z. omega (arith, z)) ∙ e);
-          noted = ap (slice_get f.rule.notes) (sym v.caller_is) ∙ f.rule.noted ∙ v.note_is;
-        };
+        rule = found_rule;
         finds = f.finds;
         noted = left_is;
         given_more = g.given_is ∙ ap (λ (n : ℕ). n + 1) v.given_is;

@@ -16,6 +16,7 @@ use Rattle.admission_book.specs.Lawful.{Lawful}
 use Rattle.admission_book.proofs.Foreknown.{opened_lawful}
 use Rattle.turn_board.specs.Boards.{Begins, caller, turn_count}
 use Rattle.turn_board.specs.Hands.{HandsView, Once}
+use Rattle.turn_board.specs.Limits.{max_board_turns}
 use Rattle.turn_board.proofs.Rows.{get-snoc, map-read}
 use Rattle.hall_rule.specs.declared.held.Held.{Held}
 use Rattle.hall_rule.specs.declared.held.Held.TheVariants as value
@@ -143,16 +144,16 @@ none_new {S} seats callers e = record { long = ap length e; each = λ i c at. ab
 pub no_hands : (S : Type 0) (hands : List (HandsView (Held S))) → hands ≡ [] → AreEmpty 0 hands
 no_hands S hands e = record { long = ap length e; each = λ i h at. absurd (none-some h (ap (λ (l : List (HandsView (Held S))). slice_get l i) (sym e) ∙ at)) }
 
-pub hands_more : {S : Type 0} (n : ℕ) (hands later : List (HandsView (Held S))) (h : HandsView (Held S)) → AreEmpty n hands → (h.pairs ≡ []) × (h.room ≡ 8) → later ≡ hands ++ h ∷ [] → AreEmpty (n + 1) later
+pub hands_more : {S : Type 0} (n : ℕ) (hands later : List (HandsView (Held S))) (h : HandsView (Held S)) → AreEmpty n hands → (h.pairs ≡ []) × (h.room ≡ max_board_turns) → later ≡ hands ++ h ∷ [] → AreEmpty (n + 1) later
 hands_more {S} n hands later h k new is = record {
   long = ap length is ∙ length-append hands (h ∷ []) ∙ (let l : length hands ≡ n = k.long in omega (arith, l));
   each = λ i d e. elim (get-snoc hands h d i (ap (λ (l : List (HandsView (Held S))). slice_get l i) (sym is) ∙ e)) [
     | inl x ↦ k.each i d x
-    | inr x ↦ (let P : HandsView (Held S) → Type 0 = λ y. (y.pairs ≡ []) × (y.room ≡ 8) in subst P x.1 new)
+    | inr x ↦ (let P : HandsView (Held S) → Type 0 = λ y. (y.pairs ≡ []) × (y.room ≡ max_board_turns) in subst P x.1 new)
   ];
 }
 
-pub first_hands : {S : Type 0} (n : ℕ) (hands : List (HandsView (Held S))) (h : HandsView (Held S)) → AreEmpty n hands → 0 < length hands → h ≡ get_or hands 0 h → (h.pairs ≡ []) × (h.room ≡ 8)
+pub first_hands : {S : Type 0} (n : ℕ) (hands : List (HandsView (Held S))) (h : HandsView (Held S)) → AreEmpty n hands → 0 < length hands → h ≡ get_or hands 0 h → (h.pairs ≡ []) × (h.room ≡ max_board_turns)
 first_hands {S} n hands h k some e = k.each 0 h (first_at hands h some e)
 
 pub rest_hands : {S : Type 0} (n left : ℕ) (hands rest : List (HandsView (Held S))) → AreEmpty n hands → rest ≡ drop 1 hands → left + 1 ≡ n → AreEmpty left rest

@@ -1,5 +1,6 @@
 -- What the script of a book declares at a site is what the hall's script declares there.
 use Rattle.std.proofs.Common.{◌≡◌, ℕ, List, sym, subst}
+use Rattle.session_values.specs.declared.op.Op.{Op}
 use Rattle.session_values.specs.declared.value.Value.{Value}
 use Rattle.symbolic_ops.specs.declared.symbol.Symbol.{Symbol}
 use Rattle.session_journal.specs.declared.site.Site.{Site}
@@ -20,9 +21,6 @@ module _ {S : Type 0} (meaning : S → Meaning) (hall : S) (b : BookView S) (sam
     list_there P p = let Q : S → Type 0 = λ x. P (declared_with (meaning x) s values) in subst Q same p
 
     -- ---- what is asked of the book
-    pub may_narrow_here : (t : ℕ) → books.MayNarrow (meaning b.script) b.book t (declared_with (meaning hall) s values) → books.MayNarrow (meaning b.script) b.book t (declared_with (meaning b.script) s values)
-    may_narrow_here t may = list_here (λ l. books.MayNarrow (meaning b.script) b.book t l) may
-
     pub may_do_here : (t : ℕ) (r : Value) → books.MayDo (meaning b.script) b.book t r (declared_with (meaning hall) s values) → books.MayDo (meaning b.script) b.book t r (declared_with (meaning b.script) s values)
     may_do_here t r may = list_here (λ l. books.MayDo (meaning b.script) b.book t r l) may
 
@@ -32,3 +30,6 @@ module _ {S : Type 0} (meaning : S → Meaning) (hall : S) (b : BookView S) (sam
 
     pub did_there : (t : ℕ) (r : Value) (d : Book) → books.DidIt b.book t r (declared_with (meaning b.script) s values) d → books.DidIt b.book t r (declared_with (meaning hall) s values) d
     did_there t r d left = list_there (λ l. books.DidIt b.book t r l d) left
+
+    pub entered_there : (t : ℕ) (op : Op) (r : Value) (d : Book) → books.Entered b.book t op r (declared_with (meaning b.script) s values) d → books.Entered b.book t op r (declared_with (meaning hall) s values) d
+    entered_there t op r d left = list_there (λ l. books.Entered b.book t op r l d) left

@@ -1,13 +1,11 @@
 -- A caller that serves a ticket finds the book, and what its note allows is allowed there.
 use Rattle.std.proofs.Common.{◌≡◌, ℕ, List, [], ◌∷◌, ◌++◌, Some, refl, sym, ◌∙◌, subst}
 use Rattle.session_values.specs.declared.op.Op.{Op}
-use Rattle.session_values.specs.declared.reply.Reply.{Reply}
-use Rattle.session_values.specs.Dialogue.{Calls, Answers, Entry, rest, replies}
-use Rattle.symbolic_ops.specs.declared.symbol.Symbol.{Symbol}
-use Rattle.symbolic_ops.specs.Matching.{Covered, Matches}
+use Rattle.session_values.specs.Dialogue.{Calls, Entry, replies}
+use Rattle.symbolic_ops.specs.Matching.{Matches}
 use Rattle.session_journal.specs.declared.event.Event.{Event}
 use Rattle.session_journal.specs.Journal.{entries, owner, caller_of}
-use Rattle.session_journal.specs.Script.{Meaning, IsForesight}
+use Rattle.session_journal.specs.Script.{Meaning}
 use Rattle.admission_book.specs.Book.{Holds, record_of}
 use Rattle.admission_book.specs.Methods as books
 use Rattle.admission_book.specs.Methods.{BookView, IsOldestOpen}
@@ -19,7 +17,7 @@ use Rattle.session_hall.specs.declared.hall.Hall.{Hall}
 use Rattle.session_hall.specs.declared.stage.Stage.{Stage}
 use Rattle.session_hall.specs.declared.stage.Stage.TheVariants.{Serving as Serves}
 use Rattle.session_hall.specs.Callers.{IsCallerOf, book_of, entries_of, foresight_of}
-use Rattle.session_hall.specs.Calls.{ByNote, MayDeclare, MayCall, MayAnswer}
+use Rattle.session_hall.specs.Calls.{ByNote, MayCall}
 use Rattle.session_hall.specs.Findings.{HasBook}
 use Rattle.session_hall.specs.Names.{script_of}
 use Rattle.session_hall.specs.Stages.{SeatOf, Stands, OnServing, waiting}
@@ -55,18 +53,10 @@ module _ {S : Type 0} (meaning : S → Meaning) (h : Hall S) (c : Caller S) (k :
       let R : List Entry → Type 0 = λ es. P (meaning b.script) es t in
       subst R (sym still) (at_script meaning h c k q b v f (λ m. P m (entries_of c t) t) a)
 
-  pub may_narrow : (g : List Symbol) → ByNote (meaning (script_of h)) c (MayDeclare (foresight_of c) g) → books.MayNarrow (meaning b.script) b.book t g
-  may_narrow g may =
-      let a : MayDeclare (foresight_of c) g (meaning b.script) b.book t = by_note (λ m es u. Covered g (foresight_of c) × IsForesight (rest (m.next u) (replies es)) g) may in
-      record { caller = caller c.seat; serving = waiting t (foresight_of c); is = own_record; ticket = refl; idle = refl; covered = a.0; covers = a.1 }
-
   pub may_admit : (op : Op) → ByNote (meaning (script_of h)) c (MayCall (foresight_of c) op) → books.MayAdmit (meaning b.script) b.book t op
   may_admit op may =
       let a : MayCall (foresight_of c) op (meaning b.script) b.book t = by_note (λ m es u. (m.next u (replies es) ≡ Calls op) × Matches (foresight_of c) op) may in
       record { caller = caller c.seat; serving = waiting t (foresight_of c); is = own_record; ticket = refl; idle = refl; calls = a.0; matches = a.1 }
-
-  pub may_end : (r : Reply) → ByNote (meaning (script_of h)) c (MayAnswer r) → books.MayEnd (meaning b.script) b.book t r
-  may_end r may = record { caller = caller c.seat; serving = waiting t (foresight_of c); is = own_record; ticket = refl; idle = refl; answers = by_note (λ m es u. m.next u (replies es) ≡ Answers r) may }
 
   pub owner_more : (e : Event) → owner (b.book.journal ++ e ∷ []) t ≡ Some (caller c.seat)
   owner_more e = first_stays (caller_of t) b.book.journal (e ∷ []) (caller c.seat) holds.owner

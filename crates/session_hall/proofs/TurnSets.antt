@@ -1,34 +1,15 @@
 -- The turns of an operation, as a set.
-use Rattle.std.proofs.Common.{◌≡◌, ◌≢◌, ℕ, zero, suc, ◌+◌, ◌*◌, ◌-◌, ◌%◌, ◌^◌, ◌<◌, ◌≤◌, inl, inr, List, [], ◌∷◌, ◌++◌, length, length-append, Bool, true, false, cond, eqb, refl, sym, ◌∙◌, ap, subst, mod-lt, div-add-mod', arith}
+use Rattle.std.proofs.Common.{◌≡◌, ◌≢◌, ℕ, zero, suc, ◌+◌, ◌*◌, ◌-◌, ◌%◌, ◌^◌, ◌<◌, ◌≤◌, inl, inr, Bool, true, false, cond, eqb, refl, sym, ◌∙◌, ap, subst, mod-lt, div-add-mod', arith}
 use Rattle.std.specs.Int.{bit_at}
 use Rattle.std.proofs.lemmas.Nat.{div-mul-add, mod-mul-add}
 use Rattle.std.proofs.lemmas.Nat.Bits.{bit_at_mask_inside, bit_at_mask_below, bit_at_mask_above}
-use Rattle.std.proofs.lemmas.Bool.{eq-eqb, ne_eqb, eqb-true, eqb-false, cases_lt}
+use Rattle.std.proofs.lemmas.Bool.{eqb-true, eqb-false, cases_lt}
 use Rattle.session_values.specs.declared.op.Op.{Op}
 use Rattle.session_values.specs.Kinds.{arguments}
 use Rattle.session_values.proofs.Numbers.{one_zero}
 use Rattle.shard_tables.specs.Parts.{shard_of}
 use Rattle.shard_tables.proofs.PartSizes.{shard_below}
-use Rattle.turn_board.specs.Maps.{bits_of}
-use Rattle.hall_rule.specs.Turns.{IsTurnOf, place, span, turn_set}
-
--- the n numbers from lo on
-abbrev pub up : ℕ → ℕ → List ℕ
-up lo zero = []
-up lo (suc n) = up lo n ++ (lo + n) ∷ []
-
-pub length-up : (lo n : ℕ) → length (up lo n) ≡ n
-length-up lo zero = refl
-length-up lo (suc n) = length-append (up lo n) ((lo + n) ∷ []) ∙ (let e : length (up lo n) ≡ n = length-up lo n in omega (arith, e))
-
-pub up_one : (lo : ℕ) → up lo 1 ≡ lo ∷ []
-up_one lo = let e : lo + 0 ≡ lo = omega arith in ap (λ (a : ℕ). a ∷ []) e
-
-pub up_more : (lo n : ℕ) → up lo (suc n) ≡ up lo n ++ (lo + n) ∷ []
-up_more lo n = refl
-
-pub up_none : (lo : ℕ) → up lo 0 ≡ []
-up_none lo = refl
+use Rattle.hall_rule.specs.Turns.{IsTurnOf, place, span}
 
 -- ---- the bits of a row of turns
 module _ (lo n : ℕ) where
@@ -47,27 +28,16 @@ module _ (lo n : ℕ) where
     ]
   ]
 
-  with_one : (t : ℕ) → bit_at row_set t ≡ 1 → bits_of row_set (suc t) ≡ bits_of row_set t ++ t ∷ []
-  with_one t e = ap (λ (b : Bool). cond b (bits_of row_set t ++ t ∷ []) (bits_of row_set t)) (eq-eqb (bit_at row_set t) 1 e)
+-- the set isn't empty
+pub some_set : (lo n : ℕ) → 0 < n → 0 < 2 ^ (lo + n) - 2 ^ lo
+some_set lo n some = go (2 ^ (lo + n) - 2 ^ lo) refl
+  where
+    zero_bit : (u : ℕ) → bit_at 0 u ≡ 1 → ⊥
+    zero_bit u e = one_zero (sym e ∙ bit_at_mask_above 0 0 u (omega arith))
 
-  with_none : (t : ℕ) → bit_at row_set t ≡ 0 → bits_of row_set (suc t) ≡ bits_of row_set t
-  with_none t e = ap (λ (b : Bool). cond b (bits_of row_set t ++ t ∷ []) (bits_of row_set t)) (ne_eqb (bit_at row_set t) 1 (λ h. one_zero (sym h ∙ e)))
-
-  bits_below : (t : ℕ) → t ≤ lo → bits_of row_set t ≡ []
-  bits_below zero l = refl
-  bits_below (suc t) l = with_none t (bit_at_mask_below lo (lo + n) t (omega (arith, l))) ∙ bits_below t (omega (arith, l))
-
-  bits_inside : (i t : ℕ) → t ≡ lo + i → i ≤ n → bits_of row_set t ≡ up lo i
-  bits_inside zero t e l = bits_below t (omega (arith, e)) ∙ sym (up_none lo)
-  bits_inside (suc i) zero e l = absurd (omega (arith, e))
-  bits_inside (suc i) (suc t) e l =
-      let at : t ≡ lo + i = omega (arith, e) in
-      with_one t (bit_at_mask_inside lo (lo + n) t (omega (arith, at)) (omega (arith, at, l))) ∙ ap (λ (us : List ℕ). us ++ t ∷ []) (bits_inside i t at (omega (arith, l))) ∙ ap (λ (a : ℕ). up lo i ++ a ∷ []) at ∙ sym (up_more lo i)
-
-  pub bits_row : (i t : ℕ) → t ≡ lo + n + i → bits_of (2 ^ (lo + n) - 2 ^ lo) t ≡ up lo n
-  bits_row zero t e = bits_inside n t (omega (arith, e)) (omega arith)
-  bits_row (suc i) zero e = absurd (omega (arith, e))
-  bits_row (suc i) (suc t) e = with_none t (bit_at_mask_above lo (lo + n) t (omega (arith, e))) ∙ bits_row i t (omega (arith, e))
+    go : (x : ℕ) → 2 ^ (lo + n) - 2 ^ lo ≡ x → 0 < 2 ^ (lo + n) - 2 ^ lo
+    go zero e = absurd (zero_bit lo (ap (λ (x : ℕ). bit_at x lo) (sym e) ∙ bit_inside lo n lo (omega arith) (omega (arith, some))))
+    go (suc x) e = omega (arith, e)
 
 -- ---- the row of an operation
 more_rows : (a b n : ℕ) → a < b → a * n + n ≤ b * n
@@ -85,13 +55,6 @@ module _ (n : ℕ) (op : Op) (some : 0 < n) where
     where
       go : (b : Bool) → 0 < key_span b
       go true = some
-      go false = omega arith
-
-  pub few_span : n ≤ 8 → span n op ≤ 8
-  few_span few = go (eqb (arguments op.kind) 0)
-    where
-      go : (b : Bool) → key_span b ≤ 8
-      go true = few
       go false = omega arith
 
   pub row_low : (tables : ℕ) → op.table < tables → place n op + span n op ≤ tables * n
@@ -129,14 +92,3 @@ module _ (n : ℕ) (op : Op) (some : 0 < n) where
           let none : arguments op.kind ≢ 0 = eqb-false (arguments op.kind) 0 e in
           let k : shard_of n op.key ≡ j % n = at.shard (omega (arith, none)) in
           (omega (arith, is, k), omega (arith, is, k))
-
--- the set isn't empty
-pub some_turns : (n : ℕ) (op : Op) → 0 < n → 0 < turn_set n op
-some_turns n op some = go (turn_set n op) refl
-  where
-    zero_bit : (u : ℕ) → bit_at 0 u ≡ 1 → ⊥
-    zero_bit u e = one_zero (sym e ∙ bit_at_mask_above 0 0 u (omega arith))
-
-    go : (x : ℕ) → turn_set n op ≡ x → 0 < turn_set n op
-    go zero e = absurd (zero_bit (suc (place n op)) (ap (λ (x : ℕ). bit_at x (suc (place n op))) (sym e) ∙ bit_inside (suc (place n op)) (span n op) (suc (place n op)) (omega arith) (omega (arith, some_span n op some))))
-    go (suc x) e = omega (arith, e)

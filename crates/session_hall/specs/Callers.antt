@@ -61,7 +61,7 @@ pub record IsCallerIn {S : Type 0} (meaning : S → Meaning) (p : HallId) (scrip
   pub few_shards : p.shards ≤ max_shards
   pub turns_are : p.board.slots ≡ 1 + p.tables * p.shards
   pub few_turns : p.board.slots ≤ max_board_turns
-  pub hands_room : max_shards ≤ c.hands.room
+  pub hands_room : max_board_turns ≤ c.hands.room
   pub once : Once content_of c.hands.pairs
   pub stands : Stands (meaning script) p.board.slots c.stage (foresight_of c) (book_of c) c.seat
       c.hands.pairs

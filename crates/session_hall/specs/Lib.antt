@@ -6,6 +6,10 @@ pub mod Calls
 pub mod Begun
 pub mod Waits
 pub mod Working
+pub mod OnShards
+pub mod Holdings
+pub mod HoldingCalls
+pub mod InHand
 pub mod Openings
 pub mod Reopenings
 pub mod Closings

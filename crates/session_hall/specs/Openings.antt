@@ -1,11 +1,11 @@
 -- What a hall is opened with. Only this crate's own functions cite it.
 use Rattle.std.specs.Prelude.{◌≡◌, ℕ, ◌+◌, ◌*◌, ◌/◌, ◌%◌, List, [], Some, length, map, replicate, slice_get}
-use Rattle.session_values.specs.Limits.{max_shards}
 use Rattle.session_values.specs.declared.kind.TableKind.{TableKind}
 use Rattle.session_journal.specs.Opening.{container_of, entries_of}
 use Rattle.session_journal.specs.Script.{Meaning, IsScript, room}
 use Rattle.shard_tables.specs.Parts.{part}
 use Rattle.turn_board.specs.Hands.{HandsView}
+use Rattle.turn_board.specs.Limits.{max_board_turns}
 use Rattle.hall_rule.specs.declared.held.Held.{Held}
 use Rattle.hall_rule.specs.declared.held.Held.TheVariants.{Table}
 use Rattle.shard_tables.specs.declared.part.Part.{Part}
@@ -53,7 +53,7 @@ pub record IsNew {S : Type 0} (seat : SeatOf S) (number : ℕ) (c : Caller S) : 
   pub number_is : c.number ≡ number
   pub idle : c.stage ≡ Idle
   pub no_pairs : c.hands.pairs ≡ []
-  pub hands_room : c.hands.room ≡ max_shards
+  pub hands_room : c.hands.room ≡ max_board_turns
 
 -- a caller for each of the first n seats
 pub record AllNew {S : Type 0} (seats : List (SeatOf S)) (n : ℕ)
@@ -66,4 +66,4 @@ pub record AllNew {S : Type 0} (seats : List (SeatOf S)) (n : ℕ)
 pub record AreEmpty {S : Type 0} (n : ℕ) (hands : List (HandsView (Held S))) : Type 0 where
   pub long : length hands ≡ n
   pub each : (i : ℕ) (h : HandsView (Held S)) → slice_get hands i ≡ Some h
-      → (h.pairs ≡ []) × (h.room ≡ max_shards)
+      → (h.pairs ≡ []) × (h.room ≡ max_board_turns)

@@ -54,6 +54,11 @@ IsBetween Idle = Unit {0}
 IsBetween Out = Unit {0}
 IsBetween _ = ⊥
 
+-- it serves a ticket with no operation in flight
+abbrev pub IsServing : Stage → Type 0
+IsServing (Serves t) = Unit {0}
+IsServing _ = ⊥
+
 -- an operation is in flight, and not yet done on its shards
 abbrev pub IsInFlight : Stage → Type 0
 IsInFlight (InFlight t op) = Unit {0}

@@ -55,3 +55,19 @@ pub enum Ending {
     Ended,
     Busy { turn: u32 },
 }
+
+/// Whether an operation was done on its shards in hand.
+#[derive(Clone, Copy, Debug, PartialEq, Eq)]
+pub enum Worked {
+    Done(Value),
+    /// An older open ticket may still call an operation with which it doesn't commute.
+    Delayed {
+        /// The least such ticket.
+        older: u32,
+        /// The first symbol of its foresight that stands for such an operation.
+        symbol: Symbol,
+    },
+    Busy {
+        turn: u32,
+    },
+}

@@ -25,7 +25,7 @@ pub(crate) struct Spare<A, B> {
 
 /// How many tables, shards of each table, and callers a hall has.
 #[derive(Clone, Copy)]
-pub(crate) struct Sizes {
+pub(crate) struct Counts {
     pub(crate) tables: u32,
     pub(crate) shards: u32,
     pub(crate) callers: u32,
@@ -40,16 +40,30 @@ pub struct Hall<S: Tickets + Drop> {
     pub(crate) board: Board<Held<S>, HallRule<S>>,
     /// The script as it was when the hall was opened. It has no bytes.
     pub(crate) script: Snapshot<S>,
-    pub(crate) sizes: Sizes,
+    pub(crate) sizes: Counts,
     /// How often a ticket was ended, so that who is delayed need not ask the book. Nothing is
     /// claimed of it.
     pub(crate) ends: AtomicU32,
+    /// How many callers wait for a turn that another one holds. Nothing is claimed of it.
+    pub(crate) wanted: AtomicU32,
     // What `close` fills. A lock lets threads share the hall where S is only Send; no thread takes
     // it.
     pub(crate) kept: Mutex<Spare<Seat<Held<S>, HallRule<S>>, Part>>,
 }
 
 impl<S: Tickets + Drop> Hall<S> {
+    /// How many callers it has.
+    pub fn callers(&self) -> u32
+        ensures { result ≡ self.now.sizes.callers }
+    {
+        self.sizes.callers
+    }
+
+    /// Whether a caller waits for a turn that another one holds. Nothing is claimed of it.
+    pub fn is_wanted(&self) -> bool {
+        self.wanted.load(Ordering::SeqCst) != 0
+    }
+
     /// Whether no ticket may be left to begin, of so many: fewer than there are callers aren't ended.
     /// Nothing is claimed of it.
     pub fn is_near_end(&self, requests: u32) -> bool {

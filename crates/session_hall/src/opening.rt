@@ -9,12 +9,12 @@ ghost use Rattle.session_hall.specs.Openings.{AllNew, AreEmpty, FirstValues};
 
 use crate::caller::{Caller, Callers};
 use crate::filling::new_parts;
-use crate::hall::{Hall, Sizes, Spare};
+use crate::hall::{Counts, Hall, Spare};
 use crate::stage::Stage;
 use admission_book::Book;
 use hall_rule::{HallRule, Held};
 use session_journal::{Script, Tickets};
-use session_values::{Listed, MAX_CALLERS, MAX_SHARDS, NoMemory, TableKind};
+use session_values::{Listed, MAX_CALLERS, NoMemory, TableKind};
 use shard_tables::Part;
 use std::alloc::Global;
 use std::snapshot::Snapshot;
@@ -59,7 +59,7 @@ pub(crate) fn empty_hands<S: Tickets + Drop>(
 {
     let mut list = Vec::with_capacity(alloc, callers as usize)?;
     for made in 0..callers {
-        match Hands::with_room(alloc, MAX_SHARDS) {
+        match Hands::with_room(alloc, MAX_BOARD_TURNS as u32) {
             Ok(hands) => list.push_reserved(hands),
             Err(_) => return Err(NoMemory),
         }
@@ -113,7 +113,7 @@ impl<S: Script + Drop> Hall<S> {
         ensures callers { IfOk result (λ r. (i : ℕ) (c : CallerOf S)
             → slice_get r.1 i ≡ Some c → Opens S.meaning r.0 i c) }
     {
-        let sizes = Sizes {
+        let sizes = Counts {
             tables: shape.len() as u32,
             shards,
             callers,
@@ -130,6 +130,7 @@ impl<S: Script + Drop> Hall<S> {
         let callers = new_callers(seats.into_vec(), hands, list);
         let hall = Hall {
             ends: AtomicU32::new(0),
+            wanted: AtomicU32::new(0),
             board,
             script: copy,
             sizes,

@@ -21,7 +21,7 @@ ghost use Rattle.session_hall.specs.Reopenings.{AreKept, AreOpening, HaveMovedIn
 use crate::caller::{Caller, Callers};
 use crate::closed::Closed;
 use crate::closing::parts_of;
-use crate::hall::{Hall, Sizes, Spare};
+use crate::hall::{Counts, Hall, Spare};
 use crate::opening::{empty_hands, new_callers, spare_lists};
 use admission_book::Book;
 use hall_rule::{HallRule, Held};
@@ -172,7 +172,7 @@ fn over<S: Tickets + Drop>(
     tickets: S,
     later: &[u32],
     parts: Vec<Part>,
-    sizes: Sizes,
+    sizes: Counts,
 ) -> Result<(Hall<S>, Callers<S>), Vec<Part>>
     requires tables { (length (S.meaning tickets).shape ≡ sizes.tables)
         × (sizes.tables ≤ max_tables) }
@@ -211,6 +211,7 @@ fn over<S: Tickets + Drop>(
             let callers = new_callers(seats.into_vec(), hands, callers);
             let hall = Hall {
                 ends: AtomicU32::new(0),
+                wanted: AtomicU32::new(0),
                 board,
                 script: copy,
                 sizes,
@@ -262,7 +263,7 @@ impl<S: Tickets + Drop> Hall<S> {
             shards,
             callers: served,
         } = closed;
-        let sizes = Sizes {
+        let sizes = Counts {
             tables: shape.len() as u32,
             shards,
             callers,

@@ -25,24 +25,16 @@ impl<S: Tickets + Drop> Caller<S> {
         ensures caller { StaysCaller S.meaning hall.now self.old self.new }
         ensures began { BeganAs (S.meaning (script_of hall.now)) self.old self.new result }
     {
-        let mut book = match hall.take_book(&mut self.seat) {
+        let mut book = match self.take_book(hall) {
             Some(book) => book,
             None => return Began::Busy { turn: 0 },
         };
-        let t = match book.next_ticket() {
-            Some(t) => t,
-            None => {
-                hall.board
-                    .give_all(&mut self.seat, Held::Register(book), &mut self.hands);
-                self.stage = Stage::Out;
-                return Began::AllBegun;
-            }
-        };
-        book.begin_next(self.number);
-        hall.board
-            .give_all(&mut self.seat, Held::Register(book), &mut self.hands);
-        self.stage = Stage::Serving(t);
-        Began::Ticket(t)
+        let begun = self.begin_in(hall, &mut book);
+        self.give_book(hall, book);
+        match begun {
+            Some(t) => Began::Ticket(t),
+            None => Began::AllBegun,
+        }
     }
 
     /// Makes a list that the ticket's foresight covers its foresight.
@@ -54,17 +46,12 @@ impl<S: Tickets + Drop> Caller<S> {
         ensures declared { DeclaredAs (S.meaning (script_of hall.now)) self.old self.new
             f.now.symbols result }
     {
-        let t = match self.stage {
-            Stage::Serving(t) => t,
-            _ => unreachable!(),
-        };
-        let mut book = match hall.take_book(&mut self.seat) {
+        let mut book = match self.take_book(hall) {
             Some(book) => book,
             None => return Declared::Busy { turn: 0 },
         };
-        book.narrow(t, f);
-        hall.board
-            .give_all(&mut self.seat, Held::Register(book), &mut self.hands);
+        self.declare_in(hall, &mut book, f);
+        self.give_book(hall, book);
         Declared::Yes
     }
 
@@ -79,17 +66,12 @@ impl<S: Tickets + Drop> Caller<S> {
         ensures declared { DeclaredAs (S.meaning (script_of hall.now)) self.old self.new
             (declared_with (S.meaning (script_of hall.now)) site values.now) result }
     {
-        let t = match self.stage {
-            Stage::Serving(t) => t,
-            _ => unreachable!(),
-        };
-        let mut book = match hall.take_book(&mut self.seat) {
+        let mut book = match self.take_book(hall) {
             Some(book) => book,
             None => return Declared::Busy { turn: 0 },
         };
-        book.narrow_at(t, site, values);
-        hall.board
-            .give_all(&mut self.seat, Held::Register(book), &mut self.hands);
+        self.declare_at_in(hall, &mut book, site, values);
+        self.give_book(hall, book);
         Declared::Yes
     }
 
@@ -131,18 +113,12 @@ impl<S: Tickets + Drop> Caller<S> {
         ensures caller { StaysCaller S.meaning hall.now self.old self.new }
         ensures ended { EndedAs (S.meaning (script_of hall.now)) self.old self.new reply result }
     {
-        let t = match self.stage {
-            Stage::Serving(t) => t,
-            _ => unreachable!(),
-        };
-        let mut book = match hall.take_book(&mut self.seat) {
+        let mut book = match self.take_book(hall) {
             Some(book) => book,
             None => return Ending::Busy { turn: 0 },
         };
-        book.end(t, reply);
-        hall.board
-            .give_all(&mut self.seat, Held::Register(book), &mut self.hands);
-        self.stage = Stage::Idle;
+        self.end_in(hall, &mut book, reply);
+        self.give_book(hall, book);
         Ending::Ended
     }
 }

@@ -1,8 +1,8 @@
 // What a caller is at.
 
 ghost use Rattle.std.specs.Prelude.{◌≡◌};
-ghost use Rattle.session_hall.specs.Stages.{IsApplied, IsInFlight};
-ghost use Rattle.session_hall.specs.declared.stage.Stage.TheVariants.{Applied, InFlight};
+ghost use Rattle.session_hall.specs.Stages.{IsApplied, IsInFlight, IsServing};
+ghost use Rattle.session_hall.specs.declared.stage.Stage.TheVariants.{Applied, InFlight, Serving};
 
 use session_values::{Op, Value};
 
@@ -39,6 +39,17 @@ pub(crate) fn applied(stage: &Stage) -> (u32, &Op, Value)
 {
     match stage {
         Stage::Applied(t, op, reply) => (*t, op, *reply),
+        _ => unreachable!(),
+    }
+}
+
+// The ticket that is served with no operation in flight.
+pub(crate) fn serving(stage: &Stage) -> u32
+    requires { IsServing stage.now }
+    ensures { stage.now ≡ Serving result }
+{
+    match stage {
+        Stage::Serving(t) => *t,
         _ => unreachable!(),
     }
 }

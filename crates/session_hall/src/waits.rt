@@ -73,6 +73,12 @@ impl Waits {
     // Waits until the turn is seen free. To look writes nothing, so that whoever has the turn gives
     // it back undisturbed.
     pub(crate) fn until_free<S: Tickets + Drop>(&mut self, hall: &Hall<S>, turn: u32) {
+        hall.wanted.fetch_add(1, Ordering::SeqCst);
+        self.look_until_free(hall, turn);
+        hall.wanted.fetch_sub(1, Ordering::SeqCst);
+    }
+
+    fn look_until_free<S: Tickets + Drop>(&mut self, hall: &Hall<S>, turn: u32) {
         for _ in 0..1u32 << self.round.min(DOUBLINGS) {
             thread::yield_now();
         }

@@ -1,4 +1,4 @@
-use Rattle.std.proofs.Common.{arith, sym, subst}
+use Rattle.std.proofs.Common.{arith, subst}
 use Rattle.session_hall.specs.Openings.{AreEmpty}
 use Rattle.session_hall.proofs.Opened.{no_hands, hands_more}
 use Rattle.session_hall.proofs.opening.empty_hands.Goals as goal

@@ -4,7 +4,6 @@ use Rattle.std.proofs.lemmas.Option.{slice_get_within}
 use Rattle.shard_tables.specs.declared.part.Part.{Part}
 use Rattle.shard_tables.specs.Either.{shard_view}
 use Rattle.session_hall.specs.Reopenings.{IsRoomFor}
-use Rattle.session_hall.proofs.Opened.{part_place}
 use Rattle.session_hall.proofs.Reopened.{at_place, few_keys, kept_first, kept_more, rest_more, room_more}
 use Rattle.session_hall.proofs.reopening.give_room.Goals as goal
 

@@ -1,7 +1,6 @@
-use Rattle.std.proofs.Common.{◌∷◌, List, length, drop, map, sym, ap, ◌∙◌, subst, arith}
+use Rattle.std.proofs.Common.{List, drop, sym, ap, ◌∙◌, subst}
 use Rattle.std.specs.List.{AllByRecursion}
 use Rattle.hall_rule.specs.declared.held.Held.{Held}
-use Rattle.hall_rule.specs.declared.held.Held.TheVariants.{Table}
 use Rattle.session_hall.specs.Closings.{IsTable}
 use Rattle.session_hall.proofs.Reopened.{are_tables, same_parts}
 use Rattle.session_hall.proofs.reopening.shards_back.Goals as goal

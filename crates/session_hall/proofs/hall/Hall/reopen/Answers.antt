@@ -2,7 +2,7 @@ use Rattle.std.proofs.Common.{List, sym, subst}
 use Rattle.shard_tables.specs.declared.part.Part.{Part}
 use Rattle.session_hall.specs.Closings.{ClosedView}
 use Rattle.session_hall.specs.Reopenings.{AreKept, HaveMovedIn, OpensOver}
-use Rattle.session_hall.proofs.Reopened.{left_as, left_done, left_opens, many_parts, opening_parts}
+use Rattle.session_hall.proofs.Reopened.{left_opens}
 use Rattle.session_hall.proofs.hall.Hall.reopen.Goals as goal
 
 pub returns-in-Ok-clause-room : goal.returns-in-Ok-clause-room

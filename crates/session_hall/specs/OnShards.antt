@@ -1,0 +1,80 @@
+-- The shards in a caller's hands, by turn. Only this crate's own functions cite it.
+use Rattle.std.specs.Prelude.{◌≡◌, ◌≢◌, ℕ, ◌+◌, ◌<◌, ◌≤◌, pos, List, Option, Some, None}
+use Rattle.std.specs.Int.{bit_at}
+use Rattle.session_journal.specs.Limits.{max_keys}
+use Rattle.session_journal.specs.Script.{Meaning}
+use Rattle.session_values.specs.declared.op.Op.{Op}
+use Rattle.session_values.specs.declared.value.Value.{Value}
+use Rattle.session_values.specs.declared.value.Value.TheVariants.{Num}
+use Rattle.session_values.specs.Kinds.{arguments}
+use Rattle.session_values.specs.Sums.{sum_below}
+use Rattle.turn_board.specs.declared.taken.TookAll.{TookAll}
+use Rattle.turn_board.specs.declared.taken.TookAll.TheVariants as all
+use Rattle.turn_board.specs.Boards.{AnsweredAll}
+use Rattle.turn_board.specs.Hands.{Once, in_hands}
+use Rattle.turn_board.specs.Limits.{max_board_turns}
+use Rattle.hall_rule.specs.declared.held.Held.{Held}
+use Rattle.hall_rule.specs.Contents.{Content}
+use Rattle.hall_rule.specs.Shards.{content_of}
+use Rattle.hall_rule.specs.Tie.{Tied}
+use Rattle.session_hall.specs.Stages.{SeatOf}
+use Rattle.session_hall.specs.Working.{CanDo, IsAnyShard, WorkedTo, keys_in}
+
+module _ {S : Type 0} where
+  -- the set has the turns from the first to below the end that aren't in hand, and no others
+  pub record IsMissing (pairs : List (ℕ × Held S)) (first end set : ℕ) : Type 0 where
+    pub each : (u : ℕ) → bit_at set u ≡ 1
+        → (first ≤ u) × (u < end) × (in_hands content_of pairs u ≡ None)
+    pub rest : (u : ℕ) → first ≤ u → u < end → bit_at set u ≡ 0
+        → in_hands content_of pairs u ≡ None → ⊥
+
+  -- where the set has turns, it is asked for; else nothing changes
+  abbrev pub TakesSet : (S → Meaning) → ℕ → SeatOf S → SeatOf S → ℕ → List (ℕ × Held S)
+      → List (ℕ × Held S) → TookAll → Type 0
+  TakesSet meaning turns p q set before after r = (set ≡ 0 → (r ≡ all.Here) × (q ≡ p)
+      × (after ≡ before))
+      × (0 < set → AnsweredAll content_of (Tied meaning) turns p q set before after r)
+
+  -- ---- one shard
+  -- the turn's shard is in hand, and the operation may be done on it
+  abbrev pub CanDoIn : Op → Option (Content S) → Type 0
+  CanDoIn op None = ⊥
+  CanDoIn op (Some x) = CanDo op x
+
+  abbrev pub CanCount : Option (Content S) → Type 0
+  CanCount None = ⊥
+  CanCount (Some x) = IsAnyShard x
+
+  -- the operation was done on the shard of one turn
+  pub record WorkedUnder (op : Op) (turn : ℕ) (before after : List (ℕ × Held S))
+      (v : Value) : Type 0 where
+    pub old : Content S
+    pub new : Content S
+    pub was : in_hands content_of before turn ≡ Some old
+    pub is : in_hands content_of after turn ≡ Some new
+    pub worked : WorkedTo op old new v
+    pub others : (u : ℕ) → u ≢ turn → in_hands content_of after u ≡ in_hands content_of before u
+    pub once : Once content_of after
+
+  -- ---- the shards of a row of turns
+  abbrev pub keys_of : Option (Content S) → ℕ
+  keys_of None = 0
+  keys_of (Some x) = keys_in x
+
+  -- how many keys the shard of the turn has that is i behind the first
+  abbrev pub keys_of_row : List (ℕ × Held S) → ℕ → ℕ → ℕ
+  keys_of_row pairs first i = keys_of (in_hands content_of pairs (first + i))
+
+  -- the operation may be done on the shard of each turn of the row. With a key it is one; else
+  -- their keys are counted
+  pub record CanWorkIn (op : Op) (first many : ℕ) (pairs : List (ℕ × Held S)) : Type 0 where
+    pub turns : first + many ≤ max_board_turns
+    pub some : 0 < many
+    pub once : Once content_of pairs
+    pub each : (u : ℕ) → first ≤ u → u < first + many → CanDoIn op (in_hands content_of pairs u)
+    pub few : arguments op.kind ≡ 0 → sum_below many (keys_of_row pairs first) ≤ max_keys
+
+  abbrev pub HasWorkedIn : Op → ℕ → ℕ → List (ℕ × Held S) → List (ℕ × Held S) → Value → Type 0
+  HasWorkedIn op first many before after v = (arguments op.kind ≡ 0
+      → (after ≡ before) × (v ≡ Num (pos (sum_below many (keys_of_row before first)))))
+      × (0 < arguments op.kind → WorkedUnder op first before after v)
