@@ -1,22 +1,26 @@
 // Opening the hall of a desk, stepping it, closing it, and what it leaves.
 
-ghost use Rattle.std.specs.Prelude.{◌≤◌};
-ghost use Rattle.std.specs.Bool.{Decides};
+ghost use Rattle.std.specs.Prelude.{◌≡◌, ◌≤◌, MatchOption};
 ghost use Rattle.hall_desk.specs.Desks.{CloseOn, IsHallSize, OpenOn, ReplyOn, StepOn};
 
 use crate::desk::Desk;
 use crate::telling::{told, told_value};
 use crate::values::{HallStep, HallValue};
-use hall_stepping::Stepping;
+use hall_stepping::{Sizes, Stepping};
 use session_values::{MAX_CALLERS, MAX_SHARDS};
 use std::alloc::Global;
 use std::mem::replace;
 
-// Whether a hall may have so many shards of each table and so many callers.
-fn is_size(shards: u32, callers: u32) -> bool
-    ensures { Decides result (IsHallSize shards callers) }
+// So many callers and shards, if a hall may have them.
+fn sizes_of(callers: u32, shards: u32) -> Option<Sizes>
+    ensures { MatchOption result (IsHallSize shards callers → ⊥)
+        (λ sizes. (sizes.callers ≡ callers) × (sizes.shards ≡ shards)) }
 {
-    1 <= shards && shards <= MAX_SHARDS && 1 <= callers && callers <= MAX_CALLERS
+    if 1 <= shards && shards <= MAX_SHARDS && 1 <= callers && callers <= MAX_CALLERS {
+        Some(Sizes { callers, shards })
+    } else {
+        None
+    }
 }
 
 impl Desk {
@@ -26,11 +30,11 @@ impl Desk {
     {
         match replace(self, Desk::Gone) {
             Desk::Planned(plan) => {
-                if !is_size(shards, callers) {
+                let Some(sizes) = sizes_of(callers, shards) else {
                     *self = Desk::Planned(plan);
                     return 10;
-                }
-                match Stepping::open(alloc, plan, shards, callers) {
+                };
+                match Stepping::open(alloc, plan, sizes) {
                     Ok(hall) => {
                         *self = Desk::Open(hall);
                         0

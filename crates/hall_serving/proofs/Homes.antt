@@ -10,7 +10,7 @@ use Rattle.session_hall.specs.Names.{hall_name, script_of}
 use Rattle.hall_serving.specs.Jobs.{HasBegunNone}
 
 -- two lists of one length, each before another list, are one
-same_front : (xs ys us vs : List ℕ) → length xs ≡ length ys → xs ++ us ≡ ys ++ vs → (xs ≡ ys) × (us ≡ vs)
+pub same_front : (xs ys us vs : List ℕ) → length xs ≡ length ys → xs ++ us ≡ ys ++ vs → (xs ≡ ys) × (us ≡ vs)
 same_front [] [] us vs l e = (refl, e)
 same_front [] (y ∷ ys) us vs l e = absurd (omega (arith, l))
 same_front (x ∷ xs) [] us vs l e = absurd (omega (arith, l))

@@ -1,4 +1,8 @@
 pub mod Homes
+pub mod Unkept
+pub mod KeptFinishing
+pub mod KeptHomes
+pub mod Running
 pub mod Mine
 pub mod Sessions
 pub mod Crossing

@@ -16,18 +16,24 @@ JobOf S = Job S
 
 -- the callers of a list of jobs
 abbrev pub callers_of : {S : Type 0} → List (Job S) → List (Caller S)
-callers_of js = map (λ j. j.caller) js
+callers_of js = map (λ j. j.holding.caller) js
 
--- its caller is one of the hall's, and serves nothing
+-- the book isn't in hand
+abbrev pub IsUnkept : {S : Type 0} → Job S → Type 0
+IsUnkept j = j.holding.book ≡ None
+
+-- its caller is one of the hall's, serves nothing, and hasn't the book in hand
 pub record IsJobOf {S : Type 0} (meaning : S → Meaning) (h : Hall S) (j : Job S) : Type 0 where
-  pub caller : IsCallerOf meaning h j.caller
-  pub between : IsBetween j.caller.stage
+  pub caller : IsCallerOf meaning h j.holding.caller
+  pub between : IsBetween j.holding.caller.stage
+  pub unkept : IsUnkept j
 
--- its caller is the same one of the hall, and is out
+-- its caller is the same one of the hall, is out, and hasn't the book in hand
 pub record HasServed {S : Type 0} (meaning : S → Meaning) (h : Hall S) (p q : Job S) : Type 0 where
-  pub caller : IsCallerOf meaning h q.caller
-  pub number_still : q.caller.number ≡ p.caller.number
-  pub out : q.caller.stage ≡ Out
+  pub caller : IsCallerOf meaning h q.holding.caller
+  pub number_still : q.holding.caller.number ≡ p.holding.caller.number
+  pub out : q.holding.caller.stage ≡ Out
+  pub unkept : IsUnkept q
 
 -- The caller has begun this ticket, and no other one, and served it to its end, and is idle: its
 -- note knows the ticket as ended with the reply, which stands in the list at the ticket's place.

@@ -10,6 +10,7 @@ ghost use Rattle.session_hall.specs.Stages.{IsBetween};
 ghost use Rattle.session_hall.specs.declared.stage.Stage.TheVariants.{Idle, Out, Serving};
 ghost use Rattle.hall_serving.specs.Jobs.{HasBegunNone, ServesNext};
 
+use crate::crew::Crew;
 use crate::desk::HallDesk;
 use crate::pause::Pause;
 use admission_book::laws::answering;
@@ -20,8 +21,9 @@ use std::sync::Wait;
 use std::thread::Threads;
 use worker_gate::{Gate, Place};
 
-/// Begins the next ticket, after the pause, and serves it alone, to its end: it answers the ticket
-/// and its reply, which is its serial one. None comes where all tickets are begun; the caller is out then.
+/// Begins the next ticket, after the pause, and serves it alone, to its end: it answers the
+/// ticket and its reply, which is its serial one. None comes where all tickets are begun; the
+/// caller is out then.
 pub fn serve_next<R: Threads + Wait + Sync, S: Serves + Drop, G: Gate>(
     rt: &R,
     plan: &S,
@@ -45,33 +47,41 @@ pub fn serve_next<R: Threads + Wait + Sync, S: Serves + Drop, G: Gate>(
         return None;
     };
     gate.pass(rt, Place::Begun(ticket));
-    let reply = serve_ticket(rt, plan, hall, gate, ticket, caller, scratch, pause);
+    let crew = Crew {
+        rt,
+        plan,
+        hall,
+        gate,
+    };
+    let reply = serve_ticket(crew, ticket, caller, scratch, pause);
     Some((ticket, reply))
 }
 
 // Serves the ticket that the caller has begun, to its end.
 fn serve_ticket<R: Threads + Wait + Sync, S: Serves + Drop, G: Gate>(
-    rt: &R,
-    plan: &S,
-    hall: &Hall<S>,
-    gate: &G,
+    crew: Crew<'_, R, S, G>,
     ticket: u32,
     caller: &mut Caller<S>,
     scratch: &mut Scratch,
     pause: &mut Pause,
 ) -> Reply
-    requires caller { IsCallerOf S.meaning hall.now caller.old }
-    requires plan { script_of hall.now ≡ plan.now }
+    requires caller { IsCallerOf S.meaning crew.hall.now caller.old }
     requires stage { caller.old.stage ≡ Serving ticket }
-    requires within { ticket < (S.meaning plan.now).requests }
+    requires within { ticket < (S.meaning crew.plan.now).requests }
     requires fresh { entries_of caller.old ticket ≡ [] }
-    requires entry { foresight_of caller.old ≡ (S.meaning plan.now).entry ticket }
-    ensures caller { StaysCaller S.meaning hall.now caller.old caller.new }
+    requires entry { foresight_of caller.old ≡ (S.meaning crew.plan.now).entry ticket }
+    ensures caller { StaysCaller S.meaning crew.entry.hall.now caller.old caller.new }
     ensures begun { HasBegunNone caller.old caller.new }
     ensures idle { caller.new.stage ≡ Idle }
     ensures known { (ticket < begun (book_of caller.new).journal)
         × (ended (book_of caller.new).journal ticket ≡ Some result) }
 {
+    let Crew {
+        rt,
+        plan,
+        hall,
+        gate,
+    } = crew;
     let mut desk = HallDesk::over(hall, caller, gate);
     match plan.serve(rt, ticket, scratch, &mut desk) {
         Ok(()) => {}

@@ -11,8 +11,8 @@ const STEP: u32 = 32;
 
 const MOST: u32 = 2_000;
 
-/// At each how manieth yield of a pause it looks whether the end is near: a look asks for a word that
-/// each end of a ticket writes.
+/// At each how manieth yield of a pause it looks whether the end is near: a look asks for a word
+/// that each end of a ticket writes.
 const YIELDS_A_LOOK: u32 = 32;
 
 /// The pause of a caller before it begins its next ticket. It is twice as long, and a little

@@ -5,9 +5,10 @@ ghost use Rattle.session_values.specs.Limits.{max_callers, max_shards, max_table
 ghost use Rattle.session_hall.specs.Closings.{IsDone};
 ghost use Rattle.session_hall.specs.Reopenings.{OpensOver};
 
+use crate::crew::Crew;
 use crate::job::Job;
 use crate::jobs::{begin_jobs, end_jobs, serve_all};
-use session_hall::{Caller, Closed, Hall};
+use session_hall::{Caller, Closed, Hall, Sizes};
 use session_journal::{Scratch, Script, Serves, Tickets};
 use session_values::{Listed, NoMemory, TableKind};
 use std::alloc::Global;
@@ -55,23 +56,20 @@ pub fn make_scratches(alloc: Global, count: u32) -> Result<Vec<Scratch>, NoMemor
     Ok(scratches)
 }
 
-/// Opens the hall of a script, with so many callers and so many shards of each table, and takes all
-/// memory that the session needs.
+/// Opens the hall of a script, of these sizes, and takes all memory that the session needs.
 pub fn open_session<S: Script + Drop>(
     alloc: Global,
     script: S,
     shape: &[TableKind],
-    shards: u32,
-    callers: u32,
+    sizes: Sizes,
 ) -> Result<OpenSession<S>, NoMemory>
     requires shape { shape.now ≡ (S.meaning script).shape }
     requires tables { length shape.now ≤ max_tables }
-    requires shards { (1 ≤ shards) × (shards ≤ max_shards) }
-    requires callers { (1 ≤ callers) × (callers ≤ max_callers) }
     ensures script { IfOk result (λ s. s.script ≡ script) }
-    ensures callers { IfOk result (λ s. s.callers ≡ callers) }
-    ensures shards { IfOk result (λ s. s.shards ≡ shards) }
+    ensures callers { IfOk result (λ s. s.callers ≡ sizes.callers) }
+    ensures shards { IfOk result (λ s. s.shards ≡ sizes.shards) }
 {
+    let Sizes { callers, shards } = sizes;
     let mut scratches = make_scratches(alloc, callers)?;
     let mut jobs = Vec::with_capacity(alloc, callers as usize)?;
     let (hall, list) = Hall::open(alloc, script, shape, shards, callers)?;
@@ -80,9 +78,9 @@ pub fn open_session<S: Script + Drop>(
     Ok(OpenSession { hall, jobs, left })
 }
 
-/// Opens the hall of tickets over the shards that a closed hall left, with so many callers, and takes
-/// all memory that the session needs. `later` has the most keys that may still be added to each
-/// table, by these and later tickets.
+/// Opens the hall of tickets over the shards that a closed hall left, with so many callers, and
+/// takes all memory that the session needs. `later` has the most keys that may still be added to
+/// each table, by these and later tickets.
 pub fn reopen_session<S: Tickets + Drop>(
     alloc: Global,
     tickets: S,
@@ -111,9 +109,9 @@ pub fn reopen_session<S: Tickets + Drop>(
     Ok(OpenSession { hall, jobs, left })
 }
 
-/// Serves all tickets of an open session by its callers, in as many threads where they can be made,
-/// and else one after another, and closes its hall. `plan` is the script again, by which each
-/// ticket is served.
+/// Serves all tickets of an open session by its callers, in as many threads where they can be
+/// made, and else one after another, and closes its hall. `plan` is the script again, by which
+/// each ticket is served.
 pub fn serve_session<R: Threads + Wait + Sync, S: Serves + Drop + Send + Sync, G: Gate + Sync>(
     rt: &R,
     session: OpenSession<S>,
@@ -130,7 +128,13 @@ pub fn serve_session<R: Threads + Wait + Sync, S: Serves + Drop + Send + Sync, G
         mut jobs,
         mut left,
     } = session;
-    serve_all(rt, plan, &hall, gate, &mut jobs);
+    let crew = Crew {
+        rt,
+        plan,
+        hall: &hall,
+        gate,
+    };
+    serve_all(crew, &mut jobs);
     end_jobs(jobs, &mut left);
     hall.close(Listed::from_vec(left))
 }

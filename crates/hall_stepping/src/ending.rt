@@ -1,14 +1,13 @@
 // Opening and closing halls that are stepped.
 
-ghost use Rattle.std.specs.Prelude.{◌≤◌, IfOk};
+ghost use Rattle.std.specs.Prelude.{IfOk};
 ghost use Rattle.std.specs.Bool.{Decides};
-ghost use Rattle.session_values.specs.Limits.{max_callers, max_shards};
 ghost use Rattle.hall_stepping.specs.Endings.{AreOut, ClosesAs, IsOpenedFor};
 
 use crate::plan::Plan;
 use crate::planned_script::PlannedScript;
 use crate::stepping::Stepping;
-use session_hall::{Caller, Closed, Hall, Stage};
+use session_hall::{Caller, Closed, Hall, Sizes, Stage};
 use session_values::{Listed, MAX_SYMBOLS, NoMemory};
 use std::alloc::Global;
 use symbolic_ops::Foresight;
@@ -27,12 +26,9 @@ fn are_out(callers: &[Caller<PlannedScript>]) -> bool
 }
 
 impl Stepping {
-    /// Opens the hall of a plan, with so many shards of each of its tables, which hold the plan's
-    /// entries, and so many callers. No step takes memory. Where memory is wanting the plan is gone.
-    pub fn open(alloc: Global, plan: Plan, shards: u32, callers: u32) -> Result<Stepping, NoMemory>
-        requires shards { (1 ≤ shards) × (shards ≤ max_shards) }
-        requires callers { (1 ≤ callers) × (callers ≤ max_callers) }
-        ensures { IfOk result (IsOpenedFor plan shards callers) }
+    /// Opens the hall of a plan, of these sizes, over tables that hold the plan's entries. No step takes memory. Where memory is wanting the plan is gone.
+    pub fn open(alloc: Global, plan: Plan, sizes: Sizes) -> Result<Stepping, NoMemory>
+        ensures { IfOk result (IsOpenedFor plan sizes.shards sizes.callers) }
     {
         let Plan {
             script,
@@ -43,6 +39,7 @@ impl Stepping {
             calls: _,
             symbols: _,
         } = plan;
+        let Sizes { callers, shards } = sizes;
         let script = PlannedScript::over(script, opening);
         let done = Vec::from_elem(alloc, 0usize, callers as usize)?;
         let list = Foresight::with_room(alloc, MAX_SYMBOLS)?;

@@ -15,6 +15,6 @@ mod stepping;
 
 pub use plan::Plan;
 pub use planned::Planned;
-pub use session_hall::Closed;
+pub use session_hall::{Closed, Sizes};
 pub use stepped::Stepped;
 pub use stepping::Stepping;

@@ -1,4 +1,3 @@
 pub mod Closing
-pub mod Ends
 pub mod Sessions
 pub mod Since

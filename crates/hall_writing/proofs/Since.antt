@@ -1,53 +1,81 @@
--- One ticket more that a caller has begun and served.
-use Rattle.std.proofs.Common.{◌≡◌, ℕ, List, [], ◌∷◌, ◌++◌, Bool, refl, sym, ◌∙◌, ap, subst, append_assoc, append-nil}
-use Rattle.std.specs.List.{AllByRecursion}
+-- What was done with the replies of all tickets that a caller has begun since.
+use Rattle.std.proofs.Common.{◌≡◌, ℕ, List, [], ◌∷◌, ◌++◌, Option, None, false, true, refl, sym, ◌∙◌, ap, subst}
+use Rattle.std.specs.List.{AllByRecursion, FoldsTo}
 use Rattle.session_values.specs.declared.reply.Reply.{Reply}
-use Rattle.session_hall.specs.declared.caller.Caller.{Caller}
+use Rattle.admission_book.specs.Methods.{BookView}
+use Rattle.session_hall.specs.declared.holding.Holding.{Holding}
 use Rattle.session_hall.specs.Begun.{begun_by}
-use Rattle.reply_lane.specs.declared.rule.EndState.{EndState}
-use Rattle.reply_lane.specs.Lanes.{Offered}
-use Rattle.sheet_writing.specs.Pending.{PendingView}
-use Rattle.sheet_writing.specs.Sheets.{IsKept}
+use Rattle.session_hall.specs.Holdings.{begun_at}
+use Rattle.reply_lane.specs.Ends.{state_of}
+use Rattle.hall_serving.specs.KeptJobs.{HasGiven}
+use Rattle.sheet_writing.specs.Ready.{ready}
+use Rattle.sheet_writing.specs.Sheets.{GoesOn, IsKept, progress}
+use Rattle.hall_writing.specs.declared.offering.Offering.{Offering}
+use Rattle.hall_writing.specs.declared.writing.Writing.{Writing}
 use Rattle.hall_writing.specs.Jobs.{HasKept, HasOffered, Offers}
+use Rattle.hall_writing.specs.Steps.{HasOfferedOne, HasWrittenOne}
 
-module _ {S : Type 0} (p : Caller S) where
-  more_begun : (via q : Caller S) (served : List ℕ) (t : ℕ) → begun_by via ≡ begun_by p ++ served → begun_by q ≡ begun_by via ++ t ∷ [] → begun_by q ≡ begun_by p ++ (served ++ t ∷ [])
-  more_begun via q served t e f = f ∙ ap (λ (l : List ℕ). l ++ t ∷ []) e ∙ append_assoc (begun_by p) served (t ∷ [])
+-- ---- the tickets, by the caller's note, while the book isn't in hand
+module _ {S : Type 0} where
+  at_note : (h : Holding S) → h.book ≡ None → begun_at h ≡ begun_by h.caller
+  at_note h none = let at : Option (BookView S) → Holding S = λ o. record { caller = h.caller; book = o; ends = h.ends; entered = h.entered } in ap (λ o. begun_at (at o)) none
+
+  by_note : (p q : Holding S) (served : List ℕ) → p.book ≡ None → q.book ≡ None → begun_at q ≡ begun_at p ++ served → begun_by q.caller ≡ begun_by p.caller ++ served
+  by_note p q served e f more = sym (at_note q f) ∙ more ∙ ap (λ (l : List ℕ). l ++ served) (at_note p e)
 
 -- ---- offered
-offers_more : (ts : List ℕ) (v w x : EndState) (t : ℕ) (r : Reply) (room : Bool) → Offers ts v w → Offered w (record { ticket = t; reply = r }) x room → Offers (ts ++ t ∷ []) v x
-offers_more [] v w x t r room o f = let P : EndState → Type 0 = λ y. Offered y (record { ticket = t; reply = r }) x room in (x, r, room, subst P o f, refl)
-offers_more (s ∷ ts) v w x t r room o f = (o.0, o.1, o.2, o.3, offers_more ts o.0 w x t r room o.4 f)
+offers_by : (ts : List ℕ) (o p : Offering) → FoldsTo HasOfferedOne o ts p → (p.end.ghost_name ≡ o.end.ghost_name) × Offers ts (state_of o.end.now) (state_of p.end.now)
+offers_by [] o p e = (ap (λ (x : Offering). x.end.ghost_name) (sym e), ap (λ (x : Offering). state_of x.end.now) (sym e))
+offers_by (t ∷ ts) o p f = let n = offers_by ts f.0 p f.2 in (n.0 ∙ f.1.end_still, (state_of f.0.end.now, f.1.reply, f.1.room, f.1.offered, n.1))
 
-module _ {S : Type 0} (p : Caller S) (v : EndState) where
-  pub none_offered : HasOffered p p v v
-  none_offered = record { served = []; begun_more = sym (append-nil (begun_by p)); offers = refl }
-
-  pub one_offered : (via q : Caller S) (w x : EndState) (t : ℕ) (r : Reply) (room : Bool) → HasOffered p via v w → begun_by q ≡ begun_by via ++ t ∷ [] → Offered w (record { ticket = t; reply = r }) x room → HasOffered p q v x
-  one_offered via q w x t r room h e f = record {
-    served = h.served ++ t ∷ [];
-    begun_more = more_begun p via q h.served t h.begun_more e;
-    offers = offers_more h.served v w x t r room h.offers f;
-  }
-
-  pub still_offered : (via q : Caller S) (w : EndState) → HasOffered p via v w → begun_by q ≡ begun_by via → HasOffered p q v w
-  still_offered via q w h e = record { served = h.served; begun_more = e ∙ h.begun_more; offers = h.offers }
+pub has_offered : {S : Type 0} (p q : Holding S) (x y : Offering) → p.book ≡ None → q.book ≡ None → HasGiven HasOfferedOne p q x y → (y.end.ghost_name ≡ x.end.ghost_name) × HasOffered p.caller q.caller (state_of x.end.now) (state_of y.end.now)
+has_offered p q x y e f h =
+    let n = offers_by h.served x y h.given in
+    (n.0, record { served = h.served; begun_more = by_note p q h.served e f h.begun_more; offers = n.1 })
 
 -- ---- kept or written
-kept_more : (old new : PendingView) (ts : List ℕ) (t : ℕ) → AllByRecursion (IsKept old) ts → ((u : ℕ) → IsKept old u → IsKept new u) → IsKept new t → AllByRecursion (IsKept new) (ts ++ t ∷ [])
-kept_more old new [] t k f l = (l, tt)
-kept_more old new (s ∷ ts) t k f l = (f s k.0, kept_more old new ts t k.1 f l)
+module _ {O : Type 0} (held : O → Option (List ℕ)) (faults : O → ℕ) where
+  pub record HasWritten (w : Writing O) (ts : List ℕ) (x : Writing O) : Type 0 where
+    pub end_still : x.end.ghost_name ≡ w.end.ghost_name
+    pub sheet_still : x.sheet.ghost_name ≡ w.sheet.ghost_name
+    pub out_still : x.out.ghost_name ≡ w.out.ghost_name
+    pub kept : AllByRecursion (IsKept x.sheet.now.pending) ts
+    pub still : (u : ℕ) → IsKept w.sheet.now.pending u → IsKept x.sheet.now.pending u
+    pub stops : (w.sheet.now.failed ≡ false → ready w.sheet.now.pending ≡ []) → x.sheet.now.failed ≡ false → ready x.sheet.now.pending ≡ []
+    pub quiet : w.sheet.now.failed ≡ true → x.out.now ≡ w.out.now
+    pub on : (replies : List Reply) (names : List (List ℕ)) → (state_of w.end.now).known ≡ replies → w.names.now ≡ names → GoesOn replies names (progress (held w.out.now) (faults w.out.now) w.sheet.now) (progress (held x.out.now) (faults x.out.now) x.sheet.now)
 
-module _ {S : Type 0} (p : Caller S) where
-  pub none_kept : (sheet : PendingView) → HasKept p p sheet
-  none_kept sheet = record { served = []; begun_more = sym (append-nil (begun_by p)); kept = tt }
+  writes_by : (ts : List ℕ) (w x : Writing O) → FoldsTo (HasWrittenOne held faults) w ts x → HasWritten w ts x
+  writes_by [] w x e = subst (HasWritten w []) e (record {
+    end_still = refl;
+    sheet_still = refl;
+    out_still = refl;
+    kept = tt;
+    still = λ u k. k;
+    stops = λ h. h;
+    quiet = λ h. refl;
+    on = λ replies names known same. record { on = λ first first_faults v. v };
+  })
+  writes_by (t ∷ ts) w x f =
+      let s = f.1 in
+      let n = writes_by ts f.0 x f.2 in
+      record {
+        end_still = n.end_still ∙ s.end_still;
+        sheet_still = n.sheet_still ∙ s.sheet_still;
+        out_still = n.out_still ∙ s.out_still;
+        kept = (n.still t s.own, n.kept);
+        still = λ u k. n.still u (s.still u k);
+        stops = λ h. n.stops s.stops;
+        quiet = λ h. n.quiet (s.failed h) ∙ s.quiet h;
+        on = λ replies names known same.
+            let p = progress (held w.out.now) (faults w.out.now) w.sheet.now in
+            let q = progress (held f.0.out.now) (faults f.0.out.now) f.0.sheet.now in
+            let one : GoesOn replies names p q = subst (λ (rs : List Reply). GoesOn rs names p q) known (subst (λ (ns : List (List ℕ)). GoesOn (state_of w.end.now).known ns p q) same s.on) in
+            let rest = n.on replies names (s.known_still ∙ known) (s.names_still ∙ same) in
+            record { on = λ first first_faults v. rest.on first first_faults (one.on first first_faults v) };
+      }
 
-  pub one_kept : (via q : Caller S) (old new : PendingView) (t : ℕ) → HasKept p via old → begun_by q ≡ begun_by via ++ t ∷ [] → ((u : ℕ) → IsKept old u → IsKept new u) → IsKept new t → HasKept p q new
-  one_kept via q old new t h e f l = record {
-    served = h.served ++ t ∷ [];
-    begun_more = more_begun p via q h.served t h.begun_more e;
-    kept = kept_more old new h.served t h.kept f l;
-  }
-
-  pub still_kept : (via q : Caller S) (sheet : PendingView) → HasKept p via sheet → begun_by q ≡ begun_by via → HasKept p q sheet
-  still_kept via q sheet h e = record { served = h.served; begun_more = e ∙ h.begun_more; kept = h.kept }
+  pub has_written : {S : Type 0} (p q : Holding S) (x y : Writing O) → p.book ≡ None → q.book ≡ None → HasGiven (HasWrittenOne held faults) p q x y → (ts : List ℕ) × HasWritten x ts y × HasKept p.caller q.caller y.sheet.now.pending
+  has_written p q x y e f h =
+      let n = writes_by h.served x y h.given in
+      (h.served, n, record { served = h.served; begun_more = by_note p q h.served e f h.begun_more; kept = n.kept })

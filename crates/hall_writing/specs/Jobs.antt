@@ -1,5 +1,5 @@
 -- What contracts say of the jobs of a session whose replies are written while it is served.
-use Rattle.std.specs.Prelude.{◌≡◌, ℕ, List, [], ◌∷◌, ◌++◌, Bool, map}
+use Rattle.std.specs.Prelude.{◌≡◌, ℕ, List, [], ◌∷◌, ◌++◌, None, Bool, map}
 use Rattle.std.specs.List.{AllByRecursion}
 use Rattle.session_values.specs.declared.reply.Reply.{Reply}
 use Rattle.session_values.specs.Serial.{serial_replies}
@@ -28,25 +28,31 @@ replies_of m = serial_replies (session_of m) m.requests
 
 -- the callers of a list of jobs
 abbrev pub callers_of : {S : Type 0} → List (Job S) → List (Caller S)
-callers_of js = map (λ j. j.caller) js
+callers_of js = map (λ j. j.holding.caller) js
 
 -- and their ends of the lane
 abbrev pub ends_of : {S : Type 0} → List (Job S) → List End
 ends_of js = map (λ j. j.end) js
 
--- its caller is one of the hall's, and serves nothing; its end is one of the lane's, for these
--- replies
+-- the book isn't in hand
+abbrev pub IsUnkept : {S : Type 0} → Job S → Type 0
+IsUnkept j = j.holding.book ≡ None
+
+-- its caller is one of the hall's, serves nothing, and hasn't the book in hand; its end is one of
+-- the lane's, for these replies
 pub record IsJobOf {S : Type 0} (meaning : S → Meaning) (h : Hall S) (lane : Lane)
     (replies : List Reply) (j : Job S) : Type 0 where
-  pub caller : IsCallerOf meaning h j.caller
-  pub between : IsBetween j.caller.stage
+  pub caller : IsCallerOf meaning h j.holding.caller
+  pub between : IsBetween j.holding.caller.stage
+  pub unkept : IsUnkept j
   pub end : IsEndOf lane replies j.end
 
--- its caller is the same one of the hall, and is out
+-- its caller is the same one of the hall, is out, and hasn't the book in hand
 pub record HasServed {S : Type 0} (meaning : S → Meaning) (h : Hall S) (p q : Job S) : Type 0 where
-  pub caller : IsCallerOf meaning h q.caller
-  pub number_still : q.caller.number ≡ p.caller.number
-  pub out : q.caller.stage ≡ Out
+  pub caller : IsCallerOf meaning h q.holding.caller
+  pub number_still : q.holding.caller.number ≡ p.holding.caller.number
+  pub out : q.holding.caller.stage ≡ Out
+  pub unkept : IsUnkept q
 
 -- The replies of these tickets were offered to the lane, one after another, by the end that knew
 -- this: each was put in, or the lane was full. Nothing else was put in, and nothing was taken out.

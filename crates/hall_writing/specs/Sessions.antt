@@ -10,7 +10,7 @@ use Rattle.reply_lane.specs.declared.lane.Lane.{Lane}
 use Rattle.reply_lane.specs.Ends.{IsEndOf}
 use Rattle.hall_writing.specs.declared.job.Job.{Job}
 use Rattle.sheet_writing.specs.declared.sheet.Sheet.{Sheet}
-use Rattle.hall_writing.specs.Jobs.{callers_of, ends_of, replies_of}
+use Rattle.hall_writing.specs.Jobs.{IsUnkept, callers_of, ends_of, replies_of}
 
 -- the script with which its hall was opened, how many callers it has, and how many shards each of
 -- its tables has
@@ -19,12 +19,13 @@ pub record SessionView (S : Type 0) : Type 0 where
   pub callers : ℕ
   pub shards : ℕ
 
--- the jobs have all callers of the hall, in order and as they were opened, and each an end of the
--- lane for the serial replies; beside them is an empty list with room for all callers, and a sheet
--- that keeps nothing yet
+-- the jobs have all callers of the hall, in order and as they were opened, none with the book in
+-- hand, and each an end of the lane for the serial replies; beside them is an empty list with
+-- room for all callers, and a sheet that keeps nothing yet
 pub record IsOpened {S : Type 0} (meaning : S → Meaning) (h : Hall S) (lane : Lane)
     (jobs : List (Job S)) (left : List (Caller S)) (room : ℕ) (sheet : Sheet) : Type 0 where
   pub opens : (i : ℕ) (c : Caller S) → slice_get (callers_of jobs) i ≡ Some c → Opens meaning h i c
+  pub unkept : AllByRecursion IsUnkept jobs
   pub ends : AllByRecursion (IsEndOf lane (replies_of (meaning (script_of h)))) (ends_of jobs)
   pub all : length jobs ≡ h.sizes.callers
   pub some : 0 < length jobs

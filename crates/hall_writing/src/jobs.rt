@@ -9,14 +9,13 @@ ghost use Rattle.sheet_writing.specs.Printable.{ArePrintableReplies};
 ghost use Rattle.hall_writing.specs.Jobs.{HasServed, IsJobOf, JobOf, replies_of};
 ghost use Rattle.sheet_writing.specs.Sheets.{GoesOn, Keeps, progress};
 
-use crate::first::serve_and_write_on;
+use crate::first::{First, serve_and_write_on};
 use crate::job::{Job, serve_and_offer};
 use byte_ends::Sink;
+use hall_serving::Crew;
 use reply_lane::Lane;
-use session_hall::Hall;
-use session_journal::{Script, Serves};
+use session_journal::Serves;
 use session_values::Names;
-use sheet_writing::Sheet;
 use std::sync::Wait;
 use std::thread;
 use std::thread::{Threads, join};
@@ -24,22 +23,26 @@ use worker_gate::Gate;
 
 // The others, each in a thread of its own where one can be made.
 fn offer_all<R: Threads + Wait + Sync, S: Serves + Drop + Send + Sync, G: Gate + Sync>(
-    rt: &R,
-    plan: &S,
-    hall: &Hall<S>,
-    gate: &G,
+    crew: Crew<'_, R, S, G>,
     lane: &Lane,
     jobs: &mut Vec<Job<S>>,
 )
     requires some { 0 < vec_len jobs.old }
     requires jobs { AllByRecursion
-        (IsJobOf S.meaning hall.now lane.now (replies_of (S.meaning plan.now))) jobs.old.items }
-    requires plan { script_of hall.now ≡ plan.now }
+        (IsJobOf S.meaning crew.hall.now lane.now (replies_of (S.meaning crew.plan.now)))
+        jobs.old.items }
     ensures len { length jobs.new.items ≡ length jobs.old.items }
     ensures jobs { (i : ℕ) (d : JobOf S) → i < length jobs.old.items →
-        HasServed S.meaning hall.now (slice_index_or jobs.old.items i d)
+        HasServed S.meaning crew.entry.hall.now (slice_index_or jobs.old.items i d)
         (slice_index_or jobs.new.items i d) }
 {
+    // A thread shares each reference by itself, and makes the crew of them.
+    let Crew {
+        rt,
+        plan,
+        hall,
+        gate,
+    } = crew;
     let threads = jobs.len();
     thread::for_each_mut(
         rt,
@@ -49,60 +52,59 @@ fn offer_all<R: Threads + Wait + Sync, S: Serves + Drop + Send + Sync, G: Gate +
             requires { IsJobOf S.meaning hall.now lane.now (replies_of (S.meaning plan.now)) job.old
                 × (script_of hall.now ≡ plan.now) }
             ensures { HasServed S.meaning hall.entry.now job.old job.new }
-        { serve_and_offer(rt, plan, hall, gate, lane, job) },
+        {
+            let crew = Crew {
+                rt,
+                plan,
+                hall,
+                gate,
+            };
+            serve_and_offer(crew, lane, job)
+        },
     );
 }
 
 // The others, moved in and given back.
 fn offer_by<R: Threads + Wait + Sync, S: Serves + Drop + Send + Sync, G: Gate + Sync>(
-    rt: &R,
-    plan: &S,
-    hall: &Hall<S>,
-    gate: &G,
+    crew: Crew<'_, R, S, G>,
     lane: &Lane,
     mut jobs: Vec<Job<S>>,
 ) -> Vec<Job<S>>
     requires jobs { AllByRecursion
-        (IsJobOf S.meaning hall.now lane.now (replies_of (S.meaning plan.now))) jobs.items }
-    requires plan { script_of hall.now ≡ plan.now }
+        (IsJobOf S.meaning crew.hall.now lane.now (replies_of (S.meaning crew.plan.now)))
+        jobs.items }
     ensures len { length result.items ≡ length jobs.items }
     ensures jobs { (i : ℕ) (d : JobOf S) → i < length jobs.items →
-        HasServed S.meaning hall.now (slice_index_or jobs.items i d)
+        HasServed S.meaning crew.entry.hall.now (slice_index_or jobs.items i d)
         (slice_index_or result.items i d) }
 {
     if !jobs.is_empty() {
-        offer_all(rt, plan, hall, gate, lane, &mut jobs);
+        offer_all(crew, lane, &mut jobs);
     }
     jobs
 }
 
 // The first one, moved in and given back with the sink.
 fn write_by<'b, R: Threads + Wait + Sync, S: Serves + Drop, G: Gate, O: Sink>(
-    rt: &R,
-    plan: &S,
-    hall: &Hall<S>,
-    gate: &G,
+    crew: Crew<'_, R, S, G>,
     lane: &Lane,
     names: &Names,
-    mut first: Job<S>,
-    mut sheet: Sheet,
+    mut first: First<S>,
     out: &'b mut O,
-) -> (Job<S>, Sheet, &'b mut O)
-    requires job { IsJobOf S.meaning hall.now lane.now (replies_of (S.meaning plan.now)) first }
-    requires plan { script_of hall.now ≡ plan.now }
-    requires keeps { Keeps (replies_of (S.meaning plan.now)) sheet.pending }
-    requires few { length (replies_of (S.meaning plan.now)) ≤ max_requests }
-    requires printable { ArePrintableReplies names.now (replies_of (S.meaning plan.now)) }
-    ensures same { result.2.ghost_name ≡ out.entry.ghost_name }
-    ensures served { HasServed S.meaning hall.now first result.0 }
-    ensures on { GoesOn (replies_of (S.meaning plan.now)) names.now
-        (progress (O.held out.entry.now) (O.faults out.entry.now) sheet)
-        (progress (O.held result.2.now) (O.faults result.2.now) result.1) }
+) -> (First<S>, &'b mut O)
+    requires job { IsJobOf S.meaning crew.hall.now lane.now (replies_of (S.meaning crew.plan.now))
+        first.job }
+    requires keeps { Keeps (replies_of (S.meaning crew.plan.now)) first.sheet.pending }
+    requires few { length (replies_of (S.meaning crew.plan.now)) ≤ max_requests }
+    requires printable { ArePrintableReplies names.now (replies_of (S.meaning crew.plan.now)) }
+    ensures same { result.1.ghost_name ≡ out.entry.ghost_name }
+    ensures served { HasServed S.meaning crew.entry.hall.now first.job result.0.job }
+    ensures on { GoesOn (replies_of (S.meaning crew.entry.plan.now)) names.now
+        (progress (O.held out.entry.now) (O.faults out.entry.now) first.sheet)
+        (progress (O.held result.1.now) (O.faults result.1.now) result.0.sheet) }
 {
-    serve_and_write_on(
-        rt, plan, hall, gate, lane, names, &mut first, &mut sheet, out,
-    );
-    (first, sheet, out)
+    serve_and_write_on(crew, lane, names, &mut first.job, &mut first.sheet, out);
+    (first, out)
 }
 
 // Ends the loan of a sink that was given back.
@@ -117,72 +119,71 @@ pub(crate) fn run_jobs<
     G: Gate + Sync,
     O: Sink,
 >(
-    rt: &R,
-    plan: &S,
-    hall: &Hall<S>,
-    gate: &G,
+    crew: Crew<'_, R, S, G>,
     lane: &Lane,
     names: &Names,
-    mut first: Job<S>,
+    mut first: First<S>,
     others: Vec<Job<S>>,
-    mut sheet: Sheet,
     out: &mut O,
-) -> (Job<S>, Vec<Job<S>>, Sheet)
-    requires first { IsJobOf S.meaning hall.now lane.now (replies_of (S.meaning plan.now)) first }
+) -> (First<S>, Vec<Job<S>>)
+    requires first { IsJobOf S.meaning crew.hall.now lane.now
+        (replies_of (S.meaning crew.plan.now)) first.job }
     requires jobs { AllByRecursion
-        (IsJobOf S.meaning hall.now lane.now (replies_of (S.meaning plan.now))) others.items }
-    requires plan { script_of hall.now ≡ plan.now }
-    requires keeps { Keeps (replies_of (S.meaning plan.now)) sheet.pending }
-    requires few { length (replies_of (S.meaning plan.now)) ≤ max_requests }
-    requires printable { ArePrintableReplies names.now (replies_of (S.meaning plan.now)) }
-    ensures first { HasServed S.meaning hall.now first result.0 }
+        (IsJobOf S.meaning crew.hall.now lane.now (replies_of (S.meaning crew.plan.now)))
+        others.items }
+    requires keeps { Keeps (replies_of (S.meaning crew.plan.now)) first.sheet.pending }
+    requires few { length (replies_of (S.meaning crew.plan.now)) ≤ max_requests }
+    requires printable { ArePrintableReplies names.now (replies_of (S.meaning crew.plan.now)) }
+    ensures first { HasServed S.meaning crew.entry.hall.now first.job result.0.job }
     ensures len { length result.1.items ≡ length others.items }
     ensures jobs { (i : ℕ) (d : JobOf S) → i < length others.items →
-        HasServed S.meaning hall.now (slice_index_or others.items i d)
+        HasServed S.meaning crew.entry.hall.now (slice_index_or others.items i d)
         (slice_index_or result.1.items i d) }
-    ensures on { GoesOn (replies_of (S.meaning plan.now)) names.now
-        (progress (O.held out.old) (O.faults out.old) sheet)
-        (progress (O.held out.new) (O.faults out.new) result.2) }
+    ensures on { GoesOn (replies_of (S.meaning crew.entry.plan.now)) names.now
+        (progress (O.held out.old) (O.faults out.old) first.sheet)
+        (progress (O.held out.new) (O.faults out.new) result.0.sheet) }
 {
     if others.is_empty() {
-        serve_and_write_on(
-            rt, plan, hall, gate, lane, names, &mut first, &mut sheet, out,
-        );
-        return (first, others, sheet);
+        serve_and_write_on(crew, lane, names, &mut first.job, &mut first.sheet, out);
+        return (first, others);
     }
-    run_beside(rt, plan, hall, gate, lane, names, first, others, sheet, out)
+    run_beside(crew, lane, names, first, others, out)
 }
 
 // Runs the first one in this thread, and the others beside it.
 fn run_beside<R: Threads + Wait + Sync, S: Serves + Drop + Send + Sync, G: Gate + Sync, O: Sink>(
-    rt: &R,
-    plan: &S,
-    hall: &Hall<S>,
-    gate: &G,
+    crew: Crew<'_, R, S, G>,
     lane: &Lane,
     names: &Names,
-    first: Job<S>,
+    first: First<S>,
     others: Vec<Job<S>>,
-    sheet: Sheet,
     out: &mut O,
-) -> (Job<S>, Vec<Job<S>>, Sheet)
-    requires first { IsJobOf S.meaning hall.now lane.now (replies_of (S.meaning plan.now)) first }
+) -> (First<S>, Vec<Job<S>>)
+    requires first { IsJobOf S.meaning crew.hall.now lane.now
+        (replies_of (S.meaning crew.plan.now)) first.job }
     requires jobs { AllByRecursion
-        (IsJobOf S.meaning hall.now lane.now (replies_of (S.meaning plan.now))) others.items }
-    requires plan { script_of hall.now ≡ plan.now }
-    requires keeps { Keeps (replies_of (S.meaning plan.now)) sheet.pending }
-    requires few { length (replies_of (S.meaning plan.now)) ≤ max_requests }
-    requires printable { ArePrintableReplies names.now (replies_of (S.meaning plan.now)) }
-    ensures first { HasServed S.meaning hall.now first result.0 }
+        (IsJobOf S.meaning crew.hall.now lane.now (replies_of (S.meaning crew.plan.now)))
+        others.items }
+    requires keeps { Keeps (replies_of (S.meaning crew.plan.now)) first.sheet.pending }
+    requires few { length (replies_of (S.meaning crew.plan.now)) ≤ max_requests }
+    requires printable { ArePrintableReplies names.now (replies_of (S.meaning crew.plan.now)) }
+    ensures first { HasServed S.meaning crew.entry.hall.now first.job result.0.job }
     ensures len { length result.1.items ≡ length others.items }
     ensures jobs { (i : ℕ) (d : JobOf S) → i < length others.items →
-        HasServed S.meaning hall.now (slice_index_or others.items i d)
+        HasServed S.meaning crew.entry.hall.now (slice_index_or others.items i d)
         (slice_index_or result.1.items i d) }
-    ensures on { GoesOn (replies_of (S.meaning plan.now)) names.now
-        (progress (O.held out.old) (O.faults out.old) sheet)
-        (progress (O.held out.new) (O.faults out.new) result.2) }
+    ensures on { GoesOn (replies_of (S.meaning crew.entry.plan.now)) names.now
+        (progress (O.held out.old) (O.faults out.old) first.sheet)
+        (progress (O.held out.new) (O.faults out.new) result.0.sheet) }
 {
-    let (others, (first, sheet, back)) = join(
+    // A thread shares each reference by itself, and makes the crew of them.
+    let Crew {
+        rt,
+        plan,
+        hall,
+        gate,
+    } = crew;
+    let (others, (first, back)) = join(
         rt,
         move || -> Vec<Job<S>>
             requires { IsSync R.row × IsSync S.row × IsSync G.row × IsSend S.row × AllByRecursion
@@ -192,21 +193,29 @@ fn run_beside<R: Threads + Wait + Sync, S: Serves + Drop + Send + Sync, G: Gate 
             ensures jobs { (i : ℕ) (d : JobOf S) → i < length others.items →
                 HasServed S.meaning hall.entry.now (slice_index_or others.items i d)
                 (slice_index_or result.items i d) }
-        { offer_by(rt, plan, hall, gate, lane, others) },
+        {
+            let crew = Crew {
+                rt,
+                plan,
+                hall,
+                gate,
+            };
+            offer_by(crew, lane, others)
+        },
         move ||
             requires { IsSync R.row
-                × IsJobOf S.meaning hall.now lane.now (replies_of (S.meaning plan.now)) first
-                × (script_of hall.now ≡ plan.now)
-                × Keeps (replies_of (S.meaning plan.now)) sheet.pending
-                × (length (replies_of (S.meaning plan.now)) ≤ max_requests)
-                × ArePrintableReplies names.now (replies_of (S.meaning plan.now)) }
-            ensures same { result.2.ghost_name ≡ out.entry.ghost_name }
-            ensures served { HasServed S.meaning hall.entry.now first result.0 }
-            ensures on { GoesOn (replies_of (S.meaning plan.entry.now)) names.entry.now
-                (progress (O.held out.entry.now) (O.faults out.entry.now) sheet)
-                (progress (O.held result.2.now) (O.faults result.2.now) result.1) }
-        { write_by(rt, plan, hall, gate, lane, names, first, sheet, out) },
+                × IsJobOf S.meaning crew.hall.now lane.now (replies_of (S.meaning crew.plan.now))
+                first.job
+                × Keeps (replies_of (S.meaning crew.plan.now)) first.sheet.pending
+                × (length (replies_of (S.meaning crew.plan.now)) ≤ max_requests)
+                × ArePrintableReplies names.now (replies_of (S.meaning crew.plan.now)) }
+            ensures same { result.1.ghost_name ≡ out.entry.ghost_name }
+            ensures served { HasServed S.meaning crew.entry.hall.now first.job result.0.job }
+            ensures on { GoesOn (replies_of (S.meaning crew.entry.plan.now)) names.entry.now
+                (progress (O.held out.entry.now) (O.faults out.entry.now) first.sheet)
+                (progress (O.held result.1.now) (O.faults result.1.now) result.0.sheet) }
+        { write_by(crew, lane, names, first, out) },
     );
     take_back(back);
-    (first, others, sheet)
+    (first, others)
 }

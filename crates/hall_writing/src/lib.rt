@@ -5,9 +5,11 @@
 mod first;
 mod job;
 mod jobs;
+mod offering;
 mod room;
 mod serving;
 mod session;
+mod writing;
 
 pub use serving::serve_and_write;
 pub use session::{WritingSession, open_writing};

@@ -1,11 +1,12 @@
 // Jobs are made of callers, and give them back.
 
 ghost use Rattle.std.specs.Prelude.{◌≡◌, ◌<◌, ◌≤◌, [], ◌∷◌, vec_len, vec_capacity};
-ghost use Rattle.hall_writing.specs.Jobs.{callers_of, ends_of};
+ghost use Rattle.std.specs.List.{AllByRecursion};
+ghost use Rattle.hall_writing.specs.Jobs.{IsUnkept, callers_of, ends_of};
 
 use crate::job::Job;
 use reply_lane::End;
-use session_hall::Caller;
+use session_hall::{Caller, Holding};
 use session_journal::{Scratch, Tickets};
 
 // Gives each caller a scratch and an end of the lane.
@@ -20,6 +21,7 @@ pub(crate) fn begin_jobs<S: Tickets + Drop>(
     requires empty { jobs.old.items ≡ [] }
     requires room { vec_len callers.old ≤ vec_capacity jobs.old }
     ensures jobs { callers_of jobs.new.items ≡ callers.old.items }
+    ensures unkept { AllByRecursion IsUnkept jobs.new.items }
     ensures ends { ends_of jobs.new.items ≡ ends.old.items }
     ensures callers { (callers.new.items ≡ [])
         × (vec_capacity callers.new ≡ vec_capacity callers.old) }
@@ -30,7 +32,7 @@ pub(crate) fn begin_jobs<S: Tickets + Drop>(
         let scratch = scratches.remove(0);
         let end = ends.remove(0);
         jobs.push_reserved(Job {
-            caller,
+            holding: Holding::over(caller),
             scratch,
             end,
         });
@@ -54,21 +56,12 @@ pub(crate) fn end_jobs<S: Tickets + Drop>(
 )
     requires empty { callers.old.items ≡ [] }
     requires room { vec_len jobs < vec_capacity callers.old }
+    requires unkept { AllByRecursion IsUnkept (first ∷ jobs.items) }
     ensures { callers.new.items ≡ callers_of (first ∷ jobs.items) }
 {
-    let Job {
-        caller,
-        scratch: _,
-        end: _,
-    } = first;
-    callers.push_reserved(caller);
+    callers.push_reserved(first.into_caller());
     let count = jobs.len();
     for moved in 0..count {
-        let Job {
-            caller,
-            scratch: _,
-            end: _,
-        } = jobs.remove(0);
-        callers.push_reserved(caller);
+        callers.push_reserved(jobs.remove(0).into_caller());
     }
 }

@@ -8,11 +8,13 @@ ghost use Rattle.session_hall.specs.Closings.{IsDone};
 ghost use Rattle.sheet_writing.specs.Printable.{ArePrintableReplies};
 ghost use Rattle.hall_writing.specs.Jobs.{replies_of};
 
+use crate::first::First;
 use crate::jobs::run_jobs;
 use crate::room::{end_jobs, part_first};
 use crate::session::WritingSession;
 use admission_book::laws::answering;
 use byte_ends::Sink;
+use hall_serving::Crew;
 use session_hall::Closed;
 use session_journal::{Script, Serves};
 use session_values::{Listed, Names};
@@ -21,12 +23,12 @@ use std::sync::Wait;
 use std::thread::Threads;
 use worker_gate::Gate;
 
-/// Serves all tickets of an open session by its callers, in as many threads where they can be made,
-/// and else one after another, and closes its hall. The first caller's job writes the lines that
-/// are next after each of its tickets, before it begins another one; what is left then is written
-/// after the hall is closed. It answers the closed hall, and `false` after a fault of `out`:
-/// nothing more is written then, and serving goes on. `plan` is the script again, by which each
-/// ticket is served.
+/// Serves all tickets of an open session by its callers, in as many threads where they can be
+/// made, and else one after another, and closes its hall. The first caller's job writes the lines
+/// that are next after each of its tickets, before it begins another one; what is left then is
+/// written after the hall is closed. It answers the closed hall, and `false` after a fault of
+/// `out`: nothing more is written then, and serving goes on. `plan` is the script again, by which
+/// each ticket is served.
 pub fn serve_and_write<
     R: Threads + Wait + Sync,
     S: Serves + Drop + Send + Sync,
@@ -60,11 +62,16 @@ pub fn serve_and_write<
         mut left,
         sheet,
     } = session;
-    let (first, others) = part_first(jobs);
-    let (first, others, sheet) = run_jobs(
-        rt, plan, &hall, gate, &lane, names, first, others, sheet, out,
-    );
-    end_jobs(first, others, &mut left);
+    let crew = Crew {
+        rt,
+        plan,
+        hall: &hall,
+        gate,
+    };
+    let (job, others) = part_first(jobs);
+    let (first, others) = run_jobs(crew, &lane, names, First { job, sheet }, others, out);
+    let First { job, sheet } = first;
+    end_jobs(job, others, &mut left);
     let closed = hall.close(Listed::from_vec(left));
     let whole = write_rest(closed.replies().as_slice(), sheet, out, names);
     (closed, whole)

@@ -1,21 +1,21 @@
 // A session whose hall is open, and whose replies can be written.
 
 ghost use Rattle.std.specs.Prelude.{◌≡◌, ◌≤◌, IfOk, length};
-ghost use Rattle.session_values.specs.Limits.{max_callers, max_shards, max_tables};
+ghost use Rattle.session_values.specs.Limits.{max_tables};
 
 use crate::job::Job;
 use crate::room::begin_jobs;
 use hall_serving::make_scratches;
 use reply_lane::Lane;
-use session_hall::{Caller, Hall};
+use session_hall::{Caller, Hall, Sizes};
 use session_journal::{Script, Tickets};
 use session_values::{NoMemory, TableKind};
 use sheet_writing::{Sheet, make_sheet};
 use std::alloc::Global;
 use std::marker::Model;
 
-/// A session whose hall is open, with a lane for its replies. Only `open_writing` makes one. It has
-/// all the memory that serving its tickets, writing their lines and closing its hall take.
+/// A session whose hall is open, with a lane for its replies. Only `open_writing` makes one. It
+/// has all the memory that serving its tickets, writing their lines and closing its hall take.
 #[derive(Drop)]
 pub struct WritingSession<S: Tickets + Drop> {
     pub(crate) hall: Hall<S>,
@@ -44,24 +44,21 @@ impl<S: Tickets + Drop> Model for WritingSession<S> {
         (vec_capacity s.left) s.sheet };
 }
 
-/// Opens the hall of a script, with so many callers and so many shards of each table, and a lane
-/// for the script's serial replies, and takes all memory that the session needs. The hall is opened
-/// last.
+/// Opens the hall of a script, of these sizes, and a lane for the script's serial replies, and
+/// takes all memory that the session needs. The hall is opened last.
 pub fn open_writing<S: Script + Drop>(
     alloc: Global,
     script: S,
     shape: &[TableKind],
-    shards: u32,
-    callers: u32,
+    sizes: Sizes,
 ) -> Result<WritingSession<S>, NoMemory>
     requires shape { shape.now ≡ (S.meaning script).shape }
     requires tables { length shape.now ≤ max_tables }
-    requires shards { (1 ≤ shards) × (shards ≤ max_shards) }
-    requires callers { (1 ≤ callers) × (callers ≤ max_callers) }
     ensures script { IfOk result (λ s. s.script ≡ script) }
-    ensures callers { IfOk result (λ s. s.callers ≡ callers) }
-    ensures shards { IfOk result (λ s. s.shards ≡ shards) }
+    ensures callers { IfOk result (λ s. s.callers ≡ sizes.callers) }
+    ensures shards { IfOk result (λ s. s.shards ≡ sizes.shards) }
 {
+    let Sizes { callers, shards } = sizes;
     let sheet = make_sheet(alloc, script.requests(), callers)?;
     let (lane, ends) = Lane::open(alloc, &script, callers)?;
     let mut ends = ends.into_vec();

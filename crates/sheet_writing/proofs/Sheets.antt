@@ -8,7 +8,7 @@ use Rattle.std.specs.List.{AllByRecursion}
 use Rattle.session_values.specs.declared.reply.Reply.{Reply}
 use Rattle.session_values.specs.Reply.{values_of}
 use Rattle.session_values.specs.ReplyText.{IsPrintable, reply_text}
-use Rattle.byte_ends.specs.Ends.{Counted, Rose, Grew, GrewByFront}
+use Rattle.byte_ends.specs.Ends.{Counted, Grew, GrewByFront}
 use Rattle.byte_ends.proofs.EndsLemmas.{grew_nothing, grew_more, grew_front, grew_front_within, rose_since, counted_since}
 use Rattle.reply_sheet.specs.Pending.{PendingView, with_kept, with_reply}
 use Rattle.reply_sheet.specs.Printable.{ArePrintableReplies}

@@ -10,10 +10,11 @@ ghost use Rattle.reply_sheet.specs.Ready.{AreKeptPrintable, ready};
 ghost use Rattle.sheet_writing.specs.Sheets.{GoesOn, IsKept, Keeps, progress};
 
 use crate::sheet::Sheet;
+use crate::sources::Sources;
 use byte_ends::Sink;
-use reply_lane::{End, Lane};
+use reply_lane::{End, Lane, Spoken};
 use reply_sheet::{Pending, write_ready};
-use session_values::{Names, Reply};
+use session_values::Names;
 use std::sync::Wait;
 
 // Takes messages until the lane has none, and keeps their replies. With one caller it has none.
@@ -45,22 +46,20 @@ fn take_all<R: Wait>(rt: &R, lane: &Lane, end: &mut End, alone: bool, pending: &
 /// is written, while replies are still taken and kept.
 pub fn write_after<R: Wait, O: Sink>(
     rt: &R,
-    lane: &Lane,
+    sources: Sources<'_>,
     end: &mut End,
-    ticket: u32,
-    reply: Reply,
+    own: Spoken,
     sheet: &mut Sheet,
     out: &mut O,
-    names: &Names,
 )
-    requires end { IsEndOf lane.now (state_of end.old).known end.old }
-    requires own { slice_get (state_of end.old).known ticket ≡ Some reply }
+    requires end { IsEndOf sources.lane.now (state_of end.old).known end.old }
+    requires own { slice_get (state_of end.old).known own.ticket ≡ Some own.reply }
     requires keeps { Keeps (state_of end.old).known sheet.old.pending }
     requires few { length (state_of end.old).known ≤ max_requests }
-    requires printable { ArePrintableReplies names.now (state_of end.old).known }
-    ensures end { IsEndOf lane.now (state_of end.old).known end.new }
+    requires printable { ArePrintableReplies sources.names.now (state_of end.old).known }
+    ensures end { IsEndOf sources.entry.lane.now (state_of end.old).known end.new }
     ensures keeps { Keeps (state_of end.old).known sheet.new.pending }
-    ensures own { IsKept sheet.new.pending ticket }
+    ensures own { IsKept sheet.new.pending own.ticket }
     ensures still { (t : ℕ) → IsKept sheet.old.pending t → IsKept sheet.new.pending t }
     ensures taken { (t : ℕ) → times t (state_of end.old).taken < times t (state_of end.new).taken
         → IsKept sheet.new.pending t }
@@ -69,10 +68,12 @@ pub fn write_after<R: Wait, O: Sink>(
     ensures quiet { sheet.old.failed ≡ true → out.new ≡ out.old }
     ensures failed { sheet.old.failed ≡ true → sheet.new.failed ≡ true }
     ensures stops { sheet.new.failed ≡ false → ready sheet.new.pending ≡ [] }
-    ensures on { GoesOn (state_of end.old).known names.now
+    ensures on { GoesOn (state_of end.old).known sources.entry.names.now
         (progress (O.held out.old) (O.faults out.old) sheet.old)
         (progress (O.held out.new) (O.faults out.new) sheet.new) }
 {
+    let Sources { lane, names } = sources;
+    let Spoken { ticket, reply } = own;
     sheet.pending.keep(ticket, reply);
     take_all(rt, lane, end, sheet.alone, &mut sheet.pending);
     write_next(sheet, out, names);

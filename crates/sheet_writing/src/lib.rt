@@ -4,7 +4,9 @@
 mod after;
 mod rest;
 mod sheet;
+mod sources;
 
 pub use after::write_after;
 pub use rest::write_rest;
 pub use sheet::{Sheet, make_sheet};
+pub use sources::Sources;

@@ -1,4 +1,4 @@
-use Rattle.std.proofs.Common.{arith, length, slice_get, vec_capacity, sym, ap, ◌∙◌}
+use Rattle.std.proofs.Common.{rules, arith, length, slice_get, vec_capacity, sym, ap, ◌∙◌}
 use Rattle.hall_serving.proofs.Sessions.{opened}
 use Rattle.hall_serving.proofs.session.open_session.Goals as goal
 
@@ -9,6 +9,6 @@ invariant_of-result g c =
     let long = left.ok.0 in
     let within = left.ok.1 in
     let same = c.begin_jobs.ensures.callers.1 in
-    opened g.S.Script.meaning c.in_ok-hall.hall c.begin_jobs.new.jobs.items left.items c.begin_jobs.new.callers.items c.args.callers (vec_capacity c.begin_jobs.new.callers)
+    opened g.S.Script.meaning c.in_ok-hall.hall c.begin_jobs.new.jobs.items left.items c.begin_jobs.new.callers.items c.args.sizes.callers (vec_capacity c.begin_jobs.new.callers)
     c.begin_jobs.ensures.jobs (λ i x at. c.in_ok-hall.ensures.callers i x (ap (λ l. slice_get l i) (sym list) ∙ at))
-    (ap (λ l. length l) list ∙ c.in_ok-hall.ensures.count) c.in_ok-hall.ensures.sizes.2 c.requires.callers.0 c.begin_jobs.ensures.callers.0 (omega (arith, long, within, same))
+    (ap (λ l. length l) list ∙ c.in_ok-hall.ensures.count) c.in_ok-hall.ensures.sizes.2 (search rules) c.begin_jobs.ensures.callers.0 (omega (arith, long, within, same)) c.begin_jobs.ensures.unkept

@@ -1,30 +1,35 @@
-use Rattle.std.proofs.Common.{rules, refl, ◌∙◌}
-use Rattle.hall_writing.proofs.Since.{none_kept, one_kept, still_kept}
+use Rattle.std.proofs.Common.{rules, sym, refl}
+use Rattle.hall_writing.proofs.Since.{has_written}
 use Rattle.hall_writing.proofs.first.serve_and_write_on.Goals as goal
 
-pub loop-init : goal.loop-init
-loop-init g c = record {
-  job = c.requires.job;
-  number = refl;
-  keeps = c.requires.keeps;
-  kept = none_kept c.args.job.now.caller c.args.sheet.now.pending;
-  stops = λ h. h;
-  quiet = λ h. (h, refl);
-  on = record { on = λ first faults w. w };
-}
+pub shape_of-job : goal.shape_of-job
+shape_of-job g c = sym (has_written g.O.Sink.held g.O.Sink.faults _ _ _ _ c.requires.job.unkept c.serve_tickets.ensures.unkept c.serve_tickets.ensures.given).1.end_still
 
-pub loop-preserved : goal.loop-preserved
-loop-preserved g c = record {
-  job = search rules;
-  number = search rules;
-  keeps = search rules;
-  kept = one_kept c.args.job.now.caller c.loop.job.caller c.serve_next-served.new.caller c.loop.sheet.pending c.write_after.new.sheet.pending c.in-Some-served.ticket
-      c.loop.invariant.kept c.in-Some-served.ensures.served.begun_more c.write_after.ensures.still c.write_after.ensures.own;
-  stops = λ h. c.write_after.ensures.stops;
-  quiet = λ h. (let i = c.loop.invariant.quiet h in (c.write_after.ensures.failed i.0, c.write_after.ensures.quiet i.0 ∙ i.1));
-  on = search rules;
-}
+pub returns-clause-kept : goal.returns-clause-kept
+returns-clause-kept g c =
+    let all = has_written g.O.Sink.held g.O.Sink.faults _ _ _ _ c.requires.job.unkept c.serve_tickets.ensures.unkept c.serve_tickets.ensures.given in
+    let sheet = all.1.sheet_still in
+    let kept = all.2 in
+    search rules
 
-pub returns-in_default-clause-kept : goal.returns-in_default-clause-kept
-returns-in_default-clause-kept g c =
-    still_kept c.args.job.now.caller c.loop.job.caller c.serve_next-served.new.caller c.loop.sheet.pending c.loop.invariant.kept c.in_default.ensures.served.begun_still
+pub returns-clause-stops : goal.returns-clause-stops
+returns-clause-stops g c =
+    let all = has_written g.O.Sink.held g.O.Sink.faults _ _ _ _ c.requires.job.unkept c.serve_tickets.ensures.unkept c.serve_tickets.ensures.given in
+    let sheet = all.1.sheet_still in
+    let stops = all.1.stops in
+    search rules
+
+pub returns-clause-quiet : goal.returns-clause-quiet
+returns-clause-quiet g c =
+    let all = has_written g.O.Sink.held g.O.Sink.faults _ _ _ _ c.requires.job.unkept c.serve_tickets.ensures.unkept c.serve_tickets.ensures.given in
+    let out = all.1.out_still in
+    let quiet = all.1.quiet in
+    search rules
+
+pub returns-clause-on : goal.returns-clause-on
+returns-clause-on g c =
+    let all = has_written g.O.Sink.held g.O.Sink.faults _ _ _ _ c.requires.job.unkept c.serve_tickets.ensures.unkept c.serve_tickets.ensures.given in
+    let sheet = all.1.sheet_still in
+    let out = all.1.out_still in
+    let on = all.1.on _ _ c.requires.job.end.2 refl in
+    search rules

@@ -1,15 +1,15 @@
 -- The session from its opening to the last line.
 use Rattle.std.proofs.Common.{rules, ◌∙◌}
 use Rattle.session_values.specs.Limits.{max_requests}
-use Rattle.hall_writing.proofs.Sessions.{ready, leave, few_replies, keeps_start}
+use Rattle.hall_writing.proofs.Sessions.{ready, leave, left_unkept, few_replies, keeps_start}
 use Rattle.hall_writing.proofs.Closing.{few_left, within_left, written}
 use Rattle.hall_writing.proofs.serving.serve_and_write.Goals as goal
 
 pub run_jobs-first-requires-clause-first : goal.run_jobs-first-requires-clause-first
-run_jobs-first-requires-clause-first g c κs within = (ready g.S.Tickets.meaning _ _ c.args.plan.now _ _ _ _ c.session.invariant (search rules) _ _ c.part_first-first.ensures).0
+run_jobs-first-requires-clause-first g c κs within = (ready g.S.Tickets.meaning _ _ c.args.plan.now _ _ _ _ c.session.invariant (search rules) _ _ c.part_first-job.ensures).0
 
 pub run_jobs-first-requires-clause-jobs : goal.run_jobs-first-requires-clause-jobs
-run_jobs-first-requires-clause-jobs g c κs within = (ready g.S.Tickets.meaning _ _ c.args.plan.now _ _ _ _ c.session.invariant (search rules) _ _ c.part_first-first.ensures).1
+run_jobs-first-requires-clause-jobs g c κs within = (ready g.S.Tickets.meaning _ _ c.args.plan.now _ _ _ _ c.session.invariant (search rules) _ _ c.part_first-job.ensures).1
 
 pub run_jobs-first-requires-clause-keeps : goal.run_jobs-first-requires-clause-keeps
 run_jobs-first-requires-clause-keeps g c κs within = keeps_start g.S.Tickets.meaning _ _ c.answering.ensures c.args.plan.now _ _ _ _ c.session.invariant (search rules)
@@ -17,10 +17,14 @@ run_jobs-first-requires-clause-keeps g c κs within = keeps_start g.S.Tickets.me
 pub run_jobs-first-requires-clause-few : goal.run_jobs-first-requires-clause-few
 run_jobs-first-requires-clause-few g c κs within = few_replies g.S.Tickets.meaning _ _ c.answering.ensures c.args.plan.now _ _ _ _ _ c.session.invariant (search rules) (search rules)
 
+pub end_jobs-requires-clause-unkept : goal.end_jobs-requires-clause-unkept
+end_jobs-requires-clause-unkept g c =
+    left_unkept g.S.Tickets.meaning c.session.inside.hall _ _ _ _ c.run_jobs-first.ensures.len c.run_jobs-first.ensures.first c.run_jobs-first.ensures.jobs
+
 pub close-closed-requires-clause-callers : goal.close-closed-requires-clause-callers
 close-closed-requires-clause-callers g c =
-    leave g.S.Tickets.meaning c.session.inside.hall c.session.inside.lane _ _ _ c.run_jobs-first.result.0 c.run_jobs-first.result.1.items c.from_vec.result
-    c.part_first-first.ensures (c.from_vec.ensures ∙ c.end_jobs.ensures) c.run_jobs-first.ensures.len c.session.invariant.opens c.run_jobs-first.ensures.first c.run_jobs-first.ensures.jobs
+    leave g.S.Tickets.meaning c.session.inside.hall c.session.inside.lane _ _ _ c.run_jobs-first.result.0.job c.run_jobs-first.result.1.items c.from_vec.result
+    c.part_first-job.ensures (c.from_vec.ensures ∙ c.end_jobs.ensures) c.run_jobs-first.ensures.len c.session.invariant.opens c.run_jobs-first.ensures.first c.run_jobs-first.ensures.jobs
 
 pub write_rest-whole-requires-clause-few : goal.write_rest-whole-requires-clause-few
 write_rest-whole-requires-clause-few g c =

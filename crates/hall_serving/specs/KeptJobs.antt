@@ -1,0 +1,39 @@
+-- What contracts say of a caller that serves one ticket after another, and may keep the book.
+use Rattle.std.specs.Prelude.{◌≡◌, ℕ, ◌<◌, List, [], ◌∷◌, ◌++◌, Option, Some, None, slice_get}
+use Rattle.std.specs.List.{FoldsTo}
+use Rattle.session_values.specs.declared.reply.Reply.{Reply}
+use Rattle.session_journal.specs.Journal.{begun, ended}
+use Rattle.session_hall.specs.declared.holding.Holding.{Holding}
+use Rattle.session_hall.specs.declared.stage.Stage.TheVariants.{Idle, Out}
+use Rattle.session_hall.specs.Holdings.{begun_at, present_book}
+
+-- The caller has begun this ticket, and no other one, and served it to its end, and is idle: the
+-- book that it works on knows the ticket as ended with the reply, which stands in the list at the
+-- ticket's place.
+pub record HasServedKept {S : Type 0} (replies : List Reply) (p q : Holding S) (t : ℕ)
+    (r : Reply) : Type 0 where
+  pub begun_more : begun_at q ≡ begun_at p ++ t ∷ []
+  pub idle : q.caller.stage ≡ Idle
+  pub begun_is : t < begun (present_book q).journal
+  pub ended_is : ended (present_book q).journal t ≡ Some r
+  pub serial_is : slice_get replies t ≡ Some r
+
+-- the caller found all tickets begun, began none, is out, and hasn't the book in hand
+pub record HasFoundAll {S : Type 0} (p q : Holding S) : Type 0 where
+  pub begun_still : begun_at q ≡ begun_at p
+  pub out : q.caller.stage ≡ Out
+  pub none : q.book ≡ None
+
+-- what is answered, and how the holding is left
+abbrev pub ServesNextKept : {S : Type 0} → List Reply → Holding S → Holding S → Option (ℕ × Reply)
+    → Type 0
+ServesNextKept replies p q None = HasFoundAll p q
+ServesNextKept replies p q (Some x) = HasServedKept replies p q x.0 x.1
+
+-- the tickets that the caller has begun since are these, and the reply of each was given on, one
+-- after another
+pub record HasGiven {S A : Type 0} (given_on : A → ℕ → A → Type 0) (p q : Holding S) (x y : A)
+    : Type 0 where
+  pub served : List ℕ
+  pub begun_more : begun_at q ≡ begun_at p ++ served
+  pub given : FoldsTo given_on x served y

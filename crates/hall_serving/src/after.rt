@@ -1,0 +1,43 @@
+// What is done after a ticket's end.
+
+ghost use Rattle.std.specs.Prelude.{◌≡◌, ℕ, List, Some, slice_get};
+ghost use Rattle.session_values.specs.declared.reply.Reply.{Reply};
+
+use session_values::Reply;
+use std::sync::Wait;
+
+/// What is done with the reply of each ticket after its end, before its caller begins another one.
+pub trait AfterEnd {
+    /// It may be given the replies of this list, each as that of the ticket at whose place it
+    /// stands.
+    ghost Takes: { List Reply → Self → Type 0 };
+
+    /// From the first to the second it was given the reply of this ticket.
+    ghost Given: { Self → ℕ → Self → Type 0 };
+
+    /// Whether it may take long. Where somebody waits for the book, it isn't kept meanwhile.
+    /// Nothing is claimed of it.
+    fn takes_long(&self) -> bool {
+        false
+    }
+
+    /// Is given the reply of a ticket.
+    fn after<R: Wait>(&mut self, rt: &R, ticket: u32, reply: Reply)
+        requires takes { (replies : List Reply) × Takes replies self.old
+            × (slice_get replies ticket ≡ Some reply) }
+        ensures takes { (replies : List Reply) → Takes replies self.old
+            → Takes replies self.new }
+        ensures given { Given self.old ticket self.new };
+}
+
+/// Nothing is done.
+#[derive(Drop)]
+pub(crate) struct GoesOn;
+
+impl AfterEnd for GoesOn {
+    ghost Takes = { λ replies g. Unit {0} };
+
+    ghost Given = { λ g t h. Unit {0} };
+
+    fn after<R: Wait>(&mut self, _rt: &R, _ticket: u32, _reply: Reply) {}
+}

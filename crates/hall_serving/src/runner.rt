@@ -1,0 +1,49 @@
+// How a caller serves tickets until none is left.
+
+ghost use Rattle.std.specs.Prelude.{◌≡◌, None};
+ghost use Rattle.session_values.specs.Serial.{serial_replies};
+ghost use Rattle.session_journal.specs.Script.{session_of};
+ghost use Rattle.session_hall.specs.Holdings.{IsHoldingOf, StaysHolding};
+ghost use Rattle.session_hall.specs.Stages.{IsBetween};
+ghost use Rattle.session_hall.specs.declared.stage.Stage.TheVariants.{Out};
+ghost use Rattle.hall_serving.specs.KeptJobs.{HasGiven};
+
+use crate::after::AfterEnd;
+use crate::crew::Crew;
+use crate::keeping::leave_if_long;
+use crate::kept_next::serve_next_kept;
+use crate::pause::Pause;
+use session_hall::Holding;
+use session_journal::{Scratch, Serves};
+use std::sync::Wait;
+use std::thread::Threads;
+use worker_gate::Gate;
+
+/// Serves tickets until all are begun. After each end it gives the reply to `after`, before it
+/// begins another ticket; the book isn't kept meanwhile where that may take long and somebody
+/// waits for it. The caller is out then, and the book isn't in hand.
+pub fn serve_tickets<R: Threads + Wait + Sync, S: Serves + Drop, G: Gate, A: AfterEnd>(
+    crew: Crew<'_, R, S, G>,
+    holding: &mut Holding<S>,
+    scratch: &mut Scratch,
+    after: &mut A,
+)
+    requires holding { IsHoldingOf S.meaning crew.hall.now holding.old }
+    requires between { IsBetween holding.old.caller.stage }
+    requires takes { A.Takes (serial_replies (session_of (S.meaning crew.plan.now))
+        (S.meaning crew.plan.now).requests) after.old }
+    ensures holding { StaysHolding S.meaning crew.entry.hall.now holding.old holding.new }
+    ensures out { holding.new.caller.stage ≡ Out }
+    ensures unkept { holding.new.book ≡ None }
+    ensures given { HasGiven A.Given holding.old holding.new after.old after.new }
+{
+    let mut pause = Pause::none();
+    for _ in crew.rt.forever() {
+        let Some((ticket, reply)) = serve_next_kept(crew, holding, scratch, &mut pause) else {
+            return;
+        };
+        leave_if_long(crew.hall, holding, after.takes_long());
+        after.after(crew.rt, ticket, reply);
+    }
+    unreachable!()
+}

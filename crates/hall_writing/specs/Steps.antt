@@ -1,0 +1,45 @@
+-- What is done with the reply of one ticket.
+use Rattle.std.specs.Prelude.{◌≡◌, ◌≤◌, ℕ, List, [], Option, Bool, true, false, length}
+use Rattle.session_values.specs.Limits.{max_requests}
+use Rattle.session_values.specs.declared.reply.Reply.{Reply}
+use Rattle.reply_lane.specs.Ends.{IsEndOf, state_of}
+use Rattle.reply_lane.specs.Lanes.{Offered}
+use Rattle.sheet_writing.specs.Printable.{ArePrintableReplies}
+use Rattle.sheet_writing.specs.Ready.{ready}
+use Rattle.sheet_writing.specs.Sheets.{GoesOn, IsKept, Keeps, progress}
+use Rattle.hall_writing.specs.declared.offering.Offering.{Offering}
+use Rattle.hall_writing.specs.declared.writing.Writing.{Writing}
+
+-- the reply of the ticket was offered to the lane, by the same end
+pub record HasOfferedOne (o : Offering) (t : ℕ) (p : Offering) : Type 0 where
+  pub end_still : p.end.ghost_name ≡ o.end.ghost_name
+  pub reply : Reply
+  pub room : Bool
+  pub offered : Offered (state_of o.end.now) (record { ticket = t; reply = reply })
+      (state_of p.end.now) room
+
+-- the end is one of the lane's, for these replies, the sheet keeps only of them, and their lines
+-- can be written
+pub record MayWrite {O : Type 0} (replies : List Reply) (w : Writing O) : Type 0 where
+  pub end : IsEndOf w.lane.now replies w.end.now
+  pub keeps : Keeps replies w.sheet.now.pending
+  pub few : length replies ≤ max_requests
+  pub printable : ArePrintableReplies w.names.now replies
+
+-- The ticket's line is written or waits for an earlier one, and what was kept stays so. No line
+-- that can be written is left unless writing has failed; nothing is written after that.
+pub record HasWrittenOne {O : Type 0} (held : O → Option (List ℕ)) (faults : O → ℕ) (w : Writing O)
+    (t : ℕ) (x : Writing O) : Type 0 where
+  pub end_still : x.end.ghost_name ≡ w.end.ghost_name
+  pub sheet_still : x.sheet.ghost_name ≡ w.sheet.ghost_name
+  pub out_still : x.out.ghost_name ≡ w.out.ghost_name
+  pub names_still : x.names.now ≡ w.names.now
+  pub known_still : (state_of x.end.now).known ≡ (state_of w.end.now).known
+  pub own : IsKept x.sheet.now.pending t
+  pub still : (u : ℕ) → IsKept w.sheet.now.pending u → IsKept x.sheet.now.pending u
+  pub stops : x.sheet.now.failed ≡ false → ready x.sheet.now.pending ≡ []
+  pub failed : w.sheet.now.failed ≡ true → x.sheet.now.failed ≡ true
+  pub quiet : w.sheet.now.failed ≡ true → x.out.now ≡ w.out.now
+  pub on : GoesOn (state_of w.end.now).known w.names.now
+      (progress (held w.out.now) (faults w.out.now) w.sheet.now)
+      (progress (held x.out.now) (faults x.out.now) x.sheet.now)
