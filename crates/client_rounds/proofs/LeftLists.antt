@@ -8,7 +8,7 @@ use Rattle.session_values.specs.declared.kind.TableKind.TheVariants.{Map, Set}
 use Rattle.session_values.specs.declared.value.Value.{Value}
 use Rattle.session_values.specs.declared.value.Value.TheVariants.{Nil}
 use Rattle.session_values.specs.Sums.{sum_below}
-use Rattle.session_values.specs.Tables.{AreValues, Bindings, table}
+use Rattle.session_values.specs.Tables.{AreValues, Bindings}
 use Rattle.session_values.specs.Values.{IsValue, value_cmp, value_cmp_total, value_eq}
 use Rattle.session_values.proofs.Equal.{same_value, value_eq-self}
 use Rattle.session_values.proofs.Sums.{sum_alike, sum_first}

@@ -2,3 +2,4 @@ pub mod Rounds
 pub mod Picking
 pub mod Reopening
 pub mod Behind
+pub mod Workloads

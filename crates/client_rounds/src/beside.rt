@@ -1,22 +1,21 @@
 // Rounds beside those who feed them.
 
 ghost use Rattle.std.specs.Prelude.{◌≡◌, ◌+◌, ◌<◌, ◌≤◌, [], IfOk, vec_len};
-ghost use denote.Param.Send.{IsSync};
-ghost use Rattle.session_values.specs.Limits.{max_callers, max_session_calls, max_shards};
+ghost use Rattle.session_values.specs.Limits.{max_session_calls};
 ghost use Rattle.opening_tables.specs.Limits.{max_opening};
 ghost use Rattle.opening_tables.specs.Opening.{IsOpening, count_all};
 ghost use Rattle.handler_check.specs.Resolved.{shape_of};
 ghost use Rattle.request_files.specs.Servable.{IsServable};
+ghost use denote.Param.Send.{IsSync};
 ghost use Rattle.client_rounds.specs.Rounds.{AreServed};
 
+use crate::resources::Resources;
 use crate::rounds::serve_rounds;
 use crate::served::Served;
+use crate::workload::Workload;
 use client_feed::{Feed, Feeder, Gatherer, feed_all};
-use declaration_insertion::Program;
-use opening_tables::Opening;
-use request_files::ClientRequests;
+use session_hall::Sizes;
 use session_values::NoMemory;
-use std::alloc::Global;
 use std::sync::Wait;
 use std::thread::{Threads, join};
 use worker_gate::Gate;
@@ -24,22 +23,21 @@ use worker_gate::Gate;
 /// Serves all requests in the order in which they arrive, in rounds. The clients' requests are fed
 /// beside that, in threads of their own if they can be made, and before it if they can't.
 pub fn serve_clients<R: Threads + Wait + Sync, G: Gate + Sync>(
-    rt: &R,
-    alloc: Global,
-    program: &Program,
-    opening: &Opening,
-    clients: &ClientRequests,
-    callers: u32,
-    shards: u32,
-    gate: &G,
+    by: &Resources<'_, R, G>,
+    work: &Workload<'_>,
+    sizes: Sizes,
 ) -> Result<Served, NoMemory>
-    requires opening { IsOpening (shape_of program.now.file) opening.now }
-    requires room { count_all opening.now + max_session_calls ≤ max_opening }
-    requires servable { IsServable program.now.file clients.now.requests }
-    requires callers { (1 ≤ callers) × (callers ≤ max_callers) }
-    requires shards { (1 ≤ shards) × (shards ≤ max_shards) }
-    ensures { IfOk result (AreServed program.now opening.now clients.now callers shards) }
+    ensures { IfOk result (AreServed work.now.program.now work.now.opening.now
+        work.now.clients.now sizes.callers sizes.shards) }
 {
+    // A closure that holds a struct of references tells nothing of its result, so it takes each
+    // reference by itself.
+    let Resources { rt, alloc, gate } = *by;
+    let Workload {
+        program,
+        opening,
+        clients,
+    } = *work;
     // There are 1 to 16 clients.
     let _clients = clients.clients();
     let (feeders, gatherer) = Feed::open(alloc, clients.counts())?;
@@ -53,24 +51,18 @@ pub fn serve_clients<R: Threads + Wait + Sync, G: Gate + Sync>(
                 × IsOpening (shape_of program.now.file) opening.now
                 × (count_all opening.now + max_session_calls ≤ max_opening)
                 × IsServable program.now.file clients.now.requests
-                × ((1 ≤ callers) × (callers ≤ max_callers))
-                × ((1 ≤ shards) × (shards ≤ max_shards))
                 × (gatherer ≡ record { counts = clients.now.counts; got = [] }) }
             ensures { IfOk result.1 (AreServed program.entry.now opening.entry.now clients.entry.now
-                callers shards) }
+                sizes.callers sizes.shards) }
         {
             let mut gatherer = gatherer;
-            let served = serve_rounds(
-                rt,
-                alloc,
+            let by = Resources { rt, alloc, gate };
+            let work = Workload {
                 program,
                 opening,
                 clients,
-                callers,
-                shards,
-                &mut gatherer,
-                gate,
-            );
+            };
+            let served = serve_rounds(&by, &work, sizes, &mut gatherer);
             (gatherer, served)
         },
         move || -> Vec<Feeder>

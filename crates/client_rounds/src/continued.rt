@@ -107,6 +107,10 @@ impl<'a> Tickets for Continued<'a> {
 }
 
 impl<'a> Serves for Continued<'a> {
+    fn computes(&self, ticket: u32) -> bool {
+        Serves::computes(&self.scripts, ticket)
+    }
+
     fn serve<R: Threads + Wait + Sync, D: Desk<Served = Self>>(
         &self,
         rt: &R,

@@ -7,12 +7,16 @@ mod continued;
 mod picking;
 mod plan;
 mod reopening;
+mod resources;
 mod rounds;
 mod served;
 mod serving;
+mod workload;
 
 pub use beside::serve_clients;
 pub use picking::requests_of;
 pub use reopening::look_at_tables;
+pub use resources::Resources;
 pub use rounds::{ROUND, serve_rounds};
 pub use served::Served;
+pub use workload::Workload;

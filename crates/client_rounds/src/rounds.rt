@@ -1,23 +1,16 @@
 // Rounds, one after another.
 
 ghost use Rattle.std.specs.Prelude.{◌≡◌, ◌+◌, ◌≤◌, [], ◌++◌, length, IfOk, vec_capacity};
-ghost use Rattle.session_values.specs.Limits.{max_callers, max_session_calls, max_shards};
-ghost use Rattle.opening_tables.specs.Limits.{max_opening};
-ghost use Rattle.opening_tables.specs.Opening.{IsOpening, count_all};
-ghost use Rattle.handler_check.specs.Resolved.{shape_of as shape_spec};
-ghost use Rattle.request_files.specs.Servable.{IsServable};
 ghost use Rattle.client_rounds.specs.Rounds.{AreServed};
 
-use crate::plan::{Plan, shape_of};
+use crate::plan::Plan;
+use crate::resources::Resources;
 use crate::served::Served;
 use crate::serving::serve_behind;
+use crate::workload::Workload;
 use client_feed::{Arrivals, Gatherer};
-use declaration_insertion::Program;
-use opening_tables::Opening;
-use request_files::ClientRequests;
-use session_hall::Closed;
+use session_hall::{Closed, Sizes};
 use session_values::{NoMemory, Reply};
-use std::alloc::Global;
 use std::sync::Wait;
 use std::thread::Threads;
 use worker_gate::Gate;
@@ -30,47 +23,34 @@ pub const ROUND: u32 = 256;
 /// again. The room of all arrivals and replies is taken before the first round, and each round
 /// gives back what it takes beside it and the room of its keys.
 pub fn serve_rounds<R: Threads + Wait + Sync, G: Gate + Sync>(
-    rt: &R,
-    alloc: Global,
-    program: &Program,
-    opening: &Opening,
-    clients: &ClientRequests,
-    callers: u32,
-    shards: u32,
+    by: &Resources<'_, R, G>,
+    work: &Workload<'_>,
+    sizes: Sizes,
     gatherer: &mut Gatherer,
-    gate: &G,
 ) -> Result<Served, NoMemory>
-    requires opening { IsOpening (shape_spec program.now.file) opening.now }
-    requires room { count_all opening.now + max_session_calls ≤ max_opening }
-    requires servable { IsServable program.now.file clients.now.requests }
-    requires callers { (1 ≤ callers) × (callers ≤ max_callers) }
-    requires shards { (1 ≤ shards) × (shards ≤ max_shards) }
-    requires gatherer { gatherer.old ≡ record { counts = clients.now.counts; got = [] } }
-    ensures served { IfOk result (AreServed program.now opening.now clients.now callers shards) }
+    requires gatherer { gatherer.old ≡ record { counts = work.now.clients.now.counts; got = [] } }
+    ensures served { IfOk result (AreServed work.now.program.now work.now.opening.now
+        work.now.clients.now sizes.callers sizes.shards) }
     ensures took { IfOk result (λ v. v.arrivals ≡ gatherer.new.got) }
 {
-    let shape = shape_of(alloc, program)?;
+    let (shape, mut later) = work.tables(by.alloc)?;
     let plan = Plan {
-        program,
+        work,
         shape: shape.as_slice(),
-        opening,
-        clients,
-        callers,
-        shards,
+        sizes,
     };
     // The counts add up to the number of requests.
-    let _clients = clients.clients();
+    let _clients = work.clients.clients();
     let requests = gatherer.left();
-    let mut arrivals = Arrivals::with_room(alloc, requests)?;
-    let mut replies = Vec::with_capacity(alloc, requests as usize)?;
-    let mut later = plan.adds(alloc)?;
+    let mut arrivals = Arrivals::with_room(by.alloc, requests)?;
+    let mut replies = Vec::with_capacity(by.alloc, requests as usize)?;
     let mut closed = None;
     'rounds: while gatherer.left() > 0 {
         let left = gatherer.left();
         let before = requests - left;
-        gatherer.gather(rt, fewer(ROUND, left), &mut arrivals);
+        gatherer.gather(by.rt, fewer(ROUND, left), &mut arrivals);
         let came = &arrivals.list()[before as usize..];
-        let hall = serve_behind(rt, alloc, &plan, closed, later.as_mut_slice(), came, gate)?;
+        let hall = serve_behind(by, &plan, closed, later.as_mut_slice(), came)?;
         push_replies(&hall, &mut replies);
         closed = Some(hall);
     }

@@ -1,8 +1,7 @@
 // The hall of a round.
 
 ghost use Rattle.std.specs.Prelude.{◌≡◌, ◌≤◌, Some, IfOk, IfSome, length};
-ghost use Rattle.session_values.specs.Limits.{max_callers, max_shards, max_tables};
-ghost use Rattle.opening_tables.specs.Opening.{IsOpening};
+ghost use Rattle.session_values.specs.Limits.{max_tables};
 ghost use Rattle.handler_check.specs.Resolved.{shape_of};
 ghost use Rattle.request_files.specs.Clients.{AreShared};
 ghost use Rattle.request_files.specs.Picked.{picked};
@@ -18,13 +17,13 @@ use crate::continued::Continued;
 use crate::picking::requests_of;
 use crate::plan::Plan;
 use crate::reopening::look_at_tables;
+use crate::resources::Resources;
 use client_feed::Arrival;
 use hall_serving::{Serves, Tickets, open_session, reopen_session, serve_session};
 use handler_machine::Scripts;
 use request_files::Requests;
 use session_hall::Closed;
-use session_values::{NoMemory, TableKind};
-use std::alloc::Global;
+use session_values::NoMemory;
 use std::sync::Wait;
 use std::thread::Threads;
 use worker_gate::Gate;
@@ -33,120 +32,104 @@ use worker_gate::Gate;
 /// left, or in the first round over the entries of the plan. `later` has the most keys that may
 /// still be added to each table, and is less these requests' afterwards.
 pub(crate) fn serve_behind<R: Threads + Wait + Sync, G: Gate + Sync>(
-    rt: &R,
-    alloc: Global,
+    by: &Resources<'_, R, G>,
     plan: &Plan<'_>,
     last: Option<Closed>,
     later: &mut [u32],
     arrivals: &[Arrival],
-    gate: &G,
 ) -> Result<Closed, NoMemory>
-    requires opening { IsOpening (shape_of plan.now.program.now.file) plan.now.opening.now }
-    requires servable { IsServable plan.now.program.now.file plan.now.clients.now.requests }
-    requires shared { AreShared plan.now.clients.now }
-    requires last { IfSome last (CanReopen (shape_of plan.now.program.now.file)) }
-    requires shards { IfSome last (λ d. d.shards ≡ plan.now.shards) }
+    requires shared { AreShared plan.now.work.now.clients.now }
+    requires last { IfSome last (CanReopen (shape_of plan.now.work.now.program.now.file)) }
+    requires shards { IfSome last (λ d. d.shards ≡ plan.now.sizes.shards) }
     requires later { length later.old ≡ length plan.now.shape.now }
-    requires arrivals { AreArrivals plan.now.clients.now.counts arrivals.now }
-    ensures served { IfOk result (IsServedBehind plan.now.program.now plan.now.opening.now last
-        (picked plan.now.clients.now.requests
-        (numbers_of plan.now.clients.now.counts arrivals.now)) plan.now.callers plan.now.shards) }
+    requires arrivals { AreArrivals plan.now.work.now.clients.now.counts arrivals.now }
+    ensures served { IfOk result (IsServedBehind plan.now.work.now.program.now
+        plan.now.work.now.opening.now last (picked plan.now.work.now.clients.now.requests
+        (numbers_of plan.now.work.now.clients.now.counts arrivals.now)) plan.now.sizes.callers
+        plan.now.sizes.shards) }
     ensures later { length later.new ≡ length later.old }
 {
-    let requests = requests_of(alloc, plan.clients, arrivals)?;
+    let requests = requests_of(by.alloc, plan.work.clients, arrivals)?;
     match last {
-        None => serve_first(rt, alloc, plan, &requests, later, gate),
-        Some(closed) => serve_next(rt, alloc, plan, closed, &requests, later, gate),
+        None => serve_first(by, plan, &requests, later),
+        Some(closed) => serve_next(by, plan, closed, &requests, later),
     }
 }
 
 // Serves requests through a hall whose tables open with the entries of the plan.
 fn serve_first<R: Threads + Wait + Sync, G: Gate + Sync>(
-    rt: &R,
-    alloc: Global,
+    by: &Resources<'_, R, G>,
     plan: &Plan<'_>,
     requests: &Requests,
     later: &mut [u32],
-    gate: &G,
 ) -> Result<Closed, NoMemory>
-    requires opening { IsOpening (shape_of plan.now.program.now.file) plan.now.opening.now }
-    requires servable { IsServable plan.now.program.now.file requests.now }
+    requires servable { IsServable plan.now.work.now.program.now.file requests.now }
     requires later { length later.old ≡ length plan.now.shape.now }
-    ensures served { IfOk result (IsServedOver plan.now.program.now plan.now.opening.now
-        requests.now plan.now.callers plan.now.shards) }
+    ensures served { IfOk result (IsServedOver plan.now.work.now.program.now
+        plan.now.work.now.opening.now requests.now plan.now.sizes.callers plan.now.sizes.shards) }
     ensures later { length later.new ≡ length later.old }
 {
-    let script = Scripts::over(plan.program, plan.opening, requests);
-    let again = Scripts::over(plan.program, plan.opening, requests);
+    let script = Scripts::over(plan.work.program, plan.work.opening, requests);
+    let again = Scripts::over(plan.work.program, plan.work.opening, requests);
     take_off(&again, later);
-    let session = open_session(alloc, script, plan.shape, plan.shards, plan.callers)?;
-    Ok(serve_session(rt, session, &again, gate))
+    let session = open_session(by.alloc, script, plan.shape, plan.sizes)?;
+    Ok(serve_session(by.rt, session, &again, by.gate))
 }
 
 // Serves requests through a hall over the tables that a closed one left.
 fn serve_next<R: Threads + Wait + Sync, G: Gate + Sync>(
-    rt: &R,
-    alloc: Global,
+    by: &Resources<'_, R, G>,
     plan: &Plan<'_>,
     closed: Closed,
     requests: &Requests,
     later: &mut [u32],
-    gate: &G,
 ) -> Result<Closed, NoMemory>
-    requires opening { IsOpening (shape_of plan.now.program.now.file) plan.now.opening.now }
-    requires servable { IsServable plan.now.program.now.file requests.now }
-    requires can { CanReopen (shape_of plan.now.program.now.file) closed }
-    requires shards { closed.shards ≡ plan.now.shards }
+    requires servable { IsServable plan.now.work.now.program.now.file requests.now }
+    requires can { CanReopen (shape_of plan.now.work.now.program.now.file) closed }
+    requires shards { closed.shards ≡ plan.now.sizes.shards }
     requires later { length later.old ≡ length plan.now.shape.now }
-    ensures served { IfOk result (IsServedBehind plan.now.program.now plan.now.opening.now
-        (Some closed) requests.now plan.now.callers plan.now.shards) }
+    ensures served { IfOk result (IsServedBehind plan.now.work.now.program.now
+        plan.now.work.now.opening.now (Some closed) requests.now plan.now.sizes.callers
+        plan.now.sizes.shards) }
     ensures later { length later.new ≡ length later.old }
 {
     look_at_tables(&closed, plan.shape);
-    let tickets = Continued::over(plan.program, plan.opening, requests, &closed);
-    let again = Continued::over(plan.program, plan.opening, requests, &closed);
-    serve_over(
-        rt,
-        alloc,
-        tickets,
-        &again,
-        plan.shape,
-        closed,
-        later,
-        plan.callers,
-        gate,
-    )
+    let tickets = Continued::over(plan.work.program, plan.work.opening, requests, &closed);
+    let again = Continued::over(plan.work.program, plan.work.opening, requests, &closed);
+    serve_over(by, plan, tickets, &again, closed, later)
 }
 
 // Serves tickets through a hall over the shards that a closed one left. `again` is the same
 // tickets. It is generic, since the borrow checker covers no open session of a type at which two
 // impls of `Tickets` may be meant.
 fn serve_over<R: Threads + Wait + Sync, S: Serves + Drop + Send + Sync, G: Gate + Sync>(
-    rt: &R,
-    alloc: Global,
+    by: &Resources<'_, R, G>,
+    plan: &Plan<'_>,
     tickets: S,
     again: &S,
-    shape: &[TableKind],
     closed: Closed,
     later: &mut [u32],
-    callers: u32,
-    gate: &G,
 ) -> Result<Closed, NoMemory>
     requires again { again.now ≡ tickets }
     requires opens { OpensOver (S.meaning tickets) closed }
-    requires shape { shape.now ≡ (S.meaning tickets).shape }
-    requires tables { length shape.now ≤ max_tables }
-    requires shards { closed.shards ≤ max_shards }
-    requires later { length later.old ≡ length shape.now }
-    requires callers { (1 ≤ callers) × (callers ≤ max_callers) }
+    requires shape { plan.now.shape.now ≡ (S.meaning tickets).shape }
+    requires shards { closed.shards ≡ plan.now.sizes.shards }
+    requires later { length later.old ≡ length plan.now.shape.now }
     ensures done { IfOk result (IsDone (S.meaning tickets)) }
-    ensures callers { IfOk result (λ d. d.callers ≡ callers) }
-    ensures shards { IfOk result (λ d. d.shards ≡ closed.shards) }
+    ensures callers { IfOk result (λ d. d.callers ≡ plan.now.sizes.callers) }
+    ensures shards { IfOk result (λ d. d.shards ≡ plan.now.sizes.shards) }
     ensures later { length later.new ≡ length later.old }
 {
-    let session = reopen_session(alloc, tickets, shape, closed, later, callers)?;
+    let session = reopen_session(
+        by.alloc,
+        tickets,
+        plan.shape,
+        closed,
+        later,
+        plan.sizes.callers,
+    )?;
     take_off(again, later);
-    Ok(serve_session(rt, session, again, gate))
+    Ok(serve_session(by.rt, session, again, by.gate))
 }
 
 // Takes off the keys that these tickets may add to each table.

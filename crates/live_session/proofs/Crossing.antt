@@ -16,7 +16,6 @@ use Rattle.session_values.proofs.Listed.TheSendSync as lists
 use Rattle.session_values.proofs.Boxed.TheSendSync as boxes
 use Rattle.syntax_trees.specs.contracts.expr.Expr as expr
 use Rattle.syntax_trees.proofs.expr.Expr.TheLaws.TheKnot as expr_knot
-use Rattle.session_values.proofs.value.Value.TheSendSync as value
 use Rattle.syntax_trees.proofs.expr.Calc.TheSendSync as calc
 use Rattle.syntax_trees.specs.contracts.stmt.Stmt as stmt
 use Rattle.syntax_trees.proofs.stmt.Stmt.TheLaws.TheKnot as stmt_knot

@@ -1,5 +1,5 @@
 -- A handler that runs alone on tables that can be printed, with arguments that can be, replies what can be printed, and leaves such tables.
-use Rattle.std.proofs.Common.{◌≡◌, ℕ, zero, suc, List, [], ◌∷◌, ◌++◌, Option, Some, None, refl, sym, ap, subst}
+use Rattle.std.proofs.Common.{◌≡◌, ℕ, zero, suc, List, [], ◌∷◌, Option, Some, None, refl, sym, ap, subst}
 use Rattle.std.specs.List.{AllByRecursion}
 use Rattle.session_values.specs.Names.{Begins}
 use Rattle.session_values.specs.ReplyText.{IsPrintable}

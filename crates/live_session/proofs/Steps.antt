@@ -1,5 +1,5 @@
 -- A session with one line more that was served.
-use Rattle.std.proofs.Common.{◌≡◌, ℕ, suc, ◌+◌, ◌≤◌, List, [], ◌∷◌, ◌++◌, length, map, Some, None, refl, sym, ◌∙◌, ap, subst, arith}
+use Rattle.std.proofs.Common.{◌≡◌, ℕ, suc, ◌+◌, ◌≤◌, List, [], ◌∷◌, ◌++◌, length, map, None, refl, sym, ◌∙◌, ap, subst, arith}
 use Rattle.std.proofs.lemmas.List.{map-append}
 use Rattle.std.specs.List.{AllByRecursion}
 use Rattle.session_values.specs.Dialogue.{Entry, Follows}
@@ -12,7 +12,6 @@ use Rattle.session_values.specs.Values.{IsValue}
 use Rattle.session_values.specs.declared.reply.Reply.{Reply}
 use Rattle.session_values.specs.declared.value.Value.{Value}
 use Rattle.session_values.proofs.Named.{begins_same, begins_then}
-use Rattle.symbolic_ops.specs.declared.symbol.Symbol.{Symbol}
 use Rattle.symbolic_ops.specs.Matching.{Matches}
 use Rattle.opening_tables.specs.Opening.{tables_of}
 use Rattle.session_journal.specs.Journal.{Replays, run}
@@ -40,7 +39,7 @@ use Rattle.request_files.specs.Requests.{handler_of, request_of}
 use Rattle.request_files.proofs.HandlerLemmas.{handler_kept}
 use Rattle.driven_tickets.specs.Acts.{Act}
 use Rattle.driven_tickets.specs.Commuting.{IsClear}
-use Rattle.driven_tickets.specs.Desk.{IsDesk, TicketsView, desk_over}
+use Rattle.driven_tickets.specs.Desk.{IsDesk, TicketsView}
 use Rattle.driven_tickets.specs.Tickets.{AreAscending}
 use Rattle.driven_tickets.proofs.Requests.{desk_passed}
 use Rattle.live_session.specs.Answers.{LineServed, reply_line, request_in}

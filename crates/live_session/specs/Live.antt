@@ -31,8 +31,8 @@ use Rattle.live_session.specs.Served.{AreServed, line_fault}
 
 -- the handlers, and what they declare at their points; the entries with which the tables opened and
 -- the names at that time; the most names that there may be; the names and the tables now; the open
--- tickets; and, which no code reads, how many acts the program did itself, beside the lines, and the
--- lines that were served with their replies
+-- tickets; and, which no code reads, how many acts the program did itself, beside the lines, and
+-- the lines that were served with their replies
 pub record LiveView : Type 0 where
   pub file : File
   pub lists : List (List (List Symbol))
@@ -75,8 +75,8 @@ abbrev pub dump_of : LiveView → Text
 dump_of v = table_text (texts_of v.names v.file.tables) (map (written_table v.names) v.tables)
 
 -- what every session keeps: it was opened over a file that breaks no rule and entries for its
--- tables; no line that was served has a fault; the names begin with those at the opening, and are no
--- more than there may be; each value of its tables can be printed; and all that was done, by lines
+-- tables; no line that was served has a fault; the names begin with those at the opening, and are
+-- no more than there may be; each value of its tables can be printed; and all that was done, by lines
 -- and by tickets, is a run from the opening tables to what it holds. Where the program did nothing
 -- itself, the names are those at the opening and those of the lines, and the requests were served
 -- one after another, each alone from the tables that the one before left

@@ -11,18 +11,17 @@ ghost use Rattle.text_lines.specs.Values.{is_value, placed_all, values_of};
 ghost use Rattle.request_files.specs.Requests.{AreKnown, IsHandler};
 ghost use Rattle.live_session.specs.Accepting.{IsAccepted, IsDeclined, IsTurnedAway, IsUnread};
 ghost use Rattle.live_session.specs.Entries.{IsAdmitted};
-ghost use Rattle.live_session.specs.Held.{AreAdds, HaveRoomFor, held};
+ghost use Rattle.live_session.specs.Held.{HaveRoomFor, held};
 
+use crate::admission::Admission;
 use crate::admitting::admit;
 use crate::answers::{Answered, LineRefusal};
 use crate::arguments::{are_values, count, known_values, placed_values};
-use declaration_insertion::Program;
-use driven_tickets::OpenTickets;
+use crate::first_line::RequestWords;
 use handler_check::Checked;
 use session_journal::Scratch;
-use session_values::{MAX_HANDLERS, Names, Value};
+use session_values::{Names, Value};
 use shard_tables::Part;
-use std::alloc::Global;
 use text_lines::Line;
 
 /// The number of the handler with this name.
@@ -116,8 +115,7 @@ fn read_args(
 /// Finds the handler that a line's first word names, and reads its arguments.
 fn read_line(
     checked: &Checked,
-    name: &str,
-    words: Line<'_>,
+    words: RequestWords<'_>,
     names: &mut Names,
     most: u32,
     args: &mut Vec<Value>,
@@ -127,19 +125,20 @@ fn read_line(
     requires bound { most ≤ 4000000000 }
     requires room { max_variables ≤ vec_capacity args.old }
     ensures accepted { IfOk result (IsAccepted checked.now names.old most
-        (row_of 0 name.now (words_of words.entry.rest.now)) names.new args.new.items) }
+        (row_of 0 words.entry.name.now (words_of words.entry.arguments.rest.now)) names.new
+        args.new.items) }
     ensures declined { IfErr result (IsDeclined checked.now names.old most
-        (row_of 0 name.now (words_of words.entry.rest.now))) }
+        (row_of 0 words.entry.name.now (words_of words.entry.arguments.rest.now))) }
     ensures same { OnErr result (names.new ≡ names.old) }
     ensures capacity { vec_capacity args.new ≡ vec_capacity args.old }
 {
-    let Some(h) = handler(checked, names, name) else {
+    let Some(h) = handler(checked, names, words.name) else {
         return Err(Answered::Refused(LineRefusal::UnknownHandler));
     };
-    if count(words) != checked.handler(h).params as usize {
+    if count(words.arguments) != checked.handler(h).params as usize {
         return Err(Answered::Refused(LineRefusal::Arity));
     }
-    match read_args(words, names, most, args) {
+    match read_args(words.arguments, names, most, args) {
         Ok(()) => Ok(h),
         Err(why) => Err(why),
     }
@@ -149,48 +148,37 @@ fn read_line(
 /// names and room in each table for the keys that the handler may add. Where it doesn't, names are
 /// as they were and tables hold what they held.
 pub(crate) fn accept(
-    alloc: Global,
-    program: &Program,
-    adds: &[[u32; MAX_HANDLERS]],
-    name: &str,
-    words: Line<'_>,
+    by: Admission<'_>,
+    words: RequestWords<'_>,
     names: &mut Names,
-    most: u32,
     args: &mut Vec<Value>,
-    tickets: &OpenTickets,
     scratch: &mut Scratch,
     parts: &mut Vec<Part>,
 ) -> Result<u32, Answered>
-    requires known { AreKnown names.old program.now.file }
-    requires most { length names.old ≤ most }
-    requires bound { most ≤ 4000000000 }
+    requires known { AreKnown names.old by.program.now.file }
+    requires most { length names.old ≤ by.most_names }
     requires room { max_variables ≤ vec_capacity args.old }
-    requires adds { AreAdds program.now.file (length parts.old.items) adds.now }
-    ensures accepted { IfOk result (IsAccepted program.now.file names.old most
-        (row_of 0 name.now (words_of words.entry.rest.now)) names.new args.new.items) }
-    ensures admitted { IfOk result (λ h. IsAdmitted program.now tickets.now h args.new.items) }
-    ensures room { IfOk result (λ h. HaveRoomFor (code_at program.now.file h) parts.new.items) }
-    ensures turned_away { IfErr result (IsTurnedAway program.now tickets.now names.old most
-        (row_of 0 name.now (words_of words.entry.rest.now))) }
+    requires long { length by.adds.now ≡ length parts.old.items }
+    ensures accepted { IfOk result (IsAccepted by.entry.program.now.file names.old
+        by.entry.most_names (row_of 0 words.entry.name.now (words_of
+        words.entry.arguments.rest.now)) names.new args.new.items) }
+    ensures admitted { IfOk result (λ h. IsAdmitted by.entry.program.now by.entry.tickets.now h
+        args.new.items) }
+    ensures room { IfOk result (λ h. HaveRoomFor (code_at by.entry.program.now.file h)
+        parts.new.items) }
+    ensures turned_away { IfErr result (IsTurnedAway by.entry.program.now by.entry.tickets.now
+        names.old by.entry.most_names (row_of 0 words.entry.name.now (words_of
+        words.entry.arguments.rest.now))) }
     ensures same { OnErr result (names.new ≡ names.old) }
     ensures held { held parts.new.items ≡ held parts.old.items }
     ensures capacity { vec_capacity args.new ≡ vec_capacity args.old }
 {
     let before = names.len();
-    let h = match read_line(program.checked(), name, words, names, most, args) {
+    let h = match read_line(by.program.checked(), words, names, by.most_names, args) {
         Ok(h) => h,
         Err(why) => return Err(why),
     };
-    match admit(
-        alloc,
-        program,
-        adds,
-        h,
-        args.as_slice(),
-        tickets,
-        scratch,
-        parts,
-    ) {
+    match admit(by, h, args.as_slice(), scratch, parts) {
         Ok(()) => Ok(h),
         Err(why) => {
             forget(names, before);

@@ -9,8 +9,8 @@ use crate::tables::LiveTables;
 use declaration_insertion::Program;
 use driven_tickets::History;
 
-/// The acts of a handler with these arguments, as the ticket of this number, on tables with room for
-/// all keys that it may add. Only proofs read them: it does nothing when it runs.
+/// The acts of a handler with these arguments, as the ticket of this number, on tables with room
+/// for all keys that it may add. Only proofs read them: it does nothing when it runs.
 pub(crate) fn acts(
     _program: &Program,
     _number: &u64,

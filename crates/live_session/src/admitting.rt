@@ -5,17 +5,17 @@ ghost use Rattle.session_values.specs.Limits.{max_symbols, max_variables};
 ghost use Rattle.handler_check.specs.Resolved.{code_at};
 ghost use Rattle.driven_tickets.specs.Commuting.{IsClear, IsHeldUpBy};
 ghost use Rattle.live_session.specs.Entries.{IsAdmitted, IsHeldBack, entry_list};
-ghost use Rattle.live_session.specs.Held.{AreAdds, HaveRoomFor, held};
+ghost use Rattle.live_session.specs.Held.{HaveRoomFor, held};
 
+use crate::admission::Admission;
 use crate::answers::Answered;
 use crate::growing::make_room_for;
 use declaration_insertion::Program;
 use driven_tickets::OpenTickets;
 use machine_walk::set_up;
 use session_journal::Scratch;
-use session_values::{MAX_HANDLERS, Value};
+use session_values::Value;
 use shard_tables::Part;
-use std::alloc::Global;
 use symbolic_ops::instantiate;
 
 /// Writes what a handler declares at its entry, with these arguments, into the room for it.
@@ -53,32 +53,32 @@ fn older_in_the_way(
 /// Lets a handler run, if no open ticket is in its way, a number is left, and there is room in each
 /// table for the keys that it may add.
 pub(crate) fn admit(
-    alloc: Global,
-    program: &Program,
-    adds: &[[u32; MAX_HANDLERS]],
+    by: Admission<'_>,
     h: u32,
     args: &[Value],
-    tickets: &OpenTickets,
     scratch: &mut Scratch,
     parts: &mut Vec<Part>,
 ) -> Result<(), Answered>
-    requires handler { h < length program.now.file.handlers }
+    requires handler { h < length by.program.now.file.handlers }
     requires args { length args.now ≤ max_variables }
-    requires adds { AreAdds program.now.file (length parts.old.items) adds.now }
-    ensures admitted { IfOk result (λ _. IsAdmitted program.now tickets.now h args.now) }
-    ensures room { OnOk result (HaveRoomFor (code_at program.now.file h) parts.new.items) }
-    ensures held_back { IfErr result (IsHeldBack program.now tickets.now h args.now) }
+    requires long { length by.adds.now ≡ length parts.old.items }
+    ensures admitted { IfOk result (λ _. IsAdmitted by.entry.program.now by.entry.tickets.now h
+        args.now) }
+    ensures room { OnOk result (HaveRoomFor (code_at by.entry.program.now.file h)
+        parts.new.items) }
+    ensures held_back { IfErr result (IsHeldBack by.entry.program.now by.entry.tickets.now h
+        args.now) }
     ensures held { held parts.new.items ≡ held parts.old.items }
 {
     // There are few handlers.
-    let _handlers = program.checked().handlers();
-    if let Some(older) = older_in_the_way(program, h, args, tickets, scratch) {
+    let _handlers = by.program.checked().handlers();
+    if let Some(older) = older_in_the_way(by.program, h, args, by.tickets, scratch) {
         return Err(Answered::Delayed { older });
     }
-    if tickets.next() == u64::MAX {
+    if by.tickets.next() == u64::MAX {
         return Err(Answered::NoNumber);
     }
-    match make_room_for(alloc, adds, h, parts) {
+    match make_room_for(by.alloc, by.adds, h, parts) {
         Ok(()) => Ok(()),
         Err(_) => Err(Answered::NoMemory),
     }

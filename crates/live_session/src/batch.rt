@@ -33,8 +33,8 @@ pub struct Batch {
 
 impl LiveSession {
     /// Serves the requests of lines, one after another, as long as the replies have at most so many
-    /// bytes and the buffer has room, up to a line that isn't served. A line that is delayed, or for
-    /// which no number or no memory is left, isn't used, so that it can be tried again.
+    /// bytes and the buffer has room, up to a line that isn't served. A line that is delayed, or
+    /// for which no number or no memory is left, isn't used, so that it can be tried again.
     pub fn serve(&mut self, text: &str, most: usize, out: &mut WriteBuffer) -> Batch
         ensures { BatchAnswered self.old text.now most out.old.held result self.new out.new.held }
     {
@@ -69,8 +69,8 @@ impl LiveSession {
     }
 }
 
-// Where a batch goes on that a line with this answer ends: at the line, where it may be tried again,
-// or behind it. It is none where the batch isn't ended.
+// Where a batch goes on that a line with this answer ends: at the line, where it may be tried
+// again, or behind it. It is none where the batch isn't ended.
 fn stop(answered: Answered, at: usize, behind: usize) -> Option<usize>
     ensures { result ≡ stop_at answered at behind }
 {

@@ -82,8 +82,8 @@ fn perform_with_room(alloc: Global, tables: &mut LiveTables, op: Op) -> Result<V
     tables.answer(op)
 }
 
-/// Does an operation on tables, which get room for a key that it may add. Where memory runs out, the
-/// tables still hold what they held.
+/// Does an operation on tables, which get room for a key that it may add. Where memory runs out,
+/// the tables still hold what they held.
 fn perform(alloc: Global, tables: &mut LiveTables, op: Op) -> Result<Value, NoMemory>
     requires { Fits (map kind_of (held tables.old.parts.items)) op }
     ensures reply { IfOk result (λ v. v ≡ reply (held tables.old.parts.items) op) }

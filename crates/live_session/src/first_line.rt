@@ -22,19 +22,28 @@ pub(crate) fn first_line(text: &str) -> (&str, &str)
     (line, next)
 }
 
-/// The first word of a line, and the others.
-pub(crate) fn first_word(line: &str) -> Option<(&str, Line<'_>)>
+/// The words of a request's line.
+#[derive(Clone, Copy)]
+pub(crate) struct RequestWords<'a> {
+    /// The first, which names a handler.
+    pub(crate) name: &'a str,
+    /// Those behind it.
+    pub(crate) arguments: Line<'a>,
+}
+
+/// The words of a line, where it has some.
+pub(crate) fn request_words(line: &str) -> Option<RequestWords<'_>>
     requires line { list_all is_line_byte line.now ≡ true }
     requires short { length line.now ≤ 4294967295 }
     ensures { MatchOption result (words_of line.now ≡ [])
-        (λ p. words_of line.now ≡ p.0.now ∷ words_of p.1.rest.now) }
+        (λ w. words_of line.now ≡ w.name.now ∷ words_of w.arguments.rest.now) }
 {
     let mut lines = Lines::over(line, 0);
-    let Some((_, mut words)) = lines.next() else {
+    let Some((_, mut arguments)) = lines.next() else {
         return None;
     };
-    let Some(name) = words.next() else {
+    let Some(name) = arguments.next() else {
         return None;
     };
-    Some((name, words))
+    Some(RequestWords { name, arguments })
 }

@@ -9,8 +9,8 @@ use session_values::{Names, Reply};
 use std::marker::Model;
 
 /// What a session was opened with, how many acts the program did itself, and the lines that were
-/// served with their replies. Only proofs read them: it takes no memory, and its calls do nothing when
-/// they run.
+/// served with their replies. Only proofs read them: it takes no memory, and its calls do nothing
+/// when they run.
 #[derive(Drop)]
 pub(crate) struct History {
     pub ghost opened: { List (List Pair) },

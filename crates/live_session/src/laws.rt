@@ -14,10 +14,10 @@ impl LiveSession {
     ghost use Rattle.driven_tickets.specs.Desk.{IsDesk, declared};
     ghost use Rattle.live_session.specs.Live.{IsLive, IsOneFile, IsUndriven, desk_in, dump_of, session_in};
 
-    /// What is known of every session where the program did nothing itself, neither driving a ticket
-    /// nor placing a name, whatever lines it gave: its replies and tables are those of the serial run
-    /// of one session, whose requests are the lines that it served; so what it replied and what
-    /// `dump` writes are what `serve` and `dump` write of one file with all these lines.
+    /// What is known of every session where the program did nothing itself, neither driving a
+    /// ticket nor placing a name, whatever lines it gave: its replies and tables are those of the
+    /// serial run of one session, whose requests are the lines that it served; so what it replied
+    /// and what `dump` writes are what `serve` and `dump` write of one file with all these lines.
     pub fn answered_as_served(&self)
         ensures live { IsLive self.now }
         ensures replies { IsUndriven self.now → self.now.replies

@@ -5,6 +5,7 @@
 mod accepting;
 mod acting;
 mod adds;
+mod admission;
 mod admitting;
 mod answers;
 mod arguments;

@@ -8,9 +8,10 @@ ghost use Rattle.live_session.specs.Answers.{IsAnswered, LineAnswered, RowAnswer
 
 use crate::accepting::accept;
 use crate::acting::acts;
+use crate::admission::Admission;
 use crate::answers::{Answered, LineRefusal};
 use crate::arguments::Arguments;
-use crate::first_line::{first_line, first_word};
+use crate::first_line::{RequestWords, first_line, request_words};
 use crate::history::History;
 use crate::reply_line::push_reply;
 use crate::running::run_alone;
@@ -22,7 +23,6 @@ use session_journal::Scratch;
 use session_values::{MAX_HANDLERS, MAX_INPUT, Names};
 use std::alloc::Global;
 use std::marker::Model;
-use text_lines::Line;
 
 /// Handlers that were read once, and tables on which requests are served one by one, as long as the
 /// program that keeps it runs. A program that shares a session between threads gives it to one call
@@ -93,26 +93,27 @@ impl LiveSession {
     fn serve_row<T: TextRoom>(
         &mut self,
         line: &str,
-        name: &str,
-        words: Line<'_>,
+        words: RequestWords<'_>,
         out: &mut T,
     ) -> Answered
-        requires words { words_of line.now ≡ name.now ∷ words_of words.rest.now }
+        requires words { words_of line.now ≡ words.name.now ∷ words_of words.arguments.rest.now }
         requires room { 264 ≤ T.spare out.old }
         ensures answered { IsAnswered (T.held out.old) (T.held out.new)
-            (λ text. RowAnswered self.old line.now (row_of 0 name.now
-            (words_of words.entry.rest.now)) result text self.new) }
+            (λ text. RowAnswered self.old line.now (row_of 0 words.entry.name.now
+            (words_of words.entry.arguments.rest.now)) result text self.new) }
     {
+        let by = Admission {
+            alloc: self.alloc,
+            program: &self.program,
+            adds: self.adds.as_slice(),
+            most_names: self.most_names,
+            tickets: &self.tickets,
+        };
         let h = match accept(
-            self.alloc,
-            &self.program,
-            self.adds.as_slice(),
-            name,
+            by,
             words,
             &mut self.names,
-            self.most_names,
             &mut self.args.values,
-            &self.tickets,
             &mut self.scratch,
             &mut self.tables.parts,
         ) {
@@ -144,8 +145,8 @@ impl LiveSession {
         if line.len() > MAX_INPUT {
             return Answered::Refused(LineRefusal::TooLong);
         }
-        match first_word(line) {
-            Some((name, words)) => self.serve_row(line, name, words, out),
+        match request_words(line) {
+            Some(words) => self.serve_row(line, words, out),
             None => Answered::Nothing,
         }
     }

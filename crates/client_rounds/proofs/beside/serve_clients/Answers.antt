@@ -2,6 +2,7 @@
 use mir.Syntax.{of_param}
 use denote.Param.Send.{Quiet-if}
 use Rattle.handler_machine.proofs.Crossing.{program_sync}
+use Rattle.session_hall.proofs.sizes.Sizes.TheSendSync as sizes
 use Rattle.opening_tables.proofs.opening.Opening.TheSendSync as opening
 use Rattle.request_files.proofs.clients.ClientRequests.TheSendSync as requests
 use Rattle.client_feed.proofs.gatherer.Gatherer.TheSendSync as gatherer
@@ -19,17 +20,14 @@ join-gatherer-requires-send-F g c κs within =
             (
               (λ v. (tt, ((λ w. (tt, (tt, tt))), tt))),
               (
-                (tt, program_sync.shared x.3.now x.3.ref_ptr.0 x.3.ref_ptr.1 κs.1.1.1.1.1.1.1.0),
+                (tt, c.type_bounds.sync-G.shared x.3.now x.3.ref_ptr.0 x.3.ref_ptr.1 κs.1.1.1.1.1.1.1.0),
                 (
-                  (tt, opening.the_sync.shared x.4.now x.4.ref_ptr.0 x.4.ref_ptr.1 κs.1.1.1.1.1.1.1.1.0),
+                  (tt, program_sync.shared x.4.now x.4.ref_ptr.0 x.4.ref_ptr.1 κs.1.1.1.1.1.1.1.1.0),
                   (
-                    (tt, requests.the_sync.shared x.5.now x.5.ref_ptr.0 x.5.ref_ptr.1 κs.1.1.1.1.1.1.1.1.1.0),
+                    (tt, opening.the_sync.shared x.5.now x.5.ref_ptr.0 x.5.ref_ptr.1 κs.1.1.1.1.1.1.1.1.1.0),
                     (
-                      (tt, tt),
-                      (
-                        (tt, tt),
-                        ((tt, c.type_bounds.sync-G.shared x.8.now x.8.ref_ptr.0 x.8.ref_ptr.1 κs.1.1.1.1.1.1.1.1.1.1.0), tt),
-                      ),
+                      (tt, requests.the_sync.shared x.6.now x.6.ref_ptr.0 x.6.ref_ptr.1 κs.1.1.1.1.1.1.1.1.1.1.0),
+                      (sizes.the_send.owned x.7 vss.1.1.1.1.1.1.1.0, tt),
                     ),
                   ),
                 ),

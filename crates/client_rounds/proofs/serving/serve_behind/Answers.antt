@@ -7,10 +7,10 @@ use Rattle.client_rounds.proofs.serving.serve_behind.Goals as goal
 
 pub serve_first-requires-clause-servable : goal.serve_first-requires-clause-servable
 serve_first-requires-clause-servable g c κs within =
-    let P : List Request → Type 0 = λ rs. IsServable c.args.plan.now.program.now.file rs in
-    subst P (sym c.in_ok-requests.ensures) (asked_servable c.args.plan.now.program.now.file c.args.plan.now.clients.now c.requires.shared c.requires.servable c.requires.arrivals.before c.args.arrivals.now c.requires.arrivals.drawn)
+    let P : List Request → Type 0 = λ rs. IsServable c.args.plan.now.work.now.program.now.file rs in
+    subst P (sym c.in_ok-requests.ensures) (asked_servable c.args.plan.now.work.now.program.now.file c.args.plan.now.work.now.clients.now c.requires.shared c.args.plan.now.work.now.servable c.requires.arrivals.before c.args.arrivals.now c.requires.arrivals.drawn)
 
 pub serve_next-requires-clause-servable : goal.serve_next-requires-clause-servable
 serve_next-requires-clause-servable g c κs within =
-    let P : List Request → Type 0 = λ rs. IsServable c.args.plan.now.program.now.file rs in
-    subst P (sym c.in_ok-requests.ensures) (asked_servable c.args.plan.now.program.now.file c.args.plan.now.clients.now c.requires.shared c.requires.servable c.requires.arrivals.before c.args.arrivals.now c.requires.arrivals.drawn)
+    let P : List Request → Type 0 = λ rs. IsServable c.args.plan.now.work.now.program.now.file rs in
+    subst P (sym c.in_ok-requests.ensures) (asked_servable c.args.plan.now.work.now.program.now.file c.args.plan.now.work.now.clients.now c.requires.shared c.args.plan.now.work.now.servable c.requires.arrivals.before c.args.arrivals.now c.requires.arrivals.drawn)

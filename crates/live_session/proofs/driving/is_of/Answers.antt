@@ -1,8 +1,6 @@
-use Rattle.std.proofs.Common.{◌≡◌, true, sym, ap, ◌∙◌}
+use Rattle.std.proofs.Common.{◌≡◌, sym, ap, ◌∙◌}
 use Rattle.session_values.specs.declared.op.Op.{Op}
 use Rattle.session_values.specs.Kinds.{home}
-use Rattle.live_session.specs.Held.{container_in}
-use Rattle.session_values.specs.Tables.{kind_of}
 use Rattle.live_session.proofs.DrivenActs.{fits_by, kind_by, none_past}
 use Rattle.live_session.proofs.driving.is_of.Goals as goal
 

@@ -1,4 +1,4 @@
-use Rattle.std.proofs.Common.{◌≡◌, ◌<◌, List, length, map, set, sym, ap, ◌∙◌, subst}
+use Rattle.std.proofs.Common.{◌≡◌, ◌<◌, List, length, map, set, sym, ap, subst}
 use Rattle.session_values.specs.Tables.{Fits, Tables, kind_of}
 use Rattle.session_values.specs.declared.op.Op.{Op}
 use Rattle.shard_tables.specs.declared.part.Part.{Part}

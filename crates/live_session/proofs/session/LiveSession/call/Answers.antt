@@ -1,4 +1,4 @@
-use Rattle.std.proofs.Common.{◌≡◌, Ok, Err, List, map, vec_capacity, refl, sym, ap, ◌∙◌, subst}
+use Rattle.std.proofs.Common.{◌≡◌, List, map, vec_capacity, refl, sym, ap, ◌∙◌, subst}
 use Rattle.session_values.specs.Tables.{Tables, kind_of}
 use Rattle.serve_faults.specs.Printable.{IsPrintableTable}
 use Rattle.serve_faults.proofs.PrintableTables.{step_holds}
@@ -8,7 +8,6 @@ use Rattle.shard_tables.specs.declared.part.Part.{Part}
 use Rattle.driven_tickets.specs.declared.answers.Called.TheVariants as called_as
 use Rattle.driven_tickets.specs.Acts.{Calls}
 use Rattle.driven_tickets.specs.Desk.{DeskView, TicketsView, desk_over}
-use Rattle.driven_tickets.proofs.Following.{refused_by}
 use Rattle.driven_tickets.proofs.Keeping.{Acted, called, desk_on}
 use Rattle.live_session.specs.Driven.{CallAnswered, FitsSession, IsOperationOf}
 use Rattle.live_session.specs.Held.{held}

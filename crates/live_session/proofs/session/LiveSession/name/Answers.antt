@@ -1,4 +1,4 @@
-use Rattle.std.proofs.Common.{◌≡◌, ◌<◌, ◌++◌, ◌∷◌, [], ℕ, length, inr, refl, sym, ap, ◌∙◌, subst, arith}
+use Rattle.std.proofs.Common.{◌≡◌, ◌<◌, ◌++◌, ◌∷◌, [], length, inr, refl, sym, ◌∙◌, subst, arith}
 use Rattle.session_values.specs.Names.{place_of}
 use Rattle.session_values.proofs.NamesLemmas.{no_choice, with_new}
 use Rattle.text_lines.specs.Text.{Text}

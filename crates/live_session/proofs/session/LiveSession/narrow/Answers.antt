@@ -1,4 +1,4 @@
-use Rattle.std.proofs.Common.{◌≡◌, Ok, Err, List, refl, sym, ap, subst}
+use Rattle.std.proofs.Common.{◌≡◌, Ok, Err, refl, sym, ap, subst}
 use Rattle.driven_tickets.specs.Desk.{DeskView, TicketsView, desk_over}
 use Rattle.driven_tickets.proofs.Following.{after_narrowed}
 use Rattle.live_session.specs.Driven.{NarrowAnswered}

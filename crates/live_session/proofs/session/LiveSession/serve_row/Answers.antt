@@ -1,15 +1,12 @@
-use Rattle.std.proofs.Common.{◌≡◌, suc, ◌++◌, List, [], vec_capacity, refl, sym, ◌∙◌, ap, subst}
+use Rattle.std.proofs.Common.{◌≡◌, List, [], vec_capacity, sym, ◌∙◌, ap, subst}
 use Rattle.session_values.specs.Tables.{Tables}
 use Rattle.session_values.specs.declared.reply.Reply.{Reply}
 use Rattle.session_values.specs.declared.value.Value.{Value}
-use Rattle.handler_check.specs.File.{File}
 use Rattle.handler_check.specs.Resolved.{shape_of}
 use Rattle.text_lines.specs.Rows.{row_of}
 use Rattle.text_lines.specs.Text.{Text, words}
-use Rattle.driven_tickets.specs.Acts.{Act}
 use Rattle.driven_tickets.specs.Desk.{TicketsView}
 use Rattle.driven_tickets.specs.declared.history.History.{History as Acts}
-use Rattle.live_session.specs.declared.history.History.{History}
 use Rattle.live_session.specs.Answers.{LineServed, RowAnswered, reply_line}
 use Rattle.live_session.specs.Entries.{acts_of}
 use Rattle.live_session.specs.Held.{held}
@@ -35,7 +32,7 @@ invariant_of-self g c =
 pub returns-in-Err : goal.returns-in-Err
 returns-in-Err g c =
     let v : LiveView = the_view c.self.inside in
-    let r = row_of 0 c.args.name.now (words c.args.words.rest.now) in
+    let r = row_of 0 c.args.words.name.now (words c.args.words.arguments.rest.now) in
     let w : LiveView = record v { names = c.accept.new.names; tables = held c.accept.new.parts.items } in
     let same = still v c.accept.new.names (held c.accept.new.parts.items) c.in-Err.ensures.same c.accept.ensures.held in
     let P : LiveView → Type 0 = λ x. RowAnswered x c.args.line.now r c.in-Err.why [] w in
@@ -47,37 +44,37 @@ passed-requires g c = c.in-Ok.ensures.admitted.numbered
 pub push_reply-requires-clause-printable : goal.push_reply-requires-clause-printable
 push_reply-requires-clause-printable g c =
     let v : LiveView = the_view c.self.inside in
-    let ws : List Text = words c.args.words.rest.now in
-    let r = row_of 0 c.args.name.now ws in
+    let ws : List Text = words c.args.words.arguments.rest.now in
+    let r = row_of 0 c.args.words.name.now ws in
     let new : List Text = c.accept.new.names in
     let vals : List Value = c.accept.new.args.items in
     let after : Tables = held c.run_alone-reply.new.tables.parts.items in
     let reply : Reply = c.run_alone-reply.result in
     let k : TicketsView = c.passed.new.self in
-    let one : Ran v c.args.name.now ws new vals c.in-Ok.h reply after =
-    ran v c.args.name.now ws new vals c.in-Ok.h reply after c.checked.result.now c.as_slice-2.result.now (held c.accept.new.parts.items) c.checked.ensures.file c.as_slice-2.ensures.value c.accept.ensures.held c.in-Ok.ensures.accepted c.in-Ok.ensures.admitted
+    let one : Ran v c.args.words.name.now ws new vals c.in-Ok.h reply after =
+    ran v c.args.words.name.now ws new vals c.in-Ok.h reply after c.checked.result.now c.as_slice-2.result.now (held c.accept.new.parts.items) c.checked.ensures.file c.as_slice-2.ensures.value c.accept.ensures.held c.in-Ok.ensures.accepted c.in-Ok.ensures.admitted
     c.run_alone-reply.ensures.answer c.run_alone-reply.ensures.after c.run_alone-reply.ensures.values in
     let acts : k ≡ passed v.tickets (acts_of (program_in v) v.tickets.next c.in-Ok.h vals v.tables) =
     c.passed.ensures.after ∙ ap (passed v.tickets) (ap (λ (x : Acts). x.acts) c.acts-done.ensures ∙ (λ i. acts_of (program_in v) (c.next-number.ensures.next i) c.in-Ok.h vals (c.accept.ensures.held i))) in
-    reply_prints v c.self.invariant.0 c.self.invariant.1.most_few c.args.line.now c.args.name.now ws c.requires.words new vals c.in-Ok.h reply after one k acts c.passed.ensures.ascending
+    reply_prints v c.self.invariant.0 c.self.invariant.1.most_few c.args.line.now c.args.words.name.now ws c.requires.words new vals c.in-Ok.h reply after one k acts c.passed.ensures.ascending
 
 pub invariant_of-self-2 : goal.invariant_of-self-2
 invariant_of-self-2 g c =
     let v : LiveView = the_view c.self.inside in
-    let ws : List Text = words c.args.words.rest.now in
-    let r = row_of 0 c.args.name.now ws in
+    let ws : List Text = words c.args.words.arguments.rest.now in
+    let r = row_of 0 c.args.words.name.now ws in
     let new : List Text = c.accept.new.names in
     let vals : List Value = c.accept.new.args.items in
     let after : Tables = held c.run_alone-reply.new.tables.parts.items in
     let reply : Reply = c.run_alone-reply.result in
     let k : TicketsView = c.passed.new.self in
-    let one : Ran v c.args.name.now ws new vals c.in-Ok.h reply after =
-    ran v c.args.name.now ws new vals c.in-Ok.h reply after c.checked.result.now c.as_slice-2.result.now (held c.accept.new.parts.items) c.checked.ensures.file c.as_slice-2.ensures.value c.accept.ensures.held c.in-Ok.ensures.accepted c.in-Ok.ensures.admitted
+    let one : Ran v c.args.words.name.now ws new vals c.in-Ok.h reply after =
+    ran v c.args.words.name.now ws new vals c.in-Ok.h reply after c.checked.result.now c.as_slice-2.result.now (held c.accept.new.parts.items) c.checked.ensures.file c.as_slice-2.ensures.value c.accept.ensures.held c.in-Ok.ensures.accepted c.in-Ok.ensures.admitted
     c.run_alone-reply.ensures.answer c.run_alone-reply.ensures.after c.run_alone-reply.ensures.values in
     let acts : k ≡ passed v.tickets (acts_of (program_in v) v.tickets.next c.in-Ok.h vals v.tables) =
     c.passed.ensures.after ∙ ap (passed v.tickets) (ap (λ (x : Acts). x.acts) c.acts-done.ensures ∙ (λ i. acts_of (program_in v) (c.next-number.ensures.next i) c.in-Ok.h vals (c.accept.ensures.held i))) in
-    let is : with_history v new after k c.served-self-inside.result ≡ onward v c.self.invariant.0 c.self.invariant.1.most_few c.args.line.now c.args.name.now ws c.requires.words new vals c.in-Ok.h reply after one k acts c.passed.ensures.ascending = ap (with_history v new after k) c.served-self-inside.ensures in (
-      subst IsLive (sym is) (live_on v c.self.invariant.0 c.self.invariant.1.most_few c.args.line.now c.args.name.now ws c.requires.words new vals c.in-Ok.h reply after one k acts c.passed.ensures.ascending),
+    let is : with_history v new after k c.served-self-inside.result ≡ onward v c.self.invariant.0 c.self.invariant.1.most_few c.args.line.now c.args.words.name.now ws c.requires.words new vals c.in-Ok.h reply after one k acts c.passed.ensures.ascending = ap (with_history v new after k) c.served-self-inside.ensures in (
+      subst IsLive (sym is) (live_on v c.self.invariant.0 c.self.invariant.1.most_few c.args.line.now c.args.words.name.now ws c.requires.words new vals c.in-Ok.h reply after one k acts c.passed.ensures.ascending),
       kept_kinds v.file v.most_names c.self.inside.adds.items c.self.inside.tables.parts.items c.run_alone-reply.new.tables.parts.items (vec_capacity c.self.inside.args.values) (vec_capacity c.accept.new.args) c.self.invariant.1 c.accept.ensures.capacity
           (c.run_alone-reply.ensures.shape ∙ ap shape_of c.checked.ensures.file),
     )
@@ -85,21 +82,21 @@ invariant_of-self-2 g c =
 pub returns : goal.returns
 returns g c =
     let v : LiveView = the_view c.self.inside in
-    let ws : List Text = words c.args.words.rest.now in
-    let r = row_of 0 c.args.name.now ws in
+    let ws : List Text = words c.args.words.arguments.rest.now in
+    let r = row_of 0 c.args.words.name.now ws in
     let new : List Text = c.accept.new.names in
     let vals : List Value = c.accept.new.args.items in
     let after : Tables = held c.run_alone-reply.new.tables.parts.items in
     let reply : Reply = c.run_alone-reply.result in
     let k : TicketsView = c.passed.new.self in
-    let one : Ran v c.args.name.now ws new vals c.in-Ok.h reply after =
-    ran v c.args.name.now ws new vals c.in-Ok.h reply after c.checked.result.now c.as_slice-2.result.now (held c.accept.new.parts.items) c.checked.ensures.file c.as_slice-2.ensures.value c.accept.ensures.held c.in-Ok.ensures.accepted c.in-Ok.ensures.admitted
+    let one : Ran v c.args.words.name.now ws new vals c.in-Ok.h reply after =
+    ran v c.args.words.name.now ws new vals c.in-Ok.h reply after c.checked.result.now c.as_slice-2.result.now (held c.accept.new.parts.items) c.checked.ensures.file c.as_slice-2.ensures.value c.accept.ensures.held c.in-Ok.ensures.accepted c.in-Ok.ensures.admitted
     c.run_alone-reply.ensures.answer c.run_alone-reply.ensures.after c.run_alone-reply.ensures.values in
     let acts : k ≡ passed v.tickets (acts_of (program_in v) v.tickets.next c.in-Ok.h vals v.tables) =
     c.passed.ensures.after ∙ ap (passed v.tickets) (ap (λ (x : Acts). x.acts) c.acts-done.ensures ∙ (λ i. acts_of (program_in v) (c.next-number.ensures.next i) c.in-Ok.h vals (c.accept.ensures.held i))) in
-    let is : with_history v new after k c.served-self-inside.result ≡ onward v c.self.invariant.0 c.self.invariant.1.most_few c.args.line.now c.args.name.now ws c.requires.words new vals c.in-Ok.h reply after one k acts c.passed.ensures.ascending = ap (with_history v new after k) c.served-self-inside.ensures in
+    let is : with_history v new after k c.served-self-inside.result ≡ onward v c.self.invariant.0 c.self.invariant.1.most_few c.args.line.now c.args.words.name.now ws c.requires.words new vals c.in-Ok.h reply after one k acts c.passed.ensures.ascending = ap (with_history v new after k) c.served-self-inside.ensures in
     let text : Text = reply_line new reply in
-    let done = line_served v c.self.invariant.0 c.self.invariant.1.most_few c.args.line.now c.args.name.now ws c.requires.words new vals c.in-Ok.h reply after one k acts c.passed.ensures.ascending in
+    let done = line_served v c.self.invariant.0 c.self.invariant.1.most_few c.args.line.now c.args.words.name.now ws c.requires.words new vals c.in-Ok.h reply after one k acts c.passed.ensures.ascending in
     let Q : LiveView → Type 0 = λ x. LineServed v c.args.line.now r text x in
     let P : LiveView → Type 0 = λ x. LineServed x c.args.line.now r text (with_history v new after k c.served-self-inside.result) in
     record { answered = (text, c.push_reply.ensures.text, c.push_reply.ensures.short, subst P c.self.view_is (subst Q (sym is) done)) }
