@@ -3,4 +3,4 @@ use Rattle.std.specs.Prelude.{ℕ}
 
 -- 10,000 times the first number and 100 times the second: of 1.4
 abbrev pub version : ℕ
-version = 10400
+version = 10500

@@ -1,18 +1,18 @@
 // A command that is answered in a caller's rooms.
 
-ghost use Rattle.std.specs.Prelude.{ℕ};
+ghost use Rattle.std.specs.Prelude.{ℕ, Some};
 ghost use Rattle.serve_faults.specs.Changes.{change};
 ghost use Rattle.foresight_c.specs.Answered.{IsAnswered};
-ghost use Rattle.foresight_c.specs.Calls.{Ran, command_of};
+ghost use Rattle.serve_single.specs.Runs.{RunsSingle};
+ghost use Rattle.foresight_c.specs.Calls.{command_of};
 
 use crate::answer::Answer;
 use crate::handing::hand_over;
 use crate::slice_source::SliceSource;
 use crate::text_store::TextStore;
-use byte_ends::{Sink, Source};
-use plain_serving::{dump_alone, serve_alone};
-use serve_core::{SureSink, audit, describe, ranges};
+use byte_ends::{Sink, Source, SureSink};
 use serve_faults::Status;
+use serve_single::{audit, describe, dump_alone, ranges, serve_alone};
 use std::alloc::Global;
 
 /// The commands that the library answers.
@@ -46,7 +46,7 @@ pub(crate) fn answer_call(
 
 /// Runs a command from a source to a sink. Its line stands in no sink: it is handed over.
 fn run_call<I: Source, O: Sink>(alloc: Global, call: Call, source: &mut I, out: &mut O) -> Status
-    ensures { (callers shards : ℕ) → Ran (command_of call callers shards)
+    ensures { (callers shards : ℕ) → RunsSingle (Some (command_of call callers shards))
         (change I.left I.faults source.old source.new)
         (change O.held O.faults out.old out.new) result }
 {

@@ -1,81 +1,50 @@
--- What a command answers to its input, from what its parts say.
-use Rattle.std.proofs.Common.{◌≡◌, ℕ, ◌≤◌, Bool, ◌&&◌, true, false, List, length, Option, Some, None, refl, sym, ap, ◌∙◌, subst}
-use Rattle.session_values.specs.Limits.{max_input}
+-- What a command answers to its input, and with which hall, from what its parts say.
+use Rattle.std.proofs.Common.{◌≡◌, ℕ, true, List, Option, Some, None, refl}
 use Rattle.session_hall.specs.Closings.{ClosedView}
 use Rattle.serve_words.specs.declared.command.Command.{Command}
-use Rattle.serve_words.specs.declared.command.Command.TheVariants.{Check, Show, Serve, Dump, Work, Ranges, Trace, Audit, Clients}
-use Rattle.serve_faults.specs.declared.status.Fault.{Fault}
-use Rattle.serve_faults.specs.declared.status.Fault.TheVariants as fault
 use Rattle.serve_faults.specs.declared.status.Status.{Status}
 use Rattle.serve_faults.specs.declared.status.Status.TheVariants as status
-use Rattle.serve_faults.specs.Commands.{has_handlers, has_requests, input_of, is_serving}
-use Rattle.serve_faults.specs.Input.{Parts, parts_by, parts_of, parts_fault, divided_fault, handlers_of, is_divided, parts_in, IsInput, IsShort}
-use Rattle.serve_faults.specs.Answer.{HasRequestFault, HasTableFault, IsRefused, IsTextOf}
+use Rattle.serve_faults.specs.Commands.{input_of}
+use Rattle.serve_faults.specs.Input.{IsInput}
+use Rattle.serve_faults.specs.Answer.{IsTextOf}
 use Rattle.serve_faults.specs.Changes.{Change, IsUntouched}
-use Rattle.serve_core.specs.Commands.{has_begun_writing, opens_always}
-use Rattle.serve_core.specs.Runs.{Holds, Opens, WroteJournal}
-use Rattle.serve_core.specs.Runs.{AnswersTo}
-use Rattle.serve_faults.specs.Ways.{describing}
-use Rattle.serve_core.proofs.RunLemmas.{refused_answer, no_answer, fine_answer, front_answer, not_opened}
 use Rattle.serve_reading.specs.declared.unserved.Unserved.{Unserved}
 use Rattle.serve_reading.specs.declared.unserved.Unserved.TheVariants.{Refused, NoMemory}
-use Rattle.serve_reading.specs.Reasons.{IsInputReason, IsReason, IsSessionReason}
-use Rattle.serve_reading.specs.Sessions.{IsSessionInput}
-use Rattle.serve_core.specs.Serving.{EndsBy, EndsOrWants, status_of}
+use Rattle.serve_reading.specs.Reasons.{IsReason}
+use Rattle.serve_single.specs.Serving.{EndsBy, status_of}
+use Rattle.serve_single.proofs.EndLemmas as single
+use Rattle.serve_core.specs.Commands.{has_begun_writing}
+use Rattle.serve_core.specs.Runs.{AnswersTo, Holds, Opens, WroteJournal}
+use Rattle.serve_core.proofs.RunLemmas.{not_opened}
 
 -- ---- a command that refuses, or wants memory
 module _ {O : Type 0} (c : Command) (bytes : List ℕ) (out : Change O) (same : IsUntouched out) where
-  pub refused_to : (f : Fault) → IsRefused c (input_of c bytes) f → AnswersTo c bytes out (status.Refused f) None
-  refused_to f r = record {
-    usage = λ e. cc;
-    read_fault = λ e. cc;
-    answered = refused_answer c bytes out f r;
-    written = record { write_fault = λ e. absurd (cc); written_well = λ e. absurd (cc); unwritten = λ _ _. same };
-    served = not_opened c bytes (status.Refused f) (λ e. cc) (λ e. cc);
-    hall = tt;
-    traced = λ _ e. absurd (cc);
-  }
-
   pub memory_to : AnswersTo c bytes out status.NoMemory None
   memory_to = record {
-    usage = λ e. cc;
-    read_fault = λ e. cc;
-    answered = no_answer c bytes out status.NoMemory (λ e. cc) (λ f e. cc) (λ e. cc);
-    written = record { write_fault = λ e. absurd (cc); written_well = λ e. absurd (cc); unwritten = λ _ _. same };
-    served = not_opened c bytes status.NoMemory (λ e. cc) (λ e. cc);
+    single = single.memory_to c bytes out same;
+    served = not_opened c bytes status.NoMemory refl;
     hall = tt;
-    traced = λ _ e. absurd (cc);
+    traced = λ _ _. tt;
   }
 
   pub reason_to : (e : Unserved) → IsReason c (input_of c bytes) e → AnswersTo c bytes out (status_of e) None
   reason_to NoMemory h = memory_to
-  reason_to (Refused f) h = refused_to f h
+  reason_to (Refused f) h = record {
+    single = single.reason_to c bytes out same (Refused f) h;
+    served = not_opened c bytes (status.Refused f) refl;
+    hall = tt;
+    traced = λ _ _. tt;
+  }
 
 -- ---- a command that writes its text
-module _ {O : Type 0} (c : Command) (bytes : List ℕ) (out : Change O) (text : List ℕ) (i : IsInput c (input_of c bytes)) (is : IsTextOf c (input_of c bytes) text) where
-  pub ends_to : (s : Status) (closed : Option ClosedView) → EndsBy text out s → Opens (Some c) bytes s closed → Holds (Some c) bytes out s closed → WroteJournal (Some c) bytes out s closed → AnswersTo c bytes out s closed
-  ends_to status.Fine closed e served hall traced = record {
-    usage = λ x. cc;
-    read_fault = λ x. cc;
-    answered = fine_answer c bytes out text i is e;
-    written = record { write_fault = λ x. absurd (cc); written_well = λ _. e.0; unwritten = λ f _. absurd (f refl) };
-    served = served;
-    hall = hall;
-    traced = traced;
-  }
-  ends_to status.WriteFault closed e served hall traced = record {
-    usage = λ x. cc;
-    read_fault = λ x. cc;
-    answered = front_answer c bytes out text i is e.1;
-    written = record { write_fault = λ x. e.0; written_well = λ x. absurd (cc); unwritten = λ _ f. absurd (f refl) };
-    served = served;
-    hall = hall;
-    traced = traced;
-  }
-  ends_to (status.Refused f) closed e served hall traced = absurd e
-  ends_to status.Usage closed e served hall traced = absurd e
-  ends_to status.NoMemory closed e served hall traced = absurd e
-  ends_to status.ReadFault closed e served hall traced = absurd e
+pub ends_to : {O : Type 0} (c : Command) (bytes : List ℕ) (out : Change O) (text : List ℕ) → IsInput c (input_of c bytes) → IsTextOf c (input_of c bytes) text → (s : Status) (closed : Option ClosedView) → EndsBy text out s → Opens (Some c) bytes s closed
+    → Holds (Some c) bytes out s closed → WroteJournal (Some c) bytes out s closed → AnswersTo c bytes out s closed
+ends_to c bytes out text i is s closed e served hall traced = record {
+  single = single.ends_to c bytes out text i is s e;
+  served = served;
+  hall = hall;
+  traced = traced;
+}
 
 -- then it has come to its output
 pub begins : {O : Type 0} (out : Change O) (s : Status) (text : List ℕ) → EndsBy text out s → has_begun_writing s ≡ true
@@ -85,151 +54,3 @@ begins out (status.Refused f) text e = absurd e
 begins out status.Usage text e = absurd e
 begins out status.NoMemory text e = absurd e
 begins out status.ReadFault text e = absurd e
-
--- ---- describing
-pub describing_served : (shown : Bool) (bytes : List ℕ) (s : Status) → Opens (Some (describing shown)) bytes s None
-describing_served true bytes s = refl
-describing_served false bytes s = refl
-
-describing_untraced : {O : Type 0} (shown : Bool) (bytes : List ℕ) (out : Change O) (s : Status) → WroteJournal (Some (describing shown)) bytes out s None
-describing_untraced shown bytes out s = λ _ _. tt
-
-describing_own : (shown : Bool) (bytes : List ℕ) → bytes ≡ input_of (describing shown) bytes
-describing_own true bytes = refl
-describing_own false bytes = refl
-
-module _ {O : Type 0} (shown : Bool) (bytes : List ℕ) (out : Change O) where
-  pub described_to : (text : List ℕ) (s : Status) → IsInput (describing shown) bytes → IsTextOf (describing shown) bytes text → EndsBy text out s → AnswersTo (describing shown) bytes out s None
-  described_to text s i is e =
-      ends_to (describing shown) bytes out text (subst (IsInput (describing shown)) (describing_own shown bytes) i) (subst (λ (b : List ℕ). IsTextOf (describing shown) b text) (describing_own shown bytes) is) s None e (describing_served shown bytes s) tt (describing_untraced shown bytes out s)
-
-  pub undescribed_to : (e : Unserved) → IsUntouched out → IsReason (describing shown) bytes e → AnswersTo (describing shown) bytes out (status_of e) None
-  undescribed_to e same r = reason_to (describing shown) bytes out same e (subst (λ (b : List ℕ). IsReason (describing shown) b e) (describing_own shown bytes) r)
-
-  pub described_or_wants : (text : List ℕ) (s : Status) → IsInput (describing shown) bytes → IsTextOf (describing shown) bytes text → EndsOrWants text out s → AnswersTo (describing shown) bytes out s None
-  described_or_wants text status.Fine i is e = described_to text status.Fine i is e
-  described_or_wants text status.WriteFault i is e = described_to text status.WriteFault i is e
-  described_or_wants text status.NoMemory i is e = memory_to (describing shown) bytes out e
-  described_or_wants text (status.Refused f) i is e = absurd e
-  described_or_wants text status.Usage i is e = absurd e
-  described_or_wants text status.ReadFault i is e = absurd e
-
-pub ends_or_wants : {O : Type 0} (text : List ℕ) (out : Change O) (s : Status) → EndsBy text out s → EndsOrWants text out s
-ends_or_wants text out status.Fine e = e
-ends_or_wants text out status.WriteFault e = e
-ends_or_wants text out status.NoMemory e = absurd e
-ends_or_wants text out (status.Refused f) e = absurd e
-ends_or_wants text out status.Usage e = absurd e
-ends_or_wants text out status.ReadFault e = absurd e
-
--- ---- serving
-
--- the requests of the input are served as one list
-abbrev pub serves_one : Command → Bool
-serves_one c = opens_always (Some c) && is_serving c
-
-handlers_same : (c : Command) (input : List ℕ) → serves_one c ≡ true → handlers_of c input ≡ (parts_of input).handlers
-handlers_same Check input e = absurd (cc)
-handlers_same Show input e = absurd (cc)
-handlers_same (Serve callers shards) input e = refl
-handlers_same (Dump callers shards) input e = refl
-handlers_same (Work requests start) input e = refl
-handlers_same Ranges input e = absurd (cc)
-handlers_same (Trace callers shards) input e = refl
-handlers_same Audit input e = absurd (cc)
-handlers_same (Clients callers shards) input e = absurd (cc)
-
-parts_wanted : (c : Command) (input : List ℕ) → serves_one c ≡ true → parts_fault c input ≡ divided_fault (is_divided input)
-parts_wanted Check input e = absurd (cc)
-parts_wanted Show input e = absurd (cc)
-parts_wanted (Serve callers shards) input e = refl
-parts_wanted (Dump callers shards) input e = refl
-parts_wanted (Work requests start) input e = refl
-parts_wanted Ranges input e = absurd (cc)
-parts_wanted (Trace callers shards) input e = refl
-parts_wanted Audit input e = absurd (cc)
-parts_wanted (Clients callers shards) input e = absurd (cc)
-
-handled : (c : Command) → serves_one c ≡ true → has_handlers c ≡ true
-handled Check e = refl
-handled Show e = refl
-handled (Serve callers shards) e = refl
-handled (Dump callers shards) e = refl
-handled (Work requests start) e = refl
-handled Ranges e = e
-handled (Trace callers shards) e = refl
-handled Audit e = absurd (cc)
-handled (Clients callers shards) e = refl
-
--- it answers to requests
-requested : (c : Command) → serves_one c ≡ true → has_requests c ≡ true
-requested Check e = e
-requested Show e = e
-requested (Serve callers shards) e = refl
-requested (Dump callers shards) e = refl
-requested (Work requests start) e = refl
-requested Ranges e = e
-requested (Trace callers shards) e = refl
-requested Audit e = refl
-requested (Clients callers shards) e = refl
-
--- its input is a session file, and its parts are that file's
-whole : (c : Command) (input : List ℕ) → serves_one c ≡ true → parts_in c input ≡ parts_of input
-whole Check input e = refl
-whole Show input e = refl
-whole (Serve callers shards) input e = refl
-whole (Dump callers shards) input e = refl
-whole (Work requests start) input e = refl
-whole Ranges input e = refl
-whole (Trace callers shards) input e = refl
-whole Audit input e = absurd (cc)
-whole (Clients callers shards) input e = absurd (cc)
-
-short_of : (c : Command) (input : List ℕ) → serves_one c ≡ true → length input ≤ max_input → IsShort c input
-short_of Check input e h = h
-short_of Show input e h = h
-short_of (Serve callers shards) input e h = h
-short_of (Dump callers shards) input e h = h
-short_of (Work requests start) input e h = h
-short_of Ranges input e h = h
-short_of (Trace callers shards) input e h = h
-short_of Audit input e h = absurd (cc)
-short_of (Clients callers shards) input e h = h
-
-pub session_input : (c : Command) (input : List ℕ) → serves_one c ≡ true → IsSessionInput input → IsInput c input
-session_input c input has i = record { short = short_of c input has i.short; utf8 = i.utf8; parts = parts_wanted c input has ∙ ap divided_fault i.divided }
-
-pub input_reason : (c : Command) (input : List ℕ) (e : Unserved) → serves_one c ≡ true → IsInputReason input e → IsReason c input e
-input_reason c input NoMemory has h = tt
-input_reason c input (Refused fault.TooLarge) has h = absurd h
-input_reason c input (Refused fault.NotText) has h = (short_of c input has h.0, h.1)
-input_reason c input (Refused fault.NoRequests) has h = (short_of c input has h.0, h.1, parts_wanted c input has ∙ ap divided_fault h.2)
-input_reason c input (Refused fault.HasRequests) has h = absurd h
-input_reason c input (Refused fault.NoTrace) has h = absurd h.1
-input_reason c input (Refused fault.TooManyClients) has h = absurd h.1
-input_reason c input (Refused (fault.Syntax e)) has h =
-    (session_input c input has h.0, subst (λ (t : List ℕ). IsSessionReason (parts_by t (parts_of input).tables (parts_of input).requests (parts_of input).first_table (parts_of input).first) (Refused (fault.Syntax e))) (sym (handlers_same c input has)) h.1, handled c has)
-input_reason c input (Refused (fault.Check e)) has h =
-    (session_input c input has h.0, subst (λ (t : List ℕ). IsSessionReason (parts_by t (parts_of input).tables (parts_of input).requests (parts_of input).first_table (parts_of input).first) (Refused (fault.Check e))) (sym (handlers_same c input has)) h.1, handled c has)
-input_reason c input (Refused (fault.Analysis e)) has h =
-    (session_input c input has h.0, subst (λ (t : List ℕ). IsSessionReason (parts_by t (parts_of input).tables (parts_of input).requests (parts_of input).first_table (parts_of input).first) (Refused (fault.Analysis e))) (sym (handlers_same c input has)) h.1, handled c has)
-input_reason c input (Refused (fault.Tables e)) has h = (session_input c input has h.0, requested c has, subst (λ (t : Parts). HasTableFault t e) (sym (whole c input has)) h.1)
-input_reason c input (Refused (fault.Request e)) has h = (session_input c input has h.0, requested c has, subst (λ (t : Parts). HasRequestFault t e) (sym (whole c input has)) h.1)
-input_reason c input (Refused (fault.Trace e)) has h = absurd h.1
-input_reason c input (Refused (fault.Ranges e)) has h = absurd h.1
-
--- ---- range sessions
-module _ {O : Type 0} (bytes : List ℕ) (out : Change O) where
-  pub ranged_to : (text : List ℕ) (s : Status) → IsInput Ranges bytes → IsTextOf Ranges bytes text → EndsBy text out s → AnswersTo Ranges bytes out s None
-  ranged_to text s i is e = ends_to Ranges bytes out text i is s None e refl tt (λ _ _. tt)
-
-  pub unranged_to : (e : Unserved) → IsUntouched out → IsReason Ranges bytes e → AnswersTo Ranges bytes out (status_of e) None
-  unranged_to e same r = reason_to Ranges bytes out same e r
-
--- ---- audits
-module _ {O : Type 0} (bytes : List ℕ) (out : Change O) where
-  pub audited_to : (text : List ℕ) (s : Status) → IsInput Audit bytes → IsTextOf Audit bytes text → EndsBy text out s → AnswersTo Audit bytes out s None
-  audited_to text s i is e = ends_to Audit bytes out text i is s None e refl tt (λ _ _. tt)
-
-  pub unaudited_to : (e : Unserved) → IsUntouched out → IsReason Audit bytes e → AnswersTo Audit bytes out (status_of e) None
-  unaudited_to e same r = reason_to Audit bytes out same e r

@@ -1,9 +1,9 @@
 -- What is loaded of a session file, and what is served of it.
-use Rattle.std.proofs.Common.{◌≡◌, ℕ, zero, suc, ◌+◌, ◌*◌, ◌<◌, ◌≤◌, List, [], ◌∷◌, length, true, slice_get, Option, Some, None, refl, sym, ap, ◌∙◌, subst, arith}
+use Rattle.std.proofs.Common.{◌≡◌, ℕ, zero, suc, ◌+◌, ◌*◌, ◌<◌, ◌≤◌, List, [], ◌∷◌, length, slice_get, Option, Some, None, refl, sym, ap, ◌∙◌, subst, arith}
 use Rattle.std.proofs.lemmas.List.{length-map}
 use Rattle.session_values.specs.declared.reply.Reply.{Reply}
 use Rattle.session_values.specs.declared.kind.TableKind.{TableKind}
-use Rattle.session_values.specs.Serial.{serial_replies, tables_before}
+use Rattle.session_values.specs.Serial.{tables_before}
 use Rattle.session_journal.specs.Script.{Meaning, session_of}
 use Rattle.session_hall.specs.Closings.{ClosedView, IsDone}
 use Rattle.syntax_trees.specs.declared.file.TableDecl.{TableDecl}
@@ -27,12 +27,13 @@ use Rattle.serve_reading.specs.Reasons.{IsInputReason}
 use Rattle.serve_reading.specs.Sessions.{IsLoaded, IsSessionInput}
 use Rattle.serve_reading.proofs.Loading.{as_program}
 use Rattle.serve_core.specs.declared.writing.Writing.{Writing}
-use Rattle.serve_core.specs.Serving.{AreFinal, CanPrint, CanServe, EndsLoaded, EndsSession, HasRoom, HasRoomFor, HasServed, script_of_loaded, status_of}
+use Rattle.serve_core.specs.Serving.{AreFinal, CanPrint, EndsLoaded, EndsSession, HasRoom, HasRoomFor, HasServed}
+use Rattle.serve_single.specs.Serving.{CanServe, script_of_loaded, status_of}
+use Rattle.serve_single.proofs.EntryLemmas.{entries_printable}
 use Rattle.serve_core.specs.declared.writing.Later.{Later}
 use Rattle.serve_core.specs.declared.writing.Later.TheVariants.{Summary, Tables, Events}
-use Rattle.request_files.specs.Values.{is_symbol}
-use Rattle.serve_core.proofs.TraceLemmas.{names_symbols, told_events}
-use Rattle.serve_core.proofs.FinalLemmas.{each_dumped, each_room, entries_printable, tables_long}
+use Rattle.serve_core.proofs.TraceLemmas.{told_events}
+use Rattle.serve_core.proofs.FinalLemmas.{each_dumped, each_room, tables_long}
 use Rattle.std.specs.List.{AllByRecursion, flat_map}
 use Rattle.std.proofs.lemmas.Option.{slice_get_within}
 use Rattle.session_values.specs.Tables.{table}
@@ -48,20 +49,13 @@ use Rattle.table_text.specs.Dumped.{CanDump}
 pub few_kinds : (f : File) (shape : List TableKind) → IsAccepted f → shape ≡ shape_of f → length shape ≤ 7
 few_kinds f shape a e = let few = few_tables f a.keeps in let long : length shape ≡ length f.tables = ap (λ (s : List TableKind). length s) e ∙ length-map f.tables (λ (t : TableDecl). t.kind) in omega (arith, few, long)
 
--- what was loaded can be served
-pub can_serve : (parts : Parts) (l : Loaded) → IsLoaded parts l → CanServe l
-can_serve parts l h = record { symbols = subst (AllByRecursion (λ (t : List ℕ). is_symbol t ≡ true)) (sym h.names_are) (names_symbols parts); accepted = (as_program parts.handlers l.program h.program_of).accepted; opens = h.opens; servable = h.servable; named = h.named; printable_opening = h.printable_opening; printable = h.printable }
-
 table_held : (names : List (List ℕ)) (ts : tables.Tables) (i : ℕ) → i < length ts → AllByRecursion (IsPrintableTable names) ts → IsPrintableTable names (table ts i)
 table_held names [] i lt h = absurd (omega (arith, lt))
 table_held names (c ∷ ts) zero lt h = h.0
 table_held names (c ∷ ts) (suc i) lt h = table_held names ts i (omega (arith, lt)) h.1
 
--- and then its replies can be printed
-pub replies_print : (l : Loaded) → CanServe l → ArePrintableReplies l.names (serial_replies (session_of (meaning (script_of_loaded l))) (meaning (script_of_loaded l)).requests)
-replies_print l h = replies_said l.names l.program.file l.opening l.requests h.named h.printable_opening h.printable (meaning (script_of_loaded l)).requests
-
--- those of a closed hall too, and its final tables
+-- The replies of a closed hall that served what was loaded can be printed, and so can its final
+-- tables.
 pub can_print : (l : Loaded) → CanServe l → CanPrint l.names l.program.file (meaning (script_of_loaded l))
 can_print l h d done = record {
   replies = subst (λ (rs : List Reply). ArePrintableReplies l.names rs) (sym done.replies) (replies_said l.names file l.opening l.requests h.named h.printable_opening h.printable m.requests);

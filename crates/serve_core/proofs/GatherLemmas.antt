@@ -39,9 +39,9 @@ use Rattle.serve_core.specs.Commands.{has_begun_writing}
 use Rattle.serve_core.specs.Arriving.{CanServeClients, EndsClients}
 use Rattle.serve_core.specs.Replied.{text_of_arrivals}
 use Rattle.serve_core.specs.Runs.{AnswersTo, Holds, Opens}
-use Rattle.serve_core.specs.Serving.{EndsBy}
+use Rattle.serve_single.specs.Serving.{EndsBy}
 use Rattle.serve_core.proofs.EndLemmas.{ends_to, memory_to}
-use Rattle.serve_core.proofs.FileLemmas.{can_serve}
+use Rattle.serve_single.proofs.FileLemmas.{can_serve}
 
 -- what was loaded can be served
 pub can_gather : (input : List ℕ) (l : LoadedClients) → IsLoadedClients input l → CanServeClients l

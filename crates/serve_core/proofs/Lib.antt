@@ -1,4 +1,3 @@
-pub mod AuditLemmas
 pub mod CallLemmas
 pub mod CountLemmas
 pub mod EndLemmas

@@ -1,192 +1,55 @@
--- What a run promises, from what its parts say.
-use Rattle.std.proofs.Common.{◌≡◌, ◌≢◌, ℕ, ◌+◌, ◌<◌, ◌⊎◌, inl, inr, Bool, ◌&&◌, true, false, if◌then◌else◌, is_some, List, length, nat_lt, ◌≤◌, Option, Some, None, IfSome, refl, sym, ap, ◌∙◌, subst, arith}
-use Rattle.std.proofs.lemmas.List.{drop_all}
-use Rattle.byte_ends.specs.Ends.{IsAtEnd, LostFirst, LostAtMost}
+-- What a run promises of its hall, beside what any run does.
+use Rattle.std.proofs.Common.{◌≡◌, ℕ, Bool, ◌&&◌, true, false, if◌then◌else◌, is_some, List, length, nat_lt, Option, Some, None, refl, ap, ◌∙◌}
 use Rattle.session_hall.specs.Closings.{ClosedView}
 use Rattle.serve_words.specs.declared.command.Command.{Command}
-use Rattle.serve_words.specs.declared.command.Command.TheVariants.{Check, Show, Serve, Dump, Work, Ranges, Trace, Audit, Clients}
-use Rattle.serve_faults.specs.declared.status.Fault.{Fault}
-use Rattle.serve_faults.specs.declared.status.Fault.TheVariants.{TooLarge}
 use Rattle.serve_faults.specs.declared.status.Status.{Status}
 use Rattle.serve_faults.specs.declared.status.Status.TheVariants as status
-use Rattle.serve_faults.specs.Answer.{IsRefused, IsTextOf, IsUnrefused}
 use Rattle.serve_faults.specs.Commands.{input_of, is_reading, is_serving}
-use Rattle.serve_faults.specs.Input.{IsInput, IsTooLarge, client_parts, most_of}
+use Rattle.serve_faults.specs.Input.{client_parts, most_of}
 use Rattle.serve_faults.specs.Session.{rows_of}
-use Rattle.serve_faults.specs.Changes.{Change, Failed, HasNotFailed, IsUntouched, Took, TookFront}
-use Rattle.serve_core.specs.Commands.{Told, ToldBy, has_begun_writing, has_served, has_ticket, is_gathering, opens_always}
-use Rattle.serve_core.specs.Runs.{has_read_all, Answered, Written, Holds, Opens, Runs, WroteJournal}
-use Rattle.serve_core.specs.Runs.{AnswersTo}
+use Rattle.serve_faults.specs.Changes.{Change, IsUntouched}
 use Rattle.serve_faults.specs.Ways.{HasRead, StoppedAs}
-use Rattle.serve_faults.proofs.OneAnswer.{refused_once, text_or_refused}
-use Rattle.session_values.proofs.Options.{if_some}
+use Rattle.serve_single.specs.Runs.{RunsSingle}
+use Rattle.serve_single.proofs.RunLemmas.{told_always, told_read}
+use Rattle.serve_single.proofs.RunLemmas as single
+use Rattle.serve_core.specs.Commands.{has_begun_writing, has_served, has_ticket, is_gathering, opens_always}
+use Rattle.serve_core.specs.Runs.{AnswersTo, Holds, Opens, Runs, WroteJournal}
 
--- ---- what a command answers to its input
-module _ {O : Type 0} (c : Command) (bytes : List ℕ) (out : Change O) where
-  -- nothing, with a status that says so
-  pub refused_answer : (f : Fault) → IsRefused c (input_of c bytes) f → Answered (Some c) bytes out (status.Refused f)
-  refused_answer f r = record {
-    fine = λ e. absurd (cc);
-    refused = λ g e. (let same : f ≡ g = cc in subst (λ h. IsRefused c (input_of c bytes) h) same r);
-    front = λ e. absurd (cc);
-  }
-
-  pub no_answer : (s : Status) → s ≢ status.Fine → ((f : Fault) → s ≢ status.Refused f) → s ≢ status.WriteFault → Answered (Some c) bytes out s
-  no_answer s fine refused front = record {
-    fine = λ e. absurd (fine e);
-    refused = λ f e. absurd (refused f e);
-    front = λ e. absurd (front e);
-  }
-
-  -- the text, or a front of it
-  pub fine_answer : (text : List ℕ) → IsInput c (input_of c bytes) → IsTextOf c (input_of c bytes) text → Took out text → Answered (Some c) bytes out status.Fine
-  fine_answer text i is took = record {
-    fine = λ e. (text, (i, is), took);
-    refused = λ f e. absurd (cc);
-    front = λ e. absurd (cc);
-  }
-
-  pub front_answer : (text : List ℕ) → IsInput c (input_of c bytes) → IsTextOf c (input_of c bytes) text → TookFront out text → Answered (Some c) bytes out status.WriteFault
-  front_answer text i is took = record {
-    fine = λ e. absurd (cc);
-    refused = λ f e. absurd (cc);
-    front = λ e. (text, (i, is), took);
-  }
-
--- ---- of what is told
-
-told_by : {S : Type 0} (reads : Bool) (s : Change S) (P Q : List ℕ → Type 0) → ((bytes : List ℕ) → P bytes → Q bytes) → ToldBy reads s P → ToldBy reads s Q
-told_by true s P Q f h = if_some P Q (s.bytes s.old) f h
-told_by false s P Q f h = λ bytes. f bytes (h bytes)
-
-told_map : {S : Type 0} (c : Command) (s : Change S) (P Q : List ℕ → Type 0) → ((bytes : List ℕ) → P bytes → Q bytes) → Told (Some c) s P → Told (Some c) s Q
-told_map c s P Q f h = told_by (is_reading (Some c)) s P Q f h
-
--- ---- a whole run
-module _ {I O : Type 0} (c : Command) (source : Change I) (out : Change O) (closed : Option ClosedView) where
-  -- what a status tells besides
-  pub record Ends (s : Status) : Type 0 where
-    pub usage : s ≢ status.Usage
-    pub read_fault : s ≡ status.ReadFault → Failed source
-    pub read_well : s ≢ status.ReadFault → HasNotFailed source
-    pub written : Written out s
-
-  refuses : (bytes : List ℕ) (s : Status) (f : Fault) → Ends s → Answered (Some c) bytes out s → IsRefused c (input_of c bytes) f → (Failed source → ⊥) → (s ≡ status.Refused f) ⊎ (s ≡ status.NoMemory)
-  refuses bytes status.Fine f h a r ok = let t = a.fine refl in absurd (text_or_refused c (input_of c bytes) t.0 f t.1.0 t.1.1 r)
-  refuses bytes (status.Refused g) f h a r ok = inl (ap status.Refused (refused_once c (input_of c bytes) g f (a.refused g refl) r))
-  refuses bytes status.Usage f h a r ok = absurd (h.usage refl)
-  refuses bytes status.NoMemory f h a r ok = inr refl
-  refuses bytes status.ReadFault f h a r ok = absurd (ok (h.read_fault refl))
-  refuses bytes status.WriteFault f h a r ok = let t = a.front refl in absurd (text_or_refused c (input_of c bytes) t.0 f t.1.0 t.1.1 r)
-
-  completes : (bytes : List ℕ) (s : Status) → Ends s → Answered (Some c) bytes out s → IsUnrefused (Some c) bytes → (Failed source → ⊥) → (Failed out → ⊥) → (s ≡ status.Fine) ⊎ (s ≡ status.NoMemory)
-  completes bytes status.Fine h a u ok ok' = inl refl
-  completes bytes (status.Refused g) h a u ok ok' = absurd (u g (a.refused g refl))
-  completes bytes status.Usage h a u ok ok' = absurd (h.usage refl)
-  completes bytes status.NoMemory h a u ok ok' = inr refl
-  completes bytes status.ReadFault h a u ok ok' = absurd (ok (h.read_fault refl))
-  completes bytes status.WriteFault h a u ok ok' = absurd (ok' (h.written.write_fault refl))
-
-  abbrev left : Option (List ℕ)
-  left = source.bytes source.old
-
-  abbrev rest : Option (List ℕ)
-  rest = source.bytes source.new
-
-  pub runs_of : (s : Status) → Ends s → (is_reading (Some c) ≡ false → IsUntouched source × (s ≢ status.ReadFault)) → (is_reading (Some c) ≡ false → (fault : Fault) → s ≢ status.Refused fault) → Told (Some c) source (λ bytes. Answered (Some c) bytes out s)
-      → (is_reading (Some c) ≡ true → has_read_all s ≡ true → IsAtEnd left rest) → (is_reading (Some c) ≡ true → s ≡ status.Refused TooLarge → LostFirst left rest (most_of c + 1)) → LostAtMost left rest (most_of c + 1)
-      → (opens_always (Some c) ≡ true → is_some closed ≡ has_served (Some c) s) → Told (Some c) source (λ bytes. Opens (Some c) bytes s closed) → Told (Some c) source (λ bytes. Holds (Some c) bytes out s closed) → Told (Some c) source (λ bytes. WroteJournal (Some c) bytes out s closed)
-      → Runs (Some c) source out s closed
-  runs_of s h unread made answered end gone lost served ticketed hall traced = record {
-    usage = (λ e. absurd (h.usage e), λ e. absurd (cc));
-    unread = unread;
-    made = made;
-    answered = answered;
-    refusing = told_map c source (λ bytes. Answered (Some c) bytes out s) _ (λ bytes a f r ok. refuses bytes s f h a r ok) answered;
-    complete = λ e. told_map c source (λ bytes. Answered (Some c) bytes out s) _ (λ bytes a u ok ok'. completes bytes s h a u ok ok') answered;
-    read_fault = h.read_fault;
-    read_well = h.read_well;
-    written = h.written;
-    end = end;
-    gone = gone;
-    lost = lost;
-    served = served;
-    ticketed = ticketed;
-    hall = hall;
-    traced = traced;
-  }
-
--- ---- commands that read
-reading_input : (c : Command) (bytes : List ℕ) → is_reading (Some c) ≡ true → input_of c bytes ≡ bytes
-reading_input Check bytes e = refl
-reading_input Show bytes e = refl
-reading_input (Serve callers shards) bytes e = refl
-reading_input (Dump callers shards) bytes e = refl
-reading_input (Work requests start) bytes e = absurd (cc)
-reading_input Ranges bytes e = refl
-reading_input (Trace callers shards) bytes e = refl
-reading_input Audit bytes e = refl
-reading_input (Clients callers shards) bytes e = refl
-
-told_some : {S : Type 0} (c : Command) (s : Change S) (P : List ℕ → Type 0) → is_reading (Some c) ≡ true → IfSome (s.bytes s.old) P → Told (Some c) s P
-told_some c s P e h = subst (λ (reads : Bool). ToldBy reads s P) (sym e) h
-
--- an input of more bytes than the command takes is too large
-too_long : (c : Command) (input : List ℕ) → most_of c < length input → IsTooLarge c input
-too_long Check input l = l
-too_long Show input l = l
-too_long (Serve callers shards) input l = l
-too_long (Dump callers shards) input l = l
-too_long (Work requests start) input l = l
-too_long Ranges input l = l
-too_long (Trace callers shards) input l = l
-too_long Audit input l = inl l
-too_long (Clients callers shards) input l = l
-
--- where all of so few bytes is gone, so are one more than the most of them
-all_gone : (old new : Option (List ℕ)) (bytes : List ℕ) (most : ℕ) → IfSome old (λ all. bytes ≡ all) → IsAtEnd old new → length bytes ≤ most → LostFirst old new (most + 1)
-all_gone None new bytes most h end short = tt
-all_gone (Some all) new bytes most h end short =
-    let few : length all ≤ most + 1 = omega (arith, ap (λ (bs : List ℕ). length bs) h, short) in
-    end ∙ ap Some (sym (drop_all (most + 1) all few))
-
-untold : {X : Type 0} (o : Option X) → IfSome o (λ _. Unit {0})
-untold None = tt
-untold (Some x) = tt
-
-nothing_told : {S : Type 0} (reads : Bool) (s : Change S) → ToldBy reads s (λ bytes. Unit {0})
-nothing_told true s = untold (s.bytes s.old)
-nothing_told false s = λ bytes. tt
-
-nothing_held : {S O : Type 0} (c : Command) (s : Change S) (out : Change O) (status : Status) → Told (Some c) s (λ bytes. Holds (Some c) bytes out status None)
-nothing_held c s out status = nothing_told (is_reading (Some c)) s
-
--- nor were events written
-nothing_traced : {S O : Type 0} (c : Command) (s : Change S) (out : Change O) (status : Status) → is_reading (Some c) ≡ true → Told (Some c) s (λ bytes. WroteJournal (Some c) bytes out status None)
-nothing_traced c s out status reads = told_some c s (λ bytes. WroteJournal (Some c) bytes out status None) reads (if_some (λ all. Unit {0}) _ (s.bytes s.old) (λ bytes _ _ _. tt) (untold (s.bytes s.old)))
-
-unwritten : (s : Status) → s ≢ status.Fine → s ≢ status.WriteFault → false ≡ has_begun_writing s
-unwritten status.Fine f w = absurd (f refl)
-unwritten status.WriteFault f w = absurd (w refl)
-unwritten (status.Refused e) f w = refl
-unwritten status.Usage f w = refl
-unwritten status.NoMemory f w = refl
-unwritten status.ReadFault f w = refl
-
+-- ---- no hall
 and_false : (a b : Bool) → false ≡ b → false ≡ (a && b)
 and_false true b e = e
 and_false false b e = refl
 
-pub not_served : (c : Command) (s : Status) → s ≢ status.Fine → s ≢ status.WriteFault → false ≡ has_served (Some c) s
-not_served c s f w = and_false (is_serving c) (has_begun_writing s) (unwritten s f w)
+not_served : (c : Command) (s : Status) → false ≡ has_begun_writing s → false ≡ has_served (Some c) s
+not_served c s unwritten = and_false (is_serving c) (has_begun_writing s) unwritten
 
 -- where nothing is served, no hall is left
-pub not_opened : (c : Command) (bytes : List ℕ) (s : Status) → s ≢ status.Fine → s ≢ status.WriteFault → Opens (Some c) bytes s None
-not_opened c bytes s f w = and_false (has_ticket c (input_of c bytes)) (has_served (Some c) s) (not_served c s f w)
+none_opened : (c : Command) (bytes : List ℕ) (s : Status) → false ≡ has_served (Some c) s → Opens (Some c) bytes s None
+none_opened c bytes s none = and_false (has_ticket c (input_of c bytes)) (has_served (Some c) s) none
 
-none_opened : {S : Type 0} (c : Command) (source : Change S) (s : Status) → is_reading (Some c) ≡ true → s ≢ status.Fine → s ≢ status.WriteFault → Told (Some c) source (λ bytes. Opens (Some c) bytes s None)
-none_opened c source s reads f w = told_some c source (λ bytes. Opens (Some c) bytes s None) reads (if_some (λ all. Unit {0}) _ (source.bytes source.old) (λ bytes _. not_opened c bytes s f w) (untold (source.bytes source.old)))
+pub not_opened : (c : Command) (bytes : List ℕ) (s : Status) → false ≡ has_begun_writing s → Opens (Some c) bytes s None
+not_opened c bytes s unwritten = none_opened c bytes s (not_served c s unwritten)
 
+-- a reading that stopped has come to no output
+stopped_before : {I : Type 0} (most : ℕ) (source : Change I) (s : Status) → StoppedAs most source s → false ≡ has_begun_writing s
+stopped_before most source status.Fine h = absurd h.1
+stopped_before most source status.WriteFault h = absurd h.1
+stopped_before most source (status.Refused f) h = refl
+stopped_before most source status.Usage h = refl
+stopped_before most source status.NoMemory h = refl
+stopped_before most source status.ReadFault h = refl
+
+-- a run that serves nothing leaves no hall, and promises all that any run does
+pub without_hall : {I O : Type 0} (c : Command) (source : Change I) (out : Change O) (s : Status) → false ≡ has_served (Some c) s → RunsSingle (Some c) source out s → Runs (Some c) source out s None
+without_hall c source out s none r = record {
+  single = r;
+  served = λ _. none;
+  ticketed = told_always (is_reading (Some c)) source (λ bytes. Opens (Some c) bytes s None) (λ bytes. none_opened c bytes s none);
+  hall = told_always (is_reading (Some c)) source (λ bytes. Holds (Some c) bytes out s None) (λ bytes. tt);
+  traced = told_always (is_reading (Some c)) source (λ bytes. WroteJournal (Some c) bytes out s None) (λ bytes _ _. tt);
+}
+
+-- ---- a hall
 -- where a hall is opened whatever the input is, it is left exactly where the run came to its output
 ticket_always : (gathers ticket : Bool) → (if gathers then false else true) ≡ true → (if gathers then ticket else true) ≡ true
 ticket_always true ticket e = absurd (cc)
@@ -199,47 +62,16 @@ pub opened_always : (c : Command) (bytes : List ℕ) (s : Status) (closed : Opti
 opened_always c bytes s closed o e = o ∙ ap (λ (b : Bool). b && has_served (Some c) s) (has_ticket_always c (input_of c bytes) e)
 
 module _ {I O : Type 0} (c : Command) (reads : is_reading (Some c) ≡ true) (source : Change I) (out : Change O) where
-  unread_none : (s : Status) → is_reading (Some c) ≡ false → IsUntouched source × (s ≢ status.ReadFault)
-  unread_none s e = absurd (cc)
-
-  made_none : (s : Status) → is_reading (Some c) ≡ false → (fault : Fault) → s ≢ status.Refused fault
-  made_none s e = absurd (cc)
-
   -- reading stopped
   pub stopped_run : (s : Status) → StoppedAs (most_of c) source s → IsUntouched out → Runs (Some c) source out s None
-  stopped_run (status.Refused TooLarge) h same =
-      runs_of c source out None (status.Refused TooLarge) (record { usage = λ e. cc; read_fault = λ e. absurd (cc); read_well = λ _. h.1.2; written = record { write_fault = λ e. absurd (cc); written_well = λ e. absurd (cc); unwritten = λ _ _. same } })
-      (unread_none (status.Refused TooLarge)) (made_none (status.Refused TooLarge))
-      (told_some c source (λ bytes. Answered (Some c) bytes out (status.Refused TooLarge)) reads
-      (if_some (λ all. most_of c < length all) _ (source.bytes source.old) (λ bytes l. refused_answer c bytes out TooLarge (too_long c (input_of c bytes) (subst (λ (bs : List ℕ). most_of c < length bs) (sym (reading_input c bytes reads)) l))) h.1.0))
-      (λ _ e. absurd (cc)) (λ _ _. h.1.1) h.0 (λ _. not_served c (status.Refused TooLarge) (λ e. cc) (λ e. cc)) (none_opened c source (status.Refused TooLarge) reads (λ e. cc) (λ e. cc)) (nothing_held c source out (status.Refused TooLarge)) (nothing_traced c source out (status.Refused TooLarge) reads)
-  stopped_run (status.Refused f) h same = absurd h.1
-  stopped_run status.Fine h same = absurd h.1
-  stopped_run status.Usage h same = absurd h.1
-  stopped_run status.WriteFault h same = absurd h.1
-  stopped_run status.ReadFault h same =
-      runs_of c source out None status.ReadFault (record { usage = λ e. cc; read_fault = λ _. h.1; read_well = λ away. absurd (away refl); written = record { write_fault = λ e. absurd (cc); written_well = λ e. absurd (cc); unwritten = λ _ _. same } })
-      (unread_none status.ReadFault) (made_none status.ReadFault)
-      (told_some c source (λ bytes. Answered (Some c) bytes out status.ReadFault) reads
-      (if_some (λ all. Unit {0}) _ (source.bytes source.old) (λ bytes _. no_answer c bytes out status.ReadFault (λ e. cc) (λ f e. cc) (λ e. cc)) (untold (source.bytes source.old))))
-      (λ _ e. absurd (cc)) (λ _ e. absurd (cc)) h.0 (λ _. not_served c status.ReadFault (λ e. cc) (λ e. cc)) (none_opened c source status.ReadFault reads (λ e. cc) (λ e. cc)) (nothing_held c source out status.ReadFault) (nothing_traced c source out status.ReadFault reads)
-  stopped_run status.NoMemory h same =
-      runs_of c source out None status.NoMemory (record { usage = λ e. cc; read_fault = λ e. absurd (cc); read_well = λ _. h.1; written = record { write_fault = λ e. absurd (cc); written_well = λ e. absurd (cc); unwritten = λ _ _. same } })
-      (unread_none status.NoMemory) (made_none status.NoMemory)
-      (told_some c source (λ bytes. Answered (Some c) bytes out status.NoMemory) reads
-      (if_some (λ all. Unit {0}) _ (source.bytes source.old) (λ bytes _. no_answer c bytes out status.NoMemory (λ e. cc) (λ f e. cc) (λ e. cc)) (untold (source.bytes source.old))))
-      (λ _ e. absurd (cc)) (λ _ e. absurd (cc)) h.0 (λ _. not_served c status.NoMemory (λ e. cc) (λ e. cc)) (none_opened c source status.NoMemory reads (λ e. cc) (λ e. cc)) (nothing_held c source out status.NoMemory) (nothing_traced c source out status.NoMemory reads)
+  stopped_run s h same = without_hall c source out s (not_served c s (stopped_before (most_of c) source s h)) (single.stopped_run c reads source out s h same)
 
   -- all was read, and answered
   pub read_run : (bytes : List ℕ) (s : Status) (closed : Option ClosedView) → HasRead (most_of c) source bytes → AnswersTo c bytes out s closed → Runs (Some c) source out s closed
-  read_run bytes s closed h a =
-      runs_of c source out closed s (record { usage = a.usage; read_fault = λ e. absurd (a.read_fault e); read_well = λ _. h.well; written = a.written })
-      (unread_none s) (made_none s)
-      (told_some c source (λ bs. Answered (Some c) bs out s) reads (if_some (λ all. bytes ≡ all) _ (source.bytes source.old) (λ all e. subst (λ bs. Answered (Some c) bs out s) e a.answered) h.all))
-      (λ _ _. h.end)
-      (λ _ e. all_gone (source.bytes source.old) (source.bytes source.new) bytes (most_of c) h.all h.end h.short)
-      h.lost
-      (opened_always c bytes s closed a.served)
-      (told_some c source (λ bs. Opens (Some c) bs s closed) reads (if_some (λ all. bytes ≡ all) _ (source.bytes source.old) (λ all e. subst (λ bs. Opens (Some c) bs s closed) e a.served) h.all))
-      (told_some c source (λ bs. Holds (Some c) bs out s closed) reads (if_some (λ all. bytes ≡ all) _ (source.bytes source.old) (λ all e. subst (λ bs. Holds (Some c) bs out s closed) e a.hall) h.all))
-      (told_some c source (λ bs. WroteJournal (Some c) bs out s closed) reads (if_some (λ all. bytes ≡ all) _ (source.bytes source.old) (λ all e. subst (λ bs. WroteJournal (Some c) bs out s closed) e a.traced) h.all))
+  read_run bytes s closed h a = record {
+    single = single.read_run c reads source out bytes s h a.single;
+    served = opened_always c bytes s closed a.served;
+    ticketed = told_read c source (λ bs. Opens (Some c) bs s closed) (most_of c) bytes reads h a.served;
+    hall = told_read c source (λ bs. Holds (Some c) bs out s closed) (most_of c) bytes reads h a.hall;
+    traced = told_read c source (λ bs. WroteJournal (Some c) bs out s closed) (most_of c) bytes reads h a.traced;
+  }

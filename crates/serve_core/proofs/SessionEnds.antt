@@ -39,9 +39,11 @@ use Rattle.serve_core.specs.declared.writing.Writing.TheVariants.{AtEnd, Replies
 use Rattle.serve_core.specs.declared.writing.Writing.{Writing}
 use Rattle.serve_core.specs.Commands.{has_begun_writing}
 use Rattle.serve_core.specs.Runs.{AnswersTo, IsLeft, IsServedThrough, Opens, WroteJournal}
-use Rattle.serve_core.specs.Serving.{AreFinal, EndsBy, EndsServed, EndsSession, HasLeft, HasServed, final_lists, status_of, text_of}
+use Rattle.serve_core.specs.Serving.{AreFinal, EndsServed, EndsSession, HasLeft, HasServed, final_lists, text_of}
+use Rattle.serve_single.specs.Serving.{EndsBy, status_of}
 use Rattle.serve_core.proofs.CallLemmas.{calls_done}
-use Rattle.serve_core.proofs.EndLemmas.{begins, ends_to, input_reason, reason_to, serves_one, session_input}
+use Rattle.serve_core.proofs.EndLemmas.{begins, ends_to, reason_to}
+use Rattle.serve_single.proofs.EndLemmas.{input_reason, serves_one, session_input}
 use Rattle.serve_core.proofs.FinalLemmas.{final_tables}
 use Rattle.serve_core.proofs.TraceLemmas.{accepted_done}
 

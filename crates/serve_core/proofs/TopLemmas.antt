@@ -1,34 +1,29 @@
 -- Whole runs, from what their parts say.
-use Rattle.std.proofs.Common.{◌≡◌, ℕ, ◌+◌, ◌≤◌, ◌⊎◌, inl, inr, Bool, true, false, List, [], ap, Option, Some, None, IfSome, refl, sym, subst, arith}
+use Rattle.std.proofs.Common.{◌≡◌, ℕ, ◌+◌, ◌≤◌, true, List, [], ap, Option, Some, None, IfSome, refl, sym, subst, arith}
 use Rattle.session_values.specs.Limits.{max_input, max_requests}
-use Rattle.byte_ends.specs.Ends.{Counted, Grew, GrewByFront, LostAtMost}
+use Rattle.byte_ends.specs.Ends.{LostAtMost}
 use Rattle.session_hall.specs.Closings.{ClosedView}
 use Rattle.serve_words.specs.declared.command.Command.{Command}
-use Rattle.serve_words.specs.declared.command.Command.TheVariants.{Work, Ranges, Audit}
+use Rattle.serve_words.specs.declared.command.Command.TheVariants.{Work}
 use Rattle.serve_words.specs.Commands.{IsWithinBounds}
 use Rattle.serve_faults.specs.declared.status.Status.{Status}
 use Rattle.serve_faults.specs.declared.status.Status.TheVariants as status
 use Rattle.serve_faults.specs.Commands.{is_reading}
-use Rattle.serve_faults.specs.Changes.{Change, Failed, IsUntouched, Took, TookFront}
-use Rattle.serve_faults.specs.Input.{max_audit_input, most_of}
+use Rattle.serve_faults.specs.Changes.{Change, IsUntouched}
+use Rattle.serve_faults.specs.Input.{most_of}
 use Rattle.made_sessions.proofs.MadeSession.{unrefused}
 use Rattle.serve_core.specs.declared.asked.Writes.{Writes}
 use Rattle.serve_core.specs.declared.asked.Writes.TheVariants.{ClientReplies, Events, Replies, Tables}
 use Rattle.serve_core.specs.Commands.{command_for}
-use Rattle.serve_core.specs.Runs.{Runs}
-use Rattle.serve_core.specs.Runs.{AnswersTo}
-use Rattle.serve_faults.specs.Ways.{HasRead, StoppedAs, describing}
-use Rattle.serve_core.proofs.RunLemmas.{opened_always, runs_of, read_run, stopped_run}
+use Rattle.serve_core.specs.Runs.{AnswersTo, Runs}
+use Rattle.serve_faults.specs.Ways.{HasRead, StoppedAs}
+use Rattle.serve_core.proofs.RunLemmas.{opened_always, read_run, stopped_run}
+use Rattle.serve_single.proofs.RunLemmas.{runs_of}
 
 -- a source that isn't touched has lost nothing
 nothing_lost : (o p : Option (List ℕ)) (most : ℕ) → p ≡ o → LostAtMost o p (most + 1)
 nothing_lost None p most e = tt
 nothing_lost (Some bytes) p most e = (0, omega arith, omega arith, e)
-
--- all of a line was written, or a write failed
-pub told_line : {S : Type 0} (c : Change S) (text line : List ℕ) → text ≡ line → (b : Bool) → Counted b (c.faults c.old) (c.faults c.new) → (b ≡ true → Grew (c.bytes c.old) (c.bytes c.new) text) → (b ≡ false → GrewByFront (c.bytes c.old) (c.bytes c.new) text) → Took c line ⊎ Failed c × TookFront c line
-told_line c text line is true counted all front = inl (counted.0 refl, subst (Grew (c.bytes c.old) (c.bytes c.new)) is (all refl))
-told_line c text line is false counted all front = inr (counted.1 refl, subst (GrewByFront (c.bytes c.old) (c.bytes c.new)) is (front refl))
 
 -- the words of `work` are within their bounds
 pub few_requests : (o : Option Command) (requests start : ℕ) → o ≡ Some (Work requests start) → IfSome o IsWithinBounds → requests ≤ max_requests
@@ -44,18 +39,20 @@ module _ {I O : Type 0} (source : Change I) (out : Change O) where
   -- the words are no command line
   pub usage_run : IsUntouched source → IsUntouched out → Runs None source out status.Usage None
   usage_run still same = record {
-    usage = (λ e. refl, λ e. refl);
-    unread = λ e. (still, λ x. cc);
-    made = λ e f x. cc;
-    answered = λ bytes. record { fine = λ e. absurd (cc); refused = λ f e. absurd (cc); front = λ e. absurd (cc) };
-    refusing = λ bytes f h ok. absurd h;
-    complete = λ e. absurd (cc);
-    read_fault = λ e. absurd (cc);
-    read_well = λ _. same_faults still;
-    written = record { write_fault = λ e. absurd (cc); written_well = λ e. absurd (cc); unwritten = λ _ _. same };
-    end = λ e. absurd (cc);
-    gone = λ e. absurd (cc);
-    lost = nothing_lost (source.bytes source.old) (source.bytes source.new) 0 (same_bytes still);
+    single = record {
+      usage = (λ e. refl, λ e. refl);
+      unread = λ e. (still, λ x. cc);
+      made = λ e f x. cc;
+      answered = λ bytes. record { fine = λ e. absurd (cc); refused = λ f e. absurd (cc); front = λ e. absurd (cc) };
+      refusing = λ bytes f h ok. absurd h;
+      complete = λ e. absurd (cc);
+      read_fault = λ e. absurd (cc);
+      read_well = λ _. same_faults still;
+      written = record { write_fault = λ e. absurd (cc); written_well = λ e. absurd (cc); unwritten = λ _ _. same };
+      end = λ e. absurd (cc);
+      gone = λ e. absurd (cc);
+      lost = nothing_lost (source.bytes source.old) (source.bytes source.new) 0 (same_bytes still);
+    };
     served = λ e. refl;
     ticketed = λ bytes. refl;
     hall = λ bytes. tt;
@@ -65,33 +62,22 @@ module _ {I O : Type 0} (source : Change I) (out : Change O) where
   -- a made session
   pub work_run : (requests start : ℕ) → requests ≤ max_requests → (s : Status) (closed : Option ClosedView) → IsUntouched source → ((bytes : List ℕ) → AnswersTo (Work requests start) bytes out s closed) → Runs (Some (Work requests start)) source out s closed
   work_run requests start few s closed still a =
-      let one = a [] in
-      runs_of (Work requests start) source out closed s (record { usage = one.usage; read_fault = λ e. absurd (one.read_fault e); read_well = λ _. same_faults still; written = one.written })
-      (λ e. (still, one.read_fault))
-      (λ e fault is. unrefused requests start few fault (one.answered.refused fault is))
-      (λ bytes. (a bytes).answered)
-      (λ e. absurd (cc))
-      (λ e. absurd (cc))
-      (nothing_lost (source.bytes source.old) (source.bytes source.new) max_input (same_bytes still))
-      (opened_always (Work requests start) [] s closed one.served)
-      (λ bytes. (a bytes).served)
-      (λ bytes. (a bytes).hall)
-      (λ bytes. (a bytes).traced)
+      let one = (a []).single in
+      record {
+        single = runs_of (Work requests start) source out s (record { usage = one.usage; read_fault = λ e. absurd (one.read_fault e); read_well = λ _. same_faults still; written = one.written })
+            (λ e. (still, one.read_fault))
+            (λ e fault is. unrefused requests start few fault (one.answered.refused fault is))
+            (λ bytes. (a bytes).single.answered)
+            (λ e. absurd (cc))
+            (λ e. absurd (cc))
+            (nothing_lost (source.bytes source.old) (source.bytes source.new) max_input (same_bytes still));
+        served = opened_always (Work requests start) [] s closed (a []).served;
+        ticketed = λ bytes. (a bytes).served;
+        hall = λ bytes. (a bytes).hall;
+        traced = λ bytes. (a bytes).traced;
+      }
 
-  describing_reads : (shown : Bool) → is_reading (Some (describing shown)) ≡ true
-  describing_reads true = refl
-  describing_reads false = refl
-
-  describing_most : (shown : Bool) → most_of (describing shown) ≡ max_input
-  describing_most true = refl
-  describing_most false = refl
-
-  pub described_run : (shown : Bool) (bytes : List ℕ) (s : Status) → HasRead max_input source bytes → AnswersTo (describing shown) bytes out s None → Runs (Some (describing shown)) source out s None
-  described_run shown bytes s h a = read_run (describing shown) (describing_reads shown) source out bytes s None (subst (λ (n : ℕ). HasRead n source bytes) (sym (describing_most shown)) h) a
-
-  pub undescribed_run : (shown : Bool) (s : Status) → StoppedAs max_input source s → IsUntouched out → Runs (Some (describing shown)) source out s None
-  undescribed_run shown s h same = stopped_run (describing shown) (describing_reads shown) source out s (subst (λ (n : ℕ). StoppedAs n source s) (sym (describing_most shown)) h) same
-
+  -- ---- commands that serve what they read
   serving_reads : (w : Writes) (callers shards : ℕ) → is_reading (Some (command_for w callers shards)) ≡ true
   serving_reads Replies callers shards = refl
   serving_reads Tables callers shards = refl
@@ -109,15 +95,3 @@ module _ {I O : Type 0} (source : Change I) (out : Change O) where
 
   pub unserved_run : (w : Writes) (callers shards : ℕ) (s : Status) → StoppedAs max_input source s → IsUntouched out → Runs (Some (command_for w callers shards)) source out s None
   unserved_run w callers shards s h same = stopped_run (command_for w callers shards) (serving_reads w callers shards) source out s (subst (λ (n : ℕ). StoppedAs n source s) (sym (serving_most w callers shards)) h) same
-
-  pub ranged_run : (bytes : List ℕ) (s : Status) → HasRead max_input source bytes → AnswersTo Ranges bytes out s None → Runs (Some Ranges) source out s None
-  ranged_run bytes s h a = read_run Ranges refl source out bytes s None h a
-
-  pub unranged_run : (s : Status) → StoppedAs max_input source s → IsUntouched out → Runs (Some Ranges) source out s None
-  unranged_run s h same = stopped_run Ranges refl source out s h same
-
-  pub audited_run : (bytes : List ℕ) (s : Status) → HasRead max_audit_input source bytes → AnswersTo Audit bytes out s None → Runs (Some Audit) source out s None
-  audited_run bytes s h a = read_run Audit refl source out bytes s None h a
-
-  pub unaudited_run : (s : Status) → StoppedAs max_audit_input source s → IsUntouched out → Runs (Some Audit) source out s None
-  unaudited_run s h same = stopped_run Audit refl source out s h same

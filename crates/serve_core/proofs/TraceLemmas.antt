@@ -20,15 +20,8 @@ use Rattle.trace_rules.proofs.Bare.{accepted as bare_accepted}
 use Rattle.trace_audit.proofs.FromBook.{accepted as from_book}
 use Rattle.trace_lines.specs.Bounds.{IsHeldEvent}
 use Rattle.trace_lines.proofs.Told.{known_symbols}
-use Rattle.serve_faults.proofs.SymbolTexts.{handler_symbols, row_symbols}
-use Rattle.serve_faults.specs.Input.{Parts}
-use Rattle.serve_faults.specs.Session.{all_names_of, handler_names_of, opening_names_of, rows_of, table_rows_of}
 use Rattle.serve_faults.specs.Traced.{CanBeTold}
 use Rattle.serve_faults.proofs.ToldEvents.{can_be_told}
-
--- each text of a session's names is a symbol's
-pub names_symbols : (parts : Parts) → AllByRecursion (λ (t : List ℕ). is_symbol t ≡ true) (all_names_of parts)
-names_symbols parts = (row_symbols (opening_names_of parts) (rows_of parts) (row_symbols (handler_names_of parts) (table_rows_of parts) (handler_symbols parts.handlers))).each
 
 -- ---- what a closed hall served is accepted
 

@@ -12,7 +12,7 @@ use Rattle.serve_faults.specs.declared.status.Status.TheVariants as status
 use Rattle.serve_faults.specs.Changes.{Change, Failed, IsUntouched, Took, TookFront}
 use Rattle.serve_reading.specs.Clients.{joined}
 use Rattle.serve_reading.specs.declared.clients.LoadedClients.{LoadedClients}
-use Rattle.serve_core.specs.Serving.{CanServe}
+use Rattle.serve_single.specs.Serving.{CanServe}
 
 -- the session of all clients' requests can be served, and its tables have room for what calls add
 pub record CanServeClients (l : LoadedClients) : Type 0 where

@@ -1,4 +1,3 @@
-pub mod Auditing
 pub mod Commands
 pub mod Runs
 pub mod Serving

@@ -1,6 +1,6 @@
--- What a run promises, over its command, its input, its outputs and how it ended.
-use Rattle.std.specs.Prelude.{◌≡◌, ◌≢◌, ◌+◌, ◌⊎◌, ◌↔◌, ℕ, Bool, ◌&&◌, true, false, is_some, List, length, sum, Option, Some, None, IfSome}
-use Rattle.byte_ends.specs.Ends.{IsAtEnd, LostFirst, LostAtMost}
+-- What a run promises, over its command, its input, its outputs, how it ended and the hall that it
+-- leaves.
+use Rattle.std.specs.Prelude.{◌≡◌, ℕ, Bool, ◌&&◌, true, false, is_some, List, length, sum, Option, Some, None, IfSome}
 use Rattle.serve_words.specs.declared.command.Command.{Command}
 use Rattle.client_sheet.specs.declared.arrival.Arrival.{Arrival}
 use Rattle.client_sheet.specs.Arrivals.{IsDrawn}
@@ -11,62 +11,17 @@ use Rattle.session_journal.specs.Script.{Meaning, session_of}
 use Rattle.session_hall.specs.Closings.{ClosedView, IsDone}
 use Rattle.serve_faults.specs.Language.{File}
 use Rattle.handler_machine.specs.Scripts.{meaning}
-use Rattle.serve_faults.specs.declared.status.Fault.{Fault}
-use Rattle.serve_faults.specs.declared.status.Fault.TheVariants.{TooLarge}
 use Rattle.serve_faults.specs.declared.status.Status.{Status}
 use Rattle.serve_faults.specs.declared.status.Status.TheVariants as status
-use Rattle.serve_faults.specs.Answer.{CommandAnswers, IsUnrefused}
-use Rattle.serve_faults.specs.Answer as answer
 use Rattle.serve_faults.specs.Clients.{client_counts}
-use Rattle.serve_faults.specs.Changes.{Change, Failed, HasNotFailed, IsUntouched, Took, TookFront}
-use Rattle.serve_faults.specs.Commands.{callers_of, input_of, is_reading, shards_of}
-use Rattle.serve_faults.specs.Input.{Parts, client_parts, most_of, parts_of}
+use Rattle.serve_faults.specs.Changes.{Change, Took, TookFront}
+use Rattle.serve_faults.specs.Commands.{callers_of, input_of, shards_of}
+use Rattle.serve_faults.specs.Input.{Parts, client_parts, parts_of}
 use Rattle.serve_faults.specs.Session.{IsSession, opened_of, requests_of, session_of_parts}
 use Rattle.serve_faults.specs.Traced.{traced_text}
-use Rattle.serve_faults.specs.Message.{message_of}
-use Rattle.serve_core.specs.Commands.{Told, has_begun_writing, has_served, has_ticket, is_gathering, opens_always, writes_events}
+use Rattle.serve_single.specs.Runs.{AnswersSingle, RunsSingle, Told}
+use Rattle.serve_core.specs.Commands.{has_begun_writing, has_served, has_ticket, is_gathering, opens_always, writes_events}
 use Rattle.serve_core.specs.Replied.{text_of_arrivals}
-
--- ---- what is read
-
--- whether a run that reads, and that ended so, had read its source to the end
-abbrev pub has_read_all : Status → Bool
-has_read_all status.Fine = true
-has_read_all (status.Refused TooLarge) = false
-has_read_all (status.Refused fault) = true
-has_read_all status.Usage = false
-has_read_all status.NoMemory = false
-has_read_all status.ReadFault = false
-has_read_all status.WriteFault = true
-
--- the most bytes of the input of a command, if there is one
-abbrev pub most_read : Option Command → ℕ
-most_read None = 0
-most_read (Some command) = most_of command
-
--- ---- what is answered and written
-
--- what an input is answered with, and what of the answer was written
-pub record Answered {O : Type 0} (command : Option Command) (bytes : List ℕ) (out : Change O)
-    (s : Status) : Type 0 where
-  -- Where a run ends well, the command's text was written.
-  pub fine : s ≡ status.Fine
-      → (text : List ℕ) × CommandAnswers command bytes (answer.Text text) × Took out text
-  -- A refusal is the first broken rule.
-  pub refused : (fault : Fault) → s ≡ status.Refused fault
-      → CommandAnswers command bytes (answer.Refused fault)
-  -- What was written before the sink failed is a front of the text.
-  pub front : s ≡ status.WriteFault
-      → (text : List ℕ) × CommandAnswers command bytes (answer.Text text) × TookFront out text
-
--- what becomes of the output
-pub record Written {O : Type 0} (out : Change O) (s : Status) : Type 0 where
-  -- One write failed, and none was tried after it.
-  pub write_fault : s ≡ status.WriteFault → Failed out
-  -- Where a run ends well, none failed.
-  pub written_well : s ≡ status.Fine → HasNotFailed out
-  -- With any other status than these two nothing is written.
-  pub unwritten : s ≢ status.Fine → s ≢ status.WriteFault → IsUntouched out
 
 -- ---- the hall through which was served
 
@@ -157,10 +112,7 @@ WroteJournal (Some command) bytes out s closed = writes_events command ≡ true
 -- what a command answers to an input, and with which hall
 pub record AnswersTo {O : Type 0} (command : Command) (bytes : List ℕ) (out : Change O) (s : Status)
     (closed : Option ClosedView) : Type 0 where
-  pub usage : s ≢ status.Usage
-  pub read_fault : s ≢ status.ReadFault
-  pub answered : Answered (Some command) bytes out s
-  pub written : Written out s
+  pub single : AnswersSingle command bytes out s
   pub served : Opens (Some command) bytes s closed
   pub hall : Holds (Some command) bytes out s closed
   pub traced : WroteJournal (Some command) bytes out s closed
@@ -168,34 +120,10 @@ pub record AnswersTo {O : Type 0} (command : Command) (bytes : List ℕ) (out : 
 -- A run of a command, or of no command where the words are none.
 pub record Runs {I O : Type 0} (command : Option Command) (source : Change I) (out : Change O)
     (s : Status) (closed : Option ClosedView) : Type 0 where
-  -- Usage comes exactly where the words are no command line.
-  pub usage : (s ≡ status.Usage) ↔ (is_some command ≡ false)
-  -- Without a command, and for `work`, nothing is read.
-  pub unread : is_reading command ≡ false → IsUntouched source × (s ≢ status.ReadFault)
-  -- And nothing is refused: the session that `work` makes breaks no rule.
-  pub made : is_reading command ≡ false → (fault : Fault) → s ≢ status.Refused fault
-  -- The text, the refusal, or a front of the text: its clauses are `fine`, `refused` and `front`.
-  pub answered : Told command source (λ bytes. Answered command bytes out s)
-  -- The first broken rule is refused, unless a read fails or memory runs out.
-  pub refusing : Told command source (λ bytes. (fault : Fault)
-      → CommandAnswers command bytes (answer.Refused fault)
-      → (Failed source → ⊥) → (s ≡ status.Refused fault) ⊎ (s ≡ status.NoMemory))
-  -- Where no rule is broken, and neither the source nor the sink fails, a command ends well or
-  -- wants memory.
-  pub complete : is_some command ≡ true → Told command source (λ bytes. IsUnrefused command bytes
-      → (Failed source → ⊥) → (Failed out → ⊥) → (s ≡ status.Fine) ⊎ (s ≡ status.NoMemory))
-  -- One read failed, and none was tried after it; with any other status none failed.
-  pub read_fault : s ≡ status.ReadFault → Failed source
-  pub read_well : s ≢ status.ReadFault → HasNotFailed source
-  -- Its clauses are `write_fault`, `written_well` and `unwritten`.
-  pub written : Written out s
-  -- The source was read to its end, or up to the first byte that is too many; never further.
-  pub end : is_reading command ≡ true → has_read_all s ≡ true
-      → IsAtEnd (source.bytes source.old) (source.bytes source.new)
-  pub gone : is_reading command ≡ true → s ≡ status.Refused TooLarge
-      → LostFirst (source.bytes source.old) (source.bytes source.new) (most_read command + 1)
-  pub lost : LostAtMost (source.bytes source.old) (source.bytes source.new)
-      (most_read command + 1)
+  -- All that is promised of any run, with a hall or without. Its clauses are `usage`, `unread` and
+  -- `made`; `answered`, `refusing` and `complete`; `read_fault`, `read_well` and `written`; `end`,
+  -- `gone` and `lost`.
+  pub single : RunsSingle command source out s
   -- `serve`, `dump`, `work` and `trace` leave a closed hall exactly where they end well or the sink
   -- fails, and `clients` does so where there is a request.
   pub served : opens_always command ≡ true → is_some closed ≡ has_served command s
@@ -204,10 +132,3 @@ pub record Runs {I O : Type 0} (command : Option Command) (source : Change I) (o
   pub hall : Told command source (λ bytes. Holds command bytes out s closed)
   -- What `trace` writes are the events of the journal of that hall.
   pub traced : Told command source (λ bytes. WroteJournal command bytes out s closed)
-
--- The line on the error output is the status's and no write of it failed; or a write failed, none was
--- tried after it, and a front of the line stands there.
-pub record Tells {E : Type 0} (err : Change E) (s : Status) : Type 0 where
-  pub line : Took err (message_of s) ⊎ Failed err × TookFront err (message_of s)
-  -- A run that ends well writes none.
-  pub quiet : s ≡ status.Fine → IsUntouched err

@@ -1,61 +1,36 @@
--- What serving a session file promises. This crate's functions and those of plain_serving cite it.
-use Rattle.std.specs.Prelude.{◌≡◌, ℕ, zero, suc, ◌+◌, ◌*◌, ◌<◌, ◌≤◌, List, [], ◌∷◌, length, true, Option, Some, None}
+-- What serving a session file through a hall promises. Only this crate's own functions cite it.
+use Rattle.std.specs.Prelude.{◌≡◌, ℕ, zero, suc, ◌+◌, ◌*◌, ◌<◌, ◌≤◌, List, [], ◌∷◌, length, Option, Some, None}
 use Rattle.std.specs.List.{AllByRecursion}
 use Rattle.session_values.specs.Limits.{max_callers, max_requests}
 use Rattle.session_values.specs.ReplyText.{reply_text}
 use Rattle.session_journal.specs.Journal.{done_operations}
-use Rattle.session_journal.specs.Opening.{Pair, IsOpening, entries_of}
+use Rattle.session_journal.specs.Opening.{Pair, entries_of}
 use Rattle.session_journal.specs.Script.{Meaning, room, session_of}
 use Rattle.session_hall.specs.Closings.{ClosedView, IsDone}
 use Rattle.session_hall.specs.Listings.{AreLeft, listed}
-use Rattle.handler_check.specs.Checking.{IsAccepted}
-use Rattle.handler_check.specs.Resolved.{shape_of}
-use Rattle.serve_faults.specs.Language.{File, IsNamedFile}
-use Rattle.handler_machine.specs.Scripts.{ScriptsView, meaning}
-use Rattle.request_files.specs.Requests.{ArePrintable}
-use Rattle.request_files.specs.Servable.{IsServable}
+use Rattle.serve_faults.specs.Language.{File}
+use Rattle.handler_machine.specs.Scripts.{meaning}
 use Rattle.reply_sheet.specs.Printable.{ArePrintableReplies}
 use Rattle.table_text.specs.Dumped.{CanDumpAll, HaveRoom, dump_text}
-use Rattle.serve_faults.specs.TableRows.{ArePrintable as ArePrintableEntries}
 use Rattle.serve_made.specs.Summary.{summary}
 use Rattle.serve_faults.specs.declared.status.Status.{Status}
 use Rattle.serve_faults.specs.declared.status.Status.TheVariants as status
 use Rattle.serve_faults.specs.Input.{Parts, parts_of}
-use Rattle.serve_faults.specs.Changes.{Change, Failed, IsUntouched, Took, TookFront}
+use Rattle.serve_faults.specs.Changes.{Change, IsUntouched}
 use Rattle.serve_faults.specs.Session.{IsSession, all_names_of, session_of_parts}
 use Rattle.serve_faults.specs.Traced.{CanBeTold, table_places}
-use Rattle.request_files.specs.Values.{is_symbol}
 use Rattle.trace_lines.specs.Bounds.{IsHeldEvent}
 use Rattle.trace_lines.specs.EventText.{trace_text}
 use Rattle.serve_reading.specs.Reasons.{IsInputReason}
 use Rattle.serve_reading.specs.Sessions.{IsSessionInput}
 use Rattle.serve_reading.specs.declared.session.Loaded.{Loaded}
 use Rattle.serve_reading.specs.declared.unserved.Unserved.{Unserved}
-use Rattle.serve_reading.specs.declared.unserved.Unserved.TheVariants.{Refused, NoMemory}
+use Rattle.serve_single.specs.Serving.{EndsBy, script_of_loaded, status_of}
 use Rattle.serve_core.specs.Runs.{script_of_session}
 use Rattle.serve_core.specs.declared.writing.Writing.{Writing}
 use Rattle.serve_core.specs.declared.writing.Writing.TheVariants.{AtEnd, Replies}
 use Rattle.serve_core.specs.declared.writing.Later.{Later}
 use Rattle.serve_core.specs.declared.writing.Later.TheVariants.{Events, Summary, Tables}
-
--- the script of what was loaded
-abbrev pub script_of_loaded : Loaded → ScriptsView
-script_of_loaded l = record {
-  program = l.program;
-  opening = l.opening;
-  requests = l.requests;
-}
-
--- its tables can open, its requests can be served, and its symbols have texts that a line has room
--- for
-pub record CanServe (l : Loaded) : Type 0 where
-  pub accepted : IsAccepted l.program.file
-  pub opens : IsOpening (shape_of l.program.file) l.opening
-  pub servable : IsServable l.program.file l.requests
-  pub named : IsNamedFile l.names l.program.file
-  pub printable_opening : ArePrintableEntries l.names l.opening
-  pub printable : ArePrintable l.names l.requests
-  pub symbols : AllByRecursion (λ text. is_symbol text ≡ true) l.names
 
 -- ---- what a closed hall leaves
 
@@ -123,29 +98,6 @@ pub record HasServed (parts : Parts) (callers shards : ℕ) (names : List (List 
   pub callers_are : d.callers ≡ callers
   pub shards_are : d.shards ≡ shards
   pub names_are : names ≡ all_names_of parts
-
--- how a run ends that serves nothing
-abbrev pub status_of : Unserved → Status
-status_of NoMemory = status.NoMemory
-status_of (Refused e) = status.Refused e
-
--- the text was written, or a front of it where the sink failed
-abbrev pub EndsBy : {O : Type 0} → List ℕ → Change O → Status → Type 0
-EndsBy text out status.Fine = Took out text
-EndsBy text out status.WriteFault = Failed out × TookFront out text
-EndsBy text out (status.Refused e) = ⊥
-EndsBy text out status.Usage = ⊥
-EndsBy text out status.NoMemory = ⊥
-EndsBy text out status.ReadFault = ⊥
-
--- the same, where memory may have run out before anything was written
-abbrev pub EndsOrWants : {O : Type 0} → List ℕ → Change O → Status → Type 0
-EndsOrWants text out status.Fine = Took out text
-EndsOrWants text out status.WriteFault = Failed out × TookFront out text
-EndsOrWants text out status.NoMemory = IsUntouched out
-EndsOrWants text out (status.Refused e) = ⊥
-EndsOrWants text out status.Usage = ⊥
-EndsOrWants text out status.ReadFault = ⊥
 
 -- what is written of a session that was served: its replies, how many operations it made and how many
 -- bytes its replies take, its final tables, or its events

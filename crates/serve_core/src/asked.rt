@@ -1,6 +1,6 @@
 // What a command asks for that serves a session file.
 
-use crate::sizes::Sizes;
+use hall_serving::Sizes;
 
 /// What a command that serves a session file writes of it.
 #[derive(Clone, Copy, Debug)]

@@ -9,13 +9,13 @@ ghost use Rattle.serve_core.specs.Arriving.{CanServeClients, EndsClients};
 ghost use Rattle.serve_core.specs.Runs.{AnswersTo};
 
 use crate::outcome::{Outcome, unserved};
-use crate::sessions::ended;
-use crate::sizes::Sizes;
 use byte_ends::{Sink, WriteBuffer};
-use client_rounds::{Served, serve_clients};
+use client_rounds::{Resources, Served, Workload, serve_clients};
 use client_sheet::write_clients;
+use hall_serving::Sizes;
 use serve_faults::Status;
 use serve_reading::{LoadedClients, load_clients};
+use serve_single::ended;
 use std::alloc::Global;
 use std::sync::Wait;
 use std::thread::Threads;
@@ -58,16 +58,13 @@ fn gather_loaded<R: Threads + Wait + Sync, O: Sink, G: Gate + Sync>(
     let Ok(mut buffer) = WriteBuffer::new(alloc) else {
         return unserved(Status::NoMemory);
     };
-    match serve_clients(
-        rt,
-        alloc,
-        &loaded.program,
-        &loaded.opening,
-        &loaded.clients,
-        sizes.callers,
-        sizes.shards,
-        gate,
-    ) {
+    let by = Resources { rt, alloc, gate };
+    let work = Workload {
+        program: &loaded.program,
+        opening: &loaded.opening,
+        clients: &loaded.clients,
+    };
+    match serve_clients(&by, &work, sizes) {
         Ok(served) => write_served(loaded, sizes, served, &mut buffer, out),
         Err(_) => unserved(Status::NoMemory),
     }

@@ -4,24 +4,21 @@
 #![tactic(auto)]
 
 mod asked;
-mod auditing;
-mod checking;
 mod counting;
 mod final_tables;
 mod gathering;
 mod lines;
 mod outcome;
-mod ranging;
 mod served;
 mod serving;
 mod sessions;
-mod sizes;
 mod top;
 mod working;
 mod writing;
 
-pub use byte_ends::{Got, MemorySink, MemorySource, Put, Sink, Source, SureSink, SureSource};
 pub use outcome::Outcome;
-pub use serve_faults::{Fault, Status};
-pub use sessions::ended;
-pub use top::{audit, describe, ranges, run, tell};
+pub use serve_single::{
+    Fault, Got, MemorySink, MemorySource, Put, Sink, Source, Status, SureSink, SureSource, audit,
+    describe, ended, ranges, tell,
+};
+pub use top::run;

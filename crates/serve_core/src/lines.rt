@@ -7,11 +7,12 @@ ghost use Rattle.handler_machine.specs.Scripts.{meaning};
 ghost use Rattle.reply_sheet.specs.Printable.{ArePrintableReplies};
 ghost use Rattle.serve_faults.specs.Changes.{change};
 ghost use Rattle.serve_core.specs.declared.writing.Writing.TheVariants.{Replies};
-ghost use Rattle.serve_core.specs.Serving.{CanServe, EndsAsServed, EndsLoaded, script_of_loaded};
+ghost use Rattle.serve_single.specs.Serving.{CanServe, script_of_loaded};
+ghost use Rattle.serve_core.specs.Serving.{EndsAsServed, EndsLoaded};
 
 use crate::outcome::{Outcome, unserved};
-use crate::sizes::Sizes;
 use byte_ends::Sink;
+use hall_serving::Sizes;
 use hall_writing::{WritingSession, open_writing, serve_and_write};
 use handler_machine::Scripts;
 use serve_faults::Status;
@@ -48,7 +49,7 @@ fn open_lines<'a>(
     let script = Scripts::over(&loaded.program, &loaded.opening, &loaded.requests);
     let plan = Scripts::over(&loaded.program, &loaded.opening, &loaded.requests);
     let shape = plan.shape(alloc)?;
-    let session = open_writing(alloc, script, shape.as_slice(), sizes.shards, sizes.callers)?;
+    let session = open_writing(alloc, script, shape.as_slice(), sizes)?;
     Ok(ReadyLines { session, plan })
 }
 

@@ -6,12 +6,12 @@ ghost use Rattle.session_journal.specs.Opening.{entries_of};
 ghost use Rattle.session_journal.specs.Script.{room};
 ghost use Rattle.handler_machine.specs.Scripts.{meaning};
 ghost use Rattle.serve_faults.specs.Traced.{table_places};
-ghost use Rattle.serve_core.specs.Serving.{CanServe, HasRoom, script_of_loaded};
+ghost use Rattle.serve_single.specs.Serving.{CanServe, script_of_loaded};
+ghost use Rattle.serve_core.specs.Serving.{HasRoom};
 
-use crate::sizes::Sizes;
 use crate::writing::Later;
 use byte_ends::WriteBuffer;
-use hall_serving::{OpenSession, open_session, serve_session};
+use hall_serving::{OpenSession, Sizes, open_session, serve_session};
 use handler_machine::Scripts;
 use serve_reading::Loaded;
 use session_hall::Closed;
@@ -72,7 +72,7 @@ pub(crate) fn open_loaded<'a>(
     let plan = Scripts::over(&loaded.program, &loaded.opening, &loaded.requests);
     let shape = plan.shape(alloc)?;
     let entries = entries_room(alloc, &plan, shape.len() as u32, later)?;
-    let session = open_session(alloc, script, shape.as_slice(), sizes.shards, sizes.callers)?;
+    let session = open_session(alloc, script, shape.as_slice(), sizes)?;
     Ok(Ready {
         session,
         plan,

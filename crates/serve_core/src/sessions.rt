@@ -6,16 +6,18 @@ ghost use Rattle.handler_machine.specs.Scripts.{meaning};
 ghost use Rattle.serve_faults.specs.Changes.{change};
 ghost use Rattle.serve_faults.specs.Traced.{table_places};
 ghost use Rattle.serve_core.specs.declared.writing.Writing.TheVariants.{AtEnd};
-ghost use Rattle.serve_core.specs.Serving.{CanPrint, CanServe, EndsAsServed, EndsLoaded, EndsSession, HasRoom, status_of};
+ghost use Rattle.serve_single.specs.Serving.{CanServe};
+ghost use Rattle.serve_core.specs.Serving.{CanPrint, EndsAsServed, EndsLoaded, EndsSession, HasRoom};
 
 use crate::lines::serve_lines;
 use crate::outcome::{Outcome, unserved};
 use crate::served::{Ready, open_loaded, serve_ready};
-use crate::sizes::Sizes;
 use crate::writing::{Later, Writing, write_session};
 use byte_ends::Sink;
+use hall_serving::Sizes;
 use serve_faults::Status;
-use serve_reading::{Loaded, Unserved, load_session};
+use serve_reading::{Loaded, load_session};
+use serve_single::ended;
 use session_hall::Closed;
 use std::alloc::Global;
 use std::sync::Wait;
@@ -39,16 +41,6 @@ pub(crate) fn serve_bytes<R: Threads + Wait + Sync, O: Sink, G: Gate + Sync>(
     match load_session(alloc, bytes) {
         Ok(loaded) => serve_loaded(rt, alloc, sizes, &loaded, writing, out, gate),
         Err(e) => unserved(ended(e)),
-    }
-}
-
-/// How a run ends for which there is nothing to write.
-pub fn ended(e: Unserved) -> Status
-    ensures { result ≡ status_of e }
-{
-    match e {
-        Unserved::Refused(fault) => Status::Refused(fault),
-        Unserved::NoMemory => Status::NoMemory,
     }
 }
 

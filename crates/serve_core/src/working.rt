@@ -8,9 +8,9 @@ ghost use Rattle.serve_core.specs.Runs.{AnswersTo};
 
 use crate::outcome::{Outcome, unserved};
 use crate::sessions::serve_bytes;
-use crate::sizes::Sizes;
 use crate::writing::{Later, Writing};
 use byte_ends::Sink;
+use hall_serving::Sizes;
 use serve_faults::Status;
 use serve_made::session_text;
 use std::alloc::Global;

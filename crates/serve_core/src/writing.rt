@@ -10,7 +10,8 @@ ghost use Rattle.serve_faults.specs.Changes.{change};
 ghost use Rattle.serve_faults.specs.Traced.{table_places};
 ghost use Rattle.serve_core.specs.declared.writing.Later.TheVariants.{Events, Tables};
 ghost use Rattle.serve_core.specs.declared.writing.Writing.TheVariants.{AtEnd};
-ghost use Rattle.serve_core.specs.Serving.{EndsBy, HasLeft, HasRoomFor, IsPrintable, text_of};
+ghost use Rattle.serve_single.specs.Serving.{EndsBy};
+ghost use Rattle.serve_core.specs.Serving.{HasLeft, HasRoomFor, IsPrintable, text_of};
 
 use crate::counting::{count_bytes, count_calls};
 use crate::final_tables::FinalTables;

@@ -6,7 +6,9 @@ pub mod Commands
 pub mod ExitStatus
 pub mod Input
 pub mod Message
+pub mod Parts
 pub mod Printable
+pub mod Rows
 pub mod Session
 pub mod Traced
 pub mod Ways

@@ -3,7 +3,7 @@ use Rattle.session_values.specs.Limits.{max_requests}
 use Rattle.handler_machine.specs.Scripts.{ScriptsView, meaning}
 use Rattle.reply_sheet.specs.Printable.{ArePrintableReplies}
 use Rattle.hall_writing.specs.Jobs.{replies_of}
-use Rattle.serve_core.proofs.FileLemmas.{replies_print}
+use Rattle.serve_single.proofs.FileLemmas.{replies_print}
 use Rattle.serve_core.proofs.lines.serve_lines.Goals as goal
 
 pub serve_ready_lines-status-requires-clause-few : goal.serve_ready_lines-status-requires-clause-few

@@ -1,5 +1,6 @@
 use Rattle.serve_faults.specs.Changes.{change}
-use Rattle.serve_core.proofs.FileLemmas.{can_serve, loaded_ends}
+use Rattle.serve_single.proofs.FileLemmas.{can_serve}
+use Rattle.serve_core.proofs.FileLemmas.{loaded_ends}
 use Rattle.serve_faults.specs.Input.{parts_of}
 use Rattle.serve_core.proofs.sessions.serve_bytes.Goals as goal
 

@@ -1,0 +1,11 @@
+pub mod Answering
+pub mod Asked
+pub mod AuditLemmas
+pub mod Dumping
+pub mod EndLemmas
+pub mod EntryLemmas
+pub mod FileLemmas
+pub mod RunLemmas
+pub mod Served
+pub mod TopLemmas
+pub mod Whole

@@ -1,0 +1,4 @@
+pub mod Auditing
+pub mod Runs
+pub mod Serving
+pub mod Tables

@@ -1,0 +1,27 @@
+// How a run ends, and the line that tells it.
+
+ghost use Rattle.std.specs.Prelude.{◌≡◌};
+ghost use Rattle.serve_faults.specs.Changes.{change};
+ghost use Rattle.serve_single.specs.Runs.{Tells};
+ghost use Rattle.serve_single.specs.Serving.{status_of};
+
+use byte_ends::{Sink, write_all};
+use serve_faults::{Status, message_of};
+use serve_reading::Unserved;
+
+/// How a run ends for which there is nothing to write.
+pub fn ended(e: Unserved) -> Status
+    ensures { result ≡ status_of e }
+{
+    match e {
+        Unserved::Refused(fault) => Status::Refused(fault),
+        Unserved::NoMemory => Status::NoMemory,
+    }
+}
+
+/// Writes the line that tells how a run ended, as far as `err` takes it.
+pub fn tell<E: Sink>(status: &Status, err: &mut E)
+    ensures { Tells (change E.held E.faults err.old err.new) status.now }
+{
+    let _told = write_all(err, message_of(status).as_str().as_bytes());
+}
