@@ -6,10 +6,10 @@ SYMBOLS = ["a", "b", "c"]
 
 
 class Maker:
-    """Draws one session."""
+    """Draws one session. If it is `computing`, each handler has a loop without calls."""
 
-    def __init__(self, draw):
-        self.draw, self.tables, self.declared = draw, {}, 0
+    def __init__(self, draw, computing=False):
+        self.draw, self.tables, self.declared, self.computing = draw, {}, 0, computing
 
     def literal(self):
         """A value: mostly one of few."""
@@ -79,9 +79,19 @@ class Maker:
         self.declared = 0
         parameters = ["x", "y", "z"][:self.draw.randint(0, 3)]
         block = self.block(parameters, 0)
+        if self.computing:
+            at = self.draw.randint(0, len(block))
+            block[at:at] = self.loop()
         known = [statement[1] for statement in block if statement[0] == "let"]
         ends = [("variable", name) for name in (parameters + known)[-4:]] or [("literal", 7)]
         return parameters, [*block, ("reply", ends)]
+
+    def loop(self):
+        """A loop that computes for long."""
+        name, turn, outer = self.fresh(), self.fresh(), self.fresh()
+        turned = ("set", name, ("-", ("variable", turn), ("variable", name)))
+        inner = [("repeat", 1000, turn, [turned])]
+        return [("let", name, ("literal", 1)), ("repeat", 4, outer, inner)]
 
     def session(self, clients, most):
         """A session with requests of so many clients, at most so many in all."""

@@ -8,6 +8,9 @@ ticket's operations and replies are those of serving the requests one at a time;
 with that run's reply; and each delay is of the operation that the ticket does next, and names an
 open older ticket and a symbol, of which some operation doesn't commute with it: both orders are
 tried on small tables. Ends with 1 where anything else comes.
+
+In each fourth session the handlers compute for long between their calls, so that tickets overlap
+though a caller keeps the book while nobody wants it; it is asked that they did in some.
 """
 import argparse
 import itertools
@@ -70,7 +73,7 @@ class Judged:
         self.session, self.serial, self.tables = session, session.serial(requests), session.opened()
         self.open, self.begun, self.ended, self.waits = {}, 0, 0, {}
         self.left = [list(done) for done, _ in self.serial]
-        self.delays = 0
+        self.delays = self.overlaps = 0
 
     def require(self, holds, what):
         if not holds:
@@ -85,6 +88,7 @@ class Judged:
 
     def begin(self, ticket, words):
         self.require(int(words[0]) not in self.open.values(), "the caller has another ticket")
+        self.overlaps += len(self.open) > 0
         self.open[ticket] = int(words[0])
         self.begun += 1
 
@@ -112,7 +116,8 @@ class Judged:
 
 
 def judge(session, requests, output):
-    """How many delays a trace has; raises where it isn't as it should be."""
+    """How many delays a trace has, and how many tickets begin while another is open; raises where it
+    isn't as it should be."""
     lines, judged = output.split("\n"), Judged(session, requests)
     if lines[:1] != ["%% trace"] or lines[-1]:
         raise ValueError("no trace")
@@ -123,7 +128,7 @@ def judge(session, requests, output):
             raise ValueError(f"event {at}, {line}: {fault}") from fault
     if judged.ended != len(requests):
         raise ValueError(f"{judged.ended} of {len(requests)} tickets ended")
-    return judged.delays
+    return judged.delays, judged.overlaps
 
 
 def main():
@@ -133,21 +138,27 @@ def main():
     words.add_argument("--seed", type=int, default=20261128)
     given = words.parse_args()
     draw, wrong, delays, delayed = random.Random(given.seed), 0, 0, 0
+    overlapped = {False: 0, True: 0}
     for run in range(given.runs):
-        session = made.Maker(draw).session(1, draw.choice([10, 300]))
+        computing = run % 4 == 3
+        most = 40 if computing else draw.choice([10, 300])
+        session = made.Maker(draw, computing).session(1, most)
         callers, shards = draw.choice([1, 2, 4, 8, 32]), draw.randint(1, 8)
         command = ["trace", "--callers", str(callers), "--shards", str(shards)]
         text = session.written("")
         try:
-            found = judge(session, session.clients[0], clients.ran(given.program, command, text))
+            output = clients.ran(given.program, command, text)
+            found, overlaps = judge(session, session.clients[0], output)
             delays, delayed = delays + found, delayed + (found > 0)
+            overlapped[computing] += overlaps > 0
         except ValueError as fault:
             wrong += 1
             print(f"session {run}, {' '.join(command)}: {fault}")
             with open(f"wrong-{run}.session", "w", encoding="utf-8") as file:
                 file.write(text)
-    print(f"{given.runs} sessions, {wrong} wrong; {delays} delays in {delayed} sessions")
-    sys.exit(wrong > 0)
+    print(f"{given.runs} sessions, {wrong} wrong; {delays} delays in {delayed} sessions; tickets "
+          f"overlapped in {overlapped[True]} sessions that compute and {overlapped[False]} others")
+    sys.exit(wrong > 0 or given.runs >= 100 and not overlapped[True])
 
 
 if __name__ == "__main__":

@@ -10,7 +10,7 @@ mod booking;
 mod script;
 
 use booking::{Booking, SEATS, WAITING};
-use hall_serving::{open_session, serve_session};
+use hall_serving::{Sizes, open_session, serve_session};
 use script::Bookings;
 use session_hall::Closed;
 use session_values::{NoMemory, TableKind, Value};
@@ -41,7 +41,11 @@ impl<'a> Bookings<'a> {
         ensures callers { IfOk result (λ c. c.callers ≡ 2) }
     {
         // The kinds of `SEATS` and `WAITING`, two shards for each of them, and two callers.
-        let session = open_session(alloc, self, &[TableKind::Map, TableKind::Set], 2, 2)?;
+        let sizes = Sizes {
+            callers: 2,
+            shards: 2,
+        };
+        let session = open_session(alloc, self, &[TableKind::Map, TableKind::Set], sizes)?;
         Ok(serve_session(rt, session, &self, &OpenGate))
     }
 

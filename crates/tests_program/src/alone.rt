@@ -1,7 +1,7 @@
 // Session files that are served alone: the text is the one that a hall's callers write.
 
 use crate::runs::{Input, ends_of, run_past};
-use plain_serving::{dump_alone, serve_alone};
+use serve_single::{dump_alone, serve_alone};
 use std::alloc::Global;
 use std::sync::Wait;
 use std::test::Fail;

@@ -118,6 +118,13 @@ pub struct Meeting {
     is_found: AtomicBool,
 }
 
+/// How callers add: where the first two of them meet, and whether each takes all turns at once.
+#[derive(Drop)]
+pub struct Additions {
+    meeting: Meeting,
+    is_at_once: bool,
+}
+
 // Waits until a flag is set.
 fn wait_for(flag: &AtomicBool) {
     for _ in 0..u64::MAX {
@@ -179,8 +186,7 @@ fn work<R: Abort>(
     rt: &R,
     alloc: Global,
     board: &Board<u64, Anything>,
-    meeting: &Meeting,
-    is_at_once: bool,
+    additions: &Additions,
     seat: &mut Seat<u64, Anything>,
     caller: usize,
 )
@@ -190,9 +196,9 @@ fn work<R: Abort>(
 {
     let mut hands = Hands::with_room(alloc, 2).expect(rt, "memory");
     cross(board, seat, &hands);
-    meet(rt, board, meeting, seat, caller);
+    meet(rt, board, &additions.meeting, seat, caller);
     for done in 0..1000u64 {
-        add_so(rt, board, is_at_once, seat, &mut hands, caller);
+        add_so(rt, board, additions.is_at_once, seat, &mut hands, caller);
     }
 }
 
@@ -200,8 +206,7 @@ fn work_all<R: Threads + Abort + Sync>(
     rt: &R,
     alloc: Global,
     board: &Board<u64, Anything>,
-    meeting: &Meeting,
-    is_at_once: bool,
+    additions: &Additions,
     seats: &mut [Seat<u64, Anything>],
 )
     requires seats { AllFree board.now seats.old }
@@ -212,7 +217,7 @@ fn work_all<R: Threads + Abort + Sync>(
         rt,
         seats,
         4,
-        &|i, seat| work(rt, alloc, board, meeting, is_at_once, seat, i),
+        &|i, seat| work(rt, alloc, board, additions, seat, i),
     );
 }
 
@@ -232,7 +237,11 @@ fn work_each<R: Threads + Abort + Sync>(
         is_held: AtomicBool::new(false),
         is_found: AtomicBool::new(false),
     };
-    work_all(rt, alloc, board, &meeting, is_at_once, seats.as_mut_slice());
+    let additions = Additions {
+        meeting,
+        is_at_once,
+    };
+    work_all(rt, alloc, board, &additions, seats.as_mut_slice());
 }
 
 /// What the book and the two counters have at the end, where four callers took the book and one

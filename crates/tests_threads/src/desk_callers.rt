@@ -74,7 +74,7 @@ fn serve_both<R: Threads + Wait + Abort + Sync, S: Serves + Drop>(
 }
 
 /// A hall of one caller and one shard of each table.
-fn open_one<S: Script + Drop>(
+pub(crate) fn open_one<S: Script + Drop>(
     alloc: Global,
     script: S,
     shape: &[TableKind],
@@ -119,7 +119,7 @@ fn list_at_desks<R: Threads + Wait + Abort + Sync>(
 }
 
 /// The two tickets add 0 and 1 to one key.
-fn two_tickets(alloc: Global) -> Result<RepeatedCalls, NoMemory>
+pub(crate) fn two_tickets(alloc: Global) -> Result<RepeatedCalls, NoMemory>
     ensures { IfOk result (λ l. l.list.shape ≡ Map ∷ []) }
 {
     let mut list = RepeatedCalls::with_room(alloc, &[TableKind::Map], 2, 1)?;

@@ -1,4 +1,4 @@
-// Four callers in threads serve tickets whose keys meet, and what they did is compared with plain
+// Four and 32 callers in threads serve tickets whose keys meet, and what they did is compared with plain
 // tables and with a serial run. One caller serves the same tickets, and the largest hall opens and
 // closes.
 
@@ -7,7 +7,7 @@ ghost use Rattle.session_values.specs.Limits.{max_callers, max_shards, max_table
 ghost use Rattle.session_values.specs.declared.kind.TableKind.TheVariants.{Map};
 ghost use Rattle.session_values.specs.Tables.{Fits, kind_of};
 
-use hall_serving::{open_session, serve_session};
+use hall_serving::{Sizes, open_session, serve_session};
 use plain_desk::{DoneCall, PlainDesk};
 use plain_tables::PlainTables;
 use repeated_calls::{RepeatedCalls, RepeatedScript};
@@ -64,9 +64,10 @@ pub(crate) fn served_by<R: Threads + Wait + Abort + Sync>(
     requires shards { (1 ≤ shards) × (shards ≤ max_shards) }
     requires callers { (1 ≤ callers) × (callers ≤ max_callers) }
 {
+    let sizes = Sizes { callers, shards };
     let script = RepeatedScript { list };
     let plan = RepeatedScript { list };
-    let session = open_session(alloc, script, shape, shards, callers).expect(rt, "memory");
+    let session = open_session(alloc, script, shape, sizes).expect(rt, "memory");
     serve_session(rt, session, &plan, &OpenGate)
 }
 
@@ -198,26 +199,26 @@ fn serial_calls<R: Threads + Wait + Abort + Sync>(
     calls
 }
 
-/// The calls of all tickets, served by four callers, regrouped by ticket.
-fn calls_by_four<R: Threads + Wait + Abort + Sync>(
-    rt: &R,
-    alloc: Global,
-    list: &RepeatedCalls,
-) -> Vec<DoneCall>
-    requires { list.now.list.shape ≡ Map ∷ [] }
+/// What so many callers did replays by ticket on plain tables, and is what a serial run does.
+fn reply_as_a_serial_run_does<R: Threads + Wait + Abort + Sync>(rt: &R, alloc: Global, callers: u32)
+    requires { (1 ≤ callers) × (callers ≤ max_callers) }
 {
-    let closed = served_by(rt, alloc, list, &[TableKind::Map], 8, 4);
-    regrouped(rt, alloc, closed.journal())
+    let list = tickets(alloc).expect(rt, "memory");
+    let closed = served_by(rt, alloc, &list, &[TableKind::Map], 8, callers);
+    let calls = regrouped(rt, alloc, closed.journal());
+    let serial = serial_calls(rt, alloc, &list);
+    assert!(rt; calls.len() == 16000 && calls == serial);
+    replay(rt, alloc, &calls);
 }
 
-/// What four callers did replays by ticket on plain tables, and is what a serial run does.
 #[test]
 fn four_callers_reply_as_a_serial_run_does(rt: HostRuntime) {
-    let list = tickets(rt.alloc()).expect(&rt, "memory");
-    let calls = calls_by_four(&rt, rt.alloc(), &list);
-    let serial = serial_calls(&rt, rt.alloc(), &list);
-    assert!(rt; calls.len() == 16000 && calls == serial);
-    replay(&rt, rt.alloc(), &calls);
+    reply_as_a_serial_run_does(&rt, rt.alloc(), 4);
+}
+
+#[test]
+fn thirty_two_callers_reply_as_a_serial_run_does(rt: HostRuntime) {
+    reply_as_a_serial_run_does(&rt, rt.alloc(), 32);
 }
 
 /// A closed hall has so many events, replies, shards, and shards of each table.

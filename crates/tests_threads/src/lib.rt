@@ -14,6 +14,8 @@ mod desk_callers;
 #[cfg(test)]
 mod four_callers;
 #[cfg(test)]
+mod kept_callers;
+#[cfg(test)]
 mod lanes;
 #[cfg(test)]
 mod many;
