@@ -15,7 +15,7 @@ import threading
 
 MESSAGE_ROOM = 256
 REPLIES_ROOM = 65536
-VERSION_NUMBER = 10400
+VERSION_NUMBER = 10500
 NIL, NUMBER, NAME, ANY = range(4)
 KINDS = ("get", "put", "swap", "del", "size", "bump", "has", "add", "mark", "drop", "count")
 

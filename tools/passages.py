@@ -50,6 +50,29 @@ def clauses(text):
                 yield f"README.md: no {each} in {path}"
 
 
+def walk_faults():
+    """What is wrong with the walk of one request in docs/MAP.md: a function that its crate lacks, or
+    other numbers of functions and crates than the walk has."""
+    with open("docs/MAP.md", encoding="utf-8") as document:
+        text = document.read()
+    found, named = [], set()
+    walk = re.search(r"```walk\n(.*?)```", text, re.S)[1]
+    for line in walk.splitlines():
+        for part in line[12:].replace("(the others:", "").replace(")", "").split(";"):
+            crate, *functions = part.split()
+            code = ""
+            for file in glob.glob(f"crates/{crate}/src/*.rt"):
+                with open(file, encoding="utf-8") as given:
+                    code += given.read()
+            named |= {(crate, function) for function in functions}
+            found += [f"docs/MAP.md: {crate} has no function {function}" for function in functions
+                      if not re.search(rf"\bfn {function}\b", code)]
+    counts = f"{len(named)} functions, in {len({crate for crate, _ in named})} of the crates"
+    if counts not in text:
+        found.append(f"docs/MAP.md: the walk has {counts}")
+    return found
+
+
 def faults():
     """What is wrong with the documents."""
     found = []
@@ -75,7 +98,7 @@ def faults():
             found += clauses(text)
             if text.count("\n") > LINES or len(text.split()) > WORDS:
                 found.append(f"{name}: more than {LINES} lines or {WORDS} words")
-    return found + crate_pages.faults()
+    return found + walk_faults() + crate_pages.faults()
 
 
 if __name__ == "__main__":

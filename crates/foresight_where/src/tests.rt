@@ -118,7 +118,7 @@ fn runs_without_faults(rt: HostRuntime) -> Result<(), Fail> {
         // A file is opened only where a place is named.
         ("large", "hello\n", Ending::HandedOn, "hello\n"),
         ("large", REFUSED, Ending::ReadFault, ""),
-        ("--version", REFUSED, Ending::Told, "foresight_where 1.4\n"),
+        ("--version", REFUSED, Ending::Told, "foresight_where 1.5\n"),
         ("small large", REFUSED, Ending::Usage, ""),
         ("--json small", REFUSED, Ending::Told, JSON),
         ("--json large", "hello\n", Ending::HandedOn, "null\n"),
