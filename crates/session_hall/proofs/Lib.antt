@@ -21,6 +21,7 @@ pub mod Keeping
 pub mod InHand
 pub mod Pairs
 pub mod ShardsByTurn
+pub mod FoundInHand
 pub mod OnRow
 pub mod TakenInHand
 pub mod WorkInHand

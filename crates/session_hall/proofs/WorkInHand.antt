@@ -23,7 +23,7 @@ use Rattle.session_hall.specs.declared.caller.Caller.{Caller}
 use Rattle.session_hall.specs.declared.stage.Stage.TheVariants.{Serving as Serves, Applied}
 use Rattle.session_hall.specs.Holdings.{IsKeeperIn, IsWorked}
 use Rattle.session_hall.specs.Names.{HallId}
-use Rattle.session_hall.specs.OnShards.{CanWorkIn, HasWorkedIn}
+use Rattle.session_hall.specs.OnShards.{CanWorkHere, CanWorkIn, HasWorkedIn}
 use Rattle.session_hall.specs.Stages.{foresight_in, waiting}
 use Rattle.session_hall.proofs.Entering.{worked_free}
 use Rattle.session_hall.proofs.InHand.{keeper_on}
@@ -57,13 +57,22 @@ module _ {S : Type 0} (meaning : S → Meaning) (p : HallId) (script : S) (c : C
       shard_in_hand meaning turns (caller c.seat) (held c.seat) (put_back content_of (value.Register b) xs) (may_give meaning p script c b k t st) script b.book (ap (λ (s : S). Some (Register s b.book)) k.script_is) j x e in
       record { container = share (meaning script) turns b.book.journal j; room = q.1; is = q.3; share_is = refl; enough = k.rooms j q.0 q.1 q.2 }
 
+  -- its ticket is open
+  holds : Holds (meaning script) b.book (caller c.seat) (waiting t (foresight_in (record_of b.book c.number)))
+  holds = k.lawful.records (caller c.seat) (waiting t (foresight_in (record_of b.book c.number))) (own_record meaning p script c b k t st)
+
+  module _ (first many : ℕ) (fe : first ≡ suc (place p.shards op)) (me : many ≡ span p.shards op) where
+    pub can_work_here : CanWorkHere op first many c.hands.pairs
+    can_work_here =
+        let near : first + many ≤ 57 = omega (arith, near_row first many fe me, k.few_turns) in
+        row.can_work_here (meaning script) turns p.shards k.script_kept shards_known k.some_shards op fits first many fe me near xs k.once b.book k.lawful ours t holds.is_open calls
+
   module _ (first many : ℕ) (fe : first ≡ suc (place p.shards op)) (me : many ≡ span p.shards op) (there : (u : ℕ) → first ≤ u → u < first + many → in_hands content_of c.hands.pairs u ≡ None → ⊥) where
     near : first + many ≤ 57
     near = omega (arith, near_row first many fe me, k.few_turns)
 
     pub can_work : CanWorkIn op first many c.hands.pairs
     can_work =
-        let holds : Holds (meaning script) b.book (caller c.seat) (waiting t (foresight_in (record_of b.book c.number))) = k.lawful.records (caller c.seat) (waiting t (foresight_in (record_of b.book c.number))) (own_record meaning p script c b k t st) in
         row.can_work (meaning script) turns p.shards k.script_kept shards_known k.some_shards op fits first many fe me near xs k.once b.book k.lawful ours there t holds.is_open calls
 
     module _ (ys : List (ℕ × Held S)) (v : Value) (w : HasWorkedIn op first many c.hands.pairs ys v) where

@@ -25,18 +25,20 @@ use Rattle.hall_rule.specs.Shards.{content_of}
 use Rattle.hall_rule.specs.Turns.{IsTurnOf, place, span}
 use Rattle.session_hall.specs.declared.caller.Caller.{Caller}
 use Rattle.session_hall.specs.declared.holding.Holding.{Holding}
+use Rattle.session_hall.specs.declared.on_shards.Found.{Found}
 use Rattle.session_hall.specs.declared.stage.Stage.{Stage}
 use Rattle.session_hall.specs.declared.stage.Stage.TheVariants.{Serving as Serves, Applied}
 use Rattle.session_hall.specs.Callers.{book_in, book_of}
 use Rattle.session_hall.specs.Calls.{MayCall}
 use Rattle.session_hall.specs.HoldingCalls.{BusyKept, ByPresent, DelayedKept, WorkedKept}
 use Rattle.session_hall.specs.Holdings.{IsHoldingWith, IsKeeperIn, book_at, foresight_at, present_book}
-use Rattle.session_hall.specs.OnShards.{CanWorkIn, HasWorkedIn, IsMissing, TakesSet}
+use Rattle.session_hall.specs.OnShards.{AreHere, CanWorkFound, CanWorkHere, CanWorkIn, HasWorkedFound, HasWorkedIn, IsFound, IsMissing, TakesSet}
 use Rattle.session_hall.specs.Names.{HallId}
 use Rattle.session_hall.specs.Stages.{OnServing, SeatOf, foresight_in, waiting}
 use Rattle.session_hall.proofs.Finding.{is_tied}
 use Rattle.session_hall.proofs.InHand.{kept_book, kept_keeper, with_book}
-use Rattle.session_hall.proofs.OnRow.{of_row}
+use Rattle.session_hall.proofs.FoundInHand.{all_here, can_work_found, nothing_missing, worked_found}
+use Rattle.session_hall.proofs.OnRow.{of_row, one_row}
 use Rattle.session_hall.proofs.Taken.{missed_lost}
 use Rattle.session_hall.proofs.TakenInHand as taken
 use Rattle.session_hall.proofs.WorkInHand as work
@@ -178,3 +180,33 @@ module _ {S : Type 0} (meaning : S → Meaning) (p : HallId) (script : S) (h : H
                       let T : ℕ → Type 0 = λ i. IsTurnOf p.shards op i in
                       subst T same r.2;
                 })
+
+    -- ---- all its turns are in hand already
+    pub can_work_here : CanWorkHere op first many h.caller.hands.pairs
+    can_work_here = work.can_work_here meaning p script h.caller b k t st op may_here.0 first many fe me
+
+    module _ (f : Found) (found : IsFound op first many h.caller.hands.pairs (Some f)) where
+      pub can_found : CanWorkFound op h.caller.hands.pairs f
+      can_found = can_work_found h.caller.hands.pairs op first many f found can_work_here
+
+      here : AreHere h.caller.hands.pairs first many
+      here = all_here h.caller.hands.pairs op first many (one_row p.shards op k.some_shards first many fe me) f found
+
+      none_missing : IsMissing h.caller.hands.pairs first (first + many) 0
+      none_missing = nothing_missing h.caller.hands.pairs first many here
+
+      takes_none : TakesSet meaning p.board.slots h.caller.seat h.caller.seat 0 h.caller.hands.pairs h.caller.hands.pairs all.Here
+      takes_none = (λ e. (refl, refl, refl), λ l. absurd (omega (arith, l)))
+
+      same_note : SameNote h.caller.seat h.caller.seat
+      same_note = record { caller_is = refl; note_is = refl; caller_count_is = refl; given_is = refl; change_is = refl }
+
+      module _ (later : HandsView (Held S)) (answer : Value) (w : HasWorkedFound op h.caller.hands.pairs later.pairs f answer) (same_room : later.room ≡ h.caller.hands.room) (free : IsFree b.book t op) where
+        worked : HasWorkedIn op first many h.caller.hands.pairs later.pairs answer
+        worked = worked_found h.caller.hands.pairs op first many f found later.pairs answer w
+
+        pub found_holding : IsHoldingWith meaning p script (record { seat = h.caller.seat; number = h.caller.number; stage = Applied t op answer; hands = later }) h.book
+        found_holding = worked_holding 0 none_missing h.caller.seat h.caller.hands k.seat same_note refl takes_none later answer worked same_room free
+
+        pub found_kept : (ends n : ℕ) → OnServing h.caller.stage (WorkedKept (meaning script) h (record { caller = record { seat = h.caller.seat; number = h.caller.number; stage = Applied t op answer; hands = later }; book = h.book; ends = ends; entered = n }) p.shards op answer)
+        found_kept = worked_kept 0 none_missing h.caller.seat h.caller.hands k.seat same_note refl takes_none later answer worked same_room free

@@ -1,5 +1,5 @@
 -- The shards in a caller's hands, by turn. Only this crate's own functions cite it.
-use Rattle.std.specs.Prelude.{◌≡◌, ◌≢◌, ℕ, ◌+◌, ◌<◌, ◌≤◌, pos, List, Option, Some, None}
+use Rattle.std.specs.Prelude.{◌≡◌, ◌≢◌, ℕ, ◌+◌, ◌*◌, ◌<◌, ◌≤◌, pos, List, Option, Some, None}
 use Rattle.std.specs.Int.{bit_at}
 use Rattle.session_journal.specs.Limits.{max_keys}
 use Rattle.session_journal.specs.Script.{Meaning}
@@ -11,12 +11,14 @@ use Rattle.session_values.specs.Sums.{sum_below}
 use Rattle.turn_board.specs.declared.taken.TookAll.{TookAll}
 use Rattle.turn_board.specs.declared.taken.TookAll.TheVariants as all
 use Rattle.turn_board.specs.Boards.{AnsweredAll}
-use Rattle.turn_board.specs.Hands.{Once, in_hands}
+use Rattle.turn_board.specs.Hands.{IsPlaceOf, Once, in_hands}
 use Rattle.turn_board.specs.Limits.{max_board_turns}
 use Rattle.hall_rule.specs.declared.held.Held.{Held}
 use Rattle.hall_rule.specs.Contents.{Content}
 use Rattle.hall_rule.specs.Shards.{content_of}
 use Rattle.hall_rule.specs.Tie.{Tied}
+use Rattle.session_hall.specs.declared.on_shards.Found.{Found}
+use Rattle.session_hall.specs.declared.on_shards.Found.TheVariants.{Place, Keys}
 use Rattle.session_hall.specs.Stages.{SeatOf}
 use Rattle.session_hall.specs.Working.{CanDo, IsAnyShard, WorkedTo, keys_in}
 
@@ -78,3 +80,55 @@ module _ {S : Type 0} where
   HasWorkedIn op first many before after v = (arguments op.kind ≡ 0
       → (after ≡ before) × (v ≡ Num (pos (sum_below many (keys_of_row before first)))))
       × (0 < arguments op.kind → WorkedUnder op first before after v)
+
+  -- ---- what is in hand of a row of turns
+  -- a shard, if it is in hand
+  abbrev pub IsShardIf : Option (Content S) → Type 0
+  IsShardIf None = Unit {0}
+  IsShardIf (Some x) = IsAnyShard x
+
+  abbrev pub AreShards : List (ℕ × Held S) → ℕ → ℕ → Type 0
+  AreShards pairs first many = (u : ℕ) → first ≤ u → u < first + many
+      → IsShardIf (in_hands content_of pairs u)
+
+  -- no turn of the row is missing
+  abbrev pub AreHere : List (ℕ × Held S) → ℕ → ℕ → Type 0
+  AreHere pairs first many = (u : ℕ) → first ≤ u → u < first + many
+      → in_hands content_of pairs u ≡ None → ⊥
+
+  -- where there is a count, no turn of the row is missing and it is that of their keys
+  abbrev pub CountsRow : List (ℕ × Held S) → ℕ → ℕ → Option ℕ → Type 0
+  CountsRow pairs first many None = Unit {0}
+  CountsRow pairs first many (Some n) = AreHere pairs first many
+      × (n ≡ sum_below many (keys_of_row pairs first)) × (n ≤ many * 4294967295)
+
+  -- the operation may be done on the turn's shard, if it is in hand
+  abbrev pub CanDoIf : Op → Option (Content S) → Type 0
+  CanDoIf op None = Unit {0}
+  CanDoIf op (Some x) = CanDo op x
+
+  -- the operation may be done on each shard of its row that is in hand
+  pub record CanWorkHere (op : Op) (first many : ℕ) (pairs : List (ℕ × Held S)) : Type 0 where
+    pub turns : first + many ≤ max_board_turns
+    pub some : 0 < many
+    pub once : Once content_of pairs
+    pub each : (u : ℕ) → first ≤ u → u < first + many → CanDoIf op (in_hands content_of pairs u)
+
+  -- what was found: the place of the first turn's shard, or the keys of all
+  abbrev pub IsFound : Op → ℕ → ℕ → List (ℕ × Held S) → Option Found → Type 0
+  IsFound op first many pairs None = Unit {0}
+  IsFound op first many pairs (Some (Place i)) = (0 < arguments op.kind)
+      × IsPlaceOf pairs first (Some i)
+  IsFound op first many pairs (Some (Keys n)) = (arguments op.kind ≡ 0)
+      × CountsRow pairs first many (Some n)
+
+  -- the operation may be done on what was found
+  abbrev pub CanWorkFound : Op → List (ℕ × Held S) → Found → Type 0
+  CanWorkFound op pairs (Place i) = Once content_of pairs × ((turn : ℕ)
+      × IsPlaceOf pairs turn (Some i) × CanDoIn op (in_hands content_of pairs turn))
+  CanWorkFound op pairs (Keys n) = n < 9223372036854775808
+
+  abbrev pub HasWorkedFound : Op → List (ℕ × Held S) → List (ℕ × Held S) → Found → Value → Type 0
+  HasWorkedFound op before after (Place i) v = (turn : ℕ) → IsPlaceOf before turn (Some i)
+      → WorkedUnder op turn before after v
+  HasWorkedFound op before after (Keys n) v = (after ≡ before) × (v ≡ Num (pos n))

@@ -9,7 +9,7 @@ use crate::answers::Worked;
 use crate::applying::{place_of, span_of};
 use crate::hall::Hall;
 use crate::holding::Holding;
-use crate::on_shards::{missing_in, take_set, work_in};
+use crate::on_shards::{found_in, missing_in, take_set, work_found, work_in};
 use crate::stage::{Stage, serving};
 use admission_book::Admission;
 use session_journal::Tickets;
@@ -40,6 +40,11 @@ impl<S: Tickets + Drop> Holding<S> {
         let first = 1 + place_of(&op, hall.sizes.shards);
         let many = span_of(&op, hall.sizes.shards);
         let caller = &mut self.caller;
+        if let Some(found) = found_in(&caller.hands, &op, first, many) {
+            let reply = work_found(&mut caller.hands, &op, found);
+            caller.stage = Stage::Applied(t, op, reply);
+            return Worked::Done(reply);
+        }
         let missing = missing_in(&caller.hands, first, many);
         if let TookAll::Busy { turn } = take_set(
             &hall.board,

@@ -8,7 +8,7 @@ ghost use Rattle.turn_board.specs.Hands.{Once, in_hands};
 ghost use Rattle.turn_board.specs.Limits.{max_board_turns};
 ghost use Rattle.turn_board.specs.Maps.{bits_of};
 ghost use Rattle.hall_rule.specs.Shards.{content_of};
-ghost use Rattle.session_hall.specs.OnShards.{CanCount, CanDoIn, CanWorkIn, HasWorkedIn, IsMissing, TakesSet, WorkedUnder, keys_of_row};
+ghost use Rattle.session_hall.specs.OnShards.{AreShards, CanCount, CanDoIn, CanWorkFound, CanWorkHere, CanWorkIn, CountsRow, HasWorkedFound, HasWorkedIn, IsFound, IsMissing, TakesSet, WorkedUnder, keys_of_row};
 
 use crate::applying::{keys_at, work_on};
 use hall_rule::{HallRule, Held};
@@ -140,5 +140,72 @@ pub(crate) fn work_in<S: Tickets + Drop>(
         Value::Num(count_row(hands, first, many) as i64)
     } else {
         work_at(hands, op, first)
+    }
+}
+
+// What is found in hand of the turns of an operation, where all of them are.
+#[derive(Clone, Copy, Debug)]
+pub(crate) enum Found {
+    // The place of its one shard in the hands.
+    Place(u32),
+    // How many keys the shards of its row have.
+    Keys(u64),
+}
+
+// The number of keys of the shards of a row of turns, or None where one isn't in hand.
+fn counted<S: Tickets + Drop>(hands: &Hands<Held<S>>, first: u32, many: u32) -> Option<u64>
+    requires turns { first + many ≤ max_board_turns }
+    requires once { Once content_of hands.now.pairs }
+    requires shards { AreShards hands.now.pairs first many }
+    ensures { CountsRow hands.now.pairs first many result }
+{
+    let mut count = 0u64;
+    for i in 0..many {
+        let Some(at) = hands.place_of(first + i) else {
+            return None;
+        };
+        count += keys_at(hands, at) as u64;
+    }
+    Some(count)
+}
+
+// What is in hand of the turns of an operation, or None where one of them isn't.
+#[inline(always)]
+pub(crate) fn found_in<S: Tickets + Drop>(
+    hands: &Hands<Held<S>>,
+    op: &Op,
+    first: u32,
+    many: u32,
+) -> Option<Found>
+    requires can { CanWorkHere op.now first many hands.now.pairs }
+    ensures { IsFound op.now first many hands.now.pairs result }
+{
+    if op.kind.arguments() == 0 {
+        match counted(hands, first, many) {
+            Some(count) => Some(Found::Keys(count)),
+            None => None,
+        }
+    } else {
+        match hands.place_of(first) {
+            Some(i) => Some(Found::Place(i)),
+            None => None,
+        }
+    }
+}
+
+// Does the operation on what was found in hand.
+#[inline(always)]
+pub(crate) fn work_found<S: Tickets + Drop>(
+    hands: &mut Hands<Held<S>>,
+    op: &Op,
+    found: Found,
+) -> Value
+    requires can { CanWorkFound op.now hands.old.pairs found }
+    ensures worked { HasWorkedFound op.now hands.old.pairs hands.new.pairs found result }
+    ensures room { hands.new.room ≡ hands.old.room }
+{
+    match found {
+        Found::Place(i) => work_on(hands.value_mut(i), op),
+        Found::Keys(count) => Value::Num(count as i64),
     }
 }

@@ -1,4 +1,4 @@
-use Rattle.std.proofs.Common.{ℕ, List, ◌+◌, ◌*◌, ◌%◌, ◌^◌, ◌<◌, ◌≡◌, ◌≢◌, sym, ◌∙◌, arith}
+use Rattle.std.proofs.Common.{ℕ, List, ◌*◌, ◌%◌, ◌^◌, ◌<◌, ◌≡◌, ◌≢◌, sym, ◌∙◌, arith}
 use Rattle.std.proofs.lemmas.Nat.Bits.{bit_at_mask_above, bit_at_or, bit_at_set_other, bit_at_set_same}
 use Rattle.std.specs.Int.{bit_at, w64}
 use Rattle.session_values.proofs.Numbers.{one_zero}

@@ -1,6 +1,6 @@
 use Rattle.std.proofs.Common.{◌≡◌, ℕ, suc, ◌+◌, refl, arith}
 use Rattle.session_hall.specs.Names.{hall_name, id_of, script_of}
-use Rattle.session_hall.proofs.WorkedInHand.{ask_room, busy_holding, busy_kept, can_ask, can_work, delayed_kept, few, few_turns, place_few, worked_holding, worked_kept}
+use Rattle.session_hall.proofs.WorkedInHand.{ask_room, busy_holding, busy_kept, can_ask, can_found, can_work, can_work_here, delayed_kept, few, few_turns, found_holding, found_kept, place_few, worked_holding, worked_kept}
 use Rattle.session_hall.proofs.holding.Holding.work.Goals as goal
 
 first_is : (n place : ℕ) → n ≡ place → 1 + n ≡ suc place
@@ -60,3 +60,26 @@ pub returns-clause-worked : goal.returns-clause-worked
 returns-clause-worked g c = worked_kept g.S.Tickets.meaning (id_of (hall_name c.args.hall.now)) (script_of c.args.hall.now) c.args.self.now c.in-Some.book c.in-Some.is c.requires.holding c.serving-t.result c.serving-t.ensures c.args.op c.requires.may
     (1 + c.place_of-first.result) c.span_of-many.result (first_is c.place_of-first.result _ c.place_of-first.ensures) c.span_of-many.ensures c.missing_in-missing.result c.missing_in-missing.ensures
     c.take_set.new.seat c.take_set.new.hands c.take_set.ensures.seat.0 c.take_set.ensures.seat.1 c.take_set.ensures.room c.in_default-take_set.ensures.took c.work_in-reply.new.hands c.work_in-reply.result c.work_in-reply.ensures.worked c.work_in-reply.ensures.room c.in_default-judge_in.ensures.judges c.args.self.now.ends c.args.self.now.entered
+
+pub found_in-requires : goal.found_in-requires
+found_in-requires g c = record {
+  can = can_work_here g.S.Tickets.meaning (id_of (hall_name c.args.hall.now)) (script_of c.args.hall.now) c.args.self.now c.in-Some.book c.in-Some.is c.requires.holding c.serving-t.result c.serving-t.ensures c.args.op c.requires.may
+      (1 + c.place_of-first.result) c.span_of-many.result (first_is c.place_of-first.result _ c.place_of-first.ensures) c.span_of-many.ensures;
+}
+
+pub work_found-reply-requires : goal.work_found-reply-requires
+work_found-reply-requires g c = record {
+  can = can_found g.S.Tickets.meaning (id_of (hall_name c.args.hall.now)) (script_of c.args.hall.now) c.args.self.now c.in-Some.book c.in-Some.is c.requires.holding c.serving-t.result c.serving-t.ensures c.args.op c.requires.may
+      (1 + c.place_of-first.result) c.span_of-many.result (first_is c.place_of-first.result _ c.place_of-first.ensures) c.span_of-many.ensures c.in-Some-found_in.found c.in-Some-found_in.ensures;
+}
+
+pub returns-in-Some-found_in-clause-holding : goal.returns-in-Some-found_in-clause-holding
+returns-in-Some-found_in-clause-holding g c = (
+  found_holding g.S.Tickets.meaning (id_of (hall_name c.args.hall.now)) (script_of c.args.hall.now) c.args.self.now c.in-Some.book c.in-Some.is c.requires.holding c.serving-t.result c.serving-t.ensures c.args.op c.requires.may
+      (1 + c.place_of-first.result) c.span_of-many.result (first_is c.place_of-first.result _ c.place_of-first.ensures) c.span_of-many.ensures c.in-Some-found_in.found c.in-Some-found_in.ensures c.work_found-reply.new.hands c.work_found-reply.result c.work_found-reply.ensures.worked c.work_found-reply.ensures.room c.in_default-judge_in.ensures.judges,
+  refl,
+)
+
+pub returns-in-Some-found_in-clause-worked : goal.returns-in-Some-found_in-clause-worked
+returns-in-Some-found_in-clause-worked g c = found_kept g.S.Tickets.meaning (id_of (hall_name c.args.hall.now)) (script_of c.args.hall.now) c.args.self.now c.in-Some.book c.in-Some.is c.requires.holding c.serving-t.result c.serving-t.ensures c.args.op c.requires.may
+    (1 + c.place_of-first.result) c.span_of-many.result (first_is c.place_of-first.result _ c.place_of-first.ensures) c.span_of-many.ensures c.in-Some-found_in.found c.in-Some-found_in.ensures c.work_found-reply.new.hands c.work_found-reply.result c.work_found-reply.ensures.worked c.work_found-reply.ensures.room c.in_default-judge_in.ensures.judges c.args.self.now.ends c.args.self.now.entered

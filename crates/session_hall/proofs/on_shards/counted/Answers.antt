@@ -1,0 +1,20 @@
+use Rattle.std.proofs.Common.{◌≡◌, ℕ, ◌+◌, ◌*◌, ◌≤◌, subst, arith}
+use Rattle.session_values.specs.Sums.{sum_below}
+use Rattle.session_hall.specs.OnShards.{AreHere, keys_of_row}
+use Rattle.session_hall.proofs.FoundInHand.{can_count, counts_more}
+use Rattle.session_hall.proofs.ShardsByTurn.{counts_here, keys_here}
+use Rattle.session_hall.proofs.on_shards.counted.Goals as goal
+
+pub keys_at-requires-clause-shard : goal.keys_at-requires-clause-shard
+keys_at-requires-clause-shard g c = counts_here c.args.hands.now.pairs c.requires.once (c.args.first + c.loop-i.i) c.in-Some.at c.in-Some.ensures
+    (can_count c.args.hands.now.pairs (c.args.first + c.loop-i.i) c.in-Some.at c.in-Some.ensures (c.requires.shards (c.args.first + c.loop-i.i) (omega arith) (omega (arith, c.loop-i-test.true))))
+
+pub loop-i-preserved : goal.loop-i-preserved
+loop-i-preserved g c = counts_more c.args.hands.now.pairs c.args.first c.loop-i.i c.in-Some.at c.keys_at.result c.loop-i.count c.in-Some.ensures c.loop-i.invariant
+    (keys_here c.args.hands.now.pairs c.requires.once (c.args.first + c.loop-i.i) c.in-Some.at c.in-Some.ensures c.keys_at.result c.keys_at.ensures) (omega (arith, c.keys_at.type_inv))
+
+pub returns : goal.returns
+returns g c =
+    let e : c.loop-i.i ≡ c.args.many = omega (arith, c.loop-i-test.false, c.loop-i.auto.i-end) in
+    let P : ℕ → Type 0 = λ i. AreHere c.args.hands.now.pairs c.args.first i × (c.loop-i.count ≡ sum_below i (keys_of_row c.args.hands.now.pairs c.args.first)) × (c.loop-i.count ≤ i * 4294967295) in
+    subst P e c.loop-i.invariant
