@@ -1,3 +1,4 @@
+pub mod ArgumentLemmas
 pub mod ClientLemmas
 pub mod ClientSteps
 pub mod DivideLemmas

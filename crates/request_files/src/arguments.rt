@@ -7,7 +7,7 @@ ghost use Rattle.text_lines.specs.Text.{words as words_of};
 ghost use Rattle.text_lines.specs.Values as value_spec;
 
 use session_values::{Names, NoMemory, Value};
-use text_lines::{Line, value};
+use text_lines::Line;
 
 /// The number of words that are left.
 pub(crate) fn count(mut words: Line<'_>) -> usize
@@ -36,8 +36,8 @@ pub(crate) fn values(
     ensures kept { Begins names.old names.new }
     ensures room { length names.new ≤ length names.old + length (words_of words.entry.rest.now) }
 {
-    'words: while let Some(word) = words.next() {
-        match value(word, names)? {
+    'words: while let Some(found) = words.next_value(names)? {
+        match found {
             Some(v) => list.push(v)?,
             None => return Ok(false),
         }

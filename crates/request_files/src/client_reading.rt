@@ -17,6 +17,7 @@ use crate::refusal::RequestRefusal;
 use crate::request_line::request;
 use crate::requests::Requests;
 use crate::room::make_room;
+use crate::row::Row;
 use crate::tally::no_requests;
 use handler_check::Checked;
 use session_values::Names;
@@ -69,16 +70,12 @@ pub fn read_clients(
             }
             mine = 0;
         } else if let Some((name, words)) = first_word(line) {
-            match request(
-                checked,
-                tally,
-                this,
+            let row = Row {
+                line: this,
                 name,
                 words,
-                names,
-                &mut recent,
-                &mut values,
-            ) {
+            };
+            match request(checked, tally, row, names, &mut recent, &mut values) {
                 Ok((entry, sums)) => {
                     if let Err(_) = found.push(entry) {
                         return Err(RequestRefusal::NoMemory);

@@ -1,6 +1,6 @@
 // The parts of a session file.
 
-ghost use Rattle.std.specs.Prelude.{◌≡◌, ◌≤◌, MatchOption, length, false};
+ghost use Rattle.std.specs.Prelude.{◌≡◌, ◌+◌, ◌≤◌, MatchOption, length, false};
 ghost use Rattle.std.specs.List.{list_any};
 ghost use Rattle.session_values.specs.Limits.{max_input};
 ghost use Rattle.text_lines.specs.Text.{lines};
@@ -9,7 +9,8 @@ ghost use Rattle.request_files.specs.Divide as spec;
 use crate::halves::split_at_mark;
 use crate::mark::Mark;
 
-/// The parts of a file that has a dividing line.
+/// The parts of a file that has a dividing line. They are no longer than an input may be, and so
+/// early in it that their lines have numbers of 32 bits.
 #[derive(Clone, Copy, Debug)]
 pub struct Divided<'a> {
     /// What stands before the dividing line, or before the table part where there is one, with the
@@ -25,6 +26,11 @@ pub struct Divided<'a> {
     pub first_table: u32,
     /// The number in the file of the first line of the requests.
     pub first: u32,
+    ghost handlers_short: { length handlers.now ≤ max_input },
+    ghost tables_short: { length tables.now ≤ max_input },
+    ghost requests_short: { length requests.now ≤ max_input },
+    ghost first_table_early: { first_table ≤ max_input + 2 },
+    ghost first_early: { first ≤ max_input + 2 },
 }
 
 /// The parts around the first line that is `%%`, or `None` where no line is. The table part begins

@@ -1,6 +1,6 @@
 // What stands before a mark and behind it.
 
-ghost use Rattle.std.specs.Prelude.{◌≡◌, ◌≤◌, length};
+ghost use Rattle.std.specs.Prelude.{◌≡◌, ◌+◌, ◌≤◌, length};
 ghost use Rattle.std.specs.List.{list_any};
 ghost use Rattle.session_values.specs.Limits.{max_input};
 ghost use Rattle.text_lines.specs.Text.{lines};
@@ -29,6 +29,8 @@ pub(crate) fn split_at_mark(text: &str, mark: Mark) -> Halves<'_>
     ensures tail { result.tail.now ≡ spec.behind (says mark) text.now }
     ensures next { result.next ≡ spec.line_behind (says mark) text.now }
     ensures within { length result.head.now ≤ max_input }
+    ensures tail_within { length result.tail.now ≤ max_input }
+    ensures early { result.next ≤ max_input + 2 }
 {
     let place = find_mark(text.as_bytes(), mark);
     let (head, _) = text.split_at(place.front);

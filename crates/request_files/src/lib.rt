@@ -19,6 +19,7 @@ mod request;
 mod request_line;
 mod requests;
 mod room;
+mod row;
 mod tally;
 mod trace_part;
 

@@ -13,6 +13,7 @@ use crate::refusal::RequestRefusal;
 use crate::request_line::request;
 use crate::requests::Requests;
 use crate::room::make_room;
+use crate::row::Row;
 use crate::tally::Tally;
 use handler_check::Checked;
 use session_values::Names;
@@ -52,19 +53,10 @@ pub fn read_requests(
         work: 0,
     };
     let mut lines = Lines::over(text, first);
-    'lines: while let Some((number, line)) = lines.next() {
-        let mut words = line;
+    'lines: while let Some((line, mut words)) = lines.next() {
         if let Some(name) = words.next() {
-            match request(
-                checked,
-                tally,
-                number,
-                name,
-                words,
-                names,
-                &mut recent,
-                &mut values,
-            ) {
+            let row = Row { line, name, words };
+            match request(checked, tally, row, names, &mut recent, &mut values) {
                 Ok((entry, next)) => {
                     if let Err(_) = found.push(entry) {
                         return Err(RequestRefusal::NoMemory);

@@ -12,6 +12,7 @@ use crate::arguments::{count, values};
 use crate::entry::Entry;
 use crate::recent::Recent;
 use crate::refusal::RequestRefusal;
+use crate::row::Row;
 use crate::tally::{Tally, look_at_sums, with_request};
 use handler_check::Checked;
 use session_values::{MAX_REQUESTS, Names, Value};
@@ -40,44 +41,43 @@ fn bad_word(params: u32, words: Line<'_>, line: u32) -> RequestRefusal
     }
 }
 
-/// The request of a line, behind those of the tally, with the tally behind it. Its arguments are
+/// The request of a row, behind those of the tally, with the tally behind it. Its arguments are
 /// appended to those of the others.
 pub(crate) fn request(
     checked: &Checked,
     tally: Tally,
-    line: u32,
-    name: &str,
-    words: Line<'_>,
+    row: Row<'_>,
     names: &mut Names,
     recent: &mut Recent,
     list: &mut Vec<Value>,
 ) -> Result<(Entry, Tally), RequestRefusal>
     requires known { spec.AreKnown names.old checked.now }
-    requires room { length names.old + length (words_of words.rest.now) ≤ 4294967295 }
+    requires room { length names.old + length (words_of row.words.rest.now) ≤ 4294967295 }
     requires within { spec.IsWithin tally }
     ensures ok { IfOk result (λ p. spec.Accepted names.old names.new checked.now tally
-        (row_of line name.now (words_of words.entry.rest.now))
+        (row_of row.entry.line row.entry.name.now (words_of row.entry.words.rest.now))
         (request_in list.new.items p.0) p.1) }
     ensures behind { IfOk result (λ p. IsBehind list.old.items list.new.items p.0) }
     ensures refused { (e : _) → result ≡ Err e → e ≢ RequestRefusal.NoMemory →
         spec.fault_of names.old checked.now tally
-        (row_of line name.now (words_of words.entry.rest.now)) ≡ Some e }
+        (row_of row.entry.line row.entry.name.now (words_of row.entry.words.rest.now)) ≡ Some e }
     ensures kept { Begins names.old names.new }
-    ensures room { length names.new ≤ length names.old + length (words_of words.entry.rest.now) }
+    ensures room { length names.new ≤ length names.old + length (words_of row.entry.words.rest.now) }
 {
+    let line = row.line;
     if tally.requests >= MAX_REQUESTS {
         return Err(RequestRefusal::TooManyRequests { line });
     }
-    let Some(number) = handler(checked, names, name, recent) else {
+    let Some(number) = handler(checked, names, row.name, recent) else {
         return Err(RequestRefusal::UnknownHandler { line });
     };
     let params = checked.handler(number).params;
     let first = list.len();
-    let Ok(fine) = values(words, names, list) else {
+    let Ok(fine) = values(row.words, names, list) else {
         return Err(RequestRefusal::NoMemory);
     };
     if !fine {
-        return Err(bad_word(params, words, line));
+        return Err(bad_word(params, row.words, line));
     }
     if list.len() - first != params as usize {
         return Err(RequestRefusal::Arity { line });

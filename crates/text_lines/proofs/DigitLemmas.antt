@@ -58,10 +58,13 @@ longer ds k b n l e h is a s =
     }
 
 -- so few digits stay within 64 bits
-pub few_here : (ds : Text) (k b n : ℕ) → k < length ds → length ds ≤ 18 → is_ascii_digit b ≡ true → n < ten_to k → n * 10 + (b - 48) < 1000000000000000000
-few_here ds k b n l few h s =
+pub few_at : (k b n : ℕ) → k < 18 → is_ascii_digit b ≡ true → n < ten_to k → n * 10 + (b - 48) < 1000000000000000000
+few_at k b n l h s =
     let up : n * 10 + (b - 48) < ten_to (suc k) = omega (arith, digit_few b h, s) in
-    omega (arith, up, ten_most (suc k) (omega (arith, l, few)))
+    omega (arith, up, ten_most (suc k) (omega (arith, l)))
+
+pub few_here : (ds : Text) (k b n : ℕ) → k < length ds → length ds ≤ 18 → is_ascii_digit b ≡ true → n < ten_to k → n * 10 + (b - 48) < 1000000000000000000
+few_here ds k b n l few h s = few_at k b n (omega (arith, l, few)) h s
 
 -- the number of all digits
 pub whole : (ds : Text) (k n : ℕ) → length ds ≤ k → n ≡ number_from 0 (take k ds) → all_ascii_digits (take k ds) ≡ true → Some n ≡ cond (all_ascii_digits ds) (Some (number_from 0 ds)) None

@@ -1,6 +1,7 @@
 pub mod NumberLemmas
 pub mod DigitLemmas
 pub mod FeedLemmas
+pub mod LeadingLemmas
 pub mod PrintableLemmas
 pub mod RowLemmas
 pub mod TextLemmas

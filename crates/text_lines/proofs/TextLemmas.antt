@@ -96,10 +96,10 @@ none_left (b ∷ bs) h = absurd (omega arith)
 
 -- ---- words
 
-len_yes : (p : ℕ → Bool) (b : ℕ) (bs : Text) → p b ≡ true → prefix_len p (b ∷ bs) ≡ suc (prefix_len p bs)
+pub len_yes : (p : ℕ → Bool) (b : ℕ) (bs : Text) → p b ≡ true → prefix_len p (b ∷ bs) ≡ suc (prefix_len p bs)
 len_yes p b bs e = ap (λ t. cond t (1 + prefix_len p bs) 0) e ∙ one-add (prefix_len p bs)
 
-len_no : (p : ℕ → Bool) (b : ℕ) (bs : Text) → p b ≡ false → prefix_len p (b ∷ bs) ≡ 0
+pub len_no : (p : ℕ → Bool) (b : ℕ) (bs : Text) → p b ≡ false → prefix_len p (b ∷ bs) ≡ 0
 len_no p b bs e = ap (λ t. cond t (1 + prefix_len p bs) 0) e
 
 -- the four rules of `words`

@@ -1,5 +1,6 @@
 pub mod Bytes
 pub mod Laws
+pub mod Leading
 pub mod Rows
 pub mod Steps
 pub mod Text

@@ -1,7 +1,9 @@
--- What the two iterators give.
-use Rattle.std.specs.Prelude.{◌≡◌, ℕ, ◌+◌, [], ◌∷◌, ◌++◌, drop, Option, MatchOption}
+-- What the two iterators give, and what a word's value takes of a line.
+use Rattle.std.specs.Prelude.{◌≡◌, ℕ, ◌+◌, List, [], ◌∷◌, ◌++◌, drop, Option, None, MatchOption, Result, MatchResult}
 use denote.Ref.{Bor}
+use Rattle.session_values.specs.declared.value.Value.{Value}
 use Rattle.text_lines.specs.Text.{Text, lines, words}
+use Rattle.text_lines.specs.Values.{placed, value_of}
 use Rattle.text_lines.specs.declared.line.Line.{Line}
 use Rattle.text_lines.specs.declared.lines.Lines.{Lines}
 
@@ -9,12 +11,29 @@ use Rattle.text_lines.specs.declared.lines.Lines.{Lines}
 abbrev pub IsSliceOf : Text → Text → Text → Type 0
 IsSliceOf line word rest = (k : ℕ) × (word ++ rest ≡ drop k line)
 
+-- the first word of a line, as a slice of it, and the rest behind it
+abbrev pub IsFirstWord : Text → Text → Text → Type 0
+IsFirstWord line word rest = (words line ≡ word ∷ words rest) × IsSliceOf line word rest
+
 -- no word is left, and nothing changes; or the first that is left, as a slice of the line
 abbrev pub TakesWord : Line → Option (Bor Text) → Line → Type 0
 TakesWord old r new = MatchOption r
     ((words old.rest.now ≡ []) × (new ≡ old))
-    (λ w. (words old.rest.now ≡ w.now ∷ words new.rest.now)
-    × IsSliceOf old.rest.now w.now new.rest.now)
+    (λ w. IsFirstWord old.rest.now w.now new.rest.now)
+
+-- the value of a word, if it is one, and the names with the word
+abbrev pub IsValueOf : List Text → Text → Option Value → List Text → Type 0
+IsValueOf names word v after = (v ≡ value_of after word) × (after ≡ placed names word)
+
+-- no word is left, and nothing changes; or the first word that is left is taken, with the names in
+-- which it has its value; or it is taken where memory is too small for them, and they stay
+abbrev pub TakesValue : {E : Type 0} → Line → List Text → Result (Option (Option Value)) E → Line
+    → List Text → Type 0
+TakesValue old names r new after = MatchResult r
+    (λ found. MatchOption found (TakesWord old None new × (after ≡ names))
+    (λ v. (word : Text) × IsFirstWord old.rest.now word new.rest.now
+    × IsValueOf names word v after))
+    (λ _. (word : Text) × IsFirstWord old.rest.now word new.rest.now × (after ≡ names))
 
 -- no line is left, and nothing changes; or the first that is left, with its number
 abbrev pub TakesLine : Lines → Option (ℕ × Line) → Lines → Type 0

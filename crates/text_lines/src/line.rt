@@ -3,6 +3,8 @@
 ghost use Rattle.std.specs.Prelude.{◌≤◌, length};
 
 use crate::scan::{blanks_len, word_len};
+use crate::word_value::{leading_number, value};
+use session_values::{Names, NoMemory, Value};
 
 /// The words of a line that stand before its comment, as slices of the line.
 #[derive(Clone, Copy, Debug)]
@@ -30,5 +32,42 @@ impl<'a> Iterator for Line<'a> {
         }
         self.rest = after;
         Some(word)
+    }
+}
+
+impl<'a> Line<'a> {
+    ghost use Rattle.std.specs.Prelude.{◌<◌, length};
+    ghost use Rattle.text_lines.specs.Steps.{TakesValue};
+    ghost use Rattle.text_lines.specs.Text.{words};
+
+    /// Takes the next word of the line, if one is left, and says its value, or `None` inside where
+    /// it isn't one: `next` and `value` in one, which reads a number of a few digits in one pass.
+    #[inline]
+    pub fn next_value(&mut self, names: &mut Names) -> Result<Option<Option<Value>>, NoMemory>
+        requires { 0 < length (words self.old.rest.now) → length names.old < 4294967295 }
+        ensures steps { TakesValue self.old names.old result self.new names.new }
+    {
+        let (_, rest) = self.rest.split_at(blanks_len(self.rest.as_bytes()));
+        let Some((number, len)) = leading_number(rest.as_bytes()) else {
+            return self.next_by_word(names);
+        };
+        if len == 0 {
+            return Ok(None);
+        }
+        let (_, after) = rest.split_at(len);
+        self.rest = after;
+        Ok(Some(Some(Value::Num(number as i64))))
+    }
+
+    /// The next word and its value, one after the other.
+    #[inline(never)]
+    fn next_by_word(&mut self, names: &mut Names) -> Result<Option<Option<Value>>, NoMemory>
+        requires { 0 < length (words self.old.rest.now) → length names.old < 4294967295 }
+        ensures steps { TakesValue self.old names.old result self.new names.new }
+    {
+        match self.next() {
+            Some(word) => Ok(Some(value(word, names)?)),
+            None => Ok(None),
+        }
     }
 }

@@ -9,7 +9,7 @@ use crate::bytes::is_blank;
 use memchr::memchr;
 
 #[inline]
-fn is_word_byte(byte: u8) -> bool
+pub(crate) fn is_word_byte(byte: u8) -> bool
     ensures { result ≡ spec.is_word_byte byte }
 {
     !(is_blank(byte) || byte == b'#')

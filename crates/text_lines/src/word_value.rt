@@ -4,9 +4,11 @@ ghost use Rattle.std.specs.Prelude.{◌≡◌, ◌<◌, ◌≤◌, length, slice
 ghost use Rattle.std.specs.List.{list_all};
 ghost use Rattle.std.specs.Str.{all_ascii_digits};
 ghost use Rattle.text_lines.specs.Bytes as classes;
+ghost use Rattle.text_lines.specs.Leading.{IsLeading};
 ghost use Rattle.text_lines.specs.Values as spec;
 
 use crate::bytes::is_symbol_byte;
+use crate::scan::is_word_byte;
 use session_values::{MAX_NAME, Names, NoMemory, Value};
 
 /// The word's first byte, or 0 where it has none.
@@ -36,6 +38,31 @@ fn few_digits(digits: &[u8]) -> Option<u64>
         number = number * 10 + (*b - b'0') as u64;
     }
     Some(number)
+}
+
+/// The number of the word in front and how many bytes it has, or None where it isn't one of a few
+/// digits alone. Where no word stands in front, it has none.
+#[inline]
+pub(crate) fn leading_number(bytes: &[u8]) -> Option<(u64, usize)>
+    ensures { IfSome result (λ r. IsLeading bytes.now r.0 r.1) }
+{
+    let mut number = 0;
+    let mut len = 0;
+    for b in bytes {
+        if !b.is_ascii_digit() {
+            return if is_word_byte(*b) {
+                None
+            } else {
+                Some((number, len))
+            };
+        }
+        if len >= FEW_DIGITS {
+            return None;
+        }
+        number = number * 10 + (*b - b'0') as u64;
+        len += 1;
+    }
+    Some((number, len))
 }
 
 /// The number that a word is, if it is one, by `parse`. That takes a plus sign too, which a

@@ -32,8 +32,8 @@ lines-init c =
 pub lines-preserved-in-Ok : goal.lines-preserved-in-Ok
 lines-preserved-in-Ok c =
     let steps = c.in-Some.ensures.steps in
-    let e : rows c.lines.lines.number (lines c.lines.lines.rest.now) ≡ row_of c.in-Some.number c.in-Some-next.name.now (words c.next-in-Some.new.self.rest.now) ∷ rows c.next.new.self.number (lines c.next.new.self.rest.now) =
-    rows_step c.lines.lines.number c.in-Some.number c.next.new.self.number (lines c.lines.lines.rest.now) c.in-Some.line.rest.now (lines c.next.new.self.rest.now) c.in-Some-next.name.now (words c.next-in-Some.new.self.rest.now)
+    let e : rows c.lines.lines.number (lines c.lines.lines.rest.now) ≡ row_of c.in-Some.line c.in-Some-next.name.now (words c.next-in-Some.new.self.rest.now) ∷ rows c.next.new.self.number (lines c.next.new.self.rest.now) =
+    rows_step c.lines.lines.number c.in-Some.line c.next.new.self.number (lines c.lines.lines.rest.now) c.in-Some.words.rest.now (lines c.next.new.self.rest.now) c.in-Some-next.name.now (words c.next-in-Some.new.self.rest.now)
     steps.0 steps.1 steps.2 c.in-Some-next.ensures.steps.0 in
     let before = subst (λ rs. Going c.args.names.now c.args.checked.now (rows c.args.first (lines c.args.text.now)) c.lines.names rs (requests_in c.lines.values.items c.lines.found.items) c.lines.tally) e c.lines.invariant.going in
     let accepted = c.in-Ok.ensures.ok in
@@ -50,8 +50,8 @@ pub returns-in-Err-clause-refused : goal.returns-in-Err-clause-refused
 returns-in-Err-clause-refused c = λ e is some.
     let steps = c.in-Some.ensures.steps in
     let k : c.in-Err.e ≡ e = cc in
-    let f : rows c.lines.lines.number (lines c.lines.lines.rest.now) ≡ row_of c.in-Some.number c.in-Some-next.name.now (words c.next-in-Some.new.self.rest.now) ∷ rows c.next.new.self.number (lines c.next.new.self.rest.now) =
-    rows_step c.lines.lines.number c.in-Some.number c.next.new.self.number (lines c.lines.lines.rest.now) c.in-Some.line.rest.now (lines c.next.new.self.rest.now) c.in-Some-next.name.now (words c.next-in-Some.new.self.rest.now)
+    let f : rows c.lines.lines.number (lines c.lines.lines.rest.now) ≡ row_of c.in-Some.line c.in-Some-next.name.now (words c.next-in-Some.new.self.rest.now) ∷ rows c.next.new.self.number (lines c.next.new.self.rest.now) =
+    rows_step c.lines.lines.number c.in-Some.line c.next.new.self.number (lines c.lines.lines.rest.now) c.in-Some.words.rest.now (lines c.next.new.self.rest.now) c.in-Some-next.name.now (words c.next-in-Some.new.self.rest.now)
     steps.0 steps.1 steps.2 c.in-Some-next.ensures.steps.0 in
     let before = subst (λ rs. Going c.args.names.now c.args.checked.now (rows c.args.first (lines c.args.text.now)) c.lines.names rs (requests_in c.lines.values.items c.lines.found.items) c.lines.tally) f c.lines.invariant.going in
     going_fault c.args.names.now c.args.checked.now (rows c.args.first (lines c.args.text.now)) c.lines.names _ _ (requests_in c.lines.values.items c.lines.found.items) c.lines.tally e (named_known c.args.names.now c.args.checked.now c.requires.named) before
@@ -61,7 +61,7 @@ pub lines-preserved : goal.lines-preserved
 lines-preserved c =
     let steps = c.in-Some.ensures.steps in
     let f : rows c.lines.lines.number (lines c.lines.lines.rest.now) ≡ rows c.next.new.self.number (lines c.next.new.self.rest.now) =
-    rows_pass c.lines.lines.number c.next.new.self.number (lines c.lines.lines.rest.now) c.in-Some.line.rest.now (lines c.next.new.self.rest.now) steps.0 steps.2 c.in_default-next.ensures.steps.0 in
+    rows_pass c.lines.lines.number c.next.new.self.number (lines c.lines.lines.rest.now) c.in-Some.words.rest.now (lines c.next.new.self.rest.now) steps.0 steps.2 c.in_default-next.ensures.steps.0 in
     record {
       next = tt;
       finite = tt;

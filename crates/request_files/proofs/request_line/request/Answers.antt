@@ -15,23 +15,23 @@ use Rattle.request_files.proofs.request_line.request.Goals as goal
 
 pub returns-then-tally-ge-MAX_REQUESTS-clause-refused : goal.returns-then-tally-ge-MAX_REQUESTS-clause-refused
 returns-then-tally-ge-MAX_REQUESTS-clause-refused c =
-    told _ _ (fault_many c.args.names.now c.args.checked.now c.args.tally (row_of c.args.line c.args.name.now (words c.args.words.rest.now)) (omega arith))
+    told _ _ (fault_many c.args.names.now c.args.checked.now c.args.tally (row_of c.args.row.line c.args.row.name.now (words c.args.row.words.rest.now)) (omega arith))
 
 pub returns-in_default-clause-refused : goal.returns-in_default-clause-refused
 returns-in_default-clause-refused c =
-    told _ _ (fault_unknown c.args.names.now c.args.checked.now c.args.tally (row_of c.args.line c.args.name.now (words c.args.words.rest.now)) (omega arith) c.in_default.ensures)
+    told _ _ (fault_unknown c.args.names.now c.args.checked.now c.args.tally (row_of c.args.row.line c.args.row.name.now (words c.args.row.words.rest.now)) (omega arith) c.in_default.ensures)
 
 pub returns-then-not-fine-clause-refused : goal.returns-then-not-fine-clause-refused
 returns-then-not-fine-clause-refused c =
-    let row = row_of c.args.line c.args.name.now (words c.args.words.rest.now) in
+    let row = row_of c.args.row.line c.args.row.name.now (words c.args.row.words.rest.now) in
     let params = c.handler-2.ensures.params in
     let bad : list_all is_value row.args ≡ false = sym c.in-Ok.ensures.tests ∙ c.if-not-fine.true in
     told _ _ (fault_bad c.args.names.now c.args.checked.now c.args.tally row c.in-Some.number c.in-Some.ensures.0 (omega arith) c.in-Some.ensures.1 bad
-    ∙ ap (λ n. Some (cond (n == length row.args) (BadWord c.args.line) (Arity c.args.line))) (sym params) ∙ ap (λ (x : RequestRefusal). Some x) (sym c.bad_word.ensures))
+    ∙ ap (λ n. Some (cond (n == length row.args) (BadWord c.args.row.line) (Arity c.args.row.line))) (sym params) ∙ ap (λ (x : RequestRefusal). Some x) (sym c.bad_word.ensures))
 
 pub returns-then-len-first-clause-refused : goal.returns-then-len-first-clause-refused
 returns-then-len-first-clause-refused c =
-    let row = row_of c.args.line c.args.name.now (words c.args.words.rest.now) in
+    let row = row_of c.args.row.line c.args.row.name.now (words c.args.row.words.rest.now) in
     let f = c.args.checked.now in
     let params = c.handler-2.ensures.params in
     let new = c.values.new.names in
@@ -44,7 +44,7 @@ returns-then-len-first-clause-refused c =
 
 pub returns-in-Err-clause-refused : goal.returns-in-Err-clause-refused
 returns-in-Err-clause-refused c =
-    let row = row_of c.args.line c.args.name.now (words c.args.words.rest.now) in
+    let row = row_of c.args.row.line c.args.row.name.now (words c.args.row.words.rest.now) in
     let f = c.args.checked.now in
     let params = c.handler-2.ensures.params in
     let new = c.values.new.names in
@@ -54,11 +54,11 @@ returns-in-Err-clause-refused c =
     let words_long = values_long new row.args in
     let same : params_at f c.in-Some.number ≡ length row.args = omega (arith, params, long, words_long, c.len.ensures, c.len-first.ensures, c.if-len-first.false, c.values.new.list.ok, c.args.list.now.ok) in
     told _ _ (fault_sums c.args.names.now f c.args.tally row c.in-Some.number c.in-Some.ensures.0 (omega arith) c.in-Some.ensures.1 same fine
-    ∙ ap (λ (x : Tally). spec.sum_fault x c.args.line) (sym c.with_request-next.ensures) ∙ c.in-Err.ensures)
+    ∙ ap (λ (x : Tally). spec.sum_fault x c.args.row.line) (sym c.with_request-next.ensures) ∙ c.in-Err.ensures)
 
 pub returns-in-Ok-look_at_sums-clause-ok : goal.returns-in-Ok-look_at_sums-clause-ok
 returns-in-Ok-look_at_sums-clause-ok c =
-    let row = row_of c.args.line c.args.name.now (words c.args.words.rest.now) in
+    let row = row_of c.args.row.line c.args.row.name.now (words c.args.row.words.rest.now) in
     let f = c.args.checked.now in
     let params = c.handler-2.ensures.params in
     let new = c.values.new.names in
