@@ -5,7 +5,6 @@ ghost use Rattle.session_values.specs.Serial.{serial_replies};
 ghost use Rattle.session_journal.specs.Journal.{begun, ended};
 ghost use Rattle.session_journal.specs.Script.{session_of};
 ghost use Rattle.session_hall.specs.Callers.{IsCallerOf, StaysCaller, book_of, entries_of, foresight_of};
-ghost use Rattle.session_hall.specs.Names.{script_of};
 ghost use Rattle.session_hall.specs.Stages.{IsBetween};
 ghost use Rattle.session_hall.specs.declared.stage.Stage.TheVariants.{Idle, Out, Serving};
 ghost use Rattle.hall_serving.specs.Jobs.{HasBegunNone, ServesNext};
@@ -14,7 +13,7 @@ use crate::crew::Crew;
 use crate::desk::HallDesk;
 use crate::pause::Pause;
 use admission_book::laws::answering;
-use session_hall::{Caller, Hall};
+use session_hall::Caller;
 use session_journal::{Scratch, Script, Serves};
 use session_values::Reply;
 use std::sync::Wait;
@@ -25,34 +24,30 @@ use worker_gate::{Gate, Place};
 /// ticket and its reply, which is its serial one. None comes where all tickets are begun; the
 /// caller is out then.
 pub fn serve_next<R: Threads + Wait + Sync, S: Serves + Drop, G: Gate>(
-    rt: &R,
-    plan: &S,
-    hall: &Hall<S>,
-    gate: &G,
+    crew: Crew<'_, R, S, G>,
     caller: &mut Caller<S>,
     scratch: &mut Scratch,
     pause: &mut Pause,
 ) -> Option<(u32, Reply)>
-    requires caller { IsCallerOf S.meaning hall.now caller.old }
+    requires caller { IsCallerOf S.meaning crew.hall.now caller.old }
     requires between { IsBetween caller.old.stage }
-    requires plan { script_of hall.now ≡ plan.now }
-    ensures caller { StaysCaller S.meaning hall.now caller.old caller.new }
+    ensures caller { StaysCaller S.meaning crew.entry.hall.now caller.old caller.new }
     ensures served { ServesNext
-        (serial_replies (session_of (S.meaning plan.now)) (S.meaning plan.now).requests)
-        caller.old caller.new result }
+        (serial_replies (session_of (S.meaning crew.entry.plan.now))
+        (S.meaning crew.entry.plan.now).requests) caller.old caller.new result }
 {
     answering();
+    let Crew {
+        rt,
+        plan,
+        hall,
+        gate,
+    } = crew;
     pause.wait(hall, plan.requests());
     let Some(ticket) = caller.begin(rt, hall) else {
         return None;
     };
     gate.pass(rt, Place::Begun(ticket));
-    let crew = Crew {
-        rt,
-        plan,
-        hall,
-        gate,
-    };
     let reply = serve_ticket(crew, ticket, caller, scratch, pause);
     Some((ticket, reply))
 }

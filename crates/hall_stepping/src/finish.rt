@@ -11,11 +11,12 @@ ghost use Rattle.hall_stepping.specs.Script.{meaning};
 ghost use Rattle.hall_stepping.specs.Standing.{IsStepped};
 ghost use Rattle.hall_stepping.specs.Steps.{IsSerialEnd, StepsAs, meaning_of};
 
+use crate::applied::AppliedOp;
 use crate::planned_script::PlannedScript;
 use crate::row::Row;
 use crate::stepped::Stepped;
 use session_hall::{Applying, Caller, Finishing, Hall};
-use session_values::{Op, Value};
+use session_values::Op;
 use symbolic_ops::Foresight;
 
 // Does the ticket's operation on its shards.
@@ -47,12 +48,10 @@ pub(crate) fn finish(
     list: &mut Foresight,
     caller: &mut Caller<PlannedScript>,
     done: &mut usize,
-    ticket: u32,
-    op: Op,
-    reply: Value,
+    applied: AppliedOp,
 ) -> Stepped
     requires caller { IsStepped hall.now caller.old done.old }
-    requires stage { caller.old.stage ≡ Applied ticket op reply }
+    requires stage { caller.old.stage ≡ Applied applied.ticket applied.op applied.reply }
     requires rows { (script_of hall.now).tickets ≡ tickets_of rows.now }
     requires room { max_symbols ≤ list.old.room }
     ensures room { list.new.room ≡ list.old.room }
@@ -61,12 +60,12 @@ pub(crate) fn finish(
     ensures stepped { StepsAs hall.now caller.old caller.new result }
     ensures serial { IsSerialEnd (meaning_of hall.now) result }
 {
-    let row = &rows[ticket as usize];
+    let row = &rows[applied.ticket as usize];
     list.copy_from(row.symbols.as_slice());
     match caller.try_finish(hall, list) {
         Finishing::Done => {
             *done += 1;
-            Stepped::Finished(ticket)
+            Stepped::Finished(applied.ticket)
         }
         Finishing::Busy { turn } => Stepped::Busy { turn },
     }

@@ -2,6 +2,7 @@
 //! and each step is the next try call of one caller. No step waits.
 #![tactic(auto)]
 
+mod applied;
 mod begin;
 mod ending;
 mod finish;

@@ -10,6 +10,7 @@ ghost use Rattle.hall_stepping.specs.Standing.{IsStepped};
 ghost use Rattle.hall_stepping.specs.Stepping.{IsStep};
 ghost use Rattle.hall_stepping.specs.Steps.{IsSerialEnd, StepsAs, meaning_of};
 
+use crate::applied::AppliedOp;
 use crate::begin::begin;
 use crate::finish::{apply, finish};
 use crate::planned_script::PlannedScript;
@@ -70,7 +71,8 @@ fn step_caller(
         Stage::Serving(ticket) => serve(hall, rows, caller, *done, ticket),
         Stage::InFlight(ticket, op) => apply(hall, caller, *done, ticket, op),
         Stage::Applied(ticket, op, reply) => {
-            finish(hall, rows, list, caller, done, ticket, op, reply)
+            let applied = AppliedOp { ticket, op, reply };
+            finish(hall, rows, list, caller, done, applied)
         }
     }
 }

@@ -1,6 +1,7 @@
 // The requests of a program as a script.
 
-ghost use Rattle.std.specs.Prelude.{◌≡◌, ◌<◌, List, [], None, false, IfOk, OnErr};
+ghost use Rattle.std.specs.Prelude.{◌≡◌, ◌<◌, ◌≤◌, List, [], None, false, length, IfOk, OnErr};
+ghost use Rattle.session_values.specs.Limits.{max_tables};
 ghost use Rattle.opening_tables.specs.Opening.{IsOpening, Pair};
 ghost use Rattle.session_journal.specs.Served.{IsServed, IsStopped};
 ghost use Rattle.handler_check.specs.Resolved.{shape_of};
@@ -85,10 +86,10 @@ impl<'a> Scripts<'a> {
 
     /// The kinds of the tables.
     pub fn shape(&self, alloc: Global) -> Result<Vec<TableKind>, NoMemory>
-        ensures { IfOk result (λ shape. shape.items ≡ (meaning self.now).shape) }
+        ensures kinds { IfOk result (λ shape. shape.items ≡ (meaning self.now).shape) }
+        ensures few { IfOk result (λ shape. length shape.items ≤ max_tables) }
     {
-        let tables = self.checked.file().tables.as_slice();
-        Ok(tables.iter().map(|t| t.kind).collect(alloc)?)
+        self.checked.shape(alloc)
     }
 
     /// Runs the handler of a ticket on what answers its operations. Want of memory comes only where

@@ -1,9 +1,7 @@
 // Serving a handler at a desk.
 
 ghost use Rattle.std.specs.Prelude.{◌≡◌, ◌+◌, ◌≤◌, ◌<◌, [], None, false, length, IfOk, OnErr};
-ghost use Rattle.std.specs.List.{AllByRecursion};
 ghost use Rattle.session_values.specs.Limits.{max_variables};
-ghost use Rattle.session_values.specs.Values.{IsValue};
 ghost use Rattle.check_meaning.specs.Code.{block_code, points};
 ghost use Rattle.check_meaning.specs.Dialogue.{entry, env_of, run};
 ghost use Rattle.machine_walk.specs.Runnable.{IsRunnable};
@@ -66,33 +64,40 @@ fn serve_body<R: Threads + Wait + Sync, D: Desk>(
     Ok(())
 }
 
+/// A handler of a program, by its number.
+#[derive(Clone, Copy)]
+struct HandlerOf<'a> {
+    program: &'a Program,
+    number: u32,
+}
+
 /// Serves a handler whose variables have these values at a desk, from its entry to its end, in room
 /// for their values at a point.
 fn serve_in_room<R: Threads + Wait + Sync, D: Desk>(
     rt: &R,
-    program: &Program,
-    h: u32,
+    of: HandlerOf<'_>,
     handler: &CheckedHandler,
     env: &mut [Value],
     kept: &mut [Value],
     desk: &mut D,
 ) -> Result<(), NoMemory>
-    requires handler { h < length program.now.file.handlers }
-    requires own { length handler.now.variables ≡ length (variables_at program.now.file h) }
+    requires handler { of.number < length of.program.now.file.handlers }
+    requires own { length handler.now.variables ≡ length (variables_at of.program.now.file of.number) }
     requires variables { max_variables ≤ length env.old }
     requires kept { length kept.old ≡ max_variables }
     requires within { IsRunnable (length env.old) (block_code handler.now.body) }
     requires fresh { (D.at desk.old).entries ≡ [] }
     requires idle { (D.at desk.old).waiting ≡ None }
     requires going { (D.at desk.old).ended ≡ false }
-    requires present { (D.at desk.old).present ≡ list_at (declared_at program.now h)
+    requires present { (D.at desk.old).present ≡ list_at (declared_at of.program.now of.number)
         (entry (env_of env.old)) }
     requires gives { Gives (D.Served.meaning (D.script desk.old)) (D.at desk.old).ticket
-        (declared_at program.now h) (entry (env_of env.old))
+        (declared_at of.program.now of.number) (entry (env_of env.old))
         (run (block_code handler.now.body) (env_of env.old)) }
-    requires declares { DeclaresHandler (D.Served.meaning (D.script desk.old)) program.now h }
-    requires promises { Promises (1 + points (code_at program.now.file h))
-        (declared_at program.now h) (entry (env_of env.old))
+    requires declares { DeclaresHandler (D.Served.meaning (D.script desk.old))
+        of.program.now of.number }
+    requires promises { Promises (1 + points (code_at of.program.now.file of.number))
+        (declared_at of.program.now of.number) (entry (env_of env.old))
         (run (block_code handler.now.body) (env_of env.old)) }
     ensures script { D.script desk.new ≡ D.script desk.old }
     ensures served { IfOk result (λ _. IsServed (D.Served.meaning (D.script desk.old))
@@ -102,8 +107,8 @@ fn serve_in_room<R: Threads + Wait + Sync, D: Desk>(
 {
     let mut guide = Narrowing {
         rt,
-        program,
-        handler: h,
+        program: of.program,
+        handler: of.number,
         variables: handler.variables.len() as usize,
         point: 0,
         values: kept,
@@ -111,51 +116,6 @@ fn serve_in_room<R: Threads + Wait + Sync, D: Desk>(
         late: false,
     };
     serve_body(&mut guide, desk, env, &handler.body)
-}
-
-/// Serves a handler with these arguments at a desk, from its entry to its end.
-fn serve_handler<R: Threads + Wait + Sync, D: Desk>(
-    rt: &R,
-    program: &Program,
-    h: u32,
-    handler: &CheckedHandler,
-    args: &[Value],
-    scratch: &mut Scratch,
-    desk: &mut D,
-) -> Result<(), NoMemory>
-    requires handler { h < length program.now.file.handlers }
-    requires own { length handler.now.variables ≡ length (variables_at program.now.file h) }
-    requires args { length args.now ≤ max_variables }
-    requires within { IsRunnable max_variables (block_code handler.now.body) }
-    requires fresh { (D.at desk.old).entries ≡ [] }
-    requires idle { (D.at desk.old).waiting ≡ None }
-    requires going { (D.at desk.old).ended ≡ false }
-    requires present { (D.at desk.old).present ≡ list_at (declared_at program.now h)
-        (entry (env_of args.now)) }
-    requires gives { Gives (D.Served.meaning (D.script desk.old)) (D.at desk.old).ticket
-        (declared_at program.now h) (entry (env_of args.now))
-        (run (block_code handler.now.body) (env_of args.now)) }
-    requires declares { DeclaresHandler (D.Served.meaning (D.script desk.old)) program.now h }
-    requires promises { AllByRecursion IsValue args.now → Promises
-        (1 + points (code_at program.now.file h)) (declared_at program.now h)
-        (entry (env_of args.now)) (run (block_code handler.now.body) (env_of args.now)) }
-    ensures script { D.script desk.new ≡ D.script desk.old }
-    ensures served { IfOk result (λ _. IsServed (D.Served.meaning (D.script desk.old))
-        (D.at desk.old) (D.at desk.new)) }
-    ensures stopped { OnErr result (IsStopped (D.Served.meaning (D.script desk.old))
-        (D.at desk.old) (D.at desk.new)) }
-{
-    let env = scratch.values.as_mut_slice();
-    set_up(env, args);
-    serve_in_room(
-        rt,
-        program,
-        h,
-        handler,
-        env,
-        scratch.kept.as_mut_slice(),
-        desk,
-    )
 }
 
 /// Serves a handler of a program with these arguments at a desk, from its entry to its end. At each
@@ -190,5 +150,8 @@ pub fn serve_one<R: Threads + Wait + Sync, D: Desk>(
         (D.at desk.old) (D.at desk.new)) }
 {
     let handler = program.checked().handler(h);
-    serve_handler(rt, program, h, handler, args, scratch, desk)
+    let env = scratch.values.as_mut_slice();
+    set_up(env, args);
+    let of = HandlerOf { program, number: h };
+    serve_in_room(rt, of, handler, env, scratch.kept.as_mut_slice(), desk)
 }

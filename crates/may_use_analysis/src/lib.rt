@@ -7,6 +7,7 @@ mod heads;
 mod kept;
 mod later;
 pub mod laws;
+mod loop_parts;
 mod ordered;
 mod places;
 mod recent;

@@ -8,6 +8,7 @@ ghost use Rattle.may_use_analysis.specs.Flow.{Flow, Head, StmtFlow};
 ghost use Rattle.may_use_analysis.specs.Warm.{SameOutside, StaysWarm};
 
 use crate::heads::Heads;
+use crate::loop_parts::LoopParts;
 use crate::ordered::Ordered;
 use crate::still::is_still;
 use crate::stores::{Store, store_of};
@@ -83,7 +84,14 @@ fn spread_stmt(
             var,
             body,
             ..
-        } => spread_loop(alloc, *point, *var, body.as_slice(), after, own, heads),
+        } => {
+            let parts = LoopParts {
+                point: *point,
+                var: *var,
+                body: body.as_slice(),
+            };
+            spread_loop(alloc, parts, after, own, heads)
+        }
         CheckedStmt::Answer { .. } => Ok(Ordered::new(alloc)),
     }
 }
@@ -92,32 +100,33 @@ fn spread_stmt(
 #[cycle(spread)]
 fn spread_loop(
     alloc: Global,
-    point: u32,
-    var: u32,
-    body: &[CheckedStmt],
+    parts: LoopParts<'_>,
     after: Ordered,
     own: bool,
     heads: &mut Heads,
 ) -> Result<Ordered, NoMemory>
-    requires { (low : ℕ) × IsNumbered (Loop 0 point 0 var (block_code body.now) Finish) low }
+    requires { (low : ℕ)
+        × IsNumbered (Loop 0 parts.point 0 parts.var (block_code parts.body.now) Finish) low }
     ensures within { IfOk result (λ r. (s : Symbol) → Contains r s
-        → Head var (block_code body.now) (Contains after) s) }
-    ensures warm { OnOk result (StaysWarm (Loop 0 point 0 var (block_code body.now) Finish) after
-        heads.old heads.new) }
+        → Head parts.entry.var (block_code parts.entry.body.now) (Contains after) s) }
+    ensures warm { OnOk result (StaysWarm (Loop 0 parts.entry.point 0 parts.entry.var
+        (block_code parts.entry.body.now) Finish) after heads.old heads.new) }
     ensures others { OnOk result ((low : ℕ)
-        → IsNumbered (Loop 0 point 0 var (block_code body.now) Finish) low
-        → SameOutside heads.old heads.new low (low + points (block_code body.now) + 1)) }
+        → IsNumbered (Loop 0 parts.entry.point 0 parts.entry.var
+        (block_code parts.entry.body.now) Finish) low
+        → SameOutside heads.old heads.new low
+        (low + points (block_code parts.entry.body.now) + 1)) }
 {
-    let mut fresh = heads.take_in(alloc, point, &after)?;
+    let mut fresh = heads.take_in(alloc, parts.point, &after)?;
     let mut all = after;
     let mut first = own;
     for _ in 0..u32::MAX {
         if !first && fresh.as_slice().is_empty() {
             return Ok(all);
         }
-        let mut turn = spread_block(alloc, body, fresh, first, heads)?;
-        turn.carry(Store::Other { x: var });
-        fresh = heads.take_in(alloc, point, &turn)?;
+        let mut turn = spread_block(alloc, parts.body, fresh, first, heads)?;
+        turn.carry(Store::Other { x: parts.var });
+        fresh = heads.take_in(alloc, parts.point, &turn)?;
         all.join(&fresh)?;
         first = false;
     }

@@ -9,6 +9,7 @@ ghost use Rattle.may_use_analysis.specs.Warm.{AreWarm};
 
 use crate::heads::Heads;
 use crate::kept::PointLists;
+use crate::loop_parts::LoopParts;
 use crate::ordered::Ordered;
 use crate::still::{is_still, keep_stmt};
 use crate::stores::{Store, store_of, symbol_of};
@@ -84,7 +85,12 @@ fn before_stmt(
             ..
         } => {
             out.keep(alloc, after.as_slice())?;
-            before_loop(alloc, *point, *var, body.as_slice(), after, heads, out)
+            let parts = LoopParts {
+                point: *point,
+                var: *var,
+                body: body.as_slice(),
+            };
+            before_loop(alloc, parts, after, heads, out)
         }
         CheckedStmt::Answer { .. } => Ok(Ordered::new(alloc)),
     }
@@ -94,29 +100,29 @@ fn before_stmt(
 #[cycle(walk)]
 fn before_loop(
     alloc: Global,
-    point: u32,
-    var: u32,
-    body: &[CheckedStmt],
+    parts: LoopParts<'_>,
     after: Ordered,
     heads: &Heads,
     out: &mut PointLists,
 ) -> Result<Ordered, NoMemory>
     requires numbered { (low : ℕ)
-        × IsNumbered (Loop 0 point 0 var (block_code body.now) Finish) low }
-    requires warm { AreWarm heads.now (Loop 0 point 0 var (block_code body.now) Finish)
-        (Contains after) }
-    ensures set { IfOk result (λ r. Are r (Head var (block_code body.now) (Contains after))) }
-    ensures lists { OnOk result (Recorded (block_code body.now)
-        (Head var (block_code body.now) (Contains after)) out.old out.new) }
+        × IsNumbered (Loop 0 parts.point 0 parts.var (block_code parts.body.now) Finish) low }
+    requires warm { AreWarm heads.now
+        (Loop 0 parts.point 0 parts.var (block_code parts.body.now) Finish) (Contains after) }
+    ensures set { IfOk result (λ r. Are r
+        (Head parts.entry.var (block_code parts.entry.body.now) (Contains after))) }
+    ensures lists { OnOk result (Recorded (block_code parts.entry.body.now)
+        (Head parts.entry.var (block_code parts.entry.body.now) (Contains after))
+        out.old out.new) }
 {
     let size = out.len();
     let mut head = after;
-    heads.add_to(point, &mut head)?;
+    heads.add_to(parts.point, &mut head)?;
     for _ in 0..u32::MAX {
         out.truncate(size);
         let copy = head.copied(alloc)?;
-        let mut turn = before_block(alloc, body, copy, heads, out)?;
-        turn.carry(Store::Other { x: var });
+        let mut turn = before_block(alloc, parts.body, copy, heads, out)?;
+        turn.carry(Store::Other { x: parts.var });
         if !head.join(&turn)? {
             return Ok(head);
         }

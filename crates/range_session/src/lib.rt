@@ -11,6 +11,7 @@ mod refusal;
 mod session;
 mod step;
 mod symbol;
+mod taking;
 mod word;
 mod writing;
 

@@ -9,6 +9,7 @@ ghost use Rattle.range_tables.specs.Relation as relation;
 ghost use Rattle.range_tables.specs.Symbols.{IsRangeSymbol, RangeCommutesWith, RangeDiffersFromSome};
 
 use crate::commuting::{changes_nothing, commutes_count, is_between, is_number, on_map};
+use crate::key_span::{KeyRange, KeySpan};
 use crate::range_op::RangeOp;
 use crate::range_symbol::RangeSymbol;
 use commute_tables::commute_symbol;
@@ -38,24 +39,24 @@ fn has_value(kind: Kind, value: Arg) -> bool
 }
 
 /// Of the keys in a range, the one nearest to `v`.
-fn nearest(low: i64, high: i64, v: Value) -> Value
-    ensures { result ≡ relation.nearest low high v }
+fn nearest(keys: KeyRange, v: Value) -> Value
+    ensures { result ≡ relation.nearest keys.low keys.high v }
 {
-    if is_between(low, high, v) {
+    if is_between(keys.low, keys.high, v) {
         v
     } else {
-        Value::Num(low)
+        Value::Num(keys.low)
     }
 }
 
 /// The argument agrees with a number of the range.
-fn meets(low: i64, high: i64, key: Arg) -> bool
-    ensures { result ≡ relation.meets low high key }
+fn meets(keys: KeyRange, key: Arg) -> bool
+    ensures { result ≡ relation.meets keys.low keys.high key }
 {
     match key {
-        Arg::Known(v) => is_between(low, high, v),
+        Arg::Known(v) => is_between(keys.low, keys.high, v),
         Arg::Var(_) => false,
-        Arg::Any => low <= high,
+        Arg::Any => keys.low <= keys.high,
     }
 }
 
@@ -70,32 +71,33 @@ fn value_for(kind: Kind, value: Arg) -> Arg
 }
 
 /// The symbol of one key of a span, the one nearest to the operation's own.
-fn one_key(a: &Op, kind: Kind, table: u32, low: i64, high: i64, value: Arg) -> Symbol
-    requires { is_keyed kind ≡ true }
-    ensures { result ≡ relation.one_key a.now kind table low high value }
+fn one_key(a: &Op, span: KeySpan) -> Symbol
+    requires { is_keyed span.kind ≡ true }
+    ensures { result ≡ relation.one_key a.now span.kind span.table span.keys.low span.keys.high
+        span.value }
 {
     Symbol::new(
-        kind,
-        table,
-        Arg::Known(nearest(low, high, a.key())),
-        value_for(kind, value),
+        span.kind,
+        span.table,
+        Arg::Known(nearest(span.keys, a.key())),
+        value_for(span.kind, span.value),
     )
 }
 
 /// An operation against a span.
-fn beside_span(a: &Op, kind: Kind, table: u32, low: i64, high: i64, value: Arg) -> bool
-    requires keyed { is_keyed kind ≡ true }
-    requires known { IsNoVar value }
+fn beside_span(a: &Op, span: KeySpan) -> bool
+    requires keyed { is_keyed span.kind ≡ true }
+    requires known { IsNoVar span.value }
     ensures { result ≡ relation.range_commutes_symbol (RangeOp.Plain a.now)
-        (RangeSymbol.Span kind table low high value) }
+        (RangeSymbol.Span span.kind span.table span.keys.low span.keys.high span.value) }
 {
-    if high < low {
+    if span.keys.high < span.keys.low {
         return true;
     }
-    if !has_value(kind, value) {
+    if !has_value(span.kind, span.value) {
         return true;
     }
-    let one = one_key(a, kind, table, low, high, value);
+    let one = one_key(a, span);
     commutes_plain_symbol(a, &one)
 }
 
@@ -110,9 +112,9 @@ fn may_be_number(arg: Arg) -> bool
 }
 
 /// A count against a symbol without a range.
-fn count_beside_symbol(table: u32, low: i64, high: i64, s: &Symbol) -> bool
-    ensures { result ≡ relation.range_commutes_symbol (RangeOp.Between table low high)
-        (RangeSymbol.Plain s.now) }
+fn count_beside_plain(table: u32, counted: KeyRange, s: &Symbol) -> bool
+    ensures { result ≡ relation.range_commutes_symbol
+        (RangeOp.Between table counted.low counted.high) (RangeSymbol.Plain s.now) }
 {
     if s.table != table {
         return true;
@@ -123,49 +125,99 @@ fn count_beside_symbol(table: u32, low: i64, high: i64, s: &Symbol) -> bool
     if changes_nothing(s.kind, may_be_number(s.value())) {
         return true;
     }
-    !meets(low, high, s.key())
+    !meets(counted, s.key())
 }
 
 /// Two ranges have a key in common.
-fn ranges_meet(low: i64, high: i64, l: i64, h: i64) -> bool
-    ensures { result ≡ relation.ranges_meet low high l h }
+fn ranges_meet(one: KeyRange, other: KeyRange) -> bool
+    ensures { result ≡ relation.ranges_meet one.low one.high other.low other.high }
 {
-    if high < low {
+    if one.high < one.low {
         return false;
     }
-    if h < l {
+    if other.high < other.low {
         return false;
     }
-    if h < low {
+    if other.high < one.low {
         return false;
     }
-    l <= high
+    other.low <= one.high
 }
 
 /// A count against a span.
-fn count_beside_span(
-    table: u32,
-    l: i64,
-    h: i64,
-    kind: Kind,
-    of: u32,
-    low: i64,
-    high: i64,
-    value: Arg,
-) -> bool
-    ensures { result ≡ relation.range_commutes_symbol (RangeOp.Between table l h)
-        (RangeSymbol.Span kind of low high value) }
+fn count_beside_span(table: u32, counted: KeyRange, span: KeySpan) -> bool
+    ensures { result ≡ relation.range_commutes_symbol
+        (RangeOp.Between table counted.low counted.high)
+        (RangeSymbol.Span span.kind span.table span.keys.low span.keys.high span.value) }
 {
-    if of != table {
+    if span.table != table {
         return true;
     }
-    if changes_nothing(kind, may_be_number(value)) {
+    if changes_nothing(span.kind, may_be_number(span.value)) {
         return true;
     }
-    if !has_value(kind, value) {
+    if !has_value(span.kind, span.value) {
         return true;
     }
-    !ranges_meet(low, high, l, h)
+    !ranges_meet(span.keys, counted)
+}
+
+/// An operation on one table against a symbol.
+fn beside_symbol(a: &Op, s: &RangeSymbol) -> bool
+    requires { IsRangeSymbol s.now }
+    ensures { result ≡ relation.range_commutes_symbol (RangeOp.Plain a.now) s.now }
+{
+    match s {
+        RangeSymbol::Plain(y) => commutes_plain_symbol(a, y),
+        RangeSymbol::Span {
+            kind,
+            table,
+            low,
+            high,
+            value,
+        } => {
+            let span = KeySpan {
+                kind: *kind,
+                table: *table,
+                keys: KeyRange {
+                    low: *low,
+                    high: *high,
+                },
+                value: *value,
+            };
+            beside_span(a, span)
+        }
+        RangeSymbol::Within { table, low, high } => commutes_count(a, *table, *low, *high),
+    }
+}
+
+/// A count against a symbol.
+fn count_beside(table: u32, counted: KeyRange, s: &RangeSymbol) -> bool
+    ensures { result ≡ relation.range_commutes_symbol
+        (RangeOp.Between table counted.low counted.high) s.now }
+{
+    match s {
+        RangeSymbol::Plain(y) => count_beside_plain(table, counted, y),
+        RangeSymbol::Span {
+            kind,
+            table: of,
+            low,
+            high,
+            value,
+        } => {
+            let span = KeySpan {
+                kind: *kind,
+                table: *of,
+                keys: KeyRange {
+                    low: *low,
+                    high: *high,
+                },
+                value: *value,
+            };
+            count_beside_span(table, counted, span)
+        }
+        RangeSymbol::Within { .. } => true,
+    }
 }
 
 /// What the relation says.
@@ -173,39 +225,15 @@ fn test(a: &RangeOp, s: &RangeSymbol) -> bool
     requires { IsRangeSymbol s.now }
     ensures { result ≡ relation.range_commutes_symbol a.now s.now }
 {
-    match (a, s) {
-        (RangeOp::Plain(x), RangeSymbol::Plain(y)) => commutes_plain_symbol(x, y),
-        (
-            RangeOp::Plain(x),
-            RangeSymbol::Span {
-                kind,
-                table,
-                low,
-                high,
-                value,
-            },
-        ) => beside_span(x, *kind, *table, *low, *high, *value),
-        (RangeOp::Plain(x), RangeSymbol::Within { table, low, high }) => {
-            commutes_count(x, *table, *low, *high)
+    match a {
+        RangeOp::Plain(x) => beside_symbol(x, s),
+        RangeOp::Between { table, low, high } => {
+            let counted = KeyRange {
+                low: *low,
+                high: *high,
+            };
+            count_beside(*table, counted, s)
         }
-        (RangeOp::Between { table, low, high }, RangeSymbol::Plain(y)) => {
-            count_beside_symbol(*table, *low, *high, y)
-        }
-        (
-            RangeOp::Between {
-                table,
-                low: l,
-                high: h,
-            },
-            RangeSymbol::Span {
-                kind,
-                table: of,
-                low,
-                high,
-                value,
-            },
-        ) => count_beside_span(*table, *l, *h, *kind, *of, *low, *high, *value),
-        (RangeOp::Between { .. }, RangeSymbol::Within { .. }) => true,
     }
 }
 

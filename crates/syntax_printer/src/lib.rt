@@ -6,6 +6,7 @@ mod declarations;
 mod expr;
 mod file;
 mod line;
+mod nested;
 mod piece;
 mod point;
 mod spot;

@@ -13,11 +13,12 @@ use crate::declarations::Declarations;
 use crate::line::{
     put_assign, put_call_line, put_close, put_else, put_if, put_let, put_repeat_head, put_reply,
 };
+use crate::nested::{Choice, Repeat};
 use crate::point::{put_point, put_right_point};
 use crate::spot::Spot;
 use byte_ends::TextSink;
 use session_values::Names;
-use syntax_trees::{Cond, Stmt};
+use syntax_trees::Stmt;
 
 /// Appends the lines of a statement, and gives the number of the point behind its own.
 #[cycle(statement)]
@@ -51,22 +52,26 @@ fn put_statement<D: Declarations, T: TextSink>(
             put_point(spot, at, names, out)
         }
         Stmt::Choose { cond, yes, no, .. } => {
-            put_choice(
-                cond.get(),
-                yes.as_slice(),
-                no.as_slice(),
-                spot,
-                at,
-                names,
-                out,
-            )
+            let choice = Choice {
+                cond: cond.get(),
+                yes: yes.as_slice(),
+                no: no.as_slice(),
+            };
+            put_choice(choice, spot, at, names, out)
         }
         Stmt::Repeat {
             turns,
             name,
             body,
             ..
-        } => { put_repeat(*turns, *name, body.as_slice(), spot, at, names, out) }
+        } => {
+            let repeat = Repeat {
+                turns: *turns,
+                name: *name,
+                body: body.as_slice(),
+            };
+            put_repeat(repeat, spot, at, names, out)
+        }
         Stmt::Answer { values, .. } => {
             put_reply(values.as_slice(), spot.depth, names, out);
             spot.point
@@ -97,29 +102,29 @@ fn put_middle<D: Declarations, T: TextSink>(
 /// Appends an `if`.
 #[cycle(statement)]
 fn put_choice<D: Declarations, T: TextSink>(
-    cond: &Cond,
-    yes: &[Stmt],
-    no: &[Stmt],
+    choice: Choice<'_>,
     spot: Spot,
     at: &D,
     names: &Names,
     out: &mut T,
 ) -> u32
-    requires cond { AreNamed names.now (cond_mentions cond.now) }
-    requires first { AreNamed names.now (flat_map stmt_mentions yes.now) }
-    requires second { AreNamed names.now (flat_map stmt_mentions no.now) }
-    requires fits { FitsAt spot (2 + (block_size yes.now + block_size no.now)) }
+    requires cond { AreNamed names.now (cond_mentions choice.cond.now) }
+    requires first { AreNamed names.now (flat_map stmt_mentions choice.yes.now) }
+    requires second { AreNamed names.now (flat_map stmt_mentions choice.no.now) }
+    requires fits { FitsAt spot (2 + (block_size choice.yes.now + block_size choice.no.now)) }
     ensures text { Adds T.IsDue
         (put_part_text (D.at_points at.now) spot
-        (choice_at names.now (D.at_points at.now) spot cond.now yes.now no.now))
+        (choice_at names.now (D.at_points at.now) spot choice.entry.cond.now
+        choice.entry.yes.now choice.entry.no.now))
         out.old out.new }
     ensures next { result ≡ spot.point
-        + (choice_at names.now (D.at_points at.now) spot cond.now yes.now no.now).points }
+        + (choice_at names.now (D.at_points at.now) spot choice.entry.cond.now
+        choice.entry.yes.now choice.entry.no.now).points }
 {
-    put_if(cond, spot.depth, names, out);
-    let middle = put_branch(yes, spot, at, names, out);
-    put_middle(no, spot, at, names, out);
-    let next = put_branch(no, spot.before(middle), at, names, out);
+    put_if(choice.cond, spot.depth, names, out);
+    let middle = put_branch(choice.yes, spot, at, names, out);
+    put_middle(choice.no, spot, at, names, out);
+    let next = put_branch(choice.no, spot.before(middle), at, names, out);
     put_close(spot.depth, out);
     next
 }
@@ -127,27 +132,27 @@ fn put_choice<D: Declarations, T: TextSink>(
 /// Appends a `repeat`.
 #[cycle(statement)]
 fn put_repeat<D: Declarations, T: TextSink>(
-    turns: u64,
-    name: u32,
-    body: &[Stmt],
+    repeat: Repeat<'_>,
     spot: Spot,
     at: &D,
     names: &Names,
     out: &mut T,
 ) -> u32
-    requires name { name < length names.now }
-    requires body { AreNamed names.now (flat_map stmt_mentions body.now) }
-    requires fits { FitsAt spot (1 + block_size body.now) }
+    requires name { repeat.name < length names.now }
+    requires body { AreNamed names.now (flat_map stmt_mentions repeat.body.now) }
+    requires fits { FitsAt spot (1 + block_size repeat.body.now) }
     ensures text { Adds T.IsDue
         (put_part_text (D.at_points at.now) spot
-        (repeat_at names.now (D.at_points at.now) spot turns name body.now))
+        (repeat_at names.now (D.at_points at.now) spot repeat.entry.turns repeat.entry.name
+        repeat.entry.body.now))
         out.old out.new }
     ensures next { result ≡ spot.point
-        + (repeat_at names.now (D.at_points at.now) spot turns name body.now).points }
+        + (repeat_at names.now (D.at_points at.now) spot repeat.entry.turns repeat.entry.name
+        repeat.entry.body.now).points }
 {
-    put_repeat_head(turns, name, spot.depth, names, out);
+    put_repeat_head(repeat.turns, repeat.name, spot.depth, names, out);
     let inner = spot.inside();
-    let last = put_block(body, inner, at, names, out);
+    let last = put_block(repeat.body, inner, at, names, out);
     put_close(spot.depth, out);
     put_point(spot.before(last), at, names, out)
 }

@@ -55,25 +55,27 @@ fn answer(n: i64) -> Reply {
     Reply::new(1, Value::Num(n), Value::Nil, Value::Nil, Value::Nil)
 }
 
+// A ticket of one operation.
+#[derive(Clone, Copy)]
+struct Ticket {
+    op: Op,
+    reply: Reply,
+}
+
 // Two tickets over one map, of one operation each.
-fn two_tickets(
-    alloc: Global,
-    first: Op,
-    one: Reply,
-    second: Op,
-    two: Reply,
-) -> Result<ListScript, NoMemory>
-    requires first { Fits (TableKind.Map ∷ []) first }
-    requires second { Fits (TableKind.Map ∷ []) second }
+fn two_tickets(alloc: Global, first: &Ticket, second: &Ticket) -> Result<ListScript, NoMemory>
+    requires first { Fits (TableKind.Map ∷ []) first.now.op }
+    requires second { Fits (TableKind.Map ∷ []) second.now.op }
     ensures shape { IfOk result (λ s. s.shape ≡ TableKind.Map ∷ []) }
     ensures tickets { IfOk result (λ s. s.tickets
-        ≡ calls_more (answers_only one) first ∷ calls_more (answers_only two) second ∷ []) }
+        ≡ calls_more (answers_only first.now.reply) first.now.op
+        ∷ calls_more (answers_only second.now.reply) second.now.op ∷ []) }
 {
     let mut script = ListScript::with_room(alloc, &[TableKind::Map], 2, 2, 2)?;
-    script.ticket(one);
-    script.call(first);
-    script.ticket(two);
-    script.call(second);
+    script.ticket(first.reply);
+    script.call(first.op);
+    script.ticket(second.reply);
+    script.call(second.op);
     Ok(script)
 }
 
@@ -121,25 +123,24 @@ fn has_ended<R: Abort>(
 fn serve_in_order<R: Threads + Wait + Abort + Sync>(
     rt: &R,
     desk: &mut PlainDesk<ListScript>,
-    first: Op,
-    one: Reply,
-    second: Op,
-    two: Reply,
+    first: &Ticket,
+    second: &Ticket,
     declared: &Foresight,
     more: &Foresight,
 ) -> (Value, Value)
     requires lawful { IsScript (meaning_of desk.old.script) }
-    requires tickets { desk.old.script.tickets ≡ calls_more (answers_only one) first
-        ∷ calls_more (answers_only two) second ∷ [] }
+    requires tickets { desk.old.script.tickets
+        ≡ calls_more (answers_only first.now.reply) first.now.op
+        ∷ calls_more (answers_only second.now.reply) second.now.op ∷ [] }
     requires ended { desk.old.desk.ended ≡ true }
-    requires declared { declared.now.symbols ≡ exact_symbol first ∷ [] }
-    requires more { more.now.symbols ≡ exact_symbol second ∷ [] }
+    requires declared { declared.now.symbols ≡ exact_symbol first.now.op ∷ [] }
+    requires more { more.now.symbols ≡ exact_symbol second.now.op ∷ [] }
     ensures ended { desk.new.desk.ended ≡ true }
 {
     begin(rt, desk, 0);
-    let value = serve(desk, rt, 0, first, declared, one);
+    let value = serve(desk, rt, 0, first.op, declared, first.reply);
     begin(rt, desk, 1);
-    let other = serve(desk, rt, 1, second, more, two);
+    let other = serve(desk, rt, 1, second.op, more, second.reply);
     (value, other)
 }
 
@@ -147,29 +148,37 @@ fn serve_in_order<R: Threads + Wait + Abort + Sync>(
 fn serve_both<R: Threads + Wait + Abort + Sync>(
     rt: &R,
     alloc: Global,
-    first: Op,
-    one: Reply,
-    second: Op,
-    two: Reply,
+    first: &Ticket,
+    second: &Ticket,
 ) -> (Value, Value)
-    requires first { Fits (TableKind.Map ∷ []) first }
-    requires second { Fits (TableKind.Map ∷ []) second }
+    requires first { Fits (TableKind.Map ∷ []) first.now.op }
+    requires second { Fits (TableKind.Map ∷ []) second.now.op }
 {
-    let script = two_tickets(alloc, first, one, second, two).expect(rt, "memory");
+    let script = two_tickets(alloc, first, second).expect(rt, "memory");
     let _lawful = script.requests();
     let declared = declared_at(rt, alloc, &script, 0);
     let more = declared_at(rt, alloc, &script, 1);
     let mut desk = PlainDesk::new(alloc, script, &[TableKind::Map]).expect(rt, "memory");
     assert!(rt; desk.reply(0) == None);
-    let found = serve_in_order(rt, &mut desk, first, one, second, two, &declared, &more);
-    let (_, reply) = found;
-    has_ended(rt, &mut desk, one, two, DoneCall { op: second, reply });
-    found
+    let (value, other) = serve_in_order(rt, &mut desk, first, second, &declared, &more);
+    let done = DoneCall {
+        op: second.op,
+        reply: other,
+    };
+    has_ended(rt, &mut desk, first.reply, second.reply, done);
+    (value, other)
 }
 
 #[test]
 fn two_tickets_are_served_in_order(rt: HostRuntime) {
-    let alloc = rt.alloc();
-    let (value, other) = serve_both(&rt, alloc, put(1, 7), answer(1), get(1), answer(2));
+    let puts = Ticket {
+        op: put(1, 7),
+        reply: answer(1),
+    };
+    let gets = Ticket {
+        op: get(1),
+        reply: answer(2),
+    };
+    let (value, other) = serve_both(&rt, rt.alloc(), &puts, &gets);
     assert!(rt; value == Value::Nil && other == Value::Num(7));
 }

@@ -145,6 +145,13 @@ fn put_first<R: Wait + Abort>(
     put
 }
 
+/// What the first calls of both tickets replied: the older one's get, and the younger one's put.
+#[derive(Clone, Copy)]
+struct FirstReplies {
+    got: Value,
+    put: Value,
+}
+
 /// The younger caller is told who delays its second put; the older one declares that it calls
 /// nothing, and the younger one puts.
 fn put_again<R: Wait + Abort>(
@@ -153,19 +160,18 @@ fn put_again<R: Wait + Abort>(
     older: &mut Caller<ListScript>,
     younger: &mut Caller<ListScript>,
     scratch: &mut Foresight,
-    got: Value,
-    first: Value,
+    first: FirstReplies,
 ) -> Value
     requires script { script_of hall.now ≡ gets_and_puts }
     requires older { Stands hall.now older.old 0 (Serving 0)
-        (exact_symbol (get_of 1) ∷ []) (done (get_of 4) got ∷ []) }
+        (exact_symbol (get_of 1) ∷ []) (done (get_of 4) first.got ∷ []) }
     requires younger { Stands hall.now younger.old 1 (Serving 1)
-        (exact_symbol (put_of 1 7) ∷ []) (done (put_of 2 7) first ∷ []) }
+        (exact_symbol (put_of 1 7) ∷ []) (done (put_of 2 7) first.put ∷ []) }
     ensures numbers { (older.new.number ≡ older.old.number)
         × (younger.new.number ≡ younger.old.number) }
-    ensures older { Stands hall.now older.new 0 (Serving 0) [] (done (get_of 4) got ∷ []) }
+    ensures older { Stands hall.now older.new 0 (Serving 0) [] (done (get_of 4) first.got ∷ []) }
     ensures younger { Stands hall.now younger.new 1 (Serving 1) []
-        (done (put_of 2 7) first ∷ done (put_of 1 7) result ∷ []) }
+        (done (put_of 2 7) first.put ∷ done (put_of 1 7) result ∷ []) }
 {
     let Admitting::Delayed {
         older: ticket,
@@ -189,14 +195,13 @@ fn end_both<R: Wait + Abort>(
     hall: &Hall<ListScript>,
     older: &mut Caller<ListScript>,
     younger: &mut Caller<ListScript>,
-    got: Value,
-    first: Value,
+    first: FirstReplies,
     second: Value,
 )
     requires script { script_of hall.now ≡ gets_and_puts }
-    requires older { Stands hall.now older.old 0 (Serving 0) [] (done (get_of 4) got ∷ []) }
+    requires older { Stands hall.now older.old 0 (Serving 0) [] (done (get_of 4) first.got ∷ []) }
     requires younger { Stands hall.now younger.old 1 (Serving 1) []
-        (done (put_of 2 7) first ∷ done (put_of 1 7) second ∷ []) }
+        (done (put_of 2 7) first.put ∷ done (put_of 1 7) second ∷ []) }
     ensures numbers { (older.new.number ≡ older.old.number)
         × (younger.new.number ≡ younger.old.number) }
     ensures older { IsCallerOf meaning_of hall.now older.new × (older.new.stage ≡ Out) }
@@ -228,9 +233,10 @@ fn serve_both<R: Wait + Abort>(
     begin(rt, hall, older, 0);
     begin(rt, hall, younger, 1);
     let got = put_on_taken_shard(rt, hall, older, younger, scratch);
-    let first = put_first(rt, hall, younger, scratch);
-    let second = put_again(rt, hall, older, younger, scratch, got, first);
-    end_both(rt, hall, older, younger, got, first, second);
+    let put = put_first(rt, hall, younger, scratch);
+    let first = FirstReplies { got, put };
+    let second = put_again(rt, hall, older, younger, scratch, first);
+    end_both(rt, hall, older, younger, first, second);
 }
 
 /// Two callers serve both tickets, and the hall closes.

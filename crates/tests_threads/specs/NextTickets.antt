@@ -1,5 +1,5 @@
--- The hall of one caller, and what that caller is at once it has asked for the next ticket. Only
--- this crate's own functions cite it.
+-- A hall as it is opened, and what a caller is at once it has asked for the next ticket. Only this
+-- crate's own functions cite it.
 use Rattle.std.specs.Prelude.{◌≡◌, ℕ, ◌<◌, List, [], Option, Some, None, length, slice_get}
 use Rattle.session_journal.specs.Script.{Meaning}
 use Rattle.session_hall.specs.declared.caller.Caller.{Caller}
@@ -21,10 +21,10 @@ abbrev pub GoesOn : {S : Type 0} → Meaning → Caller S → Option ℕ → Typ
 GoesOn m c (Some t) = IsFresh m c t
 GoesOn m c None = c.stage ≡ Out
 
--- a hall over a script as it is opened, with one caller
-pub record HasOne {S : Type 0} (meaning : S → Meaning) (s : S) (h : Hall S)
+-- a hall over a script as it is opened, with so many callers
+pub record HasCallers {S : Type 0} (meaning : S → Meaning) (n : ℕ) (s : S) (h : Hall S)
     (cs : List (Caller S)) : Type 0 where
   pub script : script_of h ≡ s
-  pub one : length cs ≡ 1
-  pub callers_are : h.sizes.callers ≡ 1
+  pub count : length cs ≡ n
+  pub callers_are : h.sizes.callers ≡ n
   pub opens : (i : ℕ) (c : Caller S) → slice_get cs i ≡ Some c → Opens meaning h i c

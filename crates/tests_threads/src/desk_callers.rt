@@ -8,10 +8,10 @@ ghost use Rattle.session_hall.specs.declared.stage.Stage.TheVariants.{Out};
 ghost use Rattle.session_hall.specs.Callers.{IsCallerOf};
 ghost use Rattle.session_hall.specs.Names.{script_of};
 ghost use Rattle.session_hall.specs.Stages.{IsBetween};
-ghost use Rattle.tests_threads.specs.NextTickets.{GoesOn, HasOne, IsFresh};
+ghost use Rattle.tests_threads.specs.NextTickets.{GoesOn, HasCallers, IsFresh};
 
 use crate::bumps::{first_entry, op_of};
-use hall_serving::HallDesk;
+use hall_serving::{HallDesk, Sizes};
 use repeated_calls::{RepeatedCalls, RepeatedScript};
 use session_hall::{Caller, Closed, Hall};
 use session_journal::{Scratch, Script, Serves};
@@ -73,21 +73,29 @@ fn serve_both<R: Threads + Wait + Abort + Sync, S: Serves + Drop>(
     };
 }
 
-/// A hall of one caller and one shard of each table.
-pub(crate) fn open_one<S: Script + Drop>(
+/// A hall over a script, of these sizes, and its callers.
+pub(crate) fn open_callers<S: Script + Drop>(
     alloc: Global,
     script: S,
     shape: &[TableKind],
+    sizes: Sizes,
 ) -> Result<(Hall<S>, Vec<Caller<S>>), NoMemory>
     requires shape { shape.now ≡ (S.meaning script).shape }
     requires tables { length shape.now ≤ max_tables }
-    ensures { IfOk result (λ r. HasOne S.meaning script r.0 r.1.items) }
+    ensures { IfOk result (λ r. HasCallers S.meaning sizes.callers script r.0 r.1.items) }
 {
-    let (hall, callers) = Hall::open(alloc, script, shape, 1, 1)?;
-    Ok((hall, callers.into_vec()))
+    let Sizes { callers, shards } = sizes;
+    let (hall, list) = Hall::open(alloc, script, shape, shards, callers)?;
+    Ok((hall, list.into_vec()))
 }
 
-/// What such a hall leaves, when its caller has served both tickets at desks.
+/// One caller, and one shard of each table.
+pub(crate) const ONE: Sizes = Sizes {
+    callers: 1,
+    shards: 1,
+};
+
+/// What a hall of one caller leaves, when it has served both tickets at desks.
 fn served_at_desks<R: Threads + Wait + Abort + Sync, S: Serves + Drop>(
     rt: &R,
     alloc: Global,
@@ -95,7 +103,7 @@ fn served_at_desks<R: Threads + Wait + Abort + Sync, S: Serves + Drop>(
     hall: Hall<S>,
     mut left: Vec<Caller<S>>,
 ) -> Closed
-    requires one { HasOne S.meaning plan.now hall left.items }
+    requires one { HasCallers S.meaning 1 plan.now hall left.items }
 {
     let mut scratch = Scratch::new(alloc).expect(rt, "memory");
     let mut caller = left.remove(0);
@@ -114,7 +122,7 @@ fn list_at_desks<R: Threads + Wait + Abort + Sync>(
 {
     let script = RepeatedScript { list };
     let plan = RepeatedScript { list };
-    let (hall, left) = open_one(alloc, script, &[TableKind::Map]).expect(rt, "memory");
+    let (hall, left) = open_callers(alloc, script, &[TableKind::Map], ONE).expect(rt, "memory");
     served_at_desks(rt, alloc, &plan, hall, left)
 }
 

@@ -20,7 +20,7 @@ use std::sync::Wait;
 use std::thread::Threads;
 use worker_gate::OpenGate;
 
-const TICKETS: u32 = 4000;
+pub(crate) const TICKETS: u32 = 4000;
 
 /// How often each ticket calls its operation.
 const TIMES: u32 = 4;
@@ -40,7 +40,7 @@ fn op_of(ticket: u32) -> Op
 }
 
 /// All tickets.
-fn tickets(alloc: Global) -> Result<RepeatedCalls, NoMemory>
+pub(crate) fn tickets(alloc: Global) -> Result<RepeatedCalls, NoMemory>
     ensures { IfOk result (λ l. l.list.shape ≡ Map ∷ []) }
 {
     let mut list = RepeatedCalls::with_room(alloc, &[TableKind::Map], TICKETS, TIMES)?;
@@ -199,16 +199,28 @@ fn serial_calls<R: Threads + Wait + Abort + Sync>(
     calls
 }
 
-/// What so many callers did replays by ticket on plain tables, and is what a serial run does.
+/// What callers did replays by ticket on plain tables, and is what a serial run does.
+pub(crate) fn has_serial_calls<R: Threads + Wait + Abort + Sync>(
+    rt: &R,
+    alloc: Global,
+    list: &RepeatedCalls,
+    closed: &Closed,
+)
+    requires { list.now.list.shape ≡ Map ∷ [] }
+{
+    let calls = regrouped(rt, alloc, closed.journal());
+    let serial = serial_calls(rt, alloc, list);
+    assert!(rt; calls.len() == 16000 && calls == serial);
+    replay(rt, alloc, &calls);
+}
+
+/// So many callers reply as a serial run does.
 fn reply_as_a_serial_run_does<R: Threads + Wait + Abort + Sync>(rt: &R, alloc: Global, callers: u32)
     requires { (1 ≤ callers) × (callers ≤ max_callers) }
 {
     let list = tickets(alloc).expect(rt, "memory");
     let closed = served_by(rt, alloc, &list, &[TableKind::Map], 8, callers);
-    let calls = regrouped(rt, alloc, closed.journal());
-    let serial = serial_calls(rt, alloc, &list);
-    assert!(rt; calls.len() == 16000 && calls == serial);
-    replay(rt, alloc, &calls);
+    has_serial_calls(rt, alloc, &list, &closed);
 }
 
 #[test]

@@ -7,10 +7,10 @@ ghost use Rattle.session_hall.specs.declared.stage.Stage.TheVariants.{Out};
 ghost use Rattle.session_hall.specs.Holdings.{IsHoldingOf, StaysHolding};
 ghost use Rattle.session_hall.specs.Names.{script_of};
 ghost use Rattle.session_hall.specs.Stages.{IsBetween};
-ghost use Rattle.tests_threads.specs.NextTickets.{HasOne};
+ghost use Rattle.tests_threads.specs.NextTickets.{HasCallers};
 
 use crate::bumps::first_entry;
-use crate::desk_callers::{open_one, two_tickets};
+use crate::desk_callers::{ONE, open_callers, two_tickets};
 use hall_serving::{Crew, HoldingDesk, Pause, serve_next_kept};
 use repeated_calls::{RepeatedCalls, RepeatedScript};
 use session_hall::{Caller, Closed, Hall, Holding, Waits};
@@ -94,7 +94,7 @@ fn served_in_hand<R: Threads + Wait + Abort + Sync, S: Serves + Drop>(
     hall: Hall<S>,
     mut left: Vec<Caller<S>>,
 ) -> (Closed, Reply, Reply)
-    requires one { HasOne S.meaning plan.now hall left.items }
+    requires one { HasCallers S.meaning 1 plan.now hall left.items }
 {
     let mut scratch = Scratch::new(alloc).expect(rt, "memory");
     let mut holding = Holding::over(left.remove(0));
@@ -113,7 +113,7 @@ fn list_in_hand<R: Threads + Wait + Abort + Sync>(
 {
     let script = RepeatedScript { list };
     let plan = RepeatedScript { list };
-    let (hall, left) = open_one(alloc, script, &[TableKind::Map]).expect(rt, "memory");
+    let (hall, left) = open_callers(alloc, script, &[TableKind::Map], ONE).expect(rt, "memory");
     served_in_hand(rt, alloc, &plan, hall, left)
 }
 

@@ -20,6 +20,8 @@ mod lanes;
 #[cfg(test)]
 mod many;
 #[cfg(test)]
+mod next_callers;
+#[cfg(test)]
 mod pendings;
 #[cfg(test)]
 mod rows;

@@ -9,6 +9,7 @@ ghost use Rattle.text_lines.specs.ValueWords.{literal_text};
 ghost use Rattle.text_lines.specs.Words.{after_spaces, spaced};
 ghost use Rattle.trace_lines.specs.EventText.{CanWrite, CanWriteArg, CanWriteOp, CanWriteReply, CanWriteSymbol, HasTable, arg_text, event_text, event_words, head_words, known_text, op_words, reply_words, symbol_text, symbol_words};
 
+use crate::delay::Delay;
 use crate::event_buf::EventBuf;
 use itoa::Buffer;
 use reply_sheet::TextRoom;
@@ -58,7 +59,15 @@ fn push_event<T: TextRoom>(e: &Event, tables: &[u32], names: &Names, out: &mut T
             op,
             older,
             symbol,
-        } => push_delay(*ticket, op, *older, symbol, tables, names, out),
+        } => {
+            let delay = Delay {
+                ticket: *ticket,
+                op,
+                older: *older,
+                symbol,
+            };
+            push_delay(delay, tables, names, out)
+        }
         Event::End { ticket, reply } => push_end(*ticket, reply, names, out),
     }
 }
@@ -97,28 +106,21 @@ fn push_done<T: TextRoom>(
 }
 
 #[tactic(auto, using(crate::proofs::Joined::joined))]
-fn push_delay<T: TextRoom>(
-    ticket: u32,
-    op: &Op,
-    older: u32,
-    symbol: &Symbol,
-    tables: &[u32],
-    names: &Names,
-    out: &mut T,
-)
-    requires op { CanWriteOp names.now tables.now op.now }
-    requires symbol { CanWriteSymbol names.now tables.now symbol.now }
+fn push_delay<T: TextRoom>(delay: Delay<'_>, tables: &[u32], names: &Names, out: &mut T)
+    requires op { CanWriteOp names.now tables.now delay.op.now }
+    requires symbol { CanWriteSymbol names.now tables.now delay.symbol.now }
     requires room { 433 ≤ T.spare out.old }
-    ensures text { T.held out.new ≡ T.held out.old ++ spaced (codes "delay" ∷ decimal ticket
-        ∷ op_words names.now tables.now op.now ++ decimal older
-        ∷ symbol_words names.now tables.now symbol.now) }
+    ensures text { T.held out.new ≡ T.held out.old
+        ++ spaced (codes "delay" ∷ decimal delay.entry.ticket
+        ∷ op_words names.now tables.now delay.entry.op.now ++ decimal delay.entry.older
+        ∷ symbol_words names.now tables.now delay.entry.symbol.now) }
     ensures len { T.spare out.old ≤ T.spare out.new + 433 }
 {
     out.push(b"delay");
-    push_number(ticket, out);
-    push_op(op, tables, names, out);
-    push_number(older, out);
-    push_symbol(symbol, tables, names, out);
+    push_number(delay.ticket, out);
+    push_op(delay.op, tables, names, out);
+    push_number(delay.older, out);
+    push_symbol(delay.symbol, tables, names, out);
 }
 
 fn push_end<T: TextRoom>(ticket: u32, reply: &Reply, names: &Names, out: &mut T)

@@ -2,11 +2,13 @@
 #![tactic(auto)]
 
 mod bounds;
+mod delay;
 mod event_buf;
 mod event_lines;
 mod event_words;
 mod front;
 pub mod laws;
+mod numbered_line;
 mod refusal;
 mod trace_part;
 mod verdict;

@@ -13,6 +13,7 @@ ghost use Rattle.trace_lines.specs.Pushing.{IsPushed};
 
 use crate::event_words::event;
 use crate::front::Tables;
+use crate::numbered_line::NumberedLine;
 use crate::refusal::TraceRefusal;
 use crate::words::{MAX_WORDS, Word, take_words};
 use session_journal::Event;
@@ -69,39 +70,42 @@ fn read_event<'a>(
 /// Adds the event of a line behind the others, or says why there is none.
 fn take_line<'a>(
     trace: &mut Trace,
-    line: u32,
-    word: &str,
-    words: Line<'a>,
+    line: NumberedLine<'a>,
     tables: Tables<'_>,
     names: &mut Names,
     kept: &mut Vec<Word<'a>>,
 ) -> Result<(), TraceRefusal>
     requires known { spec.AreKnown names.old tables.places.now }
-    requires room { length names.old + length (words_of words.rest.now) ≤ 4294967295 }
+    requires room { length names.old + length (words_of line.words.rest.now) ≤ 4294967295 }
     requires kept { max_words ≤ vec_capacity kept.old }
     ensures fine { OnOk result (spec.event_fault names.old tables.entry.places.now
         tables.entry.kinds.now (length trace.old.events)
-        (row_of line word.now (words_of words.entry.rest.now)) ≡ None) }
+        (row_of line.entry.number line.entry.word.now (words_of line.entry.words.rest.now))
+        ≡ None) }
     // More names change nothing of it.
     ensures pushed { OnOk result ((later : List Text) → Begins names.new later
         → IsPushed later tables.entry.places.now tables.entry.kinds.now
-        (row_of line word.now (words_of words.entry.rest.now)) trace.old trace.new) }
+        (row_of line.entry.number line.entry.word.now (words_of line.entry.words.rest.now))
+        trace.old trace.new) }
     ensures names { OnOk result (names.new
-        ≡ spec.placed_literals names.old (words_of words.entry.rest.now)) }
+        ≡ spec.placed_literals names.old (words_of line.entry.words.rest.now)) }
     ensures kept { Begins names.old names.new }
-    ensures more { length names.new ≤ length names.old + length (words_of words.entry.rest.now) }
+    ensures more { length names.new
+        ≤ length names.old + length (words_of line.entry.words.rest.now) }
     ensures capacity { vec_capacity kept.new ≡ vec_capacity kept.old }
     ensures refused { (e : _) → result ≡ Err e → e ≢ TraceRefusal.NoMemory →
         spec.event_fault names.old tables.entry.places.now tables.entry.kinds.now
-        (length trace.old.events) (row_of line word.now (words_of words.entry.rest.now)) ≡ Some e }
+        (length trace.old.events)
+        (row_of line.entry.number line.entry.word.now (words_of line.entry.words.rest.now))
+        ≡ Some e }
 {
     let seen = trace.events().len();
     if seen >= MAX_EVENTS {
-        return Err(TraceRefusal::TooManyEvents { line });
+        return Err(TraceRefusal::TooManyEvents { line: line.number });
     }
-    match read_event(word, words, tables, names, kept) {
-        Ok(Some(e)) => push(trace, e, line),
-        Ok(None) => Err(TraceRefusal::BadEvent { line }),
+    match read_event(line.word, line.words, tables, names, kept) {
+        Ok(Some(e)) => push(trace, e, line.number),
+        Ok(None) => Err(TraceRefusal::BadEvent { line: line.number }),
         Err(_) => Err(TraceRefusal::NoMemory),
     }
 }
@@ -140,7 +144,12 @@ fn events_of(
     'lines: while let Some((number, line)) = lines.next() {
         let mut words = line;
         if let Some(word) = words.next() {
-            match take_line(&mut trace, number, word, words, tables, names, &mut kept) {
+            let numbered = NumberedLine {
+                number,
+                word,
+                words,
+            };
+            match take_line(&mut trace, numbered, tables, names, &mut kept) {
                 Ok(()) => {}
                 Err(e) => return Err(e),
             }

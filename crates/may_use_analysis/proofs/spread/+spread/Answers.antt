@@ -153,9 +153,9 @@ spread_stmt-returns-in-Repeat-clause-others t c =
 
 pub spread_loop-loop-init : goal.spread_loop-loop-init
 spread_loop-loop-init t c =
-    let x = c.args.var in
-    let body = block_code c.args.body.now in
-    let p = c.args.point in
+    let x = c.args.parts.var in
+    let body = block_code c.args.parts.body.now in
+    let p = c.args.parts.point in
     let after = c.args.after in
     let n = c.requires in
     let taken = c.in_ok-fresh.ensures in
@@ -170,9 +170,9 @@ spread_loop-loop-init t c =
 
 pub spread_loop-loop-preserved : goal.spread_loop-loop-preserved
 spread_loop-loop-preserved t c =
-    let x = c.args.var in
-    let body = block_code c.args.body.now in
-    let p = c.args.point in
+    let x = c.args.parts.var in
+    let body = block_code c.args.parts.body.now in
+    let p = c.args.parts.point in
     let after = c.args.after in
     let n = c.requires in
     let v = c.loop.invariant in

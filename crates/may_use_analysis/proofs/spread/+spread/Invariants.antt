@@ -13,7 +13,7 @@ abbrev pub decreases-spread_stmt : goal.decreases-spread_stmt
 decreases-spread_stmt l = 2 * checked_size l.stmt.now
 
 abbrev pub decreases-spread_loop : goal.decreases-spread_loop
-decreases-spread_loop l = 2 * checked_sizes l.body.now + 1
+decreases-spread_loop l = 2 * checked_sizes l.parts.body.now + 1
 
 abbrev pub invariant-spread_block-loop-i : goal.invariant-spread_block-loop-i
 invariant-spread_block-loop-i l = record {
@@ -24,9 +24,9 @@ invariant-spread_block-loop-i l = record {
 
 abbrev pub invariant-spread_loop-loop : goal.invariant-spread_loop-loop
 invariant-spread_loop-loop l = record {
-  all : Within (Contains l.all) (Head l.var (block_code l.body) (Contains l.fn.after));
-  fresh : Within (Contains l.fresh) (Head l.var (block_code l.body) (Contains l.fn.after));
-  kept : Within (Contains l.fresh) (HeadAt l.heads l.point);
-  warm : StaysWarm (Loop 0 l.point 0 l.var (block_code l.body) Finish) l.fn.after l.fn.heads l.heads;
-  others : (low : ℕ) → IsNumbered (Loop 0 l.point 0 l.var (block_code l.body) Finish) low → SameOutside l.fn.heads l.heads low (low + points (block_code l.body) + 1);
+  all : Within (Contains l.all) (Head l.parts.var (block_code l.parts.body.now) (Contains l.fn.after));
+  fresh : Within (Contains l.fresh) (Head l.parts.var (block_code l.parts.body.now) (Contains l.fn.after));
+  kept : Within (Contains l.fresh) (HeadAt l.heads l.parts.point);
+  warm : StaysWarm (Loop 0 l.parts.point 0 l.parts.var (block_code l.parts.body.now) Finish) l.fn.after l.fn.heads l.heads;
+  others : (low : ℕ) → IsNumbered (Loop 0 l.parts.point 0 l.parts.var (block_code l.parts.body.now) Finish) low → SameOutside l.fn.heads l.heads low (low + points (block_code l.parts.body.now) + 1);
 }

@@ -56,30 +56,30 @@ before_block-loop-i-preserved t c =
 
 pub before_loop-loop-init : goal.before_loop-loop-init
 before_loop-loop-init t c =
-    let x = c.args.var in
-    let body = block_code c.args.body.now in
+    let x = c.args.parts.var in
+    let body = block_code c.args.parts.body.now in
     let after = Contains c.args.after in
     let heads = c.args.heads.now in
     let head = c.add_to.new.head in
     let union = c.in_ok-add_to.ensures in
     record {
-      sound = λ s m. start_sound x body c.args.after heads c.args.point c.requires.warm.0 s ((union s).0 m);
+      sound = λ s m. start_sound x body c.args.after heads c.args.parts.point c.requires.warm.0 s ((union s).0 m);
       start = λ s m. (union s).1 (inl m);
       kept = ([], sym (append-nil c.args.out.now));
-      warm = warm_larger heads body (HeadAt heads c.args.point) (Contains head) (λ s m. (union s).1 (inr m)) c.requires.warm.1;
+      warm = warm_larger heads body (HeadAt heads c.args.parts.point) (Contains head) (λ s m. (union s).1 (inr m)) c.requires.warm.1;
     }
 
 pub before_loop-returns-then-not-branch-clause-set : goal.before_loop-returns-then-not-branch-clause-set
 before_loop-returns-then-not-branch-clause-set t c =
-    let body = block_code c.args.body.now in
+    let body = block_code c.args.parts.body.now in
     let is_start = subst (λ (z : List Symbol). Are c.in_ok-turn.turn (Flow body (Contains z))) c.in_ok-copy.ensures c.in_ok-turn.ensures.set in
     let none = rw c.if-not-branch.true at c.in_ok-join.ensures.same in
-    turn_done c.args.var body c.args.after c.loop.head c.in_ok-turn.turn c.carry.new.self c.join.new.self is_start c.carry.ensures c.in_ok-join.ensures.union none c.loop.invariant.sound c.loop.invariant.start
+    turn_done c.args.parts.var body c.args.after c.loop.head c.in_ok-turn.turn c.carry.new.self c.join.new.self is_start c.carry.ensures c.in_ok-join.ensures.union none c.loop.invariant.sound c.loop.invariant.start
 
 pub before_loop-returns-then-not-branch-clause-lists : goal.before_loop-returns-then-not-branch-clause-lists
 before_loop-returns-then-not-branch-clause-lists t c =
-    let x = c.args.var in
-    let body = block_code c.args.body.now in
+    let x = c.args.parts.var in
+    let body = block_code c.args.parts.body.now in
     let after = c.args.after in
     let head = c.loop.head in
     let start = c.in_ok-turn.turn in
@@ -92,8 +92,8 @@ before_loop-returns-then-not-branch-clause-lists t c =
 
 pub before_loop-loop-preserved : goal.before_loop-loop-preserved
 before_loop-loop-preserved t c =
-    let x = c.args.var in
-    let body = block_code c.args.body.now in
+    let x = c.args.parts.var in
+    let body = block_code c.args.parts.body.now in
     let after = c.args.after in
     let head = c.loop.head in
     let start = c.in_ok-turn.turn in

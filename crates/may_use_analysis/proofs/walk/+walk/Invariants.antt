@@ -16,7 +16,7 @@ abbrev pub decreases-before_stmt : goal.decreases-before_stmt
 decreases-before_stmt l = 2 * checked_size l.stmt.now
 
 abbrev pub decreases-before_loop : goal.decreases-before_loop
-decreases-before_loop l = 2 * checked_sizes l.body.now + 1
+decreases-before_loop l = 2 * checked_sizes l.parts.body.now + 1
 
 abbrev pub invariant-before_block-loop-i : goal.invariant-before_block-loop-i
 invariant-before_block-loop-i l = record {
@@ -26,8 +26,8 @@ invariant-before_block-loop-i l = record {
 
 abbrev pub invariant-before_loop-loop : goal.invariant-before_loop-loop
 invariant-before_loop-loop l = record {
-  sound : Within (Contains l.head) (Head l.var (block_code l.body) (Contains l.fn.after));
+  sound : Within (Contains l.head) (Head l.parts.var (block_code l.parts.body.now) (Contains l.fn.after));
   start : Within (Contains l.fn.after) (Contains l.head);
   kept : (more : List PointList) × (l.out ≡ l.fn.out ++ more);
-  warm : AreWarm l.heads (block_code l.body) (Contains l.head);
+  warm : AreWarm l.heads (block_code l.parts.body.now) (Contains l.head);
 }

@@ -21,12 +21,16 @@ lines-preserved-in-Ok c =
     let e : rows c.lines.lines.number (lines c.lines.lines.rest.now) ≡ row_of c.in-Some.number c.in-Some-next.name.now (words c.next-in-Some.new.self.rest.now) ∷ rows c.next.new.self.number (lines c.next.new.self.rest.now) =
     rows_step c.lines.lines.number c.in-Some.number c.next.new.self.number (lines c.lines.lines.rest.now) c.in-Some.line.rest.now (lines c.next.new.self.rest.now) c.in-Some-next.name.now (words c.next-in-Some.new.self.rest.now)
     steps.0 steps.1 steps.2 c.in-Some-next.ensures.steps.0 in
-    let before = subst (λ rs. Going c.args.names.now (rows_of c.args.text.now) rs c.lines.seen c.lines.table c.lines.holds.items c.lines.asked c.lines.out.items) e c.lines.invariant.going in
+    let old = c.lines.session in
+    let new = c.take_line.new.self in
+    let made = c.in-Ok.ensures in
+    let before = subst (λ rs. Going c.args.names.now (rows_of c.args.text.now) rs old.seen old.table old.holds.items old.asked old.out.items) e c.lines.invariant.going in
+    let after = going_turn c.args.names.now (rows_of c.args.text.now) _ _ old.seen old.table new.table old.holds.items new.holds.items old.asked new.asked old.out.items new.out.items
+    before made.takes made.fine made.ready made.size made.room made.few made.below in
     record {
       next = tt;
       finite = tt;
-      going = going_turn c.args.names.now (rows_of c.args.text.now) _ _ c.lines.seen c.lines.table c.take_line.new.table c.lines.holds.items c.take_line.new.holds.items c.lines.asked c.in-Ok.now c.lines.out.items c.take_line.new.out.items
-          before c.in-Ok.ensures.takes c.in-Ok.ensures.fine c.in-Ok.ensures.ready c.in-Ok.ensures.size c.in-Ok.ensures.room c.in-Ok.ensures.few c.in-Ok.ensures.seen;
+      going = subst (λ (n : ℕ). Going c.args.names.now (rows_of c.args.text.now) (rows c.next.new.self.number (lines c.next.new.self.rest.now)) n new.table new.holds.items new.asked new.out.items) (sym made.seen) after;
     }
 
 pub lines-preserved : goal.lines-preserved
@@ -37,7 +41,7 @@ lines-preserved c =
     record {
       next = tt;
       finite = tt;
-      going = subst (λ rs. Going c.args.names.now (rows_of c.args.text.now) rs c.lines.seen c.lines.table c.lines.holds.items c.lines.asked c.lines.out.items) e c.lines.invariant.going;
+      going = subst (λ rs. Going c.args.names.now (rows_of c.args.text.now) rs c.lines.session.seen c.lines.session.table c.lines.session.holds.items c.lines.session.asked c.lines.session.out.items) e c.lines.invariant.going;
     }
 
 pub returns-in-Err-clause-refused : goal.returns-in-Err-clause-refused
@@ -47,13 +51,13 @@ returns-in-Err-clause-refused c = λ e is some.
     let f : rows c.lines.lines.number (lines c.lines.lines.rest.now) ≡ row_of c.in-Some.number c.in-Some-next.name.now (words c.next-in-Some.new.self.rest.now) ∷ rows c.next.new.self.number (lines c.next.new.self.rest.now) =
     rows_step c.lines.lines.number c.in-Some.number c.next.new.self.number (lines c.lines.lines.rest.now) c.in-Some.line.rest.now (lines c.next.new.self.rest.now) c.in-Some-next.name.now (words c.next-in-Some.new.self.rest.now)
     steps.0 steps.1 steps.2 c.in-Some-next.ensures.steps.0 in
-    let before = subst (λ rs. Going c.args.names.now (rows_of c.args.text.now) rs c.lines.seen c.lines.table c.lines.holds.items c.lines.asked c.lines.out.items) f c.lines.invariant.going in
-    let fault = going_fault c.args.names.now (rows_of c.args.text.now) _ _ c.lines.seen c.lines.table c.lines.holds.items c.lines.asked c.lines.out.items e before (c.take_line.ensures.refused e (c.in-Err.is ∙ ap (λ x. Err x) k) some) in
+    let before = subst (λ rs. Going c.args.names.now (rows_of c.args.text.now) rs c.lines.session.seen c.lines.session.table c.lines.session.holds.items c.lines.session.asked c.lines.session.out.items) f c.lines.invariant.going in
+    let fault = going_fault c.args.names.now (rows_of c.args.text.now) _ _ c.lines.session.seen c.lines.session.table c.lines.session.holds.items c.lines.session.asked c.lines.session.out.items e before (c.take_line.ensures.refused e (c.in-Err.is ∙ ap (λ x. Err x) k) some) in
     sym (ap (λ (ns : List Text). first_fault ns 0 [] (rows_of c.args.text.now)) c.requires.names) ∙ fault
 
 pub returns-clause-text : goal.returns-clause-text
 returns-clause-text c =
     let f : rows c.lines.lines.number (lines c.lines.lines.rest.now) ≡ [] = ap (rows c.lines.lines.number) c.in_default.ensures.steps.0 ∙ rows_nil c.lines.lines.number in
-    let last = subst (λ rs. Going c.args.names.now (rows_of c.args.text.now) rs c.lines.seen c.lines.table c.lines.holds.items c.lines.asked c.lines.out.items) f c.lines.invariant.going in
-    going_end c.args.text.now c.lines.out.items c.lines.seen c.lines.table c.lines.holds.items c.lines.asked
-    (subst (λ ns. Going ns (rows_of c.args.text.now) [] c.lines.seen c.lines.table c.lines.holds.items c.lines.asked c.lines.out.items) c.requires.names last)
+    let last = subst (λ rs. Going c.args.names.now (rows_of c.args.text.now) rs c.lines.session.seen c.lines.session.table c.lines.session.holds.items c.lines.session.asked c.lines.session.out.items) f c.lines.invariant.going in
+    going_end c.args.text.now c.lines.session.out.items c.lines.session.seen c.lines.session.table c.lines.session.holds.items c.lines.session.asked
+    (subst (λ ns. Going ns (rows_of c.args.text.now) [] c.lines.session.seen c.lines.session.table c.lines.session.holds.items c.lines.session.asked c.lines.session.out.items) c.requires.names last)

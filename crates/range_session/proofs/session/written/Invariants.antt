@@ -8,5 +8,5 @@ abbrev pub invariant-lines : goal.invariant-lines
 invariant-lines l = record {
   next : (goal.iterator-lines).can_next l.lines;
   finite : (goal.iterator-lines).is_finite l.lines;
-  going : Going l.names (rows_of l.text) (rows l.lines.number (lines l.lines.rest.now)) l.seen l.table l.holds.items l.asked l.out.items;
+  going : Going l.names (rows_of l.text) (rows l.lines.number (lines l.lines.rest.now)) l.session.seen l.session.table l.session.holds.items l.session.asked l.session.out.items;
 }

@@ -64,16 +64,16 @@ put_choice-returns-clause-text g t c =
     let a = g.D.Declarations.at_points c.args.at.now in
     let names = c.args.names.now in
     let spot = c.args.spot in
-    let second : Adds g.T.TextSink.IsDue (put_branch_text names a (record { handler = spot.handler; depth = spot.depth; point = c.put_branch-middle.result }) c.args.no.now) c.put_middle.new.out c.put_branch-next.new.out =
-    subst (λ (s : Spot). Adds g.T.TextSink.IsDue (put_branch_text names a s c.args.no.now) c.put_middle.new.out c.put_branch-next.new.out) c.before-2.ensures c.put_branch-next.ensures.text in
-    choice_adds names (at_of names a spot) a.shown c.args.cond.now (parts_of names a spot c.args.yes.now) (parts_of names a spot c.args.no.now) spot.depth spot.point c.put_branch-middle.result
+    let second : Adds g.T.TextSink.IsDue (put_branch_text names a (record { handler = spot.handler; depth = spot.depth; point = c.put_branch-middle.result }) c.args.choice.no.now) c.put_middle.new.out c.put_branch-next.new.out =
+    subst (λ (s : Spot). Adds g.T.TextSink.IsDue (put_branch_text names a s c.args.choice.no.now) c.put_middle.new.out c.put_branch-next.new.out) c.before-2.ensures c.put_branch-next.ensures.text in
+    choice_adds names (at_of names a spot) a.shown c.args.choice.cond.now (parts_of names a spot c.args.choice.yes.now) (parts_of names a spot c.args.choice.no.now) spot.depth spot.point c.put_branch-middle.result
     c.put_branch-middle.ensures.next c.put_if.ensures c.put_branch-middle.ensures.text c.put_middle.ensures second c.put_close.ensures
 
 pub put_choice-returns-clause-next : goal.put_choice-returns-clause-next
 put_choice-returns-clause-next g t c =
     let a = g.D.Declarations.at_points c.args.at.now in
     let names = c.args.names.now in
-    let no = c.args.no.now in
+    let no = c.args.choice.no.now in
     let second : c.put_branch-next.result ≡ c.put_branch-middle.result + (1 + block_points (parts_of names a c.args.spot no)) =
     subst (λ (s : Spot). c.put_branch-next.result ≡ s.point + (1 + block_points (parts_of names a s no))) c.before-2.ensures c.put_branch-next.ensures.next in
     omega (arith, second, c.put_branch-middle.ensures.next)
@@ -83,7 +83,7 @@ put_repeat-returns-clause-text g t c =
     let a = g.D.Declarations.at_points c.args.at.now in
     let names = c.args.names.now in
     let spot = c.args.spot in
-    let body = c.args.body.now in
+    let body = c.args.repeat.body.now in
     let inside = c.inside-inner.ensures in
     let inner : Adds g.T.TextSink.IsDue (put_block_text names a (record { handler = spot.handler; depth = spot.depth + 1; point = spot.point }) body) c.put_repeat_head.new.out c.put_block-last.new.out =
     subst (λ (s : Spot). Adds g.T.TextSink.IsDue (put_block_text names a s body) c.put_repeat_head.new.out c.put_block-last.new.out) inside c.put_block-last.ensures.text in
@@ -91,14 +91,14 @@ put_repeat-returns-clause-text g t c =
     subst (λ (s : Spot). c.put_block-last.result ≡ s.point + block_points (parts_of names a s body)) inside c.put_block-last.ensures.next in
     let behind : Adds g.T.TextSink.IsDue (put_point_text names a (record { handler = spot.handler; depth = spot.depth; point = c.put_block-last.result })) c.put_close.new.out c.put_point.new.out =
     subst (λ (s : Spot). Adds g.T.TextSink.IsDue (put_point_text names a s) c.put_close.new.out c.put_point.new.out) c.before-2.ensures c.put_point.ensures.text in
-    repeat_adds names (at_of names a spot) a.shown c.args.turns c.args.name (parts_of names a spot body) spot.depth spot.point c.put_block-last.result last c.put_repeat_head.ensures inner c.put_close.ensures behind
+    repeat_adds names (at_of names a spot) a.shown c.args.repeat.turns c.args.repeat.name (parts_of names a spot body) spot.depth spot.point c.put_block-last.result last c.put_repeat_head.ensures inner c.put_close.ensures behind
 
 pub put_repeat-returns-clause-next : goal.put_repeat-returns-clause-next
 put_repeat-returns-clause-next g t c =
     let a = g.D.Declarations.at_points c.args.at.now in
     let names = c.args.names.now in
     let spot = c.args.spot in
-    let body = c.args.body.now in
+    let body = c.args.repeat.body.now in
     let last : c.put_block-last.result ≡ spot.point + block_points (parts_of names a spot body) =
     subst (λ (s : Spot). c.put_block-last.result ≡ s.point + block_points (parts_of names a s body)) c.inside-inner.ensures c.put_block-last.ensures.next in
     let next : c.put_point.result ≡ c.put_block-last.result + 1 = subst (λ (s : Spot). c.put_point.result ≡ s.point + 1) c.before-2.ensures c.put_point.ensures.next in
@@ -121,15 +121,15 @@ put_branch-returns-clause-text g t c =
 pub put_choice-put_branch-next-requires : goal.put_choice-put_branch-next-requires
 put_choice-put_branch-next-requires g t c =
     let a = g.D.Declarations.at_points c.args.at.now in
-    let few = block_points_few c.args.names.now (at_of c.args.names.now a c.args.spot) c.args.yes.now in
-    let fits = fits_at c.before-2.ensures (1 + block_size c.args.no.now) (omega (arith, c.requires.fits.0)) (omega (arith, few, c.put_branch-middle.ensures.next, c.requires.fits.1)) in
+    let few = block_points_few c.args.names.now (at_of c.args.names.now a c.args.spot) c.args.choice.yes.now in
+    let fits = fits_at c.before-2.ensures (1 + block_size c.args.choice.no.now) (omega (arith, c.requires.fits.0)) (omega (arith, few, c.put_branch-middle.ensures.next, c.requires.fits.1)) in
     search rules
 
 pub put_repeat-put_point-requires : goal.put_repeat-put_point-requires
 put_repeat-put_point-requires g t c =
     let a = g.D.Declarations.at_points c.args.at.now in
     let names = c.args.names.now in
-    let body = c.args.body.now in
+    let body = c.args.repeat.body.now in
     let few = block_points_few names (at_of names a c.args.spot) body in
     let last : c.put_block-last.result ≡ c.args.spot.point + block_points (parts_of names a c.args.spot body) =
     subst (λ (s : Spot). c.put_block-last.result ≡ s.point + block_points (parts_of names a s body)) c.inside-inner.ensures c.put_block-last.ensures.next in

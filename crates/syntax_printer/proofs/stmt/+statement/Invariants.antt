@@ -11,10 +11,10 @@ abbrev pub decreases-put_statement : goal.decreases-put_statement
 decreases-put_statement g l = stmt_size l.s.now
 
 abbrev pub decreases-put_choice : goal.decreases-put_choice
-decreases-put_choice g l = 2 + (block_size l.yes.now + block_size l.no.now)
+decreases-put_choice g l = 2 + (block_size l.choice.yes.now + block_size l.choice.no.now)
 
 abbrev pub decreases-put_repeat : goal.decreases-put_repeat
-decreases-put_repeat g l = 1 + block_size l.body.now
+decreases-put_repeat g l = 1 + block_size l.repeat.body.now
 
 abbrev pub decreases-put_branch : goal.decreases-put_branch
 decreases-put_branch g l = 1 + block_size l.block.now

@@ -25,21 +25,21 @@ given {S} meaning h a y of none is =
 pub serve_both-first-requires-clause-holding : goal.serve_both-first-requires-clause-holding
 serve_both-first-requires-clause-holding g c κs within =
     let one = c.requires.one in
-    let long = one.one in
+    let long = one.count in
     let first = one.opens 0 c.remove.result (first_at c.args.left.items c.remove.result (omega (arith, long)) c.remove.ensures.value) in
     taken g.S.Tickets.meaning c.args.hall c.remove.result c.over-holding.result c.over-holding.ensures.caller c.over-holding.ensures.none first.caller
 
 pub serve_both-first-requires-clause-stage : goal.serve_both-first-requires-clause-stage
 serve_both-first-requires-clause-stage g c κs within =
     let one = c.requires.one in
-    let long = one.one in
+    let long = one.count in
     let first = one.opens 0 c.remove.result (first_at c.args.left.items c.remove.result (omega (arith, long)) c.remove.ensures.value) in
     between _ (ap (λ (a : Caller _). a.stage) c.over-holding.ensures.caller ∙ first.idle)
 
 pub close-requires-clause-callers : goal.close-requires-clause-callers
 close-requires-clause-callers g c =
     let one = c.requires.one in
-    let long = one.one in
+    let long = one.count in
     let first = one.opens 0 c.remove.result (first_at c.args.left.items c.remove.result (omega (arith, long)) c.remove.ensures.value) in
     let back = c.into_caller.ensures.caller in
     let ends : Leaves g.S.Tickets.meaning c.args.hall 0 c.into_caller.result = record {
@@ -47,5 +47,5 @@ close-requires-clause-callers g c =
       number_is = ap (λ (a : Caller _). a.number) back ∙ c.serve_both-first.ensures.holding.1 ∙ ap (λ (a : Caller _). a.number) c.over-holding.ensures.caller ∙ first.number_is;
       out = ap (λ (a : Caller _). a.stage) back ∙ c.serve_both-first.ensures.out;
     } in
-    one_leaves g.S.Tickets.meaning c.args.hall c.args.left.items c.remove.new.self.items c.from_vec.result c.into_caller.result one.one c.remove.ensures.items
+    one_leaves g.S.Tickets.meaning c.args.hall c.args.left.items c.remove.new.self.items c.from_vec.result c.into_caller.result one.count c.remove.ensures.items
     (c.from_vec.ensures ∙ c.push_reserved.ensures.items) ends

@@ -1,7 +1,7 @@
 use Rattle.std.proofs.Common.{◌≡◌, ◌++◌, map}
 use Rattle.text_lines.specs.Text.{words}
 use Rattle.range_session.specs.Words.{word_of}
-use Rattle.range_session.proofs.session.words_of_line.Given as goal
+use Rattle.range_session.proofs.taking.words_of_line.Given as goal
 
 abbrev pub invariant-words : goal.invariant-words
 invariant-words l = record {

@@ -2,7 +2,7 @@ use Rattle.std.proofs.Common.{◌∷◌, ◌++◌, [], List, map, sym, ap, ◌�
 use Rattle.text_lines.specs.Text.{Text, words}
 use Rattle.range_session.specs.declared.word.Word.{Word}
 use Rattle.range_session.specs.Words.{word_of}
-use Rattle.range_session.proofs.session.words_of_line.Goals as goal
+use Rattle.range_session.proofs.taking.words_of_line.Goals as goal
 
 pub words-preserved : goal.words-preserved
 words-preserved c =
