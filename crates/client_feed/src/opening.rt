@@ -7,7 +7,7 @@ ghost use Rattle.client_feed.specs.Ends.{AreFeeders};
 
 use crate::feeder::{Feeder, Feeders};
 use crate::gatherer::Gatherer;
-use crate::rule::{Counted, Hand, InOrder, NextClient, Told};
+use crate::rule::{Counted, Hand, InOrder, NextClient, Reported};
 use client_sheet::Arrival;
 use crossbeam_channel::bounded_with;
 use session_values::{Listed, NoMemory};
@@ -41,7 +41,7 @@ fn opened<K: Counted>(alloc: Global, counts: &[u32]) -> Result<(Feeders, Gathere
     let room = if total == 0 { 1 } else { total as usize };
     let mut feeders = Vec::with_capacity(alloc, counts.len())?;
     let (sender, receiver, mut pass) = bounded_with::<Arrival, Hand, InOrder, Global>(alloc, room)?;
-    let _spare = sender.another::<Told<K>>(&mut pass);
+    let _spare = sender.another::<Reported<K>>(&mut pass);
     for client in 0..counts.len() {
         let own = sender.try_clone()?;
         let next = sender.another::<NextClient>(&mut pass);

@@ -3,7 +3,6 @@ pub mod TableLists
 pub mod DrawnNumbers
 pub mod Sessions
 pub mod Between
-pub mod FewTables
 pub mod Filling
 pub mod Slices
 pub mod FinalValues

@@ -35,8 +35,6 @@ impl Workload<'_> {
         ensures few { IfOk result (λ r. length r.0.items ≤ max_tables) }
         ensures adds { IfOk result (λ r. length r.1.items ≡ length r.0.items) }
     {
-        // The checker lets through few tables.
-        let _checked = self.program.checked();
         let script = Scripts::over(self.program, self.opening, self.clients.requests());
         let shape = script.shape(alloc)?;
         let mut adds = Vec::with_capacity(alloc, shape.len())?;

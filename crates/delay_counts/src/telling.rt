@@ -9,13 +9,13 @@ ghost use Rattle.delay_counts.specs.Told.{IsToldOf, IsTraceTold, text_in};
 use crate::counts::{Counts, counts_of};
 use crate::json::delay_json;
 use crate::lines::delay_lines;
-use serve_reading::{Audited, Program, Unserved, load_audited};
+use serve_reading::{Audited, LoadError, Program, load_audited};
 use session_values::{Names, NoMemory};
 use std::alloc::Global;
 use waiting_pairs::Form;
 
 /// The text that tells who waited for whom in the trace that a session file ends in, in this form.
-pub fn told_trace(alloc: Global, form: Form, bytes: &[u8]) -> Result<Vec<u8>, Unserved>
+pub fn told_trace(alloc: Global, form: Form, bytes: &[u8]) -> Result<Vec<u8>, LoadError>
     requires { length bytes.now ≤ max_audit_input }
     ensures told { IfOk result (λ text. IsTraceTold form bytes.now text.items) }
     ensures refused { IfErr result (IsReason Audit bytes.now) }

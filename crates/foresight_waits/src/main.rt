@@ -75,7 +75,7 @@ fn file_bytes(rt: &HostRuntime, cut: u64, name: &str) -> Result<Vec<u8>, Ending>
 /// Writes the line that tells how the run ended to the error output; none where all is written.
 fn say(rt: &HostRuntime, ending: Ending) {
     let status = match ending {
-        Ending::Told => Status::Fine,
+        Ending::Reported => Status::Fine,
         Ending::Refused(fault) => Status::Refused(fault),
         Ending::Usage => {
             let _ = rt.stderr().write_all(

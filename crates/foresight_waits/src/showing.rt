@@ -7,9 +7,10 @@ use crate::ending::Ending;
 use delay_counts::{MAX_AUDIT_INPUT, told_trace};
 use std::alloc::Global;
 use std::io::Write;
-use waiting_pairs::{Fault, Form, MAX_INPUT, Unserved, told};
+use waiting_pairs::{Fault, Form, MAX_INPUT, told};
 
 /// Writes in this form who may wait for whom in the handlers of a file.
+#[tactic(auto, using(crate::proofs::Untold::shown_untold))]
 pub(crate) fn show<W: Write>(alloc: Global, form: Form, bytes: &[u8], out: &mut W) -> Ending
     ensures { IsShown form bytes.now (W.contents out.old) (W.contents out.new) result }
 {
@@ -18,12 +19,12 @@ pub(crate) fn show<W: Write>(alloc: Global, form: Form, bytes: &[u8], out: &mut 
     }
     match told(alloc, form, bytes) {
         Ok(text) => written(out, &text),
-        Err(Unserved::NoMemory) => Ending::NoMemory,
-        Err(Unserved::Refused(fault)) => Ending::Refused(fault),
+        Err(e) => Ending::from(e),
     }
 }
 
 /// Writes in this form who waited for whom in the trace that a file ends in.
+#[tactic(auto, using(crate::proofs::Untold::counted_untold))]
 pub(crate) fn count<W: Write>(alloc: Global, form: Form, bytes: &[u8], out: &mut W) -> Ending
     ensures { IsCounted form bytes.now (W.contents out.old) (W.contents out.new) result }
 {
@@ -32,8 +33,7 @@ pub(crate) fn count<W: Write>(alloc: Global, form: Form, bytes: &[u8], out: &mut
     }
     match told_trace(alloc, form, bytes) {
         Ok(text) => written(out, &text),
-        Err(Unserved::NoMemory) => Ending::NoMemory,
-        Err(Unserved::Refused(fault)) => Ending::Refused(fault),
+        Err(e) => Ending::from(e),
     }
 }
 
@@ -49,7 +49,7 @@ fn written<W: Write>(out: &mut W, bytes: &[u8]) -> Ending
     ensures { IsWritten bytes.now (W.contents out.old) (W.contents out.new) result }
 {
     match out.write_all(bytes) {
-        Ok(()) => Ending::Told,
+        Ok(()) => Ending::Reported,
         Err(_) => Ending::WriteFault,
     }
 }

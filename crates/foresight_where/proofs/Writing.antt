@@ -11,7 +11,7 @@ use Rattle.foresight_where.specs.Endings.{null_line}
 use Rattle.foresight_where.specs.declared.asking.Form.{Form}
 use Rattle.foresight_where.specs.declared.asking.Form.TheVariants as form
 use Rattle.foresight_where.specs.declared.ending.Ending.{Ending}
-use Rattle.foresight_where.specs.declared.ending.Ending.TheVariants.{Told, HandedOn, WriteFault}
+use Rattle.foresight_where.specs.declared.ending.Ending.TheVariants.{Reported, HandedOn, WriteFault}
 use Rattle.foresight_where.specs.Showing.{IsTextOf, Shows, Writes, has_begun_writing, is_shown, placed}
 
 module _ {O : Type 0} (bytes : O → Option (List ℕ)) (faults : O → ℕ) where
@@ -54,11 +54,11 @@ module _ {O : Type 0} (f : Form) (name input file bytes : List ℕ) (out : Chang
 
 -- the input with what is told of its first refusal
 pub shows_told : {O : Type 0} (name input file front line back text : List ℕ) (out : Change O) (e : Ending) → front ≡ front_of input → line ≡ refusal_line input → back ≡ back_of input → IsTold name file line text
-    → Writes (front ++ (text ++ back)) Told out e → Shows form.Text name input file out e
+    → Writes (front ++ (text ++ back)) Reported out e → Shows form.Text name input file out e
 shows_told name input file front line back text out e f l b told =
     let t : IsTold name file (refusal_line input) text = subst (λ l. IsTold name file l text) l told in
     let is : front ++ (text ++ back) ≡ front_of input ++ (text ++ back_of input) = ap (λ f. f ++ (text ++ back)) f ∙ ap (λ b. front_of input ++ (text ++ b)) b in
-    shows form.Text name input file (front ++ (text ++ back)) out Told (ap placed t.placed) (record { told = text; told_is = t; text_is = is }) refl refl (λ x. cc x) e
+    shows form.Text name input file (front ++ (text ++ back)) out Reported (ap placed t.placed) (record { told = text; told_is = t; text_is = is }) refl refl (λ x. cc x) e
 
 -- the input as it is
 pub shows_input : {O : Type 0} (name input file line : List ℕ) (out : Change O) (e : Ending) → line ≡ refusal_line input → answer name file line ≡ None → Writes input HandedOn out e → Shows form.Text name input file out e
@@ -66,10 +66,10 @@ shows_input name input file line out e l none =
     shows form.Text name input file input out HandedOn (ap placed (ap (answer name file) (sym l) ∙ none)) refl refl refl (λ x. cc x) e
 
 -- what is told as JSON
-pub shows_json : {O : Type 0} (name input file line text : List ℕ) (out : Change O) (e : Ending) → line ≡ refusal_line input → IsJson name file line text → Writes text Told out e → Shows form.Json name input file out e
+pub shows_json : {O : Type 0} (name input file line text : List ℕ) (out : Change O) (e : Ending) → line ≡ refusal_line input → IsJson name file line text → Writes text Reported out e → Shows form.Json name input file out e
 shows_json name input file line text out e l json =
     let j : IsJson name file (refusal_line input) text = subst (λ l. IsJson name file l text) l json in
-    shows form.Json name input file text out Told (ap placed j.placed) j refl refl (λ x. cc x) e
+    shows form.Json name input file text out Reported (ap placed j.placed) j refl refl (λ x. cc x) e
 
 -- nothing is told
 pub shows_null : {O : Type 0} (name input file line : List ℕ) (out : Change O) (e : Ending) → line ≡ refusal_line input → answer name file line ≡ None → Writes null_line HandedOn out e → Shows form.Json name input file out e

@@ -1,7 +1,7 @@
 -- How a run ends: with which status, and with which line.
 use Rattle.std.specs.Prelude.{ℕ, List, [], ◌∷◌, ◌++◌, codes}
 use Rattle.foresight_where.specs.declared.ending.Ending.{Ending}
-use Rattle.foresight_where.specs.declared.ending.Ending.TheVariants.{Told, HandedOn, Usage, NoMemory, ReadFault, TooLarge, WriteFault}
+use Rattle.foresight_where.specs.declared.ending.Ending.TheVariants.{Reported, HandedOn, Usage, NoMemory, ReadFault, TooLarge, WriteFault}
 
 -- the most bytes of an input or a file
 abbrev pub most : ℕ
@@ -9,7 +9,7 @@ most = 67108864
 
 -- the number with which the program ends
 abbrev pub exit_status : Ending → ℕ
-exit_status Told = 0
+exit_status Reported = 0
 exit_status HandedOn = 1
 exit_status Usage = 2
 exit_status NoMemory = 3
@@ -31,7 +31,7 @@ null_line = ended (codes "null")
 
 -- the line on the error output; none where all is written
 abbrev pub line_of : Ending → List ℕ
-line_of Told = []
+line_of Reported = []
 line_of HandedOn = []
 line_of Usage = ended (codes "usage: foresight_where [--json] FILE | --rules | --version")
 line_of NoMemory = ended (codes "no memory")

@@ -2,7 +2,7 @@
 use Rattle.std.specs.Prelude.{◌≡◌, ℕ, ◌+◌, ◌<◌, ◌≤◌, List, length, Option, IfSome}
 use Rattle.byte_ends.specs.Ends.{IsAtEnd, LostAtMost, Rose}
 use Rattle.foresight_where.specs.declared.ending.Ending.{Ending}
-use Rattle.foresight_where.specs.declared.ending.Ending.TheVariants.{Told, HandedOn, Usage, NoMemory, ReadFault, TooLarge, WriteFault}
+use Rattle.foresight_where.specs.declared.ending.Ending.TheVariants.{Reported, HandedOn, Usage, NoMemory, ReadFault, TooLarge, WriteFault}
 use Rattle.foresight_where.specs.Endings.{most}
 
 -- All that there was is read, which is at most so many bytes, nothing is left, and no read failed.
@@ -19,7 +19,7 @@ abbrev pub StopsAs : Option (List ℕ) → ℕ → ℕ → Ending → Type 0
 StopsAs old before now TooLarge = IfSome old (λ all. most < length all) × (now ≡ before)
 StopsAs old before now ReadFault = Rose before now
 StopsAs old before now NoMemory = now ≡ before
-StopsAs old before now Told = ⊥
+StopsAs old before now Reported = ⊥
 StopsAs old before now HandedOn = ⊥
 StopsAs old before now Usage = ⊥
 StopsAs old before now WriteFault = ⊥

@@ -9,7 +9,7 @@ use Rattle.standard_streams.specs.Changes.{Change, Failed, HasNotFailed, IsUntou
 use Rattle.foresight_where.specs.declared.asking.Form.{Form}
 use Rattle.foresight_where.specs.declared.asking.Form.TheVariants as form
 use Rattle.foresight_where.specs.declared.ending.Ending.{Ending}
-use Rattle.foresight_where.specs.declared.ending.Ending.TheVariants.{Told, Usage, NoMemory, ReadFault, TooLarge, WriteFault}
+use Rattle.foresight_where.specs.declared.ending.Ending.TheVariants.{Reported, Usage, NoMemory, ReadFault, TooLarge, WriteFault}
 use Rattle.foresight_where.specs.Chosen.{refusal_line}
 use Rattle.foresight_where.specs.Endings.{line_of, most, version_line}
 use Rattle.foresight_where.specs.Showing.{IsTextOf, Written, has_begun_writing, has_written, placed}
@@ -54,8 +54,8 @@ pub record Answered {O : Type 0} (f : Form) (name input file : List ℕ) (out : 
 -- What is written where a text is asked for that takes no input: all of it, or a front of it before
 -- a write failed, or memory ran out.
 pub record Prints {O : Type 0} (text : List ℕ) (out : Change O) (e : Ending) : Type 0 where
-  pub ending : (e ≡ Told) ⊎ ((e ≡ NoMemory) ⊎ (e ≡ WriteFault))
-  pub told : e ≡ Told → Took out text
+  pub ending : (e ≡ Reported) ⊎ ((e ≡ NoMemory) ⊎ (e ≡ WriteFault))
+  pub told : e ≡ Reported → Took out text
   pub front : e ≡ WriteFault → TookFront out text
   -- Its clauses are `write_fault`, `written_well` and `unwritten`.
   pub written : Written out e

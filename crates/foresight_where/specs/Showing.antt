@@ -9,11 +9,11 @@ use Rattle.foresight_where.specs.Endings.{null_line}
 use Rattle.foresight_where.specs.declared.asking.Form.{Form}
 use Rattle.foresight_where.specs.declared.asking.Form.TheVariants as form
 use Rattle.foresight_where.specs.declared.ending.Ending.{Ending}
-use Rattle.foresight_where.specs.declared.ending.Ending.TheVariants.{Told, HandedOn, Usage, NoMemory, ReadFault, TooLarge, WriteFault}
+use Rattle.foresight_where.specs.declared.ending.Ending.TheVariants.{Reported, HandedOn, Usage, NoMemory, ReadFault, TooLarge, WriteFault}
 
 -- whether a run that ended so has written all
 abbrev pub has_written : Ending → Bool
-has_written Told = true
+has_written Reported = true
 has_written HandedOn = true
 has_written Usage = false
 has_written NoMemory = false
@@ -36,7 +36,7 @@ pub record Written {O : Type 0} (out : Change O) (e : Ending) : Type 0 where
 
 -- how a run ends by the text of a place, if there is one
 abbrev pub placed : Option (List ℕ) → Ending
-placed (Some text) = Told
+placed (Some text) = Reported
 placed None = HandedOn
 
 -- The first refusal of an input is told of: in place of its line stands the text of the place, and
@@ -49,9 +49,9 @@ pub record IsToldWithin (name input file text : List ℕ) : Type 0 where
 -- What a run writes that ends so: its first refusal is told of, or the input stands as it is. As JSON
 -- the first refusal alone is told of, or nothing is; the input's other lines aren't written.
 abbrev pub IsTextOf : Form → List ℕ → List ℕ → List ℕ → List ℕ → Ending → Type 0
-IsTextOf form.Text name input file text Told = IsToldWithin name input file text
+IsTextOf form.Text name input file text Reported = IsToldWithin name input file text
 IsTextOf form.Text name input file text HandedOn = text ≡ input
-IsTextOf form.Json name input file text Told = IsJson name file (refusal_line input) text
+IsTextOf form.Json name input file text Reported = IsJson name file (refusal_line input) text
 IsTextOf form.Json name input file text HandedOn = text ≡ null_line
 IsTextOf f name input file text Usage = ⊥
 IsTextOf f name input file text NoMemory = ⊥
@@ -69,7 +69,7 @@ Writes bytes wanted out e = ((e ≡ wanted) × Took out bytes)
 
 -- a run ends so that reads nothing more: it is at its output, or wants memory
 abbrev pub is_shown : Ending → Bool
-is_shown Told = true
+is_shown Reported = true
 is_shown HandedOn = true
 is_shown Usage = false
 is_shown NoMemory = true

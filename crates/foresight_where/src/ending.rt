@@ -7,7 +7,7 @@ ghost use Rattle.foresight_where.specs.Endings as spec;
 #[derive(Clone, Copy, Debug, PartialEq, Eq)]
 pub(crate) enum Ending {
     /// The text of a place, or the table, is written.
-    Told,
+    Reported,
     /// Nothing is told: no line of the input is a refusal's, or the first that is one names a place
     /// that the file hasn't. The input is handed on as it is, or `null` stands for it in JSON.
     HandedOn,
@@ -27,7 +27,7 @@ impl Ending {
         ensures { result ≡ spec.exit_status self }
     {
         match self {
-            Ending::Told => 0,
+            Ending::Reported => 0,
             Ending::HandedOn => 1,
             Ending::Usage => 2,
             Ending::NoMemory => 3,
@@ -41,7 +41,7 @@ impl Ending {
         ensures { result.now ≡ spec.line_of self }
     {
         match self {
-            Ending::Told | Ending::HandedOn => "",
+            Ending::Reported | Ending::HandedOn => "",
             Ending::Usage => "usage: foresight_where [--json] FILE | --rules | --version\n",
             Ending::NoMemory => "no memory\n",
             Ending::ReadFault => "read fault\n",

@@ -4,7 +4,7 @@ ghost use Rattle.std.specs.Prelude.{◌≡◌, ◌≢◌, ◌++◌, ◌≤◌, L
 ghost use Rattle.standard_streams.specs.Changes.{change};
 ghost use Rattle.refusal_places.specs.RuleTable.{rules_text};
 ghost use Rattle.foresight_where.specs.declared.asking.Form.TheVariants as form;
-ghost use Rattle.foresight_where.specs.declared.ending.Ending.TheVariants.{NoMemory, Told};
+ghost use Rattle.foresight_where.specs.declared.ending.Ending.TheVariants.{NoMemory, Reported};
 ghost use Rattle.foresight_where.specs.Chosen.{back_of, front_of, refusal_line};
 ghost use Rattle.foresight_where.specs.Endings.{most, version_line};
 ghost use Rattle.foresight_where.specs.Runs.{Prints};
@@ -50,7 +50,7 @@ fn show_json<O: Sink>(alloc: Global, name: &str, file: &[u8], line: &[u8], out: 
         → Shows form.Json name.now input file.now (change O.held O.faults out.old out.new) result }
 {
     match told_json(alloc, name, file, line) {
-        Ok(Some(text)) => written(out, &text, Ending::Told),
+        Ok(Some(text)) => written(out, &text, Ending::Reported),
         Ok(None) => written(out, b"null\n", Ending::HandedOn),
         Err(_) => Ending::NoMemory,
     }
@@ -84,7 +84,7 @@ fn show_text<O: Sink>(
 
 /// Writes a text between what stands before it and behind it.
 fn write_within<O: Sink>(out: &mut O, front: &[u8], text: &[u8], back: &[u8]) -> Ending
-    ensures { Writes (front.now ++ (text.now ++ back.now)) Told
+    ensures { Writes (front.now ++ (text.now ++ back.now)) Reported
         (change O.held O.faults out.old out.new) result }
 {
     if write_all(out, front) {
@@ -96,10 +96,10 @@ fn write_within<O: Sink>(out: &mut O, front: &[u8], text: &[u8], back: &[u8]) ->
 
 /// Writes a text and what stands behind it.
 fn write_before<O: Sink>(out: &mut O, text: &[u8], back: &[u8]) -> Ending
-    ensures { Writes (text.now ++ back.now) Told (change O.held O.faults out.old out.new) result }
+    ensures { Writes (text.now ++ back.now) Reported (change O.held O.faults out.old out.new) result }
 {
     if write_all(out, text) {
-        written(out, back, Ending::Told)
+        written(out, back, Ending::Reported)
     } else {
         Ending::WriteFault
     }
@@ -121,7 +121,7 @@ pub(crate) fn show_rules<O: Sink>(alloc: Global, out: &mut O) -> Ending
     ensures { Prints rules_text (change O.held O.faults out.old out.new) result }
 {
     match rules_text(alloc) {
-        Ok(text) => written(out, &text, Ending::Told),
+        Ok(text) => written(out, &text, Ending::Reported),
         Err(_) => Ending::NoMemory,
     }
 }
@@ -131,5 +131,5 @@ pub(crate) fn show_version<O: Sink>(out: &mut O) -> Ending
     ensures prints { Prints version_line (change O.held O.faults out.old out.new) result }
     ensures memory { result ≢ NoMemory }
 {
-    written(out, b"foresight_where 1.5\n", Ending::Told)
+    written(out, b"foresight_where 1.5\n", Ending::Reported)
 }

@@ -113,14 +113,19 @@ fn end_of(alloc: Global, row: Row, out: &str) -> Result<(Ending, bool, bool), Fa
 #[test]
 fn runs_without_faults(rt: HostRuntime) -> Result<(), Fail> {
     for (words, input, ending, out) in [
-        ("small", REFUSED, Ending::Told, PLACE),
+        ("small", REFUSED, Ending::Reported, PLACE),
         ("small", "hello\n", Ending::HandedOn, "hello\n"),
         // A file is opened only where a place is named.
         ("large", "hello\n", Ending::HandedOn, "hello\n"),
         ("large", REFUSED, Ending::ReadFault, ""),
-        ("--version", REFUSED, Ending::Told, "foresight_where 1.5\n"),
+        (
+            "--version",
+            REFUSED,
+            Ending::Reported,
+            "foresight_where 1.5\n",
+        ),
         ("small large", REFUSED, Ending::Usage, ""),
-        ("--json small", REFUSED, Ending::Told, JSON),
+        ("--json small", REFUSED, Ending::Reported, JSON),
         ("--json large", "hello\n", Ending::HandedOn, "null\n"),
         ("--json", REFUSED, Ending::Usage, ""),
     ] {
@@ -171,6 +176,6 @@ fn a_refusal_among_other_lines(rt: HostRuntime) -> Result<(), Fail> {
         fails: (&[], &[], &[]),
     };
     let found = end_of(rt.alloc(), row, out.as_str())?;
-    assert_eq!(rt; found, (Ending::Told, true, true));
+    assert_eq!(rt; found, (Ending::Reported, true, true));
     Ok(())
 }

@@ -2,6 +2,7 @@ pub mod Cases
 pub mod Codes
 pub mod Counting
 pub mod Fine
+pub mod FewTables
 pub mod Finding
 pub mod Held
 pub mod Inductions

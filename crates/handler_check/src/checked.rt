@@ -2,11 +2,11 @@
 
 ghost use Rattle.std.specs.Prelude.{◌≡◌, ◌≢◌, ◌+◌, ◌<◌, ◌≤◌, ◌==◌, ℕ, IfNone, IfOk, IfSome, MatchResult, Some, length, slice_get};
 ghost use Rattle.std.specs.List.{position};
-ghost use Rattle.session_values.specs.Limits.{max_calls, max_handlers, max_work};
+ghost use Rattle.session_values.specs.Limits.{max_calls, max_handlers, max_tables, max_work};
 ghost use Rattle.syntax_trees.specs.declared.file.Handler.{Handler};
 ghost use Rattle.handler_check.specs.Checked.{HandlerWithin};
 ghost use Rattle.handler_check.specs.Checking.{IsAccepted, IsRefusal};
-ghost use Rattle.handler_check.specs.Resolved.{IsResolved, code_at, params_at, table_names};
+ghost use Rattle.handler_check.specs.Resolved.{IsResolved, code_at, params_at, shape_of, table_names};
 ghost use Rattle.check_meaning.specs.Bounds as spec;
 ghost use Rattle.check_meaning.specs.Code.{block_code, points};
 ghost use Rattle.syntax_trees.specs.Bounds.{KeepsBounds};
@@ -18,7 +18,7 @@ use crate::excess::bound_all;
 use crate::resolution::resolve;
 use check_meaning::CheckedHandler;
 use check_rules::CheckRefusal;
-use session_values::Listed;
+use session_values::{Listed, NoMemory, TableKind};
 use std::alloc::Global;
 use std::marker::Model;
 use syntax_trees::File;
@@ -67,6 +67,14 @@ pub fn check(alloc: Global, file: File) -> Result<Checked, CheckRefusal>
     })
 }
 
+// The kinds of a file's tables.
+fn kinds_of(alloc: Global, file: &File) -> Result<Vec<TableKind>, NoMemory>
+    ensures { IfOk result (λ kinds. kinds.items ≡ shape_of file.now) }
+{
+    let tables = file.tables.as_slice();
+    Ok(tables.iter().map(|t| t.kind).collect(alloc)?)
+}
+
 impl Checked {
     /// The file, as it was checked.
     pub fn file(&self) -> &File
@@ -75,6 +83,15 @@ impl Checked {
         ensures bounds { KeepsBounds self.now }
     {
         &self.file
+    }
+
+    /// The kinds of its tables, in a list of its own.
+    pub fn shape(&self, alloc: Global) -> Result<Vec<TableKind>, NoMemory>
+        ensures kinds { IfOk result (λ kinds. kinds.items ≡ shape_of self.now) }
+        ensures few { IfOk result (λ kinds. length kinds.items ≤ max_tables) }
+    {
+        let kinds = kinds_of(alloc, &self.file)?;
+        Ok(kinds)
     }
 
     /// How many handlers it has.

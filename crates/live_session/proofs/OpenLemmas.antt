@@ -22,8 +22,8 @@ use Rattle.serve_faults.specs.Session.{all_names_of, opening_names_of, rows_of}
 use Rattle.serve_faults.specs.declared.status.Fault.{Fault}
 use Rattle.serve_faults.specs.declared.status.Fault.TheVariants as fault
 use Rattle.serve_reading.specs.declared.session.Loaded.{Loaded}
-use Rattle.serve_reading.specs.declared.unserved.Unserved.{Unserved}
-use Rattle.serve_reading.specs.declared.unserved.Unserved.TheVariants as unserved
+use Rattle.serve_reading.specs.declared.load_error.LoadError.{LoadError}
+use Rattle.serve_reading.specs.declared.load_error.LoadError.TheVariants as load_error
 use Rattle.serve_reading.specs.Reasons.{IsInputReason}
 use Rattle.serve_reading.specs.Sessions.{IsLoaded, IsSessionInput}
 use Rattle.serve_reading.proofs.Loading.{as_program}
@@ -186,7 +186,7 @@ module _ (text : Text) (l : Loaded) (input : IsSessionInput text) (is : IsLoaded
   none_made most (Err e) h = unmade most e h
 
 -- the rule that a text breaks
-refused : (text : Text) (most : ℕ) (e : Fault) → IsInputReason text (unserved.Refused e) → IsUnopened text most (unopened.Refused e)
+refused : (text : Text) (most : ℕ) (e : Fault) → IsInputReason text (load_error.Refused e) → IsUnopened text most (unopened.Refused e)
 refused text most fault.TooLarge h = absurd h
 refused text most fault.NoRequests h = h
 refused text most fault.HasRequests h = h
@@ -202,6 +202,6 @@ refused text most (fault.Trace x) h = h
 refused text most (fault.Ranges x) h = h
 
 -- why nothing is opened
-pub not_loaded : (text : Text) (most : ℕ) (why : Unserved) → IsInputReason text why → IsUnopened text most (unopened_by why)
-not_loaded text most (unserved.Refused e) h = refused text most e h
-not_loaded text most unserved.NoMemory h = tt
+pub not_loaded : (text : Text) (most : ℕ) (why : LoadError) → IsInputReason text why → IsUnopened text most (unopened_by why)
+not_loaded text most (load_error.Refused e) h = refused text most e h
+not_loaded text most load_error.NoMemory h = tt

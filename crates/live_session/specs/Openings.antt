@@ -13,8 +13,8 @@ use Rattle.serve_faults.specs.Input.{parts_of}
 use Rattle.serve_faults.specs.Session.{IsSession, all_names_of, opened_of, opening_names_of, rows_of}
 use Rattle.serve_faults.specs.declared.status.Fault.TheVariants.{TooLarge}
 use Rattle.serve_reading.specs.declared.session.Loaded.{Loaded}
-use Rattle.serve_reading.specs.declared.unserved.Unserved.{Unserved}
-use Rattle.serve_reading.specs.declared.unserved.Unserved.TheVariants as unserved
+use Rattle.serve_reading.specs.declared.load_error.LoadError.{LoadError}
+use Rattle.serve_reading.specs.declared.load_error.LoadError.TheVariants as load_error
 use Rattle.serve_reading.specs.Reasons.{IsInputReason}
 use Rattle.serve_reading.specs.Sessions.{IsSessionInput}
 use Rattle.live_session.specs.declared.opening.OpenError.{OpenError}
@@ -61,7 +61,7 @@ pub record IsFileOf (text : Text) (file : File) : Type 0 where
 -- why a text isn't opened
 abbrev pub IsUnopened : Text → ℕ → OpenError → Type 0
 IsUnopened text most (unopened.Refused TooLarge) = max_input < length text
-IsUnopened text most (unopened.Refused e) = IsInputReason text (unserved.Refused e)
+IsUnopened text most (unopened.Refused e) = IsInputReason text (load_error.Refused e)
 IsUnopened text most unopened.HasRequests =
     (file : File) × IsFileOf text file × (rows_of (parts_of text) ≢ [])
 IsUnopened text most unopened.TooManyNames =
@@ -91,6 +91,6 @@ IsUnmade l most unopened.TooManyNames = most < length l.names
 IsUnmade l most unopened.NoMemory = Unit {0}
 
 -- why nothing is opened where nothing is loaded
-abbrev pub unopened_by : Unserved → OpenError
-unopened_by (unserved.Refused e) = unopened.Refused e
-unopened_by unserved.NoMemory = unopened.NoMemory
+abbrev pub unopened_by : LoadError → OpenError
+unopened_by (load_error.Refused e) = unopened.Refused e
+unopened_by load_error.NoMemory = unopened.NoMemory

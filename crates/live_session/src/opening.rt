@@ -23,7 +23,7 @@ use driven_tickets::OpenTickets;
 use handler_check::Checked;
 use opening_tables::Opening;
 use serve_faults::Fault;
-use serve_reading::{Loaded, Unserved, load_session};
+use serve_reading::{LoadError, Loaded, load_session};
 use session_journal::Scratch;
 use session_values::{MAX_HANDLERS, MAX_INPUT, MAX_VARIABLES, NoMemory, TableKind};
 use shard_tables::Part;
@@ -89,14 +89,6 @@ fn opened_tables(
     Ok(LiveTables { parts })
 }
 
-// The kinds of a file's tables.
-fn shape_in(alloc: Global, checked: &Checked) -> Result<Vec<TableKind>, NoMemory>
-    ensures { IfOk result (λ shape. shape.items ≡ shape_of checked.now) }
-{
-    let tables = checked.file().tables.as_slice();
-    Ok(tables.iter().map(|t| t.kind).collect(alloc)?)
-}
-
 // The tables that were loaded as they open, and for each how many keys each handler may add.
 fn tables_and_adds(
     alloc: Global,
@@ -112,7 +104,7 @@ fn tables_and_adds(
     ensures program { IsProgram loaded.now.program }
 {
     let checked = loaded.program.checked();
-    let shape = shape_in(alloc, checked)?;
+    let shape = checked.shape(alloc)?;
     let tables = opened_tables(alloc, &loaded.opening, shape.as_slice(), seed)?;
     let adds = adds_by_table(alloc, checked, shape.len() as u32)?;
     Ok((tables, adds))
@@ -164,12 +156,12 @@ fn over(alloc: Global, loaded: Loaded, seed: u64, most: u32) -> Result<LiveSessi
 }
 
 // Why nothing is opened where nothing is loaded.
-fn unloaded(why: Unserved) -> OpenError
+fn unloaded(why: LoadError) -> OpenError
     ensures { result ≡ unopened_by why }
 {
     match why {
-        Unserved::Refused(fault) => OpenError::Refused(fault),
-        Unserved::NoMemory => OpenError::NoMemory,
+        LoadError::Refused(fault) => OpenError::Refused(fault),
+        LoadError::NoMemory => OpenError::NoMemory,
     }
 }
 

@@ -8,7 +8,7 @@ ghost use Rattle.session_journal.specs.Script.{session_of};
 ghost use Rattle.reply_lane.specs.Ends.{IsNewEnd};
 
 use crate::lane::{End, Ends, Lane};
-use crate::rule::{Another, LaneRule, Served, Told};
+use crate::rule::{Another, LaneRule, Reported, Served};
 use crossbeam_queue::RuledArrayQueue;
 use session_journal::Script;
 use session_values::{Listed, NoMemory};
@@ -46,7 +46,7 @@ fn opened<S: Script, K: Served>(
 {
     let mut ends = Vec::with_capacity(alloc, callers as usize)?;
     let (queue, mut pass) = RuledArrayQueue::<_, _, LaneRule>::ruled(alloc, ROOM)?;
-    let _spare = queue.another::<Told<K>>(&mut pass);
+    let _spare = queue.another::<Reported<K>>(&mut pass);
     for made in 1..callers {
         let other = queue.another::<Another>(&mut pass);
         ends.push_reserved(End { pass: other });

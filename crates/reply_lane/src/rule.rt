@@ -58,11 +58,11 @@ impl Protocol<Spoken, EndState> for LaneRule {
 }
 
 /// The first end is told the list and how many callers there are, and stands for them all.
-pub struct Told<K> {
+pub struct Reported<K> {
     marker: PhantomData<K>,
 }
 
-impl<K: Served> Split<EndState> for Told<K> {
+impl<K: Served> Split<EndState> for Reported<K> {
     ghost use Rattle.std.specs.Prelude.{[]};
     ghost use Rattle.reply_lane.specs.Lanes.{end_state};
 

@@ -2,14 +2,14 @@
 //! tells it.
 #![tactic(auto)]
 
-mod certain;
 mod laws;
 mod limits;
 mod message;
+mod rule_violation;
 mod status;
 
-pub use certain::{Certain, Refusal};
 pub use laws::{events_can_be_told, one_answer, replies_are_printable, tables_are_printable};
 pub use limits::MAX_AUDIT_INPUT;
 pub use message::message_of;
+pub use rule_violation::{Refusal, RuleViolation};
 pub use status::{Fault, Status};

@@ -2,7 +2,7 @@
 
 ghost use Rattle.std.specs.Prelude.{◌≡◌};
 
-use crate::certain::Certain;
+use crate::rule_violation::RuleViolation;
 use check_rules::CheckRefusal;
 use handler_syntax::SyntaxRefusal;
 use may_use_analysis::AnalysisRefusal;
@@ -28,19 +28,19 @@ pub enum Fault {
     /// Its requests are those of more than 16 clients.
     TooManyClients,
     /// The text of the handlers is no file of the grammar within its limits.
-    Syntax(Certain<SyntaxRefusal>),
+    Syntax(RuleViolation<SyntaxRefusal>),
     /// The handlers break a rule of the checker.
-    Check(Certain<CheckRefusal>),
+    Check(RuleViolation<CheckRefusal>),
     /// Too many operations may still come at a point of the handlers.
-    Analysis(Certain<AnalysisRefusal>),
+    Analysis(RuleViolation<AnalysisRefusal>),
     /// A line of the table part breaks a rule.
-    Tables(Certain<TableRefusal>),
+    Tables(RuleViolation<TableRefusal>),
     /// A request breaks a rule.
-    Request(Certain<RequestRefusal>),
+    Request(RuleViolation<RequestRefusal>),
     /// A line of the trace part breaks a rule.
-    Trace(Certain<TraceRefusal>),
+    Trace(RuleViolation<TraceRefusal>),
     /// A line of a range session breaks a rule.
-    Ranges(Certain<RangeRefusal>),
+    Ranges(RuleViolation<RangeRefusal>),
 }
 
 /// How a run ended.

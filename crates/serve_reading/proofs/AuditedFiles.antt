@@ -25,12 +25,12 @@ use Rattle.request_files.specs.TracePart.{IsTracePlace, before_trace, behind_tra
 use Rattle.request_files.specs.declared.trace_part.TracePlace.{TracePlace}
 use Rattle.serve_reading.specs.declared.session.Loaded.{Loaded}
 use Rattle.serve_reading.specs.declared.auditing.Audited.{Audited}
-use Rattle.serve_reading.specs.declared.unserved.Unserved.{Unserved}
-use Rattle.serve_reading.specs.declared.unserved.Unserved.TheVariants.{Refused, NoMemory}
+use Rattle.serve_reading.specs.declared.load_error.LoadError.{LoadError}
+use Rattle.serve_reading.specs.declared.load_error.LoadError.TheVariants.{Refused, NoMemory}
 use Rattle.serve_reading.specs.Audits.{AreTraced, IsAuditOf, IsEventsReason, IsTracedReason}
 use Rattle.serve_reading.specs.Reasons.{IsReason, IsSessionReason}
 use Rattle.serve_reading.specs.Sessions.{IsLoaded}
-use Rattle.serve_reading.proofs.Inputs.{AreShort, parts_same, parts_short}
+use Rattle.serve_reading.proofs.Inputs.{parts_same}
 use Rattle.serve_reading.proofs.Loading.{as_program}
 
 -- ---- names of tables
@@ -43,28 +43,6 @@ places_below names (t ∷ ts) h = (below (name_named names t.name h.0), places_b
 
 pub tables_known : (names : List (List ℕ)) (file : File) → IsNamedFile names file → AreKnown names (table_places file)
 tables_known names file named = places_below names file.tables (all_first (HasText names) (flat_map table_mentions file.tables) (flat_map handler_mentions file.handlers) named).0
-
--- ---- parts
-
--- the parts of a text that is short enough are
-module _ (front handlers tables requests : List ℕ) (first_table first : ℕ) (d : Divides front handlers tables requests first_table first) (short : length front ≤ max_input) where
-  parts_few : AreShort handlers tables requests first_table first
-  parts_few = parts_short front front handlers tables requests first_table first d refl short
-
-  pub handlers_few : length handlers ≤ max_input
-  handlers_few = parts_few.handlers_short
-
-  pub tables_few : length tables ≤ max_input
-  tables_few = parts_few.tables_short
-
-  pub requests_few : length requests ≤ max_input
-  requests_few = parts_few.requests_short
-
-  pub first_table_few : first_table ≤ 4194306
-  first_table_few = parts_few.first_table_few
-
-  pub first_few : first ≤ 4194306
-  first_few = parts_few.few
 
 -- ---- what was read
 
@@ -86,7 +64,7 @@ are_traced parts l rs names trace a h t is = subst (AreTraced parts rs) (sym is)
 
 -- ---- reasons
 
-pub session_refused : (parts : Parts) (rs : List Row) (e : Unserved) → IsSessionReason parts e → IsTracedReason parts rs e
+pub session_refused : (parts : Parts) (rs : List Row) (e : LoadError) → IsSessionReason parts e → IsTracedReason parts rs e
 session_refused parts rs NoMemory h = tt
 session_refused parts rs (Refused (fault.Syntax e)) h = h
 session_refused parts rs (Refused (fault.Check e)) h = h
@@ -102,7 +80,7 @@ session_refused parts rs (Refused fault.HasRequests) h = absurd h
 session_refused parts rs (Refused fault.NoTrace) h = absurd h
 session_refused parts rs (Refused fault.TooManyClients) h = absurd h
 
-pub events_refused : (parts : Parts) (l : Loaded) (rs : List Row) (e : Unserved) → IsLoaded parts l → IsEventsReason l.names l.program.file rs e → IsTracedReason parts rs e
+pub events_refused : (parts : Parts) (l : Loaded) (rs : List Row) (e : LoadError) → IsLoaded parts l → IsEventsReason l.names l.program.file rs e → IsTracedReason parts rs e
 events_refused parts l rs NoMemory h r = tt
 events_refused parts l rs (Refused (fault.Trace e)) h r = record {
   file = l.program.file;
@@ -125,7 +103,7 @@ events_refused parts l rs (Refused fault.TooManyClients) h r = absurd r
 -- ---- inputs
 
 -- why a session before a trace part, or the lines of the part, are refused is why the input is
-pub audit_reason : (input : List ℕ) (e : Unserved) → IsInput Audit input → IsTracedReason (audited_parts input) (event_rows_of input) e → IsReason Audit input e
+pub audit_reason : (input : List ℕ) (e : LoadError) → IsInput Audit input → IsTracedReason (audited_parts input) (event_rows_of input) e → IsReason Audit input e
 audit_reason input NoMemory i h = tt
 audit_reason input (Refused (fault.Syntax e)) i h = (i, h, refl)
 audit_reason input (Refused (fault.Check e)) i h = (i, h, refl)
@@ -227,6 +205,6 @@ module _ (input : List ℕ) (p : TracePlace) (short : length input ≤ max_audit
         pub audit_of : (a : Audited) → AreTraced (parts_by handlers tables requests first_table first) (rows p.line (lines events)) a → IsAuditOf input a
         audit_of a h = subst (λ (q : Parts). AreTraced q (event_rows_of input) a) parts_there (subst (λ (rs : List Row). AreTraced (parts_by handlers tables requests first_table first) rs a) rows_are h)
 
-        pub traced_refused : (e : Unserved) → IsTracedReason (parts_by handlers tables requests first_table first) (rows p.line (lines events)) e → IsReason Audit input e
+        pub traced_refused : (e : LoadError) → IsTracedReason (parts_by handlers tables requests first_table first) (rows p.line (lines events)) e → IsReason Audit input e
         traced_refused e h = audit_reason input e traced_input
             (subst (λ (q : Parts). IsTracedReason q (event_rows_of input) e) parts_there (subst (λ (rs : List Row). IsTracedReason (parts_by handlers tables requests first_table first) rs e) rows_are h))

@@ -19,8 +19,8 @@ use Rattle.request_files.specs.Text.{Text, lines}
 use Rattle.serve_faults.specs.Command.TheVariants.{Clients}
 use Rattle.serve_faults.specs.declared.status.Fault.TheVariants as fault
 use Rattle.serve_faults.specs.Input.{IsInput, Parts, client_marks, client_parts, clients_fault, is_divided}
-use Rattle.serve_reading.specs.declared.unserved.Unserved.{Unserved}
-use Rattle.serve_reading.specs.declared.unserved.Unserved.TheVariants.{Refused, NoMemory}
+use Rattle.serve_reading.specs.declared.load_error.LoadError.{LoadError}
+use Rattle.serve_reading.specs.declared.load_error.LoadError.TheVariants.{Refused, NoMemory}
 use Rattle.serve_reading.specs.declared.clients.LoadedClients.{LoadedClients}
 use Rattle.serve_reading.specs.Clients.{AreClients, joined, joined_parts}
 use Rattle.serve_reading.specs.Programs.{IsProgramOf}
@@ -119,7 +119,7 @@ are_clients parts l old program e read named counts shared few = record {
   few = few;
 }
 
-pub clients_lines : (parts : Parts) (p : ProgramView) (old : List (List ℕ)) (e : Unserved) → IsProgramOf parts.handlers p → old ≡ names_of [] parts.handlers
+pub clients_lines : (parts : Parts) (p : ProgramView) (old : List (List ℕ)) (e : LoadError) → IsProgramOf parts.handlers p → old ≡ names_of [] parts.handlers
     → IsLinesReason old p.file (rows parts.first_table (lines parts.tables)) (rows parts.first (without_marks (lines parts.requests))) e → IsSessionReason (joined_parts parts) e
 clients_lines parts p old e program is h =
     lines_reason (joined_parts parts) p old e program is
@@ -152,7 +152,7 @@ module _ (callers shards : ℕ) (input : List ℕ) (short : length input ≤ max
       }
 
 -- why the session of all clients is refused is why the input is
-pub clients_reason : (callers shards : ℕ) (input : List ℕ) (e : Unserved) → IsInput (Clients callers shards) input → IsSessionReason (client_parts input) e → IsReason (Clients callers shards) input e
+pub clients_reason : (callers shards : ℕ) (input : List ℕ) (e : LoadError) → IsInput (Clients callers shards) input → IsSessionReason (client_parts input) e → IsReason (Clients callers shards) input e
 clients_reason callers shards input NoMemory i h = tt
 clients_reason callers shards input (Refused (fault.Syntax e)) i h = (i, h, refl)
 clients_reason callers shards input (Refused (fault.Check e)) i h = (i, h, refl)

@@ -32,8 +32,8 @@ use Rattle.serve_faults.specs.Session.{IsProgram, rows_of, table_rows_of, openin
 use Rattle.serve_faults.specs.Answer.{IsRefused, IsTextOf}
 use Rattle.serve_faults.specs.Ways.{describing}
 use Rattle.serve_reading.specs.declared.session.Loaded.{Loaded}
-use Rattle.serve_reading.specs.declared.unserved.Unserved.{Unserved}
-use Rattle.serve_reading.specs.declared.unserved.Unserved.TheVariants.{Refused, NoMemory}
+use Rattle.serve_reading.specs.declared.load_error.LoadError.{LoadError}
+use Rattle.serve_reading.specs.declared.load_error.LoadError.TheVariants.{Refused, NoMemory}
 use Rattle.serve_reading.specs.Programs.{Describes, IsDeclared, IsParsed, IsProgramOf}
 use Rattle.serve_reading.specs.Reasons.{IsAnalysisReason, IsCheckReason, IsFileReason, IsLinesReason, IsReason, IsSessionReason, IsSyntaxReason}
 use Rattle.serve_reading.specs.Sessions.{AreOpened, IsLoaded}
@@ -99,7 +99,7 @@ loaded parts l old program e read named =
     }
 
 -- why lines were refused is why the session is
-pub lines_reason : (parts : Parts) (p : ProgramView) (old : List (List ℕ)) (e : Unserved) → IsProgramOf parts.handlers p → old ≡ names_of [] parts.handlers → IsLinesReason old p.file (table_rows_of parts) (rows_of parts) e → IsSessionReason parts e
+pub lines_reason : (parts : Parts) (p : ProgramView) (old : List (List ℕ)) (e : LoadError) → IsProgramOf parts.handlers p → old ≡ names_of [] parts.handlers → IsLinesReason old p.file (table_rows_of parts) (rows_of parts) e → IsSessionReason parts e
 lines_reason parts p old NoMemory program is h = tt
 lines_reason parts p old (Refused (fault.Tables e)) program is h = record {
   file = p.file;
@@ -137,7 +137,7 @@ pub describing_marked : (shown : Bool) (bytes : List ℕ) → length bytes ≤ m
 describing_marked true bytes short utf8 e = (short, utf8, ap alone_fault e)
 describing_marked false bytes short utf8 e = (short, utf8, ap alone_fault e)
 
-pub check_reason : (file : File) (e : Unserved) → IsCheckReason file e → IsFileReason file e
+pub check_reason : (file : File) (e : LoadError) → IsCheckReason file e → IsFileReason file e
 check_reason file NoMemory h = tt
 check_reason file (Refused (fault.Check e)) h = h
 check_reason file (Refused (fault.Syntax e)) h = absurd h
@@ -153,7 +153,7 @@ check_reason file (Refused fault.HasRequests) h = absurd h
 check_reason file (Refused fault.NoTrace) h = absurd h
 check_reason file (Refused fault.TooManyClients) h = absurd h
 
-pub analysis_reason : (file : File) (e : Unserved) → IsAccepted file → IsAnalysisReason file e → IsFileReason file e
+pub analysis_reason : (file : File) (e : LoadError) → IsAccepted file → IsAnalysisReason file e → IsFileReason file e
 analysis_reason file NoMemory a h = tt
 analysis_reason file (Refused (fault.Analysis e)) a h = (a, h)
 analysis_reason file (Refused (fault.Check e)) a h = absurd h
@@ -170,7 +170,7 @@ analysis_reason file (Refused fault.NoTrace) a h = absurd h
 analysis_reason file (Refused fault.TooManyClients) a h = absurd h
 
 -- what is wrong with a file is wrong with the bytes that it is made of
-pub file_reason : (shown : Bool) (bytes : List ℕ) (file : File) (names : List (List ℕ)) (e : Unserved) → IsParsed bytes file names → IsFileReason file e → IsReason (describing shown) bytes e
+pub file_reason : (shown : Bool) (bytes : List ℕ) (file : File) (names : List (List ℕ)) (e : LoadError) → IsParsed bytes file names → IsFileReason file e → IsReason (describing shown) bytes e
 file_reason shown bytes file names NoMemory p h = tt
 file_reason true bytes file names (Refused (fault.Check e)) p h = (p.input true, record { file = file; form = p.form; first = h }, refl)
 file_reason false bytes file names (Refused (fault.Check e)) p h = (p.input false, record { file = file; form = p.form; first = h }, refl)
@@ -188,7 +188,7 @@ file_reason shown bytes file names (Refused fault.HasRequests) p h = absurd h
 file_reason shown bytes file names (Refused fault.NoTrace) p h = absurd h
 file_reason shown bytes file names (Refused fault.TooManyClients) p h = absurd h
 
-pub syntax_reason : (shown : Bool) (bytes : List ℕ) (e : Unserved) → IsInput (describing shown) bytes → IsSyntaxReason bytes e → IsReason (describing shown) bytes e
+pub syntax_reason : (shown : Bool) (bytes : List ℕ) (e : LoadError) → IsInput (describing shown) bytes → IsSyntaxReason bytes e → IsReason (describing shown) bytes e
 syntax_reason shown bytes NoMemory i h = tt
 syntax_reason true bytes (Refused (fault.Syntax e)) i h = (i, h, refl)
 syntax_reason false bytes (Refused (fault.Syntax e)) i h = (i, h, refl)
@@ -226,5 +226,5 @@ described_by shown bytes text file found names all p d e f = described_is shown 
 pub declared_is : (names : List (List ℕ)) (file : File) (text : List ℕ) (p : ProgramView) → IsAccepted file → p.file ≡ file → AreLater p.file p.lists → text ≡ shown_text names (shown_of p) p.file → IsDeclared names file text
 declared_is names file text p a is later t = subst (λ (f : File). IsAccepted f → IsDeclared names f text) is (λ b. record { accepted = b; later = (p.lists, later); text_is = t }) a
 
-pub reason_of : (shown : Bool) (bytes : List ℕ) (e found : Unserved) → ((s : Bool) → IsReason (describing s) bytes found) → found ≡ e → IsReason (describing shown) bytes e
-reason_of shown bytes e found h is = subst (λ (x : Unserved). IsReason (describing shown) bytes x) is (h shown)
+pub reason_of : (shown : Bool) (bytes : List ℕ) (e found : LoadError) → ((s : Bool) → IsReason (describing s) bytes found) → found ≡ e → IsReason (describing shown) bytes e
+reason_of shown bytes e found h is = subst (λ (x : LoadError). IsReason (describing shown) bytes x) is (h shown)

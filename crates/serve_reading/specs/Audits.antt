@@ -15,8 +15,8 @@ use Rattle.serve_faults.specs.Input.{Parts}
 use Rattle.serve_faults.specs.Session.{IsSession, all_names_of, opened_of, request_fault, requests_of, table_fault}
 use Rattle.serve_reading.specs.Programs.{IsProgramOf}
 use Rattle.serve_reading.specs.declared.auditing.Audited.{Audited}
-use Rattle.serve_reading.specs.declared.unserved.Unserved.{Unserved}
-use Rattle.serve_reading.specs.declared.unserved.Unserved.TheVariants.{Refused, NoMemory}
+use Rattle.serve_reading.specs.declared.load_error.LoadError.{LoadError}
+use Rattle.serve_reading.specs.declared.load_error.LoadError.TheVariants.{Refused, NoMemory}
 
 -- what was read is the parts' session, which can be served, and some lines are the events of the
 -- trace, with the names of the parts and those that the lines add, which are what was read too
@@ -37,7 +37,7 @@ IsAuditOf input a = AreTraced (audited_parts input) (event_rows_of input) a
 
 -- over the names before them and the tables of a file: memory ran out, or this is the first fault of
 -- some lines
-abbrev pub IsEventsReason : List (List ℕ) → File → List Row → Unserved → Type 0
+abbrev pub IsEventsReason : List (List ℕ) → File → List Row → LoadError → Type 0
 IsEventsReason names file rs NoMemory = Unit {0}
 IsEventsReason names file rs (Refused (fault.Trace e)) =
     first_event_fault names (table_places file) (shape_of file) 0 rs ≡ Some e
@@ -52,7 +52,7 @@ pub record AreRefused (parts : Parts) (rs : List Row) (e : TraceRefusal) : Type 
 
 -- memory ran out, or this is the first fault of the parts of a session file, or of the lines of a
 -- trace behind it
-abbrev pub IsTracedReason : Parts → List Row → Unserved → Type 0
+abbrev pub IsTracedReason : Parts → List Row → LoadError → Type 0
 IsTracedReason parts rs NoMemory = Unit {0}
 IsTracedReason parts rs (Refused (fault.Syntax e)) = HasSyntaxFault parts.handlers e
 IsTracedReason parts rs (Refused (fault.Check e)) = HasCheckFault parts.handlers e

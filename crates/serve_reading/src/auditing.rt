@@ -14,16 +14,17 @@ ghost use Rattle.serve_faults.specs.Input.{IsInput, max_audit_input, parts_by};
 ghost use Rattle.serve_reading.specs.Audits.{AreTraced, IsAuditOf, IsEventsReason, IsTracedReason};
 ghost use Rattle.serve_reading.specs.Reasons.{IsReason};
 
+use crate::load_error::LoadError;
 use crate::session::{Loaded, read_session};
-use crate::unserved::Unserved;
 use declaration_insertion::Program;
+use handler_check::Checked;
 use opening_tables::Opening;
 use request_files::{Divided, Requests, TracePlace, divide, find_trace};
-use serve_faults::{Certain, Fault};
-use session_values::{MAX_INPUT, Names, NoMemory, TableKind};
+use serve_faults::Fault;
+use session_values::{MAX_INPUT, Names, NoMemory};
 use std::alloc::Global;
 use syntax_trees::File;
-use trace_lines::{TraceRefusal, read_trace};
+use trace_lines::read_trace;
 use trace_rules::Trace;
 
 /// A session whose requests a trace tells of, and the trace.
@@ -39,7 +40,7 @@ pub struct Audited {
 }
 
 /// The session before the trace part of a file's bytes, and the trace.
-pub fn load_audited(alloc: Global, bytes: &[u8]) -> Result<Audited, Unserved>
+pub fn load_audited(alloc: Global, bytes: &[u8]) -> Result<Audited, LoadError>
     requires { length bytes.now ≤ max_audit_input }
     ensures input { IfOk result (λ _. IsInput Audit bytes.now) }
     ensures loaded { IfOk result (IsAuditOf bytes.now) }
@@ -53,26 +54,26 @@ pub fn load_audited(alloc: Global, bytes: &[u8]) -> Result<Audited, Unserved>
 
 /// Why a file without a trace part isn't judged.
 #[tactic(auto, using(crate::proofs::AuditedFiles::untraced_large, crate::proofs::AuditedFiles::untraced_bytes, crate::proofs::AuditedFiles::untraced_undivided, crate::proofs::AuditedFiles::untraced_divided))]
-fn untraced(bytes: &[u8]) -> Unserved
+fn untraced(bytes: &[u8]) -> LoadError
     requires short { length bytes.now ≤ max_audit_input }
     requires none { has_trace bytes.now ≡ false }
     ensures { IsReason Audit bytes.now result }
 {
     if bytes.len() > MAX_INPUT {
-        return Unserved::Refused(Fault::TooLarge);
+        return LoadError::Refused(Fault::TooLarge);
     }
     let Ok(text) = std::str::from_utf8(bytes) else {
-        return Unserved::Refused(Fault::NotText);
+        return LoadError::Refused(Fault::NotText);
     };
     match divide(text) {
-        Some(_) => Unserved::Refused(Fault::NoTrace),
-        None => Unserved::Refused(Fault::NoRequests),
+        Some(_) => LoadError::Refused(Fault::NoTrace),
+        None => LoadError::Refused(Fault::NoRequests),
     }
 }
 
 /// The session before the trace part, which stands at this place, and the trace.
-#[tactic(auto, using(crate::proofs::AuditedFiles::traced_large, crate::proofs::AuditedFiles::traced_bytes, crate::proofs::AuditedFiles::traced_undivided, crate::proofs::AuditedFiles::front_short, crate::proofs::AuditedFiles::events_short, crate::proofs::AuditedFiles::line_few, crate::proofs::AuditedFiles::traced_input, crate::proofs::AuditedFiles::audit_of, crate::proofs::AuditedFiles::traced_refused, crate::proofs::AuditedFiles::handlers_few, crate::proofs::AuditedFiles::tables_few, crate::proofs::AuditedFiles::requests_few, crate::proofs::AuditedFiles::first_table_few, crate::proofs::AuditedFiles::first_few))]
-fn load_traced(alloc: Global, bytes: &[u8], place: TracePlace) -> Result<Audited, Unserved>
+#[tactic(auto, using(crate::proofs::AuditedFiles::traced_large, crate::proofs::AuditedFiles::traced_bytes, crate::proofs::AuditedFiles::traced_undivided, crate::proofs::AuditedFiles::front_short, crate::proofs::AuditedFiles::events_short, crate::proofs::AuditedFiles::line_few, crate::proofs::AuditedFiles::traced_input, crate::proofs::AuditedFiles::audit_of, crate::proofs::AuditedFiles::traced_refused))]
+fn load_traced(alloc: Global, bytes: &[u8], place: TracePlace) -> Result<Audited, LoadError>
     requires short { length bytes.now ≤ max_audit_input }
     requires found { has_trace bytes.now ≡ true }
     requires place { IsTracePlace bytes.now place }
@@ -83,15 +84,15 @@ fn load_traced(alloc: Global, bytes: &[u8], place: TracePlace) -> Result<Audited
     ensures refused { IfErr result (IsReason Audit bytes.now) }
 {
     if place.front > MAX_INPUT {
-        return Err(Unserved::Refused(Fault::TooLarge));
+        return Err(LoadError::Refused(Fault::TooLarge));
     }
     let Ok(text) = std::str::from_utf8(bytes) else {
-        return Err(Unserved::Refused(Fault::NotText));
+        return Err(LoadError::Refused(Fault::NotText));
     };
     let (front, _) = text.split_at(place.front);
     let (_, events) = text.split_at(place.rest);
     let Some(parts) = divide(front) else {
-        return Err(Unserved::Refused(Fault::NoRequests));
+        return Err(LoadError::Refused(Fault::NoRequests));
     };
     match read_traced(alloc, parts, events, place.line) {
         Ok(audited) => Ok(audited),
@@ -106,12 +107,7 @@ fn read_traced(
     parts: Divided<'_>,
     events: &str,
     first: u32,
-) -> Result<Audited, Unserved>
-    requires handlers { length parts.handlers.now ≤ max_input }
-    requires tables { length parts.tables.now ≤ max_input }
-    requires requests { length parts.requests.now ≤ max_input }
-    requires first_table { parts.first_table ≤ 4194306 }
-    requires first_request { parts.first ≤ 4194306 }
+) -> Result<Audited, LoadError>
     requires events { length events.now ≤ max_audit_input }
     requires first { first ≤ 134217732 }
     ensures loaded { IfOk result (AreTraced (parts_by parts.entry.handlers.now
@@ -128,7 +124,7 @@ fn read_traced(
         opening,
         requests,
     } = loaded;
-    let trace = read_events(alloc, program.checked().file(), events, first, &mut names)?;
+    let trace = read_events(alloc, program.checked(), events, first, &mut names)?;
     Ok(Audited {
         names,
         program,
@@ -142,34 +138,30 @@ fn read_traced(
 #[tactic(auto, using(crate::proofs::AuditedFiles::tables_known))]
 fn read_events(
     alloc: Global,
-    file: &File,
+    checked: &Checked,
     events: &str,
     first: u32,
     names: &mut Names,
-) -> Result<Trace, Unserved>
-    requires named { IsNamedFile names.old file.now }
+) -> Result<Trace, LoadError>
+    requires named { IsNamedFile names.old checked.now }
     requires names { length names.old ≤ 3 * max_input }
     requires events { length events.now ≤ max_audit_input }
     requires first { first ≤ 134217732 }
-    ensures trace { IfOk result (λ trace. IsTrace names.old names.new (table_places file.now)
-        (shape_of file.now) (rows first (lines events.now)) trace) }
-    ensures refused { IfErr result (IsEventsReason names.old file.now
+    ensures trace { IfOk result (λ trace. IsTrace names.old names.new (table_places checked.now)
+        (shape_of checked.now) (rows first (lines events.now)) trace) }
+    ensures refused { IfErr result (IsEventsReason names.old checked.now
         (rows first (lines events.now))) }
 {
-    let tables = places_of(alloc, file)?;
-    let shape = kinds_of(alloc, file)?;
-    match read_trace(
+    let tables = places_of(alloc, checked.file())?;
+    let shape = checked.shape(alloc)?;
+    Ok(read_trace(
         alloc,
         tables.as_slice(),
         shape.as_slice(),
         events,
         first,
         names,
-    ) {
-        Ok(trace) => Ok(trace),
-        Err(TraceRefusal::NoMemory) => Err(Unserved::NoMemory),
-        Err(e) => Err(Unserved::Refused(Fault::Trace(Certain::new(e)))),
-    }
+    )?)
 }
 
 /// The places of the names of a file's tables.
@@ -181,19 +173,6 @@ fn places_of(alloc: Global, file: &File) -> Result<Vec<u32>, NoMemory>
             .as_slice()
             .iter()
             .map(|t| t.name)
-            .collect(alloc)?,
-    )
-}
-
-/// The kinds of a file's tables.
-fn kinds_of(alloc: Global, file: &File) -> Result<Vec<TableKind>, NoMemory>
-    ensures { IfOk result (λ kinds. kinds.items ≡ shape_of file.now) }
-{
-    Ok(
-        file.tables
-            .as_slice()
-            .iter()
-            .map(|t| t.kind)
             .collect(alloc)?,
     )
 }

@@ -15,17 +15,17 @@ ghost use Rattle.serve_reading.specs.Clients.{AreClients, IsLoadedClients};
 ghost use Rattle.serve_reading.specs.Sessions.{AreOpened};
 ghost use Rattle.serve_reading.specs.Reasons.{IsLinesReason, IsReason, IsSessionReason};
 
+use crate::load_error::LoadError;
 use crate::naming::names_of_input;
 use crate::program::read_program;
-use crate::unserved::Unserved;
 use declaration_insertion::Program;
 use handler_check::Checked;
 use opening_tables::Opening;
-use request_files::{ClientRequests, Divided, RequestRefusal, count_marks, divide, read_clients};
-use serve_faults::{Certain, Fault};
+use request_files::{ClientRequests, Divided, count_marks, divide, read_clients};
+use serve_faults::Fault;
 use session_values::Names;
 use std::alloc::Global;
-use table_lines::{TableRefusal, read_tables};
+use table_lines::read_tables;
 
 /// A session whose requests are several clients'.
 #[derive(Drop)]
@@ -38,7 +38,7 @@ pub struct LoadedClients {
 }
 
 /// The session of clients of a session file's bytes.
-pub fn load_clients(alloc: Global, bytes: &[u8]) -> Result<LoadedClients, Unserved>
+pub fn load_clients(alloc: Global, bytes: &[u8]) -> Result<LoadedClients, LoadError>
     requires { length bytes.now ≤ max_input }
     ensures input { IfOk result (λ _. (callers shards : ℕ)
         → IsInput (Clients callers shards) bytes.now) }
@@ -47,14 +47,14 @@ pub fn load_clients(alloc: Global, bytes: &[u8]) -> Result<LoadedClients, Unserv
         → IsReason (Clients callers shards) bytes.now e) }
 {
     let Ok(text) = std::str::from_utf8(bytes) else {
-        return Err(Unserved::Refused(Fault::NotText));
+        return Err(LoadError::Refused(Fault::NotText));
     };
     let Some(parts) = divide(text) else {
-        return Err(Unserved::Refused(Fault::NoRequests));
+        return Err(LoadError::Refused(Fault::NoRequests));
     };
     // Between 16 clients stand 15 marks.
     if count_marks(parts.requests) > 15 {
-        return Err(Unserved::Refused(Fault::TooManyClients));
+        return Err(LoadError::Refused(Fault::TooManyClients));
     }
     match read_clients_session(alloc, parts) {
         Ok(loaded) => Ok(loaded),
@@ -63,12 +63,7 @@ pub fn load_clients(alloc: Global, bytes: &[u8]) -> Result<LoadedClients, Unserv
 }
 
 /// The session of clients of a file's parts.
-fn read_clients_session(alloc: Global, parts: Divided<'_>) -> Result<LoadedClients, Unserved>
-    requires handlers { length parts.handlers.now ≤ max_input }
-    requires tables { length parts.tables.now ≤ max_input }
-    requires requests { length parts.requests.now ≤ max_input }
-    requires first_table { parts.first_table ≤ 4194306 }
-    requires first { parts.first ≤ 4194306 }
+fn read_clients_session(alloc: Global, parts: Divided<'_>) -> Result<LoadedClients, LoadError>
     requires marks { marks_in (lines parts.requests.now) ≤ 15 }
     ensures loaded { IfOk result (AreClients (parts_by parts.entry.handlers.now
         parts.entry.tables.now parts.entry.requests.now parts.entry.first_table
@@ -97,13 +92,9 @@ fn opened_for_clients(
     checked: &Checked,
     parts: Divided<'_>,
     names: &mut Names,
-) -> Result<(Opening, ClientRequests), Unserved>
+) -> Result<(Opening, ClientRequests), LoadError>
     requires named { AreNamed names.old (file_mentions checked.now) }
     requires names { length names.old ≤ max_input }
-    requires tables { length parts.tables.now ≤ max_input }
-    requires requests { length parts.requests.now ≤ max_input }
-    requires first_table { parts.first_table ≤ 4194306 }
-    requires first { parts.first ≤ 4194306 }
     requires marks { marks_in (lines parts.requests.now) ≤ 15 }
     ensures opened { IfOk result (λ found. AreOpened names.old names.new checked.now
         (rows parts.entry.first_table (lines parts.entry.tables.now)) (rows parts.entry.first
@@ -116,14 +107,7 @@ fn opened_for_clients(
         (rows parts.entry.first_table (lines parts.entry.tables.now)) (rows parts.entry.first
         (without_marks (lines parts.entry.requests.now)))) }
 {
-    let opening = match read_tables(alloc, checked, parts.tables, parts.first_table, names) {
-        Ok(opening) => opening,
-        Err(TableRefusal::NoMemory) => return Err(Unserved::NoMemory),
-        Err(e) => return Err(Unserved::Refused(Fault::Tables(Certain::new(e)))),
-    };
-    match read_clients(alloc, checked, parts.requests, parts.first, names) {
-        Ok(clients) => Ok((opening, clients)),
-        Err(RequestRefusal::NoMemory) => Err(Unserved::NoMemory),
-        Err(e) => Err(Unserved::Refused(Fault::Request(Certain::new(e)))),
-    }
+    let opening = read_tables(alloc, checked, parts.tables, parts.first_table, names)?;
+    let clients = read_clients(alloc, checked, parts.requests, parts.first, names)?;
+    Ok((opening, clients))
 }

@@ -10,9 +10,9 @@ ghost use Rattle.serve_reading.specs.Described.{IsPrintable, IsPrintableWith, te
 ghost use Rattle.serve_reading.specs.Programs.{Describes, IsParsed};
 ghost use Rattle.serve_reading.specs.Reasons.{IsFileReason, IsReason, IsSyntaxReason};
 
+use crate::load_error::LoadError;
 use crate::naming::names_of_input;
 use crate::program::{accepted_file, bounded_file, checked_file, read_file, with_declarations};
-use crate::unserved::Unserved;
 use byte_ends::{PutsText, TextSink};
 use declaration_insertion::{Program, put_shown};
 use handler_check::Accepted;
@@ -54,7 +54,11 @@ impl PutsText for Description {
 
 /// Reads a file of handlers of which the canonical text is to be printed; with `shown`, the text
 /// with its declarations. The bytes are freed as soon as they are parsed.
-pub fn read_description(alloc: Global, shown: bool, bytes: Vec<u8>) -> Result<Description, Unserved>
+pub fn read_description(
+    alloc: Global,
+    shown: bool,
+    bytes: Vec<u8>,
+) -> Result<Description, LoadError>
     requires { length bytes.items ≤ max_input }
     ensures input { IfOk result (λ _. IsInput (describing shown) bytes.items) }
     ensures text { IfOk result
@@ -72,7 +76,7 @@ pub fn read_description(alloc: Global, shown: bool, bytes: Vec<u8>) -> Result<De
 }
 
 // The file that some bytes are, and the names of its text. The bytes are freed.
-fn parsed_bytes(alloc: Global, bytes: Vec<u8>) -> Result<(File, Names), Unserved>
+fn parsed_bytes(alloc: Global, bytes: Vec<u8>) -> Result<(File, Names), LoadError>
     requires { length bytes.items ≤ max_input }
     ensures parsed { IfOk result (λ found. IsParsed bytes.items found.0 found.1) }
     ensures refused { IfErr result (λ e. (shown : Bool)
@@ -82,17 +86,17 @@ fn parsed_bytes(alloc: Global, bytes: Vec<u8>) -> Result<(File, Names), Unserved
 }
 
 // The file that some bytes are, and the names of its text.
-fn parsed(alloc: Global, bytes: &[u8]) -> Result<(File, Names), Unserved>
+fn parsed(alloc: Global, bytes: &[u8]) -> Result<(File, Names), LoadError>
     requires { length bytes.now ≤ max_input }
     ensures parsed { IfOk result (λ found. IsParsed bytes.now found.0 found.1) }
     ensures refused { IfErr result (λ e. (shown : Bool)
         → IsReason (describing shown) bytes.now e) }
 {
     let Ok(text) = std::str::from_utf8(bytes) else {
-        return Err(Unserved::Refused(Fault::NotText));
+        return Err(LoadError::Refused(Fault::NotText));
     };
     if has_mark(text) {
-        return Err(Unserved::Refused(Fault::HasRequests));
+        return Err(LoadError::Refused(Fault::HasRequests));
     }
     match named_file(alloc, text) {
         Ok(found) => Ok(found),
@@ -101,7 +105,7 @@ fn parsed(alloc: Global, bytes: &[u8]) -> Result<(File, Names), Unserved>
 }
 
 // The file that a text is, and its names.
-fn named_file(alloc: Global, text: &str) -> Result<(File, Names), Unserved>
+fn named_file(alloc: Global, text: &str) -> Result<(File, Names), LoadError>
     requires { length text.now ≤ max_input }
     ensures form { IfOk result (λ found. IsSourceOf [] text.now found.0) }
     ensures names { IfOk result (λ found. found.1 ≡ names_of [] text.now) }
@@ -119,7 +123,7 @@ fn described_file(
     shown: bool,
     file: File,
     names: &Names,
-) -> Result<DescribedFile, Unserved>
+) -> Result<DescribedFile, LoadError>
     requires { AreNamed names.now (file_mentions file) }
     ensures text { IfOk result
         (λ found. Describes shown names.now file (text_with names.now found)) }
@@ -134,7 +138,7 @@ fn described_file(
 }
 
 // A file of which the canonical text is printed. One handler is resolved at a time.
-fn canonical_file(alloc: Global, file: File, names: &Names) -> Result<DescribedFile, Unserved>
+fn canonical_file(alloc: Global, file: File, names: &Names) -> Result<DescribedFile, LoadError>
     requires { AreNamed names.now (file_mentions file) }
     ensures text { IfOk result
         (λ found. Describes false names.now file (text_with names.now found)) }
@@ -145,12 +149,12 @@ fn canonical_file(alloc: Global, file: File, names: &Names) -> Result<DescribedF
     if is_countable(accepted.file()) {
         Ok(DescribedFile::Canonical(accepted))
     } else {
-        Err(Unserved::NoMemory)
+        Err(LoadError::NoMemory)
     }
 }
 
 // A file of which the text with its declarations is printed.
-fn declared_file(alloc: Global, file: File, names: &Names) -> Result<DescribedFile, Unserved>
+fn declared_file(alloc: Global, file: File, names: &Names) -> Result<DescribedFile, LoadError>
     requires { AreNamed names.now (file_mentions file) }
     ensures text { IfOk result
         (λ found. Describes true names.now file (text_with names.now found)) }
@@ -161,6 +165,6 @@ fn declared_file(alloc: Global, file: File, names: &Names) -> Result<DescribedFi
     if is_countable(program.checked().file()) {
         Ok(DescribedFile::Declared(program))
     } else {
-        Err(Unserved::NoMemory)
+        Err(LoadError::NoMemory)
     }
 }

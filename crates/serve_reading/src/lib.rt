@@ -4,17 +4,18 @@
 mod auditing;
 mod clients;
 mod describing;
+mod load_error;
 mod naming;
 mod program;
 mod ranging;
 mod reading;
 mod session;
-mod unserved;
 
 pub use auditing::{Audited, load_audited};
 pub use clients::{LoadedClients, load_clients};
 pub use declaration_insertion::Program;
 pub use describing::{DescribedFile, Description, read_description};
+pub use load_error::LoadError;
 pub use naming::names_of_input;
 pub use program::read_program;
 pub use ranging::ranged_text;
@@ -22,4 +23,3 @@ pub use reading::{read_at_most, read_input};
 pub use request_files::{Divided, divide};
 pub use serve_faults::{Fault, Status, message_of};
 pub use session::{Loaded, load_session};
-pub use unserved::Unserved;

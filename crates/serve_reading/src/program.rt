@@ -8,17 +8,16 @@ ghost use Rattle.may_use_analysis.specs.Later.{AreLater, HasLater};
 ghost use Rattle.serve_reading.specs.Programs.{IsProgramOf};
 ghost use Rattle.serve_reading.specs.Reasons.{IsSyntaxReason, IsCheckReason, IsAnalysisReason, IsProgramReason};
 
-use crate::unserved::Unserved;
+use crate::load_error::LoadError;
 use declaration_insertion::{Program, insert};
-use handler_check::{Accepted, CheckRefusal, Checked, accept, check};
-use handler_syntax::{File, SyntaxRefusal, parse};
-use may_use_analysis::{AnalysisRefusal, bound_later_sets, later_sets};
-use serve_faults::{Certain, Fault};
+use handler_check::{Accepted, Checked, accept, check};
+use handler_syntax::{File, parse};
+use may_use_analysis::{bound_later_sets, later_sets};
 use session_values::Names;
 use std::alloc::Global;
 
 /// The handlers that a text is, where they break no rule, with their declarations.
-pub fn read_program(alloc: Global, text: &str, names: &mut Names) -> Result<Program, Unserved>
+pub fn read_program(alloc: Global, text: &str, names: &mut Names) -> Result<Program, LoadError>
     requires short { length text.now ≤ max_input }
     requires fresh { names.old ≡ [] }
     ensures program { IfOk result (IsProgramOf text.now) }
@@ -34,7 +33,7 @@ pub fn read_program(alloc: Global, text: &str, names: &mut Names) -> Result<Prog
 }
 
 // The file that a text is.
-pub(crate) fn read_file(alloc: Global, text: &str, names: &mut Names) -> Result<File, Unserved>
+pub(crate) fn read_file(alloc: Global, text: &str, names: &mut Names) -> Result<File, LoadError>
     requires short { length text.now ≤ max_input }
     requires fresh { names.old ≡ [] }
     ensures file { IfOk result (IsSourceOf [] text.now) }
@@ -44,64 +43,43 @@ pub(crate) fn read_file(alloc: Global, text: &str, names: &mut Names) -> Result<
     ensures few { OnOk result (length names.new ≤ length text.now) }
     ensures refused { IfErr result (IsSyntaxReason text.now) }
 {
-    match parse(alloc, text, names) {
-        Ok(file) => Ok(file),
-        Err(SyntaxRefusal::NoMemory) => Err(Unserved::NoMemory),
-        Err(e) => Err(Unserved::Refused(Fault::Syntax(Certain::new(e)))),
-    }
+    Ok(parse(alloc, text, names)?)
 }
 
 // A file that breaks no rule of the checker.
-pub(crate) fn checked_file(alloc: Global, file: File) -> Result<Checked, Unserved>
+pub(crate) fn checked_file(alloc: Global, file: File) -> Result<Checked, LoadError>
     ensures same { IfOk result (λ checked. checked ≡ file) }
     ensures accepted { OnOk result (IsAccepted file) }
     ensures refused { IfErr result (IsCheckReason file) }
 {
-    match check(alloc, file.into_tree()) {
-        Ok(checked) => Ok(checked),
-        Err(CheckRefusal::NoMemory) => Err(Unserved::NoMemory),
-        Err(e) => Err(Unserved::Refused(Fault::Check(Certain::new(e)))),
-    }
+    Ok(check(alloc, file.into_tree())?)
 }
 
 // A file with its declarations, where at no point too many operations may still come.
-pub(crate) fn with_declarations(alloc: Global, checked: Checked) -> Result<Program, Unserved>
+pub(crate) fn with_declarations(alloc: Global, checked: Checked) -> Result<Program, LoadError>
     ensures file { IfOk result (λ p. p.file ≡ checked) }
     ensures later { IfOk result (λ p. AreLater p.file p.lists) }
     ensures refused { IfErr result (IsAnalysisReason checked) }
 {
-    match later_sets(alloc, &checked) {
-        Ok(later) => match insert(alloc, checked, later) {
-            Ok(program) => Ok(program),
-            Err(_) => Err(Unserved::NoMemory),
-        },
-        Err(AnalysisRefusal::NoMemory) => Err(Unserved::NoMemory),
-        Err(e) => Err(Unserved::Refused(Fault::Analysis(Certain::new(e)))),
-    }
+    let later = later_sets(alloc, &checked)?;
+    Ok(insert(alloc, checked, later)?)
 }
 
 // A file that breaks no rule of the checker, without resolved handlers.
-pub(crate) fn accepted_file(alloc: Global, file: File) -> Result<Accepted, Unserved>
+pub(crate) fn accepted_file(alloc: Global, file: File) -> Result<Accepted, LoadError>
     ensures same { IfOk result (λ accepted. accepted ≡ file) }
     ensures accepted { OnOk result (IsAccepted file) }
     ensures refused { IfErr result (IsCheckReason file) }
 {
-    match accept(alloc, file.into_tree()) {
-        Ok(accepted) => Ok(accepted),
-        Err(CheckRefusal::NoMemory) => Err(Unserved::NoMemory),
-        Err(e) => Err(Unserved::Refused(Fault::Check(Certain::new(e)))),
-    }
+    Ok(accept(alloc, file.into_tree())?)
 }
 
 // The same file, where at no point too many operations may still come.
-pub(crate) fn bounded_file(alloc: Global, accepted: Accepted) -> Result<Accepted, Unserved>
+pub(crate) fn bounded_file(alloc: Global, accepted: Accepted) -> Result<Accepted, LoadError>
     ensures same { IfOk result (λ bounded. bounded ≡ accepted) }
     ensures later { OnOk result (HasLater accepted) }
     ensures refused { IfErr result (IsAnalysisReason accepted) }
 {
-    match bound_later_sets(alloc, &accepted) {
-        Ok(()) => Ok(accepted),
-        Err(AnalysisRefusal::NoMemory) => Err(Unserved::NoMemory),
-        Err(e) => Err(Unserved::Refused(Fault::Analysis(Certain::new(e)))),
-    }
+    bound_later_sets(alloc, &accepted)?;
+    Ok(accepted)
 }

@@ -7,13 +7,13 @@ ghost use Rattle.serve_faults.specs.Answer.{IsTextOf};
 ghost use Rattle.serve_faults.specs.Input.{IsInput};
 ghost use Rattle.serve_reading.specs.Reasons.{IsReason};
 
-use crate::unserved::Unserved;
-use range_session::{RangeRefusal, ranges_text};
-use serve_faults::{Certain, Fault};
+use crate::load_error::LoadError;
+use range_session::ranges_text;
+use serve_faults::Fault;
 use std::alloc::Global;
 
 /// What the lines of a range session answer. The bytes are freed.
-pub fn ranged_text(alloc: Global, bytes: Vec<u8>) -> Result<Vec<u8>, Unserved>
+pub fn ranged_text(alloc: Global, bytes: Vec<u8>) -> Result<Vec<u8>, LoadError>
     requires { length bytes.items ≤ max_input }
     ensures input { IfOk result (λ _. IsInput Ranges bytes.items) }
     ensures text { IfOk result (λ text. IsTextOf Ranges bytes.items text.items) }
@@ -23,18 +23,14 @@ pub fn ranged_text(alloc: Global, bytes: Vec<u8>) -> Result<Vec<u8>, Unserved>
 }
 
 // What the lines of an input answer.
-fn range_text(alloc: Global, bytes: &[u8]) -> Result<Vec<u8>, Unserved>
+fn range_text(alloc: Global, bytes: &[u8]) -> Result<Vec<u8>, LoadError>
     requires { length bytes.now ≤ max_input }
     ensures input { IfOk result (λ _. IsInput Ranges bytes.now) }
     ensures text { IfOk result (λ text. IsTextOf Ranges bytes.now text.items) }
     ensures refused { IfErr result (IsReason Ranges bytes.now) }
 {
     let Ok(text) = std::str::from_utf8(bytes) else {
-        return Err(Unserved::Refused(Fault::NotText));
+        return Err(LoadError::Refused(Fault::NotText));
     };
-    match ranges_text(alloc, text) {
-        Ok(text) => Ok(text),
-        Err(RangeRefusal::NoMemory) => Err(Unserved::NoMemory),
-        Err(e) => Err(Unserved::Refused(Fault::Ranges(Certain::new(e)))),
-    }
+    Ok(ranges_text(alloc, text)?)
 }

@@ -9,17 +9,17 @@ ghost use Rattle.serve_faults.specs.Input.{parts_by, parts_of};
 ghost use Rattle.serve_reading.specs.Sessions.{AreOpened, IsLoaded, IsSessionInput};
 ghost use Rattle.serve_reading.specs.Reasons.{IsInputReason, IsLinesReason, IsSessionReason};
 
+use crate::load_error::LoadError;
 use crate::naming::names_of_input;
 use crate::program::read_program;
-use crate::unserved::Unserved;
 use declaration_insertion::Program;
 use handler_check::Checked;
 use opening_tables::Opening;
-use request_files::{Divided, RequestRefusal, Requests, divide, read_requests};
-use serve_faults::{Certain, Fault};
+use request_files::{Divided, Requests, divide, read_requests};
+use serve_faults::Fault;
 use session_values::Names;
 use std::alloc::Global;
-use table_lines::{TableRefusal, read_tables};
+use table_lines::read_tables;
 
 /// A session that can be served.
 #[derive(Drop)]
@@ -32,17 +32,17 @@ pub struct Loaded {
 }
 
 /// The session of a session file's bytes.
-pub fn load_session(alloc: Global, bytes: &[u8]) -> Result<Loaded, Unserved>
+pub fn load_session(alloc: Global, bytes: &[u8]) -> Result<Loaded, LoadError>
     requires { length bytes.now ≤ max_input }
     ensures input { IfOk result (λ _. IsSessionInput bytes.now) }
     ensures loaded { IfOk result (IsLoaded (parts_of bytes.now)) }
     ensures refused { IfErr result (IsInputReason bytes.now) }
 {
     let Ok(text) = std::str::from_utf8(bytes) else {
-        return Err(Unserved::Refused(Fault::NotText));
+        return Err(LoadError::Refused(Fault::NotText));
     };
     let Some(parts) = divide(text) else {
-        return Err(Unserved::Refused(Fault::NoRequests));
+        return Err(LoadError::Refused(Fault::NoRequests));
     };
     match read_session(alloc, parts) {
         Ok(loaded) => Ok(loaded),
@@ -51,12 +51,7 @@ pub fn load_session(alloc: Global, bytes: &[u8]) -> Result<Loaded, Unserved>
 }
 
 /// The session of a file's parts.
-pub(crate) fn read_session(alloc: Global, parts: Divided<'_>) -> Result<Loaded, Unserved>
-    requires handlers { length parts.handlers.now ≤ max_input }
-    requires tables { length parts.tables.now ≤ max_input }
-    requires requests { length parts.requests.now ≤ max_input }
-    requires first_table { parts.first_table ≤ 4194306 }
-    requires first { parts.first ≤ 4194306 }
+pub(crate) fn read_session(alloc: Global, parts: Divided<'_>) -> Result<Loaded, LoadError>
     ensures loaded { IfOk result (IsLoaded (parts_by parts.entry.handlers.now parts.entry.tables.now
         parts.entry.requests.now parts.entry.first_table parts.entry.first)) }
     ensures few { IfOk result (λ l. length l.names ≤ 3 * max_input) }
@@ -84,13 +79,9 @@ fn opened(
     checked: &Checked,
     parts: Divided<'_>,
     names: &mut Names,
-) -> Result<(Opening, Requests), Unserved>
+) -> Result<(Opening, Requests), LoadError>
     requires named { AreNamed names.old (file_mentions checked.now) }
     requires names { length names.old ≤ max_input }
-    requires tables { length parts.tables.now ≤ max_input }
-    requires requests { length parts.requests.now ≤ max_input }
-    requires first_table { parts.first_table ≤ 4194306 }
-    requires first { parts.first ≤ 4194306 }
     ensures opened { IfOk result (λ found. AreOpened names.old names.new checked.now
         (rows parts.entry.first_table (lines parts.entry.tables.now)) (rows parts.entry.first
         (lines parts.entry.requests.now)) found.0 found.1) }
@@ -100,14 +91,7 @@ fn opened(
         (rows parts.entry.first_table (lines parts.entry.tables.now)) (rows parts.entry.first
         (lines parts.entry.requests.now))) }
 {
-    let opening = match read_tables(alloc, checked, parts.tables, parts.first_table, names) {
-        Ok(opening) => opening,
-        Err(TableRefusal::NoMemory) => return Err(Unserved::NoMemory),
-        Err(e) => return Err(Unserved::Refused(Fault::Tables(Certain::new(e)))),
-    };
-    match read_requests(alloc, checked, parts.requests, parts.first, names) {
-        Ok(requests) => Ok((opening, requests)),
-        Err(RequestRefusal::NoMemory) => Err(Unserved::NoMemory),
-        Err(e) => Err(Unserved::Refused(Fault::Request(Certain::new(e)))),
-    }
+    let opening = read_tables(alloc, checked, parts.tables, parts.first_table, names)?;
+    let requests = read_requests(alloc, checked, parts.requests, parts.first, names)?;
+    Ok((opening, requests))
 }

@@ -5,7 +5,7 @@ ghost use Rattle.opening_tables.specs.Opening.{IsOpening};
 ghost use Rattle.handler_check.specs.Resolved.{shape_of as shape_spec};
 ghost use Rattle.request_files.specs.Servable.{IsServable};
 
-use crate::sessions::{kinds_of, reply_of, session};
+use crate::sessions::{reply_of, session};
 use declaration_insertion::Program;
 use handler_machine::Scripts;
 use opening_tables::Opening;
@@ -64,7 +64,11 @@ fn three_replies<'a, R: Threads + Wait + Abort + Sync>(
 #[test]
 fn requests_at_a_plain_desk(rt: HostRuntime) {
     let loaded = session(&rt, rt.alloc());
-    let shape = kinds_of(rt.alloc(), loaded.program.checked().file()).expect(&rt, "memory");
+    let shape = loaded
+        .program
+        .checked()
+        .shape(rt.alloc())
+        .expect(&rt, "memory");
     let replies = three_replies(
         &rt,
         rt.alloc(),

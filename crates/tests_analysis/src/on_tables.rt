@@ -4,7 +4,7 @@ ghost use Rattle.std.specs.Prelude.{◌≡◌, map};
 ghost use Rattle.handler_check.specs.Resolved.{shape_of as shape_spec};
 ghost use Rattle.session_values.specs.Tables.{kind_of};
 
-use crate::sessions::{kinds_of, reply_of, session};
+use crate::sessions::{reply_of, session};
 use handler_check::Checked;
 use handler_machine::{TablesAnswerer, run_handler};
 use plain_tables::PlainTables;
@@ -34,7 +34,7 @@ fn run_first<R: Abort>(
 fn a_handler_on_plain_tables(rt: HostRuntime) {
     let loaded = session(&rt, rt.alloc());
     let checked = loaded.program.checked();
-    let shape = kinds_of(rt.alloc(), checked.file()).expect(&rt, "memory");
+    let shape = checked.shape(rt.alloc()).expect(&rt, "memory");
     let tables = PlainTables::new(rt.alloc(), shape.as_slice()).expect(&rt, "memory");
     let mut tables = TablesAnswerer { tables };
     let mut scratch = Scratch::new(rt.alloc()).expect(&rt, "memory");

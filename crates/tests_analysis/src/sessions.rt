@@ -1,15 +1,13 @@
 // A session of three requests for one handler with two operations.
 
-ghost use Rattle.std.specs.Prelude.{◌≡◌, IfOk};
 ghost use Rattle.opening_tables.specs.Opening.{IsOpening};
 ghost use Rattle.handler_check.specs.Resolved.{shape_of as shape_spec};
 ghost use Rattle.request_files.specs.Servable.{IsServable};
 
 use serve_reading::{Loaded, load_session};
-use session_values::{NoMemory, Reply, TableKind, Value};
+use session_values::{Reply, Value};
 use std::alloc::Global;
 use std::process::Abort;
-use syntax_trees::File;
 
 const SESSION: &str =
     "map m;\nhandler take(k, v) {\n  let old = swap(m, k, v);\n  let n = size(m);\n  reply old, n;\n}\n%%\ntake 1 10\ntake 2 20\ntake 1 30\n";
@@ -28,17 +26,4 @@ pub(crate) fn session<R: Abort>(rt: &R, alloc: Global) -> Loaded
 /// What a request replies: what was there, and how many keys there are.
 pub(crate) fn reply_of(old: Value, count: i64) -> Reply {
     Reply::new(2, old, Value::Num(count), Value::Nil, Value::Nil)
-}
-
-/// The kinds of the tables of a file.
-pub(crate) fn kinds_of(alloc: Global, file: &File) -> Result<Vec<TableKind>, NoMemory>
-    ensures { IfOk result (λ shape. shape.items ≡ shape_spec file.now) }
-{
-    Ok(
-        file.tables
-            .as_slice()
-            .iter()
-            .map(|t| t.kind)
-            .collect(alloc)?,
-    )
 }

@@ -4,17 +4,17 @@ ghost use Rattle.std.specs.Prelude.{◌≤◌, length};
 ghost use Rattle.session_values.specs.Limits.{max_input};
 
 use serve_faults::{Status, message_of};
-use serve_reading::{Loaded, Unserved, load_session, read_description};
+use serve_reading::{LoadError, Loaded, load_session, read_description};
 use session_values::{Names, Value};
 use short_text::{ShortText, short_text};
 use std::alloc::Global;
 use std::test::Fail;
 
 // The line of what wasn't served.
-fn line_of(unserved: Unserved) -> ShortText {
-    match unserved {
-        Unserved::Refused(fault) => message_of(&Status::Refused(fault)),
-        Unserved::NoMemory => message_of(&Status::NoMemory),
+fn line_of(refused: LoadError) -> ShortText {
+    match refused {
+        LoadError::Refused(fault) => message_of(&Status::Refused(fault)),
+        LoadError::NoMemory => message_of(&Status::NoMemory),
     }
 }
 
@@ -24,7 +24,7 @@ fn refusal_of(alloc: Global, text: &str) -> ShortText
 {
     match load_session(alloc, text.as_bytes()) {
         Ok(_loaded) => short_text(""),
-        Err(unserved) => line_of(unserved),
+        Err(refused) => line_of(refused),
     }
 }
 
@@ -84,7 +84,7 @@ fn description_refusal(alloc: Global, bytes: Vec<u8>) -> ShortText
 {
     match read_description(alloc, false, bytes) {
         Ok(_description) => short_text(""),
-        Err(unserved) => line_of(unserved),
+        Err(refused) => line_of(refused),
     }
 }
 

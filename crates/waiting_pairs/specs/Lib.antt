@@ -6,4 +6,4 @@ pub mod Told
 pub mod Waits
 pub use Rattle.session_values.specs.Limits
 pub use Rattle.serve_reading.specs.Message
-pub use Rattle.serve_reading.specs.declared.unserved.Unserved
+pub use Rattle.serve_reading.specs.declared.load_error.LoadError

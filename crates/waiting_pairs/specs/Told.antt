@@ -8,8 +8,8 @@ use Rattle.serve_reading.specs.Message.{fault_line}
 use Rattle.serve_reading.specs.Program.{ProgramView}
 use Rattle.serve_reading.specs.Programs.{IsProgramOf}
 use Rattle.serve_reading.specs.Reasons.{IsProgramReason}
-use Rattle.serve_reading.specs.declared.unserved.Unserved.{Unserved}
-use Rattle.serve_reading.specs.declared.unserved.Unserved.TheVariants.{NoMemory, Refused}
+use Rattle.serve_reading.specs.declared.load_error.LoadError.{LoadError}
+use Rattle.serve_reading.specs.declared.load_error.LoadError.TheVariants.{NoMemory, Refused}
 use Rattle.waiting_pairs.specs.declared.waiting.Wait.{Wait}
 use Rattle.waiting_pairs.specs.declared.form.Form.{Form}
 use Rattle.waiting_pairs.specs.declared.form.Form.TheVariants.{Lines, Json}
@@ -38,11 +38,11 @@ abbrev pub IsTold : Form → Text → Text → Type 0
 IsTold form input text = IsToldOf form (handlers_of input) text
 
 -- the file is no UTF-8, and that is said
-abbrev pub IsNoText : Text → Unserved → Type 0
+abbrev pub IsNoText : Text → LoadError → Type 0
 IsNoText input (Refused fault) = (fault_line fault ≡ codes "refused T4\n") × (IsUtf8 input → ⊥)
 IsNoText input NoMemory = ⊥
 
 -- why nothing is told: the file is no UTF-8, memory ran out, or this is the first fault of the
 -- handlers
-abbrev pub IsUntold : Text → Unserved → Type 0
+abbrev pub IsUntold : Text → LoadError → Type 0
 IsUntold input e = IsNoText input e ⊎ IsProgramReason (handlers_of input) e

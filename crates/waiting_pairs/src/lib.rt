@@ -18,7 +18,7 @@ pub use form::Form;
 pub use json::wait_json;
 pub use lines::wait_lines;
 pub use naming::{handler_name, named, push_symbol, symbol_text};
-pub use serve_reading::{Fault, Status, Unserved, message_of};
+pub use serve_reading::{Fault, LoadError, Status, message_of};
 pub use session_values::MAX_INPUT;
 pub use telling::told;
 pub use waiting::{Wait, waits};

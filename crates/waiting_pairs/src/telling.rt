@@ -9,7 +9,7 @@ use crate::form::Form;
 use crate::json::wait_json;
 use crate::lines::wait_lines;
 use crate::waiting::{Wait, waits};
-use serve_reading::{Fault, Program, Unserved, divide, names_of_input, read_program};
+use serve_reading::{Fault, LoadError, Program, divide, names_of_input, read_program};
 use session_values::{Names, NoMemory};
 use std::alloc::Global;
 
@@ -27,13 +27,13 @@ fn handlers_part(text: &str) -> &str
 }
 
 /// The text that tells who waits for whom in the handlers of a file, in this form.
-pub fn told(alloc: Global, form: Form, bytes: &[u8]) -> Result<Vec<u8>, Unserved>
+pub fn told(alloc: Global, form: Form, bytes: &[u8]) -> Result<Vec<u8>, LoadError>
     requires { length bytes.now ≤ max_input }
     ensures told { IfOk result (λ text. IsTold form bytes.now text.items) }
     ensures refused { IfErr result (IsUntold bytes.now) }
 {
     let Ok(text) = std::str::from_utf8(bytes) else {
-        return Err(Unserved::Refused(Fault::NotText));
+        return Err(LoadError::Refused(Fault::NotText));
     };
     match told_of(alloc, form, handlers_part(text)) {
         Ok(told) => Ok(told),
@@ -42,7 +42,7 @@ pub fn told(alloc: Global, form: Form, bytes: &[u8]) -> Result<Vec<u8>, Unserved
 }
 
 /// The text that tells who waits for whom in handlers, in this form.
-fn told_of(alloc: Global, form: Form, text: &str) -> Result<Vec<u8>, Unserved>
+fn told_of(alloc: Global, form: Form, text: &str) -> Result<Vec<u8>, LoadError>
     requires { length text.now ≤ max_input }
     ensures told { IfOk result (λ told. IsToldOf form text.now told.items) }
     ensures refused { IfErr result (IsProgramReason text.now) }

@@ -54,11 +54,11 @@ impl Refusal for RangeRefusal {
 
 /// A refusal that is never want of memory. Contracts see the refusal.
 #[derive(Debug, Drop)]
-pub struct Certain<E: Refusal> {
+pub struct RuleViolation<E: Refusal> {
     refusal: E,
 }
 
-impl<E: Refusal> Model for Certain<E> {
+impl<E: Refusal> Model for RuleViolation<E> {
     ghost Value = { E };
 
     ghost view = { λ s. s.refusal };
@@ -66,13 +66,13 @@ impl<E: Refusal> Model for Certain<E> {
     ghost invariant = { λ s. E.is_certain s.refusal };
 }
 
-impl<E: Refusal> Certain<E> {
+impl<E: Refusal> RuleViolation<E> {
     /// The refusal, which names a broken rule.
-    pub fn new(refusal: E) -> Certain<E>
+    pub fn new(refusal: E) -> RuleViolation<E>
         requires { E.is_certain refusal }
         ensures { result ≡ refusal }
     {
-        Certain { refusal }
+        RuleViolation { refusal }
     }
 
     /// The refusal, with the place that it names.
