@@ -8,8 +8,8 @@ use Rattle.serve_faults.specs.Commands.{input_of}
 use Rattle.serve_faults.specs.Input.{IsInput}
 use Rattle.serve_faults.specs.Answer.{IsTextOf}
 use Rattle.serve_faults.specs.Changes.{Change, IsUntouched}
-use Rattle.serve_reading.specs.declared.unserved.Unserved.{Unserved}
-use Rattle.serve_reading.specs.declared.unserved.Unserved.TheVariants.{Refused, NoMemory}
+use Rattle.serve_reading.specs.declared.load_error.LoadError.{LoadError}
+use Rattle.serve_reading.specs.declared.load_error.LoadError.TheVariants.{Refused, NoMemory}
 use Rattle.serve_reading.specs.Reasons.{IsReason}
 use Rattle.serve_single.specs.Serving.{EndsBy, status_of}
 use Rattle.serve_single.proofs.EndLemmas as single
@@ -27,7 +27,7 @@ module _ {O : Type 0} (c : Command) (bytes : List ℕ) (out : Change O) (same : 
     traced = λ _ _. tt;
   }
 
-  pub reason_to : (e : Unserved) → IsReason c (input_of c bytes) e → AnswersTo c bytes out (status_of e) None
+  pub reason_to : (e : LoadError) → IsReason c (input_of c bytes) e → AnswersTo c bytes out (status_of e) None
   reason_to NoMemory h = memory_to
   reason_to (Refused f) h = record {
     single = single.reason_to c bytes out same (Refused f) h;

@@ -21,13 +21,13 @@ use Rattle.serve_faults.specs.Printable.{IsPrintableTable}
 use Rattle.serve_faults.proofs.PrintableRuns.{replies_said, tables_hold}
 use Rattle.serve_faults.proofs.ToldEvents.{tables_named}
 use Rattle.serve_reading.specs.declared.session.Loaded.{Loaded}
-use Rattle.serve_reading.specs.declared.unserved.Unserved.{Unserved}
-use Rattle.serve_reading.specs.declared.unserved.Unserved.TheVariants.{NoMemory}
+use Rattle.serve_reading.specs.declared.load_error.LoadError.{LoadError}
+use Rattle.serve_reading.specs.declared.load_error.LoadError.TheVariants.{NoMemory}
 use Rattle.serve_reading.specs.Reasons.{IsInputReason}
 use Rattle.serve_reading.specs.Sessions.{IsLoaded, IsSessionInput}
 use Rattle.serve_reading.proofs.Loading.{as_program}
 use Rattle.serve_core.specs.declared.writing.Writing.{Writing}
-use Rattle.serve_core.specs.Serving.{AreFinal, CanPrint, EndsLoaded, EndsSession, HasRoom, HasRoomFor, HasServed}
+use Rattle.serve_core.specs.Serving.{AreFinal, CanPrint, EndsLoaded, EndsSession, HasCapacity, HasRoomFor, HasServed}
 use Rattle.serve_single.specs.Serving.{CanServe, script_of_loaded, status_of}
 use Rattle.serve_single.proofs.EntryLemmas.{entries_printable}
 use Rattle.serve_core.specs.declared.writing.Later.{Later}
@@ -90,7 +90,7 @@ can_print l h d done = record {
         }
 
 -- and there is room for them
-pub has_room : (w : Later) (f : File) (m : Meaning) (d : ClosedView) (capacity : ℕ) → IsDone m d → length m.shape ≡ length f.tables → HasRoom w m capacity → HasRoomFor w f d capacity
+pub has_room : (w : Later) (f : File) (m : Meaning) (d : ClosedView) (capacity : ℕ) → IsDone m d → length m.shape ≡ length f.tables → HasCapacity w m capacity → HasRoomFor w f d capacity
 has_room (Summary requests) f m d capacity done long h = tt
 has_room Events f m d capacity done long h = tt
 has_room Tables f m d capacity done long h = λ left. each_room d capacity 0 (length f.tables) (λ t lt.
@@ -126,6 +126,6 @@ loaded_ends w callers shards input l out s (Some d) i h e = record {
 }
 
 -- where it isn't read, nothing is written, for this reason
-pub unserved_ends : {O : Type 0} (w : Writing) (callers shards : ℕ) (input : List ℕ) (out : Change O) (e : Unserved) → IsInputReason input e → IsUntouched out
+pub unserved_ends : {O : Type 0} (w : Writing) (callers shards : ℕ) (input : List ℕ) (out : Change O) (e : LoadError) → IsInputReason input e → IsUntouched out
     → EndsSession w callers shards input out (status_of e) None
 unserved_ends w callers shards input out e why same = record { reason = e; is = refl; why = why; same = same }

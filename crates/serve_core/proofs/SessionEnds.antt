@@ -32,7 +32,7 @@ use Rattle.serve_faults.specs.Input.{IsInput, Parts, parts_of}
 use Rattle.serve_faults.specs.ReadBack.{texts_of}
 use Rattle.serve_faults.specs.Session.{session_of_parts, all_names_of, replies_text, tables_text, serial_calls}
 use Rattle.serve_faults.specs.Traced.{CanBeTold, IsTraced, table_places, traced_text}
-use Rattle.serve_reading.specs.declared.unserved.Unserved.{Unserved}
+use Rattle.serve_reading.specs.declared.load_error.LoadError.{LoadError}
 use Rattle.serve_reading.specs.Reasons.{IsInputReason, IsReason}
 use Rattle.serve_core.specs.declared.writing.Later.TheVariants.{Tables as FinalTables, Events, Summary}
 use Rattle.serve_core.specs.declared.writing.Writing.TheVariants.{AtEnd, Replies}
@@ -125,7 +125,7 @@ module _ {O : Type 0} (command : Command) (w : Writing) (callers shards : ℕ) (
         (subst (λ (bs : List ℕ). IsLeft command bs out s d) v.own (v.left s d through))
         (v.traced s d e)
 
-    unserved_to : (e : Unserved) → IsUntouched out → IsInputReason input e → AnswersTo command bytes out (status_of e) None
+    unserved_to : (e : LoadError) → IsUntouched out → IsInputReason input e → AnswersTo command bytes out (status_of e) None
     unserved_to e same r = reason_to command bytes out same e (subst (λ (bs : List ℕ). IsReason command bs e) v.own (input_reason command input e v.requests r))
 
     answers_served : (s : Status) (closed : Option ClosedView) → EndsSession w callers shards input out s closed → AnswersTo command bytes out s closed

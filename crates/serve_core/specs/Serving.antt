@@ -24,7 +24,7 @@ use Rattle.trace_lines.specs.EventText.{trace_text}
 use Rattle.serve_reading.specs.Reasons.{IsInputReason}
 use Rattle.serve_reading.specs.Sessions.{IsSessionInput}
 use Rattle.serve_reading.specs.declared.session.Loaded.{Loaded}
-use Rattle.serve_reading.specs.declared.unserved.Unserved.{Unserved}
+use Rattle.serve_reading.specs.declared.load_error.LoadError.{LoadError}
 use Rattle.serve_single.specs.Serving.{EndsBy, script_of_loaded, status_of}
 use Rattle.serve_core.specs.Runs.{script_of_session}
 use Rattle.serve_core.specs.declared.writing.Writing.{Writing}
@@ -64,10 +64,10 @@ abbrev pub CanPrint : List (List ℕ) → File → Meaning → Type 0
 CanPrint names f m = (d : ClosedView) → IsDone m d → IsPrintable names f d
 
 -- where tables are to be written, there is room for so many entries as a table may have at the end
-abbrev pub HasRoom : Later → Meaning → ℕ → Type 0
-HasRoom (Summary requests) m capacity = Unit {0}
-HasRoom Events m capacity = Unit {0}
-HasRoom Tables m capacity = (t : ℕ) → t < length m.shape
+abbrev pub HasCapacity : Later → Meaning → ℕ → Type 0
+HasCapacity (Summary requests) m capacity = Unit {0}
+HasCapacity Events m capacity = Unit {0}
+HasCapacity Tables m capacity = (t : ℕ) → t < length m.shape
     → length (entries_of m.opened t) + room m t ≤ capacity
 
 -- so there is for each table
@@ -127,7 +127,7 @@ EndsLoaded w callers shards l out s (Some d) =
 
 -- nothing of an input was served, for this reason
 pub record EndsUnserved {O : Type 0} (input : List ℕ) (out : Change O) (s : Status) : Type 0 where
-  pub reason : Unserved
+  pub reason : LoadError
   pub is : s ≡ status_of reason
   pub why : IsInputReason input reason
   pub same : IsUntouched out

@@ -16,7 +16,6 @@ use hall_serving::Sizes;
 use serve_faults::Status;
 use serve_reading::{LoadedClients, load_clients};
 use serve_single::ended;
-use std::alloc::Global;
 use std::sync::Wait;
 use std::thread::Threads;
 use worker_gate::Gate;
@@ -24,19 +23,17 @@ use worker_gate::Gate;
 /// Serves the requests of a file's bytes, which are several clients', in the order in which they
 /// arrive, and writes for each client the replies that it has.
 pub(crate) fn gather_bytes<R: Threads + Wait + Sync, O: Sink, G: Gate + Sync>(
-    rt: &R,
-    alloc: Global,
+    by: &Resources<'_, R, G>,
     sizes: Sizes,
     bytes: &[u8],
     out: &mut O,
-    gate: &G,
 ) -> Outcome
     requires short { length bytes.now ≤ max_input }
     ensures { AnswersTo (Clients sizes.callers sizes.shards) bytes.now
         (change O.held O.faults out.old out.new) result.status result.closed }
 {
-    match load_clients(alloc, bytes) {
-        Ok(loaded) => gather_loaded(rt, alloc, sizes, &loaded, out, gate),
+    match load_clients(by.alloc, bytes) {
+        Ok(loaded) => gather_loaded(by, sizes, &loaded, out),
         Err(e) => unserved(ended(e)),
     }
 }
@@ -44,27 +41,24 @@ pub(crate) fn gather_bytes<R: Threads + Wait + Sync, O: Sink, G: Gate + Sync>(
 // Serves the requests of what was loaded in the order in which they arrive, and writes the replies.
 // The room for writing is taken before the first request is served.
 fn gather_loaded<R: Threads + Wait + Sync, O: Sink, G: Gate + Sync>(
-    rt: &R,
-    alloc: Global,
+    by: &Resources<'_, R, G>,
     sizes: Sizes,
     loaded: &LoadedClients,
     out: &mut O,
-    gate: &G,
 ) -> Outcome
     requires can { CanServeClients loaded.now }
     ensures { EndsClients sizes.callers sizes.shards loaded.now
         (change O.held O.faults out.old out.new) result.status result.closed }
 {
-    let Ok(mut buffer) = WriteBuffer::new(alloc) else {
+    let Ok(mut buffer) = WriteBuffer::new(by.alloc) else {
         return unserved(Status::NoMemory);
     };
-    let by = Resources { rt, alloc, gate };
     let work = Workload {
         program: &loaded.program,
         opening: &loaded.opening,
         clients: &loaded.clients,
     };
-    match serve_clients(&by, &work, sizes) {
+    match serve_clients(by, &work, sizes) {
         Ok(served) => write_served(loaded, sizes, served, &mut buffer, out),
         Err(_) => unserved(Status::NoMemory),
     }

@@ -12,6 +12,7 @@ ghost use Rattle.serve_core.specs.Serving.{EndsAsServed, EndsLoaded};
 
 use crate::outcome::{Outcome, unserved};
 use byte_ends::Sink;
+use client_rounds::Resources;
 use hall_serving::Sizes;
 use hall_writing::{WritingSession, open_writing, serve_and_write};
 use handler_machine::Scripts;
@@ -56,20 +57,18 @@ fn open_lines<'a>(
 /// Serves what was loaded, and writes its replies while it is served. All memory is taken before
 /// the first ticket is begun.
 pub(crate) fn serve_lines<R: Threads + Wait + Sync, O: Sink, G: Gate + Sync>(
-    rt: &R,
-    alloc: Global,
+    by: &Resources<'_, R, G>,
     sizes: Sizes,
     loaded: &Loaded,
     out: &mut O,
-    gate: &G,
 ) -> Outcome
     requires can { CanServe loaded.now }
     ensures { EndsLoaded Replies sizes.callers sizes.shards loaded.now
         (change O.held O.faults out.old out.new) result.status result.closed }
 {
-    match open_lines(alloc, sizes, loaded) {
+    match open_lines(by.alloc, sizes, loaded) {
         Ok(ready) => {
-            let (status, closed) = serve_ready_lines(rt, ready, loaded, out, gate);
+            let (status, closed) = serve_ready_lines(by.rt, ready, loaded, out, by.gate);
             Outcome {
                 status,
                 closed: Some(closed),

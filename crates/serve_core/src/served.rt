@@ -7,7 +7,7 @@ ghost use Rattle.session_journal.specs.Script.{room};
 ghost use Rattle.handler_machine.specs.Scripts.{meaning};
 ghost use Rattle.serve_faults.specs.Traced.{table_places};
 ghost use Rattle.serve_single.specs.Serving.{CanServe, script_of_loaded};
-ghost use Rattle.serve_core.specs.Serving.{HasRoom};
+ghost use Rattle.serve_core.specs.Serving.{HasCapacity};
 
 use crate::writing::Later;
 use byte_ends::WriteBuffer;
@@ -60,7 +60,7 @@ pub(crate) fn open_loaded<'a>(
 ) -> Result<Ready<'a>, NoMemory>
     requires can { CanServe loaded.now }
     ensures script { IfOk result (λ r. r.session.script ≡ script_of_loaded loaded.now) }
-    ensures room { IfOk result (λ r. HasRoom later (meaning (script_of_loaded loaded.now))
+    ensures room { IfOk result (λ r. HasCapacity later (meaning (script_of_loaded loaded.now))
         (vec_capacity r.entries)) }
     ensures places { IfOk result (λ r. r.tables.items ≡ table_places loaded.now.program.file) }
     ensures callers { IfOk result (λ r. r.session.callers ≡ sizes.callers) }
@@ -90,7 +90,7 @@ fn entries_room<S: Script>(
     later: Later,
 ) -> Result<Vec<(Value, Value)>, NoMemory>
     requires { tables ≡ length (S.meaning script.now).shape }
-    ensures { IfOk result (λ v. HasRoom later (S.meaning script.now) (vec_capacity v)) }
+    ensures { IfOk result (λ v. HasCapacity later (S.meaning script.now) (vec_capacity v)) }
 {
     let room = match later {
         Later::Summary { .. } => 0,

@@ -7,80 +7,61 @@ ghost use Rattle.serve_faults.specs.Changes.{change};
 ghost use Rattle.serve_faults.specs.Traced.{table_places};
 ghost use Rattle.serve_core.specs.declared.writing.Writing.TheVariants.{AtEnd};
 ghost use Rattle.serve_single.specs.Serving.{CanServe};
-ghost use Rattle.serve_core.specs.Serving.{CanPrint, EndsAsServed, EndsLoaded, EndsSession, HasRoom};
+ghost use Rattle.serve_core.specs.Serving.{CanPrint, EndsAsServed, EndsLoaded, EndsSession, HasCapacity};
 
 use crate::lines::serve_lines;
 use crate::outcome::{Outcome, unserved};
 use crate::served::{Ready, open_loaded, serve_ready};
 use crate::writing::{Later, Writing, write_session};
 use byte_ends::Sink;
+use client_rounds::Resources;
 use hall_serving::Sizes;
 use serve_faults::Status;
 use serve_reading::{Loaded, load_session};
 use serve_single::ended;
 use session_hall::Closed;
-use std::alloc::Global;
 use std::sync::Wait;
 use std::thread::Threads;
 use worker_gate::Gate;
 
 /// Serves the requests of a session file, and writes what is asked of them.
 pub(crate) fn serve_bytes<R: Threads + Wait + Sync, O: Sink, G: Gate + Sync>(
-    rt: &R,
-    alloc: Global,
+    by: &Resources<'_, R, G>,
     sizes: Sizes,
     bytes: &[u8],
     writing: Writing,
     out: &mut O,
-    gate: &G,
 ) -> Outcome
     requires short { length bytes.now ≤ max_input }
     ensures { EndsSession writing sizes.callers sizes.shards bytes.now
         (change O.held O.faults out.old out.new) result.status result.closed }
 {
-    match load_session(alloc, bytes) {
-        Ok(loaded) => serve_loaded(rt, alloc, sizes, &loaded, writing, out, gate),
-        Err(e) => unserved(ended(e)),
-    }
-}
-
-// Serves what was loaded. All memory is taken before the first ticket is begun.
-fn serve_loaded<R: Threads + Wait + Sync, O: Sink, G: Gate + Sync>(
-    rt: &R,
-    alloc: Global,
-    sizes: Sizes,
-    loaded: &Loaded,
-    writing: Writing,
-    out: &mut O,
-    gate: &G,
-) -> Outcome
-    requires can { CanServe loaded.now }
-    ensures { EndsLoaded writing sizes.callers sizes.shards loaded.now
-        (change O.held O.faults out.old out.new) result.status result.closed }
-{
+    let loaded = match load_session(by.alloc, bytes) {
+        Ok(loaded) => loaded,
+        Err(e) => return unserved(ended(e)),
+    };
     match writing {
-        Writing::Replies => serve_lines(rt, alloc, sizes, loaded, out, gate),
-        Writing::AtEnd(later) => serve_then_write(rt, alloc, sizes, loaded, later, out, gate),
+        Writing::Replies => serve_lines(by, sizes, &loaded, out),
+        Writing::AtEnd(later) => serve_then_write(by, sizes, &loaded, later, out),
     }
 }
 
-// Serves what was loaded, and writes what is asked of it when all is served.
+// Serves what was loaded, and writes what is asked of it when all is served. All memory is taken
+// before the first ticket is begun.
 fn serve_then_write<R: Threads + Wait + Sync, O: Sink, G: Gate + Sync>(
-    rt: &R,
-    alloc: Global,
+    by: &Resources<'_, R, G>,
     sizes: Sizes,
     loaded: &Loaded,
     later: Later,
     out: &mut O,
-    gate: &G,
 ) -> Outcome
     requires can { CanServe loaded.now }
     ensures { EndsLoaded (AtEnd later) sizes.callers sizes.shards loaded.now
         (change O.held O.faults out.old out.new) result.status result.closed }
 {
-    match open_loaded(alloc, sizes, loaded, later) {
+    match open_loaded(by.alloc, sizes, loaded, later) {
         Ok(ready) => {
-            let (status, closed) = serve_open(rt, ready, loaded, later, out, gate);
+            let (status, closed) = serve_open(by.rt, ready, loaded, later, out, by.gate);
             Outcome {
                 status,
                 closed: Some(closed),
@@ -102,7 +83,7 @@ fn serve_open<'a, R: Threads + Wait + Sync, O: Sink, G: Gate + Sync>(
 ) -> (Status, Closed)
     requires print { CanPrint loaded.now.names loaded.now.program.file
         (meaning ready.session.script) }
-    requires room { HasRoom later (meaning ready.session.script) (vec_capacity ready.entries) }
+    requires room { HasCapacity later (meaning ready.session.script) (vec_capacity ready.entries) }
     requires places { ready.tables.items ≡ table_places loaded.now.program.file }
     requires callers { ready.session.callers ≤ max_callers }
     ensures { EndsAsServed (AtEnd later) loaded.now.names loaded.now.program.file

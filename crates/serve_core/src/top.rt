@@ -6,11 +6,12 @@ ghost use Rattle.serve_faults.specs.Changes.{change};
 ghost use Rattle.serve_single.specs.Runs.{Tells};
 ghost use Rattle.serve_core.specs.Runs.{Runs};
 
-use crate::asked::{Asked, Writes};
+use crate::asked::Writes;
 use crate::outcome::{Outcome, unserved};
 use crate::serving::serve_source;
 use crate::working::work;
 use byte_ends::{Sink, Source, SureSink};
+use client_rounds::Resources;
 use hall_serving::Sizes;
 use serve_faults::Status;
 use serve_single::{audit, describe, ranges, tell};
@@ -41,7 +42,8 @@ pub fn run<R: Threads + Wait + Sync, I: Source, O: Sink, E: Sink, G: Gate + Sync
         (change O.held O.faults out.old out.new) result.status result.closed }
     ensures tells { Tells (change E.held E.faults err.old err.new) result.status }
 {
-    let outcome = answer(rt, alloc, command_of(words.as_slice()), source, out, gate);
+    let by = Resources { rt, alloc, gate };
+    let outcome = answer(&by, command_of(words.as_slice()), source, out);
     tell(&outcome.status, err);
     outcome
 }
@@ -49,12 +51,10 @@ pub fn run<R: Threads + Wait + Sync, I: Source, O: Sink, E: Sink, G: Gate + Sync
 // What a command answers, if there is one. The line that tells how it ended is left to the caller.
 #[tactic(auto, using(crate::proofs::RunLemmas::without_hall))]
 fn answer<R: Threads + Wait + Sync, I: Source, O: Sink, G: Gate + Sync>(
-    rt: &R,
-    alloc: Global,
+    by: &Resources<'_, R, G>,
     command: Option<Command>,
     source: &mut I,
     out: &mut O,
-    gate: &G,
 ) -> Outcome
     requires { IfSome command commands.IsWithinBounds }
     ensures { Runs command
@@ -62,30 +62,23 @@ fn answer<R: Threads + Wait + Sync, I: Source, O: Sink, G: Gate + Sync>(
         (change O.held O.faults out.old out.new) result.status result.closed }
 {
     match command {
-        Some(Command::Check) => unserved(describe(alloc, false, source, out, &mut SureSink)),
-        Some(Command::Show) => unserved(describe(alloc, true, source, out, &mut SureSink)),
+        Some(Command::Check) => unserved(describe(by.alloc, false, source, out, &mut SureSink)),
+        Some(Command::Show) => unserved(describe(by.alloc, true, source, out, &mut SureSink)),
         Some(Command::Serve { callers, shards }) => {
-            let writes = Writes::Replies;
-            let sizes = Sizes { callers, shards };
-            serve_source(rt, alloc, Asked { writes, sizes }, source, out, gate)
+            serve_source(by, Writes::Replies, Sizes { callers, shards }, source, out)
         }
         Some(Command::Dump { callers, shards }) => {
-            let writes = Writes::Tables;
-            let sizes = Sizes { callers, shards };
-            serve_source(rt, alloc, Asked { writes, sizes }, source, out, gate)
+            serve_source(by, Writes::Tables, Sizes { callers, shards }, source, out)
         }
-        Some(Command::Work { requests, start }) => { work(rt, alloc, requests, start, out, gate) }
-        Some(Command::Ranges) => unserved(ranges(alloc, source, out, &mut SureSink)),
+        Some(Command::Work { requests, start }) => work(by, requests, start, out),
+        Some(Command::Ranges) => unserved(ranges(by.alloc, source, out, &mut SureSink)),
         Some(Command::Trace { callers, shards }) => {
-            let writes = Writes::Events;
-            let sizes = Sizes { callers, shards };
-            serve_source(rt, alloc, Asked { writes, sizes }, source, out, gate)
+            serve_source(by, Writes::Events, Sizes { callers, shards }, source, out)
         }
-        Some(Command::Audit) => unserved(audit(alloc, source, out, &mut SureSink)),
+        Some(Command::Audit) => unserved(audit(by.alloc, source, out, &mut SureSink)),
         Some(Command::Clients { callers, shards }) => {
-            let writes = Writes::ClientReplies;
             let sizes = Sizes { callers, shards };
-            serve_source(rt, alloc, Asked { writes, sizes }, source, out, gate)
+            serve_source(by, Writes::ClientReplies, sizes, source, out)
         }
         None => unserved(Status::Usage),
     }

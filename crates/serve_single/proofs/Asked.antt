@@ -12,7 +12,7 @@ use Rattle.serve_faults.specs.Session.{IsSession, all_names_of, session_of_parts
 use Rattle.serve_reading.specs.Reasons.{IsInputReason}
 use Rattle.serve_reading.specs.Sessions.{IsLoaded, IsSessionInput}
 use Rattle.serve_reading.specs.declared.session.Loaded.{Loaded}
-use Rattle.serve_reading.specs.declared.unserved.Unserved.{Unserved}
+use Rattle.serve_reading.specs.declared.load_error.LoadError.{LoadError}
 use Rattle.serve_reading.proofs.Loading.{as_program}
 use Rattle.serve_single.specs.Runs.{AnswersSingle}
 use Rattle.serve_single.specs.Serving.{EndsOrWants, asked_text, script_of_loaded, serving, status_of}
@@ -47,7 +47,7 @@ module _ {O : Type 0} (callers shards : ℕ) (bytes : List ℕ) (out : Change O)
       (record { file = l.program.file; is_session = is_session (parts_of bytes) l h; text_is = text_same (parts_of bytes) l h false }) s e
 
   -- where nothing was loaded, this is why
-  pub unloaded_alone : (tables : Bool) (e : Unserved) (s : Status) → s ≡ status_of e → IsInputReason bytes e → IsUntouched out → AnswersSingle (serving tables callers shards) bytes out s
+  pub unloaded_alone : (tables : Bool) (e : LoadError) (s : Status) → s ≡ status_of e → IsInputReason bytes e → IsUntouched out → AnswersSingle (serving tables callers shards) bytes out s
   unloaded_alone tables e s is r same = subst (λ (s : Status). AnswersSingle (serving tables callers shards) bytes out s) (sym is) (by tables)
     where
       by : (tables : Bool) → AnswersSingle (serving tables callers shards) bytes out (status_of e)

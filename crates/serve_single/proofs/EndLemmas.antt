@@ -12,8 +12,8 @@ use Rattle.serve_faults.specs.Input.{Parts, parts_by, parts_of, parts_fault, div
 use Rattle.serve_faults.specs.Answer.{HasRequestFault, HasTableFault, IsRefused, IsTextOf}
 use Rattle.serve_faults.specs.Changes.{Change, IsUntouched}
 use Rattle.serve_faults.specs.Ways.{describing}
-use Rattle.serve_reading.specs.declared.unserved.Unserved.{Unserved}
-use Rattle.serve_reading.specs.declared.unserved.Unserved.TheVariants.{Refused, NoMemory}
+use Rattle.serve_reading.specs.declared.load_error.LoadError.{LoadError}
+use Rattle.serve_reading.specs.declared.load_error.LoadError.TheVariants.{Refused, NoMemory}
 use Rattle.serve_reading.specs.Reasons.{IsInputReason, IsReason, IsSessionReason}
 use Rattle.serve_reading.specs.Sessions.{IsSessionInput}
 use Rattle.serve_single.specs.Runs.{AnswersSingle}
@@ -38,7 +38,7 @@ module _ {O : Type 0} (c : Command) (bytes : List ℕ) (out : Change O) (same : 
     written = record { write_fault = λ e. absurd (cc); written_well = λ e. absurd (cc); unwritten = λ _ _. same };
   }
 
-  pub reason_to : (e : Unserved) → IsReason c (input_of c bytes) e → AnswersSingle c bytes out (status_of e)
+  pub reason_to : (e : LoadError) → IsReason c (input_of c bytes) e → AnswersSingle c bytes out (status_of e)
   reason_to NoMemory h = memory_to
   reason_to (Refused f) h = refused_to f h
 
@@ -89,7 +89,7 @@ module _ {O : Type 0} (shown : Bool) (bytes : List ℕ) (out : Change O) where
   described_to text s i is e =
       ends_or_wants_to (describing shown) bytes out text (subst (IsInput (describing shown)) (describing_own shown bytes) i) (subst (λ (b : List ℕ). IsTextOf (describing shown) b text) (describing_own shown bytes) is) s e
 
-  pub undescribed_to : (e : Unserved) → IsUntouched out → IsReason (describing shown) bytes e → AnswersSingle (describing shown) bytes out (status_of e)
+  pub undescribed_to : (e : LoadError) → IsUntouched out → IsReason (describing shown) bytes e → AnswersSingle (describing shown) bytes out (status_of e)
   undescribed_to e same r = reason_to (describing shown) bytes out same e (subst (λ (b : List ℕ). IsReason (describing shown) b e) (describing_own shown bytes) r)
 
 -- ---- serving
@@ -169,7 +169,7 @@ short_of (Clients callers shards) input e h = h
 pub session_input : (c : Command) (input : List ℕ) → serves_one c ≡ true → IsSessionInput input → IsInput c input
 session_input c input has i = record { short = short_of c input has i.short; utf8 = i.utf8; parts = parts_wanted c input has ∙ ap divided_fault i.divided }
 
-pub input_reason : (c : Command) (input : List ℕ) (e : Unserved) → serves_one c ≡ true → IsInputReason input e → IsReason c input e
+pub input_reason : (c : Command) (input : List ℕ) (e : LoadError) → serves_one c ≡ true → IsInputReason input e → IsReason c input e
 input_reason c input NoMemory has h = tt
 input_reason c input (Refused fault.TooLarge) has h = absurd h
 input_reason c input (Refused fault.NotText) has h = (short_of c input has h.0, h.1)
@@ -193,7 +193,7 @@ module _ {O : Type 0} (bytes : List ℕ) (out : Change O) where
   pub ranged_to : (text : List ℕ) (s : Status) → IsInput Ranges bytes → IsTextOf Ranges bytes text → EndsBy text out s → AnswersSingle Ranges bytes out s
   ranged_to text s i is e = ends_to Ranges bytes out text i is s e
 
-  pub unranged_to : (e : Unserved) → IsUntouched out → IsReason Ranges bytes e → AnswersSingle Ranges bytes out (status_of e)
+  pub unranged_to : (e : LoadError) → IsUntouched out → IsReason Ranges bytes e → AnswersSingle Ranges bytes out (status_of e)
   unranged_to e same r = reason_to Ranges bytes out same e r
 
 -- ---- audits
@@ -201,5 +201,5 @@ module _ {O : Type 0} (bytes : List ℕ) (out : Change O) where
   pub audited_to : (text : List ℕ) (s : Status) → IsInput Audit bytes → IsTextOf Audit bytes text → EndsBy text out s → AnswersSingle Audit bytes out s
   audited_to text s i is e = ends_to Audit bytes out text i is s e
 
-  pub unaudited_to : (e : Unserved) → IsUntouched out → IsReason Audit bytes e → AnswersSingle Audit bytes out (status_of e)
+  pub unaudited_to : (e : LoadError) → IsUntouched out → IsReason Audit bytes e → AnswersSingle Audit bytes out (status_of e)
   unaudited_to e same r = reason_to Audit bytes out same e r

@@ -22,8 +22,8 @@ use Rattle.serve_faults.specs.TableRows.{ArePrintable as ArePrintableEntries}
 use Rattle.serve_faults.specs.declared.status.Status.{Status}
 use Rattle.serve_faults.specs.declared.status.Status.TheVariants as status
 use Rattle.serve_reading.specs.declared.session.Loaded.{Loaded}
-use Rattle.serve_reading.specs.declared.unserved.Unserved.{Unserved}
-use Rattle.serve_reading.specs.declared.unserved.Unserved.TheVariants.{Refused, NoMemory}
+use Rattle.serve_reading.specs.declared.load_error.LoadError.{LoadError}
+use Rattle.serve_reading.specs.declared.load_error.LoadError.TheVariants.{Refused, NoMemory}
 use Rattle.table_text.specs.TableText.{table_text, written_table}
 
 -- ---- what is loaded
@@ -50,7 +50,7 @@ pub record CanServe (l : Loaded) : Type 0 where
 -- ---- how a run ends
 
 -- how a run ends that serves nothing
-abbrev pub status_of : Unserved → Status
+abbrev pub status_of : LoadError → Status
 status_of NoMemory = status.NoMemory
 status_of (Refused e) = status.Refused e
 

@@ -7,15 +7,15 @@ ghost use Rattle.serve_single.specs.Serving.{status_of};
 
 use byte_ends::{Sink, write_all};
 use serve_faults::{Status, message_of};
-use serve_reading::Unserved;
+use serve_reading::LoadError;
 
 /// How a run ends for which there is nothing to write.
-pub fn ended(e: Unserved) -> Status
+pub fn ended(e: LoadError) -> Status
     ensures { result ≡ status_of e }
 {
     match e {
-        Unserved::Refused(fault) => Status::Refused(fault),
-        Unserved::NoMemory => Status::NoMemory,
+        LoadError::Refused(fault) => Status::Refused(fault),
+        LoadError::NoMemory => Status::NoMemory,
     }
 }
 
