@@ -58,7 +58,7 @@ def walk_faults():
     found, named = [], set()
     walk = re.search(r"```walk\n(.*?)```", text, re.S)[1]
     for line in walk.splitlines():
-        for part in line[12:].replace("(the others:", "").replace(")", "").split(";"):
+        for part in re.sub(r"\((the others|else):|\)", "", line[12:]).split(";"):
             crate, *functions = part.split()
             code = ""
             for file in glob.glob(f"crates/{crate}/src/*.rt"):
