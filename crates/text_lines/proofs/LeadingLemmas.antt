@@ -2,7 +2,7 @@
 use Rattle.std.proofs.Common.{◌≡◌, ℕ, zero, suc, ◌<◌, ◌≤◌, true, false, [], ◌∷◌, length, take, get_or, Some, None, cond, refl, sym, ap, ◌∙◌, arith, List, to_z, w64}
 use Rattle.std.proofs.lemmas.Int.{to_z_pos}
 use Rattle.std.proofs.lemmas.Bool.Decides.{nat_tests}
-use Rattle.std.proofs.lemmas.Bool.{and_parts}
+use Rattle.std.proofs.lemmas.Bool.{and_parts, true≢false}
 use Rattle.std.specs.Char.{is_ascii_alphabetic, is_ascii_digit}
 use Rattle.std.specs.List.{prefix_len}
 use Rattle.std.specs.Str.{all_ascii_digits}
@@ -25,6 +25,38 @@ run_stopped (d ∷ ds) zero b l e a h = sym (len_no is_word_byte d ds (ap is_wor
 run_stopped (d ∷ ds) (suc k) b l e a h =
     let parts = and_parts (is_ascii_digit d) (all_ascii_digits (take k ds)) a in
     ap suc (run_stopped ds k b (omega (arith, l)) e parts.1 h) ∙ sym (len_yes is_word_byte d ds (digit_in_word d parts.0))
+
+-- digits, and then a byte of the word
+run_on : (bs : Text) (k b : ℕ) → k < length bs → b ≡ get_or bs k 0 → all_ascii_digits (take k bs) ≡ true → is_word_byte b ≡ true → k < prefix_len is_word_byte bs
+run_on [] k b l e a h = absurd (omega (arith, l))
+run_on (d ∷ ds) zero b l e a h = omega (arith, len_yes is_word_byte d ds (ap is_word_byte (sym e) ∙ h))
+run_on (d ∷ ds) (suc k) b l e a h =
+    let parts = and_parts (is_ascii_digit d) (all_ascii_digits (take k ds)) a in
+    omega (arith, run_on ds k b (omega (arith, l)) e parts.1 h, len_yes is_word_byte d ds (digit_in_word d parts.0))
+
+-- each byte of digits is one
+digit_at : (ds : Text) (k m b : ℕ) → k < m → k < length ds → b ≡ get_or ds k 0 → all_ascii_digits (take m ds) ≡ true → is_ascii_digit b ≡ true
+digit_at [] k m b l s e a = absurd (omega (arith, s))
+digit_at (d ∷ ds) k zero b l s e a = absurd (omega (arith, l))
+digit_at (d ∷ ds) zero (suc m) b l s e a = ap is_ascii_digit e ∙ (and_parts (is_ascii_digit d) (all_ascii_digits (take m ds)) a).0
+digit_at (d ∷ ds) (suc k) (suc m) b l s e a = digit_at ds k m b (omega (arith, l)) (omega (arith, s)) e (and_parts (is_ascii_digit d) (all_ascii_digits (take m ds)) a).1
+
+-- a byte of the word that is no digit: it isn't digits alone
+pub no_digits : (bs : Text) (i b : ℕ) → i < length bs → b ≡ get_or bs i 0 → all_ascii_digits (take i bs) ≡ true → is_ascii_digit b ≡ false → is_word_byte b ≡ true → (n k : ℕ) → IsLeading bs n k → 18 < k
+no_digits bs i b l e a none h n k x =
+    absurd (true≢false (sym (digit_at bs i k b (omega (arith, x.len, run_on bs i b l e a h)) l e x.digits) ∙ none))
+
+-- a digit after 18 of them: they aren't few
+pub many_digits : (bs : Text) (i b : ℕ) → i < length bs → b ≡ get_or bs i 0 → all_ascii_digits (take i bs) ≡ true → is_ascii_digit b ≡ true → 18 ≤ i → (n k : ℕ) → IsLeading bs n k → 18 < k
+many_digits bs i b l e a digit many n k x = omega (arith, many, x.len, run_on bs i b l e a (digit_in_word b digit))
+
+-- where no word is in front, it is found: so a word is in front if none of few digits is
+pub some_word : (bs : Text) → ((n k : ℕ) → IsLeading bs n k → 18 < k) → 0 < prefix_len is_word_byte bs
+some_word bs f = go (prefix_len is_word_byte bs) refl
+  where
+    go : (m : ℕ) → m ≡ prefix_len is_word_byte bs → 0 < m
+    go zero e = absurd (omega (arith, f 0 0 (record { len = e; digits = refl; number = refl; small = omega arith })))
+    go (suc m) e = omega arith
 
 -- digits up to the end
 pub run_whole : (bs : Text) (k : ℕ) → k ≡ length bs → all_ascii_digits (take k bs) ≡ true → k ≡ prefix_len is_word_byte bs

@@ -40,7 +40,7 @@ impl<'a> Line<'a> {
     ghost use Rattle.text_lines.specs.Steps.{TakesValue};
     ghost use Rattle.text_lines.specs.Text.{words};
 
-    /// Takes the next word of the line, if one is left, and says its value, or `None` inside where
+    /// Takes the next word of the line, if one is left, and returns its value, or `None` inside if
     /// it isn't one: `next` and `value` in one, which reads a number of a few digits in one pass.
     #[inline]
     pub fn next_value(&mut self, names: &mut Names) -> Result<Option<Option<Value>>, NoMemory>
@@ -49,7 +49,9 @@ impl<'a> Line<'a> {
     {
         let (_, rest) = self.rest.split_at(blanks_len(self.rest.as_bytes()));
         let Some((number, len)) = leading_number(rest.as_bytes()) else {
-            return self.next_by_word(names);
+            let (word, after) = rest.split_at(word_len(rest.as_bytes()));
+            self.rest = after;
+            return Ok(Some(value(word, names)?));
         };
         if len == 0 {
             return Ok(None);
@@ -57,17 +59,5 @@ impl<'a> Line<'a> {
         let (_, after) = rest.split_at(len);
         self.rest = after;
         Ok(Some(Some(Value::Num(number as i64))))
-    }
-
-    /// The next word and its value, one after the other.
-    #[inline(never)]
-    fn next_by_word(&mut self, names: &mut Names) -> Result<Option<Option<Value>>, NoMemory>
-        requires { 0 < length (words self.old.rest.now) → length names.old < 4294967295 }
-        ensures steps { TakesValue self.old names.old result self.new names.new }
-    {
-        match self.next() {
-            Some(word) => Ok(Some(value(word, names)?)),
-            None => Ok(None),
-        }
     }
 }

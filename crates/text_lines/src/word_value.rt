@@ -4,7 +4,7 @@ ghost use Rattle.std.specs.Prelude.{◌≡◌, ◌<◌, ◌≤◌, length, slice
 ghost use Rattle.std.specs.List.{list_all};
 ghost use Rattle.std.specs.Str.{all_ascii_digits};
 ghost use Rattle.text_lines.specs.Bytes as classes;
-ghost use Rattle.text_lines.specs.Leading.{IsLeading};
+ghost use Rattle.text_lines.specs.Leading.{IsLeadingIf};
 ghost use Rattle.text_lines.specs.Values as spec;
 
 use crate::bytes::is_symbol_byte;
@@ -40,11 +40,11 @@ fn few_digits(digits: &[u8]) -> Option<u64>
     Some(number)
 }
 
-/// The number of the word in front and how many bytes it has, or None where it isn't one of a few
-/// digits alone. Where no word stands in front, it has none.
+/// The number of the word in front and how many bytes it has, or None if it isn't one of a few
+/// digits alone. A word that isn't there has no bytes.
 #[inline]
 pub(crate) fn leading_number(bytes: &[u8]) -> Option<(u64, usize)>
-    ensures { IfSome result (λ r. IsLeading bytes.now r.0 r.1) }
+    ensures { IsLeadingIf bytes.now result }
 {
     let mut number = 0;
     let mut len = 0;

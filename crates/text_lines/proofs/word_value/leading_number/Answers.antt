@@ -1,6 +1,6 @@
 use Rattle.std.proofs.Common.{◌+◌, ◌-◌, ◌*◌, ◌<◌, get_or, refl, sym, ◌∙◌, arith}
 use Rattle.text_lines.proofs.DigitLemmas.{few_at, longer}
-use Rattle.text_lines.proofs.LeadingLemmas.{leading, run_stopped, run_whole}
+use Rattle.text_lines.proofs.LeadingLemmas.{leading, many_digits, no_digits, run_stopped, run_whole}
 use Rattle.text_lines.proofs.word_value.leading_number.Goals as goal
 
 pub returns-else-is_word_byte : goal.returns-else-is_word_byte
@@ -8,6 +8,14 @@ returns-else-is_word_byte c =
     let i = c.loop-b.invariant in
     leading c.args.bytes.now c.loop-b.number c.loop-b.len c.loop-b.b-index i.0 i.1 i.2 i.3 i.4
     (run_stopped c.args.bytes.now c.loop-b.b-index (get_or c.args.bytes.now c.loop-b.b-index 0) c.loop-b-test.true refl i.2 (sym c.is_word_byte.ensures ∙ c.if-is_word_byte.false))
+
+pub returns-then-is_word_byte : goal.returns-then-is_word_byte
+returns-then-is_word_byte c = no_digits c.args.bytes.now c.loop-b.b-index (get_or c.args.bytes.now c.loop-b.b-index 0) c.loop-b-test.true refl c.loop-b.invariant.2
+    (sym c.is_ascii_digit.ensures.value ∙ c.if-not-is_ascii_digit.true) (sym c.is_word_byte.ensures ∙ c.if-is_word_byte.true)
+
+pub returns-then-len-ge-FEW_DIGITS : goal.returns-then-len-ge-FEW_DIGITS
+returns-then-len-ge-FEW_DIGITS c = many_digits c.args.bytes.now c.loop-b.b-index (get_or c.args.bytes.now c.loop-b.b-index 0) c.loop-b-test.true refl c.loop-b.invariant.2
+    (sym c.is_ascii_digit.ensures.value ∙ c.if-not-is_ascii_digit.false) (omega (arith, c.loop-b.invariant.0, c.if-len-ge-FEW_DIGITS.true))
 
 pub overflow_mul-number : goal.overflow_mul-number
 overflow_mul-number c =
