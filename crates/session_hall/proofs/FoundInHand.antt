@@ -1,5 +1,5 @@
 -- All turns of an operation are found in hand.
-use Rattle.std.proofs.Common.{◌≡◌, ℕ, suc, ◌+◌, ◌*◌, ◌<◌, ◌≤◌, List, inl, inr, Option, Some, None, pos, refl, sym, ◌∙◌, ap, subst, arith}
+use Rattle.std.proofs.Common.{◌≡◌, ℕ, suc, ◌+◌, ◌*◌, ◌<◌, ◌≤◌, List, inl, inr, Option, Some, None, IfSome, IsSomeAnd, pos, refl, sym, ◌∙◌, ap, subst, arith}
 use Rattle.std.specs.Prelude.{slice_get, slice_set}
 use Rattle.std.proofs.lemmas.Bool.{cases_eq}
 use Rattle.std.proofs.lemmas.Nat.Bits.{bit_at-zero}
@@ -15,12 +15,20 @@ use Rattle.hall_rule.specs.Contents.{Content}
 use Rattle.hall_rule.specs.Shards.{content_of}
 use Rattle.session_hall.specs.declared.on_shards.Found.{Found}
 use Rattle.session_hall.specs.declared.on_shards.Found.TheVariants.{Place, Keys}
-use Rattle.session_hall.specs.OnShards.{AreHere, CanCount, CanDoIf, CanDoIn, CanWorkFound, CanWorkHere, HasWorkedFound, HasWorkedIn, IsFound, IsMissing, IsShardIf, keys_of, keys_of_row}
+use Rattle.session_hall.specs.OnShards.{AreHere, CanWorkFound, CanWorkHere, HasWorkedFound, HasWorkedIn, IsFound, IsMissing, LacksTurn, keys_of, keys_of_row}
 use Rattle.session_hall.specs.Working.{CanDo, WorkedTo}
-use Rattle.session_hall.proofs.Pairs.{some_in}
+use Rattle.session_hall.proofs.Pairs.{none_in, some_in}
 use Rattle.session_hall.proofs.ShardsByTurn.{can_here, worked_here}
 
 module _ {S : Type 0} (xs : List (ℕ × Held S)) where
+  -- what is so of the content of a turn in hand is so of one that is found there
+  pub found_there : (turn i : ℕ) → IsPlaceOf xs turn (Some i) → (P : Content S → Type 0) → IfSome (in_hands (content_of {S = S}) xs turn) P → IsSomeAnd (in_hands (content_of {S = S}) xs turn) P
+  found_there turn i p P = go (in_hands (content_of {S = S}) xs turn) refl
+    where
+      go : (o : Option (Content S)) → in_hands content_of xs turn ≡ o → IfSome o P → IsSomeAnd o P
+      go None e k = absurd (some_in xs i turn p.0 p.1 p.2 e)
+      go (Some x) e k = k
+
   -- no turn is in a set of none
   pub nothing_missing : (first many : ℕ) → AreHere xs first many → IsMissing xs first (first + many) 0
   nothing_missing first many here = record {
@@ -38,11 +46,7 @@ module _ {S : Type 0} (xs : List (ℕ × Held S)) where
 
     -- the operation may be done on what was found
     pub can_work_found : (f : Found) → IsFound op first many xs (Some f) → CanWorkHere op first many xs → CanWorkFound op xs f
-    can_work_found (Place i) h can = (can.once, (first, h.1, there (in_hands (content_of {S = S}) xs first) refl (can.each first (omega arith) (omega (arith, can.some)))))
-      where
-        there : (o : Option (Content S)) → in_hands content_of xs first ≡ o → CanDoIf op o → CanDoIn op o
-        there None e k = absurd (some_in xs i first h.1.0 h.1.1 h.1.2 e)
-        there (Some x) e k = k
+    can_work_found (Place i) h can = (can.once, (first, h.1, found_there first i h.1 (λ x. CanDo op x) (can.each first (omega arith) (omega (arith, can.some)))))
     can_work_found (Keys n) h can = omega (arith, h.1.2, can.turns)
 
     -- what was done there is what is done on the row
@@ -50,14 +54,14 @@ module _ {S : Type 0} (xs : List (ℕ × Held S)) where
     worked_found (Place i) h ys v w = (λ none. absurd (omega (arith, h.0, none)), λ key. w first h.1)
     worked_found (Keys n) h ys v w = (λ none. (w.0, w.1 ∙ ap (λ (a : ℕ). Num (pos a)) h.1.1), λ key. absurd (omega (arith, h.0, key)))
 
+    -- nothing is found if its one turn isn't in hand
+    pub lacks_first : 0 < arguments op.kind → IsPlaceOf xs first None → IsFound op first many xs None
+    lacks_first key p = (λ none. absurd (omega (arith, none, key)), λ k. none_in xs first p)
+
   -- ---- one turn of a row after another
-  -- a shard that is found can be counted
-  pub can_count : (turn i : ℕ) → IsPlaceOf xs turn (Some i) → IsShardIf (in_hands (content_of {S = S}) xs turn) → CanCount (in_hands (content_of {S = S}) xs turn)
-  can_count turn i p = go (in_hands (content_of {S = S}) xs turn) refl
-    where
-      go : (o : Option (Content S)) → in_hands content_of xs turn ≡ o → IsShardIf o → CanCount o
-      go None e k = absurd (some_in xs i turn p.0 p.1 p.2 e)
-      go (Some x) e k = k
+  -- a turn of the row that stands nowhere is one that is missing
+  pub lacks : (first i many : ℕ) → i < many → IsPlaceOf xs (first + i) None → LacksTurn xs first many
+  lacks first i many l p = record { turn = first + i; from = omega arith; below = omega (arith, l); none = none_in xs (first + i) p }
 
   -- one more turn is in hand, and its keys are counted
   pub counts_more : (first i at n count : ℕ) → IsPlaceOf xs (first + i) (Some at) → AreHere xs first i × (count ≡ sum_below i (keys_of_row xs first)) × (count ≤ i * 4294967295) → n ≡ keys_of_row xs (first + i) 0 → n ≤ 4294967295

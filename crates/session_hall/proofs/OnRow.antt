@@ -1,5 +1,5 @@
 -- An operation is done on the shards of its turns, wherever these are in a caller's hands.
-use Rattle.std.proofs.Common.{◌≡◌, ◌≢◌, ℕ, suc, ◌+◌, ◌*◌, ◌-◌, ◌/◌, ◌%◌, ◌<◌, ◌≤◌, List, length, ◌⊎◌, inl, inr, Option, Some, None, Bool, true, false, cond, eqb, pos, refl, sym, ◌∙◌, ap, subst, arith}
+use Rattle.std.proofs.Common.{◌≡◌, ◌≢◌, ℕ, suc, ◌+◌, ◌*◌, ◌-◌, ◌/◌, ◌%◌, ◌<◌, ◌≤◌, List, length, ◌⊎◌, inl, inr, Option, Some, None, IfSome, IsSomeAnd, Bool, true, false, cond, eqb, pos, refl, sym, ◌∙◌, ap, subst, arith}
 use Rattle.std.proofs.lemmas.Bool.{eq-eqb, eqb-false, eqb-true, ne_eqb}
 use Rattle.std.proofs.lemmas.Nat.{div-mul-add, mod-mul-add}
 use Rattle.std.proofs.lemmas.Option.{slice_get_within}
@@ -28,7 +28,7 @@ use Rattle.hall_rule.specs.Law.{same_container}
 use Rattle.hall_rule.specs.Shards.{content_of}
 use Rattle.hall_rule.specs.Turns.{ChangedBy, IsTurnOf, place, span}
 use Rattle.hall_rule.proofs.Shares.{keyless_stays, kind_share, kind_table, reply-is, share_few, share_reply}
-use Rattle.session_hall.specs.OnShards.{CanDoIf, CanDoIn, CanWorkHere, CanWorkIn, HasWorkedIn, WorkedUnder, keys_of, keys_of_row}
+use Rattle.session_hall.specs.OnShards.{CanWorkHere, CanWorkIn, HasWorkedIn, WorkedUnder, keys_of, keys_of_row}
 use Rattle.session_hall.specs.Working.{CanDo}
 use Rattle.session_hall.proofs.Giving.{opens}
 use Rattle.session_hall.proofs.OneShard.{keyless_reply, product_small, shards_are, to_shard}
@@ -133,7 +133,7 @@ module _ {S : Type 0} (m : Meaning) (turns n : ℕ) (known : IsScript m) (sk : s
     each = λ u from below. do_if u from below (in_hands content_of xs u) refl;
   }
     where
-      do_if : (u : ℕ) → first ≤ u → u < first + many → (o : Option (Content S)) → in_hands content_of xs u ≡ o → CanDoIf op o
+      do_if : (u : ℕ) → first ≤ u → u < first + many → (o : Option (Content S)) → in_hands content_of xs u ≡ o → IfSome o (λ y. CanDo op y)
       do_if u from below None e = tt
       do_if u from below (Some x) e =
           let z : (j : ℕ) × (u ≡ suc j) × IsTurnOf n op j = of_row n op some first many fe me u from below in
@@ -203,7 +203,7 @@ module _ {S : Type 0} (m : Meaning) (turns n : ℕ) (known : IsScript m) (sk : s
       once = once;
       each = λ u from below.
           let w : IsThere u = is_there u from below in
-          let P : Option (Content S) → Type 0 = λ o. CanDoIn op o in
+          let P : Option (Content S) → Type 0 = λ o. IsSomeAnd o (λ y. CanDo op y) in
           subst P (sym (ap (in_hands content_of xs) w.turn_is ∙ w.at)) (can_do t opened calls w.j w.x w.of_operation w.at);
       few = λ none.
           let less : size_of (table (tables_after m b.journal) op.table) ≤ size_of (table m.opening op.table) + room m op.table = keys_few m b known L op.table in

@@ -1,5 +1,5 @@
 -- What is done on the shards of turns in hand.
-use Rattle.std.proofs.Common.{◌≡◌, ◌≢◌, ℕ, suc, ◌+◌, ◌<◌, ◌≤◌, List, inl, inr, Option, Some, None, true, false, sym, ◌∙◌, ap, subst, arith}
+use Rattle.std.proofs.Common.{◌≡◌, ◌≢◌, ℕ, suc, ◌+◌, ◌<◌, ◌≤◌, List, inl, inr, Option, Some, None, IsSomeAnd, true, false, sym, ◌∙◌, ap, subst, arith}
 use Rattle.std.specs.Prelude.{slice_get, slice_set}
 use Rattle.std.specs.Option.{is_some}
 use Rattle.std.specs.Int.{bit_at}
@@ -14,8 +14,8 @@ use Rattle.turn_board.specs.Hands.{IsPlaceOf, Once, in_hands, turn_at}
 use Rattle.hall_rule.specs.declared.held.Held.{Held}
 use Rattle.hall_rule.specs.Contents.{Content}
 use Rattle.hall_rule.specs.Shards.{content_of}
-use Rattle.session_hall.specs.OnShards.{CanCount, CanDoIn, IsMissing, WorkedUnder, keys_of, keys_of_row}
-use Rattle.session_hall.specs.Working.{CanDo, HasKeysAt, HasShardAt, WorkedTo}
+use Rattle.session_hall.specs.OnShards.{IsMissing, WorkedUnder, keys_of, keys_of_row}
+use Rattle.session_hall.specs.Working.{CanDo, HasKeysAt, HasShardAt, IsAnyShard, WorkedTo}
 use Rattle.session_hall.proofs.Pairs.{at_in, in_set_other, in_set_same, none_in, once_set, some_in}
 
 module _ {S : Type 0} (xs : List (ℕ × Held S)) where
@@ -27,11 +27,11 @@ module _ {S : Type 0} (xs : List (ℕ × Held S)) where
     value_is : (x : ℕ × Held S) → slice_get xs i ≡ Some x → in_hands (content_of {S = S}) xs turn ≡ Some (content_of x.1)
     value_is x e = found_at ∙ ap (λ (z : ℕ × Held S). Some (content_of z.1)) (same_Some p.0 x (sym p.1 ∙ e))
 
-    pub can_here : (op : Op) (v : Held S) → slice_get xs i ≡ Some (turn_at xs i, v) → CanDoIn op (in_hands (content_of {S = S}) xs turn) → CanDo op (content_of v)
-    can_here op v e can = let P : Option (Content S) → Type 0 = λ k. CanDoIn op k in subst P (value_is (turn_at xs i, v) e) can
+    pub can_here : (op : Op) (v : Held S) → slice_get xs i ≡ Some (turn_at xs i, v) → IsSomeAnd (in_hands (content_of {S = S}) xs turn) (λ y. CanDo op y) → CanDo op (content_of v)
+    can_here op v e can = let P : Option (Content S) → Type 0 = λ k. IsSomeAnd k (λ y. CanDo op y) in subst P (value_is (turn_at xs i, v) e) can
 
-    pub counts_here : CanCount (in_hands (content_of {S = S}) xs turn) → HasShardAt i xs
-    counts_here can x e = let P : Option (Content S) → Type 0 = λ k. CanCount k in subst P (value_is x e) can
+    pub counts_here : IsSomeAnd (in_hands (content_of {S = S}) xs turn) (λ y. IsAnyShard y) → HasShardAt i xs
+    counts_here can x e = let P : Option (Content S) → Type 0 = λ k. IsSomeAnd k (λ y. IsAnyShard y) in subst P (value_is x e) can
 
     pub keys_here : (n : ℕ) → HasKeysAt i xs n → n ≡ keys_of_row xs turn 0
     keys_here n h =

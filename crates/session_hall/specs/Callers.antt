@@ -4,7 +4,8 @@ use Rattle.session_values.specs.Limits.{max_shards}
 use Rattle.session_values.specs.Dialogue.{Entry}
 use Rattle.symbolic_ops.specs.declared.symbol.Symbol.{Symbol}
 use Rattle.session_journal.specs.Foreknown.{Foreknown}
-use Rattle.session_journal.specs.Journal.{Replays, begun, done_operations, entries, in_order, regrouped}
+use Rattle.session_journal.specs.Journal.{Replays, begun, done_operations}
+use Rattle.session_journal.specs.Journal.{entries, in_order, regrouped}
 use Rattle.session_journal.specs.Script.{Meaning, IsScript}
 use Rattle.admission_book.specs.Book.{Book, opened, record_of}
 use Rattle.admission_book.specs.Lawful.{Lawful}

@@ -8,10 +8,12 @@ use Rattle.symbolic_ops.specs.declared.symbol.Symbol.{Symbol}
 use Rattle.symbolic_ops.specs.Matching.{Covered, Matches}
 use Rattle.session_journal.specs.Journal.{begun, ended, entries}
 use Rattle.session_journal.specs.Script.{Meaning, IsForesight}
-use Rattle.admission_book.specs.Book.{Book, IsFree, IsBlocker, after_begin, after_narrow, after_admit, after_delay, after_done, after_end}
+use Rattle.admission_book.specs.Book.{Book, IsFree, IsBlocker, after_begin, after_narrow}
+use Rattle.admission_book.specs.Book.{after_admit, after_delay, after_done, after_end}
 use Rattle.session_journal.specs.EventsInTurn.{now}
 use Rattle.admission_book.specs.Methods.{IsOldestOpen}
-use Rattle.turn_board.specs.Boards.{held, note, caller, caller_count, given, lost, asks, givings, last_change}
+use Rattle.turn_board.specs.Boards.{held, note, caller, caller_count}
+use Rattle.turn_board.specs.Boards.{given, lost, asks, givings, last_change}
 use Rattle.turn_board.specs.Hands.{in_hands}
 use Rattle.hall_rule.specs.Shards.{content_of}
 use Rattle.hall_rule.specs.Turns.{IsTurnOf, WasDone}
@@ -29,7 +31,8 @@ use Rattle.session_hall.specs.declared.answers.Finishing.{Finishing}
 use Rattle.session_hall.specs.declared.answers.Finishing.TheVariants as finishing
 use Rattle.session_hall.specs.declared.caller.Caller.{Caller}
 use Rattle.session_hall.specs.declared.stage.Stage.{Stage}
-use Rattle.session_hall.specs.declared.stage.Stage.TheVariants.{Idle, Serving as Serves, InFlight, Applied, Out}
+use Rattle.session_hall.specs.declared.stage.Stage.TheVariants.{Idle, Serving as Serves}
+use Rattle.session_hall.specs.declared.stage.Stage.TheVariants.{InFlight, Applied, Out}
 use Rattle.session_hall.specs.Callers.{book_of, entries_of, foresight_of}
 use Rattle.session_hall.specs.Findings.{Finds, IsTied, IsTiedWith}
 use Rattle.session_hall.specs.Stages.{OnServing, OnFlight, waiting, flying}

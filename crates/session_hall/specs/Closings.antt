@@ -1,5 +1,6 @@
 -- A hall as it is opened and as it is closed.
-use Rattle.std.specs.Prelude.{◌≡◌, ℕ, ◌+◌, ◌*◌, ◌<◌, ◌≤◌, ◌/◌, ◌%◌, List, Some, length, map, slice_get}
+use Rattle.std.specs.Prelude.{◌≡◌, ℕ, ◌+◌, ◌*◌, ◌<◌, ◌≤◌, ◌/◌, ◌%◌}
+use Rattle.std.specs.Prelude.{List, Some, length, map, slice_get}
 use Rattle.session_values.specs.declared.reply.Reply.{Reply}
 use Rattle.session_values.specs.Serial.{serial_replies, tables_before}
 use Rattle.session_values.specs.Tables.{table}

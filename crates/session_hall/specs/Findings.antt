@@ -1,11 +1,13 @@
 -- What a caller finds when it takes the book.
-use Rattle.std.specs.Prelude.{◌≡◌, ◌≢◌, ℕ, suc, ◌+◌, ◌<◌, List, Option, Some, None, length, slice_get}
+use Rattle.std.specs.Prelude.{◌≡◌, ◌≢◌, ℕ, suc, ◌+◌, ◌<◌}
+use Rattle.std.specs.Prelude.{List, Option, Some, None, length, slice_get}
 use Rattle.session_values.specs.Tables.{Container}
 use Rattle.session_journal.specs.Script.{Meaning}
 use Rattle.admission_book.specs.Book.{Book}
 use Rattle.admission_book.specs.Lawful.{Lawful}
 use Rattle.admission_book.specs.Methods.{BookView}
-use Rattle.turn_board.specs.Boards.{Tells, held, note, caller, caller_count, given, lost, asks, givings, last_change}
+use Rattle.turn_board.specs.Boards.{Tells, held, note, caller, caller_count}
+use Rattle.turn_board.specs.Boards.{given, lost, asks, givings, last_change}
 use Rattle.hall_rule.specs.Contents.{Content, Register, Shard, IsSince, share}
 use Rattle.hall_rule.specs.Tie.{Tied}
 use Rattle.session_hall.specs.Callers.{book_in}
@@ -40,7 +42,8 @@ pub record IsTiedWith {S : Type 0} (m : Meaning) (p : SeatOf S) (found : Book) :
   pub turns_are : length contents ≡ turns_at p
   pub callers_are : length notes ≡ caller_count p
   pub book : slice_get contents 0 ≡ Some (Register script found)
-  pub shards : (j : ℕ) (x : Content S) → held p (suc j) ≡ Some x → slice_get contents (suc j) ≡ Some x
+  pub shards : (j : ℕ) (x : Content S) → held p (suc j) ≡ Some x
+      → slice_get contents (suc j) ≡ Some x
   pub noted : slice_get notes (caller p) ≡ note p
 
 module _ {S : Type 0} (p q : SeatOf S) where

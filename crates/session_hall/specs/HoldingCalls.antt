@@ -1,5 +1,6 @@
 -- What the calls of a holding ask and what they leave, over the book that it works on.
-use Rattle.std.specs.Prelude.{◌≡◌, ◌≢◌, ℕ, suc, ◌+◌, ◌<◌, ◌≤◌, ◌⊎◌, List, [], ◌∷◌, ◌++◌, Bool, true, false, Option, Some, None}
+use Rattle.std.specs.Prelude.{◌≡◌, ◌≢◌, ℕ, suc, ◌+◌, ◌<◌, ◌≤◌, ◌⊎◌}
+use Rattle.std.specs.Prelude.{List, [], ◌∷◌, ◌++◌, Bool, true, false, Option, Some, None}
 use Rattle.session_values.specs.declared.op.Op.{Op}
 use Rattle.session_values.specs.declared.reply.Reply.{Reply}
 use Rattle.session_values.specs.declared.value.Value.{Value}
@@ -7,15 +8,18 @@ use Rattle.session_values.specs.Tables.{reply}
 use Rattle.symbolic_ops.specs.declared.symbol.Symbol.{Symbol}
 use Rattle.session_journal.specs.Journal.{begun, ended}
 use Rattle.session_journal.specs.Script.{Meaning}
-use Rattle.admission_book.specs.Book.{Book, IsFree, IsBlocker, after_begin, after_narrow, after_done, after_end}
-use Rattle.turn_board.specs.Boards.{held, note, caller, caller_count, given, lost, asks, givings, last_change}
+use Rattle.admission_book.specs.Book.{Book, IsFree, IsBlocker, after_begin}
+use Rattle.admission_book.specs.Book.{after_narrow, after_done, after_end}
+use Rattle.turn_board.specs.Boards.{held, note, caller, caller_count}
+use Rattle.turn_board.specs.Boards.{given, lost, asks, givings, last_change}
 use Rattle.hall_rule.specs.Contents.{Content, tables_after}
 use Rattle.hall_rule.specs.Turns.{IsTurnOf}
 use Rattle.session_hall.specs.declared.answers.Worked.{Worked}
 use Rattle.session_hall.specs.declared.answers.Worked.TheVariants as worked
 use Rattle.session_hall.specs.declared.holding.Holding.{Holding}
 use Rattle.session_hall.specs.declared.stage.Stage.{Stage}
-use Rattle.session_hall.specs.declared.stage.Stage.TheVariants.{Idle, Serving as Serves, Applied, Out}
+use Rattle.session_hall.specs.declared.stage.Stage.TheVariants.{Idle, Serving as Serves}
+use Rattle.session_hall.specs.declared.stage.Stage.TheVariants.{Applied, Out}
 use Rattle.session_hall.specs.Callers.{book_of}
 use Rattle.session_hall.specs.Calls.{IsBusy, MayFinishAt}
 use Rattle.session_hall.specs.Findings.{Finds, IsTiedWith}

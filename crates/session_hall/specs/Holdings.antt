@@ -28,7 +28,8 @@ use Rattle.session_hall.specs.declared.caller.Caller.{Caller}
 use Rattle.session_hall.specs.declared.hall.Hall.{Hall}
 use Rattle.session_hall.specs.declared.holding.Holding.{Holding}
 use Rattle.session_hall.specs.declared.stage.Stage.{Stage}
-use Rattle.session_hall.specs.declared.stage.Stage.TheVariants.{Idle, Serving as Serves, InFlight, Applied, Out}
+use Rattle.session_hall.specs.declared.stage.Stage.TheVariants.{Idle, Serving as Serves}
+use Rattle.session_hall.specs.declared.stage.Stage.TheVariants.{InFlight, Applied, Out}
 use Rattle.session_hall.specs.Begun.{tickets_by}
 use Rattle.session_hall.specs.Callers.{IsCallerIn, book_of}
 use Rattle.session_hall.specs.Findings.{Finds}
@@ -65,14 +66,15 @@ IsKept None = ⊥
 module _ {S : Type 0} (meaning : S → Meaning) (turns : ℕ) where
   -- what is in hand may be given back in one step, as one change of the counted contents
   abbrev pub MayGive : BookView S → SeatOf S → List (ℕ × Held S) → Type 0
-  MayGive b s xs = Moves meaning turns (caller s) (held s) (put_back content_of (value.Register b) xs)
+  MayGive b s xs = Moves meaning turns (caller s) (held s)
+      (put_back content_of (value.Register b) xs)
 
   -- the operation was done on its shards in hand, and isn't entered in the book in hand: all of its
   -- turns are held, and each has what the operation makes of what was there before; what was there
   -- before might have been given back. Nobody delays the operation, and v is its reply after the
   -- journal in hand
-  pub record IsWorked (t : ℕ) (op : Op) (v : Value) (f : List Symbol) (b : BookView S) (s : SeatOf S)
-      (xs : List (ℕ × Held S)) : Type 0 where
+  pub record IsWorked (t : ℕ) (op : Op) (v : Value) (f : List Symbol) (b : BookView S)
+      (s : SeatOf S) (xs : List (ℕ × Held S)) : Type 0 where
     pub before : ℕ → Option (Content S)
     pub moves : Moves meaning turns (caller s) (held s) before
     pub book : before 0 ≡ Some (Register b.script b.book)
@@ -127,8 +129,8 @@ pub record IsKeeperIn {S : Type 0} (meaning : S → Meaning) (p : HallId) (scrip
       (foresight_in (record_of b.book c.number)) b c.seat c.hands.pairs
 
 -- it is a caller of the hall, and what it has in hand is as it says
-abbrev pub IsHoldingWith : {S : Type 0} → (S → Meaning) → HallId → S → Caller S → Option (BookView S)
-    → Type 0
+abbrev pub IsHoldingWith : {S : Type 0} → (S → Meaning) → HallId → S → Caller S
+    → Option (BookView S) → Type 0
 IsHoldingWith meaning p script c None = IsCallerIn meaning p script c
 IsHoldingWith meaning p script c (Some b) = IsKeeperIn meaning p script c b
 

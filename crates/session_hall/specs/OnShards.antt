@@ -1,5 +1,6 @@
 -- The shards in a caller's hands, by turn. Only this crate's own functions cite it.
-use Rattle.std.specs.Prelude.{◌≡◌, ◌≢◌, ℕ, ◌+◌, ◌*◌, ◌<◌, ◌≤◌, pos, List, Option, Some, None}
+use Rattle.std.specs.Prelude.{◌≡◌, ◌≢◌, ℕ, ◌+◌, ◌*◌, ◌<◌, ◌≤◌, pos}
+use Rattle.std.specs.Prelude.{List, Option, Some, None, IfSome, IsSomeAnd}
 use Rattle.std.specs.Int.{bit_at}
 use Rattle.session_journal.specs.Limits.{max_keys}
 use Rattle.session_journal.specs.Script.{Meaning}
@@ -38,15 +39,6 @@ module _ {S : Type 0} where
       × (0 < set → AnsweredAll content_of (Tied meaning) turns p q set before after r)
 
   -- ---- one shard
-  -- the turn's shard is in hand, and the operation may be done on it
-  abbrev pub CanDoIn : Op → Option (Content S) → Type 0
-  CanDoIn op None = ⊥
-  CanDoIn op (Some x) = CanDo op x
-
-  abbrev pub CanCount : Option (Content S) → Type 0
-  CanCount None = ⊥
-  CanCount (Some x) = IsAnyShard x
-
   -- the operation was done on the shard of one turn
   pub record WorkedUnder (op : Op) (turn : ℕ) (before after : List (ℕ × Held S))
       (v : Value) : Type 0 where
@@ -73,7 +65,8 @@ module _ {S : Type 0} where
     pub turns : first + many ≤ max_board_turns
     pub some : 0 < many
     pub once : Once content_of pairs
-    pub each : (u : ℕ) → first ≤ u → u < first + many → CanDoIn op (in_hands content_of pairs u)
+    pub each : (u : ℕ) → first ≤ u → u < first + many
+        → IsSomeAnd (in_hands content_of pairs u) (λ x. CanDo op x)
     pub few : arguments op.kind ≡ 0 → sum_below many (keys_of_row pairs first) ≤ max_keys
 
   abbrev pub HasWorkedIn : Op → ℕ → ℕ → List (ℕ × Held S) → List (ℕ × Held S) → Value → Type 0
@@ -82,41 +75,42 @@ module _ {S : Type 0} where
       × (0 < arguments op.kind → WorkedUnder op first before after v)
 
   -- ---- what is in hand of a row of turns
-  -- a shard, if it is in hand
-  abbrev pub IsShardIf : Option (Content S) → Type 0
-  IsShardIf None = Unit {0}
-  IsShardIf (Some x) = IsAnyShard x
-
+  -- what is in hand of them is shards
   abbrev pub AreShards : List (ℕ × Held S) → ℕ → ℕ → Type 0
   AreShards pairs first many = (u : ℕ) → first ≤ u → u < first + many
-      → IsShardIf (in_hands content_of pairs u)
+      → IfSome (in_hands content_of pairs u) (λ x. IsAnyShard x)
 
   -- no turn of the row is missing
   abbrev pub AreHere : List (ℕ × Held S) → ℕ → ℕ → Type 0
   AreHere pairs first many = (u : ℕ) → first ≤ u → u < first + many
       → in_hands content_of pairs u ≡ None → ⊥
 
-  -- where there is a count, no turn of the row is missing and it is that of their keys
+  -- some turn of the row is missing
+  pub record LacksTurn (pairs : List (ℕ × Held S)) (first many : ℕ) : Type 0 where
+    pub turn : ℕ
+    pub from : first ≤ turn
+    pub below : turn < first + many
+    pub none : in_hands content_of pairs turn ≡ None
+
+  -- the count of their keys if no turn of the row is missing, and no count if one is
   abbrev pub CountsRow : List (ℕ × Held S) → ℕ → ℕ → Option ℕ → Type 0
-  CountsRow pairs first many None = Unit {0}
+  CountsRow pairs first many None = LacksTurn pairs first many
   CountsRow pairs first many (Some n) = AreHere pairs first many
       × (n ≡ sum_below many (keys_of_row pairs first)) × (n ≤ many * 4294967295)
-
-  -- the operation may be done on the turn's shard, if it is in hand
-  abbrev pub CanDoIf : Op → Option (Content S) → Type 0
-  CanDoIf op None = Unit {0}
-  CanDoIf op (Some x) = CanDo op x
 
   -- the operation may be done on each shard of its row that is in hand
   pub record CanWorkHere (op : Op) (first many : ℕ) (pairs : List (ℕ × Held S)) : Type 0 where
     pub turns : first + many ≤ max_board_turns
     pub some : 0 < many
     pub once : Once content_of pairs
-    pub each : (u : ℕ) → first ≤ u → u < first + many → CanDoIf op (in_hands content_of pairs u)
+    pub each : (u : ℕ) → first ≤ u → u < first + many
+        → IfSome (in_hands content_of pairs u) (λ x. CanDo op x)
 
-  -- what was found: the place of the first turn's shard, or the keys of all
+  -- what was found: with a key the place of the first turn's shard, else the keys of all. Nothing
+  -- is found only if the first turn is missing, or some turn of the row
   abbrev pub IsFound : Op → ℕ → ℕ → List (ℕ × Held S) → Option Found → Type 0
-  IsFound op first many pairs None = Unit {0}
+  IsFound op first many pairs None = (arguments op.kind ≡ 0 → LacksTurn pairs first many)
+      × (0 < arguments op.kind → in_hands content_of pairs first ≡ None)
   IsFound op first many pairs (Some (Place i)) = (0 < arguments op.kind)
       × IsPlaceOf pairs first (Some i)
   IsFound op first many pairs (Some (Keys n)) = (arguments op.kind ≡ 0)
@@ -125,7 +119,8 @@ module _ {S : Type 0} where
   -- the operation may be done on what was found
   abbrev pub CanWorkFound : Op → List (ℕ × Held S) → Found → Type 0
   CanWorkFound op pairs (Place i) = Once content_of pairs × ((turn : ℕ)
-      × IsPlaceOf pairs turn (Some i) × CanDoIn op (in_hands content_of pairs turn))
+      × IsPlaceOf pairs turn (Some i)
+      × IsSomeAnd (in_hands content_of pairs turn) (λ x. CanDo op x))
   CanWorkFound op pairs (Keys n) = n < 9223372036854775808
 
   abbrev pub HasWorkedFound : Op → List (ℕ × Held S) → List (ℕ × Held S) → Found → Value → Type 0

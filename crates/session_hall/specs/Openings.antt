@@ -1,5 +1,6 @@
 -- What a hall is opened with. Only this crate's own functions cite it.
-use Rattle.std.specs.Prelude.{◌≡◌, ℕ, ◌+◌, ◌*◌, ◌/◌, ◌%◌, List, [], Some, length, map, replicate, slice_get}
+use Rattle.std.specs.Prelude.{◌≡◌, ℕ, ◌+◌, ◌*◌, ◌/◌, ◌%◌}
+use Rattle.std.specs.Prelude.{List, [], Some, length, map, replicate, slice_get}
 use Rattle.session_values.specs.declared.kind.TableKind.{TableKind}
 use Rattle.session_journal.specs.Opening.{container_of, entries_of}
 use Rattle.session_journal.specs.Script.{Meaning, IsScript, room}
@@ -32,7 +33,8 @@ pub record IsNewPart (m : Meaning) (shards j : ℕ) (p : Part) : Type 0 where
   }
 
 -- the values are the shards of the first n turns behind the book
-pub record NewParts {S : Type 0} (m : Meaning) (shards n : ℕ) (values : List (Held S)) : Type 0 where
+pub record NewParts {S : Type 0} (m : Meaning) (shards n : ℕ) (values : List (Held S))
+    : Type 0 where
   pub parts : List Part
   pub are : values ≡ map Table parts
   pub long : length parts ≡ n

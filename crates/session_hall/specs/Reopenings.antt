@@ -1,5 +1,6 @@
 -- A hall that opens over the shards of a closed one.
-use Rattle.std.specs.Prelude.{◌≡◌, ℕ, suc, ◌+◌, ◌*◌, ◌<◌, ◌≤◌, ◌/◌, ◌%◌, max, min, List, Some, length, slice_get, slice_index}
+use Rattle.std.specs.Prelude.{◌≡◌, ℕ, suc, ◌+◌, ◌*◌, ◌<◌, ◌≤◌, ◌/◌, ◌%◌, max, min}
+use Rattle.std.specs.Prelude.{List, Some, length, slice_get, slice_index}
 use Rattle.session_values.specs.Limits.{max_session_calls}
 use Rattle.session_values.specs.Serial.{tables_before}
 use Rattle.session_values.specs.Tables.{size_of, table}
@@ -11,8 +12,8 @@ use Rattle.shard_tables.specs.Shards.{ShardView, spare_of}
 use Rattle.hall_rule.specs.Contents.{Content, Shard}
 use Rattle.session_hall.specs.Closings.{ClosedView, IsDone}
 
--- The tickets open with the tables that a closed hall left: those after the tickets of its own script,
--- over tables of the same kinds, were served one at a time.
+-- The tickets open with the tables that a closed hall left: those after the tickets of its own
+-- script, over tables of the same kinds, were served one at a time.
 pub record OpensOver (m : Meaning) (d : ClosedView) : Type 0 where
   pub before : Meaning
   pub done : IsDone before d

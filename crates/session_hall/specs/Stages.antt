@@ -14,7 +14,8 @@ use Rattle.hall_rule.specs.Contents.{Content}
 use Rattle.hall_rule.specs.Shards.{content_of}
 use Rattle.hall_rule.specs.Turns.{WasDone}
 use Rattle.session_hall.specs.declared.stage.Stage.{Stage}
-use Rattle.session_hall.specs.declared.stage.Stage.TheVariants.{Idle, Serving as Serves, InFlight, Applied, Out}
+use Rattle.session_hall.specs.declared.stage.Stage.TheVariants.{Idle, Serving as Serves}
+use Rattle.session_hall.specs.declared.stage.Stage.TheVariants.{InFlight, Applied, Out}
 
 abbrev pub SeatOf : Type 0 → Type 0
 SeatOf S = Seat (Held S) (HallRule S) (Content S)

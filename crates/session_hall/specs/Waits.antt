@@ -1,6 +1,7 @@
 -- What the waiting calls leave: what the last try leaves, from a caller that differs from the first
 -- one by failed attempts.
-use Rattle.std.specs.Prelude.{◌≡◌, ℕ, zero, suc, ◌+◌, ◌≤◌, ◌⊎◌, List, [], ◌∷◌, ◌++◌, Option, Some, None}
+use Rattle.std.specs.Prelude.{◌≡◌, ℕ, zero, suc, ◌+◌, ◌≤◌, ◌⊎◌}
+use Rattle.std.specs.Prelude.{List, [], ◌∷◌, ◌++◌, Option, Some, None}
 use Rattle.session_values.specs.declared.op.Op.{Op}
 use Rattle.session_values.specs.declared.reply.Reply.{Reply}
 use Rattle.session_values.specs.declared.value.Value.{Value}
@@ -13,7 +14,8 @@ use Rattle.session_hall.specs.declared.stage.Stage.{Stage}
 use Rattle.session_hall.specs.declared.stage.Stage.TheVariants.{Applied}
 use Rattle.session_hall.specs.Begun.{begun_by}
 use Rattle.session_hall.specs.Callers.{book_of, entries_of, foresight_of}
-use Rattle.session_hall.specs.Calls.{BeganTicket, FoundAllBegun, DeclaredAt, AdmittedAt, DelayedAt, AppliedAt, FinishedAt, EndedAt, IsBusy, IsBusyAt}
+use Rattle.session_hall.specs.Calls.{BeganTicket, FoundAllBegun, DeclaredAt, AdmittedAt}
+use Rattle.session_hall.specs.Calls.{DelayedAt, AppliedAt, FinishedAt, EndedAt, IsBusy, IsBusyAt}
 use Rattle.session_hall.specs.Stages.{OnServing, OnFlight}
 
 module _ {S : Type 0} (p q : Caller S) where
@@ -105,14 +107,15 @@ module _ {S : Type 0} (m : Meaning) (p q : Caller S) where
   -- with the foresight and the entries as the first caller has them
   abbrev pub AdmittedAfter : Op → Type 0
   AdmittedAfter op = OnServing p.stage (λ t. (via : Caller S) × OnlyWaited m op p via t
-      × AdmittedAt m via q op t × (foresight_of q ≡ foresight_of p) × (entries_of q t ≡ entries_of p t))
+      × AdmittedAt m via q op t × (foresight_of q ≡ foresight_of p)
+      × (entries_of q t ≡ entries_of p t))
 
   -- after tries that found one of the operation's turns taken, it is done on its shards, with the
   -- foresight and the book of the note as the first caller has them
   abbrev pub AppliedAfter : ℕ → ℕ → Value → Type 0
   AppliedAfter shards turns v = OnFlight p.stage (λ t op. (via : Caller S)
-      × OnlyShardLost m shards p via × AppliedAt m via q turns v t op × (foresight_of q ≡ foresight_of p)
-      × (book_of q ≡ book_of p))
+      × OnlyShardLost m shards p via × AppliedAt m via q turns v t op
+      × (foresight_of q ≡ foresight_of p) × (book_of q ≡ book_of p))
 
   abbrev pub FinishedAfterFrom : List Symbol → Stage → Type 0
   FinishedAfterFrom next (Applied t op v) = (via : Caller S) × OnlyBookLost p via

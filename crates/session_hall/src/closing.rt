@@ -1,6 +1,7 @@
 // Closing a hall.
 
-ghost use Rattle.std.specs.Prelude.{◌≡◌, ℕ, ◌<◌, ◌≤◌, [], Some, length, map, slice_get, vec_len, vec_capacity};
+ghost use Rattle.std.specs.Prelude.{◌≡◌, ℕ, ◌<◌, ◌≤◌};
+ghost use Rattle.std.specs.Prelude.{[], Some, length, map, slice_get, vec_len, vec_capacity};
 ghost use Rattle.std.specs.List.{AllByRecursion};
 ghost use Rattle.hall_rule.specs.declared.held.Held.TheVariants.{Table};
 ghost use Rattle.session_hall.specs.declared.caller.Caller.{Caller as CallerOf};

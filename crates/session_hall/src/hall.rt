@@ -64,8 +64,8 @@ impl<S: Tickets + Drop> Hall<S> {
         self.wanted.load(Ordering::SeqCst) != 0
     }
 
-    /// Whether no ticket may be left to begin, of so many: fewer than there are callers aren't ended.
-    /// Nothing is claimed of it.
+    /// Whether no ticket may be left to begin, of so many: fewer than there are callers aren't
+    /// ended. Nothing is claimed of it.
     pub fn is_near_end(&self, requests: u32) -> bool {
         let ends = self.ends.load(Ordering::SeqCst);
         ends.saturating_add(self.sizes.callers) > requests

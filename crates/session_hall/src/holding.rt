@@ -24,8 +24,8 @@ pub struct Holding<S: Tickets + Drop> {
     pub caller: Caller<S>,
     /// The book, while it is in hand.
     pub(crate) book: Option<Book<S>>,
-    /// How many tickets it ended, and how many operations it entered, since it took the book. Nothing
-    /// is claimed of them.
+    /// How many tickets it ended, and how many operations it entered, since it took the book.
+    /// Nothing is claimed of them.
     pub(crate) ends: u32,
     pub(crate) entered: u32,
 }

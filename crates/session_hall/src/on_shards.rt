@@ -1,6 +1,6 @@
 // The shards in a caller's hands, by turn.
 
-ghost use Rattle.std.specs.Prelude.{◌≡◌, ℕ, ◌+◌, ◌<◌, ◌≤◌, length};
+ghost use Rattle.std.specs.Prelude.{◌≡◌, ℕ, ◌+◌, ◌<◌, ◌≤◌, length, IsSomeAnd};
 ghost use Rattle.session_values.specs.Sums.{sum_below};
 ghost use Rattle.session_journal.specs.Limits.{max_keys};
 ghost use Rattle.turn_board.specs.Boards.{CanAsk, IsSeatOf, SameNote, turn_count};
@@ -8,7 +8,10 @@ ghost use Rattle.turn_board.specs.Hands.{Once, in_hands};
 ghost use Rattle.turn_board.specs.Limits.{max_board_turns};
 ghost use Rattle.turn_board.specs.Maps.{bits_of};
 ghost use Rattle.hall_rule.specs.Shards.{content_of};
-ghost use Rattle.session_hall.specs.OnShards.{AreShards, CanCount, CanDoIn, CanWorkFound, CanWorkHere, CanWorkIn, CountsRow, HasWorkedFound, HasWorkedIn, IsFound, IsMissing, TakesSet, WorkedUnder, keys_of_row};
+ghost use Rattle.session_hall.specs.OnShards.{AreShards, CanWorkFound, CanWorkHere, CanWorkIn};
+ghost use Rattle.session_hall.specs.OnShards.{CountsRow, HasWorkedFound, HasWorkedIn, IsFound};
+ghost use Rattle.session_hall.specs.OnShards.{IsMissing, TakesSet, WorkedUnder, keys_of_row};
+ghost use Rattle.session_hall.specs.Working.{CanDo, IsAnyShard};
 
 use crate::applying::{keys_at, work_on};
 use hall_rule::{HallRule, Held};
@@ -84,7 +87,7 @@ pub(crate) fn take_set<S: Tickets + Drop>(
 #[inline(always)]
 fn work_at<S: Tickets + Drop>(hands: &mut Hands<Held<S>>, op: &Op, turn: u32) -> Value
     requires once { Once content_of hands.old.pairs }
-    requires can { CanDoIn op.now (in_hands content_of hands.old.pairs turn) }
+    requires can { IsSomeAnd (in_hands content_of hands.old.pairs turn) (λ x. CanDo op.now x) }
     ensures worked { WorkedUnder op.now turn hands.old.pairs hands.new.pairs result }
     ensures room { hands.new.room ≡ hands.old.room }
 {
@@ -98,7 +101,7 @@ fn work_at<S: Tickets + Drop>(hands: &mut Hands<Held<S>>, op: &Op, turn: u32) ->
 #[inline(always)]
 fn keys_under<S: Tickets + Drop>(hands: &Hands<Held<S>>, turn: u32) -> u32
     requires once { Once content_of hands.now.pairs }
-    requires can { CanCount (in_hands content_of hands.now.pairs turn) }
+    requires can { IsSomeAnd (in_hands content_of hands.now.pairs turn) (λ x. IsAnyShard x) }
     ensures { result ≡ keys_of_row hands.now.pairs turn 0 }
 {
     let Some(i) = hands.place_of(turn) else {
@@ -113,7 +116,7 @@ fn count_row<S: Tickets + Drop>(hands: &Hands<Held<S>>, first: u32, many: u32) -
     requires turns { first + many ≤ max_board_turns }
     requires once { Once content_of hands.now.pairs }
     requires can { (u : ℕ) → first ≤ u → u < first + many
-        → CanCount (in_hands content_of hands.now.pairs u) }
+        → IsSomeAnd (in_hands content_of hands.now.pairs u) (λ x. IsAnyShard x) }
     requires few { sum_below many (keys_of_row hands.now.pairs first) ≤ max_keys }
     ensures { result ≡ sum_below many (keys_of_row hands.now.pairs first) }
 {
@@ -143,7 +146,7 @@ pub(crate) fn work_in<S: Tickets + Drop>(
     }
 }
 
-// What is found in hand of the turns of an operation, where all of them are.
+// What is found in hand of the turns of an operation, if all of them are.
 #[derive(Clone, Copy, Debug)]
 pub(crate) enum Found {
     // The place of its one shard in the hands.
@@ -152,7 +155,7 @@ pub(crate) enum Found {
     Keys(u64),
 }
 
-// The number of keys of the shards of a row of turns, or None where one isn't in hand.
+// The number of keys of the shards of a row of turns, or None if one isn't in hand.
 fn counted<S: Tickets + Drop>(hands: &Hands<Held<S>>, first: u32, many: u32) -> Option<u64>
     requires turns { first + many ≤ max_board_turns }
     requires once { Once content_of hands.now.pairs }
@@ -169,7 +172,7 @@ fn counted<S: Tickets + Drop>(hands: &Hands<Held<S>>, first: u32, many: u32) -> 
     Some(count)
 }
 
-// What is in hand of the turns of an operation, or None where one of them isn't.
+// What is in hand of the turns of an operation, or None if one of them isn't.
 #[inline(always)]
 pub(crate) fn found_in<S: Tickets + Drop>(
     hands: &Hands<Held<S>>,

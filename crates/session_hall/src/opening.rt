@@ -1,6 +1,7 @@
 // Opening a hall.
 
-ghost use Rattle.std.specs.Prelude.{◌≡◌, ℕ, ◌<◌, ◌≤◌, [], Some, IfOk, length, slice_get, vec_len, vec_capacity};
+ghost use Rattle.std.specs.Prelude.{◌≡◌, ℕ, ◌<◌, ◌≤◌};
+ghost use Rattle.std.specs.Prelude.{[], Some, IfOk, length, slice_get, vec_len, vec_capacity};
 ghost use Rattle.session_values.specs.Limits.{max_callers, max_shards, max_tables};
 ghost use Rattle.session_hall.specs.declared.caller.Caller.{Caller as CallerOf};
 ghost use Rattle.session_hall.specs.Closings.{Opens};

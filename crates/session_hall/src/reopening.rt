@@ -1,6 +1,8 @@
 // Opening a hall over a closed one.
 
-ghost use Rattle.std.specs.Prelude.{◌≡◌, ℕ, suc, ◌+◌, ◌*◌, ◌<◌, ◌≤◌, [], ◌∷◌, List, Some, IfErr, IfOk, OnErr, OnOk, length, map, slice_get, vec_len, vec_capacity};
+ghost use Rattle.std.specs.Prelude.{◌≡◌, ℕ, suc, ◌+◌, ◌*◌, ◌<◌, ◌≤◌, [], ◌∷◌};
+ghost use Rattle.std.specs.Prelude.{List, Some, IfErr, IfOk, OnErr, OnOk};
+ghost use Rattle.std.specs.Prelude.{length, map, slice_get, vec_len, vec_capacity};
 ghost use Rattle.session_values.specs.Limits.{max_callers, max_shards, max_tables};
 ghost use Rattle.session_values.specs.Tables.{size_of};
 ghost use Rattle.session_journal.specs.Script.{IsScript};
@@ -16,7 +18,9 @@ ghost use Rattle.session_hall.specs.declared.caller.Caller.{Caller as CallerOf};
 ghost use Rattle.session_hall.specs.Closings.{Opens};
 ghost use Rattle.session_hall.specs.Names.{script_of};
 ghost use Rattle.session_hall.specs.Openings.{AreEmpty};
-ghost use Rattle.session_hall.specs.Reopenings.{AreKept, AreOpening, HaveMovedIn, HaveRoom, IsLeftAs, IsRoomFor, OpensOver, grown_room as room_when_grown};
+ghost use Rattle.session_hall.specs.Reopenings.{AreKept, AreOpening, HaveMovedIn};
+ghost use Rattle.session_hall.specs.Reopenings.{HaveRoom, IsLeftAs, IsRoomFor};
+ghost use Rattle.session_hall.specs.Reopenings.{OpensOver, grown_room as room_when_grown};
 
 use crate::caller::{Caller, Callers};
 use crate::closed::Closed;

@@ -3,7 +3,8 @@
 ghost use Rattle.std.specs.Prelude.{◌≡◌, length};
 ghost use Rattle.session_journal.specs.Script.{HasSite, declared_with};
 ghost use Rattle.session_hall.specs.Callers.{IsCallerOf, StaysCaller, foresight_of};
-ghost use Rattle.session_hall.specs.Calls.{ByNote, MayDeclare, MayCall, MayAnswer, BeganAs, DeclaredAs, AdmittedAs, EndedAs};
+ghost use Rattle.session_hall.specs.Calls.{ByNote, MayDeclare, MayCall, MayAnswer};
+ghost use Rattle.session_hall.specs.Calls.{BeganAs, DeclaredAs, AdmittedAs, EndedAs};
 ghost use Rattle.session_hall.specs.Names.{script_of};
 ghost use Rattle.session_hall.specs.Stages.{IsBetween};
 

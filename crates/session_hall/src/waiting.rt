@@ -7,7 +7,8 @@ ghost use Rattle.session_hall.specs.Callers.{IsCallerOf, StaysCaller, foresight_
 ghost use Rattle.session_hall.specs.Calls.{ByNote, MayDeclare, MayCall, MayAnswer, MayFinish};
 ghost use Rattle.session_hall.specs.Names.{script_of};
 ghost use Rattle.session_hall.specs.Stages.{IsBetween, IsInFlight};
-ghost use Rattle.session_hall.specs.Waits.{BegunAfter, DeclaredAfter, AdmittedAfter, AppliedAfter, FinishedAfter, EndedAfter};
+ghost use Rattle.session_hall.specs.Waits.{BegunAfter, DeclaredAfter, AdmittedAfter};
+ghost use Rattle.session_hall.specs.Waits.{AppliedAfter, FinishedAfter, EndedAfter};
 
 use crate::answers::{Admitting, Applying, Began, Declared, Ending, Finishing};
 use crate::caller::Caller;

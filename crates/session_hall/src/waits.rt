@@ -43,8 +43,8 @@ impl Waits {
         self.count
     }
 
-    // The next wait begins with one yield again.
-    pub(crate) fn reset(&mut self) {
+    /// The next wait begins with one yield again; the count of failed attempts stays.
+    pub fn reset(&mut self) {
         self.round = 0;
     }
 
@@ -70,9 +70,10 @@ impl Waits {
         self.waited();
     }
 
-    // Waits until the turn is seen free. To look writes nothing, so that whoever has the turn gives
-    // it back undisturbed.
-    pub(crate) fn until_free<S: Tickets + Drop>(&mut self, hall: &Hall<S>, turn: u32) {
+    /// Waits until the turn is seen free, at most until 1,000 looks found it taken, and counts a
+    /// failed attempt. Turn 0 is the book. To look writes nothing, so that whoever has the turn
+    /// gives it back undisturbed; meanwhile the hall counts one more caller that waits.
+    pub fn until_free<S: Tickets + Drop>(&mut self, hall: &Hall<S>, turn: u32) {
         hall.wanted.fetch_add(1, Ordering::SeqCst);
         self.look_until_free(hall, turn);
         hall.wanted.fetch_sub(1, Ordering::SeqCst);

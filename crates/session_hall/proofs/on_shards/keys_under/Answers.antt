@@ -1,10 +1,11 @@
 use Rattle.std.proofs.lemmas.Option.{slice_get_within}
-use Rattle.session_hall.specs.OnShards.{CanCount}
+use Rattle.std.proofs.Common.{IsSomeAnd}
+use Rattle.session_hall.specs.Working.{IsAnyShard}
 use Rattle.session_hall.proofs.ShardsByTurn.{counts_here, keys_here, not_in}
 use Rattle.session_hall.proofs.on_shards.keys_under.Goals as goal
 
 pub unreachable-requires : goal.unreachable-requires
-unreachable-requires g c = not_in c.args.hands.now.pairs c.args.turn c.in_default.ensures (λ k. CanCount k) c.requires.can
+unreachable-requires g c = not_in c.args.hands.now.pairs c.args.turn c.in_default.ensures (λ k. IsSomeAnd k (λ x. IsAnyShard x)) c.requires.can
 
 pub keys_at-requires-clause-within : goal.keys_at-requires-clause-within
 keys_at-requires-clause-within g c = slice_get_within c.args.hands.now.pairs c.in-Some.i c.in-Some.ensures.0 c.in-Some.ensures.1

@@ -1,10 +1,11 @@
 use Rattle.std.proofs.lemmas.Option.{slice_get_within}
-use Rattle.session_hall.specs.OnShards.{CanDoIn}
+use Rattle.std.proofs.Common.{IsSomeAnd}
+use Rattle.session_hall.specs.Working.{CanDo}
 use Rattle.session_hall.proofs.ShardsByTurn.{can_here, not_in, worked_here}
 use Rattle.session_hall.proofs.on_shards.work_at.Goals as goal
 
 pub unreachable-requires : goal.unreachable-requires
-unreachable-requires g c = not_in c.args.hands.now.pairs c.args.turn c.in_default.ensures (λ k. CanDoIn c.args.op.now k) c.requires.can
+unreachable-requires g c = not_in c.args.hands.now.pairs c.args.turn c.in_default.ensures (λ k. IsSomeAnd k (λ x. CanDo c.args.op.now x)) c.requires.can
 
 pub value_mut-requires : goal.value_mut-requires
 value_mut-requires g c = slice_get_within c.args.hands.now.pairs c.in-Some.i c.in-Some.ensures.0 c.in-Some.ensures.1
