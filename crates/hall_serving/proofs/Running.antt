@@ -1,13 +1,49 @@
--- One ticket more that a caller has begun, and whose reply was given on.
-use Rattle.std.proofs.Common.{◌≡◌, ◌∙◌, ℕ, List, [], ◌∷◌, ◌++◌, ap, append_assoc}
+-- The tickets that a caller has begun, and whose replies were given on, while it waited between them.
+use Rattle.std.proofs.Common.{◌≡◌, ◌∙◌, ℕ, zero, suc, List, [], ◌∷◌, ◌++◌, Option, Some, None, replicate, refl, sym, ap, subst, append_assoc, append-nil}
 use Rattle.std.proofs.lemmas.Fn.{FoldsTo-push}
+use Rattle.std.proofs.lemmas.List.Elements.{filter_map-append}
+use Rattle.std.specs.List.{FoldsTo}
 use Rattle.session_hall.specs.declared.holding.Holding.{Holding}
 use Rattle.session_hall.specs.Holdings.{begun_at}
-use Rattle.hall_serving.specs.KeptJobs.{HasGiven}
+use Rattle.hall_serving.specs.KeptJobs.{HasGiven, HasWaited, tickets_of}
 
-pub one_given : {S A : Type 0} (given_on : A → ℕ → A → Type 0) (p via q r : Holding S) (x y z : A) (t : ℕ) → HasGiven given_on p via x y → begun_at q ≡ begun_at via ++ t ∷ [] → begun_at r ≡ begun_at q → given_on y t z → HasGiven given_on p r x z
-one_given given_on p via q r x y z t h more still step = record {
-  served = h.served ++ t ∷ [];
-  begun_more = still ∙ more ∙ ap (λ (l : List ℕ). l ++ t ∷ []) h.begun_more ∙ append_assoc (begun_at p) h.served (t ∷ []);
-  given = FoldsTo-push given_on x h.served y t z h.given step;
+-- steps, and then others
+steps_more : {A : Type 0} (given_on : A → Option ℕ → A → Type 0) (xs ys : List (Option ℕ)) (x y z : A) → FoldsTo given_on x xs y → FoldsTo given_on y ys z → FoldsTo given_on x (xs ++ ys) z
+steps_more given_on [] ys x y z e g = subst (λ w. FoldsTo given_on w ys z) (sym e) g
+steps_more given_on (t ∷ ts) ys x y z f g = (f.0, f.1, steps_more given_on ts ys f.0 y z f.2 g)
+
+one_none : (n : ℕ) → ◌≡◌ {A = List (Option ℕ)} (replicate n None ++ None ∷ []) (replicate (suc n) None)
+one_none zero = refl
+one_none (suc n) = ap (λ (l : List (Option ℕ)). None ∷ l) (one_none n)
+
+none_of : (n : ℕ) → tickets_of (replicate n None) ≡ []
+none_of zero = refl
+none_of (suc n) = none_of n
+
+-- ---- waiting
+pub never_waited : {A : Type 0} (given_on : A → Option ℕ → A → Type 0) (x : A) → HasWaited given_on x x
+never_waited given_on x = record { many = 0; given = refl }
+
+pub waited_more : {A : Type 0} (given_on : A → Option ℕ → A → Type 0) (x y z : A) → HasWaited given_on x y → given_on y None z → HasWaited given_on x z
+waited_more given_on x y z h step = record {
+  many = suc h.many;
+  given = subst (λ (l : List (Option ℕ)). FoldsTo given_on x l z) (one_none h.many) (FoldsTo-push given_on x (replicate h.many None) y None z h.given step);
 }
+
+-- ---- tickets
+module _ {S A : Type 0} (given_on : A → Option ℕ → A → Type 0) (p via q : Holding S) (x y z : A) (h : HasGiven given_on p via x y) where
+  pub then_waited : begun_at q ≡ begun_at via → HasWaited given_on y z → HasGiven given_on p q x z
+  then_waited still w = record {
+    steps = h.steps ++ replicate w.many None;
+    begun_more = still ∙ h.begun_more
+        ∙ ap (λ (l : List ℕ). begun_at p ++ l) (sym (append-nil (tickets_of h.steps)) ∙ ap (λ (l : List ℕ). tickets_of h.steps ++ l) (sym (none_of w.many)) ∙ sym (filter_map-append (λ (o : Option ℕ). o) h.steps (replicate w.many None)));
+    given = steps_more given_on h.steps (replicate w.many None) x y z h.given w.given;
+  }
+
+  pub one_given : (t : ℕ) → begun_at q ≡ begun_at via ++ t ∷ [] → given_on y (Some t) z → HasGiven given_on p q x z
+  one_given t more step = record {
+    steps = h.steps ++ Some t ∷ [];
+    begun_more = more ∙ ap (λ (l : List ℕ). l ++ t ∷ []) h.begun_more ∙ append_assoc (begun_at p) (tickets_of h.steps) (t ∷ [])
+        ∙ ap (λ (l : List ℕ). begun_at p ++ l) (sym (filter_map-append (λ (o : Option ℕ). o) h.steps (Some t ∷ [])));
+    given = FoldsTo-push given_on x h.steps y (Some t) z h.given step;
+  }

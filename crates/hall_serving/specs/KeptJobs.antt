@@ -1,6 +1,6 @@
 -- What contracts say of a caller that serves one ticket after another, and may keep the book.
-use Rattle.std.specs.Prelude.{◌≡◌, ℕ, ◌<◌, List, [], ◌∷◌, ◌++◌, Option, Some, None, slice_get}
-use Rattle.std.specs.List.{FoldsTo}
+use Rattle.std.specs.Prelude.{◌≡◌, ℕ, ◌<◌, List, [], ◌∷◌, ◌++◌, Option, Some, None, replicate, slice_get}
+use Rattle.std.specs.List.{FoldsTo, filter_map}
 use Rattle.session_values.specs.declared.reply.Reply.{Reply}
 use Rattle.session_journal.specs.Journal.{begun, ended}
 use Rattle.session_hall.specs.declared.holding.Holding.{Holding}
@@ -30,10 +30,19 @@ abbrev pub ServesNextKept : {S : Type 0} → List Reply → Holding S → Holdin
 ServesNextKept replies p q None = HasFoundAll p q
 ServesNextKept replies p q (Some x) = HasServedKept replies p q x.0 x.1
 
--- the tickets that the caller has begun since are these, and the reply of each was given on, one
--- after another
-pub record HasGiven {S A : Type 0} (given_on : A → ℕ → A → Type 0) (p q : Holding S) (x y : A)
-    : Type 0 where
-  pub served : List ℕ
-  pub begun_more : begun_at q ≡ begun_at p ++ served
-  pub given : FoldsTo given_on x served y
+-- the tickets of a list of steps, of which some are of none
+abbrev pub tickets_of : List (Option ℕ) → List ℕ
+tickets_of steps = filter_map (λ x. x) steps
+
+-- The tickets that the caller has begun since are those of these steps, one after another: in each
+-- the reply of its ticket was given on, or, without a ticket, it was waited.
+pub record HasGiven {S A : Type 0} (given_on : A → Option ℕ → A → Type 0) (p q : Holding S)
+    (x y : A) : Type 0 where
+  pub steps : List (Option ℕ)
+  pub begun_more : begun_at q ≡ begun_at p ++ tickets_of steps
+  pub given : FoldsTo given_on x steps y
+
+-- so many times it was waited, with no ticket
+pub record HasWaited {A : Type 0} (given_on : A → Option ℕ → A → Type 0) (x y : A) : Type 0 where
+  pub many : ℕ
+  pub given : FoldsTo given_on x (replicate many None) y

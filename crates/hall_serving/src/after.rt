@@ -1,19 +1,20 @@
 // What is done after a ticket's end.
 
-ghost use Rattle.std.specs.Prelude.{◌≡◌, ℕ, List, Some, slice_get};
+ghost use Rattle.std.specs.Prelude.{◌≡◌, ℕ, List, Option, Some, None, slice_get};
 ghost use Rattle.session_values.specs.declared.reply.Reply.{Reply};
 
 use session_values::Reply;
 use std::sync::Wait;
 
-/// What is done with the reply of each ticket after its end, before its caller begins another one.
+/// What is done with the reply of each ticket after its end, before its caller begins another one,
+/// and meanwhile, while its caller waits for the book.
 pub trait AfterEnd {
-    /// It may be given the replies of this list, each as that of the ticket at whose place it
-    /// stands.
+    /// It may be given the replies of this list, each as that of the ticket at whose place it is.
     ghost Takes: { List Reply → Self → Type 0 };
 
-    /// From the first to the second it was given the reply of this ticket.
-    ghost Given: { Self → ℕ → Self → Type 0 };
+    /// From the first to the second it was given the reply of this ticket, or, without a ticket,
+    /// it did what it does meanwhile.
+    ghost Given: { Self → Option ℕ → Self → Type 0 };
 
     /// Whether it may take long. Where somebody waits for the book, it isn't kept meanwhile.
     /// Nothing is claimed of it.
@@ -27,7 +28,14 @@ pub trait AfterEnd {
             × (slice_get replies ticket ≡ Some reply) }
         ensures takes { (replies : List Reply) → Takes replies self.old
             → Takes replies self.new }
-        ensures given { Given self.old ticket self.new };
+        ensures given { Given self.old (Some ticket) self.new };
+
+    /// Does what can be done without a reply of its own caller.
+    fn meanwhile<R: Wait>(&mut self, rt: &R)
+        requires takes { (replies : List Reply) × Takes replies self.old }
+        ensures takes { (replies : List Reply) → Takes replies self.old
+            → Takes replies self.new }
+        ensures given { Given self.old None self.new };
 }
 
 /// Nothing is done.
@@ -40,4 +48,6 @@ impl AfterEnd for GoesOn {
     ghost Given = { λ g t h. Unit {0} };
 
     fn after<R: Wait>(&mut self, _rt: &R, _ticket: u32, _reply: Reply) {}
+
+    fn meanwhile<R: Wait>(&mut self, _rt: &R) {}
 }

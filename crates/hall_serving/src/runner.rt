@@ -1,27 +1,31 @@
 // How a caller serves tickets until none is left.
 
-ghost use Rattle.std.specs.Prelude.{◌≡◌, None};
+ghost use Rattle.std.specs.Prelude.{◌≡◌, List, None};
+ghost use Rattle.session_values.specs.declared.reply.Reply.{Reply};
 ghost use Rattle.session_values.specs.Serial.{serial_replies};
 ghost use Rattle.session_journal.specs.Script.{session_of};
-ghost use Rattle.session_hall.specs.Holdings.{IsHoldingOf, StaysHolding};
+ghost use Rattle.session_hall.specs.HoldingCalls.{IsQuiet};
+ghost use Rattle.session_hall.specs.Holdings.{IsHoldingOf, IsKept, StaysHolding};
 ghost use Rattle.session_hall.specs.Stages.{IsBetween};
 ghost use Rattle.session_hall.specs.declared.stage.Stage.TheVariants.{Out};
-ghost use Rattle.hall_serving.specs.KeptJobs.{HasGiven};
+ghost use Rattle.hall_serving.specs.KeptCalls.{SameTicket};
+ghost use Rattle.hall_serving.specs.KeptJobs.{HasGiven, HasWaited};
 
 use crate::after::AfterEnd;
 use crate::crew::Crew;
 use crate::keeping::leave_if_long;
 use crate::kept_next::serve_next_kept;
 use crate::pause::Pause;
-use session_hall::Holding;
-use session_journal::{Scratch, Serves};
+use session_hall::{Holding, Waits};
+use session_journal::{Scratch, Script, Serves};
 use std::sync::Wait;
 use std::thread::Threads;
 use worker_gate::Gate;
 
 /// Serves tickets until all are begun. After each end it gives the reply to `after`, before it
-/// begins another ticket; the book isn't kept meanwhile where that may take long and somebody
-/// waits for it. The caller is out then, and the book isn't in hand.
+/// begins another ticket; the book isn't kept during that if it may take long and another caller
+/// waits for the book. While this caller waits for it, `after` does what it does meanwhile. At the
+/// end the caller is out, and the book isn't in hand.
 pub fn serve_tickets<R: Threads + Wait + Sync, S: Serves + Drop, G: Gate, A: AfterEnd>(
     crew: Crew<'_, R, S, G>,
     holding: &mut Holding<S>,
@@ -39,11 +43,44 @@ pub fn serve_tickets<R: Threads + Wait + Sync, S: Serves + Drop, G: Gate, A: Aft
 {
     let mut pause = Pause::none();
     for _ in crew.rt.forever() {
+        hold_meanwhile(crew, holding, &pause, after);
         let Some((ticket, reply)) = serve_next_kept(crew, holding, scratch, &mut pause) else {
             return;
         };
         leave_if_long(crew.hall, holding, after.takes_long());
         after.after(crew.rt, ticket, reply);
+    }
+    unreachable!()
+}
+
+// Takes the book, unless it is in hand, after the pause and however often it is found taken, and
+// does meanwhile what can be done.
+fn hold_meanwhile<R: Threads + Wait + Sync, S: Serves + Drop, G: Gate, A: AfterEnd>(
+    crew: Crew<'_, R, S, G>,
+    holding: &mut Holding<S>,
+    pause: &Pause,
+    after: &mut A,
+)
+    requires holding { IsHoldingOf S.meaning crew.hall.now holding.old }
+    requires stage { IsQuiet holding.old.caller.stage }
+    requires takes { (replies : List Reply) × A.Takes replies after.old }
+    ensures holding { StaysHolding S.meaning crew.entry.hall.now holding.old holding.new }
+    ensures kept { IsKept holding.new.book }
+    ensures still { SameTicket holding.old holding.new }
+    ensures takes { (replies : List Reply) → A.Takes replies after.old → A.Takes replies after.new }
+    ensures waited { HasWaited A.Given after.old after.new }
+{
+    if holding.is_kept() {
+        return;
+    }
+    pause.wait(crew.hall, crew.plan.requests());
+    let mut waits = Waits::none();
+    for _ in crew.rt.forever() {
+        if holding.hold(crew.hall) {
+            return;
+        }
+        after.meanwhile(crew.rt);
+        waits.until_free(crew.hall, 0);
     }
     unreachable!()
 }

@@ -8,8 +8,8 @@ use Rattle.session_hall.specs.Closings.{ClosedView, IsDone}
 use Rattle.session_hall.specs.Names.{script_of}
 use Rattle.reply_lane.specs.declared.lane.Lane.{Lane}
 use Rattle.hall_writing.specs.declared.job.Job.{Job}
-use Rattle.sheet_writing.specs.declared.sheet.Sheet.{Sheet}
-use Rattle.sheet_writing.specs.Sheets.{Ends, GoesOn, IsWritten, Progress, Written, progress}
+use Rattle.hall_writing.specs.declared.sheet.Sheet.{Sheet}
+use Rattle.hall_writing.specs.Sheets.{Ends, GoesOn, IsWritten, Progress, Written, progress}
 use Rattle.hall_writing.specs.Jobs.{replies_of}
 use Rattle.hall_writing.specs.Sessions.{IsOpened}
 use Rattle.hall_writing.proofs.Sessions.{written_start}

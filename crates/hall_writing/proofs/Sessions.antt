@@ -17,13 +17,13 @@ use Rattle.hall_serving.proofs.SerialReplies.{Answers}
 use Rattle.reply_lane.specs.declared.lane.Lane.{Lane}
 use Rattle.reply_lane.specs.declared.lane.End.{End}
 use Rattle.reply_lane.specs.Ends.{IsEndOf, IsNewEnd}
-use Rattle.sheet_writing.specs.Pending.{PendingView}
+use Rattle.reply_sheet.specs.Pending.{PendingView}
 use Rattle.hall_writing.specs.declared.job.Job.{Job}
-use Rattle.sheet_writing.specs.declared.sheet.Sheet.{Sheet}
+use Rattle.hall_writing.specs.declared.sheet.Sheet.{Sheet}
 use Rattle.hall_writing.specs.Jobs.{IsJobOf, HasServed, IsUnkept, callers_of, ends_of, replies_of}
 use Rattle.hall_writing.specs.Sessions.{IsOpened}
-use Rattle.sheet_writing.specs.Sheets.{Keeps, Written, progress}
-use Rattle.sheet_writing.proofs.Sheets.{keeps_none, written_none}
+use Rattle.hall_writing.specs.Sheets.{Keeps, Written, progress}
+use Rattle.hall_writing.proofs.Sheets.{keeps_none, written_none}
 
 ends_made : (l : Lane) (callers : ℕ) (replies : List Reply) (es : List End) → AllByRecursion (IsNewEnd l callers replies) es → AllByRecursion (IsEndOf l replies) es
 ends_made l callers replies [] all = tt

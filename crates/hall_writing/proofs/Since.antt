@@ -1,5 +1,5 @@
 -- What was done with the replies of all tickets that a caller has begun since.
-use Rattle.std.proofs.Common.{◌≡◌, ℕ, List, [], ◌∷◌, ◌++◌, Option, None, false, true, refl, sym, ◌∙◌, ap, subst}
+use Rattle.std.proofs.Common.{◌≡◌, ℕ, List, [], ◌∷◌, ◌++◌, Option, Some, None, false, true, refl, sym, ◌∙◌, ap, subst}
 use Rattle.std.specs.List.{AllByRecursion, FoldsTo}
 use Rattle.session_values.specs.declared.reply.Reply.{Reply}
 use Rattle.admission_book.specs.Methods.{BookView}
@@ -7,13 +7,13 @@ use Rattle.session_hall.specs.declared.holding.Holding.{Holding}
 use Rattle.session_hall.specs.Begun.{begun_by}
 use Rattle.session_hall.specs.Holdings.{begun_at}
 use Rattle.reply_lane.specs.Ends.{state_of}
-use Rattle.hall_serving.specs.KeptJobs.{HasGiven}
-use Rattle.sheet_writing.specs.Ready.{ready}
-use Rattle.sheet_writing.specs.Sheets.{GoesOn, IsKept, progress}
+use Rattle.hall_serving.specs.KeptJobs.{HasGiven, tickets_of}
+use Rattle.reply_sheet.specs.Ready.{ready}
+use Rattle.hall_writing.specs.Sheets.{GoesOn, IsKept, progress}
 use Rattle.hall_writing.specs.declared.offering.Offering.{Offering}
 use Rattle.hall_writing.specs.declared.writing.Writing.{Writing}
 use Rattle.hall_writing.specs.Jobs.{HasKept, HasOffered, Offers}
-use Rattle.hall_writing.specs.Steps.{HasOfferedOne, HasWrittenOne}
+use Rattle.hall_writing.specs.Steps.{HasOfferedAt, HasWrittenOne}
 
 -- ---- the tickets, by the caller's note, while the book isn't in hand
 module _ {S : Type 0} where
@@ -24,28 +24,35 @@ module _ {S : Type 0} where
   by_note p q served e f more = sym (at_note q f) ∙ more ∙ ap (λ (l : List ℕ). l ++ served) (at_note p e)
 
 -- ---- offered
-offers_by : (ts : List ℕ) (o p : Offering) → FoldsTo HasOfferedOne o ts p → (p.end.ghost_name ≡ o.end.ghost_name) × Offers ts (state_of o.end.now) (state_of p.end.now)
+offers_by : (ts : List (Option ℕ)) (o p : Offering) → FoldsTo HasOfferedAt o ts p → (p.end.ghost_name ≡ o.end.ghost_name) × Offers (tickets_of ts) (state_of o.end.now) (state_of p.end.now)
 offers_by [] o p e = (ap (λ (x : Offering). x.end.ghost_name) (sym e), ap (λ (x : Offering). state_of x.end.now) (sym e))
-offers_by (t ∷ ts) o p f = let n = offers_by ts f.0 p f.2 in (n.0 ∙ f.1.end_still, (state_of f.0.end.now, f.1.reply, f.1.room, f.1.offered, n.1))
+offers_by (Some t ∷ ts) o p f = let n = offers_by ts f.0 p f.2 in (n.0 ∙ f.1.end_still, (state_of f.0.end.now, f.1.reply, f.1.room, f.1.offered, n.1))
+offers_by (None ∷ ts) o p f = subst (λ (x : Offering). (p.end.ghost_name ≡ x.end.ghost_name) × Offers (tickets_of ts) (state_of x.end.now) (state_of p.end.now)) f.1 (offers_by ts f.0 p f.2)
 
-pub has_offered : {S : Type 0} (p q : Holding S) (x y : Offering) → p.book ≡ None → q.book ≡ None → HasGiven HasOfferedOne p q x y → (y.end.ghost_name ≡ x.end.ghost_name) × HasOffered p.caller q.caller (state_of x.end.now) (state_of y.end.now)
+pub has_offered : {S : Type 0} (p q : Holding S) (x y : Offering) → p.book ≡ None → q.book ≡ None → HasGiven HasOfferedAt p q x y → (y.end.ghost_name ≡ x.end.ghost_name) × HasOffered p.caller q.caller (state_of x.end.now) (state_of y.end.now)
 has_offered p q x y e f h =
-    let n = offers_by h.served x y h.given in
-    (n.0, record { served = h.served; begun_more = by_note p q h.served e f h.begun_more; offers = n.1 })
+    let n = offers_by h.steps x y h.given in
+    (n.0, record { served = tickets_of h.steps; begun_more = by_note p q (tickets_of h.steps) e f h.begun_more; offers = n.1 })
 
 -- ---- kept or written
 module _ {O : Type 0} (held : O → Option (List ℕ)) (faults : O → ℕ) where
-  pub record HasWritten (w : Writing O) (ts : List ℕ) (x : Writing O) : Type 0 where
+  pub record HasWritten (w : Writing O) (ts : List (Option ℕ)) (x : Writing O) : Type 0 where
     pub end_still : x.end.ghost_name ≡ w.end.ghost_name
     pub sheet_still : x.sheet.ghost_name ≡ w.sheet.ghost_name
     pub out_still : x.out.ghost_name ≡ w.out.ghost_name
-    pub kept : AllByRecursion (IsKept x.sheet.now.pending) ts
+    pub kept : AllByRecursion (IsKept x.sheet.now.pending) (tickets_of ts)
     pub still : (u : ℕ) → IsKept w.sheet.now.pending u → IsKept x.sheet.now.pending u
     pub stops : (w.sheet.now.failed ≡ false → ready w.sheet.now.pending ≡ []) → x.sheet.now.failed ≡ false → ready x.sheet.now.pending ≡ []
     pub quiet : w.sheet.now.failed ≡ true → x.out.now ≡ w.out.now
     pub on : (replies : List Reply) (names : List (List ℕ)) → (state_of w.end.now).known ≡ replies → w.names.now ≡ names → GoesOn replies names (progress (held w.out.now) (faults w.out.now) w.sheet.now) (progress (held x.out.now) (faults x.out.now) x.sheet.now)
 
-  writes_by : (ts : List ℕ) (w x : Writing O) → FoldsTo (HasWrittenOne held faults) w ts x → HasWritten w ts x
+  -- what is kept of the rest stays so, and the ticket of the first step is kept too
+  kept_by : (o : Option ℕ) (ts : List (Option ℕ)) (w x : Writing O) → ((u : ℕ) → o ≡ Some u → IsKept w.sheet.now.pending u) → ((u : ℕ) → IsKept w.sheet.now.pending u → IsKept x.sheet.now.pending u) → AllByRecursion (IsKept x.sheet.now.pending) (tickets_of ts)
+      → AllByRecursion (IsKept x.sheet.now.pending) (tickets_of (o ∷ ts))
+  kept_by (Some t) ts w x own still rest = (still t (own t refl), rest)
+  kept_by None ts w x own still rest = rest
+
+  writes_by : (ts : List (Option ℕ)) (w x : Writing O) → FoldsTo (HasWrittenOne held faults) w ts x → HasWritten w ts x
   writes_by [] w x e = subst (HasWritten w []) e (record {
     end_still = refl;
     sheet_still = refl;
@@ -63,7 +70,7 @@ module _ {O : Type 0} (held : O → Option (List ℕ)) (faults : O → ℕ) wher
         end_still = n.end_still ∙ s.end_still;
         sheet_still = n.sheet_still ∙ s.sheet_still;
         out_still = n.out_still ∙ s.out_still;
-        kept = (n.still t s.own, n.kept);
+        kept = kept_by t ts f.0 x s.own n.still n.kept;
         still = λ u k. n.still u (s.still u k);
         stops = λ h. n.stops s.stops;
         quiet = λ h. n.quiet (s.failed h) ∙ s.quiet h;
@@ -75,7 +82,7 @@ module _ {O : Type 0} (held : O → Option (List ℕ)) (faults : O → ℕ) wher
             record { on = λ first first_faults v. rest.on first first_faults (one.on first first_faults v) };
       }
 
-  pub has_written : {S : Type 0} (p q : Holding S) (x y : Writing O) → p.book ≡ None → q.book ≡ None → HasGiven (HasWrittenOne held faults) p q x y → (ts : List ℕ) × HasWritten x ts y × HasKept p.caller q.caller y.sheet.now.pending
+  pub has_written : {S : Type 0} (p q : Holding S) (x y : Writing O) → p.book ≡ None → q.book ≡ None → HasGiven (HasWrittenOne held faults) p q x y → (ts : List (Option ℕ)) × HasWritten x ts y × HasKept p.caller q.caller y.sheet.now.pending
   has_written p q x y e f h =
-      let n = writes_by h.served x y h.given in
-      (h.served, n, record { served = h.served; begun_more = by_note p q h.served e f h.begun_more; kept = n.kept })
+      let n = writes_by h.steps x y h.given in
+      (h.steps, n, record { served = tickets_of h.steps; begun_more = by_note p q (tickets_of h.steps) e f h.begun_more; kept = n.kept })

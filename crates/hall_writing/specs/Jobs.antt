@@ -14,9 +14,9 @@ use Rattle.reply_lane.specs.declared.lane.End.{End}
 use Rattle.reply_lane.specs.declared.rule.EndState.{EndState}
 use Rattle.reply_lane.specs.Ends.{IsEndOf}
 use Rattle.reply_lane.specs.Lanes.{Offered}
-use Rattle.sheet_writing.specs.Pending.{PendingView}
+use Rattle.reply_sheet.specs.Pending.{PendingView}
 use Rattle.session_hall.specs.Begun.{begun_by}
-use Rattle.sheet_writing.specs.Sheets.{IsKept}
+use Rattle.hall_writing.specs.Sheets.{IsKept}
 use Rattle.hall_writing.specs.declared.job.Job.{Job}
 
 abbrev pub JobOf : Type 0 → Type 0

@@ -1,5 +1,6 @@
 -- What contracts see of a session whose hall is open and whose replies can be written.
-use Rattle.std.specs.Prelude.{◌≡◌, ℕ, ◌<◌, ◌≤◌, List, [], Some, None, false, length, replicate, slice_get}
+use Rattle.std.specs.Prelude.{◌≡◌, ℕ, ◌<◌, ◌≤◌, List, [], Some, None, false}
+use Rattle.std.specs.Prelude.{length, replicate, slice_get}
 use Rattle.std.specs.List.{AllByRecursion}
 use Rattle.session_journal.specs.Script.{Meaning}
 use Rattle.session_hall.specs.declared.hall.Hall.{Hall}
@@ -9,7 +10,7 @@ use Rattle.session_hall.specs.Names.{script_of}
 use Rattle.reply_lane.specs.declared.lane.Lane.{Lane}
 use Rattle.reply_lane.specs.Ends.{IsEndOf}
 use Rattle.hall_writing.specs.declared.job.Job.{Job}
-use Rattle.sheet_writing.specs.declared.sheet.Sheet.{Sheet}
+use Rattle.hall_writing.specs.declared.sheet.Sheet.{Sheet}
 use Rattle.hall_writing.specs.Jobs.{IsUnkept, callers_of, ends_of, replies_of}
 
 -- the script with which its hall was opened, how many callers it has, and how many shards each of

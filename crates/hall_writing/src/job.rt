@@ -4,7 +4,7 @@ ghost use Rattle.std.specs.Prelude.{◌≡◌, None};
 ghost use Rattle.reply_lane.specs.Ends.{state_of};
 ghost use Rattle.hall_writing.specs.Jobs.{HasOffered, HasServed, IsJobOf, replies_of};
 
-use crate::offering::Offering;
+use crate::offering::{MOST_OFFERS, Offering};
 use hall_serving::{Crew, serve_tickets};
 use reply_lane::{End, Lane};
 use session_hall::{Caller, Holding};
@@ -54,5 +54,10 @@ pub(crate) fn serve_and_offer<R: Threads + Wait + Sync, S: Serves + Drop, G: Gat
         scratch,
         end,
     } = job;
-    serve_tickets(crew, holding, scratch, &mut Offering { lane, end });
+    let mut offering = Offering {
+        lane,
+        end,
+        patience: MOST_OFFERS,
+    };
+    serve_tickets(crew, holding, scratch, &mut offering);
 }

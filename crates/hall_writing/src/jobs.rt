@@ -1,18 +1,21 @@
 // All jobs of a session: the first one writes, and the others run beside it.
 
-ghost use Rattle.std.specs.Prelude.{◌≡◌, ◌<◌, ◌≤◌, ℕ, length, slice_index_or, vec_len};
+ghost use Rattle.std.specs.Prelude.{◌≡◌, ◌<◌, ◌≤◌, ℕ, [], false, true};
+ghost use Rattle.std.specs.Prelude.{length, slice_index_or, vec_len};
 ghost use Rattle.std.specs.List.{AllByRecursion};
 ghost use denote.Param.Send.{IsSync, IsSend};
 ghost use Rattle.session_values.specs.Limits.{max_requests};
 ghost use Rattle.session_hall.specs.Names.{script_of};
-ghost use Rattle.sheet_writing.specs.Printable.{ArePrintableReplies};
-ghost use Rattle.hall_writing.specs.Jobs.{HasServed, IsJobOf, JobOf, replies_of};
-ghost use Rattle.sheet_writing.specs.Sheets.{GoesOn, Keeps, progress};
+ghost use Rattle.reply_sheet.specs.Printable.{ArePrintableReplies};
+ghost use Rattle.reply_sheet.specs.Ready.{ready};
+ghost use Rattle.hall_writing.specs.Jobs.{HasKept, HasServed, IsJobOf, JobOf, replies_of};
+ghost use Rattle.hall_writing.specs.Sheets.{GoesOn, Keeps, progress};
 
-use crate::first::{First, serve_and_write_on};
+use crate::first::First;
 use crate::job::{Job, serve_and_offer};
+use crate::writing::Writing;
 use byte_ends::Sink;
-use hall_serving::Crew;
+use hall_serving::{Crew, serve_tickets};
 use reply_lane::Lane;
 use session_journal::Serves;
 use session_values::Names;
@@ -21,20 +24,21 @@ use std::thread;
 use std::thread::{Threads, join};
 use worker_gate::Gate;
 
-// The others, each in a thread of its own where one can be made.
-fn offer_all<R: Threads + Wait + Sync, S: Serves + Drop + Send + Sync, G: Gate + Sync>(
+// The others, moved in and given back: each serves tickets in a thread of its own where one can be
+// made, until all are begun.
+fn offer_by<R: Threads + Wait + Sync, S: Serves + Drop + Send + Sync, G: Gate + Sync>(
     crew: Crew<'_, R, S, G>,
     lane: &Lane,
-    jobs: &mut Vec<Job<S>>,
-)
-    requires some { 0 < vec_len jobs.old }
+    mut jobs: Vec<Job<S>>,
+) -> Vec<Job<S>>
+    requires some { 0 < vec_len jobs }
     requires jobs { AllByRecursion
         (IsJobOf S.meaning crew.hall.now lane.now (replies_of (S.meaning crew.plan.now)))
-        jobs.old.items }
-    ensures len { length jobs.new.items ≡ length jobs.old.items }
-    ensures jobs { (i : ℕ) (d : JobOf S) → i < length jobs.old.items →
-        HasServed S.meaning crew.entry.hall.now (slice_index_or jobs.old.items i d)
-        (slice_index_or jobs.new.items i d) }
+        jobs.items }
+    ensures len { length result.items ≡ length jobs.items }
+    ensures jobs { (i : ℕ) (d : JobOf S) → i < length jobs.items →
+        HasServed S.meaning crew.entry.hall.now (slice_index_or jobs.items i d)
+        (slice_index_or result.items i d) }
 {
     // A thread shares each reference by itself, and makes the crew of them.
     let Crew {
@@ -62,29 +66,11 @@ fn offer_all<R: Threads + Wait + Sync, S: Serves + Drop + Send + Sync, G: Gate +
             serve_and_offer(crew, lane, job)
         },
     );
-}
-
-// The others, moved in and given back.
-fn offer_by<R: Threads + Wait + Sync, S: Serves + Drop + Send + Sync, G: Gate + Sync>(
-    crew: Crew<'_, R, S, G>,
-    lane: &Lane,
-    mut jobs: Vec<Job<S>>,
-) -> Vec<Job<S>>
-    requires jobs { AllByRecursion
-        (IsJobOf S.meaning crew.hall.now lane.now (replies_of (S.meaning crew.plan.now)))
-        jobs.items }
-    ensures len { length result.items ≡ length jobs.items }
-    ensures jobs { (i : ℕ) (d : JobOf S) → i < length jobs.items →
-        HasServed S.meaning crew.entry.hall.now (slice_index_or jobs.items i d)
-        (slice_index_or result.items i d) }
-{
-    if !jobs.is_empty() {
-        offer_all(crew, lane, &mut jobs);
-    }
     jobs
 }
 
-// The first one, moved in and given back with the sink.
+// The first one, moved in and given back with the sink: it serves tickets until all are begun, and
+// after each end it writes the lines that are next, before it begins another one.
 fn write_by<'b, R: Threads + Wait + Sync, S: Serves + Drop, G: Gate, O: Sink>(
     crew: Crew<'_, R, S, G>,
     lane: &Lane,
@@ -99,11 +85,28 @@ fn write_by<'b, R: Threads + Wait + Sync, S: Serves + Drop, G: Gate, O: Sink>(
     requires printable { ArePrintableReplies names.now (replies_of (S.meaning crew.plan.now)) }
     ensures same { result.1.ghost_name ≡ out.entry.ghost_name }
     ensures served { HasServed S.meaning crew.entry.hall.now first.job result.0.job }
+    ensures kept { HasKept first.job.holding.caller result.0.job.holding.caller
+        result.0.sheet.pending }
+    ensures stops { (first.sheet.failed ≡ false → ready first.sheet.pending ≡ [])
+        → result.0.sheet.failed ≡ false → ready result.0.sheet.pending ≡ [] }
+    ensures quiet { first.sheet.failed ≡ true → result.1.now ≡ out.entry.now }
     ensures on { GoesOn (replies_of (S.meaning crew.entry.plan.now)) names.now
         (progress (O.held out.entry.now) (O.faults out.entry.now) first.sheet)
         (progress (O.held result.1.now) (O.faults result.1.now) result.0.sheet) }
 {
-    serve_and_write_on(crew, lane, names, &mut first.job, &mut first.sheet, out);
+    let Job {
+        holding,
+        scratch,
+        end,
+    } = &mut first.job;
+    let mut writing = Writing {
+        lane,
+        end,
+        names,
+        sheet: &mut first.sheet,
+        out: &mut *out,
+    };
+    serve_tickets(crew, holding, scratch, &mut writing);
     (first, out)
 }
 
@@ -122,7 +125,7 @@ pub(crate) fn run_jobs<
     crew: Crew<'_, R, S, G>,
     lane: &Lane,
     names: &Names,
-    mut first: First<S>,
+    first: First<S>,
     others: Vec<Job<S>>,
     out: &mut O,
 ) -> (First<S>, Vec<Job<S>>)
@@ -144,7 +147,8 @@ pub(crate) fn run_jobs<
         (progress (O.held out.new) (O.faults out.new) result.0.sheet) }
 {
     if others.is_empty() {
-        serve_and_write_on(crew, lane, names, &mut first.job, &mut first.sheet, out);
+        let (first, back) = write_by(crew, lane, names, first, out);
+        take_back(back);
         return (first, others);
     }
     run_beside(crew, lane, names, first, others, out)
@@ -159,6 +163,7 @@ fn run_beside<R: Threads + Wait + Sync, S: Serves + Drop + Send + Sync, G: Gate 
     others: Vec<Job<S>>,
     out: &mut O,
 ) -> (First<S>, Vec<Job<S>>)
+    requires some { 0 < vec_len others }
     requires first { IsJobOf S.meaning crew.hall.now lane.now
         (replies_of (S.meaning crew.plan.now)) first.job }
     requires jobs { AllByRecursion
@@ -186,7 +191,8 @@ fn run_beside<R: Threads + Wait + Sync, S: Serves + Drop + Send + Sync, G: Gate 
     let (others, (first, back)) = join(
         rt,
         move || -> Vec<Job<S>>
-            requires { IsSync R.row × IsSync S.row × IsSync G.row × IsSend S.row × AllByRecursion
+            requires { IsSync R.row × IsSync S.row × IsSync G.row × IsSend S.row
+                × (0 < vec_len others) × AllByRecursion
                 (IsJobOf S.meaning hall.now lane.now (replies_of (S.meaning plan.now)))
                 others.items × (script_of hall.now ≡ plan.now) }
             ensures len { length result.items ≡ length others.items }

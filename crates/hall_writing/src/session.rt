@@ -5,12 +5,12 @@ ghost use Rattle.session_values.specs.Limits.{max_tables};
 
 use crate::job::Job;
 use crate::room::begin_jobs;
+use crate::sheet::{Sheet, make_sheet};
 use hall_serving::make_scratches;
 use reply_lane::Lane;
 use session_hall::{Caller, Hall, Sizes};
 use session_journal::{Script, Tickets};
 use session_values::{NoMemory, TableKind};
-use sheet_writing::{Sheet, make_sheet};
 use std::alloc::Global;
 use std::marker::Model;
 

@@ -1,10 +1,11 @@
 // Writing the lines that are next, after a ticket's end.
 
+use crate::after::{take_all, write_next};
+use crate::sheet::Sheet;
 use byte_ends::Sink;
 use hall_serving::AfterEnd;
-use reply_lane::{End, Lane, Spoken};
+use reply_lane::{End, Lane};
 use session_values::{Names, Reply};
-use sheet_writing::{Sheet, Sources, write_after};
 use std::sync::Wait;
 
 /// The lines that are next are written, with those replies that the other callers handed over.
@@ -29,11 +30,13 @@ impl<'a, O: Sink> AfterEnd for Writing<'a, O> {
     }
 
     fn after<R: Wait>(&mut self, rt: &R, ticket: u32, reply: Reply) {
-        let sources = Sources {
-            lane: self.lane,
-            names: self.names,
-        };
-        let own = Spoken { ticket, reply };
-        write_after(rt, sources, self.end, own, self.sheet, self.out);
+        self.sheet.pending.keep(ticket, reply);
+        self.meanwhile(rt);
+    }
+
+    fn meanwhile<R: Wait>(&mut self, rt: &R) {
+        let alone = self.sheet.alone;
+        take_all(rt, self.lane, self.end, alone, &mut self.sheet.pending);
+        write_next(self.sheet, self.out, self.names);
     }
 }

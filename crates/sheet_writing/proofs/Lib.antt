@@ -1,2 +1,0 @@
-pub mod Sheets
-mod Taken
