@@ -1,5 +1,6 @@
 mod Firsts
 mod Going
+mod NameLemmas
 pub mod OneText
 mod HeldSteps
 mod Parts

@@ -1,5 +1,6 @@
 -- What a text of lines is answered with: holds beside one map.
-use Rattle.std.specs.Prelude.{◌≡◌, ℕ, zero, suc, ◌+◌, ◌⊎◌, List, [], ◌∷◌, ◌++◌, codes, Option, Some, None, Result, Ok, Err}
+use Rattle.std.specs.Prelude.{◌≡◌, ℕ, zero, suc, ◌+◌, ◌⊎◌, List, [], ◌∷◌, ◌++◌, codes, Option, Some}
+use Rattle.std.specs.Prelude.{None, Result, Ok, Err}
 use Rattle.std.specs.Fmt.{decimal}
 use Rattle.std.specs.List.{AllByRecursion}
 use Rattle.session_values.specs.declared.kind.TableKind.TheVariants.{Map}
@@ -73,8 +74,10 @@ pub record IsKept (d : Desk) (op : RangeOp) (line : Text) (tables : Tables) : Ty
 
 -- what a step writes, and the tables and the number of operations behind it
 abbrev pub Writes : List Text → Desk → Step → Text → Tables → ℕ → Type 0
-Writes names d (Hold symbols) line tables asked = (line ≡ []) × (tables ≡ d.tables) × (asked ≡ d.asked)
-Writes names d (Free n) line tables asked = (line ≡ []) × (tables ≡ d.tables) × (asked ≡ d.asked)
+Writes names d (Hold symbols) line tables asked =
+    (line ≡ []) × (tables ≡ d.tables) × (asked ≡ d.asked)
+Writes names d (Free n) line tables asked =
+    (line ≡ []) × (tables ≡ d.tables) × (asked ≡ d.asked)
 Writes names d (Do op) line tables asked =
     (IsDone names d op line tables ⊎ IsKept d op line tables) × (asked ≡ d.asked + 1)
 

@@ -8,7 +8,7 @@ ghost use Rattle.range_session.specs.Faults.{names_of as names_spec};
 use session_values::{Names, NoMemory};
 use std::alloc::Global;
 use std::hash::{DefaultHasher, Hasher};
-use text_lines::{Line, Lines, value};
+use text_lines::{Line, Lines};
 
 /// No names yet. Their hashes begin from a hash of all that is read, so whoever changes a name
 /// changes all of them, and can't choose names that collide.
@@ -28,9 +28,7 @@ fn place_all(mut words: Line<'_>, names: &mut Names) -> Result<(), NoMemory>
     ensures room { OnOk result
         (length names.new ≤ length names.old + length (words_of words.entry.rest.now)) }
 {
-    'words: while let Some(word) = words.next() {
-        value(word, names)?;
-    }
+    'words: while let Some(_) = words.next_value(names)? {}
     Ok(())
 }
 

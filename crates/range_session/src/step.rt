@@ -1,6 +1,7 @@
 // What a line asks for.
 
-ghost use Rattle.std.specs.Prelude.{◌≡◌, ◌≤◌, ◌+◌, [], List, Result, true, length, Some, IfOk, OnOk};
+ghost use Rattle.std.specs.Prelude.{◌≡◌, ◌≤◌, ◌+◌, [], List, Result, true, length, Some, IfOk};
+ghost use Rattle.std.specs.Prelude.{OnOk};
 ghost use Rattle.std.specs.List.{AllByRecursion};
 ghost use Rattle.range_tables.specs.declared.range_symbol.RangeSymbol.{RangeSymbol as SymbolSpec};
 ghost use Rattle.range_session.specs.declared.step.Flaw.{Flaw as FlawSpec};

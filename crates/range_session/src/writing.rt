@@ -45,7 +45,7 @@ fn push_value(out: &mut Vec<u8>, value: Value, names: &Names) -> Result<(), NoMe
 }
 
 /// Appends the line of an operation that was done: its number and its reply.
-#[tactic(auto, using(crate::proofs::Texts::four_parts), unfolding(crate::specs::Session::reply_text))]
+#[tactic(auto, using(crate::proofs::Texts::of_four), unfolding(crate::specs::Session::reply_text))]
 pub(crate) fn push_reply(
     out: &mut Vec<u8>,
     asked: u32,
@@ -63,7 +63,7 @@ pub(crate) fn push_reply(
 }
 
 /// Appends the line of an operation that is delayed: its number, the hold and the symbol.
-#[tactic(auto, using(crate::proofs::Texts::six_parts), unfolding(crate::specs::Session::delay_text))]
+#[tactic(auto, using(crate::proofs::Texts::of_six), unfolding(crate::specs::Session::delay_text))]
 pub(crate) fn push_delay(
     out: &mut Vec<u8>,
     asked: u32,

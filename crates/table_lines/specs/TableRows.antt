@@ -1,5 +1,7 @@
 -- The rows of a table part: the entries that they are, and the first fault among them.
-use Rattle.std.specs.Prelude.{◌≡◌, ℕ, ℤ, ◌<◌, ◌≤◌, Bool, false, not, ◌&&◌, ◌==◌, nat_le, if◌then◌else◌, List, [], ◌∷◌, ◌++◌, length, slice_get, slice_index_or, Option, Some, None, MatchOption}
+use Rattle.std.specs.Prelude.{◌≡◌, ℕ, ℤ, ◌<◌, ◌≤◌, Bool, false, not, ◌&&◌, ◌==◌, nat_le}
+use Rattle.std.specs.Prelude.{if◌then◌else◌, List, [], ◌∷◌, ◌++◌, length, slice_get, slice_index_or}
+use Rattle.std.specs.Prelude.{Option, Some, None, MatchOption}
 use Rattle.std.specs.List.{list_all, list_any, position_or_len, AllByRecursion}
 use Rattle.std.specs.Option.{option_or}
 use Rattle.std.specs.Ordering.{is_eq}
@@ -17,7 +19,9 @@ use Rattle.text_lines.specs.Rows.{Row, names_behind}
 use Rattle.text_lines.specs.Text.{Text}
 use Rattle.text_lines.specs.Values.{is_nil, is_symbol, is_value, number, values_of}
 use Rattle.table_lines.specs.declared.refusal.TableRefusal.{TableRefusal}
-use Rattle.table_lines.specs.declared.refusal.TableRefusal.TheVariants.{UnknownTable, Arity, BadWord, Twice, TooManyEntries}
+use Rattle.table_lines.specs.declared.refusal.TableRefusal.TheVariants.{UnknownTable, Arity}
+use Rattle.table_lines.specs.declared.refusal.TableRefusal.TheVariants.{BadWord, Twice}
+use Rattle.table_lines.specs.declared.refusal.TableRefusal.TheVariants.{TooManyEntries}
 
 -- ---- tables
 

@@ -1,6 +1,7 @@
 //! Laws of table lines: the text of tables reads back, and what the first fault of lines is.
 
-ghost use Rattle.std.specs.Prelude.{◌≡◌, ◌↔◌, ℕ, ◌<◌, List, [], ◌∷◌, ◌++◌, length, None, Some, slice_get};
+ghost use Rattle.std.specs.Prelude.{◌≡◌, ◌↔◌, ℕ, ◌<◌, List, [], ◌∷◌, ◌++◌, length, None, Some};
+ghost use Rattle.std.specs.Prelude.{slice_get};
 ghost use Rattle.std.specs.List.{Contains};
 ghost use Rattle.opening_tables.specs.Limits.{max_table_lines};
 ghost use Rattle.opening_tables.specs.Opening.{Pair, container_of, entries_of};
@@ -8,8 +9,10 @@ ghost use Rattle.syntax_trees.specs.declared.file.TableDecl.{TableDecl};
 ghost use Rattle.table_text.specs.TableText.{WrittenTable, written_table};
 ghost use Rattle.text_lines.specs.Rows.{Row};
 ghost use Rattle.text_lines.specs.Text.{Text};
-ghost use Rattle.table_lines.specs.declared.refusal.TableRefusal.TheVariants.{TooManyEntries, Twice};
-ghost use Rattle.table_lines.specs.Laws.{AreWellFormed, GiveOneKey, IsGivenTwice, IsOneTooMany, IsWellFormed};
+ghost use Rattle.table_lines.specs.declared.refusal.TableRefusal.TheVariants.{TooManyEntries};
+ghost use Rattle.table_lines.specs.declared.refusal.TableRefusal.TheVariants.{Twice};
+ghost use Rattle.table_lines.specs.Laws.{AreWellFormed, GiveOneKey, IsGivenTwice, IsOneTooMany};
+ghost use Rattle.table_lines.specs.Laws.{IsWellFormed};
 ghost use Rattle.table_lines.specs.TableRows.{first_table_fault};
 ghost use Rattle.table_lines.specs.ReadBack.{AreReadBack, AreWritable, written_kind, written_rows};
 
@@ -35,8 +38,8 @@ pub fn rows_without_fault()
         → (first_table_fault names tables [] rs ≡ None) ↔ AreWellFormed names tables rs }
 {}
 
-/// The line that is refused for its key is the first that gives a table a key which a line before it
-/// gave the same table.
+/// The line that is refused for its key is the first that gives a table a key which a line before
+/// it gave the same table.
 pub fn keys_are_given_once()
     ensures told { (names : List Text) (tables : List TableDecl) (rs : List Row) (line : ℕ)
         → first_table_fault names tables [] rs ≡ Some (Twice line)

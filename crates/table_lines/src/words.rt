@@ -1,65 +1,31 @@
 // The words behind a table's name.
 
-ghost use Rattle.std.specs.Prelude.{◌≡◌, ◌≢◌, ◌+◌, ◌<◌, ◌≤◌, [], ◌∷◌, length, false, Some, IfOk, OnOk};
+ghost use Rattle.std.specs.Prelude.{◌≡◌, ◌≢◌, ◌+◌, ◌≤◌, length, Some, IfErr, IfOk};
 ghost use Rattle.session_values.specs.Names.{Begins};
 ghost use Rattle.session_values.specs.declared.kind.TableKind.TheVariants.{Map, Set};
+ghost use Rattle.text_lines.specs.Steps.{TakesValue};
 ghost use Rattle.text_lines.specs.Text.{words as words_of};
-ghost use Rattle.text_lines.specs.Values as spec;
-ghost use Rattle.table_lines.specs.declared.refusal.TableRefusal.TheVariants.{BadWord};
 ghost use Rattle.table_lines.specs.TableRows.{word_fault};
 ghost use Rattle.table_lines.specs.Accepting.{Reads};
 
 use crate::refusal::TableRefusal;
 use session_values::{Names, TableKind, Value};
-use text_lines::{Line, value};
+use text_lines::Line;
 
-/// The value that a word is. A symbol is placed in the list of names.
-fn read_word(line: u32, word: &str, names: &mut Names) -> Result<Value, TableRefusal>
-    requires { length names.old < 4294967295 }
-    ensures value { IfOk result (λ v. spec.value_of names.new word.now ≡ Some v) }
-    ensures names { OnOk result (names.new ≡ spec.placed names.old word.now) }
-    ensures refused { (e : _) → result ≡ Err e → e ≢ TableRefusal.NoMemory →
-        (spec.is_value word.now ≡ false) × (e ≡ BadWord line) }
+/// Takes the next word of a line, if one is left, and says its value, if it is one. A symbol is
+/// placed in the list of names.
+fn take(words: &mut Line<'_>, names: &mut Names) -> Result<Option<Option<Value>>, TableRefusal>
+    requires { length names.old + length (words_of words.old.rest.now) ≤ 4294967295 }
+    ensures steps { TakesValue words.old names.old result words.new names.new }
+    ensures memory { IfErr result (λ e. e ≡ TableRefusal.NoMemory) }
     ensures kept { Begins names.old names.new }
-    ensures room { length names.new ≤ length names.old + 1 }
+    ensures room { length names.new + length (words_of words.new.rest.now)
+        ≤ length names.old + length (words_of words.old.rest.now) }
 {
-    match value(word, names) {
-        Ok(Some(v)) => Ok(v),
-        Ok(None) => Err(TableRefusal::BadWord { line }),
+    match words.next_value(names) {
+        Ok(found) => Ok(found),
         Err(_) => Err(TableRefusal::NoMemory),
     }
-}
-
-/// The values of two words.
-fn read_both(
-    line: u32,
-    key: &str,
-    value: &str,
-    names: &mut Names,
-) -> Result<(Value, Value), TableRefusal>
-    requires { length names.old + 2 ≤ 4294967295 }
-    ensures ok { IfOk result (λ p. Reads names.old names.new Map (key.now ∷ value.now ∷ []) p) }
-    ensures refused { (e : _) → result ≡ Err e → e ≢ TableRefusal.NoMemory →
-        word_fault Map line (key.now ∷ value.now ∷ []) ≡ Some e }
-    ensures kept { Begins names.old names.new }
-    ensures room { length names.new ≤ length names.old + 2 }
-{
-    let key = read_word(line, key, names)?;
-    let value = read_word(line, value, names)?;
-    Ok((key, value))
-}
-
-/// The value of one word, which is a member.
-fn read_member(line: u32, key: &str, names: &mut Names) -> Result<(Value, Value), TableRefusal>
-    requires { length names.old < 4294967295 }
-    ensures ok { IfOk result (λ p. Reads names.old names.new Set (key.now ∷ []) p) }
-    ensures refused { (e : _) → result ≡ Err e → e ≢ TableRefusal.NoMemory →
-        word_fault Set line (key.now ∷ []) ≡ Some e }
-    ensures kept { Begins names.old names.new }
-    ensures room { length names.new ≤ length names.old + 1 }
-{
-    let key = read_word(line, key, names)?;
-    Ok((key, Value::Nil))
 }
 
 /// A key and the value that it is bound to.
@@ -76,16 +42,19 @@ fn map_entry(
     ensures kept { Begins names.old names.new }
     ensures room { length names.new ≤ length names.old + length (words_of words.entry.rest.now) }
 {
-    let Some(key) = words.next() else {
+    let Some(key) = take(&mut words, names)? else {
         return Err(TableRefusal::Arity { line });
     };
-    let Some(value) = words.next() else {
+    let Some(value) = take(&mut words, names)? else {
         return Err(TableRefusal::Arity { line });
     };
     if let Some(_) = words.next() {
         return Err(TableRefusal::Arity { line });
     }
-    read_both(line, key, value, names)
+    match (key, value) {
+        (Some(key), Some(value)) => Ok((key, value)),
+        _ => Err(TableRefusal::BadWord { line }),
+    }
 }
 
 /// A member.
@@ -102,13 +71,16 @@ fn set_entry(
     ensures kept { Begins names.old names.new }
     ensures room { length names.new ≤ length names.old + length (words_of words.entry.rest.now) }
 {
-    let Some(key) = words.next() else {
+    let Some(key) = take(&mut words, names)? else {
         return Err(TableRefusal::Arity { line });
     };
     if let Some(_) = words.next() {
         return Err(TableRefusal::Arity { line });
     }
-    read_member(line, key, names)
+    match key {
+        Some(key) => Ok((key, Value::Nil)),
+        None => Err(TableRefusal::BadWord { line }),
+    }
 }
 
 /// A key and its value, which is nil for a member.

@@ -5,8 +5,9 @@ use Rattle.range_session.proofs.naming.place_all.Given as goal
 
 abbrev pub invariant-words : goal.invariant-words
 invariant-words l = record {
-  next : (goal.iterator-words).can_next l.words;
-  finite : (goal.iterator-words).is_finite l.words;
   names : placed_all l.names (words l.words.rest.now) ≡ placed_all l.fn.names (words l.initial.words.rest.now);
   room : length l.names + length (words l.words.rest.now) ≤ length l.fn.names + length (words l.initial.words.rest.now);
 }
+
+abbrev pub decreases-words : goal.decreases-words
+decreases-words l = length (words l.words.rest.now)
