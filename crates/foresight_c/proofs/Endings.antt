@@ -1,5 +1,5 @@
 -- How a call of the library ends, from what a run over memory promises.
-use Rattle.std.proofs.Common.{◌≡◌, ℕ, ◌⊎◌, inl, inr, Bool, true, false, cond, nat_le, List, [], length, Option, Some, IfSome, refl, sym, subst}
+use Rattle.std.proofs.Common.{◌≡◌, ℕ, inl, inr, Bool, true, false, cond, nat_le, List, [], length, Option, Some, ap, refl, sym, subst}
 use Rattle.std.proofs.lemmas.Bool.{leb-true, leb-false}
 use Rattle.byte_ends.specs.Ends.{Grew}
 use Rattle.serve_faults.specs.Command.{Command}
@@ -8,13 +8,14 @@ use Rattle.serve_faults.specs.declared.status.Status.{Status}
 use Rattle.serve_faults.specs.declared.status.Status.TheVariants as status
 use Rattle.serve_faults.specs.Answer.{CommandAnswers}
 use Rattle.serve_faults.specs.Answer as answer
-use Rattle.serve_faults.specs.Changes.{Change, Failed}
-use Rattle.serve_faults.specs.Commands.{is_reading}
-use Rattle.serve_single.specs.Runs.{Answered, RunsSingle, Told, ToldBy}
+use Rattle.serve_faults.specs.Changes.{Change}
+use Rattle.serve_faults.specs.Commands.{input_of}
+use Rattle.serve_faults.proofs.OneAnswer.{text_or_refused}
+use Rattle.serve_faults.proofs.OneFault.{refused_once}
+use Rattle.serve_single.specs.Runs.{Answered, EndsUnanswered, RunsOver}
 use Rattle.foresight_c.specs.Calls.{command_of}
 use Rattle.foresight_c.specs.declared.calling.Call.{Call}
-use Rattle.foresight_c.specs.declared.calling.Call.TheVariants.{Check, Show, Ranges, Audit, Serve, Dump}
-use Rattle.foresight_c.specs.Answered.{IsAnswered, IsHandedOver, MayEnd}
+use Rattle.foresight_c.specs.Answered.{IsAnswered, IsGiven, IsHandedOver, MayEnd}
 use Rattle.foresight_c.specs.declared.answer.Answer.{Answer}
 use Rattle.foresight_c.specs.Endings.{ending, handed}
 
@@ -25,65 +26,11 @@ whole o p text got empty held grew =
     let now : Grew (Some []) (Some got) text = subst (λ (q : Option (List ℕ)). Grew (Some []) q text) held first in
     cc
 
--- a call's command reads its text
-pub call_reads : (call : Call) (callers shards : ℕ) → is_reading (Some (command_of call callers shards)) ≡ true
-call_reads Check callers shards = refl
-call_reads Show callers shards = refl
-call_reads Ranges callers shards = refl
-call_reads Audit callers shards = refl
-call_reads Serve callers shards = refl
-call_reads Dump callers shards = refl
+-- a call answers its command, by another name of the call
+pub of_call : (call same : Call) (callers shards : ℕ) (input out out_new message message_new : List ℕ) (a : Answer) (number : ℕ) → call ≡ same → IsAnswered (command_of same callers shards) input out out_new message message_new a number → IsAnswered (command_of call callers shards) input out out_new message message_new a number
+of_call call same callers shards input out out_new message message_new a number is r = subst (λ (x : Call). IsAnswered (command_of x callers shards) input out out_new message message_new a number) (sym is) r
 
--- a run of a call's command, by another name of the call
-pub of_call : {I O : Type 0} (call same : Call) (callers shards : ℕ) (source : Change I) (store : Change O) (s : Status) → call ≡ same → RunsSingle (Some (command_of same callers shards)) source store s → RunsSingle (Some (command_of call callers shards)) source store s
-of_call call same callers shards source store s is r = subst (λ (x : Call). RunsSingle (Some (command_of x callers shards)) source store s) (sym is) r
-
-module _ {I O : Type 0} (command : Command) (input text : List ℕ) (room : ℕ) (source : Change I) (store : Change O) (tells : is_reading (Some command) ≡ true) (reads : source.bytes source.old ≡ Some input) (sound : Failed source → ⊥) (empty : store.bytes store.old ≡ Some []) (held : store.bytes store.new ≡ Some text) where
-  of_input : (P : List ℕ → Type 0) → Told (Some command) source P → P input
-  of_input P h =
-      let its : IfSome (source.bytes source.old) P = subst (λ (b : Bool). ToldBy b source P) tells h in
-      let now : IfSome (Some input) P = subst (λ (o : Option (List ℕ)). IfSome o P) reads its in
-      now
-
-  answered : (s : Status) → RunsSingle (Some command) source store s → Answered (Some command) input store s
-  answered s r = of_input (λ bytes. Answered (Some command) bytes store s) r.answered
-
-  refusing : (s : Status) → RunsSingle (Some command) source store s → (fault : Fault) → CommandAnswers (Some command) input (answer.Refused fault) → (s ≡ status.Refused fault) ⊎ (s ≡ status.NoMemory)
-  refusing s r fault h = of_input (λ bytes. (fault : Fault) → CommandAnswers (Some command) bytes (answer.Refused fault) → (Failed source → ⊥) → (s ≡ status.Refused fault) ⊎ (s ≡ status.NoMemory)) r.refusing fault h sound
-
-  -- the text of a run that ended well
-  fine_text : Answered (Some command) input store status.Fine → CommandAnswers (Some command) input (answer.Text text)
-  fine_text a =
-      let got = a.fine refl in
-      subst (λ (t : List ℕ). CommandAnswers (Some command) input (answer.Text t)) (whole (store.bytes store.old) (store.bytes store.new) got.0 text empty held got.2.1) got.1
-
-  unrefused : (fault : Fault) → (status.Fine ≡ status.Refused fault) ⊎ (status.Fine ≡ status.NoMemory) → ⊥
-  unrefused fault (inl e) = cc
-  unrefused fault (inr e) = cc
-
-  fine_ends : CommandAnswers (Some command) input (answer.Text text) → ((fault : Fault) → CommandAnswers (Some command) input (answer.Refused fault) → ⊥) → (b : Bool) → nat_le (length text) room ≡ b
-      → MayEnd command input room (cond b status.Fine status.WriteFault) (handed (cond b status.Fine status.WriteFault) text)
-  fine_ends is none true e = record {
-    fine = λ _. (is, leb-true (length text) room e);
-    short = λ x. absurd (cc);
-    unwritten = λ x y. absurd (x refl);
-    refused = λ f x. absurd (cc);
-    refusing = λ f h. absurd (none f h);
-    complete = λ _. inl (inl refl);
-    usage = λ x. cc;
-    read_fault = λ x. cc;
-  }
-  fine_ends is none false e = record {
-    fine = λ x. absurd (cc);
-    short = λ _. (is, leb-false (length text) room e);
-    unwritten = λ x y. absurd (y refl);
-    refused = λ f x. absurd (cc);
-    refusing = λ f h. absurd (none f h);
-    complete = λ _. inl (inr refl);
-    usage = λ x. cc;
-    read_fault = λ x. cc;
-  }
-
+module _ (command : Command) (input : List ℕ) (room : ℕ) where
   wanting : MayEnd command input room status.NoMemory []
   wanting = record {
     fine = λ x. absurd (cc);
@@ -96,30 +43,97 @@ module _ {I O : Type 0} (command : Command) (input text : List ℕ) (room : ℕ)
     read_fault = λ x. cc;
   }
 
-  pub ends : (s : Status) → RunsSingle (Some command) source store s → MayEnd command input room (ending s (length text) room) (handed (ending s (length text) room) text)
-  ends status.Fine r = fine_ends (fine_text (answered status.Fine r)) (λ f h. unrefused f (refusing status.Fine r f h)) (nat_le (length text) room) refl
-  ends (status.Refused fault) r = record {
-    fine = λ x. absurd (cc);
+  -- where the text is the command's, it is whole or longer than the room
+  ends_with : (text : List ℕ) → CommandAnswers (Some command) input (answer.Text text) → (b : Bool) → nat_le (length text) room ≡ b → MayEnd command input room (cond b status.Fine status.WriteFault) text
+  ends_with text is true e = record {
+    fine = λ _. (is, leb-true (length text) room e);
     short = λ x. absurd (cc);
-    unwritten = λ _ _. refl;
-    refused = λ f x. (answered (status.Refused fault) r).refused f x;
-    refusing = λ f h. refusing (status.Refused fault) r f h;
-    complete = λ u. absurd (u fault ((answered (status.Refused fault) r).refused fault refl));
+    unwritten = λ x y. absurd (x refl);
+    refused = λ f x. absurd (cc);
+    refusing = λ f h. absurd (text_or_refused command (input_of command input) text f is.0 is.1 h);
+    complete = λ _. inl (inl refl);
     usage = λ x. cc;
     read_fault = λ x. cc;
   }
-  ends status.Usage r = absurd (let none = r.usage.0 refl in cc)
-  ends status.NoMemory r = wanting
-  ends status.ReadFault r = absurd (sound (r.read_fault refl))
-  ends status.WriteFault r = wanting
+  ends_with text is false e = record {
+    fine = λ x. absurd (cc);
+    short = λ _. (is, leb-false (length text) room e);
+    unwritten = λ x y. absurd (y refl);
+    refused = λ f x. absurd (cc);
+    refusing = λ f h. absurd (text_or_refused command (input_of command input) text f is.0 is.1 h);
+    complete = λ _. inl (inr refl);
+    usage = λ x. cc;
+    read_fault = λ x. cc;
+  }
 
--- a call answers its command, from the run and from what it hands over
-pub answered_by : {I O : Type 0} (command : Command) (input text out out_new message message_new : List ℕ) (a : Answer) (number : ℕ) (source : Change I) (store : Change O) (s : Status) → is_reading (Some command) ≡ true → source.bytes source.old ≡ Some input → (Failed source → ⊥) → store.bytes store.old ≡ Some [] → store.bytes store.new ≡ Some text → RunsSingle (Some command) source store s
-    → IsHandedOver (ending s (length text) (length out)) (handed (ending s (length text) (length out)) text) out out_new message message_new a number
-    → IsAnswered command input out out_new message message_new a number
-answered_by command input text out out_new message message_new a number source store s tells reads sound empty held runs given = record {
-  status = ending s (length text) (length out);
-  text = handed (ending s (length text) (length out)) text;
-  ends = ends command input text (length out) source store tells reads sound empty held s runs;
-  handed = given;
-}
+  refuses : (fault : Fault) → CommandAnswers (Some command) input (answer.Refused fault) → MayEnd command input room (status.Refused fault) []
+  refuses fault is = record {
+    fine = λ x. absurd (cc);
+    short = λ x. absurd (cc);
+    unwritten = λ _ _. refl;
+    refused = λ f x. (let same : fault ≡ f = cc in subst (λ (g : Fault). CommandAnswers (Some command) input (answer.Refused g)) same is);
+    refusing = λ f h. inl (ap status.Refused (refused_once command (input_of command input) fault f is h));
+    complete = λ u. absurd (u fault is);
+    usage = λ x. cc;
+    read_fault = λ x. cc;
+  }
+
+module _ (command : Command) (input text out out_new message message_new : List ℕ) (a : Answer) (number : ℕ) where
+  -- a text was handed over
+  handed_whole : (b : Bool) → handed (cond b status.Fine status.WriteFault) text ≡ text
+  handed_whole true = refl
+  handed_whole false = refl
+
+  pub given_by : CommandAnswers (Some command) input (answer.Text text) → IsGiven text out out_new message message_new a number → IsAnswered command input out out_new message message_new a number
+  given_by is (inl given) = record {
+    status = ending status.Fine (length text) (length out);
+    text = text;
+    ends = ends_with command input (length out) text is (nat_le (length text) (length out)) refl;
+    handed = given;
+  }
+  given_by is (inr given) = record {
+    status = status.NoMemory;
+    text = [];
+    ends = wanting command input (length out);
+    handed = given;
+  }
+
+  pub whole_by : CommandAnswers (Some command) input (answer.Text text) → IsHandedOver (ending status.Fine (length text) (length out)) (handed (ending status.Fine (length text) (length out)) text) out out_new message message_new a number → IsAnswered command input out out_new message message_new a number
+  whole_by is given =
+      given_by is (inl (subst (λ (t : List ℕ). IsHandedOver (ending status.Fine (length text) (length out)) t out out_new message message_new a number) (handed_whole (nat_le (length text) (length out))) given))
+
+-- there was none to hand over
+module _ (command : Command) (input out out_new message message_new : List ℕ) (a : Answer) (number : ℕ) where
+  pub none_by : (s : Status) → EndsUnanswered command input s → IsHandedOver s [] out out_new message message_new a number → IsAnswered command input out out_new message message_new a number
+  none_by (status.Refused fault) is given = record {
+    status = status.Refused fault;
+    text = [];
+    ends = refuses command input (length out) fault is;
+    handed = given;
+  }
+  none_by status.NoMemory is given = record {
+    status = status.NoMemory;
+    text = [];
+    ends = wanting command input (length out);
+    handed = given;
+  }
+  none_by status.Fine is given = absurd is
+  none_by status.Usage is given = absurd is
+  none_by status.ReadFault is given = absurd is
+  none_by status.WriteFault is given = absurd is
+
+-- a call answers its command, from a run to a store and from what it hands over of that
+module _ {O : Type 0} (command : Command) (input text out out_new message message_new : List ℕ) (a : Answer) (number : ℕ) (store : Change O) (empty : store.bytes store.old ≡ Some []) (held : store.bytes store.new ≡ Some text) where
+  -- the text of a run that ended well
+  fine_text : Answered (Some command) input store status.Fine → CommandAnswers (Some command) input (answer.Text text)
+  fine_text r =
+      let got = r.fine refl in
+      subst (λ (t : List ℕ). CommandAnswers (Some command) input (answer.Text t)) (whole (store.bytes store.old) (store.bytes store.new) got.0 text empty held got.2.1) got.1
+
+  pub answered_by : (s : Status) → RunsOver command input store s → IsHandedOver (ending s (length text) (length out)) (handed (ending s (length text) (length out)) text) out out_new message message_new a number → IsAnswered command input out out_new message message_new a number
+  answered_by status.Fine r given = whole_by command input text out out_new message message_new a number (fine_text r.answers.answered) given
+  answered_by (status.Refused fault) r given = none_by command input out out_new message message_new a number (status.Refused fault) (r.answers.answered.refused fault refl) given
+  answered_by status.Usage r given = absurd (r.answers.usage refl)
+  answered_by status.NoMemory r given = none_by command input out out_new message message_new a number status.NoMemory tt given
+  answered_by status.ReadFault r given = absurd (r.answers.read_fault refl)
+  answered_by status.WriteFault r given = none_by command input out out_new message message_new a number status.NoMemory tt given

@@ -1,5 +1,6 @@
 pub mod Crossing
 pub mod Endings
+mod Filling
 mod BoxedDesk
 mod BoxedSession
 mod DeskDrops

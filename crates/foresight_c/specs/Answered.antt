@@ -9,6 +9,7 @@ use Rattle.serve_faults.specs.Answer as answer
 use Rattle.serve_faults.specs.ExitStatus.{exit_status}
 use Rattle.serve_faults.specs.Message.{message_of}
 use Rattle.foresight_c.specs.declared.answer.Answer.{Answer}
+use Rattle.foresight_c.specs.Endings.{ending}
 use Rattle.foresight_c.specs.Fronts.{put_at_front}
 
 -- How a call of a command may end for an input, with which text, where there is room for so many
@@ -45,6 +46,14 @@ pub record IsHandedOver (s : Status) (text out out_new message message_new : Lis
   pub needed : a.needed ≡ length text
   pub message_is : message_new ≡ put_at_front message (message_of s)
   pub told : a.told ≡ min (length message) (length (message_of s))
+
+-- a text was handed over, whole or as much of it as there is room for; or nothing was, since memory
+-- ran out
+abbrev pub IsGiven : List ℕ → List ℕ → List ℕ → List ℕ → List ℕ → Answer → ℕ → Type 0
+IsGiven text out out_new message message_new a number =
+    IsHandedOver (ending status.Fine (length text) (length out)) text out out_new message
+    message_new a number
+    ⊎ IsHandedOver status.NoMemory [] out out_new message message_new a number
 
 -- A command answered to an input, in the caller's rooms.
 pub record IsAnswered (command : Command) (input out out_new message message_new : List ℕ)

@@ -9,5 +9,6 @@ pub mod SessionCalls
 pub mod SessionMessages
 pub mod SessionTickets
 pub mod Sessions
+pub mod TextRooms
 pub mod TicketCalls
 pub mod Version

@@ -1,18 +1,17 @@
 // A command that is answered in a caller's rooms.
 
-ghost use Rattle.std.specs.Prelude.{ℕ, Some};
-ghost use Rattle.serve_faults.specs.Changes.{change};
+ghost use Rattle.std.specs.Prelude.{ℕ};
+ghost use Rattle.serve_faults.specs.Command.TheVariants.{Audit, Ranges};
+ghost use Rattle.serve_faults.specs.Ways.{describing};
 ghost use Rattle.foresight_c.specs.Answered.{IsAnswered};
-ghost use Rattle.serve_single.specs.Runs.{RunsSingle};
+ghost use Rattle.serve_single.specs.Serving.{serving};
 ghost use Rattle.foresight_c.specs.Calls.{command_of};
 
 use crate::answer::Answer;
-use crate::handing::hand_over;
-use crate::slice_source::SliceSource;
+use crate::handing::{hand_ending, hand_over, hand_text};
 use crate::text_store::TextStore;
-use byte_ends::{Sink, Source, SureSink};
 use serve_faults::Status;
-use serve_single::{audit, describe, dump_alone, ranges, serve_alone};
+use serve_single::{audit_bytes, describe_bytes, ranges_bytes, serve_bytes};
 use std::alloc::Global;
 
 /// The commands that the library answers.
@@ -38,24 +37,79 @@ pub(crate) fn answer_call(
     ensures { (callers shards : ℕ) → IsAnswered (command_of call callers shards) text.now
         out.old out.new message.old message.new answer.new result }
 {
-    let mut source = SliceSource { bytes: text };
+    match call {
+        Call::Check => answer_handlers(alloc, false, text, out, message, answer),
+        Call::Show => answer_handlers(alloc, true, text, out, message, answer),
+        Call::Ranges => answer_ranges(alloc, text, out, message, answer),
+        Call::Audit => answer_trace(alloc, text, out, message, answer),
+        Call::Serve => answer_session(alloc, false, text, out, message, answer),
+        Call::Dump => answer_session(alloc, true, text, out, message, answer),
+    }
+}
+
+// Answers `check` or, with `shown`, `show`. The text is put into its room.
+fn answer_handlers(
+    alloc: Global,
+    shown: bool,
+    text: &[u8],
+    out: &mut [u8],
+    message: &mut [u8],
+    answer: &mut Answer,
+) -> u8
+    ensures { IsAnswered (describing shown) text.now out.old out.new message.old message.new
+        answer.new result }
+{
+    match describe_bytes(alloc, shown, text) {
+        Ok(description) => hand_text(&description, out, message, answer),
+        Err(status) => hand_ending(&status, out, message, answer),
+    }
+}
+
+// Answers `ranges`.
+fn answer_ranges(
+    alloc: Global,
+    text: &[u8],
+    out: &mut [u8],
+    message: &mut [u8],
+    answer: &mut Answer,
+) -> u8
+    ensures { IsAnswered Ranges text.now out.old out.new message.old message.new answer.new result }
+{
+    match ranges_bytes(alloc, text) {
+        Ok(lines) => hand_over(Status::Fine, lines.as_slice(), out, message, answer),
+        Err(status) => hand_ending(&status, out, message, answer),
+    }
+}
+
+// Answers `audit`.
+fn answer_trace(
+    alloc: Global,
+    text: &[u8],
+    out: &mut [u8],
+    message: &mut [u8],
+    answer: &mut Answer,
+) -> u8
+    ensures { IsAnswered Audit text.now out.old out.new message.old message.new answer.new result }
+{
     let mut store = TextStore::new(alloc);
-    let status = run_call(alloc, call, &mut source, &mut store);
+    let status = audit_bytes(alloc, text, &mut store);
     hand_over(status, store.bytes(), out, message, answer)
 }
 
-/// Runs a command from a source to a sink. Its line stands in no sink: it is handed over.
-fn run_call<I: Source, O: Sink>(alloc: Global, call: Call, source: &mut I, out: &mut O) -> Status
-    ensures { (callers shards : ℕ) → RunsSingle (Some (command_of call callers shards))
-        (change I.left I.faults source.old source.new)
-        (change O.held O.faults out.old out.new) result }
+// Answers `serve` or, with `tables`, `dump`. The text goes to a store first: a sink has to hold all
+// that it takes, also what the room has no place for.
+fn answer_session(
+    alloc: Global,
+    tables: bool,
+    text: &[u8],
+    out: &mut [u8],
+    message: &mut [u8],
+    answer: &mut Answer,
+) -> u8
+    ensures { (callers shards : ℕ) → IsAnswered (serving tables callers shards) text.now
+        out.old out.new message.old message.new answer.new result }
 {
-    match call {
-        Call::Check => describe(alloc, false, source, out, &mut SureSink),
-        Call::Show => describe(alloc, true, source, out, &mut SureSink),
-        Call::Ranges => ranges(alloc, source, out, &mut SureSink),
-        Call::Audit => audit(alloc, source, out, &mut SureSink),
-        Call::Serve => serve_alone(alloc, source, out, &mut SureSink),
-        Call::Dump => dump_alone(alloc, source, out, &mut SureSink),
-    }
+    let mut store = TextStore::new(alloc);
+    let status = serve_bytes(alloc, tables, text, &mut store);
+    hand_over(status, store.bytes(), out, message, answer)
 }

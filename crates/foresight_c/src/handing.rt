@@ -1,11 +1,13 @@
 // What a call hands over of a run that is done.
 
-ghost use Rattle.std.specs.Prelude.{◌≡◌, length};
+ghost use Rattle.std.specs.Prelude.{◌≡◌, [], length};
 ghost use Rattle.foresight_c.specs.Endings as spec;
-ghost use Rattle.foresight_c.specs.Answered.{IsHandedOver};
+ghost use Rattle.foresight_c.specs.Answered.{IsGiven, IsHandedOver};
 
 use crate::answer::Answer;
 use crate::fronts::put_front;
+use crate::text_rooms::{length_of, put_text_front};
+use byte_ends::PutsText;
 use serve_faults::{Status, message_of};
 
 /// Hands over the text of a run that ended so: the text and the status's line at the front of their
@@ -26,6 +28,44 @@ pub(crate) fn hand_over(
     answer.needed = whole.len();
     answer.written = put_front(out, whole);
     answer.told = put_front(message, message_of(&ended).as_str().as_bytes());
+    ended.number()
+}
+
+/// Hands over a text by putting it into its room. It is counted first: if its length is no number
+/// that an answer has place for, memory is said to be wanting, and the room stays as it was.
+pub(crate) fn hand_text<P: PutsText>(
+    text: &P,
+    out: &mut [u8],
+    message: &mut [u8],
+    answer: &mut Answer,
+) -> u8
+    requires { P.CanPut text.now }
+    ensures { IsGiven (P.text text.now) out.old out.new message.old message.new answer.new result }
+{
+    match length_of(text) {
+        Some(needed) => {
+            let ended = ending(Status::Fine, needed, out.len());
+            answer.needed = needed;
+            answer.written = put_text_front(out, text);
+            answer.told = put_front(message, message_of(&ended).as_str().as_bytes());
+            ended.number()
+        }
+        None => hand_ending(&Status::NoMemory, out, message, answer),
+    }
+}
+
+/// Hands over how a call ended for which there is no text.
+pub(crate) fn hand_ending(
+    ended: &Status,
+    out: &mut [u8],
+    message: &mut [u8],
+    answer: &mut Answer,
+) -> u8
+    ensures { IsHandedOver ended.now [] out.old out.new message.old message.new answer.new result }
+{
+    answer.needed = 0;
+    answer.written = put_front(out, &[]);
+    answer.told = put_front(message, message_of(ended).as_str().as_bytes());
     ended.number()
 }
 

@@ -20,7 +20,7 @@ mod session_messages;
 mod session_ticket_exports;
 mod session_ticketing;
 mod sessions;
-mod slice_source;
+mod text_rooms;
 mod text_store;
 mod ticket_exports;
 mod version;

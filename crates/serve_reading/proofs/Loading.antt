@@ -35,7 +35,7 @@ use Rattle.serve_reading.specs.declared.session.Loaded.{Loaded}
 use Rattle.serve_reading.specs.declared.load_error.LoadError.{LoadError}
 use Rattle.serve_reading.specs.declared.load_error.LoadError.TheVariants.{Refused, NoMemory}
 use Rattle.serve_reading.specs.Programs.{Describes, IsDeclared, IsParsed, IsProgramOf}
-use Rattle.serve_reading.specs.Reasons.{IsAnalysisReason, IsCheckReason, IsFileReason, IsLinesReason, IsReason, IsSessionReason, IsSyntaxReason}
+use Rattle.serve_reading.specs.Reasons.{IsFileReason, IsLinesReason, IsReason, IsSessionReason, IsSyntaxReason}
 use Rattle.serve_reading.specs.Sessions.{AreOpened, IsLoaded}
 
 abbrev pub as_program : (text : List ℕ) (p : ProgramView) → IsProgramOf text p → IsProgram text p.file
@@ -136,38 +136,6 @@ describing_bytes false bytes short none = (short, none)
 pub describing_marked : (shown : Bool) (bytes : List ℕ) → length bytes ≤ max_input → IsUtf8 bytes → has_mark bytes ≡ true → IsRefused (describing shown) bytes fault.HasRequests
 describing_marked true bytes short utf8 e = (short, utf8, ap alone_fault e)
 describing_marked false bytes short utf8 e = (short, utf8, ap alone_fault e)
-
-pub check_reason : (file : File) (e : LoadError) → IsCheckReason file e → IsFileReason file e
-check_reason file NoMemory h = tt
-check_reason file (Refused (fault.Check e)) h = h
-check_reason file (Refused (fault.Syntax e)) h = absurd h
-check_reason file (Refused (fault.Analysis e)) h = absurd h
-check_reason file (Refused (fault.Tables e)) h = absurd h
-check_reason file (Refused (fault.Request e)) h = absurd h
-check_reason file (Refused (fault.Trace e)) h = absurd h
-check_reason file (Refused (fault.Ranges e)) h = absurd h
-check_reason file (Refused fault.TooLarge) h = absurd h
-check_reason file (Refused fault.NotText) h = absurd h
-check_reason file (Refused fault.NoRequests) h = absurd h
-check_reason file (Refused fault.HasRequests) h = absurd h
-check_reason file (Refused fault.NoTrace) h = absurd h
-check_reason file (Refused fault.TooManyClients) h = absurd h
-
-pub analysis_reason : (file : File) (e : LoadError) → IsAccepted file → IsAnalysisReason file e → IsFileReason file e
-analysis_reason file NoMemory a h = tt
-analysis_reason file (Refused (fault.Analysis e)) a h = (a, h)
-analysis_reason file (Refused (fault.Check e)) a h = absurd h
-analysis_reason file (Refused (fault.Syntax e)) a h = absurd h
-analysis_reason file (Refused (fault.Tables e)) a h = absurd h
-analysis_reason file (Refused (fault.Request e)) a h = absurd h
-analysis_reason file (Refused (fault.Trace e)) a h = absurd h
-analysis_reason file (Refused (fault.Ranges e)) a h = absurd h
-analysis_reason file (Refused fault.TooLarge) a h = absurd h
-analysis_reason file (Refused fault.NotText) a h = absurd h
-analysis_reason file (Refused fault.NoRequests) a h = absurd h
-analysis_reason file (Refused fault.HasRequests) a h = absurd h
-analysis_reason file (Refused fault.NoTrace) a h = absurd h
-analysis_reason file (Refused fault.TooManyClients) a h = absurd h
 
 -- what is wrong with a file is wrong with the bytes that it is made of
 pub file_reason : (shown : Bool) (bytes : List ℕ) (file : File) (names : List (List ℕ)) (e : LoadError) → IsParsed bytes file names → IsFileReason file e → IsReason (describing shown) bytes e

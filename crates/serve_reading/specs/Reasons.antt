@@ -28,18 +28,6 @@ IsSyntaxReason text NoMemory = Unit {0}
 IsSyntaxReason text (Refused (fault.Syntax e)) = HasSyntaxFault text e
 IsSyntaxReason text (Refused e) = ⊥
 
--- why a file isn't accepted
-abbrev pub IsCheckReason : File → LoadError → Type 0
-IsCheckReason file NoMemory = Unit {0}
-IsCheckReason file (Refused (fault.Check e)) = IsRefusal file e
-IsCheckReason file (Refused e) = ⊥
-
--- why an accepted file has no lists
-abbrev pub IsAnalysisReason : File → LoadError → Type 0
-IsAnalysisReason file NoMemory = Unit {0}
-IsAnalysisReason file (Refused (fault.Analysis e)) = IsTooMany file e
-IsAnalysisReason file (Refused e) = ⊥
-
 -- why a file that was read has no text to print
 abbrev pub IsFileReason : File → LoadError → Type 0
 IsFileReason file NoMemory = Unit {0}

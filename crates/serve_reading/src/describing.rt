@@ -12,11 +12,11 @@ ghost use Rattle.serve_reading.specs.Reasons.{IsFileReason, IsReason, IsSyntaxRe
 
 use crate::load_error::LoadError;
 use crate::naming::names_of_input;
-use crate::program::{accepted_file, bounded_file, checked_file, read_file, with_declarations};
 use byte_ends::{PutsText, TextSink};
-use declaration_insertion::{Program, put_shown};
-use handler_check::Accepted;
-use handler_syntax::{File, is_countable, put_canonical};
+use declaration_insertion::{Program, insert, put_shown};
+use handler_check::{Accepted, accept, check};
+use handler_syntax::{File, is_countable, parse, put_canonical};
+use may_use_analysis::{bound_later_sets, later_sets};
 use request_files::has_mark;
 use serve_faults::Fault;
 use session_values::Names;
@@ -75,6 +75,24 @@ pub fn read_description(
     }
 }
 
+/// The same of bytes that stay where they are: what `read_description` reads of them.
+pub fn description_of(alloc: Global, shown: bool, bytes: &[u8]) -> Result<Description, LoadError>
+    requires { length bytes.now ≤ max_input }
+    ensures input { IfOk result (λ _. IsInput (describing shown) bytes.now) }
+    ensures text { IfOk result
+        (λ found. IsTextOf (describing shown) bytes.now (text_of found)) }
+    ensures printable { IfOk result IsPrintable }
+    ensures refused { IfErr result (IsReason (describing shown) bytes.now) }
+{
+    match parsed(alloc, bytes) {
+        Ok((tree, names)) => match described_file(alloc, shown, tree, &names) {
+            Ok(file) => Ok(Description { names, file }),
+            Err(e) => Err(e),
+        },
+        Err(e) => Err(e),
+    }
+}
+
 // The file that some bytes are, and the names of its text. The bytes are freed.
 fn parsed_bytes(alloc: Global, bytes: Vec<u8>) -> Result<(File, Names), LoadError>
     requires { length bytes.items ≤ max_input }
@@ -113,7 +131,7 @@ fn named_file(alloc: Global, text: &str) -> Result<(File, Names), LoadError>
     ensures refused { IfErr result (IsSyntaxReason text.now) }
 {
     let mut names = names_of_input(alloc, text, "", "");
-    let file = read_file(alloc, text, &mut names)?;
+    let file = parse(alloc, text, &mut names)?;
     Ok((file, names))
 }
 
@@ -145,7 +163,8 @@ fn canonical_file(alloc: Global, file: File, names: &Names) -> Result<DescribedF
     ensures printable { IfOk result (IsPrintableWith names.now) }
     ensures refused { IfErr result (IsFileReason file) }
 {
-    let accepted = bounded_file(alloc, accepted_file(alloc, file)?)?;
+    let accepted = accept(alloc, file.into_tree())?;
+    bound_later_sets(alloc, &accepted)?;
     if is_countable(accepted.file()) {
         Ok(DescribedFile::Canonical(accepted))
     } else {
@@ -161,7 +180,9 @@ fn declared_file(alloc: Global, file: File, names: &Names) -> Result<DescribedFi
     ensures printable { IfOk result (IsPrintableWith names.now) }
     ensures refused { IfErr result (IsFileReason file) }
 {
-    let program = with_declarations(alloc, checked_file(alloc, file)?)?;
+    let checked = check(alloc, file.into_tree())?;
+    let later = later_sets(alloc, &checked)?;
+    let program = insert(alloc, checked, later)?;
     if is_countable(program.checked().file()) {
         Ok(DescribedFile::Declared(program))
     } else {

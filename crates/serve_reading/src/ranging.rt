@@ -22,8 +22,8 @@ pub fn ranged_text(alloc: Global, bytes: Vec<u8>) -> Result<Vec<u8>, LoadError>
     range_text(alloc, bytes.as_slice())
 }
 
-// What the lines of an input answer.
-fn range_text(alloc: Global, bytes: &[u8]) -> Result<Vec<u8>, LoadError>
+/// What the lines of a range session answer, of bytes that stay where they are.
+pub fn range_text(alloc: Global, bytes: &[u8]) -> Result<Vec<u8>, LoadError>
     requires { length bytes.now ≤ max_input }
     ensures input { IfOk result (λ _. IsInput Ranges bytes.now) }
     ensures text { IfOk result (λ text. IsTextOf Ranges bytes.now text.items) }

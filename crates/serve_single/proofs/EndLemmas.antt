@@ -1,5 +1,5 @@
 -- What a command answers to its input, from what its parts say.
-use Rattle.std.proofs.Common.{◌≡◌, ℕ, ◌≤◌, Bool, true, false, if◌then◌else◌, List, length, refl, sym, ap, ◌∙◌, subst}
+use Rattle.std.proofs.Common.{◌≡◌, ℕ, ◌≤◌, Bool, true, false, if◌then◌else◌, List, length, Some, refl, sym, ap, ◌∙◌, subst}
 use Rattle.session_values.specs.Limits.{max_input}
 use Rattle.serve_faults.specs.Command.{Command}
 use Rattle.serve_faults.specs.Command.TheVariants.{Check, Show, Serve, Dump, Work, Ranges, Trace, Audit, Clients}
@@ -9,14 +9,15 @@ use Rattle.serve_faults.specs.declared.status.Status.{Status}
 use Rattle.serve_faults.specs.declared.status.Status.TheVariants as status
 use Rattle.serve_faults.specs.Commands.{has_handlers, has_requests, input_of, is_gathering, is_serving}
 use Rattle.serve_faults.specs.Input.{Parts, parts_by, parts_of, parts_fault, divided_fault, handlers_of, is_divided, parts_in, IsInput, IsShort}
-use Rattle.serve_faults.specs.Answer.{HasRequestFault, HasTableFault, IsRefused, IsTextOf}
+use Rattle.serve_faults.specs.Answer.{CommandAnswers, HasRequestFault, HasTableFault, IsRefused, IsTextOf}
+use Rattle.serve_faults.specs.Answer as answer
 use Rattle.serve_faults.specs.Changes.{Change, IsUntouched}
 use Rattle.serve_faults.specs.Ways.{describing}
 use Rattle.serve_reading.specs.declared.load_error.LoadError.{LoadError}
 use Rattle.serve_reading.specs.declared.load_error.LoadError.TheVariants.{Refused, NoMemory}
 use Rattle.serve_reading.specs.Reasons.{IsInputReason, IsReason, IsSessionReason}
 use Rattle.serve_reading.specs.Sessions.{IsSessionInput}
-use Rattle.serve_single.specs.Runs.{AnswersSingle}
+use Rattle.serve_single.specs.Runs.{AnswersSingle, EndsUnanswered}
 use Rattle.serve_single.specs.Serving.{EndsBy, EndsOrWants, status_of}
 use Rattle.serve_single.proofs.RunLemmas.{refused_answer, no_answer, fine_answer, front_answer}
 
@@ -203,3 +204,19 @@ module _ {O : Type 0} (bytes : List ℕ) (out : Change O) where
 
   pub unaudited_to : (e : LoadError) → IsUntouched out → IsReason Audit bytes e → AnswersSingle Audit bytes out (status_of e)
   unaudited_to e same r = reason_to Audit bytes out same e r
+
+-- ---- bytes that a caller keeps
+unanswered : (c : Command) (bytes : List ℕ) (e : LoadError) → IsReason c (input_of c bytes) e → EndsUnanswered c bytes (status_of e)
+unanswered c bytes NoMemory h = tt
+unanswered c bytes (Refused f) h = h
+
+pub described_bytes : (shown : Bool) (bytes text : List ℕ) → IsInput (describing shown) bytes → IsTextOf (describing shown) bytes text → CommandAnswers (Some (describing shown)) bytes (answer.Text text)
+described_bytes true bytes text i is = (i, is)
+described_bytes false bytes text i is = (i, is)
+
+pub undescribed_bytes : (shown : Bool) (bytes : List ℕ) (e : LoadError) → IsReason (describing shown) bytes e → EndsUnanswered (describing shown) bytes (status_of e)
+undescribed_bytes true bytes e h = unanswered Show bytes e h
+undescribed_bytes false bytes e h = unanswered Check bytes e h
+
+pub unranged_bytes : (bytes : List ℕ) (e : LoadError) → IsReason Ranges bytes e → EndsUnanswered Ranges bytes (status_of e)
+unranged_bytes bytes e h = unanswered Ranges bytes e h

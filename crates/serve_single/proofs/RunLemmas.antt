@@ -15,7 +15,7 @@ use Rattle.serve_faults.specs.Input.{IsInput, IsTooLarge, most_of}
 use Rattle.serve_faults.specs.Changes.{Change, Failed, HasNotFailed, IsUntouched, Took, TookFront}
 use Rattle.serve_faults.specs.Ways.{HasRead, StoppedAs}
 use Rattle.serve_faults.proofs.OneAnswer.{refused_once, text_or_refused}
-use Rattle.serve_single.specs.Runs.{Answered, AnswersSingle, RunsSingle, Told, ToldBy, Written, has_read_all}
+use Rattle.serve_single.specs.Runs.{Answered, AnswersSingle, RunsOver, RunsSingle, Told, ToldBy, Written, has_read_all}
 
 -- ---- what a command answers to its input
 module _ {O : Type 0} (c : Command) (bytes : List ℕ) (out : Change O) where
@@ -195,3 +195,41 @@ module _ {I O : Type 0} (c : Command) (reads : is_reading (Some c) ≡ true) (so
       (λ _ _. h.end)
       (λ _ e. all_gone (source.bytes source.old) (source.bytes source.new) bytes (most_of c) h.all h.end h.short)
       h.lost
+
+-- ---- bytes that a caller keeps
+
+-- more of them than the command takes
+pub large_refused : (c : Command) (bytes : List ℕ) → is_reading (Some c) ≡ true → most_of c < length bytes → IsRefused c (input_of c bytes) TooLarge
+large_refused c bytes reads long = too_long c (input_of c bytes) (subst (λ (bs : List ℕ). most_of c < length bs) (sym (reading_input c bytes reads)) long)
+
+module _ {O : Type 0} (c : Command) (bytes : List ℕ) (out : Change O) where
+  still_refuses : (s : Status) (f : Fault) → AnswersSingle c bytes out s → IsRefused c (input_of c bytes) f → (s ≡ status.Refused f) ⊎ (s ≡ status.NoMemory)
+  still_refuses status.Fine f a r = let t = a.answered.fine refl in absurd (text_or_refused c (input_of c bytes) t.0 f t.1.0 t.1.1 r)
+  still_refuses (status.Refused g) f a r = inl (ap status.Refused (refused_once c (input_of c bytes) g f (a.answered.refused g refl) r))
+  still_refuses status.Usage f a r = absurd (a.usage refl)
+  still_refuses status.NoMemory f a r = inr refl
+  still_refuses status.ReadFault f a r = absurd (a.read_fault refl)
+  still_refuses status.WriteFault f a r = let t = a.answered.front refl in absurd (text_or_refused c (input_of c bytes) t.0 f t.1.0 t.1.1 r)
+
+  still_completes : (s : Status) → AnswersSingle c bytes out s → IsUnrefused (Some c) bytes → (Failed out → ⊥) → (s ≡ status.Fine) ⊎ (s ≡ status.NoMemory)
+  still_completes status.Fine a u ok = inl refl
+  still_completes (status.Refused g) a u ok = absurd (u g (a.answered.refused g refl))
+  still_completes status.Usage a u ok = absurd (a.usage refl)
+  still_completes status.NoMemory a u ok = inr refl
+  still_completes status.ReadFault a u ok = absurd (a.read_fault refl)
+  still_completes status.WriteFault a u ok = absurd (ok (a.written.write_fault refl))
+
+  pub runs_over : (s : Status) → AnswersSingle c bytes out s → RunsOver c bytes out s
+  runs_over s a = record {
+    answers = a;
+    refusing = λ f r. still_refuses s f a r;
+    complete = λ u ok. still_completes s a u ok;
+  }
+
+  pub large_over : is_reading (Some c) ≡ true → most_of c < length bytes → IsUntouched out → RunsOver c bytes out (status.Refused TooLarge)
+  large_over reads long same = runs_over (status.Refused TooLarge) (record {
+    usage = λ e. cc;
+    read_fault = λ e. cc;
+    answered = refused_answer c bytes out TooLarge (large_refused c bytes reads long);
+    written = record { write_fault = λ e. absurd (cc); written_well = λ e. absurd (cc); unwritten = λ _ _. same };
+  })

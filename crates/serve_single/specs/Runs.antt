@@ -121,3 +121,29 @@ pub record Tells {E : Type 0} (err : Change E) (s : Status) : Type 0 where
   pub line : Took err (message_of s) ⊎ Failed err × TookFront err (message_of s)
   -- A run that ends well writes none.
   pub quiet : s ≡ status.Fine → IsUntouched err
+
+-- ---- over bytes that a caller keeps
+
+-- how a run over bytes ends if there is no text: this is the first rule that they break, or memory
+-- ran out
+abbrev pub EndsUnanswered : Command → List ℕ → Status → Type 0
+EndsUnanswered command bytes (status.Refused fault) =
+    CommandAnswers (Some command) bytes (answer.Refused fault)
+EndsUnanswered command bytes status.NoMemory = Unit {0}
+EndsUnanswered command bytes status.Fine = ⊥
+EndsUnanswered command bytes status.Usage = ⊥
+EndsUnanswered command bytes status.ReadFault = ⊥
+EndsUnanswered command bytes status.WriteFault = ⊥
+
+-- A run of a command over bytes that its caller keeps: it answers to them as to a source of these
+-- bytes that never fails.
+pub record RunsOver {O : Type 0} (command : Command) (bytes : List ℕ) (out : Change O)
+    (s : Status) : Type 0 where
+  -- The text, the refusal, or a front of the text, and what becomes of the output.
+  pub answers : AnswersSingle command bytes out s
+  -- The first broken rule is refused, unless memory runs out.
+  pub refusing : (fault : Fault) → CommandAnswers (Some command) bytes (answer.Refused fault)
+      → (s ≡ status.Refused fault) ⊎ (s ≡ status.NoMemory)
+  -- Where no rule is broken, and the sink doesn't fail, it ends well or wants memory.
+  pub complete : IsUnrefused (Some command) bytes → (Failed out → ⊥)
+      → (s ≡ status.Fine) ⊎ (s ≡ status.NoMemory)

@@ -34,8 +34,8 @@ pub(crate) fn audit_source<I: Source, O: Sink>(alloc: Global, source: &mut I, ou
     }
 }
 
-// Writes what is judged of the trace of a file's bytes.
-fn audit_input<O: Sink>(alloc: Global, bytes: &[u8], out: &mut O) -> Status
+/// Writes what is judged of the trace of a file's bytes.
+pub(crate) fn audit_input<O: Sink>(alloc: Global, bytes: &[u8], out: &mut O) -> Status
     requires { length bytes.now ≤ max_audit_input }
     ensures { AnswersSingle Audit bytes.now
         (change O.held O.faults out.old out.new) result }

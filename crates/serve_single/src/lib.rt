@@ -7,6 +7,7 @@ mod auditing;
 mod checking;
 mod ending;
 mod opening;
+mod over_bytes;
 mod ranging;
 mod running;
 mod serving;
@@ -16,5 +17,6 @@ mod writing;
 
 pub use byte_ends::{Got, MemorySink, MemorySource, Put, Sink, Source, SureSink, SureSource};
 pub use ending::{ended, tell};
+pub use over_bytes::{audit_bytes, describe_bytes, ranges_bytes, serve_bytes};
 pub use serve_faults::{Fault, Status};
 pub use top::{audit, describe, dump_alone, ranges, serve_alone};

@@ -9,7 +9,7 @@ ghost use Rattle.serve_single.specs.Runs.{AnswersSingle, RunsSingle};
 use crate::ending::ended;
 use byte_ends::{Sink, Source, write_all};
 use serve_faults::Status;
-use serve_reading::{ranged_text, read_input};
+use serve_reading::{range_text, read_input};
 use std::alloc::Global;
 
 /// Reads lines, and writes what they answer.
@@ -19,18 +19,18 @@ pub(crate) fn range_source<I: Source, O: Sink>(alloc: Global, source: &mut I, ou
         (change O.held O.faults out.old out.new) result }
 {
     match read_input(alloc, source) {
-        Ok(bytes) => range_input(alloc, bytes, out),
+        Ok(bytes) => range_input(alloc, bytes.as_slice(), out),
         Err(status) => status,
     }
 }
 
 // Writes what the lines of an input answer.
-fn range_input<O: Sink>(alloc: Global, bytes: Vec<u8>, out: &mut O) -> Status
-    requires { length bytes.items ≤ max_input }
-    ensures { AnswersSingle Ranges bytes.items
+fn range_input<O: Sink>(alloc: Global, bytes: &[u8], out: &mut O) -> Status
+    requires { length bytes.now ≤ max_input }
+    ensures { AnswersSingle Ranges bytes.now
         (change O.held O.faults out.old out.new) result }
 {
-    match ranged_text(alloc, bytes) {
+    match range_text(alloc, bytes) {
         Ok(text) => {
             if write_all(out, text.as_slice()) {
                 Status::Fine

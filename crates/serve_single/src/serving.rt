@@ -36,8 +36,8 @@ pub(crate) fn serve_source<I: Source, O: Sink>(
     }
 }
 
-// Serves the requests of a session file.
-fn serve_input<O: Sink>(alloc: Global, tables: bool, bytes: &[u8], out: &mut O) -> Status
+/// Serves the requests of a session file's bytes.
+pub(crate) fn serve_input<O: Sink>(alloc: Global, tables: bool, bytes: &[u8], out: &mut O) -> Status
     requires { length bytes.now ≤ max_input }
     ensures { (callers shards : ℕ) → AnswersSingle (serving tables callers shards) bytes.now
         (change O.held O.faults out.old out.new) result }

@@ -9,5 +9,5 @@ use Rattle.serve_single.proofs.ranging.range_input.Goals as goal
 pub returns : goal.returns
 returns g c =
     let out = change g.O.Sink.held g.O.Sink.faults c.args.out.now c.args.out.now in
-    subst (λ (s : Status). AnswersSingle Ranges c.args.bytes.items out s) (sym c.ended.ensures)
-    (unranged_to c.args.bytes.items out c.in-Err.e refl c.in-Err.ensures.refused)
+    subst (λ (s : Status). AnswersSingle Ranges c.args.bytes.now out s) (sym c.ended.ensures)
+    (unranged_to c.args.bytes.now out c.in-Err.e refl c.in-Err.ensures.refused)

@@ -1,12 +1,14 @@
-use Rattle.std.proofs.Common.{refl}
+use Rattle.std.proofs.Common.{ℕ, List, refl, rules, subst}
+use Rattle.session_values.specs.Limits.{max_input}
 use Rattle.serve_faults.specs.Changes.{change}
+use Rattle.serve_faults.specs.Ways.{HasRead}
 use Rattle.serve_single.proofs.TopLemmas.{ranged_run, unranged_run}
 use Rattle.serve_single.proofs.ranging.range_source.Goals as goal
 
 pub returns-in-Ok : goal.returns-in-Ok
 returns-in-Ok g c =
     let source = change g.I.Source.left g.I.Source.faults c.args.source.now c.read_input.new.source in
-    ranged_run source (change g.O.Sink.held g.O.Sink.faults c.args.out.now c.range_input.new.out) c.in-Ok.bytes.items c.range_input.result c.in-Ok.ensures.read c.range_input.ensures
+    ranged_run source (change g.O.Sink.held g.O.Sink.faults c.args.out.now c.range_input.new.out) c.as_slice.result.now c.range_input.result (subst (λ (b : List ℕ). HasRead max_input source b) (search rules) c.in-Ok.ensures.read) c.range_input.ensures
 
 pub returns-in-Err : goal.returns-in-Err
 returns-in-Err g c =

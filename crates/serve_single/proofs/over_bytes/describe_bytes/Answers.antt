@@ -1,0 +1,18 @@
+use Rattle.std.proofs.Common.{subst, sym}
+use Rattle.serve_faults.specs.Ways.{describing}
+use Rattle.serve_faults.specs.declared.status.Status.{Status}
+use Rattle.serve_reading.specs.Described.{text_of}
+use Rattle.serve_single.specs.Runs.{EndsUnanswered}
+use Rattle.serve_single.proofs.EndLemmas.{described_bytes, undescribed_bytes}
+use Rattle.serve_single.proofs.TopLemmas.{undescribed_large}
+use Rattle.serve_single.proofs.over_bytes.describe_bytes.Goals as goal
+
+pub returns-then-bytes-gt-MAX_INPUT-clause-ended : goal.returns-then-bytes-gt-MAX_INPUT-clause-ended
+returns-then-bytes-gt-MAX_INPUT-clause-ended c = undescribed_large c.args.shown c.args.bytes.now c.if-bytes-gt-MAX_INPUT.true
+
+pub returns-in-Ok-clause-text : goal.returns-in-Ok-clause-text
+returns-in-Ok-clause-text c = described_bytes c.args.shown c.args.bytes.now (text_of c.in-Ok.description) c.in-Ok.ensures.input c.in-Ok.ensures.text
+
+pub returns-in-Err-clause-ended : goal.returns-in-Err-clause-ended
+returns-in-Err-clause-ended c =
+    subst (λ (s : Status). EndsUnanswered (describing c.args.shown) c.args.bytes.now s) (sym c.ended.ensures) (undescribed_bytes c.args.shown c.args.bytes.now c.in-Err.e c.in-Err.ensures.refused)
