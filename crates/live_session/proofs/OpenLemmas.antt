@@ -2,14 +2,13 @@
 use Rattle.std.proofs.Common.{◌≡◌, ◌≢◌, ℕ, ◌<◌, ◌≤◌, List, [], ◌∷◌, length, map, None, Result, Ok, Err, IfOk, IfErr, refl, sym, ◌∙◌, ap, subst, arith}
 use Rattle.std.proofs.lemmas.List.{length-map}
 use Rattle.std.specs.List.{AllByRecursion}
+use Rattle.std.specs.Result.{IsErrAnd}
 use Rattle.session_values.specs.Limits.{max_variables}
 use Rattle.session_values.specs.Tables.{Tables, kind_of}
 use Rattle.session_values.specs.declared.kind.TableKind.{TableKind}
 use Rattle.opening_tables.specs.Opening.{tables_of}
 use Rattle.opening_tables.proofs.Filling.{entries_length}
 use Rattle.opening_tables.proofs.Openings.{opening_kinds}
-use Rattle.handler_check.specs.TableDecl.{TableDecl}
-use Rattle.handler_check.proofs.Fine.{few_tables}
 use Rattle.handler_check.specs.Resolved.{shape_of}
 use Rattle.text_lines.specs.Rows.{Row, names_behind, rows}
 use Rattle.text_lines.specs.Text.{Text}
@@ -99,11 +98,7 @@ module _ (l : Loaded) (most : ℕ) (can : CanOpen l most) where
   abbrev shape : List TableKind
   shape = shape_of l.program.file
 
-  -- there are few tables
-  pub few_kinds : length shape ≤ 7
-  few_kinds = let long = length-map l.program.file.tables (λ (t : TableDecl). t.kind) in omega (arith, long, few_tables l.program.file can.accepted.keeps)
-
-  -- and a list of entries for each
+  -- there is a list of entries for each table
   pub lists_long : length l.opening ≡ length shape
   lists_long = entries_length shape l.opening can.opens.entries
 
@@ -202,6 +197,11 @@ refused text most (fault.Trace x) h = h
 refused text most (fault.Ranges x) h = h
 
 -- why nothing is opened
-pub not_loaded : (text : Text) (most : ℕ) (why : LoadError) → IsInputReason text why → IsUnopened text most (unopened_by why)
+not_loaded : (text : Text) (most : ℕ) (why : LoadError) → IsInputReason text why → IsUnopened text most (unopened_by why)
 not_loaded text most (load_error.Refused e) h = refused text most e h
 not_loaded text most load_error.NoMemory h = tt
+
+-- the same at a `?`
+pub exit_unopened : {T : Type 0} (text : Text) (most : ℕ) (why : LoadError) (r : Result T OpenError) → IsErrAnd r (λ (e : OpenError). e ≡ unopened_by why) → IsInputReason text why → IfErr r (IsUnopened text most)
+exit_unopened text most why (Ok s) a h = absurd a
+exit_unopened text most why (Err e) a h = subst (IsUnopened text most) (sym a) (not_loaded text most why h)

@@ -1,5 +1,6 @@
 -- What a line is answered, and what that leaves.
-use Rattle.std.specs.Prelude.{◌≡◌, suc, ◌<◌, ◌≤◌, Bool, true, false, nat_lt, List, [], ◌∷◌, ◌++◌, drop, length, None, Some}
+use Rattle.std.specs.Prelude.{◌≡◌, suc, ◌<◌, ◌≤◌, Bool, true, false, nat_lt, List, [], ◌∷◌, ◌++◌}
+use Rattle.std.specs.Prelude.{drop, length, None, Some}
 use Rattle.session_values.specs.Limits.{max_input}
 use Rattle.session_values.specs.declared.reply.Reply.{Reply}
 use Rattle.session_values.specs.Reply.{values_of}
@@ -43,8 +44,8 @@ acts_in v r = acts_of (program_in v) v.tickets.next (request_in v r).handler
     (request_in v r).args v.tables
 
 -- a line with this row was served: it has no fault and its names have room, no open ticket is in
--- its way and a number is left; its request was served alone from the tables, this is the line of its
--- reply, and its acts are those of that run, as the next ticket, which isn't open any more
+-- its way and a number is left; its request was served alone from the tables, this is the line of
+-- its reply, and its acts are those of that run, as the next ticket, which isn't open any more
 pub record LineServed (v : LiveView) (line : Text) (r : Row) (text : Text) (w : LiveView)
     : Type 0 where
   pub fine : line_fault v.names v.file r ≡ None

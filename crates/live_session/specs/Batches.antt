@@ -1,5 +1,6 @@
 -- What a batch of lines is answered.
-use Rattle.std.specs.Prelude.{◌≡◌, ℕ, ◌+◌, ◌<◌, ◌≤◌, ◌⊎◌, List, [], ◌∷◌, ◌++◌, drop, length, Option, None, Some}
+use Rattle.std.specs.Prelude.{◌≡◌, ℕ, ◌+◌, ◌<◌, ◌≤◌, ◌⊎◌, List, [], ◌∷◌, ◌++◌, drop, length, Option}
+use Rattle.std.specs.Prelude.{None, Some}
 use Rattle.text_lines.specs.Text.{Text, lines}
 use Rattle.live_session.specs.declared.answers.Answered.{Answered}
 use Rattle.live_session.specs.declared.answers.Answered.TheVariants as answered

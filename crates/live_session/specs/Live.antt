@@ -76,10 +76,10 @@ dump_of v = table_text (texts_of v.names v.file.tables) (map (written_table v.na
 
 -- what every session keeps: it was opened over a file that breaks no rule and entries for its
 -- tables; no line that was served has a fault; the names begin with those at the opening, and are
--- no more than there may be; each value of its tables can be printed; and all that was done, by lines
--- and by tickets, is a run from the opening tables to what it holds. Where the program did nothing
--- itself, the names are those at the opening and those of the lines, and the requests were served
--- one after another, each alone from the tables that the one before left
+-- no more than there may be; each value of its tables can be printed; and all that was done, by
+-- lines and by tickets, is a run from the opening tables to what it holds. Where the program did
+-- nothing itself, the names are those at the opening and those of the lines, and the requests were
+-- served one after another, each alone from the tables that the one before left
 pub record IsLive (v : LiveView) : Type 0 where
   pub program : IsProgram (program_in v)
   pub accepted : IsAccepted v.file

@@ -1,5 +1,6 @@
 -- The number of a text among a session's names.
-use Rattle.std.specs.Prelude.{◌≡◌, ℕ, suc, ◌<◌, ◌≤◌, ◌⊎◌, true, false, [], ◌∷◌, ◌++◌, length, slice_get, Some, Contains, Result, Ok, Err}
+use Rattle.std.specs.Prelude.{◌≡◌, ℕ, suc, ◌<◌, ◌≤◌, ◌⊎◌, true, false, [], ◌∷◌, ◌++◌, length}
+use Rattle.std.specs.Prelude.{slice_get, Some, Contains, Result, Ok, Err}
 use Rattle.text_lines.specs.Text.{Text}
 use Rattle.text_lines.specs.Values.{is_symbol}
 use Rattle.live_session.specs.declared.answers.NameError.{NameError}

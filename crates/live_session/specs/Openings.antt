@@ -10,7 +10,8 @@ use Rattle.text_lines.specs.Text.{Text}
 use Rattle.request_files.specs.Requests.{AreKnown}
 use Rattle.serve_faults.specs.TableRows.{ArePrintable}
 use Rattle.serve_faults.specs.Input.{parts_of}
-use Rattle.serve_faults.specs.Session.{IsSession, all_names_of, opened_of, opening_names_of, rows_of}
+use Rattle.serve_faults.specs.Session.{IsSession, all_names_of, opened_of, opening_names_of}
+use Rattle.serve_faults.specs.Session.{rows_of}
 use Rattle.serve_faults.specs.declared.status.Fault.TheVariants.{TooLarge}
 use Rattle.serve_reading.specs.declared.session.Loaded.{Loaded}
 use Rattle.serve_reading.specs.declared.load_error.LoadError.{LoadError}

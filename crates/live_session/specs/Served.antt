@@ -1,5 +1,6 @@
 -- A line's fault, and requests that are served one after another, each when it comes.
-use Rattle.std.specs.Prelude.{◌≡◌, ℕ, not, ◌==◌, nat_le, if◌then◌else◌, List, [], ◌∷◌, length, Option, Some, None}
+use Rattle.std.specs.Prelude.{◌≡◌, ℕ, not, ◌==◌, nat_le, if◌then◌else◌, List, [], ◌∷◌, length}
+use Rattle.std.specs.Prelude.{Option, Some, None}
 use Rattle.std.specs.List.{list_all}
 use Rattle.session_values.specs.declared.reply.Reply.{Reply}
 use Rattle.session_values.specs.Serial.{Served, serve}
@@ -14,7 +15,8 @@ use Rattle.request_files.specs.declared.request.Request.{Request}
 use Rattle.request_files.specs.Requests.{handler_of}
 use Rattle.request_files.specs.Session.{dialogue_of}
 use Rattle.live_session.specs.declared.answers.LineRefusal.{LineRefusal}
-use Rattle.live_session.specs.declared.answers.LineRefusal.TheVariants.{Arity, BadWord, UnknownHandler}
+use Rattle.live_session.specs.declared.answers.LineRefusal.TheVariants.{Arity, BadWord}
+use Rattle.live_session.specs.declared.answers.LineRefusal.TheVariants.{UnknownHandler}
 
 -- ---- the rules on a line, in the order in which they are tried
 

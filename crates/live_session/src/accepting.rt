@@ -1,6 +1,7 @@
 // Accepting a line: its handler, its arguments, and the room that it takes.
 
-ghost use Rattle.std.specs.Prelude.{◌≡◌, ◌≢◌, ◌<◌, ◌≤◌, ℕ, List, [], length, take, true, false, IfErr, IfOk, OnErr, OnOk, Some, None, vec_capacity};
+ghost use Rattle.std.specs.Prelude.{◌≡◌, ◌≢◌, ◌<◌, ◌≤◌, ℕ, List, [], length, take, true, false};
+ghost use Rattle.std.specs.Prelude.{IfErr, IfOk, OnErr, OnOk, Some, None, vec_capacity};
 ghost use Rattle.std.specs.List.{list_all};
 ghost use Rattle.session_values.specs.Limits.{max_variables};
 ghost use Rattle.session_values.specs.Names.{Begins};

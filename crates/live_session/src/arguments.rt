@@ -1,13 +1,14 @@
 // The arguments of a request.
 
-ghost use Rattle.std.specs.Prelude.{◌≡◌, ◌≢◌, ◌+◌, ◌++◌, ◌∷◌, [], ◌≤◌, ◌⊎◌, MatchOption, Some, None, length, true, false, IfOk, take, vec_capacity};
+ghost use Rattle.std.specs.Prelude.{◌≡◌, ◌≢◌, ◌+◌, ◌++◌, ◌∷◌, [], ◌≤◌, ◌⊎◌, MatchOption, Some};
+ghost use Rattle.std.specs.Prelude.{None, length, true, false, IfOk, take, vec_capacity};
 ghost use Rattle.std.specs.List.{list_all};
 ghost use Rattle.session_values.specs.Names.{Begins};
 ghost use Rattle.text_lines.specs.Text.{words as words_of};
 ghost use Rattle.text_lines.specs.Values as value_spec;
 
 use session_values::{Names, NoMemory, Value};
-use text_lines::{Line, is_symbol, number, value};
+use text_lines::{Line, is_symbol, number};
 
 /// The arguments of a request, in room that is taken once.
 #[derive(Drop)]
@@ -120,8 +121,8 @@ pub(crate) fn placed_values(
     ensures kept { Begins names.old names.new }
     ensures capacity { vec_capacity list.new ≡ vec_capacity list.old }
 {
-    'words: while let Some(word) = words.next() {
-        match value(word, names)? {
+    'words: while let Some(found) = words.next_value(names)? {
+        match found {
             Some(v) => list.push_reserved(v),
             None => return Ok(false),
         }

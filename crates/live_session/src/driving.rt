@@ -99,7 +99,8 @@ fn perform(alloc: Global, tables: &mut LiveTables, op: Op) -> Result<Value, NoMe
 }
 
 impl LiveSession {
-    ghost use Rattle.live_session.specs.Driven.{BeginAnswered, CallAnswered, EndAnswered, NarrowAnswered};
+    ghost use Rattle.live_session.specs.Driven.{BeginAnswered, CallAnswered, EndAnswered};
+    ghost use Rattle.live_session.specs.Driven.{NarrowAnswered};
 
     /// Begins the next ticket, which declares this list, and answers its number. Its operations are
     /// done on the tables of the session, and requests are delayed by what it has declared until it

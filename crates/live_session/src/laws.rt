@@ -12,7 +12,8 @@ impl LiveSession {
     ghost use Rattle.serve_faults.specs.Session.{replies_text, tables_text};
     ghost use Rattle.driven_tickets.specs.Acts.{done_in};
     ghost use Rattle.driven_tickets.specs.Desk.{IsDesk, declared};
-    ghost use Rattle.live_session.specs.Live.{IsLive, IsOneFile, IsUndriven, desk_in, dump_of, session_in};
+    ghost use Rattle.live_session.specs.Live.{IsLive, IsOneFile, IsUndriven, desk_in, dump_of};
+    ghost use Rattle.live_session.specs.Live.{session_in};
 
     /// What is known of every session where the program did nothing itself, neither driving a
     /// ticket nor placing a name, whatever lines it gave: its replies and tables are those of the

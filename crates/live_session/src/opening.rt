@@ -1,6 +1,7 @@
 // Opening a session.
 
-ghost use Rattle.std.specs.Prelude.{◌≡◌, ◌<◌, ◌≤◌, ◌∷◌, [], IfErr, IfOk, OnOk, length, map, min, slice_get, Some};
+ghost use Rattle.std.specs.Prelude.{◌≡◌, ◌<◌, ◌≤◌, ◌∷◌, [], IfErr, IfOk, OnOk, length, map, min};
+ghost use Rattle.std.specs.Prelude.{slice_get, Some};
 ghost use Rattle.session_values.specs.Limits.{max_input, max_tables};
 ghost use Rattle.session_values.specs.declared.kind.TableKind.{TableKind as AnyKind};
 ghost use Rattle.opening_tables.specs.Opening.{IsOpening, container_of, entries_of, tables_of};
@@ -10,7 +11,8 @@ ghost use Rattle.handler_check.specs.Resolved.{shape_of};
 ghost use Rattle.serve_faults.specs.Input.{parts_of};
 ghost use Rattle.serve_reading.specs.Sessions.{IsLoaded, IsSessionInput};
 ghost use Rattle.live_session.specs.Held.{AreAdds, held};
-ghost use Rattle.live_session.specs.Openings.{CanOpen, HasOpened, IsMade, IsUnmade, IsUnopened, first_view, unopened_by};
+ghost use Rattle.live_session.specs.Openings.{CanOpen, HasOpened, IsMade, IsUnmade, IsUnopened};
+ghost use Rattle.live_session.specs.Openings.{first_view, unopened_by};
 
 use crate::adds::adds_by_table;
 use crate::arguments::Arguments;
@@ -46,6 +48,17 @@ pub enum OpenError {
     TooManyNames,
     /// Memory ran out.
     NoMemory,
+}
+
+impl From<LoadError> for OpenError {
+    ghost from_gives = { λ why e. e ≡ unopened_by why };
+
+    fn from(why: LoadError) -> OpenError {
+        match why {
+            LoadError::Refused(fault) => OpenError::Refused(fault),
+            LoadError::NoMemory => OpenError::NoMemory,
+        }
+    }
 }
 
 // A table as it opens, with room for its entries and some more, whose searches begin as the seed
@@ -155,16 +168,6 @@ fn over(alloc: Global, loaded: Loaded, seed: u64, most: u32) -> Result<LiveSessi
     }
 }
 
-// Why nothing is opened where nothing is loaded.
-fn unloaded(why: LoadError) -> OpenError
-    ensures { result ≡ unopened_by why }
-{
-    match why {
-        LoadError::Refused(fault) => OpenError::Refused(fault),
-        LoadError::NoMemory => OpenError::NoMemory,
-    }
-}
-
 impl LiveSession {
     /// Opens a session over a session file without requests: its handlers, perhaps a table part,
     /// and the dividing line. Searches in its tables and among its names begin as the seed has it,
@@ -182,9 +185,7 @@ impl LiveSession {
         if text.len() > MAX_INPUT {
             return Err(OpenError::Refused(Fault::TooLarge));
         }
-        match load_session(alloc, text) {
-            Ok(loaded) => over(alloc, loaded, seed, most_names.min(MOST_NAMES)),
-            Err(why) => Err(unloaded(why)),
-        }
+        let loaded = load_session(alloc, text)?;
+        over(alloc, loaded, seed, most_names.min(MOST_NAMES))
     }
 }

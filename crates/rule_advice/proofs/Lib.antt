@@ -1,5 +1,4 @@
 pub mod Appending
-pub mod Dividing
 pub mod Earliest
 pub mod Mapped
 pub mod Nearing

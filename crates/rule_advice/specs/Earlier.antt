@@ -1,5 +1,6 @@
 -- Where a name was declared before.
-use Rattle.std.specs.Prelude.{◌≡◌, ℕ, Bool, true, false, ◌&&◌, ◌==◌, if◌then◌else◌, List, [], ◌∷◌, ◌++◌, Option, Some, None, codes}
+use Rattle.std.specs.Prelude.{◌≡◌, ℕ, Bool, true, false, ◌&&◌, ◌==◌, if◌then◌else◌, List, [], ◌∷◌}
+use Rattle.std.specs.Prelude.{◌++◌, Option, Some, None, codes}
 use Rattle.std.specs.Fmt.{decimal}
 use Rattle.syntax_tokens.specs.Words.{words_of}
 use Rattle.syntax_tokens.specs.declared.word.Sort.{Sort}
@@ -62,7 +63,8 @@ earlier c name at head last first [] = None
 earlier c name at head last first (w ∷ ws) =
     if is_end w.sort then None
     else (if w.at == at then first
-    else earlier c name at (head_behind head w.sort) w.sort (first_behind c name head last first w) ws)
+    else earlier c name at (head_behind head w.sort) w.sort
+    (first_behind c name head last first w) ws)
 
 -- what a name behind this word is declared as, where it is
 abbrev pub scope_of : Sort → Scope

@@ -1,5 +1,5 @@
 -- What is told of limits.
-use Rattle.std.specs.Prelude.{ℕ, Bool, true, false, if◌then◌else◌, List, [], ◌∷◌, ◌++◌, length, codes}
+use Rattle.std.specs.Prelude.{ℕ, Bool, true, false, if◌then◌else◌, List, [], ◌∷◌, length, codes}
 use Rattle.std.specs.Fmt.{decimal}
 use Rattle.std.specs.List.{list_any}
 use Rattle.request_files.specs.Divide.{before, behind, is_dividing, is_table_mark}
@@ -16,7 +16,8 @@ limit_text Variables =
 limit_text Calls =
     codes "= counted by the text: the larger block of an `if`, a `repeat`'s block for each turn\n"
 limit_text Work =
-    codes "= counted by the text: 1 a statement, the larger block of an `if`, 1 and the block a turn\n"
+    codes
+    "= counted by the text: 1 a statement, the larger block of an `if`, 1 and the block a turn\n"
 limit_text Symbols =
     codes "= an operation counts once for each table and arguments with which it may be called\n"
 

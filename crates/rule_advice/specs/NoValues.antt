@@ -1,5 +1,6 @@
 -- What a word that is no value isn't.
-use Rattle.std.specs.Prelude.{ℕ, ◌+◌, Bool, false, ◌||◌, ◌==◌, nat_lt, if◌then◌else◌, List, [], ◌∷◌, ◌++◌, length, drop, slice_index, Option, Some, None, codes}
+use Rattle.std.specs.Prelude.{ℕ, ◌+◌, Bool, false, ◌||◌, ◌==◌, nat_lt, if◌then◌else◌, List, [], ◌∷◌}
+use Rattle.std.specs.Prelude.{◌++◌, length, drop, slice_index, Option, Some, None, codes}
 use Rattle.std.specs.Char.{is_ascii_alphabetic, is_ascii_digit}
 use Rattle.std.specs.Fmt.{decimal}
 use Rattle.std.specs.List.{list_all, prefix_len}
@@ -21,7 +22,8 @@ is_far word = are_digits (drop 1 word)
 abbrev pub number_reason : List ℕ → List ℕ
 number_reason word =
     if is_far word then codes "a number is from -9223372036854775808 to 9223372036854775807"
-    else codes "a number is digits, perhaps with a `-` before them, and a symbol begins with a letter"
+    else codes
+    "a number is digits, perhaps with a `-` before them, and a symbol begins with a letter"
 
 -- of a word that begins with a letter: its length, or its first byte that no symbol has, behind so
 -- many
@@ -55,7 +57,8 @@ reason_by first word =
 
 abbrev pub no_value_line : List ℕ → List ℕ
 no_value_line word =
-    parts (codes "= `") word (codes "` is no value: ") ++ (reason_by (slice_index word 0) word ++ 10 ∷ [])
+    parts (codes "= `") word (codes "` is no value: ")
+    ++ (reason_by (slice_index word 0) word ++ 10 ∷ [])
 
 -- the first of some words that is no value, if there is one
 abbrev pub first_bad : List (List ℕ) → Option (List ℕ)

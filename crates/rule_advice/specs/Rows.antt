@@ -1,5 +1,6 @@
 -- The line with a number, its words, and what is told of them.
-use Rattle.std.specs.Prelude.{◌≡◌, ℕ, ◌+◌, ◌==◌, if◌then◌else◌, List, [], ◌∷◌, length, Option, Some, None}
+use Rattle.std.specs.Prelude.{◌≡◌, ℕ, ◌+◌, ◌==◌, if◌then◌else◌, List, [], ◌∷◌, length, Option, Some}
+use Rattle.std.specs.Prelude.{None}
 use denote.Ref.{Bor}
 use Rattle.text_lines.specs.Text.{Text, lines, words}
 use Rattle.text_lines.specs.declared.line.Line.{Line}

@@ -2,8 +2,10 @@
 -- the checker's rules are (check_rules/specs/Rules.antt: `IsUnseen` is K2 of a variable).
 use Rattle.std.specs.Prelude.{ℕ, Bool, true, false, ◌==◌, List, [], ◌∷◌, Option, Some, None, Vec}
 use Rattle.std.specs.List.{flat_map}
-use Rattle.syntax_trees.specs.Marks.{Mark, Declared, Mentioned, Operation, OnTable, Turns, handler_marks, sees}
-use Rattle.syntax_trees.specs.Source.{Source, Finish, Let, Assign, Do, Choose, Repeat, Answer, stmt_source}
+use Rattle.syntax_trees.specs.Marks.{Mark, Declared, Mentioned, Operation, OnTable, Turns}
+use Rattle.syntax_trees.specs.Marks.{handler_marks, sees}
+use Rattle.syntax_trees.specs.Source.{Source, Finish, Let, Assign, Do, Choose, Repeat, Answer}
+use Rattle.syntax_trees.specs.Source.{stmt_source}
 use Rattle.syntax_trees.specs.declared.file.Handler.{Handler}
 use Rattle.syntax_trees.specs.declared.stmt.Stmt.{Stmt}
 

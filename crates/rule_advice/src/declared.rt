@@ -184,7 +184,8 @@ pub(crate) fn declared_in(
     listing: Listing<'_>,
 ) -> Result<Vec<u8>, NoMemory>
     requires { length source.now ≤ max_input }
-    ensures { IfOk result (λ text. spec.IsOfTree source.now (spec.line_of listing.entry) text.items) }
+    ensures { IfOk result (λ text. spec.IsOfTree source.now (spec.line_of listing.entry)
+        text.items) }
 {
     let mut names = names_for(alloc, source);
     match parse(alloc, source, &mut names) {

@@ -1,5 +1,5 @@
-//! What is told where a rule above the grammar is broken: what stands at the place or on the line of
-//! a refusal, and what is wanted there.
+//! What is told where a rule above the grammar is broken: what stands at the place or on the line
+//! of a refusal, and what is wanted there.
 #![tactic(auto)]
 
 mod advising;

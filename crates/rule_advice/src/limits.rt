@@ -26,7 +26,8 @@ fn limit_text(limit: Limit) -> &'static str
             "= counted by the text: the larger block of an `if`, a `repeat`'s block for each turn\n"
         }
         Limit::Work => {
-            "= counted by the text: 1 a statement, the larger block of an `if`, 1 and the block a turn\n"
+            "= counted by the text: 1 a statement, the larger block of an `if`, 1 and the block a \
+             turn\n"
         }
         Limit::Symbols => {
             "= an operation counts once for each table and arguments with which it may be called\n"

@@ -2,7 +2,8 @@
 
 ghost use Rattle.std.specs.Prelude.{◌≡◌, ◌==◌, ◌||◌};
 ghost use Rattle.std.specs.List.{flat_map, list_any};
-ghost use Rattle.syntax_trees.specs.Marks.{atom_marks, call_marks, cond_marks, expr_marks, right_marks};
+ghost use Rattle.syntax_trees.specs.Marks.{atom_marks, call_marks, cond_marks, expr_marks};
+ghost use Rattle.syntax_trees.specs.Marks.{right_marks};
 ghost use Rattle.rule_advice.specs.Visible as spec;
 
 use syntax_trees::{Atom, Call, Cond, Expr, Right};

@@ -1,9 +1,8 @@
 -- The handlers of a file.
-use Rattle.std.proofs.Common.{◌≡◌, ℕ, ◌≤◌, Bool, true, false, if◌then◌else◌, length, take, sym, ap, ◌∙◌, arith}
+use Rattle.std.proofs.Common.{◌≡◌, ℕ, Bool, false, if◌then◌else◌, sym, ap, ◌∙◌}
 use Rattle.std.specs.List.{list_any}
-use Rattle.std.proofs.lemmas.List.{length-take}
 use Rattle.refusal_places.specs.Text.{Text, lines}
-use Rattle.serve_reading.specs.Divide.{Divides, before, head_size, is_dividing, is_table_mark}
+use Rattle.serve_reading.specs.Divide.{Divides, before, is_dividing, is_table_mark}
 use Rattle.waiting_pairs.specs.Told.{handlers_of}
 
 abbrev part : Text → Bool → Text
@@ -14,13 +13,3 @@ front_divided text h t r i j d = d.handlers_are ∙ sym (ap (part text) d.marked
 
 pub front_undivided : (text : Text) → list_any is_dividing (lines text) ≡ false → text ≡ handlers_of text
 front_undivided text e = sym (ap (part text) e)
-
-pub front_short : (text : Text) (most : ℕ) → length text ≤ most → length (handlers_of text) ≤ most
-front_short text most h = go (list_any is_dividing (lines text))
-  where
-    once : (is : Text → Bool) (t : Text) → length (before is t) ≤ length t
-    once is t = omega (arith, length-take (head_size is (lines t)) t)
-
-    go : (b : Bool) → length (part text b) ≤ most
-    go true = omega (arith, once is_table_mark (before is_dividing text), once is_dividing text, h)
-    go false = h

@@ -1,8 +1,10 @@
--- The JSON that tells who waits for whom: an array of objects, one for each wait, in the same order.
--- A value's text, with the escapes of JSON, is the kit's `compact_text`.
-use Rattle.std.specs.Prelude.{ℕ, Bool, true, false, List, [], ◌∷◌, ◌++◌, map, codes, Option, Some, None, option_map, ◌&&◌}
+-- The JSON that tells who waits for whom: an array of objects, one for each wait, in the same
+-- order. A value's text, with the escapes of JSON, is the kit's `compact_text`.
+use Rattle.std.specs.Prelude.{ℕ, Bool, true, false, List, [], ◌∷◌, ◌++◌, map, codes, Option, Some}
+use Rattle.std.specs.Prelude.{None, option_map, ◌&&◌}
 use Rattle.session_values.specs.Kinds.{is_keyed}
-use Rattle.serde_json.specs.Data.{Data, null, number, unsigned, string, array, object, member, no_members}
+use Rattle.serde_json.specs.Data.{Data, null, number, unsigned, string, array, object, member}
+use Rattle.serde_json.specs.Data.{no_members}
 use Rattle.serde_json.specs.View.{items_of}
 use Rattle.serde_json.specs.Written.{compact_text}
 use Rattle.serve_reading.specs.Language.{File}
@@ -32,10 +34,12 @@ equal_keys names f w false = []
 
 abbrev pub keys_value : List (List ℕ) → File → Wait → Data
 keys_value names f w =
-    array (items_of (map string (equal_keys names f w (is_keyed w.asked.op.kind && is_keyed w.symbol.kind))))
+    array (items_of (map string
+    (equal_keys names f w (is_keyed w.asked.op.kind && is_keyed w.symbol.kind))))
 
 -- an object with these members, in the order of their names
-abbrev pub parts_value : (waits operation : List ℕ) → (line column : Option ℕ) → (holder : List ℕ) → (point : ℕ) → (may_call : List ℕ) → (keys : Data) → Data
+abbrev pub parts_value : (waits operation : List ℕ) → (line column : Option ℕ)
+    → (holder : List ℕ) → (point : ℕ) → (may_call : List ℕ) → (keys : Data) → Data
 parts_value waits operation line column holder point may_call keys = object (
     member (codes "column") (count_value column) (
     member (codes "for") (string holder) (
@@ -49,9 +53,11 @@ parts_value waits operation line column holder point may_call keys = object (
 -- a wait: what the columns of its line tell, with line and column of their own
 abbrev pub wait_value : List (List ℕ) → File → List ℕ → Wait → Data
 wait_value names f text w =
-    parts_value (handler_word names f w.asked.handler) (symbol_words names f w.asked.handler w.asked.op)
+    parts_value (handler_word names f w.asked.handler)
+    (symbol_words names f w.asked.handler w.asked.op)
     (line_of (byte_spot text w.asked.at)) (column_at (byte_spot text w.asked.at))
-    (handler_word names f w.holder) w.point (symbol_words names f w.holder w.symbol) (keys_value names f w)
+    (handler_word names f w.holder) w.point (symbol_words names f w.holder w.symbol)
+    (keys_value names f w)
 
 -- all waits
 abbrev pub list_value : List (List ℕ) → File → List ℕ → List Wait → Data

@@ -1,5 +1,6 @@
 -- The lines that tell who waits for whom.
-use Rattle.std.specs.Prelude.{ℕ, nat_lt, Bool, true, false, ◌&&◌, List, ◌∷◌, [], ◌++◌, map, codes, slice_get, unwrap_or, Option, Some, None}
+use Rattle.std.specs.Prelude.{ℕ, nat_lt, Bool, true, false, ◌&&◌, List, ◌∷◌, [], ◌++◌, map, codes}
+use Rattle.std.specs.Prelude.{slice_get, unwrap_or, Option, Some, None}
 use Rattle.std.specs.List.{flat_map}
 use Rattle.std.specs.Fmt.{decimal, signed_decimal}
 use Rattle.session_values.specs.declared.value.Value.{Value}
@@ -81,11 +82,13 @@ abbrev pub key_words : List (List ℕ) → File → Wait → List ℕ
 key_words names f w = keys_of names f w (is_keyed w.asked.op.kind && is_keyed w.symbol.kind)
 
 abbrev pub line : List (List ℕ) → File → List ℕ → Wait → List ℕ
-line names f text w = waiter_words names f text w.asked ++ holder_words names f w ++ key_words names f w
+line names f text w =
+    waiter_words names f text w.asked ++ holder_words names f w ++ key_words names f w
 
 -- what stands above the lines
 abbrev pub head : List ℕ
-head = codes "# waits, operation, for, point, may call, keys: over paths of the text, not over runs\n"
+head =
+    codes "# waits, operation, for, point, may call, keys: over paths of the text, not over runs\n"
 
 abbrev pub lines : List (List ℕ) → File → List ℕ → List Wait → List ℕ
 lines names f text waits = head ++ flat_map (line names f text) waits

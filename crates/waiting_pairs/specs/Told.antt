@@ -19,7 +19,8 @@ use Rattle.waiting_pairs.specs.Waits.{AreWaits}
 
 -- the handlers of a file: of a session file what stands before its tables and requests, else all
 abbrev pub handlers_of : Text → Text
-handlers_of text = if list_any is_dividing (lines_of text) then before is_table_mark (before is_dividing text) else text
+handlers_of text = if list_any is_dividing (lines_of text)
+    then before is_table_mark (before is_dividing text) else text
 
 -- the text of waits in this form
 abbrev pub text_in : Form → List Text → File → Text → List Wait → Text

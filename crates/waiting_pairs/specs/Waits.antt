@@ -1,5 +1,6 @@
 -- Who waits for whom.
-use Rattle.std.specs.Prelude.{◌≡◌, ℕ, zero, suc, ◌+◌, ◌<◌, ◌⊎◌, List, [], ◌∷◌, ◌++◌, length, map, Contains}
+use Rattle.std.specs.Prelude.{◌≡◌, ℕ, zero, suc, ◌+◌, ◌<◌, ◌⊎◌, List, [], ◌∷◌, ◌++◌, length, map}
+use Rattle.std.specs.Prelude.{Contains}
 use Rattle.std.specs.List.{flat_map}
 use Rattle.symbolic_ops.specs.declared.symbol.Symbol.{Symbol}
 use Rattle.check_meaning.specs.Code.{Code, Finish, Move, Ask, Fork, Loop, Quit, points}
@@ -16,7 +17,8 @@ use Rattle.waiting_pairs.specs.Delays.{Delays}
 abbrev pub operations : ℕ → Code → List Asked
 operations h Finish = []
 operations h (Move x e rest) = operations h rest
-operations h (Ask at p x c rest) = record { handler = h; at = at; op = symbol_of c } ∷ operations h rest
+operations h (Ask at p x c rest) =
+    record { handler = h; at = at; op = symbol_of c } ∷ operations h rest
 operations h (Fork at p q test a b rest) = operations h a ++ (operations h b ++ operations h rest)
 operations h (Loop at p n x body rest) = operations h body ++ operations h rest
 operations h (Quit es rest) = operations h rest

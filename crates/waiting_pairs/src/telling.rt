@@ -14,7 +14,7 @@ use session_values::{Names, NoMemory};
 use std::alloc::Global;
 
 /// The handlers of a file: of a session file what stands before its tables and requests.
-#[tactic(auto, using(crate::proofs::Fronts::front_divided, crate::proofs::Fronts::front_undivided, crate::proofs::Fronts::front_short))]
+#[tactic(auto, using(crate::proofs::Fronts::front_divided, crate::proofs::Fronts::front_undivided))]
 fn handlers_part(text: &str) -> &str
     requires { length text.now ≤ max_input }
     ensures part { result.now ≡ handlers_of text.now }

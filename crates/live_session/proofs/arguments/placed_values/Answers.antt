@@ -1,57 +1,45 @@
-use Rattle.std.proofs.Common.{◌≡◌, ◌∷◌, [], List, length, Some, None, refl, sym, ap, ◌∙◌, subst, arith, length-append}
+use Rattle.std.proofs.Common.{◌∷◌, [], List, length, Some, None, refl, sym, ap, ◌∙◌, subst, arith, length-append}
 use Rattle.session_values.specs.declared.value.Value.{Value}
 use Rattle.text_lines.specs.Text.{Text, words}
-use Rattle.text_lines.specs.Values.{value_of, placed}
-use Rattle.session_values.specs.Names.{Begins}
-use Rattle.text_lines.proofs.ValueLemmas.{Behind, behind_start, behind_turn, behind_values, left_bad, left_kept, left_names}
+use Rattle.text_lines.proofs.ValueLemmas.{Behind, behind_start, behind_values, left_names}
+use Rattle.request_files.proofs.ArgumentLemmas.{says_none, says_taken, taken_bad, taken_kept, taken_turn}
 use Rattle.live_session.proofs.arguments.placed_values.Goals as goal
 
 pub words-init : goal.words-init
-words-init c = record { next = tt; finite = tt; behind = behind_start c.args.names.now (words c.args.words.rest.now) c.args.list.now.items; room = c.requires.room; capacity = refl }
+words-init c = record { behind = behind_start c.args.names.now (words c.args.words.rest.now) c.args.list.now.items; room = c.requires.room; capacity = refl }
 
 pub words-preserved : goal.words-preserved
 words-preserved c =
-    let before = subst (λ ws. Behind c.args.names.now (words c.args.words.rest.now) c.words.names ws c.args.list.now.items c.words.list.items) c.in-Some.ensures.steps.0 c.words.invariant.behind in
-    let is : value_of (placed c.words.names c.in-Some.word.now) c.in-Some.word.now ≡ Some c.in-Some-2.v =
-    ap (λ ns. value_of ns c.in-Some.word.now) (sym c.in_ok-v.ensures.names) ∙ sym c.in_ok-v.ensures.value ∙ c.in-Some-2.is in
-    let turn = behind_turn c.args.names.now (words c.args.words.rest.now) c.words.names c.in-Some.word.now (words c.next.new.self.rest.now) c.args.list.now.items c.words.list.items c.in-Some-2.v before is in
+    let taken = says_taken c.words.words c.next_value.new.self c.words.names c.next_value.new.names c.in_ok-found.field-0 c.in-Some.found (Some c.in-Some-found.v) c.in_ok-found.ensures.steps c.in-Some.is c.in-Some-found.is in
+    let turn = taken_turn c.args.names.now (words c.args.words.rest.now) c.words.names c.next_value.new.names c.words.words.rest.now c.next_value.new.self.rest.now c.args.list.now.items c.words.list.items c.in-Some-found.v c.words.invariant.behind taken in
     record {
-      next = tt;
-      finite = tt;
-      behind = subst (λ ns. Behind c.args.names.now (words c.args.words.rest.now) ns (words c.next.new.self.rest.now) c.args.list.now.items c.push_reserved.new.self.items) (sym c.in_ok-v.ensures.names)
-          (subst (Behind c.args.names.now (words c.args.words.rest.now) (placed c.words.names c.in-Some.word.now) (words c.next.new.self.rest.now) c.args.list.now.items) (sym c.push_reserved.ensures.items) turn);
-      room = (let next = ap (λ (ws : List Text). length ws) c.in-Some.ensures.steps.0 in let one = ap (λ (vs : List Value). length vs) c.push_reserved.ensures.items in let more = length-append c.words.list.items (c.in-Some-2.v ∷ []) in omega (arith, c.words.invariant.room, next, one, more, c.push_reserved.ensures.capacity));
+      behind = subst (Behind c.args.names.now (words c.args.words.rest.now) c.next_value.new.names (words c.next_value.new.self.rest.now) c.args.list.now.items) (sym c.push_reserved.ensures.items) turn;
+      room = (let next = ap (λ (ws : List Text). length ws) taken.1.0 in let one = ap (λ (vs : List Value). length vs) c.push_reserved.ensures.items in let more = length-append c.words.list.items (c.in-Some-found.v ∷ []) in omega (arith, c.words.invariant.room, next, one, more, c.push_reserved.ensures.capacity));
       capacity = c.push_reserved.ensures.capacity ∙ c.words.invariant.capacity;
     }
 
 pub push_reserved-requires : goal.push_reserved-requires
 push_reserved-requires c =
-    let next = ap (λ (ws : List Text). length ws) c.in-Some.ensures.steps.0 in
+    let taken = says_taken c.words.words c.next_value.new.self c.words.names c.next_value.new.names c.in_ok-found.field-0 c.in-Some.found (Some c.in-Some-found.v) c.in_ok-found.ensures.steps c.in-Some.is c.in-Some-found.is in
+    let next = ap (λ (ws : List Text). length ws) taken.1.0 in
     omega (arith, c.words.invariant.room, next, c.words.list.ok)
 
 pub returns-in-None-clause-tests : goal.returns-in-None-clause-tests
 returns-in-None-clause-tests c =
-    let before = subst (λ ws. Behind c.args.names.now (words c.args.words.rest.now) c.words.names ws c.args.list.now.items c.words.list.items) c.in-Some.ensures.steps.0 c.words.invariant.behind in
-    let is : value_of (placed c.words.names c.in-Some.word.now) c.in-Some.word.now ≡ None =
-    ap (λ ns. value_of ns c.in-Some.word.now) (sym c.in_ok-v.ensures.names) ∙ sym c.in_ok-v.ensures.value ∙ c.in-None.is in
-    sym (left_bad c.args.names.now (words c.args.words.rest.now) c.words.names c.in-Some.word.now (words c.next.new.self.rest.now) before.found before.left is)
+    sym (taken_bad c.args.names.now (words c.args.words.rest.now) c.words.names c.next_value.new.names c.words.words.rest.now c.next_value.new.self.rest.now c.args.list.now.items c.words.list.items c.words.invariant.behind
+    (says_taken c.words.words c.next_value.new.self c.words.names c.next_value.new.names c.in_ok-found.field-0 c.in-Some.found None c.in_ok-found.ensures.steps c.in-Some.is c.in-None.is))
 
 pub returns-in-None-clause-kept : goal.returns-in-None-clause-kept
 returns-in-None-clause-kept c =
-    let before = subst (λ ws. Behind c.args.names.now (words c.args.words.rest.now) c.words.names ws c.args.list.now.items c.words.list.items) c.in-Some.ensures.steps.0 c.words.invariant.behind in
-    subst (Begins c.args.names.now) (sym c.in_ok-v.ensures.names) (left_kept c.args.names.now (words c.args.words.rest.now) c.words.names c.in-Some.word.now (words c.next.new.self.rest.now) before.found before.left)
-
-pub returns-clause-tests : goal.returns-clause-tests
-returns-clause-tests c =
-    let last = subst (λ ws. Behind c.args.names.now (words c.args.words.rest.now) c.words.names ws c.args.list.now.items c.words.list.items) c.in_default.ensures.steps.0 c.words.invariant.behind in
-    last.left.tests
+    taken_kept c.args.names.now (words c.args.words.rest.now) c.words.names c.next_value.new.names c.words.words.rest.now c.next_value.new.self.rest.now c.args.list.now.items c.words.list.items None c.words.invariant.behind
+    (says_taken c.words.words c.next_value.new.self c.words.names c.next_value.new.names c.in_ok-found.field-0 c.in-Some.found None c.in_ok-found.ensures.steps c.in-Some.is c.in-None.is)
 
 pub returns-clause-values : goal.returns-clause-values
 returns-clause-values c = λ _.
-    let last = subst (λ ws. Behind c.args.names.now (words c.args.words.rest.now) c.words.names ws c.args.list.now.items c.words.list.items) c.in_default.ensures.steps.0 c.words.invariant.behind in
-    behind_values c.args.names.now (words c.args.words.rest.now) c.words.names c.args.list.now.items c.words.list.items last
+    behind_values c.args.names.now (words c.args.words.rest.now) c.next_value.new.names c.args.list.now.items c.words.list.items
+    (says_none c.args.names.now (words c.args.words.rest.now) c.words.names c.next_value.new.names c.words.words c.next_value.new.self c.args.list.now.items c.words.list.items c.in_ok-found.field-0 c.in_ok-found.ensures.steps c.in_default.is c.words.invariant.behind)
 
 pub returns-clause-names : goal.returns-clause-names
 returns-clause-names c = λ _.
-    let last = subst (λ ws. Behind c.args.names.now (words c.args.words.rest.now) c.words.names ws c.args.list.now.items c.words.list.items) c.in_default.ensures.steps.0 c.words.invariant.behind in
-    left_names c.args.names.now (words c.args.words.rest.now) c.words.names last.found last.left
+    let last = says_none c.args.names.now (words c.args.words.rest.now) c.words.names c.next_value.new.names c.words.words c.next_value.new.self c.args.list.now.items c.words.list.items c.in_ok-found.field-0 c.in_ok-found.ensures.steps c.in_default.is c.words.invariant.behind in
+    left_names c.args.names.now (words c.args.words.rest.now) c.next_value.new.names last.found last.left

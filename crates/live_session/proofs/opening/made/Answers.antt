@@ -1,13 +1,15 @@
-use Rattle.std.proofs.Common.{vec_capacity, arith}
+use Rattle.std.proofs.Common.{refl, vec_capacity, arith}
+use Rattle.handler_check.proofs.FewTables.{few_kinds}
+use Rattle.handler_check.specs.Resolved.{shape_of}
 use Rattle.live_session.specs.Held.{held}
-use Rattle.live_session.proofs.OpenLemmas.{few_kinds, kept, lists_long, live_made}
+use Rattle.live_session.proofs.OpenLemmas.{kept, lists_long, live_made}
 use Rattle.live_session.proofs.opening.made.Goals as goal
 
 pub tables_and_adds-requires-clause-long : goal.tables_and_adds-requires-clause-long
 tables_and_adds-requires-clause-long c = lists_long c.args.loaded c.args.most_names c.requires.can
 
 pub tables_and_adds-requires-clause-few : goal.tables_and_adds-requires-clause-few
-tables_and_adds-requires-clause-few c = few_kinds c.args.loaded c.args.most_names c.requires.can
+tables_and_adds-requires-clause-few c = few_kinds c.args.loaded.program.file (shape_of c.args.loaded.program.file) c.requires.can.accepted refl
 
 pub invariant_of-result : goal.invariant_of-result
 invariant_of-result c = (
