@@ -95,7 +95,7 @@ module _ (command : Command) (input text out out_new message message_new : List 
     status = status.NoMemory;
     text = [];
     ends = wanting command input (length out);
-    handed = given;
+    handed = given.1;
   }
 
   pub whole_by : CommandAnswers (Some command) input (answer.Text text) → IsHandedOver (ending status.Fine (length text) (length out)) (handed (ending status.Fine (length text) (length out)) text) out out_new message message_new a number → IsAnswered command input out out_new message message_new a number

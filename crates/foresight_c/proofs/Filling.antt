@@ -5,9 +5,15 @@ use Rattle.foresight_c.specs.Fronts.{put_at_front}
 use Rattle.foresight_c.specs.TextRooms.{IsCounted, IsPutFront}
 
 -- ---- counting
+pub counted_start : (whole : List ℕ) → IsCounted 0 whole whole
+counted_start whole = (omega arith, omega arith)
+
 -- at the end all was counted
 pub counted_end : (count : ℕ) (whole : List ℕ) → IsCounted count whole [] → count < 18446744073709551615 → count ≡ length whole
-counted_end count whole c l = let e = c l in omega (arith, e)
+counted_end count whole c l = omega (arith, c.1, l)
+
+pub counted_past : (count : ℕ) (whole : List ℕ) → IsCounted count whole [] → 18446744073709551615 ≤ count → 18446744073709551615 ≤ length whole
+counted_past count whole c l = omega (arith, c.1, l)
 
 -- ---- writing
 front_length : (old done : List ℕ) → length (put_at_front old done) ≡ length old

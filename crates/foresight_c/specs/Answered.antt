@@ -1,5 +1,5 @@
 -- What a call of the library promises.
-use Rattle.std.specs.Prelude.{◌≡◌, ◌≢◌, ◌<◌, ◌≤◌, ◌⊎◌, ℕ, min, List, [], length, Some}
+use Rattle.std.specs.Prelude.{◌≡◌, ◌≢◌, ◌-◌, ◌<◌, ◌≤◌, ◌^◌, ◌⊎◌, ℕ, min, List, [], length, Some}
 use Rattle.serve_faults.specs.Command.{Command}
 use Rattle.serve_faults.specs.declared.status.Fault.{Fault}
 use Rattle.serve_faults.specs.declared.status.Status.{Status}
@@ -47,13 +47,14 @@ pub record IsHandedOver (s : Status) (text out out_new message message_new : Lis
   pub message_is : message_new ≡ put_at_front message (message_of s)
   pub told : a.told ≡ min (length message) (length (message_of s))
 
--- a text was handed over, whole or as much of it as there is room for; or nothing was, since memory
--- ran out
+-- a text was handed over, whole or as much of it as there is room for; or nothing was, as if memory
+-- had run out, since its length is no number below the largest
 abbrev pub IsGiven : List ℕ → List ℕ → List ℕ → List ℕ → List ℕ → Answer → ℕ → Type 0
 IsGiven text out out_new message message_new a number =
     IsHandedOver (ending status.Fine (length text) (length out)) text out out_new message
     message_new a number
-    ⊎ IsHandedOver status.NoMemory [] out out_new message message_new a number
+    ⊎ ((2 ^ 64 - 1 ≤ length text)
+    × IsHandedOver status.NoMemory [] out out_new message message_new a number)
 
 -- A command answered to an input, in the caller's rooms.
 pub record IsAnswered (command : Command) (input out out_new message message_new : List ℕ)

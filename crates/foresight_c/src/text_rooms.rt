@@ -1,6 +1,6 @@
 // Texts that are put into a caller's room.
 
-ghost use Rattle.std.specs.Prelude.{◌≡◌, IfSome, length, min};
+ghost use Rattle.std.specs.Prelude.{◌≡◌, ◌-◌, ◌≤◌, ◌^◌, MatchOption, length, min};
 ghost use Rattle.foresight_c.specs.Fronts.{put_at_front};
 
 use crate::fronts::put_front;
@@ -25,7 +25,8 @@ impl TextSink for TextCounter {
 /// How many bytes a text has, if that is below the largest number.
 pub(crate) fn length_of<P: PutsText>(text: &P) -> Option<usize>
     requires { P.CanPut text.now }
-    ensures { IfSome result (λ count. count ≡ length (P.text text.now)) }
+    ensures { MatchOption result (2 ^ 64 - 1 ≤ length (P.text text.now))
+        (λ count. count ≡ length (P.text text.now)) }
 {
     let mut counter = TextCounter { count: 0 };
     text.put_text(&mut counter);
