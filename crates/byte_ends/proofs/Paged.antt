@@ -1,6 +1,6 @@
 -- A text that is put in pages, step by step.
 use Rattle.std.proofs.Common.{◌≡◌, ℕ, Bool, true, false, not, List, [], ◌++◌, Option, refl, sym, ap, ◌∙◌, subst, append_assoc, append-nil}
-use Rattle.byte_ends.specs.Ends.{Rose, Counted, Grew, GrewByFront}
+use Rattle.byte_ends.specs.Ends.{IsRaised, Counted, Appended, AppendedPrefix}
 use Rattle.byte_ends.specs.Texts.{Due, Ends, IsPaged, IsPut}
 use Rattle.byte_ends.proofs.EndsLemmas.{grew_nothing, grew_more, grew_front_within, rose_since}
 
@@ -35,14 +35,14 @@ paged_flush {old} {mid} {new} {fo} {fm} {fn} was now {waiting} {whole} {rest} p 
   fault = λ e. fails was refl e;
 }
   where
-    fails : (b : Bool) → was ≡ b → now ≡ true → Rose fo fn × GrewByFront old new whole
+    fails : (b : Bool) → was ≡ b → now ≡ true → IsRaised fo fn × AppendedPrefix old new whole
     fails true b e =
         let f = p.fault b in
-        ((w.still b).2 ∙ f.0, subst (λ o. GrewByFront old o whole) (sym (w.still b).1) f.1)
+        ((w.still b).2 ∙ f.0, subst (λ o. AppendedPrefix old o whole) (sym (w.still b).1) f.1)
     fails false b e =
         let s = p.sound b in
         let f = w.fault b e in
-        (rose_since fo fm fn (p.well b) f.0, subst (GrewByFront old new) s.2 (grew_front_within old mid new s.0 waiting rest s.1 f.1))
+        (rose_since fo fm fn (p.well b) f.0, subst (AppendedPrefix old new) s.2 (grew_front_within old mid new s.0 waiting rest s.1 f.1))
 
 -- bytes are written past an empty page
 pub paged_write : {old mid new : Option (List ℕ)} {fo fm fn : ℕ} (was now : Bool) {whole rest : List ℕ} (bytes : List ℕ) → IsPaged old mid fo fm was [] whole (bytes ++ rest) → IsPut mid new fm fn was now bytes → IsPaged old new fo fn now [] whole rest
@@ -64,9 +64,9 @@ paged_past {old} {mid} {more} {new} {fo} {fm} {fl} {fn} was mean now {waiting} {
 
 -- nothing is to come, and nothing waits: what was written is all of the text, or a front of it
 pub record Closed (old new : Option (List ℕ)) (fo fn : ℕ) (broken : Bool) (text : List ℕ) : Type 0 where
-  pub all : not broken ≡ true → Grew old new text
+  pub all : not broken ≡ true → Appended old new text
   pub faults : Counted (not broken) fo fn
-  pub front : not broken ≡ false → GrewByFront old new text
+  pub front : not broken ≡ false → AppendedPrefix old new text
 
 pub paged_end : {old new : Option (List ℕ)} {fo fn : ℕ} (broken : Bool) {whole : List ℕ} → IsPaged old new fo fn broken [] whole [] → Closed old new fo fn broken whole
 paged_end {old} {new} {fo} {fn} true {whole} p = record {
@@ -75,7 +75,7 @@ paged_end {old} {new} {fo} {fn} true {whole} p = record {
   front = λ f. (p.fault refl).1;
 }
 paged_end {old} {new} {fo} {fn} false {whole} p = record {
-  all = λ f. let s = p.sound refl in subst (Grew old new) (sym (append-nil s.0) ∙ s.2) s.1;
+  all = λ f. let s = p.sound refl in subst (Appended old new) (sym (append-nil s.0) ∙ s.2) s.1;
   faults = (λ f. p.well refl, λ f. absurd (cc));
   front = λ f. absurd (cc);
 }

@@ -12,28 +12,28 @@ abbrev pub raised : ℕ → ℕ
 raised count = min (count + 1) (2 ^ 64 - 1)
 
 -- a count rose by one, or stands at the largest u64
-abbrev pub Rose : ℕ → ℕ → Type 0
-Rose before now = now ≡ raised before
+abbrev pub IsRaised : ℕ → ℕ → Type 0
+IsRaised before now = now ≡ raised before
 
 -- how often a source or a sink failed: as often as before where all went well, and else once more
 abbrev pub Counted : Bool → ℕ → ℕ → Type 0
-Counted well before now = (well ≡ true → now ≡ before) × (well ≡ false → Rose before now)
+Counted well before now = (well ≡ true → now ≡ before) × (well ≡ false → IsRaised before now)
 
 -- so it is with a read that answers this
 abbrev pub ReadCounts : ℕ → ℕ → Got → Type 0
 ReadCounts before now (got.Bytes n) = now ≡ before
 ReadCounts before now got.End = now ≡ before
-ReadCounts before now got.Failed = Rose before now
+ReadCounts before now got.Failed = IsRaised before now
 
 -- and with a write
 abbrev pub WriteCounts : ℕ → ℕ → Put → Type 0
 WriteCounts before now (put.Took n) = now ≡ before
-WriteCounts before now put.Failed = Rose before now
+WriteCounts before now put.Failed = IsRaised before now
 
 -- and with the reading of a whole source that didn't come to its end
 abbrev pub UnreadCounts : ℕ → ℕ → Unread → Type 0
 UnreadCounts before now unread.TooLarge = now ≡ before
-UnreadCounts before now unread.Failed = Rose before now
+UnreadCounts before now unread.Failed = IsRaised before now
 UnreadCounts before now unread.NoMemory = now ≡ before
 
 -- what is told stands as it was
@@ -64,19 +64,19 @@ abbrev pub IsAtEnd : Option (List ℕ) → Option (List ℕ) → Type 0
 IsAtEnd old new = IfSome old (λ _. new ≡ Some [])
 
 -- the first n of the bytes that were left are gone, and no others, where they are told
-abbrev pub LostFirst : Option (List ℕ) → Option (List ℕ) → ℕ → Type 0
-LostFirst old new n = IfSome old (λ bytes. new ≡ Some (drop n bytes))
+abbrev pub Consumed : Option (List ℕ) → Option (List ℕ) → ℕ → Type 0
+Consumed old new n = IfSome old (λ bytes. new ≡ Some (drop n bytes))
 
 -- so many of the first bytes at most are gone, and no others, where they are told
-abbrev pub LostAtMost : Option (List ℕ) → Option (List ℕ) → ℕ → Type 0
-LostAtMost old new most = IfSome old (λ bytes. (n : ℕ) × (n ≤ most) × (n ≤ length bytes)
+abbrev pub ConsumedAtMost : Option (List ℕ) → Option (List ℕ) → ℕ → Type 0
+ConsumedAtMost old new most = IfSome old (λ bytes. (n : ℕ) × (n ≤ most) × (n ≤ length bytes)
     × (new ≡ Some (drop n bytes)))
 
 -- what is held grew by these bytes, where it is told
-abbrev pub Grew : Option (List ℕ) → Option (List ℕ) → List ℕ → Type 0
-Grew old new bytes = IfSome old (λ held. new ≡ Some (held ++ bytes))
+abbrev pub Appended : Option (List ℕ) → Option (List ℕ) → List ℕ → Type 0
+Appended old new bytes = IfSome old (λ held. new ≡ Some (held ++ bytes))
 
 -- what is held grew by a front of these bytes, where it is told
-abbrev pub GrewByFront : Option (List ℕ) → Option (List ℕ) → List ℕ → Type 0
-GrewByFront old new bytes = IfSome old (λ held. (n : ℕ) × (n ≤ length bytes)
+abbrev pub AppendedPrefix : Option (List ℕ) → Option (List ℕ) → List ℕ → Type 0
+AppendedPrefix old new bytes = IfSome old (λ held. (n : ℕ) × (n ≤ length bytes)
     × (new ≡ Some (held ++ take n bytes)))

@@ -1,6 +1,6 @@
 -- Texts that are put piece by piece, at sinks that say how much of a text is still to come.
 use Rattle.std.specs.Prelude.{◌≡◌, ℕ, Bool, true, false, List, ◌++◌, Option, []}
-use Rattle.byte_ends.specs.Ends.{Rose, Grew, GrewByFront}
+use Rattle.byte_ends.specs.Ends.{IsRaised, Appended, AppendedPrefix}
 
 -- How much is due at a sink of text: from a start with a whole text to put, a rest is still to come
 -- at a later state.
@@ -28,16 +28,16 @@ pub record IsPaged (old new : Option (List ℕ)) (faults_old faults_new : ℕ) (
     (waiting whole rest : List ℕ) : Type 0 where
   pub well : broken ≡ false → faults_new ≡ faults_old
   pub sound : broken ≡ false
-      → (done : List ℕ) × Grew old new done × (done ++ (waiting ++ rest) ≡ whole)
-  pub fault : broken ≡ true → Rose faults_old faults_new × GrewByFront old new whole
+      → (done : List ℕ) × Appended old new done × (done ++ (waiting ++ rest) ≡ whole)
+  pub fault : broken ≡ true → IsRaised faults_old faults_new × AppendedPrefix old new whole
 
 -- What a step puts to a sink of bytes, unless that had failed: the bytes, or a front of them where it
 -- fails now.
 pub record IsPut (old new : Option (List ℕ)) (faults_old faults_new : ℕ)
     (broken_old broken_new : Bool) (bytes : List ℕ) : Type 0 where
   pub well : broken_new ≡ false → faults_new ≡ faults_old
-  pub sound : broken_new ≡ false → (broken_old ≡ false) × Grew old new bytes
+  pub sound : broken_new ≡ false → (broken_old ≡ false) × Appended old new bytes
   pub fault : broken_old ≡ false → broken_new ≡ true
-      → Rose faults_old faults_new × GrewByFront old new bytes
+      → IsRaised faults_old faults_new × AppendedPrefix old new bytes
   pub still : broken_old ≡ true → (broken_new ≡ true) × (new ≡ old)
       × (faults_new ≡ faults_old)

@@ -1,7 +1,7 @@
 // A text that is written in pages.
 
 ghost use Rattle.std.specs.Prelude.{◌≡◌, [], true, false};
-ghost use Rattle.byte_ends.specs.Ends.{Counted, Grew, GrewByFront};
+ghost use Rattle.byte_ends.specs.Ends.{Counted, Appended, AppendedPrefix};
 ghost use Rattle.byte_ends.specs.Texts.{IsPut};
 
 use crate::sink::Sink;
@@ -95,10 +95,10 @@ fn write_unless<O: Sink>(broken: bool, out: &mut O, bytes: &[u8]) -> bool
 /// after a fault.
 pub fn write_text<O: Sink, P: PutsText>(out: &mut O, text: &P, page: WriteBuffer) -> bool
     requires { P.CanPut text.now }
-    ensures all { result ≡ true → Grew (O.held out.old) (O.held out.new) (P.text text.now) }
+    ensures all { result ≡ true → Appended (O.held out.old) (O.held out.new) (P.text text.now) }
     ensures faults { Counted result (O.faults out.old) (O.faults out.new) }
     ensures front { result ≡ false
-        → GrewByFront (O.held out.old) (O.held out.new) (P.text text.now) }
+        → AppendedPrefix (O.held out.old) (O.held out.new) (P.text text.now) }
 {
     let mut writer = PageWriter::over(out, page);
     text.put_text(&mut writer);

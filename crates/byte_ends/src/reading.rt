@@ -2,7 +2,7 @@
 
 ghost use Rattle.std.specs.Prelude.{◌≡◌, ◌+◌, ◌<◌, ◌≤◌, length, vec_len, IfOk, IfErr, OnOk, IfSome, IsErrOf};
 ghost use Rattle.session_values.specs.Limits.{max_input};
-ghost use Rattle.byte_ends.specs.Ends.{UnreadCounts, IsAtEnd, LostFirst, LostAtMost};
+ghost use Rattle.byte_ends.specs.Ends.{UnreadCounts, IsAtEnd, Consumed, ConsumedAtMost};
 
 use crate::source::{Got, Source};
 use session_values::MAX_INPUT;
@@ -34,15 +34,15 @@ pub fn read_up_to<I: Source>(alloc: Global, source: &mut I, most: usize) -> Resu
     ensures large { IsErrOf result Unread.TooLarge
         → IfSome (I.left source.old) (λ all. most < length all) }
     ensures gone { IsErrOf result Unread.TooLarge
-        → LostFirst (I.left source.old) (I.left source.new) (most + 1) }
+        → Consumed (I.left source.old) (I.left source.new) (most + 1) }
     // No read failed, or one did: where the answer says so.
     ensures well { OnOk result (I.faults source.new ≡ I.faults source.old) }
     ensures failed { IfErr result (UnreadCounts (I.faults source.old) (I.faults source.new)) }
     // What was read is gone, and no more: at a fault no more than the bound, and never more than
     // one byte above it.
     ensures broken { IsErrOf result Unread.Failed
-        → LostAtMost (I.left source.old) (I.left source.new) most }
-    ensures lost { LostAtMost (I.left source.old) (I.left source.new) (most + 1) }
+        → ConsumedAtMost (I.left source.old) (I.left source.new) most }
+    ensures lost { ConsumedAtMost (I.left source.old) (I.left source.new) (most + 1) }
 {
     let mut bytes = Vec::new(alloc);
     let mut buf = [0u8; 16384];
@@ -72,15 +72,15 @@ pub fn read_all<I: Source>(alloc: Global, source: &mut I) -> Result<Vec<u8>, Unr
     ensures large { IsErrOf result Unread.TooLarge
         → IfSome (I.left source.old) (λ all. max_input < length all) }
     ensures gone { IsErrOf result Unread.TooLarge
-        → LostFirst (I.left source.old) (I.left source.new) (max_input + 1) }
+        → Consumed (I.left source.old) (I.left source.new) (max_input + 1) }
     // No read failed, or one did: where the answer says so.
     ensures well { OnOk result (I.faults source.new ≡ I.faults source.old) }
     ensures failed { IfErr result (UnreadCounts (I.faults source.old) (I.faults source.new)) }
     // What was read is gone, and no more: at a fault no more than the bound, and never more than
     // one byte above it.
     ensures broken { IsErrOf result Unread.Failed
-        → LostAtMost (I.left source.old) (I.left source.new) max_input }
-    ensures lost { LostAtMost (I.left source.old) (I.left source.new) (max_input + 1) }
+        → ConsumedAtMost (I.left source.old) (I.left source.new) max_input }
+    ensures lost { ConsumedAtMost (I.left source.old) (I.left source.new) (max_input + 1) }
 {
     read_up_to(alloc, source, MAX_INPUT)
 }

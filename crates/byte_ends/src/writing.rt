@@ -1,16 +1,16 @@
 // All of some bytes, written to a sink.
 
 ghost use Rattle.std.specs.Prelude.{◌≡◌, [], true, false};
-ghost use Rattle.byte_ends.specs.Ends.{Counted, Grew, GrewByFront};
+ghost use Rattle.byte_ends.specs.Ends.{Counted, Appended, AppendedPrefix};
 
 use crate::sink::{Put, Sink};
 
 /// Writes all of the bytes, by as many writes as the sink needs. It answers `false` after a fault,
 /// and writes nothing more.
 pub fn write_all<O: Sink>(out: &mut O, bytes: &[u8]) -> bool
-    ensures all { result ≡ true → Grew (O.held out.old) (O.held out.new) bytes.now }
+    ensures all { result ≡ true → Appended (O.held out.old) (O.held out.new) bytes.now }
     ensures faults { Counted result (O.faults out.old) (O.faults out.new) }
-    ensures front { result ≡ false → GrewByFront (O.held out.old) (O.held out.new) bytes.now }
+    ensures front { result ≡ false → AppendedPrefix (O.held out.old) (O.held out.new) bytes.now }
     ensures nothing { bytes.now ≡ [] → (result ≡ true) × (out.new ≡ out.old) }
 {
     let mut at = 0;

@@ -3,7 +3,7 @@ use Rattle.std.proofs.Common.{◌≡◌, ℕ, zero, suc, ◌+◌, ◌==◌, ◌<
 use Rattle.std.proofs.lemmas.List.{take_more, take-append-drop, length-take, take_all}
 use Rattle.std.proofs.lemmas.Bool.{eq-eqb, ne_eqb}
 use Rattle.session_values.specs.declared.reply.Reply.{Reply}
-use Rattle.byte_ends.specs.Ends.{GrewByFront}
+use Rattle.byte_ends.specs.Ends.{AppendedPrefix}
 use Rattle.byte_ends.proofs.EndsLemmas.{grew_more}
 use Rattle.reply_sheet.proofs.TextLemmas.{Waits, broke_off}
 use Rattle.client_sheet.specs.declared.arrival.Arrival.{Arrival}
@@ -153,14 +153,14 @@ module _ (names : List (List ℕ)) where
 
   -- writing what waits broke off, at an arrival of a client
   pub broke_in : (got : List Arrival) (rs : List Reply) (client n i : ℕ) (old mid new : Option (List ℕ)) (waiting : List ℕ) → client < n → length got ≡ length rs
-      → Waits old mid waiting (text_to got rs client i) → GrewByFront mid new waiting → GrewByFront old new (clients_text names got rs n)
+      → Waits old mid waiting (text_to got rs client i) → AppendedPrefix mid new waiting → AppendedPrefix old new (clients_text names got rs n)
   broke_in got rs client n i old mid new waiting h e w broken =
       let cut = to_front got rs client n i h e in
       broke_off old mid new waiting (text_to got rs client i) cut.0 (clients_text names got rs n) w broken cut.1
 
   -- and behind some clients
   pub broke_behind : (got : List Arrival) (rs : List Reply) (client n : ℕ) (old mid new : Option (List ℕ)) (waiting : List ℕ) → client ≤ n
-      → Waits old mid waiting (clients_text names got rs client) → GrewByFront mid new waiting → GrewByFront old new (clients_text names got rs n)
+      → Waits old mid waiting (clients_text names got rs client) → AppendedPrefix mid new waiting → AppendedPrefix old new (clients_text names got rs n)
   broke_behind got rs client n old mid new waiting h w broken =
       let cut = front got rs client n h in
       broke_off old mid new waiting (clients_text names got rs client) cut.0 (clients_text names got rs n) w broken cut.1

@@ -3,7 +3,7 @@
 ghost use Rattle.std.specs.Prelude.{◌≡◌, ◌+◌, ◌<◌, ◌≤◌, ◌++◌, true, false, length};
 ghost use Rattle.std.specs.List.{AllByRecursion};
 ghost use Rattle.session_values.specs.Limits.{max_requests};
-ghost use Rattle.byte_ends.specs.Ends.{Counted, GrewByFront};
+ghost use Rattle.byte_ends.specs.Ends.{Counted, AppendedPrefix};
 ghost use Rattle.session_values.specs.Reply.{values_of};
 ghost use Rattle.session_values.specs.ReplyText.{IsPrintable};
 ghost use Rattle.client_sheet.specs.Arrivals.{max_clients};
@@ -35,7 +35,7 @@ pub(crate) fn gather_line<O: Sink>(
         buffer.new.held (client_line names.now client ticket reply.now) }
     ensures faults { Counted result (O.faults out.old) (O.faults out.new) }
     ensures front { result ≡ false
-        → GrewByFront (O.held out.old) (O.held out.new) buffer.old.held }
+        → AppendedPrefix (O.held out.old) (O.held out.new) buffer.old.held }
 {
     if !buffer.reserve(LONGEST) {
         if !write_all(out, buffer.bytes()) {

@@ -2,7 +2,7 @@
 
 ghost use Rattle.std.specs.Prelude.{◌≡◌, ◌≤◌, length, true, false};
 ghost use Rattle.session_values.specs.Limits.{max_requests};
-ghost use Rattle.byte_ends.specs.Ends.{Counted, Grew, GrewByFront};
+ghost use Rattle.byte_ends.specs.Ends.{Counted, Appended, AppendedPrefix};
 ghost use Rattle.reply_sheet.specs.Printable.{ArePrintableReplies};
 ghost use Rattle.client_sheet.specs.Arrivals.{max_clients};
 ghost use Rattle.client_sheet.specs.ClientText.{clients_text};
@@ -28,10 +28,10 @@ pub fn write_clients<O: Sink>(
     requires replied { length arrivals.now ≡ length replies.now }
     requires few { length replies.now ≤ max_requests }
     requires printable { ArePrintableReplies names.now replies.now }
-    ensures all { result ≡ true → Grew (O.held out.old) (O.held out.new)
+    ensures all { result ≡ true → Appended (O.held out.old) (O.held out.new)
         (clients_text names.now arrivals.now replies.now clients) }
     ensures faults { Counted result (O.faults out.old) (O.faults out.new) }
-    ensures front { result ≡ false → GrewByFront (O.held out.old) (O.held out.new)
+    ensures front { result ≡ false → AppendedPrefix (O.held out.old) (O.held out.new)
         (clients_text names.now arrivals.now replies.now clients) }
 {
     buffer.clear();

@@ -1,14 +1,14 @@
 -- How a call of the library ends, from what a run over memory promises.
 use Rattle.std.proofs.Common.{◌≡◌, ℕ, inl, inr, Bool, true, false, cond, nat_le, List, [], length, Option, Some, ap, refl, sym, subst}
 use Rattle.std.proofs.lemmas.Bool.{leb-true, leb-false}
-use Rattle.byte_ends.specs.Ends.{Grew}
+use Rattle.byte_ends.specs.Ends.{Appended}
 use Rattle.serve_faults.specs.Command.{Command}
 use Rattle.serve_faults.specs.declared.status.Fault.{Fault}
 use Rattle.serve_faults.specs.declared.status.Status.{Status}
 use Rattle.serve_faults.specs.declared.status.Status.TheVariants as status
 use Rattle.serve_faults.specs.Answer.{CommandAnswers}
 use Rattle.serve_faults.specs.Answer as answer
-use Rattle.serve_faults.specs.Changes.{Change}
+use Rattle.byte_ends.specs.Changes.{Change}
 use Rattle.serve_faults.specs.Commands.{input_of}
 use Rattle.serve_faults.proofs.OneAnswer.{text_or_refused}
 use Rattle.serve_faults.proofs.OneFault.{refused_once}
@@ -20,10 +20,10 @@ use Rattle.foresight_c.specs.declared.answer.Answer.{Answer}
 use Rattle.foresight_c.specs.Endings.{ending, handed}
 
 -- what an empty store holds of a text that it took is the text
-pub whole : (o p : Option (List ℕ)) (text got : List ℕ) → o ≡ Some [] → p ≡ Some got → Grew o p text → text ≡ got
+pub whole : (o p : Option (List ℕ)) (text got : List ℕ) → o ≡ Some [] → p ≡ Some got → Appended o p text → text ≡ got
 whole o p text got empty held grew =
-    let first : Grew (Some []) p text = subst (λ (q : Option (List ℕ)). Grew q p text) empty grew in
-    let now : Grew (Some []) (Some got) text = subst (λ (q : Option (List ℕ)). Grew (Some []) q text) held first in
+    let first : Appended (Some []) p text = subst (λ (q : Option (List ℕ)). Appended q p text) empty grew in
+    let now : Appended (Some []) (Some got) text = subst (λ (q : Option (List ℕ)). Appended (Some []) q text) held first in
     cc
 
 -- a call answers its command, by another name of the call

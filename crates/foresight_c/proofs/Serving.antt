@@ -1,7 +1,7 @@
 -- What a call that serves lines hands over, from what the session's own call promises.
 use Rattle.std.proofs.Common.{◌≡◌, ℕ, ◌≤◌, ◌⊎◌, min, Bool, true, false, cond, nat_le, List, [], length, Option, Some, inl, inr, refl, ap, ◌∙◌, subst, sym, arith}
 use Rattle.live_session.specs.Batches.{BatchAnswered}
-use Rattle.serve_faults.specs.Changes.{Change, Took}
+use Rattle.byte_ends.specs.Changes.{Change, WroteAll}
 use Rattle.serve_faults.specs.declared.status.Status.{Status}
 use Rattle.serve_faults.specs.declared.status.Status.TheVariants as status
 use Rattle.live_session.specs.Dumps.{DumpEnds}
@@ -54,7 +54,7 @@ module _ {O : Type 0} (v : LiveView) (text out out_new message message_new : Lis
   handed_whole true = refl
   handed_whole false = refl
 
-  written : Took store (dump_of v) → IsHandedOver (ending status.Fine (length text) (length out)) (handed (ending status.Fine (length text) (length out)) text) out out_new message message_new a n → IsDumped v out out_new message message_new a n
+  written : WroteAll store (dump_of v) → IsHandedOver (ending status.Fine (length text) (length out)) (handed (ending status.Fine (length text) (length out)) text) out out_new message message_new a n → IsDumped v out out_new message message_new a n
   written took given =
       let now : IsHandedOver (ending status.Fine (length text) (length out)) text out out_new message message_new a n =
       subst (λ (t : List ℕ). IsHandedOver (ending status.Fine (length text) (length out)) t out out_new message message_new a n) (handed_whole (nat_le (length text) (length out))) given in

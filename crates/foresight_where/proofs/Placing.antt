@@ -2,7 +2,7 @@
 use Rattle.std.proofs.Common.{◌≡◌, ℕ, ◌≤◌, Bool, true, false, ◌&&◌, List, length, Option, Some, None, IfSome, inr, sym, ap, ◌∙◌, subst}
 use Rattle.std.proofs.lemmas.Bool.{le-leb, and_parts}
 use Rattle.byte_ends.specs.Ends.{IsAtEnd}
-use Rattle.standard_streams.specs.Changes.{Change, IsUntouched}
+use Rattle.byte_ends.specs.Changes.{Change, IsUntouched}
 use Rattle.foresight_where.specs.declared.asking.Form.{Form}
 use Rattle.foresight_where.specs.declared.ending.Ending.{Ending}
 use Rattle.foresight_where.specs.Endings.{most}

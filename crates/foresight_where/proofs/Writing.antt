@@ -1,8 +1,8 @@
 -- One text written behind another, and what is shown by what was written.
 use Rattle.std.proofs.Common.{◌≡◌, ◌≢◌, ℕ, List, ◌++◌, true, Option, None, inl, inr, sym, ap, subst, ◌∙◌, refl}
-use Rattle.byte_ends.specs.Ends.{Rose, GrewByFront}
+use Rattle.byte_ends.specs.Ends.{IsRaised, AppendedPrefix}
 use Rattle.byte_ends.proofs.EndsLemmas.{grew_more, grew_front, front_of_more, rose_since}
-use Rattle.standard_streams.specs.Changes.{Change, Failed, Took, TookFront, change}
+use Rattle.byte_ends.specs.Changes.{Change, Failed, WroteAll, WrotePrefix, change}
 use Rattle.refusal_places.specs.Answers.{answer}
 use Rattle.refusal_advice.specs.Json.{IsJson}
 use Rattle.refusal_advice.specs.Told.{IsTold}
@@ -16,19 +16,19 @@ use Rattle.foresight_where.specs.Showing.{IsTextOf, Shows, Writes, has_begun_wri
 
 module _ {O : Type 0} (bytes : O → Option (List ℕ)) (faults : O → ℕ) where
   -- the first was taken
-  pub writes_more : (old mid new : O) (xs ys : List ℕ) (wanted e : Ending) → Took (change bytes faults old mid) xs → Writes ys wanted (change bytes faults mid new) e → Writes (xs ++ ys) wanted (change bytes faults old new) e
+  pub writes_more : (old mid new : O) (xs ys : List ℕ) (wanted e : Ending) → WroteAll (change bytes faults old mid) xs → Writes ys wanted (change bytes faults mid new) e → Writes (xs ++ ys) wanted (change bytes faults old new) e
   writes_more old mid new xs ys wanted e first more = elim more [
     | inl w ↦ inl (w.0, (w.1.0 ∙ first.0, grew_more (bytes old) (bytes mid) (bytes new) xs ys first.1 w.1.1))
     | inr w ↦ inr (w.0, rose_since (faults old) (faults mid) (faults new) first.0 w.1, grew_front (bytes old) (bytes mid) (bytes new) xs ys first.1 w.2)
   ]
 
   -- a write of it failed
-  pub writes_none : (old new : O) (xs ys : List ℕ) (wanted : Ending) → Rose (faults old) (faults new) → GrewByFront (bytes old) (bytes new) xs → Writes (xs ++ ys) wanted (change bytes faults old new) WriteFault
+  pub writes_none : (old new : O) (xs ys : List ℕ) (wanted : Ending) → IsRaised (faults old) (faults new) → AppendedPrefix (bytes old) (bytes new) xs → Writes (xs ++ ys) wanted (change bytes faults old new) WriteFault
   writes_none old new xs ys wanted rose front = inr (refl, rose, front_of_more (bytes old) (bytes new) xs ys front)
 
 module _ {O : Type 0} (f : Form) (name input file bytes : List ℕ) (out : Change O) (w : Ending) (due : placed (answer name file (refusal_line input)) ≡ w) (text : IsTextOf f name input file bytes w)
     (shown : is_shown w ≡ true) (begun : has_begun_writing w ≡ true) (other : w ≢ WriteFault) where
-  all : Took out bytes → Shows f name input file out w
+  all : WroteAll out bytes → Shows f name input file out w
   all took = record {
     ends = shown;
     ending = inl (sym due);
@@ -37,7 +37,7 @@ module _ {O : Type 0} (f : Form) (name input file bytes : List ℕ) (out : Chang
     output = record { write_fault = λ x. absurd (other x); written_well = λ _. took.0; unwritten = λ x. absurd (cc (sym begun ∙ x)) };
   }
 
-  broken : Failed out → TookFront out bytes → Shows f name input file out WriteFault
+  broken : Failed out → WrotePrefix out bytes → Shows f name input file out WriteFault
   broken failed front = record {
     ends = refl;
     ending = inr (inr refl);

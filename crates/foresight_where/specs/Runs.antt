@@ -1,11 +1,11 @@
 -- What a run promises, over its words, its input, the file, its outputs and how it ended.
 use Rattle.std.specs.Prelude.{◌≡◌, ◌≢◌, ◌+◌, ◌⊎◌, ℕ, Bool, true, false, ◌&&◌, nat_lt, nat_le, if◌then◌else◌, List, [], ◌∷◌, length, Option, Some, IfSome, codes}
 use Rattle.std.specs.Str.{bytes_eq}
-use Rattle.byte_ends.specs.Ends.{IsAtEnd, LostAtMost}
+use Rattle.byte_ends.specs.Ends.{IsAtEnd, ConsumedAtMost}
 use Rattle.refusal_advice.specs.Told.{Either}
 use Rattle.refusal_places.specs.Answers.{answer, names_place, said_of}
 use Rattle.refusal_places.specs.RuleTable.{rules_text}
-use Rattle.standard_streams.specs.Changes.{Change, Failed, HasNotFailed, IsUntouched, Took, TookFront}
+use Rattle.byte_ends.specs.Changes.{Change, Failed, HasNotFailed, IsUntouched, WroteAll, WrotePrefix}
 use Rattle.foresight_where.specs.declared.asking.Form.{Form}
 use Rattle.foresight_where.specs.declared.asking.Form.TheVariants as form
 use Rattle.foresight_where.specs.declared.ending.Ending.{Ending}
@@ -44,10 +44,10 @@ pub record Answered {O : Type 0} (f : Form) (name input file : List ℕ) (out : 
       ⊎ ((e ≡ NoMemory) ⊎ ((e ≡ ReadFault) ⊎ (e ≡ WriteFault)))
   -- All of its text was written,
   pub written : has_written e ≡ true
-      → (text : List ℕ) × IsTextOf f name input file text e × Took out text
+      → (text : List ℕ) × IsTextOf f name input file text e × WroteAll out text
   -- or, before a write failed, a front of the text that is due.
   pub front : e ≡ WriteFault → (text : List ℕ)
-      × IsTextOf f name input file text (due name input file) × TookFront out text
+      × IsTextOf f name input file text (due name input file) × WrotePrefix out text
 
 -- ---- what is promised
 
@@ -55,8 +55,8 @@ pub record Answered {O : Type 0} (f : Form) (name input file : List ℕ) (out : 
 -- a write failed, or memory ran out.
 pub record Prints {O : Type 0} (text : List ℕ) (out : Change O) (e : Ending) : Type 0 where
   pub ending : (e ≡ Reported) ⊎ ((e ≡ NoMemory) ⊎ (e ≡ WriteFault))
-  pub told : e ≡ Reported → Took out text
-  pub front : e ≡ WriteFault → TookFront out text
+  pub told : e ≡ Reported → WroteAll out text
+  pub front : e ≡ WriteFault → WrotePrefix out text
   -- Its clauses are `write_fault`, `written_well` and `unwritten`.
   pub written : Written out e
 
@@ -88,7 +88,7 @@ pub record Places {I F O : Type 0} (f : Form) (name : List ℕ) (source : Change
   pub written : Written out e
   -- The input is read to its end, or up to the first byte that is too many; never further.
   pub end : has_begun_writing e ≡ true → IsAtEnd (source.bytes source.old) (source.bytes source.new)
-  pub lost : LostAtMost (source.bytes source.old) (source.bytes source.new) (most + 1)
+  pub lost : ConsumedAtMost (source.bytes source.old) (source.bytes source.new) (most + 1)
   -- The file is opened only where the first refusal names a place, and is read to its end.
   pub unopened : IfSome (source.bytes source.old)
       (λ input. is_looked_at input ≡ false → IsUntouched files)
@@ -143,6 +143,6 @@ Runs (word ∷ name ∷ more ∷ words) source files file_of out e = IsRefused s
 -- The line on the error output is that of the ending and no write of it failed; or a write failed,
 -- none was tried after it, and a front of the line stands there.
 pub record EndsWithLine {E : Type 0} (err : Change E) (e : Ending) : Type 0 where
-  pub line : Took err (line_of e) ⊎ Failed err × TookFront err (line_of e)
+  pub line : WroteAll err (line_of e) ⊎ Failed err × WrotePrefix err (line_of e)
   -- A run that has written all writes none.
   pub quiet : has_written e ≡ true → IsUntouched err

@@ -3,7 +3,7 @@ use Rattle.std.specs.Prelude.{◌≡◌, ◌≢◌, ◌⊎◌, ℕ, Bool, true, 
 use Rattle.refusal_advice.specs.Json.{IsJson}
 use Rattle.refusal_advice.specs.Told.{IsTold}
 use Rattle.refusal_places.specs.Answers.{answer}
-use Rattle.standard_streams.specs.Changes.{Change, Failed, HasNotFailed, IsUntouched, Took, TookFront}
+use Rattle.byte_ends.specs.Changes.{Change, Failed, HasNotFailed, IsUntouched, WroteAll, WrotePrefix}
 use Rattle.foresight_where.specs.Chosen.{back_of, front_of, refusal_line}
 use Rattle.foresight_where.specs.Endings.{null_line}
 use Rattle.foresight_where.specs.declared.asking.Form.{Form}
@@ -64,8 +64,8 @@ IsTextOf f name input file text WriteFault = ⊥
 -- these bytes were written and it ended as wanted, or a write failed and a front of them stands
 -- there
 abbrev pub Writes : {O : Type 0} → List ℕ → Ending → Change O → Ending → Type 0
-Writes bytes wanted out e = ((e ≡ wanted) × Took out bytes)
-    ⊎ ((e ≡ WriteFault) × Failed out × TookFront out bytes)
+Writes bytes wanted out e = ((e ≡ wanted) × WroteAll out bytes)
+    ⊎ ((e ≡ WriteFault) × Failed out × WrotePrefix out bytes)
 
 -- a run ends so that reads nothing more: it is at its output, or wants memory
 abbrev pub is_shown : Ending → Bool
@@ -83,8 +83,8 @@ pub record Shows {O : Type 0} (f : Form) (name input file : List ℕ) (out : Cha
   pub ends : is_shown e ≡ true
   pub ending : (e ≡ placed (answer name file (refusal_line input))) ⊎ ((e ≡ NoMemory) ⊎ (e ≡ WriteFault))
   pub written : has_written e ≡ true
-      → (text : List ℕ) × IsTextOf f name input file text e × Took out text
+      → (text : List ℕ) × IsTextOf f name input file text e × WroteAll out text
   pub front : e ≡ WriteFault → (text : List ℕ)
       × IsTextOf f name input file text (placed (answer name file (refusal_line input)))
-      × TookFront out text
+      × WrotePrefix out text
   pub output : Written out e

@@ -1,7 +1,7 @@
 // What is written for a refusal's line.
 
 ghost use Rattle.std.specs.Prelude.{◌≡◌, ◌≢◌, ◌++◌, ◌≤◌, List, ℕ, length};
-ghost use Rattle.standard_streams.specs.Changes.{change};
+ghost use Rattle.byte_ends.specs.Changes.{change};
 ghost use Rattle.refusal_places.specs.RuleTable.{rules_text};
 ghost use Rattle.foresight_where.specs.declared.asking.Form.TheVariants as form;
 ghost use Rattle.foresight_where.specs.declared.ending.Ending.TheVariants.{NoMemory, Reported};

@@ -1,7 +1,7 @@
 // The top call.
 
 ghost use Rattle.std.specs.Prelude.{◌≤◌, map, length, string_bytes};
-ghost use Rattle.standard_streams.specs.Changes.{change};
+ghost use Rattle.byte_ends.specs.Changes.{change};
 ghost use Rattle.foresight_where.specs.Endings.{most};
 ghost use Rattle.foresight_where.specs.Runs.{EndsWithLine, Runs, RunsAlone, RunsBefore, Places, PlacesIn};
 

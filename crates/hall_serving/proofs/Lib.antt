@@ -1,6 +1,7 @@
 pub mod Homes
 pub mod Unkept
 pub mod KeptFinishing
+pub mod KeptEntering
 pub mod KeptHomes
 pub mod Running
 pub mod Mine

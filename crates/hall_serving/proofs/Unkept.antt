@@ -19,7 +19,7 @@ use Rattle.session_hall.specs.Holdings.{IsHoldingOf, IsHoldingWith, IsKept, begu
 use Rattle.session_hall.specs.Names.{hall_name, id_of, script_of}
 use Rattle.session_hall.specs.Stages.{OnFlight, OnServing, foresight_in}
 use Rattle.session_hall.specs.Waits.{AdmittedAfter, AppliedAfter, DeclaredAfter, FinishedAfter, FinishedAfterFrom}
-use Rattle.hall_serving.specs.KeptCalls.{CalledAt, CalledFlight, EnteredBy, FliesAt, GivesBack, NarrowedAt}
+use Rattle.hall_serving.specs.KeptCalls.{CalledAt, CalledFlight, FliesAt, GivesBack, NarrowedAt}
 use Rattle.hall_serving.proofs.Mine.{admit_still, apply_still, declare_still, finish_still}
 
 -- what follows of the ticket that is served
@@ -36,6 +36,18 @@ each_flight Idle P Q f x = absurd x
 each_flight Out P Q f x = absurd x
 each_flight (Serving t) P Q f x = absurd x
 each_flight (Applied t op v) P Q f x = absurd x
+
+-- the operation is entered, and the list is the foresight, whether the book is in hand or not
+module _ {S : Type 0} (p q : Holding S) where
+  pub record EnteredAt (next : List Symbol) (t : ℕ) (op : Op) (v : Value) : Type 0 where
+    pub stage_is : q.caller.stage ≡ Serving t
+    pub foresight_is : foresight_at q ≡ next
+    pub begun_still : begun_at q ≡ begun_at p
+    pub entries_more : entries_at q t ≡ entries_at p t ++ record { op = op; reply = v } ∷ []
+
+  abbrev pub EnteredBy : List Symbol → Stage → Type 0
+  EnteredBy next (Applied t op v) = EnteredAt next t op v
+  EnteredBy next _ = ⊥
 
 module _ {S : Type 0} where
   -- ---- whether the book is in hand

@@ -1,16 +1,15 @@
 -- What a call leaves of a holding and its ticket, whether the book is in hand or not.
-use Rattle.std.specs.Prelude.{◌≡◌, ℕ, ◌<◌, ◌++◌, List, [], ◌∷◌, Option, Some, None}
+use Rattle.std.specs.Prelude.{◌≡◌, ℕ, ◌<◌, List, [], Some, None}
 use Rattle.session_values.specs.declared.op.Op.{Op}
 use Rattle.session_values.specs.declared.reply.Reply.{Reply}
 use Rattle.session_values.specs.declared.value.Value.{Value}
 use Rattle.symbolic_ops.specs.declared.symbol.Symbol.{Symbol}
 use Rattle.session_journal.specs.Journal.{begun, ended}
 use Rattle.session_hall.specs.declared.holding.Holding.{Holding}
-use Rattle.session_hall.specs.declared.stage.Stage.{Stage}
 use Rattle.session_hall.specs.declared.stage.Stage.TheVariants.{Idle, Serving, InFlight, Applied}
 use Rattle.session_hall.specs.HoldingCalls.{OfTicket}
 use Rattle.session_hall.specs.Holdings.{begun_at, entries_at, foresight_at, present_book}
-use Rattle.session_hall.specs.Stages.{OnFlight, OnServing}
+use Rattle.session_hall.specs.Stages.{OnFlight}
 
 module _ {S : Type 0} (p q : Holding S) where
   -- of the ticket that is served nothing is new, and no ticket is begun
@@ -45,22 +44,6 @@ module _ {S : Type 0} (p q : Holding S) where
   -- the operation in flight was
   abbrev pub CalledFlight : Value → Type 0
   CalledFlight v = OnFlight p.caller.stage (λ t op. CalledAt op v t)
-
-  -- the operation was done, or else nothing was
-  abbrev pub CalledIf : Op → Option Value → Type 0
-  CalledIf op (Some v) = OnServing p.caller.stage (CalledAt op v)
-  CalledIf op None = SameTicket
-
-  -- the operation is entered, and the list is the foresight
-  pub record EnteredAt (next : List Symbol) (t : ℕ) (op : Op) (v : Value) : Type 0 where
-    pub stage_is : q.caller.stage ≡ Serving t
-    pub foresight_is : foresight_at q ≡ next
-    pub begun_still : begun_at q ≡ begun_at p
-    pub entries_more : entries_at q t ≡ entries_at p t ++ record { op = op; reply = v } ∷ []
-
-  abbrev pub EnteredBy : List Symbol → Stage → Type 0
-  EnteredBy next (Applied t op v) = EnteredAt next t op v
-  EnteredBy next _ = ⊥
 
   -- the list is the foresight
   pub record NarrowedAt (f : List Symbol) (t : ℕ) : Type 0 where

@@ -1,5 +1,6 @@
 -- What contracts say of a caller that serves one ticket after another, and may keep the book.
-use Rattle.std.specs.Prelude.{◌≡◌, ℕ, ◌<◌, List, [], ◌∷◌, ◌++◌, Option, Some, None, replicate, slice_get}
+use Rattle.std.specs.Prelude.{◌≡◌, ℕ, ◌<◌, Option, Some, None}
+use Rattle.std.specs.Prelude.{List, [], ◌∷◌, ◌++◌, replicate, slice_get}
 use Rattle.std.specs.List.{FoldsTo, filter_map}
 use Rattle.session_values.specs.declared.reply.Reply.{Reply}
 use Rattle.session_journal.specs.Journal.{begun, ended}

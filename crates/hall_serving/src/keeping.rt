@@ -1,8 +1,7 @@
 // Taking the book and giving it back, where it may be in hand.
 
-ghost use Rattle.std.specs.Prelude.{◌≡◌};
 ghost use Rattle.session_hall.specs.HoldingCalls.{IsQuiet};
-ghost use Rattle.session_hall.specs.Holdings.{IsHoldingOf, IsKept, StaysHolding, begun_at};
+ghost use Rattle.session_hall.specs.Holdings.{IsHoldingOf, IsKept, StaysHolding};
 ghost use Rattle.hall_serving.specs.KeptCalls.{GivesBack, SameTicket};
 
 use session_hall::{Hall, Holding, Waits};
@@ -39,19 +38,5 @@ pub(crate) fn give_back<S: Tickets + Drop>(hall: &Hall<S>, holding: &mut Holding
 {
     if holding.is_kept() {
         holding.release(hall);
-    }
-}
-
-// Gives back the book, if it is in hand, where what comes next takes long and somebody waits for
-// it.
-pub(crate) fn leave_if_long<S: Tickets + Drop>(hall: &Hall<S>, holding: &mut Holding<S>, long: bool)
-    requires holding { IsHoldingOf S.meaning hall.now holding.old }
-    requires stage { IsQuiet holding.old.caller.stage }
-    ensures holding { StaysHolding S.meaning hall.now holding.old holding.new }
-    ensures stage { holding.new.caller.stage ≡ holding.old.caller.stage }
-    ensures begun { begun_at holding.new ≡ begun_at holding.old }
-{
-    if long && hall.is_wanted() {
-        give_back(hall, holding);
     }
 }

@@ -4,43 +4,18 @@
 ghost use Rattle.std.specs.Prelude.{◌≡◌, None, length};
 ghost use Rattle.session_journal.specs.Script.{HasSite, declared_with};
 ghost use Rattle.session_hall.specs.Calls.{MayAnswer, MayCall, MayDeclare};
-ghost use Rattle.session_hall.specs.HoldingCalls.{ByPresent, MayEnter};
+ghost use Rattle.session_hall.specs.HoldingCalls.{ByPresent};
 ghost use Rattle.session_hall.specs.Holdings.{IsHoldingOf, StaysHolding, foresight_at};
 ghost use Rattle.session_hall.specs.Names.{script_of};
 ghost use Rattle.session_hall.specs.Stages.{IsInFlight, OnServing};
-ghost use Rattle.hall_serving.specs.KeptCalls.{CalledFlight, CalledIf, ClosedAt, EnteredBy, FliesAt, NarrowedAt};
+ghost use Rattle.hall_serving.specs.KeptCalls.{CalledFlight, ClosedAt, FliesAt, NarrowedAt};
 
 use crate::keeping::{give_back, keep};
-use session_hall::{Hall, Holding, Waits, Worked};
+use session_hall::{Hall, Holding, Waits};
 use session_journal::{Site, Tickets};
 use session_values::{Op, Reply, Value};
 use std::sync::Wait;
 use symbolic_ops::Foresight;
-
-// Does an operation with the book in hand, unless it is delayed or a shard of it is taken.
-pub(crate) fn call_kept<R: Wait, S: Tickets + Drop>(
-    rt: &R,
-    hall: &Hall<S>,
-    holding: &mut Holding<S>,
-    op: Op,
-    waits: &mut Waits,
-) -> Option<Value>
-    requires holding { IsHoldingOf S.meaning hall.now holding.old }
-    requires may { ByPresent (S.meaning (script_of hall.now)) holding.old
-        (MayCall (foresight_at holding.old) op) }
-    ensures holding { StaysHolding S.meaning hall.now holding.old holding.new }
-    ensures called { CalledIf holding.old holding.new op result }
-{
-    keep(rt, hall, holding, waits);
-    match holding.work(hall, op) {
-        Worked::Done(reply) => Some(reply),
-        Worked::Delayed {
-            older: _,
-            symbol: _,
-        } => None,
-        Worked::Busy { turn: _ } => None,
-    }
-}
 
 // Gives the book back, and admits an operation in a step of its own, however often that fails.
 pub(crate) fn admit_apart<R: Wait, S: Tickets + Drop>(
@@ -75,52 +50,6 @@ pub(crate) fn apply_apart<R: Wait, S: Tickets + Drop>(
     ensures called { CalledFlight holding.old holding.new result }
 {
     holding.caller.apply_with(rt, hall, waits)
-}
-
-// Enters the operation that was done, and makes `next` the foresight.
-pub(crate) fn enter<R: Wait, S: Tickets + Drop>(
-    rt: &R,
-    hall: &Hall<S>,
-    holding: &mut Holding<S>,
-    next: &Foresight,
-    waits: &mut Waits,
-)
-    requires holding { IsHoldingOf S.meaning hall.now holding.old }
-    requires may { MayEnter (S.meaning (script_of hall.now)) holding.old next.now.symbols }
-    ensures holding { StaysHolding S.meaning hall.now holding.old holding.new }
-    ensures entered { EnteredBy holding.old holding.new next.now.symbols
-        holding.old.caller.stage }
-{
-    if holding.is_kept() {
-        holding.enter(hall, next);
-        return;
-    }
-    holding.caller.finish_with(rt, hall, next, waits);
-}
-
-// The same, where the list is what the script declares at a site with these values.
-pub(crate) fn enter_at<R: Wait, S: Tickets + Drop>(
-    rt: &R,
-    hall: &Hall<S>,
-    holding: &mut Holding<S>,
-    site: Site,
-    values: &[Value],
-    waits: &mut Waits,
-)
-    requires holding { IsHoldingOf S.meaning hall.now holding.old }
-    requires site { HasSite (S.meaning (script_of hall.now)) site (length values.now) }
-    requires may { MayEnter (S.meaning (script_of hall.now)) holding.old
-        (declared_with (S.meaning (script_of hall.now)) site values.now) }
-    ensures holding { StaysHolding S.meaning hall.now holding.old holding.new }
-    ensures entered { EnteredBy holding.old holding.new
-        (declared_with (S.meaning (script_of hall.now)) site values.now)
-        holding.old.caller.stage }
-{
-    if holding.is_kept() {
-        holding.enter_at(hall, site, values);
-        return;
-    }
-    holding.caller.finish_at(rt, hall, site, values, waits);
 }
 
 // Makes a list that the foresight covers the foresight.

@@ -6,11 +6,9 @@ ghost use Rattle.session_hall.specs.Names.{script_of};
 ghost use Rattle.hall_serving.specs.Desks.{IsServing, ticket_of};
 ghost use Rattle.hall_serving.specs.KeptDesks.{IsHoldingOfDesk, kept_desk_at};
 
-use crate::keeping::give_back;
-use crate::kept_calls::{
-    admit_apart, apply_apart, call_kept, declare, declare_at, end, enter, enter_at,
-};
-use session_hall::{Hall, Holding, Stage, Waits};
+use crate::keeping::{give_back, keep};
+use crate::kept_calls::{admit_apart, apply_apart, declare, declare_at, end};
+use session_hall::{Hall, Holding, Stage, Waits, Worked};
 use session_journal::{Desk, Site, Tickets};
 use session_values::{NoMemory, Op, Reply, Value};
 use std::marker::Model;
@@ -164,7 +162,9 @@ impl<'a, S: Tickets + Drop, G: Gate> Desk for HoldingDesk<'a, S, G> {
 
     fn call<R: Threads + Wait + Sync>(&mut self, rt: &R, op: Op) -> Result<Value, NoMemory> {
         if !self.is_held_within() {
-            if let Some(reply) = call_kept(rt, self.hall, self.holding, op, &mut self.waits) {
+            // With the book in hand, unless it is delayed or a shard of it is taken.
+            keep(rt, self.hall, self.holding, &mut self.waits);
+            if let Worked::Done(reply) = self.holding.work(self.hall, op) {
                 self.gate.pass(rt, Place::Admitted(self.ticket));
                 self.gate.pass(rt, Place::Applied(self.ticket));
                 return Ok(reply);
@@ -178,13 +178,25 @@ impl<'a, S: Tickets + Drop, G: Gate> Desk for HoldingDesk<'a, S, G> {
     }
 
     fn finish<R: Threads + Wait + Sync>(&mut self, rt: &R, next: &Foresight) {
-        enter(rt, self.hall, self.holding, next, &mut self.waits);
+        if self.holding.is_kept() {
+            self.holding.enter(self.hall, next);
+        } else {
+            self.holding
+                .caller
+                .finish_with(rt, self.hall, next, &mut self.waits);
+        }
         let place = self.come_to_done();
         self.gate.pass(rt, place);
     }
 
     fn finish_at<R: Threads + Wait + Sync>(&mut self, rt: &R, site: Site, values: &[Value]) {
-        enter_at(rt, self.hall, self.holding, site, values, &mut self.waits);
+        if self.holding.is_kept() {
+            self.holding.enter_at(self.hall, site, values);
+        } else {
+            self.holding
+                .caller
+                .finish_at(rt, self.hall, site, values, &mut self.waits);
+        }
         let place = self.come_to_done();
         self.gate.pass(rt, place);
     }

@@ -13,7 +13,7 @@ ghost use Rattle.hall_serving.specs.KeptJobs.{HasGiven, HasWaited};
 
 use crate::after::AfterEnd;
 use crate::crew::Crew;
-use crate::keeping::leave_if_long;
+use crate::keeping::give_back;
 use crate::kept_next::serve_next_kept;
 use crate::pause::Pause;
 use session_hall::{Holding, Waits};
@@ -47,7 +47,9 @@ pub fn serve_tickets<R: Threads + Wait + Sync, S: Serves + Drop, G: Gate, A: Aft
         let Some((ticket, reply)) = serve_next_kept(crew, holding, scratch, &mut pause) else {
             return;
         };
-        leave_if_long(crew.hall, holding, after.takes_long());
+        if after.takes_long() && crew.hall.is_wanted() {
+            give_back(crew.hall, holding);
+        }
         after.after(crew.rt, ticket, reply);
     }
     unreachable!()

@@ -1,5 +1,5 @@
 -- How far writing is, over the steps of one call.
-use Rattle.std.proofs.Common.{◌≡◌, ℕ, List, Option, Bool, true, false, true≢false, refl, sym, ◌∙◌, subst}
+use Rattle.std.proofs.Common.{◌≡◌, ℕ, List, Option, Bool, subst}
 use Rattle.session_values.specs.declared.reply.Reply.{Reply}
 use Rattle.hall_writing.specs.Sheets.{GoesOn, Progress}
 
@@ -7,8 +7,3 @@ use Rattle.hall_writing.specs.Sheets.{GoesOn, Progress}
 pub goes_from : (replies : List Reply) (names : List (List ℕ)) (held : Option (List ℕ)) (faults n m : ℕ) (failed : Bool) (q : Progress) → n ≡ m
     → GoesOn replies names (record { held = held; faults = faults; next = n; failed = failed }) q → GoesOn replies names (record { held = held; faults = faults; next = m; failed = failed }) q
 goes_from replies names held faults n m failed q same on = subst (λ (k : ℕ). GoesOn replies names (record { held = held; faults = faults; next = k; failed = failed }) q) same on
-
--- what is so without a fault before and after is so without one after, where a fault stays one
-pub stops_by : (P : Type 0) (old new : Bool) → (old ≡ false → new ≡ false → P) → (old ≡ true → new ≡ true) → new ≡ false → P
-stops_by P false new stops failed sound = stops refl sound
-stops_by P true new stops failed sound = absurd (true≢false (sym (failed refl) ∙ sound))

@@ -1,5 +1,5 @@
 -- The callers of a hall, put into jobs with their ends of the lane, and taken out of them.
-use Rattle.std.proofs.Common.{◌≡◌, ℕ, zero, suc, ◌<◌, ◌≤◌, arith, List, [], ◌∷◌, Some, None, Option, false, length, replicate, slice_get, slice_index_or, get_or, option_map, refl, sym, ◌∙◌, ap, subst}
+use Rattle.std.proofs.Common.{◌≡◌, ℕ, zero, suc, ◌<◌, ◌≤◌, arith, List, [], ◌∷◌, Some, None, Option, true, false, length, replicate, slice_get, slice_index_or, get_or, option_map, refl, sym, ◌∙◌, ap, subst}
 use Rattle.std.specs.List.{AllByRecursion}
 use Rattle.std.proofs.lemmas.List.{length-map}
 use Rattle.std.proofs.lemmas.Option.{slice_get_within, slice_get-get_or, slice_get-map, get_or_from_slice_get}
@@ -32,8 +32,8 @@ ends_made l callers replies (e ∷ es) all = (all.0.end, ends_made l callers rep
 module _ {S : Type 0} (meaning : S → Meaning) (h : Hall S) (lane : Lane) where
   pub opened : (script : S) (js : List (Job S)) (cs left : List (Caller S)) (es : List End) (callers room : ℕ) (sheet : Sheet) → script_of h ≡ script → callers_of js ≡ cs → ends_of js ≡ es
       → ((i : ℕ) (c : Caller S) → slice_get cs i ≡ Some c → Opens meaning h i c) → AllByRecursion (IsNewEnd lane callers (replies_of (meaning script))) es → length cs ≡ callers → h.sizes.callers ≡ callers → 1 ≤ callers → left ≡ [] → length cs ≤ room
-      → sheet.pending ≡ record { next = 0; waiting = replicate (meaning script).requests None } → sheet.failed ≡ false → AllByRecursion IsUnkept js → IsOpened meaning h lane js left room sheet
-  opened script js cs left es callers room sheet is same also opens ends count sizes some none roomy pending sound unkept =
+      → sheet.pending ≡ record { next = 0; waiting = replicate (meaning script).requests None } → sheet.failed ≡ false → (sheet.alone ≡ true → callers ≡ 1) → AllByRecursion IsUnkept js → IsOpened meaning h lane js left room sheet
+  opened script js cs left es callers room sheet is same also opens ends count sizes some none roomy pending sound alone unkept =
       let long : length js ≡ length cs = sym (length-map js (λ (x : Job S). x.holding.caller)) ∙ ap (λ (l : List (Caller S)). length l) same in
       let P : List End → Type 0 = λ l. AllByRecursion (IsEndOf lane (replies_of (meaning script))) l in
       let Q : S → Type 0 = λ s. AllByRecursion (IsEndOf lane (replies_of (meaning s))) (ends_of js) in
@@ -48,6 +48,7 @@ module _ {S : Type 0} (meaning : S → Meaning) (h : Hall S) (lane : Lane) where
         roomy = omega (arith, long, roomy);
         pending = subst R (sym is) pending;
         sound = sound;
+        alone = λ one. sizes ∙ alone one;
       }
 
   ready_by : (replies : List Reply) (js : List (Job S)) → ((i : ℕ) (c : Caller S) → slice_get (callers_of js) i ≡ Some c → IsCallerOf meaning h c × IsBetween c.stage) → AllByRecursion IsUnkept js → AllByRecursion (IsEndOf lane replies) (ends_of js) → AllByRecursion (IsJobOf meaning h lane replies) js

@@ -8,7 +8,7 @@ use Rattle.std.specs.List.{AllByRecursion}
 use Rattle.session_values.specs.declared.reply.Reply.{Reply}
 use Rattle.session_values.specs.Reply.{values_of}
 use Rattle.session_values.specs.ReplyText.{IsPrintable, reply_text}
-use Rattle.byte_ends.specs.Ends.{Counted, Grew, GrewByFront}
+use Rattle.byte_ends.specs.Ends.{Counted, Appended, AppendedPrefix}
 use Rattle.byte_ends.proofs.EndsLemmas.{grew_nothing, grew_more, grew_front, grew_front_within, rose_since, counted_since}
 use Rattle.reply_sheet.specs.Pending.{PendingView, with_kept, with_reply}
 use Rattle.reply_sheet.specs.Printable.{ArePrintableReplies}
@@ -233,9 +233,9 @@ module _ (replies : List Reply) (names : List (List ℕ)) where
   -- the lines that are next were written, or a fault broke them off
   pub writes_next : (waiting : List (Option Reply)) (p : Progress) (held : Option (List ℕ)) (now_faults next : ℕ) (whole : Bool) → Keeps replies (record { next = p.next; waiting = waiting }) → p.failed ≡ false
       → (whole ≡ true → next ≡ p.next + length (first_kept waiting))
-      → (whole ≡ true → Grew p.held held (reply_text names p.next (first_kept waiting)))
+      → (whole ≡ true → Appended p.held held (reply_text names p.next (first_kept waiting)))
       → Counted whole p.faults now_faults
-      → (whole ≡ false → GrewByFront p.held held (reply_text names p.next (first_kept waiting)))
+      → (whole ≡ false → AppendedPrefix p.held held (reply_text names p.next (first_kept waiting)))
       → GoesOn replies names p (record { held = held; faults = now_faults; next = next; failed = not whole })
   writes_next waiting p held now_faults next whole keeps sound is_next grew counted front = record {
     on = λ first faults w.
@@ -247,27 +247,27 @@ module _ (replies : List Reply) (names : List (List ℕ)) where
         record {
           well = λ ok. counted.0 (not-false whole ok) ∙ w.well sound;
           within = λ ok. let n = is_next (not-false whole ok) in omega (arith, n, low, few, left);
-          so_far = λ ok. subst (λ k. Grew first held (reply_text names 0 (take k replies))) (sym (is_next (not-false whole ok)))
-              (subst (Grew first held) (sym (front_cut p.next m low)) (grew_more first p.held held (reply_text names 0 (take p.next replies)) (reply_text names p.next (take m (drop p.next replies))) (w.so_far sound)
-              (subst (λ l. Grew p.held held (reply_text names p.next l)) same (grew (not-false whole ok)))));
+          so_far = λ ok. subst (λ k. Appended first held (reply_text names 0 (take k replies))) (sym (is_next (not-false whole ok)))
+              (subst (Appended first held) (sym (front_cut p.next m low)) (grew_more first p.held held (reply_text names 0 (take p.next replies)) (reply_text names p.next (take m (drop p.next replies))) (w.so_far sound)
+              (subst (λ l. Appended p.held held (reply_text names p.next l)) same (grew (not-false whole ok)))));
           rose = λ no. rose_since faults p.faults now_faults (w.well sound) (counted.1 (not-true whole no));
-          front = λ no. subst (GrewByFront first held) (sym (all_cut p.next m low)) (grew_front_within first p.held held (reply_text names 0 (take p.next replies)) (reply_text names p.next (take m (drop p.next replies))) _ (w.so_far sound)
-              (subst (λ l. GrewByFront p.held held (reply_text names p.next l)) same (front (not-true whole no))));
+          front = λ no. subst (AppendedPrefix first held) (sym (all_cut p.next m low)) (grew_front_within first p.held held (reply_text names 0 (take p.next replies)) (reply_text names p.next (take m (drop p.next replies))) _ (w.so_far sound)
+              (subst (λ l. AppendedPrefix p.held held (reply_text names p.next l)) same (front (not-true whole no))));
         };
   }
 
   -- what is left was written, or a fault broke it off
   pub writes_rest : (p : Progress) (now : Option (List ℕ)) (now_faults : ℕ) (whole : Bool) → p.failed ≡ false
-      → (whole ≡ true → Grew p.held now (reply_text names p.next (drop p.next replies)))
+      → (whole ≡ true → Appended p.held now (reply_text names p.next (drop p.next replies)))
       → Counted whole p.faults now_faults
-      → (whole ≡ false → GrewByFront p.held now (reply_text names p.next (drop p.next replies)))
+      → (whole ≡ false → AppendedPrefix p.held now (reply_text names p.next (drop p.next replies)))
       → Ends replies names p now now_faults whole
   writes_rest p now now_faults whole sound grew counted front = record {
     on = λ first faults w.
         let low = w.within sound in record {
-          all = λ ok. subst (Grew first now) (sym (rest_cut p.next low)) (grew_more first p.held now (reply_text names 0 (take p.next replies)) (reply_text names p.next (drop p.next replies)) (w.so_far sound) (grew ok));
+          all = λ ok. subst (Appended first now) (sym (rest_cut p.next low)) (grew_more first p.held now (reply_text names 0 (take p.next replies)) (reply_text names p.next (drop p.next replies)) (w.so_far sound) (grew ok));
           faults = counted_since whole faults p.faults now_faults (w.well sound) counted;
-          front = λ no. subst (GrewByFront first now) (sym (rest_cut p.next low)) (grew_front first p.held now (reply_text names 0 (take p.next replies)) (reply_text names p.next (drop p.next replies)) (w.so_far sound) (front no));
+          front = λ no. subst (AppendedPrefix first now) (sym (rest_cut p.next low)) (grew_front first p.held now (reply_text names 0 (take p.next replies)) (reply_text names p.next (drop p.next replies)) (w.so_far sound) (front no));
         };
   }
 
@@ -285,8 +285,8 @@ module _ (replies : List Reply) (names : List (List ℕ)) where
   written_none p start sound = record {
     well = λ _. refl;
     within = λ _. omega (arith, start);
-    so_far = λ _. subst (λ k. Grew p.held p.held (reply_text names 0 (take k replies))) (sym start)
-        (subst (λ l. Grew p.held p.held (reply_text names 0 l)) (sym (take_none replies)) (subst (Grew p.held p.held) (sym (no_text names 0)) (grew_nothing p.held p.held refl)));
+    so_far = λ _. subst (λ k. Appended p.held p.held (reply_text names 0 (take k replies))) (sym start)
+        (subst (λ l. Appended p.held p.held (reply_text names 0 l)) (sym (take_none replies)) (subst (Appended p.held p.held) (sym (no_text names 0)) (grew_nothing p.held p.held refl)));
     rose = λ no. absurd (true≢false (sym no ∙ sound));
     front = λ no. absurd (true≢false (sym no ∙ sound));
   }

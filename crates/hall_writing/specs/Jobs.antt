@@ -1,6 +1,8 @@
 -- What contracts say of the jobs of a session whose replies are written while it is served.
-use Rattle.std.specs.Prelude.{◌≡◌, ℕ, List, [], ◌∷◌, ◌++◌, None, Bool, map}
+use Rattle.std.specs.Prelude.{◌≡◌, ◌<◌, ◌≤◌, ℕ, List, [], ◌∷◌, ◌++◌, None, Bool, map}
+use Rattle.std.specs.Prelude.{length, slice_index_or}
 use Rattle.std.specs.List.{AllByRecursion}
+use Rattle.session_values.specs.Limits.{max_requests}
 use Rattle.session_values.specs.declared.reply.Reply.{Reply}
 use Rattle.session_values.specs.Serial.{serial_replies}
 use Rattle.session_journal.specs.Script.{Meaning, session_of}
@@ -15,12 +17,11 @@ use Rattle.reply_lane.specs.declared.rule.EndState.{EndState}
 use Rattle.reply_lane.specs.Ends.{IsEndOf}
 use Rattle.reply_lane.specs.Lanes.{Offered}
 use Rattle.reply_sheet.specs.Pending.{PendingView}
+use Rattle.reply_sheet.specs.Printable.{ArePrintableReplies}
 use Rattle.session_hall.specs.Begun.{begun_by}
-use Rattle.hall_writing.specs.Sheets.{IsKept}
+use Rattle.hall_writing.specs.Sheets.{IsKept, Keeps}
+use Rattle.hall_writing.specs.declared.first.First.{First}
 use Rattle.hall_writing.specs.declared.job.Job.{Job}
-
-abbrev pub JobOf : Type 0 → Type 0
-JobOf S = Job S
 
 -- the replies of the serial run
 abbrev pub replies_of : Meaning → List Reply
@@ -47,12 +48,27 @@ pub record IsJobOf {S : Type 0} (meaning : S → Meaning) (h : Hall S) (lane : L
   pub unkept : IsUnkept j
   pub end : IsEndOf lane replies j.end
 
+-- the first job is one of the hall's, its sheet keeps only of the replies of the plan's serial run,
+-- and their lines can be written
+pub record IsFirstOf {S : Type 0} (meaning : S → Meaning) (h : Hall S) (plan : S) (lane : Lane)
+    (names : List (List ℕ)) (f : First S) : Type 0 where
+  pub job : IsJobOf meaning h lane (replies_of (meaning plan)) f.job
+  pub keeps : Keeps (replies_of (meaning plan)) f.sheet.pending
+  pub few : length (replies_of (meaning plan)) ≤ max_requests
+  pub printable : ArePrintableReplies names (replies_of (meaning plan))
+
 -- its caller is the same one of the hall, is out, and hasn't the book in hand
 pub record HasServed {S : Type 0} (meaning : S → Meaning) (h : Hall S) (p q : Job S) : Type 0 where
   pub caller : IsCallerOf meaning h q.holding.caller
   pub number_still : q.holding.caller.number ≡ p.holding.caller.number
   pub out : q.holding.caller.stage ≡ Out
   pub unkept : IsUnkept q
+
+-- and so has each of the jobs
+abbrev pub HaveServed : {S : Type 0} → (S → Meaning) → Hall S → List (Job S) → List (Job S)
+    → Type 0
+HaveServed meaning h ps qs = (i : ℕ) (d : Job _) → i < length ps
+    → HasServed meaning h (slice_index_or ps i d) (slice_index_or qs i d)
 
 -- The replies of these tickets were offered to the lane, one after another, by the end that knew
 -- this: each was put in, or the lane was full. Nothing else was put in, and nothing was taken out.

@@ -1,5 +1,5 @@
 -- What contracts see of a session whose hall is open and whose replies can be written.
-use Rattle.std.specs.Prelude.{◌≡◌, ℕ, ◌<◌, ◌≤◌, List, [], Some, None, false}
+use Rattle.std.specs.Prelude.{◌≡◌, ℕ, ◌<◌, ◌≤◌, List, [], Some, None, true, false}
 use Rattle.std.specs.Prelude.{length, replicate, slice_get}
 use Rattle.std.specs.List.{AllByRecursion}
 use Rattle.session_journal.specs.Script.{Meaning}
@@ -22,7 +22,8 @@ pub record SessionView (S : Type 0) : Type 0 where
 
 -- the jobs have all callers of the hall, in order and as they were opened, none with the book in
 -- hand, and each an end of the lane for the serial replies; beside them is an empty list with
--- room for all callers, and a sheet that keeps nothing yet
+-- room for all callers, and a sheet that keeps nothing yet, and whose writer is alone only where
+-- there is one caller
 pub record IsOpened {S : Type 0} (meaning : S → Meaning) (h : Hall S) (lane : Lane)
     (jobs : List (Job S)) (left : List (Caller S)) (room : ℕ) (sheet : Sheet) : Type 0 where
   pub opens : (i : ℕ) (c : Caller S) → slice_get (callers_of jobs) i ≡ Some c → Opens meaning h i c
@@ -37,3 +38,4 @@ pub record IsOpened {S : Type 0} (meaning : S → Meaning) (h : Hall S) (lane : 
     waiting = replicate (meaning (script_of h)).requests None;
   }
   pub sound : sheet.failed ≡ false
+  pub alone : sheet.alone ≡ true → h.sizes.callers ≡ 1

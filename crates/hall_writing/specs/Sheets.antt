@@ -3,7 +3,7 @@ use Rattle.std.specs.Prelude.{◌≡◌, ℕ, ◌+◌, ◌<◌, ◌≤◌, ◌�
 use Rattle.std.specs.Prelude.{List, Option, Some, length, take, slice_get}
 use Rattle.session_values.specs.declared.reply.Reply.{Reply}
 use Rattle.session_values.specs.ReplyText.{reply_text}
-use Rattle.byte_ends.specs.Ends.{Counted, Rose, Grew, GrewByFront}
+use Rattle.byte_ends.specs.Ends.{Counted, IsRaised, Appended, AppendedPrefix}
 use Rattle.reply_sheet.specs.Pending.{PendingView}
 use Rattle.hall_writing.specs.declared.sheet.Sheet.{Sheet}
 
@@ -41,9 +41,9 @@ pub record Written (replies : List Reply) (names : List (List ℕ)) (first : Opt
     (first_faults : ℕ) (p : Progress) : Type 0 where
   pub well : p.failed ≡ false → p.faults ≡ first_faults
   pub within : p.failed ≡ false → p.next ≤ length replies
-  pub so_far : p.failed ≡ false → Grew first p.held (reply_text names 0 (take p.next replies))
-  pub rose : p.failed ≡ true → Rose first_faults p.faults
-  pub front : p.failed ≡ true → GrewByFront first p.held (reply_text names 0 replies)
+  pub so_far : p.failed ≡ false → Appended first p.held (reply_text names 0 (take p.next replies))
+  pub rose : p.failed ≡ true → IsRaised first_faults p.faults
+  pub front : p.failed ≡ true → AppendedPrefix first p.held (reply_text names 0 replies)
 
 -- whatever was written from the first on, it goes on so
 pub record GoesOn (replies : List Reply) (names : List (List ℕ)) (p q : Progress) : Type 0 where
@@ -53,9 +53,9 @@ pub record GoesOn (replies : List Reply) (names : List (List ℕ)) (p q : Progre
 -- all lines were written, or a fault broke writing off
 pub record IsWritten (replies : List Reply) (names : List (List ℕ)) (first now : Option (List ℕ))
     (first_faults now_faults : ℕ) (whole : Bool) : Type 0 where
-  pub all : whole ≡ true → Grew first now (reply_text names 0 replies)
+  pub all : whole ≡ true → Appended first now (reply_text names 0 replies)
   pub faults : Counted whole first_faults now_faults
-  pub front : whole ≡ false → GrewByFront first now (reply_text names 0 replies)
+  pub front : whole ≡ false → AppendedPrefix first now (reply_text names 0 replies)
 
 -- however far writing was, it ends so
 pub record Ends (replies : List Reply) (names : List (List ℕ)) (p : Progress)

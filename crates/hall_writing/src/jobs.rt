@@ -1,15 +1,13 @@
 // All jobs of a session: the first one writes, and the others run beside it.
 
-ghost use Rattle.std.specs.Prelude.{◌≡◌, ◌<◌, ◌≤◌, ℕ, [], false, true};
-ghost use Rattle.std.specs.Prelude.{length, slice_index_or, vec_len};
+ghost use Rattle.std.specs.Prelude.{◌≡◌, ◌<◌, [], false, true, length, vec_len};
 ghost use Rattle.std.specs.List.{AllByRecursion};
 ghost use denote.Param.Send.{IsSync, IsSend};
-ghost use Rattle.session_values.specs.Limits.{max_requests};
 ghost use Rattle.session_hall.specs.Names.{script_of};
-ghost use Rattle.reply_sheet.specs.Printable.{ArePrintableReplies};
 ghost use Rattle.reply_sheet.specs.Ready.{ready};
-ghost use Rattle.hall_writing.specs.Jobs.{HasKept, HasServed, IsJobOf, JobOf, replies_of};
-ghost use Rattle.hall_writing.specs.Sheets.{GoesOn, Keeps, progress};
+ghost use Rattle.hall_writing.specs.Jobs.{HasKept, HasServed, HaveServed, IsFirstOf, IsJobOf};
+ghost use Rattle.hall_writing.specs.Jobs.{replies_of};
+ghost use Rattle.hall_writing.specs.Sheets.{GoesOn, progress};
 
 use crate::first::First;
 use crate::job::{Job, serve_and_offer};
@@ -36,9 +34,7 @@ fn offer_by<R: Threads + Wait + Sync, S: Serves + Drop + Send + Sync, G: Gate + 
         (IsJobOf S.meaning crew.hall.now lane.now (replies_of (S.meaning crew.plan.now)))
         jobs.items }
     ensures len { length result.items ≡ length jobs.items }
-    ensures jobs { (i : ℕ) (d : JobOf S) → i < length jobs.items →
-        HasServed S.meaning crew.entry.hall.now (slice_index_or jobs.items i d)
-        (slice_index_or result.items i d) }
+    ensures jobs { HaveServed S.meaning crew.entry.hall.now jobs.items result.items }
 {
     // A thread shares each reference by itself, and makes the crew of them.
     let Crew {
@@ -78,11 +74,7 @@ fn write_by<'b, R: Threads + Wait + Sync, S: Serves + Drop, G: Gate, O: Sink>(
     mut first: First<S>,
     out: &'b mut O,
 ) -> (First<S>, &'b mut O)
-    requires job { IsJobOf S.meaning crew.hall.now lane.now (replies_of (S.meaning crew.plan.now))
-        first.job }
-    requires keeps { Keeps (replies_of (S.meaning crew.plan.now)) first.sheet.pending }
-    requires few { length (replies_of (S.meaning crew.plan.now)) ≤ max_requests }
-    requires printable { ArePrintableReplies names.now (replies_of (S.meaning crew.plan.now)) }
+    requires { IsFirstOf S.meaning crew.hall.now crew.plan.now lane.now names.now first }
     ensures same { result.1.ghost_name ≡ out.entry.ghost_name }
     ensures served { HasServed S.meaning crew.entry.hall.now first.job result.0.job }
     ensures kept { HasKept first.job.holding.caller result.0.job.holding.caller
@@ -129,19 +121,13 @@ pub(crate) fn run_jobs<
     others: Vec<Job<S>>,
     out: &mut O,
 ) -> (First<S>, Vec<Job<S>>)
-    requires first { IsJobOf S.meaning crew.hall.now lane.now
-        (replies_of (S.meaning crew.plan.now)) first.job }
+    requires first { IsFirstOf S.meaning crew.hall.now crew.plan.now lane.now names.now first }
     requires jobs { AllByRecursion
         (IsJobOf S.meaning crew.hall.now lane.now (replies_of (S.meaning crew.plan.now)))
         others.items }
-    requires keeps { Keeps (replies_of (S.meaning crew.plan.now)) first.sheet.pending }
-    requires few { length (replies_of (S.meaning crew.plan.now)) ≤ max_requests }
-    requires printable { ArePrintableReplies names.now (replies_of (S.meaning crew.plan.now)) }
     ensures first { HasServed S.meaning crew.entry.hall.now first.job result.0.job }
     ensures len { length result.1.items ≡ length others.items }
-    ensures jobs { (i : ℕ) (d : JobOf S) → i < length others.items →
-        HasServed S.meaning crew.entry.hall.now (slice_index_or others.items i d)
-        (slice_index_or result.1.items i d) }
+    ensures jobs { HaveServed S.meaning crew.entry.hall.now others.items result.1.items }
     ensures on { GoesOn (replies_of (S.meaning crew.entry.plan.now)) names.now
         (progress (O.held out.old) (O.faults out.old) first.sheet)
         (progress (O.held out.new) (O.faults out.new) result.0.sheet) }
@@ -164,19 +150,13 @@ fn run_beside<R: Threads + Wait + Sync, S: Serves + Drop + Send + Sync, G: Gate 
     out: &mut O,
 ) -> (First<S>, Vec<Job<S>>)
     requires some { 0 < vec_len others }
-    requires first { IsJobOf S.meaning crew.hall.now lane.now
-        (replies_of (S.meaning crew.plan.now)) first.job }
+    requires first { IsFirstOf S.meaning crew.hall.now crew.plan.now lane.now names.now first }
     requires jobs { AllByRecursion
         (IsJobOf S.meaning crew.hall.now lane.now (replies_of (S.meaning crew.plan.now)))
         others.items }
-    requires keeps { Keeps (replies_of (S.meaning crew.plan.now)) first.sheet.pending }
-    requires few { length (replies_of (S.meaning crew.plan.now)) ≤ max_requests }
-    requires printable { ArePrintableReplies names.now (replies_of (S.meaning crew.plan.now)) }
     ensures first { HasServed S.meaning crew.entry.hall.now first.job result.0.job }
     ensures len { length result.1.items ≡ length others.items }
-    ensures jobs { (i : ℕ) (d : JobOf S) → i < length others.items →
-        HasServed S.meaning crew.entry.hall.now (slice_index_or others.items i d)
-        (slice_index_or result.1.items i d) }
+    ensures jobs { HaveServed S.meaning crew.entry.hall.now others.items result.1.items }
     ensures on { GoesOn (replies_of (S.meaning crew.entry.plan.now)) names.now
         (progress (O.held out.old) (O.faults out.old) first.sheet)
         (progress (O.held out.new) (O.faults out.new) result.0.sheet) }
@@ -196,9 +176,7 @@ fn run_beside<R: Threads + Wait + Sync, S: Serves + Drop + Send + Sync, G: Gate 
                 (IsJobOf S.meaning hall.now lane.now (replies_of (S.meaning plan.now)))
                 others.items × (script_of hall.now ≡ plan.now) }
             ensures len { length result.items ≡ length others.items }
-            ensures jobs { (i : ℕ) (d : JobOf S) → i < length others.items →
-                HasServed S.meaning hall.entry.now (slice_index_or others.items i d)
-                (slice_index_or result.items i d) }
+            ensures jobs { HaveServed S.meaning hall.entry.now others.items result.items }
         {
             let crew = Crew {
                 rt,
@@ -210,11 +188,7 @@ fn run_beside<R: Threads + Wait + Sync, S: Serves + Drop + Send + Sync, G: Gate 
         },
         move ||
             requires { IsSync R.row
-                × IsJobOf S.meaning crew.hall.now lane.now (replies_of (S.meaning crew.plan.now))
-                first.job
-                × Keeps (replies_of (S.meaning crew.plan.now)) first.sheet.pending
-                × (length (replies_of (S.meaning crew.plan.now)) ≤ max_requests)
-                × ArePrintableReplies names.now (replies_of (S.meaning crew.plan.now)) }
+                × IsFirstOf S.meaning crew.hall.now crew.plan.now lane.now names.now first }
             ensures same { result.1.ghost_name ≡ out.entry.ghost_name }
             ensures served { HasServed S.meaning crew.entry.hall.now first.job result.0.job }
             ensures on { GoesOn (replies_of (S.meaning crew.entry.plan.now)) names.entry.now

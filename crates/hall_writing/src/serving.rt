@@ -3,7 +3,7 @@
 ghost use Rattle.std.specs.Prelude.{◌≡◌, ◌≤◌, true, false, length};
 ghost use Rattle.session_values.specs.Limits.{max_requests};
 ghost use Rattle.session_values.specs.ReplyText.{reply_text};
-ghost use Rattle.byte_ends.specs.Ends.{Counted, Grew, GrewByFront};
+ghost use Rattle.byte_ends.specs.Ends.{Counted, Appended, AppendedPrefix};
 ghost use Rattle.session_hall.specs.Closings.{IsDone};
 ghost use Rattle.reply_sheet.specs.Printable.{ArePrintableReplies};
 ghost use Rattle.hall_writing.specs.Jobs.{replies_of};
@@ -48,10 +48,10 @@ pub fn serve_and_write<
     ensures done { IsDone (S.meaning session.script) result.0 }
     ensures callers { result.0.callers ≡ session.callers }
     ensures shards { result.0.shards ≡ session.shards }
-    ensures all { result.1 ≡ true → Grew (O.held out.old) (O.held out.new)
+    ensures all { result.1 ≡ true → Appended (O.held out.old) (O.held out.new)
         (reply_text names.now 0 result.0.replies) }
     ensures faults { Counted result.1 (O.faults out.old) (O.faults out.new) }
-    ensures front { result.1 ≡ false → GrewByFront (O.held out.old) (O.held out.new)
+    ensures front { result.1 ≡ false → AppendedPrefix (O.held out.old) (O.held out.new)
         (reply_text names.now 0 result.0.replies) }
 {
     answering();

@@ -5,9 +5,11 @@ ghost use Rattle.session_values.specs.Limits.{max_tables};
 
 use crate::job::Job;
 use crate::room::begin_jobs;
-use crate::sheet::{Sheet, make_sheet};
+use crate::sheet::Sheet;
+use byte_ends::WriteBuffer;
 use hall_serving::make_scratches;
 use reply_lane::Lane;
+use reply_sheet::Pending;
 use session_hall::{Caller, Hall, Sizes};
 use session_journal::{Script, Tickets};
 use session_values::{NoMemory, TableKind};
@@ -59,7 +61,14 @@ pub fn open_writing<S: Script + Drop>(
     ensures shards { IfOk result (λ s. s.shards ≡ sizes.shards) }
 {
     let Sizes { callers, shards } = sizes;
-    let sheet = make_sheet(alloc, script.requests(), callers)?;
+    let pending = Pending::with_room(alloc, script.requests())?;
+    let buffer = WriteBuffer::new(alloc)?;
+    let sheet = Sheet {
+        pending,
+        buffer,
+        failed: false,
+        alone: callers == 1,
+    };
     let (lane, ends) = Lane::open(alloc, &script, callers)?;
     let mut ends = ends.into_vec();
     let mut scratches = make_scratches(alloc, callers)?;

@@ -1,10 +1,11 @@
 // Writing the lines that are next, after a ticket's end.
 
-use crate::after::{take_all, write_next};
+use crate::after::take_all;
 use crate::sheet::Sheet;
 use byte_ends::Sink;
 use hall_serving::AfterEnd;
 use reply_lane::{End, Lane};
+use reply_sheet::write_ready;
 use session_values::{Names, Reply};
 use std::sync::Wait;
 
@@ -35,8 +36,13 @@ impl<'a, O: Sink> AfterEnd for Writing<'a, O> {
     }
 
     fn meanwhile<R: Wait>(&mut self, rt: &R) {
-        let alone = self.sheet.alone;
-        take_all(rt, self.lane, self.end, alone, &mut self.sheet.pending);
-        write_next(self.sheet, self.out, self.names);
+        let sheet = &mut *self.sheet;
+        take_all(rt, self.lane, self.end, sheet.alone, &mut sheet.pending);
+        // After a fault nothing more is written.
+        if sheet.failed {
+            return;
+        }
+        let whole = write_ready(self.out, &mut sheet.pending, self.names, &mut sheet.buffer);
+        sheet.failed = !whole;
     }
 }

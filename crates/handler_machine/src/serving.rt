@@ -6,14 +6,14 @@ ghost use Rattle.check_meaning.specs.Code.{block_code, points};
 ghost use Rattle.check_meaning.specs.Dialogue.{entry, env_of, run};
 ghost use Rattle.machine_walk.specs.Runnable.{IsRunnable};
 ghost use Rattle.session_journal.specs.Served.{IsServed, IsStopped};
-ghost use Rattle.handler_check.specs.Resolved.{code_at, params_at, variables_at};
+ghost use Rattle.handler_check.specs.Resolved.{code_at, params_at};
 ghost use Rattle.declaration_insertion.specs.Promises.{list_at};
 ghost use Rattle.declaration_insertion.specs.Program.{declared_at};
 ghost use Rattle.handler_machine.specs.Serving.{DeclaresHandler, Gives, IsSettled, Promises};
 
 use crate::narrowing::Narrowing;
 use crate::telling::TellsLate;
-use check_meaning::{CheckedBlock, CheckedHandler};
+use check_meaning::CheckedBlock;
 use declaration_insertion::Program;
 use machine_walk::{set_up, walk_body};
 use session_journal::{Desk, Scratch, Script, Site};
@@ -64,60 +64,6 @@ fn serve_body<R: Threads + Wait + Sync, D: Desk>(
     Ok(())
 }
 
-/// A handler of a program, by its number.
-#[derive(Clone, Copy)]
-struct HandlerOf<'a> {
-    program: &'a Program,
-    number: u32,
-}
-
-/// Serves a handler whose variables have these values at a desk, from its entry to its end, in room
-/// for their values at a point.
-fn serve_in_room<R: Threads + Wait + Sync, D: Desk>(
-    rt: &R,
-    of: HandlerOf<'_>,
-    handler: &CheckedHandler,
-    env: &mut [Value],
-    kept: &mut [Value],
-    desk: &mut D,
-) -> Result<(), NoMemory>
-    requires handler { of.number < length of.program.now.file.handlers }
-    requires own { length handler.now.variables ≡ length (variables_at of.program.now.file of.number) }
-    requires variables { max_variables ≤ length env.old }
-    requires kept { length kept.old ≡ max_variables }
-    requires within { IsRunnable (length env.old) (block_code handler.now.body) }
-    requires fresh { (D.at desk.old).entries ≡ [] }
-    requires idle { (D.at desk.old).waiting ≡ None }
-    requires going { (D.at desk.old).ended ≡ false }
-    requires present { (D.at desk.old).present ≡ list_at (declared_at of.program.now of.number)
-        (entry (env_of env.old)) }
-    requires gives { Gives (D.Served.meaning (D.script desk.old)) (D.at desk.old).ticket
-        (declared_at of.program.now of.number) (entry (env_of env.old))
-        (run (block_code handler.now.body) (env_of env.old)) }
-    requires declares { DeclaresHandler (D.Served.meaning (D.script desk.old))
-        of.program.now of.number }
-    requires promises { Promises (1 + points (code_at of.program.now.file of.number))
-        (declared_at of.program.now of.number) (entry (env_of env.old))
-        (run (block_code handler.now.body) (env_of env.old)) }
-    ensures script { D.script desk.new ≡ D.script desk.old }
-    ensures served { IfOk result (λ _. IsServed (D.Served.meaning (D.script desk.old))
-        (D.at desk.old) (D.at desk.new)) }
-    ensures stopped { OnErr result (IsStopped (D.Served.meaning (D.script desk.old))
-        (D.at desk.old) (D.at desk.new)) }
-{
-    let mut guide = Narrowing {
-        rt,
-        program: of.program,
-        handler: of.number,
-        variables: handler.variables.len() as usize,
-        point: 0,
-        values: kept,
-        settled: false,
-        late: false,
-    };
-    serve_body(&mut guide, desk, env, &handler.body)
-}
-
 /// Serves a handler of a program with these arguments at a desk, from its entry to its end. At each
 /// point it narrows to the declaration there, so it meets what the desk's calls ask without a test.
 /// Want of memory comes only where the desk isn't sure, and then the desk is left as the call that
@@ -152,6 +98,19 @@ pub fn serve_one<R: Threads + Wait + Sync, D: Desk>(
     let handler = program.checked().handler(h);
     let env = scratch.values.as_mut_slice();
     set_up(env, args);
-    let of = HandlerOf { program, number: h };
-    serve_in_room(rt, of, handler, env, scratch.kept.as_mut_slice(), desk)
+    let kept = scratch.kept.as_mut_slice();
+    let mut guide = Narrowing {
+        rt,
+        program,
+        handler: h,
+        variables: handler.variables.len() as usize,
+        point: 0,
+        values: kept,
+        settled: false,
+        late: false,
+    };
+    let result = serve_body(&mut guide, desk, env, &handler.body);
+    // No effect at run time. The proof reads from this use that the room is as long as it was.
+    let _ = &*kept;
+    result
 }

@@ -4,7 +4,7 @@ ghost use Rattle.std.specs.Prelude.{◌≤◌, ◌≡◌, length};
 ghost use Rattle.std.specs.List.{AllByRecursion};
 ghost use Rattle.opening_tables.specs.Opening.{AreApart};
 ghost use Rattle.table_text.specs.Dumped.{HaveRoom as HaveEntryRoom};
-ghost use Rattle.serve_faults.specs.Changes.{change};
+ghost use Rattle.byte_ends.specs.Changes.{change};
 ghost use Rattle.live_session.specs.Dumps.{DumpEnds};
 ghost use Rattle.live_session.specs.Held.{lists_in};
 ghost use Rattle.live_session.specs.Live.{dump_of};

@@ -2,7 +2,7 @@
 use Rattle.std.proofs.Common.{◌≡◌, ℕ, zero, suc, ◌+◌, ◌≤◌, List, [], ◌∷◌, ◌++◌, drop, length, length-append, slice_get, slice_index_or, refl, sym, ap, ◌∙◌, subst, arith, append_assoc, append-nil, Option, Some, None}
 use Rattle.session_values.specs.declared.reply.Reply.{Reply}
 use Rattle.session_values.specs.ReplyText.{line_text, reply_text}
-use Rattle.byte_ends.specs.Ends.{Grew, GrewByFront}
+use Rattle.byte_ends.specs.Ends.{Appended, AppendedPrefix}
 use Rattle.reply_sheet.specs.Ready.{first_kept}
 use Rattle.reply_sheet.proofs.TextLemmas.{Waits, waits_none, waits_same, waits_more, waits_written, broke_off, no_text, text_cut, text_line}
 
@@ -56,7 +56,7 @@ module _ (names : List (List ℕ)) (start : ℕ) (all : List (Option Reply)) whe
   pub reached_same : (old now same : Option (List ℕ)) (text alike : List ℕ) (next : ℕ) (rest : List (Option Reply)) → same ≡ now → alike ≡ text → Reached names old now text start next all rest → Reached names old same alike start next all rest
   reached_same old now same text alike next rest e f w = record { done = w.done; cut = w.cut; at = w.at; left = w.left; low = w.low; waits = waits_same old now same text alike (reply_text names start w.done) e f w.waits }
 
-  pub reached_written : (old mid new : Option (List ℕ)) (text emptied : List ℕ) (next : ℕ) (rest : List (Option Reply)) → Reached names old mid text start next all rest → Grew mid new text → emptied ≡ [] → Reached names old new emptied start next all rest
+  pub reached_written : (old mid new : Option (List ℕ)) (text emptied : List ℕ) (next : ℕ) (rest : List (Option Reply)) → Reached names old mid text start next all rest → Appended mid new text → emptied ≡ [] → Reached names old new emptied start next all rest
   reached_written old mid new text emptied next rest w more empty = record {
     done = w.done;
     cut = w.cut;
@@ -83,8 +83,8 @@ module _ (names : List (List ℕ)) (start : ℕ) (all : List (Option Reply)) whe
       }
 
   -- writing broke off
-  pub reached_broke : (old mid new : Option (List ℕ)) (text : List ℕ) (next : ℕ) (rest : List (Option Reply)) → Reached names old mid text start next all rest → GrewByFront mid new text
-      → GrewByFront old new (reply_text names start (first_kept all))
+  pub reached_broke : (old mid new : Option (List ℕ)) (text : List ℕ) (next : ℕ) (rest : List (Option Reply)) → Reached names old mid text start next all rest → AppendedPrefix mid new text
+      → AppendedPrefix old new (reply_text names start (first_kept all))
   reached_broke old mid new text next rest w broken =
       broke_off old mid new text (reply_text names start w.done) (reply_text names (start + length w.done) (first_kept rest)) (reply_text names start (first_kept all)) w.waits broken
       (ap (reply_text names start) w.cut ∙ text_cut names start w.done (first_kept rest))

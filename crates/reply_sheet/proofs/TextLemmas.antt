@@ -3,13 +3,13 @@ use Rattle.std.proofs.Common.{◌≡◌, ℕ, ◌+◌, ◌<◌, List, [], ◌∷
 use Rattle.std.proofs.lemmas.List.{take_more, take-append-drop, length-take}
 use Rattle.session_values.specs.declared.reply.Reply.{Reply}
 use Rattle.session_values.specs.ReplyText.{line_text, reply_text}
-use Rattle.byte_ends.specs.Ends.{Grew, GrewByFront}
+use Rattle.byte_ends.specs.Ends.{Appended, AppendedPrefix}
 use Rattle.byte_ends.proofs.EndsLemmas.{grew_nothing, grew_more, grew_front_within}
 
 -- of a text some bytes were written, and the others wait
 pub record Waits (old now : Option (List ℕ)) (waiting text : List ℕ) : Type 0 where
   pub written : List ℕ
-  pub grew : Grew old now written
+  pub grew : Appended old now written
   pub all : written ++ waiting ≡ text
 
 -- nothing was written, and nothing waits
@@ -21,7 +21,7 @@ pub waits_same : (old now same : Option (List ℕ)) (waiting alike text : List �
 waits_same old now same waiting alike text e f w = subst (λ n. Waits old n alike text) (sym e) (subst (λ b. Waits old now b text) (sym f) w)
 
 -- what waits was written
-pub waits_written : (old mid new : Option (List ℕ)) (waiting emptied text : List ℕ) → Waits old mid waiting text → Grew mid new waiting → emptied ≡ [] → Waits old new emptied text
+pub waits_written : (old mid new : Option (List ℕ)) (waiting emptied text : List ℕ) → Waits old mid waiting text → Appended mid new waiting → emptied ≡ [] → Waits old new emptied text
 waits_written old mid new waiting emptied text w more empty = record {
   written = w.written ++ waiting;
   grew = grew_more old mid new w.written waiting w.grew more;
@@ -37,9 +37,9 @@ waits_more old now waiting longer text more longest w e all = record {
 }
 
 -- writing what waits broke off
-pub broke_off : (old mid new : Option (List ℕ)) (waiting text rest whole : List ℕ) → Waits old mid waiting text → GrewByFront mid new waiting → whole ≡ text ++ rest → GrewByFront old new whole
+pub broke_off : (old mid new : Option (List ℕ)) (waiting text rest whole : List ℕ) → Waits old mid waiting text → AppendedPrefix mid new waiting → whole ≡ text ++ rest → AppendedPrefix old new whole
 broke_off old mid new waiting text rest whole w broken e =
-    subst (GrewByFront old new) (sym (append_assoc w.written waiting rest) ∙ ap (λ b. b ++ rest) w.all ∙ sym e)
+    subst (AppendedPrefix old new) (sym (append_assoc w.written waiting rest) ∙ ap (λ b. b ++ rest) w.all ∙ sym e)
     (grew_front_within old mid new w.written waiting rest w.grew broken)
 
 module _ (names : List (List ℕ)) where

@@ -2,7 +2,7 @@
 
 ghost use Rattle.std.specs.Prelude.{◌≡◌, ◌+◌, ◌≤◌, ℕ, drop, length, true, false};
 ghost use Rattle.session_values.specs.Limits.{max_requests};
-ghost use Rattle.byte_ends.specs.Ends.{Counted, Grew, GrewByFront};
+ghost use Rattle.byte_ends.specs.Ends.{Counted, Appended, AppendedPrefix};
 ghost use Rattle.session_values.specs.ReplyText.{reply_text};
 ghost use Rattle.reply_sheet.specs.Ready.{AreKeptPrintable, ready};
 
@@ -26,10 +26,10 @@ pub fn write_ready<O: Sink>(
         × (pending.new.waiting ≡ drop n pending.old.waiting) × (n ≤ length pending.old.waiting) }
     ensures next { result ≡ true
         → pending.new.next ≡ pending.old.next + length (ready pending.old) }
-    ensures all { result ≡ true → Grew (O.held out.old) (O.held out.new)
+    ensures all { result ≡ true → Appended (O.held out.old) (O.held out.new)
         (reply_text names.now pending.old.next (ready pending.old)) }
     ensures faults { Counted result (O.faults out.old) (O.faults out.new) }
-    ensures front { result ≡ false → GrewByFront (O.held out.old) (O.held out.new)
+    ensures front { result ≡ false → AppendedPrefix (O.held out.old) (O.held out.new)
         (reply_text names.now pending.old.next (ready pending.old)) }
 {
     buffer.clear();

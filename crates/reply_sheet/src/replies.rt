@@ -2,7 +2,7 @@
 
 ghost use Rattle.std.specs.Prelude.{◌≡◌, ◌+◌, ◌≤◌, length, true, false};
 ghost use Rattle.session_values.specs.Limits.{max_requests};
-ghost use Rattle.byte_ends.specs.Ends.{Counted, Grew, GrewByFront};
+ghost use Rattle.byte_ends.specs.Ends.{Counted, Appended, AppendedPrefix};
 ghost use Rattle.session_values.specs.ReplyText.{reply_text};
 ghost use Rattle.reply_sheet.specs.Printable.{ArePrintableReplies};
 
@@ -23,10 +23,10 @@ pub fn write_replies<O: Sink>(
     requires few { start + length replies.now ≤ max_requests }
     requires printable { ArePrintableReplies names.now replies.now }
     ensures all { result ≡ true
-        → Grew (O.held out.old) (O.held out.new) (reply_text names.now start replies.now) }
+        → Appended (O.held out.old) (O.held out.new) (reply_text names.now start replies.now) }
     ensures faults { Counted result (O.faults out.old) (O.faults out.new) }
     ensures front { result ≡ false
-        → GrewByFront (O.held out.old) (O.held out.new) (reply_text names.now start replies.now) }
+        → AppendedPrefix (O.held out.old) (O.held out.new) (reply_text names.now start replies.now) }
 {
     buffer.clear();
     for (i, reply) in replies.iter().enumerate() {

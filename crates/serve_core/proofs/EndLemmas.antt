@@ -7,7 +7,7 @@ use Rattle.serve_faults.specs.declared.status.Status.TheVariants as status
 use Rattle.serve_faults.specs.Commands.{input_of}
 use Rattle.serve_faults.specs.Input.{IsInput}
 use Rattle.serve_faults.specs.Answer.{IsTextOf}
-use Rattle.serve_faults.specs.Changes.{Change, IsUntouched}
+use Rattle.byte_ends.specs.Changes.{Change, IsUntouched}
 use Rattle.serve_reading.specs.declared.load_error.LoadError.{LoadError}
 use Rattle.serve_reading.specs.declared.load_error.LoadError.TheVariants.{Refused, NoMemory}
 use Rattle.serve_reading.specs.Reasons.{IsReason}

@@ -8,13 +8,11 @@ use Rattle.session_journal.specs.Script.{Meaning, session_of}
 use Rattle.session_hall.specs.Closings.{ClosedView, IsDone}
 use Rattle.syntax_trees.specs.declared.file.TableDecl.{TableDecl}
 use Rattle.serve_faults.specs.Language.{File}
-use Rattle.handler_check.specs.Checking.{IsAccepted}
-use Rattle.handler_check.specs.Resolved.{shape_of}
 use Rattle.handler_check.proofs.Fine.{few_tables}
 use Rattle.request_files.specs.Session.{session}
 use Rattle.handler_machine.specs.Scripts.{meaning}
 use Rattle.serve_faults.specs.declared.status.Status.{Status}
-use Rattle.serve_faults.specs.Changes.{Change, IsUntouched}
+use Rattle.byte_ends.specs.Changes.{Change, IsUntouched}
 use Rattle.serve_faults.specs.Input.{Parts, parts_of}
 use Rattle.reply_sheet.specs.Printable.{ArePrintableReplies}
 use Rattle.serve_faults.specs.Printable.{IsPrintableTable}
@@ -46,9 +44,6 @@ use Rattle.serve_faults.proofs.Facts.{all_first}
 use Rattle.table_text.specs.Dumped.{CanDump}
 
 -- ---- tables
-pub few_kinds : (f : File) (shape : List TableKind) → IsAccepted f → shape ≡ shape_of f → length shape ≤ 7
-few_kinds f shape a e = let few = few_tables f a.keeps in let long : length shape ≡ length f.tables = ap (λ (s : List TableKind). length s) e ∙ length-map f.tables (λ (t : TableDecl). t.kind) in omega (arith, few, long)
-
 table_held : (names : List (List ℕ)) (ts : tables.Tables) (i : ℕ) → i < length ts → AllByRecursion (IsPrintableTable names) ts → IsPrintableTable names (table ts i)
 table_held names [] i lt h = absurd (omega (arith, lt))
 table_held names (c ∷ ts) zero lt h = h.0

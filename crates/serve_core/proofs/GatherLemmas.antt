@@ -26,7 +26,7 @@ use Rattle.client_rounds.specs.Rounds.{AreServed, IsLastRound, ServedView, sessi
 use Rattle.serve_words.specs.declared.command.Command.TheVariants.{Clients}
 use Rattle.serve_faults.specs.declared.status.Status.{Status}
 use Rattle.serve_faults.specs.declared.status.Status.TheVariants as status
-use Rattle.serve_faults.specs.Changes.{Change, Failed, Took, TookFront}
+use Rattle.byte_ends.specs.Changes.{Change, Failed, WroteAll, WrotePrefix}
 use Rattle.serve_faults.specs.Clients.{IsClientsText, client_counts, session_of_arrivals}
 use Rattle.serve_faults.specs.Input.{IsInput, client_parts}
 use Rattle.serve_faults.specs.Session.{IsSession, all_names_of, opened_of, opening_names_of, requests_of, rows_of}
@@ -80,10 +80,10 @@ served_few l callers shards v can a = let long = served_long l callers shards v 
 
 -- the lines were written, or a front of them
 module _ {O : Type 0} (callers shards : ℕ) (l : LoadedClients) (out : Change O) (v : ServedView) (a : AreServed l.program l.opening l.clients callers shards v) (closed : Option ClosedView) (is : closed ≡ v.closed) where
-  pub lines_written : Took out (clients_text l.names v.arrivals v.replies (length l.clients.counts)) → EndsClients callers shards l out status.Fine closed
+  pub lines_written : WroteAll out (clients_text l.names v.arrivals v.replies (length l.clients.counts)) → EndsClients callers shards l out status.Fine closed
   lines_written took = record { served = v; are = a; closed_is = is; written = took }
 
-  pub lines_front : Failed out → TookFront out (clients_text l.names v.arrivals v.replies (length l.clients.counts)) → EndsClients callers shards l out status.WriteFault closed
+  pub lines_front : Failed out → WrotePrefix out (clients_text l.names v.arrivals v.replies (length l.clients.counts)) → EndsClients callers shards l out status.WriteFault closed
   lines_front failed took = (failed, record { served = v; are = a; closed_is = is; written = took })
 
 -- ---- what is answered
@@ -129,7 +129,7 @@ module _ {O : Type 0} (callers shards : ℕ) (input : List ℕ) (out : Change O)
         let two = subst (λ (rs : List Request). IsLastRound l.program (opened_of (client_parts input) file) (record { requests = rs; counts = l.clients.counts }) got callers shards d) h.is_session.requests_are one in
         subst (λ (cs : List ℕ). IsLastRound l.program (opened_of (client_parts input) file) (record { requests = requests_of (client_parts input) file; counts = cs }) got callers shards d) h.counts_are two
 
-    holds : (s : Status) (o : Option ClosedView) → (s ≡ status.Fine → Took out (text_of_arrivals input file got)) → (s ≡ status.WriteFault → TookFront out (text_of_arrivals input file got)) → IfSome o (IsLastRound l.program l.opening l.clients got callers shards) → Holds (Some (Clients callers shards)) input out s o
+    holds : (s : Status) (o : Option ClosedView) → (s ≡ status.Fine → WroteAll out (text_of_arrivals input file got)) → (s ≡ status.WriteFault → WrotePrefix out (text_of_arrivals input file got)) → IfSome o (IsLastRound l.program l.opening l.clients got callers shards) → Holds (Some (Clients callers shards)) input out s o
     holds s None took front r = tt
     holds s (Some d) took front r = record { file = file; is_session = is_session; got = got; drawn = drawn; all = all; last = last_of d r; took = took; front = front }
 
@@ -140,7 +140,7 @@ module _ {O : Type 0} (callers shards : ℕ) (input : List ℕ) (out : Change O)
     opens : (s : Status) → is_some closed ≡ nat_lt 0 (length got) → has_begun_writing s ≡ true → Opens (Some (Clients callers shards)) input s closed
     opens s e b = e ∙ ap (λ (n : ℕ). nat_lt 0 n) (all ∙ counts_all) ∙ and_true (nat_lt 0 (length (rows_of (client_parts input)))) (has_begun_writing s) b
 
-    answered : (s : Status) → closed ≡ v.closed → EndsBy (clients_text l.names got v.replies (length l.clients.counts)) out s → has_begun_writing s ≡ true → (s ≡ status.Fine → Took out (text_of_arrivals input file got)) → (s ≡ status.WriteFault → TookFront out (text_of_arrivals input file got)) → AnswersTo (Clients callers shards) input out s closed
+    answered : (s : Status) → closed ≡ v.closed → EndsBy (clients_text l.names got v.replies (length l.clients.counts)) out s → has_begun_writing s ≡ true → (s ≡ status.Fine → WroteAll out (text_of_arrivals input file got)) → (s ≡ status.WriteFault → WrotePrefix out (text_of_arrivals input file got)) → AnswersTo (Clients callers shards) input out s closed
     answered s closed_is e b took front =
         ends_to (Clients callers shards) input out (text_of_arrivals input file got) i is_text s closed
         (subst (λ (t : List ℕ). EndsBy t out s) text_is e)
@@ -150,8 +150,8 @@ module _ {O : Type 0} (callers shards : ℕ) (input : List ℕ) (out : Change O)
 
   -- what becomes of what was loaded is what `clients` answers
   pub gathered_to : (s : Status) (closed : Option ClosedView) → EndsClients callers shards l out s closed → AnswersTo (Clients callers shards) input out s closed
-  gathered_to status.Fine closed e = answered closed e.served e.are status.Fine e.closed_is e.written refl (λ _. subst (Took out) (text_is closed e.served e.are) e.written) (λ f. absurd (cc))
-  gathered_to status.WriteFault closed e = answered closed e.1.served e.1.are status.WriteFault e.1.closed_is (e.0, e.1.written) refl (λ f. absurd (cc)) (λ _. subst (TookFront out) (text_is closed e.1.served e.1.are) e.1.written)
+  gathered_to status.Fine closed e = answered closed e.served e.are status.Fine e.closed_is e.written refl (λ _. subst (WroteAll out) (text_is closed e.served e.are) e.written) (λ f. absurd (cc))
+  gathered_to status.WriteFault closed e = answered closed e.1.served e.1.are status.WriteFault e.1.closed_is (e.0, e.1.written) refl (λ f. absurd (cc)) (λ _. subst (WrotePrefix out) (text_is closed e.1.served e.1.are) e.1.written)
   gathered_to status.NoMemory closed e = subst (λ (o : Option ClosedView). AnswersTo (Clients callers shards) input out status.NoMemory o) (sym e.1) (memory_to (Clients callers shards) input out e.0)
   gathered_to (status.Refused f) closed e = absurd e
   gathered_to status.Usage closed e = absurd e

@@ -7,7 +7,7 @@ use Rattle.serve_faults.specs.declared.status.Status.TheVariants as status
 use Rattle.serve_faults.specs.Commands.{input_of, is_reading, is_serving}
 use Rattle.serve_faults.specs.Input.{client_parts, most_of}
 use Rattle.serve_faults.specs.Session.{rows_of}
-use Rattle.serve_faults.specs.Changes.{Change, IsUntouched}
+use Rattle.byte_ends.specs.Changes.{Change, IsUntouched}
 use Rattle.serve_faults.specs.Ways.{HasRead, StoppedAs}
 use Rattle.serve_single.specs.Runs.{RunsSingle}
 use Rattle.serve_single.proofs.RunLemmas.{told_always, told_read}

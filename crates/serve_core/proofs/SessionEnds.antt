@@ -26,7 +26,7 @@ use Rattle.serve_made.specs.Summary.{summary}
 use Rattle.serve_faults.specs.declared.status.Status.{Status}
 use Rattle.serve_faults.specs.declared.status.Status.TheVariants as status
 use Rattle.serve_faults.specs.Answer.{IsTextOf}
-use Rattle.serve_faults.specs.Changes.{Change, IsUntouched, Took, TookFront}
+use Rattle.byte_ends.specs.Changes.{Change, IsUntouched, WroteAll, WrotePrefix}
 use Rattle.serve_faults.specs.Commands.{callers_of, input_of, shards_of}
 use Rattle.serve_faults.specs.Input.{IsInput, Parts, parts_of}
 use Rattle.serve_faults.specs.ReadBack.{texts_of}
@@ -82,7 +82,7 @@ dumped_text_is parts callers shards names d h left =
         ∙ final_tables d m done (subst (λ (s : List TableKind). AreFinal d (length s)) is left)
 
 -- what was written, where it was written whole
-took : {O : Type 0} (out : Change O) (s : Status) (text : List ℕ) → EndsBy text out s → s ≡ status.Fine → Took out text
+took : {O : Type 0} (out : Change O) (s : Status) (text : List ℕ) → EndsBy text out s → s ≡ status.Fine → WroteAll out text
 took out status.Fine text e h = e
 took out status.WriteFault text e h = absurd (cc)
 took out (status.Refused f) text e h = absurd e
@@ -91,7 +91,7 @@ took out status.NoMemory text e h = absurd e
 took out status.ReadFault text e h = absurd e
 
 -- and a front of it, where the sink failed
-took_front : {O : Type 0} (out : Change O) (s : Status) (text : List ℕ) → EndsBy text out s → s ≡ status.WriteFault → TookFront out text
+took_front : {O : Type 0} (out : Change O) (s : Status) (text : List ℕ) → EndsBy text out s → s ≡ status.WriteFault → WrotePrefix out text
 took_front out status.Fine text e h = absurd (cc)
 took_front out status.WriteFault text e h = e.1
 took_front out (status.Refused f) text e h = absurd e
@@ -183,8 +183,8 @@ module _ {O : Type 0} (callers shards : ℕ) (bytes : List ℕ) (out : Change O)
     wrote s d e = λ w begun. record {
       file = e.served.file;
       is_session = e.served.is_session;
-      took = λ fine. subst (Took out) (traced_text_is e.names d e.served) (took out s (text_of (AtEnd Events) e.names e.served.file d) e.ends fine);
-      front = λ failed. subst (TookFront out) (traced_text_is e.names d e.served) (took_front out s (text_of (AtEnd Events) e.names e.served.file d) e.ends failed);
+      took = λ fine. subst (WroteAll out) (traced_text_is e.names d e.served) (took out s (text_of (AtEnd Events) e.names e.served.file d) e.ends fine);
+      front = λ failed. subst (WrotePrefix out) (traced_text_is e.names d e.served) (took_front out s (text_of (AtEnd Events) e.names e.served.file d) e.ends failed);
     }
 
     serves_events : Serves (Trace callers shards) (AtEnd Events) callers shards bytes bytes out

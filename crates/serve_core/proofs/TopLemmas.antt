@@ -1,7 +1,7 @@
 -- Whole runs, from what their parts say.
 use Rattle.std.proofs.Common.{◌≡◌, ℕ, ◌+◌, ◌≤◌, true, List, [], ap, Option, Some, None, IfSome, refl, sym, subst, arith}
 use Rattle.session_values.specs.Limits.{max_input, max_requests}
-use Rattle.byte_ends.specs.Ends.{LostAtMost}
+use Rattle.byte_ends.specs.Ends.{ConsumedAtMost}
 use Rattle.session_hall.specs.Closings.{ClosedView}
 use Rattle.serve_words.specs.declared.command.Command.{Command}
 use Rattle.serve_words.specs.declared.command.Command.TheVariants.{Work}
@@ -9,7 +9,7 @@ use Rattle.serve_words.specs.Commands.{IsWithinBounds}
 use Rattle.serve_faults.specs.declared.status.Status.{Status}
 use Rattle.serve_faults.specs.declared.status.Status.TheVariants as status
 use Rattle.serve_faults.specs.Commands.{is_reading}
-use Rattle.serve_faults.specs.Changes.{Change, IsUntouched}
+use Rattle.byte_ends.specs.Changes.{Change, IsUntouched}
 use Rattle.serve_faults.specs.Input.{most_of}
 use Rattle.made_sessions.proofs.MadeSession.{unrefused}
 use Rattle.serve_core.specs.declared.asked.Writes.{Writes}
@@ -21,7 +21,7 @@ use Rattle.serve_core.proofs.RunLemmas.{opened_always, read_run, stopped_run}
 use Rattle.serve_single.proofs.RunLemmas.{runs_of}
 
 -- a source that isn't touched has lost nothing
-nothing_lost : (o p : Option (List ℕ)) (most : ℕ) → p ≡ o → LostAtMost o p (most + 1)
+nothing_lost : (o p : Option (List ℕ)) (most : ℕ) → p ≡ o → ConsumedAtMost o p (most + 1)
 nothing_lost None p most e = tt
 nothing_lost (Some bytes) p most e = (0, omega arith, omega arith, e)
 

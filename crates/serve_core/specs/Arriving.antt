@@ -9,7 +9,7 @@ use Rattle.client_rounds.specs.Rounds.{AreServed, ServedView}
 use Rattle.request_files.specs.Clients.{AreShared}
 use Rattle.serve_faults.specs.declared.status.Status.{Status}
 use Rattle.serve_faults.specs.declared.status.Status.TheVariants as status
-use Rattle.serve_faults.specs.Changes.{Change, Failed, IsUntouched, Took, TookFront}
+use Rattle.byte_ends.specs.Changes.{Change, Failed, IsUntouched, WroteAll, WrotePrefix}
 use Rattle.serve_reading.specs.Clients.{joined}
 use Rattle.serve_reading.specs.declared.clients.LoadedClients.{LoadedClients}
 use Rattle.serve_single.specs.Serving.{CanServe}
@@ -33,9 +33,9 @@ pub record ClientsEnd {O : Type 0} (callers shards : ℕ) (l : LoadedClients) (o
 abbrev pub EndsClients : {O : Type 0} → ℕ → ℕ → LoadedClients → Change O → Status
     → Option ClosedView → Type 0
 EndsClients callers shards l out status.Fine closed =
-    ClientsEnd callers shards l out closed (Took out)
+    ClientsEnd callers shards l out closed (WroteAll out)
 EndsClients callers shards l out status.WriteFault closed =
-    Failed out × ClientsEnd callers shards l out closed (TookFront out)
+    Failed out × ClientsEnd callers shards l out closed (WrotePrefix out)
 EndsClients callers shards l out status.NoMemory closed = IsUntouched out × (closed ≡ None)
 EndsClients callers shards l out (status.Refused e) closed = ⊥
 EndsClients callers shards l out status.Usage closed = ⊥

@@ -14,7 +14,7 @@ use Rattle.handler_machine.specs.Scripts.{meaning}
 use Rattle.serve_faults.specs.declared.status.Status.{Status}
 use Rattle.serve_faults.specs.declared.status.Status.TheVariants as status
 use Rattle.serve_faults.specs.Clients.{client_counts}
-use Rattle.serve_faults.specs.Changes.{Change, Took, TookFront}
+use Rattle.byte_ends.specs.Changes.{Change, WroteAll, WrotePrefix}
 use Rattle.serve_faults.specs.Commands.{callers_of, input_of, shards_of}
 use Rattle.serve_faults.specs.Input.{Parts, client_parts, parts_of}
 use Rattle.serve_faults.specs.Session.{IsSession, opened_of, requests_of, session_of_parts}
@@ -65,8 +65,8 @@ pub record IsServedInRounds {O : Type 0} (command : Command) (input : List ℕ) 
         requests = requests_of (client_parts input) file;
         counts = client_counts input;
       }) got (callers_of command) (shards_of command) closed
-  pub took : s ≡ status.Fine → Took out (text_of_arrivals input file got)
-  pub front : s ≡ status.WriteFault → TookFront out (text_of_arrivals input file got)
+  pub took : s ≡ status.Fine → WroteAll out (text_of_arrivals input file got)
+  pub front : s ≡ status.WriteFault → WrotePrefix out (text_of_arrivals input file got)
 
 -- what a hall that is left holds, by whether several clients were served in rounds
 abbrev pub IsLeftBy : {O : Type 0} → Bool → Command → List ℕ → Change O → Status → ClosedView
@@ -96,8 +96,8 @@ pub record WroteEvents {O : Type 0} (input : List ℕ) (out : Change O) (s : Sta
     (events : List Event) : Type 0 where
   pub file : File
   pub is_session : IsSession (parts_of input) file
-  pub took : s ≡ status.Fine → Took out (traced_text (parts_of input) file events)
-  pub front : s ≡ status.WriteFault → TookFront out (traced_text (parts_of input) file events)
+  pub took : s ≡ status.Fine → WroteAll out (traced_text (parts_of input) file events)
+  pub front : s ≡ status.WriteFault → WrotePrefix out (traced_text (parts_of input) file events)
 
 -- where a command writes the events of its run, they are those of the hall's journal
 abbrev pub WroteJournal : {O : Type 0} → Option Command → List ℕ → Change O → Status

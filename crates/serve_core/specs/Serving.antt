@@ -16,7 +16,7 @@ use Rattle.serve_made.specs.Summary.{summary}
 use Rattle.serve_faults.specs.declared.status.Status.{Status}
 use Rattle.serve_faults.specs.declared.status.Status.TheVariants as status
 use Rattle.serve_faults.specs.Input.{Parts, parts_of}
-use Rattle.serve_faults.specs.Changes.{Change, IsUntouched}
+use Rattle.byte_ends.specs.Changes.{Change, IsUntouched}
 use Rattle.serve_faults.specs.Session.{IsSession, all_names_of, session_of_parts}
 use Rattle.serve_faults.specs.Traced.{CanBeTold, table_places}
 use Rattle.trace_lines.specs.Bounds.{IsHeldEvent}

@@ -4,7 +4,7 @@ ghost use Rattle.std.specs.Prelude.{◌≤◌, length};
 ghost use Rattle.session_values.specs.Limits.{max_input};
 ghost use Rattle.client_rounds.specs.Rounds.{AreServed};
 ghost use Rattle.serve_words.specs.declared.command.Command.TheVariants.{Clients};
-ghost use Rattle.serve_faults.specs.Changes.{change};
+ghost use Rattle.byte_ends.specs.Changes.{change};
 ghost use Rattle.serve_core.specs.Arriving.{CanServeClients, EndsClients};
 ghost use Rattle.serve_core.specs.Runs.{AnswersTo};
 

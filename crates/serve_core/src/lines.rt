@@ -5,14 +5,12 @@ ghost use Rattle.session_values.specs.Limits.{max_requests};
 ghost use Rattle.hall_writing.specs.Jobs.{replies_of};
 ghost use Rattle.handler_machine.specs.Scripts.{meaning};
 ghost use Rattle.reply_sheet.specs.Printable.{ArePrintableReplies};
-ghost use Rattle.serve_faults.specs.Changes.{change};
+ghost use Rattle.byte_ends.specs.Changes.{change};
 ghost use Rattle.serve_core.specs.declared.writing.Writing.TheVariants.{Replies};
 ghost use Rattle.serve_single.specs.Serving.{CanServe, script_of_loaded};
-ghost use Rattle.serve_core.specs.Serving.{EndsAsServed, EndsLoaded};
+ghost use Rattle.serve_core.specs.Serving.{EndsAsServed};
 
-use crate::outcome::{Outcome, unserved};
 use byte_ends::Sink;
-use client_rounds::Resources;
 use hall_serving::Sizes;
 use hall_writing::{WritingSession, open_writing, serve_and_write};
 use handler_machine::Scripts;
@@ -25,19 +23,19 @@ use std::sync::Wait;
 use std::thread::Threads;
 use worker_gate::Gate;
 
-/// All that serving a session's requests and writing their replies takes: no memory is wanted from
-/// here on.
+/// All that serving a session's requests and writing their replies takes: no memory is asked for
+/// from here on.
 #[derive(Drop)]
-struct ReadyLines<'a> {
-    session: WritingSession<Scripts<'a>>,
+pub(crate) struct ReadyLines<'a> {
+    pub(crate) session: WritingSession<Scripts<'a>>,
     /// The session's script again, by which each ticket is served.
-    plan: Scripts<'a>,
+    pub(crate) plan: Scripts<'a>,
     ghost same: { plan ≡ session.script },
 }
 
-// Opens a hall of these sizes for the requests of a session that was loaded.
-#[tactic(auto, using(crate::proofs::FileLemmas::few_kinds))]
-fn open_lines<'a>(
+/// Opens a hall of these sizes for the requests of a session that was loaded, and takes all memory
+/// that serving and writing need.
+pub(crate) fn open_lines<'a>(
     alloc: Global,
     sizes: Sizes,
     loaded: &'a Loaded,
@@ -49,38 +47,14 @@ fn open_lines<'a>(
 {
     let script = Scripts::over(&loaded.program, &loaded.opening, &loaded.requests);
     let plan = Scripts::over(&loaded.program, &loaded.opening, &loaded.requests);
-    let shape = plan.shape(alloc)?;
+    let shape = loaded.program.checked().shape(alloc)?;
     let session = open_writing(alloc, script, shape.as_slice(), sizes)?;
     Ok(ReadyLines { session, plan })
 }
 
-/// Serves what was loaded, and writes its replies while it is served. All memory is taken before
-/// the first ticket is begun.
-pub(crate) fn serve_lines<R: Threads + Wait + Sync, O: Sink, G: Gate + Sync>(
-    by: &Resources<'_, R, G>,
-    sizes: Sizes,
-    loaded: &Loaded,
-    out: &mut O,
-) -> Outcome
-    requires can { CanServe loaded.now }
-    ensures { EndsLoaded Replies sizes.callers sizes.shards loaded.now
-        (change O.held O.faults out.old out.new) result.status result.closed }
-{
-    match open_lines(by.alloc, sizes, loaded) {
-        Ok(ready) => {
-            let (status, closed) = serve_ready_lines(by.rt, ready, loaded, out, by.gate);
-            Outcome {
-                status,
-                closed: Some(closed),
-            }
-        }
-        Err(_) => unserved(Status::NoMemory),
-    }
-}
-
-// Serves an open session to its end, and writes its replies while it is served. From here on
-// nothing is given an allocator, and nothing can answer that memory is wanting.
-fn serve_ready_lines<'a, R: Threads + Wait + Sync, O: Sink, G: Gate + Sync>(
+/// Serves an open session to its end, and writes its replies while it is served. From here on
+/// nothing is given an allocator, and nothing can return that memory ran out.
+pub(crate) fn serve_ready_lines<'a, R: Threads + Wait + Sync, O: Sink, G: Gate + Sync>(
     rt: &R,
     ready: ReadyLines<'a>,
     loaded: &Loaded,

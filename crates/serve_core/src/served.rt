@@ -51,7 +51,6 @@ pub(crate) struct Spare {
 }
 
 /// Opens a hall of these sizes for the requests of a session that was loaded.
-#[tactic(auto, using(crate::proofs::FileLemmas::few_kinds))]
 pub(crate) fn open_loaded<'a>(
     alloc: Global,
     sizes: Sizes,
@@ -70,7 +69,7 @@ pub(crate) fn open_loaded<'a>(
     let tables = places_of(alloc, loaded.program.checked().file())?;
     let script = Scripts::over(&loaded.program, &loaded.opening, &loaded.requests);
     let plan = Scripts::over(&loaded.program, &loaded.opening, &loaded.requests);
-    let shape = plan.shape(alloc)?;
+    let shape = loaded.program.checked().shape(alloc)?;
     let entries = entries_room(alloc, &plan, shape.len() as u32, later)?;
     let session = open_session(alloc, script, shape.as_slice(), sizes)?;
     Ok(Ready {

@@ -1,7 +1,7 @@
 // Serving: from a source to what a command writes of the session file that it has.
 
 ghost use Rattle.std.specs.Prelude.{Some};
-ghost use Rattle.serve_faults.specs.Changes.{change};
+ghost use Rattle.byte_ends.specs.Changes.{change};
 ghost use Rattle.serve_core.specs.Commands.{command_for};
 ghost use Rattle.serve_core.specs.Runs.{Runs};
 
@@ -13,7 +13,8 @@ use crate::writing::{Later, Writing};
 use byte_ends::{Sink, Source};
 use client_rounds::Resources;
 use hall_serving::Sizes;
-use serve_reading::read_input;
+use serve_reading::read_at_most;
+use session_values::MAX_INPUT;
 use std::sync::Wait;
 use std::thread::Threads;
 use worker_gate::Gate;
@@ -30,7 +31,7 @@ pub(crate) fn serve_source<R: Threads + Wait + Sync, I: Source, O: Sink, G: Gate
         (change I.left I.faults source.old source.new)
         (change O.held O.faults out.old out.new) result.status result.closed }
 {
-    let input = match read_input(by.alloc, source) {
+    let input = match read_at_most(by.alloc, source, MAX_INPUT) {
         Ok(input) => input,
         Err(status) => return unserved(status),
     };

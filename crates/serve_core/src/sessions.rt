@@ -3,13 +3,13 @@
 ghost use Rattle.std.specs.Prelude.{◌≡◌, ◌≤◌, length, vec_capacity};
 ghost use Rattle.session_values.specs.Limits.{max_callers, max_input};
 ghost use Rattle.handler_machine.specs.Scripts.{meaning};
-ghost use Rattle.serve_faults.specs.Changes.{change};
+ghost use Rattle.byte_ends.specs.Changes.{change};
 ghost use Rattle.serve_faults.specs.Traced.{table_places};
 ghost use Rattle.serve_core.specs.declared.writing.Writing.TheVariants.{AtEnd};
 ghost use Rattle.serve_single.specs.Serving.{CanServe};
 ghost use Rattle.serve_core.specs.Serving.{CanPrint, EndsAsServed, EndsLoaded, EndsSession, HasCapacity};
 
-use crate::lines::serve_lines;
+use crate::lines::{open_lines, serve_ready_lines};
 use crate::outcome::{Outcome, unserved};
 use crate::served::{Ready, open_loaded, serve_ready};
 use crate::writing::{Later, Writing, write_session};
@@ -41,7 +41,16 @@ pub(crate) fn serve_bytes<R: Threads + Wait + Sync, O: Sink, G: Gate + Sync>(
         Err(e) => return unserved(ended(e)),
     };
     match writing {
-        Writing::Replies => serve_lines(by, sizes, &loaded, out),
+        Writing::Replies => match open_lines(by.alloc, sizes, &loaded) {
+            Ok(ready) => {
+                let (status, closed) = serve_ready_lines(by.rt, ready, &loaded, out, by.gate);
+                Outcome {
+                    status,
+                    closed: Some(closed),
+                }
+            }
+            Err(_) => unserved(Status::NoMemory),
+        },
         Writing::AtEnd(later) => serve_then_write(by, sizes, &loaded, later, out),
     }
 }

@@ -2,7 +2,7 @@
 
 ghost use Rattle.std.specs.Prelude.{map, string_bytes, IfSome};
 ghost use Rattle.serve_words.specs.Commands as commands;
-ghost use Rattle.serve_faults.specs.Changes.{change};
+ghost use Rattle.byte_ends.specs.Changes.{change};
 ghost use Rattle.serve_single.specs.Runs.{Tells};
 ghost use Rattle.serve_core.specs.Runs.{Runs};
 

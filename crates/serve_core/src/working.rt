@@ -3,7 +3,7 @@
 ghost use Rattle.std.specs.Prelude.{◌≤◌, ℕ, List};
 ghost use Rattle.session_values.specs.Limits.{max_requests};
 ghost use Rattle.serve_words.specs.declared.command.Command.TheVariants.{Work};
-ghost use Rattle.serve_faults.specs.Changes.{change};
+ghost use Rattle.byte_ends.specs.Changes.{change};
 ghost use Rattle.serve_core.specs.Runs.{AnswersTo};
 
 use crate::outcome::{Outcome, unserved};

@@ -6,7 +6,7 @@ ghost use Rattle.session_journal.specs.Journal.{done_operations};
 ghost use Rattle.session_values.specs.ReplyText.{reply_text};
 ghost use Rattle.serve_made.specs.Summary.{summary};
 ghost use Rattle.reply_sheet.specs.Printable.{ArePrintableReplies};
-ghost use Rattle.serve_faults.specs.Changes.{change};
+ghost use Rattle.byte_ends.specs.Changes.{change};
 ghost use Rattle.serve_faults.specs.Traced.{table_places};
 ghost use Rattle.serve_core.specs.declared.writing.Later.TheVariants.{Events, Tables};
 ghost use Rattle.serve_core.specs.declared.writing.Writing.TheVariants.{AtEnd};

@@ -1,6 +1,5 @@
 pub mod Answer
 pub mod Audited
-pub mod Changes
 pub mod Clients
 pub mod Commands
 pub mod ExitStatus

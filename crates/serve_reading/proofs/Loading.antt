@@ -1,5 +1,5 @@
 -- What is loaded, and why nothing is, from what the parts of the reading say.
-use Rattle.std.proofs.Common.{◌≡◌, ℕ, Bool, true, false, if◌then◌else◌, List, [], ◌∷◌, ◌<◌, length, map, ◌≤◌, arith, length-append, None, Some, refl, sym, ap, ◌∙◌, subst}
+use Rattle.std.proofs.Common.{◌≡◌, ℕ, Bool, true, false, List, [], ◌∷◌, length, map, ◌≤◌, arith, length-append, None, Some, refl, sym, ap, ◌∙◌, subst}
 use Rattle.std.specs.Prelude.{IsUtf8}
 use Rattle.session_values.specs.Limits.{max_input}
 use Rattle.session_values.specs.Names.{Begins}
@@ -12,7 +12,6 @@ use Rattle.may_use_analysis.specs.Later.{AreLater, HasLater}
 use Rattle.declaration_insertion.specs.Program.{ProgramView}
 use Rattle.declaration_insertion.specs.Shown.{shown_of}
 use Rattle.request_files.specs.declared.request.Request.{Request}
-use Rattle.request_files.specs.Text.{lines}
 use Rattle.request_files.specs.Requests.{request_of, AreRequests, ArePrintable, first_fault, no_requests}
 use Rattle.request_files.specs.declared.refusal.RequestRefusal.{RequestRefusal}
 use Rattle.opening_tables.specs.Opening.{Pair, IsOpening}
@@ -25,7 +24,6 @@ use Rattle.session_values.proofs.Named.{begins_then, printable_kept}
 use Rattle.std.specs.List.{AllByRecursion}
 use Rattle.request_files.specs.Rows.{Row, names_behind}
 use Rattle.request_files.specs.Servable.{IsServable}
-use Rattle.serve_faults.specs.declared.status.Fault.{Fault}
 use Rattle.serve_faults.specs.declared.status.Fault.TheVariants as fault
 use Rattle.serve_faults.specs.Input.{Parts, alone_fault, has_mark, IsInput}
 use Rattle.serve_faults.specs.Session.{IsProgram, rows_of, table_rows_of, opening_names_of}

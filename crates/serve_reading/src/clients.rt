@@ -1,25 +1,19 @@
 // Reading a session of clients: from the bytes of a session file whose requests are several clients'
 // to what can be served.
 
-ghost use Rattle.std.specs.Prelude.{◌≡◌, ◌≤◌, ◌+◌, ℕ, length, IfOk, IfErr};
+ghost use Rattle.std.specs.Prelude.{◌≤◌, ℕ, length, IfOk, IfErr};
 ghost use Rattle.session_values.specs.Limits.{max_input};
-ghost use Rattle.opening_tables.specs.Limits.{max_table_lines};
-ghost use Rattle.opening_tables.specs.Opening.{count_all};
-ghost use Rattle.request_files.specs.Clients.{AreShared, marks_in, row_counts, unmarked, without_marks};
-ghost use Rattle.syntax_trees.specs.Mentions.{AreNamed, file_mentions};
-ghost use Rattle.request_files.specs.Rows.{rows};
+ghost use Rattle.request_files.specs.Clients.{marks_in, unmarked};
 ghost use Rattle.request_files.specs.Text.{lines};
 ghost use Rattle.serve_faults.specs.Command.TheVariants.{Clients};
 ghost use Rattle.serve_faults.specs.Input.{IsInput, parts_by};
 ghost use Rattle.serve_reading.specs.Clients.{AreClients, IsLoadedClients};
-ghost use Rattle.serve_reading.specs.Sessions.{AreOpened};
-ghost use Rattle.serve_reading.specs.Reasons.{IsLinesReason, IsReason, IsSessionReason};
+ghost use Rattle.serve_reading.specs.Reasons.{IsReason, IsSessionReason};
 
 use crate::load_error::LoadError;
 use crate::naming::names_of_input;
 use crate::program::read_program;
 use declaration_insertion::Program;
-use handler_check::Checked;
 use opening_tables::Opening;
 use request_files::{ClientRequests, Divided, count_marks, divide, read_clients};
 use serve_faults::Fault;
@@ -56,10 +50,7 @@ pub fn load_clients(alloc: Global, bytes: &[u8]) -> Result<LoadedClients, LoadEr
     if count_marks(parts.requests) > 15 {
         return Err(LoadError::Refused(Fault::TooManyClients));
     }
-    match read_clients_session(alloc, parts) {
-        Ok(loaded) => Ok(loaded),
-        Err(e) => Err(e),
-    }
+    read_clients_session(alloc, parts)
 }
 
 /// The session of clients of a file's parts.
@@ -75,39 +66,12 @@ fn read_clients_session(alloc: Global, parts: Divided<'_>) -> Result<LoadedClien
     let mut names = names_of_input(alloc, parts.handlers, parts.tables, parts.requests);
     let program = read_program(alloc, parts.handlers, &mut names)?;
     let checked = program.checked();
-    match opened_for_clients(alloc, checked, parts, &mut names) {
-        Ok((opening, clients)) => Ok(LoadedClients {
-            names,
-            program,
-            opening,
-            clients,
-        }),
-        Err(e) => Err(e),
-    }
-}
-
-/// The entries with which the tables of checked handlers open, and the clients' requests behind them.
-fn opened_for_clients(
-    alloc: Global,
-    checked: &Checked,
-    parts: Divided<'_>,
-    names: &mut Names,
-) -> Result<(Opening, ClientRequests), LoadError>
-    requires named { AreNamed names.old (file_mentions checked.now) }
-    requires names { length names.old ≤ max_input }
-    requires marks { marks_in (lines parts.requests.now) ≤ 15 }
-    ensures opened { IfOk result (λ found. AreOpened names.old names.new checked.now
-        (rows parts.entry.first_table (lines parts.entry.tables.now)) (rows parts.entry.first
-        (without_marks (lines parts.entry.requests.now))) found.0 found.1.requests) }
-    ensures counts { IfOk result (λ found.
-        found.1.counts ≡ row_counts (lines parts.entry.requests.now)) }
-    ensures shared { IfOk result (λ found. AreShared found.1) }
-    ensures few { IfOk result (λ found. count_all found.0 ≤ max_table_lines) }
-    ensures refused { IfErr result (IsLinesReason names.old checked.now
-        (rows parts.entry.first_table (lines parts.entry.tables.now)) (rows parts.entry.first
-        (without_marks (lines parts.entry.requests.now)))) }
-{
-    let opening = read_tables(alloc, checked, parts.tables, parts.first_table, names)?;
-    let clients = read_clients(alloc, checked, parts.requests, parts.first, names)?;
-    Ok((opening, clients))
+    let opening = read_tables(alloc, checked, parts.tables, parts.first_table, &mut names)?;
+    let clients = read_clients(alloc, checked, parts.requests, parts.first, &mut names)?;
+    Ok(LoadedClients {
+        names,
+        program,
+        opening,
+        clients,
+    })
 }

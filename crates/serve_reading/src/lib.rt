@@ -18,8 +18,8 @@ pub use describing::{DescribedFile, Description, description_of, read_descriptio
 pub use load_error::LoadError;
 pub use naming::names_of_input;
 pub use program::read_program;
-pub use ranging::{range_text, ranged_text};
-pub use reading::{read_at_most, read_input};
+pub use ranging::range_text;
+pub use reading::read_at_most;
 pub use request_files::{Divided, divide};
 pub use serve_faults::{Fault, Status, message_of};
 pub use session::{Loaded, load_session};

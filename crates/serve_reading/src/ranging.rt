@@ -12,16 +12,6 @@ use range_session::ranges_text;
 use serve_faults::Fault;
 use std::alloc::Global;
 
-/// What the lines of a range session answer. The bytes are freed.
-pub fn ranged_text(alloc: Global, bytes: Vec<u8>) -> Result<Vec<u8>, LoadError>
-    requires { length bytes.items ≤ max_input }
-    ensures input { IfOk result (λ _. IsInput Ranges bytes.items) }
-    ensures text { IfOk result (λ text. IsTextOf Ranges bytes.items text.items) }
-    ensures refused { IfErr result (IsReason Ranges bytes.items) }
-{
-    range_text(alloc, bytes.as_slice())
-}
-
 /// What the lines of a range session answer, of bytes that stay where they are.
 pub fn range_text(alloc: Global, bytes: &[u8]) -> Result<Vec<u8>, LoadError>
     requires { length bytes.now ≤ max_input }

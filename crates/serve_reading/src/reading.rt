@@ -1,13 +1,11 @@
 // All of a source.
 
 ghost use Rattle.std.specs.Prelude.{◌<◌, IfOk, IfErr};
-ghost use Rattle.session_values.specs.Limits.{max_input};
-ghost use Rattle.serve_faults.specs.Changes.{change};
+ghost use Rattle.byte_ends.specs.Changes.{change};
 ghost use Rattle.serve_faults.specs.Ways.{HasRead, StoppedAs};
 
 use byte_ends::{Source, Unread, read_up_to};
 use serve_faults::{Fault, Status};
-use session_values::MAX_INPUT;
 use std::alloc::Global;
 
 /// All that the source has, up to so many bytes, or how a run ends that can't read it.
@@ -28,14 +26,4 @@ pub fn read_at_most<I: Source>(
         Err(Unread::Failed) => Err(Status::ReadFault),
         Err(Unread::NoMemory) => Err(Status::NoMemory),
     }
-}
-
-/// All that the source has, or how a run ends that can't read it.
-pub fn read_input<I: Source>(alloc: Global, source: &mut I) -> Result<Vec<u8>, Status>
-    ensures read { IfOk result
-        (λ bytes. HasRead max_input (change I.left I.faults source.old source.new) bytes.items) }
-    ensures stopped { IfErr result
-        (StoppedAs max_input (change I.left I.faults source.old source.new)) }
-{
-    read_at_most(alloc, source, MAX_INPUT)
 }

@@ -1,19 +1,15 @@
 // Reading a session: from the bytes of a session file to what can be served.
 
-ghost use Rattle.std.specs.Prelude.{◌≤◌, ◌+◌, ◌*◌, length, IfOk, IfErr, OnOk};
+ghost use Rattle.std.specs.Prelude.{◌≤◌, ◌*◌, length, IfOk, IfErr};
 ghost use Rattle.session_values.specs.Limits.{max_input};
-ghost use Rattle.syntax_trees.specs.Mentions.{AreNamed, file_mentions};
-ghost use Rattle.request_files.specs.Rows.{rows};
-ghost use Rattle.request_files.specs.Text.{lines};
 ghost use Rattle.serve_faults.specs.Input.{parts_by, parts_of};
-ghost use Rattle.serve_reading.specs.Sessions.{AreOpened, IsLoaded, IsSessionInput};
-ghost use Rattle.serve_reading.specs.Reasons.{IsInputReason, IsLinesReason, IsSessionReason};
+ghost use Rattle.serve_reading.specs.Sessions.{IsLoaded, IsSessionInput};
+ghost use Rattle.serve_reading.specs.Reasons.{IsInputReason, IsSessionReason};
 
 use crate::load_error::LoadError;
 use crate::naming::names_of_input;
 use crate::program::read_program;
 use declaration_insertion::Program;
-use handler_check::Checked;
 use opening_tables::Opening;
 use request_files::{Divided, Requests, divide, read_requests};
 use serve_faults::Fault;
@@ -44,10 +40,7 @@ pub fn load_session(alloc: Global, bytes: &[u8]) -> Result<Loaded, LoadError>
     let Some(parts) = divide(text) else {
         return Err(LoadError::Refused(Fault::NoRequests));
     };
-    match read_session(alloc, parts) {
-        Ok(loaded) => Ok(loaded),
-        Err(e) => Err(e),
-    }
+    read_session(alloc, parts)
 }
 
 /// The session of a file's parts.
@@ -62,36 +55,12 @@ pub(crate) fn read_session(alloc: Global, parts: Divided<'_>) -> Result<Loaded, 
     let mut names = names_of_input(alloc, parts.handlers, parts.tables, parts.requests);
     let program = read_program(alloc, parts.handlers, &mut names)?;
     let checked = program.checked();
-    match opened(alloc, checked, parts, &mut names) {
-        Ok((opening, requests)) => Ok(Loaded {
-            names,
-            program,
-            opening,
-            requests,
-        }),
-        Err(e) => Err(e),
-    }
-}
-
-/// The entries with which the tables of checked handlers open, and the requests behind them.
-fn opened(
-    alloc: Global,
-    checked: &Checked,
-    parts: Divided<'_>,
-    names: &mut Names,
-) -> Result<(Opening, Requests), LoadError>
-    requires named { AreNamed names.old (file_mentions checked.now) }
-    requires names { length names.old ≤ max_input }
-    ensures opened { IfOk result (λ found. AreOpened names.old names.new checked.now
-        (rows parts.entry.first_table (lines parts.entry.tables.now)) (rows parts.entry.first
-        (lines parts.entry.requests.now)) found.0 found.1) }
-    ensures few { OnOk result (length names.new ≤ length names.old + length parts.entry.tables.now
-        + length parts.entry.requests.now) }
-    ensures refused { IfErr result (IsLinesReason names.old checked.now
-        (rows parts.entry.first_table (lines parts.entry.tables.now)) (rows parts.entry.first
-        (lines parts.entry.requests.now))) }
-{
-    let opening = read_tables(alloc, checked, parts.tables, parts.first_table, names)?;
-    let requests = read_requests(alloc, checked, parts.requests, parts.first, names)?;
-    Ok((opening, requests))
+    let opening = read_tables(alloc, checked, parts.tables, parts.first_table, &mut names)?;
+    let requests = read_requests(alloc, checked, parts.requests, parts.first, &mut names)?;
+    Ok(Loaded {
+        names,
+        program,
+        opening,
+        requests,
+    })
 }

@@ -7,7 +7,7 @@ use Rattle.session_values.specs.declared.reply.Reply.{Reply}
 use Rattle.session_journal.specs.Script.{Meaning, session_of}
 use Rattle.handler_machine.specs.Scripts.{meaning}
 use Rattle.reply_sheet.specs.Printable.{ArePrintableReplies}
-use Rattle.serve_faults.specs.Changes.{Change, Failed, Took, TookFront}
+use Rattle.byte_ends.specs.Changes.{Change, Failed, WroteAll, WrotePrefix}
 use Rattle.serve_faults.specs.declared.status.Status.TheVariants as status
 use Rattle.serve_reading.specs.declared.session.Loaded.{Loaded}
 use Rattle.serve_single.proofs.FileLemmas.{replies_print}
@@ -28,8 +28,8 @@ module _ (l : Loaded) (can : CanServe l) (rs : List Reply) (ts : Tables) (done :
 
 -- the text that was asked was written, or a front of it
 module _ {O : Type 0} (text asked : List ℕ) (out : Change O) (is : text ≡ asked) where
-  pub wrote : Took out text → EndsOrWants asked out status.Fine
-  wrote took = subst (λ (t : List ℕ). Took out t) is took
+  pub wrote : WroteAll out text → EndsOrWants asked out status.Fine
+  wrote took = subst (λ (t : List ℕ). WroteAll out t) is took
 
-  pub wrote_front : Failed out → TookFront out text → EndsOrWants asked out status.WriteFault
-  wrote_front failed took = (failed, subst (λ (t : List ℕ). TookFront out t) is took)
+  pub wrote_front : Failed out → WrotePrefix out text → EndsOrWants asked out status.WriteFault
+  wrote_front failed took = (failed, subst (λ (t : List ℕ). WrotePrefix out t) is took)

@@ -6,7 +6,7 @@ use Rattle.handler_machine.specs.Scripts.{meaning}
 use Rattle.request_files.specs.Session.{session}
 use Rattle.serve_faults.specs.Command.TheVariants.{Serve, Dump}
 use Rattle.serve_faults.specs.declared.status.Status.{Status}
-use Rattle.serve_faults.specs.Changes.{Change, IsUntouched}
+use Rattle.byte_ends.specs.Changes.{Change, IsUntouched}
 use Rattle.serve_faults.specs.Input.{Parts, parts_of}
 use Rattle.serve_faults.specs.Session.{IsSession, all_names_of, session_of_parts}
 use Rattle.serve_reading.specs.Reasons.{IsInputReason}

@@ -13,7 +13,7 @@ use Rattle.serve_faults.specs.Command.TheVariants.{Audit}
 use Rattle.serve_faults.specs.declared.status.Status.{Status}
 use Rattle.serve_faults.specs.declared.status.Status.TheVariants as status
 use Rattle.serve_faults.specs.Audited.{IsAudited, audited_parts}
-use Rattle.serve_faults.specs.Changes.{Change, Failed, Took, TookFront}
+use Rattle.byte_ends.specs.Changes.{Change, Failed, WroteAll, WrotePrefix}
 use Rattle.serve_faults.specs.Input.{IsInput}
 use Rattle.serve_faults.specs.Session.{session_of_parts}
 use Rattle.serve_reading.specs.Audits.{IsAuditOf}
@@ -25,11 +25,11 @@ use Rattle.serve_single.proofs.EndLemmas.{audited_to, memory_to}
 
 -- the line of a verdict was written, or a front of it
 module _ {O : Type 0} (a : Audited) (out : Change O) (v : Verdict) (line : List ℕ) (w : IsVerdict (meaning (script_of_audited a)) a.trace.events v) (is : line ≡ verdict_text a.trace v) where
-  pub verdict_written : Took out line → AuditEnds a out status.Fine
-  verdict_written took = record { verdict = v; is_verdict = w; written = subst (Took out) is took }
+  pub verdict_written : WroteAll out line → AuditEnds a out status.Fine
+  verdict_written took = record { verdict = v; is_verdict = w; written = subst (WroteAll out) is took }
 
-  pub verdict_front : Failed out → TookFront out line → AuditEnds a out status.WriteFault
-  verdict_front failed took = (failed, record { verdict = v; is_verdict = w; written = subst (TookFront out) is took })
+  pub verdict_front : Failed out → WrotePrefix out line → AuditEnds a out status.WriteFault
+  verdict_front failed took = (failed, record { verdict = v; is_verdict = w; written = subst (WrotePrefix out) is took })
 
 pub can_judge : (input : List ℕ) (a : Audited) → IsAuditOf input a → CanJudge a
 can_judge input a h = record { opens = h.opens; servable = h.servable }

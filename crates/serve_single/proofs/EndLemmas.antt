@@ -11,7 +11,7 @@ use Rattle.serve_faults.specs.Commands.{has_handlers, has_requests, input_of, is
 use Rattle.serve_faults.specs.Input.{Parts, parts_by, parts_of, parts_fault, divided_fault, handlers_of, is_divided, parts_in, IsInput, IsShort}
 use Rattle.serve_faults.specs.Answer.{CommandAnswers, HasRequestFault, HasTableFault, IsRefused, IsTextOf}
 use Rattle.serve_faults.specs.Answer as answer
-use Rattle.serve_faults.specs.Changes.{Change, IsUntouched}
+use Rattle.byte_ends.specs.Changes.{Change, IsUntouched}
 use Rattle.serve_faults.specs.Ways.{describing}
 use Rattle.serve_reading.specs.declared.load_error.LoadError.{LoadError}
 use Rattle.serve_reading.specs.declared.load_error.LoadError.TheVariants.{Refused, NoMemory}

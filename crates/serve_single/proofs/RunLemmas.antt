@@ -2,7 +2,7 @@
 use Rattle.std.proofs.Common.{◌≡◌, ◌≢◌, ℕ, ◌+◌, ◌<◌, ◌≤◌, ◌⊎◌, inl, inr, Bool, true, false, List, length, Option, Some, None, IfSome, refl, sym, ap, ◌∙◌, subst, arith}
 use Rattle.std.proofs.lemmas.List.{drop_all}
 use Rattle.session_values.proofs.Options.{if_some}
-use Rattle.byte_ends.specs.Ends.{IsAtEnd, LostFirst, LostAtMost}
+use Rattle.byte_ends.specs.Ends.{IsAtEnd, Consumed, ConsumedAtMost}
 use Rattle.serve_faults.specs.Command.{Command}
 use Rattle.serve_faults.specs.Command.TheVariants.{Check, Show, Serve, Dump, Work, Ranges, Trace, Audit, Clients}
 use Rattle.serve_faults.specs.declared.status.Fault.{Fault}
@@ -12,7 +12,7 @@ use Rattle.serve_faults.specs.declared.status.Status.TheVariants as status
 use Rattle.serve_faults.specs.Answer.{IsRefused, IsTextOf, IsUnrefused}
 use Rattle.serve_faults.specs.Commands.{input_of, is_reading}
 use Rattle.serve_faults.specs.Input.{IsInput, IsTooLarge, most_of}
-use Rattle.serve_faults.specs.Changes.{Change, Failed, HasNotFailed, IsUntouched, Took, TookFront}
+use Rattle.byte_ends.specs.Changes.{Change, Failed, HasNotFailed, IsUntouched, WroteAll, WrotePrefix}
 use Rattle.serve_faults.specs.Ways.{HasRead, StoppedAs}
 use Rattle.serve_faults.proofs.OneAnswer.{refused_once, text_or_refused}
 use Rattle.serve_single.specs.Runs.{Answered, AnswersSingle, RunsOver, RunsSingle, Told, ToldBy, Written, has_read_all}
@@ -35,14 +35,14 @@ module _ {O : Type 0} (c : Command) (bytes : List ℕ) (out : Change O) where
   }
 
   -- the text, or a front of it
-  pub fine_answer : (text : List ℕ) → IsInput c (input_of c bytes) → IsTextOf c (input_of c bytes) text → Took out text → Answered (Some c) bytes out status.Fine
+  pub fine_answer : (text : List ℕ) → IsInput c (input_of c bytes) → IsTextOf c (input_of c bytes) text → WroteAll out text → Answered (Some c) bytes out status.Fine
   fine_answer text i is took = record {
     fine = λ e. (text, (i, is), took);
     refused = λ f e. absurd (cc);
     front = λ e. absurd (cc);
   }
 
-  pub front_answer : (text : List ℕ) → IsInput c (input_of c bytes) → IsTextOf c (input_of c bytes) text → TookFront out text → Answered (Some c) bytes out status.WriteFault
+  pub front_answer : (text : List ℕ) → IsInput c (input_of c bytes) → IsTextOf c (input_of c bytes) text → WrotePrefix out text → Answered (Some c) bytes out status.WriteFault
   front_answer text i is took = record {
     fine = λ e. absurd (cc);
     refused = λ f e. absurd (cc);
@@ -107,7 +107,7 @@ module _ {I O : Type 0} (c : Command) (source : Change I) (out : Change O) where
   rest = source.bytes source.new
 
   pub runs_of : (s : Status) → Ends s → (is_reading (Some c) ≡ false → IsUntouched source × (s ≢ status.ReadFault)) → (is_reading (Some c) ≡ false → (fault : Fault) → s ≢ status.Refused fault) → Told (Some c) source (λ bytes. Answered (Some c) bytes out s)
-      → (is_reading (Some c) ≡ true → has_read_all s ≡ true → IsAtEnd left rest) → (is_reading (Some c) ≡ true → s ≡ status.Refused TooLarge → LostFirst left rest (most_of c + 1)) → LostAtMost left rest (most_of c + 1)
+      → (is_reading (Some c) ≡ true → has_read_all s ≡ true → IsAtEnd left rest) → (is_reading (Some c) ≡ true → s ≡ status.Refused TooLarge → Consumed left rest (most_of c + 1)) → ConsumedAtMost left rest (most_of c + 1)
       → RunsSingle (Some c) source out s
   runs_of s h unread made answered end gone lost = record {
     usage = (λ e. absurd (h.usage e), λ e. absurd (cc));
@@ -149,7 +149,7 @@ too_long Audit input l = inl l
 too_long (Clients callers shards) input l = l
 
 -- where all of so few bytes is gone, so are one more than the most of them
-all_gone : (old new : Option (List ℕ)) (bytes : List ℕ) (most : ℕ) → IfSome old (λ all. bytes ≡ all) → IsAtEnd old new → length bytes ≤ most → LostFirst old new (most + 1)
+all_gone : (old new : Option (List ℕ)) (bytes : List ℕ) (most : ℕ) → IfSome old (λ all. bytes ≡ all) → IsAtEnd old new → length bytes ≤ most → Consumed old new (most + 1)
 all_gone None new bytes most h end short = tt
 all_gone (Some all) new bytes most h end short =
     let few : length all ≤ most + 1 = omega (arith, ap (λ (bs : List ℕ). length bs) h, short) in

@@ -1,13 +1,13 @@
 -- Whole runs, from what their parts say.
 use Rattle.std.proofs.Common.{◌≡◌, ℕ, ◌<◌, ◌⊎◌, inl, inr, Bool, true, false, List, length, Some, refl, sym, subst}
 use Rattle.session_values.specs.Limits.{max_input}
-use Rattle.byte_ends.specs.Ends.{Counted, Grew, GrewByFront}
+use Rattle.byte_ends.specs.Ends.{Counted, Appended, AppendedPrefix}
 use Rattle.serve_faults.specs.Command.TheVariants.{Audit, Dump, Ranges, Serve}
 use Rattle.serve_faults.specs.declared.status.Fault.TheVariants.{TooLarge}
 use Rattle.serve_faults.specs.declared.status.Status.{Status}
 use Rattle.serve_faults.specs.declared.status.Status.TheVariants as status
 use Rattle.serve_faults.specs.Commands.{is_reading}
-use Rattle.serve_faults.specs.Changes.{Change, Failed, IsUntouched, Took, TookFront}
+use Rattle.byte_ends.specs.Changes.{Change, Failed, IsUntouched, WroteAll, WrotePrefix}
 use Rattle.serve_faults.specs.Input.{max_audit_input, most_of}
 use Rattle.serve_faults.specs.Ways.{HasRead, StoppedAs, describing}
 use Rattle.serve_single.specs.Runs.{AnswersSingle, EndsUnanswered, RunsOver, RunsSingle}
@@ -15,9 +15,9 @@ use Rattle.serve_single.specs.Serving.{serving}
 use Rattle.serve_single.proofs.RunLemmas.{large_over, large_refused, read_run, runs_over, stopped_run}
 
 -- all of a line was written, or a write failed
-pub told_line : {S : Type 0} (c : Change S) (text line : List ℕ) → text ≡ line → (b : Bool) → Counted b (c.faults c.old) (c.faults c.new) → (b ≡ true → Grew (c.bytes c.old) (c.bytes c.new) text) → (b ≡ false → GrewByFront (c.bytes c.old) (c.bytes c.new) text) → Took c line ⊎ Failed c × TookFront c line
-told_line c text line is true counted all front = inl (counted.0 refl, subst (Grew (c.bytes c.old) (c.bytes c.new)) is (all refl))
-told_line c text line is false counted all front = inr (counted.1 refl, subst (GrewByFront (c.bytes c.old) (c.bytes c.new)) is (front refl))
+pub told_line : {S : Type 0} (c : Change S) (text line : List ℕ) → text ≡ line → (b : Bool) → Counted b (c.faults c.old) (c.faults c.new) → (b ≡ true → Appended (c.bytes c.old) (c.bytes c.new) text) → (b ≡ false → AppendedPrefix (c.bytes c.old) (c.bytes c.new) text) → WroteAll c line ⊎ Failed c × WrotePrefix c line
+told_line c text line is true counted all front = inl (counted.0 refl, subst (Appended (c.bytes c.old) (c.bytes c.new)) is (all refl))
+told_line c text line is false counted all front = inr (counted.1 refl, subst (AppendedPrefix (c.bytes c.old) (c.bytes c.new)) is (front refl))
 
 describing_reads : (shown : Bool) → is_reading (Some (describing shown)) ≡ true
 describing_reads true = refl

@@ -7,7 +7,7 @@ use Rattle.request_files.specs.Servable.{IsServable}
 use Rattle.trace_rules.specs.Verdicts.{IsVerdict}
 use Rattle.trace_rules.specs.declared.verdict.Verdict.{Verdict}
 use Rattle.trace_lines.specs.VerdictText.{verdict_text}
-use Rattle.serve_faults.specs.Changes.{Change, Failed, IsUntouched, Took, TookFront}
+use Rattle.byte_ends.specs.Changes.{Change, Failed, IsUntouched, WroteAll, WrotePrefix}
 use Rattle.serve_faults.specs.declared.status.Status.{Status}
 use Rattle.serve_faults.specs.declared.status.Status.TheVariants as status
 use Rattle.serve_reading.specs.declared.auditing.Audited.{Audited}
@@ -34,8 +34,8 @@ pub record AuditWrites {O : Type 0} (a : Audited) (out : Change O)
 
 -- the line was written, or a front of it where the sink failed; or memory ran out, and nothing was
 abbrev pub AuditEnds : {O : Type 0} → Audited → Change O → Status → Type 0
-AuditEnds a out status.Fine = AuditWrites a out (Took out)
-AuditEnds a out status.WriteFault = Failed out × AuditWrites a out (TookFront out)
+AuditEnds a out status.Fine = AuditWrites a out (WroteAll out)
+AuditEnds a out status.WriteFault = Failed out × AuditWrites a out (WrotePrefix out)
 AuditEnds a out status.NoMemory = IsUntouched out
 AuditEnds a out (status.Refused e) = ⊥
 AuditEnds a out status.Usage = ⊥

@@ -1,7 +1,7 @@
 -- What a run promises, over its command, its input, its outputs and how it ended. What `run` says
 -- beside that, of the hall through which it served, stands in `serve_core`.
 use Rattle.std.specs.Prelude.{◌≡◌, ◌≢◌, ◌+◌, ◌⊎◌, ◌↔◌, ℕ, Bool, true, false, is_some, List, Option, Some, None, IfSome}
-use Rattle.byte_ends.specs.Ends.{IsAtEnd, LostFirst, LostAtMost}
+use Rattle.byte_ends.specs.Ends.{IsAtEnd, Consumed, ConsumedAtMost}
 use Rattle.serve_faults.specs.Command.{Command}
 use Rattle.serve_faults.specs.declared.status.Fault.{Fault}
 use Rattle.serve_faults.specs.declared.status.Fault.TheVariants.{TooLarge}
@@ -9,7 +9,8 @@ use Rattle.serve_faults.specs.declared.status.Status.{Status}
 use Rattle.serve_faults.specs.declared.status.Status.TheVariants as status
 use Rattle.serve_faults.specs.Answer.{CommandAnswers, IsUnrefused}
 use Rattle.serve_faults.specs.Answer as answer
-use Rattle.serve_faults.specs.Changes.{Change, Failed, HasNotFailed, IsUntouched, Took, TookFront}
+use Rattle.byte_ends.specs.Changes.{Change, Failed, HasNotFailed, IsUntouched}
+use Rattle.byte_ends.specs.Changes.{WroteAll, WrotePrefix}
 use Rattle.serve_faults.specs.Commands.{is_reading}
 use Rattle.serve_faults.specs.Input.{most_of}
 use Rattle.serve_faults.specs.Message.{message_of}
@@ -56,13 +57,13 @@ pub record Answered {O : Type 0} (command : Option Command) (bytes : List ℕ) (
     (s : Status) : Type 0 where
   -- Where a run ends well, the command's text was written.
   pub fine : s ≡ status.Fine
-      → (text : List ℕ) × CommandAnswers command bytes (answer.Text text) × Took out text
+      → (text : List ℕ) × CommandAnswers command bytes (answer.Text text) × WroteAll out text
   -- A refusal is the first broken rule.
   pub refused : (fault : Fault) → s ≡ status.Refused fault
       → CommandAnswers command bytes (answer.Refused fault)
   -- What was written before the sink failed is a front of the text.
   pub front : s ≡ status.WriteFault
-      → (text : List ℕ) × CommandAnswers command bytes (answer.Text text) × TookFront out text
+      → (text : List ℕ) × CommandAnswers command bytes (answer.Text text) × WrotePrefix out text
 
 -- what becomes of the output
 pub record Written {O : Type 0} (out : Change O) (s : Status) : Type 0 where
@@ -111,14 +112,14 @@ pub record RunsSingle {I O : Type 0} (command : Option Command) (source : Change
   pub end : is_reading command ≡ true → has_read_all s ≡ true
       → IsAtEnd (source.bytes source.old) (source.bytes source.new)
   pub gone : is_reading command ≡ true → s ≡ status.Refused TooLarge
-      → LostFirst (source.bytes source.old) (source.bytes source.new) (most_read command + 1)
-  pub lost : LostAtMost (source.bytes source.old) (source.bytes source.new)
+      → Consumed (source.bytes source.old) (source.bytes source.new) (most_read command + 1)
+  pub lost : ConsumedAtMost (source.bytes source.old) (source.bytes source.new)
       (most_read command + 1)
 
 -- The line on the error output is the status's and no write of it failed; or a write failed, none
 -- was tried after it, and a front of the line stands there.
 pub record Tells {E : Type 0} (err : Change E) (s : Status) : Type 0 where
-  pub line : Took err (message_of s) ⊎ Failed err × TookFront err (message_of s)
+  pub line : WroteAll err (message_of s) ⊎ Failed err × WrotePrefix err (message_of s)
   -- A run that ends well writes none.
   pub quiet : s ≡ status.Fine → IsUntouched err
 

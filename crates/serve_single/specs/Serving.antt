@@ -13,7 +13,7 @@ use Rattle.handler_machine.specs.Scripts.{ScriptsView}
 use Rattle.request_files.specs.Requests.{ArePrintable}
 use Rattle.request_files.specs.Servable.{IsServable}
 use Rattle.request_files.specs.Values.{is_symbol}
-use Rattle.serve_faults.specs.Changes.{Change, Failed, IsUntouched, Took, TookFront}
+use Rattle.byte_ends.specs.Changes.{Change, Failed, IsUntouched, WroteAll, WrotePrefix}
 use Rattle.serve_faults.specs.Command.{Command}
 use Rattle.serve_faults.specs.Command.TheVariants.{Dump, Serve}
 use Rattle.serve_faults.specs.Language.{File, IsNamedFile}
@@ -56,8 +56,8 @@ status_of (Refused e) = status.Refused e
 
 -- the text was written, or a front of it where the sink failed
 abbrev pub EndsBy : {O : Type 0} → List ℕ → Change O → Status → Type 0
-EndsBy text out status.Fine = Took out text
-EndsBy text out status.WriteFault = Failed out × TookFront out text
+EndsBy text out status.Fine = WroteAll out text
+EndsBy text out status.WriteFault = Failed out × WrotePrefix out text
 EndsBy text out (status.Refused e) = ⊥
 EndsBy text out status.Usage = ⊥
 EndsBy text out status.NoMemory = ⊥
@@ -65,8 +65,8 @@ EndsBy text out status.ReadFault = ⊥
 
 -- the same, where memory may have run out before anything was written
 abbrev pub EndsOrWants : {O : Type 0} → List ℕ → Change O → Status → Type 0
-EndsOrWants text out status.Fine = Took out text
-EndsOrWants text out status.WriteFault = Failed out × TookFront out text
+EndsOrWants text out status.Fine = WroteAll out text
+EndsOrWants text out status.WriteFault = Failed out × WrotePrefix out text
 EndsOrWants text out status.NoMemory = IsUntouched out
 EndsOrWants text out (status.Refused e) = ⊥
 EndsOrWants text out status.Usage = ⊥

@@ -6,7 +6,7 @@ ghost use Rattle.trace_rules.specs.Verdicts.{IsVerdict};
 ghost use Rattle.handler_machine.specs.Scripts.{meaning};
 ghost use Rattle.session_journal.specs.Script.{session_of};
 ghost use Rattle.serve_faults.specs.Command.TheVariants.{Audit};
-ghost use Rattle.serve_faults.specs.Changes.{change};
+ghost use Rattle.byte_ends.specs.Changes.{change};
 ghost use Rattle.serve_faults.specs.Input.{max_audit_input};
 ghost use Rattle.serve_single.specs.Auditing.{AuditEnds, CanJudge, script_of_audited};
 ghost use Rattle.serve_single.specs.Runs.{AnswersSingle, RunsSingle};

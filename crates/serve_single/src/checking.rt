@@ -2,7 +2,7 @@
 
 ghost use Rattle.std.specs.Prelude.{◌≤◌, length, Some};
 ghost use Rattle.session_values.specs.Limits.{max_input};
-ghost use Rattle.serve_faults.specs.Changes.{change};
+ghost use Rattle.byte_ends.specs.Changes.{change};
 ghost use Rattle.serve_single.specs.Runs.{AnswersSingle, RunsSingle};
 ghost use Rattle.serve_single.specs.Serving.{EndsBy, EndsOrWants};
 ghost use Rattle.serve_faults.specs.Ways.{describing};
@@ -11,7 +11,8 @@ ghost use Rattle.serve_reading.specs.Described.{IsPrintable, text_of};
 use crate::ending::ended;
 use byte_ends::{Sink, Source, WriteBuffer, write_text};
 use serve_faults::Status;
-use serve_reading::{Description, read_description, read_input};
+use serve_reading::{Description, read_at_most, read_description};
+use session_values::MAX_INPUT;
 use std::alloc::Global;
 
 /// Reads a file of handlers, and writes its text.
@@ -25,7 +26,7 @@ pub(crate) fn describe_source<I: Source, O: Sink>(
         (change I.left I.faults source.old source.new)
         (change O.held O.faults out.old out.new) result }
 {
-    match read_input(alloc, source) {
+    match read_at_most(alloc, source, MAX_INPUT) {
         Ok(bytes) => describe_input(alloc, shown, bytes, out),
         Err(status) => status,
     }

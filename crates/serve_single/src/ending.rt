@@ -1,7 +1,7 @@
 // How a run ends, and the line that tells it.
 
 ghost use Rattle.std.specs.Prelude.{◌≡◌};
-ghost use Rattle.serve_faults.specs.Changes.{change};
+ghost use Rattle.byte_ends.specs.Changes.{change};
 ghost use Rattle.serve_single.specs.Runs.{Tells};
 ghost use Rattle.serve_single.specs.Serving.{status_of};
 

@@ -2,7 +2,7 @@
 
 ghost use Rattle.std.specs.Prelude.{ℕ, IfErr, IfOk, Some};
 ghost use Rattle.serve_faults.specs.Answer.{CommandAnswers, Text};
-ghost use Rattle.serve_faults.specs.Changes.{change};
+ghost use Rattle.byte_ends.specs.Changes.{change};
 ghost use Rattle.serve_faults.specs.Command.TheVariants.{Audit, Ranges};
 ghost use Rattle.serve_faults.specs.Ways.{describing};
 ghost use Rattle.serve_reading.specs.Described.{IsPrintable, text_of};

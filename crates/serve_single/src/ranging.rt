@@ -3,13 +3,14 @@
 ghost use Rattle.std.specs.Prelude.{◌≤◌, length, Some};
 ghost use Rattle.session_values.specs.Limits.{max_input};
 ghost use Rattle.serve_faults.specs.Command.TheVariants.{Ranges};
-ghost use Rattle.serve_faults.specs.Changes.{change};
+ghost use Rattle.byte_ends.specs.Changes.{change};
 ghost use Rattle.serve_single.specs.Runs.{AnswersSingle, RunsSingle};
 
 use crate::ending::ended;
 use byte_ends::{Sink, Source, write_all};
 use serve_faults::Status;
-use serve_reading::{range_text, read_input};
+use serve_reading::{range_text, read_at_most};
+use session_values::MAX_INPUT;
 use std::alloc::Global;
 
 /// Reads lines, and writes what they answer.
@@ -18,7 +19,7 @@ pub(crate) fn range_source<I: Source, O: Sink>(alloc: Global, source: &mut I, ou
         (change I.left I.faults source.old source.new)
         (change O.held O.faults out.old out.new) result }
 {
-    match read_input(alloc, source) {
+    match read_at_most(alloc, source, MAX_INPUT) {
         Ok(bytes) => range_input(alloc, bytes.as_slice(), out),
         Err(status) => status,
     }

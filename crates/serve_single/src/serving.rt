@@ -4,7 +4,7 @@ ghost use Rattle.std.specs.Prelude.{◌≡◌, ◌≤◌, ℕ, IfOk, Some, lengt
 ghost use Rattle.session_values.specs.Limits.{max_input};
 ghost use Rattle.session_journal.specs.Script.{session_of};
 ghost use Rattle.handler_machine.specs.Scripts.{meaning};
-ghost use Rattle.serve_faults.specs.Changes.{change};
+ghost use Rattle.byte_ends.specs.Changes.{change};
 ghost use Rattle.serve_single.specs.Runs.{AnswersSingle, RunsSingle};
 ghost use Rattle.serve_single.specs.Serving.{AreServed, CanServe, EndsOrWants, asked_text, script_of_loaded, serving};
 
@@ -14,8 +14,8 @@ use crate::writing::write_asked;
 use byte_ends::{Sink, Source};
 use handler_machine::Scripts;
 use serve_faults::Status;
-use serve_reading::{Loaded, load_session, read_input};
-use session_values::NoMemory;
+use serve_reading::{Loaded, load_session, read_at_most};
+use session_values::{MAX_INPUT, NoMemory};
 use std::alloc::Global;
 
 /// Reads a session file, serves its requests one at a time, and writes their replies; with `tables`
@@ -30,7 +30,7 @@ pub(crate) fn serve_source<I: Source, O: Sink>(
         (change I.left I.faults source.old source.new)
         (change O.held O.faults out.old out.new) result }
 {
-    match read_input(alloc, source) {
+    match read_at_most(alloc, source, MAX_INPUT) {
         Ok(bytes) => serve_input(alloc, tables, bytes.as_slice(), out),
         Err(status) => status,
     }

@@ -1,7 +1,7 @@
 // The calls of this crate.
 
 ghost use Rattle.std.specs.Prelude.{ℕ, Some};
-ghost use Rattle.serve_faults.specs.Changes.{change};
+ghost use Rattle.byte_ends.specs.Changes.{change};
 ghost use Rattle.serve_faults.specs.Command.TheVariants.{Audit, Dump, Ranges, Serve};
 ghost use Rattle.serve_faults.specs.Ways.{describing};
 ghost use Rattle.serve_single.specs.Runs.{RunsSingle, Tells};

@@ -6,7 +6,7 @@ ghost use Rattle.session_journal.specs.Opening.{AreApart};
 ghost use Rattle.session_journal.specs.Script.{session_of};
 ghost use Rattle.handler_machine.specs.Scripts.{meaning};
 ghost use Rattle.table_text.specs.Dumped.{HaveRoom};
-ghost use Rattle.serve_faults.specs.Changes.{change};
+ghost use Rattle.byte_ends.specs.Changes.{change};
 ghost use Rattle.serve_single.specs.Serving.{AreServed, CanServe, EndsOrWants, asked_text, script_of_loaded};
 ghost use Rattle.serve_single.specs.Tables.{lists_in};
 

@@ -1,6 +1,6 @@
 -- What the opening of a file gives, and how its faults are counted.
 use Rattle.std.specs.Prelude.{◌≡◌, ℕ, ⊤, List, Option, Some, IfSome}
-use Rattle.byte_ends.specs.Ends.{Rose}
+use Rattle.byte_ends.specs.Ends.{IsRaised}
 use Rattle.standard_streams.specs.declared.opens_files.Opened.{Opened}
 use Rattle.standard_streams.specs.declared.opens_files.Opened.TheVariants.{Open, Failed, NoMemory}
 
@@ -13,5 +13,5 @@ OpenGives bytes left NoMemory = ⊤
 -- an opening that failed is one fault more
 abbrev pub OpenCounts : ℕ → ℕ → Opened → Type 0
 OpenCounts before now Open = now ≡ before
-OpenCounts before now Failed = Rose before now
+OpenCounts before now Failed = IsRaised before now
 OpenCounts before now NoMemory = now ≡ before

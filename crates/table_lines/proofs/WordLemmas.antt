@@ -8,7 +8,7 @@ use Rattle.session_values.specs.declared.value.Value.{Value}
 use Rattle.session_values.specs.declared.value.Value.TheVariants.{Nil}
 use Rattle.session_values.proofs.Named.{begins_same}
 use Rattle.opening_tables.specs.Opening.{Pair}
-use Rattle.text_lines.specs.Steps.{IsFirstWord, IsValueOf, TakesWord}
+use Rattle.text_lines.specs.Steps.{FindsValue, IsTaken}
 use Rattle.text_lines.specs.Text.{Text, words}
 use Rattle.text_lines.specs.Values.{is_value, placed, value_of}
 use Rattle.text_lines.specs.declared.line.Line.{Line}
@@ -20,28 +20,12 @@ use Rattle.table_lines.specs.declared.refusal.TableRefusal.TheVariants.{BadWord}
 
 -- ---- one word
 
--- a word is taken of the line, and this is its value
-abbrev pub Taken : List Text → Text → Option Value → Text → List Text → Type 0
-Taken names line v rest after = (word : Text) × IsFirstWord line word rest × IsValueOf names word v after
-
--- what `take` says where memory is large enough
-abbrev pub Says : Line → List Text → Option (Option Value) → Line → List Text → Type 0
-Says old names found new after = MatchOption found (TakesWord old None new × (after ≡ names)) (λ v. Taken names old.rest.now v new.rest.now after)
-
-pub says_kept : (old new : Line) (names after : List Text) (found : Option (Option Value)) → Says old names found new after → Begins names after
+pub says_kept : (old new : Line) (names after : List Text) (found : Option (Option Value)) → FindsValue old names found new after → Begins names after
 says_kept old new names after None s = subst (Begins names) (sym s.1) (begins_same names)
 says_kept old new names after (Some v) s = subst (Begins names) (sym s.2.1) (placed_begins names s.0)
 
-pub says_room : (old new : Line) (names after : List Text) (found : Option (Option Value)) → Says old names found new after
-    → length after + length (words new.rest.now) ≤ length names + length (words old.rest.now)
-says_room old new names after None s = omega (arith, ap length s.1, ap (λ (l : Line). length (words l.rest.now)) s.0.1)
-says_room old new names after (Some v) s = omega (arith, ap length s.1.0, ap length s.2.1, placed_length names s.0)
-
-pub says_taken : (old new : Line) (names after : List Text) (r : Option (Option Value)) (found v : Option Value) → Says old names r new after → r ≡ Some found → found ≡ v → Taken names old.rest.now v new.rest.now after
-says_taken old new names after r found v s e f = subst (λ r. Says old names r new after) (e ∙ ap Some f) s
-
 -- whether it is a value
-taken_is : (names : List Text) (line rest : Text) (v : Option Value) (after : List Text) (t : Taken names line v rest after) → is_value t.0 ≡ is_some v
+taken_is : (names : List Text) (line rest : Text) (v : Option Value) (after : List Text) (t : IsTaken names line v rest after) → is_value t.0 ≡ is_some v
 taken_is names line rest v after t = is_value_is after t.0 ∙ ap is_some (sym t.2.0)
 
 -- ---- a key and a value
@@ -61,12 +45,12 @@ reads_both old mid new a b k v ka m vb n =
       names = end ∙ sym (placed_all_step old a (b ∷ []) ∙ placed_all_step (placed old a) b [] ∙ placed_all_nil (placed (placed old a) b));
     }
 
-pub map_reads : (old mid new : List Text) (line behind last : Text) (k v : Value) → Taken old line (Some k) behind mid → Taken mid behind (Some v) last new → words last ≡ [] → Reads old new Map (words line) (k, v)
+pub map_reads : (old mid new : List Text) (line behind last : Text) (k v : Value) → IsTaken old line (Some k) behind mid → IsTaken mid behind (Some v) last new → words last ≡ [] → Reads old new Map (words line) (k, v)
 map_reads old mid new line behind last k v t u e =
     let are : words line ≡ t.0 ∷ u.0 ∷ [] = t.1.0 ∙ ap (λ (ws : List Text). t.0 ∷ ws) (u.1.0 ∙ ap (λ (ws : List Text). u.0 ∷ ws) e) in
     subst (λ (ws : List Text). Reads old new Map ws (k, v)) (sym are) (reads_both old mid new t.0 u.0 k v (sym t.2.0) t.2.1 (sym u.2.0) u.2.1)
 
-pub map_bad : (old mid new : List Text) (line behind last : Text) (o q : Option Value) (n : ℕ) → (is_some o && (is_some q && true)) ≡ false → Taken old line o behind mid → Taken mid behind q last new → words last ≡ [] → word_fault Map n (words line) ≡ Some (BadWord n)
+pub map_bad : (old mid new : List Text) (line behind last : Text) (o q : Option Value) (n : ℕ) → (is_some o && (is_some q && true)) ≡ false → IsTaken old line o behind mid → IsTaken mid behind q last new → words last ≡ [] → word_fault Map n (words line) ≡ Some (BadWord n)
 map_bad old mid new line behind last o q n bad t u e =
     let are : words line ≡ t.0 ∷ u.0 ∷ [] = t.1.0 ∙ ap (λ (ws : List Text). t.0 ∷ ws) (u.1.0 ∙ ap (λ (ws : List Text). u.0 ∷ ws) e) in
     let none : (is_value t.0 && (is_value u.0 && true)) ≡ false = ap (λ (x : Bool). x && (is_value u.0 && true)) (taken_is old line behind o mid t) ∙ ap (λ (x : Bool). is_some o && (x && true)) (taken_is mid behind last q new u) ∙ bad in
@@ -82,11 +66,11 @@ reads_one old new a k ka n = record {
   names = n ∙ sym (placed_all_step old a [] ∙ placed_all_nil (placed old a));
 }
 
-pub set_reads : (old new : List Text) (line last : Text) (k : Value) → Taken old line (Some k) last new → words last ≡ [] → Reads old new Set (words line) (k, Nil)
+pub set_reads : (old new : List Text) (line last : Text) (k : Value) → IsTaken old line (Some k) last new → words last ≡ [] → Reads old new Set (words line) (k, Nil)
 set_reads old new line last k t e =
     subst (λ (ws : List Text). Reads old new Set ws (k, Nil)) (sym (t.1.0 ∙ ap (λ (ws : List Text). t.0 ∷ ws) e)) (reads_one old new t.0 k (sym t.2.0) t.2.1)
 
-pub set_bad : (old new : List Text) (line last : Text) (n : ℕ) → Taken old line None last new → words last ≡ [] → word_fault Set n (words line) ≡ Some (BadWord n)
+pub set_bad : (old new : List Text) (line last : Text) (n : ℕ) → IsTaken old line None last new → words last ≡ [] → word_fault Set n (words line) ≡ Some (BadWord n)
 set_bad old new line last n t e =
     ap (word_fault Set n) (t.1.0 ∙ ap (λ (ws : List Text). t.0 ∷ ws) e) ∙ ap (λ (x : Bool). cond (not (x && true)) (Some (BadWord n)) None) (taken_is old line last None new t)
 

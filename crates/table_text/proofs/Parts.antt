@@ -2,7 +2,7 @@
 use Rattle.std.proofs.Common.{◌≡◌, ℕ, zero, suc, ◌+◌, ◌<◌, ◌≤◌, List, [], ◌∷◌, ◌++◌, map as map_list, take, length, get_or, refl, sym, ◌∙◌, ap, subst, append_assoc, append-nil, arith, Option, Some, slice_get}
 use Rattle.std.proofs.lemmas.List.{take_all, take_more}
 use Rattle.std.proofs.lemmas.Option.{get_or_from_slice_get, slice_get_within}
-use Rattle.byte_ends.specs.Ends.{Grew, GrewByFront}
+use Rattle.byte_ends.specs.Ends.{Appended, AppendedPrefix}
 use Rattle.byte_ends.proofs.EndsLemmas.{front_of_more, grew_front_within, grew_more}
 use Rattle.opening_tables.specs.Opening.{Pair, entries_of, tables_of}
 use Rattle.syntax_trees.specs.declared.file.TableDecl.{TableDecl}
@@ -80,19 +80,19 @@ module _ (names : List (List ℕ)) where
     nothing_done = ap (λ (t : List ℕ). head_text ++ t) (no_parts lists) ∙ append-nil head_text
 
     -- the first line was written, and no part
-    pub none_written : (old new : Option (List ℕ)) → Grew old new head_text → Grew old new (done 0)
-    none_written old new h = subst (Grew old new) (sym nothing_done) h
+    pub none_written : (old new : Option (List ℕ)) → Appended old new head_text → Appended old new (done 0)
+    none_written old new h = subst (Appended old new) (sym nothing_done) h
 
     -- a front of the first line was
-    pub head_broken : (old new : Option (List ℕ)) → GrewByFront old new head_text → GrewByFront old new (dump_text names ds lists)
-    head_broken old new h = subst (GrewByFront old new) (sym (whole_text ds lists)) (front_of_more old new head_text (parts_text names ds lists) h)
+    pub head_broken : (old new : Option (List ℕ)) → AppendedPrefix old new head_text → AppendedPrefix old new (dump_text names ds lists)
+    head_broken old new h = subst (AppendedPrefix old new) (sym (whole_text ds lists)) (front_of_more old new head_text (parts_text names ds lists) h)
 
     -- one part more
-    pub part_written : (old mid new : Option (List ℕ)) (es : List Pair) (i : ℕ) (d : TableDecl) → i < length ds → es ≡ entries_of lists i → Grew old mid (done i) → Grew mid new (part (get_or ds i d) es) → Grew old new (done (i + 1))
+    pub part_written : (old mid new : Option (List ℕ)) (es : List Pair) (i : ℕ) (d : TableDecl) → i < length ds → es ≡ entries_of lists i → Appended old mid (done i) → Appended mid new (part (get_or ds i d) es) → Appended old new (done (i + 1))
     part_written old mid new es i d lt is h more =
         let c = cut_at ds lists i d lt in
         let next : suc i ≡ i + 1 = omega arith in
-        subst (Grew old new)
+        subst (Appended old new)
         (append_assoc head_text (parts_text names (take i ds) lists) (part (get_or ds i d) es)
         ∙ ap (λ (xs : List Pair). head_text ++ (parts_text names (take i ds) lists ++ part (get_or ds i d) xs)) is
         ∙ ap (λ (t : List ℕ). head_text ++ t) (sym c.front)
@@ -100,10 +100,10 @@ module _ (names : List (List ℕ)) where
         (grew_more old mid new (done i) (part (get_or ds i d) es) h more)
 
     -- a front of one
-    pub part_broken : (old mid new : Option (List ℕ)) (es : List Pair) (i : ℕ) (d : TableDecl) → i < length ds → es ≡ entries_of lists i → Grew old mid (done i) → GrewByFront mid new (part (get_or ds i d) es) → GrewByFront old new (dump_text names ds lists)
+    pub part_broken : (old mid new : Option (List ℕ)) (es : List Pair) (i : ℕ) (d : TableDecl) → i < length ds → es ≡ entries_of lists i → Appended old mid (done i) → AppendedPrefix mid new (part (get_or ds i d) es) → AppendedPrefix old new (dump_text names ds lists)
     part_broken old mid new es i d lt is h broken =
         let c = cut_at ds lists i d lt in
-        subst (GrewByFront old new)
+        subst (AppendedPrefix old new)
         (append_assoc head_text (parts_text names (take i ds) lists) (part (get_or ds i d) es ++ c.rest)
         ∙ ap (λ (xs : List Pair). head_text ++ (parts_text names (take i ds) lists ++ (part (get_or ds i d) xs ++ c.rest))) is
         ∙ ap (λ (t : List ℕ). head_text ++ t) (sym c.whole)
@@ -111,9 +111,9 @@ module _ (names : List (List ℕ)) where
         (grew_front_within old mid new (done i) (part (get_or ds i d) es) c.rest h broken)
 
     -- all of them
-    pub all_written : (old new : Option (List ℕ)) (i : ℕ) → length ds ≤ i → Grew old new (done i) → Grew old new (dump_text names ds lists)
+    pub all_written : (old new : Option (List ℕ)) (i : ℕ) → length ds ≤ i → Appended old new (done i) → Appended old new (dump_text names ds lists)
     all_written old new i le h =
-        subst (Grew old new) (ap (λ (xs : List TableDecl). head_text ++ parts_text names xs lists) (take_all i ds le) ∙ sym (whole_text ds lists)) h
+        subst (Appended old new) (ap (λ (xs : List TableDecl). head_text ++ parts_text names xs lists) (take_all i ds le) ∙ sym (whole_text ds lists)) h
 
 -- ---- each table
 pub room_at : (room : ℕ) (lists : List (List Pair)) (i : ℕ) → HaveRoom room lists → length (entries_of lists i) ≤ room

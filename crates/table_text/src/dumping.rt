@@ -1,7 +1,7 @@
 // Writing: the lines of a table.
 
 ghost use Rattle.std.specs.Prelude.{◌≡◌, ℕ, List, true, false};
-ghost use Rattle.byte_ends.specs.Ends.{Counted, Grew, GrewByFront};
+ghost use Rattle.byte_ends.specs.Ends.{Counted, Appended, AppendedPrefix};
 ghost use Rattle.session_values.specs.Names.{IsNamed};
 ghost use Rattle.session_values.specs.ReplyText.{IsPrintable};
 ghost use Rattle.session_values.specs.declared.value.Value.{Value};
@@ -34,9 +34,9 @@ pub fn write_entries<O: Sink>(
     requires table { IsNamed names.now table }
     requires entries { CanDump names.now kind entries.old }
     ensures all { result ≡ true
-        → Grew (O.held out.old) (O.held out.new) (part_text names.now table kind entries.old) }
+        → Appended (O.held out.old) (O.held out.new) (part_text names.now table kind entries.old) }
     ensures faults { Counted result (O.faults out.old) (O.faults out.new) }
-    ensures front { result ≡ false → GrewByFront (O.held out.old) (O.held out.new)
+    ensures front { result ≡ false → AppendedPrefix (O.held out.old) (O.held out.new)
         (part_text names.now table kind entries.old) }
 {
     put_in_order(entries, names);
@@ -56,9 +56,9 @@ fn write_lines<O: Sink>(
     requires table { IsNamed names.now table }
     requires printable { AllByRecursion (IsPrintableEntry names.now kind) entries.now }
     ensures all { result ≡ true
-        → Grew (O.held out.old) (O.held out.new) (lines_of names.now table kind entries.now) }
+        → Appended (O.held out.old) (O.held out.new) (lines_of names.now table kind entries.now) }
     ensures faults { Counted result (O.faults out.old) (O.faults out.new) }
-    ensures front { result ≡ false → GrewByFront (O.held out.old) (O.held out.new)
+    ensures front { result ≡ false → AppendedPrefix (O.held out.old) (O.held out.new)
         (lines_of names.now table kind entries.now) }
 {
     buffer.clear();

@@ -1,7 +1,7 @@
 // Writing: the text of tables.
 
 ghost use Rattle.std.specs.Prelude.{◌≡◌, ◌<◌, ◌≤◌, Some, true, false, length, slice_get, vec_capacity};
-ghost use Rattle.byte_ends.specs.Ends.{Counted, Grew, GrewByFront};
+ghost use Rattle.byte_ends.specs.Ends.{Counted, Appended, AppendedPrefix};
 ghost use Rattle.opening_tables.specs.Opening.{entries_of};
 ghost use Rattle.table_text.specs.Dumped.{CanDumpAll, HaveRoom, dump_text};
 ghost use Rattle.table_text.specs.Lines.{head_text};
@@ -57,10 +57,10 @@ pub fn write_tables<O: Sink, T: TellsEntries>(
 ) -> bool
     requires tables { CanDumpAll names.now decls.now (T.lists tables.now) }
     requires room { HaveRoom (vec_capacity entries.old) (T.lists tables.now) }
-    ensures all { result ≡ true → Grew (O.held out.old) (O.held out.new)
+    ensures all { result ≡ true → Appended (O.held out.old) (O.held out.new)
         (dump_text names.now decls.now (T.lists tables.now)) }
     ensures faults { Counted result (O.faults out.old) (O.faults out.new) }
-    ensures front { result ≡ false → GrewByFront (O.held out.old) (O.held out.new)
+    ensures front { result ≡ false → AppendedPrefix (O.held out.old) (O.held out.new)
         (dump_text names.now decls.now (T.lists tables.now)) }
 {
     if !write_head(out) {
@@ -84,9 +84,9 @@ pub fn write_tables<O: Sink, T: TellsEntries>(
 
 // Writes the line with which the text begins.
 fn write_head<O: Sink>(out: &mut O) -> bool
-    ensures all { result ≡ true → Grew (O.held out.old) (O.held out.new) head_text }
+    ensures all { result ≡ true → Appended (O.held out.old) (O.held out.new) head_text }
     ensures faults { Counted result (O.faults out.old) (O.faults out.new) }
-    ensures front { result ≡ false → GrewByFront (O.held out.old) (O.held out.new) head_text }
+    ensures front { result ≡ false → AppendedPrefix (O.held out.old) (O.held out.new) head_text }
 {
     write_all(out, b"%% tables\n")
 }

@@ -4,6 +4,7 @@ pub mod FeedLemmas
 pub mod LeadingLemmas
 pub mod PrintableLemmas
 pub mod RowLemmas
+pub mod TakenLemmas
 pub mod TextLemmas
 pub mod ValueLemmas
 pub mod WholeLines

@@ -25,14 +25,20 @@ TakesWord old r new = MatchOption r
 abbrev pub IsValueOf : List Text → Text → Option Value → List Text → Type 0
 IsValueOf names word v after = (v ≡ value_of after word) × (after ≡ placed names word)
 
--- no word is left, and nothing changes; or the first word that is left is taken, with the names in
--- which it has its value; or it is taken where memory is too small for them, and they stay
+-- the first word of a line is taken, with the names in which it has its value
+abbrev pub IsTaken : List Text → Text → Option Value → Text → List Text → Type 0
+IsTaken names line v rest after = (word : Text) × IsFirstWord line word rest
+    × IsValueOf names word v after
+
+-- no word is left, and nothing changes; or the first word that is left is taken so
+abbrev pub FindsValue : Line → List Text → Option (Option Value) → Line → List Text → Type 0
+FindsValue old names found new after = MatchOption found (TakesWord old None new × (after ≡ names))
+    (λ v. IsTaken names old.rest.now v new.rest.now after)
+
+-- so, or the first word is taken where memory is too small for the names, and they stay
 abbrev pub TakesValue : {E : Type 0} → Line → List Text → Result (Option (Option Value)) E → Line
     → List Text → Type 0
-TakesValue old names r new after = MatchResult r
-    (λ found. MatchOption found (TakesWord old None new × (after ≡ names))
-    (λ v. (word : Text) × IsFirstWord old.rest.now word new.rest.now
-    × IsValueOf names word v after))
+TakesValue old names r new after = MatchResult r (λ found. FindsValue old names found new after)
     (λ _. (word : Text) × IsFirstWord old.rest.now word new.rest.now × (after ≡ names))
 
 -- no line is left, and nothing changes; or the first that is left, with its number

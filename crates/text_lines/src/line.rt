@@ -36,9 +36,11 @@ impl<'a> Iterator for Line<'a> {
 }
 
 impl<'a> Line<'a> {
-    ghost use Rattle.std.specs.Prelude.{◌<◌, length};
+    ghost use Rattle.std.specs.Prelude.{◌≡◌, ◌<◌, drop, length};
+    ghost use Rattle.std.specs.List.{prefix_len};
+    ghost use Rattle.text_lines.specs.Bytes.{is_blank};
     ghost use Rattle.text_lines.specs.Steps.{TakesValue};
-    ghost use Rattle.text_lines.specs.Text.{words};
+    ghost use Rattle.text_lines.specs.Text.{is_word_byte, words};
 
     /// Takes the next word of the line, if one is left, and returns its value, or `None` inside if
     /// it isn't one: `next` and `value` in one, which reads a number of a few digits in one pass.
@@ -49,9 +51,7 @@ impl<'a> Line<'a> {
     {
         let (_, rest) = self.rest.split_at(blanks_len(self.rest.as_bytes()));
         let Some((number, len)) = leading_number(rest.as_bytes()) else {
-            let (word, after) = rest.split_at(word_len(rest.as_bytes()));
-            self.rest = after;
-            return Ok(Some(value(word, names)?));
+            return self.front_value(rest, names);
         };
         if len == 0 {
             return Ok(None);
@@ -59,5 +59,23 @@ impl<'a> Line<'a> {
         let (_, after) = rest.split_at(len);
         self.rest = after;
         Ok(Some(Some(Value::Num(number as i64))))
+    }
+
+    /// Takes the word that `rest` begins with, which is the line behind its blanks, and returns the
+    /// word's value, or `None` inside if it isn't one.
+    #[inline(never)]
+    fn front_value(
+        &mut self,
+        rest: &'a str,
+        names: &mut Names,
+    ) -> Result<Option<Option<Value>>, NoMemory>
+        requires blanks { rest.now ≡ drop (prefix_len is_blank self.old.rest.now) self.old.rest.now }
+        requires word { 0 < prefix_len is_word_byte rest.now }
+        requires names { length names.old < 4294967295 }
+        ensures steps { TakesValue self.old names.old result self.new names.new }
+    {
+        let (word, after) = rest.split_at(word_len(rest.as_bytes()));
+        self.rest = after;
+        Ok(Some(value(word, names)?))
     }
 }

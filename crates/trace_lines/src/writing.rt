@@ -2,7 +2,7 @@
 
 ghost use Rattle.std.specs.Prelude.{◌≡◌, true, false};
 ghost use Rattle.std.specs.List.{AllByRecursion};
-ghost use Rattle.byte_ends.specs.Ends.{Counted, Grew, GrewByFront};
+ghost use Rattle.byte_ends.specs.Ends.{Counted, Appended, AppendedPrefix};
 ghost use Rattle.trace_lines.specs.EventText.{CanWrite, head_text, trace_text};
 
 use crate::event_lines::{LONGEST, push_event_line};
@@ -23,9 +23,9 @@ pub fn write_events<O: Sink>(
 ) -> bool
     requires writable { AllByRecursion (CanWrite names.now tables.now) events.now }
     ensures all { result ≡ true
-        → Grew (O.held out.old) (O.held out.new) (trace_text names.now tables.now events.now) }
+        → Appended (O.held out.old) (O.held out.new) (trace_text names.now tables.now events.now) }
     ensures faults { Counted result (O.faults out.old) (O.faults out.new) }
-    ensures front { result ≡ false → GrewByFront (O.held out.old) (O.held out.new)
+    ensures front { result ≡ false → AppendedPrefix (O.held out.old) (O.held out.new)
         (trace_text names.now tables.now events.now) }
 {
     push_head(buffer);

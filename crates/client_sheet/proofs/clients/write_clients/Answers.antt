@@ -1,5 +1,5 @@
 use Rattle.std.proofs.Common.{rules, sym, ap, subst, ◌∙◌}
-use Rattle.byte_ends.specs.Ends.{GrewByFront}
+use Rattle.byte_ends.specs.Ends.{AppendedPrefix}
 use Rattle.reply_sheet.proofs.TextLemmas.{Waits, waits_none, waits_same}
 use Rattle.client_sheet.proofs.TextLemmas.{no_clients, to_none, to_all, line_waits, none_waits, broke_in, broke_behind}
 use Rattle.client_sheet.proofs.clients.write_clients.Goals.{else-arrival-client-via-then-arrival-client+else-not-gather_line, else-arrival-client-via-else-arrival-client}
@@ -49,4 +49,4 @@ pub returns-clause-front : goal.returns-clause-front
 returns-clause-front g c e =
     broke_behind c.args.names.now c.args.arrivals.now c.args.replies.now c.loop-client.client c.args.clients (g.O.Sink.held c.args.out.now) (g.O.Sink.held c.loop-client.out) (g.O.Sink.held c.write_all.new.out)
     c.loop-client.buffer.held c.loop-client.auto.client-end c.loop-client.invariant.waits
-    (subst (GrewByFront (g.O.Sink.held c.loop-client.out) (g.O.Sink.held c.write_all.new.out)) c.bytes.ensures (c.write_all.ensures.front e))
+    (subst (AppendedPrefix (g.O.Sink.held c.loop-client.out) (g.O.Sink.held c.write_all.new.out)) c.bytes.ensures (c.write_all.ensures.front e))

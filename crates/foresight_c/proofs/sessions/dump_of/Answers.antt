@@ -1,5 +1,5 @@
 use Rattle.std.proofs.Common.{Some, ap, sym}
-use Rattle.serve_faults.specs.Changes.{change}
+use Rattle.byte_ends.specs.Changes.{change}
 use Rattle.foresight_c.specs.declared.text_store.TextStore.{TextStore}
 use Rattle.foresight_c.proofs.Serving.{dumped_is}
 use Rattle.foresight_c.proofs.sessions.dump_of.Goals as goal

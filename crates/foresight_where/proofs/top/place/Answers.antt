@@ -1,5 +1,5 @@
 use Rattle.std.proofs.Common.{ℕ, List, subst}
-use Rattle.standard_streams.specs.Changes.{change}
+use Rattle.byte_ends.specs.Changes.{change}
 use Rattle.foresight_where.specs.Runs.{PlacesIn}
 use Rattle.foresight_where.proofs.Placing.{run_placed}
 use Rattle.foresight_where.proofs.top.place.Goals as goal

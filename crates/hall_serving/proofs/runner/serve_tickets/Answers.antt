@@ -1,18 +1,24 @@
-use Rattle.std.proofs.Common.{rules, ◌∙◌, ap, List, ℕ, [], ◌∷◌, ◌++◌}
+use Rattle.std.proofs.Common.{rules, ◌≡◌, ◌∙◌}
+use Rattle.session_hall.specs.Holdings.{StaysHolding, begun_at}
 use Rattle.hall_serving.proofs.Running.{one_given, then_waited}
+use Rattle.hall_serving.proofs.runner.serve_tickets.Goals.{then-takes_long+then-is_wanted, else-takes_long}
 use Rattle.hall_serving.proofs.runner.serve_tickets.Goals as goal
 
 pub loop-preserved : goal.loop-preserved
 loop-preserved g c =
     let t = c.in-Some-serve_next_kept.ticket in
+    let p = c.serve_next_kept.new.holding in
+    let q = c.if-takes_long.holding in
     let waited = then_waited g.A.AfterEnd.Given c.args.holding.now c.loop.holding c.hold_meanwhile.new.holding c.args.after.now c.loop.after c.hold_meanwhile.new.after
     c.loop.invariant.given c.hold_meanwhile.ensures.still.begun_still c.hold_meanwhile.ensures.waited in
+    let left : StaysHolding g.S.Tickets.meaning c.args.crew.hall.now p q × (q.caller.stage ≡ p.caller.stage) × (begun_at q ≡ begun_at p) =
+    elim c.if-takes_long.branch [ then-takes_long+then-is_wanted w ↦ search rules | else-takes_long w ↦ search rules ] in
     record {
-      holding = search rules;
-      between = search rules;
+      holding = search (rules, left);
+      between = search (rules, left);
       takes = search rules;
-      given = one_given g.A.AfterEnd.Given c.args.holding.now c.hold_meanwhile.new.holding c.leave_if_long.new.holding c.args.after.now c.hold_meanwhile.new.after c.after.new.self waited t
-          (c.leave_if_long.ensures.begun ∙ c.in-Some-serve_next_kept.ensures.served.begun_more) c.after.ensures.given;
+      given = one_given g.A.AfterEnd.Given c.args.holding.now c.hold_meanwhile.new.holding q c.args.after.now c.hold_meanwhile.new.after c.after.new.self waited t
+          (left.2 ∙ c.in-Some-serve_next_kept.ensures.served.begun_more) c.after.ensures.given;
     }
 
 pub returns-in_default-clause-given : goal.returns-in_default-clause-given

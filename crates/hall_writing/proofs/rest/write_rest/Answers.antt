@@ -2,7 +2,7 @@
 use Rattle.std.proofs.Common.{ℕ, List, drop, subst, sym, ◌∙◌, true≢false}
 use Rattle.session_values.specs.declared.reply.Reply.{Reply}
 use Rattle.session_values.specs.ReplyText.{reply_text}
-use Rattle.byte_ends.specs.Ends.{Grew, GrewByFront}
+use Rattle.byte_ends.specs.Ends.{Appended, AppendedPrefix}
 use Rattle.hall_writing.specs.Sheets.{progress}
 use Rattle.hall_writing.proofs.Sheets.{take_rest, writes_rest}
 use Rattle.hall_writing.proofs.rest.write_rest.Goals as goal
@@ -18,7 +18,7 @@ returns g c =
       quiet = λ f. absurd (true≢false (sym f ∙ c.if-sheet.false));
       failed = λ f. absurd (true≢false (sym f ∙ c.if-sheet.false));
       ends = writes_rest rs names (progress before (g.O.Sink.faults c.args.out.now) c.args.sheet) now (g.O.Sink.faults w.new.out) w.result c.if-sheet.false
-          (λ ok. subst (λ (k : ℕ). Grew before now (reply_text names k (drop k rs))) c.next-next.ensures (subst (λ (l : List Reply). Grew before now (reply_text names c.next-next.result l)) (take_rest c.next-next.result rs) (w.ensures.all ok)))
+          (λ ok. subst (λ (k : ℕ). Appended before now (reply_text names k (drop k rs))) c.next-next.ensures (subst (λ (l : List Reply). Appended before now (reply_text names c.next-next.result l)) (take_rest c.next-next.result rs) (w.ensures.all ok)))
           w.ensures.faults
-          (λ no. subst (λ (k : ℕ). GrewByFront before now (reply_text names k (drop k rs))) c.next-next.ensures (subst (λ (l : List Reply). GrewByFront before now (reply_text names c.next-next.result l)) (take_rest c.next-next.result rs) (w.ensures.front no)));
+          (λ no. subst (λ (k : ℕ). AppendedPrefix before now (reply_text names k (drop k rs))) c.next-next.ensures (subst (λ (l : List Reply). AppendedPrefix before now (reply_text names c.next-next.result l)) (take_rest c.next-next.result rs) (w.ensures.front no)));
     }

@@ -6,16 +6,15 @@ use Rattle.hall_writing.proofs.Closing.{few_left, within_left, written}
 use Rattle.hall_writing.proofs.serving.serve_and_write.Goals as goal
 
 pub run_jobs-first-requires-clause-first : goal.run_jobs-first-requires-clause-first
-run_jobs-first-requires-clause-first g c κs within = (ready g.S.Tickets.meaning _ _ c.args.plan.now _ _ _ _ c.session.invariant (search rules) _ _ c.part_first-job.ensures).0
+run_jobs-first-requires-clause-first g c κs within = record {
+  job = (ready g.S.Tickets.meaning _ _ c.args.plan.now _ _ _ _ c.session.invariant (search rules) _ _ c.part_first-job.ensures).0;
+  keeps = keeps_start g.S.Tickets.meaning _ _ c.answering.ensures c.args.plan.now _ _ _ _ c.session.invariant (search rules);
+  few = few_replies g.S.Tickets.meaning _ _ c.answering.ensures c.args.plan.now _ _ _ _ _ c.session.invariant (search rules) (search rules);
+  printable = search rules;
+}
 
 pub run_jobs-first-requires-clause-jobs : goal.run_jobs-first-requires-clause-jobs
 run_jobs-first-requires-clause-jobs g c κs within = (ready g.S.Tickets.meaning _ _ c.args.plan.now _ _ _ _ c.session.invariant (search rules) _ _ c.part_first-job.ensures).1
-
-pub run_jobs-first-requires-clause-keeps : goal.run_jobs-first-requires-clause-keeps
-run_jobs-first-requires-clause-keeps g c κs within = keeps_start g.S.Tickets.meaning _ _ c.answering.ensures c.args.plan.now _ _ _ _ c.session.invariant (search rules)
-
-pub run_jobs-first-requires-clause-few : goal.run_jobs-first-requires-clause-few
-run_jobs-first-requires-clause-few g c κs within = few_replies g.S.Tickets.meaning _ _ c.answering.ensures c.args.plan.now _ _ _ _ _ c.session.invariant (search rules) (search rules)
 
 pub end_jobs-requires-clause-unkept : goal.end_jobs-requires-clause-unkept
 end_jobs-requires-clause-unkept g c =

@@ -12,15 +12,15 @@ use Rattle.handler_machine.specs.Serving.{Promises}
 use Rattle.handler_machine.proofs.Promised.{promised}
 use Rattle.handler_machine.proofs.serving.serve_one.Goals as goal
 
-pub serve_in_room-requires-clause-within : goal.serve_in_room-requires-clause-within
-serve_in_room-requires-clause-within g c κs within =
+pub serve_body-result-requires-clause-within : goal.serve_body-result-requires-clause-within
+serve_body-result-requires-clause-within g c κs within =
     let shape : List TableKind = shape_of c.checked.result.now in
     let long : length c.set_up.new.env ≡ 32 = (let n = c.args.scratch.now.variables in omega arith) in
     let body : CodeWithin shape 32 (block_code c.handler-handler.result.now.body) = subst (CodeWithin shape 32) (sym c.handler-handler.ensures.body) c.handler-handler.ensures.within.within in
     (shape, subst (λ (n : ℕ). CodeWithin shape n (block_code c.handler-handler.result.now.body)) (sym long) body)
 
-pub serve_in_room-requires-clause-promises : goal.serve_in_room-requires-clause-promises
-serve_in_room-requires-clause-promises g c κs within =
+pub serve_body-result-requires-clause-promises : goal.serve_body-result-requires-clause-promises
+serve_body-result-requires-clause-promises g c κs within =
     let p = c.args.program.now in
     let h = c.args.h in
     let E = env_of c.set_up.new.env in

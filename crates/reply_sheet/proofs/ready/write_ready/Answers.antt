@@ -1,7 +1,7 @@
 -- Each line that is gathered is the next one, and at the end the next one is missing.
 use Rattle.std.proofs.Common.{[], refl, rules, sym, ap, ◌∙◌, subst}
 use Rattle.session_values.specs.ReplyText.{line_text}
-use Rattle.byte_ends.specs.Ends.{Grew, GrewByFront}
+use Rattle.byte_ends.specs.Ends.{Appended, AppendedPrefix}
 use Rattle.reply_sheet.proofs.ReadyLemmas.{Reached, reached_none, reached_same, reached_written, reached_line, reached_broke, reached_here, reached_past}
 use Rattle.reply_sheet.proofs.ready.write_ready.Goals.{then-not-reserve+else-not-write_all, else-not-reserve}
 use Rattle.reply_sheet.proofs.ready.write_ready.Goals as goal
@@ -24,7 +24,7 @@ returns-then-not-write_all-clause-front g c _ =
     reached_broke c.args.names.now c.args.pending.now.next c.args.pending.now.waiting (g.O.Sink.held c.args.out.now) (g.O.Sink.held c.loop-ticket.out) (g.O.Sink.held c.write_all.new.out) c.reserve.new.self.held c.loop-ticket.pending.next rest
     (reached_same c.args.names.now c.args.pending.now.next c.args.pending.now.waiting (g.O.Sink.held c.args.out.now) (g.O.Sink.held c.loop-ticket.out) (g.O.Sink.held c.loop-ticket.out) c.loop-ticket.buffer.held c.reserve.new.self.held c.loop-ticket.pending.next rest
     refl c.reserve.ensures.held c.loop-ticket.invariant.reached)
-    (subst (GrewByFront (g.O.Sink.held c.loop-ticket.out) (g.O.Sink.held c.write_all.new.out)) c.bytes.ensures (c.write_all.ensures.front c.if-not-write_all.true))
+    (subst (AppendedPrefix (g.O.Sink.held c.loop-ticket.out) (g.O.Sink.held c.write_all.new.out)) c.bytes.ensures (c.write_all.ensures.front c.if-not-write_all.true))
 
 pub push_line-requires-clause-printable : goal.push_line-requires-clause-printable
 push_line-requires-clause-printable g c =
@@ -51,7 +51,7 @@ loop-ticket-preserved g c =
             | then-not-reserve+else-not-write_all w ↦ reached_same names start all first _ _ _ _ next rest (ap g.O.Sink.held w.out-is) (ap (λ b. b.held) w.buffer-is ∙ w.clear-then-not-reserve.ensures.held)
                 (reached_written names start all first (g.O.Sink.held c.loop-ticket.out) (g.O.Sink.held w.write_all.new.out) c.reserve.new.self.held [] next rest
                 (reached_same names start all first _ _ _ _ next rest refl c.reserve.ensures.held c.loop-ticket.invariant.reached)
-                (subst (Grew (g.O.Sink.held c.loop-ticket.out) (g.O.Sink.held w.write_all.new.out)) w.bytes.ensures (w.write_all.ensures.all w.if-not-write_all.false)) refl)
+                (subst (Appended (g.O.Sink.held c.loop-ticket.out) (g.O.Sink.held w.write_all.new.out)) w.bytes.ensures (w.write_all.ensures.all w.if-not-write_all.false)) refl)
             | else-not-reserve w ↦ reached_same names start all first _ _ _ _ next rest (ap g.O.Sink.held w.out-is) (ap (λ b. b.held) w.buffer-is ∙ c.reserve.ensures.held) c.loop-ticket.invariant.reached
           ]));
       well = elim c.if-not-reserve.branch [
@@ -64,4 +64,4 @@ pub returns-clause-front : goal.returns-clause-front
 returns-clause-front g c e =
     reached_broke c.args.names.now c.args.pending.now.next c.args.pending.now.waiting (g.O.Sink.held c.args.out.now) (g.O.Sink.held c.loop-ticket.out) (g.O.Sink.held c.write_all-2.new.out) c.loop-ticket.buffer.held c.loop-ticket.pending.next c.loop-ticket.pending.waiting
     c.loop-ticket.invariant.reached
-    (subst (GrewByFront (g.O.Sink.held c.loop-ticket.out) (g.O.Sink.held c.write_all-2.new.out)) c.bytes-2.ensures (c.write_all-2.ensures.front e))
+    (subst (AppendedPrefix (g.O.Sink.held c.loop-ticket.out) (g.O.Sink.held c.write_all-2.new.out)) c.bytes-2.ensures (c.write_all-2.ensures.front e))

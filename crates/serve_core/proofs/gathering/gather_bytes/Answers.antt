@@ -1,7 +1,7 @@
 use Rattle.std.proofs.Common.{None, refl, subst, sym}
 use Rattle.serve_words.specs.declared.command.Command.TheVariants.{Clients}
 use Rattle.serve_faults.specs.declared.status.Status.{Status}
-use Rattle.serve_faults.specs.Changes.{change}
+use Rattle.byte_ends.specs.Changes.{change}
 use Rattle.serve_core.specs.declared.outcome.Outcome.{Outcome}
 use Rattle.serve_core.specs.Runs.{AnswersTo}
 use Rattle.serve_core.proofs.EndLemmas.{reason_to}

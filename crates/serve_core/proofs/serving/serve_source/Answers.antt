@@ -1,6 +1,6 @@
 use Rattle.std.proofs.Common.{◌≡◌, Some, refl, rules, subst, sym, List, ℕ}
 use Rattle.session_values.specs.Limits.{max_input}
-use Rattle.serve_faults.specs.Changes.{change}
+use Rattle.byte_ends.specs.Changes.{change}
 use Rattle.serve_faults.specs.Ways.{HasRead}
 use Rattle.serve_core.specs.declared.asked.Writes.{Writes}
 use Rattle.serve_core.specs.declared.asked.Writes.TheVariants.{ClientReplies, Events, Replies, Tables}
@@ -13,7 +13,7 @@ use Rattle.serve_core.proofs.serving.serve_source.Goals as goal
 
 pub returns-in-Err : goal.returns-in-Err
 returns-in-Err g c =
-    let source = change g.I.Source.left g.I.Source.faults c.args.source.now c.read_input.new.source in
+    let source = change g.I.Source.left g.I.Source.faults c.args.source.now c.read_at_most.new.source in
     let out = change g.O.Sink.held g.O.Sink.faults c.args.out.now c.args.out.now in
     let sizes = c.args.sizes in
     subst (λ (o : Outcome). Runs (Some (command_for c.args.writes sizes.callers sizes.shards)) source out o.status o.closed) (sym c.unserved.ensures)
@@ -21,7 +21,7 @@ returns-in-Err g c =
 
 pub returns-in-Replies : goal.returns-in-Replies
 returns-in-Replies g c =
-    let source = change g.I.Source.left g.I.Source.faults c.args.source.now c.read_input.new.source in
+    let source = change g.I.Source.left g.I.Source.faults c.args.source.now c.read_at_most.new.source in
     let out = change g.O.Sink.held g.O.Sink.faults c.args.out.now c.serve_bytes.new.out in
     let sizes = c.args.sizes in
     let is : c.args.writes ≡ Replies = search rules in
@@ -33,7 +33,7 @@ returns-in-Replies g c =
 
 pub returns-in-Tables : goal.returns-in-Tables
 returns-in-Tables g c =
-    let source = change g.I.Source.left g.I.Source.faults c.args.source.now c.read_input.new.source in
+    let source = change g.I.Source.left g.I.Source.faults c.args.source.now c.read_at_most.new.source in
     let out = change g.O.Sink.held g.O.Sink.faults c.args.out.now c.serve_bytes-in-Tables.new.out in
     let sizes = c.args.sizes in
     let is : c.args.writes ≡ Tables = search rules in
@@ -45,7 +45,7 @@ returns-in-Tables g c =
 
 pub returns-in-Events : goal.returns-in-Events
 returns-in-Events g c =
-    let source = change g.I.Source.left g.I.Source.faults c.args.source.now c.read_input.new.source in
+    let source = change g.I.Source.left g.I.Source.faults c.args.source.now c.read_at_most.new.source in
     let out = change g.O.Sink.held g.O.Sink.faults c.args.out.now c.serve_bytes-in-Events.new.out in
     let sizes = c.args.sizes in
     let is : c.args.writes ≡ Events = search rules in
@@ -57,7 +57,7 @@ returns-in-Events g c =
 
 pub returns : goal.returns
 returns g c =
-    let source = change g.I.Source.left g.I.Source.faults c.args.source.now c.read_input.new.source in
+    let source = change g.I.Source.left g.I.Source.faults c.args.source.now c.read_at_most.new.source in
     let out = change g.O.Sink.held g.O.Sink.faults c.args.out.now c.gather_bytes.new.out in
     let sizes = c.args.sizes in
     let is : c.args.writes ≡ ClientReplies = search rules in

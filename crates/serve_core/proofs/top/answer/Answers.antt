@@ -2,7 +2,7 @@ use Rattle.std.proofs.Common.{◌≡◌, ◌≤◌, Option, Some, refl, rules, s
 use Rattle.session_values.specs.Limits.{max_requests}
 use Rattle.serve_words.specs.declared.command.Command.{Command}
 use Rattle.serve_words.specs.declared.command.Command.TheVariants.{Work}
-use Rattle.serve_faults.specs.Changes.{change}
+use Rattle.byte_ends.specs.Changes.{change}
 use Rattle.serve_core.specs.Runs.{Runs}
 use Rattle.serve_core.proofs.TopLemmas.{few_requests, work_run}
 use Rattle.serve_core.proofs.top.answer.Goals as goal

@@ -1,17 +1,42 @@
+use Rattle.std.proofs.Common.{refl}
+use Rattle.request_files.specs.declared.refusal.RequestRefusal.TheVariants as request
+use Rattle.table_lines.proofs.OpenedLemmas.{opened_is}
+use Rattle.table_lines.specs.declared.refusal.TableRefusal.TheVariants as table
 use Rattle.serve_faults.specs.Input.{parts_by}
-use Rattle.serve_reading.proofs.ClientFiles.{are_clients, clients_lines}
+use Rattle.serve_faults.specs.declared.status.Fault.TheVariants as fault
+use Rattle.serve_reading.specs.Clients.{joined_parts}
+use Rattle.serve_reading.specs.Reasons.{IsSessionReason}
+use Rattle.serve_reading.specs.declared.load_error.LoadError.TheVariants.{Refused}
+use Rattle.serve_reading.proofs.ClientFiles.{are_clients, clients_lines, opening_few}
+use Rattle.serve_reading.proofs.Exits.{exit_named}
+use Rattle.serve_reading.proofs.Loading.{behind_tables, both_read}
 use Rattle.serve_reading.proofs.clients.read_clients_session.Goals as goal
 
-pub returns-in-Ok-clause-loaded : goal.returns-in-Ok-clause-loaded
-returns-in-Ok-clause-loaded c =
+pub returns-clause-loaded : goal.returns-clause-loaded
+returns-clause-loaded c =
     let p = c.in_ok-program.ensures in
     let e = c.checked-checked.ensures.file in
-    let r = rw c.in-Ok.opening-is at (rw c.in-Ok.clients-is at c.in-Ok.ensures.opened) in
-    are_clients _ _ c.read_program.new.names p.program p.names (rw e at r) p.named
-    (rw c.in-Ok.clients-is at c.in-Ok.ensures.counts) (rw c.in-Ok.clients-is at c.in-Ok.ensures.shared) (rw c.in-Ok.opening-is at c.in-Ok.ensures.few)
+    let t = c.in_ok-opening.ensures in
+    let r = c.in_ok-clients.ensures in
+    let o = both_read _ _ _ _ _ _ _ _ t.ok t.opening t.printable t.kept r.ok r.servable r.printable r.kept in
+    are_clients _ _ c.read_program.new.names p.program p.names (rw e at o) p.named r.counts r.shared (opening_few _ _ _ _ _ t.ok.fine (opened_is _ _ _ _ _ t.ok))
 
-pub returns-in-Err-clause-refused : goal.returns-in-Err-clause-refused
-returns-in-Err-clause-refused c =
+pub returns-in_err-opening-clause-refused : goal.returns-in_err-opening-clause-refused
+returns-in_err-opening-clause-refused c =
+    let parts = parts_by c.args.parts.handlers.now c.args.parts.tables.now c.args.parts.requests.now c.args.parts.first_table c.args.parts.first in
     let p = c.in_ok-program.ensures in
-    let e = c.checked-checked.ensures.file in
-    clients_lines (parts_by c.args.parts.handlers.now c.args.parts.tables.now c.args.parts.requests.now c.args.parts.first_table c.args.parts.first) c.in_ok-program.program c.read_program.new.names c.in-Err.e p.program p.names (rw e at c.in-Err.ensures.refused)
+    let file = c.checked-checked.ensures.file in
+    let e = c.in_err-opening.field-0.0 in
+    exit_named table.NoMemory fault.Tables (IsSessionReason (joined_parts parts)) e c.from_residual-in_err-opening.result c.from_residual-in_err-opening.ensures.1 tt
+    (λ broken. clients_lines parts c.in_ok-program.program c.read_program.new.names (Refused (fault.Tables e)) p.program p.names (rw file at (c.in_err-opening.ensures.refused e refl broken)))
+
+pub returns-in_err-clients-clause-refused : goal.returns-in_err-clients-clause-refused
+returns-in_err-clients-clause-refused c =
+    let parts = parts_by c.args.parts.handlers.now c.args.parts.tables.now c.args.parts.requests.now c.args.parts.first_table c.args.parts.first in
+    let p = c.in_ok-program.ensures in
+    let file = c.checked-checked.ensures.file in
+    let e = c.in_err-clients.field-0.0 in
+    exit_named request.NoMemory fault.Request (IsSessionReason (joined_parts parts)) e c.from_residual-in_err-clients.result c.from_residual-in_err-clients.ensures.1 tt
+    (λ broken.
+    let behind = behind_tables _ _ _ _ _ _ e c.in_ok-opening.ensures.ok (c.in_err-clients.ensures.refused e refl broken) in
+    clients_lines parts c.in_ok-program.program c.read_program.new.names (Refused (fault.Request e)) p.program p.names (rw file at behind))

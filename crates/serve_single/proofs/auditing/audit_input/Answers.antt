@@ -1,7 +1,7 @@
 use Rattle.std.proofs.Common.{refl, subst, sym}
 use Rattle.serve_faults.specs.Command.TheVariants.{Audit}
 use Rattle.serve_faults.specs.declared.status.Status.{Status}
-use Rattle.serve_faults.specs.Changes.{change}
+use Rattle.byte_ends.specs.Changes.{change}
 use Rattle.serve_single.specs.Runs.{AnswersSingle}
 use Rattle.serve_single.proofs.AuditLemmas.{can_judge, judged_to}
 use Rattle.serve_single.proofs.EndLemmas.{unaudited_to}

@@ -1,5 +1,5 @@
 use Rattle.std.proofs.Common.{ℕ, List, refl, rules, subst}
-use Rattle.serve_faults.specs.Changes.{change}
+use Rattle.byte_ends.specs.Changes.{change}
 use Rattle.serve_faults.specs.Input.{max_audit_input}
 use Rattle.serve_faults.specs.Ways.{HasRead}
 use Rattle.serve_single.proofs.TopLemmas.{audited_run, unaudited_run}

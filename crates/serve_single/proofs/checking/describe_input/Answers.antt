@@ -1,6 +1,6 @@
 use Rattle.std.proofs.Common.{refl, subst, sym}
 use Rattle.serve_faults.specs.declared.status.Status.{Status}
-use Rattle.serve_faults.specs.Changes.{change}
+use Rattle.byte_ends.specs.Changes.{change}
 use Rattle.serve_faults.specs.Ways.{describing}
 use Rattle.serve_reading.specs.Described.{text_of}
 use Rattle.serve_single.specs.Runs.{AnswersSingle}

@@ -1,4 +1,4 @@
-use Rattle.serve_faults.specs.Changes.{change}
+use Rattle.byte_ends.specs.Changes.{change}
 use Rattle.serve_reading.specs.Described.{text_of}
 use Rattle.serve_single.proofs.EndLemmas.{ends_or_wants}
 use Rattle.serve_single.proofs.checking.write_description.Goals as goal

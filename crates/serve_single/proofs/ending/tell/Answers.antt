@@ -1,5 +1,5 @@
 use Rattle.std.proofs.Common.{◌∙◌, ap}
-use Rattle.serve_faults.specs.Changes.{change}
+use Rattle.byte_ends.specs.Changes.{change}
 use Rattle.serve_faults.specs.Message.{message_of}
 use Rattle.serve_single.proofs.TopLemmas.{told_line}
 use Rattle.serve_single.proofs.ending.tell.Goals as goal

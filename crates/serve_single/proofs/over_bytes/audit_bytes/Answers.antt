@@ -1,5 +1,5 @@
 use Rattle.std.proofs.Common.{refl}
-use Rattle.serve_faults.specs.Changes.{change}
+use Rattle.byte_ends.specs.Changes.{change}
 use Rattle.serve_single.proofs.TopLemmas.{audited_over, unaudited_over}
 use Rattle.serve_single.proofs.over_bytes.audit_bytes.Goals as goal
 

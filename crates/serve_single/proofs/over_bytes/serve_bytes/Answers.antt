@@ -1,5 +1,5 @@
 use Rattle.std.proofs.Common.{refl}
-use Rattle.serve_faults.specs.Changes.{change}
+use Rattle.byte_ends.specs.Changes.{change}
 use Rattle.serve_single.proofs.TopLemmas.{served_over, unserved_over}
 use Rattle.serve_single.proofs.over_bytes.serve_bytes.Goals as goal
 

@@ -1,5 +1,5 @@
 use Rattle.std.proofs.Common.{refl}
-use Rattle.serve_faults.specs.Changes.{change}
+use Rattle.byte_ends.specs.Changes.{change}
 use Rattle.serve_faults.specs.Input.{parts_of}
 use Rattle.serve_single.proofs.FileLemmas.{can_serve}
 use Rattle.serve_single.proofs.Asked.{loaded_alone, unloaded_alone}

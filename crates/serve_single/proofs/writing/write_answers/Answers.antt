@@ -4,7 +4,7 @@ use Rattle.session_values.specs.declared.reply.Reply.{Reply}
 use Rattle.session_journal.specs.Script.{session_of}
 use Rattle.handler_machine.specs.Scripts.{meaning}
 use Rattle.reply_sheet.specs.Printable.{ArePrintableReplies}
-use Rattle.serve_faults.specs.Changes.{change}
+use Rattle.byte_ends.specs.Changes.{change}
 use Rattle.serve_single.specs.Serving.{asked_text, script_of_loaded}
 use Rattle.serve_single.proofs.Answering.{few_replies, print_replies, replied_is, wrote, wrote_front}
 use Rattle.serve_single.proofs.writing.write_answers.Goals as goal

@@ -4,7 +4,7 @@ use Rattle.request_files.specs.TableDecl.{TableDecl}
 use Rattle.session_journal.specs.Script.{session_of}
 use Rattle.handler_machine.specs.Scripts.{meaning}
 use Rattle.table_text.specs.Dumped.{CanDumpAll, dump_text}
-use Rattle.serve_faults.specs.Changes.{change}
+use Rattle.byte_ends.specs.Changes.{change}
 use Rattle.serve_single.specs.Serving.{asked_text, script_of_loaded}
 use Rattle.serve_single.specs.Tables.{lists_in}
 use Rattle.serve_single.proofs.Answering.{wrote, wrote_front}

@@ -1,5 +1,5 @@
 use Rattle.std.proofs.Common.{[], ◌++◌, Option, get_or, refl, rules, ap, ◌∙◌, subst}
-use Rattle.byte_ends.specs.Ends.{Grew, GrewByFront}
+use Rattle.byte_ends.specs.Ends.{Appended, AppendedPrefix}
 use Rattle.session_values.specs.declared.value.Value.TheVariants.{Nil}
 use Rattle.reply_sheet.proofs.TextLemmas.{waits_none, waits_same, waits_written, broke_off}
 use Rattle.table_text.specs.Lines.{lines_of}
@@ -20,7 +20,7 @@ pub returns-then-not-write_all-clause-front : goal.returns-then-not-write_all-cl
 returns-then-not-write_all-clause-front g c _ =
     let waits = waits_same _ _ _ _ _ _ refl c.reserve.ensures.held c.loop-i.invariant.waits in
     broke_off (g.O.Sink.held c.args.out.now) (g.O.Sink.held c.loop-i.out) (g.O.Sink.held c.write_all.new.out) c.reserve.new.self.held _ _ _ waits
-    (subst (GrewByFront (g.O.Sink.held c.loop-i.out) (g.O.Sink.held c.write_all.new.out)) c.bytes.ensures (c.write_all.ensures.front c.if-not-write_all.true))
+    (subst (AppendedPrefix (g.O.Sink.held c.loop-i.out) (g.O.Sink.held c.write_all.new.out)) c.bytes.ensures (c.write_all.ensures.front c.if-not-write_all.true))
     (lines_at c.args.names.now c.args.table c.args.kind c.args.entries.now c.loop-i.i)
 
 pub push_table_line-requires-clause-key : goal.push_table_line-requires-clause-key
@@ -37,7 +37,7 @@ loop-i-preserved g c = record {
         | then-not-reserve+else-not-write_all w ↦ waits_same _ _ _ _ _ _ (ap g.O.Sink.held w.out-is) (ap (λ b. b.held) w.buffer-is ∙ w.clear-then-not-reserve.ensures.held)
             (waits_written (g.O.Sink.held c.args.out.now) (g.O.Sink.held c.loop-i.out) (g.O.Sink.held w.write_all.new.out) c.reserve.new.self.held [] _
             (waits_same _ _ _ _ _ _ refl c.reserve.ensures.held c.loop-i.invariant.waits)
-            (subst (Grew (g.O.Sink.held c.loop-i.out) (g.O.Sink.held w.write_all.new.out)) w.bytes.ensures (w.write_all.ensures.all w.if-not-write_all.false)) refl)
+            (subst (Appended (g.O.Sink.held c.loop-i.out) (g.O.Sink.held w.write_all.new.out)) w.bytes.ensures (w.write_all.ensures.all w.if-not-write_all.false)) refl)
         | else-not-reserve w ↦ waits_same _ _ _ _ _ _ (ap g.O.Sink.held w.out-is) (ap (λ b. b.held) w.buffer-is ∙ c.reserve.ensures.held) c.loop-i.invariant.waits
       ]);
   well = elim c.if-not-reserve.branch [
@@ -49,5 +49,5 @@ loop-i-preserved g c = record {
 pub returns-clause-front : goal.returns-clause-front
 returns-clause-front g c e =
     broke_off (g.O.Sink.held c.args.out.now) (g.O.Sink.held c.loop-i.out) (g.O.Sink.held c.write_all-2.new.out) c.loop-i.buffer.held _ _ _ c.loop-i.invariant.waits
-    (subst (GrewByFront (g.O.Sink.held c.loop-i.out) (g.O.Sink.held c.write_all-2.new.out)) c.bytes-2.ensures (c.write_all-2.ensures.front e))
+    (subst (AppendedPrefix (g.O.Sink.held c.loop-i.out) (g.O.Sink.held c.write_all-2.new.out)) c.bytes-2.ensures (c.write_all-2.ensures.front e))
     (lines_at c.args.names.now c.args.table c.args.kind c.args.entries.now c.loop-i.i)

@@ -1,4 +1,4 @@
-use Rattle.std.proofs.Common.{◌≡◌, Some, None, cond, true, refl, sym, ap, ◌∙◌, get_or, w64, arith}
+use Rattle.std.proofs.Common.{◌≡◌, Some, None, cond, true, sym, ap, ◌∙◌, get_or, w64, arith}
 use Rattle.std.proofs.lemmas.Int.{to_z_pos}
 use Rattle.std.specs.Char.{is_ascii_digit}
 use Rattle.std.specs.Str.{all_ascii_digits}

@@ -1,5 +1,5 @@
 use Rattle.std.proofs.Common.{[], append-nil, refl, rules, sym, ap, ◌∙◌, subst}
-use Rattle.byte_ends.specs.Ends.{Grew, GrewByFront}
+use Rattle.byte_ends.specs.Ends.{Appended, AppendedPrefix}
 use Rattle.byte_ends.proofs.EndsLemmas.{grew_nothing}
 use Rattle.reply_sheet.proofs.TextLemmas.{waits_same, waits_written, broke_off}
 use Rattle.trace_lines.specs.EventText.{head_text}
@@ -17,7 +17,7 @@ pub returns-then-not-write_all-clause-front : goal.returns-then-not-write_all-cl
 returns-then-not-write_all-clause-front g c _ =
     let waits = waits_same _ _ _ _ _ _ refl c.reserve.ensures.held c.loop-i.invariant.waits in
     broke_off (g.O.Sink.held c.args.out.now) (g.O.Sink.held c.loop-i.out) (g.O.Sink.held c.write_all.new.out) c.reserve.new.self.held _ _ _ waits
-    (subst (GrewByFront (g.O.Sink.held c.loop-i.out) (g.O.Sink.held c.write_all.new.out)) c.bytes.ensures (c.write_all.ensures.front c.if-not-write_all.true))
+    (subst (AppendedPrefix (g.O.Sink.held c.loop-i.out) (g.O.Sink.held c.write_all.new.out)) c.bytes.ensures (c.write_all.ensures.front c.if-not-write_all.true))
     (text_at c.args.names.now c.args.tables.now c.args.events.now c.loop-i.i)
 
 pub loop-i-preserved : goal.loop-i-preserved
@@ -28,7 +28,7 @@ loop-i-preserved g c = record {
         | then-not-reserve+else-not-write_all w ↦ waits_same _ _ _ _ _ _ (ap g.O.Sink.held w.out-is) (ap (λ b. b.held) w.buffer-is ∙ w.clear.ensures.held)
             (waits_written (g.O.Sink.held c.args.out.now) (g.O.Sink.held c.loop-i.out) (g.O.Sink.held w.write_all.new.out) c.reserve.new.self.held [] _
             (waits_same _ _ _ _ _ _ refl c.reserve.ensures.held c.loop-i.invariant.waits)
-            (subst (Grew (g.O.Sink.held c.loop-i.out) (g.O.Sink.held w.write_all.new.out)) w.bytes.ensures (w.write_all.ensures.all w.if-not-write_all.false)) refl)
+            (subst (Appended (g.O.Sink.held c.loop-i.out) (g.O.Sink.held w.write_all.new.out)) w.bytes.ensures (w.write_all.ensures.all w.if-not-write_all.false)) refl)
         | else-not-reserve w ↦ waits_same _ _ _ _ _ _ (ap g.O.Sink.held w.out-is) (ap (λ b. b.held) w.buffer-is ∙ c.reserve.ensures.held) c.loop-i.invariant.waits
       ]);
   well = elim c.if-not-reserve.branch [
@@ -40,5 +40,5 @@ loop-i-preserved g c = record {
 pub returns-clause-front : goal.returns-clause-front
 returns-clause-front g c e =
     broke_off (g.O.Sink.held c.args.out.now) (g.O.Sink.held c.loop-i.out) (g.O.Sink.held c.write_all-2.new.out) c.loop-i.buffer.held _ _ _ c.loop-i.invariant.waits
-    (subst (GrewByFront (g.O.Sink.held c.loop-i.out) (g.O.Sink.held c.write_all-2.new.out)) c.bytes-2.ensures (c.write_all-2.ensures.front e))
+    (subst (AppendedPrefix (g.O.Sink.held c.loop-i.out) (g.O.Sink.held c.write_all-2.new.out)) c.bytes-2.ensures (c.write_all-2.ensures.front e))
     (text_at c.args.names.now c.args.tables.now c.args.events.now c.loop-i.i)

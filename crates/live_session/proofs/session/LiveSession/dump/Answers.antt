@@ -5,7 +5,7 @@ use Rattle.shard_tables.specs.declared.part.Part.{Part}
 use Rattle.handler_check.specs.TableDecl.{TableDecl}
 use Rattle.table_text.specs.Dumped.{CanDumpAll, HaveRoom, dump_text}
 use Rattle.text_lines.specs.Text.{Text}
-use Rattle.serve_faults.specs.Changes.{Took, TookFront, change}
+use Rattle.byte_ends.specs.Changes.{WroteAll, WrotePrefix, change}
 use Rattle.live_session.specs.Held.{lists_in}
 use Rattle.live_session.specs.Live.{LiveView, dump_of}
 use Rattle.live_session.specs.contracts.session.LiveSession.{the_view}
@@ -33,7 +33,7 @@ returns-then-write_tables g c =
     let decls : c.as_slice-decls.result.now ≡ v.file.tables = search rules in
     let is : dump_text v.names c.as_slice-decls.result.now (lists_in ps) ≡ dump_of c.args.self.now =
     ap (λ (ts : List TableDecl). dump_text v.names ts (lists_in ps)) decls ∙ dumped_is v c.self.invariant.0 ps refl c.self.invariant.1.kinds ∙ ap dump_of c.self.view_is in
-    let P : Text → Type 0 = λ t. Took (change g.O.Sink.held g.O.Sink.faults c.args.out.now c.write_tables.new.out) t in
+    let P : Text → Type 0 = λ t. WroteAll (change g.O.Sink.held g.O.Sink.faults c.args.out.now c.write_tables.new.out) t in
     subst P is (c.write_tables.ensures.faults.0 c.if-write_tables.true, c.write_tables.ensures.all c.if-write_tables.true)
 
 pub returns : goal.returns
@@ -43,5 +43,5 @@ returns g c =
     let decls : c.as_slice-decls.result.now ≡ v.file.tables = search rules in
     let is : dump_text v.names c.as_slice-decls.result.now (lists_in ps) ≡ dump_of c.args.self.now =
     ap (λ (ts : List TableDecl). dump_text v.names ts (lists_in ps)) decls ∙ dumped_is v c.self.invariant.0 ps refl c.self.invariant.1.kinds ∙ ap dump_of c.self.view_is in
-    let P : Text → Type 0 = λ t. TookFront (change g.O.Sink.held g.O.Sink.faults c.args.out.now c.write_tables.new.out) t in
+    let P : Text → Type 0 = λ t. WrotePrefix (change g.O.Sink.held g.O.Sink.faults c.args.out.now c.write_tables.new.out) t in
     (c.write_tables.ensures.faults.1 c.if-write_tables.false, subst P is (c.write_tables.ensures.front c.if-write_tables.false))
