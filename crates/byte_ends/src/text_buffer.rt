@@ -6,7 +6,7 @@ use crate::text_sink::{PutsText, TextSink};
 use session_values::NoMemory;
 use std::alloc::Global;
 
-/// A text that is kept in memory. Once that is wanting, what is put is dropped.
+/// A text that is kept in memory. Once that runs out, what is put is dropped.
 #[derive(Drop)]
 struct TextBuffer {
     text: String,
@@ -16,7 +16,7 @@ struct TextBuffer {
 impl TextSink for TextBuffer {
     ghost use Rattle.std.specs.Prelude.{◌≡◌, ◌++◌, false, string_bytes};
 
-    // What it holds, with what is still to come, is the whole text, unless memory was wanting.
+    // What it holds, with what is still to come, is the whole text, unless memory ran out.
     ghost IsDue = { λ start whole now rest. now.short ≡ false
         → string_bytes now.text ++ rest ≡ whole };
 

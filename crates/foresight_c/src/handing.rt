@@ -32,7 +32,7 @@ pub(crate) fn hand_over(
 }
 
 /// Hands over a text by putting it into its room. It is counted first: if its length is no number
-/// that an answer has place for, memory is said to be wanting, and the room stays as it was.
+/// that an answer has place for, the answer is out of memory, and the room stays as it was.
 pub(crate) fn hand_text<P: PutsText>(
     text: &P,
     out: &mut [u8],
@@ -75,7 +75,7 @@ fn ending(status: Status, length: usize, room: usize) -> Status
 {
     match status {
         Status::Fine if length > room => Status::WriteFault,
-        // The store fails only where memory is wanting.
+        // The store fails only if memory runs out.
         Status::WriteFault => Status::NoMemory,
         ended => ended,
     }

@@ -54,8 +54,8 @@ fn answered_older(answer: Answered) -> u64
     }
 }
 
-/// The line of how lines ended; empty where all was served, or where room for one more reply is
-/// wanting.
+/// The line of how lines ended; empty where all was served, or where there is no room for one more
+/// reply.
 pub(crate) fn ended_line(ended: Ended) -> &'static str
     ensures { result.now ≡ spec.ended_line ended }
 {

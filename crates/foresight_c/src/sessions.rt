@@ -112,7 +112,7 @@ pub(crate) fn dump_of(
     hand_over(status, store.bytes(), out, message, answer)
 }
 
-// The status of a dump to a store, which fails only where memory is wanting.
+// The status of a dump to a store, which fails only if memory runs out.
 fn dump_status(dumped: Dumped) -> Status
     ensures { result ≡ spec.dump_status dumped }
 {

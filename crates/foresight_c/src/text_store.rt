@@ -5,7 +5,7 @@ ghost use Rattle.std.specs.Prelude.{◌≡◌, [], Some};
 use byte_ends::{Put, Sink};
 use std::alloc::Global;
 
-/// All bytes that were written. A write fails only where memory is wanting.
+/// All bytes that were written. A write fails only if memory runs out.
 #[derive(Drop)]
 pub(crate) struct TextStore {
     bytes: Vec<u8>,

@@ -7,7 +7,7 @@ use hall_stepping::{Closed, Plan, Stepping};
 /// them.
 #[derive(Drop)]
 pub enum Desk {
-    /// Nothing: the plan was lost when memory was wanting for its hall.
+    /// Nothing: the plan was lost when memory ran out for its hall.
     Gone,
     Planned(Plan),
     Open(Stepping),

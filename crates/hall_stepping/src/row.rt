@@ -16,7 +16,7 @@ pub(crate) struct Row {
 }
 
 impl Row {
-    // Adds an operation and its symbol, or nothing where memory is wanting.
+    // Adds an operation and its symbol, or nothing if memory runs out.
     pub(crate) fn call(&mut self, op: Op) -> bool
         ensures added { result ≡ true → ticket_of self.new ≡ calls_more (ticket_of self.old) op }
         ensures still { result ≡ false → ticket_of self.new ≡ ticket_of self.old }
@@ -29,7 +29,7 @@ impl Row {
         true
     }
 
-    // Adds a symbol, or nothing where memory is wanting.
+    // Adds a symbol, or nothing if memory runs out.
     pub(crate) fn allow(&mut self, symbol: Symbol) -> bool
         ensures added { result ≡ true
             → ticket_of self.new ≡ allows_more (ticket_of self.old) symbol }

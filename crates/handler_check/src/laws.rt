@@ -62,7 +62,7 @@ pub fn accepted_files_are_within()
 {}
 
 /// A file whose places rise in the order of its text is accepted or has a first fault, one at most
-/// and not both; and that is never want of memory.
+/// and not both; and the refusal is never out of memory.
 pub fn one_answer()
     ensures some { (f : File) → PlacesRise f
         → IsAccepted f ⊎ ((e : CheckRefusal) × IsRefusal f e) }

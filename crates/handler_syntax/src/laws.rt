@@ -77,7 +77,7 @@ pub fn source_reads_back()
 {}
 
 /// A source has a tree or a first fault, one of them at most, and not both; and a fault is never
-/// want of memory.
+/// out of memory.
 pub fn one_answer()
     ensures some { (names : List (List ℕ)) (source : List ℕ)
         → ((file : File) × IsSourceOf names source file)

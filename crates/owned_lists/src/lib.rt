@@ -1,5 +1,5 @@
-//! Lists and boxes that contracts see as plain lists and values, and want of memory: what trees,
-//! sessions and boards are made of.
+//! Lists and boxes that contracts see as plain lists and values, and the error of running
+//! out of memory: what trees, sessions and boards are made of.
 #![tactic(auto)]
 
 mod boxed;

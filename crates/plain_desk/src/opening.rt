@@ -30,7 +30,7 @@ fn fill_table<S: Script>(
     Ok(())
 }
 
-/// Enters what each table opens with. More tables than numbers name are want of memory.
+/// Enters what each table opens with. More tables than numbers name count as out of memory.
 pub(crate) fn fill_tables<S: Script>(
     script: &S,
     shape: &[TableKind],

@@ -11,8 +11,8 @@ use byte_ends::{Sink, WriteBuffer, write_all};
 use session_values::{Names, Reply};
 
 /// Writes the lines of the replies, of which the first is the ticket `start`'s. Whole lines are
-/// gathered in the buffer, in place of what it held, and written when the next one may have no room.
-/// It answers `false` after a fault.
+/// gathered in the buffer, in place of what it held, and written when the next one may have no
+/// room. It answers `false` after a fault.
 pub fn write_replies<O: Sink>(
     out: &mut O,
     start: u32,
@@ -26,7 +26,10 @@ pub fn write_replies<O: Sink>(
         → Appended (O.held out.old) (O.held out.new) (reply_text names.now start replies.now) }
     ensures faults { Counted result (O.faults out.old) (O.faults out.new) }
     ensures front { result ≡ false
-        → AppendedPrefix (O.held out.old) (O.held out.new) (reply_text names.now start replies.now) }
+        → AppendedPrefix
+        (O.held out.old)
+        (O.held out.new)
+        (reply_text names.now start replies.now) }
 {
     buffer.clear();
     for (i, reply) in replies.iter().enumerate() {

@@ -81,7 +81,7 @@ fn serve_then_write<R: Threads + Wait + Sync, O: Sink, G: Gate + Sync>(
 }
 
 // Serves an open session to its end, and writes what is asked of it. From here on nothing is given
-// an allocator, and nothing can answer that memory is wanting.
+// an allocator, and nothing can answer out of memory.
 fn serve_open<'a, R: Threads + Wait + Sync, O: Sink, G: Gate + Sync>(
     rt: &R,
     ready: Ready<'a>,

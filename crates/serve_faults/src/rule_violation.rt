@@ -18,7 +18,7 @@ use std::marker::Model;
 use table_lines::TableRefusal;
 use trace_lines::TraceRefusal;
 
-/// Why a part of the program refuses a text: a rule that is broken, or want of memory.
+/// Why a part of the program refuses a text: a rule that is broken, or that memory ran out.
 pub trait Refusal {
     /// A rule is broken.
     ghost is_certain: { Self → Type 0 };
@@ -52,7 +52,7 @@ impl Refusal for RangeRefusal {
     ghost is_certain = { λ e. e ≢ range.NoMemory };
 }
 
-/// A refusal that is never want of memory. Contracts see the refusal.
+/// A refusal that is never out of memory. Contracts see the refusal.
 #[derive(Debug, Drop)]
 pub struct RuleViolation<E: Refusal> {
     refusal: E,

@@ -11,7 +11,7 @@ use request_files::RequestRefusal;
 use table_lines::TableRefusal;
 use trace_lines::TraceRefusal;
 
-/// Why an input is refused. It is never want of memory.
+/// Why an input is refused. It is never out of memory.
 #[derive(Debug, Drop)]
 pub enum Fault {
     /// It has more than 4,194,304 bytes; of a file that ends in a trace, what stands before the trace

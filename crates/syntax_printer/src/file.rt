@@ -42,7 +42,7 @@ pub fn print(alloc: Global, room: usize, file: &File, names: &Names) -> Result<S
 
 /// The text of a file with a line at each point of its handlers, if these are shown; else its
 /// canonical text. A place that a list doesn't have gives no text. `room` is as for `print`. A file
-/// that isn't countable counts as want of memory.
+/// that isn't countable counts as out of memory.
 pub fn print_with_declarations<D: Declarations>(
     alloc: Global,
     room: usize,

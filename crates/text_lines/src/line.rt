@@ -63,13 +63,13 @@ impl<'a> Line<'a> {
 
     /// Takes the word that `rest` begins with, which is the line behind its blanks, and returns the
     /// word's value, or `None` inside if it isn't one.
-    #[inline(never)]
     fn front_value(
         &mut self,
         rest: &'a str,
         names: &mut Names,
     ) -> Result<Option<Option<Value>>, NoMemory>
-        requires blanks { rest.now ≡ drop (prefix_len is_blank self.old.rest.now) self.old.rest.now }
+        requires blanks { rest.now
+            ≡ drop (prefix_len is_blank self.old.rest.now) self.old.rest.now }
         requires word { 0 < prefix_len is_word_byte rest.now }
         requires names { length names.old < 4294967295 }
         ensures steps { TakesValue self.old names.old result self.new names.new }

@@ -77,7 +77,7 @@ pub(super) fn resolve_values(
     listed(found)
 }
 
-/// The list, if it is short enough for one: else memory is wanting.
+/// The list, if it is short enough for one: else out of memory.
 pub(crate) fn listed<T: Drop>(items: Vec<T>) -> Result<Listed<T>, NoMemory>
     ensures { IfOk result (λ found. found ≡ items.items) }
 {
