@@ -26,7 +26,8 @@ fn are_out(callers: &[Caller<PlannedScript>]) -> bool
 }
 
 impl Stepping {
-    /// Opens the hall of a plan, of these sizes, over tables that hold the plan's entries. No step takes memory. If memory runs out the plan is gone.
+    /// Opens the hall of a plan, of these sizes, over tables that hold the plan's entries. No step
+    /// takes memory. If memory runs out the plan is gone.
     pub fn open(alloc: Global, plan: Plan, sizes: Sizes) -> Result<Stepping, NoMemory>
         ensures { IfOk result (IsOpenedFor plan sizes.shards sizes.callers) }
     {

@@ -82,8 +82,8 @@ fn is_full(row: &Row, left: u32) -> bool
 }
 
 impl Plan {
-    /// No tickets yet, over tables of these kinds, which open empty, with room for so many tickets, operations and
-    /// symbols of all tickets together.
+    /// No tickets yet, over tables of these kinds, which open empty, with room for so many tickets,
+    /// operations and symbols of all tickets together.
     pub fn with_room(
         alloc: Global,
         shape: &[TableKind],
