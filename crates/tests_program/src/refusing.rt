@@ -113,7 +113,7 @@ fn a_range_session_is_answered(rt: HostRuntime) -> Result<(), Fail> {
     Ok(())
 }
 
-/// The number of out of memory, and whether it is told by its line.
+/// The exit status for out of memory, and whether its line is written.
 fn memory_is_told(alloc: Global) -> Result<(u8, bool), Fail> {
     let mut err = MemorySink::with_room(alloc, 100, 100, Vec::new(alloc))?;
     tell(&Status::NoMemory, &mut err);

@@ -1,4 +1,4 @@
-// Names, out of memory, operations and replies.
+// Names, the error of running out of memory, operations and replies.
 
 use session_values::{Kind, Names, NoMemory, Op, Reply, Value};
 use std::process::Abort;
