@@ -3,9 +3,9 @@
 --watch FILE STOP: until the file STOP is there, looks once a second at the processes that some
 `rt ci` began and keeps in FILE the processor seconds of each (one that lives for less than a second
 is missed).
---table FILE..: prints the sums by crate as rows of CSV, dearest first: crate, proof, tests, edits, after
-a comment with the sums of all. Of several files each crate's times are those of the first one that
-has its proof.
+--table FILE..: prints the sums by crate as rows of CSV, dearest first (crate, proof, tests, edits),
+after a comment with the sums of all. Of several files each crate's times are those of the first one
+that has its proof.
 """
 import collections
 import json
