@@ -1,10 +1,11 @@
-"""What bench/gate.sh uses: watches the processes of `rt ci`, and makes the table of times.
+"""What bench/gate.sh uses: watches the processes of `rt ci`, and makes the rows of tools/gate.csv.
 
 --watch FILE STOP: until the file STOP is there, looks once a second at the processes that some
 `rt ci` began and keeps in FILE the processor seconds of each (one that lives for less than a second
 is missed).
---table FILE..: prints the sums by crate as rows of a table, dearest first: proof, tests, edits. Of
-several files each crate's times are those of the first one that has its proof.
+--table FILE..: prints the sums by crate as rows of CSV, dearest first (crate, proof, tests, edits),
+after a comment with the sums of all. Of several files each crate's times are those of the first one
+that has its proof.
 """
 import collections
 import json
@@ -89,11 +90,11 @@ def table(files):
             if proofs[crate] + tests[crate] > 0:
                 times.setdefault(crate, (proofs[crate], tests[crate], edits[crate]))
     whole = [round(sum(row[i] for row in times.values()) / 60) for i in range(3)] + [round(rest / 60)]
-    print("Processor minutes: proofs {}, tests {}, edits {}, compilers and programs {}: {} in all.\n"
+    print("# Processor minutes: proofs {}, tests {}, edits {}, compilers and programs {}: {} in all."
           .format(*whole, sum(whole)))
-    print("| Crate | Proof | Tests | Edits |\n|---|---|---|---|")
+    print("crate,proof,tests,edits")
     for crate, row in sorted(times.items(), key=lambda item: -sum(item[1])):
-        print(f"| `{crate}` | {row[0]:.0f} | {row[1]:.0f} | {row[2]:.0f} |")
+        print(f"{crate},{row[0]:.0f},{row[1]:.0f},{row[2]:.0f}")
 
 
 if sys.argv[1] == "--watch":

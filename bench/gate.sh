@@ -1,9 +1,9 @@
 #!/usr/bin/env bash
-# Runs the gate from nothing in a scratch clone of the last commit, and prints the processor seconds of
-# each crate's proof, tests and must-fail edits, dearest first, as the table of docs/TESTING.md has
-# them. Takes some 215 processor minutes: an hour, or more, on four processors.
+# Runs `rt ci` from nothing in a scratch clone of the last commit, and prints the processor seconds of
+# each crate's proof, tests and must-fail edits, dearest first, as tools/gate.csv has them.
+# Takes some 215 processor minutes: an hour, or more, on four processors.
 # `bench/gate.sh --watch FILE STOP` only watches, until the file STOP is there, what any `rt ci`
-# does, and `bench/gate.sh --table FILE..` prints the table of what was watched.
+# does, and `bench/gate.sh --table FILE..` prints the rows of what was watched.
 set -euo pipefail
 cd "$(dirname "$0")/.."
 case ${1:-} in

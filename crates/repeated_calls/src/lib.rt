@@ -1,5 +1,5 @@
-//! A script whose tickets each call one operation a number of times, and how they are served. It
-//! stands for handlers where tests and measurements want none.
+//! A script whose tickets each call one operation a number of times, and how they are served. Tests
+//! of halls and `bench/hall.sh` use it in place of handlers.
 #![tactic(auto)]
 
 mod list;

@@ -1,5 +1,7 @@
-//! Tests of the analysis, through the calls that other crates make, and of a program's handlers:
-//! served at a plain desk, and run on plain tables.
+//! Tests of the analysis, through the calls that other crates make, and of a program's handlers.
+//! The lists that it infers for generated handlers are compared with an enumeration of their paths.
+//! A program's requests are served one at a time at a plain desk, also one that runs out of memory,
+//! and a handler is run on plain tables.
 #![tactic(auto)]
 
 #[cfg(test)]

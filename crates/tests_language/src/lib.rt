@@ -1,6 +1,6 @@
-//! Tests of the handler language, of its checker and of the other parts of a session file, through
-//! the calls that other crates make. Other refusals, and canonical texts, are stored runs, in
-//! `checks/`.
+//! Tests of the handler language and of the other parts of a session file, through the calls that
+//! other crates make: tokens, parser and printer, the checker, request lines, table lines and range
+//! sessions. Other refusals, and canonical texts, are stored runs, in `checks/`.
 #![tactic(auto)]
 
 #[cfg(test)]

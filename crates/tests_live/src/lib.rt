@@ -1,4 +1,6 @@
-//! Tests of sessions that live: each call, what it refuses, and where it stops.
+//! Tests of sessions that live: replies and tables are those that `serve` and `dump` write of one
+//! file with all the lines; what each call refuses, and where a batch stops and goes on; and
+//! tickets and requests over the tables of one session, of which one delays the other.
 #![tactic(auto)]
 
 #[cfg(test)]

@@ -1,7 +1,11 @@
-//! Tests of whole runs over memory: replies that are written while others are served, traces with
-//! callers that a gate holds, audits, requests of several clients, broken input, ends that fail at
-//! each of their calls in turn, and tables that open with entries and are dumped. What is judged of
-//! other traces, and refused, are stored runs.
+//! Tests of whole runs over memory. A line is written before the first caller begins its next
+//! ticket, and lines of another caller while tickets are left; neither a full lane nor a sink that
+//! takes a byte a call loses any; if a sink fails, all is served and a front is written. A trace
+//! shows two callers, one of which a gate holds. A client sends while another is held, a round is
+//! served while a client still sends, and three clients have three rounds. Audits end at their
+//! bound; every prefix of a file of handlers is checked; each read and each write fails in turn;
+//! tables that open with entries are dumped and read back. What is judged of other traces, and
+//! refused, are stored runs.
 #![tactic(auto)]
 
 #[cfg(test)]

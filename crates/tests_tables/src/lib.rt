@@ -1,5 +1,6 @@
-//! Tests of the crates of values and tables. They stand above those crates, so that each is proved
-//! once.
+//! Tests of the crates of values and tables, above these, so that each is proved once: operations
+//! and their replies, which operations and symbols commute, whole tables and shards, also those
+//! that grow and those with seeds, and counts of key ranges.
 #![tactic(auto)]
 
 #[cfg(test)]
