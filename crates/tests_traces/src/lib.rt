@@ -1,4 +1,5 @@
-//! Tests of traces: what is judged of the traces of a small session, the lines of events, and trace parts that are read.
+//! Tests of traces: what is judged of the traces of a small session, the lines of events, and trace
+//! parts that are read.
 #![tactic(auto)]
 
 #[cfg(test)]
