@@ -1,5 +1,5 @@
-//! Requests of several clients, served in rounds as they arrive: the replies are those of serving all
-//! of them one at a time in the order of their arrival.
+//! Requests of several clients, served in rounds as they arrive: the replies are those of serving
+//! all of them one at a time in the order of their arrival.
 #![tactic(auto)]
 
 mod beside;

@@ -1,5 +1,7 @@
 //! Who waited for whom in a trace: its delays counted, and the longest chains of tickets of which
-//! each was delayed by the next.
+//! each was delayed by the next. Equal causes have one row; at most three chains are returned, for
+//! the least first tickets. Which of several longest chains of one first ticket is taken, and that
+//! a file without a trace part is refused, is in no clause.
 #![tactic(auto)]
 
 mod cause;

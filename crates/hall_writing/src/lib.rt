@@ -1,5 +1,9 @@
 //! Serving the tickets of a script by several callers of a hall, while the lines of those that have
-//! ended are written, in the order of tickets.
+//! ended are written, in the order of tickets. Each caller but the first offers its replies to a
+//! lane; the first one writes the lines that are next. `open_writing` takes all memory, and alone
+//! can run out of it. The clauses of `serve_and_write` are about the whole text, or a prefix of it
+//! after a fault: that lines are written while tickets are served rests on clauses of private
+//! functions and on tests.
 #![tactic(auto)]
 
 mod after;

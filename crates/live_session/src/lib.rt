@@ -1,5 +1,10 @@
 //! A session that lives: handlers that were read once, and requests served one by one while a
-//! program runs, on tables of its own. Its calls wait for nothing and need no runtime.
+//! program runs, on tables of its own. Its calls wait for nothing and need no runtime. A line is
+//! served alone from the tables before it, or changes nothing. Beside open tickets it is delayed as
+//! a whole if what its handler declares at its entry doesn't commute with what they have declared.
+//! The law `regroups` holds of every session, `answered_as_served` of one that was given lines
+//! alone. In no clause: that searches begin by the seed, and that `used` of a batch is at most the
+//! length of the text.
 #![tactic(auto)]
 
 mod accepting;

@@ -1,5 +1,6 @@
 //! The walk over a handler whose names are resolved: it does a handler's statements, and tells a
-//! guide of each operation and of each point that it passes.
+//! guide of each operation and of each point that it passes. The walk is the handler's run, for
+//! every guide and whatever the replies are.
 #![tactic(auto)]
 
 mod answerer;

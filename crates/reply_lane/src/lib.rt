@@ -1,4 +1,6 @@
-//! A lane on which several callers hand replies to one of them.
+//! A lane on which several callers hand replies to one of them. No message is lost or handed out
+//! twice. When several ends work beside each other, no clause ties 'full' and 'empty' to the lane,
+//! or says that `next` and `offer` try again.
 #![tactic(auto)]
 
 mod calls;

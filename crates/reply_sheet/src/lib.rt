@@ -1,5 +1,5 @@
-//! Reply lines: the text of one, those of a session, written to a sink, and the replies that wait for
-//! their turn to be written.
+//! Reply lines: the text of one, those of a session, written to a sink, and the replies that wait
+//! for their turn to be written.
 #![tactic(auto)]
 
 mod line_buf;

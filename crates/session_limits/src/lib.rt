@@ -1,5 +1,6 @@
 //! The limits of files, handlers, sessions and those who serve them. The definitions have them by
-//! the same names, in small letters.
+//! the same names, in small letters. It has no function: that code and contracts have the same
+//! number is proved where both are used.
 #![tactic(auto)]
 
 /// The bytes of a session file.

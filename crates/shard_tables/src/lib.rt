@@ -1,5 +1,8 @@
 //! A table's part behind one turn, or a whole table: maps and sets in vectors whose room is taken
-//! when they are made.
+//! when they are made. `Part` is a shard of either kind, `WholeTables` are tables each of which is
+//! whole in one shard. `try_apply` is an error only if the operation may add a key and no capacity
+//! is left. A shard that grows has the same entries in the same places. Its index has the factor of
+//! the seed that it was made with (`with_seed`); which slots a search reads is in no clause.
 #![tactic(auto)]
 
 mod laws;

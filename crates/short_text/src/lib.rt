@@ -1,4 +1,4 @@
-//! Short lines that take no memory: messages and summaries.
+//! Short lines that take no memory: messages and summaries. Each has at most 256 bytes.
 #![tactic(auto)]
 
 mod short_texts;

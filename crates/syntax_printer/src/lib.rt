@@ -1,4 +1,6 @@
-//! The canonical text of a file of handlers.
+//! The canonical text of a file of handlers. `put_canonical` and `put_with_declarations` put it at
+//! a sink of texts piece by piece, and take no memory; `print` and `print_with_declarations` make
+//! it in memory.
 #![tactic(auto)]
 
 mod countable;

@@ -1,5 +1,7 @@
 //! Which handler makes which other one wait: a symbol of what may still come at a point against an
-//! operation.
+//! operation. `waits` lists exactly these, in the order of the text; operations with keys wait only
+//! if both keys are equal. `told` writes the list as lines or as JSON, or names the file's first
+//! broken rule.
 #![tactic(auto)]
 
 mod asked;
