@@ -1,5 +1,7 @@
 //! Requests of several clients, served in rounds as they arrive: the replies are those of serving
-//! all of them one at a time in the order of their arrival.
+//! all of them one at a time in the order of their arrival. Which requests a round has depends on
+//! the number of requests alone; the next hall is opened over the closed one's shards, and out of
+//! memory the closed hall is returned.
 #![tactic(auto)]
 
 mod beside;

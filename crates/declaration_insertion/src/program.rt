@@ -109,7 +109,8 @@ impl Program {
         self.facts(h, point).alike
     }
 
-    /// How many kinds of operations are declared at a point, each on each of its tables.
+    /// How many kinds of operations are declared at a point, each on each of its tables. The clause
+    /// says only when there is none.
     #[inline(always)]
     pub fn kinds(&self, h: u32, point: u32) -> u32
         requires handler { h < length self.now.file.handlers }

@@ -24,7 +24,7 @@ PlansOn None e n maps sets tickets calls symbols =
     ((e ≡ Some (Planned (first_plan maps sets tickets calls symbols))) × (n ≡ fine))
     ⊎ ((e ≡ None) × PlansAs maps sets tickets calls symbols (Err n))
 
--- the desk is gone, and its memory given back
+-- the desk is gone from its handle
 abbrev pub FreesOn : Option Desk → Option Desk → ℕ → Type 0
 FreesOn (Some d) e n = (e ≡ None) × (n ≡ fine)
 FreesOn None e n = (e ≡ None) × (n ≡ wrong_desk)

@@ -40,7 +40,7 @@ DumpsOn (Some d) e out out_new message message_new a n =
 DumpsOn None e out out_new message message_new a n =
     (e ≡ None) × IsWrong out out_new message message_new a n
 
--- the session is gone, and its memory given back
+-- the session is gone from its handle
 abbrev pub ClosesOn : Option SessionDesk → Option SessionDesk → ℕ → Type 0
 ClosesOn (Some d) e n = (e ≡ None) × (n ≡ fine)
 ClosesOn None e n = (e ≡ None) × (n ≡ wrong)

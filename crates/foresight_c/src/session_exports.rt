@@ -11,7 +11,7 @@ use crate::sessions::{dump_of, opened, serve_at, tell};
 use std::alloc::Global;
 
 /// A session over a session file without requests: handlers, perhaps a table part, and the dividing
-/// line. Searches begin as the seed has it, and there may be so many names.
+/// line. Searches begin as the seed has it (in no clause), and there may be so many names.
 #[unsafe(no_mangle)]
 pub extern "C" fn foresight_session_open(
     alloc: Global,

@@ -170,9 +170,9 @@ fn over(alloc: Global, loaded: Loaded, seed: u64, most: u32) -> Result<LiveSessi
 
 impl LiveSession {
     /// Opens a session over a session file without requests: its handlers, perhaps a table part,
-    /// and the dividing line. Searches in its tables and among its names begin as the seed has it,
-    /// which is to come from where nobody who sends requests can know it. There may be so many
-    /// names, of handlers, tables, variables and symbols together.
+    /// and the dividing line. Searches in its tables and among its names begin as the seed has it
+    /// (in no clause), which is to come from where nobody who sends requests can know it. There may
+    /// be so many names, of handlers, tables, variables and symbols together.
     pub fn open(
         alloc: Global,
         text: &[u8],

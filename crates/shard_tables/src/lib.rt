@@ -2,7 +2,10 @@
 //! when they are made. `Part` is a shard of either kind, `WholeTables` are tables each of which is
 //! whole in one shard. `try_apply` is an error only if the operation may add a key and no capacity
 //! is left. A shard that grows has the same entries in the same places. Its index has the factor of
-//! the seed that it was made with (`with_seed`); which slots a search reads is in no clause.
+//! the seed that it was made with (`with_seed`); which slots a search reads is in no clause. Whole
+//! tables are filled from any `TellsOpening`, since scripts are defined above shards; a user has a
+//! one-field type for it, since a crate can implement a trait only for a type or a trait of its
+//! own.
 #![tactic(auto)]
 
 mod laws;

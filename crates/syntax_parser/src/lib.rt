@@ -1,4 +1,5 @@
-//! The parser of a file of handlers, for the whole language.
+//! The parser of a file of handlers, for the whole language. It makes no list of words or tokens;
+//! it is proved against a stack of parts still to come, and laws tie that to the grammar.
 #![tactic(auto)]
 
 mod file;

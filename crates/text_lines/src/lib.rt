@@ -1,5 +1,6 @@
 //! What is read by lines: classes of bytes, the lines of a text, the words of a line, and the
-//! values that words are. What is written as words on lines reads back.
+//! values that words are. What is written as words on lines reads back. Line feeds are found by
+//! `memchr`, words byte by byte, since most words are short.
 #![tactic(auto)]
 
 mod bytes;

@@ -1,4 +1,5 @@
-//! The lines of traces: a line for each event, and one for what is judged of them.
+//! The lines of traces: a line for each event, and one for what is judged of them. A trace part is
+//! read once, line by line, into a list of at most eleven words that is used again.
 #![tactic(auto)]
 
 mod bounds;

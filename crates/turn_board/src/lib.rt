@@ -1,5 +1,6 @@
 //! Values behind turns, shared by several callers, and a rule of their owner that ties the values
-//! and what each caller last gave back, between any two atomic steps.
+//! and what each caller last gave back, between any two atomic steps. A slot is emptied right after
+//! its bit is set and filled right before it is cleared, so between calls every slot is in order.
 #![tactic(auto)]
 
 mod board;
