@@ -2,8 +2,9 @@
 """Makes the manual pages: man/make.py [FOLDER].
 
 The pages are written into the folder of this script, or into FOLDER. PAGES says of each page what
-is written here and which sections of docs/LANGUAGE.md it takes; version and date are those of the
-newest release in CHANGELOG.md.
+is written here, and of which document it takes sections: a line `<HEADING|PART` takes a part of a
+section, or all of it; without a heading it is what the document says before its first section.
+Version and date are those of the newest release in CHANGELOG.md.
 """
 import os
 import re
@@ -19,8 +20,8 @@ LABELS = {"Meaning": "", "Line": "Error output: ", "On a": "On a "}
 OTHERWISE = {
     " (below)": "",
     "one of the next table": "a line of those below",
-    "the sentence of the table above": "the sentence of the table in *foresight*(1)",
-    "`LANGUAGE.md`": "*foresight*(5)",
+    "the table in `docs/LANGUAGE.md`": "the table in *foresight*(1)",
+    "`LIBRARY.md`": "the project's `LIBRARY.md`",
 }
 
 RUNNER = r"""
@@ -78,9 +79,9 @@ foresight_where \- turn a refusal of foresight into line and column
 @ `foresight_where` `--rules`
 @ `foresight_where` `--version`
 # DESCRIPTION
-<From a refusal to the place|first
+<|first
 # EXIT STATUS
-<From a refusal to the place|Status
+<|Status
 # EXAMPLES
 Show where a session is refused:
 
@@ -92,11 +93,6 @@ handler look(k) { let v = get(m, k) reply v; }
 = unexpected reserved word `reply`: `;` is wanted here
 = a statement ends with `;`
 ```
-
-A pipe like this loses the status and mixes the outputs. This function keeps both: the replies go to
-the output, the place to the error output, and the status is that of `foresight`:
-
-<From a refusal to the place|function
 # SEE ALSO
 *foresight*(1), *foresight*(5)
 """
@@ -109,9 +105,9 @@ foresight_waits \- list which operations may wait for which handlers, or count w
 @ `foresight_waits` `--trace` [`--json`] [*FILE*]
 @ `foresight_waits` `--version`
 # DESCRIPTION
-<Who may wait for whom|first
+<|first
 # EXIT STATUS
-<Who may wait for whom|Status
+<|Status
 # EXAMPLES
 How often each handler is waited for, and what waits for the handler `book`:
 
@@ -175,8 +171,11 @@ the entries with which the tables open, then a line `%%`, and requests, one a li
 *foresight*(1), *foresight_where*(1), *foresight_waits*(1)
 """
 
-PAGES = {"foresight.1": RUNNER, "foresight_where.1": PLACES, "foresight_waits.1": WAITS,
-         "foresight.5": FORMAT}
+LANGUAGE = "docs/LANGUAGE.md"
+PAGES = {"foresight.1": (LANGUAGE, RUNNER),
+         "foresight_where.1": ("crates/foresight_where/README.md", PLACES),
+         "foresight_waits.1": ("crates/foresight_waits/README.md", WAITS),
+         "foresight.5": (LANGUAGE, FORMAT)}
 
 
 def read(name):
@@ -186,8 +185,10 @@ def read(name):
 
 
 def sections_of(text):
-    """The lines of each section of a document, by its heading."""
-    found, lines, inside = {}, [], False
+    """The lines of each section of a document, by its heading; none for what comes before."""
+    _, _, text = text.partition("\n")
+    lines = []
+    found, inside = {"": lines}, False
     for line in text.split("\n"):
         inside = inside != line.startswith("```")
         if line.startswith("## ") and not inside:
@@ -230,17 +231,24 @@ def chosen(blocks, part):
     """The blocks of a section that a page takes."""
     heads = [block[1][0] for block in blocks]
     if part == "Status":
-        return [block for block in blocks if block[1][0].startswith("| Status")]
+        return [statuses(block) for block in blocks
+                if block[1][0].startswith(("| Status", "Status "))]
     if part == "first":
-        end = next((at for at, head in enumerate(heads) if head.startswith("    ")), 0)
-        return blocks[:end] + [block for block in blocks[end:] if block[0] == "text"
-                               and re.search("--(rules|json|version)", block[1][0])]
-    if part == "function":
-        return [block for block in blocks if block[1][:1] == ["```text"]]
+        return [block for block in blocks if not block[1][0].startswith("Status ")]
     if part:
         return blocks[next((at for at, head in enumerate(heads) if head.startswith(part)),
                            len(blocks)):]
     return blocks
+
+
+def statuses(block):
+    """A table of exit statuses, also of a paragraph `Status 0: .. 1: ..`."""
+    kind, lines = block
+    if kind == "table":
+        return block
+    rows = re.findall(r"(\d): (.*?)\.(?= \d: |$)", " ".join(lines))
+    return "table", ["| Status | Meaning |", "|---|---|",
+                     *(f"| {number} | {meaning} |" for number, meaning in rows)]
 
 
 def escaped(text):
@@ -334,18 +342,18 @@ def synopsis(lines):
     return made[1:]
 
 
-def page(name, text, sections, release):
+def page(name, document, text, sections, release):
     """A manual page."""
     title, number = name.rsplit(".", 1)
     version, date = release
-    made = [r'.\" Made by man/make.py from docs/LANGUAGE.md: change these.',
+    made = [rf'.\" Made by man/make.py from {document}: change these.',
             f'.TH {title.upper()} {number} "{date}" "foresight {version}" "foresight"']
     for kind, lines in blocks_of(text.strip().split("\n")):
         if kind == "section":
             heading, _, part = lines[0][1:].partition("|")
             taken = chosen(blocks_of(sections.get(heading, [])), part)
             if not taken:
-                sys.exit(f"man/make.py: docs/LANGUAGE.md has no section `{heading}`"
+                sys.exit(f"man/make.py: {document} has no section `{heading}`"
                          + (f" with `{part}`" if part else ""))
             for inner in taken:
                 made += block(*inner)
@@ -372,7 +380,7 @@ def block(kind, lines):
 
 
 def tidied(lines):
-    """No paragraph begins right behind a heading."""
+    """No paragraph begins right after a heading."""
     return [line for at, line in enumerate(lines)
             if line != ".PP" or not lines[at - 1].startswith(".SH")]
 
@@ -384,9 +392,9 @@ def release_of(changes):
 
 def made_pages():
     """Each page that is made, with its text."""
-    sections = sections_of(read("docs/LANGUAGE.md"))
     release = release_of(read("CHANGELOG.md"))
-    return {name: page(name, text, sections, release) for name, text in PAGES.items()}
+    return {name: page(name, document, text, sections_of(read(document)), release)
+            for name, (document, text) in PAGES.items()}
 
 
 def main():
