@@ -2,9 +2,9 @@
 """Looks at the passages of all documents: tools/passages.py.
 
 No paragraph, bullet or row of a table has more than 900 characters; a file that is named in back
-quotes, alone or in a command, is there, and so are the clauses that README.md names; README.md is a
-page of 120 lines and 1,500 words at most; and no document has the words of PLAIN. The pages of crates
-are documents too, and tools/crate_pages.py looks at what they name.
+quotes, alone or in a command, is there, and so are the clauses that README.md names; README.md is
+a page of 120 lines and 1,500 words at most; and no document has the words of PLAIN. The pages of
+crates are documents too, and tools/crate_pages.py looks at what they name.
 """
 import glob
 import os

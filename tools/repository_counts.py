@@ -227,8 +227,8 @@ def is_of_some(match):
 def pattern_of(phrase):
     """The expression of a phrase: any blanks between its words, a number at its sign."""
     before, after = phrase.split("#")
-    words = [re.sub(r"\s+", r"\\s+", re.escape(part).replace("\\ ", " ")) for part in (before, after)]
-    return re.compile(rf"(?<![\w-]){words[0]}{NUMBER}{words[1]}(?!\w)", re.I)
+    first, last = (re.escape(part).replace("\\ ", r"\s+") for part in (before, after))
+    return re.compile(rf"(?<![\w-]){first}{NUMBER}{last}(?!\w)", re.I)
 
 
 def numbers(text):
