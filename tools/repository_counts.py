@@ -54,7 +54,7 @@ def uses():
 
 
 def edges():
-    """How many edges there are between crates, as tools that count layers print it."""
+    """How many edges there are between crates, as bench/layers.py does."""
     return sum(map(len, uses().values()))
 
 
@@ -93,8 +93,9 @@ def crates_with_tests():
 
 
 def folders():
-    """How many folders there are at the top, but for those that begin with a dot."""
-    ran = subprocess.run(["git", "ls-files"], capture_output=True, text=True, check=False)
+    """How many folders there are at the top, but for those that begin with a dot: those of git, or
+    where there is no git, those but for what is built."""
+    ran = subprocess.run("git ls-files", shell=True, capture_output=True, text=True, check=False)
     tracked = {line.split("/")[0] for line in ran.stdout.splitlines() if "/" in line}
     there = tracked or set(os.listdir()) - {"target", "out"}
     return len([name for name in there if os.path.isdir(name) and not name.startswith(".")])
