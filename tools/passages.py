@@ -2,9 +2,9 @@
 """Looks at the passages of all documents: tools/passages.py.
 
 No paragraph, bullet or row of a table has more than 900 characters; a file that is named in back
-quotes is there, and so are the clauses that README.md names; README.md is a page of 120 lines and
-1,500 words at most; and no document has the words of PLAIN. The pages of crates are documents too, and
-tools/crate_pages.py looks at what they name.
+quotes, alone or in a command, is there, and so are the clauses that README.md names; README.md is
+a page of 120 lines and 1,500 words at most; and no document has the words of PLAIN. The pages of
+crates are documents too, and tools/crate_pages.py looks at what they name.
 """
 import glob
 import os
@@ -20,8 +20,10 @@ READERS = ["docs/MAP.md", "docs/PROOF.md", "docs/PROVED.md", "docs/DEFINITIONS.m
            "docs/DECISIONS.md"]
 PLAIN = re.compile(r"\b(wants? of memory|wants? memory|wanted? memory|in vain|(?:is|are) told|"
                    r"stands? behind|hangs? on|where it is there)\b")
-FILE = re.compile(r"`((?:crates|docs|bench|stress|oracle|tools|checks|examples|editors|embedding|edits|man"
-                  r"|completion|\.ci)/[\w./-]+)`")
+CODE = re.compile(r"`([^`\n]+)`")
+FILE = re.compile(r"(?<![\w./~$*-])(?:crates|docs|bench|stress|oracle|tools|checks|examples|extras"
+                  r"|editors|embedding|edits|man|completion|\.ci)/[\w./*-]+(?![\w./*{-])")
+UNNAMED = re.compile(r"/out/|NAME|/X/")
 BELOW = re.compile(r"`(\w+/(?:src|specs|proofs)(?:/[\w/]+\.(?:rt|antt))?)`")
 CLAUSE = re.compile(r"\| .* \| ((?:`\w+`,? )+(?:of `\w+`)?,? ?)`(crates/[\w/]+\.(?:rt|antt))`")
 
@@ -48,6 +50,17 @@ def clauses(text):
         for each in re.findall(r"`(\w+)`", names):
             if not re.search(rf"\b{each}\b", code):
                 yield f"README.md: no {each} in {path}"
+
+
+def absent(name, text):
+    """The files that a document names in back quotes and that aren't there, at the top of the
+    repository or beside the document."""
+    for code in CODE.findall(re.sub(r"^```.*?^```$", "", text, flags=re.M | re.S)):
+        for file in FILE.findall(code):
+            path = file.rstrip(".")
+            beside = os.path.join(os.path.dirname(name), path)
+            if not (glob.glob(path) or glob.glob(beside) or UNNAMED.search(path)):
+                yield path
 
 
 def walk_faults():
@@ -77,8 +90,8 @@ def faults():
     """What is wrong with the documents."""
     found = []
     pages = sorted(glob.glob("crates/*/README.md"))
-    others = ["CHANGELOG.md", "crates/README.md", *glob.glob("*/README.md")]
-    for name in USERS + READERS + pages + others:
+    others = {"CHANGELOG.md", *glob.glob("*/README.md"), *glob.glob("*/*/README.md")} - set(pages)
+    for name in USERS + READERS + pages + sorted(others):
         if not os.path.exists(name):
             continue
         with open(name, encoding="utf-8") as document:
@@ -88,10 +101,7 @@ def faults():
                 found.append(f"{name}:{first}: {len(passage)} characters")
             if name in USERS + READERS + pages and (said := PLAIN.search(passage)):
                 found.append(f"{name}:{first}: '{said[0]}'")
-        for file in FILE.findall(text):
-            path = file.split(":")[0].rstrip(".")
-            if "/out/" not in path and not os.path.exists(path) and not re.search(r"NAME|/X/", path):
-                found.append(f"{name}: there is no {path}")
+        found += [f"{name}: there is no {path}" for path in absent(name, text)]
         found += [f"{name}: there is no crates/{path}" for path in BELOW.findall(text)
                   if not os.path.exists("crates/" + path)]
         if name == "README.md":
