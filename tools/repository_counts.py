@@ -16,7 +16,7 @@ import subprocess
 import sys
 
 DOCUMENTS = ["README.md", "SECURITY.md", "CONTRIBUTING.md", "*/README.md", "*/*/README.md",
-             "docs/*.md"]
+             "docs/*.md", "embedding/CALLS.md"]
 
 
 def files(*patterns):
