@@ -103,7 +103,8 @@ let b:undo_ftplugin = "setlocal cms< com< efm< mp< | unlet! b:current_compiler"
 VIM_COMPILER = r"""" What `:make` runs and how its lines are read. Made by editors/make.py.
 "
 " The program's own line names a byte or a line of its input, and no file: the line is placed in the
-" file that was given to it. Where foresight_where is installed, it writes file, line and column.
+" file that was given to it. Where foresight_where is installed, it writes file, line and column; what
+" it advises, in lines that begin with `= `, is part of the message, and the line of the file isn't.
 if exists("current_compiler")
   finish
 endif
@@ -124,7 +125,7 @@ if executable("foresight_where")
   let s:run .= " \\| foresight_where %:S"
 endif
 execute "CompilerSet makeprg=" . escape(s:run, ' \|"')
-CompilerSet errorformat=%f:%l:%c:\ %m,%-G=\ %.%#,
+CompilerSet errorformat=%A%f:%l:%c:\ %m,%C=\ %m,%-C%.%#,
   \%+Erefused\ %\\w%\\+\ line\ %l,
   \%+Erefused\ %\\w%\\+\ at\ %\\d%\\+%.%#,
   \%+Erefused\ %\\w%\\+,
