@@ -5,7 +5,7 @@ The files are written into the folder of this script, or into FOLDER. Commands, 
 are read from the definitions of the command line: the usage line and the bounds of
 crates/serve_words/specs/Commands.antt, and the limits that it cites. SAYS has a sentence for each
 command, and what a number is. Of the programs that read a file by its name (OTHERS) the usage line
-in their code says which options may come before the file, in this order, and which words come alone.
+in their code says which options may come before the file, in this order, and which words are alone.
 """
 import itertools
 import os
@@ -254,8 +254,8 @@ def doubled(bounds):
 
 
 def states_of(name):
-    """The options that may come behind the words of a program, for each words behind which a file may
-    come: its usage line is `[OPTION] .. FILE | WORD ..`, each option before those behind it."""
+    """What options may follow the words of a program, for all words that a file may follow: its
+    usage line is `[OPTION] .. FILE | WORD | ..`, and the options come in this order."""
     line, *alone = re.search(rf"usage: {name} (.*?)\\n", read(OTHERS[name][0]))[1].split(" | ")
     options = re.findall(r"\[(--\w+)\]", line)
     found = {(): options + alone}
@@ -277,9 +277,9 @@ class Words:
         self.states = {name: states_of(name) for name in OTHERS}
         missing = set(self.commands) - set(SAYS)
         for name, states in self.states.items():
-            missing |= {f"{name} {option}" for option in states[()] if option not in OTHERS[name][1]}
+            missing |= set(states[()]) - set(OTHERS[name][1])
         if missing:
-            sys.exit(f"completion/make.py: there is no sentence for {', '.join(sorted(missing))}")
+            sys.exit(f"completion/make.py: no sentence for {', '.join(sorted(missing))}")
 
     def said(self, name):
         """What an option or a number is, with its bounds."""
