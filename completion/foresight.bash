@@ -1,4 +1,4 @@
-# Completion of foresight, foresight_where and foresight_waits in bash. Made by completion/make.py.
+# Completion in bash. Made by completion/make.py.
 
 # What is offered behind the words of a command line, of which redirections aren't a part.
 _foresight_choices() {

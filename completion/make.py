@@ -44,7 +44,7 @@ OTHERS = {
         "--version": "print the version",
     }),
 }
-BASH = r"""# Completion of NAMES in bash. Made by completion/make.py.
+BASH = r"""# Completion in bash. Made by completion/make.py.
 
 # What is offered behind the words of a command line, of which redirections aren't a part.
 _foresight_choices() {
@@ -114,7 +114,7 @@ STATES
   esac
 }"""
 ZSH = r"""#compdef foresight PROGRAMS
-# Completion of NAMES in zsh. Made by completion/make.py.
+# Completion in zsh. Made by completion/make.py.
 
 _foresight_options() {
   local -a offered
@@ -287,9 +287,6 @@ class Words:
         return f"{SAYS[name]}, {low} to {high}"
 
 
-NAMES = "foresight, foresight_where and foresight_waits"
-
-
 def quoted(*parts):
     """A pattern of a case: a number and words, as one text."""
     number, *given = parts
@@ -320,7 +317,7 @@ def bash(words):
     return filled(form, {
         "ALL": " ".join(words.commands), "OPTIONS": " ".join(words.options), "SERVING": serving,
         "FIRST": words.options[0], "SECOND": words.options[1], "NUMBERS": "\n".join(numbers),
-        "NAMES": NAMES, "OTHERS": "\n".join(others),
+        "OTHERS": "\n".join(others),
         "COMPLETE": "\n".join(f"complete -F _{name} {name}" for name in OTHERS)})
 
 
@@ -341,7 +338,7 @@ def zsh(words):
     return filled(ZSH, {
         "ALL_OPTIONS": f"{first} {second}", "FIRST": words.options[0], "SECOND_OPTION": second,
         "NUMBERS": "\n".join(numbers), "COMMANDS": "\n".join(listed), "WORK": "\n".join(work),
-        "SERVING": " | ".join(words.serving), "NAMES": NAMES, "PROGRAMS": " ".join(OTHERS),
+        "SERVING": " | ".join(words.serving), "PROGRAMS": " ".join(OTHERS),
         "OTHERS": "\n".join(others)})
 
 

@@ -1,7 +1,7 @@
 """Vim's files, made from the list of words: forms, and what is put into them."""
 from patterns import MARKS, SYMBOL
 
-VIM_SYNTAX = r"""" Syntax of handlers and sessions. Made by editors/make.py: change words.txt.
+VIM_SYNTAX = r"""" Handlers and sessions. Made by editors/make.py: change words.txt.
 if exists("b:current_syntax")
   finish
 endif
@@ -59,7 +59,7 @@ let b:current_syntax = "foresight"
 let &cpo = s:cpo
 unlet s:cpo
 """
-VIM_RANGES = r"""" Syntax of range sessions. Made by editors/make.py: change words.txt.
+VIM_RANGES = r"""" Range sessions. Made by editors/make.py: change words.txt.
 if exists("b:current_syntax")
   finish
 endif

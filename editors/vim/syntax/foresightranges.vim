@@ -1,4 +1,4 @@
-" Syntax of range sessions. Made by editors/make.py: change words.txt.
+" Range sessions. Made by editors/make.py: change words.txt.
 if exists("b:current_syntax")
   finish
 endif
