@@ -1,4 +1,4 @@
-# Completion of foresight and foresight_where in bash. Made by completion/make.py.
+# Completion in bash. Made by completion/make.py.
 
 # What is offered behind the words of a command line, of which redirections aren't a part.
 _foresight_choices() {
@@ -14,8 +14,10 @@ _foresight_choices() {
   esac
 }
 
-_foresight() {
-  local current=${COMP_WORDS[COMP_CWORD]} words=() operator='' at word
+# Puts the words before the current one into `words`, without redirections; if the current word is
+# the file of a redirection, its sign into `operator`.
+_foresight_given() {
+  local at word
   for ((at = 1; at < COMP_CWORD; at++)); do
     word=${COMP_WORDS[at]}
     if [[ $word =~ ^[0-9]*[\<\>\&\|]+$ && $word == *[\<\>]* ]]; then
@@ -28,25 +30,54 @@ _foresight() {
       words+=("$word")
     fi
   done
+}
+
+_foresight() {
+  local words=() operator=''
   COMPREPLY=()
+  _foresight_given
   if [[ $operator ]]; then
     compopt -o default
   else
-    mapfile -t COMPREPLY < <(compgen -W "$(_foresight_choices "${words[@]}")" -- "$current")
+    mapfile -t COMPREPLY < <(
+      compgen -W "$(_foresight_choices "${words[@]}")" -- "${COMP_WORDS[COMP_CWORD]}")
+  fi
+}
+
+# Offers these options for a word that begins as one, and else files.
+_foresight_or_file() {
+  if [[ ! $operator && ${COMP_WORDS[COMP_CWORD]} == -* ]]; then
+    mapfile -t COMPREPLY < <(compgen -W "$*" -- "${COMP_WORDS[COMP_CWORD]}")
+  else
+    compopt -o default
   fi
 }
 
 _foresight_where() {
+  local words=() operator=''
   COMPREPLY=()
-  if [ "$COMP_CWORD" -gt 2 ] || [[ $COMP_CWORD == 2 && ${COMP_WORDS[1]} != --json ]]; then
-    return
-  elif [[ $COMP_CWORD == 1 && ${COMP_WORDS[1]} == -* ]]; then
-    mapfile -t COMPREPLY < <(compgen -W "--json --rules" -- "${COMP_WORDS[1]}")
-  else
-    compopt -o default
-  fi
+  _foresight_given
+  case "${#words[@]} ${words[*]}" in
+    '0 ') _foresight_or_file --json --rules --version ;;
+    '1 --json') _foresight_or_file ;;
+    *) if [[ $operator ]]; then compopt -o default; fi ;;
+  esac
+}
+
+_foresight_waits() {
+  local words=() operator=''
+  COMPREPLY=()
+  _foresight_given
+  case "${#words[@]} ${words[*]}" in
+    '0 ') _foresight_or_file --trace --json --version ;;
+    '1 --trace') _foresight_or_file --json ;;
+    '1 --json') _foresight_or_file ;;
+    '2 --trace --json') _foresight_or_file ;;
+    *) if [[ $operator ]]; then compopt -o default; fi ;;
+  esac
 }
 
 # Without sorting numbers come by size; bash before 4.4 doesn't know this.
 complete -o nosort -F _foresight foresight 2> /dev/null || complete -F _foresight foresight
 complete -F _foresight_where foresight_where
+complete -F _foresight_waits foresight_waits

@@ -4,8 +4,10 @@
 The files are written into the folder of this script, or into FOLDER. Commands, options and bounds
 are read from the definitions of the command line: the usage line and the bounds of
 crates/serve_words/specs/Commands.antt, and the limits that it cites. SAYS has a sentence for each
-command, and what a number is.
+command, and what a number is. Of the programs that read a file by its name (OTHERS) the usage line
+in their code says which options may come before the file, in this order, and which words are alone.
 """
+import itertools
 import os
 import re
 import sys
@@ -14,7 +16,6 @@ HERE = os.path.dirname(os.path.realpath(__file__))
 ROOT = os.path.join(HERE, "..")
 COMMANDS = "crates/serve_words/specs/Commands.antt"
 LIMITS = "crates/session_limits/specs/Limits.antt"
-PLACES = "crates/foresight_where/src/ending.rt"
 SAYS = {
     "check": "write handlers in canonical form",
     "show": "write handlers with what each may still call",
@@ -29,10 +30,21 @@ SAYS = {
     "--shards": "how many parts a table has",
     "N": "how many requests",
     "START": "where the draws begin",
-    "--rules": "print the table of rules",
-    "--json": "tell of the refusal as JSON",
 }
-BASH = r"""# Completion of foresight and foresight_where in bash. Made by completion/make.py.
+# The file that has the usage line of a program, and a sentence for each of its options.
+OTHERS = {
+    "foresight_where": ("crates/foresight_where/src/ending.rt", {
+        "--json": "tell of the refusal as JSON",
+        "--rules": "print the table of rules",
+        "--version": "print the version",
+    }),
+    "foresight_waits": ("crates/foresight_waits/src/main.rt", {
+        "--trace": "count the delays of a trace",
+        "--json": "write JSON",
+        "--version": "print the version",
+    }),
+}
+BASH = r"""# Completion in bash. Made by completion/make.py.
 
 # What is offered behind the words of a command line, of which redirections aren't a part.
 _foresight_choices() {
@@ -47,8 +59,10 @@ NUMBERS
   esac
 }
 
-_foresight() {
-  local current=${COMP_WORDS[COMP_CWORD]} words=() operator='' at word
+# Puts the words before the current one into `words`, without redirections; if the current word is
+# the file of a redirection, its sign into `operator`.
+_foresight_given() {
+  local at word
   for ((at = 1; at < COMP_CWORD; at++)); do
     word=${COMP_WORDS[at]}
     if [[ $word =~ ^[0-9]*[\<\>\&\|]+$ && $word == *[\<\>]* ]]; then
@@ -61,31 +75,46 @@ _foresight() {
       words+=("$word")
     fi
   done
+}
+
+_foresight() {
+  local words=() operator=''
   COMPREPLY=()
+  _foresight_given
   if [[ $operator ]]; then
     compopt -o default
   else
-    mapfile -t COMPREPLY < <(compgen -W "$(_foresight_choices "${words[@]}")" -- "$current")
+    mapfile -t COMPREPLY < <(
+      compgen -W "$(_foresight_choices "${words[@]}")" -- "${COMP_WORDS[COMP_CWORD]}")
   fi
 }
 
-_foresight_where() {
-  COMPREPLY=()
-  if [ "$COMP_CWORD" -gt 2 ] || [[ $COMP_CWORD == 2 && ${COMP_WORDS[1]} != JSON ]]; then
-    return
-  elif [[ $COMP_CWORD == 1 && ${COMP_WORDS[1]} == -* ]]; then
-    mapfile -t COMPREPLY < <(compgen -W "JSON RULES" -- "${COMP_WORDS[1]}")
+# Offers these options for a word that begins as one, and else files.
+_foresight_or_file() {
+  if [[ ! $operator && ${COMP_WORDS[COMP_CWORD]} == -* ]]; then
+    mapfile -t COMPREPLY < <(compgen -W "$*" -- "${COMP_WORDS[COMP_CWORD]}")
   else
     compopt -o default
   fi
 }
+OTHERS
 
 # Without sorting numbers come by size; bash before 4.4 doesn't know this.
 complete -o nosort -F _foresight foresight 2> /dev/null || complete -F _foresight foresight
-complete -F _foresight_where foresight_where
+COMPLETE
 """
-ZSH = r"""#compdef foresight foresight_where
-# Completion of foresight and foresight_where in zsh. Made by completion/make.py.
+BASH_OTHER = r"""
+_PROGRAM() {
+  local words=() operator=''
+  COMPREPLY=()
+  _foresight_given
+  case "${#words[@]} ${words[*]}" in
+STATES
+    *) if [[ $operator ]]; then compopt -o default; fi ;;
+  esac
+}"""
+ZSH = r"""#compdef foresight PROGRAMS
+# Completion in zsh. Made by completion/make.py.
 
 _foresight_options() {
   local -a offered
@@ -118,15 +147,26 @@ WORK
   esac
 }
 
-_foresight_where_words() {
-  _arguments '(RULES)JSON[SAYS_JSON]' '(JSON)RULES[SAYS_RULES]' '(RULES)1:file:_files'
+# Offers these options for a word that begins as one, and else files.
+_foresight_or_file() {
+  local -a offered=("$@")
+  if [[ $words[CURRENT] != -* ]]; then
+    _files
+  elif (( $#offered )); then
+    _describe -V option offered
+  fi
 }
 
 case $service in
   foresight) _foresight_words ;;
-  foresight_where) _foresight_where_words ;;
+OTHERS
 esac
 """
+ZSH_OTHER = """\
+  PROGRAM)
+    case "$CURRENT $words[2,CURRENT-1]" in
+STATES
+    esac ;;"""
 FISH = r"""# Completion of foresight in fish. Made by completion/make.py.
 
 # The words before the cursor but the first one, without redirections.
@@ -153,13 +193,17 @@ end
 
 complete -c foresight -f
 """
-FISH_WHERE = """\
-# Completion of foresight_where in fish. Made by completion/make.py.
-complete -c foresight_where -n 'test (count (commandline -opc)) -gt 1' -f
-complete -c foresight_where -n 'test (count (commandline -opc)) -eq 1' -F
-complete -c foresight_where -n 'string match -qr "^\\S+ JSON\$" -- (commandline -opc | string join " ")' -F
-complete -c foresight_where -n 'test (count (commandline -opc)) -eq 1' -a 'JSON' -d 'SAYS_JSON'
-complete -c foresight_where -n 'test (count (commandline -opc)) -eq 1' -a 'RULES' -d 'SAYS_RULES'
+FISH_OTHER = r"""# Completion of PROGRAM in fish. Made by completion/make.py.
+
+# Whether the words before the cursor, but the first one, are one of these texts.
+function __PROGRAM_behind
+    set -l text (commandline -pc | string replace -ra '\d*[<>]+&?\s*[^\s<>]+(?=\s)' '')
+    set -l words (string match -ra '\S+' -- $text)
+    string match -qr '\s$' -- $text; or set -e words[-1]
+    contains -- "$words[2..]" $argv
+end
+
+complete -c PROGRAM -f
 """
 
 
@@ -209,6 +253,18 @@ def doubled(bounds):
     return found
 
 
+def states_of(name):
+    """What options may follow the words of a program, for all words that a file may follow: its
+    usage line is `[OPTION] .. FILE | WORD | ..`, and the options come in this order."""
+    line, *alone = re.search(rf"usage: {name} (.*?)\\n", read(OTHERS[name][0]))[1].split(" | ")
+    options = re.findall(r"\[(--\w+)\]", line)
+    found = {(): options + alone}
+    for count in range(1, len(options) + 1):
+        for given in itertools.combinations(options, count):
+            found[given] = options[options.index(given[-1]) + 1:]
+    return found
+
+
 class Words:
     """What a command line may have."""
 
@@ -218,16 +274,23 @@ class Words:
         self.bounds = bounds_of(text, read(LIMITS))
         self.serving = [name for name, rest in self.commands.items() if "--callers" in rest]
         self.options = self.commands[self.serving[0]][::2]
-        usage = r'usage: foresight_where \[([\w-]+)\] FILE \| ([\w-]+) \| --version\\n'
-        self.json, self.rules = re.search(usage, read(PLACES)).groups()
+        self.states = {name: states_of(name) for name in OTHERS}
         missing = set(self.commands) - set(SAYS)
+        for name, states in self.states.items():
+            missing |= set(states[()]) - set(OTHERS[name][1])
         if missing:
-            sys.exit(f"completion/make.py: SAYS has no sentence for {', '.join(sorted(missing))}")
+            sys.exit(f"completion/make.py: no sentence for {', '.join(sorted(missing))}")
 
     def said(self, name):
         """What an option or a number is, with its bounds."""
         low, high = self.bounds[name]
         return f"{SAYS[name]}, {low} to {high}"
+
+
+def quoted(*parts):
+    """A pattern of a case: a number and words, as one text."""
+    number, *given = parts
+    return f"'{number} {' '.join(given)}'"
 
 
 def filled(form, pairs):
@@ -246,10 +309,16 @@ def bash(words):
     for count in ("1", "2", "3", "4"):
         form = form.replace(f"{count},SERVING", " | ".join(
             f"{count},{name}" for name in words.serving))
+    others = []
+    for name, states in words.states.items():
+        rows = [f"    {quoted(len(given), *given)}) {' '.join(['_foresight_or_file', *offered])} ;;"
+                for given, offered in states.items()]
+        others.append(BASH_OTHER.replace("PROGRAM", name).replace("STATES", "\n".join(rows)))
     return filled(form, {
         "ALL": " ".join(words.commands), "OPTIONS": " ".join(words.options), "SERVING": serving,
         "FIRST": words.options[0], "SECOND": words.options[1], "NUMBERS": "\n".join(numbers),
-        "JSON": words.json, "RULES": words.rules})
+        "OTHERS": "\n".join(others),
+        "COMPLETE": "\n".join(f"complete -F _{name} {name}" for name in OTHERS)})
 
 
 def zsh(words):
@@ -260,10 +329,17 @@ def zsh(words):
     work = [f"        {at}) _message '{words.said(name)}' ;;"
             for at, name in enumerate(words.commands["work"], 3)]
     listed = [f"    '{name}:{SAYS[name]}'" for name in words.commands]
+    others = []
+    for name, states in words.states.items():
+        rows = [" ".join([f"      {quoted(len(given) + 2, *given)}) _foresight_or_file",
+                          *(f"'{option}:{OTHERS[name][1][option]}'" for option in offered), ";;"])
+                for given, offered in states.items()]
+        others.append(ZSH_OTHER.replace("PROGRAM", name).replace("STATES", "\n".join(rows)))
     return filled(ZSH, {
         "ALL_OPTIONS": f"{first} {second}", "FIRST": words.options[0], "SECOND_OPTION": second,
         "NUMBERS": "\n".join(numbers), "COMMANDS": "\n".join(listed), "WORK": "\n".join(work),
-        "SERVING": " | ".join(words.serving), **places(words)})
+        "SERVING": " | ".join(words.serving), "PROGRAMS": " ".join(OTHERS),
+        "OTHERS": "\n".join(others)})
 
 
 def fish(words):
@@ -284,10 +360,14 @@ def fish(words):
     return FISH + "\n".join(lines) + "\n"
 
 
-def places(words):
-    """What stands for the words of foresight_where."""
-    return {"JSON": words.json, "SAYS_JSON": SAYS[words.json],
-            "RULES": words.rules, "SAYS_RULES": SAYS[words.rules]}
+def fish_other(name, states):
+    """The completion of fish for a program that reads a file by its name."""
+    behind = " ".join(f'"{" ".join(given)}"' for given in states)
+    lines = [f"complete -c {name} -n '__{name}_behind {behind}' -F"]
+    for given, offered in states.items():
+        lines += [f"complete -c {name} -n '__{name}_behind \"{' '.join(given)}\"' -a '{option}' "
+                  f"-d '{OTHERS[name][1][option]}'" for option in offered]
+    return FISH_OTHER.replace("PROGRAM", name) + "\n".join(lines) + "\n"
 
 
 def made():
@@ -297,7 +377,7 @@ def made():
         "foresight.bash": bash(words),
         "_foresight": zsh(words),
         "foresight.fish": fish(words),
-        "foresight_where.fish": filled(FISH_WHERE, places(words)),
+        **{f"{name}.fish": fish_other(name, states) for name, states in words.states.items()},
     }
 
 

@@ -1,7 +1,7 @@
 """Vim's files, made from the list of words: forms, and what is put into them."""
 from patterns import MARKS, SYMBOL
 
-VIM_SYNTAX = r"""" Vim syntax of handlers and sessions. Made by editors/make.py: change words.txt.
+VIM_SYNTAX = r"""" Handlers and sessions. Made by editors/make.py: change words.txt.
 if exists("b:current_syntax")
   finish
 endif
@@ -59,7 +59,7 @@ let b:current_syntax = "foresight"
 let &cpo = s:cpo
 unlet s:cpo
 """
-VIM_RANGES = r"""" Vim syntax of range sessions. Made by editors/make.py: change words.txt.
+VIM_RANGES = r"""" Range sessions. Made by editors/make.py: change words.txt.
 if exists("b:current_syntax")
   finish
 endif
@@ -103,7 +103,8 @@ let b:undo_ftplugin = "setlocal cms< com< efm< mp< | unlet! b:current_compiler"
 VIM_COMPILER = r"""" What `:make` runs and how its lines are read. Made by editors/make.py.
 "
 " The program's own line names a byte or a line of its input, and no file: the line is placed in the
-" file that was given to it. Where foresight_where is installed, it writes file, line and column.
+" file that was given to it. If foresight_where is installed, it writes file, line and column; what
+" it advises, in lines that begin with `= `, is part of the message, and the line of the file isn't.
 if exists("current_compiler")
   finish
 endif
@@ -124,7 +125,7 @@ if executable("foresight_where")
   let s:run .= " \\| foresight_where %:S"
 endif
 execute "CompilerSet makeprg=" . escape(s:run, ' \|"')
-CompilerSet errorformat=%f:%l:%c:\ %m,%-G=\ %.%#,
+CompilerSet errorformat=%A%f:%l:%c:\ %m,%C=\ %m,%-C%.%#,
   \%+Erefused\ %\\w%\\+\ line\ %l,
   \%+Erefused\ %\\w%\\+\ at\ %\\d%\\+%.%#,
   \%+Erefused\ %\\w%\\+,

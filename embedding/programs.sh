@@ -1,6 +1,7 @@
 # Sourced by .ci/embedding and oracle/embedding.sh, at the top of the repository: builds programs
 # over the static library, and compares what they answer with the program `foresight`. The scripts
 # set `work`, a folder of their own, `foresight`, the program, and `library`, the library's file.
+. checks/cases.sh
 kit=$(dirname "$(rt doc)")
 compared=0
 differ=0
@@ -24,13 +25,15 @@ answer() {
 
 # The stored cases of the six commands, each with its command before it.
 cases() {
-  local file words
-  for file in examples/* examples/tour/* checks/*; do
-    if [ ! -f "$file.args" ]; then continue; fi
-    mapfile -t words < "$file.args"
-    case "${words[0]-}" in
-      check | show | ranges | audit | serve | dump) echo "${words[0]} $file" ;;
-    esac
+  local folder file words
+  for folder in $(case_folders); do
+    for file in $(cases_of "$folder"); do
+      if [ ! -f "$file" ]; then continue; fi
+      mapfile -t words < "$(words_of "$file")"
+      case "${words[0]-}" in
+        check | show | ranges | audit | serve | dump) echo "${words[0]} $file" ;;
+      esac
+    done
   done
 }
 
@@ -38,7 +41,7 @@ cases() {
 compare() {
   local command=$1 file=$2 words program part
   shift 2
-  mapfile -t words < "$file.args"
+  mapfile -t words < "$(words_of "$file")"
   answer wanted "$file" "$foresight" "${words[@]}"
   # The library has no words that it could refuse.
   if [ "$(cat "$work/wanted.status")" = 2 ]; then return; fi

@@ -105,8 +105,9 @@ def ended(program, words, text):
 def texts(program):
     """Each text with what it is from, and whether it has to have a fault (None: either)."""
     draw = random.Random(7)
-    for name in sorted(glob.glob("examples/*") + glob.glob("checks/*")):
-        if name.endswith((".args", ".stdout", ".ranges")) or os.path.getsize(name) > 1000000:
+    for name in sorted(glob.glob("examples/*") + glob.glob("checks/*/*")):
+        if not name.endswith((".handlers", ".session", ".trace")) \
+                or os.path.getsize(name) > 1000000:
             continue
         whole = read(name)
         handlers = handlers_of(whole)

@@ -1,7 +1,8 @@
 " What `:make` runs and how its lines are read. Made by editors/make.py.
 "
 " The program's own line names a byte or a line of its input, and no file: the line is placed in the
-" file that was given to it. Where foresight_where is installed, it writes file, line and column.
+" file that was given to it. If foresight_where is installed, it writes file, line and column; what
+" it advises, in lines that begin with `= `, is part of the message, and the line of the file isn't.
 if exists("current_compiler")
   finish
 endif
@@ -22,7 +23,7 @@ if executable("foresight_where")
   let s:run .= " \\| foresight_where %:S"
 endif
 execute "CompilerSet makeprg=" . escape(s:run, ' \|"')
-CompilerSet errorformat=%f:%l:%c:\ %m,%-G=\ %.%#,
+CompilerSet errorformat=%A%f:%l:%c:\ %m,%C=\ %m,%-C%.%#,
   \%+Erefused\ %\\w%\\+\ line\ %l,
   \%+Erefused\ %\\w%\\+\ at\ %\\d%\\+%.%#,
   \%+Erefused\ %\\w%\\+,

@@ -1,4 +1,4 @@
-" Vim syntax of handlers and sessions. Made by editors/make.py: change words.txt.
+" Handlers and sessions. Made by editors/make.py: change words.txt.
 if exists("b:current_syntax")
   finish
 endif

@@ -1,4 +1,4 @@
-" Vim syntax of range sessions. Made by editors/make.py: change words.txt.
+" Range sessions. Made by editors/make.py: change words.txt.
 if exists("b:current_syntax")
   finish
 endif
