@@ -1,14 +1,17 @@
-/* bank: transfers between accounts by several threads, where each transfer asks somebody else in the
- * middle. bank THREADS ACCOUNTS MICROSECONDS SECONDS [mutex | tickets].
+/* bank: transfers between accounts by several threads, each of which asks somebody else in the middle:
+ * bank THREADS ACCOUNTS MICROSECONDS SECONDS [mutex | tickets]. At the top of the repository it is
+ * built by
+ *
+ *     cc -std=gnu99 -pthread embedding/bank.c target/look/libforesight.a -o target/look/bank
  *
  * A transfer looks at its first account, asks for so many microseconds, and moves 1 if there is
  * something. With `mutex` one mutex is held from the look to the last change. With `tickets` each
  * transfer is a ticket that declares what it may call, and the mutex is held for single calls; once
  * it has looked it narrows to what it will add, so that others may add to the same accounts meanwhile.
- * Who is delayed waits until some ticket narrows or ends.
+ * A thread that is delayed waits until some ticket narrows or ends.
  *
- * At the end all that the accounts hold is as at the beginning, and none is below 0: both are asked
- * for, and a line says so with the number of transfers. */
+ * At the end the sum of the accounts has to be what it was at the beginning, and none may be below 0:
+ * both are checked, and a line says so with the number of transfers. */
 #define _GNU_SOURCE
 #include "foresight_tickets.h"
 

@@ -1,6 +1,9 @@
 /* Answers to the bytes of standard input as `foresight check` does, without that program; with one
  * of the words show, ranges, audit, serve, dump as that command. `.ci/embedding` builds and
- * runs it. */
+ * runs it; at the top of the repository it is built by
+ *
+ *     cc -std=c99 embedding/check.c target/look/libforesight.a -o target/look/check
+ */
 #include "foresight.h"
 
 #include <stdio.h>
@@ -63,7 +66,7 @@ int main(int count, char **words) {
     uint8_t *text = input(&size);
     uint8_t message[FORESIGHT_MESSAGE_ROOM] = { 0 };
     struct foresight_answer answer = { 0, 0, 0 };
-    /* A first room, and one of the right size where that was too small. */
+    /* A first buffer, and one of the right size if that was too small. */
     size_t room = 4096;
     uint8_t *out = memset(room_for(NULL, room), 0, room);
     int status = call(text, size, out, room, message, sizeof message, &answer);

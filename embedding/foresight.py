@@ -1,12 +1,13 @@
 """Sessions and driven tickets for Python, over the library: the whole package is this file.
 
-The library is a shared object, made of the archive by
+The library is a shared object: the file that FORESIGHT_LIBRARY names, else the one beside this file,
+else the one that the system finds. `tools/look.sh library` leaves one in target/look/, without its
+proof. Of a proved archive it is made by
 
     cc -shared -o libforesight.so -Wl,--whole-archive libforesight.a -Wl,--no-whole-archive
 
-which is looked for where FORESIGHT_LIBRARY says, else beside this file, else where the system does.
-A call hands over many lines, so that ctypes is paid for once. An object is used by one call at a time,
-which a lock of its own sees to, so several threads may have one.
+`serve` takes many lines a call, so that the cost of a call from Python is paid once for all of them.
+An object has a lock of its own, so several threads may use it.
 """
 import ctypes as c
 import os
@@ -18,6 +19,22 @@ REPLIES_ROOM = 65536
 VERSION_NUMBER = 10500
 NIL, NUMBER, NAME, ANY = range(4)
 KINDS = ("get", "put", "swap", "del", "size", "bump", "has", "add", "mark", "drop", "count")
+_KIND_NUMBERS = {kind: number for number, kind in enumerate(KINDS)}
+# What a status means that comes without a message.
+STATUSES = {
+    1: "the text is no symbol",
+    10: "no such kind, sort or name, too many tables, or a field that the kind doesn't use isn't nil",
+    11: "the object is closed",
+    12: "more than 256 symbols, or no number is left for a ticket",
+    13: "the ticket has not begun, or has ended",
+    14: "not every caller has finished",
+    15: "too many names",
+    16: "the text isn't UTF-8",
+    17: "the table has an entry of this key already",
+    20: "a ticket is in the way",
+    21: "the ticket hasn't declared this operation",
+    22: "no such table, or it has no such operation, or a symbol that is no name of the session",
+}
 
 
 class ForesightError(Exception):
@@ -79,13 +96,15 @@ def _loaded():
 
 
 _library = _loaded()
+_serve = _library.foresight_session_serve
 
 
 def _error(status, why):
     """The exception of a status."""
     if status == 3:
         return MemoryError("no memory")
-    return (Refused if status in (1, 15) else ForesightError)(status, why or f"status {status}")
+    why = why or f"status {status}: {STATUSES.get(status, 'unknown')}"
+    return (Refused if status in (1, 15) else ForesightError)(status, why)
 
 
 class _Kept:
@@ -138,7 +157,13 @@ class Session(_Kept):
             c.c_uint32(most_names), why, c.c_size_t(MESSAGE_ROOM), c.byref(answer))
         if status:
             raise _error(status, why.raw[:answer.told].decode().strip())
-        self._out = c.create_string_buffer(REPLIES_ROOM)
+        # What each call of `serve` uses again, under the lock: made once, since that costs most of a
+        # call of one line.
+        self._why, self._served, self._size = why, _Served(), c.c_size_t()
+        out = c.create_string_buffer(REPLIES_ROOM)
+        self._out, self._session = memoryview(out).cast("B"), c.byref(self._handle)
+        self._rooms = (self._size, out, c.c_size_t(REPLIES_ROOM), why, c.c_size_t(MESSAGE_ROOM),
+                       c.byref(self._served))
 
     def serve(self, lines):
         """Serves requests, and answers their reply lines. A line that isn't served raises, after the
@@ -151,26 +176,31 @@ class Session(_Kept):
 
     def request(self, line):
         """Serves one request: the words of its reply."""
-        replies = self.serve([line])
+        if "\n" in line:
+            raise ValueError("more than one line")
+        replies = self._replies(f"{line}\n".encode())
         return replies[0].split() if replies else []
 
     def _replies(self, text):
-        why, served = c.create_string_buffer(MESSAGE_ROOM), _Served()
-        replies, at, status = bytearray(), 0, 5
-        base = c.create_string_buffer(text, len(text) + 1)
+        served, used = self._served, 0
         with self._lock:
+            self._size.value = len(text)
+            status = _serve(self._session, text, *self._rooms)
+            replies = self._out[:served.written].tobytes()
             while status == 5:
-                status = _library.foresight_session_serve(
-                    c.byref(self._handle), c.byref(base, at), c.c_size_t(len(text) - at), self._out,
-                    c.c_size_t(REPLIES_ROOM), why, c.c_size_t(MESSAGE_ROOM), c.byref(served))
-                at += served.used
-                replies += c.string_at(self._out, served.written)
+                used += served.used
+                self._size.value = len(text) - used
+                rest = c.c_void_p(c.cast(text, c.c_void_p).value + used)
+                status = _serve(self._session, rest, *self._rooms)
+                replies += self._out[:served.written]
+            if status:
+                used += served.used
+                older, why = served.older, self._why.raw[:served.told].decode().strip()
         answered = replies.decode().splitlines()
         if status == 0:
             return answered
-        error = Delayed(served.older) if status == 20 else _error(
-            status, why.raw[:served.told].decode().strip())
-        error.replies, error.used = answered, text[:at].count(b"\n")
+        error = Delayed(older) if status == 20 else _error(status, why)
+        error.replies, error.used = answered, text[:used].count(b"\n")
         raise error
 
     def name(self, text):
@@ -263,7 +293,9 @@ def _value(given):
 
 
 def _operation(kind, table, key=None, value=None):
-    return _Operation(KINDS.index(kind), table, _value(key), _value(value))
+    if kind not in _KIND_NUMBERS:
+        raise ValueError(f"there is no operation {kind!r}: it is one of {', '.join(KINDS)}")
+    return _Operation(_KIND_NUMBERS[kind], table, _value(key), _value(value))
 
 
 class Tables(_Kept):
@@ -291,7 +323,7 @@ class Tables(_Kept):
         if self._do(_library.foresight_ticket_call, c.c_uint64(ticket), c.byref(operation),
                     c.byref(reply), c.byref(older)):
             raise Delayed(older.value)
-        return reply.number if reply.sort == NUMBER else None
+        return _replied(reply)
 
     def narrow(self, ticket, declared):
         """Declares these in place of the ticket's own."""

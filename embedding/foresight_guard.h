@@ -1,13 +1,13 @@
-/* The calls of foresight_tickets.h for programs that don't know whether a pointer is NULL. Each asks
- * that first, answers FORESIGHT_TICKET_NULL where one is that has to lead somewhere, and then doesn't
- * call the library. A NULL with the size 0 is an empty text or room.
+/* The calls of foresight_tickets.h for programs that don't know whether a pointer is NULL. Each
+ * checks that first. If a pointer is NULL that may not be, it returns FORESIGHT_TICKET_NULL without
+ * calling the library. NULL with the size 0 is an empty list, text or buffer.
  */
 #ifndef FORESIGHT_GUARD_H
 #define FORESIGHT_GUARD_H
 
 #include "foresight_tickets.h"
 
-/* Whether a pointer to so many bytes leads nowhere. */
+/* Whether a pointer is NULL although its size isn't 0. */
 static inline bool foresight_guard_null(const void *at, size_t size) {
     return at == NULL && size != 0;
 }
@@ -44,7 +44,8 @@ static inline uint8_t foresight_guard_narrow(struct foresight_tables *tables, ui
 }
 
 static inline uint8_t foresight_guard_end(struct foresight_tables *tables, uint64_t ticket) {
-    return tables == NULL ? FORESIGHT_TICKET_NULL : foresight_ticket_end(tables, ticket);
+    if (tables == NULL) return FORESIGHT_TICKET_NULL;
+    return foresight_ticket_end(tables, ticket);
 }
 
 #endif

@@ -1,5 +1,5 @@
 /* The calls of foresight_session.h for programs that don't know whether a pointer is NULL, as
- * foresight_guard.h has those of tickets.
+ * foresight_guard.h has those of tickets. They return FORESIGHT_SESSION_NULL.
  */
 #ifndef FORESIGHT_SESSION_GUARD_H
 #define FORESIGHT_SESSION_GUARD_H
@@ -7,12 +7,13 @@
 #include "foresight_guard.h"
 #include "foresight_session.h"
 
-/* The same pointer, or one to an empty room. */
+/* The same pointer, or one to an empty buffer. */
 static inline uint8_t *foresight_guard_room(uint8_t *at) {
     static uint8_t empty[1];
     return at == NULL ? empty : at;
 }
 
+/* The same pointer, or one to an empty text. */
 static inline const uint8_t *foresight_guard_text(const uint8_t *at) {
     static const uint8_t empty[1] = { 0 };
     return at == NULL ? empty : at;
@@ -77,7 +78,8 @@ static inline uint8_t foresight_guard_session_narrow(struct foresight_session *s
 
 static inline uint8_t foresight_guard_session_end(struct foresight_session *session,
     uint64_t ticket) {
-    return session == NULL ? FORESIGHT_SESSION_NULL : foresight_session_end(session, ticket);
+    if (session == NULL) return FORESIGHT_SESSION_NULL;
+    return foresight_session_end(session, ticket);
 }
 
 static inline uint8_t foresight_guard_session_name(struct foresight_session *session,
@@ -97,7 +99,8 @@ static inline uint8_t foresight_guard_session_text(struct foresight_session *ses
 }
 
 static inline uint8_t foresight_guard_close(struct foresight_session *session) {
-    return session == NULL ? FORESIGHT_SESSION_NULL : foresight_session_close(session);
+    if (session == NULL) return FORESIGHT_SESSION_NULL;
+    return foresight_session_close(session);
 }
 
 #endif

@@ -1,6 +1,10 @@
 /* Bookings that two callers serve by turns, a step at a time, on tables that open with two guests:
- * who asks for a seat takes it, marks himself as a guest, and counts the seats. At the end it tells
- * the tables. `.ci/embedding` builds and runs it, and compares all that with `hall.stdout`. */
+ * each booking takes a seat, marks its customer as a guest, and counts the seats. At the end it prints
+ * the tables. `.ci/embedding` builds and runs it, and compares its output with `hall.stdout`; at the
+ * top of the repository it is built by
+ *
+ *     cc -std=c99 embedding/hall.c target/look/libforesight.a -o target/look/hall
+ */
 #include "foresight.h"
 
 #include <inttypes.h>

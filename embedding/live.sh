@@ -1,6 +1,6 @@
-# Sourced behind programs.sh by .ci/embedding and oracle/embedding.sh: builds and runs what lives over
-# the library: sessions, tickets, servers, and what other languages call it by. `live_wrong` is told
-# what isn't as it should be. What isn't at hand is said: NOT RUN.
+# Sourced after programs.sh by .ci/embedding and oracle/embedding.sh: builds and runs what lives over
+# the library that `make_look` made: sessions, tickets, servers, and packages for other languages.
+# `live_wrong` takes what isn't as it should be. What isn't at hand is said: NOT RUN.
 
 # A case for all bindings: handlers, requests, and what the program answers to a file with both.
 live_case() {
@@ -30,12 +30,8 @@ live_server() {
   fi
 }
 
-# A shared object of the archive, for languages that load one.
-live_shared() {
-  cc -shared -o "$work/libforesight.so" -Wl,--whole-archive "$library" "$kit/c/liblibc_c.a" \
-    -Wl,--no-whole-archive
-  export FORESIGHT_LIBRARY=$work/libforesight.so PYTHONDONTWRITEBYTECODE=1
-}
+# The shared object, for languages that load one.
+live_shared() { export FORESIGHT_LIBRARY=$work/look/libforesight.so PYTHONDONTWRITEBYTECODE=1; }
 
 # Some of what oracle/tickets.sh and oracle/sessions.sh judge: drives of tickets, sessions of each kind.
 live_judged() {
@@ -64,16 +60,9 @@ live_c() {
   live_judged
 }
 
-# The parts in Rust, Python and Go.
-live_others() {
+# The part in Python.
+live_python() {
   live_case
-  if command -v rustc > "$work/log"; then
-    rustc --edition 2024 -O embedding/server.rs -o "$work/server_rs" \
-      -C link-arg="$library" -C link-arg="$kit/c/liblibc_c.a"
-    live_server embedding/server.rs stdin "$work/server_rs"
-  else
-    echo "embedding: NOT RUN: embedding/server.rs, since there is no rustc"
-  fi
   if command -v python3 > "$work/log"; then
     live_shared
     timeout 60 python3 embedding/tests/package.py "$work/case" \
@@ -81,9 +70,20 @@ live_others() {
   else
     echo "embedding: NOT RUN: embedding/foresight.py, since there is no python3"
   fi
+}
+
+# The parts in Python, Rust and Go.
+live_others() {
+  live_python
+  if command -v rustc > "$work/log"; then
+    rustc --edition 2024 -O embedding/server.rs -C link-arg="$library" -o "$work/server_rs"
+    live_server embedding/server.rs stdin "$work/server_rs"
+  else
+    echo "embedding: NOT RUN: embedding/server.rs, since there is no rustc"
+  fi
   if command -v go > "$work/log"; then
     (cd embedding/go && FORESIGHT_CASE=$work/case CGO_ENABLED=1 GOFLAGS=-mod=mod GOPROXY=off \
-      GOCACHE=$work/go CGO_CFLAGS="-I$PWD/.." CGO_LDFLAGS="$library $kit/c/liblibc_c.a" \
+      GOCACHE=$work/go CGO_CFLAGS="-I$PWD/.." CGO_LDFLAGS=$library \
       timeout 110 go test -count=1 .) || live_wrong "embedding/go"
   else
     echo "embedding: NOT RUN: embedding/go, since there is no go"

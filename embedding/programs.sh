@@ -1,12 +1,81 @@
 # Sourced by .ci/embedding and oracle/embedding.sh, at the top of the repository: builds programs
 # over the static library, and compares what they answer with the program `foresight`. The scripts
-# set `work`, a folder of their own, `foresight`, the program, and `library`, the library's file.
+# set `work`, a folder of their own, `foresight`, the program, and `library`, an archive that may have
+# the kit's part for memory in it.
 . checks/cases.sh
 kit=$(dirname "$(rt doc)")
 compared=0
 differ=0
 # The memory of a program that is compiled with these words is counted, with the library's in it.
 heap=(embedding/tests/heap.c -Wl,--wrap=malloc,--wrap=calloc,--wrap=realloc,--wrap=free)
+
+# The symbols of an archive or an object, by words for nm.
+symbols() {
+  (exec -a llvm-nm "$kit/toolchain/bin/clang" --format=just-symbols "$@") | sort -u
+}
+
+# What the headers declare.
+declared() {
+  grep -oh '^uint[0-9]*_t foresight_[a-z_]*' embedding/foresight{,_tickets,_session}.h \
+    | cut -d ' ' -f 2 | sort -u
+}
+
+# Whether an archive has the kit's part for memory in it.
+has_memory() { symbols --defined-only "$1" | grep -x rattle_alloc > /dev/null; }
+
+# Says what is wrong with the symbols of an archive or an object of the library, and then ends with 1:
+# it defines what the headers declare. Of the system it needs what copies and compares bytes, and
+# memory, by the kit's part for it.
+symbol_faults() {
+  local defined others may_call='|.*:|rattle_(alloc|realloc|dealloc)|mem(cpy|move|set|cmp)|bcmp'
+  if has_memory "$1"; then may_call+='|malloc|realloc|free'; fi
+  defined=$(symbols --defined-only --extern-only "$1" | grep '^foresight_[a-z_]*$') || true
+  if [ "$defined" != "$(declared)" ]; then
+    echo "the library doesn't define what headers declare:"
+    diff <(echo "$defined") <(declared) || true
+    return 1
+  fi
+  others=$(symbols --undefined-only "$1" | grep -vxE "$may_call") || true
+  if [ -n "$others" ]; then
+    echo "the library calls $others"
+    return 1
+  fi
+}
+
+# Makes of an archive of the library one that has the kit's part for memory too: a file, and where to.
+whole_library() {
+  if has_memory "$1"; then
+    cp "$1" "$2"
+  else
+    rm -f "$2"
+    "$kit/toolchain/bin/llvm-ar" -M <<ARCHIVE
+create $2
+addlib $1
+addlib $kit/c/liblibc_c.a
+save
+end
+ARCHIVE
+  fi
+}
+
+# Makes of an archive with both parts a shared object, for languages that load one.
+shared_library() {
+  "$kit/toolchain/bin/ld.lld" -m elf_x86_64 -shared -z relro -z now -z noexecstack -o "$2" \
+    --whole-archive "$1" --no-whole-archive "$kit/toolchain/lib/libc.so.6"
+}
+
+# Makes `work`/look of the library: libforesight.a, which is the library from then on, and
+# libforesight.so; and of the program, with those beside it.
+make_look() {
+  local program
+  mkdir -p "$work/look"
+  whole_library "$library" "$work/look/libforesight.a"
+  library=$work/look/libforesight.a
+  shared_library "$library" "$work/look/libforesight.so"
+  for program in "$foresight"{,_where,_waits}; do
+    if [ -x "$program" ]; then ln -sf "$program" "$work/look/"; fi
+  done
+}
 
 # Compiles a program in C over the library: its file in `work`, and what is compiled.
 compile() {

@@ -1,12 +1,15 @@
 /* server HANDLERS [unix PATH | tcp PORT]..: serves a session to many clients. HANDLERS is a session
- * file without requests. A client sends requests as lines, in any number at a time, and has a line
- * for each: what it replies, or `! ` and why it isn't served. A line without words has none.
+ * file without requests. A client sends requests as lines, in any number at a time, and gets a line
+ * for each: its reply, or `! ` and why it isn't served. A line without words gets none. At the top of
+ * the repository it is built by
  *
- * Each connection has a thread, the session is one, behind a mutex; requests are served in the order
- * in which threads have the mutex, those of one connection in the order in which they were sent.
- * Nobody has it while he reads or sends. A line of 65,536 bytes or more is answered `! a line too
- * long`; a half line with which a connection ends isn't served; a client that doesn't read for five
- * seconds loses its connection. TCP is on 127.0.0.1 alone; port 0 is any, and is told.
+ *     cc -std=gnu99 -pthread embedding/server.c target/look/libforesight.a -o target/look/server
+ *
+ * Each connection has a thread. The session is guarded by one mutex, which no thread holds while it
+ * reads or sends: requests are served in the order in which threads take it, those of one connection
+ * in the order in which they were sent. A line of 65,536 bytes or more is answered `! a line too
+ * long`; half a line at a connection's end isn't served; a client that doesn't read for five seconds
+ * loses its connection. TCP is on 127.0.0.1 alone; with port 0 it prints which port it has.
  *
  * By SIGTERM or SIGINT it ends, and writes the tables to its output. It keeps nothing else. */
 #define _GNU_SOURCE

@@ -1,10 +1,13 @@
 //! server HANDLERS [unix PATH | tcp PORT]..: the server of server.c in plain Rust: a thread a
-//! connection, the session behind a `Mutex`, which nobody has while he reads or sends. A request is a
-//! line, and so is what it is answered: its reply, or `! ` and why it isn't served.
+//! connection, the session guarded by a `Mutex`, which no thread holds while it reads or sends. A
+//! request is a line, and so is its answer: the reply, or `! ` and why it isn't served. At the top of
+//! the repository it is built by
 //!
-//! A line of 65,536 bytes or more is answered `! a line too long`; a half line with which a
-//! connection ends isn't served; a client that doesn't read for five seconds loses its connection. It
-//! ends when its own input ends (Rust's standard library catches no signal), and writes the tables.
+//!     rustc --edition 2024 -O embedding/server.rs -C link-arg=target/look/libforesight.a -o server
+//!
+//! A line of 65,536 bytes or more is answered `! a line too long`; half a line at a connection's end
+//! isn't served; a client that doesn't read for five seconds loses its connection. It ends when its
+//! own input ends (Rust's standard library catches no signal), and writes the tables.
 use std::ffi::c_void;
 use std::io::{Read, Write};
 use std::net::{TcpListener, TcpStream};

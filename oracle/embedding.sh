@@ -23,6 +23,7 @@ if [ -z "$library" ]; then
   embedding/library.py "$library"
 fi
 library=$(realpath "$library")
+make_look
 
 programs=()
 hall=0
@@ -33,8 +34,7 @@ if command -v cc > "$work/log"; then
   if ! "$work/hall" | cmp - embedding/hall.stdout; then hall=1; fi
 fi
 if command -v rustc > "$work/log"; then
-  rustc --edition 2024 -O embedding/check.rs -o "$work/rust" \
-    -C link-arg="$library" -C link-arg="$kit/c/liblibc_c.a"
+  rustc --edition 2024 -O embedding/check.rs -C link-arg="$library" -o "$work/rust"
   programs+=("$work/rust")
 fi
 

@@ -1,10 +1,11 @@
 #!/usr/bin/env bash
 # Installs the programs and the library for C: tools/install.sh PREFIX [LIBRARY [PROGRAM]]. Without
-# words behind PREFIX they are those that `rt lib` and `rt ci` prove and leave. LIBRARIES=lib/ARCH in
-# the environment puts the archive there, in place of lib.
+# LIBRARY and PROGRAM they are those that `rt lib` and `rt ci` prove and leave. What tools/look.sh
+# leaves, target/look/libforesight.a and target/look/foresight, is installed too if it is named:
+# UNPROVED. LIBRARIES=lib/ARCH in the environment puts the archive there, in place of lib.
 #
 # In PREFIX: bin/foresight, bin/foresight_where and bin/foresight_waits with their manual pages (the
-# last two from beside PROGRAM, where they are there), lib/libforesight.a (the library and the kit's
+# last two from beside PROGRAM, if they are there), lib/libforesight.a (the library and the kit's
 # part for memory, in one archive), lib/pkgconfig/foresight.pc, the headers in include/, and in
 # share/doc/foresight/ what they were built with.
 set -euo pipefail
@@ -14,7 +15,7 @@ mkdir -p "$1"
 prefix=$(realpath "$1")
 library=$(realpath "${2:-crates/foresight_c/out/libforesight_c.a}")
 program=$(realpath "${3:-crates/foresight/out/foresight}")
-kit=$(dirname "$(rt doc)")
+. embedding/programs.sh
 libraries=${LIBRARIES:-lib}
 version=$(sed -n 's/^#define FORESIGHT_VERSION "\(.*\)"/\1/p' embedding/foresight_tickets.h)
 for file in "$library" "$program"; do
@@ -37,14 +38,7 @@ done
 install -m 644 embedding/foresight*.h "$prefix/include/"
 install -m 644 man/foresight.1 "$prefix/share/man/man1/"
 install -m 644 man/foresight.5 "$prefix/share/man/man5/"
-rm -f "$prefix/$libraries/libforesight.a"
-ar -M <<ARCHIVE
-create $prefix/$libraries/libforesight.a
-addlib $library
-addlib $kit/c/liblibc_c.a
-save
-end
-ARCHIVE
+whole_library "$library" "$prefix/$libraries/libforesight.a"
 cat > "$prefix/$libraries/pkgconfig/foresight.pc" <<PC
 prefix=${PC_PREFIX:-$prefix}
 includedir=\${prefix}/include

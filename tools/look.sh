@@ -1,30 +1,52 @@
 #!/usr/bin/env bash
-# Builds foresight, foresight_where and foresight_waits WITHOUT their proofs, for a first look:
-# tools/look.sh [NAME..].
-# With names it builds these programs of crates/.
+# Builds without proof, for a first look, into target/look/:
+#   tools/look.sh           the programs foresight, foresight_where and foresight_waits
+#   tools/look.sh library   the library for C, Rust, Go and Python: libforesight.a, with the kit's part
+#                           for memory in it, and libforesight.so
+#   tools/look.sh NAME..    these programs of crates/, or `library`
 #
-# They are left in target/look/, where README.md and docs/TOUR.md name them. They do what the proved
-# programs do, a little slower; the proved programs come by .ci/run. `rt try` builds a program, runs
-# it once and throws it away, so it is run here with a compiler that optimizes and doesn't check
-# memory, and a linker that also keeps what it links.
+# README.md, docs/TOUR.md and embedding/README.md name them there. They do what the proved programs
+# and the proved library do, a little slower; the proved ones come by .ci/run, and by `rt lib` in
+# crates/foresight_c. `rt try` builds a program, runs it once and throws it away. So it is run here
+# with a compiler that optimizes and doesn't check memory, and a linker that also keeps what it links.
+# For the library a program is made of foresight_c, in a copy of the tree, whose `main` calls each
+# function that C calls. The compiler then makes these functions external, and keeps the object.
 set -euo pipefail
 cd "$(dirname "$0")/.."
-kit=$(dirname "$(rt doc)")
 work=$(mktemp -d)
 trap 'rm -rf "$work"' EXIT
+. embedding/programs.sh
 mkdir -p target/look
 
-# Builds a program, which runs once, without words and on an empty input.
-build() {
-  local name=$1 own=$work/$1
-  # A kit of links, but for compiler and linker, and for `rt`, which finds its kit beside itself.
+# A kit of links in a folder, but for `rt`, which finds its kit beside itself, for the compiler and the
+# linker, and for `rattle`, which would look at the sources once more.
+make_kit() {
+  local own=$1
   mkdir -p "$own/bin" "$own/toolchain/bin"
   ln -s "$kit"/[!bt]* "$own/"
-  ln -s "$kit"/bin/rattle* "$own/bin/"
+  ln -s "$kit"/bin/rattle-* "$own/bin/"
   cp "$kit"/bin/rt* "$own/bin/"
   ln -s "$kit/toolchain/lib" "$own/toolchain/"
   ln -s "$kit"/toolchain/bin/{llvm,rattle}-* "$own/toolchain/bin/"
-  cat > "$own/toolchain/bin/clang" <<COMPILER
+  printf '#!/bin/sh\nexit 1\n' > "$own/bin/rattle"
+  cat > "$own/toolchain/bin/ld.lld" <<LINKER
+#!/usr/bin/env bash
+"$kit/toolchain/bin/ld.lld" "\$@" && cp program "$own/kept"
+LINKER
+  cat > "$own/toolchain/bin/clang"
+  chmod +x "$own/bin/rattle" "$own"/toolchain/bin/{clang,ld.lld}
+}
+
+# Builds what `rt try` runs in a folder, without words and on an empty input; keeps `kept`.
+try_in() {
+  local own=$1 folder=$2
+  (cd "$folder" && "$own/bin/rt" try < /dev/null) > "$own/log" 2>&1 || true
+  [ -f "$own/kept" ] || { cat "$own/log"; return 1; }
+}
+
+build_program() {
+  local name=$1 own=$work/$1
+  make_kit "$own" <<COMPILER
 #!/usr/bin/env bash
 words=()
 for word; do
@@ -32,22 +54,103 @@ for word; do
 done
 exec "$kit/toolchain/bin/clang" "\${words[@]}"
 COMPILER
-  cat > "$own/toolchain/bin/ld.lld" <<LINKER
-#!/usr/bin/env bash
-"$kit/toolchain/bin/ld.lld" "\$@" && cp program "$own/kept"
-LINKER
-  chmod +x "$own"/toolchain/bin/{clang,ld.lld}
-  (cd "crates/$name" && "$own/bin/rt" try < /dev/null) > "$own/log" 2>&1 || true
-  [ -x "$own/kept" ] || { cat "$own/log"; return 1; }
+  try_in "$own" "crates/$name"
   mv "$own/kept" "target/look/$name"
+}
+
+# A program of the library's crate, in its folder: its `main` calls what C calls, with nothing.
+main_of_library() {
+  local file
+  cat src/lib.rt
+  cat <<'MAIN'
+use crate::handle::Handle;
+use crate::session_handle::SessionHandle;
+use hall_desk::{HallOperation, HallStep, HallValue};
+use std::process::ExitCode;
+
+fn a_value() -> HallValue {
+    HallValue { sort: 0, name: 0, number: 0 }
+}
+
+fn an_operation() -> HallOperation {
+    HallOperation { kind: 0, table: 0, key: a_value(), value: a_value() }
+}
+
+fn a_step() -> HallStep {
+    HallStep { answer: 0, ticket: 0, other: 0, reply: a_value() }
+}
+
+fn an_answer() -> Answer {
+    Answer { written: 0, needed: 0, told: 0 }
+}
+
+fn a_served() -> Served {
+    Served { used: 0, written: 0, requests: 0, told: 0, older: 0 }
+}
+
+fn main(rt: HostRuntime) -> ExitCode {
+MAIN
+  # The parameters of a function's head become values of their types.
+  for file in src/*.rt; do
+    tr '\n' ' ' < "$file" | { grep -oE 'extern "C" fn \w+\([^)]*\)' || true; } | sed -E "
+      s/.* fn /let _ = crate::$(basename "$file" .rt)::/; s/\w+: //g; s/\$/;/; s/Global/rt.alloc()/
+      s/\bu(8|32|64|size)\b/0/g; s/HallValue/a_value()/g; s/HallOperation/an_operation()/
+      s/HallStep/a_step()/; s/Answer/an_answer()/; s/Served/a_served()/; s/\w*Handle/&::none()/"
+  done
+  echo 'ExitCode::from(0) }'
+}
+
+build_library() {
+  local own=$work/library name=foresight_c
+  make_kit "$own" <<COMPILER
+#!/usr/bin/env bash
+clang=$kit/toolchain/bin/clang
+"\$clang" --target=x86_64-unknown-linux-gnu -Xclang -disable-llvm-passes -S -emit-llvm \\
+  -x ir module.bc -o module.ll
+# Another module than the program's.
+grep -q '^define .*::foresight_version"' module.ll || exec "\$clang" "\$@"
+sed -E 's/@"$name::\w+::(foresight_\w+)"/@\1/g; s/^define internal (.* @foresight_\w+\()/define \1/
+  s/^define noundef i8 @foresight_/define noundef zeroext i8 @foresight_/
+  s/^define i32 @main\(/define internal i32 @main(/' module.ll > library.ll
+words=()
+for word; do
+  case \$word in
+    -fsanitize=address) ;;
+    -O0) words+=(-O2) ;;
+    -fPIE) words+=(-fPIC) ;;
+    module.bc) words+=(library.ll) ;;
+    module.o) words+=("$own/kept") ;;
+    *) words+=("\$word") ;;
+  esac
+done
+"\$clang" "\${words[@]}"
+# Nothing is linked and run.
+exit 1
+COMPILER
+  mkdir "$own/tree"
+  tar -cf - --exclude='crates/*/out' --exclude='crates/*/proofs' HANDLES crates crates.txt \
+    | tar -C "$own/tree" -xf -
+  sed -i "s/^$name staticlib:/$name:/" "$own/tree/crates.txt"
+  (cd "$own/tree/crates/$name" && main_of_library > main.rt && rm src/lib.rt && mv main.rt src/)
+  try_in "$own" "$own/tree/crates/$name"
+  mv "$own/kept" "$own/foresight.o"
+  symbol_faults "$own/foresight.o"
+  "$kit/toolchain/bin/llvm-ar" rcs "$own/object.a" "$own/foresight.o"
+  whole_library "$own/object.a" target/look/libforesight.a
+  shared_library target/look/libforesight.a target/look/libforesight.so
 }
 
 [ $# -gt 0 ] || set -- foresight foresight_where foresight_waits
 echo "building $* without proof (one to three minutes)"
 builders=()
 for name; do
-  build "$name" &
+  if [ "$name" = library ]; then build_library & else build_program "$name" & fi
   builders+=($!)
 done
 for builder in "${builders[@]}"; do wait "$builder"; done
-for name; do echo "target/look/$name is there. It is UNPROVED."; done
+for name; do
+  case $name in
+    library) echo "target/look/libforesight.a and libforesight.so are there. They are UNPROVED." ;;
+    *) echo "target/look/$name is there. It is UNPROVED." ;;
+  esac
+done

@@ -1,7 +1,8 @@
 #!/usr/bin/env bash
-# Makes two Debian packages of what tools/install.sh installs: tools/packages.sh OUT [LIBRARY [PROGRAM]]:
-# `foresight`, the program, and `libforesight-dev`, archive and headers. Then both are unpacked again,
-# a program in C is built over them as foresight.pc says, and run. Needs dpkg-deb and cc.
+# Makes two Debian packages of what tools/install.sh installs: tools/packages.sh OUT [LIBRARY
+# [PROGRAM]]: `foresight`, the programs, and `libforesight-dev`, archive and headers. Then both are
+# unpacked again, a program in C is built over them as foresight.pc says, and run. Needs dpkg-deb and
+# cc.
 set -euo pipefail
 cd "$(dirname "$0")/.."
 [ $# -ge 1 ] || { echo "words: OUT [LIBRARY [PROGRAM]]" >&2; exit 2; }
@@ -19,7 +20,7 @@ libraries=lib/$triple
 LIBRARIES=$libraries PC_PREFIX=/usr tools/install.sh "$work/all/usr" "$@"
 version=$(sed -n 's/^Version: //p' "$work/all/usr/$libraries/pkgconfig/foresight.pc")
 
-# A package: its name, section and first line, and behind them what of /usr is in it.
+# A package: its name, section and first line, and after these what of /usr is in it.
 package() {
   local name=$1 section=$2 line=$3 part
   shift 3

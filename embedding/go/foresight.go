@@ -1,5 +1,6 @@
-// Package foresight has sessions that live, over the library for C. Build it with
-// CGO_CFLAGS=-I.. and CGO_LDFLAGS naming the archive, or with foresight.pc installed.
+// Package foresight has sessions that live, over the library for C. Build it with CGO_CFLAGS=-I and
+// the whole path of the headers' folder, and with CGO_LDFLAGS naming libforesight.a by its whole path,
+// or with what pkg-config says of an installed foresight.pc.
 package foresight
 
 /*
@@ -21,10 +22,19 @@ const (
 	repliesRoom = 65536
 )
 
-// ErrMemory says that malloc or realloc gave nothing.
+// ErrMemory says that memory ran out.
 var ErrMemory = errors.New("foresight: no memory")
 
-// Refused says why a file isn't opened, or the line behind those that are used isn't served.
+// What a status means that comes without a message.
+var statuses = map[int]string{
+	11: "the session is closed",
+	12: "no number is left for a request",
+	15: "too many names",
+	16: "the text isn't UTF-8",
+	20: "a ticket is in the way",
+}
+
+// Refused says why a file isn't opened, or a line isn't served.
 type Refused struct {
 	Status int
 	Why    string
@@ -33,7 +43,7 @@ type Refused struct {
 func (r *Refused) Error() string { return fmt.Sprintf("foresight: %s", r.Why) }
 
 // Session is handlers that are read once, and tables that stay. Any number of goroutines may use it:
-// requests are served in the order in which these have its lock.
+// requests are served in the order in which these hold its lock.
 type Session struct {
 	mu     sync.Mutex
 	handle C.struct_foresight_session
@@ -53,13 +63,13 @@ func failed(status C.uint8_t, why []byte) error {
 	}
 	text := strings.TrimSpace(string(why))
 	if text == "" {
-		text = fmt.Sprintf("status %d", status)
+		text = fmt.Sprintf("status %d: %s", status, statuses[int(status)])
 	}
 	return &Refused{int(status), text}
 }
 
 // Open opens a session over a session file without requests, with a seed that nobody who sends
-// requests knows, and so many names at most.
+// requests knows, and at most so many names.
 func Open(text []byte, seed uint64, mostNames uint32) (*Session, error) {
 	s := &Session{out: make([]byte, repliesRoom)}
 	why := make([]byte, messageRoom)
@@ -73,8 +83,8 @@ func Open(text []byte, seed uint64, mostNames uint32) (*Session, error) {
 	return s, nil
 }
 
-// Serve serves requests, many at a time: their reply lines. Where one isn't served, those before it
-// are, and the error says why.
+// Serve serves requests, many at a time, and returns their reply lines. If one isn't served, those
+// before it are, and the error says why.
 func (s *Session) Serve(lines []string) ([]string, error) {
 	for _, line := range lines {
 		if strings.Contains(line, "\n") {
@@ -104,7 +114,7 @@ func (s *Session) Serve(lines []string) ([]string, error) {
 	}
 }
 
-// Request serves one request: the words of its reply.
+// Request serves one request, and returns the words of its reply.
 func (s *Session) Request(line string) ([]string, error) {
 	replies, err := s.Serve([]string{line})
 	if err != nil || len(replies) == 0 {
@@ -113,7 +123,7 @@ func (s *Session) Request(line string) ([]string, error) {
 	return strings.Fields(replies[0]), nil
 }
 
-// Tables are the tables, as `foresight dump` writes them.
+// Tables returns the tables, as `foresight dump` writes them.
 func (s *Session) Tables() (string, error) {
 	why := make([]byte, messageRoom)
 	answer := C.struct_foresight_answer{needed: repliesRoom}

@@ -72,7 +72,8 @@ func TestRefuses(t *testing.T) {
 		t.Fatal("other tables of eight goroutines", err)
 	}
 	s.Close()
-	if _, err := s.Request("f a"); !errors.As(err, &refused) || refused.Status != 11 {
+	if _, err := s.Request("f a"); !errors.As(err, &refused) || refused.Status != 11 ||
+		refused.Why != "status 11: the session is closed" {
 		t.Fatal(err)
 	}
 }

@@ -8,6 +8,11 @@ import threading
 sys.path.insert(0, os.path.join(os.path.dirname(os.path.abspath(__file__)), ".."))
 import foresight  # noqa: E402  pylint: disable=wrong-import-position
 
+UNREAD = ("status 10: no such kind, sort or name, too many tables, or a field that the kind doesn't use "
+          "isn't nil")
+MISFIT = ("status 22: no such table, or it has no such operation, or a symbol that is no name of the "
+          "session")
+
 
 def read(name):
     """A file of the case."""
@@ -35,6 +40,19 @@ def try_session():
     with foresight.Session(read("handlers")) as session:
         words = [" ".join(session.request(line)) for line in lines[:300]]
         assert words == replies[:300], "other replies one by one"
+    # More replies than one call of the library writes, a refusal after them, and one line again.
+    with foresight.Session("handler f(k) { reply k; }\n%%\n") as session:
+        numbers = [str(-2**62 + i) for i in range(20_000)]
+        lines = [f"f {number}" for number in numbers]
+        assert session.serve(lines) == numbers, "other replies of many lines"
+        error = refused(lambda: session.serve([*lines, "", "g", "f 1"]), 1, "unknown handler")
+        assert error.replies == numbers and error.used == 20_002, (len(error.replies), error.used)
+        assert session.request("f 7") == ["7"] and session.request("") == []
+        try:
+            session.request("f 1\nf 2")
+            raise AssertionError("two lines in a request")
+        except ValueError:
+            pass
 
 
 def try_refusals():
@@ -62,7 +80,8 @@ def try_refusals():
     assert len(session.tables().splitlines()) == 2004, "other tables of four threads"
     session.close()
     session.close()
-    refused(lambda: session.serve(["f 1"]), 11, "status 11")
+    refused(lambda: session.serve(["f 1"]), 11, "status 11: the object is closed")
+    refused(session.tables, 11, "status 11: the object is closed")
 
 
 def try_tickets():
@@ -79,18 +98,37 @@ def try_tickets():
             assert delayed.older == older
         tables.narrow(older, [])
         assert tables.call(younger, "get", 0, 2) == 5
-        refused(lambda: tables.call(older, "get", 0, 1), 21, "status 21")
+        refused(lambda: tables.call(older, "get", 0, 1), 21,
+                "status 21: the ticket hasn't declared this operation")
         tables.end(older)
-        refused(lambda: tables.end(older), 13, "status 13")
-        refused(lambda: tables.call(younger, "add", 0, 2), 22, "status 22")
-        refused(lambda: tables.begin([("size", 0, 1)]), 10, "status 10")
-        refused(lambda: tables.begin([("get", 0, 1)] * 257), 12, "status 12")
+        refused(lambda: tables.end(older), 13, "status 13: the ticket has not begun, or has ended")
+        refused(lambda: tables.call(younger, "add", 0, 2), 22, MISFIT)
+        refused(lambda: tables.begin([("size", 0, 1)]), 10, UNREAD)
+        refused(lambda: tables.begin([("get", 0, 1)] * 257), 12,
+                "status 12: more than 256 symbols, or no number is left for a ticket")
+        for call in (lambda: tables.begin([("fetch", 0, 1)]),
+                     lambda: tables.call(younger, "fetch", 0, 2)):
+            try:
+                call()
+                raise AssertionError("an operation that there isn't")
+            except ValueError as error:
+                assert str(error) == ("there is no operation 'fetch': it is one of get, put, swap, "
+                                      "del, size, bump, has, add, mark, drop, count"), error
+        # A name comes back as it was put, and no other value as a name.
+        named = tables.begin([("put", 0, any, any), ("swap", 0, any, any), ("get", 0, any)])
+        seven = foresight.Name(7)
+        assert tables.call(named, "put", 0, seven, foresight.Name(3)) is None
+        assert tables.call(named, "get", 0, seven) == foresight.Name(3)
+        assert tables.call(named, "get", 0, 7) is None
+        assert tables.call(named, "swap", 0, seven, 3) == foresight.Name(3)
+        assert tables.call(named, "get", 0, seven) == 3
+        tables.end(named)
         try:
             tables.call(younger, "get", 0, 2**63)
             raise AssertionError("a number past 64 bits")
         except OverflowError:
             pass
-    refused(lambda: foresight.Tables(maps=8), 10, "status 10")
+    refused(lambda: foresight.Tables(maps=8), 10, UNREAD)
 
 
 def try_tickets_beside_requests():
@@ -118,12 +156,14 @@ def try_tickets_beside_requests():
         session.narrow(ticket, [])
         assert session.call(younger, "get", 0, ann) == 8
         assert session.serve(["load ann"]) == ["8"]
-        refused(lambda: session.call(ticket, "get", 0, ann), 21, "status 21")
+        refused(lambda: session.call(ticket, "get", 0, ann), 21,
+                "status 21: the ticket hasn't declared this operation")
         session.end(ticket)
-        refused(lambda: session.end(ticket), 13, "status 13")
-        refused(lambda: session.call(younger, "add", 0, ann), 22, "status 22")
-        refused(lambda: session.name("carl"), 15, "status 15")
-        refused(lambda: session.name("5"), 1, "status 1")
+        refused(lambda: session.end(ticket), 13, "status 13: the ticket has not begun, or has ended")
+        refused(lambda: session.call(younger, "add", 0, ann), 22, MISFIT)
+        refused(lambda: session.text(foresight.Name(7)), 10, UNREAD)
+        refused(lambda: session.name("carl"), 15, "status 15: too many names")
+        refused(lambda: session.name("5"), 1, "status 1: the text is no symbol")
 
 
 try_session()
