@@ -30,14 +30,14 @@ for name in foresight_where foresight_waits; do
   if [ $# -ge 3 ]; then beside=$(dirname "$program")/$name; fi
   if [ -f "$beside" ]; then
     install -m 755 "$beside" "$prefix/bin/$name"
-    install -m 644 "man/$name.1" "$prefix/share/man/man1/"
+    install -m 644 "extras/man/$name.1" "$prefix/share/man/man1/"
   else
     echo "install: no $beside, so it is left out"
   fi
 done
 install -m 644 embedding/foresight*.h "$prefix/include/"
-install -m 644 man/foresight.1 "$prefix/share/man/man1/"
-install -m 644 man/foresight.5 "$prefix/share/man/man5/"
+install -m 644 extras/man/foresight.1 "$prefix/share/man/man1/"
+install -m 644 extras/man/foresight.5 "$prefix/share/man/man5/"
 whole_library "$library" "$prefix/$libraries/libforesight.a"
 cat > "$prefix/$libraries/pkgconfig/foresight.pc" <<PC
 prefix=${PC_PREFIX:-$prefix}

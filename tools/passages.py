@@ -23,7 +23,7 @@ PLAIN = re.compile(r"\b(wants? of memory|wants? memory|wanted? memory|in vain|(?
                    r"stands? behind|hangs? on|where it is there)\b")
 CODE = re.compile(r"`([^`\n]+)`")
 FILE = re.compile(r"(?<![\w./~$*-])(?:crates|docs|bench|stress|oracle|tools|checks|examples|extras"
-                  r"|editors|embedding|edits|man|completion|\.ci)/[\w./*-]+(?![\w./*{-])")
+                  r"|embedding|\.ci)/[\w./*-]+(?![\w./*{-])")
 UNNAMED = re.compile(r"/out/|NAME|/X/")
 BELOW = re.compile(r"`(\w+/(?:src|specs|proofs)(?:/[\w/]+\.(?:rt|antt))?)`")
 CLAUSE = re.compile(r"\| .* \| ((?:`\w+`,? )+(?:of `\w+`)?,? ?)`(crates/[\w/]+\.(?:rt|antt))`")
@@ -91,7 +91,8 @@ def faults():
     """What is wrong with the documents."""
     found = []
     pages = sorted(glob.glob("crates/*/README.md"))
-    others = {"CHANGELOG.md", *glob.glob("*/README.md"), *glob.glob("*/*/README.md")} - set(pages)
+    others = {"CHANGELOG.md", *glob.glob("*/README.md"),
+              *glob.glob("extras/*/README.md"), *glob.glob("*/*/README.md")} - set(pages)
     for name in USERS + READERS + pages + sorted(others):
         if not os.path.exists(name):
             continue

@@ -17,7 +17,7 @@ import sys
 
 HERE = os.path.dirname(os.path.realpath(__file__))
 ROOT = os.path.join(HERE, "..")
-sys.path.insert(0, os.path.join(ROOT, "editors"))
+sys.path.insert(0, os.path.join(ROOT, "extras/editors"))
 sys.dont_write_bytecode = True
 import report_page  # noqa: E402
 import timeline  # noqa: E402

@@ -6,7 +6,7 @@ from html import escape
 import make
 
 HERE = os.path.dirname(os.path.realpath(__file__))
-WORDS = make.words_of(os.path.join(HERE, "../editors/words.txt"))
+WORDS = make.words_of(os.path.join(HERE, "../extras/editors/words.txt"))
 KINDS = {"keyword": WORDS["declare"] + WORDS["statement"], "constant": WORDS["constant"],
          "operation": WORDS["on-map"] + WORDS["on-set"]}
 PIECE = re.compile(r"#.*|'[A-Za-z][\w.@:-]*|[A-Za-z]\w*|\d+|\s+|[=!<]=|.")

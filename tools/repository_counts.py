@@ -25,8 +25,12 @@ def files(*patterns):
 
 
 def cases():
-    """How many cases are stored in examples/ and checks/: each has a file of its words."""
-    return files("examples/**/*.args", "checks/**/*.args")
+    """How many cases are stored in examples/ and checks/: each input, and each file of words of a
+    command that reads none."""
+    names = [name for name in glob.glob("examples/**/*", recursive=True) + glob.glob("checks/*/*")
+             if not name.startswith("checks/mistakes/")]
+    return len([name for name in names
+                if re.search(r"\.(?:handlers|session|trace|ranges)$|/[^./]+\.args$", name)])
 
 
 def thousands(*patterns):
@@ -54,7 +58,7 @@ def uses():
 
 
 def edges():
-    """How many edges there are between crates, as bench/layers.py does."""
+    """How many edges there are between crates, as tools/layers.py does."""
     return sum(map(len, uses().values()))
 
 
@@ -138,9 +142,9 @@ COUNTS = {
     "mistakes": lambda: files("checks/mistakes/*.told"),
     "edits in the gate": lambda: files("crates/*/must-fail/*.edit"),
     "crates with edits in the gate": lambda: files("crates/*/must-fail/"),
-    "edits beside the gate": lambda: files("edits/*/*.edit"),
-    "crates with edits beside the gate": lambda: files("edits/*/"),
-    "edits": lambda: files("crates/*/must-fail/*.edit", "edits/*/*.edit"),
+    "edits beside the gate": lambda: files("checks/edits/*/*.edit"),
+    "crates with edits beside the gate": lambda: files("checks/edits/*/"),
+    "edits": lambda: files("crates/*/must-fail/*.edit", "checks/edits/*/*.edit"),
     "stored cases": cases,
     "promises": promises,
     "chain up to the program": lambda: chain("foresight"),

@@ -1,3 +1,0 @@
-" File types of foresight. Made by editors/make.py.
-autocmd BufNewFile,BufRead *.handlers,*.session,*.trace setfiletype foresight
-autocmd BufNewFile,BufRead *.ranges setfiletype foresightranges
