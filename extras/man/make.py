@@ -336,10 +336,7 @@ def labelled(head, cell):
 
 def synopsis(lines):
     """The command lines, each on a line of its own."""
-    made = []
-    for line in lines:
-        made += [".br", prose(line[2:])]
-    return made[1:]
+    return [row for line in lines for row in (".br", prose(line[2:]))][1:]
 
 
 def page(name, document, text, sections, release):
@@ -353,8 +350,7 @@ def page(name, document, text, sections, release):
             heading, _, part = lines[0][1:].partition("|")
             taken = chosen(blocks_of(sections.get(heading, [])), part)
             if not taken:
-                sys.exit(f"extras/man/make.py: {document} has no section `{heading}`"
-                         + (f" with `{part}`" if part else ""))
+                sys.exit(f"extras/man/make.py: {document} has no section `{heading}` `{part}`")
             for inner in taken:
                 made += block(*inner)
         else:
@@ -397,12 +393,8 @@ def made_pages():
             for name, (document, text) in PAGES.items()}
 
 
-def main():
-    folder = sys.argv[1] if len(sys.argv) > 1 else HERE
-    for name, text in made_pages().items():
-        with open(os.path.join(folder, name), "w", encoding="utf-8") as file:
-            file.write(text)
-
-
 if __name__ == "__main__":
-    main()
+    folder = sys.argv[1] if len(sys.argv) > 1 else HERE
+    for made, written in made_pages().items():
+        with open(os.path.join(folder, made), "w", encoding="utf-8") as file:
+            file.write(written)
