@@ -108,7 +108,7 @@ def _error(status, why):
 
 
 class _Kept:
-    """What a handle stands for, closed at its end by the call of its kind."""
+    """An object of the library by its handle, closed at its end by the call of its kind."""
 
     def __init__(self, close):
         self._close = close
@@ -166,8 +166,9 @@ class Session(_Kept):
                        c.byref(self._served))
 
     def serve(self, lines):
-        """Serves requests, and answers their reply lines. A line that isn't served raises, after the
-        lines before it; `error.replies` has theirs, and `error.used` how many lines are used."""
+        """Serves requests, and returns their reply lines. If a line isn't served this raises, after the
+        lines before it were served; `error.replies` has their replies, and `error.used` says how many
+        lines are done with."""
         lines = list(lines)
         for line in lines:
             if "\n" in line:
@@ -175,7 +176,7 @@ class Session(_Kept):
         return self._replies("".join(f"{line}\n" for line in lines).encode())
 
     def request(self, line):
-        """Serves one request: the words of its reply."""
+        """Serves one request, and returns the words of its reply."""
         if "\n" in line:
             raise ValueError("more than one line")
         replies = self._replies(f"{line}\n".encode())
@@ -299,7 +300,7 @@ def _operation(kind, table, key=None, value=None):
 
 
 class Tables(_Kept):
-    """Tables on which tickets are driven call by call: maps, and behind them sets.
+    """Tables on which tickets are driven call by call: maps, and after them sets.
 
     >>> t = Tables(maps=1)
     >>> n = t.begin([("bump", 0, 7, any)])

@@ -1,7 +1,6 @@
 # Sourced by .ci/embedding and oracle/embedding.sh, at the top of the repository: builds programs
 # over the static library, and compares what they answer with the program `foresight`. The scripts
-# set `work`, a folder of their own, `foresight`, the program, and `library`, an archive that may have
-# the kit's part for memory in it.
+# set `work`, a folder of their own, `foresight`, the program, and `library`, the library's file.
 . checks/cases.sh
 kit=$(dirname "$(rt doc)")
 compared=0
@@ -20,7 +19,8 @@ declared() {
     | cut -d ' ' -f 2 | sort -u
 }
 
-# Whether an archive has the kit's part for memory in it.
+# Whether an archive has the kit's part for memory in it: `rt lib` makes one without, tools/look.sh and
+# tools/install.sh one with it.
 has_memory() { symbols --defined-only "$1" | grep -x rattle_alloc > /dev/null; }
 
 # Says what is wrong with the symbols of an archive or an object of the library, and then ends with 1:
@@ -65,15 +65,18 @@ shared_library() {
 }
 
 # Makes `work`/look of the library: libforesight.a, which is the library from then on, and
-# libforesight.so; and of the program, with those beside it.
+# libforesight.so; and of the programs, which are beside `foresight` or where `rt ci` leaves them.
 make_look() {
-  local program
+  local name program
   mkdir -p "$work/look"
   whole_library "$library" "$work/look/libforesight.a"
   library=$work/look/libforesight.a
   shared_library "$library" "$work/look/libforesight.so"
-  for program in "$foresight"{,_where,_waits}; do
-    if [ -x "$program" ]; then ln -sf "$program" "$work/look/"; fi
+  ln -sf "$foresight" "$work/look/foresight"
+  for name in foresight_where foresight_waits; do
+    for program in "$PWD/crates/$name/out/$name" "$(dirname "$foresight")/$name"; do
+      if [ -x "$program" ]; then ln -sf "$program" "$work/look/$name"; fi
+    done
   done
 }
 
