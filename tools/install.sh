@@ -56,4 +56,4 @@ PC
   echo
   sha256sum "$library" "$program" | sed 's: .*/:  :'
 } > "$prefix/share/doc/foresight/BUILT"
-cp README.md CHANGELOG.md docs/LIBRARY.md "$prefix/share/doc/foresight/"
+cp README.md CHANGELOG.md docs/LIBRARY.md embedding/CALLS.md "$prefix/share/doc/foresight/"
