@@ -46,8 +46,8 @@ enum foresight_session_status {
     FORESIGHT_SESSION_NO_TICKET = 13,
     /* With its names there would be more than the session may have. Otherwise as 1. */
     FORESIGHT_SESSION_TOO_MANY_NAMES = 15,
-    /* The lines, or the text of a name, aren't UTF-8. Nothing was done, of no line: a program that
-     * wants the others served gives them one by one. */
+    /* The lines, or the text of a name, aren't UTF-8. Nothing was done, not even for lines that
+     * are: a program that wants those served gives lines one by one. */
     FORESIGHT_SESSION_NOT_TEXT = 16,
     /* A ticket delays the call or the line: it may still call something that doesn't commute with
      * the operation, or with something that the line's handler may call. Nothing was done of the

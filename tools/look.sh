@@ -5,12 +5,12 @@
 #                           for memory in it, and libforesight.so
 #   tools/look.sh NAME..    these programs of crates/, or `library`
 #
-# README.md, docs/TOUR.md and embedding/README.md name them there. They do what the proved programs
-# and the proved library do, a little slower; the proved ones come by .ci/run, and by `rt lib` in
-# crates/foresight_c. `rt try` builds a program, runs it once and throws it away. So it is run here
-# with a compiler that optimizes and doesn't check memory, and a linker that also keeps what it links.
-# For the library a program is made of foresight_c, in a copy of the tree, whose `main` calls each
-# function that C calls. The compiler then makes these functions external, and keeps the object.
+# README.md, docs/TOUR.md and embedding/README.md name them there. They do what the proved ones do,
+# which come by .ci/run and, the library, by `rt lib` in crates/foresight_c; the programs are a little
+# slower. `rt try` builds a program, runs it once and throws it away. So it is run here with a compiler
+# that optimizes and doesn't check memory, and a linker that also keeps what it links. For the library
+# a program is made of foresight_c, in a copy of the tree, whose `main` calls each function that C
+# calls. The compiler makes these functions external, and keeps the object, which isn't linked.
 set -euo pipefail
 cd "$(dirname "$0")/.."
 work=$(mktemp -d)
@@ -58,7 +58,8 @@ COMPILER
   mv "$own/kept" "target/look/$name"
 }
 
-# A program of the library's crate, in its folder: its `main` calls what C calls, with nothing.
+# The text of a program of the library's crate, in its folder: its `main` calls each function that C
+# calls, with zeros and empty handles.
 main_of_library() {
   local file
   cat src/lib.rt
@@ -107,7 +108,7 @@ build_library() {
 clang=$kit/toolchain/bin/clang
 "\$clang" --target=x86_64-unknown-linux-gnu -Xclang -disable-llvm-passes -S -emit-llvm \\
   -x ir module.bc -o module.ll
-# Another module than the program's.
+# A small module comes first, which is not the library's.
 grep -q '^define .*::foresight_version"' module.ll || exec "\$clang" "\$@"
 sed -E 's/@"$name::\w+::(foresight_\w+)"/@\1/g; s/^define internal (.* @foresight_\w+\()/define \1/
   s/^define noundef i8 @foresight_/define noundef zeroext i8 @foresight_/
@@ -124,7 +125,7 @@ for word; do
   esac
 done
 "\$clang" "\${words[@]}"
-# Nothing is linked and run.
+# So nothing is linked or run.
 exit 1
 COMPILER
   mkdir "$own/tree"
