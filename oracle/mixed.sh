@@ -10,6 +10,6 @@ cd "$(dirname "$0")/.."
 work=$(mktemp -d)
 trap 'rm -rf "$work"' EXIT
 cc -shared -o "$work/libforesight.so" -Wl,--whole-archive "$library" \
-  "$(dirname "$(rt doc)")/c/liblibc_c.a" -Wl,--no-whole-archive
+  -Wl,--no-whole-archive "$(dirname "$(rt doc)")/c/liblibc_c.a"
 export FORESIGHT_LIBRARY=$work/libforesight.so PYTHONDONTWRITEBYTECODE=1
 python3 oracle/mixed.py --runs "$runs"

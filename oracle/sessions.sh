@@ -7,6 +7,6 @@
 library=$(realpath "$1") folder=${2:+$(realpath "$2")} runs=${3:-1000}
 . "$(dirname "$0")/../tools/program.sh"
 cc -shared -o "$work/libforesight.so" -Wl,--whole-archive "$library" \
-  "$(dirname "$(rt doc)")/c/liblibc_c.a" -Wl,--no-whole-archive
+  -Wl,--no-whole-archive "$(dirname "$(rt doc)")/c/liblibc_c.a"
 export FORESIGHT_LIBRARY=$work/libforesight.so PYTHONDONTWRITEBYTECODE=1
 python3 oracle/sessions.py "$program" ${folder:+"$folder"} --runs "$runs"
