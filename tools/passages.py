@@ -3,8 +3,9 @@
 
 No paragraph, bullet or row of a table has more than 900 characters; a file that is named in back
 quotes, alone or in a command, is there, and so are the clauses that README.md names; README.md is
-a page of 120 lines and 1,500 words at most, and docs/ has 34,000; no document has the words of PLAIN. The pages of
-crates are documents too, and tools/crate_pages.py looks at what they name.
+a page of 120 lines and 1,500 words at most, and docs/ has 34,000; there are nine folders at the top
+at most; no document has the words of PLAIN. The pages of crates are documents too, and
+tools/crate_pages.py looks at what they name.
 """
 import glob
 import os
@@ -12,8 +13,9 @@ import re
 import sys
 
 import crate_pages
+import repository_counts
 
-LONGEST, LINES, WORDS, ALL_WORDS = 900, 120, 1500, 34000
+LONGEST, LINES, WORDS, ALL_WORDS, FOLDERS = 900, 120, 1500, 34000, 9
 USERS = ["README.md", "SECURITY.md", "CONTRIBUTING.md", "docs/TOUR.md", "docs/LANGUAGE.md",
          "docs/LIBRARY.md", "docs/PERFORMANCE.md", "docs/TESTING.md", "embedding/CALLS.md",
          "bench/HISTORY.md"]
@@ -113,6 +115,8 @@ def faults():
     words = sum(len(open(name, encoding="utf-8").read().split()) for name in glob.glob("docs/*.md"))
     if words > ALL_WORDS:
         found.append(f"docs/ has {words:,} words, more than {ALL_WORDS:,}")
+    if (folders := repository_counts.folders()) > FOLDERS:
+        found.append(f"there are {folders} folders at the top, more than {FOLDERS}")
     return found + walk_faults() + crate_pages.faults()
 
 

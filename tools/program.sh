@@ -1,4 +1,4 @@
-# Sourced by scripts of bench/, stress/ and oracle/: goes to the top of the repository, and sets
+# Sourced by scripts of bench/, tools/stress/ and oracle/: goes to the top of the repository, and sets
 # `program`, the program as `rt ci` leaves it, or another one, an unproved build say, that PROGRAM
 # names, and `work`, a folder of the script's own that is gone at its end.
 set -euo pipefail

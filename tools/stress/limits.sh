@@ -3,7 +3,7 @@
 # status 0, past it with the status and the line of that limit. Prints a line for each: the limit, the
 # command, seconds and peak memory (by GNU time) of the input at the limit, and how the one past it
 # ends. Ends with 1 where any of them ends otherwise.
-. "$(dirname "$0")/../tools/program.sh"
+. "$(dirname "$0")/../program.sh"
 
 python3 - "$program" <<'P'
 import re, subprocess, sys, tempfile, time

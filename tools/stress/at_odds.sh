@@ -3,7 +3,7 @@
 # word), and compares each output, byte for byte, with that of one caller: one key and 32 callers, the
 # size of a table between puts, and requests that declare a whole table for 10,000 calls while others
 # wait. Prints for each session the runs, those that differ, and the slowest in seconds.
-. "$(dirname "$0")/../tools/program.sh"
+. "$(dirname "$0")/../program.sh"
 
 runs=${1:-1000}
 {

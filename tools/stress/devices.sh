@@ -5,7 +5,7 @@
 # processor for 32 callers, and address space in steps, where it writes the whole text or ends with
 # status 3 and nothing written. A run that hasn't ended after a minute is killed and counts as wrong.
 # Prints a line for each; ends with 1 if any of them ends otherwise.
-. "$(dirname "$0")/../tools/program.sh"
+. "$(dirname "$0")/../program.sh"
 
 session=examples/many.session
 failed=0

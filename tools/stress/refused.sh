@@ -5,7 +5,7 @@
 # written; if a write fails, status 5 and the text up to that write. With reads and writes of one byte,
 # the whole text. A run that hasn't ended after a minute is killed and counts as wrong. Of several
 # clients the tickets may differ. Prints the counts by case; ends with 1 if any run ends otherwise.
-. "$(dirname "$0")/../tools/program.sh"
+. "$(dirname "$0")/../program.sh"
 
 cat > "$work/refuse.c" <<'C'
 #define _GNU_SOURCE

@@ -5,7 +5,7 @@
 # `serve`. An ending counts as documented where the status is one of docs/LANGUAGE.md, the error output
 # is empty or that status's one line, and nothing was written beside a refusal. Prints the number of
 # runs by command and line, a rule's places taken together, and ends with 1 if any ending is another.
-. "$(dirname "$0")/../tools/program.sh"
+. "$(dirname "$0")/../program.sh"
 
 python3 - "$program" "${1:-20261128}" <<'P'
 import collections, concurrent.futures, glob, os, random, re, subprocess, sys
