@@ -1,3 +1,4 @@
+pub mod Again
 pub mod Homes
 pub mod Unkept
 pub mod KeptFinishing

@@ -6,6 +6,7 @@ use Rattle.session_values.specs.declared.value.Value.{Value}
 use Rattle.symbolic_ops.specs.declared.symbol.Symbol.{Symbol}
 use Rattle.session_journal.specs.Journal.{begun, ended}
 use Rattle.session_hall.specs.declared.holding.Holding.{Holding}
+use Rattle.session_hall.specs.declared.stage.Stage.{Stage}
 use Rattle.session_hall.specs.declared.stage.Stage.TheVariants.{Idle, Serving, InFlight, Applied}
 use Rattle.session_hall.specs.HoldingCalls.{OfTicket}
 use Rattle.session_hall.specs.Holdings.{begun_at, entries_at, foresight_at, present_book}
@@ -44,6 +45,15 @@ module _ {S : Type 0} (p q : Holding S) where
   -- the operation in flight was
   abbrev pub CalledFlight : Value → Type 0
   CalledFlight v = OnFlight p.caller.stage (λ t op. CalledAt op v t)
+
+  -- what was admitted, in hand or in flight, was done on its shards with this reply
+  abbrev pub CalledFrom : Stage → Op → Value → Type 0
+  CalledFrom (Serving t) op v = CalledAt op v t
+  CalledFrom (InFlight t o) op v = CalledAt op v t
+  CalledFrom _ op v = ⊥
+
+  abbrev pub HasCalled : Op → Value → Type 0
+  HasCalled op v = CalledFrom p.caller.stage op v
 
   -- the list is the foresight
   pub record NarrowedAt (f : List Symbol) (t : ℕ) : Type 0 where

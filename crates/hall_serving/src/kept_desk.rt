@@ -6,9 +6,9 @@ ghost use Rattle.session_hall.specs.Names.{script_of};
 ghost use Rattle.hall_serving.specs.Desks.{IsServing, ticket_of};
 ghost use Rattle.hall_serving.specs.KeptDesks.{IsHoldingOfDesk, kept_desk_at};
 
-use crate::keeping::{give_back, keep};
-use crate::kept_calls::{admit_apart, apply_apart, declare, declare_at, end};
-use session_hall::{Hall, Holding, Stage, Waits, Worked};
+use crate::keeping::give_back;
+use crate::kept_calls::{call, declare, declare_at, end};
+use session_hall::{Hall, Holding, Stage, Waits};
 use session_journal::{Desk, Site, Tickets};
 use session_values::{NoMemory, Op, Reply, Value};
 use std::marker::Model;
@@ -17,11 +17,9 @@ use std::thread::Threads;
 use symbolic_ops::Foresight;
 use worker_gate::{Gate, Place};
 
-/// After so many operations that were entered in the book in hand it is given back, where a caller
-/// waits: between two operations of one ticket, and between two tickets.
-const MOST_IN_TICKET: u32 = 16_384;
-
-const MOST_AT_END: u32 = 512;
+/// After so many operations that were entered in the book in hand, or so many tickets without one
+/// that were ended, it is given back, if a caller waits: within a ticket as between two tickets.
+const MOST_IN_HAND: u32 = 512;
 
 /// A desk at which a caller of a hall serves its ticket, with the book in hand wherever its gate
 /// holds nobody and no older ticket delays it. It never wants memory.
@@ -118,19 +116,15 @@ impl<'a, S: Tickets + Drop, G: Gate> HoldingDesk<'a, S, G> {
         self.reply
     }
 
-    // Whether its gate may hold its caller within an operation.
-    fn is_held_within(&self) -> bool {
-        self.gate.may_hold(Place::Admitted(self.ticket))
-            || self.gate.may_hold(Place::Applied(self.ticket))
+    // Whether a caller waits and so many operations were entered, or tickets ended, that the book is
+    // to be given back.
+    fn is_to_be_left(&self) -> bool {
+        let most = self.holding.entered().max(self.holding.ended());
+        most >= MOST_IN_HAND && self.hall.is_wanted()
     }
 
-    // Whether a caller waits after so many operations in the book in hand.
-    fn is_wanted_after(&self, most: u32) -> bool {
-        self.hall.is_wanted() && self.holding.entered() >= most
-    }
-
-    // Gives the book back before this place, if its gate may hold its caller there or it is left
-    // to others.
+    // Gives the book back at this place, if it is left to others or the gate may hold its caller
+    // here.
     pub(crate) fn come_to(&mut self, place: Place, left: bool)
         requires quiet { self.old.desk.waiting ≡ None }
         ensures still { self.new ≡ self.old }
@@ -147,8 +141,11 @@ impl<'a, S: Tickets + Drop, G: Gate> HoldingDesk<'a, S, G> {
     {
         self.done = self.done.wrapping_add(1);
         let place = Place::Done(self.ticket, self.done);
-        let left = self.computes || self.is_wanted_after(MOST_IN_TICKET);
-        self.come_to(place, left);
+        let wanted = self.is_to_be_left();
+        self.come_to(place, self.computes || wanted);
+        if wanted {
+            self.hall.until_taken();
+        }
         place
     }
 }
@@ -161,20 +158,14 @@ impl<'a, S: Tickets + Drop, G: Gate> Desk for HoldingDesk<'a, S, G> {
     ghost at = { λ d. d.desk };
 
     fn call<R: Threads + Wait + Sync>(&mut self, rt: &R, op: Op) -> Result<Value, NoMemory> {
-        if !self.is_held_within() {
-            // With the book in hand, unless it is delayed or a shard of it is taken.
-            keep(rt, self.hall, self.holding, &mut self.waits);
-            if let Worked::Done(reply) = self.holding.work(self.hall, op) {
-                self.gate.pass(rt, Place::Admitted(self.ticket));
-                self.gate.pass(rt, Place::Applied(self.ticket));
-                return Ok(reply);
-            }
-        }
-        admit_apart(rt, self.hall, self.holding, op, &mut self.waits);
-        self.gate.pass(rt, Place::Admitted(self.ticket));
-        let reply = apply_apart(rt, self.hall, self.holding, &mut self.waits);
-        self.gate.pass(rt, Place::Applied(self.ticket));
-        Ok(reply)
+        Ok(call(
+            rt,
+            self.hall,
+            self.holding,
+            (self.gate, self.ticket),
+            op,
+            &mut self.waits,
+        ))
     }
 
     fn finish<R: Threads + Wait + Sync>(&mut self, rt: &R, next: &Foresight) {
@@ -215,7 +206,7 @@ impl<'a, S: Tickets + Drop, G: Gate> Desk for HoldingDesk<'a, S, G> {
         self.gate.pass(rt, ending);
         end(rt, self.hall, self.holding, reply, &mut self.waits);
         self.reply = Some(reply);
-        let left = self.is_wanted_after(MOST_AT_END);
+        let left = self.is_to_be_left() || self.hall.is_delaying();
         self.come_to(ended, left);
         self.gate.pass(rt, ended);
     }

@@ -51,6 +51,13 @@ pub fn serve_tickets<R: Threads + Wait + Sync, S: Serves + Drop, G: Gate, A: Aft
             give_back(crew.hall, holding);
         }
         after.after(crew.rt, ticket, reply);
+        if !holding.is_kept() {
+            if crew.hall.is_delaying() {
+                crew.hall.until_quiet();
+            } else if crew.hall.is_wanted() {
+                crew.hall.until_taken();
+            }
+        }
     }
     unreachable!()
 }

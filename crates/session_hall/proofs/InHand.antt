@@ -20,7 +20,7 @@ use Rattle.session_hall.specs.declared.holding.Holding.{Holding}
 use Rattle.session_hall.specs.declared.stage.Stage.{Stage}
 use Rattle.session_hall.specs.Callers.{book_in, book_of}
 use Rattle.session_hall.specs.Findings.{Finds}
-use Rattle.session_hall.specs.Holdings.{IsHoldingWith, IsKeeperIn, StandsKept, book_at, present_book}
+use Rattle.session_hall.specs.Holdings.{IsHoldingWith, IsKeeperIn, IsKept, StandsKept, book_at, present_book}
 use Rattle.session_hall.specs.Names.{HallId}
 use Rattle.session_hall.specs.Stages.{SeatOf, foresight_in}
 use Rattle.session_hall.proofs.Pairs.{zero_in}
@@ -41,6 +41,10 @@ turns_still {S} old b d xs s = (forth, back)
 -- what is so of the book in hand
 pub kept_keeper : {S : Type 0} (meaning : S → Meaning) (p : HallId) (script : S) (h : Holding S) (b : BookView S) → h.book ≡ Some b → IsHoldingWith meaning p script h.caller h.book → IsKeeperIn meaning p script h.caller b
 kept_keeper {S} meaning p script h b is k = let P : Option (BookView S) → Type 0 = λ o. IsHoldingWith meaning p script h.caller o in subst P is k
+
+pub kept_some : {S : Type 0} (o : Option (BookView S)) → IsKept o → (b : BookView S) × (o ≡ Some b)
+kept_some (Some b) k = (b, refl)
+kept_some None k = absurd k
 
 pub kept_book : {S : Type 0} (h : Holding S) (b : BookView S) → h.book ≡ Some b → present_book h ≡ b.book
 kept_book {S} h b is = ap (λ (o : Option (BookView S)). book_at o (book_of h.caller)) is

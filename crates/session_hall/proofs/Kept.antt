@@ -39,7 +39,24 @@ by_books {S} R h k o u e f x =
     let Q : Option (BookView S) → Type 0 = λ z. R h (record { caller = k.caller; book = z; ends = k.ends; entered = k.entered }) in
     subst Q (sym f) (subst P (sym e) (x h.ends h.entered k.ends k.entered))
 
+-- the same where the caller is known as another one
+pub by_books_as : {S : Type 0} (R : Holding S → Holding S → Type 0) (h k : Holding S)
+    (o u : Option (BookView S)) → h.book ≡ o → k.book ≡ u → (d : Caller S) → k.caller ≡ d
+    → Becomes R h.caller o d u → R h k
+by_books_as {S} R h k o u e f d same x =
+    let P : Caller S → Type 0 = λ z. Becomes R h.caller o z u in
+    by_books R h k o u e f (subst P (sym same) x)
+
 -- the same of the ticket that is served
+pub by_books_serving_as : {S : Type 0} (R : ℕ → Holding S → Holding S → Type 0) (h k : Holding S)
+    (o u : Option (BookView S)) → h.book ≡ o → k.book ≡ u → (d : Caller S) → k.caller ≡ d
+    → (st : Stage) → OnServing st (λ t. Becomes (R t) h.caller o d u) → OnServing st (λ t. R t h k)
+by_books_serving_as R h k o u e f d same (Serves t) x = by_books_as (R t) h k o u e f d same x
+by_books_serving_as R h k o u e f d same Idle x = x
+by_books_serving_as R h k o u e f d same Out x = x
+by_books_serving_as R h k o u e f d same (InFlight t op) x = x
+by_books_serving_as R h k o u e f d same (Applied t op v) x = x
+
 pub by_books_serving : {S : Type 0} (R : ℕ → Holding S → Holding S → Type 0) (h k : Holding S)
     (o u : Option (BookView S)) → h.book ≡ o → k.book ≡ u → (st : Stage)
     → OnServing st (λ t. Becomes (R t) h.caller o k.caller u) → OnServing st (λ t. R t h k)

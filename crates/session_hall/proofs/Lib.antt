@@ -30,6 +30,7 @@ pub mod EnteredInHand
 pub mod Kept
 pub mod KeptBegin
 pub mod KeptTickets
+pub mod KeptAdmits
 pub mod KeptTaking
 pub mod OneCall
 pub use Rattle.turn_board.proofs.Rows

@@ -30,7 +30,7 @@ use Rattle.session_hall.specs.declared.stage.Stage.{Stage}
 use Rattle.session_hall.specs.declared.stage.Stage.TheVariants.{Serving as Serves, Applied}
 use Rattle.session_hall.specs.Callers.{book_in, book_of}
 use Rattle.session_hall.specs.Calls.{MayCall}
-use Rattle.session_hall.specs.HoldingCalls.{BusyKept, ByPresent, DelayedKept, WorkedKept}
+use Rattle.session_hall.specs.HoldingCalls.{BusyKept, ByPresent, IsFreeKept, WorkedKept}
 use Rattle.session_hall.specs.Holdings.{IsHoldingWith, IsKeeperIn, book_at, foresight_at, present_book}
 use Rattle.session_hall.specs.OnShards.{AreHere, CanWorkFound, CanWorkHere, CanWorkIn, HasWorkedFound, HasWorkedIn, IsFound, IsMissing, TakesSet}
 use Rattle.session_hall.specs.Names.{HallId}
@@ -53,21 +53,12 @@ module _ {S : Type 0} (meaning : S → Meaning) (p : HallId) (script : S) (h : H
       let Q : Option (BookView S) → Type 0 = λ o. P o h.caller.stage in
       subst (P (Some b)) st (subst Q is may)
 
-  -- ---- an older open ticket delays it
-  several : (older : ℕ) (y : Symbol) → IsBlocker b.book t op older y → caller_count h.caller.seat ≢ 1
-  several older y z one =
-      let f : List Symbol = foresight_in (record_of b.book h.caller.number) in
-      let own : record_of b.book (caller h.caller.seat) ≡ Some (waiting t f) = taken.own_record meaning p script h.caller b k t st in
-      let near : z.caller < length b.book.records = within b.book.records z.caller z.serving z.is in
-      let e : z.caller ≡ caller h.caller.seat = omega (arith, near, within b.book.records (caller h.caller.seat) (waiting t f) own, taken.records_are meaning p script h.caller b k t st, one) in
-      let s : z.serving ≡ waiting t f = same_Some z.serving (waiting t f) (sym z.is ∙ ap (record_of b.book) e ∙ own) in
-      omega (arith, ap (λ (x : Serving). x.ticket) s, z.ticket, z.is_older)
-
-  pub delayed_kept : (older : ℕ) (y : Symbol) → IsBlocker b.book t op older y → OnServing h.caller.stage (DelayedKept (meaning script) h h op older y)
-  delayed_kept older y z =
-      let P : Stage → Type 0 = λ s. OnServing s (DelayedKept (meaning script) h h op older y) in
-      let B : Book → Type 0 = λ x. IsBlocker x t op older y in
-      subst P (sym st) (record { same = refl; blocker = subst B (sym (kept_book h b is)) z; several = several older y z })
+  -- nobody delays it
+  pub free_here : IsFreeKept h op → IsFree b.book t op
+  free_here free =
+      let P : Stage → Type 0 = λ s. OnServing s (λ u. IsFree (present_book h) u op) in
+      let F : Book → Type 0 = λ x. IsFree x t op in
+      subst F (kept_book h b is) (subst P st free)
 
   -- ---- its turns
   pub few : (p.shards ≤ 8) × (op.table ≤ 57)

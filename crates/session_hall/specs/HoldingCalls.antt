@@ -8,8 +8,10 @@ use Rattle.session_values.specs.Tables.{reply}
 use Rattle.symbolic_ops.specs.declared.symbol.Symbol.{Symbol}
 use Rattle.session_journal.specs.Journal.{begun, ended}
 use Rattle.session_journal.specs.Script.{Meaning}
-use Rattle.admission_book.specs.Book.{Book, IsFree, IsBlocker, after_begin}
-use Rattle.admission_book.specs.Book.{after_narrow, after_done, after_end}
+use Rattle.admission_book.specs.Book.{Book, IsFree, IsBlocker, after_admit, after_begin}
+use Rattle.admission_book.specs.Book.{after_delay, after_narrow, after_done, after_end}
+use Rattle.admission_book.specs.declared.admission.Admission.{Admission}
+use Rattle.admission_book.specs.declared.admission.Admission.TheVariants as admission
 use Rattle.turn_board.specs.Boards.{held, note, caller, caller_count}
 use Rattle.turn_board.specs.Boards.{given, lost, asks, givings, last_change}
 use Rattle.hall_rule.specs.Contents.{Content, tables_after}
@@ -19,7 +21,7 @@ use Rattle.session_hall.specs.declared.answers.Worked.TheVariants as worked
 use Rattle.session_hall.specs.declared.holding.Holding.{Holding}
 use Rattle.session_hall.specs.declared.stage.Stage.{Stage}
 use Rattle.session_hall.specs.declared.stage.Stage.TheVariants.{Idle, Serving as Serves}
-use Rattle.session_hall.specs.declared.stage.Stage.TheVariants.{Applied, Out}
+use Rattle.session_hall.specs.declared.stage.Stage.TheVariants.{InFlight, Applied, Out}
 use Rattle.session_hall.specs.Callers.{book_of}
 use Rattle.session_hall.specs.Calls.{IsBusy, MayFinishAt}
 use Rattle.session_hall.specs.Findings.{Finds, IsTiedWith}
@@ -43,6 +45,10 @@ IsQuiet _ = ⊥
 abbrev pub OfTicket : Stage → (ℕ → Type 0) → Type 0
 OfTicket (Serves t) P = P t
 OfTicket _ P = Unit {0}
+
+-- no older open ticket delays the operation of the ticket that is served
+abbrev pub IsFreeKept : {S : Type 0} → Holding S → Op → Type 0
+IsFreeKept h op = OnServing h.caller.stage (λ t. IsFree (present_book h) t op)
 
 -- the operation that was done in hand may be entered, and the list take the place of the foresight
 abbrev pub MayEnter : {S : Type 0} → Meaning → Holding S → List Symbol → Type 0
@@ -129,6 +135,51 @@ module _ {S : Type 0} (m : Meaning) (p q : Holding S) where
     pub entries_still : entries_at q t ≡ entries_at p t
     pub begun_still : begun_at q ≡ begun_at p
 
+  -- ---- admit
+  -- no older open ticket delays it: nothing changed
+  pub record AdmittedKept (op : Op) (t : ℕ) : Type 0 where
+    pub hand : SameHand
+    pub still : q.book ≡ p.book
+    pub free : IsFree (present_book q) t op
+    pub stage_is : q.caller.stage ≡ Serves t
+    pub foresight_still : foresight_at q ≡ foresight_at p
+    pub entries_still : entries_at q t ≡ entries_at p t
+    pub begun_still : begun_at q ≡ begun_at p
+
+  -- an older open ticket delays it. If that is the operation's first delay, it is noted in the
+  -- journal in hand
+  pub record DelayedKept (op : Op) (older : ℕ) (y : Symbol) (t : ℕ) : Type 0 where
+    pub hand : SameHand
+    pub noted : present_book q ≡ after_delay (present_book p) t op older y
+    pub blocker : IsBlocker (present_book p) t op older y
+    pub several : caller_count p.caller.seat ≢ 1
+    pub stage_is : q.caller.stage ≡ Serves t
+    pub foresight_still : foresight_at q ≡ foresight_at p
+    pub entries_still : entries_at q t ≡ entries_at p t
+    pub begun_still : begun_at q ≡ begun_at p
+
+  abbrev pub AdmitsKept : Op → Admission → ℕ → Type 0
+  AdmitsKept op admission.Admitted t = AdmittedKept op t
+  AdmitsKept op (admission.Delayed older y) t = DelayedKept op older y t
+
+  -- ---- launch
+  -- in one step the caller put the operation in flight and gave back the book in hand, with all
+  -- shards that it had: that is its note now
+  pub record LaunchedKept (op : Op) (t : ℕ) : Type 0 where
+    pub none : q.book ≡ None
+    pub noted : book_of q.caller ≡ after_admit (present_book p) (caller p.caller.seat)
+        (waiting t (foresight_at p)) op
+    pub stage_is : q.caller.stage ≡ InFlight t op
+    pub caller_still : caller q.caller.seat ≡ caller p.caller.seat
+    pub given_more : given q.caller.seat ≡ given p.caller.seat + 1
+    pub lost_still : (u : ℕ) → lost q.caller.seat u ≡ lost p.caller.seat u
+    pub asks_still : asks q.caller.seat ≡ asks p.caller.seat
+    pub givings_more : givings q.caller.seat ≡ givings p.caller.seat + 1
+    pub holds_none : (u : ℕ) → held q.caller.seat u ≡ None
+    pub foresight_still : foresight_at q ≡ foresight_at p
+    pub entries_still : entries_at q t ≡ entries_at p t
+    pub begun_still : begun_at q ≡ begun_at p
+
   -- ---- work
   -- the operation was done on its shards in hand: v is its reply after the journal in hand, and no
   -- older open ticket is against it. Turns that were taken for it are of it
@@ -150,12 +201,6 @@ module _ {S : Type 0} (m : Meaning) (p q : Holding S) where
     pub new_of_operation : (j : ℕ) (x : Content S) → held q.caller.seat (suc j) ≡ Some x
         → held p.caller.seat (suc j) ≡ None → IsTurnOf shards op j
 
-  -- an older open ticket delays it: nothing changed
-  pub record DelayedKept (op : Op) (older : ℕ) (y : Symbol) (t : ℕ) : Type 0 where
-    pub same : q ≡ p
-    pub blocker : IsBlocker (present_book p) t op older y
-    pub several : caller_count p.caller.seat ≢ 1
-
   -- one of the operation's turns that aren't in hand was found taken: nothing changed but what the
   -- seat counts
   pub record BusyKept (shards : ℕ) (op : Op) (u : ℕ) : Type 0 where
@@ -168,7 +213,6 @@ module _ {S : Type 0} (m : Meaning) (p q : Holding S) where
 
   abbrev pub WorksKept : ℕ → Op → Worked → Type 0
   WorksKept shards op (worked.Done v) = OnServing p.caller.stage (WorkedKept shards op v)
-  WorksKept shards op (worked.Delayed older y) = OnServing p.caller.stage (DelayedKept op older y)
   WorksKept shards op (worked.Busy u) = BusyKept shards op u
 
   -- ---- enter

@@ -60,14 +60,5 @@ pub enum Ending {
 #[derive(Clone, Copy, Debug, PartialEq, Eq)]
 pub enum Worked {
     Done(Value),
-    /// An older open ticket may still call an operation with which it doesn't commute.
-    Delayed {
-        /// The least such ticket.
-        older: u32,
-        /// The first symbol of its foresight that stands for such an operation.
-        symbol: Symbol,
-    },
-    Busy {
-        turn: u32,
-    },
+    Busy { turn: u32 },
 }

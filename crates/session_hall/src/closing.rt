@@ -67,6 +67,7 @@ fn values_of<S: Tickets + Drop>(hall: Hall<S>, callers: Callers<S>) -> (Vec<Held
     let Hall {
         ends: _,
         wanted: _,
+        delayed: _,
         board,
         script: _,
         sizes: _,

@@ -10,7 +10,18 @@ use shard_tables::Part;
 use std::snapshot::Snapshot;
 use std::sync::Mutex;
 use std::sync::atomic::{AtomicU32, Ordering};
+use std::thread;
 use turn_board::{Board, Seat};
+
+/// How often a caller that has given the book back to another one looks whether it is taken.
+const LOOKS: u32 = 2_000;
+
+/// After how many looks its thread is yielded.
+const LOOKS_A_YIELD: u32 = 32;
+
+/// In how many of these looks nobody may wait: who has seen the book free waits no more, and takes
+/// it next.
+const LOOKS_UNWANTED: u32 = 64;
 
 /// Empty lists with room for the seats and the shards of a hall.
 #[derive(Drop)]
@@ -46,6 +57,8 @@ pub struct Hall<S: Tickets + Drop> {
     pub(crate) ends: AtomicU32,
     /// How many callers wait for a turn that another one holds. Nothing is claimed of it.
     pub(crate) wanted: AtomicU32,
+    /// How many callers wait since an older ticket delays them. Nothing is claimed of it.
+    pub(crate) delayed: AtomicU32,
     // What `close` fills. A lock lets threads share the hall where S is only Send; no thread takes
     // it.
     pub(crate) kept: Mutex<Spare<Seat<Held<S>, HallRule<S>>, Part>>,
@@ -62,6 +75,42 @@ impl<S: Tickets + Drop> Hall<S> {
     /// Whether a caller waits for a turn that another one holds. Nothing is claimed of it.
     pub fn is_wanted(&self) -> bool {
         self.wanted.load(Ordering::SeqCst) != 0
+    }
+
+    /// Whether an older ticket delays a caller, which waits for its end. Nothing is claimed of it.
+    pub fn is_delaying(&self) -> bool {
+        self.delayed.load(Ordering::SeqCst) != 0
+    }
+
+    /// Waits until nobody waits for the book or for a ticket's end, but no longer than a number of
+    /// looks. Nothing is claimed of it.
+    pub fn until_quiet(&self) {
+        for look in 0..LOOKS {
+            if !self.is_delaying() && !self.is_wanted() {
+                return;
+            }
+            if look % LOOKS_A_YIELD == LOOKS_A_YIELD - 1 {
+                thread::yield_now();
+            }
+        }
+    }
+
+    /// Waits, where a caller waits for the book that this one has given back, until it is taken, but
+    /// no longer than a number of looks: a thread that has no processor doesn't stop the others.
+    /// Nothing is claimed of it.
+    pub fn until_taken(&self) {
+        let mut unwanted = 0;
+        for look in 0..LOOKS {
+            if self.board.look() & 1 != 0 || unwanted > LOOKS_UNWANTED {
+                return;
+            }
+            if !self.is_wanted() {
+                unwanted += 1;
+            }
+            if look % LOOKS_A_YIELD == LOOKS_A_YIELD - 1 {
+                thread::yield_now();
+            }
+        }
     }
 
     /// Whether no ticket may be left to begin, of so many: fewer than there are callers aren't

@@ -70,6 +70,11 @@ impl<S: Tickets + Drop> Holding<S> {
         self.entered
     }
 
+    /// How many tickets were ended since the book was taken. Nothing is claimed of it.
+    pub fn ended(&self) -> u32 {
+        self.ends
+    }
+
     /// Takes the book, if no other caller has it, and keeps it.
     pub fn hold(&mut self, hall: &Hall<S>) -> bool
         requires holding { IsHoldingOf S.meaning hall.now self.old }
@@ -118,6 +123,14 @@ impl<S: Tickets + Drop> Holding<S> {
             unreachable!();
         };
         self.caller.give_book(hall, book);
+        self.count_ends(hall);
+    }
+
+    // Tells the hall how many tickets were ended in the book that was given back.
+    pub(crate) fn count_ends(&mut self, hall: &Hall<S>)
+        ensures caller { self.new.caller ≡ self.old.caller }
+        ensures book { self.new.book ≡ self.old.book }
+    {
         if self.ends > 0 {
             hall.ends.fetch_add(self.ends, Ordering::SeqCst);
             self.ends = 0;

@@ -3,12 +3,13 @@
 
 ghost use Rattle.std.specs.Prelude.{◌≡◌, Some, None, length};
 ghost use Rattle.session_journal.specs.Script.{HasSite, declared_with};
+ghost use Rattle.admission_book.specs.Book.{IsFree};
 ghost use Rattle.admission_book.specs.Methods.{Judges};
 ghost use Rattle.session_hall.specs.declared.stage.Stage.TheVariants.{Serving};
 ghost use Rattle.session_hall.specs.Callers.{IsCallerOf};
-ghost use Rattle.session_hall.specs.Calls.{MayAnswer, MayDeclare};
-ghost use Rattle.session_hall.specs.HoldingCalls.{BeginsKept, DeclaredKept};
-ghost use Rattle.session_hall.specs.HoldingCalls.{EndedKept, GaveKept, IsQuiet};
+ghost use Rattle.session_hall.specs.Calls.{MayAnswer, MayCall, MayDeclare};
+ghost use Rattle.session_hall.specs.HoldingCalls.{AdmitsKept, BeginsKept, DeclaredKept};
+ghost use Rattle.session_hall.specs.HoldingCalls.{EndedKept, GaveKept, IsQuiet, LaunchedKept};
 ghost use Rattle.session_hall.specs.InHand.{AsksBook, Becomes, IsKeeperOf, OnBook, list_in};
 ghost use Rattle.session_hall.specs.Names.{script_of};
 ghost use Rattle.session_hall.specs.Stages.{IsBetween, OnServing};
@@ -44,6 +45,49 @@ impl<S: Tickets + Drop> Caller<S> {
     {
         hall.board
             .give_all(&mut self.seat, Held::Register(book), &mut self.hands);
+    }
+
+    // Whether an older open ticket delays an operation, by the book in hand. The first such answer
+    // about an operation is noted in it.
+    #[inline(always)]
+    pub(crate) fn admit_in(&self, hall: &Hall<S>, book: &mut Book<S>, op: Op) -> Admission
+        requires keeper { IsKeeperOf S.meaning hall.now self.now book.old }
+        requires may { OnBook (S.meaning (script_of hall.now)) self.now book.old
+            (MayCall (list_in self.now book.old) op) }
+        ensures keeper { IsKeeperOf S.meaning hall.now self.now book.new }
+        ensures admits { OnServing self.now.stage (λ t. Becomes
+            (λ h k. AdmitsKept (S.meaning (script_of hall.now)) h k op result t)
+            self.now (Some book.old) self.now (Some book.new)) }
+    {
+        let t = serving(&self.stage);
+        match self.judge_in(hall, book, t, &op) {
+            Admission::Admitted => Admission::Admitted,
+            Admission::Delayed { .. } => book.admit(t, op),
+        }
+    }
+
+    // Puts an operation that nobody delays in flight, and gives back the book in hand, and with it
+    // all shards that it took, in one step.
+    pub(crate) fn launch_in(&mut self, hall: &Hall<S>, mut book: Book<S>, op: Op)
+        requires keeper { IsKeeperOf S.meaning hall.now self.old book }
+        requires may { OnBook (S.meaning (script_of hall.now)) self.old book
+            (MayCall (list_in self.old book) op) }
+        requires free { OnBook (S.meaning (script_of hall.now)) self.old book
+            (λ m b t. IsFree b t op) }
+        ensures number { self.new.number ≡ self.old.number }
+        ensures caller { IsCallerOf S.meaning hall.now self.new }
+        ensures launched { OnServing self.old.stage (λ t. Becomes
+            (λ h k. LaunchedKept (S.meaning (script_of hall.now)) h k op t)
+            self.old (Some book) self.new None) }
+    {
+        let t = serving(&self.stage);
+        match book.admit(t, op) {
+            Admission::Admitted => {}
+            Admission::Delayed { .. } => unreachable!(),
+        }
+        hall.board
+            .give_all(&mut self.seat, Held::Register(book), &mut self.hands);
+        self.stage = Stage::InFlight(t, op);
     }
 
     // Begins the next ticket, or tells that all are begun.

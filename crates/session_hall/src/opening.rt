@@ -132,6 +132,7 @@ impl<S: Script + Drop> Hall<S> {
         let hall = Hall {
             ends: AtomicU32::new(0),
             wanted: AtomicU32::new(0),
+            delayed: AtomicU32::new(0),
             board,
             script: copy,
             sizes,

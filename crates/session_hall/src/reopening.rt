@@ -216,6 +216,7 @@ fn over<S: Tickets + Drop>(
             let hall = Hall {
                 ends: AtomicU32::new(0),
                 wanted: AtomicU32::new(0),
+                delayed: AtomicU32::new(0),
                 board,
                 script: copy,
                 sizes,

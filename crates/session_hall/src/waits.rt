@@ -54,19 +54,21 @@ impl Waits {
         self.count = self.count.saturating_add(1);
     }
 
-    // Notes how often a ticket was ended, before a try.
-    pub(crate) fn note<S: Tickets + Drop>(&mut self, hall: &Hall<S>) {
+    /// Notes how often a ticket was ended, before a try.
+    pub fn note<S: Tickets + Drop>(&mut self, hall: &Hall<S>) {
         self.ends = hall.ends.load(Ordering::SeqCst);
     }
 
-    // Waits after a delay, no longer than until a ticket is ended.
-    pub(crate) fn delayed<S: Tickets + Drop>(&mut self, hall: &Hall<S>) {
+    /// Waits after a delay, no longer than until a ticket is ended.
+    pub fn delayed<S: Tickets + Drop>(&mut self, hall: &Hall<S>) {
+        hall.delayed.fetch_add(1, Ordering::SeqCst);
         for _ in 0..1u32 << self.round.min(DELAY_DOUBLINGS) {
             if hall.ends.load(Ordering::SeqCst) != self.ends {
                 break;
             }
             thread::yield_now();
         }
+        hall.delayed.fetch_sub(1, Ordering::SeqCst);
         self.waited();
     }
 
