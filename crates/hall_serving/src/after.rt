@@ -2,7 +2,10 @@
 
 ghost use Rattle.std.specs.Prelude.{◌≡◌, ℕ, List, Option, Some, None, slice_get};
 ghost use Rattle.session_values.specs.declared.reply.Reply.{Reply};
+ghost use Rattle.hall_serving.specs.KeptJobs.{IsLastBegun};
 
+use session_hall::Holding;
+use session_journal::Tickets;
 use session_values::Reply;
 use std::sync::Wait;
 
@@ -22,8 +25,16 @@ pub trait AfterEnd {
         false
     }
 
-    /// Is given the reply of a ticket.
-    fn after<R: Wait>(&mut self, rt: &R, ticket: u32, reply: Reply)
+    /// Is given the reply of the ticket that the holding's caller has begun last: it has begun no
+    /// other one since.
+    fn after<R: Wait, S: Tickets + Drop>(
+        &mut self,
+        rt: &R,
+        holding: &Holding<S>,
+        ticket: u32,
+        reply: Reply,
+    )
+        requires last { IsLastBegun holding.now ticket }
         requires takes { (replies : List Reply) × Takes replies self.old
             × (slice_get replies ticket ≡ Some reply) }
         ensures takes { (replies : List Reply) → Takes replies self.old
@@ -47,7 +58,13 @@ impl AfterEnd for GoesOn {
 
     ghost Given = { λ g t h. Unit {0} };
 
-    fn after<R: Wait>(&mut self, _rt: &R, _ticket: u32, _reply: Reply) {}
+    fn after<R: Wait, S: Tickets + Drop>(
+        &mut self,
+        _rt: &R,
+        _holding: &Holding<S>,
+        _ticket: u32,
+        _reply: Reply,
+    ) {}
 
     fn meanwhile<R: Wait>(&mut self, _rt: &R) {}
 }

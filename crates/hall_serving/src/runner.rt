@@ -22,10 +22,10 @@ use std::sync::Wait;
 use std::thread::Threads;
 use worker_gate::Gate;
 
-/// Serves tickets until all are begun. After each end it gives the reply to `after`, before it
-/// begins another ticket; the book isn't kept during that if it may take long and another caller
-/// waits for the book. While this caller waits for it, `after` does what it does meanwhile. At the
-/// end the caller is out, and the book isn't in hand.
+/// Serves tickets until all are begun. After each end it gives the reply to `after`, which asks
+/// that no other ticket is begun by then; the book isn't kept during that if it may take long and
+/// another caller waits for the book. While this caller waits for it, `after` does what it does
+/// meanwhile. At the end the caller is out, and the book isn't in hand.
 pub fn serve_tickets<R: Threads + Wait + Sync, S: Serves + Drop, G: Gate, A: AfterEnd>(
     crew: Crew<'_, R, S, G>,
     holding: &mut Holding<S>,
@@ -50,7 +50,7 @@ pub fn serve_tickets<R: Threads + Wait + Sync, S: Serves + Drop, G: Gate, A: Aft
         if after.takes_long() && crew.hall.is_wanted() {
             give_back(crew.hall, holding);
         }
-        after.after(crew.rt, ticket, reply);
+        after.after(crew.rt, holding, ticket, reply);
     }
     unreachable!()
 }

@@ -6,6 +6,8 @@ use byte_ends::Sink;
 use hall_serving::AfterEnd;
 use reply_lane::{End, Lane};
 use reply_sheet::write_ready;
+use session_hall::Holding;
+use session_journal::Tickets;
 use session_values::{Names, Reply};
 use std::sync::Wait;
 
@@ -30,7 +32,13 @@ impl<'a, O: Sink> AfterEnd for Writing<'a, O> {
         true
     }
 
-    fn after<R: Wait>(&mut self, rt: &R, ticket: u32, reply: Reply) {
+    fn after<R: Wait, S: Tickets + Drop>(
+        &mut self,
+        rt: &R,
+        _holding: &Holding<S>,
+        ticket: u32,
+        reply: Reply,
+    ) {
         self.sheet.pending.keep(ticket, reply);
         self.meanwhile(rt);
     }

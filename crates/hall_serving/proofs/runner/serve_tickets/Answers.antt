@@ -4,6 +4,17 @@ use Rattle.hall_serving.proofs.Running.{one_given, then_waited}
 use Rattle.hall_serving.proofs.runner.serve_tickets.Goals.{then-takes_long+then-is_wanted, else-takes_long}
 use Rattle.hall_serving.proofs.runner.serve_tickets.Goals as goal
 
+-- whoever has the book then, the ticket is the last that was begun
+pub after-requires-clause-last : goal.after-requires-clause-last
+after-requires-clause-last g c =
+    let p = c.serve_next_kept.new.holding in
+    let q = c.if-takes_long.holding in
+    let left : begun_at q ≡ begun_at p = elim c.if-takes_long.branch [ then-takes_long+then-is_wanted w ↦ search rules | else-takes_long w ↦ search rules ] in
+    record {
+      before = begun_at c.hold_meanwhile.new.holding;
+      begun_is = left ∙ c.in-Some-serve_next_kept.ensures.served.begun_more;
+    }
+
 pub loop-preserved : goal.loop-preserved
 loop-preserved g c =
     let t = c.in-Some-serve_next_kept.ticket in
