@@ -32,6 +32,13 @@ impl<'a> AfterEnd for Offering<'a> {
 
     ghost Given = { λ o t p. HasOfferedAt o t p };
 
+    // A full lane is waited for some 0.2 milliseconds, and then never again.
+    ghost IsLong = { λ o. ⊥ };
+
+    fn takes_long(&self) -> bool {
+        false
+    }
+
     fn after<R: Wait, S: Tickets + Drop>(
         &mut self,
         rt: &R,
@@ -45,7 +52,7 @@ impl<'a> AfterEnd for Offering<'a> {
         }
     }
 
-    fn meanwhile<R: Wait>(&mut self, _rt: &R) {}
+    fn meanwhile<R: Wait, S: Tickets + Drop>(&mut self, _rt: &R, _holding: &Holding<S>) {}
 }
 
 // Offers the message, and again so many times at most as long as the lane is full: a failed attempt
