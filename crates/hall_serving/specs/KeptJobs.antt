@@ -31,6 +31,11 @@ abbrev pub ServesNextKept : {S : Type 0} → List Reply → Holding S → Holdin
 ServesNextKept replies p q None = HasFoundAll p q
 ServesNextKept replies p q (Some x) = HasServedKept replies p q x.0 x.1
 
+-- the ticket is the last that the holding's caller has begun
+pub record IsLastBegun {S : Type 0} (h : Holding S) (t : ℕ) : Type 0 where
+  pub before : List ℕ
+  pub begun_is : begun_at h ≡ before ++ t ∷ []
+
 -- the tickets of a list of steps, of which some are of none
 abbrev pub tickets_of : List (Option ℕ) → List ℕ
 tickets_of steps = filter_map (λ x. x) steps

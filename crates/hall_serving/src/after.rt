@@ -1,8 +1,12 @@
 // What is done after a ticket's end.
 
+ghost use Rattle.std.specs.Bool.{Decides};
 ghost use Rattle.std.specs.Prelude.{◌≡◌, ℕ, List, Option, Some, None, slice_get};
 ghost use Rattle.session_values.specs.declared.reply.Reply.{Reply};
+ghost use Rattle.hall_serving.specs.KeptJobs.{IsLastBegun};
 
+use session_hall::Holding;
+use session_journal::Tickets;
 use session_values::Reply;
 use std::sync::Wait;
 
@@ -16,14 +20,24 @@ pub trait AfterEnd {
     /// it did what it does meanwhile.
     ghost Given: { Self → Option ℕ → Self → Type 0 };
 
-    /// Whether it may take long. Where somebody waits for the book, it isn't kept meanwhile.
-    /// Nothing is claimed of it.
-    fn takes_long(&self) -> bool {
-        false
-    }
+    /// What it does with a reply, or meanwhile, may take long.
+    ghost IsLong: { Self → Type 0 };
 
-    /// Is given the reply of a ticket.
-    fn after<R: Wait>(&mut self, rt: &R, ticket: u32, reply: Reply)
+    /// Whether it may take long: the book isn't in hand then.
+    fn takes_long(&self) -> bool
+        ensures { Decides result (IsLong self.now) };
+
+    /// Is given the reply of the ticket that the holding's caller has begun last: it has begun no
+    /// other one since.
+    fn after<R: Wait, S: Tickets + Drop>(
+        &mut self,
+        rt: &R,
+        holding: &Holding<S>,
+        ticket: u32,
+        reply: Reply,
+    )
+        requires last { IsLastBegun holding.now ticket }
+        requires unkept { IsLong self.old → holding.now.book ≡ None }
         requires takes { (replies : List Reply) × Takes replies self.old
             × (slice_get replies ticket ≡ Some reply) }
         ensures takes { (replies : List Reply) → Takes replies self.old
@@ -31,7 +45,8 @@ pub trait AfterEnd {
         ensures given { Given self.old (Some ticket) self.new };
 
     /// Does what can be done without a reply of its own caller.
-    fn meanwhile<R: Wait>(&mut self, rt: &R)
+    fn meanwhile<R: Wait, S: Tickets + Drop>(&mut self, rt: &R, holding: &Holding<S>)
+        requires unkept { IsLong self.old → holding.now.book ≡ None }
         requires takes { (replies : List Reply) × Takes replies self.old }
         ensures takes { (replies : List Reply) → Takes replies self.old
             → Takes replies self.new }
@@ -47,7 +62,19 @@ impl AfterEnd for GoesOn {
 
     ghost Given = { λ g t h. Unit {0} };
 
-    fn after<R: Wait>(&mut self, _rt: &R, _ticket: u32, _reply: Reply) {}
+    ghost IsLong = { λ g. ⊥ };
 
-    fn meanwhile<R: Wait>(&mut self, _rt: &R) {}
+    fn takes_long(&self) -> bool {
+        false
+    }
+
+    fn after<R: Wait, S: Tickets + Drop>(
+        &mut self,
+        _rt: &R,
+        _holding: &Holding<S>,
+        _ticket: u32,
+        _reply: Reply,
+    ) {}
+
+    fn meanwhile<R: Wait, S: Tickets + Drop>(&mut self, _rt: &R, _holding: &Holding<S>) {}
 }

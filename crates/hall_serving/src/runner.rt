@@ -22,10 +22,10 @@ use std::sync::Wait;
 use std::thread::Threads;
 use worker_gate::Gate;
 
-/// Serves tickets until all are begun. After each end it gives the reply to `after`, before it
-/// begins another ticket; the book isn't kept during that if it may take long and another caller
-/// waits for the book. While this caller waits for it, `after` does what it does meanwhile. At the
-/// end the caller is out, and the book isn't in hand.
+/// Serves tickets until all are begun. After each end it gives the reply to `after`, which asks
+/// that no other ticket is begun by then, and that the book isn't in hand if that may take long.
+/// While this caller waits for the book, `after` does what it does meanwhile. At the end the caller
+/// is out, and the book isn't in hand.
 pub fn serve_tickets<R: Threads + Wait + Sync, S: Serves + Drop, G: Gate, A: AfterEnd>(
     crew: Crew<'_, R, S, G>,
     holding: &mut Holding<S>,
@@ -47,16 +47,12 @@ pub fn serve_tickets<R: Threads + Wait + Sync, S: Serves + Drop, G: Gate, A: Aft
         let Some((ticket, reply)) = serve_next_kept(crew, holding, scratch, &mut pause) else {
             return;
         };
-        if after.takes_long() && crew.hall.is_wanted() {
+        if after.takes_long() {
             give_back(crew.hall, holding);
         }
-        after.after(crew.rt, ticket, reply);
+        after.after(crew.rt, holding, ticket, reply);
         if !holding.is_kept() {
-            if crew.hall.is_delaying() {
-                crew.hall.until_quiet();
-            } else if crew.hall.is_wanted() {
-                crew.hall.until_taken();
-            }
+            crew.hall.give_way();
         }
     }
     unreachable!()
@@ -88,7 +84,7 @@ fn hold_meanwhile<R: Threads + Wait + Sync, S: Serves + Drop, G: Gate, A: AfterE
         if holding.hold(crew.hall) {
             return;
         }
-        after.meanwhile(crew.rt);
+        after.meanwhile(crew.rt, holding);
         waits.until_free(crew.hall, 0);
     }
     unreachable!()

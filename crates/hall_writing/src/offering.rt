@@ -5,6 +5,8 @@ ghost use Rattle.reply_lane.specs.Lanes.{IsSpoken, Offered};
 
 use hall_serving::AfterEnd;
 use reply_lane::{End, Lane, Spoken};
+use session_hall::Holding;
+use session_journal::Tickets;
 use session_values::Reply;
 use std::sync::Wait;
 
@@ -30,14 +32,27 @@ impl<'a> AfterEnd for Offering<'a> {
 
     ghost Given = { λ o t p. HasOfferedAt o t p };
 
-    fn after<R: Wait>(&mut self, rt: &R, ticket: u32, reply: Reply) {
+    // A full lane is waited for some 0.2 milliseconds, and then never again.
+    ghost IsLong = { λ o. ⊥ };
+
+    fn takes_long(&self) -> bool {
+        false
+    }
+
+    fn after<R: Wait, S: Tickets + Drop>(
+        &mut self,
+        rt: &R,
+        _holding: &Holding<S>,
+        ticket: u32,
+        reply: Reply,
+    ) {
         let message = Spoken { ticket, reply };
         if !offer_patiently(rt, self.lane, self.end, &message, self.patience) {
             self.patience = 0;
         }
     }
 
-    fn meanwhile<R: Wait>(&mut self, _rt: &R) {}
+    fn meanwhile<R: Wait, S: Tickets + Drop>(&mut self, _rt: &R, _holding: &Holding<S>) {}
 }
 
 // Offers the message, and again so many times at most as long as the lane is full: a failed attempt

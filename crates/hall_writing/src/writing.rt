@@ -6,6 +6,8 @@ use byte_ends::Sink;
 use hall_serving::AfterEnd;
 use reply_lane::{End, Lane};
 use reply_sheet::write_ready;
+use session_hall::Holding;
+use session_journal::Tickets;
 use session_values::{Names, Reply};
 use std::sync::Wait;
 
@@ -20,22 +22,32 @@ pub(crate) struct Writing<'a, O: Sink> {
 }
 
 impl<'a, O: Sink> AfterEnd for Writing<'a, O> {
+    ghost use Rattle.std.specs.Prelude.{◌≡◌, false};
     ghost use Rattle.hall_writing.specs.Steps.{HasWrittenOne, MayWrite};
 
     ghost Takes = { λ replies w. MayWrite replies w };
 
     ghost Given = { λ w t x. HasWrittenOne O.held O.faults w t x };
 
+    // The output may be blocked. With one caller nobody waits for the book.
+    ghost IsLong = { λ w. w.sheet.now.alone ≡ false };
+
     fn takes_long(&self) -> bool {
-        true
+        !self.sheet.alone
     }
 
-    fn after<R: Wait>(&mut self, rt: &R, ticket: u32, reply: Reply) {
+    fn after<R: Wait, S: Tickets + Drop>(
+        &mut self,
+        rt: &R,
+        holding: &Holding<S>,
+        ticket: u32,
+        reply: Reply,
+    ) {
         self.sheet.pending.keep(ticket, reply);
-        self.meanwhile(rt);
+        self.meanwhile(rt, holding);
     }
 
-    fn meanwhile<R: Wait>(&mut self, rt: &R) {
+    fn meanwhile<R: Wait, S: Tickets + Drop>(&mut self, rt: &R, _holding: &Holding<S>) {
         let sheet = &mut *self.sheet;
         take_all(rt, self.lane, self.end, sheet.alone, &mut sheet.pending);
         // After a fault nothing more is written.

@@ -82,9 +82,19 @@ impl<S: Tickets + Drop> Hall<S> {
         self.delayed.load(Ordering::SeqCst) != 0
     }
 
-    /// Waits until nobody waits for the book or for a ticket's end, but no longer than a number of
-    /// looks. Nothing is claimed of it.
-    pub fn until_quiet(&self) {
+    /// Lets the other callers go first that wait for an older ticket, or else one that waits for the
+    /// book that this caller has given back. Nothing is claimed of it.
+    pub fn give_way(&self) {
+        if self.is_delaying() {
+            self.until_quiet();
+        } else if self.is_wanted() {
+            self.until_taken();
+        }
+    }
+
+    // Waits until nobody waits for the book or for a ticket's end, but no longer than a number of
+    // looks.
+    fn until_quiet(&self) {
         for look in 0..LOOKS {
             if !self.is_delaying() && !self.is_wanted() {
                 return;

@@ -1,8 +1,26 @@
 use Rattle.std.proofs.Common.{rules, ◌≡◌, ◌∙◌}
 use Rattle.session_hall.specs.Holdings.{StaysHolding, begun_at}
 use Rattle.hall_serving.proofs.Running.{one_given, then_waited}
-use Rattle.hall_serving.proofs.runner.serve_tickets.Goals.{then-takes_long+then-is_wanted, else-takes_long}
+use Rattle.hall_serving.proofs.runner.serve_tickets.Goals.{then-takes_long, else-takes_long}
 use Rattle.hall_serving.proofs.runner.serve_tickets.Goals as goal
+
+-- whoever has the book then, the ticket is the last that was begun
+pub after-requires-clause-last : goal.after-requires-clause-last
+after-requires-clause-last g c =
+    let p = c.serve_next_kept.new.holding in
+    let q = c.if-takes_long.holding in
+    let left : begun_at q ≡ begun_at p = elim c.if-takes_long.branch [ then-takes_long w ↦ search rules | else-takes_long w ↦ search rules ] in
+    record {
+      before = begun_at c.hold_meanwhile.new.holding;
+      begun_is = left ∙ c.in-Some-serve_next_kept.ensures.served.begun_more;
+    }
+
+-- and whatever may take long finds the book given back
+pub after-requires-clause-unkept : goal.after-requires-clause-unkept
+after-requires-clause-unkept g c long = elim c.if-takes_long.branch [
+  | then-takes_long w ↦ search rules
+  | else-takes_long w ↦ search rules
+]
 
 pub loop-preserved : goal.loop-preserved
 loop-preserved g c =
@@ -12,7 +30,7 @@ loop-preserved g c =
     let waited = then_waited g.A.AfterEnd.Given c.args.holding.now c.loop.holding c.hold_meanwhile.new.holding c.args.after.now c.loop.after c.hold_meanwhile.new.after
     c.loop.invariant.given c.hold_meanwhile.ensures.still.begun_still c.hold_meanwhile.ensures.waited in
     let left : StaysHolding g.S.Tickets.meaning c.args.crew.hall.now p q × (q.caller.stage ≡ p.caller.stage) × (begun_at q ≡ begun_at p) =
-    elim c.if-takes_long.branch [ then-takes_long+then-is_wanted w ↦ search rules | else-takes_long w ↦ search rules ] in
+    elim c.if-takes_long.branch [ then-takes_long w ↦ search rules | else-takes_long w ↦ search rules ] in
     record {
       holding = search (rules, left);
       between = search (rules, left);
