@@ -33,11 +33,17 @@ impl<'a> Sink for FlagSink<'a> {
 /// A gate that notes whether the flag is set when ticket 1 begins.
 #[derive(Drop)]
 struct NoteGate<'a> {
+    /// Whether it says that it may hold a caller.
+    says: bool,
     written: &'a AtomicBool,
     noted: AtomicBool,
 }
 
 impl<'a> Gate for NoteGate<'a> {
+    fn may_hold(&self, _place: Place) -> bool {
+        self.says
+    }
+
     fn pass<R: Threads + Wait + Sync>(&self, _rt: &R, place: Place) {
         if place == Place::Begun(1) {
             self.noted
@@ -46,11 +52,12 @@ impl<'a> Gate for NoteGate<'a> {
     }
 }
 
-/// How one caller serves two tickets, whether a line was written when the second one began, and
-/// whether both lines were written.
+/// How one caller serves two tickets past a gate that says so, whether a line was written when the
+/// second one began, and whether both lines were written.
 fn noted_session<R: Threads + Wait + Sync>(
     rt: &R,
     alloc: Global,
+    says: bool,
 ) -> Result<((u8, bool), bool, bool), Fail> {
     let written = AtomicBool::new(false);
     let sink = MemorySink::with_room(alloc, 100, 100, Vec::new(alloc))?;
@@ -59,6 +66,7 @@ fn noted_session<R: Threads + Wait + Sync>(
         written: &written,
     };
     let gate = NoteGate {
+        says,
         written: &written,
         noted: AtomicBool::new(false),
     };
@@ -73,9 +81,12 @@ fn noted_session<R: Threads + Wait + Sync>(
     Ok((end, gate.noted.load(Ordering::SeqCst), is_all))
 }
 
+/// Also where the book is kept from the first ticket to the second one.
 #[test]
 fn a_line_is_written_before_the_next_ticket(rt: HostRuntime) -> Result<(), Fail> {
-    assert_eq!(rt; noted_session(&rt, rt.alloc())?, ((0, true), true, true));
+    let given_back = noted_session(&rt, rt.alloc(), true)?;
+    let kept = noted_session(&rt, rt.alloc(), false)?;
+    assert_eq!(rt; [given_back, kept], [((0, true), true, true); 2]);
     Ok(())
 }
 

@@ -104,6 +104,19 @@ pub(crate) fn ran<R: Threads + Wait + Sync, G: Gate + Sync>(
     Ok((end, ends))
 }
 
+/// The same, where what is written is long.
+pub(crate) fn ran_long<R: Threads + Wait + Sync, G: Gate + Sync>(
+    rt: &R,
+    alloc: Global,
+    (command, bytes): (&str, &[u8]),
+    gate: &G,
+) -> Result<(End, Ends), Fail> {
+    let mut ends = ends_over(alloc, command, bytes, (WHOLE, WHOLE, WHOLE))?;
+    ends.out = MemorySink::with_room(alloc, 400_000, 1000, Vec::new(alloc))?;
+    let end = run_past(rt, alloc, &mut ends, gate);
+    Ok((end, ends))
+}
+
 /// Whether this was written, and this on the error output.
 pub(crate) fn wrote(ends: &Ends, out: &[u8], err: &str) -> bool {
     ends.out.bytes() == out && ends.err.bytes() == err.as_bytes()

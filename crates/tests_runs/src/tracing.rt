@@ -59,3 +59,25 @@ fn one_caller_serves_in_order(rt: HostRuntime) -> Result<(), Fail> {
     assert_eq!(rt; found, (0, true));
     Ok(())
 }
+
+/// How two callers end the session with one key, whose ticket 0 is held at its beginning until ticket
+/// 1 is begun, whether the gate held, and whether a delay of ticket 1 is told. Who begins ticket 1
+/// has the book in hand until its operation is delayed, so ticket 0 can't end before.
+fn delayed<R: Threads + Wait + Sync>(rt: &R, alloc: Global) -> Result<(u8, bool, bool), Fail> {
+    let gate = HoldGate::new(Place::Begun(0), Place::Begun(1), 10_000_000);
+    let command = "trace --callers 2";
+    let ((status, _), ends) = ran(rt, alloc, (command, ALIKE.as_bytes()), &gate)?;
+    let one = "%% trace\nbegin 0 0\nbegin 1 1\ndelay 1 put a 0 6 0 put a 0 5\n\
+               done 0 put a 0 5 nil\nend 0 5\ndone 1 put a 0 6 nil\nend 1 6\n";
+    let two = "%% trace\nbegin 0 1\nbegin 1 0\ndelay 1 put a 0 6 0 put a 0 5\n\
+               done 0 put a 0 5 nil\nend 0 5\ndone 1 put a 0 6 nil\nend 1 6\n";
+    Ok((status, !gate.broken(), wrote(&ends, one, two)))
+}
+
+/// An operation that waits for an older ticket has its line.
+#[test]
+fn a_delay_has_its_line(rt: HostRuntime) -> Result<(), Fail> {
+    let found = delayed(&rt, rt.alloc())?;
+    assert_eq!(rt; found, (0, true, true));
+    Ok(())
+}
