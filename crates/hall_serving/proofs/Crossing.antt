@@ -46,4 +46,4 @@ module _ (T : RattleType) (g : Ghosts T.Denot) where
       let lists = spare.the_send (seat_row.the_row (held_row.the_row T g) (rule_row.the_row T) (counted_row.the_row T g)) part_row.the_row seats part.the_send in
       let turns = board.the_sync (held_row.the_row T g) (rule_row.the_row T) (counted_row.the_row T g) (rule.ghosts T g (given 0) (given 1)) values in
       let kept = as_row_sync (mutex.the_field SpareRow) (locked.the_sync SpareRow lists) in
-      declared_sync (hall.the_type T g) (turns, (as_row_sync (snapshot.the_field T) (snapshot_sync T), (sizes.the_sync, (counted.the_sync, (counted.the_sync, (kept, tt))))))
+      declared_sync (hall.the_type T g) (turns, (as_row_sync (snapshot.the_field T) (snapshot_sync T), (sizes.the_sync, (counted.the_sync, (counted.the_sync, (counted.the_sync, (kept, tt)))))))

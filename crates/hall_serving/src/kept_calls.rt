@@ -144,13 +144,13 @@ fn apply<R: Wait, S: Tickets + Drop>(
 }
 
 // Calls an operation of the ticket: it is admitted and done on its shards, and both places are
-// passed. Whether the book stays in hand is asked of the gate at the place alone.
+// passed. The gate is given with the ticket.
 #[inline(always)]
-pub(crate) fn call<R: Threads + Wait + Sync, S: Tickets + Drop, G: Gate>(
+pub(crate) fn call<R: Threads + Wait, S: Tickets + Drop, G: Gate>(
     rt: &R,
     hall: &Hall<S>,
     holding: &mut Holding<S>,
-    (gate, ticket): (&G, u32),
+    at: (&G, u32),
     op: Op,
     waits: &mut Waits,
 ) -> Value
@@ -161,6 +161,7 @@ pub(crate) fn call<R: Threads + Wait + Sync, S: Tickets + Drop, G: Gate>(
     ensures called { OnServing holding.old.caller.stage
         (CalledAt holding.old holding.new op result) }
 {
+    let (gate, ticket) = at;
     admit(rt, hall, holding, op, waits);
     come_admitted(hall, holding, gate, ticket, op);
     gate.pass(rt, Place::Admitted(ticket));

@@ -2,8 +2,8 @@
 //! `serve_tickets` with `serve_next_kept`: a caller keeps the book (`HoldingDesk`) wherever that is
 //! possible. `serve_next` and `HallDesk` do the same in separate steps. `open_session` and
 //! `reopen_session` take all memory, and alone can run out of it: `serve_session` is given no
-//! allocator. No clause says when the book is given back, how many threads there are, or that
-//! `meanwhile` of an `AfterEnd` is called.
+//! allocator. No clause says when the book is given back, but before what may take long, how many
+//! threads there are, or that `meanwhile` of an `AfterEnd` is called.
 #![tactic(auto)]
 
 mod after;

@@ -16,8 +16,8 @@ use crate::crew::Crew;
 use crate::keeping::give_back;
 use crate::kept_next::serve_next_kept;
 use crate::pause::Pause;
-use session_hall::{Holding, Waits};
-use session_journal::{Scratch, Script, Serves};
+use session_hall::{Hall, Holding, Waits};
+use session_journal::{Scratch, Script, Serves, Tickets};
 use std::sync::Wait;
 use std::thread::Threads;
 use worker_gate::Gate;
@@ -51,11 +51,16 @@ pub fn serve_tickets<R: Threads + Wait + Sync, S: Serves + Drop, G: Gate, A: Aft
             give_back(crew.hall, holding);
         }
         after.after(crew.rt, holding, ticket, reply);
-        if !holding.is_kept() {
-            crew.hall.give_way();
-        }
+        give_way(crew.hall, holding);
     }
     unreachable!()
+}
+
+// Lets others go first, unless the book is in hand.
+fn give_way<S: Tickets + Drop>(hall: &Hall<S>, holding: &Holding<S>) {
+    if !holding.is_kept() {
+        hall.give_way();
+    }
 }
 
 // Takes the book, unless it is in hand, after the pause and however often it is found taken, and

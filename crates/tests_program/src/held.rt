@@ -132,7 +132,7 @@ struct ListGate<'a> {
 }
 
 impl<'a> Gate for ListGate<'a> {
-    fn pass<R: Threads + Wait + Sync>(&self, _rt: &R, place: Place) {
+    fn pass<R: Threads + Wait>(&self, _rt: &R, place: Place) {
         let at = self.passed.load(Ordering::SeqCst);
         if self.places.get(at) == Some(&place) {
             self.passed.store(at.wrapping_add(1), Ordering::SeqCst);
@@ -211,7 +211,7 @@ impl BarrierGate {
 }
 
 impl Gate for BarrierGate {
-    fn pass<R: Threads + Wait + Sync>(&self, _rt: &R, place: Place) {
+    fn pass<R: Threads + Wait>(&self, _rt: &R, place: Place) {
         if let Place::Begun(_) = place {
             self.wait();
         }

@@ -15,7 +15,7 @@ struct CountGate {
 }
 
 impl Gate for CountGate {
-    fn pass<R: Threads + Wait + Sync>(&self, _rt: &R, _place: Place) {
+    fn pass<R: Threads + Wait>(&self, _rt: &R, _place: Place) {
         self.passed.fetch_add(1, Ordering::SeqCst);
     }
 }

@@ -49,7 +49,7 @@ impl Gate for MeetGate {
         false
     }
 
-    fn pass<R: Threads + Wait + Sync>(&self, _rt: &R, place: Place) {
+    fn pass<R: Threads + Wait>(&self, _rt: &R, place: Place) {
         if let Place::Begun(ticket) = place {
             self.begun.fetch_add(1, Ordering::SeqCst);
             if ticket == 0 && until(&self.begun, 2, 3_000_000) {
@@ -100,7 +100,7 @@ impl Gate for RelayGate {
         false
     }
 
-    fn pass<R: Threads + Wait + Sync>(&self, _rt: &R, place: Place) {
+    fn pass<R: Threads + Wait>(&self, _rt: &R, place: Place) {
         match place {
             Place::Begun(0) => {
                 for _ in 0..self.patience {

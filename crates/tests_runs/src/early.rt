@@ -186,7 +186,7 @@ impl<'a> Gate for PlayGate<'a> {
         false
     }
 
-    fn pass<R: Threads + Wait + Sync>(&self, _rt: &R, place: Place) {
+    fn pass<R: Threads + Wait>(&self, _rt: &R, place: Place) {
         match place {
             Place::Begun(ticket) => self.counts.begin(ticket),
             Place::Ended(ticket) => self.counts.end(ticket),

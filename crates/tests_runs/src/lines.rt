@@ -44,7 +44,7 @@ impl<'a> Gate for NoteGate<'a> {
         self.says
     }
 
-    fn pass<R: Threads + Wait + Sync>(&self, _rt: &R, place: Place) {
+    fn pass<R: Threads + Wait>(&self, _rt: &R, place: Place) {
         if place == Place::Begun(1) {
             self.noted
                 .store(self.written.load(Ordering::SeqCst), Ordering::SeqCst);
@@ -185,7 +185,7 @@ fn both_begin(begun: &AtomicUsize) -> bool {
 }
 
 impl<'a> Gate for PairGate<'a> {
-    fn pass<R: Threads + Wait + Sync>(&self, _rt: &R, place: Place) {
+    fn pass<R: Threads + Wait>(&self, _rt: &R, place: Place) {
         let in_time = match place {
             Place::Begun(0 | 1) => both_begin(&self.first),
             Place::Begun(2 | 3) => both_begin(&self.second),

@@ -41,7 +41,7 @@ impl Gate for CrowdGate {
         self.says && matches!(place, Place::Begun(_))
     }
 
-    fn pass<R: Threads + Wait + Sync>(&self, _rt: &R, place: Place) {
+    fn pass<R: Threads + Wait>(&self, _rt: &R, place: Place) {
         if let Place::Begun(_) = place {
             self.begun.fetch_add(1, Ordering::SeqCst);
             if !self.broken.load(Ordering::SeqCst) && !until(&self.begun, self.wanted, self.limit) {
