@@ -19,6 +19,9 @@ const LOOKS: u32 = 2_000;
 /// After how many looks its thread is yielded.
 const LOOKS_A_YIELD: u32 = 32;
 
+/// In how many looks in a row it sees no ticket end before it waits no more for others to go first.
+const LOOKS_AN_END: u32 = 200;
+
 /// In how many of these looks nobody may wait: who has seen the book free waits no more, and takes
 /// it next.
 const LOOKS_UNWANTED: u32 = 64;
@@ -93,12 +96,17 @@ impl<S: Tickets + Drop> Hall<S> {
     }
 
     // Waits until nobody waits for the book or for a ticket's end, but no longer than a number of
-    // looks.
+    // looks, of which few in a row see no ticket end: who is delayed may wait for another one.
     fn until_quiet(&self) {
+        let mut ends = self.ends.load(Ordering::SeqCst);
+        let mut since = 0;
         for look in 0..LOOKS {
-            if !self.is_delaying() && !self.is_wanted() {
+            if (!self.is_delaying() && !self.is_wanted()) || since > LOOKS_AN_END {
                 return;
             }
+            let now = self.ends.load(Ordering::SeqCst);
+            since = if now == ends { since + 1 } else { 0 };
+            ends = now;
             if look % LOOKS_A_YIELD == LOOKS_A_YIELD - 1 {
                 thread::yield_now();
             }
