@@ -8,7 +8,8 @@
 # README.md, docs/TOUR.md and embedding/README.md name them there. They do what the proved ones do,
 # which come by .ci/run and, the library, by `rt lib` in crates/foresight_c; the programs are a little
 # slower. `rt try` builds a program, runs it once and throws it away. So it is run here with a compiler
-# that optimizes and doesn't check memory, and a linker that also keeps what it links. For the library
+# that optimizes and doesn't check memory, and a linker that leaves out what checks memory (the kit's
+# one archive that is linked whole), and keeps what it links. For the library
 # a program is made of foresight_c, in a copy of the tree, whose `main` calls each function that C
 # calls. The compiler makes these functions external, and keeps the object, which isn't linked.
 set -euo pipefail
@@ -31,7 +32,16 @@ make_kit() {
   printf '#!/bin/sh\nexit 1\n' > "$own/bin/rattle"
   cat > "$own/toolchain/bin/ld.lld" <<LINKER
 #!/usr/bin/env bash
-"$kit/toolchain/bin/ld.lld" "\$@" && cp program "$own/kept"
+words=()
+whole=0
+for word; do
+  case \$word in
+    --whole-archive) whole=1 ;;
+    --no-whole-archive) whole=0 ;;
+    *) [ "\$whole" = 1 ] || words+=("\$word") ;;
+  esac
+done
+"$kit/toolchain/bin/ld.lld" "\${words[@]}" && cp program "$own/kept"
 LINKER
   cat > "$own/toolchain/bin/clang"
   chmod +x "$own/bin/rattle" "$own"/toolchain/bin/{clang,ld.lld}
