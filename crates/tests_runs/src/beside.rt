@@ -25,7 +25,7 @@ const LIGHT: &str = "map a; handler one(k) { put(a, k, 5); reply 5; }\n\
                      handler three(k) { put(a, k, 5); let v = get(a, k); put(a, k, v); reply v; }\n\
                      %%\n";
 
-/// How many requests of these a session has.
+/// How many operations the requests of a session have.
 const MANY: u32 = 3_000;
 
 /// A handler of 4,000 operations, and two of one, of which one has nothing to do with the first.
@@ -168,9 +168,14 @@ fn has_begun(trace: &str, caller: &str) -> bool {
     false
 }
 
-/// Whether two callers serve such requests so that both begin some, in one of a number of runs.
-fn is_shared<R: Threads + Wait + Sync>(rt: &R, alloc: Global, request: &str) -> Result<bool, Fail> {
-    let text = repeated(alloc, LIGHT, request, MANY)?;
+/// Whether two callers serve so many such requests so that both begin some, in one of a number of
+/// runs.
+fn is_shared<R: Threads + Wait + Sync>(
+    rt: &R,
+    alloc: Global,
+    (request, times): (&str, u32),
+) -> Result<bool, Fail> {
+    let text = repeated(alloc, LIGHT, request, times)?;
     for run in 0..RUNS {
         let gate = RelayGate::new(run);
         let (_, ends) = ran_long(rt, alloc, ("trace --callers 2", text.as_bytes()), &gate)?;
@@ -186,8 +191,8 @@ fn is_shared<R: Threads + Wait + Sync>(rt: &R, alloc: Global, request: &str) -> 
 /// other one that waits.
 #[test]
 fn light_requests_are_shared(rt: HostRuntime) -> Result<(), Fail> {
-    let one = is_shared(&rt, rt.alloc(), "one 5\n")?;
-    let three = is_shared(&rt, rt.alloc(), "three 5\n")?;
+    let one = is_shared(&rt, rt.alloc(), ("one 5\n", MANY))?;
+    let three = is_shared(&rt, rt.alloc(), ("three 5\n", MANY / 3))?;
     assert_eq!(rt; (one, three), (true, true));
     Ok(())
 }

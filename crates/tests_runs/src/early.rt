@@ -16,9 +16,6 @@ use worker_gate::{Gate, Place};
 /// How often a run is made at most.
 const RUNS: u32 = 20;
 
-/// For how many turns who waits for the other caller does at most.
-const LIMIT: u32 = 100_000;
-
 /// A handler that puts, and six requests.
 const LIGHT: &str =
     "map a; handler w(k) { put(a, k, 5); reply 5; }\n%%\nw 0\nw 1\nw 2\nw 3\nw 4\nw 5\n";
@@ -44,6 +41,8 @@ enum Play {
 #[derive(Drop)]
 struct Counts {
     play: Play,
+    /// For how many turns who waits for the other caller does at most.
+    limit: u32,
     /// How often the gate yields where one of two tickets has ended, so that the other caller comes to wait.
     patience: u32,
     /// How many tickets are begun, and how many have ended.
@@ -63,6 +62,7 @@ impl Counts {
     fn new(play: Play, run: u32) -> Counts {
         Counts {
             play,
+            limit: run.saturating_add(1).saturating_mul(2_000),
             patience: run.saturating_mul(50).saturating_add(100),
             begun: AtomicU32::new(0),
             ended: AtomicU32::new(0),
@@ -75,7 +75,7 @@ impl Counts {
 
     // Waits until so much is counted, unless somebody waited in vain before; says whether it was.
     fn wait(&self, count: &AtomicU32, least: u32) -> bool {
-        let is_there = !self.broken.load(Ordering::SeqCst) && until(count, least, LIMIT);
+        let is_there = !self.broken.load(Ordering::SeqCst) && until(count, least, self.limit);
         if !is_there {
             self.broken.store(true, Ordering::SeqCst);
         }
