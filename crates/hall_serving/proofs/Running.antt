@@ -3,9 +3,10 @@ use Rattle.std.proofs.Common.{◌≡◌, ◌∙◌, ℕ, zero, suc, List, [], �
 use Rattle.std.proofs.lemmas.Fn.{FoldsTo-push}
 use Rattle.std.proofs.lemmas.List.Elements.{filter_map-append}
 use Rattle.std.specs.List.{FoldsTo}
+use Rattle.session_values.specs.declared.reply.Reply.{Reply}
 use Rattle.session_hall.specs.declared.holding.Holding.{Holding}
 use Rattle.session_hall.specs.Holdings.{begun_at}
-use Rattle.hall_serving.specs.KeptJobs.{HasGiven, HasWaited, tickets_of}
+use Rattle.hall_serving.specs.KeptJobs.{HasGiven, HasSeenAndGiven, HasWaited, SeesAndGives, tickets_of}
 
 -- steps, and then others
 steps_more : {A : Type 0} (given_on : A → Option ℕ → A → Type 0) (xs ys : List (Option ℕ)) (x y z : A) → FoldsTo given_on x xs y → FoldsTo given_on y ys z → FoldsTo given_on x (xs ++ ys) z
@@ -47,3 +48,26 @@ module _ {S A : Type 0} (given_on : A → Option ℕ → A → Type 0) (p via q 
         ∙ ap (λ (l : List ℕ). begun_at p ++ l) (sym (filter_map-append (λ (o : Option ℕ). o) h.steps (Some t ∷ [])));
     given = FoldsTo-push given_on x h.steps y (Some t) z h.given step;
   }
+
+-- ---- a book that was seen before
+-- waiting asks for none
+pub waited_unseen : {A : Type 0} (seen : A → (ℕ → Option Reply) → A → Type 0) (given_on : A → Option ℕ → A → Type 0) (x y : A) → HasWaited given_on x y → HasWaited (SeesAndGives seen given_on) x y
+waited_unseen {A} seen given_on x y h = record { many = h.many; given = go h.many x h.given }
+  where
+    go : (n : ℕ) (z : A) → FoldsTo given_on z (replicate n None) y → FoldsTo (SeesAndGives seen given_on) z (replicate n None) y
+    go zero z e = e
+    go (suc n) z f = (f.0, f.1, go n f.0 f.2)
+
+-- where seeing and going on is a step of its own kind, all steps are of that kind
+pub steps_seen : {A : Type 0} (seen : A → (ℕ → Option Reply) → A → Type 0) (given_on : A → Option ℕ → A → Type 0) → ((x via y : A) (known : ℕ → Option Reply) (o : Option ℕ) → seen x known via → given_on via o y → given_on x o y)
+    → (ts : List (Option ℕ)) (x y : A) → FoldsTo (SeesAndGives seen given_on) x ts y → FoldsTo given_on x ts y
+steps_seen seen given_on one [] x y e = e
+steps_seen seen given_on one (None ∷ ts) x y f = (f.0, f.1, steps_seen seen given_on one ts f.0 y f.2)
+steps_seen seen given_on one (Some t ∷ ts) x y f = (f.0, one x f.1.0 f.0 f.1.1 (Some t) f.1.2 f.1.3, steps_seen seen given_on one ts f.0 y f.2)
+
+pub given_seen : {S A : Type 0} (seen : A → (ℕ → Option Reply) → A → Type 0) (given_on : A → Option ℕ → A → Type 0) → ((x via y : A) (known : ℕ → Option Reply) (o : Option ℕ) → seen x known via → given_on via o y → given_on x o y)
+    → (p q : Holding S) (x y : A) → HasSeenAndGiven seen given_on p q x y → HasGiven given_on p q x y
+given_seen seen given_on one p q x y h =
+    let all : HasGiven given_on p q x h.last = record { steps = h.all.steps; begun_more = h.all.begun_more; given = steps_seen seen given_on one h.all.steps x h.last h.all.given } in
+    let end : HasWaited given_on h.last y = waited_more given_on h.last h.last y (never_waited given_on h.last) (one h.last h.via y h.known None h.sees h.goes_on) in
+    then_waited given_on p q q x h.last y all refl end

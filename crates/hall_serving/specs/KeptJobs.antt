@@ -48,6 +48,24 @@ pub record HasGiven {S A : Type 0} (given_on : A → Option ℕ → A → Type 0
   pub begun_more : begun_at q ≡ begun_at p ++ tickets_of steps
   pub given : FoldsTo given_on x steps y
 
+-- where the reply of a ticket is given on, a book was seen first
+abbrev pub SeesAndGives : {A : Type 0} → (A → (ℕ → Option Reply) → A → Type 0)
+    → (A → Option ℕ → A → Type 0) → A → Option ℕ → A → Type 0
+SeesAndGives seen given_on x None y = given_on x None y
+SeesAndGives seen given_on x (Some t) y = (via : _) × (known : ℕ → Option Reply)
+    × seen x known via × given_on via (Some t) y
+
+-- The replies of all tickets that the caller has begun since were given on, a book was seen before
+-- each of them, and at the end once more, after which it went on with no ticket.
+pub record HasSeenAndGiven {S A : Type 0} (seen : A → (ℕ → Option Reply) → A → Type 0)
+    (given_on : A → Option ℕ → A → Type 0) (p q : Holding S) (x y : A) : Type 0 where
+  pub last : A
+  pub all : HasGiven (SeesAndGives seen given_on) p q x last
+  pub known : ℕ → Option Reply
+  pub via : A
+  pub sees : seen last known via
+  pub goes_on : given_on via None y
+
 -- so many times it was waited, with no ticket
 pub record HasWaited {A : Type 0} (given_on : A → Option ℕ → A → Type 0) (x y : A) : Type 0 where
   pub many : ℕ

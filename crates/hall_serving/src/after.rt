@@ -3,9 +3,14 @@
 ghost use Rattle.std.specs.Bool.{Decides};
 ghost use Rattle.std.specs.Prelude.{◌≡◌, ℕ, List, Option, Some, None, slice_get};
 ghost use Rattle.session_values.specs.declared.reply.Reply.{Reply};
+ghost use Rattle.session_values.specs.Serial.{serial_replies};
+ghost use Rattle.session_journal.specs.Journal.{ended};
+ghost use Rattle.session_journal.specs.Script.{session_of};
+ghost use Rattle.session_hall.specs.Holdings.{IsHoldingOf, IsKept, present_book};
+ghost use Rattle.session_hall.specs.Names.{script_of};
 ghost use Rattle.hall_serving.specs.KeptJobs.{IsLastBegun};
 
-use session_hall::Holding;
+use session_hall::{Hall, Holding};
 use session_journal::Tickets;
 use session_values::Reply;
 use std::sync::Wait;
@@ -20,12 +25,25 @@ pub trait AfterEnd {
     /// it did what it does meanwhile.
     ghost Given: { Self → Option ℕ → Self → Type 0 };
 
+    /// From the first to the second it saw a book in which tickets had ended with these replies.
+    ghost Seen: { Self → (ℕ → Option Reply) → Self → Type 0 };
+
     /// What it does with a reply, or meanwhile, may take long.
     ghost IsLong: { Self → Type 0 };
 
     /// Whether it may take long: the book isn't in hand then.
     fn takes_long(&self) -> bool
         ensures { Decides result (IsLong self.now) };
+
+    /// Sees the book in hand, before its caller begins a ticket.
+    fn see<S: Tickets + Drop>(&mut self, hall: &Hall<S>, holding: &Holding<S>)
+        requires holding { IsHoldingOf S.meaning hall.now holding.now }
+        requires kept { IsKept holding.now.book }
+        requires takes { Takes (serial_replies (session_of (S.meaning (script_of hall.now)))
+            (S.meaning (script_of hall.now)).requests) self.old }
+        ensures takes { (replies : List Reply) → Takes replies self.old
+            → Takes replies self.new }
+        ensures seen { Seen self.old (λ t. ended (present_book holding.now).journal t) self.new };
 
     /// Is given the reply of the ticket that the holding's caller has begun last: it has begun no
     /// other one since.
@@ -62,11 +80,15 @@ impl AfterEnd for GoesOn {
 
     ghost Given = { λ g t h. Unit {0} };
 
+    ghost Seen = { λ g e h. Unit {0} };
+
     ghost IsLong = { λ g. ⊥ };
 
     fn takes_long(&self) -> bool {
         false
     }
+
+    fn see<S: Tickets + Drop>(&mut self, _hall: &Hall<S>, _holding: &Holding<S>) {}
 
     fn after<R: Wait, S: Tickets + Drop>(
         &mut self,

@@ -9,7 +9,7 @@ ghost use Rattle.session_hall.specs.Holdings.{IsHoldingOf, IsKept, StaysHolding}
 ghost use Rattle.session_hall.specs.Stages.{IsBetween};
 ghost use Rattle.session_hall.specs.declared.stage.Stage.TheVariants.{Out};
 ghost use Rattle.hall_serving.specs.KeptCalls.{SameTicket};
-ghost use Rattle.hall_serving.specs.KeptJobs.{HasGiven, HasWaited};
+ghost use Rattle.hall_serving.specs.KeptJobs.{HasSeenAndGiven, HasWaited};
 
 use crate::after::AfterEnd;
 use crate::crew::Crew;
@@ -22,7 +22,8 @@ use std::sync::Wait;
 use std::thread::Threads;
 use worker_gate::Gate;
 
-/// Serves tickets until all are begun. After each end it gives the reply to `after`, which asks
+/// Serves tickets until all are begun. Before each of them, and when none is left, `after` sees the
+/// book in hand. After each end it gives the reply to `after`, which asks
 /// that no other ticket is begun by then, and that the book isn't in hand if that may take long.
 /// While this caller waits for the book, `after` does what it does meanwhile. At the end the caller
 /// is out, and the book isn't in hand.
@@ -39,12 +40,14 @@ pub fn serve_tickets<R: Threads + Wait + Sync, S: Serves + Drop, G: Gate, A: Aft
     ensures holding { StaysHolding S.meaning crew.entry.hall.now holding.old holding.new }
     ensures out { holding.new.caller.stage ≡ Out }
     ensures unkept { holding.new.book ≡ None }
-    ensures given { HasGiven A.Given holding.old holding.new after.old after.new }
+    ensures given { HasSeenAndGiven A.Seen A.Given holding.old holding.new after.old after.new }
 {
     let mut pause = Pause::none();
     for _ in crew.rt.forever() {
         hold_meanwhile(crew, holding, &pause, after);
+        after.see(crew.hall, holding);
         let Some((ticket, reply)) = serve_next_kept(crew, holding, scratch, &mut pause) else {
+            after.meanwhile(crew.rt, holding);
             return;
         };
         if after.takes_long() {

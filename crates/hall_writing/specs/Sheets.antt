@@ -1,6 +1,6 @@
 -- Replies that wait to be written, and what was written of them.
 use Rattle.std.specs.Prelude.{◌≡◌, ℕ, ◌+◌, ◌<◌, ◌≤◌, ◌⊎◌, Bool, true, false}
-use Rattle.std.specs.Prelude.{List, Option, Some, length, take, slice_get}
+use Rattle.std.specs.Prelude.{List, Option, Some, IsSome, length, take, slice_get}
 use Rattle.session_values.specs.declared.reply.Reply.{Reply}
 use Rattle.session_values.specs.ReplyText.{reply_text}
 use Rattle.byte_ends.specs.Ends.{Counted, IsRaised, Appended, AppendedPrefix}
@@ -18,6 +18,11 @@ pub record Keeps (replies : List Reply) (p : PendingView) : Type 0 where
 abbrev pub IsKept : PendingView → ℕ → Type 0
 IsKept p t = (t < p.next)
     ⊎ ((i : ℕ) × (r : Reply) × (t ≡ p.next + i) × (slice_get p.waiting i ≡ Some (Some r)))
+
+-- of so many tickets, the reply of each is kept from the first one on, up to one that hasn't ended
+abbrev pub KeepsEnded : ℕ → ℕ → (ℕ → Option Reply) → PendingView → Type 0
+KeepsEnded many first known p = (t : ℕ) → t < many
+    → ((u : ℕ) → first ≤ u → u ≤ t → IsSome (known u)) → IsKept p t
 
 -- what the sink holds, where it tells, its faults, the next ticket, and whether writing has failed
 pub record Progress : Type 0 where

@@ -1,4 +1,5 @@
--- What is done with the reply of one ticket, or, without a ticket, meanwhile.
+-- What is done with the reply of one ticket, or, without a ticket, meanwhile, and when the book in
+-- hand is seen.
 use Rattle.std.specs.Prelude.{◌≡◌, ◌<◌, ◌≤◌, ℕ, length}
 use Rattle.std.specs.Prelude.{List, [], Option, Some, None, Bool, true, false}
 use Rattle.session_values.specs.Limits.{max_requests}
@@ -7,7 +8,7 @@ use Rattle.reply_lane.specs.Ends.{IsEndOf, state_of}
 use Rattle.reply_lane.specs.Lanes.{IsMoment, Offered, times}
 use Rattle.reply_sheet.specs.Printable.{ArePrintableReplies}
 use Rattle.reply_sheet.specs.Ready.{ready}
-use Rattle.hall_writing.specs.Sheets.{GoesOn, IsKept, Keeps, progress}
+use Rattle.hall_writing.specs.Sheets.{GoesOn, IsKept, Keeps, KeepsEnded, progress}
 use Rattle.hall_writing.specs.declared.offering.Offering.{Offering}
 use Rattle.hall_writing.specs.declared.writing.Writing.{Writing}
 
@@ -55,3 +56,22 @@ pub record HasWrittenOne {O : Type 0} (held : O → Option (List ℕ)) (faults :
   pub on : GoesOn (state_of w.end.now).known w.names.now
       (progress (held w.out.now) (faults w.out.now) w.sheet.now)
       (progress (held x.out.now) (faults x.out.now) x.sheet.now)
+
+-- Nothing was written, or taken out of the lane, and what was kept stays so. The replies of the
+-- next ticket and of those behind it are kept, up to one that hasn't ended in the book, unless there
+-- is one caller or writing has failed.
+pub record HasSeen {O : Type 0} (w : Writing O) (known : ℕ → Option Reply)
+    (x : Writing O) : Type 0 where
+  pub end_still : x.end.ghost_name ≡ w.end.ghost_name
+  pub end_now : x.end.now ≡ w.end.now
+  pub sheet_still : x.sheet.ghost_name ≡ w.sheet.ghost_name
+  pub out_still : x.out.ghost_name ≡ w.out.ghost_name
+  pub out_now : x.out.now ≡ w.out.now
+  pub names_still : x.names.now ≡ w.names.now
+  pub next_still : x.sheet.now.pending.next ≡ w.sheet.now.pending.next
+  pub failed_still : x.sheet.now.failed ≡ w.sheet.now.failed
+  pub alone_still : x.sheet.now.alone ≡ w.sheet.now.alone
+  pub still : (u : ℕ) → IsKept w.sheet.now.pending u → IsKept x.sheet.now.pending u
+  pub kept : w.sheet.now.alone ≡ false → w.sheet.now.failed ≡ false
+      → KeepsEnded (length (state_of w.end.now).known) w.sheet.now.pending.next known
+      x.sheet.now.pending

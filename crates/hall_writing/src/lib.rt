@@ -10,6 +10,7 @@ mod after;
 mod first;
 mod job;
 mod jobs;
+mod known;
 mod offering;
 mod rest;
 mod room;

@@ -5,7 +5,7 @@ ghost use Rattle.reply_lane.specs.Lanes.{IsSpoken, Offered};
 
 use hall_serving::AfterEnd;
 use reply_lane::{End, Lane, Spoken};
-use session_hall::Holding;
+use session_hall::{Hall, Holding};
 use session_journal::Tickets;
 use session_values::Reply;
 use std::sync::Wait;
@@ -25,6 +25,7 @@ pub(crate) struct Offering<'a> {
 }
 
 impl<'a> AfterEnd for Offering<'a> {
+    ghost use Rattle.std.specs.Prelude.{◌≡◌};
     ghost use Rattle.reply_lane.specs.Ends.{IsEndOf};
     ghost use Rattle.hall_writing.specs.Steps.{HasOfferedAt};
 
@@ -32,12 +33,16 @@ impl<'a> AfterEnd for Offering<'a> {
 
     ghost Given = { λ o t p. HasOfferedAt o t p };
 
+    ghost Seen = { λ o e p. p ≡ o };
+
     // A full lane is waited for some 0.2 milliseconds, and then never again.
     ghost IsLong = { λ o. ⊥ };
 
     fn takes_long(&self) -> bool {
         false
     }
+
+    fn see<S: Tickets + Drop>(&mut self, _hall: &Hall<S>, _holding: &Holding<S>) {}
 
     fn after<R: Wait, S: Tickets + Drop>(
         &mut self,

@@ -1,12 +1,13 @@
 // Writing the lines that are next, after a ticket's end.
 
 use crate::after::take_all;
+use crate::known::keep_known;
 use crate::sheet::Sheet;
 use byte_ends::Sink;
 use hall_serving::AfterEnd;
 use reply_lane::{End, Lane};
 use reply_sheet::write_ready;
-use session_hall::Holding;
+use session_hall::{Hall, Holding};
 use session_journal::Tickets;
 use session_values::{Names, Reply};
 use std::sync::Wait;
@@ -23,17 +24,27 @@ pub(crate) struct Writing<'a, O: Sink> {
 
 impl<'a, O: Sink> AfterEnd for Writing<'a, O> {
     ghost use Rattle.std.specs.Prelude.{◌≡◌, false};
-    ghost use Rattle.hall_writing.specs.Steps.{HasWrittenOne, MayWrite};
+    ghost use Rattle.hall_writing.specs.Steps.{HasSeen, HasWrittenOne, MayWrite};
 
     ghost Takes = { λ replies w. MayWrite replies w };
 
     ghost Given = { λ w t x. HasWrittenOne O.held O.faults w t x };
+
+    ghost Seen = { λ w e x. HasSeen w e x };
 
     // The output may be blocked. With one caller nobody waits for the book.
     ghost IsLong = { λ w. w.sheet.now.alone ≡ false };
 
     fn takes_long(&self) -> bool {
         !self.sheet.alone
+    }
+
+    fn see<S: Tickets + Drop>(&mut self, hall: &Hall<S>, holding: &Holding<S>) {
+        let sheet = &mut *self.sheet;
+        // With one caller all ended replies were given on, and after a fault nothing is written.
+        if !sheet.alone && !sheet.failed {
+            keep_known(hall, holding, &mut sheet.pending);
+        }
     }
 
     fn after<R: Wait, S: Tickets + Drop>(

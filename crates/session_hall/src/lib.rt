@@ -12,6 +12,7 @@ mod finishing;
 mod hall;
 mod holding;
 mod holding_enter;
+mod holding_reply;
 mod holding_ticket;
 mod holding_work;
 mod in_hand;
