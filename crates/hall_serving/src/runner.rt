@@ -23,10 +23,10 @@ use std::thread::Threads;
 use worker_gate::Gate;
 
 /// Serves tickets until all are begun. Before each of them, and when none is left, `after` sees the
-/// book in hand. After each end it gives the reply to `after`, which asks
-/// that no other ticket is begun by then, and that the book isn't in hand if that may take long.
-/// While this caller waits for the book, `after` does what it does meanwhile. At the end the caller
-/// is out, and the book isn't in hand.
+/// book in hand. After each end it gives the reply to `after`, which asks that no other ticket is
+/// begun by then, and that the book isn't in hand if that may take long. While this caller waits for
+/// the book, `after` does what it does meanwhile. At the end the caller is out, and the book isn't in
+/// hand.
 pub fn serve_tickets<R: Threads + Wait + Sync, S: Serves + Drop, G: Gate, A: AfterEnd>(
     crew: Crew<'_, R, S, G>,
     holding: &mut Holding<S>,

@@ -37,7 +37,8 @@ impl<S: Tickets + Drop> Job<S> {
 }
 
 // Serves tickets until all are begun. After each end it offers the reply to the lane, before it
-// begins another ticket; a reply for which the lane has no room is written at the end.
+// begins another ticket; a reply for which the lane has no room is taken from the
+// book by the caller that writes.
 pub(crate) fn serve_and_offer<R: Threads + Wait + Sync, S: Serves + Drop, G: Gate>(
     crew: Crew<'_, R, S, G>,
     lane: &Lane,
