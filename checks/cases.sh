@@ -6,7 +6,7 @@ case_folders() {
   local folder
   for folder in examples examples/tour checks/*; do
     case $folder in
-      checks/edits | checks/mistakes) ;;
+      checks/edits | checks/mistakes | checks/planted) ;;
       *) if [ -d "$folder" ]; then echo "$folder"; fi ;;
     esac
   done
