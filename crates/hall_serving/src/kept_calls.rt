@@ -42,11 +42,12 @@ fn admit<R: Wait, S: Tickets + Drop>(
     waits.reset();
     for _ in rt.forever() {
         keep(rt, hall, holding, &mut Waits::none());
-        waits.note(hall);
         match holding.admit(hall, op) {
             Admission::Admitted => return,
             Admission::Delayed { .. } => {}
         }
+        // No ticket ends while the book is in hand.
+        waits.note(hall);
         give_back(hall, holding);
         waits.delayed(hall);
     }
