@@ -56,7 +56,7 @@ module _ (T : RattleType) (g : Ghosts T.Denot) where
       let lists = spare.the_send (seat_row.the_row (held_row.the_row T g) (rule_row.the_row T) (counted_row.the_row T g)) part_row.the_row seats part.the_send in
       let turns = board.the_send (held_row.the_row T g) (rule_row.the_row T) (counted_row.the_row T g) (rule.ghosts T g (given 0) (given 1)) values in
       let kept = as_row_send (mutex.the_field SpareRow) (locked.the_send SpareRow lists) in
-      declared_send (hall.the_type T g) (turns, (as_row_send (snapshot.the_field T) (snapshot_send T), (sizes.the_send, (counted.the_send, (counted.the_send, (kept, tt))))))
+      declared_send (hall.the_type T g) (turns, (as_row_send (snapshot.the_field T) (snapshot_send T), (sizes.the_send, (counted.the_send, (counted.the_send, (counted.the_send, (kept, tt)))))))
 
 -- what plans mean
 abbrev ghosts_of : Ghosts PlanView
