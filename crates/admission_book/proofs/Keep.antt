@@ -26,7 +26,7 @@ use Rattle.session_journal.specs.EventsInTurn.{IsForeseen, IsOpen, declared_afte
 use Rattle.admission_book.specs.Lawful.{Lawful}
 use Rattle.session_journal.proofs.Replay.{Replays-append}
 use Rattle.session_journal.proofs.Regroup.{InversionsCommute-push}
-use Rattle.session_values.proofs.Entries.{follows_more}
+use Rattle.session_values.proofs.EntriesFacts.{follows_more}
 use Rattle.session_values.proofs.Lists.{all_push, all_weaker}
 use Rattle.session_journal.proofs.Events.{done_operations-append, in_order-append, done_operations_stay, begun_stays, begun_more, first_same, owner_other, owner_new, ended_other, ended_new, entries_other, entries_more, ComeInTurn-push, OnlyBegun, only_begun}
 use Rattle.admission_book.proofs.Records.{within, at_set, set_other, CommutesWithAll-narrow, CommutesWithAll-each}

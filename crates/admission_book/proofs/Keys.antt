@@ -16,7 +16,7 @@ use Rattle.session_journal.specs.Script.{Meaning, IsScript, adds_on, room}
 use Rattle.admission_book.specs.Book.{Book}
 use Rattle.session_journal.specs.EventsInTurn.{IsOpen, now}
 use Rattle.admission_book.specs.Lawful.{Lawful}
-use Rattle.session_values.proofs.Entries.{follows_more}
+use Rattle.session_values.proofs.EntriesFacts.{follows_more}
 use Rattle.session_values.proofs.Numbers.{lesser}
 use Rattle.session_journal.proofs.Events.{OnlyBegun, only_begun}
 use Rattle.session_journal.proofs.EventCounts.{few_begun}

@@ -1,6 +1,6 @@
 -- What contracts see of a feed.
 use Rattle.std.specs.Prelude.{◌≡◌, ℕ, ◌+◌, ◌++◌, List, length, min, sum, slice_get, Some}
-use Rattle.client_sheet.specs.declared.arrival.Arrival.{Arrival}
+use Rattle.reply_sheet.specs.declared.arrival.Arrival.{Arrival}
 
 -- a client's feeder: the client, how many requests it has, and how many were sent
 pub record FeederView : Type 0 where

@@ -2,9 +2,9 @@
 use Rattle.std.specs.Prelude.{◌≡◌, ℕ, suc, ◌≤◌, List, [], ◌∷◌, ◌++◌, true, false}
 use mathlib.Core.Option.{Option, some, none}
 use lib.ListN.{get_elem?}
-use Rattle.client_sheet.specs.declared.arrival.Arrival.{Arrival}
+use Rattle.reply_sheet.specs.declared.arrival.Arrival.{Arrival}
 use Rattle.client_feed.specs.declared.rule.Hand.{Hand}
-use Rattle.client_sheet.specs.Arrivals.{of, Rises, count_at, IsDrawn}
+use Rattle.reply_sheet.specs.Arrivals.{of, Rises, count_at, IsDrawn}
 
 -- what the gatherer knows: for how many clients it made feeders, what it took, and how many
 -- requests each client has

@@ -2,7 +2,7 @@
 
 ghost use Rattle.std.specs.Prelude.{◌≡◌, ◌<◌, ◌++◌, [], ◌∷◌, length, IfOk};
 
-use client_sheet::Arrival;
+use reply_sheet::Arrival;
 use session_values::NoMemory;
 use std::alloc::Global;
 use std::marker::Model;

@@ -4,7 +4,7 @@ ghost use Rattle.std.specs.Prelude.{◌≡◌, ◌<◌, ◌+◌, cond};
 ghost use Rattle.client_feed.specs.Ends.{all_sent};
 
 use crate::rule::{Hand, InOrder, Sends};
-use client_sheet::Arrival;
+use reply_sheet::Arrival;
 use crossbeam_channel::{Pass, RuledSender};
 use session_values::Listed;
 use std::marker::Model;

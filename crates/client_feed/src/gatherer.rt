@@ -1,12 +1,12 @@
 // The gatherer.
 
 ghost use Rattle.std.specs.Prelude.{◌≡◌, ◌<◌, ◌≤◌, ◌+◌, ◌++◌, ◌∷◌, [], length, sum, MatchOption};
-ghost use Rattle.client_sheet.specs.Arrivals.{IsDrawn};
+ghost use Rattle.reply_sheet.specs.Arrivals.{IsDrawn};
 ghost use Rattle.client_feed.specs.Ends.{HasGathered};
 
 use crate::arrivals::Arrivals;
 use crate::rule::{Hand, InOrder, Takes};
-use client_sheet::Arrival;
+use reply_sheet::Arrival;
 use crossbeam_channel::{Pass, RuledReceiver};
 use std::marker::Model;
 use std::sync::Wait;
@@ -24,7 +24,7 @@ impl Model for Gatherer {
     ghost use Rattle.std.specs.Prelude.{◌≡◌, ◌+◌, ◌≤◌, length, sum, true};
     ghost use Rattle.crossbeam_channel.specs.Claims.{IsSeatAt};
     ghost use Rattle.crossbeam_channel.specs.Ends.{receives_on, ruled_capacity};
-    ghost use Rattle.client_sheet.specs.Arrivals.{IsDrawn};
+    ghost use Rattle.reply_sheet.specs.Arrivals.{IsDrawn};
     ghost use Rattle.client_feed.specs.Ends.{GathererView};
     ghost use Rattle.client_feed.specs.Passes.{knows};
 

@@ -2,10 +2,10 @@
 
 ghost use Rattle.std.specs.Prelude.{◌≡◌, ℕ, ◌+◌, ◌<◌, ◌++◌, List, length, sum, slice_get, Some};
 ghost use Rattle.session_values.specs.Serial.{Session, serial, serial_replies, tables_before};
-ghost use Rattle.client_sheet.specs.Arrivals.{of, Rises, count_at, IsDrawn};
+ghost use Rattle.reply_sheet.specs.Arrivals.{of, Rises, count_at, IsDrawn};
 ghost use Rattle.client_feed.specs.Parts.{first_part, second_part};
 
-use client_sheet::Arrival;
+use reply_sheet::Arrival;
 
 /// Each arrival is a request that its client has.
 pub fn arrivals_exist()

@@ -2,13 +2,13 @@
 
 ghost use Rattle.std.specs.Prelude.{◌≡◌, ◌<◌, ◌≤◌, [], length, sum, IfOk};
 ghost use Rattle.session_values.specs.Limits.{max_requests};
-ghost use Rattle.client_sheet.specs.Arrivals.{max_clients};
+ghost use Rattle.reply_sheet.specs.Arrivals.{max_clients};
 ghost use Rattle.client_feed.specs.Ends.{AreFeeders};
 
 use crate::feeder::{Feeder, Feeders};
 use crate::gatherer::Gatherer;
 use crate::rule::{Counted, Hand, InOrder, NextClient, Reported};
-use client_sheet::Arrival;
+use reply_sheet::Arrival;
 use crossbeam_channel::bounded_with;
 use session_values::{Listed, NoMemory};
 use std::alloc::Global;

@@ -1,7 +1,7 @@
 // What is counted of a trace.
 
 ghost use Rattle.std.specs.Prelude.{◌≡◌, ◌≤◌, IfOk, length, map, slice_get};
-ghost use Rattle.trace_rules.specs.Traces.{max_events};
+ghost use Rattle.session_journal.specs.Traces.{max_events};
 ghost use Rattle.delay_counts.specs.Causes as causes;
 ghost use Rattle.delay_counts.specs.Chains.{AreLongest};
 ghost use Rattle.delay_counts.specs.Delays.{delays};

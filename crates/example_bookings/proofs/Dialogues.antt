@@ -9,7 +9,7 @@ use Rattle.session_values.specs.Dialogue.{Answers, Calls, rest}
 use Rattle.session_values.specs.Op.{IsHeld}
 use Rattle.session_values.specs.Tables.{Fits}
 use Rattle.session_values.specs.Values.{IsValue}
-use Rattle.session_values.proofs.Entries.{same_call, no_call}
+use Rattle.session_values.proofs.EntriesFacts.{same_call, no_call}
 use Rattle.symbolic_ops.specs.Matching.{Below, Covered, HasNoVar, Matches, exact_symbol}
 use Rattle.symbolic_ops.proofs.Above.{exact_stands}
 use Rattle.session_journal.specs.Script.{HasValues, IsForesight}

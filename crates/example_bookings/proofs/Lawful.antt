@@ -5,7 +5,7 @@ use Rattle.session_values.specs.Dialogue.{Entry, Follows}
 use Rattle.session_values.specs.Kinds.{is_adding}
 use Rattle.session_values.specs.Sums.{sum_below}
 use Rattle.session_values.specs.Tables.{start}
-use Rattle.session_values.proofs.Entries.{same_call, no_call}
+use Rattle.session_values.proofs.EntriesFacts.{same_call, no_call}
 use Rattle.session_journal.specs.Opening.{IsOpening, Pair, entries_of, tables_of}
 use Rattle.session_journal.proofs.Openings.{no_opening, start_is}
 use Rattle.session_journal.proofs.ListLawful.{none_there, nothing_there}

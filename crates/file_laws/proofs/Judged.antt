@@ -7,14 +7,14 @@ use Rattle.handler_syntax.specs.Language.{File}
 use Rattle.text_lines.specs.Text.{Text}
 use Rattle.request_files.specs.TracePart.{before_trace}
 use Rattle.serve_faults.specs.Command.TheVariants.{Audit}
-use Rattle.trace_rules.specs.Accepted.{Accepted}
-use Rattle.trace_rules.specs.Bare.{bare_script}
-use Rattle.trace_rules.specs.Traces.{TraceView}
-use Rattle.trace_rules.specs.Verdicts.{IsVerdict}
-use Rattle.trace_rules.specs.declared.verdict.Verdict.{Verdict}
-use Rattle.trace_rules.specs.declared.verdict.Verdict.TheVariants.{Accepted as IsFine, Event as AtEvent, Ticket as AtTicket}
-use Rattle.trace_rules.proofs.Bare.{accepted_back}
-use Rattle.trace_rules.proofs.Serial.{same_entries, same_answer}
+use Rattle.session_journal.specs.Accepted.{Accepted}
+use Rattle.session_journal.specs.Bare.{bare_script}
+use Rattle.session_journal.specs.Traces.{TraceView}
+use Rattle.session_journal.specs.Verdicts.{IsVerdict}
+use Rattle.session_journal.specs.declared.verdict.Verdict.{Verdict}
+use Rattle.session_journal.specs.declared.verdict.Verdict.TheVariants.{Accepted as IsFine, Event as AtEvent, Ticket as AtTicket}
+use Rattle.session_journal.proofs.Bare.{accepted_back}
+use Rattle.session_journal.proofs.TraceRulesSerial.{same_entries, same_answer}
 use Rattle.serve_faults.specs.VerdictText.{accepted, verdict_text}
 use Rattle.serve_faults.specs.Audited.{IsAudited, audited_parts}
 use Rattle.serve_faults.specs.Input.{IsInput, Parts}

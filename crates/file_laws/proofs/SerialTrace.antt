@@ -27,9 +27,9 @@ use Rattle.session_journal.proofs.Replay.{Replays-append, run-append}
 use Rattle.session_journal.proofs.Serial.{EndsBy-rest, serve-answers, serve-calls}
 use Rattle.session_journal.proofs.Serving.{serial_values}
 use Rattle.session_journal.proofs.Values.{AreReplies}
-use Rattle.trace_rules.specs.Accepted.{Accepted, AreAllowed, IsAllowed}
-use Rattle.trace_rules.specs.Traces.{HasKnownSymbol}
-use Rattle.trace_rules.proofs.Allowed.{only_begun}
+use Rattle.session_journal.specs.Accepted.{Accepted, AreAllowed, IsAllowed}
+use Rattle.session_journal.specs.Traces.{HasKnownSymbol}
+use Rattle.session_journal.proofs.Allowed.{only_begun}
 use Rattle.serve_faults.specs.Bounds.{IsHeldEvent}
 use Rattle.file_laws.proofs.Served.{GivesValues}
 

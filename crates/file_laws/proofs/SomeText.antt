@@ -17,10 +17,10 @@ use Rattle.text_lines.specs.Rows.{Row}
 use Rattle.text_lines.specs.Text.{Text}
 use Rattle.request_files.specs.Divide.{is_dividing}
 use Rattle.request_files.specs.TracePart.{before_trace, behind_dividing, behind_trace, is_trace_mark, line_behind_trace}
-use Rattle.trace_rules.specs.Accepted.{Accepted}
-use Rattle.trace_rules.specs.Bare.{bare_script}
-use Rattle.trace_rules.specs.Traces.{TraceView, max_events}
-use Rattle.trace_rules.proofs.Bare.{accepted}
+use Rattle.session_journal.specs.Accepted.{Accepted}
+use Rattle.session_journal.specs.Bare.{bare_script}
+use Rattle.session_journal.specs.Traces.{TraceView, max_events}
+use Rattle.session_journal.proofs.Bare.{accepted}
 use Rattle.trace_lines.specs.EventRows.{AreKnown, event_fault, first_event_fault, names_after, placed_literal, placed_literals, row_event}
 use Rattle.trace_lines.specs.VerdictText.{verdict_text}
 use Rattle.trace_lines.specs.declared.refusal.TraceRefusal.{TraceRefusal}

@@ -5,7 +5,7 @@ use Rattle.session_journal.specs.declared.event.Event.{Event}
 use Rattle.session_journal.specs.Journal.{ended, entries}
 use Rattle.text_lines.specs.Text.{Text}
 use Rattle.handler_syntax.specs.Language.{File}
-use Rattle.trace_rules.specs.Traces.{TraceView}
+use Rattle.session_journal.specs.Traces.{TraceView}
 use Rattle.serve_faults.specs.Audited.{IsTraceOf, audited_parts}
 use Rattle.serve_faults.specs.Session.{IsSession, session_of_parts}
 

@@ -6,7 +6,7 @@ use Rattle.std.specs.List.{AllByRecursion}
 use Rattle.session_values.specs.declared.kind.TableKind.{TableKind}
 use Rattle.session_values.specs.declared.kind.TableKind.TheVariants.{Map, Set}
 use Rattle.session_values.specs.declared.value.Value.TheVariants.{Nil}
-use Rattle.opening_tables.specs.Opening.{AreEntries, HaveNil, IsEntry, IsOpening, Pair, no_entries, with_entry}
+use Rattle.session_values.specs.Opening.{AreEntries, HaveNil, IsEntry, IsOpening, Pair, no_entries, with_entry}
 use Rattle.session_journal.specs.Lists.{list_meaning}
 use Rattle.session_journal.specs.Script.{IsScript}
 use Rattle.hall_stepping.specs.Plans.{MayOpen}

@@ -11,7 +11,7 @@ use Rattle.session_journal.specs.Lists.{HasPlace, ListView, Ticket, allows_more,
 use Rattle.hall_stepping.specs.declared.row.Row.{Row}
 use Rattle.hall_stepping.specs.Plans.{IsFull, IsPlan}
 use Rattle.hall_stepping.specs.Script.{plan_of}
-use Rattle.opening_tables.specs.Opening.{Pair}
+use Rattle.session_values.specs.Opening.{Pair}
 use Rattle.hall_stepping.specs.Rows.{ticket_of, tickets_of}
 
 -- the list whose last ticket calls one operation more, or declares one symbol more

@@ -5,7 +5,7 @@ use Rattle.session_values.specs.declared.op.Op.{Op}
 use Rattle.session_values.specs.declared.reply.Reply.{Reply}
 use Rattle.session_values.specs.Dialogue.{Entry, replies}
 use Rattle.session_values.specs.Serial.{serial, serial_replies}
-use Rattle.session_values.proofs.Entries.{length_replies}
+use Rattle.session_values.proofs.EntriesFacts.{length_replies}
 use Rattle.session_values.proofs.Serial.{at_serial}
 use Rattle.session_journal.specs.Script.{Meaning, IsScript, session_of}
 use Rattle.session_journal.specs.Lists.{ticket_at}

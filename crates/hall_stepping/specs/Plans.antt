@@ -5,8 +5,8 @@ use Rattle.session_values.specs.declared.kind.TableKind.{TableKind}
 use Rattle.session_values.specs.declared.op.Op.{Op}
 use Rattle.session_values.specs.declared.reply.Reply.{Reply}
 use Rattle.session_values.specs.Tables.{Fits}
-use Rattle.opening_tables.specs.Limits.{max_table_lines}
-use Rattle.opening_tables.specs.Opening.{IsEntry, Pair, count_all, entries_of, has_key, with_entry}
+use Rattle.session_values.specs.OpeningTablesLimits.{max_table_lines}
+use Rattle.session_values.specs.Opening.{IsEntry, Pair, count_all, entries_of, has_key, with_entry}
 use Rattle.symbolic_ops.specs.declared.symbol.Symbol.{Symbol}
 use Rattle.symbolic_ops.specs.Matching.{HasNoVar}
 use Rattle.session_journal.specs.Lists.{HasPlace, ListView, allows_more, answers_only, calls_more, last_ticket, with_last}

@@ -1,7 +1,7 @@
 -- What a plan means, as the script that its hall is opened with.
 use Rattle.std.specs.Prelude.{ℕ, List}
 use Rattle.session_values.specs.declared.kind.TableKind.{TableKind}
-use Rattle.opening_tables.specs.Opening.{Pair, tables_of}
+use Rattle.session_values.specs.Opening.{Pair, tables_of}
 use Rattle.session_journal.specs.Lists.{ListView, Ticket, list_meaning}
 use Rattle.session_journal.specs.Script.{Meaning}
 

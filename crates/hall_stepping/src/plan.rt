@@ -4,12 +4,12 @@ ghost use Rattle.std.specs.Prelude.{◌≡◌, ◌≤◌, ◌⊎◌, [], IfOk, l
 ghost use Rattle.std.specs.Bool.{Decides};
 ghost use Rattle.session_values.specs.Limits.{max_requests, max_session_calls, max_symbols, max_tables};
 ghost use Rattle.session_values.specs.Tables.{Fits};
-ghost use Rattle.opening_tables.specs.Opening.{no_entries};
+ghost use Rattle.session_values.specs.Opening.{no_entries};
 ghost use Rattle.hall_stepping.specs.Plans.{AddsCall, AddsEntry, AddsSymbol, AddsTicket, MayOpen};
 
 use crate::planned::Planned;
 use crate::row::Row;
-use opening_tables::{MAX_TABLE_LINES, Opening, laws};
+use session_values::{MAX_TABLE_LINES, Opening, laws};
 use session_journal::ListScript;
 use session_values::{MAX_SYMBOLS, NoMemory, Op, Reply, TableKind, Value};
 use std::alloc::Global;
@@ -34,7 +34,7 @@ pub struct Plan {
 
 impl Model for Plan {
     ghost use Rattle.std.specs.Prelude.{vec_capacity};
-    ghost use Rattle.opening_tables.specs.Opening.{HaveNil};
+    ghost use Rattle.session_values.specs.Opening.{HaveNil};
     ghost use Rattle.hall_stepping.specs.Plans.{IsPlan};
     ghost use Rattle.hall_stepping.specs.Script.{PlanView, plan_of};
 

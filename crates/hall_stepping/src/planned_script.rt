@@ -1,10 +1,10 @@
 // Plans as scripts.
 
 ghost use Rattle.std.specs.Prelude.{◌≡◌};
-ghost use Rattle.opening_tables.specs.Opening.{HaveNil};
+ghost use Rattle.session_values.specs.Opening.{HaveNil};
 ghost use Rattle.hall_stepping.specs.Script.{plan_of};
 
-use opening_tables::{Opening, laws};
+use session_values::{Opening, laws};
 use session_journal::{ListScript, Script, Site};
 use session_values::Value;
 use std::marker::Model;
@@ -19,7 +19,7 @@ pub(crate) struct PlannedScript {
 }
 
 impl Model for PlannedScript {
-    ghost use Rattle.opening_tables.specs.Opening.{IsOpening};
+    ghost use Rattle.session_values.specs.Opening.{IsOpening};
     ghost use Rattle.hall_stepping.specs.Script.{PlanView, plan_of};
 
     ghost Value = { PlanView };

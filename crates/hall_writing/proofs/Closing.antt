@@ -6,7 +6,7 @@ use Rattle.session_hall.specs.declared.hall.Hall.{Hall}
 use Rattle.session_hall.specs.declared.caller.Caller.{Caller}
 use Rattle.session_hall.specs.Closings.{ClosedView, IsDone}
 use Rattle.session_hall.specs.Names.{script_of}
-use Rattle.reply_lane.specs.declared.lane.Lane.{Lane}
+use Rattle.hall_writing.specs.declared.lane.Lane.{Lane}
 use Rattle.hall_writing.specs.declared.job.Job.{Job}
 use Rattle.hall_writing.specs.declared.sheet.Sheet.{Sheet}
 use Rattle.hall_writing.specs.Sheets.{Ends, GoesOn, IsWritten, Progress, Written, progress}

@@ -4,3 +4,4 @@ pub mod Sessions
 pub mod Sheets
 pub mod Since
 mod Taken
+pub mod Carrying

@@ -14,9 +14,9 @@ use Rattle.session_hall.specs.Stages.{IsBetween}
 use Rattle.session_hall.specs.Names.{script_of}
 use Rattle.session_hall.proofs.Rows.{map-read}
 use Rattle.hall_serving.proofs.SerialReplies.{Answers}
-use Rattle.reply_lane.specs.declared.lane.Lane.{Lane}
-use Rattle.reply_lane.specs.declared.lane.End.{End}
-use Rattle.reply_lane.specs.Ends.{IsEndOf, IsNewEnd}
+use Rattle.hall_writing.specs.declared.lane.Lane.{Lane}
+use Rattle.hall_writing.specs.declared.lane.End.{End}
+use Rattle.hall_writing.specs.Ends.{IsEndOf, IsNewEnd}
 use Rattle.reply_sheet.specs.Pending.{PendingView}
 use Rattle.hall_writing.specs.declared.job.Job.{Job}
 use Rattle.hall_writing.specs.declared.sheet.Sheet.{Sheet}

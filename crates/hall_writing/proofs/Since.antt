@@ -6,9 +6,9 @@ use Rattle.admission_book.specs.Methods.{BookView}
 use Rattle.session_hall.specs.declared.holding.Holding.{Holding}
 use Rattle.session_hall.specs.Begun.{begun_by}
 use Rattle.session_hall.specs.Holdings.{begun_at}
-use Rattle.reply_lane.specs.declared.lane.End.{End}
-use Rattle.reply_lane.specs.Ends.{state_of}
-use Rattle.reply_lane.specs.Lanes.{times}
+use Rattle.hall_writing.specs.declared.lane.End.{End}
+use Rattle.hall_writing.specs.Ends.{state_of}
+use Rattle.hall_writing.specs.Lanes.{times}
 use Rattle.hall_serving.specs.KeptJobs.{HasGiven, HasSeenAndGiven, tickets_of}
 use Rattle.hall_serving.proofs.Running.{given_seen}
 use Rattle.reply_sheet.specs.Ready.{ready}

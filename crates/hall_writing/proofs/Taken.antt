@@ -3,9 +3,9 @@ use Rattle.std.proofs.Common.{◌≡◌, ℕ, ◌+◌, ◌<◌, Bool, true, fals
 use Rattle.std.proofs.lemmas.Bool.{eqb-true}
 use Rattle.session_values.specs.declared.reply.Reply.{Reply}
 use Rattle.reply_sheet.specs.Pending.{PendingView, with_kept}
-use Rattle.reply_lane.specs.declared.rule.Spoken.{Spoken}
-use Rattle.reply_lane.specs.declared.rule.EndState.{EndState}
-use Rattle.reply_lane.specs.Lanes.{Found, IsMoment, total, times}
+use Rattle.hall_writing.specs.declared.rule.Spoken.{Spoken}
+use Rattle.hall_writing.specs.declared.rule.EndState.{EndState}
+use Rattle.hall_writing.specs.Lanes.{Found, IsMoment, total, times}
 use Rattle.hall_writing.specs.Sheets.{IsKept, Keeps}
 use Rattle.hall_writing.proofs.Sheets.{keeps_more}
 

@@ -11,11 +11,11 @@ use Rattle.session_hall.specs.declared.caller.Caller.{Caller}
 use Rattle.session_hall.specs.declared.stage.Stage.TheVariants.{Out}
 use Rattle.session_hall.specs.Callers.{IsCallerOf}
 use Rattle.session_hall.specs.Stages.{IsBetween}
-use Rattle.reply_lane.specs.declared.lane.Lane.{Lane}
-use Rattle.reply_lane.specs.declared.lane.End.{End}
-use Rattle.reply_lane.specs.declared.rule.EndState.{EndState}
-use Rattle.reply_lane.specs.Ends.{IsEndOf}
-use Rattle.reply_lane.specs.Lanes.{Offered}
+use Rattle.hall_writing.specs.declared.lane.Lane.{Lane}
+use Rattle.hall_writing.specs.declared.lane.End.{End}
+use Rattle.hall_writing.specs.declared.rule.EndState.{EndState}
+use Rattle.hall_writing.specs.Ends.{IsEndOf}
+use Rattle.hall_writing.specs.Lanes.{Offered}
 use Rattle.reply_sheet.specs.Pending.{PendingView}
 use Rattle.reply_sheet.specs.Printable.{ArePrintableReplies}
 use Rattle.session_hall.specs.Begun.{begun_by}

@@ -7,8 +7,8 @@ use Rattle.session_hall.specs.declared.hall.Hall.{Hall}
 use Rattle.session_hall.specs.declared.caller.Caller.{Caller}
 use Rattle.session_hall.specs.Closings.{Opens}
 use Rattle.session_hall.specs.Names.{script_of}
-use Rattle.reply_lane.specs.declared.lane.Lane.{Lane}
-use Rattle.reply_lane.specs.Ends.{IsEndOf}
+use Rattle.hall_writing.specs.declared.lane.Lane.{Lane}
+use Rattle.hall_writing.specs.Ends.{IsEndOf}
 use Rattle.hall_writing.specs.declared.job.Job.{Job}
 use Rattle.hall_writing.specs.declared.sheet.Sheet.{Sheet}
 use Rattle.hall_writing.specs.Jobs.{IsUnkept, callers_of, ends_of, replies_of}

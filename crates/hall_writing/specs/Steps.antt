@@ -4,8 +4,8 @@ use Rattle.std.specs.Prelude.{◌≡◌, ◌<◌, ◌≤◌, ℕ, length}
 use Rattle.std.specs.Prelude.{List, [], Option, Some, None, Bool, true, false}
 use Rattle.session_values.specs.Limits.{max_requests}
 use Rattle.session_values.specs.declared.reply.Reply.{Reply}
-use Rattle.reply_lane.specs.Ends.{IsEndOf, state_of}
-use Rattle.reply_lane.specs.Lanes.{IsMoment, Offered, times}
+use Rattle.hall_writing.specs.Ends.{IsEndOf, state_of}
+use Rattle.hall_writing.specs.Lanes.{IsMoment, Offered, times}
 use Rattle.reply_sheet.specs.Printable.{ArePrintableReplies}
 use Rattle.reply_sheet.specs.Ready.{ready}
 use Rattle.hall_writing.specs.Sheets.{GoesOn, IsKept, Keeps, KeepsEnded, progress}

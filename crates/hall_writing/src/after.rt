@@ -1,11 +1,11 @@
 // Taking the replies that other callers handed over.
 
 ghost use Rattle.std.specs.Prelude.{◌≡◌, ◌<◌, ℕ, [], false};
-ghost use Rattle.reply_lane.specs.Ends.{IsEndOf, state_of};
-ghost use Rattle.reply_lane.specs.Lanes.{IsMoment, times};
+ghost use Rattle.hall_writing.specs.Ends.{IsEndOf, state_of};
+ghost use Rattle.hall_writing.specs.Lanes.{IsMoment, times};
 ghost use Rattle.hall_writing.specs.Sheets.{IsKept, Keeps};
 
-use reply_lane::{End, Lane};
+use crate::{End, Lane};
 use reply_sheet::Pending;
 use std::sync::Wait;
 

@@ -1,12 +1,12 @@
 // Jobs whose callers hand their replies over.
 
 ghost use Rattle.std.specs.Prelude.{◌≡◌, None};
-ghost use Rattle.reply_lane.specs.Ends.{state_of};
+ghost use Rattle.hall_writing.specs.Ends.{state_of};
 ghost use Rattle.hall_writing.specs.Jobs.{HasOffered, HasServed, IsJobOf, replies_of};
 
 use crate::offering::{MOST_OFFERS, Offering};
 use hall_serving::{Crew, serve_tickets};
-use reply_lane::{End, Lane};
+use crate::{End, Lane};
 use session_hall::{Caller, Holding};
 use session_journal::{Scratch, Serves, Tickets};
 use std::sync::Wait;

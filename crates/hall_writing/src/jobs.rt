@@ -14,7 +14,7 @@ use crate::job::{Job, serve_and_offer};
 use crate::writing::Writing;
 use byte_ends::Sink;
 use hall_serving::{Crew, serve_tickets};
-use reply_lane::Lane;
+use crate::Lane;
 use session_journal::Serves;
 use session_values::Names;
 use std::sync::Wait;

@@ -7,17 +7,24 @@
 #![tactic(auto)]
 
 mod after;
+mod calls;
 mod first;
 mod job;
 mod jobs;
 mod known;
+mod lane;
+pub mod laws;
 mod offering;
+mod opening;
 mod rest;
 mod room;
+mod rule;
 mod serving;
 mod session;
 mod sheet;
 mod writing;
 
+pub use lane::{End, Ends, Lane};
+pub use rule::Spoken;
 pub use serving::serve_and_write;
 pub use session::{WritingSession, open_writing};

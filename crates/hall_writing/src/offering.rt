@@ -1,10 +1,10 @@
 // Handing a reply over to the caller that writes.
 
-ghost use Rattle.reply_lane.specs.Ends.{IsEndOf, state_of};
-ghost use Rattle.reply_lane.specs.Lanes.{IsSpoken, Offered};
+ghost use Rattle.hall_writing.specs.Ends.{IsEndOf, state_of};
+ghost use Rattle.hall_writing.specs.Lanes.{IsSpoken, Offered};
 
 use hall_serving::AfterEnd;
-use reply_lane::{End, Lane, Spoken};
+use crate::{End, Lane, Spoken};
 use session_hall::{Hall, Holding};
 use session_journal::Tickets;
 use session_values::Reply;
@@ -26,7 +26,7 @@ pub(crate) struct Offering<'a> {
 
 impl<'a> AfterEnd for Offering<'a> {
     ghost use Rattle.std.specs.Prelude.{◌≡◌};
-    ghost use Rattle.reply_lane.specs.Ends.{IsEndOf};
+    ghost use Rattle.hall_writing.specs.Ends.{IsEndOf};
     ghost use Rattle.hall_writing.specs.Steps.{HasOfferedAt};
 
     ghost Takes = { λ replies o. IsEndOf o.lane.now replies o.end.now };

@@ -5,7 +5,7 @@ ghost use Rattle.std.specs.List.{AllByRecursion};
 ghost use Rattle.hall_writing.specs.Jobs.{IsUnkept, callers_of, ends_of};
 
 use crate::job::Job;
-use reply_lane::End;
+use crate::End;
 use session_hall::{Caller, Holding};
 use session_journal::{Scratch, Tickets};
 

@@ -8,7 +8,7 @@ use crate::room::begin_jobs;
 use crate::sheet::Sheet;
 use byte_ends::WriteBuffer;
 use hall_serving::make_scratches;
-use reply_lane::Lane;
+use crate::Lane;
 use reply_sheet::Pending;
 use session_hall::{Caller, Hall, Sizes};
 use session_journal::{Script, Tickets};

@@ -5,7 +5,7 @@ use crate::known::keep_known;
 use crate::sheet::Sheet;
 use byte_ends::Sink;
 use hall_serving::AfterEnd;
-use reply_lane::{End, Lane};
+use crate::{End, Lane};
 use reply_sheet::write_ready;
 use session_hall::{Hall, Holding};
 use session_journal::Tickets;

@@ -38,7 +38,7 @@ use Rattle.handler_check.proofs.Held.{IsSmall, AreSmall, IsHeldBlock, held_handl
 use Rattle.handler_check.proofs.Numbers.{numbered}
 use Rattle.handler_check.proofs.Scans.{params_declared}
 use Rattle.handler_check.proofs.Within.{few_calls, little_work, in_file}
-use Rattle.check_rules.proofs.Texts.{declared_append}
+use Rattle.handler_check.proofs.Texts.{declared_append}
 
 pub term_leaf : (variables : List ℕ) (a : Atom) → term_of variables (alone a) ≡ code.Atom (atom_of variables a)
 term_leaf variables (atom.Lit v) = search (rules, the_lemmas)

@@ -8,16 +8,16 @@ use Rattle.syntax_trees.specs.declared.file.Handler.{Handler}
 use Rattle.check_meaning.specs.declared.tree.CheckedHandler.{CheckedHandler}
 use Rattle.check_meaning.specs.Bounds.{calls_bound, work_bound}
 use Rattle.check_meaning.specs.Code.{Code}
-use Rattle.check_rules.specs.declared.refusal.CheckRefusal.{CheckRefusal}
-use Rattle.check_rules.specs.declared.refusal.CheckRefusal.TheVariants.{Twice, Unknown, Arity, WrongTable, RepeatBound, TooManyTables, TooManyHandlers, TooManyVariables, TooManyCalls, TooMuchWork, NoMemory}
-use Rattle.check_rules.specs.FirstFault.{place, number, IsNoLater, KeepsRules}
+use Rattle.handler_check.specs.declared.refusal.CheckRefusal.{CheckRefusal}
+use Rattle.handler_check.specs.declared.refusal.CheckRefusal.TheVariants.{Twice, Unknown, Arity, WrongTable, RepeatBound, TooManyTables, TooManyHandlers, TooManyVariables, TooManyCalls, TooMuchWork, NoMemory}
+use Rattle.handler_check.specs.FirstFault.{place, number, IsNoLater, KeepsRules}
 use Rattle.syntax_trees.specs.Rising.{AreRising, PlacesRise}
 use Rattle.syntax_trees.specs.Marks.{Mark, Declared, mark_at, handler_marks, table_marks}
-use Rattle.check_rules.specs.Rules.{IsBroken}
-use Rattle.check_rules.specs.Scan.{Fault, or_else, fault_if, file_fault}
-use Rattle.check_rules.proofs.Finds.{Faults, Finds, finds_same, finds_both, finds_if}
-use Rattle.check_rules.proofs.Files.{all_first, rising_parts, finds_file}
-use Rattle.check_rules.proofs.Firsts.{one_first}
+use Rattle.handler_check.specs.Rules.{IsBroken}
+use Rattle.handler_check.specs.Scan.{Fault, or_else, fault_if, file_fault}
+use Rattle.handler_check.proofs.Finds.{Faults, Finds, finds_same, finds_both, finds_if}
+use Rattle.handler_check.proofs.Files.{all_first, rising_parts, finds_file}
+use Rattle.handler_check.proofs.Firsts.{one_first}
 use Rattle.handler_check.specs.Checking.{IsAccepted, IsBeyond, IsRefusal}
 use Rattle.handler_check.specs.Excess.{code_excess, own_excess, excess}
 use Rattle.handler_check.specs.Resolved.{IsResolved, table_names, handler_code}

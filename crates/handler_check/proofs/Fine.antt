@@ -12,13 +12,13 @@ use Rattle.session_values.specs.Kinds.{arguments, home}
 use Rattle.syntax_trees.specs.declared.file.File.{File}
 use Rattle.syntax_trees.specs.declared.file.Handler.{Handler}
 use Rattle.syntax_trees.specs.declared.file.TableDecl.{TableDecl}
-use Rattle.check_rules.specs.declared.refusal.CheckRefusal.TheVariants.{Twice, Unknown, Arity, WrongTable, RepeatBound, TooManyTables, TooManyHandlers, TooManyVariables}
-use Rattle.check_rules.specs.FirstFault.{KeepsRules}
+use Rattle.handler_check.specs.declared.refusal.CheckRefusal.TheVariants.{Twice, Unknown, Arity, WrongTable, RepeatBound, TooManyTables, TooManyHandlers, TooManyVariables}
+use Rattle.handler_check.specs.FirstFault.{KeepsRules}
 use Rattle.syntax_trees.specs.Marks.{Mark, Declared, Mentioned, Operation, OnTable, Turns, declared, handler_marks, table_marks, name_marks}
-use Rattle.check_rules.specs.Rules.{Stands, IsPast, IsTwice, kind_of}
-use Rattle.check_rules.specs.Scan.{is_same_kind}
-use Rattle.check_rules.proofs.Finds.{kind_true, kind_false}
-use Rattle.check_rules.proofs.Texts.{declared_append}
+use Rattle.handler_check.specs.Rules.{Stands, IsPast, IsTwice, kind_of}
+use Rattle.handler_check.specs.Scan.{is_same_kind}
+use Rattle.handler_check.proofs.Finds.{kind_true, kind_false}
+use Rattle.handler_check.proofs.Texts.{declared_append}
 use Rattle.handler_check.specs.Resolved.{number_in, variables_of, shape_of, table_names, StandsForTable}
 use Rattle.handler_check.proofs.Meaning.{eq_is, named_at, moved, same_names, Fresh, fresh_text, one_number, stands_for}
 

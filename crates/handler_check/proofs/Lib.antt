@@ -15,9 +15,11 @@ pub mod ExcessLemmas
 pub mod Within
 pub use Rattle.check_meaning.proofs.Bounded
 pub use Rattle.syntax_trees.proofs.Mentions
-pub use Rattle.check_rules.proofs.Files
-pub use Rattle.check_rules.proofs.Finds
 pub use Rattle.check_meaning.proofs.Held as CheckHeld
 pub use Rattle.check_meaning.proofs.Runs
 pub use Rattle.syntax_trees.proofs.Statements
 pub use Rattle.syntax_trees.proofs.Inductions as SyntaxInductions
+pub mod Files
+pub mod Finds
+pub mod Firsts
+pub mod Texts

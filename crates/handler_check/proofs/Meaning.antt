@@ -15,14 +15,14 @@ use Rattle.syntax_trees.specs.declared.file.File.{File}
 use Rattle.syntax_trees.specs.declared.file.Handler.{Handler}
 use Rattle.syntax_trees.specs.declared.file.Param.{Param}
 use Rattle.syntax_trees.proofs.Inductions.{expr_induction}
-use Rattle.check_rules.specs.declared.refusal.CheckRefusal.TheVariants.{Twice, Unknown}
-use Rattle.check_rules.specs.FirstFault.{KeepsRules}
+use Rattle.handler_check.specs.declared.refusal.CheckRefusal.TheVariants.{Twice, Unknown}
+use Rattle.handler_check.specs.FirstFault.{KeepsRules}
 use Rattle.syntax_trees.specs.Marks.{Mark, Declared, Mentioned, Operation, OnTable, Turns, declared, seeing, atom_marks, expr_marks, call_marks, right_marks, cond_marks, marks, param_marks, param_names, handler_marks}
-use Rattle.check_rules.specs.Rules.{Stands, IsTwice}
-use Rattle.check_rules.specs.Scan.{is_among}
+use Rattle.handler_check.specs.Rules.{Stands, IsTwice}
+use Rattle.handler_check.specs.Scan.{is_among}
 use Rattle.syntax_trees.specs.Source.{Source, Finish, Let, Assign, Do, Choose, Repeat, Answer, block_source}
-use Rattle.check_rules.proofs.Finds.{among_in, in_among}
-use Rattle.check_rules.proofs.Texts.{declared_append}
+use Rattle.handler_check.proofs.Finds.{among_in, in_among}
+use Rattle.handler_check.proofs.Texts.{declared_append}
 use Rattle.handler_check.specs.Resolved.{number_in, variables_of, StandsFor}
 use Rattle.syntax_trees.proofs.Statements.{marks_leaf, marks_binary}
 use Rattle.handler_check.proofs.Scans.{params_declared, expr_declares, right_declares, call_declares, cond_declares, all_declare}

@@ -14,13 +14,13 @@ use Rattle.syntax_trees.specs.declared.stmt.Stmt.TheVariants as stmt
 use Rattle.syntax_trees.specs.declared.file.Param.{Param}
 use Rattle.syntax_trees.specs.declared.file.TableDecl.{TableDecl}
 use Rattle.syntax_trees.proofs.Inductions.{expr_induction}
-use Rattle.check_rules.specs.declared.refusal.CheckRefusal.{CheckRefusal}
-use Rattle.check_rules.specs.declared.refusal.CheckRefusal.TheVariants.{NoMemory}
+use Rattle.handler_check.specs.declared.refusal.CheckRefusal.{CheckRefusal}
+use Rattle.handler_check.specs.declared.refusal.CheckRefusal.TheVariants.{NoMemory}
 use Rattle.syntax_trees.specs.Marks.{Mark, Declared, Mentioned, Operation, OnTable, Turns, declared, sees, seeing, atom_marks, expr_marks, call_marks, right_marks, cond_marks, marks, param_marks, param_names}
-use Rattle.check_rules.specs.Scan.{Fault, or_else, Limit, mark_fault, scan, Found}
+use Rattle.handler_check.specs.Scan.{Fault, or_else, Limit, mark_fault, scan, Found}
 use Rattle.syntax_trees.specs.Source.{Source, Finish, Let, Assign, Do, Choose, Repeat, Answer, stmt_source, block_source}
-use Rattle.check_rules.proofs.Finds.{sees_none}
-use Rattle.check_rules.proofs.Texts.{declared_append}
+use Rattle.handler_check.proofs.Finds.{sees_none}
+use Rattle.handler_check.proofs.Texts.{declared_append}
 use Rattle.handler_check.specs.Shown.{first_shown, shown}
 use Rattle.syntax_trees.proofs.Statements.{marks_leaf, marks_binary, source_let, source_assign, source_call, source_choose, source_repeat, source_reply}
 use Rattle.handler_check.proofs.Cases.{stmt_cases}

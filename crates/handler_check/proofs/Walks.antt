@@ -14,10 +14,10 @@ use Rattle.syntax_trees.specs.declared.file.Handler.{Handler}
 use Rattle.syntax_trees.specs.declared.file.Param.{Param}
 use Rattle.syntax_trees.specs.declared.file.TableDecl.{TableDecl}
 use Rattle.syntax_trees.specs.Marks.{Mark, Declared, Mentioned, Turns, declared, seeing, expr_marks, call_marks, right_marks, cond_marks, marks, handler_marks, param_marks, param_names}
-use Rattle.check_rules.specs.Rules.{kind_of}
-use Rattle.check_rules.specs.Scan.{Fault, or_else, declared_fault, turns_fault, Limit, of_handlers, of_variables, scan, scan_handlers}
+use Rattle.handler_check.specs.Rules.{kind_of}
+use Rattle.handler_check.specs.Scan.{Fault, or_else, declared_fault, turns_fault, Limit, of_handlers, of_variables, scan, scan_handlers}
 use Rattle.syntax_trees.specs.Source.{Finish, stmt_source, block_source}
-use Rattle.check_rules.proofs.Texts.{declared_append}
+use Rattle.handler_check.proofs.Texts.{declared_append}
 use Rattle.handler_check.specs.Shown.{first_shown, shown}
 use Rattle.syntax_trees.proofs.Statements.{marks_binary, source_let, source_assign, source_call, source_choose, source_repeat, source_reply}
 use Rattle.handler_check.proofs.Scans.{or_assoc, scan_append, scan_seeing, declared_seeing, expr_declares, right_declares, call_declares, cond_declares, all_declare, params_declared, scan_stmt, declared_stmt}

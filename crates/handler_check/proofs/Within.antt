@@ -9,7 +9,7 @@ use Rattle.syntax_trees.specs.declared.file.File.{File}
 use Rattle.syntax_trees.specs.declared.file.Handler.{Handler}
 use Rattle.check_meaning.specs.Bounds.{bound, adding, calls_bound, adds_bound, work_bound}
 use Rattle.check_meaning.specs.Code.{Code, Finish, Move, Ask, Fork, Loop, Quit}
-use Rattle.check_rules.specs.declared.refusal.CheckRefusal.TheVariants.{TooManyCalls, TooMuchWork}
+use Rattle.handler_check.specs.declared.refusal.CheckRefusal.TheVariants.{TooManyCalls, TooMuchWork}
 use Rattle.handler_check.specs.Checking.{IsAccepted}
 use Rattle.handler_check.specs.Resolved.{handler_code}
 

@@ -5,9 +5,9 @@ use Rattle.session_values.specs.Limits.{max_calls, max_work}
 use Rattle.syntax_trees.specs.declared.file.File.{File}
 use Rattle.syntax_trees.specs.declared.file.Handler.{Handler}
 use Rattle.check_meaning.specs.Bounds.{calls_bound, work_bound}
-use Rattle.check_rules.specs.declared.refusal.CheckRefusal.{CheckRefusal}
-use Rattle.check_rules.specs.declared.refusal.CheckRefusal.TheVariants.{Twice, Unknown, Arity, WrongTable, RepeatBound, TooManyTables, TooManyHandlers, TooManyVariables, TooManyCalls, TooMuchWork, NoMemory}
-use Rattle.check_rules.specs.FirstFault.{IsFirst, IsFirstFault, KeepsRules}
+use Rattle.handler_check.specs.declared.refusal.CheckRefusal.{CheckRefusal}
+use Rattle.handler_check.specs.declared.refusal.CheckRefusal.TheVariants.{Twice, Unknown, Arity, WrongTable, RepeatBound, TooManyTables, TooManyHandlers, TooManyVariables, TooManyCalls, TooMuchWork, NoMemory}
+use Rattle.handler_check.specs.FirstFault.{IsFirst, IsFirstFault, KeepsRules}
 use Rattle.handler_check.specs.Resolved.{handler_code}
 
 -- a handler that may do too much, at the place of its name

@@ -7,8 +7,8 @@ use Rattle.syntax_trees.specs.declared.file.Handler.{Handler}
 use Rattle.check_meaning.specs.declared.tree.CheckedHandler.{CheckedHandler}
 use Rattle.check_meaning.specs.Bounds.{calls_bound, work_bound}
 use Rattle.check_meaning.specs.Code.{Code, block_code}
-use Rattle.check_rules.specs.declared.refusal.CheckRefusal.TheVariants.{TooManyCalls, TooMuchWork}
-use Rattle.check_rules.specs.Scan.{Fault, or_else, fault_if}
+use Rattle.handler_check.specs.declared.refusal.CheckRefusal.TheVariants.{TooManyCalls, TooMuchWork}
+use Rattle.handler_check.specs.Scan.{Fault, or_else, fault_if}
 use Rattle.handler_check.specs.Resolved.{IsResolved}
 
 -- a handler with this code, at this place: its calls are looked at before its work

@@ -6,8 +6,6 @@ pub mod Checked
 pub mod Excess
 pub use Rattle.check_meaning.specs.Bounds
 pub use Rattle.syntax_trees.specs.Mentions
-pub use Rattle.check_rules.specs.FirstFault
-pub use Rattle.check_rules.specs.declared.refusal.CheckRefusal
 pub use Rattle.check_meaning.specs.Code
 pub use Rattle.syntax_trees.specs.declared.file.File
 pub use Rattle.syntax_trees.specs.declared.file.Handler
@@ -15,8 +13,6 @@ pub use Rattle.check_meaning.specs.Dialogue
 pub use Rattle.check_meaning.specs.declared.tree.CheckedAtom
 pub use Rattle.syntax_trees.specs.Marks
 pub use Rattle.syntax_trees.specs.declared.file.TableDecl
-pub use Rattle.check_rules.specs.Rules
-pub use Rattle.check_rules.specs.Scan
 pub use Rattle.check_meaning.specs.Keeps
 pub use Rattle.check_meaning.specs.Within
 pub use Rattle.check_meaning.specs.declared.tree.CheckedCall
@@ -28,3 +24,6 @@ pub use Rattle.syntax_trees.specs.declared.stmt.Right
 pub use Rattle.syntax_trees.specs.declared.expr.Calc
 pub use Rattle.syntax_trees.specs.declared.stmt.Cond
 pub use Rattle.syntax_trees.specs.declared.stmt.Stmt
+pub mod FirstFault
+pub mod Rules
+pub mod Scan

@@ -7,13 +7,13 @@ ghost use Rattle.handler_check.specs.Checking.{IsAccepted, IsRefusal};
 ghost use Rattle.handler_check.specs.Resolved.{IsResolved, code_at, table_names};
 ghost use Rattle.check_meaning.specs.Code.{block_code};
 ghost use Rattle.syntax_trees.specs.Bounds.{KeepsBounds};
-ghost use Rattle.check_rules.specs.declared.refusal.CheckRefusal.TheVariants as refusal;
+ghost use Rattle.handler_check.specs.declared.refusal.CheckRefusal.TheVariants as refusal;
 ghost use Rattle.syntax_trees.specs.Rising.{PlacesRise};
 
 use crate::looking::look;
 use crate::resolution::resolve_handler;
 use check_meaning::CheckedHandler;
-use check_rules::CheckRefusal;
+use crate::CheckRefusal;
 use session_values::{Listed, NoMemory};
 use std::alloc::Global;
 use std::marker::Model;

@@ -10,14 +10,14 @@ ghost use Rattle.handler_check.specs.Resolved.{IsResolved, code_at, params_at, s
 ghost use Rattle.check_meaning.specs.Bounds as spec;
 ghost use Rattle.check_meaning.specs.Code.{block_code, points};
 ghost use Rattle.syntax_trees.specs.Bounds.{KeepsBounds};
-ghost use Rattle.check_rules.specs.declared.refusal.CheckRefusal.TheVariants as refusal;
+ghost use Rattle.handler_check.specs.declared.refusal.CheckRefusal.TheVariants as refusal;
 ghost use Rattle.syntax_trees.specs.Rising.{PlacesRise};
 
 use crate::bounds::{Counted, HandlerBounds, count_calls};
 use crate::excess::bound_all;
 use crate::resolution::resolve;
 use check_meaning::CheckedHandler;
-use check_rules::CheckRefusal;
+use crate::CheckRefusal;
 use session_values::{Listed, NoMemory, TableKind};
 use std::alloc::Global;
 use std::marker::Model;

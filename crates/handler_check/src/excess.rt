@@ -5,13 +5,13 @@ ghost use Rattle.std.specs.List.{AllZip};
 ghost use Rattle.std.specs.Result.{result_err};
 ghost use Rattle.handler_check.specs.Checked.{AreBoundsOf};
 ghost use Rattle.handler_check.specs.Excess as spec;
-ghost use Rattle.check_rules.specs.Scan.{Found};
+ghost use Rattle.handler_check.specs.Scan.{Found};
 
 use crate::bounds::{Counted, HandlerBounds, count_calls};
 use crate::resolution::listed;
 use crate::work::count_work;
 use check_meaning::CheckedHandler;
-use check_rules::CheckRefusal;
+use crate::CheckRefusal;
 use session_values::{Listed, MAX_CALLS, MAX_WORK};
 use std::alloc::Global;
 

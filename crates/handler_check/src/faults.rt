@@ -9,13 +9,13 @@ ghost use Rattle.std.specs.Prelude.{◌≡◌, ℕ, List, [], IfOk, map};
 ghost use Rattle.syntax_trees.specs.declared.file.TableDecl.{TableDecl};
 ghost use Rattle.handler_check.specs.Resolved.{variables_of};
 ghost use Rattle.syntax_trees.specs.Marks.{handler_marks, param_marks, param_names, table_marks};
-ghost use Rattle.check_rules.specs.Scan.{Found, of_tables, of_variables, scan};
+ghost use Rattle.handler_check.specs.Scan.{Found, of_tables, of_variables, scan};
 
 pub(crate) use self::names::declare;
 use self::names::declare_variable;
 use self::stmt::find_in_block;
 use crate::resolution::listed;
-use check_rules::CheckRefusal;
+use crate::CheckRefusal;
 use session_values::{Listed, MAX_TABLES, NoMemory};
 use std::alloc::Global;
 use syntax_trees::{Handler, Param, TableDecl};

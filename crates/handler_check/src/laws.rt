@@ -11,12 +11,12 @@ ghost use Rattle.handler_check.specs.Checking.{IsAccepted, IsRefusal};
 ghost use Rattle.handler_check.specs.Resolved.{StandsFor, StandsForTable, handler_code, number_in, points_of, table_names, variables_of};
 ghost use Rattle.check_meaning.specs.Code.{IsNumbered, points};
 ghost use Rattle.syntax_trees.specs.Bounds.{KeepsBounds};
-ghost use Rattle.check_rules.specs.declared.refusal.CheckRefusal.{CheckRefusal};
-ghost use Rattle.check_rules.specs.declared.refusal.CheckRefusal.TheVariants as refusal;
-ghost use Rattle.check_rules.specs.FirstFault.{KeepsRules};
+ghost use Rattle.handler_check.specs.declared.refusal.CheckRefusal.{CheckRefusal};
+ghost use Rattle.handler_check.specs.declared.refusal.CheckRefusal.TheVariants as refusal;
+ghost use Rattle.handler_check.specs.FirstFault.{KeepsRules};
 ghost use Rattle.syntax_trees.specs.Rising.{PlacesRise};
 ghost use Rattle.syntax_trees.specs.Marks.{Mark, Declared, Mentioned, OnTable, declared, handler_marks, table_marks};
-ghost use Rattle.check_rules.specs.Rules.{Stands};
+ghost use Rattle.handler_check.specs.Rules.{Stands};
 ghost use Rattle.syntax_trees.specs.Source.{block_source};
 
 /// The points of a resolved handler are numbered in the order of its text, from 1 behind its entry.

@@ -3,14 +3,16 @@
 
 mod accepted;
 mod bounds;
+pub mod check_rules_laws;
 mod checked;
 mod excess;
 mod faults;
 pub mod laws;
 mod looking;
+mod refusal;
 mod resolution;
 mod work;
 
 pub use accepted::{Accepted, accept};
-pub use check_rules::CheckRefusal;
 pub use checked::{Checked, check};
+pub use refusal::CheckRefusal;

@@ -3,16 +3,16 @@
 ghost use Rattle.std.specs.Prelude.{◌≡◌, ◌≢◌, [], IfOk, MatchResult};
 ghost use Rattle.handler_check.specs.Excess as spec;
 ghost use Rattle.handler_check.specs.Resolved.{table_names};
-ghost use Rattle.check_rules.specs.declared.refusal.CheckRefusal.TheVariants as refusal;
-ghost use Rattle.check_rules.specs.FirstFault.{IsFirstFault, KeepsRules};
+ghost use Rattle.handler_check.specs.declared.refusal.CheckRefusal.TheVariants as refusal;
+ghost use Rattle.handler_check.specs.FirstFault.{IsFirstFault, KeepsRules};
 ghost use Rattle.syntax_trees.specs.Rising.{PlacesRise};
-ghost use Rattle.check_rules.specs.Scan.{Found, file_fault, scan_handlers};
+ghost use Rattle.handler_check.specs.Scan.{Found, file_fault, scan_handlers};
 
 use crate::excess::bound_handler;
 use crate::faults::find_in_tables;
 use crate::resolution::resolve_next;
-use check_rules::CheckRefusal;
-use check_rules::laws::walk_finds_first;
+use crate::CheckRefusal;
+use crate::check_rules_laws::walk_finds_first;
 use session_values::Listed;
 use std::alloc::Global;
 use syntax_trees::{File, Handler, TableDecl};

@@ -6,19 +6,19 @@ ghost use Rattle.std.specs.Prelude.{◌≡◌, ◌≢◌, ◌+◌, ◌++◌, ◌
 ghost use Rattle.std.specs.List.{AllZip};
 ghost use Rattle.handler_check.specs.Resolved as spec;
 ghost use Rattle.check_meaning.specs.Code.{Code, Ask, block_code, stmt_code};
-ghost use Rattle.check_rules.specs.declared.refusal.CheckRefusal.TheVariants as refusal;
-ghost use Rattle.check_rules.specs.FirstFault.{IsFirstFault, KeepsRules};
+ghost use Rattle.handler_check.specs.declared.refusal.CheckRefusal.TheVariants as refusal;
+ghost use Rattle.handler_check.specs.FirstFault.{IsFirstFault, KeepsRules};
 ghost use Rattle.syntax_trees.specs.Rising.{PlacesRise};
 ghost use Rattle.syntax_trees.specs.Marks.{handler_marks};
-ghost use Rattle.check_rules.specs.Scan.{Found, declared_fault, file_fault, of_handlers, of_variables, or_else, scan, scan_handlers};
+ghost use Rattle.handler_check.specs.Scan.{Found, declared_fault, file_fault, of_handlers, of_variables, or_else, scan, scan_handlers};
 ghost use Rattle.syntax_trees.specs.Source.{Source, block_source, stmt_source};
 
 pub(crate) use self::expr::listed;
 use self::expr::{number_in, resolve_call, resolve_cond, resolve_expr, resolve_values};
 use crate::faults::{declare, find_in_handler, find_in_tables};
 use check_meaning::{CheckedBlock, CheckedHandler, CheckedStmt};
-use check_rules::CheckRefusal;
-use check_rules::laws::walk_finds_first;
+use crate::CheckRefusal;
+use crate::check_rules_laws::walk_finds_first;
 use session_values::{Listed, MAX_HANDLERS, NoMemory};
 use std::alloc::Global;
 use syntax_trees::{Call, File, Handler, Right, Stmt, TableDecl};

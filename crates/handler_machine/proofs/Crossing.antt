@@ -33,7 +33,7 @@ use Rattle.may_use_analysis.proofs.later.Later.TheSendSync as later
 use Rattle.declaration_insertion.specs.contracts.program.Program as program
 use Rattle.declaration_insertion.proofs.facts.PointFacts.TheSendSync as point_facts
 use Rattle.request_files.proofs.requests.Requests.TheSendSync as requests
-use Rattle.opening_tables.proofs.opening.Opening.TheSendSync as opening
+use Rattle.session_values.proofs.opening.Opening.TheSendSync as opening
 use Rattle.handler_machine.specs.contracts.scripts.Scripts as scripts
 
 expr_field : IsSync (expr.the_field).row

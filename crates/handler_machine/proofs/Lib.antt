@@ -8,3 +8,9 @@ pub mod Promised
 pub mod Served
 pub mod Sites
 pub mod Unchanged
+pub mod Answering
+pub mod Asked
+pub mod Calculating
+pub mod Codes
+pub mod Steps
+pub mod Wholes

@@ -6,7 +6,7 @@ use Rattle.session_values.specs.declared.reply.Reply.{Reply}
 use Rattle.session_values.specs.declared.value.Value.{Value}
 use Rattle.session_values.specs.Dialogue.{Calls as NextCalls, Answers as NextAnswers, Dialogue, Entry, Follows, replies}
 use Rattle.session_values.specs.Values.{IsValue}
-use Rattle.session_values.proofs.Entries.{follows_more, length_replies}
+use Rattle.session_values.proofs.EntriesFacts.{follows_more, length_replies}
 use Rattle.symbolic_ops.specs.declared.symbol.Symbol.{Symbol}
 use Rattle.symbolic_ops.specs.Matching.{Covered, Matches}
 use Rattle.session_journal.specs.Desks.{DeskView, MayFinish, MayNarrow, due_of, finished, next_of, with_end, with_entry, with_present, with_waiting}
@@ -14,7 +14,7 @@ use Rattle.session_journal.specs.Served.{IsServed, IsStopped}
 use Rattle.check_meaning.specs.Ahead.{Ahead, asked, passing}
 use Rattle.check_meaning.specs.Dialogue.{Env, Place, Outcome, Calls, after, ended, last_place, last_replied, pass, passed_by}
 use Rattle.check_meaning.proofs.Runs.{after_none, ended_after, passed_after}
-use Rattle.machine_walk.proofs.Asked.{replies_more}
+use Rattle.handler_machine.proofs.Asked.{replies_more}
 use Rattle.declaration_insertion.specs.Promises.{Declarations, IsCoveredChain, list_at}
 use Rattle.handler_machine.specs.Serving.{Course, Declares, Gives, IsAwaiting, IsServing, Promises, Serving, replied_count}
 use Rattle.handler_machine.proofs.Places.{after_snoc, count_append, last_append, none_replied, replied_append}

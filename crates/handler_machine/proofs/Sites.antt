@@ -12,7 +12,7 @@ use Rattle.handler_check.proofs.Codes.{all_within}
 use Rattle.may_use_analysis.specs.Own.{IsOfHandler}
 use Rattle.declaration_insertion.specs.Program.{declared_at}
 use Rattle.declaration_insertion.proofs.Programs.{program_own, program_vars}
-use Rattle.opening_tables.specs.Opening.{Pair}
+use Rattle.session_values.specs.Opening.{Pair}
 use Rattle.handler_machine.specs.Scripts.{KeepsScripts, ScriptsView, meaning, meaning_over, points_in}
 use Rattle.handler_machine.specs.Serving.{DeclaresHandler}
 

@@ -1,3 +1,7 @@
 pub mod Scripts
 pub mod Serving
-pub use Rattle.machine_walk.specs.Asking
+pub mod Asking
+pub mod Leading
+pub mod Numbers
+pub mod Rounds
+pub mod Runnable

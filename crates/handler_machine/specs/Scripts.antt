@@ -1,7 +1,7 @@
 -- What the requests of a program mean, as the script of a session.
 use Rattle.std.specs.Prelude.{ℕ, ◌+◌, List, length, Option, Some, None, slice_get}
 use Rattle.symbolic_ops.specs.declared.symbol.Symbol.{Symbol}
-use Rattle.opening_tables.specs.Opening.{IsOpening, Pair, tables_of}
+use Rattle.session_values.specs.Opening.{IsOpening, Pair, tables_of}
 use Rattle.session_journal.specs.Script.{Meaning}
 use Rattle.syntax_trees.specs.declared.file.File.{File}
 use Rattle.syntax_trees.specs.declared.file.Handler.{Handler}

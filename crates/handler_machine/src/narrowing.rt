@@ -15,7 +15,7 @@ ghost use Rattle.handler_machine.specs.Serving.{course_of, list_with};
 
 use crate::telling::TellsLate;
 use declaration_insertion::Program;
-use machine_walk::Guide;
+use crate::Guide;
 use session_journal::{Desk, Site};
 use session_values::{NoMemory, Op, Value};
 use std::sync::Wait;

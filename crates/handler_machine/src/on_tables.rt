@@ -1,6 +1,6 @@
 // Operations answered by plain tables.
 
-use machine_walk::Answerer;
+use crate::Answerer;
 use plain_tables::PlainTables;
 use session_values::{NoMemory, Op, Value};
 

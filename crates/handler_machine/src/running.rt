@@ -3,10 +3,10 @@
 ghost use Rattle.std.specs.Prelude.{◌≡◌, ◌<◌, false, length, IfOk, OnErr};
 ghost use Rattle.check_meaning.specs.Dialogue.{env_of, next};
 ghost use Rattle.handler_check.specs.Resolved.{code_at, params_at, shape_of};
-ghost use Rattle.machine_walk.specs.Asking.{Breaks, Runs, Stays};
+ghost use Rattle.handler_machine.specs.Asking.{Breaks, Runs, Stays};
 
 use handler_check::Checked;
-use machine_walk::{Answerer, run_body};
+use crate::{Answerer, run_body};
 use session_journal::Scratch;
 use session_values::{NoMemory, Reply, Value};
 

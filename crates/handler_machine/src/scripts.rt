@@ -2,10 +2,10 @@
 
 ghost use Rattle.std.specs.Prelude.{◌≡◌, ◌<◌, ◌≤◌, List, [], None, false, length, IfOk, OnErr};
 ghost use Rattle.session_values.specs.Limits.{max_tables};
-ghost use Rattle.opening_tables.specs.Opening.{IsOpening, Pair};
+ghost use Rattle.session_values.specs.Opening.{IsOpening, Pair};
 ghost use Rattle.session_journal.specs.Served.{IsServed, IsStopped};
 ghost use Rattle.handler_check.specs.Resolved.{shape_of};
-ghost use Rattle.machine_walk.specs.Asking.{Breaks, Runs, Stays};
+ghost use Rattle.handler_machine.specs.Asking.{Breaks, Runs, Stays};
 ghost use Rattle.request_files.specs.Servable.{IsServable};
 ghost use Rattle.handler_machine.specs.Scripts.{meaning, meaning_over};
 
@@ -14,8 +14,8 @@ use crate::serving::serve_one;
 use crate::sums::{args_of, count_adds, count_calls, handler_of};
 use declaration_insertion::Program;
 use handler_check::Checked;
-use machine_walk::{Answerer, put_args, set_up};
-use opening_tables::Opening;
+use crate::{Answerer, put_args, set_up};
+use session_values::Opening;
 use request_files::Requests;
 use session_journal::{Desk, Scratch, Script, Serves, Site};
 use session_values::{MAX_VARIABLES, NoMemory, Reply, TableKind, Value};

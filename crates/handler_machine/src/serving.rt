@@ -4,7 +4,7 @@ ghost use Rattle.std.specs.Prelude.{◌≡◌, ◌+◌, ◌≤◌, ◌<◌, [], 
 ghost use Rattle.session_values.specs.Limits.{max_variables};
 ghost use Rattle.check_meaning.specs.Code.{block_code, points};
 ghost use Rattle.check_meaning.specs.Dialogue.{entry, env_of, run};
-ghost use Rattle.machine_walk.specs.Runnable.{IsRunnable};
+ghost use Rattle.handler_machine.specs.Runnable.{IsRunnable};
 ghost use Rattle.session_journal.specs.Served.{IsServed, IsStopped};
 ghost use Rattle.handler_check.specs.Resolved.{code_at, params_at};
 ghost use Rattle.declaration_insertion.specs.Promises.{list_at};
@@ -15,7 +15,7 @@ use crate::narrowing::Narrowing;
 use crate::telling::TellsLate;
 use check_meaning::CheckedBlock;
 use declaration_insertion::Program;
-use machine_walk::{set_up, walk_body};
+use crate::{set_up, walk_body};
 use session_journal::{Desk, Scratch, Script, Site};
 use session_values::{NoMemory, Value};
 use std::sync::Wait;

@@ -1,6 +1,6 @@
 -- The words of an atom are read again.
 use Rattle.std.proofs.Common.{◌≡◌, zero, suc, refl, arith}
-use Rattle.syntax_tokens.specs.declared.word.Sort.TheVariants as sort
+use Rattle.syntax_grammar.specs.declared.word.Sort.TheVariants as sort
 use Rattle.syntax_grammar.specs.Phrase.{AtomPhrase, name_atom, nil_atom, symbol_atom, number_atom, negative_atom, digits, atom_words}
 use Rattle.syntax_grammar.specs.Tree.{atom_tree}
 use Rattle.syntax_grammar.specs.Limits.{AtomFits}

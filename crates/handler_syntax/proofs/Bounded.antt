@@ -1,7 +1,7 @@
 -- A file within the limits keeps its bounds.
 use Rattle.std.proofs.Common.{◌≡◌, ℕ, suc, ◌+◌, ◌≤◌, ◌^◌, List, [], ◌∷◌, ◌++◌, length, refl, sym, ap, subst, arith, rules}
 use Rattle.std.specs.List.{AllByRecursion, flat_map}
-use Rattle.syntax_tokens.specs.declared.word.Word.{Word}
+use Rattle.syntax_grammar.specs.declared.word.Word.{Word}
 use Rattle.syntax_trees.specs.declared.expr.Expr.{Expr}
 use Rattle.syntax_trees.specs.declared.stmt.Call.{Call}
 use Rattle.syntax_trees.specs.declared.stmt.Cond.{Cond}

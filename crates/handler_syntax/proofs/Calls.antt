@@ -1,7 +1,7 @@
 -- The canonical words of operations, right sides, conditions and replies are read again.
 use Rattle.std.proofs.Common.{◌≡◌, ℕ, suc, ◌≤◌, List, ◌∷◌, map, refl, sym, ap, ◌∙◌, subst}
 use Rattle.session_values.specs.declared.kind.Kind.{Kind}
-use Rattle.syntax_tokens.specs.declared.word.Sort.TheVariants as sort
+use Rattle.syntax_grammar.specs.declared.word.Sort.TheVariants as sort
 use Rattle.syntax_trees.specs.declared.expr.Atom.{Atom}
 use Rattle.syntax_trees.specs.declared.expr.Expr.{Expr}
 use Rattle.syntax_trees.specs.declared.stmt.Call.{Call}

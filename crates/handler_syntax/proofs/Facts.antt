@@ -1,6 +1,6 @@
 -- A text has one tree at most and one first fault at most, and not both.
 use Rattle.std.proofs.Common.{◌≡◌, ℕ, List, length, None, Some, sym, ap, ◌∙◌}
-use Rattle.syntax_tokens.specs.Words.{words_of}
+use Rattle.syntax_grammar.specs.Words.{words_of}
 use Rattle.syntax_trees.specs.declared.file.File.{File}
 use Rattle.syntax_grammar.specs.Parsed.{IsSourceOf, HasFault}
 use Rattle.syntax_grammar.specs.Next.{fault, whole_file}
@@ -9,7 +9,7 @@ use Rattle.syntax_grammar.proofs.FitsFile.{passed_whole}
 use Rattle.syntax_grammar.proofs.Found as found
 use Rattle.syntax_grammar.proofs.Said as said
 use Rattle.syntax_trees.specs.Mentions.{a_name, a_symbol}
-use Rattle.syntax_tokens.specs.Texts.{HasText}
+use Rattle.syntax_grammar.specs.Texts.{HasText}
 use Rattle.session_values.specs.Names.{IsNamed}
 pub use Rattle.session_values.proofs.Lists.{all_join}
 pub use Rattle.syntax_trees.proofs.Mentions.{mentions_leaf, mentions_binary, mentions_let, mentions_assign, mentions_perform, mentions_choose, mentions_repeat, mentions_answer, all_first}

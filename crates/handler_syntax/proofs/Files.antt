@@ -1,9 +1,9 @@
 -- The canonical words of a file are read again.
 use Rattle.std.proofs.Common.{◌≡◌, ℕ, List, [], ◌∷◌, map, refl, sym, ap, ◌∙◌, subst}
 use Rattle.session_values.specs.Names.{AreDistinct}
-use Rattle.syntax_tokens.specs.declared.word.Sort.TheVariants as sort
-use Rattle.syntax_tokens.specs.declared.word.Word.{Word}
-use Rattle.syntax_tokens.specs.Words.{words_of, names_of}
+use Rattle.syntax_grammar.specs.declared.word.Sort.TheVariants as sort
+use Rattle.syntax_grammar.specs.declared.word.Word.{Word}
+use Rattle.syntax_grammar.specs.Words.{words_of, names_of}
 use Rattle.syntax_trees.specs.declared.stmt.Stmt.{Stmt}
 use Rattle.syntax_trees.specs.declared.file.Param.{Param}
 use Rattle.syntax_trees.specs.declared.file.TableDecl.{TableDecl}
@@ -14,7 +14,7 @@ use Rattle.syntax_grammar.specs.Tree.{param_of, more_params_trees, params_trees,
 use Rattle.syntax_grammar.specs.Limits.{HandlersFit, FileFits, IsFileWithin}
 use Rattle.syntax_printer.specs.Canonical.{canonical_text}
 use Rattle.syntax_printer.specs.CanonicalWords.{each_sorts, further_sorts, listed_sorts, param_sorts, handler_sorts, table_sorts, canonical_words}
-use Rattle.syntax_tokens.specs.Texts.{IsNamedFile}
+use Rattle.syntax_grammar.specs.Texts.{IsNamedFile}
 use Rattle.syntax_grammar.proofs.Said.{file_readable}
 use Rattle.syntax_printer.proofs.ReadBack as printed
 use Rattle.handler_syntax.specs.SameTree.{stmt_bare, param_bare, table_bare, handler_bare, file_bare, SameTree}

@@ -15,4 +15,4 @@ pub mod Stmts
 pub mod Words
 pub mod TextsKept
 pub use Rattle.syntax_grammar.proofs.Said
-pub use Rattle.syntax_tokens.proofs.NamesGrow
+pub use Rattle.syntax_grammar.proofs.NamesGrow

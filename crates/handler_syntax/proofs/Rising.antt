@@ -1,12 +1,12 @@
 -- The places of a source's file rise in the order of its text.
 use Rattle.std.proofs.Common.{◌≡◌, ℕ, zero, suc, ◌+◌, ◌-◌, ◌<◌, ◌≤◌, false, List, [], ◌∷◌, ◌++◌, append-nil, map, refl, sym, ap, subst, arith, rules}
 use Rattle.std.specs.List.{AllByRecursion, flat_map}
-use Rattle.syntax_tokens.specs.declared.word.Sort.{Sort}
-use Rattle.syntax_tokens.specs.declared.word.Sort.TheVariants as sort
-use Rattle.syntax_tokens.specs.declared.word.Word.{Word}
-use Rattle.syntax_tokens.specs.Scan.{gap, scan}
-use Rattle.syntax_tokens.specs.Tokens.{Piece, pieces, behind_gap}
-use Rattle.syntax_tokens.specs.Words.{names_after, word_after, words, words_of}
+use Rattle.syntax_grammar.specs.declared.word.Sort.{Sort}
+use Rattle.syntax_grammar.specs.declared.word.Sort.TheVariants as sort
+use Rattle.syntax_grammar.specs.declared.word.Word.{Word}
+use Rattle.syntax_grammar.specs.Scan.{gap, scan}
+use Rattle.syntax_grammar.specs.Tokens.{Piece, pieces, behind_gap}
+use Rattle.syntax_grammar.specs.Words.{names_after, word_after, words, words_of}
 use Rattle.syntax_trees.specs.declared.expr.Atom.{Atom}
 use Rattle.syntax_trees.specs.declared.expr.Atom.TheVariants as atom
 use Rattle.syntax_trees.specs.declared.expr.Calc.{Calc}

@@ -4,10 +4,10 @@ use Rattle.std.specs.List.{list_any}
 use Rattle.std.specs.Str.{bytes_eq}
 use Rattle.session_values.specs.Names.{AreDistinct, with_text}
 use Rattle.session_values.proofs.NamesLemmas.{AreDistinct-push, with_known, with_new}
-use Rattle.syntax_tokens.specs.declared.token_kind.TokenKind.{TokenKind}
-use Rattle.syntax_tokens.specs.declared.token_kind.TokenKind.TheVariants as kind
-use Rattle.syntax_tokens.specs.Tokens.{Piece, pieces}
-use Rattle.syntax_tokens.specs.Words.{unquoted, names_by, names_after, names_behind, words_of, names_of}
+use Rattle.syntax_grammar.specs.declared.token_kind.TokenKind.{TokenKind}
+use Rattle.syntax_grammar.specs.declared.token_kind.TokenKind.TheVariants as kind
+use Rattle.syntax_grammar.specs.Tokens.{Piece, pieces}
+use Rattle.syntax_grammar.specs.Words.{unquoted, names_by, names_after, names_behind, words_of, names_of}
 use Rattle.syntax_trees.specs.declared.file.File.{File}
 use Rattle.syntax_grammar.specs.Limits.{IsFileWithin}
 use Rattle.syntax_printer.specs.Canonical.{canonical_text}

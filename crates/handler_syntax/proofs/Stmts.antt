@@ -1,9 +1,9 @@
 -- The canonical words of statements and blocks are read again.
 use Rattle.std.proofs.Common.{◌≡◌, ℕ, ◌+◌, ◌<◌, List, ◌∷◌, map, refl, sym, ap, ◌∙◌}
 use Rattle.session_values.specs.Limits.{max_depth}
-use Rattle.syntax_tokens.specs.declared.word.Sort.{Sort}
-use Rattle.syntax_tokens.specs.declared.word.Sort.TheVariants as sort
-use Rattle.syntax_tokens.specs.declared.word.Word.{Word}
+use Rattle.syntax_grammar.specs.declared.word.Sort.{Sort}
+use Rattle.syntax_grammar.specs.declared.word.Sort.TheVariants as sort
+use Rattle.syntax_grammar.specs.declared.word.Word.{Word}
 use Rattle.syntax_trees.specs.declared.stmt.Stmt.TheVariants as stmt
 use Rattle.syntax_grammar.specs.Phrase.{word, named, digits, a_turns, StmtPhrase, let_stmt, assign_stmt, call_stmt, if_stmt, repeat_stmt, reply_stmt, ElsePhrase, no_else, an_else, StmtsPhrase, no_stmt, more_stmts, block, stmt_words, else_words, stmts_words}
 use Rattle.syntax_grammar.specs.Tree.{right_tree, call_tree, cond_tree, values_trees, stmt_tree, else_trees, stmts_trees}

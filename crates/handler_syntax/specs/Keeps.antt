@@ -1,8 +1,8 @@
 -- What a file of handlers keeps, and what its text is.
 use Rattle.std.specs.Prelude.{◌≡◌, ℕ, ◌^◌, List}
-use Rattle.syntax_tokens.specs.declared.word.Word.{Word}
-use Rattle.syntax_tokens.specs.Texts.{IsNamedFile}
-use Rattle.syntax_tokens.specs.Words.{names_of}
+use Rattle.syntax_grammar.specs.declared.word.Word.{Word}
+use Rattle.syntax_grammar.specs.Texts.{IsNamedFile}
+use Rattle.syntax_grammar.specs.Words.{names_of}
 use Rattle.syntax_trees.specs.declared.file.File.{File}
 use Rattle.syntax_trees.specs.Mentions.{AreBelow, file_mentions}
 use Rattle.syntax_grammar.specs.Limits.{IsFileWithin}

@@ -18,8 +18,8 @@ pub use Rattle.syntax_trees.specs.declared.file.Param.{Param}
 pub use Rattle.syntax_trees.specs.declared.file.Handler.{Handler}
 pub use Rattle.syntax_trees.specs.declared.file.File.{File}
 pub use Rattle.syntax_trees.specs.Mentions.{Mention, a_name, a_symbol, a_number, value_mentions, atom_mentions, expr_mentions, call_mentions, right_mentions, cond_mentions, stmt_mentions, table_mentions, param_mentions, handler_mentions, file_mentions, AreNamed}
-pub use Rattle.syntax_tokens.specs.Texts.{HasText, HaveTexts, IsNamedFile}
-pub use Rattle.syntax_tokens.specs.Words.{names_of}
+pub use Rattle.syntax_grammar.specs.Texts.{HasText, HaveTexts, IsNamedFile}
+pub use Rattle.syntax_grammar.specs.Words.{names_of}
 pub use Rattle.syntax_grammar.specs.Parsed.{Parsed, IsSourceOf, HasFault}
 pub use Rattle.syntax_grammar.specs.declared.refusals.SyntaxRefusal.{SyntaxRefusal}
 pub use Rattle.syntax_grammar.specs.declared.refusals.SyntaxRefusal.TheVariants as syntax_refusal

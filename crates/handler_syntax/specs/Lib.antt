@@ -2,4 +2,4 @@ pub mod Keeps
 pub mod Language
 pub mod Parentheses
 pub mod SameTree
-pub use Rattle.syntax_tokens.specs.Words
+pub use Rattle.syntax_grammar.specs.Words

@@ -4,7 +4,7 @@ ghost use Rattle.std.specs.Prelude.{◌≡◌, ◌≢◌, ◌≤◌, ◌<◌, �
 ghost use Rattle.session_values.specs.Limits.{max_input};
 ghost use Rattle.session_values.specs.Names.{Begins};
 ghost use Rattle.syntax_trees.specs.Mentions.{AreNamed, file_mentions};
-ghost use Rattle.syntax_tokens.specs.Texts.{IsNamedFile};
+ghost use Rattle.syntax_grammar.specs.Texts.{IsNamedFile};
 ghost use Rattle.syntax_grammar.specs.Parsed.{HasFault};
 ghost use Rattle.syntax_grammar.specs.declared.refusals.SyntaxRefusal.TheVariants as syntax_refusal;
 ghost use Rattle.syntax_printer.specs.Canonical.{canonical_text};

@@ -15,7 +15,7 @@ pub use syntax_parser::SyntaxRefusal;
 pub use syntax_printer::{
     Declarations, is_countable, print as print_tree, print_with_declarations, put_canonical,
 };
-pub use syntax_tokens::{Token, TokenKind, Tokens};
+pub use syntax_grammar::{Token, TokenKind, Tokens};
 pub use syntax_trees::{
     Atom, Atoms, Block, Calc, Call, Compare, Cond, Expr, Exprs, File as Tree, Handler, Handlers,
     Param, Params, Right, Stmt, TableDecl, TableDecls,

@@ -3,7 +3,7 @@ use Rattle.std.proofs.Common.{◌≡◌, ℕ, suc, List, [], ◌∷◌, ◌++◌
 use Rattle.session_values.specs.declared.reply.Reply.{Reply}
 use Rattle.session_values.specs.Serial.{Session, serial_replies, tables_before}
 use Rattle.session_values.specs.Tables.{Tables}
-use Rattle.opening_tables.specs.Opening.{Pair, tables_of}
+use Rattle.session_values.specs.Opening.{Pair, tables_of}
 use Rattle.handler_check.specs.File.{File}
 use Rattle.handler_check.specs.Resolved.{shape_of}
 use Rattle.request_files.specs.declared.request.Request.{Request}

@@ -17,7 +17,7 @@ use Rattle.session_values.proofs.Named.{begins_then}
 use Rattle.session_values.specs.declared.op.Op.{Op}
 use Rattle.session_values.specs.declared.kind.TableKind.{TableKind}
 use Rattle.symbolic_ops.specs.declared.symbol.Symbol.{Symbol}
-use Rattle.opening_tables.specs.Opening.{tables_of}
+use Rattle.session_values.specs.Opening.{tables_of}
 use Rattle.handler_check.specs.Resolved.{shape_of}
 use Rattle.serve_faults.specs.Printable.{IsPrintableTable}
 use Rattle.shard_tables.specs.declared.part.Part.{Part}

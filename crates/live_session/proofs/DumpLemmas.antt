@@ -4,7 +4,7 @@ use Rattle.std.specs.List.{AllByRecursion, flat_map}
 use Rattle.session_values.specs.Tables.{Tables, kind_of}
 use Rattle.session_values.specs.declared.kind.TableKind.{TableKind}
 use Rattle.session_values.proofs.Lists.{same_head, same_tail}
-use Rattle.opening_tables.specs.Opening.{AreApart, Pair, tables_of}
+use Rattle.session_values.specs.Opening.{AreApart, Pair, tables_of}
 use Rattle.handler_check.specs.Mentions.{file_mentions, handler_mentions, table_mentions}
 use Rattle.handler_check.specs.TableDecl.{TableDecl}
 use Rattle.serve_faults.specs.Language.{HasText, IsNamedFile}
@@ -13,11 +13,11 @@ use Rattle.serve_reading.proofs.TextsKept.{texts_kept}
 use Rattle.handler_check.proofs.Fine.{few_tables}
 use Rattle.handler_check.specs.Resolved.{shape_of}
 use Rattle.serve_faults.specs.ReadBack.{texts_of}
-use Rattle.table_text.specs.TableText.{table_text, written_table}
+use Rattle.table_lines.specs.TableText.{table_text, written_table}
 use Rattle.shard_tables.specs.declared.part.Part.{Part}
 use Rattle.shard_tables.specs.Either.{entries_in}
 use Rattle.shard_tables.proofs.Either.{held_is}
-use Rattle.table_text.specs.Dumped.{CanDumpAll, CanDumpEach, dump_text}
+use Rattle.table_lines.specs.Dumped.{CanDumpAll, CanDumpEach, dump_text}
 use Rattle.serve_faults.specs.Printable.{IsPrintableTable}
 use Rattle.serve_faults.proofs.ToldEvents.{tables_named}
 use Rattle.live_session.specs.Held.{container_in, held, lists_in}

@@ -11,9 +11,9 @@ use Rattle.session_values.specs.declared.kind.TableKind.{TableKind}
 use Rattle.session_values.specs.declared.kind.TableKind.TheVariants.{Map, Set}
 use Rattle.session_values.specs.declared.value.Value.{Value}
 use Rattle.session_values.proofs.Equal.{same_value, value_eq-self}
-use Rattle.opening_tables.specs.Opening.{AreApart, Pair, container_of, has_key}
-use Rattle.opening_tables.proofs.KeptLemmas.{key_found}
-use Rattle.table_text.specs.Dumped.{IsPrintableEntry}
+use Rattle.session_values.specs.Opening.{AreApart, Pair, container_of, has_key}
+use Rattle.session_values.proofs.KeptLemmas.{key_found}
+use Rattle.table_lines.specs.Dumped.{IsPrintableEntry}
 use Rattle.serve_faults.specs.Printable.{IsPrintableTable}
 
 abbrev keys : List Pair → List Value

@@ -10,7 +10,7 @@ use Rattle.text_lines.specs.Text.{Text}
 use Rattle.request_files.specs.Requests.{request_of}
 use Rattle.request_files.specs.Session.{session}
 use Rattle.serve_faults.specs.ReadBack.{texts_of}
-use Rattle.table_text.specs.TableText.{table_text, written_table}
+use Rattle.table_lines.specs.TableText.{table_text, written_table}
 use Rattle.serve_faults.specs.Input.{Parts}
 use Rattle.serve_faults.specs.Session.{all_names_of, replies_text, requests_of, rows_of, session_of_parts, tables_text}
 use Rattle.live_session.specs.Live.{IsLive, IsOneFile, IsUndriven, LiveView, dump_of, requests_in, session_in}

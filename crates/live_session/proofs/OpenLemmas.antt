@@ -6,9 +6,9 @@ use Rattle.std.specs.Result.{IsErrAnd}
 use Rattle.session_values.specs.Limits.{max_variables}
 use Rattle.session_values.specs.Tables.{Tables, kind_of}
 use Rattle.session_values.specs.declared.kind.TableKind.{TableKind}
-use Rattle.opening_tables.specs.Opening.{tables_of}
-use Rattle.opening_tables.proofs.Filling.{entries_length}
-use Rattle.opening_tables.proofs.Openings.{opening_kinds}
+use Rattle.session_values.specs.Opening.{tables_of}
+use Rattle.session_values.proofs.Filling.{entries_length}
+use Rattle.session_values.proofs.Openings.{opening_kinds}
 use Rattle.handler_check.specs.Resolved.{shape_of}
 use Rattle.text_lines.specs.Rows.{Row, names_behind, rows}
 use Rattle.text_lines.specs.Text.{Text}

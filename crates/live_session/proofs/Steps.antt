@@ -13,7 +13,7 @@ use Rattle.session_values.specs.declared.reply.Reply.{Reply}
 use Rattle.session_values.specs.declared.value.Value.{Value}
 use Rattle.session_values.proofs.Named.{begins_same, begins_then}
 use Rattle.symbolic_ops.specs.Matching.{Matches}
-use Rattle.opening_tables.specs.Opening.{tables_of}
+use Rattle.session_values.specs.Opening.{tables_of}
 use Rattle.session_journal.specs.Journal.{Replays, run}
 use Rattle.session_journal.specs.Script.{Covers}
 use Rattle.session_journal.proofs.Serial.{GoesOn, goes_on, matched}

@@ -6,7 +6,7 @@ use Rattle.std.proofs.lemmas.List.{length-map}
 use Rattle.std.proofs.lemmas.Option.{slice_get_within}
 use Rattle.shard_tables.specs.declared.part.Part.{Part}
 use Rattle.shard_tables.specs.Either.{entries_in, shard_view}
-use Rattle.opening_tables.specs.Opening.{entries_of}
+use Rattle.session_values.specs.Opening.{entries_of}
 use Rattle.session_values.proofs.Puts.{kind_after}
 use Rattle.session_values.specs.Kinds.{home}
 use Rattle.session_values.specs.Tables.{Container, Tables, after_on, kind_of, reply, reply_on, step, table}

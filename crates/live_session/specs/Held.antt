@@ -5,7 +5,7 @@ use Rattle.session_values.specs.declared.value.Value.{Value}
 use Rattle.session_values.specs.Kinds.{is_adding}
 use Rattle.session_values.specs.Values.{IsValue}
 use Rattle.session_values.specs.Tables.{reply, size_of, step, table}
-use Rattle.opening_tables.specs.Opening.{Pair}
+use Rattle.session_values.specs.Opening.{Pair}
 use Rattle.session_values.specs.Limits.{max_calls}
 use Rattle.handler_check.specs.File.{File}
 use Rattle.handler_check.specs.Resolved.{code_at}

@@ -6,7 +6,7 @@ use Rattle.session_values.specs.Names.{Begins}
 use Rattle.session_values.specs.declared.reply.Reply.{Reply}
 use Rattle.session_values.specs.Serial.{Session}
 use Rattle.session_values.specs.Tables.{Tables, kind_of}
-use Rattle.opening_tables.specs.Opening.{IsOpening, Pair, tables_of}
+use Rattle.session_values.specs.Opening.{IsOpening, Pair, tables_of}
 use Rattle.handler_check.specs.File.{File}
 use Rattle.serve_faults.specs.Language.{IsNamedFile}
 use Rattle.handler_check.specs.Checking.{IsAccepted}
@@ -18,7 +18,7 @@ use Rattle.request_files.specs.Requests.{AreKnown, request_of}
 use Rattle.request_files.specs.Session.{session}
 use Rattle.serve_faults.specs.ReadBack.{texts_of}
 use Rattle.serve_faults.specs.TableRows.{ArePrintable}
-use Rattle.table_text.specs.TableText.{table_text, written_table}
+use Rattle.table_lines.specs.TableText.{table_text, written_table}
 use Rattle.serve_faults.specs.Input.{Parts}
 use Rattle.serve_faults.specs.Session.{opened_of, opening_names_of}
 use Rattle.shard_tables.specs.declared.part.Part.{Part}

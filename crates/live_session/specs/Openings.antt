@@ -1,7 +1,7 @@
 -- What opening a session answers.
 use Rattle.std.specs.Prelude.{◌≡◌, ◌≢◌, ℕ, ◌<◌, ◌≤◌, [], length}
 use Rattle.session_values.specs.Limits.{max_input}
-use Rattle.opening_tables.specs.Opening.{IsOpening, tables_of}
+use Rattle.session_values.specs.Opening.{IsOpening, tables_of}
 use Rattle.handler_check.specs.Checking.{IsAccepted}
 use Rattle.handler_check.specs.Resolved.{shape_of}
 use Rattle.serve_faults.specs.Language.{IsNamedFile}

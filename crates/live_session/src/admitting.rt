@@ -12,7 +12,7 @@ use crate::answers::Answered;
 use crate::growing::make_room_for;
 use declaration_insertion::Program;
 use driven_tickets::OpenTickets;
-use machine_walk::set_up;
+use handler_machine::set_up;
 use session_journal::Scratch;
 use session_values::Value;
 use shard_tables::Part;

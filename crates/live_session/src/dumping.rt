@@ -2,8 +2,8 @@
 
 ghost use Rattle.std.specs.Prelude.{◌≤◌, ◌≡◌, length};
 ghost use Rattle.std.specs.List.{AllByRecursion};
-ghost use Rattle.opening_tables.specs.Opening.{AreApart};
-ghost use Rattle.table_text.specs.Dumped.{HaveRoom as HaveEntryRoom};
+ghost use Rattle.session_values.specs.Opening.{AreApart};
+ghost use Rattle.table_lines.specs.Dumped.{HaveRoom as HaveEntryRoom};
 ghost use Rattle.byte_ends.specs.Changes.{change};
 ghost use Rattle.live_session.specs.Dumps.{DumpEnds};
 ghost use Rattle.live_session.specs.Held.{lists_in};
@@ -12,7 +12,7 @@ ghost use Rattle.live_session.specs.Live.{dump_of};
 use crate::session::LiveSession;
 use byte_ends::{Sink, WriteBuffer};
 use shard_tables::Part;
-use table_text::write_tables;
+use table_lines::write_tables;
 
 /// How a dump ended.
 #[derive(Clone, Copy, Debug, PartialEq, Eq)]

@@ -2,9 +2,9 @@
 
 ghost use Rattle.std.specs.Prelude.{◌≡◌, ℕ, suc, List, [], ◌∷◌, ◌++◌};
 ghost use Rattle.session_values.specs.declared.reply.Reply.{Reply as Given};
-ghost use Rattle.opening_tables.specs.Opening.{Pair};
+ghost use Rattle.session_values.specs.Opening.{Pair};
 
-use opening_tables::Opening;
+use session_values::Opening;
 use session_values::{Names, Reply};
 use std::marker::Model;
 

@@ -4,7 +4,7 @@ ghost use Rattle.std.specs.Prelude.{◌≡◌, ◌<◌, ◌≤◌, ◌∷◌, []
 ghost use Rattle.std.specs.Prelude.{slice_get, Some};
 ghost use Rattle.session_values.specs.Limits.{max_input, max_tables};
 ghost use Rattle.session_values.specs.declared.kind.TableKind.{TableKind as AnyKind};
-ghost use Rattle.opening_tables.specs.Opening.{IsOpening, container_of, entries_of, tables_of};
+ghost use Rattle.session_values.specs.Opening.{IsOpening, container_of, entries_of, tables_of};
 ghost use Rattle.shard_tables.specs.Whole.{container_in};
 ghost use Rattle.declaration_insertion.specs.Program.{IsProgram};
 ghost use Rattle.handler_check.specs.Resolved.{shape_of};
@@ -23,7 +23,7 @@ use crate::session::LiveSession;
 use crate::tables::LiveTables;
 use driven_tickets::OpenTickets;
 use handler_check::Checked;
-use opening_tables::Opening;
+use session_values::Opening;
 use serve_faults::Fault;
 use serve_reading::{LoadError, Loaded, load_session};
 use session_journal::Scratch;

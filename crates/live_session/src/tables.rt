@@ -3,7 +3,7 @@
 use handler_machine::Answerer;
 use session_values::{NoMemory, Op, Value};
 use shard_tables::Part;
-use table_text::TellsEntries;
+use table_lines::TellsEntries;
 
 /// The tables of a session, each whole in one shard. Room for the keys that a handler may add is
 /// taken before it runs, so that no operation wants memory: one that found no room would change

@@ -9,7 +9,7 @@ use Rattle.session_values.specs.declared.reply.Reply.{Reply}
 use Rattle.session_values.specs.declared.value.Value.{Value}
 use Rattle.session_values.specs.Dialogue.{Calls, Answers, Dialogue, Entry, Follows, replies}
 use Rattle.session_values.specs.Serial.{Session, serial, tables_before}
-use Rattle.session_values.proofs.Entries.{follows_more}
+use Rattle.session_values.proofs.EntriesFacts.{follows_more}
 use Rattle.session_values.specs.Tables.{Tables, reply, step, kind_of}
 use Rattle.symbolic_ops.specs.declared.symbol.Symbol.{Symbol}
 use Rattle.symbolic_ops.specs.Matching.{Matches}

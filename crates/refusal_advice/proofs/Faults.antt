@@ -1,9 +1,9 @@
 -- A first fault stands at its place.
 use Rattle.std.proofs.Common.{◌≡◌, ℕ, List, [], ◌∷◌, ◌++◌, ◌⊎◌, inl, inr, length, refl, sym, ap, ◌∙◌, append_assoc}
-use Rattle.syntax_tokens.specs.Words.{words_of}
-use Rattle.syntax_tokens.specs.declared.word.Sort.{Sort}
-use Rattle.syntax_tokens.specs.declared.word.Sort.TheVariants as sort
-use Rattle.syntax_tokens.specs.declared.word.Word.{Word}
+use Rattle.syntax_grammar.specs.Words.{words_of}
+use Rattle.syntax_grammar.specs.declared.word.Sort.{Sort}
+use Rattle.syntax_grammar.specs.declared.word.Sort.TheVariants as sort
+use Rattle.syntax_grammar.specs.declared.word.Word.{Word}
 use Rattle.syntax_grammar.specs.Bounds.{Limit, limit_refusal, number_size, block_depth, open_parentheses, operator_signs}
 use Rattle.syntax_grammar.specs.FirstFault.{IsUnexpected, IsOverLimit}
 use Rattle.syntax_grammar.specs.Parsed.{HasFault}

@@ -1,7 +1,7 @@
 -- Parts that are kept in a list, the last one first.
 use Rattle.std.proofs.Common.{◌≡◌, true, false, List, [], ◌∷◌, ◌++◌, Some, None, refl, sym, ap, ◌∙◌}
 use Rattle.std.specs.Prelude.{if◌then◌else◌}
-use Rattle.syntax_tokens.specs.declared.word.Sort.{Sort}
+use Rattle.syntax_grammar.specs.declared.word.Sort.{Sort}
 use Rattle.syntax_grammar.specs.Next.{Part, row, taking, at_top, or_below, may_be_empty, may_end}
 use Rattle.refusal_advice.specs.Parts.{over, part_of, parts_of, behind}
 use Rattle.refusal_advice.specs.declared.part.Part.{Part as Kept}

@@ -3,8 +3,8 @@ use Rattle.std.specs.Prelude.{ℕ, List, [], ◌∷◌, Option, Some, None, code
 use Rattle.session_values.specs.declared.kind.Kind.TheVariants as kind
 use Rattle.session_values.specs.declared.kind.TableKind.TheVariants as table
 use Rattle.syntax_trees.specs.declared.stmt.Compare.TheVariants as compare
-use Rattle.syntax_tokens.specs.declared.word.Sort.{Sort}
-use Rattle.syntax_tokens.specs.declared.word.Sort.TheVariants as sort
+use Rattle.syntax_grammar.specs.declared.word.Sort.{Sort}
+use Rattle.syntax_grammar.specs.declared.word.Sort.TheVariants as sort
 use Rattle.refusal_advice.specs.declared.class.Class.{Class}
 use Rattle.refusal_advice.specs.declared.class.Class.TheVariants as class
 

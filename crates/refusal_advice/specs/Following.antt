@@ -1,10 +1,10 @@
 -- What stands at a place of a text, and what could stand there by the grammar.
 use Rattle.std.specs.Prelude.{◌≡◌, ◌↔◌, ℕ, Bool, true, List, [], ◌∷◌, ◌++◌, length, Option, Some, None}
 use Rattle.std.specs.List.{filter}
-use Rattle.syntax_tokens.specs.Words.{words_of}
-use Rattle.syntax_tokens.specs.declared.word.Sort.{Sort}
-use Rattle.syntax_tokens.specs.declared.word.Sort.TheVariants as sort
-use Rattle.syntax_tokens.specs.declared.word.Word.{Word}
+use Rattle.syntax_grammar.specs.Words.{words_of}
+use Rattle.syntax_grammar.specs.declared.word.Sort.{Sort}
+use Rattle.syntax_grammar.specs.declared.word.Sort.TheVariants as sort
+use Rattle.syntax_grammar.specs.declared.word.Word.{Word}
 use Rattle.syntax_grammar.specs.Phrase.{word}
 use Rattle.syntax_grammar.specs.FirstFault.{IsText, BeginsText}
 use Rattle.refusal_advice.specs.Classes.{classes, class_of}

@@ -1,7 +1,7 @@
 -- The sentence: what was found, what is wanted there, and the language's other way.
 use Rattle.std.specs.Prelude.{ℕ, Bool, true, false, if◌then◌else◌, List, [], ◌∷◌, ◌++◌, codes}
-use Rattle.syntax_tokens.specs.declared.token_kind.TokenKind.{TokenKind}
-use Rattle.syntax_tokens.specs.declared.token_kind.TokenKind.TheVariants as kind
+use Rattle.syntax_grammar.specs.declared.token_kind.TokenKind.{TokenKind}
+use Rattle.syntax_grammar.specs.declared.token_kind.TokenKind.TheVariants as kind
 use Rattle.refusal_advice.specs.Classes.{text_of}
 use Rattle.refusal_advice.specs.declared.class.Class.{Class}
 

@@ -2,7 +2,7 @@
 
 ghost use Rattle.std.specs.Prelude.{◌≡◌, ◌≤◌, ◌++◌, length, List, ℕ, IfOk, OnOk};
 ghost use Rattle.session_values.specs.Limits.{max_input};
-ghost use Rattle.syntax_tokens.specs.Words.{kind_of};
+ghost use Rattle.syntax_grammar.specs.Words.{kind_of};
 ghost use Rattle.refusal_advice.specs.Advice.{IsAdvice, advice_text};
 
 use crate::hint::hint;

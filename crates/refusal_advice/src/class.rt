@@ -4,7 +4,7 @@ ghost use Rattle.std.specs.Prelude.{◌≡◌};
 ghost use Rattle.refusal_advice.specs.Classes as spec;
 
 use session_values::{Kind, TableKind};
-use syntax_tokens::Sort;
+use syntax_grammar::Sort;
 use syntax_trees::Compare;
 
 /// Words that the grammar allows at the same places. The end of a text is a class of its own.

@@ -7,7 +7,7 @@ ghost use Rattle.refusal_advice.specs.Parts.{IsRow};
 use crate::part::Part;
 use crate::word_rows::ALONE;
 use syntax_grammar::operation;
-use syntax_tokens::Sort;
+use syntax_grammar::Sort;
 
 const MINUS: [Part; 1] = [Part::AfterMinus];
 

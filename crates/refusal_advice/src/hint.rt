@@ -11,7 +11,7 @@ use crate::token_hints::{
     bad_hint, handler_hint, if_hint, key_hint, name_hint, operation_hint, table_hint,
 };
 use crate::wants::wants;
-use syntax_tokens::Sort;
+use syntax_grammar::Sort;
 
 const EQUAL: &str = "equality is `==`";
 

@@ -16,7 +16,7 @@ use crate::word_rows::{
     one_argument_row, one_value_row, right_brace_row, right_paren_row, semicolon_row,
     three_values_row, two_arguments_row, two_values_row,
 };
-use syntax_tokens::Sort;
+use syntax_grammar::Sort;
 
 /// What is left of the part behind this word, the last part first; none where the part doesn't
 /// begin with it.

@@ -5,7 +5,7 @@ ghost use Rattle.refusal_advice.specs.Sentence as spec;
 
 use crate::class::Class;
 use session_values::NoMemory;
-use syntax_tokens::TokenKind;
+use syntax_grammar::TokenKind;
 
 /// What stands before a token's text.
 fn before_token(kind: TokenKind) -> &'static str

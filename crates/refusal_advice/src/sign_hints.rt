@@ -5,7 +5,7 @@ ghost use Rattle.refusal_advice.specs.Hints as spec;
 
 use crate::class::Class;
 use crate::wants::{is_name, wants};
-use syntax_tokens::Sort;
+use syntax_grammar::Sort;
 
 const PARENS: &str = "a comparison has no parentheses round it: `if x == 1 { .. }`";
 

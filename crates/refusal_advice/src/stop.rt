@@ -1,7 +1,7 @@
 // The place of a refusal among the words of a text.
 
 use crate::class::Class;
-use syntax_tokens::{Sort, Word};
+use syntax_grammar::{Sort, Word};
 
 /// The word at a place, the one before it, and the classes of the words that could stand there.
 #[derive(Drop)]

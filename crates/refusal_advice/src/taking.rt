@@ -7,7 +7,7 @@ ghost use Rattle.refusal_advice.specs.Parts.{Takes, parts_of};
 use crate::part::Part;
 use crate::rows::row;
 use session_values::NoMemory;
-use syntax_tokens::Sort;
+use syntax_grammar::Sort;
 
 /// Takes a word; false where no part may begin with it.
 pub(crate) fn take(parts: &mut Vec<Part>, sort: Sort) -> Result<bool, NoMemory>

@@ -5,7 +5,7 @@ ghost use Rattle.refusal_advice.specs.Hints as spec;
 
 use crate::class::Class;
 use crate::wants::{is_else, is_minus, is_repeat, wants};
-use syntax_tokens::Sort;
+use syntax_grammar::Sort;
 
 const GREATER: &str = "there is no `>`: turn the comparison round, as `b < a` for `a > b`";
 

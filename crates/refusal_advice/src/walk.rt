@@ -15,7 +15,7 @@ use crate::taking::{may_end, take};
 use rule_advice::names_for;
 use session_values::NoMemory;
 use std::alloc::Global;
-use syntax_tokens::{Reader, Sort, Word};
+use syntax_grammar::{Reader, Sort, Word};
 
 /// Whether a word of this class can come where these parts are to come.
 fn can_follow(alloc: Global, parts: &[Part], class: Class) -> Result<bool, NoMemory>

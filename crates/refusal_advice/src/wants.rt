@@ -4,7 +4,7 @@ ghost use Rattle.std.specs.Prelude.{◌≡◌};
 ghost use Rattle.refusal_advice.specs.Hints as spec;
 
 use crate::class::Class;
-use syntax_tokens::Sort;
+use syntax_grammar::Sort;
 
 /// Whether the class is one of these.
 pub(crate) fn wants(wanted: &[Class], class: Class) -> bool

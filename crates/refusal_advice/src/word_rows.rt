@@ -2,11 +2,11 @@
 
 ghost use Rattle.std.specs.Prelude.{◌≡◌};
 ghost use Rattle.syntax_grammar.specs.Next as next;
-ghost use Rattle.syntax_tokens.specs.declared.word.Sort.TheVariants as word_sort;
+ghost use Rattle.syntax_grammar.specs.declared.word.Sort.TheVariants as word_sort;
 ghost use Rattle.refusal_advice.specs.Parts.{IsRow};
 
 use crate::part::Part;
-use syntax_tokens::Sort;
+use syntax_grammar::Sort;
 
 /// Nothing is left.
 pub(crate) const ALONE: [Part; 0] = [];

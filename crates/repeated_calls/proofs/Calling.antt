@@ -11,7 +11,7 @@ use Rattle.std.specs.List.{AllByRecursion}
 use Rattle.session_values.specs.Op.{IsHeld}
 use Rattle.symbolic_ops.specs.Matching.{Covered, HasNoVar, Matches, exact_symbol}
 use Rattle.symbolic_ops.proofs.Above.{covered_itself, exact_stands}
-use Rattle.session_values.proofs.Entries.{follows_more, length_replies}
+use Rattle.session_values.proofs.EntriesFacts.{follows_more, length_replies}
 use Rattle.session_journal.specs.Desks.{DeskView, MayFinish, finished, next_of, with_end, with_waiting}
 use Rattle.session_journal.specs.Lists.{ListView, Ticket, list_meaning, says, ticket_at}
 use Rattle.session_journal.specs.Script.{IsForesight, Meaning}

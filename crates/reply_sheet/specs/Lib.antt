@@ -1,3 +1,9 @@
 pub mod Pending
 pub mod Printable
 pub mod Ready
+pub mod ClientText
+pub mod Moved
+pub mod Numbers
+pub mod Tickets
+pub mod Arrivals
+pub use Rattle.reply_sheet.specs.Printable

@@ -2,6 +2,10 @@
 //! for their turn to be written.
 #![tactic(auto)]
 
+mod arrival;
+mod client_line;
+mod clients;
+pub mod laws;
 mod line_buf;
 mod pending;
 mod ready;
@@ -9,6 +13,8 @@ mod replies;
 mod reply_line;
 mod text_room;
 
+pub use arrival::Arrival;
+pub use clients::write_clients;
 pub use line_buf::LineBuf;
 pub use pending::Pending;
 pub use ready::write_ready;

@@ -1,6 +1,6 @@
 -- The session that the requests of a checked file make: each request is a ticket.
 use Rattle.std.specs.Prelude.{ℕ, List, [], length, slice_index_or}
-use Rattle.opening_tables.specs.Opening.{Pair, tables_of}
+use Rattle.session_values.specs.Opening.{Pair, tables_of}
 use Rattle.session_values.specs.Dialogue.{Dialogue}
 use Rattle.session_values.specs.Serial.{Session}
 use Rattle.syntax_trees.specs.declared.file.File.{File}

@@ -1,8 +1,8 @@
 -- The walk to the first declaration of a name: what it does with each word.
 use Rattle.std.proofs.Common.{◌≡◌, ℕ, Bool, true, false, if◌then◌else◌, ◌==◌, List, [], ◌∷◌, drop, Option, None, sym, ap, ◌∙◌}
-use Rattle.syntax_tokens.specs.Words.{first_word}
-use Rattle.syntax_tokens.specs.declared.word.Sort.{Sort}
-use Rattle.syntax_tokens.specs.declared.word.Word.{Word}
+use Rattle.syntax_grammar.specs.Words.{first_word}
+use Rattle.syntax_grammar.specs.declared.word.Sort.{Sort}
+use Rattle.syntax_grammar.specs.declared.word.Word.{Word}
 use Rattle.rule_advice.specs.Earlier.{earlier, first_behind, head_behind}
 use Rattle.rule_advice.specs.Surroundings.{is_end}
 use Rattle.rule_advice.specs.declared.earlier.Scope.{Scope}

@@ -6,7 +6,7 @@ use Rattle.std.specs.List.{list_any}
 use Rattle.std.specs.Str.{bytes_eq}
 use Rattle.request_files.specs.Divide.{before, behind, is_dividing, is_table_mark, line_behind}
 use Rattle.table_lines.specs.TableRows.{says_same, word_says}
-use Rattle.table_text.specs.Written.{Written, NilWord, NumberWord, SymbolWord}
+use Rattle.table_lines.specs.Written.{Written, NilWord, NumberWord, SymbolWord}
 use Rattle.text_lines.specs.Text.{Text, lines, words}
 use Rattle.rule_advice.specs.Counts.{parts}
 use Rattle.rule_advice.specs.Rows.{line_at}

@@ -8,7 +8,7 @@ use Rattle.session_values.specs.declared.kind.TableKind.TheVariants.{Map, Set}
 use Rattle.syntax_trees.specs.declared.file.File.{File}
 use Rattle.syntax_trees.specs.declared.file.Handler.{Handler}
 use Rattle.syntax_trees.specs.declared.file.TableDecl.{TableDecl}
-use Rattle.syntax_tokens.specs.Words.{names_of}
+use Rattle.syntax_grammar.specs.Words.{names_of}
 use Rattle.syntax_grammar.specs.Parsed.{IsSourceOf}
 use Rattle.rule_advice.specs.Counts.{given_line, parts, takes_text}
 use Rattle.rule_advice.specs.Visible.{visible_in}

@@ -7,9 +7,9 @@ use Rattle.session_values.specs.declared.kind.Kind.TheVariants.{Get, Put, Swap, 
 use Rattle.session_values.specs.declared.kind.Kind.TheVariants.{Has, Add, Mark, Drop, Count}
 use Rattle.session_values.specs.declared.kind.TableKind.{TableKind}
 use Rattle.session_values.specs.declared.kind.TableKind.TheVariants.{Map, Set}
-use Rattle.syntax_tokens.specs.Words.{words_of}
-use Rattle.syntax_tokens.specs.declared.word.Sort.{Sort}
-use Rattle.syntax_tokens.specs.declared.word.Sort.TheVariants as sort
+use Rattle.syntax_grammar.specs.Words.{words_of}
+use Rattle.syntax_grammar.specs.declared.word.Sort.{Sort}
+use Rattle.syntax_grammar.specs.declared.word.Sort.TheVariants as sort
 use Rattle.rule_advice.specs.Counts.{given_line, parts}
 use Rattle.rule_advice.specs.Listings.{IsOfTree, line_of}
 use Rattle.rule_advice.specs.Surroundings.{nearby}

@@ -1,7 +1,7 @@
 -- The text of a token.
 use Rattle.std.specs.Prelude.{◌≡◌, ◌⊎◌, ℕ, false, List, [], take, drop}
 use Rattle.std.specs.Str.{IsCharBoundary}
-use Rattle.syntax_tokens.specs.Scan.{gap, scan}
+use Rattle.syntax_grammar.specs.Scan.{gap, scan}
 
 -- the text of the first token, behind blanks, line feeds and comments
 abbrev pub first_token : List ℕ → List ℕ

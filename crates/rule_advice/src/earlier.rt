@@ -2,8 +2,8 @@
 
 ghost use Rattle.std.specs.Prelude.{◌≡◌, ◌≤◌, false, length, None, IfOk};
 ghost use Rattle.session_values.specs.Limits.{max_input};
-ghost use Rattle.syntax_tokens.specs.Words.{words_of};
-ghost use Rattle.syntax_tokens.specs.declared.word.Sort.TheVariants as sort;
+ghost use Rattle.syntax_grammar.specs.Words.{words_of};
+ghost use Rattle.syntax_grammar.specs.declared.word.Sort.TheVariants as sort;
 ghost use Rattle.refusal_places.specs.Spots.{spot_option};
 ghost use Rattle.rule_advice.specs.Earlier as spec;
 
@@ -14,7 +14,7 @@ use crate::token::token_at;
 use refusal_places::{Spot, byte_spot};
 use session_values::NoMemory;
 use std::alloc::Global;
-use syntax_tokens::{Reader, Sort, Word};
+use syntax_grammar::{Reader, Sort, Word};
 
 /// What a name is declared as.
 #[derive(Clone, Copy, Debug, PartialEq, Eq)]

@@ -2,14 +2,14 @@
 
 ghost use Rattle.std.specs.Prelude.{◌≡◌, ◌≤◌, length, IfOk, []};
 ghost use Rattle.session_values.specs.Limits.{max_input};
-ghost use Rattle.syntax_tokens.specs.Words.{words_of};
-ghost use Rattle.syntax_tokens.specs.declared.word.Sort.TheVariants as sort;
+ghost use Rattle.syntax_grammar.specs.Words.{words_of};
+ghost use Rattle.syntax_grammar.specs.declared.word.Sort.TheVariants as sort;
 ghost use Rattle.rule_advice.specs.Surroundings as spec;
 
 use crate::names::names_for;
 use session_values::NoMemory;
 use std::alloc::Global;
-use syntax_tokens::{Reader, Sort};
+use syntax_grammar::{Reader, Sort};
 
 /// The word at a place, and those around it: `End` stands where there is none.
 #[derive(Clone, Copy, Debug)]

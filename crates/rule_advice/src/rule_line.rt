@@ -13,7 +13,7 @@ use crate::token::token_at;
 use crate::topic::WordTopic;
 use session_values::{Kind, NoMemory};
 use std::alloc::Global;
-use syntax_tokens::Sort;
+use syntax_grammar::Sort;
 
 const MORE_TURNS: &str = "= a loop has from 1 to 1000 turns: for more, put it into another one\n";
 

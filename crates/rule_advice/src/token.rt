@@ -4,7 +4,7 @@ ghost use Rattle.std.specs.Prelude.{◌≡◌, ◌≤◌, length};
 ghost use Rattle.session_values.specs.Limits.{max_input};
 ghost use Rattle.rule_advice.specs.Token as spec;
 
-use syntax_tokens::Tokens;
+use syntax_grammar::Tokens;
 
 /// The text of the first token.
 fn first_token(text: &str) -> &str

@@ -41,7 +41,7 @@ use Rattle.session_hall.specs.Listings.{listed}
 use Rattle.syntax_trees.specs.Mentions.{handler_mentions, table_mentions}
 use Rattle.serve_faults.specs.Language.{HasText}
 use Rattle.serve_faults.proofs.Facts.{all_first}
-use Rattle.table_text.specs.Dumped.{CanDump}
+use Rattle.table_lines.specs.Dumped.{CanDump}
 
 -- ---- tables
 table_held : (names : List (List ℕ)) (ts : tables.Tables) (i : ℕ) → i < length ts → AllByRecursion (IsPrintableTable names) ts → IsPrintableTable names (table ts i)

@@ -14,7 +14,7 @@ use Rattle.syntax_trees.specs.declared.file.TableDecl.{TableDecl}
 use Rattle.hall_rule.proofs.Shares.{length-after}
 use Rattle.session_hall.specs.Closings.{ClosedView, IsDone}
 use Rattle.session_hall.specs.Listings.{listed}
-use Rattle.table_text.specs.Dumped.{CanDump, CanDumpAll, CanDumpEach, HaveRoom, dump_text}
+use Rattle.table_lines.specs.Dumped.{CanDump, CanDumpAll, CanDumpEach, HaveRoom, dump_text}
 use Rattle.serve_core.specs.Serving.{AreFinal, final_lists, lists_from}
 
 module _ (d : ClosedView) where

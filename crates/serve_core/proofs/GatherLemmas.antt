@@ -18,11 +18,11 @@ use Rattle.request_files.specs.declared.request.Request.{Request}
 use Rattle.request_files.specs.Picked.{picked}
 use Rattle.request_files.specs.Requests.{ArePrintable, request_of}
 use Rattle.request_files.specs.Session.{request_at, session}
-use Rattle.client_sheet.specs.declared.arrival.Arrival.{Arrival}
-use Rattle.client_sheet.specs.Arrivals.{IsDrawn}
-use Rattle.client_sheet.specs.ClientText.{clients_text}
-use Rattle.client_sheet.specs.Numbers.{numbers_of}
-use Rattle.client_rounds.specs.Rounds.{AreServed, IsLastRound, ServedView, session_by}
+use Rattle.reply_sheet.specs.declared.arrival.Arrival.{Arrival}
+use Rattle.reply_sheet.specs.Arrivals.{IsDrawn}
+use Rattle.reply_sheet.specs.ClientText.{clients_text}
+use Rattle.reply_sheet.specs.Numbers.{numbers_of}
+use Rattle.client_feed.specs.Rounds.{AreServed, IsLastRound, ServedView, session_by}
 use Rattle.serve_words.specs.declared.command.Command.TheVariants.{Clients}
 use Rattle.serve_faults.specs.declared.status.Status.{Status}
 use Rattle.serve_faults.specs.declared.status.Status.TheVariants as status

@@ -15,14 +15,14 @@ use Rattle.session_journal.specs.Script.{Meaning, session_of}
 use Rattle.session_hall.specs.Closings.{ClosedView, IsDone}
 use Rattle.syntax_trees.specs.declared.file.TableDecl.{TableDecl}
 use Rattle.handler_check.specs.Resolved.{shape_of}
-use Rattle.table_text.specs.Dumped.{dump_text}
-use Rattle.table_text.specs.TableText.{table_text, written_table}
-use Rattle.trace_rules.specs.Accepted.{Accepted}
-use Rattle.trace_rules.specs.Bare.{bare_script}
+use Rattle.table_lines.specs.Dumped.{dump_text}
+use Rattle.table_lines.specs.TableText.{table_text, written_table}
+use Rattle.session_journal.specs.Accepted.{Accepted}
+use Rattle.session_journal.specs.Bare.{bare_script}
 use Rattle.trace_lines.specs.EventText.{trace_text}
 use Rattle.serve_words.specs.declared.command.Command.{Command}
 use Rattle.serve_words.specs.declared.command.Command.TheVariants.{Serve, Dump, Work, Trace}
-use Rattle.serve_made.specs.Summary.{summary}
+use Rattle.serve_words.specs.Summary.{summary}
 use Rattle.serve_faults.specs.declared.status.Status.{Status}
 use Rattle.serve_faults.specs.declared.status.Status.TheVariants as status
 use Rattle.serve_faults.specs.Answer.{IsTextOf}

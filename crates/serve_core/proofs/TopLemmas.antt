@@ -11,7 +11,7 @@ use Rattle.serve_faults.specs.declared.status.Status.TheVariants as status
 use Rattle.serve_faults.specs.Commands.{is_reading}
 use Rattle.byte_ends.specs.Changes.{Change, IsUntouched}
 use Rattle.serve_faults.specs.Input.{most_of}
-use Rattle.made_sessions.proofs.MadeSession.{unrefused}
+use Rattle.serve_faults.proofs.MadeSession.{unrefused}
 use Rattle.serve_core.specs.declared.asked.Writes.{Writes}
 use Rattle.serve_core.specs.declared.asked.Writes.TheVariants.{ClientReplies, Events, Replies, Tables}
 use Rattle.serve_core.specs.Commands.{command_for}

@@ -13,10 +13,10 @@ use Rattle.request_files.specs.Requests.{ArePrintable}
 use Rattle.request_files.specs.Session.{session}
 use Rattle.serve_faults.specs.TableRows.{ArePrintable as ArePrintableEntries}
 use Rattle.request_files.specs.Values.{is_symbol}
-use Rattle.trace_rules.specs.Accepted.{Accepted, HaveEnded}
-use Rattle.trace_rules.specs.Bare.{bare_script}
-use Rattle.trace_rules.specs.Traces.{HasKnownSymbol}
-use Rattle.trace_rules.proofs.Bare.{accepted as bare_accepted}
+use Rattle.session_journal.specs.Accepted.{Accepted, HaveEnded}
+use Rattle.session_journal.specs.Bare.{bare_script}
+use Rattle.session_journal.specs.Traces.{HasKnownSymbol}
+use Rattle.session_journal.proofs.Bare.{accepted as bare_accepted}
 use Rattle.trace_audit.proofs.FromBook.{accepted as from_book}
 use Rattle.trace_lines.specs.Bounds.{IsHeldEvent}
 use Rattle.trace_lines.proofs.Told.{known_symbols}

@@ -4,8 +4,8 @@ use Rattle.session_values.specs.Limits.{max_session_calls}
 use Rattle.session_journal.specs.Limits.{max_opening}
 use Rattle.session_journal.specs.Opening.{count_all}
 use Rattle.session_hall.specs.Closings.{ClosedView}
-use Rattle.client_sheet.specs.ClientText.{clients_text}
-use Rattle.client_rounds.specs.Rounds.{AreServed, ServedView}
+use Rattle.reply_sheet.specs.ClientText.{clients_text}
+use Rattle.client_feed.specs.Rounds.{AreServed, ServedView}
 use Rattle.request_files.specs.Clients.{AreShared}
 use Rattle.serve_faults.specs.declared.status.Status.{Status}
 use Rattle.serve_faults.specs.declared.status.Status.TheVariants as status

@@ -1,8 +1,8 @@
 -- The replies of several clients, by the order in which their requests arrive.
 use Rattle.std.specs.Prelude.{ℕ, List, length}
 use Rattle.session_values.specs.Serial.{serial_replies}
-use Rattle.client_sheet.specs.declared.arrival.Arrival.{Arrival}
-use Rattle.client_sheet.specs.ClientText.{clients_text}
+use Rattle.reply_sheet.specs.declared.arrival.Arrival.{Arrival}
+use Rattle.reply_sheet.specs.ClientText.{clients_text}
 use Rattle.serve_faults.specs.Language.{File}
 use Rattle.serve_faults.specs.Clients.{client_counts, session_of_arrivals}
 use Rattle.serve_faults.specs.Input.{client_parts}

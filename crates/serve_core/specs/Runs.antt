@@ -2,9 +2,9 @@
 -- leaves.
 use Rattle.std.specs.Prelude.{◌≡◌, ℕ, Bool, ◌&&◌, true, false, is_some, List, length, sum, Option, Some, None, IfSome}
 use Rattle.serve_words.specs.declared.command.Command.{Command}
-use Rattle.client_sheet.specs.declared.arrival.Arrival.{Arrival}
-use Rattle.client_sheet.specs.Arrivals.{IsDrawn}
-use Rattle.client_rounds.specs.Rounds.{IsLastRound}
+use Rattle.reply_sheet.specs.declared.arrival.Arrival.{Arrival}
+use Rattle.reply_sheet.specs.Arrivals.{IsDrawn}
+use Rattle.client_feed.specs.Rounds.{IsLastRound}
 use Rattle.session_journal.specs.Symbol.{Symbol}
 use Rattle.session_journal.specs.declared.event.Event.{Event}
 use Rattle.session_journal.specs.Script.{Meaning, session_of}

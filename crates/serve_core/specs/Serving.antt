@@ -11,8 +11,8 @@ use Rattle.session_hall.specs.Listings.{AreLeft, listed}
 use Rattle.serve_faults.specs.Language.{File}
 use Rattle.handler_machine.specs.Scripts.{meaning}
 use Rattle.reply_sheet.specs.Printable.{ArePrintableReplies}
-use Rattle.table_text.specs.Dumped.{CanDumpAll, HaveRoom, dump_text}
-use Rattle.serve_made.specs.Summary.{summary}
+use Rattle.table_lines.specs.Dumped.{CanDumpAll, HaveRoom, dump_text}
+use Rattle.serve_words.specs.Summary.{summary}
 use Rattle.serve_faults.specs.declared.status.Status.{Status}
 use Rattle.serve_faults.specs.declared.status.Status.TheVariants as status
 use Rattle.serve_faults.specs.Input.{Parts, parts_of}

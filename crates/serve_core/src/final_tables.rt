@@ -7,7 +7,7 @@ ghost use Rattle.serve_core.specs.Serving.{AreFinal};
 
 use session_hall::Closed;
 use session_values::{MAX_TABLES, Value};
-use table_text::TellsEntries;
+use table_lines::TellsEntries;
 
 /// The tables of a closed hall, as they are at its end.
 #[derive(Clone, Copy)]

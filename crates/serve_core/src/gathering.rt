@@ -2,7 +2,7 @@
 
 ghost use Rattle.std.specs.Prelude.{◌≤◌, length};
 ghost use Rattle.session_values.specs.Limits.{max_input};
-ghost use Rattle.client_rounds.specs.Rounds.{AreServed};
+ghost use Rattle.client_feed.specs.Rounds.{AreServed};
 ghost use Rattle.serve_words.specs.declared.command.Command.TheVariants.{Clients};
 ghost use Rattle.byte_ends.specs.Changes.{change};
 ghost use Rattle.serve_core.specs.Arriving.{CanServeClients, EndsClients};
@@ -10,8 +10,8 @@ ghost use Rattle.serve_core.specs.Runs.{AnswersTo};
 
 use crate::outcome::{Outcome, unserved};
 use byte_ends::{Sink, WriteBuffer};
-use client_rounds::{Resources, Served, Workload, serve_clients};
-use client_sheet::write_clients;
+use client_feed::{Resources, Served, Workload, serve_clients};
+use reply_sheet::write_clients;
 use hall_serving::Sizes;
 use serve_faults::Status;
 use serve_reading::{LoadedClients, load_clients};

@@ -11,7 +11,7 @@ use crate::outcome::{Outcome, unserved};
 use crate::sessions::serve_bytes;
 use crate::writing::{Later, Writing};
 use byte_ends::{Sink, Source};
-use client_rounds::Resources;
+use client_feed::Resources;
 use hall_serving::Sizes;
 use serve_reading::read_at_most;
 use session_values::MAX_INPUT;

@@ -14,7 +14,7 @@ use crate::outcome::{Outcome, unserved};
 use crate::served::{Ready, open_loaded, serve_ready};
 use crate::writing::{Later, Writing, write_session};
 use byte_ends::Sink;
-use client_rounds::Resources;
+use client_feed::Resources;
 use hall_serving::Sizes;
 use serve_faults::Status;
 use serve_reading::{Loaded, load_session};

@@ -11,7 +11,7 @@ use crate::outcome::{Outcome, unserved};
 use crate::serving::serve_source;
 use crate::working::work;
 use byte_ends::{Sink, Source, SureSink};
-use client_rounds::Resources;
+use client_feed::Resources;
 use hall_serving::Sizes;
 use serve_faults::Status;
 use serve_single::{audit, describe, ranges, tell};

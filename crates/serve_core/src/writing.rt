@@ -4,7 +4,7 @@ ghost use Rattle.std.specs.Prelude.{◌≡◌, ◌≤◌, length, vec_capacity};
 ghost use Rattle.session_values.specs.Limits.{max_callers, max_requests};
 ghost use Rattle.session_journal.specs.Journal.{done_operations};
 ghost use Rattle.session_values.specs.ReplyText.{reply_text};
-ghost use Rattle.serve_made.specs.Summary.{summary};
+ghost use Rattle.serve_words.specs.Summary.{summary};
 ghost use Rattle.reply_sheet.specs.Printable.{ArePrintableReplies};
 ghost use Rattle.byte_ends.specs.Changes.{change};
 ghost use Rattle.serve_faults.specs.Traced.{table_places};
@@ -18,11 +18,11 @@ use crate::final_tables::FinalTables;
 use crate::served::Spare;
 use byte_ends::{Sink, write_all};
 use serve_faults::Status;
-use serve_made::summary_text;
+use serve_words::summary_text;
 use serve_reading::Loaded;
 use session_hall::Closed;
 use session_values::Names;
-use table_text::write_tables;
+use table_lines::write_tables;
 use trace_lines::{event_bounds, write_events};
 
 /// What is written of a session.

@@ -14,5 +14,15 @@ pub use Rattle.request_files.proofs.LightRows
 pub use Rattle.request_files.proofs.WholeParts
 pub use Rattle.trace_lines.proofs.AsRead
 pub use Rattle.trace_lines.proofs.WrittenBack
-pub use Rattle.trace_rules.proofs.Bare
-pub use Rattle.trace_rules.proofs.Counting
+pub use Rattle.session_journal.proofs.Bare
+pub use Rattle.session_journal.proofs.Counting
+pub mod Accepted
+pub mod Handlers
+pub mod Lines
+pub mod MadeSession
+pub mod Numbers
+pub mod Parts
+pub mod Phrases
+pub mod Symbols
+pub mod Tokens
+pub mod Words

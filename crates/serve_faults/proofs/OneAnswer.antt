@@ -6,9 +6,9 @@ use Rattle.handler_syntax.proofs.Facts.{one_tree}
 use Rattle.session_journal.specs.Symbol.{Symbol}
 use Rattle.may_use_analysis.specs.Later.{AreLater}
 use Rattle.may_use_analysis.proofs.TopLemmas.{same_later}
-use Rattle.range_session.specs.declared.refusal.RangeRefusal.{RangeRefusal}
-use Rattle.range_session.specs.Faults.{text_fault}
-use Rattle.range_session.proofs.OneText.{fine_text, one_text}
+use Rattle.range_tables.specs.declared.refusal.RangeRefusal.{RangeRefusal}
+use Rattle.range_tables.specs.Faults.{text_fault}
+use Rattle.range_tables.proofs.OneText.{fine_text, one_text}
 use Rattle.trace_lines.specs.declared.refusal.TraceRefusal.{TraceRefusal}
 use Rattle.serve_words.specs.declared.command.Command.{Command}
 use Rattle.serve_words.specs.declared.command.Command.TheVariants.{Check, Show, Serve, Dump, Work, Ranges, Trace, Audit, Clients}

@@ -4,14 +4,14 @@ use Rattle.std.specs.Prelude.{IsUtf8}
 use Rattle.std.proofs.lemmas.Bool.{false≢true}
 use Rattle.handler_syntax.specs.Language.{File, SyntaxRefusal, IsSourceOf}
 use Rattle.handler_syntax.proofs.Facts.{one_tree, one_fault, no_fault}
-use Rattle.check_rules.specs.declared.refusal.CheckRefusal.{CheckRefusal}
+use Rattle.handler_check.specs.declared.refusal.CheckRefusal.{CheckRefusal}
 use Rattle.handler_check.specs.Checking.{IsAccepted, IsRefusal}
 use Rattle.handler_check.proofs.ExcessLemmas.{one_answer, not_both}
 use Rattle.may_use_analysis.specs.declared.refusal.AnalysisRefusal.{AnalysisRefusal}
 use Rattle.may_use_analysis.specs.Later.{IsTooMany}
 use Rattle.may_use_analysis.proofs.TopLemmas.{one_refusal, apart}
-use Rattle.range_session.specs.declared.refusal.RangeRefusal.{RangeRefusal}
-use Rattle.range_session.specs.Faults.{text_fault}
+use Rattle.range_tables.specs.declared.refusal.RangeRefusal.{RangeRefusal}
+use Rattle.range_tables.specs.Faults.{text_fault}
 use Rattle.request_files.specs.declared.refusal.RequestRefusal.{RequestRefusal}
 use Rattle.table_lines.specs.declared.refusal.TableRefusal.{TableRefusal}
 use Rattle.trace_lines.specs.declared.refusal.TraceRefusal.{TraceRefusal}

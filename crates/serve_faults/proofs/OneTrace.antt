@@ -3,10 +3,10 @@ use Rattle.std.proofs.Common.{◌≡◌, ℕ, List, [], sym, ap, ◌∙◌, subs
 use Rattle.handler_syntax.specs.Language.{File}
 use Rattle.handler_check.specs.Resolved.{shape_of}
 use Rattle.handler_syntax.proofs.Facts.{one_tree}
-use Rattle.trace_rules.proofs.OneVerdict.{one}
-use Rattle.trace_rules.specs.Traces.{TraceView}
-use Rattle.trace_rules.specs.Verdicts.{IsVerdict}
-use Rattle.trace_rules.specs.Bare.{bare_script}
+use Rattle.session_journal.proofs.OneVerdict.{one}
+use Rattle.session_journal.specs.Traces.{TraceView}
+use Rattle.session_journal.specs.Verdicts.{IsVerdict}
+use Rattle.session_journal.specs.Bare.{bare_script}
 use Rattle.trace_lines.specs.VerdictText.{verdict_text}
 use Rattle.trace_lines.proofs.OneTrace.{one_trace}
 use Rattle.serve_faults.specs.Audited.{IsAudited, IsTraceOf, audited_parts, event_rows_of}

@@ -23,7 +23,7 @@ use Rattle.handler_check.specs.Dialogue.{Env, env_of, with_value, in_range, calc
 use Rattle.handler_check.specs.Resolved.{code_at}
 use Rattle.request_files.specs.declared.request.Request.{Request}
 use Rattle.request_files.specs.Requests.{ArePrintable}
-use Rattle.client_sheet.specs.Printable.{ArePrintableReplies}
+use Rattle.reply_sheet.specs.Printable.{ArePrintableReplies}
 use Rattle.session_journal.specs.Opening.{Pair}
 use Rattle.table_lines.specs.TableRows.{ArePrintable as ArePrintableEntries}
 use Rattle.request_files.specs.Session.{session, request_at}

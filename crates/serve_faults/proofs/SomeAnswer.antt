@@ -9,14 +9,14 @@ use Rattle.trace_lines.specs.declared.refusal.TraceRefusal.{TraceRefusal}
 use Rattle.handler_syntax.specs.Language.{names_of, File, SyntaxRefusal, IsSourceOf, HasFault, canonical_text}
 use Rattle.handler_syntax.proofs.Facts.{file_or_fault, fault_certain}
 use Rattle.handler_syntax.proofs.Rising.{places_rise}
-use Rattle.check_rules.specs.declared.refusal.CheckRefusal.{CheckRefusal}
+use Rattle.handler_check.specs.declared.refusal.CheckRefusal.{CheckRefusal}
 use Rattle.handler_check.specs.Checking.{IsAccepted, IsRefusal}
 use Rattle.handler_check.proofs.ExcessLemmas.{some_answer}
 use Rattle.may_use_analysis.specs.Later.{HasAnswer as IsAnalysed}
 use Rattle.may_use_analysis.proofs.Answered.{answered}
-use Rattle.range_session.specs.declared.refusal.RangeRefusal.{RangeRefusal}
-use Rattle.range_session.specs.Faults.{text_fault}
-use Rattle.range_session.proofs.SomeText.{some_text}
+use Rattle.range_tables.specs.declared.refusal.RangeRefusal.{RangeRefusal}
+use Rattle.range_tables.specs.Faults.{text_fault}
+use Rattle.range_tables.proofs.SomeText.{some_text}
 use Rattle.request_files.specs.declared.refusal.RequestRefusal.{RequestRefusal}
 use Rattle.table_lines.specs.declared.refusal.TableRefusal.{TableRefusal}
 use Rattle.serve_words.specs.declared.command.Command.{Command}
@@ -27,9 +27,9 @@ use Rattle.serve_faults.specs.declared.status.Fault.TheVariants as fault
 use Rattle.serve_faults.specs.Commands.{input_of, has_handlers, has_requests}
 use Rattle.serve_faults.specs.Audited.{audited_parts, trace_fault}
 use Rattle.serve_faults.specs.Clients.{client_counts, session_of_arrivals}
-use Rattle.client_sheet.specs.declared.arrival.Arrival.{Arrival}
-use Rattle.client_sheet.specs.ClientText.{clients_text}
-use Rattle.client_sheet.proofs.InOrder.{in_order, in_order_drawn, in_order_length}
+use Rattle.reply_sheet.specs.declared.arrival.Arrival.{Arrival}
+use Rattle.reply_sheet.specs.ClientText.{clients_text}
+use Rattle.reply_sheet.proofs.InOrder.{in_order, in_order_drawn, in_order_length}
 use Rattle.session_values.specs.Serial.{serial_replies}
 use Rattle.request_files.specs.TracePart.{before_trace, has_trace}
 use Rattle.serve_faults.specs.Input.{parts_in, parts_of, parts_fault, alone_fault, divided_fault, traced_fault, clients_fault, client_marks, client_parts, has_mark, is_divided, handlers_of, max_audit_input, IsInput, IsShort, IsTooLarge}

@@ -15,15 +15,15 @@ use Rattle.request_files.specs.Text.{Text}
 use Rattle.request_files.specs.Values.{is_nil, is_symbol, placed, placed_all}
 use Rattle.request_files.proofs.TextRowLemmas.{behind_nil, behind_step}
 use Rattle.request_files.proofs.ValueLemmas.{placed_all_nil, placed_all_step, placed_by}
-use Rattle.syntax_tokens.specs.declared.scan.Class.TheVariants as class
-use Rattle.syntax_tokens.specs.declared.token_kind.TokenKind.{TokenKind}
-use Rattle.syntax_tokens.specs.declared.token_kind.TokenKind.TheVariants as kind
-use Rattle.syntax_tokens.specs.Keyword.{keyword_of, statement_word_of, operation_of}
-use Rattle.syntax_tokens.specs.Scan.{is_in}
-use Rattle.syntax_tokens.specs.Texts.{IsNameText, IsSymbolText}
-use Rattle.syntax_tokens.specs.Tokens.{Piece, pieces}
-use Rattle.syntax_tokens.specs.Words.{unquoted, names_by, names_after, names_behind as behind_pieces, names_of}
-use Rattle.syntax_tokens.proofs.TextTokens.{IsGood, AllGood, all_good}
+use Rattle.syntax_grammar.specs.declared.scan.Class.TheVariants as class
+use Rattle.syntax_grammar.specs.declared.token_kind.TokenKind.{TokenKind}
+use Rattle.syntax_grammar.specs.declared.token_kind.TokenKind.TheVariants as kind
+use Rattle.syntax_grammar.specs.Keyword.{keyword_of, statement_word_of, operation_of}
+use Rattle.syntax_grammar.specs.Scan.{is_in}
+use Rattle.syntax_grammar.specs.Texts.{IsNameText, IsSymbolText}
+use Rattle.syntax_grammar.specs.Tokens.{Piece, pieces}
+use Rattle.syntax_grammar.specs.Words.{unquoted, names_by, names_after, names_behind as behind_pieces, names_of}
+use Rattle.syntax_grammar.proofs.TextTokens.{IsGood, AllGood, all_good}
 use Rattle.table_lines.specs.Written.{text_at}
 
 -- ---- texts of the language

@@ -26,9 +26,9 @@ use Rattle.request_files.specs.Requests.{ArePrintable}
 use Rattle.request_files.specs.Session.{session}
 use Rattle.table_lines.specs.TableRows.{ArePrintable as ArePrintableEntries}
 use Rattle.request_files.specs.Values.{is_symbol}
-use Rattle.trace_rules.specs.Accepted.{AreAllowed}
-use Rattle.trace_rules.specs.Bare.{bare_script}
-use Rattle.trace_rules.specs.Traces.{HasKnownSymbol}
+use Rattle.session_journal.specs.Accepted.{AreAllowed}
+use Rattle.session_journal.specs.Bare.{bare_script}
+use Rattle.session_journal.specs.Traces.{HasKnownSymbol}
 use Rattle.trace_lines.specs.Bounds.{IsHeldEvent}
 use Rattle.trace_lines.specs.EventText.{CanWrite, HasTable}
 use Rattle.trace_lines.specs.EventWords.{IsReadableEvent}

@@ -3,18 +3,18 @@ use Rattle.std.specs.Prelude.{◌≡◌, ◌≢◌, ℕ, ◌⊎◌, true, false,
 use Rattle.session_journal.specs.Symbol.{Symbol}
 use Rattle.handler_syntax.specs.Language.{names_of, File, HasFault, IsSourceOf, SyntaxRefusal, canonical_text, shown_text}
 use Rattle.handler_syntax.specs.Language.syntax_refusal
-use Rattle.check_rules.specs.declared.refusal.CheckRefusal.{CheckRefusal}
+use Rattle.handler_check.specs.declared.refusal.CheckRefusal.{CheckRefusal}
 use Rattle.handler_check.specs.Checking.{IsAccepted, IsRefusal}
 use Rattle.declaration_insertion.specs.Shown.{shown_of as points_shown}
 use Rattle.may_use_analysis.specs.declared.refusal.AnalysisRefusal.{AnalysisRefusal}
 use Rattle.may_use_analysis.specs.Later.{IsTooMany}
-use Rattle.range_session.specs.Faults.{text_fault}
-use Rattle.range_session.specs.Session.{IsRangesText}
+use Rattle.range_tables.specs.Faults.{text_fault}
+use Rattle.range_tables.specs.Session.{IsRangesText}
 use Rattle.request_files.specs.declared.refusal.RequestRefusal.{RequestRefusal}
 use Rattle.serve_words.specs.declared.command.Command.{Command}
 use Rattle.serve_words.specs.declared.command.Command.TheVariants.{Check, Show, Serve, Dump, Work, Ranges, Trace, Audit, Clients}
 use Rattle.serve_words.specs.Commands.{command_of}
-use Rattle.serve_made.specs.Summary.{summary}
+use Rattle.serve_words.specs.Summary.{summary}
 use Rattle.serve_faults.specs.declared.status.Fault.{Fault}
 use Rattle.serve_faults.specs.declared.status.Fault.TheVariants as fault
 use Rattle.serve_faults.specs.Commands.{fixes_text, input_of, has_requests, has_handlers, is_judging}

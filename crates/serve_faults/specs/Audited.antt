@@ -4,13 +4,13 @@ use Rattle.handler_syntax.specs.Language.{File}
 use Rattle.handler_check.specs.Resolved.{shape_of}
 use Rattle.request_files.specs.Rows.{Row, rows}
 use Rattle.request_files.specs.Text.{lines}
-use Rattle.trace_rules.specs.Traces.{TraceView}
-use Rattle.trace_rules.specs.Verdicts.{IsVerdict}
-use Rattle.trace_rules.specs.declared.verdict.Verdict.{Verdict}
+use Rattle.session_journal.specs.Traces.{TraceView}
+use Rattle.session_journal.specs.Verdicts.{IsVerdict}
+use Rattle.session_journal.specs.declared.verdict.Verdict.{Verdict}
 use Rattle.trace_lines.specs.EventRows.{IsTrace, first_event_fault}
 use Rattle.trace_lines.specs.declared.refusal.TraceRefusal.{TraceRefusal}
 use Rattle.request_files.specs.TracePart.{before_trace, behind_trace, line_behind_trace}
-use Rattle.trace_rules.specs.Bare.{bare_script}
+use Rattle.session_journal.specs.Bare.{bare_script}
 use Rattle.trace_lines.specs.VerdictText.{verdict_text}
 use Rattle.serve_faults.specs.Input.{Parts, parts_of}
 use Rattle.serve_faults.specs.Session.{IsSession, all_names_of, session_of_parts}

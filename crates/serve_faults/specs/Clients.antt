@@ -1,9 +1,9 @@
 -- The requests of several clients, served in the order in which they come, and their replies.
 use Rattle.std.specs.Prelude.{◌≡◌, ℕ, List, length, sum}
-use Rattle.client_sheet.specs.Arrivals.{IsDrawn}
-use Rattle.client_sheet.specs.declared.arrival.Arrival.{Arrival}
-use Rattle.client_sheet.specs.ClientText.{clients_text}
-use Rattle.client_sheet.specs.Numbers.{numbers_of}
+use Rattle.reply_sheet.specs.Arrivals.{IsDrawn}
+use Rattle.reply_sheet.specs.declared.arrival.Arrival.{Arrival}
+use Rattle.reply_sheet.specs.ClientText.{clients_text}
+use Rattle.reply_sheet.specs.Numbers.{numbers_of}
 use Rattle.handler_syntax.specs.Language.{File}
 use Rattle.request_files.specs.Clients.{row_counts}
 use Rattle.request_files.specs.Picked.{picked}

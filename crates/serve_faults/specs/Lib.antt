@@ -14,8 +14,8 @@ pub mod Ways
 pub use Rattle.serve_words.specs.declared.command.Command
 pub use Rattle.table_lines.specs.ReadBack
 pub use Rattle.handler_syntax.specs.Language
-pub use Rattle.serve_made.specs.Draws
-pub use Rattle.serve_made.specs.Session as ServeSession
+pub use Rattle.serve_words.specs.Draws
+pub use Rattle.serve_words.specs.Session as ServeSession
 pub use Rattle.table_lines.specs.TableRows
 pub use Rattle.request_files.specs.Divide
 pub use Rattle.request_files.specs.Laws
@@ -25,7 +25,7 @@ pub use Rattle.trace_lines.specs.EventRows
 pub use Rattle.trace_lines.specs.EventText
 pub use Rattle.trace_lines.specs.EventWords
 pub use Rattle.trace_lines.specs.VerdictText
-pub use Rattle.trace_rules.specs.Accepted
-pub use Rattle.trace_rules.specs.Bare
-pub use Rattle.trace_rules.specs.Traces
-pub use Rattle.trace_rules.specs.declared.verdict.Verdict
+pub use Rattle.session_journal.specs.Accepted
+pub use Rattle.session_journal.specs.Bare
+pub use Rattle.session_journal.specs.Traces
+pub use Rattle.session_journal.specs.declared.verdict.Verdict

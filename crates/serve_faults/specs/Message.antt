@@ -4,8 +4,8 @@ use Rattle.std.specs.Fmt.{decimal}
 use Rattle.serve_words.specs.Commands.{usage_line}
 use Rattle.handler_syntax.specs.Language.{SyntaxRefusal}
 use Rattle.handler_syntax.specs.Language.syntax_refusal as syntax
-use Rattle.check_rules.specs.declared.refusal.CheckRefusal.{CheckRefusal}
-use Rattle.check_rules.specs.declared.refusal.CheckRefusal.TheVariants as check
+use Rattle.handler_check.specs.declared.refusal.CheckRefusal.{CheckRefusal}
+use Rattle.handler_check.specs.declared.refusal.CheckRefusal.TheVariants as check
 use Rattle.may_use_analysis.specs.declared.refusal.AnalysisRefusal.{AnalysisRefusal}
 use Rattle.may_use_analysis.specs.declared.refusal.AnalysisRefusal.TheVariants as analysis
 use Rattle.table_lines.specs.declared.refusal.TableRefusal.{TableRefusal}
@@ -14,8 +14,8 @@ use Rattle.request_files.specs.declared.refusal.RequestRefusal.{RequestRefusal}
 use Rattle.request_files.specs.declared.refusal.RequestRefusal.TheVariants as request
 use Rattle.trace_lines.specs.declared.refusal.TraceRefusal.{TraceRefusal}
 use Rattle.trace_lines.specs.declared.refusal.TraceRefusal.TheVariants as trace
-use Rattle.range_session.specs.declared.refusal.RangeRefusal.{RangeRefusal}
-use Rattle.range_session.specs.declared.refusal.RangeRefusal.TheVariants as range
+use Rattle.range_tables.specs.declared.refusal.RangeRefusal.{RangeRefusal}
+use Rattle.range_tables.specs.declared.refusal.RangeRefusal.TheVariants as range
 use Rattle.serve_faults.specs.declared.status.Fault.{Fault}
 use Rattle.serve_faults.specs.declared.status.Fault.TheVariants.{TooLarge, NoRequests, HasRequests, NotText, NoTrace, TooManyClients, Syntax, Check, Analysis, Tables, Request, Trace, Ranges}
 use Rattle.serve_faults.specs.declared.status.Status.{Status}

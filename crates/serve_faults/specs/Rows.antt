@@ -4,7 +4,7 @@ use Rattle.session_values.specs.Limits.{max_input}
 use Rattle.request_files.specs.TracePart.{before_trace, has_trace}
 use Rattle.serve_words.specs.declared.command.Command.{Command}
 use Rattle.serve_words.specs.declared.command.Command.TheVariants.{Check, Show, Serve, Dump, Work, Ranges, Trace, Audit, Clients}
-use Rattle.serve_made.specs.Session.{session_text}
+use Rattle.serve_words.specs.Session.{session_text}
 use Rattle.serve_faults.specs.declared.status.Fault.{Fault}
 use Rattle.serve_faults.specs.Parts.{Parts, alone_fault, client_marks, clients_fault, divided_fault, has_mark, is_divided, max_audit_input, of_all_clients, parts_of, traced_fault}
 

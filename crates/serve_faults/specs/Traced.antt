@@ -5,8 +5,8 @@ use Rattle.session_journal.specs.declared.event.Event.{Event}
 use Rattle.handler_check.specs.TableDecl.{TableDecl}
 use Rattle.handler_syntax.specs.Language.{File}
 use Rattle.handler_check.specs.Resolved.{shape_of}
-use Rattle.trace_rules.specs.Accepted.{Accepted}
-use Rattle.trace_rules.specs.Bare.{bare_script}
+use Rattle.session_journal.specs.Accepted.{Accepted}
+use Rattle.session_journal.specs.Bare.{bare_script}
 use Rattle.trace_lines.specs.EventText.{CanWrite, trace_text}
 use Rattle.trace_lines.specs.EventWords.{IsReadableEvent}
 use Rattle.serve_faults.specs.Input.{Parts, parts_of}

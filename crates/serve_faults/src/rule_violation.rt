@@ -2,17 +2,17 @@
 
 ghost use Rattle.std.specs.Prelude.{◌≡◌, ◌≢◌};
 ghost use Rattle.handler_syntax.specs.Language.syntax_refusal as syntax;
-ghost use Rattle.check_rules.specs.declared.refusal.CheckRefusal.TheVariants as check;
+ghost use Rattle.handler_check.specs.declared.refusal.CheckRefusal.TheVariants as check;
 ghost use Rattle.may_use_analysis.specs.declared.refusal.AnalysisRefusal.TheVariants as analysis;
 ghost use Rattle.request_files.specs.declared.refusal.RequestRefusal.TheVariants as request;
 ghost use Rattle.table_lines.specs.declared.refusal.TableRefusal.TheVariants as table;
 ghost use Rattle.trace_lines.specs.declared.refusal.TraceRefusal.TheVariants as trace;
-ghost use Rattle.range_session.specs.declared.refusal.RangeRefusal.TheVariants as range;
+ghost use Rattle.range_tables.specs.declared.refusal.RangeRefusal.TheVariants as range;
 
-use check_rules::CheckRefusal;
+use handler_check::CheckRefusal;
 use handler_syntax::SyntaxRefusal;
 use may_use_analysis::AnalysisRefusal;
-use range_session::RangeRefusal;
+use range_tables::RangeRefusal;
 use request_files::RequestRefusal;
 use std::marker::Model;
 use table_lines::TableRefusal;

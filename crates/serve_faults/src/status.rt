@@ -3,10 +3,10 @@
 ghost use Rattle.std.specs.Prelude.{◌≡◌};
 
 use crate::rule_violation::RuleViolation;
-use check_rules::CheckRefusal;
+use handler_check::CheckRefusal;
 use handler_syntax::SyntaxRefusal;
 use may_use_analysis::AnalysisRefusal;
-use range_session::RangeRefusal;
+use range_tables::RangeRefusal;
 use request_files::RequestRefusal;
 use table_lines::TableRefusal;
 use trace_lines::TraceRefusal;

@@ -14,7 +14,7 @@ use Rattle.request_files.specs.Divide.{Divides}
 use Rattle.request_files.proofs.TraceSizes.{before_whole, front_long, line_within}
 use Rattle.request_files.specs.Rows.{Row, rows}
 use Rattle.request_files.specs.Text.{lines}
-use Rattle.trace_rules.specs.Traces.{TraceView}
+use Rattle.session_journal.specs.Traces.{TraceView}
 use Rattle.trace_lines.specs.EventRows.{AreKnown, IsTrace, first_event_fault}
 use Rattle.serve_faults.specs.Command.TheVariants.{Audit}
 use Rattle.serve_faults.specs.declared.status.Fault.TheVariants as fault

@@ -5,7 +5,7 @@ use Rattle.std.specs.Option.{option_or}
 use Rattle.std.proofs.lemmas.Bool.{eqb-true}
 use Rattle.std.proofs.lemmas.Bool.Decides.{nat_tests}
 use Rattle.session_values.specs.Limits.{max_input}
-use Rattle.opening_tables.specs.Opening.{Pair, count_all}
+use Rattle.session_values.specs.Opening.{Pair, count_all}
 use Rattle.syntax_trees.specs.declared.file.TableDecl.{TableDecl}
 use Rattle.request_files.specs.Clients.{AreShared, row_counts, without_marks}
 use Rattle.request_files.proofs.ClientSteps.{unmarked_lines}

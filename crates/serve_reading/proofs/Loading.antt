@@ -14,7 +14,7 @@ use Rattle.declaration_insertion.specs.Shown.{shown_of}
 use Rattle.request_files.specs.declared.request.Request.{Request}
 use Rattle.request_files.specs.Requests.{request_of, AreRequests, ArePrintable, first_fault, no_requests}
 use Rattle.request_files.specs.declared.refusal.RequestRefusal.{RequestRefusal}
-use Rattle.opening_tables.specs.Opening.{Pair, IsOpening}
+use Rattle.session_values.specs.Opening.{Pair, IsOpening}
 use Rattle.table_lines.specs.TableRows.{ArePrintable as ArePrintableEntries, AreTables, first_table_fault}
 use Rattle.table_lines.specs.Opened.{opened_by}
 use Rattle.table_lines.proofs.OpenedLemmas.{opened_is}

@@ -1,6 +1,6 @@
 -- What is made of a session file that ends in a trace before the trace is judged.
 use Rattle.std.specs.Prelude.{◌≡◌, ℕ, List, None, Some}
-use Rattle.opening_tables.specs.Opening.{IsOpening}
+use Rattle.session_values.specs.Opening.{IsOpening}
 use Rattle.handler_syntax.specs.Language.{File}
 use Rattle.handler_check.specs.Resolved.{shape_of}
 use Rattle.request_files.specs.Servable.{IsServable}

@@ -1,7 +1,7 @@
 -- What is made of the parts of a session file before it is served.
 use Rattle.std.specs.Prelude.{◌≡◌, ℕ, ◌≤◌, true, IsUtf8, List, [], length, map, None}
 use Rattle.session_values.specs.Limits.{max_input}
-use Rattle.opening_tables.specs.Opening.{Pair, IsOpening}
+use Rattle.session_values.specs.Opening.{Pair, IsOpening}
 use Rattle.session_values.specs.Names.{Begins}
 use Rattle.handler_syntax.specs.Language.{IsNamedFile}
 use Rattle.syntax_trees.specs.declared.file.File.{File}

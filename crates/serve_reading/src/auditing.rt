@@ -18,14 +18,14 @@ use crate::load_error::LoadError;
 use crate::session::{Loaded, read_session};
 use declaration_insertion::Program;
 use handler_check::Checked;
-use opening_tables::Opening;
+use session_values::Opening;
 use request_files::{Divided, Requests, TracePlace, divide, find_trace};
 use serve_faults::Fault;
 use session_values::{MAX_INPUT, Names, NoMemory};
 use std::alloc::Global;
 use syntax_trees::File;
 use trace_lines::read_trace;
-use trace_rules::Trace;
+use session_journal::Trace;
 
 /// A session whose requests a trace tells of, and the trace.
 #[derive(Drop)]

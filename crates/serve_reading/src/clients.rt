@@ -14,7 +14,7 @@ use crate::load_error::LoadError;
 use crate::naming::names_of_input;
 use crate::program::read_program;
 use declaration_insertion::Program;
-use opening_tables::Opening;
+use session_values::Opening;
 use request_files::{ClientRequests, Divided, count_marks, divide, read_clients};
 use serve_faults::Fault;
 use session_values::Names;

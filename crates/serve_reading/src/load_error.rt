@@ -6,14 +6,14 @@ ghost use Rattle.may_use_analysis.specs.declared.refusal.AnalysisRefusal.TheVari
 ghost use Rattle.request_files.specs.declared.refusal.RequestRefusal.TheVariants as request;
 ghost use Rattle.table_lines.specs.declared.refusal.TableRefusal.TheVariants as table;
 ghost use Rattle.trace_lines.specs.declared.refusal.TraceRefusal.TheVariants as trace;
-ghost use Rattle.range_session.specs.declared.refusal.RangeRefusal.TheVariants as range;
+ghost use Rattle.range_tables.specs.declared.refusal.RangeRefusal.TheVariants as range;
 ghost use Rattle.serve_faults.specs.declared.status.Fault.TheVariants as fault;
 ghost use Rattle.serve_reading.specs.Reasons.{IsNamedAs};
 
 use handler_check::CheckRefusal;
 use handler_syntax::SyntaxRefusal;
 use may_use_analysis::AnalysisRefusal;
-use range_session::RangeRefusal;
+use range_tables::RangeRefusal;
 use request_files::RequestRefusal;
 use serve_faults::{Fault, RuleViolation};
 use session_values::NoMemory;

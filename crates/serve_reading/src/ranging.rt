@@ -8,7 +8,7 @@ ghost use Rattle.serve_faults.specs.Input.{IsInput};
 ghost use Rattle.serve_reading.specs.Reasons.{IsReason};
 
 use crate::load_error::LoadError;
-use range_session::ranges_text;
+use range_tables::ranges_text;
 use serve_faults::Fault;
 use std::alloc::Global;
 

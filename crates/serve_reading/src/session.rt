@@ -10,7 +10,7 @@ use crate::load_error::LoadError;
 use crate::naming::names_of_input;
 use crate::program::read_program;
 use declaration_insertion::Program;
-use opening_tables::Opening;
+use session_values::Opening;
 use request_files::{Divided, Requests, divide, read_requests};
 use serve_faults::Fault;
 use session_values::Names;

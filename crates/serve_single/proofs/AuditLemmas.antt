@@ -4,10 +4,10 @@ use Rattle.handler_machine.specs.Scripts.{meaning}
 use Rattle.request_files.specs.Session.{session}
 use Rattle.session_journal.specs.Script.{session_of}
 use Rattle.session_values.specs.Serial.{Session}
-use Rattle.trace_rules.specs.Bare.{bare_script}
-use Rattle.trace_rules.specs.Verdicts.{IsVerdict}
-use Rattle.trace_rules.specs.declared.verdict.Verdict.{Verdict}
-use Rattle.trace_rules.proofs.Bare.{verdict as bare_verdict}
+use Rattle.session_journal.specs.Bare.{bare_script}
+use Rattle.session_journal.specs.Verdicts.{IsVerdict}
+use Rattle.session_journal.specs.declared.verdict.Verdict.{Verdict}
+use Rattle.session_journal.proofs.Bare.{verdict as bare_verdict}
 use Rattle.trace_lines.specs.VerdictText.{verdict_text}
 use Rattle.serve_faults.specs.Command.TheVariants.{Audit}
 use Rattle.serve_faults.specs.declared.status.Status.{Status}

@@ -15,14 +15,14 @@ use Rattle.shard_tables.specs.declared.part.Part.{Part}
 use Rattle.shard_tables.specs.Either.{entries_in}
 use Rattle.shard_tables.proofs.Either.{held_is}
 use Rattle.session_journal.specs.Script.{session_of}
-use Rattle.table_text.specs.Dumped.{CanDumpAll, CanDumpEach, dump_text}
+use Rattle.table_lines.specs.Dumped.{CanDumpAll, CanDumpEach, dump_text}
 use Rattle.serve_faults.specs.Printable.{IsPrintableTable}
 use Rattle.serve_faults.proofs.PrintableRuns.{tables_hold}
 use Rattle.serve_faults.proofs.ToldEvents.{tables_named}
 use Rattle.serve_reading.specs.declared.session.Loaded.{Loaded}
 use Rattle.serve_single.proofs.EntryLemmas.{entries_printable}
 use Rattle.serve_faults.specs.ReadBack.{texts_of}
-use Rattle.table_text.specs.TableText.{table_text, written_table}
+use Rattle.table_lines.specs.TableText.{table_text, written_table}
 use Rattle.serve_single.specs.Serving.{AreServed, CanServe, asked_text, script_of_loaded}
 use Rattle.shard_tables.specs.Whole.{container_in, held}
 use Rattle.serve_single.specs.Tables.{lists_in}

@@ -13,7 +13,7 @@ use Rattle.session_values.specs.declared.kind.TableKind.TheVariants.{Map, Set}
 use Rattle.session_values.specs.declared.value.Value.{Value}
 use Rattle.session_values.proofs.Equal.{same_value, value_eq-self}
 use Rattle.serve_faults.specs.Printable.{IsPrintableTable}
-use Rattle.table_text.specs.Dumped.{IsPrintableEntry}
+use Rattle.table_lines.specs.Dumped.{IsPrintableEntry}
 
 missing : (es : List Pair) (k v : Value) → has_key es k ≡ false → find value_cmp k es ≡ Some v → ⊥
 missing [] k v none at = cc

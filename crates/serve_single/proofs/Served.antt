@@ -8,7 +8,7 @@ use Rattle.session_journal.proofs.Openings.{opening_kinds}
 use Rattle.session_journal.specs.Journal.{Replays, run}
 use Rattle.session_journal.specs.Script.{IsScript, Meaning, session_of}
 use Rattle.session_journal.proofs.Serial.{GoesOn, goes_on}
-use Rattle.machine_walk.specs.Asking.{Runs, Steps}
+use Rattle.handler_machine.specs.Asking.{Runs, Steps}
 use Rattle.serve_single.specs.Serving.{AreServed}
 use Rattle.serve_single.specs.Tables.{WholeStep}
 use Rattle.serve_single.specs.declared.tables.Answering.{Answering}

@@ -4,8 +4,8 @@ use Rattle.session_journal.specs.Opening.{IsOpening}
 use Rattle.handler_check.specs.Resolved.{shape_of}
 use Rattle.handler_machine.specs.Scripts.{ScriptsView, meaning}
 use Rattle.request_files.specs.Servable.{IsServable}
-use Rattle.trace_rules.specs.Verdicts.{IsVerdict}
-use Rattle.trace_rules.specs.declared.verdict.Verdict.{Verdict}
+use Rattle.session_journal.specs.Verdicts.{IsVerdict}
+use Rattle.session_journal.specs.declared.verdict.Verdict.{Verdict}
 use Rattle.trace_lines.specs.VerdictText.{verdict_text}
 use Rattle.byte_ends.specs.Changes.{Change, Failed, IsUntouched, WroteAll, WrotePrefix}
 use Rattle.serve_faults.specs.declared.status.Status.{Status}

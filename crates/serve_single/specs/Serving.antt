@@ -24,7 +24,7 @@ use Rattle.serve_faults.specs.declared.status.Status.TheVariants as status
 use Rattle.serve_reading.specs.declared.session.Loaded.{Loaded}
 use Rattle.serve_reading.specs.declared.load_error.LoadError.{LoadError}
 use Rattle.serve_reading.specs.declared.load_error.LoadError.TheVariants.{Refused, NoMemory}
-use Rattle.table_text.specs.TableText.{table_text, written_table}
+use Rattle.table_lines.specs.TableText.{table_text, written_table}
 
 -- ---- what is loaded
 

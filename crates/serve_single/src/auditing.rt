@@ -1,8 +1,8 @@
 // Audits: from a source to what is judged of the trace with which a session file ends.
 
 ghost use Rattle.std.specs.Prelude.{◌≡◌, ◌≤◌, IfOk, Some, length};
-ghost use Rattle.trace_rules.specs.Bare.{bare_script};
-ghost use Rattle.trace_rules.specs.Verdicts.{IsVerdict};
+ghost use Rattle.session_journal.specs.Bare.{bare_script};
+ghost use Rattle.session_journal.specs.Verdicts.{IsVerdict};
 ghost use Rattle.handler_machine.specs.Scripts.{meaning};
 ghost use Rattle.session_journal.specs.Script.{session_of};
 ghost use Rattle.serve_faults.specs.Command.TheVariants.{Audit};
@@ -20,7 +20,7 @@ use session_values::NoMemory;
 use std::alloc::Global;
 use trace_audit::judge_session;
 use trace_lines::verdict_line;
-use trace_rules::Verdict;
+use session_journal::Verdict;
 
 /// Reads a session file that ends in a trace, and writes what is judged of the trace.
 pub(crate) fn audit_source<I: Source, O: Sink>(alloc: Global, source: &mut I, out: &mut O) -> Status

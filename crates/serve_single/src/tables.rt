@@ -1,9 +1,9 @@
 // The tables of a session that is served alone: what answers its handlers, and their entries.
 
-use machine_walk::Answerer;
+use handler_machine::Answerer;
 use session_values::{NoMemory, Op, Value};
 use shard_tables::{Part, WholeTables};
-use table_text::TellsEntries;
+use table_lines::TellsEntries;
 
 /// Tables that answer handlers.
 #[derive(Drop)]

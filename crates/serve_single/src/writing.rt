@@ -5,7 +5,7 @@ ghost use Rattle.std.specs.List.{AllByRecursion};
 ghost use Rattle.session_journal.specs.Opening.{AreApart};
 ghost use Rattle.session_journal.specs.Script.{session_of};
 ghost use Rattle.handler_machine.specs.Scripts.{meaning};
-ghost use Rattle.table_text.specs.Dumped.{HaveRoom};
+ghost use Rattle.table_lines.specs.Dumped.{HaveRoom};
 ghost use Rattle.byte_ends.specs.Changes.{change};
 ghost use Rattle.serve_single.specs.Serving.{AreServed, CanServe, EndsOrWants, asked_text, script_of_loaded};
 ghost use Rattle.serve_single.specs.Tables.{lists_in};
@@ -18,7 +18,7 @@ use serve_faults::Status;
 use serve_reading::Loaded;
 use shard_tables::Part;
 use std::alloc::Global;
-use table_text::write_tables;
+use table_lines::write_tables;
 
 /// Writes the lines of the replies; with `tables` the final tables.
 pub(crate) fn write_asked<O: Sink>(

@@ -1,7 +1,7 @@
 -- The command lines of the program.
 use Rattle.std.specs.Prelude.{ℕ, ◌≤◌, ◌&&◌, if◌then◌else◌, List, [], ◌∷◌, ◌++◌, Option, Some, None, codes}
 use Rattle.std.specs.Str.{bytes_eq}
-use Rattle.session_limits.specs.Limits.{max_callers, max_requests, max_shards}
+use Rattle.session_values.specs.Limits.{max_callers, max_requests, max_shards}
 use Rattle.serve_words.specs.Numbers.{number_within}
 use Rattle.serve_words.specs.declared.command.Command.{Command}
 use Rattle.serve_words.specs.declared.command.Command.TheVariants.{Check, Show, Serve, Dump, Work, Ranges, Trace, Audit, Clients}

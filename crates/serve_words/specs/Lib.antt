@@ -1,2 +1,5 @@
 pub mod Commands
 pub mod Numbers
+pub mod Draws
+pub mod Session
+pub mod Summary

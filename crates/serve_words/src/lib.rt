@@ -2,8 +2,13 @@
 #![tactic(auto)]
 
 mod command;
+mod draws;
 mod number;
+mod session;
+mod summary;
 mod words;
 
 pub use command::Command;
+pub use session::session_text;
+pub use summary::summary_text;
 pub use words::{command_of, usage_line};

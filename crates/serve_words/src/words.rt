@@ -1,12 +1,12 @@
 // The command of a command line.
 
 ghost use Rattle.std.specs.Prelude.{◌≡◌, ◌≤◌, map, string_bytes, IfSome};
-ghost use Rattle.session_limits.specs.Limits.{max_callers, max_shards};
+ghost use Rattle.session_values.specs.Limits.{max_callers, max_shards};
 ghost use Rattle.serve_words.specs.Commands as spec;
 
 use crate::command::Command;
 use crate::number::number_within;
-use session_limits::{MAX_CALLERS, MAX_REQUESTS, MAX_SHARDS};
+use session_values::{MAX_CALLERS, MAX_REQUESTS, MAX_SHARDS};
 
 /// How many callers serve where the words don't say, and over how many shards a table.
 const USUAL: u32 = 4;

@@ -8,6 +8,11 @@ pub mod Serving
 pub mod Values
 pub mod Events
 pub mod EventCounts
-pub use Rattle.opening_tables.proofs.Openings
-pub use Rattle.opening_tables.proofs.Filling
-pub use Rattle.opening_tables.proofs.KeptLemmas
+pub use Rattle.session_values.proofs.Openings
+pub use Rattle.session_values.proofs.Filling
+pub use Rattle.session_values.proofs.KeptLemmas
+pub mod Allowed
+pub mod Bare
+pub mod Counting
+pub mod OneVerdict
+pub mod TraceRulesSerial

@@ -16,9 +16,9 @@ use Rattle.session_values.specs.Sums.{sum_below}
 use Rattle.session_journal.specs.Script.{HasValues, IsForesight, IsScript, adds_on}
 use Rattle.session_journal.specs.Lists.{Ticket, ticket_at, says, adding, IsTicket, list_meaning}
 use Rattle.session_values.proofs.Sums.{sum_first}
-use Rattle.session_values.proofs.Entries.{same_call, no_call}
-use Rattle.opening_tables.specs.Opening.{Pair, entries_of, no_entries}
-use Rattle.opening_tables.proofs.Openings.{start_is, no_opening}
+use Rattle.session_values.proofs.EntriesFacts.{same_call, no_call}
+use Rattle.session_values.specs.Opening.{Pair, entries_of, no_entries}
+use Rattle.session_values.proofs.Openings.{start_is, no_opening}
 
 -- what is true of each operation is true of the one that is called
 called : (P : Op → Type 0) (ops : List Op) (r : Reply) (replies : List Value) (op : Op) → AllByRecursion P ops → says ops r replies ≡ Calls op → P op

@@ -13,8 +13,8 @@ use Rattle.session_values.specs.Tables.{AreValues, Tables, reply, size_of, step,
 use Rattle.session_values.specs.Values.{IsValue}
 use Rattle.session_values.proofs.Sizes.{one_if, step_few}
 use Rattle.session_values.proofs.Sums.{sum_below_up}
-use Rattle.opening_tables.specs.Opening.{tables_of}
-use Rattle.opening_tables.proofs.Openings.{entries_few, opening_size, opening_values}
+use Rattle.session_values.specs.Opening.{tables_of}
+use Rattle.session_values.proofs.Openings.{entries_few, opening_size, opening_values}
 use Rattle.session_journal.specs.Script.{HasValues, IsScript, Meaning, adds_on, session_of}
 use Rattle.session_journal.proofs.Serial.{serve-answers, serve-calls}
 use Rattle.session_journal.proofs.Values.{AreReplies, reply_values, step_values}

@@ -7,8 +7,12 @@ pub mod Script
 pub mod Served
 pub mod EventsInTurn
 pub use Rattle.symbolic_ops.specs.declared.symbol.Symbol
-pub use Rattle.opening_tables.specs.Opening
+pub use Rattle.session_values.specs.Opening
 pub use Rattle.symbolic_ops.specs.declared.arg.Arg
-pub use Rattle.opening_tables.specs.Limits
+pub use Rattle.session_values.specs.OpeningTablesLimits
 pub use Rattle.symbolic_ops.specs.Commuting
 pub use Rattle.symbolic_ops.specs.Matching
+pub mod Accepted
+pub mod Bare
+pub mod Traces
+pub mod Verdicts

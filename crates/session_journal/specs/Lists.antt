@@ -9,7 +9,7 @@ use Rattle.session_values.specs.declared.reply.Reply.{Reply}
 use Rattle.session_values.specs.Dialogue.{Calls, Answers, Dialogue}
 use Rattle.session_values.specs.Kinds.{is_adding}
 use Rattle.session_values.specs.Tables.{Fits, start}
-use Rattle.opening_tables.specs.Opening.{no_entries}
+use Rattle.session_values.specs.Opening.{no_entries}
 use Rattle.symbolic_ops.specs.declared.symbol.Symbol.{Symbol}
 use Rattle.symbolic_ops.specs.Matching.{Matches, HasNoVar, exact_symbol}
 use Rattle.session_journal.specs.Script.{Meaning, HasValues}

@@ -13,7 +13,7 @@ use Rattle.session_values.specs.Reply.{IsHeldReply}
 use Rattle.session_values.specs.Sums.{sum_below}
 use Rattle.session_values.specs.Tables.{Tables, Fits}
 use Rattle.session_values.specs.Values.{IsValue}
-use Rattle.opening_tables.specs.Opening.{Pair, IsOpening, tables_of}
+use Rattle.session_values.specs.Opening.{Pair, IsOpening, tables_of}
 use Rattle.symbolic_ops.specs.declared.symbol.Symbol.{Symbol}
 use Rattle.symbolic_ops.specs.Instantiate.{IsWithin, symbol_in}
 use Rattle.symbolic_ops.specs.Matching.{Matches, HasNoVar}

@@ -3,7 +3,7 @@
 ghost use Rattle.std.specs.Prelude.{◌≡◌, ◌∷◌, List};
 ghost use Rattle.session_values.specs.Kinds.{home};
 ghost use Rattle.session_values.specs.Tables.{after_on};
-ghost use Rattle.opening_tables.specs.Opening.{Pair, container_of};
+ghost use Rattle.session_values.specs.Opening.{Pair, container_of};
 
 use session_values::{Kind, Op, TableKind, Value};
 

@@ -13,6 +13,9 @@ mod script;
 mod serves;
 mod site;
 mod tickets;
+mod trace;
+pub mod trace_rules_laws;
+mod verdict;
 
 pub use desk::Desk;
 pub use entering::opening_op;
@@ -24,3 +27,5 @@ pub use script::Script;
 pub use serves::Serves;
 pub use site::Site;
 pub use tickets::Tickets;
+pub use trace::{MAX_EVENTS, Trace};
+pub use verdict::Verdict;

@@ -2,7 +2,7 @@
 
 ghost use Rattle.std.specs.Prelude.{◌≡◌, ◌≤◌, ◌<◌, Some, MatchOption, length, slice_get};
 ghost use Rattle.session_values.specs.Limits.{max_symbols, max_variables};
-ghost use Rattle.opening_tables.specs.Opening.{entries_of};
+ghost use Rattle.session_values.specs.Opening.{entries_of};
 ghost use Rattle.session_journal.specs.Script.{HasSite, IsScript, Meaning, calls, declared_with, room};
 
 use crate::site::Site;

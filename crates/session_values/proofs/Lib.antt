@@ -1,6 +1,6 @@
 pub mod Bumps
 pub mod Congruent
-pub mod Entries
+pub mod EntriesFacts
 pub mod Equal
 pub mod KindLemmas
 pub mod Lists
@@ -13,3 +13,7 @@ pub mod Serial
 pub mod Sizes
 pub mod Starts
 pub mod Sums
+pub mod Filling
+pub mod KeyLemmas
+pub mod KeptLemmas
+pub mod Openings

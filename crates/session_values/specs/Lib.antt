@@ -12,4 +12,8 @@ pub mod Sorts
 pub mod Sums
 pub mod Tables
 pub mod Values
-pub use Rattle.session_limits.specs.Limits
+pub mod Length
+pub mod formers
+pub mod Limits
+pub mod OpeningTablesLimits
+pub mod Opening

@@ -2,7 +2,7 @@
 use Rattle.std.specs.Prelude.{◌≡◌, ℕ, ◌≤◌, List, [], ◌∷◌, ◌++◌, length, slice_get, Some, if◌then◌else◌}
 use Rattle.std.specs.List.{list_any, position_or_len}
 use Rattle.std.specs.Str.{bytes_eq}
-use Rattle.session_limits.specs.Limits.{max_name}
+use Rattle.session_values.specs.Limits.{max_name}
 
 -- the list with a text at its end, unless it is there
 abbrev pub with_text : List (List ℕ) → List ℕ → List (List ℕ)

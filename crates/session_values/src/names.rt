@@ -7,7 +7,7 @@ ghost use Rattle.session_values.specs.Names.{with_text, place_of, AreDistinct};
 
 use crate::seeded::Seeded;
 use indexmap::IndexSet;
-use owned_lists::NoMemory;
+use crate::NoMemory;
 use std::alloc::Global;
 use std::marker::Model;
 

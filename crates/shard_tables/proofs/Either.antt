@@ -7,8 +7,8 @@ use Rattle.session_values.specs.declared.kind.TableKind.{TableKind}
 use Rattle.session_values.specs.declared.kind.TableKind.TheVariants.{Map, Set}
 use Rattle.session_values.specs.Tables.{Members, kind_of}
 use Rattle.session_values.specs.Values.{value_eq}
-use Rattle.opening_tables.specs.Opening.{Pair, AreApart, container_of, has_key}
-use Rattle.place_index.specs.Keys.{AreDifferent, is_under}
+use Rattle.session_values.specs.Opening.{Pair, AreApart, container_of, has_key}
+use Rattle.shard_tables.specs.Keys.{AreDifferent, is_under}
 use Rattle.shard_tables.specs.declared.part.Part.{Part}
 use Rattle.shard_tables.specs.declared.part.Part.TheVariants as shard
 use Rattle.shard_tables.specs.Either.{as_entries, entries_in, shard_view}

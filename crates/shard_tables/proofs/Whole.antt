@@ -6,7 +6,7 @@ use Rattle.std.specs.Prelude.{slice_index_or}
 use Rattle.std.proofs.lemmas.Option.{same_Some, slice_get_within}
 use Rattle.session_values.specs.declared.kind.TableKind.{TableKind}
 use Rattle.session_values.specs.declared.kind.TableKind.TheVariants.{Map, Set}
-use Rattle.opening_tables.specs.Opening.{Pair, container_of, entries_of, tables_of}
+use Rattle.session_values.specs.Opening.{Pair, container_of, entries_of, tables_of}
 use Rattle.session_values.specs.declared.op.Op.{Op}
 use Rattle.session_values.specs.Kinds.{home}
 use Rattle.session_values.specs.Tables.{Container, Tables, empty_of, table, reply, reply_on, step, after_on, kind_of}

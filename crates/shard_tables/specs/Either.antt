@@ -4,8 +4,8 @@ use Rattle.std.specs.FinMap as map
 use Rattle.std.specs.FinSet as set
 use Rattle.session_values.specs.declared.value.Value.{Value}
 use Rattle.session_values.specs.declared.value.Value.TheVariants.{Nil}
-use Rattle.opening_tables.specs.Opening.{Pair}
-use Rattle.place_index.specs.Slots.{IndexView}
+use Rattle.session_values.specs.Opening.{Pair}
+use Rattle.shard_tables.specs.Slots.{IndexView}
 use Rattle.shard_tables.specs.declared.part.Part.{Part}
 use Rattle.shard_tables.specs.declared.part.Part.TheVariants.{Bindings, Members}
 use Rattle.session_values.specs.Tables.{Container}

@@ -9,8 +9,8 @@ use Rattle.session_values.specs.declared.value.Value.{Value}
 use Rattle.session_values.specs.Values.{value_cmp}
 use Rattle.session_values.specs.Kinds.{is_adding}
 use Rattle.session_values.specs.Tables.{Container, Bindings, Members, after_on, size_of}
-use Rattle.place_index.specs.Keys.{AreDifferent}
-use Rattle.place_index.specs.Slots.{IndexView, IsIndexOf, IsSizedFor}
+use Rattle.shard_tables.specs.Keys.{AreDifferent}
+use Rattle.shard_tables.specs.Slots.{IndexView, IsIndexOf, IsSizedFor}
 
 -- a shard of a map: the pairs of its part, in the order in which they stand, and the index of their
 -- places

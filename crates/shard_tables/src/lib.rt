@@ -8,19 +8,25 @@
 //! own.
 #![tactic(auto)]
 
+mod index;
+mod keyed;
 mod laws;
 mod map_shard;
 mod part;
 mod set_shard;
 mod sharding;
+mod slot_table;
+mod start;
 mod tells_opening;
 mod whole_tables;
 
+pub use index::PlaceIndex;
+pub use keyed::Keyed;
 pub use laws::{parting, parts_of_whole};
 pub use map_shard::MapShard;
 pub use part::Part;
-pub use place_index::{seed_factor, start_slot, start_slot_by};
 pub use set_shard::SetShard;
 pub use sharding::shard_of;
+pub use start::{seed_factor, start_slot, start_slot_by};
 pub use tells_opening::TellsOpening;
 pub use whole_tables::WholeTables;

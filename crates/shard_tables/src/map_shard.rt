@@ -5,11 +5,11 @@ ghost use Rattle.std.specs.FinMap as map;
 ghost use Rattle.session_values.specs.declared.kind.TableKind.TheVariants.{Map};
 ghost use Rattle.session_values.specs.Kinds.{home};
 ghost use Rattle.session_values.specs.Tables.{Bindings, bound_to, bumped, reply_on, size_of, empty_of};
-ghost use Rattle.place_index.specs.Keys.{AreDifferent, is_under};
-ghost use Rattle.place_index.specs.Slots.{factor_of, IsSearch, IsSizedFor, slot_count};
+ghost use Rattle.shard_tables.specs.Keys.{AreDifferent, is_under};
+ghost use Rattle.shard_tables.specs.Slots.{factor_of, IsSearch, IsSizedFor, slot_count};
 ghost use Rattle.shard_tables.specs.Shards.{bindings, map_shard, HasRoomFor, shard_after, spare_of, grown_to};
 
-use place_index::PlaceIndex;
+use crate::PlaceIndex;
 use session_values::{Kind, NoMemory, Op, Value, bumped};
 use std::alloc::Global;
 use std::marker::Model;

@@ -1,8 +1,8 @@
 // A shard of either kind.
 
 ghost use Rattle.std.specs.Prelude.{◌≡◌, ◌<◌, ◌≤◌, ◌||◌, IfOk, OnErr, OnOk, Some, length, nat_lt, not, slice_get, true};
-ghost use Rattle.opening_tables.specs.Opening.{AreApart};
-ghost use Rattle.place_index.specs.Slots.{factor_of, IsSizedFor};
+ghost use Rattle.session_values.specs.Opening.{AreApart};
+ghost use Rattle.shard_tables.specs.Slots.{factor_of, IsSizedFor};
 ghost use Rattle.session_values.specs.declared.op.Op.{Op as DoneOp};
 ghost use Rattle.session_values.specs.Kinds.{home, is_adding};
 ghost use Rattle.session_values.specs.Tables.{empty_of, kind_of, reply_on, size_of};

@@ -5,11 +5,11 @@ ghost use Rattle.std.specs.FinSet as set;
 ghost use Rattle.session_values.specs.declared.kind.TableKind.TheVariants.{Set};
 ghost use Rattle.session_values.specs.Kinds.{home};
 ghost use Rattle.session_values.specs.Tables.{Members, reply_on, size_of, empty_of, bit};
-ghost use Rattle.place_index.specs.Keys.{AreDifferent, is_under};
-ghost use Rattle.place_index.specs.Slots.{factor_of, IsSearch, IsSizedFor, slot_count};
+ghost use Rattle.shard_tables.specs.Keys.{AreDifferent, is_under};
+ghost use Rattle.shard_tables.specs.Slots.{factor_of, IsSearch, IsSizedFor, slot_count};
 ghost use Rattle.shard_tables.specs.Shards.{members, set_shard, HasRoomFor, shard_after, spare_of, grown_to};
 
-use place_index::PlaceIndex;
+use crate::PlaceIndex;
 use session_values::{Kind, NoMemory, Op, Value};
 use std::alloc::Global;
 use std::marker::Model;

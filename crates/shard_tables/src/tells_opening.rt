@@ -6,7 +6,7 @@ use session_values::Value;
 pub trait TellsOpening {
     ghost use Rattle.std.specs.Prelude.{◌≡◌, ◌<◌, Some, List, length, slice_get};
     ghost use Rattle.session_values.specs.declared.kind.TableKind.{TableKind};
-    ghost use Rattle.opening_tables.specs.Opening.{Pair, entries_of};
+    ghost use Rattle.session_values.specs.Opening.{Pair, entries_of};
 
     /// The kinds of the tables.
     ghost shape: { Self → List TableKind };

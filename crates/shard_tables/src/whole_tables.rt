@@ -1,7 +1,7 @@
 // Tables that are whole, for whoever has them alone.
 
 ghost use Rattle.std.specs.Prelude.{◌≡◌, ◌<◌, ◌++◌, ◌∷◌, [], IfOk, OnErr, OnOk, Some, length, map, slice_get};
-ghost use Rattle.opening_tables.specs.Opening.{container_of, entries_of, tables_of};
+ghost use Rattle.session_values.specs.Opening.{container_of, entries_of, tables_of};
 ghost use Rattle.session_values.specs.Kinds.{home};
 ghost use Rattle.session_values.specs.Tables.{kind_of, reply, step};
 ghost use Rattle.shard_tables.specs.Whole.{container_in, held};

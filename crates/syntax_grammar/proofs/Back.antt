@@ -2,9 +2,9 @@
 use Rattle.std.proofs.Common.{ℕ, suc, arith, List, [], ◌∷◌, ◌++◌, Option, Some, None, refl, ap, ◌∙◌, subst, append_assoc}
 use Rattle.session_values.specs.declared.kind.Kind.{Kind}
 use Rattle.session_values.specs.declared.kind.TableKind.{TableKind}
-use Rattle.syntax_tokens.specs.declared.word.Word.{Word}
-use Rattle.syntax_tokens.specs.declared.word.Sort.{Sort}
-use Rattle.syntax_tokens.specs.declared.word.Sort.TheVariants as sort
+use Rattle.syntax_grammar.specs.declared.word.Word.{Word}
+use Rattle.syntax_grammar.specs.declared.word.Sort.{Sort}
+use Rattle.syntax_grammar.specs.declared.word.Sort.TheVariants as sort
 use Rattle.syntax_grammar.specs.Next.{Part, tables, handlers, first_param, more_params, a_block, statements, or_else, a_right, more_arguments, a_compare, a_count, more_values, expression, operand, more_factors, more_terms, closing, an_atom, after_minus, a_name, mark, row, call_parts, atom_row, operand_row, before_rest, expression_row}
 use Rattle.syntax_grammar.specs.Phrase.{word, named, name_words, digits, number_words, name_atom, nil_atom, symbol_atom, number_atom, negative_atom, atom_words, plain, grouped, factor_words, times, factors_words, term, plus, minus, terms_words, sum, expr_words, more_atom, atoms_words, operands, a_call, result_right, plain_right, right_words, a_cond, compare_words, a_turns, more_value, more_words, let_stmt, assign_stmt, call_stmt, if_stmt, repeat_stmt, reply_stmt, an_else, else_words, more_stmts, stmts_words, block, block_words, more_param, some_params, params_words, a_handler, more_handlers, a_table, more_tables}
 use Rattle.syntax_grammar.proofs.Spells.{Spells}

@@ -19,3 +19,17 @@ pub mod FitsFile
 pub mod SomeFile
 pub mod Taken
 pub mod OneMore
+pub mod Cut
+pub mod GapFills
+pub mod WordKinds
+pub mod Longest
+pub mod NamesGrow
+pub mod NumberLemmas
+pub mod OneToken
+pub mod Pieces
+pub mod ReaderLemmas
+pub mod Reserved
+pub mod Spelled
+pub mod TextTokens
+pub mod TextWords
+pub mod WordsNamed

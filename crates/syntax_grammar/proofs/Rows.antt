@@ -1,8 +1,8 @@
 -- Where no row of a part has a word.
 use Rattle.std.specs.Prelude.{is_some}
 use Rattle.std.proofs.Common.{◌≡◌, ℕ, zero, suc, true, false, Option, Some, None, [], refl, sym, ◌∙◌, ap, arith}
-use Rattle.syntax_tokens.specs.declared.word.Sort.{Sort}
-use Rattle.syntax_tokens.specs.declared.word.Sort.TheVariants as sort
+use Rattle.syntax_grammar.specs.declared.word.Sort.{Sort}
+use Rattle.syntax_grammar.specs.declared.word.Sort.TheVariants as sort
 use Rattle.syntax_grammar.specs.Next.{atom_row, mark_row, factors_row, terms_row, values_row, arguments_row, more_params_row, first_param_row, handlers_row, else_row}
 
 pub atom_none : (s : Sort) → ((x : ℕ) → s ≡ sort.Name x → ⊥) → (s ≡ sort.Nil → ⊥) → ((x : ℕ) → s ≡ sort.Symbol x → ⊥) → ((x : ℕ) → s ≡ sort.Number x → ⊥) → (s ≡ sort.Minus → ⊥) → atom_row s ≡ None

@@ -3,11 +3,11 @@ use Rattle.std.proofs.Common.{◌≡◌, ℕ, zero, suc, ◌+◌, ◌<◌, false
 use Rattle.std.specs.Prelude.{unwrap_or}
 use Rattle.std.specs.List.{AllByRecursion, flat_map}
 use Rattle.std.proofs.lemmas.Option.{slice_get_within}
-use Rattle.syntax_tokens.specs.declared.scan.Class.{Class}
-use Rattle.syntax_tokens.specs.declared.scan.Class.TheVariants as class
-use Rattle.syntax_tokens.specs.declared.word.Sort.TheVariants as sort
-use Rattle.syntax_tokens.specs.declared.word.Word.{Word}
-use Rattle.syntax_tokens.specs.Words.{words_of, names_of}
+use Rattle.syntax_grammar.specs.declared.scan.Class.{Class}
+use Rattle.syntax_grammar.specs.declared.scan.Class.TheVariants as class
+use Rattle.syntax_grammar.specs.declared.word.Sort.TheVariants as sort
+use Rattle.syntax_grammar.specs.declared.word.Word.{Word}
+use Rattle.syntax_grammar.specs.Words.{words_of, names_of}
 use Rattle.syntax_trees.specs.declared.expr.Calc.{Calc}
 use Rattle.syntax_trees.specs.declared.expr.Calc.TheVariants as calc
 use Rattle.syntax_trees.specs.declared.expr.Expr.{Expr}
@@ -17,14 +17,14 @@ use Rattle.syntax_grammar.specs.Phrase.{word, NamePhrase, named, name_words, dig
 use Rattle.syntax_grammar.specs.Tree.{atom_tree, factor_tree, factors_tree, term_tree, terms_tree, expr_tree, atoms_trees, call_tree, right_tree, cond_tree, more_trees, stmt_tree, else_trees, stmts_trees, block_trees, more_params_trees, params_trees, handlers_trees, tables_trees, file_tree}
 use Rattle.syntax_grammar.specs.Limits.{AtomFits, FactorFits, FactorsFit, TermFits, TermsFit, GroupFits, AtomsFit, CallFits, RightFits, CondFits, MoreFit, StmtFits, ElseFits, StmtsFit, BlockFits, HandlersFit, FileFits, IsFileWithin}
 use Rattle.syntax_trees.specs.Mentions.{Mention, a_name, a_symbol, a_number, atom_mentions, expr_mentions, call_mentions, right_mentions, cond_mentions, stmt_mentions, param_mentions, handler_mentions, table_mentions, file_mentions, IsBelow, AreNamed}
-use Rattle.syntax_tokens.specs.Texts.{AreReadable, IsReadable, IsReadableSort, IsReadableWord, HasText, HaveTexts, IsNamedFile, IsNameText, IsSymbolText, IsRun, text_at}
+use Rattle.syntax_grammar.specs.Texts.{AreReadable, IsReadable, IsReadableSort, IsReadableWord, HasText, HaveTexts, IsNamedFile, IsNameText, IsSymbolText, IsRun, text_at}
 use Rattle.syntax_trees.proofs.Mentions.{mentions_leaf, mentions_binary, mentions_let, mentions_assign, mentions_perform, mentions_choose, mentions_repeat, mentions_answer}
-use Rattle.syntax_tokens.proofs.TextWords.{words_readable}
+use Rattle.syntax_grammar.proofs.TextWords.{words_readable}
 use Rattle.session_values.specs.declared.value.Value.TheVariants.{Num}
 use Rattle.session_values.specs.Values.{IsValue}
 use Rattle.session_values.specs.Names.{Begins, IsNamed}
 use Rattle.session_values.proofs.Named.{front_kept}
-use Rattle.syntax_tokens.specs.declared.word.Sort.{Sort}
+use Rattle.syntax_grammar.specs.declared.word.Sort.{Sort}
 
 -- these hold of the place of a name and of that of a symbol, and a number is one of i64
 abbrev pub IsSaid : (ℕ → Type 0) → (ℕ → Type 0) → Mention → Type 0

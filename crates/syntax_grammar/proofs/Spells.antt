@@ -1,7 +1,7 @@
 -- The words that parts still to come may be written with, and what may come limits aside.
 use Rattle.std.specs.Prelude.{◌≡◌, ◌≤◌, ℕ, List, [], ◌∷◌, ◌++◌, Option, Some, None}
-use Rattle.syntax_tokens.specs.declared.word.Word.{Word}
-use Rattle.syntax_tokens.specs.declared.word.Sort.TheVariants as sort
+use Rattle.syntax_grammar.specs.declared.word.Word.{Word}
+use Rattle.syntax_grammar.specs.declared.word.Sort.TheVariants as sort
 use Rattle.syntax_trees.specs.declared.stmt.Compare.{Compare}
 use Rattle.syntax_grammar.specs.Next.{Part, Taken, taking, tables, handlers, first_param, more_params, a_block, statements, or_else, a_right, more_arguments, a_compare, a_count, more_values, expression, operand, more_factors, more_terms, closing, an_atom, after_minus, a_name, mark}
 use Rattle.syntax_grammar.specs.Phrase.{word, NamePhrase, name_words, NumberPhrase, number_words, AtomPhrase, atom_words, FactorPhrase, factor_words, MoreFactors, factors_words, MoreTerms, terms_words, ExprPhrase, expr_words, MoreAtoms, atom_count, atoms_words, RightPhrase, right_words, compare_words, MoreValues, value_count, more_words, ElsePhrase, else_words, StmtsPhrase, stmts_words, BlockPhrase, block_words, MoreParams, more_params_words, ParamsPhrase, params_words, HandlersPhrase, handlers_words, TablesPhrase, tables_words}

@@ -1,7 +1,7 @@
 -- What is written with the words of an expression or of an operation is taken, whatever follows.
 use Rattle.std.proofs.Common.{◌≡◌, ◌≤◌, ℕ, zero, suc, List, ◌∷◌, ◌++◌, refl, ◌∙◌, arith}
-use Rattle.syntax_tokens.specs.declared.word.Word.{Word}
-use Rattle.syntax_tokens.specs.declared.word.Sort.TheVariants as sort
+use Rattle.syntax_grammar.specs.declared.word.Word.{Word}
+use Rattle.syntax_grammar.specs.declared.word.Sort.TheVariants as sort
 use Rattle.syntax_trees.specs.declared.stmt.Compare.{Compare}
 use Rattle.syntax_grammar.specs.Next.{Part, a_right, more_arguments, a_compare, expression, operand, more_factors, more_terms, closing, mark, call_parts}
 use Rattle.syntax_grammar.specs.Phrase.{word, named, digits, AtomPhrase, name_atom, nil_atom, symbol_atom, number_atom, negative_atom, atom_words, FactorPhrase, plain, grouped, factor_words, MoreFactors, no_factor, times, factors_words, TermPhrase, term, term_words, MoreTerms, no_term, plus, minus, terms_words, ExprPhrase, sum, expr_words, MoreAtoms, no_atom, more_atom, atom_count, atoms_words, OperandsPhrase, operands, operands_words, a_call, RightPhrase, result_right, plain_right, right_words, CondPhrase, a_cond, cond_words}

@@ -1,7 +1,7 @@
 -- The words of an expression have one tree.
 use Rattle.std.proofs.Common.{◌≡◌, ℕ, List, [], ◌∷◌, refl, sym, ap, ◌∙◌, subst}
-use Rattle.syntax_tokens.specs.declared.word.Word.{Word}
-use Rattle.syntax_tokens.specs.declared.word.Sort.TheVariants as sort
+use Rattle.syntax_grammar.specs.declared.word.Word.{Word}
+use Rattle.syntax_grammar.specs.declared.word.Sort.TheVariants as sort
 use Rattle.syntax_trees.specs.declared.expr.Expr.{Expr}
 use Rattle.syntax_trees.specs.declared.expr.Expr.TheVariants as expr
 use Rattle.syntax_trees.specs.declared.expr.Calc.TheVariants as calc

@@ -2,7 +2,7 @@
 use Rattle.std.proofs.Common.{◌≡◌, ◌+◌, ℕ, List, length, arith, ap, ◌∙◌}
 use Rattle.session_values.specs.declared.kind.Kind.{Kind}
 use Rattle.session_values.specs.declared.kind.TableKind.{TableKind}
-use Rattle.syntax_tokens.specs.declared.word.Word.{Word}
+use Rattle.syntax_grammar.specs.declared.word.Word.{Word}
 use Rattle.syntax_trees.specs.declared.expr.Atom.{Atom}
 use Rattle.syntax_trees.specs.declared.expr.Expr.{Expr}
 use Rattle.syntax_trees.specs.declared.stmt.Call.{Call}

@@ -1,14 +1,14 @@
 -- What the parser's answers say of a whole source.
 use Rattle.std.proofs.Common.{◌≡◌, ◌≤◌, ℕ, suc, List, [], ◌∷◌, Some, None, length, ◌⊎◌, inl, inr, refl, sym, ap, ◌∙◌, subst, arith}
 use Rattle.std.specs.Prelude.{◌≢◌, ◌+◌, Result, Ok, Err, IfOk, OnOk, IfErr, MatchResult}
-use Rattle.syntax_tokens.specs.declared.word.Word.{Word}
-use Rattle.syntax_tokens.specs.Tokens.{Piece, pieces}
-use Rattle.syntax_tokens.specs.Words.{words, words_of, names_of, names_after}
-use Rattle.syntax_tokens.proofs.Pieces.{pieces_few}
+use Rattle.syntax_grammar.specs.declared.word.Word.{Word}
+use Rattle.syntax_grammar.specs.Tokens.{Piece, pieces}
+use Rattle.syntax_grammar.specs.Words.{words, words_of, names_of, names_after}
+use Rattle.syntax_grammar.proofs.Pieces.{pieces_few}
 use Rattle.session_values.specs.Names.{Begins}
 use Rattle.syntax_trees.specs.declared.file.File.{File}
 use Rattle.syntax_trees.specs.Mentions.{AreNamed, file_mentions}
-use Rattle.syntax_tokens.specs.Texts.{IsNamedFile}
+use Rattle.syntax_grammar.specs.Texts.{IsNamedFile}
 use Rattle.syntax_grammar.specs.declared.refusals.SyntaxRefusal.{SyntaxRefusal}
 use Rattle.syntax_grammar.specs.declared.refusals.SyntaxRefusal.TheVariants.{BadByte, Unexpected, NumberTooLarge, NameTooLong, TooDeep, NoMemory}
 use Rattle.syntax_grammar.specs.FirstFault.{IsFile, IsFirstFault}

@@ -8,6 +8,14 @@ pub mod Next
 pub mod FirstFault
 pub mod Limits
 pub mod Parsed
-pub use Rattle.syntax_tokens.specs.Keyword
-pub use Rattle.syntax_tokens.specs.Scan
-pub use Rattle.syntax_tokens.specs.Words
+pub mod Gap
+pub mod Keyword
+pub mod Longest
+pub mod ReaderFields
+pub mod Reading
+pub mod Scan
+pub mod Spelled
+pub mod Steps
+pub mod Texts
+pub mod Tokens
+pub mod Words

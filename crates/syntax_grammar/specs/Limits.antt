@@ -1,7 +1,7 @@
 -- The limits of a file, on its phrase.
 use Rattle.std.specs.Prelude.{◌≡◌, ℕ, ◌+◌, ◌<◌, ◌≤◌, List, []}
 use Rattle.session_values.specs.Limits.{max_open, max_signs, max_depth}
-use Rattle.syntax_tokens.specs.declared.word.Word.{Word}
+use Rattle.syntax_grammar.specs.declared.word.Word.{Word}
 use Rattle.syntax_trees.specs.declared.file.File.{File}
 use Rattle.syntax_grammar.specs.Bounds.{max_number, max_negative}
 use Rattle.syntax_grammar.specs.Phrase.{NumberPhrase, digits, AtomPhrase, number_atom, negative_atom, FactorPhrase, plain, grouped, MoreFactors, no_factor, times, TermPhrase, term, MoreTerms, no_term, plus, minus, ExprPhrase, sum, MoreAtoms, no_atom, more_atom, OperandsPhrase, operands, CallPhrase, a_call, RightPhrase, result_right, plain_right, CondPhrase, a_cond, TurnsPhrase, a_turns, MoreValues, no_value, more_value, ValuesPhrase, StmtPhrase, let_stmt, assign_stmt, call_stmt, if_stmt, repeat_stmt, reply_stmt, ElsePhrase, no_else, an_else, StmtsPhrase, no_stmt, more_stmts, BlockPhrase, block, HandlersPhrase, no_handler, more_handlers, a_handler, FilePhrase, a_file, file_words}

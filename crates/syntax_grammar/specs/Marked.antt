@@ -2,9 +2,9 @@
 -- one. Those of each phrase are followed by a given rest.
 use Rattle.std.specs.Prelude.{ℕ, ◌+◌, Bool, nat_lt, nat_le, List, [], ◌∷◌, Option, None}
 use Rattle.session_values.specs.Limits.{max_depth, max_open, max_signs}
-use Rattle.syntax_tokens.specs.declared.word.Sort.{Sort}
-use Rattle.syntax_tokens.specs.declared.word.Sort.TheVariants as sort
-use Rattle.syntax_tokens.specs.declared.word.Word.{Word}
+use Rattle.syntax_grammar.specs.declared.word.Sort.{Sort}
+use Rattle.syntax_grammar.specs.declared.word.Sort.TheVariants as sort
+use Rattle.syntax_grammar.specs.declared.word.Word.{Word}
 use Rattle.syntax_grammar.specs.Bounds.{Limit, where_over, number_size, block_depth, open_parentheses, operator_signs, max_number, max_negative}
 use Rattle.syntax_grammar.specs.Phrase.{word, NamePhrase, named, NumberPhrase, digits, AtomPhrase, name_atom, nil_atom, symbol_atom, number_atom, negative_atom, FactorPhrase, plain, grouped, MoreFactors, no_factor, times, TermPhrase, term, MoreTerms, no_term, plus, minus, ExprPhrase, sum, MoreAtoms, no_atom, more_atom, OperandsPhrase, operands, CallPhrase, a_call, RightPhrase, result_right, plain_right, CondPhrase, a_cond, TurnsPhrase, a_turns, MoreValues, no_value, more_value, ValuesPhrase, StmtPhrase, let_stmt, assign_stmt, call_stmt, if_stmt, repeat_stmt, reply_stmt, ElsePhrase, no_else, an_else, StmtsPhrase, no_stmt, more_stmts, BlockPhrase, block, params_words, HandlersPhrase, no_handler, more_handlers, a_handler, tables_words, FilePhrase, a_file}
 use Rattle.syntax_grammar.specs.Limits.{factor_signs, term_signs}

@@ -4,9 +4,9 @@ use Rattle.std.specs.Prelude.{◌≡◌, ℕ, suc, ◌+◌, Bool, true, false, L
 use Rattle.session_values.specs.Limits.{max_depth, max_open, max_signs}
 use Rattle.session_values.specs.declared.kind.Kind.{Kind}
 use Rattle.session_values.specs.declared.kind.TableKind.{TableKind}
-use Rattle.syntax_tokens.specs.declared.word.Sort.{Sort}
-use Rattle.syntax_tokens.specs.declared.word.Sort.TheVariants as sort
-use Rattle.syntax_tokens.specs.declared.word.Word.{Word}
+use Rattle.syntax_grammar.specs.declared.word.Sort.{Sort}
+use Rattle.syntax_grammar.specs.declared.word.Sort.TheVariants as sort
+use Rattle.syntax_grammar.specs.declared.word.Word.{Word}
 use Rattle.syntax_trees.specs.declared.stmt.Compare.{Compare}
 use Rattle.syntax_grammar.specs.Phrase.{word}
 use Rattle.syntax_grammar.specs.Sorts.{operation, comparison, table_kind, statement_start}

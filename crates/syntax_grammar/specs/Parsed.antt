@@ -3,8 +3,8 @@ use Rattle.std.specs.Prelude.{◌≡◌, ◌≢◌, ◌≤◌, ℕ, ◌+◌, ◌
 use Rattle.session_values.specs.Names.{Begins}
 use Rattle.syntax_trees.specs.declared.file.File.{File}
 use Rattle.syntax_trees.specs.Mentions.{AreNamed, file_mentions}
-use Rattle.syntax_tokens.specs.Texts.{IsNamedFile}
-use Rattle.syntax_tokens.specs.Words.{words_of, names_of}
+use Rattle.syntax_grammar.specs.Texts.{IsNamedFile}
+use Rattle.syntax_grammar.specs.Words.{words_of, names_of}
 use Rattle.syntax_grammar.specs.FirstFault.{IsFirstFault}
 use Rattle.syntax_grammar.specs.Limits.{IsFileWithin}
 use Rattle.syntax_grammar.specs.declared.refusals.SyntaxRefusal.{SyntaxRefusal}

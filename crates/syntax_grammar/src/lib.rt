@@ -3,10 +3,23 @@
 //! what is told of a word alone.
 #![tactic(auto)]
 
+mod keyword;
+mod reader;
 mod refusals;
+mod scan;
 mod sorts;
+mod token;
+mod token_kind;
+mod tokens;
 mod turns;
+mod word;
+mod words;
 
+pub use reader::Reader;
 pub use refusals::{SyntaxRefusal, refusal};
 pub use sorts::{Start, comparison, operation, statement_start, table_kind};
+pub use token::Token;
+pub use token_kind::TokenKind;
+pub use tokens::Tokens;
 pub use turns::Turns;
+pub use word::{Sort, Word};

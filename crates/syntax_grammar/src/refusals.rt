@@ -5,7 +5,7 @@ ghost use Rattle.syntax_grammar.specs.Refusal as spec;
 
 use session_values::NoMemory;
 use std::alloc::{AllocError, AllocFailed};
-use syntax_tokens::{Sort, TokenKind, Word};
+use crate::{Sort, TokenKind, Word};
 use thiserror::Error;
 
 /// The first fault of a source, with the byte place of its token.

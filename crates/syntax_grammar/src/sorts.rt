@@ -4,7 +4,7 @@ ghost use Rattle.std.specs.Prelude.{◌≡◌};
 ghost use Rattle.syntax_grammar.specs.Sorts as spec;
 
 use session_values::{Kind, TableKind};
-use syntax_tokens::Sort;
+use crate::Sort;
 use syntax_trees::Compare;
 
 /// What a statement begins with.

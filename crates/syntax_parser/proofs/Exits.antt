@@ -1,8 +1,8 @@
 -- What a function of the parser returns where a call in it has failed.
 use Rattle.std.proofs.Common.{◌≡◌, ◌≤◌, ◌<◌, ◌∷◌, refl, ap, ◌∙◌, length, ℕ, List, Result, Ok, Err, IsErrAnd, arith}
 use Rattle.std.specs.Prelude.{◌≢◌, OnOk}
-use Rattle.syntax_tokens.specs.declared.word.Word.{Word}
-use Rattle.syntax_tokens.specs.Reading.{Reading}
+use Rattle.syntax_grammar.specs.declared.word.Word.{Word}
+use Rattle.syntax_grammar.specs.Reading.{Reading}
 use Rattle.syntax_parser.specs.declared.input.Input.{Input}
 use Rattle.syntax_grammar.specs.declared.refusals.SyntaxRefusal.{SyntaxRefusal}
 use Rattle.syntax_grammar.specs.declared.refusals.SyntaxRefusal.TheVariants.{NoMemory}

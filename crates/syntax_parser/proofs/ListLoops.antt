@@ -1,7 +1,7 @@
 -- What the loops over statements, parameters, handlers and tables keep: phrases with one more at their end.
 use Rattle.std.proofs.Common.{◌≡◌, ◌≤◌, ◌+◌, ℕ, List, [], ◌∷◌, ◌++◌, length, refl, ap}
-use Rattle.syntax_tokens.specs.declared.word.Word.{Word}
-use Rattle.syntax_tokens.specs.declared.word.Sort.TheVariants as sort
+use Rattle.syntax_grammar.specs.declared.word.Word.{Word}
+use Rattle.syntax_grammar.specs.declared.word.Sort.TheVariants as sort
 use Rattle.syntax_trees.specs.declared.stmt.Stmt.{Stmt}
 use Rattle.syntax_trees.specs.declared.file.Param.{Param}
 use Rattle.syntax_trees.specs.declared.file.Handler.{Handler}

@@ -1,9 +1,9 @@
 -- What the loops of the parser keep: phrases with one more at their end.
 use Rattle.std.proofs.Common.{◌≡◌, ◌≤◌, ◌<◌, ◌+◌, ◌-◌, ℕ, suc, List, ◌∷◌, [], ◌++◌, length, drop, refl, ap, ◌∙◌, subst, arith}
-use Rattle.syntax_tokens.specs.Words.{first_word}
+use Rattle.syntax_grammar.specs.Words.{first_word}
 use Rattle.syntax_trees.specs.declared.expr.Atom.{Atom}
-use Rattle.syntax_tokens.specs.declared.word.Word.{Word}
-use Rattle.syntax_tokens.specs.declared.word.Sort.TheVariants as sort
+use Rattle.syntax_grammar.specs.declared.word.Word.{Word}
+use Rattle.syntax_grammar.specs.declared.word.Sort.TheVariants as sort
 use Rattle.syntax_trees.specs.declared.expr.Expr.{Expr}
 use Rattle.syntax_parser.specs.declared.input.Input.{Input}
 use Rattle.syntax_grammar.specs.Next.{Anywhere, Opened, an_atom, more_arguments, expression, more_values, operand, more_factors, more_terms}

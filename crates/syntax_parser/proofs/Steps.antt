@@ -1,10 +1,10 @@
 -- One word of the parser against the definition of what may come next, and how steps follow each other.
 use Rattle.std.specs.Prelude.{if◌then◌else◌}
 use Rattle.std.proofs.Common.{◌≡◌, ℕ, true, false, List, [], ◌∷◌, ◌++◌, Some, None, length, drop, refl, sym, ap, ◌∙◌, subst, arith, append_assoc}
-use Rattle.syntax_tokens.specs.declared.word.Word.{Word}
-use Rattle.syntax_tokens.specs.declared.word.Sort.{Sort}
-use Rattle.syntax_tokens.specs.declared.word.Sort.TheVariants as sort
-use Rattle.syntax_tokens.specs.Words.{first_word}
+use Rattle.syntax_grammar.specs.declared.word.Word.{Word}
+use Rattle.syntax_grammar.specs.declared.word.Sort.{Sort}
+use Rattle.syntax_grammar.specs.declared.word.Sort.TheVariants as sort
+use Rattle.syntax_grammar.specs.Words.{first_word}
 use Rattle.syntax_grammar.specs.Phrase.{word}
 use Rattle.syntax_parser.specs.declared.input.Input.{Input}
 use Rattle.syntax_grammar.specs.declared.refusals.SyntaxRefusal.{SyntaxRefusal}

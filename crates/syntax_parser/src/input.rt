@@ -2,13 +2,13 @@
 
 ghost use Rattle.std.specs.Prelude.{◌≡◌, ◌≤◌, ◌+◌, length, drop, IfOk, IfErr, OnOk};
 ghost use Rattle.session_values.specs.Limits.{max_signs};
-ghost use Rattle.syntax_tokens.specs.Words.{first_word};
+ghost use Rattle.syntax_grammar.specs.Words.{first_word};
 ghost use Rattle.syntax_grammar.specs.declared.refusals.SyntaxRefusal.TheVariants as refusal;
 ghost use Rattle.syntax_parser.specs.Reads.{NamesStay};
 
 use session_values::{MAX_SIGNS, NoMemory};
 use syntax_grammar::SyntaxRefusal;
-use syntax_tokens::{Reader, Word};
+use syntax_grammar::{Reader, Word};
 
 /// The words still to come, and how many operator signs the expression has so far.
 #[derive(Drop)]

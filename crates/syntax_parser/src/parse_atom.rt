@@ -9,7 +9,7 @@ ghost use Rattle.syntax_parser.specs.Reads.{Reads};
 use crate::input::Input;
 use session_values::Value;
 use syntax_grammar::{SyntaxRefusal, refusal};
-use syntax_tokens::Sort;
+use syntax_grammar::Sort;
 use syntax_trees::{Atom, Literal};
 
 pub(crate) const MAX_NUMBER: u64 = 9_223_372_036_854_775_807;

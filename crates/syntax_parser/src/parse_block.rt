@@ -2,8 +2,8 @@
 
 ghost use Rattle.std.specs.Prelude.{◌≡◌, ◌≤◌, ◌<◌, ◌^◌, ◌∷◌, [], length, OnOk, Some};
 ghost use Rattle.session_values.specs.Limits.{max_depth};
-ghost use Rattle.syntax_tokens.specs.Words.{first_word};
-ghost use Rattle.syntax_tokens.specs.declared.word.Sort.TheVariants as sort;
+ghost use Rattle.syntax_grammar.specs.Words.{first_word};
+ghost use Rattle.syntax_grammar.specs.declared.word.Sort.TheVariants as sort;
 ghost use Rattle.syntax_grammar.specs.Next.{Inside, a_block, or_else, statements};
 ghost use Rattle.syntax_grammar.specs.Phrase as spec;
 ghost use Rattle.syntax_grammar.specs.Sorts as sorts;
@@ -18,7 +18,7 @@ use crate::parse_words::mark;
 use session_values::{Boxed, Listed, MAX_DEPTH};
 use std::alloc::Global;
 use syntax_grammar::{Start, SyntaxRefusal, refusal, statement_start};
-use syntax_tokens::Sort;
+use syntax_grammar::Sort;
 use syntax_trees::{Block, Stmt};
 
 /// A block inside so many others.

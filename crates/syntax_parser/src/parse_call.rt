@@ -5,7 +5,7 @@ ghost use Rattle.syntax_grammar.specs.Next.{Anywhere, Opened, mark, call_parts, 
 ghost use Rattle.syntax_grammar.specs.Phrase as spec;
 ghost use Rattle.syntax_grammar.specs.Tree as tree;
 ghost use Rattle.syntax_parser.specs.Reads.{Reads};
-ghost use Rattle.syntax_tokens.specs.declared.word.Sort.TheVariants as sort;
+ghost use Rattle.syntax_grammar.specs.declared.word.Sort.TheVariants as sort;
 
 use crate::input::Input;
 use crate::list::list;
@@ -15,7 +15,7 @@ use crate::parse_words::{mark, name};
 use session_values::Kind;
 use std::alloc::Global;
 use syntax_grammar::{SyntaxRefusal, Turns, comparison, operation, refusal};
-use syntax_tokens::Sort;
+use syntax_grammar::Sort;
 use syntax_trees::{Atoms, Call, Compare, Cond, Right};
 
 /// At most two arguments, each behind a comma.

@@ -6,7 +6,7 @@ ghost use Rattle.syntax_grammar.specs.Next.{Anywhere, Opened, expression, operan
 ghost use Rattle.syntax_grammar.specs.Phrase as spec;
 ghost use Rattle.syntax_grammar.specs.Tree.{factor_tree, term_tree, expr_tree};
 ghost use Rattle.syntax_parser.specs.Reads.{Reads};
-ghost use Rattle.syntax_tokens.specs.declared.word.Sort.TheVariants as sort;
+ghost use Rattle.syntax_grammar.specs.declared.word.Sort.TheVariants as sort;
 ghost use Rattle.syntax_trees.specs.declared.expr.Expr.TheVariants as expr;
 
 use crate::input::Input;
@@ -14,7 +14,7 @@ use crate::parse_atom::atom;
 use session_values::{Boxed, MAX_OPEN, NoMemory};
 use std::alloc::Global;
 use syntax_grammar::{SyntaxRefusal, refusal};
-use syntax_tokens::Sort;
+use syntax_grammar::Sort;
 use syntax_trees::{Calc, Expr};
 
 fn binary(alloc: Global, calc: Calc, left: Expr, right: Expr) -> Result<Expr, NoMemory>

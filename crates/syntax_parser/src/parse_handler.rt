@@ -1,8 +1,8 @@
 // Handlers and their parameters.
 
 ghost use Rattle.std.specs.Prelude.{◌≡◌, ◌≤◌, ◌<◌, ◌^◌, ◌∷◌, [], length, OnOk};
-ghost use Rattle.syntax_tokens.specs.Words.{first_word};
-ghost use Rattle.syntax_tokens.specs.declared.word.Sort.TheVariants as sort;
+ghost use Rattle.syntax_grammar.specs.Words.{first_word};
+ghost use Rattle.syntax_grammar.specs.declared.word.Sort.TheVariants as sort;
 ghost use Rattle.syntax_grammar.specs.Next.{Anywhere, Inside, a_name, first_param, more_params, handlers};
 ghost use Rattle.syntax_grammar.specs.Phrase as spec;
 ghost use Rattle.syntax_grammar.specs.Tree as tree;
@@ -15,7 +15,7 @@ use crate::parse_words::{mark, name};
 use session_values::Listed;
 use std::alloc::Global;
 use syntax_grammar::SyntaxRefusal;
-use syntax_tokens::Sort;
+use syntax_grammar::Sort;
 use syntax_trees::{Handler, Handlers, Param, Params};
 
 /// One parameter, and those behind it.

@@ -1,8 +1,8 @@
 // Statements without a block of their own.
 
 ghost use Rattle.std.specs.Prelude.{◌≡◌, ◌≤◌, ◌<◌, ◌∷◌, [], length, OnOk, Some};
-ghost use Rattle.syntax_tokens.specs.Words.{first_word};
-ghost use Rattle.syntax_tokens.specs.declared.word.Sort.TheVariants as sort;
+ghost use Rattle.syntax_grammar.specs.Words.{first_word};
+ghost use Rattle.syntax_grammar.specs.declared.word.Sort.TheVariants as sort;
 ghost use Rattle.syntax_grammar.specs.Next.{Opened, Inside, expression, more_values, statements};
 ghost use Rattle.syntax_grammar.specs.Phrase as spec;
 ghost use Rattle.syntax_grammar.specs.Sorts as sorts;
@@ -17,7 +17,7 @@ use crate::parse_words::{mark, name};
 use session_values::Kind;
 use std::alloc::Global;
 use syntax_grammar::SyntaxRefusal;
-use syntax_tokens::Sort;
+use syntax_grammar::Sort;
 use syntax_trees::{Exprs, Stmt};
 
 /// A `let` statement in hand.

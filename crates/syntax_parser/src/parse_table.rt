@@ -1,7 +1,7 @@
 // The tables of a file.
 
 ghost use Rattle.std.specs.Prelude.{◌≡◌, ◌≤◌, ◌<◌, ◌^◌, ◌∷◌, [], length, OnOk, Some};
-ghost use Rattle.syntax_tokens.specs.Words.{first_word};
+ghost use Rattle.syntax_grammar.specs.Words.{first_word};
 ghost use Rattle.syntax_grammar.specs.Next.{Anywhere, tables};
 ghost use Rattle.syntax_grammar.specs.Phrase as spec;
 ghost use Rattle.syntax_grammar.specs.Sorts as sorts;
@@ -14,7 +14,7 @@ use crate::parse_words::{mark, name};
 use session_values::TableKind;
 use std::alloc::Global;
 use syntax_grammar::{SyntaxRefusal, table_kind};
-use syntax_tokens::Sort;
+use syntax_grammar::Sort;
 use syntax_trees::{TableDecl, TableDecls};
 
 /// A table whose first word is in hand.

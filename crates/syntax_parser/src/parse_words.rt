@@ -8,7 +8,7 @@ ghost use Rattle.syntax_parser.specs.Reads.{Reads};
 
 use crate::input::Input;
 use syntax_grammar::{SyntaxRefusal, refusal};
-use syntax_tokens::Sort;
+use syntax_grammar::Sort;
 
 #[tactic(auto, using(syntax_grammar::proofs::Rows::mark_none))]
 fn is_mark(sort: Sort, mark: Sort) -> bool

@@ -6,11 +6,11 @@ use Rattle.session_values.specs.declared.kind.Kind.TheVariants as operation
 use Rattle.session_values.specs.declared.kind.TableKind.{TableKind}
 use Rattle.session_values.specs.declared.kind.TableKind.TheVariants as table_kind
 use Rattle.session_values.specs.Kinds.{word_of}
-use Rattle.syntax_tokens.specs.declared.token_kind.TokenKind.TheVariants as kind
-use Rattle.syntax_tokens.specs.declared.word.Sort.{Sort}
-use Rattle.syntax_tokens.specs.declared.word.Sort.TheVariants as sort
-use Rattle.syntax_tokens.specs.Scan.{scan, scan_name, scan_sign}
-use Rattle.syntax_tokens.specs.Keyword.{keyword_of, statement_word_of, operation_of, sign_of}
+use Rattle.syntax_grammar.specs.declared.token_kind.TokenKind.TheVariants as kind
+use Rattle.syntax_grammar.specs.declared.word.Sort.{Sort}
+use Rattle.syntax_grammar.specs.declared.word.Sort.TheVariants as sort
+use Rattle.syntax_grammar.specs.Scan.{scan, scan_name, scan_sign}
+use Rattle.syntax_grammar.specs.Keyword.{keyword_of, statement_word_of, operation_of, sign_of}
 use Rattle.syntax_trees.specs.declared.expr.Calc.{Calc}
 use Rattle.syntax_trees.specs.declared.expr.Calc.TheVariants as calc
 use Rattle.syntax_trees.specs.declared.stmt.Compare.{Compare}

@@ -1,13 +1,13 @@
 -- What a text reads as: the sorts of its words, and the names behind them.
 use Rattle.std.proofs.Common.{◌≡◌, ℕ, zero, suc, ◌+◌, ◌-◌, false, List, [], ◌∷◌, ◌++◌, map, length, take, refl, sym, ap, ◌∙◌, arith}
 use Rattle.std.proofs.Math.Seq.{take_at, drop_at}
-use Rattle.syntax_tokens.specs.declared.token_kind.TokenKind.{TokenKind}
-use Rattle.syntax_tokens.specs.declared.word.Sort.{Sort}
-use Rattle.syntax_tokens.specs.declared.word.Word.{Word}
-use Rattle.syntax_tokens.specs.Scan.{Scanned, gap, scan}
-use Rattle.syntax_tokens.specs.Tokens.{Piece, with_reserved, first_piece, behind_gap, pieces}
-use Rattle.syntax_tokens.specs.Words.{names_by, sort_by, names_after, word_after, words, names_behind}
-use Rattle.syntax_tokens.proofs.Pieces.{pieces_skip, gap_skipped}
+use Rattle.syntax_grammar.specs.declared.token_kind.TokenKind.{TokenKind}
+use Rattle.syntax_grammar.specs.declared.word.Sort.{Sort}
+use Rattle.syntax_grammar.specs.declared.word.Word.{Word}
+use Rattle.syntax_grammar.specs.Scan.{Scanned, gap, scan}
+use Rattle.syntax_grammar.specs.Tokens.{Piece, with_reserved, first_piece, behind_gap, pieces}
+use Rattle.syntax_grammar.specs.Words.{names_by, sort_by, names_after, word_after, words, names_behind}
+use Rattle.syntax_grammar.proofs.Pieces.{pieces_skip, gap_skipped}
 
 abbrev pub Reading : Type 0
 Reading = List Sort × List (List ℕ)

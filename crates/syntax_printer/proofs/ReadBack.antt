@@ -6,9 +6,9 @@ use Rattle.std.specs.List.{AllByRecursion, flat_map}
 use Rattle.session_values.specs.declared.value.Value.{Value}
 use Rattle.session_values.specs.declared.value.Value.TheVariants as value
 use Rattle.session_values.specs.Names.{AreDistinct}
-use Rattle.syntax_tokens.specs.declared.word.Sort.{Sort}
-use Rattle.syntax_tokens.specs.declared.word.Sort.TheVariants as sort
-use Rattle.syntax_tokens.specs.Words.{words_of, names_of}
+use Rattle.syntax_grammar.specs.declared.word.Sort.{Sort}
+use Rattle.syntax_grammar.specs.declared.word.Sort.TheVariants as sort
+use Rattle.syntax_grammar.specs.Words.{words_of, names_of}
 use Rattle.syntax_trees.specs.declared.expr.Atom.{Atom}
 use Rattle.syntax_trees.specs.declared.expr.Atom.TheVariants as atom
 use Rattle.syntax_trees.specs.declared.expr.Calc.{Calc}
@@ -33,7 +33,7 @@ use Rattle.syntax_printer.specs.Canonical
 use Rattle.syntax_printer.specs.CanonicalWords
 use Rattle.syntax_trees.specs.Alone.{alone}
 use Rattle.syntax_trees.specs.Mentions.{Mention, value_mentions, atom_mentions, expr_mentions, call_mentions, right_mentions, cond_mentions, stmt_mentions, table_mentions, param_mentions, handler_mentions, file_mentions}
-use Rattle.syntax_tokens.specs.Texts.{AreReadable, IsNameText, text_at}
+use Rattle.syntax_grammar.specs.Texts.{AreReadable, IsNameText, text_at}
 use Rattle.syntax_printer.specs.Readable.{ReadsBack}
 use Rattle.syntax_printer.specs.Writing.{Text}
 use Rattle.syntax_printer.proofs.Chunks.{one, left_paren, right_paren, assign, negative, operator, comparison, let_word, if_word, repeat_word, reply_word, handler_word, table, operation_word, semicolon_line, left_brace_line, right_brace_line, else_line, params_end, comma_space, as_between}

@@ -11,16 +11,16 @@ use Rattle.std.proofs.lemmas.Bool.Decides.{nat_tests}
 use Rattle.std.proofs.lemmas.Fmt.{decimal_by_steps}
 use Rattle.session_values.specs.Names.{AreDistinct, place_of, with_text}
 use Rattle.session_values.proofs.NamesLemmas.{known_at, with_known, place_is}
-use Rattle.syntax_tokens.specs.declared.scan.Class.TheVariants as class
-use Rattle.syntax_tokens.specs.declared.token_kind.TokenKind.TheVariants as kind
-use Rattle.syntax_tokens.specs.declared.word.Sort.TheVariants as sort
-use Rattle.syntax_tokens.specs.Scan.{is_in, gap, scan, scan_name, scan_symbol, name_of_length, symbol_of_length}
-use Rattle.syntax_tokens.specs.Keyword.{keyword_of, statement_word_of}
-use Rattle.syntax_tokens.specs.Words.{number_from, number_of, unquoted, names_by, sort_by}
-use Rattle.syntax_tokens.proofs.Longest.{digit_no_letter}
-use Rattle.syntax_tokens.proofs.OneToken.{not_long}
+use Rattle.syntax_grammar.specs.declared.scan.Class.TheVariants as class
+use Rattle.syntax_grammar.specs.declared.token_kind.TokenKind.TheVariants as kind
+use Rattle.syntax_grammar.specs.declared.word.Sort.TheVariants as sort
+use Rattle.syntax_grammar.specs.Scan.{is_in, gap, scan, scan_name, scan_symbol, name_of_length, symbol_of_length}
+use Rattle.syntax_grammar.specs.Keyword.{keyword_of, statement_word_of}
+use Rattle.syntax_grammar.specs.Words.{number_from, number_of, unquoted, names_by, sort_by}
+use Rattle.syntax_grammar.proofs.Longest.{digit_no_letter}
+use Rattle.syntax_grammar.proofs.OneToken.{not_long}
 use Rattle.syntax_printer.specs.Canonical.{name_text}
-use Rattle.syntax_tokens.specs.Texts.{IsRun, IsNameText, IsSymbolText, text_at}
+use Rattle.syntax_grammar.specs.Texts.{IsRun, IsNameText, IsSymbolText, text_at}
 use Rattle.syntax_printer.proofs.Lexing.{behind, reading, token}
 use Rattle.session_values.proofs.Lists.{all_join}
 

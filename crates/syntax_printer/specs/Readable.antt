@@ -1,7 +1,7 @@
 -- Texts that are read as the words of a file.
 use Rattle.std.specs.Prelude.{◌≡◌, ℕ, List, map}
-use Rattle.syntax_tokens.specs.declared.word.Word.{Word}
-use Rattle.syntax_tokens.specs.Words.{words_of, names_of}
+use Rattle.syntax_grammar.specs.declared.word.Word.{Word}
+use Rattle.syntax_grammar.specs.Words.{words_of, names_of}
 use Rattle.syntax_trees.specs.declared.file.File.{File}
 use Rattle.syntax_printer.specs.CanonicalWords.{canonical_words}
 

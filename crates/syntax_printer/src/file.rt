@@ -7,7 +7,7 @@ ghost use Rattle.syntax_printer.specs.Canonical.{canonical_text};
 ghost use Rattle.syntax_printer.specs.Lines.{head_text, shown_text};
 ghost use Rattle.syntax_printer.specs.Put.{put_handler_text, put_handlers_text};
 ghost use Rattle.syntax_trees.specs.Mentions.{AreNamed, table_mentions, param_mentions, handler_mentions, file_mentions};
-ghost use Rattle.syntax_tokens.specs.Texts.{AreReadable};
+ghost use Rattle.syntax_grammar.specs.Texts.{AreReadable};
 ghost use Rattle.syntax_printer.specs.Readable.{ReadsBack};
 ghost use Rattle.byte_ends.specs.Texts.{Adds, Ends};
 ghost use Rattle.syntax_printer.specs.Countable.{FitsAt, IsCountable, IsCountableHandler};

@@ -3,7 +3,7 @@ use Rattle.std.proofs.Common.{◌≡◌, ℕ, zero, suc, ◌<◌, ◌==◌, Bool
 use Rattle.std.proofs.lemmas.Bool.{eq-eqb, eqb-false, eqb-true, ne_eqb}
 use Rattle.std.specs.List.{list_all, list_any, AllByRecursion}
 use Rattle.std.specs.Option.{unwrap_or}
-use Rattle.opening_tables.specs.Opening.{HaveNil, Pair, entries_of, has_key, with_entry}
+use Rattle.session_values.specs.Opening.{HaveNil, Pair, entries_of, has_key, with_entry}
 use Rattle.session_values.specs.Names.{Begins}
 use Rattle.session_values.specs.ReplyText.{IsPrintable}
 use Rattle.session_values.specs.Values.{value_eq}

@@ -5,7 +5,7 @@ use Rattle.std.proofs.lemmas.Bool.{eq-eqb}
 use Rattle.std.proofs.lemmas.Option.{slice_get_past}
 use Rattle.std.specs.List.{list_all}
 use Rattle.std.specs.Option.{option_or}
-use Rattle.opening_tables.specs.Opening.{Pair, count_all, entries_of, has_key, with_entry}
+use Rattle.session_values.specs.Opening.{Pair, count_all, entries_of, has_key, with_entry}
 use Rattle.session_values.specs.declared.kind.TableKind.{TableKind}
 use Rattle.syntax_trees.specs.declared.file.TableDecl.{TableDecl}
 use Rattle.text_lines.specs.Rows.{Row}

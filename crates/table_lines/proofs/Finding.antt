@@ -7,7 +7,7 @@ use Rattle.session_values.specs.Names.{Begins}
 use Rattle.session_values.proofs.Numbers.{past_first, past_on, here_first, here_on}
 use Rattle.session_values.proofs.Options.{get_front}
 use Rattle.syntax_trees.specs.declared.file.TableDecl.{TableDecl}
-use Rattle.table_text.specs.Written.{text_at}
+use Rattle.table_lines.specs.Written.{text_at}
 use Rattle.text_lines.specs.Text.{Text}
 use Rattle.table_lines.specs.TableRows.{AreKnown, table_of}
 

@@ -5,9 +5,9 @@ use Rattle.std.proofs.lemmas.List.{length-replicate}
 use Rattle.std.proofs.lemmas.Option.{slice_get_within}
 use Rattle.std.specs.List.{list_all, list_any, AllByRecursion, flat_map}
 use Rattle.std.specs.Option.{option_or, unwrap_or}
-use Rattle.opening_tables.specs.Opening.{HaveNil, Pair, count_all, entries_of, has_key, with_entry}
-use Rattle.opening_tables.proofs.KeptLemmas.{count_with, none_counted, length_with}
-use Rattle.opening_tables.proofs.Filling.{none_there}
+use Rattle.session_values.specs.Opening.{HaveNil, Pair, count_all, entries_of, has_key, with_entry}
+use Rattle.session_values.proofs.KeptLemmas.{count_with, none_counted, length_with}
+use Rattle.session_values.proofs.Filling.{none_there}
 use Rattle.session_values.specs.Names.{Begins}
 use Rattle.session_values.specs.Values.{value_eq}
 use Rattle.session_values.specs.declared.kind.TableKind.{TableKind}

@@ -10,9 +10,9 @@ use Rattle.session_values.specs.Values.{value_eq}
 use Rattle.session_values.specs.declared.value.Value.{Value}
 use Rattle.session_values.specs.declared.value.Value.TheVariants.{Nil, Num, Sym}
 use Rattle.session_values.proofs.Equal.{same_value, value_eq-self}
-use Rattle.table_text.specs.Written.{Written, NilWord, NumberWord, SymbolWord, text_at, written, written_cmp}
-use Rattle.table_text.proofs.WrittenOrder.{written_cmp_exact, written_cmp_total}
-use Rattle.table_text.proofs.ValuesBack.{word_back}
+use Rattle.table_lines.specs.Written.{Written, NilWord, NumberWord, SymbolWord, text_at, written, written_cmp}
+use Rattle.table_lines.proofs.WrittenOrder.{written_cmp_exact, written_cmp_total}
+use Rattle.table_lines.proofs.ValuesBack.{word_back}
 use Rattle.text_lines.specs.Text.{Text}
 use Rattle.text_lines.specs.Values.{as_value, is_nil, is_symbol, is_value, number, placed, value_of}
 use Rattle.text_lines.proofs.ValueLemmas.{is_value_is, value_by}

@@ -8,5 +8,12 @@ pub mod OpenedLemmas
 pub mod ReadBack
 pub mod RowFaults
 pub mod WordLemmas
-pub use Rattle.table_text.proofs.WrittenOrder
-pub use Rattle.table_text.proofs.WordsBack
+pub mod Listing
+pub mod WrittenOrder
+pub mod ValuesBack
+pub mod WordsBack
+pub mod Apart
+pub mod PartText
+pub mod Parts
+pub mod Rising
+pub mod Waiting

@@ -13,12 +13,12 @@ use Rattle.session_values.specs.declared.value.Value.{Value}
 use Rattle.session_values.proofs.Lists.{all_join}
 use Rattle.session_values.proofs.Named.{begins_same}
 use Rattle.syntax_trees.specs.declared.file.TableDecl.{TableDecl}
-use Rattle.table_text.specs.Listed.{WrittenPair}
-use Rattle.table_text.specs.Reading.{AreReadable, IsReadable, IsReadableEntry, read_as, rows_from}
-use Rattle.table_text.specs.TableText.{Entry, WrittenTable, WrittenMap, WrittenSet, all_entries, entries_in, entry_of, entry_values, entry_words, values_told}
-use Rattle.table_text.specs.Written.{Written, NilWord, NumberWord, SymbolWord, word, written, written_cmp}
-use Rattle.table_text.proofs.WrittenOrder.{written_cmp_exact, written_cmp_total}
-use Rattle.table_text.proofs.ValuesBack.{word_back}
+use Rattle.table_lines.specs.Listed.{WrittenPair}
+use Rattle.table_lines.specs.Reading.{AreReadable, IsReadable, IsReadableEntry, read_as, rows_from}
+use Rattle.table_lines.specs.TableText.{Entry, WrittenTable, WrittenMap, WrittenSet, all_entries, entries_in, entry_of, entry_values, entry_words, values_told}
+use Rattle.table_lines.specs.Written.{Written, NilWord, NumberWord, SymbolWord, word, written, written_cmp}
+use Rattle.table_lines.proofs.WrittenOrder.{written_cmp_exact, written_cmp_total}
+use Rattle.table_lines.proofs.ValuesBack.{word_back}
 use Rattle.text_lines.specs.Rows.{Row, row_of}
 use Rattle.text_lines.specs.Text.{Text}
 use Rattle.text_lines.specs.Values.{is_nil, is_symbol, is_value, placed, value_of}

@@ -1,6 +1,6 @@
 -- The entries that were found are those of the rows, as one list.
 use Rattle.std.proofs.Common.{◌≡◌, ℕ, zero, suc, ◌+◌, ◌<◌, List, [], ◌∷◌, length, refl, sym, ap, ◌∙◌, arith}
-use Rattle.opening_tables.specs.Opening.{Pair, entries_of}
+use Rattle.session_values.specs.Opening.{Pair, entries_of}
 use Rattle.syntax_trees.specs.declared.file.TableDecl.{TableDecl}
 use Rattle.text_lines.specs.Rows.{Row}
 use Rattle.text_lines.specs.Text.{Text}

@@ -5,7 +5,7 @@ use Rattle.std.proofs.lemmas.Option.{slice_get_within}
 use Rattle.std.specs.FinMap as finite
 use Rattle.std.specs.List.{AllByRecursion}
 use Rattle.std.specs.Option.{option_map, unwrap_or}
-use Rattle.opening_tables.specs.Opening.{Pair, container_of, entries_of}
+use Rattle.session_values.specs.Opening.{Pair, container_of, entries_of}
 use Rattle.session_values.specs.Names.{Begins}
 use Rattle.session_values.specs.declared.value.Value.{Value}
 use Rattle.session_values.specs.declared.value.Value.TheVariants.{Nil}
@@ -13,13 +13,13 @@ use Rattle.session_values.proofs.Named.{begins_same, begins_then}
 use Rattle.session_values.proofs.Lists.{same_head, same_tail}
 use Rattle.syntax_trees.specs.declared.file.TableDecl.{TableDecl}
 use Rattle.syntax_trees.proofs.Mentions.{all_first}
-use Rattle.table_text.specs.Listed.{HavePrintableKeys, WrittenPair, written_of, written_pair}
-use Rattle.table_text.specs.Reading.{AreReadable, read_as, rows_from}
-use Rattle.table_text.specs.TableText.{Entry, WrittenTable, WrittenMap, WrittenSet, all_entries, entries_in, entry_of, entry_values, entry_words, member, written_table}
-use Rattle.table_text.specs.Written.{Written, word, written, written_cmp}
-use Rattle.table_text.proofs.Listing.{written_is}
-use Rattle.table_text.proofs.WrittenOrder.{written_cmp_exact, written_cmp_total}
-use Rattle.table_text.proofs.ValuesBack.{values_back}
+use Rattle.table_lines.specs.Listed.{HavePrintableKeys, WrittenPair, written_of, written_pair}
+use Rattle.table_lines.specs.Reading.{AreReadable, read_as, rows_from}
+use Rattle.table_lines.specs.TableText.{Entry, WrittenTable, WrittenMap, WrittenSet, all_entries, entries_in, entry_of, entry_values, entry_words, member, written_table}
+use Rattle.table_lines.specs.Written.{Written, word, written, written_cmp}
+use Rattle.table_lines.proofs.Listing.{written_is}
+use Rattle.table_lines.proofs.WrittenOrder.{written_cmp_exact, written_cmp_total}
+use Rattle.table_lines.proofs.ValuesBack.{values_back}
 use Rattle.text_lines.specs.Rows.{Row, names_behind}
 use Rattle.text_lines.specs.Text.{Text}
 use Rattle.text_lines.specs.Values.{placed_all, value_of, values_of}

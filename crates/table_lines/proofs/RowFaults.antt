@@ -8,7 +8,7 @@ use Rattle.std.specs.Option.{option_or}
 use Rattle.session_values.specs.declared.kind.TableKind.{TableKind}
 use Rattle.session_values.specs.declared.kind.TableKind.TheVariants.{Map, Set}
 use Rattle.syntax_trees.specs.declared.file.TableDecl.{TableDecl}
-use Rattle.table_text.specs.Written.{Written}
+use Rattle.table_lines.specs.Written.{Written}
 use Rattle.text_lines.specs.Rows.{Row}
 use Rattle.text_lines.specs.Text.{Text}
 use Rattle.text_lines.specs.Values.{is_value}

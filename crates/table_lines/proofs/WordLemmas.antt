@@ -7,7 +7,7 @@ use Rattle.session_values.specs.declared.kind.TableKind.TheVariants.{Map, Set}
 use Rattle.session_values.specs.declared.value.Value.{Value}
 use Rattle.session_values.specs.declared.value.Value.TheVariants.{Nil}
 use Rattle.session_values.proofs.Named.{begins_same}
-use Rattle.opening_tables.specs.Opening.{Pair}
+use Rattle.session_values.specs.Opening.{Pair}
 use Rattle.text_lines.specs.Steps.{FindsValue, IsTaken}
 use Rattle.text_lines.specs.Text.{Text, words}
 use Rattle.text_lines.specs.Values.{is_value, placed, value_of}

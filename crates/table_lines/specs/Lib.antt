@@ -3,6 +3,9 @@ pub mod Laws
 pub mod Opened
 pub mod ReadBack
 pub mod TableRows
-pub use Rattle.table_text.specs.TableText
-pub use Rattle.table_text.specs.Written
-pub use Rattle.table_text.specs.Reading
+pub mod Listed
+pub mod Reading
+pub mod TableText
+pub mod Written
+pub mod Dumped
+pub mod Lines

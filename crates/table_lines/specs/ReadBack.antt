@@ -1,14 +1,14 @@
 -- The text of tables as table lines.
 use Rattle.std.specs.Prelude.{◌≡◌, ℕ, ◌≤◌, List, length, map, slice_get, Some}
-use Rattle.opening_tables.specs.Limits.{max_table_lines}
-use Rattle.opening_tables.specs.Opening.{Pair}
+use Rattle.session_values.specs.OpeningTablesLimits.{max_table_lines}
+use Rattle.session_values.specs.Opening.{Pair}
 use Rattle.session_values.specs.Names.{AreDistinct}
 use Rattle.session_values.specs.declared.kind.TableKind.{TableKind}
 use Rattle.session_values.specs.declared.kind.TableKind.TheVariants.{Map, Set}
 use Rattle.syntax_trees.specs.declared.file.TableDecl.{TableDecl}
-use Rattle.table_text.specs.Reading.{AreReadable, rows_from}
-use Rattle.table_text.specs.TableText.{WrittenTable, WrittenMap, WrittenSet, all_entries}
-use Rattle.table_text.specs.Written.{text_at}
+use Rattle.table_lines.specs.Reading.{AreReadable, rows_from}
+use Rattle.table_lines.specs.TableText.{WrittenTable, WrittenMap, WrittenSet, all_entries}
+use Rattle.table_lines.specs.Written.{text_at}
 use Rattle.text_lines.specs.Rows.{Row}
 use Rattle.text_lines.specs.Text.{Text}
 use Rattle.table_lines.specs.TableRows.{AreTables, table_of}

@@ -6,15 +6,15 @@ use Rattle.std.specs.List.{list_all, list_any, position_or_len, AllByRecursion}
 use Rattle.std.specs.Option.{option_or}
 use Rattle.std.specs.Ordering.{is_eq}
 use Rattle.std.specs.Str.{bytes_eq}
-use Rattle.opening_tables.specs.Limits.{max_table_lines}
-use Rattle.opening_tables.specs.Opening.{Pair, entries_of}
+use Rattle.session_values.specs.OpeningTablesLimits.{max_table_lines}
+use Rattle.session_values.specs.Opening.{Pair, entries_of}
 use Rattle.session_values.specs.ReplyText.{IsPrintable}
 use Rattle.session_values.specs.declared.kind.TableKind.{TableKind}
 use Rattle.session_values.specs.declared.kind.TableKind.TheVariants.{Map, Set}
 use Rattle.session_values.specs.declared.value.Value.{Value}
 use Rattle.session_values.specs.declared.value.Value.TheVariants.{Nil}
 use Rattle.syntax_trees.specs.declared.file.TableDecl.{TableDecl}
-use Rattle.table_text.specs.Written.{Written, NilWord, NumberWord, SymbolWord, text_at, written_cmp}
+use Rattle.table_lines.specs.Written.{Written, NilWord, NumberWord, SymbolWord, text_at, written_cmp}
 use Rattle.text_lines.specs.Rows.{Row, names_behind}
 use Rattle.text_lines.specs.Text.{Text}
 use Rattle.text_lines.specs.Values.{is_nil, is_symbol, is_value, number, values_of}

@@ -1,12 +1,21 @@
 //! The table part of a session file: its lines, and the entries with which tables open.
 #![tactic(auto)]
 
+mod dumping;
+mod entry_line;
 pub mod laws;
 mod naming;
+mod order;
 mod reading;
 mod refusal;
 mod table_row;
+pub mod table_text_laws;
+mod tables;
 mod words;
 
+pub use dumping::write_entries;
+pub use entry_line::{push_table_line, table_line};
+pub use order::put_in_order;
 pub use reading::read_tables;
 pub use refusal::TableRefusal;
+pub use tables::{TellsEntries, write_tables};

@@ -2,7 +2,7 @@
 
 ghost use Rattle.std.specs.Prelude.{◌≡◌, ◌≢◌, ◌+◌, ◌≤◌, [], length, Some, IfOk};
 ghost use Rattle.handler_check.specs.Resolved.{shape_of};
-ghost use Rattle.opening_tables.specs.Opening.{IsOpening};
+ghost use Rattle.session_values.specs.Opening.{IsOpening};
 ghost use Rattle.session_values.specs.Names.{Begins};
 ghost use Rattle.syntax_trees.specs.Mentions.{AreNamed, file_mentions};
 ghost use Rattle.text_lines.specs.Text.{lines as lines_of};
@@ -13,7 +13,7 @@ use crate::naming::seed;
 use crate::refusal::TableRefusal;
 use crate::table_row::push_row;
 use handler_check::Checked;
-use opening_tables::Opening;
+use session_values::Opening;
 use session_values::Names;
 use std::alloc::Global;
 use text_lines::Lines;

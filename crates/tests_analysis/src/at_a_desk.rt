@@ -1,14 +1,14 @@
 // The requests of a program, served one at a time at a desk that may want memory.
 
 ghost use Rattle.std.specs.Prelude.{◌≡◌, true};
-ghost use Rattle.opening_tables.specs.Opening.{IsOpening};
+ghost use Rattle.session_values.specs.Opening.{IsOpening};
 ghost use Rattle.handler_check.specs.Resolved.{shape_of as shape_spec};
 ghost use Rattle.request_files.specs.Servable.{IsServable};
 
 use crate::sessions::{reply_of, session};
 use declaration_insertion::Program;
 use handler_machine::Scripts;
-use opening_tables::Opening;
+use session_values::Opening;
 use plain_desk::PlainDesk;
 use request_files::Requests;
 use session_journal::{Scratch, Serves};

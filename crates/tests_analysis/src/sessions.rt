@@ -1,6 +1,6 @@
 // A session of three requests for one handler with two operations.
 
-ghost use Rattle.opening_tables.specs.Opening.{IsOpening};
+ghost use Rattle.session_values.specs.Opening.{IsOpening};
 ghost use Rattle.handler_check.specs.Resolved.{shape_of as shape_spec};
 ghost use Rattle.request_files.specs.Servable.{IsServable};
 

@@ -11,7 +11,7 @@ use Rattle.symbolic_ops.specs.Foresight.{ForesightView}
 use Rattle.symbolic_ops.specs.Matching.{Covered, Matches, StandsFor, exact_symbol}
 use Rattle.session_values.specs.Op.{IsHeld}
 use Rattle.session_values.specs.Values.{IsValue}
-use Rattle.session_values.proofs.Entries.{same_call}
+use Rattle.session_values.proofs.EntriesFacts.{same_call}
 use Rattle.std.specs.List.{AllByRecursion}
 use Rattle.std.specs.Option.{IsSome}
 use Rattle.symbolic_ops.proofs.Above.{covered_itself, exact_stands}

@@ -1,6 +1,6 @@
 // Range sessions: what lines write, and the first fault of each kind.
 
-use range_session::{RangeRefusal, ranges_text};
+use range_tables::{RangeRefusal, ranges_text};
 use session_values::MAX_INPUT;
 use std::alloc::Global;
 use std::process::Abort;

@@ -6,7 +6,7 @@ ghost use Rattle.session_values.specs.Limits.{max_input};
 use serve_faults::{Status, message_of};
 use serve_reading::{LoadError, Loaded, load_session, read_description};
 use session_values::{Names, Value};
-use short_text::{ShortText, short_text};
+use byte_ends::{ShortText, short_text};
 use std::alloc::Global;
 use std::test::Fail;
 

@@ -5,7 +5,7 @@ ghost use Rattle.std.specs.Prelude.{◌≤◌, IfOk, length};
 use session_values::Names;
 use std::alloc::Global;
 use std::test::Fail;
-use syntax_tokens::{Reader, Tokens};
+use syntax_grammar::{Reader, Tokens};
 
 /// Texts and their tokens, as `text~tokens`, a `/` behind each but the last.
 const TABLE: &str = "\

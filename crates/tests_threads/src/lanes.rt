@@ -3,11 +3,11 @@
 ghost use Rattle.std.specs.Prelude.{◌≡◌, ◌<◌, ◌≤◌, ◌∷◌, [], IfOk, length};
 ghost use Rattle.std.specs.List.{AllByRecursion};
 ghost use Rattle.session_values.specs.Limits.{max_callers};
-ghost use Rattle.reply_lane.specs.Ends.{IsEndOf};
-ghost use Rattle.reply_lane.specs.Lanes.{IsSpoken};
+ghost use Rattle.hall_writing.specs.Ends.{IsEndOf};
+ghost use Rattle.hall_writing.specs.Lanes.{IsSpoken};
 ghost use Rattle.tests_threads.specs.OneReply.{nil_reply, one_reply, one_ticket};
 
-use reply_lane::{End, Lane, Spoken};
+use hall_writing::{End, Lane, Spoken};
 use session_journal::ListScript;
 use session_values::{NoMemory, Reply, TableKind, Value};
 use std::alloc::Global;

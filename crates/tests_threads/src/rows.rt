@@ -4,7 +4,7 @@ ghost use Rattle.session_values.specs.Limits.{max_callers};
 ghost use Rattle.turn_board.specs.Limits.{max_board_turns};
 ghost use Rattle.turn_board.specs.Boards.{turn_count, held, IsSeatOf, SameNote, Gained, Ends, AllEnd};
 
-use owned_lists::NoMemory;
+use session_values::NoMemory;
 use std::alloc::Global;
 use std::process::Abort;
 use turn_board::{Board, Hands, Seat, Taken, TieRule, TookAll};

@@ -10,7 +10,7 @@ ghost use Rattle.trace_audit.specs.Desk.{fresh, replay_at};
 ghost use Rattle.trace_lines.specs.Traces.{HasKnownSymbol};
 ghost use Rattle.tests_traces.specs.Swaps.{HasRun, meaning_of, nil_reply, swap_of, two_swaps};
 
-use machine_walk::Answerer;
+use handler_machine::Answerer;
 use session_journal::{Event, ListScript, Script};
 use session_values::{Kind, NoMemory, Op, Reply, TableKind, Value};
 use std::alloc::Global;

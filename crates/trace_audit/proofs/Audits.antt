@@ -10,7 +10,7 @@ use Rattle.session_journal.specs.declared.event.Event.{Event}
 use Rattle.session_journal.specs.Journal.{entries}
 use Rattle.session_journal.specs.Script.{IsScript, Meaning}
 use Rattle.session_journal.proofs.Serial.{follows_few}
-use Rattle.machine_walk.specs.Asking.{Runs, Steps}
+use Rattle.handler_machine.specs.Asking.{Runs, Steps}
 use Rattle.trace_audit.specs.Desk.{Answering, AuditStep, AuditView, IsAnswered, IsTurnAnswered, KeepsOthers, Kept, MayAnswer, ReplayView, TurnAnswers, fresh, more, replay_at}
 use Rattle.trace_audit.proofs.Runs.{ran}
 

@@ -24,11 +24,11 @@ use Rattle.session_journal.specs.EventsInTurn.{IsOpen, MayBegin, MayBeDone, MayE
 use Rattle.session_journal.specs.Journal.{DoneOperation, Replays, after, begun, by_ticket, done_operations, ended, owner}
 use Rattle.session_journal.specs.Script.{Meaning}
 use Rattle.session_journal.proofs.Events.{other_test}
-use Rattle.trace_rules.specs.declared.verdict.Verdict.{Verdict}
-use Rattle.trace_rules.specs.declared.verdict.Verdict.TheVariants.{Accepted as IsFine, Event as AtEvent, Ticket as AtTicket}
-use Rattle.trace_rules.specs.Accepted.{AreAllowed, HaveEnded, IsAllowed, IsDelayAllowed}
-use Rattle.trace_rules.specs.Verdicts.{FirstAgainst, IsVerdict, rule_of}
-use Rattle.trace_rules.proofs.Serial.{told}
+use Rattle.session_journal.specs.declared.verdict.Verdict.{Verdict}
+use Rattle.session_journal.specs.declared.verdict.Verdict.TheVariants.{Accepted as IsFine, Event as AtEvent, Ticket as AtTicket}
+use Rattle.session_journal.specs.Accepted.{AreAllowed, HaveEnded, IsAllowed, IsDelayAllowed}
+use Rattle.session_journal.specs.Verdicts.{FirstAgainst, IsVerdict, rule_of}
+use Rattle.session_journal.proofs.TraceRulesSerial.{told}
 use Rattle.trace_audit.specs.Deciding.{CanBeJudged}
 use Rattle.trace_audit.proofs.Fronts.{allowed_push}
 

@@ -12,7 +12,7 @@ use Rattle.admission_book.specs.Book.{Book}
 use Rattle.admission_book.specs.Lawful.{Lawful}
 use Rattle.session_journal.specs.EventsInTurn.{ComeInTurn, MayCome}
 use Rattle.session_journal.proofs.Events.{done_operations-append, in_order-append}
-use Rattle.trace_rules.specs.Accepted.{Accepted, AreAllowed, HaveEnded, IsAllowed}
+use Rattle.session_journal.specs.Accepted.{Accepted, AreAllowed, HaveEnded, IsAllowed}
 
 -- the entries of a journal that goes on
 in_two : (front J : List Event) → in_order (done_operations (front ++ J)) ≡ in_order (done_operations front) ++ in_order (done_operations J)

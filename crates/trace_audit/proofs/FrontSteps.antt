@@ -21,11 +21,11 @@ use Rattle.session_journal.proofs.Replay.{run-append}
 use Rattle.session_journal.specs.EventsInTurn.{IsOpen, MayBegin, MayBeDone, MayEnd, now}
 use Rattle.session_journal.proofs.Events.{OnlyBegun, begun_more, begun_stays, done_operations-append, done_operations_stay, entries_more, entries_other, in_order-append, of_ticket-append}
 use Rattle.trace_audit.specs.declared.standing.Standing.{Standing}
-use Rattle.trace_rules.specs.Accepted.{AreAllowed, IsDelayAllowed}
+use Rattle.session_journal.specs.Accepted.{AreAllowed, IsDelayAllowed}
 use Rattle.trace_audit.specs.Desk.{Break, Kept, ReplayView, given_entries, kept_next, next_call, next_of, replay_at}
 use Rattle.trace_audit.specs.Judging.{AnswersNow, CallsNow, FrontView, IsFront, IsStanding, WasRun, WereRun, begins, call_of, delayed_at, done_at, ends_at, is_free, is_open, latest_of, may_begin, standing_at}
-use Rattle.trace_rules.proofs.Allowed.{only_begun}
-use Rattle.trace_rules.proofs.Serial.{told}
+use Rattle.session_journal.proofs.Allowed.{only_begun}
+use Rattle.session_journal.proofs.TraceRulesSerial.{told}
 use Rattle.trace_audit.proofs.Runs.{tells}
 use Rattle.trace_audit.proofs.Fronts.{allowed_push, free_decides, latest_set, latest_stays, stands_begin, stands_begun, stands_delay, stands_delay_now, stands_done, stands_done_now, stands_end, stands_end_now, standings_set, undelayed}
 

@@ -19,10 +19,10 @@ use Rattle.session_journal.specs.EventsInTurn.{is_delayed}
 use Rattle.session_journal.proofs.Events.{OnlyBegun, begun_more, begun_stays, done_operations_stay, ended_new, ended_other, entries_more, entries_other, first_same, first_stays, owner_new, owner_other}
 use Rattle.session_journal.proofs.EventCounts.{is_delayed-append}
 use Rattle.trace_audit.specs.declared.standing.Standing.{Standing}
-use Rattle.trace_rules.specs.Accepted.{AreAllowed, IsAllowed}
+use Rattle.session_journal.specs.Accepted.{AreAllowed, IsAllowed}
 use Rattle.trace_audit.specs.Desk.{ReplayView}
 use Rattle.trace_audit.specs.Judging.{FrontView, IsFront, IsLatest, IsStanding, is_free, latest_of, no_standing, standing_at}
-use Rattle.trace_rules.proofs.Allowed.{only_begun, through_allowed}
+use Rattle.session_journal.proofs.Allowed.{only_begun, through_allowed}
 
 pub allowed_push : (m : Meaning) (front J : List Event) (e : Event) → AreAllowed m front J → IsAllowed m (front ++ J) e → AreAllowed m front (J ++ e ∷ [])
 allowed_push m front [] e a h = let P : List Event → Type 0 = λ K. IsAllowed m K e in (subst P (append-nil front) h, tt)

@@ -17,17 +17,17 @@ use Rattle.session_journal.specs.declared.event.Event.{Event}
 use Rattle.session_journal.specs.Journal.{Replays, begun, by_ticket, done_operations, ended, entries}
 use Rattle.session_journal.specs.Script.{IsScript, Meaning}
 use Rattle.trace_audit.specs.declared.standing.Standing.{Standing}
-use Rattle.trace_rules.specs.declared.verdict.Verdict.{Verdict}
-use Rattle.trace_rules.specs.declared.verdict.Verdict.TheVariants.{Accepted as IsFine, Event as AtEvent, Ticket as AtTicket}
-use Rattle.trace_rules.specs.Accepted.{HaveEnded}
+use Rattle.session_journal.specs.declared.verdict.Verdict.{Verdict}
+use Rattle.session_journal.specs.declared.verdict.Verdict.TheVariants.{Accepted as IsFine, Event as AtEvent, Ticket as AtTicket}
+use Rattle.session_journal.specs.Accepted.{HaveEnded}
 use Rattle.trace_audit.specs.Desk.{AreAnswered, AuditView, ReplayView, fresh, replay_at}
 use Rattle.trace_audit.specs.Keeping.{KeepsAudit, KeepsReplay}
-use Rattle.trace_rules.specs.Traces.{HasKnownSymbol, max_events}
+use Rattle.session_journal.specs.Traces.{HasKnownSymbol, max_events}
 use Rattle.trace_audit.specs.Judging.{FindsOpen, FrontView, IsAgainst, IsFirst, IsFront, IsLatest, IsStanding, Judged, JudgesEvents, MayJudge, WasRun, WereRun, no_standing, opened, standing_at}
 use Rattle.trace_audit.specs.Replaying.{AllFit, EntriesFit, TicketsFit, TicketsJudged, joined}
-use Rattle.trace_rules.specs.Verdicts.{IsVerdict, rule_of}
-use Rattle.trace_rules.proofs.Allowed.{only_begun}
-use Rattle.trace_rules.proofs.Serial.{told}
+use Rattle.session_journal.specs.Verdicts.{IsVerdict, rule_of}
+use Rattle.session_journal.proofs.Allowed.{only_begun}
+use Rattle.session_journal.proofs.TraceRulesSerial.{told}
 use Rattle.trace_audit.proofs.Tickets.{joined_more}
 
 -- ---- before any event

@@ -6,7 +6,7 @@ use Rattle.std.proofs.lemmas.Bool.{cases_eq}
 use Rattle.session_values.specs.declared.reply.Reply.{Reply}
 use Rattle.session_journal.specs.Journal.{entries}
 use Rattle.session_journal.specs.Script.{IsScript, Meaning}
-use Rattle.machine_walk.specs.Asking.{Runs}
+use Rattle.handler_machine.specs.Asking.{Runs}
 use Rattle.trace_audit.proofs.Audits.{all_stays, audited}
 use Rattle.trace_audit.specs.Desk.{AreGathered, AuditStep, AuditView, KeepsOthers, ReplayView, MayAnswer, fresh, replay_at, tickets_answered, with_answer}
 use Rattle.trace_audit.specs.Running.{AreRun}

@@ -10,8 +10,8 @@ use Rattle.session_values.specs.declared.value.Value.{Value}
 use Rattle.session_values.specs.declared.value.Value.TheVariants.{Nil}
 use Rattle.std.specs.Option.{option_map}
 use Rattle.session_values.specs.Dialogue.{Next, Calls, Answers, Dialogue, Entry, Follows, replies, rest}
-use Rattle.session_values.proofs.Entries.{follows_more}
-use Rattle.machine_walk.specs.Asking.{Steps}
+use Rattle.session_values.proofs.EntriesFacts.{follows_more}
+use Rattle.handler_machine.specs.Asking.{Steps}
 use Rattle.trace_audit.specs.Desk.{Answering, Break, HasOther, ReplayView, IsAnswered, IsRun, Kept, given, given_entries, kept_next, more, next_of, nothing_kept}
 
 -- a run so far: what was called, and what is kept of it

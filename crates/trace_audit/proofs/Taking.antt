@@ -20,8 +20,8 @@ use Rattle.session_journal.specs.declared.event.Event.{Event}
 use Rattle.session_journal.specs.declared.event.Event.TheVariants.{Begin, Done, Delay, End}
 use Rattle.session_journal.specs.Journal.{DoneOperation, after, done_operations, entries, entry_of, of_ticket}
 use Rattle.session_journal.specs.EventsInTurn.{MayBegin, MayBeDone, MayEnd}
-use Rattle.trace_rules.specs.Traces.{HasKnownSymbol}
-use Rattle.trace_rules.specs.Accepted.{IsAllowed, IsDelayAllowed}
+use Rattle.session_journal.specs.Traces.{HasKnownSymbol}
+use Rattle.session_journal.specs.Accepted.{IsAllowed, IsDelayAllowed}
 use Rattle.trace_audit.specs.Desk.{ReplayView}
 use Rattle.trace_audit.specs.Judging.{AnswersNow, CallsNow, FrontView, IsFront, IsNext, Takes, begins, delayed_at, done_at, ends_at, is_free, is_open, latest_of, may_begin, standing_at}
 use Rattle.trace_audit.proofs.FrontSteps.{begin_decides, begin_front, delay_front, done_from, done_front, done_to, end_from, end_front, end_to, open_ticket, open_to}

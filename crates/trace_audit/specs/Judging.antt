@@ -10,13 +10,13 @@ use Rattle.session_journal.specs.declared.event.Event.{Event}
 use Rattle.session_journal.specs.Journal.{after, begun, ended, entries, owner}
 use Rattle.session_journal.specs.Script.{IsScript, Meaning}
 use Rattle.session_journal.specs.EventsInTurn.{is_delayed}
-use Rattle.trace_rules.specs.Traces.{HasKnownSymbol, max_events}
+use Rattle.session_journal.specs.Traces.{HasKnownSymbol, max_events}
 use Rattle.trace_audit.specs.declared.front.Front.{Front}
 use Rattle.trace_audit.specs.declared.standing.Standing.{Standing}
-use Rattle.trace_rules.specs.declared.verdict.Verdict.{Verdict}
-use Rattle.trace_rules.specs.Accepted.{AreAllowed, IsAllowed}
+use Rattle.session_journal.specs.declared.verdict.Verdict.{Verdict}
+use Rattle.session_journal.specs.Accepted.{AreAllowed, IsAllowed}
 use Rattle.trace_audit.specs.Desk.{IsRun, ReplayView, given_entries, next_call, replay_at}
-use Rattle.trace_rules.specs.Verdicts.{IsVerdict}
+use Rattle.session_journal.specs.Verdicts.{IsVerdict}
 
 -- ---- what is judged
 -- the ticket was run on its entries of the trace

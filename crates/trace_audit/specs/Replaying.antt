@@ -7,8 +7,8 @@ use Rattle.session_values.specs.Dialogue.{Entry}
 use Rattle.session_values.specs.Kinds.{home}
 use Rattle.session_values.specs.Tables.{Tables}
 use Rattle.session_journal.specs.Journal.{Replays, run}
-use Rattle.trace_rules.specs.declared.verdict.Verdict.{Verdict}
-use Rattle.trace_rules.specs.declared.verdict.Verdict.TheVariants.{Accepted as IsFine, Event as AtEvent, Ticket as AtTicket}
+use Rattle.session_journal.specs.declared.verdict.Verdict.{Verdict}
+use Rattle.session_journal.specs.declared.verdict.Verdict.TheVariants.{Accepted as IsFine, Event as AtEvent, Ticket as AtTicket}
 use Rattle.trace_audit.specs.Desk.{ReplayView}
 
 -- each operation fits tables of these kinds

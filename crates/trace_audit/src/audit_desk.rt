@@ -3,18 +3,18 @@
 ghost use Rattle.std.specs.Prelude.{◌≡◌, ◌<◌, IfOk, None, Some};
 ghost use Rattle.session_journal.specs.Journal.{entries};
 ghost use Rattle.trace_audit.specs.Desk.{AreAnswered, AreGathered, AuditStep, MayAnswer, fresh, replay_at, tickets_answered};
-ghost use Rattle.trace_rules.specs.Verdicts.{IsVerdict};
+ghost use Rattle.session_journal.specs.Verdicts.{IsVerdict};
 
 use crate::gathering::gather;
 use crate::judge::judge_trace;
 use crate::opening::opened_tables;
 use crate::ticket_replay::TicketReplay;
-use machine_walk::Answerer;
+use handler_machine::Answerer;
 use session_journal::Script;
 use session_values::{NoMemory, Op, Reply, TableKind, Value};
 use std::alloc::Global;
 use std::marker::Model;
-use trace_rules::{Trace, Verdict};
+use session_journal::{Trace, Verdict};
 
 /// Answers each ticket's operations by its entries in a trace, and keeps what the trace is judged
 /// by.

@@ -4,11 +4,11 @@ ghost use Rattle.std.specs.Prelude.{◌≡◌, ◌<◌, ◌≤◌, IfOk, List, l
 ghost use Rattle.session_values.specs.Tables.{kind_of};
 ghost use Rattle.session_journal.specs.declared.event.Event.{Event as SpecEvent};
 ghost use Rattle.session_journal.specs.Script.{Meaning};
-ghost use Rattle.trace_rules.specs.Traces.{max_events};
+ghost use Rattle.session_journal.specs.Traces.{max_events};
 ghost use Rattle.trace_audit.specs.Judging.{IsAgainst, IsFront, IsWhole, Judged, MayJudge, WereRun, front_of};
 ghost use Rattle.trace_audit.specs.Replaying.{TicketsFit, TicketsJudged};
-ghost use Rattle.trace_rules.specs.Verdicts as verdicts;
-ghost use Rattle.trace_rules.specs.Verdicts.{IsVerdict};
+ghost use Rattle.session_journal.specs.Verdicts as verdicts;
+ghost use Rattle.session_journal.specs.Verdicts.{IsVerdict};
 
 use crate::front::Front;
 use crate::judging::first_against;
@@ -18,7 +18,7 @@ use session_journal::Event;
 use session_values::NoMemory;
 use shard_tables::WholeTables;
 use std::alloc::Global;
-use trace_rules::Verdict;
+use session_journal::Verdict;
 
 /// The number of the rule that an event of this kind breaks.
 fn rule_of(e: Event) -> u32

@@ -8,12 +8,12 @@ ghost use Rattle.session_journal.specs.Journal.{entries};
 ghost use Rattle.session_journal.specs.Script.{Meaning, IsScript};
 ghost use Rattle.admission_book.specs.Book.{Book};
 ghost use Rattle.admission_book.specs.Lawful.{Lawful};
-ghost use Rattle.trace_rules.specs.Accepted.{Accepted, HaveEnded};
-ghost use Rattle.trace_rules.specs.declared.verdict.Verdict.{Verdict};
-ghost use Rattle.trace_rules.specs.Verdicts.{IsVerdict};
+ghost use Rattle.session_journal.specs.Accepted.{Accepted, HaveEnded};
+ghost use Rattle.session_journal.specs.declared.verdict.Verdict.{Verdict};
+ghost use Rattle.session_journal.specs.Verdicts.{IsVerdict};
 ghost use Rattle.trace_audit.specs.Deciding.{CanBeJudged};
 ghost use Rattle.session_values.specs.Dialogue.{Dialogue, Entry, replies};
-ghost use Rattle.machine_walk.specs.Asking.{Runs};
+ghost use Rattle.handler_machine.specs.Asking.{Runs};
 ghost use Rattle.trace_audit.specs.Desk.{AuditStep, AuditView, IsRun, KeepsOthers, Kept, MayAnswer, fresh, given_entries, kept_next, replay_at};
 
 use session_journal::Script;

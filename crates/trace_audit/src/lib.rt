@@ -15,4 +15,4 @@ mod ticket_replay;
 
 pub use audit_desk::AuditDesk;
 pub use sessions::judge_session;
-pub use trace_rules::{MAX_EVENTS, Trace, Verdict};
+pub use session_journal::{MAX_EVENTS, Trace, Verdict};

@@ -4,14 +4,14 @@ ghost use Rattle.std.specs.Prelude.{◌≡◌, ◌+◌, ◌<◌, IfOk};
 ghost use Rattle.session_journal.specs.Script.{IsScript};
 ghost use Rattle.handler_machine.specs.Scripts.{meaning};
 ghost use Rattle.trace_audit.specs.Running.{AreRun};
-ghost use Rattle.trace_rules.specs.Verdicts.{IsVerdict};
+ghost use Rattle.session_journal.specs.Verdicts.{IsVerdict};
 
 use crate::audit_desk::AuditDesk;
 use handler_machine::Scripts;
 use session_journal::{Scratch, Script};
 use session_values::NoMemory;
 use std::alloc::Global;
-use trace_rules::{Trace, Verdict};
+use session_journal::{Trace, Verdict};
 
 /// Runs the handler of the next ticket on what the trace tells. It takes no memory.
 fn run_ticket<'a, 'b>(

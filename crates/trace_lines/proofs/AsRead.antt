@@ -16,7 +16,7 @@ use Rattle.session_journal.specs.declared.event.Event.TheVariants.{Begin, Done, 
 use Rattle.session_journal.specs.Journal.{DoneOperation, after, begun, by_ticket, caller_of, done_operations, end_of, ended, first, in_order, of_ticket, owner, regrouped, Replays, run}
 use Rattle.session_journal.specs.Script.{Meaning}
 use Rattle.session_journal.specs.EventsInTurn.{IsOpen, delayed_after, is_delayed_from, now}
-use Rattle.trace_rules.specs.Accepted.{Accepted, AreAllowed, IsAllowed}
+use Rattle.session_journal.specs.Accepted.{Accepted, AreAllowed, IsAllowed}
 use Rattle.trace_lines.specs.EventWords.{arg_as_read, as_read, place_as_read, symbol_as_read}
 
 module _ (names : List (List ℕ)) where

@@ -3,7 +3,7 @@ use Rattle.std.proofs.Common.{◌≡◌, ℕ, List, [], ◌∷◌, map, Option, 
 use Rattle.session_values.specs.declared.kind.TableKind.{TableKind}
 use Rattle.session_journal.specs.declared.event.Event.{Event}
 use Rattle.text_lines.specs.Rows.{Row}
-use Rattle.trace_rules.specs.Traces.{TraceView}
+use Rattle.session_journal.specs.Traces.{TraceView}
 use Rattle.trace_lines.specs.EventRows.{IsTrace, row_event}
 
 -- events are the same where each is what the other list has there

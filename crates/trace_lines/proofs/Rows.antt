@@ -7,7 +7,7 @@ use Rattle.session_values.specs.Names.{Begins}
 use Rattle.session_journal.specs.declared.event.Event.{Event}
 use Rattle.text_lines.specs.Rows.{Row}
 use Rattle.text_lines.specs.Text.{Text}
-use Rattle.trace_rules.specs.Traces.{TraceView, max_events}
+use Rattle.session_journal.specs.Traces.{TraceView, max_events}
 use Rattle.trace_lines.specs.declared.refusal.TraceRefusal.{TraceRefusal}
 use Rattle.trace_lines.specs.declared.refusal.TraceRefusal.TheVariants.{BadEvent, TooManyEvents}
 use Rattle.trace_lines.specs.EventRows.{AreKnown, IsTrace, event_fault, first_event_fault, names_after, row_event}

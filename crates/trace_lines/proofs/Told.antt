@@ -36,8 +36,8 @@ use Rattle.session_journal.specs.EventsInTurn.{ComeInTurn}
 use Rattle.session_journal.proofs.Events.{done_operations-append, done_operations_stay, in_order-append}
 use Rattle.text_lines.specs.Values.{is_symbol}
 use Rattle.text_lines.specs.ValueWords.{IsWritable}
-use Rattle.trace_rules.specs.Accepted.{AreAllowed, IsAllowed}
-use Rattle.trace_rules.specs.Traces.{HasKnownSymbol}
+use Rattle.session_journal.specs.Accepted.{AreAllowed, IsAllowed}
+use Rattle.session_journal.specs.Traces.{HasKnownSymbol}
 use Rattle.trace_lines.specs.Bounds.{IsHeldEvent}
 use Rattle.trace_lines.specs.EventText.{CanWrite, CanWriteArg, CanWriteOp, CanWriteSymbol, HasTable}
 use Rattle.trace_lines.specs.EventWords.{HasHome, IsReadableArg, IsReadableEvent, IsReadableOp, IsReadableSymbol}

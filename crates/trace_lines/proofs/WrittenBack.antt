@@ -26,7 +26,7 @@ use Rattle.text_lines.specs.Values.{is_symbol}
 use Rattle.text_lines.proofs.RowLemmas.{rows_more, rows_nil}
 use Rattle.text_lines.specs.ValueWords.{IsWritable, literal_text}
 use Rattle.text_lines.proofs.NumbersBack.{numeral}
-use Rattle.trace_rules.specs.Traces.{TraceView, max_events}
+use Rattle.session_journal.specs.Traces.{TraceView, max_events}
 use Rattle.trace_lines.specs.EventRows.{IsTrace, first_event_fault, names_after, placed_literal, placed_literals, placed_symbol, row_event}
 use Rattle.trace_lines.specs.EventText.{arg_text, event_words, events_text, op_words, symbol_text, symbol_words, text_at}
 use Rattle.trace_lines.specs.EventWords.{IsReadableArg, IsReadableEvent, IsReadableOp, IsReadableSymbol, IsTableName, as_read, event_of, table_names}

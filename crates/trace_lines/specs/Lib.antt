@@ -6,4 +6,4 @@ pub mod Fronts
 pub mod Placing
 pub mod Pushing
 pub mod VerdictText
-pub use Rattle.trace_rules.specs.Traces
+pub use Rattle.session_journal.specs.Traces

@@ -4,7 +4,7 @@ use Rattle.session_values.specs.declared.kind.TableKind.{TableKind}
 use Rattle.session_journal.specs.declared.event.Event.{Event}
 use Rattle.text_lines.specs.Rows.{Row}
 use Rattle.text_lines.specs.Text.{Text}
-use Rattle.trace_rules.specs.Traces.{TraceView}
+use Rattle.session_journal.specs.Traces.{TraceView}
 use Rattle.trace_lines.specs.EventRows.{row_event}
 
 -- the event of a line stands behind the others, with the line's number

@@ -1,8 +1,8 @@
 -- The line of a verdict.
 use Rattle.std.specs.Prelude.{ℕ, List, ◌++◌, codes, decimal, length, slice_index}
-use Rattle.trace_rules.specs.Traces.{TraceView}
-use Rattle.trace_rules.specs.declared.verdict.Verdict.{Verdict}
-use Rattle.trace_rules.specs.declared.verdict.Verdict.TheVariants.{Accepted as IsFine, Event as AtEvent, Ticket as AtTicket}
+use Rattle.session_journal.specs.Traces.{TraceView}
+use Rattle.session_journal.specs.declared.verdict.Verdict.{Verdict}
+use Rattle.session_journal.specs.declared.verdict.Verdict.TheVariants.{Accepted as IsFine, Event as AtEvent, Ticket as AtTicket}
 
 -- the number of the events
 abbrev pub accepted : ℕ → List ℕ

@@ -2,7 +2,7 @@
 
 ghost use Rattle.std.specs.Prelude.{◌≡◌, [], ◌∷◌, IfSome, codes};
 ghost use Rattle.std.specs.Str.{bytes_eq};
-ghost use Rattle.trace_rules.specs.Traces.{HasKnownSymbol};
+ghost use Rattle.session_journal.specs.Traces.{HasKnownSymbol};
 ghost use Rattle.trace_lines.specs.EventRows.{AreKnown};
 ghost use Rattle.trace_lines.specs.EventWords as spec;
 ghost use Rattle.trace_lines.specs.Fronts.{is_over, reply_with};

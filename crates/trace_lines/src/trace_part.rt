@@ -5,7 +5,7 @@ ghost use Rattle.session_values.specs.Names.{Begins};
 ghost use Rattle.session_journal.specs.declared.event.Event.{Event as SpecEvent};
 ghost use Rattle.text_lines.specs.Rows.{Row, row_of, rows as rows_of};
 ghost use Rattle.text_lines.specs.Text.{Text, lines as lines_of, words as words_of};
-ghost use Rattle.trace_rules.specs.Traces.{HasKnownSymbol, max_events};
+ghost use Rattle.session_journal.specs.Traces.{HasKnownSymbol, max_events};
 ghost use Rattle.trace_lines.specs.EventRows as spec;
 ghost use Rattle.trace_lines.specs.EventWords.{event_of};
 ghost use Rattle.trace_lines.specs.Placing.{max_words};
@@ -20,7 +20,7 @@ use session_journal::Event;
 use session_values::{Names, NoMemory, TableKind};
 use std::alloc::Global;
 use text_lines::{Line, Lines};
-use trace_rules::{MAX_EVENTS, Trace};
+use session_journal::{MAX_EVENTS, Trace};
 
 /// Adds an event.
 fn push(trace: &mut Trace, e: Event, line: u32) -> Result<(), TraceRefusal>

@@ -2,11 +2,11 @@
 
 ghost use Rattle.std.specs.Prelude.{◌≡◌, ◌≤◌, length};
 ghost use Rattle.session_journal.specs.Script.{Meaning};
-ghost use Rattle.trace_rules.specs.Verdicts.{IsVerdict};
+ghost use Rattle.session_journal.specs.Verdicts.{IsVerdict};
 ghost use Rattle.trace_lines.specs.VerdictText as spec;
 
-use short_text::{ShortText, push_number, short_text};
-use trace_rules::{Trace, Verdict};
+use byte_ends::{ShortText, push_number, short_text};
+use session_journal::{Trace, Verdict};
 
 /// The line of a verdict on a trace: `accepted` and the number of its events, or the rule that is
 /// broken and the line of the event, or the ticket.

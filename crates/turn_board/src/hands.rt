@@ -1,7 +1,7 @@
 // A list of turns with their values, with reserved room.
 ghost use Rattle.std.specs.Prelude.{◌≡◌, ◌<◌, [], ◌∷◌, ◌++◌, IfOk, MatchOption, Some, length, slice_get};
 
-use owned_lists::NoMemory;
+use session_values::NoMemory;
 use std::alloc::Global;
 use std::marker::Model;
 

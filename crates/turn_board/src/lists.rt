@@ -1,7 +1,7 @@
 // The lists of a board's values and seats.
 
 use crate::seat::Seat;
-use owned_lists::Listed;
+use session_values::Listed;
 
 /// The values of a board, in the order of their turns.
 pub type Values<V> = Listed<V>;

@@ -1,12 +1,12 @@
 // Opening a board.
 ghost use Rattle.std.specs.Prelude.{◌≡◌, ◌<◌, ◌≤◌, [], IfErr, IfOk, map, Some, vec_len, vec_capacity};
-ghost use Rattle.session_limits.specs.Limits.{max_callers};
+ghost use Rattle.session_values.specs.Limits.{max_callers};
 ghost use Rattle.turn_board.specs.Limits.{max_board_turns};
 
 use crate::board::{Board, Spare};
 use crate::lists::Seats;
 use crate::seat::Seat;
-use owned_lists::NoMemory;
+use session_values::NoMemory;
 use std::alloc::Global;
 use std::sync::Mutex;
 use turn_steps::{MAX_BOARD_TURNS, TieRule, Words};

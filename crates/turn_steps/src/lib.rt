@@ -14,7 +14,7 @@ mod tie_rule;
 mod view;
 mod words;
 
-pub use owned_lists::NoMemory;
+pub use session_values::NoMemory;
 pub use pass::Pass;
 pub use plays::Change;
 pub use tie_rule::TieRule;

@@ -4,10 +4,10 @@ ghost use Rattle.std.specs.Prelude.{ℕ, List};
 ghost use Rattle.std.specs.List.{flat_map};
 ghost use Rattle.syntax_trees.specs.declared.file.TableDecl.{TableDecl};
 ghost use Rattle.syntax_trees.specs.Marks.{atom_marks, call_marks, cond_marks, expr_marks, right_marks};
-ghost use Rattle.check_rules.specs.Scan.{Found, of_variables, scan};
+ghost use Rattle.handler_check.specs.Scan.{Found, of_variables, scan};
 
 use super::names::{count_arguments, find_table, see};
-use check_rules::CheckRefusal;
+use crate::CheckRefusal;
 use syntax_trees::{Atom, Call, Cond, Expr, Right, TableDecl};
 
 fn find_in_atom(visible: &[u32], atom: &Atom) -> Result<(), CheckRefusal>

@@ -2,11 +2,11 @@
 
 ghost use Rattle.std.specs.Prelude.{◌≡◌, ◌==◌, ◌++◌, ◌∷◌, [], OnOk, length};
 ghost use Rattle.session_values.specs.Kinds.{home};
-ghost use Rattle.check_rules.specs.declared.refusal.CheckRefusal.TheVariants as refusal;
-ghost use Rattle.check_rules.specs.Rules.{kind_of};
-ghost use Rattle.check_rules.specs.Scan.{Found, count_fault, declared_fault, fault_if, is_among, is_same_kind, of_variables, or_else, table_fault, turns_fault, unseen_fault};
+ghost use Rattle.handler_check.specs.declared.refusal.CheckRefusal.TheVariants as refusal;
+ghost use Rattle.handler_check.specs.Rules.{kind_of};
+ghost use Rattle.handler_check.specs.Scan.{Found, count_fault, declared_fault, fault_if, is_among, is_same_kind, of_variables, or_else, table_fault, turns_fault, unseen_fault};
 
-use check_rules::CheckRefusal;
+use crate::CheckRefusal;
 use session_values::{Kind, MAX_TURNS, MAX_VARIABLES, TableKind};
 use syntax_trees::TableDecl;
 

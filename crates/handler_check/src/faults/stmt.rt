@@ -3,12 +3,12 @@
 ghost use Rattle.std.specs.Prelude.{◌≡◌, ◌++◌, ◌∷◌, [], OnOk};
 ghost use Rattle.handler_check.specs.Shown.{shown};
 ghost use Rattle.syntax_trees.specs.Marks.{declared, marks};
-ghost use Rattle.check_rules.specs.Scan.{Found, of_variables, scan};
+ghost use Rattle.handler_check.specs.Scan.{Found, of_variables, scan};
 ghost use Rattle.syntax_trees.specs.Source.{Finish, block_source, stmt_source};
 
 use super::expr::{find_in_call, find_in_cond, find_in_right, find_in_values};
 use super::names::{count_turns, declare_variable, see};
-use check_rules::CheckRefusal;
+use crate::CheckRefusal;
 use syntax_trees::{Stmt, TableDecl};
 
 #[cycle(statement)]

@@ -1,5 +1,5 @@
 -- The laws of rounds.
-use Rattle.client_feed.proofs.Rounds.{before_first, tables_in_two, serial_in_two, replies_in_two}
+use Rattle.client_feed.proofs.RoundsFacts.{before_first, tables_in_two, serial_in_two, replies_in_two}
 use Rattle.client_feed.proofs.laws.in_two_parts.Goals as goal
 
 pub returns : goal.returns

@@ -2,7 +2,7 @@
 use Rattle.std.proofs.Common.{sym, subst, suc, []}
 use Rattle.crossbeam_channel.specs.Fifo.{Forks}
 use Rattle.client_feed.specs.declared.rule.Hand.{Hand}
-use Rattle.client_sheet.specs.Arrivals.{count_at}
+use Rattle.reply_sheet.specs.Arrivals.{count_at}
 use Rattle.client_feed.specs.Feeding.{Feeds, feeder, gatherer, idle}
 use Rattle.client_feed.proofs.Feeding.{begins, is_told, next_made}
 use Rattle.client_feed.proofs.opening.opened.Goals as goal

@@ -1,13 +1,13 @@
 -- One more reply is kept, which is spoken for the replies that the end knows.
 use Rattle.std.proofs.Common.{◌≡◌, ◌<◌, ℕ, List, Some, slice_get, ap, sym, ◌∙◌, subst, arith}
 use Rattle.std.proofs.lemmas.Option.{slice_get_within}
-use Rattle.reply_lane.specs.Lanes.{times}
-use Rattle.reply_lane.specs.declared.rule.Spoken.{Spoken}
-use Rattle.reply_lane.specs.declared.rule.EndState.{EndState}
+use Rattle.hall_writing.specs.Lanes.{times}
+use Rattle.hall_writing.specs.declared.rule.Spoken.{Spoken}
+use Rattle.hall_writing.specs.declared.rule.EndState.{EndState}
 use Rattle.hall_writing.specs.Sheets.{IsKept}
 use Rattle.hall_writing.proofs.Taken.{taken_more}
 use Rattle.session_values.specs.declared.reply.Reply.{Reply}
-use Rattle.reply_lane.specs.Ends.{state_of}
+use Rattle.hall_writing.specs.Ends.{state_of}
 use Rattle.reply_sheet.specs.Pending.{PendingView}
 use Rattle.hall_writing.proofs.Sheets.{keeps_more, keeps_own, keeps_still}
 use Rattle.hall_writing.proofs.after.take_all.Goals as goal

@@ -1,6 +1,6 @@
 use Rattle.std.proofs.Common.{◌≡◌, ◌<◌, ℕ}
-use Rattle.reply_lane.specs.Lanes.{times}
-use Rattle.reply_lane.specs.Ends.{IsEndOf, state_of}
+use Rattle.hall_writing.specs.Lanes.{times}
+use Rattle.hall_writing.specs.Ends.{IsEndOf, state_of}
 use Rattle.hall_writing.specs.Sheets.{IsKept, Keeps}
 use Rattle.hall_writing.proofs.after.take_all.Given as goal
 

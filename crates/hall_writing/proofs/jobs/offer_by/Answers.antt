@@ -1,6 +1,6 @@
 -- A hall and a lane are shared among threads where the script may be sent to them.
 use Rattle.hall_serving.proofs.Crossing.{hall_sync}
-use Rattle.reply_lane.proofs.lane.Lane.TheSendSync as lane
+use Rattle.hall_writing.proofs.lane.Lane.TheSendSync as lane
 use Rattle.hall_writing.proofs.jobs.offer_by.Goals as goal
 
 pub for_each_mut-requires-sync-F : goal.for_each_mut-requires-sync-F

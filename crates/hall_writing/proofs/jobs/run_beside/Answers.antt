@@ -4,7 +4,7 @@ use denote.Exit.{yes}
 use denote.Param.Send.{Quiet-if}
 use Rattle.std.proofs.Crossing.{Vec-send}
 use Rattle.hall_serving.proofs.Crossing.{hall_sync}
-use Rattle.reply_lane.proofs.lane.Lane.TheSendSync as lane
+use Rattle.hall_writing.proofs.lane.Lane.TheSendSync as lane
 use Rattle.hall_writing.proofs.job.Job.TheSendSync as job
 use Rattle.hall_writing.proofs.jobs.run_beside.Goals as goal
 

@@ -1,5 +1,5 @@
 use Rattle.std.proofs.Common.{◌≡◌}
-use Rattle.reply_lane.specs.Ends.{IsEndOf, state_of}
+use Rattle.hall_writing.specs.Ends.{IsEndOf, state_of}
 use Rattle.hall_writing.proofs.offering.offer_patiently.Given as goal
 
 abbrev pub invariant-loop : goal.invariant-loop

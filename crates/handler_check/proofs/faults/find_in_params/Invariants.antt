@@ -1,7 +1,7 @@
 use Rattle.std.proofs.Common.{◌≡◌, ◌++◌, [], ℕ, List, drop}
 use Rattle.syntax_trees.specs.declared.file.TableDecl.{TableDecl}
 use Rattle.syntax_trees.specs.Marks.{param_marks, param_names}
-use Rattle.check_rules.specs.Scan.{of_variables, scan}
+use Rattle.handler_check.specs.Scan.{of_variables, scan}
 use Rattle.handler_check.proofs.faults.find_in_params.Given as goal
 
 abbrev pub invariant-loop-param : goal.invariant-loop-param

@@ -1,7 +1,7 @@
 use Rattle.std.proofs.Common.{[], get_or, refl, ◌∙◌}
 use Rattle.std.proofs.lemmas.Result.{err_from_is_err_and}
 use Rattle.syntax_trees.specs.declared.file.TableDecl.{TableDecl}
-use Rattle.check_rules.specs.Scan.{of_tables}
+use Rattle.handler_check.specs.Scan.{of_tables}
 use Rattle.handler_check.proofs.Scans.{stops, exits}
 use Rattle.handler_check.proofs.Walks.{name_turn}
 use Rattle.handler_check.proofs.faults.find_in_tables.Goals as goal

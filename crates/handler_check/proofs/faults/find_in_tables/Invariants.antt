@@ -1,7 +1,7 @@
 use Rattle.std.proofs.Common.{◌≡◌, ◌++◌, [], drop, map}
 use Rattle.syntax_trees.specs.declared.file.TableDecl.{TableDecl}
 use Rattle.syntax_trees.specs.Marks.{table_marks}
-use Rattle.check_rules.specs.Scan.{of_tables, scan}
+use Rattle.handler_check.specs.Scan.{of_tables, scan}
 use Rattle.handler_check.proofs.faults.find_in_tables.Given as goal
 
 abbrev pub invariant-loop-table : goal.invariant-loop-table

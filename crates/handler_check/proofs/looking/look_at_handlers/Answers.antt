@@ -4,7 +4,7 @@ use Rattle.handler_check.specs.Excess.{own_excess}
 use Rattle.handler_check.specs.Resolved.{IsResolved}
 use Rattle.handler_check.proofs.ExcessLemmas.{excess_push}
 use Rattle.handler_check.proofs.Resolving.{zip_turn, zip_end}
-use Rattle.check_rules.specs.Scan.{Fault, or_else, scan_handlers}
+use Rattle.handler_check.specs.Scan.{Fault, or_else, scan_handlers}
 use Rattle.handler_check.proofs.Scans.{or_is, stops, exits, later}
 use Rattle.handler_check.proofs.Walks.{next_turn}
 use Rattle.handler_check.proofs.looking.look_at_handlers.Goals as goal

@@ -1,6 +1,6 @@
 use Rattle.std.proofs.Common.{◌≡◌, [], drop, take}
 use Rattle.handler_check.specs.Excess.{IsExcessOf}
-use Rattle.check_rules.specs.Scan.{scan_handlers}
+use Rattle.handler_check.specs.Scan.{scan_handlers}
 use Rattle.handler_check.proofs.looking.look_at_handlers.Given as goal
 
 abbrev pub invariant-loop-handler : goal.invariant-loop-handler

@@ -2,7 +2,7 @@ use Rattle.std.proofs.Common.{◌∙◌, ℕ, ◌+◌, List, drop, ap, sym}
 use Rattle.std.proofs.lemmas.Result.{err_from_is_err_and}
 use Rattle.handler_check.specs.Resolved.{IsResolved}
 use Rattle.handler_check.proofs.Resolving.{zip_turn}
-use Rattle.check_rules.specs.Scan.{scan_handlers}
+use Rattle.handler_check.specs.Scan.{scan_handlers}
 use Rattle.handler_check.proofs.Scans.{stops, exits, later}
 use Rattle.handler_check.proofs.Walks.{next_turn}
 use Rattle.handler_check.proofs.resolution.resolve_handlers.Goals as goal

@@ -1,7 +1,7 @@
 use Rattle.std.proofs.Common.{◌≡◌, [], drop, take}
 use Rattle.std.specs.List.{AllZip}
 use Rattle.handler_check.specs.Resolved.{IsResolved}
-use Rattle.check_rules.specs.Scan.{scan_handlers}
+use Rattle.handler_check.specs.Scan.{scan_handlers}
 use Rattle.handler_check.proofs.resolution.resolve_handlers.Given as goal
 
 abbrev pub invariant-loop-handler : goal.invariant-loop-handler

@@ -1,5 +1,5 @@
-use Rattle.syntax_tokens.proofs.Longest.{first_token}
-use Rattle.syntax_tokens.proofs.OneToken.{nil_is_bad, one_token}
+use Rattle.syntax_grammar.proofs.Longest.{first_token}
+use Rattle.syntax_grammar.proofs.OneToken.{nil_is_bad, one_token}
 use Rattle.handler_syntax.proofs.laws.tokens_are_the_longest.Goals as goal
 
 pub returns : goal.returns

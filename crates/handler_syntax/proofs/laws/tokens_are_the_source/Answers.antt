@@ -1,4 +1,4 @@
-use Rattle.syntax_tokens.proofs.Spelled.{source_spelled, is_next}
+use Rattle.syntax_grammar.proofs.Spelled.{source_spelled, is_next}
 use Rattle.handler_syntax.proofs.laws.tokens_are_the_source.Goals as goal
 
 pub returns-clause-spelled : goal.returns-clause-spelled

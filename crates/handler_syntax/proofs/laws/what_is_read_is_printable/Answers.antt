@@ -1,4 +1,4 @@
-use Rattle.syntax_tokens.specs.Words.{names_of}
+use Rattle.syntax_grammar.specs.Words.{names_of}
 use Rattle.syntax_trees.specs.Mentions.{file_mentions}
 use Rattle.syntax_grammar.proofs.Said.{source_readable, have_texts, texts_below}
 use Rattle.handler_syntax.proofs.laws.what_is_read_is_printable.Goals as goal

@@ -1,9 +1,9 @@
 use Rattle.std.proofs.Common.{◌≡◌, ◌≤◌, List, length, arith, subst, take}
 use Rattle.std.proofs.lemmas.List.{take_all}
 use Rattle.std.specs.List.{AllByRecursion}
-use Rattle.opening_tables.specs.Opening.{AreApart, Pair}
+use Rattle.session_values.specs.Opening.{AreApart, Pair}
 use Rattle.shard_tables.specs.declared.part.Part.{Part}
-use Rattle.table_text.specs.Dumped.{HaveRoom}
+use Rattle.table_lines.specs.Dumped.{HaveRoom}
 use Rattle.live_session.specs.Held.{lists_in}
 use Rattle.live_session.proofs.DumpLemmas.{all_more, more_room}
 use Rattle.live_session.proofs.dumping.most_entries.Goals as goal

@@ -1,7 +1,7 @@
 use Rattle.std.proofs.Common.{take}
 use Rattle.std.specs.List.{AllByRecursion}
-use Rattle.opening_tables.specs.Opening.{AreApart}
-use Rattle.table_text.specs.Dumped.{HaveRoom}
+use Rattle.session_values.specs.Opening.{AreApart}
+use Rattle.table_lines.specs.Dumped.{HaveRoom}
 use Rattle.live_session.specs.Held.{lists_in}
 use Rattle.live_session.proofs.dumping.most_entries.Given as goal
 

@@ -2,7 +2,7 @@ use Rattle.std.proofs.Common.{◌<◌, ◌≤◌, ◌++◌, ◌∷◌, [], List,
 use Rattle.std.proofs.lemmas.List.{map-append, take_all}
 use Rattle.session_values.specs.Tables.{Container, Tables}
 use Rattle.session_values.specs.declared.kind.TableKind.{TableKind}
-use Rattle.opening_tables.specs.Opening.{tables_of}
+use Rattle.session_values.specs.Opening.{tables_of}
 use Rattle.live_session.specs.Held.{container_in, held}
 use Rattle.shard_tables.proofs.Whole.{filled_more}
 use Rattle.live_session.proofs.opening.opened_tables.Goals as goal

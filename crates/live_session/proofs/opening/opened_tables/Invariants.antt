@@ -1,5 +1,5 @@
 use Rattle.std.proofs.Common.{◌≡◌, ◌≤◌, length, take, vec_capacity, vec_len}
-use Rattle.opening_tables.specs.Opening.{tables_of}
+use Rattle.session_values.specs.Opening.{tables_of}
 use Rattle.live_session.specs.Held.{held}
 use Rattle.live_session.proofs.opening.opened_tables.Given as goal
 

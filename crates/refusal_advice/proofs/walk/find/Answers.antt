@@ -1,7 +1,7 @@
 use Rattle.std.proofs.Common.{◌≡◌, ◌<◌, ℕ, Bool, true, false, List, [], ◌∷◌, drop, length, Some, None, sym, ap, ◌∙◌, arith}
-use Rattle.syntax_tokens.specs.Words.{first_word}
-use Rattle.syntax_tokens.specs.declared.word.Sort.TheVariants as sort
-use Rattle.syntax_tokens.specs.declared.word.Word.{Word}
+use Rattle.syntax_grammar.specs.Words.{first_word}
+use Rattle.syntax_grammar.specs.declared.word.Sort.TheVariants as sort
+use Rattle.syntax_grammar.specs.declared.word.Word.{Word}
 use Rattle.syntax_grammar.specs.Next.{Part, taking}
 use Rattle.refusal_advice.specs.Parts.{behind, parts_of, Takes}
 use Rattle.refusal_advice.proofs.ClassWords.{end_untaken}

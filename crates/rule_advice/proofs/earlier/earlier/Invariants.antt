@@ -1,5 +1,5 @@
 use Rattle.std.proofs.Common.{◌≡◌, false, length, None}
-use Rattle.syntax_tokens.specs.declared.word.Sort.TheVariants as sort
+use Rattle.syntax_grammar.specs.declared.word.Sort.TheVariants as sort
 use Rattle.rule_advice.specs.Earlier.{earlier}
 use Rattle.rule_advice.proofs.earlier.earlier.Given as goal
 

@@ -1,6 +1,6 @@
 use Rattle.std.proofs.Common.{◌≡◌, ◌≤◌, length}
 use Rattle.session_values.specs.Limits.{max_input}
-use Rattle.syntax_tokens.specs.declared.word.Sort.TheVariants as sort
+use Rattle.syntax_grammar.specs.declared.word.Sort.TheVariants as sort
 use Rattle.rule_advice.specs.Surroundings.{nearby}
 use Rattle.rule_advice.proofs.nearby.find.Given as goal
 

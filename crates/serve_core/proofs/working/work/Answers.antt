@@ -1,6 +1,6 @@
 use Rattle.std.proofs.Common.{◌≡◌, List, ℕ, refl, rules, subst, sym}
 use Rattle.serve_words.specs.declared.command.Command.TheVariants.{Work}
-use Rattle.serve_made.specs.Session.{session_text}
+use Rattle.serve_words.specs.Session.{session_text}
 use Rattle.byte_ends.specs.Changes.{change}
 use Rattle.serve_core.specs.declared.outcome.Outcome.{Outcome}
 use Rattle.serve_core.specs.declared.writing.Later.TheVariants.{Summary}

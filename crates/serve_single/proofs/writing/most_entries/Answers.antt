@@ -3,7 +3,7 @@ use Rattle.std.proofs.lemmas.List.{take_all}
 use Rattle.std.specs.List.{AllByRecursion}
 use Rattle.session_journal.specs.Opening.{AreApart, Pair}
 use Rattle.shard_tables.specs.declared.part.Part.{Part}
-use Rattle.table_text.specs.Dumped.{HaveRoom}
+use Rattle.table_lines.specs.Dumped.{HaveRoom}
 use Rattle.serve_single.specs.Tables.{lists_in}
 use Rattle.serve_single.proofs.Dumping.{all_more, more_room}
 use Rattle.serve_single.proofs.writing.most_entries.Goals as goal

@@ -1,7 +1,7 @@
 use Rattle.std.proofs.Common.{take}
 use Rattle.std.specs.List.{AllByRecursion}
 use Rattle.session_journal.specs.Opening.{AreApart}
-use Rattle.table_text.specs.Dumped.{HaveRoom}
+use Rattle.table_lines.specs.Dumped.{HaveRoom}
 use Rattle.serve_single.specs.Tables.{lists_in}
 use Rattle.serve_single.proofs.writing.most_entries.Given as goal
 

@@ -3,7 +3,7 @@ use Rattle.shard_tables.specs.declared.part.Part.{Part}
 use Rattle.request_files.specs.TableDecl.{TableDecl}
 use Rattle.session_journal.specs.Script.{session_of}
 use Rattle.handler_machine.specs.Scripts.{meaning}
-use Rattle.table_text.specs.Dumped.{CanDumpAll, dump_text}
+use Rattle.table_lines.specs.Dumped.{CanDumpAll, dump_text}
 use Rattle.byte_ends.specs.Changes.{change}
 use Rattle.serve_single.specs.Serving.{asked_text, script_of_loaded}
 use Rattle.serve_single.specs.Tables.{lists_in}

@@ -1,5 +1,5 @@
 use Rattle.std.proofs.Common.{◌≡◌, ℕ, ◌+◌, ◌-◌, List, drop, slice_get, sym, ap, ◌∙◌, arith}
-use Rattle.opening_tables.specs.Opening.{Pair, container_of, entries_of}
+use Rattle.session_values.specs.Opening.{Pair, container_of, entries_of}
 use Rattle.shard_tables.specs.Shards.{ShardView}
 use Rattle.shard_tables.specs.Whole.{container_in}
 use Rattle.shard_tables.proofs.Whole.{entered, none_entered}

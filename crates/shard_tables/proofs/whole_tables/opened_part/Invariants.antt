@@ -1,5 +1,5 @@
 use Rattle.std.proofs.Common.{◌-◌, ◌≡◌, drop}
-use Rattle.opening_tables.specs.Opening.{container_of, entries_of}
+use Rattle.session_values.specs.Opening.{container_of, entries_of}
 use Rattle.shard_tables.specs.Whole.{container_in}
 use Rattle.shard_tables.proofs.whole_tables.opened_part.Given as goal
 

@@ -2,9 +2,9 @@ use Rattle.std.proofs.Common.{◌≡◌, ◌≤◌, ℕ, List, length, None, Som
 use Rattle.std.proofs.lemmas.Result.{on_ok_weaker}
 use Rattle.std.specs.Prelude.{◌≢◌, IfOk, IfErr, OnOk}
 use Rattle.session_values.specs.Names.{Begins}
-use Rattle.syntax_tokens.specs.declared.word.Word.{Word}
-use Rattle.syntax_tokens.specs.Words.{names_of}
-use Rattle.syntax_tokens.proofs.NamesGrow.{names_begin, begins_length, names_few, two_fronts}
+use Rattle.syntax_grammar.specs.declared.word.Word.{Word}
+use Rattle.syntax_grammar.specs.Words.{names_of}
+use Rattle.syntax_grammar.proofs.NamesGrow.{names_begin, begins_length, names_few, two_fronts}
 use Rattle.syntax_grammar.specs.declared.refusals.SyntaxRefusal.TheVariants.{NoMemory}
 use Rattle.syntax_grammar.specs.FirstFault.{IsFile}
 use Rattle.syntax_grammar.specs.Next.{fault, whole_file}

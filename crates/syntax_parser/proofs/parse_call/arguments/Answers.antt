@@ -1,6 +1,6 @@
 use Rattle.std.proofs.Common.{◌-◌, ◌+◌, ◌∷◌, [], ◌++◌, length, refl, sym, ap, ◌∙◌, arith, length-append}
 use Rattle.std.proofs.lemmas.Result.{err_from_is_err_and}
-use Rattle.syntax_tokens.specs.declared.word.Sort.TheVariants as sort
+use Rattle.syntax_grammar.specs.declared.word.Sort.TheVariants as sort
 use Rattle.syntax_grammar.specs.Next.{more_arguments}
 use Rattle.syntax_grammar.specs.Phrase.{word, no_atom, atoms_words}
 use Rattle.syntax_grammar.specs.Tree.{atoms_trees}

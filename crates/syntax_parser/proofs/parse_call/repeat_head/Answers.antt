@@ -1,5 +1,5 @@
 use Rattle.std.proofs.Common.{◌∷◌, [], ap, ◌∙◌}
-use Rattle.syntax_tokens.specs.declared.word.Sort.TheVariants as sort
+use Rattle.syntax_grammar.specs.declared.word.Sort.TheVariants as sort
 use Rattle.syntax_grammar.specs.Next.{mark, a_name}
 use Rattle.syntax_grammar.specs.Phrase.{word, a_turns, number_words}
 use Rattle.syntax_parser.proofs.Steps.{passed_then, passed_framed, refused_after, refused_framed}

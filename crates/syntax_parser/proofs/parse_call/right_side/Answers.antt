@@ -1,6 +1,6 @@
 use Rattle.std.proofs.Common.{◌∷◌, [], refl, sym, ap, ◌∙◌}
 use Rattle.std.proofs.lemmas.Result.{err_from_is_err_and}
-use Rattle.syntax_tokens.specs.declared.word.Sort.TheVariants as sort
+use Rattle.syntax_grammar.specs.declared.word.Sort.TheVariants as sort
 use Rattle.syntax_trees.specs.declared.stmt.Right.TheVariants as right
 use Rattle.syntax_grammar.specs.Next.{Opened, a_right, call_parts}
 use Rattle.syntax_grammar.specs.Phrase.{word, a_call, result_right, plain_right}

@@ -1,6 +1,6 @@
 use Rattle.syntax_parser.specs.Reads.{Passed}
 use Rattle.std.proofs.Common.{◌≡◌, ◌∷◌, [], refl, ap, ◌∙◌}
-use Rattle.syntax_tokens.specs.declared.word.Sort.TheVariants as sort
+use Rattle.syntax_grammar.specs.declared.word.Sort.TheVariants as sort
 use Rattle.syntax_grammar.specs.Next.{Inside, mark, a_name, a_block, first_param, handlers}
 use Rattle.syntax_grammar.specs.Phrase.{word, a_handler, name_words, params_words}
 use Rattle.syntax_parser.proofs.Steps.{took, passed_one, passed_then, passed_framed, refused_after, refused_framed}

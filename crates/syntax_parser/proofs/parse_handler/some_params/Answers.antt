@@ -1,5 +1,5 @@
 use Rattle.std.proofs.Common.{◌≡◌, ◌+◌, ◌∷◌, [], ◌++◌, length, refl, sym, ap, ◌∙◌, arith, length-append}
-use Rattle.syntax_tokens.specs.declared.word.Sort.TheVariants as sort
+use Rattle.syntax_grammar.specs.declared.word.Sort.TheVariants as sort
 use Rattle.syntax_grammar.specs.Next.{a_name, more_params}
 use Rattle.syntax_grammar.specs.Phrase.{word, no_more, name_words, more_params_words}
 use Rattle.syntax_grammar.specs.Tree.{param_of, more_params_trees}

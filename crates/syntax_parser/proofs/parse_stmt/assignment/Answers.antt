@@ -1,6 +1,6 @@
 use Rattle.syntax_parser.specs.Reads.{Passed}
 use Rattle.std.proofs.Common.{◌≡◌, ◌∷◌, [], refl, ap, ◌∙◌}
-use Rattle.syntax_tokens.specs.declared.word.Sort.TheVariants as sort
+use Rattle.syntax_grammar.specs.declared.word.Sort.TheVariants as sort
 use Rattle.syntax_trees.specs.declared.stmt.Stmt.TheVariants as stmt
 use Rattle.syntax_grammar.specs.Next.{Inside, mark, a_right, statements}
 use Rattle.syntax_grammar.specs.Phrase.{word, named, assign_stmt, right_words}

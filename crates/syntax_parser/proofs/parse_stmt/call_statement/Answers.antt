@@ -1,5 +1,5 @@
 use Rattle.std.proofs.Common.{◌∷◌, [], ◌++◌, refl, ap, ◌∙◌}
-use Rattle.syntax_tokens.specs.declared.word.Sort.TheVariants as sort
+use Rattle.syntax_grammar.specs.declared.word.Sort.TheVariants as sort
 use Rattle.syntax_trees.specs.declared.stmt.Stmt.TheVariants as stmt
 use Rattle.syntax_grammar.specs.Sorts.{operation}
 use Rattle.syntax_grammar.specs.Next.{Inside, mark, call_parts, statements}

@@ -1,6 +1,6 @@
 use Rattle.std.proofs.Common.{◌-◌, ◌+◌, ◌∷◌, [], ◌++◌, length, refl, sym, ap, ◌∙◌, arith, length-append}
 use Rattle.std.proofs.lemmas.Result.{err_from_is_err_and}
-use Rattle.syntax_tokens.specs.declared.word.Sort.TheVariants as sort
+use Rattle.syntax_grammar.specs.declared.word.Sort.TheVariants as sort
 use Rattle.syntax_grammar.specs.Next.{more_values}
 use Rattle.syntax_grammar.specs.Phrase.{word, no_value, expr_words, more_words}
 use Rattle.syntax_grammar.specs.Tree.{expr_tree, more_trees}

@@ -1,6 +1,6 @@
 use Rattle.syntax_parser.specs.Reads.{Passed}
 use Rattle.std.proofs.Common.{◌≡◌, ◌∷◌, [], refl, ap, ◌∙◌}
-use Rattle.syntax_tokens.specs.declared.word.Sort.TheVariants as sort
+use Rattle.syntax_grammar.specs.declared.word.Sort.TheVariants as sort
 use Rattle.syntax_grammar.specs.Sorts.{table_kind}
 use Rattle.syntax_grammar.specs.Next.{Anywhere, mark, tables, a_name}
 use Rattle.syntax_grammar.specs.Phrase.{word, a_table, name_words}

@@ -1,6 +1,6 @@
 use Rattle.std.proofs.Common.{◌≡◌, ◌∷◌, [], List, length, replicate, sym, ap, ◌∙◌, subst, arith, Err}
-use Rattle.opening_tables.specs.Opening.{Pair}
-use Rattle.opening_tables.proofs.KeptLemmas.{is_opening}
+use Rattle.session_values.specs.Opening.{Pair}
+use Rattle.session_values.proofs.KeptLemmas.{is_opening}
 use Rattle.handler_check.specs.Resolved.{shape_of}
 use Rattle.session_values.proofs.Named.{begins_then}
 use Rattle.text_lines.specs.Rows.{Row, rows, row_of}

@@ -1,6 +1,6 @@
 -- While messages are taken the end stays one of the lane.
 use Rattle.std.proofs.Common.{◌≤◌}
-use Rattle.reply_lane.specs.Ends.{IsEndOf}
+use Rattle.hall_writing.specs.Ends.{IsEndOf}
 use Rattle.tests_threads.specs.OneReply.{one_reply}
 use Rattle.tests_threads.proofs.lanes.drain.Given as goal
 

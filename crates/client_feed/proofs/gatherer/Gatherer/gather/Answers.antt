@@ -1,6 +1,6 @@
 -- Gathering begins, goes on and ends.
 use Rattle.std.proofs.Common.{◌≡◌, ℕ, suc, ◌-◌, ◌<◌, inl, inr, sym, subst, arith}
-use Rattle.client_sheet.specs.Arrivals.{IsDrawn}
+use Rattle.reply_sheet.specs.Arrivals.{IsDrawn}
 use Rattle.client_feed.specs.Ends.{GathererView}
 use Rattle.client_feed.proofs.Gathering.{Gathering, ended, no_none, one_more, some_left, starts}
 use Rattle.client_feed.proofs.gatherer.Gatherer.gather.Goals.{then-most-left, else-most-left, in-None, in-Some+then-wanted-eq0}

@@ -1,6 +1,6 @@
 -- What is left, and that what arrived is in order.
 use Rattle.std.proofs.Common.{subst}
-use Rattle.client_sheet.specs.Arrivals.{IsDrawn}
+use Rattle.reply_sheet.specs.Arrivals.{IsDrawn}
 use Rattle.client_feed.specs.Ends.{GathererView}
 use Rattle.client_feed.proofs.gatherer.Gatherer.left.Goals as goal
 

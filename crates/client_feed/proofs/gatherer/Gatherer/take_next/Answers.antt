@@ -1,7 +1,7 @@
 -- An arrival that is taken keeps the rule.
 use Rattle.std.proofs.Common.{◌≡◌, ◌+◌, ◌∷◌, [], length, length-append, sum, ap, sym, ◌∙◌, subst, arith}
 use Rattle.client_feed.specs.declared.rule.Hand.{Hand}
-use Rattle.client_sheet.specs.Arrivals.{IsDrawn}
+use Rattle.reply_sheet.specs.Arrivals.{IsDrawn}
 use Rattle.client_feed.specs.Ends.{GathererView}
 use Rattle.client_feed.specs.Passes.{knows}
 use Rattle.client_feed.proofs.Feeding.{takes, learns}

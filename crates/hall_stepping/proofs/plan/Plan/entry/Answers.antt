@@ -1,6 +1,6 @@
 use Rattle.std.proofs.Common.{List, refl, sym, subst}
 use Rattle.session_values.specs.declared.kind.TableKind.{TableKind}
-use Rattle.opening_tables.specs.Opening.{HaveNil, Pair}
+use Rattle.session_values.specs.Opening.{HaveNil, Pair}
 use Rattle.hall_stepping.specs.Plans.{MayOpen}
 use Rattle.hall_stepping.proofs.Openings.{may_within, nil_opened}
 use Rattle.hall_stepping.proofs.plan.Plan.entry.Goals as goal

@@ -1,6 +1,6 @@
 use Rattle.std.proofs.Common.{◌≡◌, rules, List, sym, ◌∙◌, subst}
 use Rattle.session_values.specs.declared.kind.TableKind.{TableKind}
-use Rattle.opening_tables.specs.Opening.{HaveNil, Pair}
+use Rattle.session_values.specs.Opening.{HaveNil, Pair}
 use Rattle.hall_stepping.proofs.Openings.{nil_none}
 use Rattle.hall_stepping.proofs.plan.Plan.with_room.Goals as goal
 

@@ -1,7 +1,7 @@
 -- The ticket's own reply is kept, and then it goes on as without one.
 use Rattle.std.proofs.Common.{◌≡◌, ◌+◌, ◌<◌, length, arith, subst}
 use Rattle.std.proofs.lemmas.Option.{slice_get_within}
-use Rattle.reply_lane.specs.Ends.{state_of}
+use Rattle.hall_writing.specs.Ends.{state_of}
 use Rattle.hall_writing.specs.Sheets.{IsKept, progress}
 use Rattle.hall_writing.proofs.Progress.{goes_from}
 use Rattle.hall_writing.proofs.Sheets.{keeps_own, keeps_still, next_kept}

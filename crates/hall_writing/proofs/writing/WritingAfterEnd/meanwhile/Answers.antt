@@ -2,7 +2,7 @@
 use Rattle.std.proofs.Common.{ℕ, List, refl, sym, ◌∙◌, subst, true≢false}
 use Rattle.std.proofs.lemmas.Bool.{not-false}
 use Rattle.session_values.specs.declared.reply.Reply.{Reply}
-use Rattle.reply_lane.specs.Ends.{state_of}
+use Rattle.hall_writing.specs.Ends.{state_of}
 use Rattle.hall_writing.specs.Sheets.{IsKept, Keeps}
 use Rattle.hall_writing.proofs.Progress.{goes_from}
 use Rattle.hall_writing.proofs.Sheets.{keeps_behind, kept_behind, kept_printable, stays, stops_behind, writes_next}

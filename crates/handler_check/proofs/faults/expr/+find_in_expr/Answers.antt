@@ -1,7 +1,7 @@
 use Rattle.std.proofs.Common.{◌∙◌, refl, sym, ap}
 use Rattle.std.proofs.lemmas.Result.{err_from_is_err_and}
 use Rattle.syntax_trees.specs.declared.expr.Expr.TheVariants as expr
-use Rattle.check_rules.specs.Scan.{of_variables}
+use Rattle.handler_check.specs.Scan.{of_variables}
 use Rattle.handler_check.proofs.Scans.{goes_on, stops, exits}
 use Rattle.handler_check.proofs.Walks.{binary_both}
 use Rattle.handler_check.proofs.faults.expr.+find_in_expr.Goals as goal

@@ -1,7 +1,7 @@
 use Rattle.std.proofs.Common.{◌∙◌}
 use Rattle.std.proofs.lemmas.Result.{err_from_is_err_and}
 use Rattle.syntax_trees.specs.Marks.{atom_marks}
-use Rattle.check_rules.specs.Scan.{of_variables}
+use Rattle.handler_check.specs.Scan.{of_variables}
 use Rattle.handler_check.proofs.Scans.{atom_declares, stops, exits, later}
 use Rattle.handler_check.proofs.Walks.{silent_turn}
 use Rattle.handler_check.proofs.faults.expr.find_in_arguments.Goals as goal

@@ -2,7 +2,7 @@ use Rattle.std.proofs.Common.{◌≡◌, ℕ, List, drop}
 use Rattle.std.specs.List.{flat_map}
 use Rattle.syntax_trees.specs.declared.file.TableDecl.{TableDecl}
 use Rattle.syntax_trees.specs.Marks.{atom_marks}
-use Rattle.check_rules.specs.Scan.{of_variables, scan}
+use Rattle.handler_check.specs.Scan.{of_variables, scan}
 use Rattle.handler_check.proofs.faults.expr.find_in_arguments.Given as goal
 
 abbrev pub invariant-loop-atom : goal.invariant-loop-atom

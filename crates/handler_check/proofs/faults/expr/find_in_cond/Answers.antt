@@ -1,6 +1,6 @@
 use Rattle.std.proofs.lemmas.Result.{err_from_is_err_and}
 use Rattle.syntax_trees.specs.Marks.{expr_marks}
-use Rattle.check_rules.specs.Scan.{of_variables}
+use Rattle.handler_check.specs.Scan.{of_variables}
 use Rattle.handler_check.proofs.Scans.{expr_declares, goes_on, stops, exits}
 use Rattle.handler_check.proofs.Walks.{silent_both}
 use Rattle.handler_check.proofs.faults.expr.find_in_cond.Goals as goal

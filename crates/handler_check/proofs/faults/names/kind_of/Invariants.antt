@@ -1,5 +1,5 @@
 use Rattle.std.proofs.Common.{◌≡◌, drop}
-use Rattle.check_rules.specs.Rules.{kind_of}
+use Rattle.handler_check.specs.Rules.{kind_of}
 use Rattle.handler_check.proofs.faults.names.kind_of.Given as goal
 
 abbrev pub invariant-loop-table : goal.invariant-loop-table

@@ -1,6 +1,6 @@
 use Rattle.std.proofs.Common.{◌≡◌, ◌+◌, ◌++◌, ℕ, List, drop}
 use Rattle.syntax_trees.specs.Marks.{declared, marks}
-use Rattle.check_rules.specs.Scan.{of_variables, scan}
+use Rattle.handler_check.specs.Scan.{of_variables, scan}
 use Rattle.syntax_trees.specs.Source.{block_source}
 use Rattle.syntax_trees.proofs.Sizes.{stmt_size, block_size}
 use Rattle.handler_check.proofs.faults.stmt.+statement.Given as goal

@@ -5,7 +5,7 @@ use Rattle.session_values.specs.Dialogue.{Dialogue}
 use Rattle.syntax_trees.specs.declared.file.File.{File}
 use Rattle.check_meaning.specs.Dialogue.{env_of, next}
 use Rattle.handler_check.specs.Resolved.{code_at, params_at, shape_of}
-use Rattle.machine_walk.specs.Asking.{Breaks, Runs}
+use Rattle.handler_machine.specs.Asking.{Breaks, Runs}
 use Rattle.request_files.specs.Servable.{IsRequestOf}
 use Rattle.request_files.specs.Session.{request_at}
 use Rattle.handler_machine.specs.Scripts.{ScriptsView, meaning}

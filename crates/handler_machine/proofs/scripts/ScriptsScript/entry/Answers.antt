@@ -8,7 +8,7 @@ use Rattle.handler_check.specs.Checked.{HandlerWithin}
 use Rattle.handler_check.proofs.Codes.{all_within}
 use Rattle.request_files.specs.Servable.{IsRequestOf}
 use Rattle.request_files.specs.Session.{request_at}
-use Rattle.machine_walk.proofs.Answering.{same_values}
+use Rattle.handler_machine.proofs.Answering.{same_values}
 use Rattle.declaration_insertion.specs.Promises.{symbol_at}
 use Rattle.declaration_insertion.specs.Program.{declared_at}
 use Rattle.declaration_insertion.proofs.Values.{instantiated}

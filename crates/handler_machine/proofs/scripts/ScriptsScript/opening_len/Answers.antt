@@ -1,6 +1,6 @@
 use Rattle.std.proofs.Common.{◌≡◌, ◌<◌, length, arith, sym, subst}
-use Rattle.opening_tables.specs.Opening.{entries_of}
-use Rattle.opening_tables.proofs.Filling.{entries_length}
+use Rattle.session_values.specs.Opening.{entries_of}
+use Rattle.session_values.proofs.Filling.{entries_length}
 use Rattle.handler_check.specs.Resolved.{shape_of}
 use Rattle.handler_machine.specs.Scripts.{ScriptsView, meaning}
 use Rattle.handler_machine.proofs.scripts.ScriptsScript.opening_len.Goals as goal

@@ -25,7 +25,7 @@ use denote.Triple.Spec.{triple_of}
 use denote.Triple.Table.{entered}
 use denote.Triple.Walked.{says, Stays, stay_dropped, walk_of, ends_at, walk_Meets, Goes-dropped}
 use Rattle.session_values.specs.contracts.names.Names as Names
-use Rattle.opening_tables.specs.contracts.opening.Opening as Opening
+use Rattle.session_values.specs.contracts.opening.Opening as Opening
 use Rattle.live_session.specs.contracts.history.History as History
 use Rattle.live_session.specs.contracts.history.History.opened as F
 use Rattle.live_session.specs.contracts.history.History.opened.Key.{name as #self}

@@ -1,9 +1,9 @@
 use Rattle.std.proofs.Common.{◌≡◌, List, rules, refl, sym, ap, ◌∙◌, subst, arith}
 use Rattle.std.specs.List.{AllByRecursion}
-use Rattle.opening_tables.specs.Opening.{AreApart}
+use Rattle.session_values.specs.Opening.{AreApart}
 use Rattle.shard_tables.specs.declared.part.Part.{Part}
 use Rattle.handler_check.specs.TableDecl.{TableDecl}
-use Rattle.table_text.specs.Dumped.{CanDumpAll, HaveRoom, dump_text}
+use Rattle.table_lines.specs.Dumped.{CanDumpAll, HaveRoom, dump_text}
 use Rattle.text_lines.specs.Text.{Text}
 use Rattle.byte_ends.specs.Changes.{WroteAll, WrotePrefix, change}
 use Rattle.live_session.specs.Held.{lists_in}

@@ -1,5 +1,5 @@
 use Rattle.std.proofs.Common.{List, length, sym, ap, ◌∙◌}
-use Rattle.opening_tables.specs.Opening.{Pair}
+use Rattle.session_values.specs.Opening.{Pair}
 use Rattle.live_session.proofs.Whole.{listed_at}
 use Rattle.live_session.proofs.tables.LiveTablesTellsEntries.entry_count.Goals as goal
 

@@ -7,12 +7,12 @@ use Rattle.session_values.specs.declared.value.Value.{Value}
 use Rattle.session_values.specs.declared.value.Value.TheVariants.{Nil}
 use Rattle.session_values.specs.Tables.{Bindings}
 use Rattle.session_values.specs.Values.{value_cmp}
-use Rattle.place_index.specs.Slots.{IndexView, IsIndexOf, IsSizedFor}
-use Rattle.place_index.proofs.Lists.{index_set, index_pushed}
-use Rattle.place_index.specs.Keys.{is_under, AreDifferent}
+use Rattle.shard_tables.specs.Slots.{IndexView, IsIndexOf, IsSizedFor}
+use Rattle.shard_tables.proofs.Lists.{index_set, index_pushed}
+use Rattle.shard_tables.specs.Keys.{is_under, AreDifferent}
 use Rattle.shard_tables.specs.Shards.{MapView, ShardView, bindings}
-use Rattle.place_index.proofs.Places.{place_found, place_within, no_place}
-use Rattle.place_index.proofs.Different.{different_set, different_push}
+use Rattle.shard_tables.proofs.Places.{place_found, place_within, no_place}
+use Rattle.shard_tables.proofs.Different.{different_set, different_push}
 use Rattle.shard_tables.proofs.MapLemmas.{key_of, map_of, get_found, get_missed, len_pairs, same_key, set_pair, push_pair}
 use Rattle.shard_tables.proofs.map_shard.MapShard.bind.Goals as goal
 use Rattle.session_values.proofs.Equal.{same_value}

@@ -1,6 +1,6 @@
 use Rattle.std.proofs.Common.{sym, subst}
-use Rattle.opening_tables.specs.Opening.{AreApart}
-use Rattle.place_index.specs.Keys.{AreDifferent}
+use Rattle.session_values.specs.Opening.{AreApart}
+use Rattle.shard_tables.specs.Keys.{AreDifferent}
 use Rattle.shard_tables.specs.Shards.{MapView, SetView}
 use Rattle.shard_tables.specs.declared.part.Part.{Part}
 use Rattle.shard_tables.specs.Either.{entries_in}

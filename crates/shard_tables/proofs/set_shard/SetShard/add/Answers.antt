@@ -4,12 +4,12 @@ use Rattle.std.specs.FinSet as set
 use Rattle.session_values.specs.declared.value.Value.{Value}
 use Rattle.session_values.specs.Tables.{Members}
 use Rattle.session_values.specs.Values.{value_cmp}
-use Rattle.place_index.specs.Slots.{IsIndexOf, IsSizedFor}
-use Rattle.place_index.proofs.Lists.{index_pushed}
-use Rattle.place_index.specs.Keys.{is_under, AreDifferent}
+use Rattle.shard_tables.specs.Slots.{IsIndexOf, IsSizedFor}
+use Rattle.shard_tables.proofs.Lists.{index_pushed}
+use Rattle.shard_tables.specs.Keys.{is_under, AreDifferent}
 use Rattle.shard_tables.specs.Shards.{SetView, ShardView, members}
-use Rattle.place_index.proofs.Places.{is_some-position, no_place}
-use Rattle.place_index.proofs.Different.{different_push}
+use Rattle.shard_tables.proofs.Places.{is_some-position, no_place}
+use Rattle.shard_tables.proofs.Different.{different_push}
 use Rattle.shard_tables.proofs.SetLemmas.{itself, set_of, has_under, has_missed, len_keys, same_in, push_key}
 use Rattle.shard_tables.proofs.set_shard.SetShard.add.Goals as goal
 

@@ -6,12 +6,12 @@ use Rattle.session_values.specs.declared.value.Value.{Value}
 use Rattle.session_values.specs.declared.value.Value.TheVariants.{Nil}
 use Rattle.session_values.specs.Tables.{Members}
 use Rattle.session_values.specs.Values.{value_cmp}
-use Rattle.place_index.specs.Slots.{IsIndexOf, IsSizedFor}
-use Rattle.place_index.proofs.Lists.{keys_out}
-use Rattle.place_index.specs.Keys.{is_under, AreDifferent}
+use Rattle.shard_tables.specs.Slots.{IsIndexOf, IsSizedFor}
+use Rattle.shard_tables.proofs.Lists.{keys_out}
+use Rattle.shard_tables.specs.Keys.{is_under, AreDifferent}
 use Rattle.shard_tables.specs.Shards.{SetView, ShardView, members}
-use Rattle.place_index.proofs.Places.{place_within, no_place}
-use Rattle.place_index.proofs.Different.{taken_out}
+use Rattle.shard_tables.proofs.Places.{place_within, no_place}
+use Rattle.shard_tables.proofs.Different.{taken_out}
 use Rattle.shard_tables.proofs.SetLemmas.{itself, set_of, out_key, none_out}
 use Rattle.shard_tables.proofs.set_shard.SetShard.remove.Goals as goal
 use Rattle.session_values.proofs.Equal.{same_value}

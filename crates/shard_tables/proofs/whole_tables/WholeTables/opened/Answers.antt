@@ -2,7 +2,7 @@ use Rattle.std.proofs.Common.{◌<◌, ◌≤◌, ◌++◌, ◌∷◌, [], List,
 use Rattle.std.proofs.lemmas.List.{take_all}
 use Rattle.session_values.specs.Tables.{Container, Tables}
 use Rattle.session_values.specs.declared.kind.TableKind.{TableKind}
-use Rattle.opening_tables.specs.Opening.{tables_of}
+use Rattle.session_values.specs.Opening.{tables_of}
 use Rattle.shard_tables.specs.Whole.{container_in}
 use Rattle.shard_tables.proofs.Whole.{filled_more}
 use Rattle.shard_tables.proofs.whole_tables.WholeTables.opened.Goals as goal

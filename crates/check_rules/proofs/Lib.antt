@@ -1,4 +1,0 @@
-pub mod Files
-pub mod Finds
-pub mod Firsts
-pub mod Texts

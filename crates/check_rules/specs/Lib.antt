@@ -1,3 +1,0 @@
-pub mod FirstFault
-pub mod Rules
-pub mod Scan

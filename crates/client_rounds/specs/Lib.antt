@@ -1,5 +1,0 @@
-pub mod Rounds
-pub mod Picking
-pub mod Reopening
-pub mod Behind
-pub mod Workloads

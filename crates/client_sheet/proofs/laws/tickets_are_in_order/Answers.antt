@@ -1,6 +1,0 @@
--- The tickets of requests that arrived in order.
-use Rattle.client_sheet.proofs.TicketLemmas.{many, each}
-use Rattle.client_sheet.proofs.laws.tickets_are_in_order.Goals as goal
-
-pub returns : goal.returns
-returns c = record { many = many; each = each }

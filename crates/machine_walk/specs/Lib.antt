@@ -1,5 +1,0 @@
-pub mod Asking
-pub mod Leading
-pub mod Numbers
-pub mod Rounds
-pub mod Runnable

@@ -1,4 +1,0 @@
-pub mod Filling
-pub mod KeyLemmas
-pub mod KeptLemmas
-pub mod Openings

@@ -1,6 +1,0 @@
--- A message that is put in keeps the rule.
-use Rattle.reply_lane.proofs.Carrying.{puts_in, learns}
-use Rattle.reply_lane.proofs.lane.Lane.offer.Goals as goal
-
-pub push_as-requires-clause-rule : goal.push_as-requires-clause-rule
-push_as-requires-clause-rule g c = (puts_in _ c.args.self.now.room _ _ _ c.requires.end.1 c.requires.spoken, learns _ _)

@@ -1,6 +1,0 @@
--- The list of the rule is the one that is known.
-use Rattle.reply_lane.proofs.Carrying.{spoken_known}
-use Rattle.reply_lane.proofs.laws.all_spoken.Goals as goal
-
-pub returns : goal.returns
-returns c = spoken_known

@@ -1,5 +1,0 @@
--- The order of the rule, at a moment.
-use Rattle.reply_lane.proofs.laws.alone_in_order.Goals as goal
-
-pub returns : goal.returns
-returns c = λ v items h a. h.rule.order h.place v h.own a

@@ -1,7 +1,0 @@
-use Rattle.std.proofs.Common.{◌≡◌, ◌^◌, ◌-◌, ◌≤◌, min, drop}
-use Rattle.syntax_tokens.specs.Words.{number_from}
-use Rattle.syntax_tokens.proofs.words.number.Given as goal
-
-abbrev pub invariant-loop-digit : goal.invariant-loop-digit
-invariant-loop-digit l =
-    (l.number ≤ 2 ^ 64 - 1) × (min (number_from l.number (drop l.digit-index l.digit-items)) (2 ^ 64 - 1) ≡ min (number_from 0 l.text) (2 ^ 64 - 1))

@@ -1,9 +1,0 @@
-pub mod Listing
-pub mod WrittenOrder
-pub mod ValuesBack
-pub mod WordsBack
-pub mod Apart
-pub mod PartText
-pub mod Parts
-pub mod Rising
-pub mod Waiting

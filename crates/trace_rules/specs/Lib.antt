@@ -1,4 +1,0 @@
-pub mod Accepted
-pub mod Bare
-pub mod Traces
-pub mod Verdicts
