@@ -4,8 +4,8 @@ ghost use Rattle.std.specs.Prelude.{◌≡◌, ◌<◌, ◌+◌, cond};
 ghost use Rattle.client_feed.specs.Ends.{all_sent};
 
 use crate::rule::{Hand, InOrder, Sends};
-use reply_sheet::Arrival;
 use crossbeam_channel::{Pass, RuledSender};
+use reply_sheet::Arrival;
 use session_values::Listed;
 use std::marker::Model;
 use std::sync::Wait;

@@ -6,8 +6,8 @@ ghost use Rattle.client_feed.specs.Ends.{HasGathered};
 
 use crate::arrivals::Arrivals;
 use crate::rule::{Hand, InOrder, Takes};
-use reply_sheet::Arrival;
 use crossbeam_channel::{Pass, RuledReceiver};
+use reply_sheet::Arrival;
 use std::marker::Model;
 use std::sync::Wait;
 

@@ -13,12 +13,12 @@ ghost use Rattle.client_feed.specs.Picking.{AreArrivals};
 ghost use Rattle.client_feed.specs.Behind.{IsServedBehind, IsServedOver};
 ghost use Rattle.client_feed.specs.Reopening.{CanReopen};
 
+use crate::Arrival;
 use crate::continued::Continued;
 use crate::picking::requests_of;
 use crate::plan::Plan;
 use crate::reopening::look_at_tables;
 use crate::resources::Resources;
-use crate::Arrival;
 use hall_serving::{Serves, Tickets, open_session, reopen_session, serve_session};
 use handler_machine::Scripts;
 use request_files::Requests;

@@ -11,9 +11,8 @@ ghost use Rattle.client_feed.specs.Workloads.{opening_once, servable_once};
 use declaration_insertion::Program;
 use hall_serving::Script;
 use handler_machine::Scripts;
-use session_values::Opening;
 use request_files::ClientRequests;
-use session_values::{NoMemory, TableKind};
+use session_values::{NoMemory, Opening, TableKind};
 use std::alloc::Global;
 
 /// A program, the entries with which its tables open, which leave room for all keys that requests

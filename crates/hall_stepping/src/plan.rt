@@ -9,9 +9,10 @@ ghost use Rattle.hall_stepping.specs.Plans.{AddsCall, AddsEntry, AddsSymbol, Add
 
 use crate::planned::Planned;
 use crate::row::Row;
-use session_values::{MAX_TABLE_LINES, Opening, laws};
 use session_journal::ListScript;
-use session_values::{MAX_SYMBOLS, NoMemory, Op, Reply, TableKind, Value};
+use session_values::{
+    MAX_SYMBOLS, MAX_TABLE_LINES, NoMemory, Op, Opening, Reply, TableKind, Value, laws,
+};
 use std::alloc::Global;
 use std::marker::Model;
 use symbolic_ops::Symbol;

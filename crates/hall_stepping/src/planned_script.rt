@@ -4,9 +4,8 @@ ghost use Rattle.std.specs.Prelude.{◌≡◌};
 ghost use Rattle.session_values.specs.Opening.{HaveNil};
 ghost use Rattle.hall_stepping.specs.Script.{plan_of};
 
-use session_values::{Opening, laws};
 use session_journal::{ListScript, Script, Site};
-use session_values::Value;
+use session_values::{Opening, Value, laws};
 use std::marker::Model;
 use symbolic_ops::{Foresight, Symbol};
 

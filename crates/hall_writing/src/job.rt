@@ -5,8 +5,8 @@ ghost use Rattle.hall_writing.specs.Ends.{state_of};
 ghost use Rattle.hall_writing.specs.Jobs.{HasOffered, HasServed, IsJobOf, replies_of};
 
 use crate::offering::{MOST_OFFERS, Offering};
-use hall_serving::{Crew, serve_tickets};
 use crate::{End, Lane};
+use hall_serving::{Crew, serve_tickets};
 use session_hall::{Caller, Holding};
 use session_journal::{Scratch, Serves, Tickets};
 use std::sync::Wait;

@@ -9,12 +9,12 @@ ghost use Rattle.hall_writing.specs.Jobs.{HasKept, HasServed, HaveServed, IsFirs
 ghost use Rattle.hall_writing.specs.Jobs.{replies_of};
 ghost use Rattle.hall_writing.specs.Sheets.{GoesOn, progress};
 
+use crate::Lane;
 use crate::first::First;
 use crate::job::{Job, serve_and_offer};
 use crate::writing::Writing;
 use byte_ends::Sink;
 use hall_serving::{Crew, serve_tickets};
-use crate::Lane;
 use session_journal::Serves;
 use session_values::Names;
 use std::sync::Wait;

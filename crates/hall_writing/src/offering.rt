@@ -3,8 +3,8 @@
 ghost use Rattle.hall_writing.specs.Ends.{IsEndOf, state_of};
 ghost use Rattle.hall_writing.specs.Lanes.{IsSpoken, Offered};
 
-use hall_serving::AfterEnd;
 use crate::{End, Lane, Spoken};
+use hall_serving::AfterEnd;
 use session_hall::{Hall, Holding};
 use session_journal::Tickets;
 use session_values::Reply;

@@ -4,8 +4,8 @@ ghost use Rattle.std.specs.Prelude.{◌≡◌, ◌<◌, ◌≤◌, [], ◌∷◌
 ghost use Rattle.std.specs.List.{AllByRecursion};
 ghost use Rattle.hall_writing.specs.Jobs.{IsUnkept, callers_of, ends_of};
 
-use crate::job::Job;
 use crate::End;
+use crate::job::Job;
 use session_hall::{Caller, Holding};
 use session_journal::{Scratch, Tickets};
 

@@ -3,12 +3,12 @@
 ghost use Rattle.std.specs.Prelude.{◌≡◌, ◌≤◌, IfOk, length};
 ghost use Rattle.session_values.specs.Limits.{max_tables};
 
+use crate::Lane;
 use crate::job::Job;
 use crate::room::begin_jobs;
 use crate::sheet::Sheet;
 use byte_ends::WriteBuffer;
 use hall_serving::make_scratches;
-use crate::Lane;
 use reply_sheet::Pending;
 use session_hall::{Caller, Hall, Sizes};
 use session_journal::{Script, Tickets};

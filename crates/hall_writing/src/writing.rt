@@ -3,9 +3,9 @@
 use crate::after::take_all;
 use crate::known::keep_known;
 use crate::sheet::Sheet;
+use crate::{End, Lane};
 use byte_ends::Sink;
 use hall_serving::AfterEnd;
-use crate::{End, Lane};
 use reply_sheet::write_ready;
 use session_hall::{Hall, Holding};
 use session_journal::Tickets;

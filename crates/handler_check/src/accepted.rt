@@ -10,10 +10,10 @@ ghost use Rattle.syntax_trees.specs.Bounds.{KeepsBounds};
 ghost use Rattle.handler_check.specs.declared.refusal.CheckRefusal.TheVariants as refusal;
 ghost use Rattle.syntax_trees.specs.Rising.{PlacesRise};
 
+use crate::CheckRefusal;
 use crate::looking::look;
 use crate::resolution::resolve_handler;
 use check_meaning::CheckedHandler;
-use crate::CheckRefusal;
 use session_values::{Listed, NoMemory};
 use std::alloc::Global;
 use std::marker::Model;

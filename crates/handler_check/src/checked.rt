@@ -13,11 +13,11 @@ ghost use Rattle.syntax_trees.specs.Bounds.{KeepsBounds};
 ghost use Rattle.handler_check.specs.declared.refusal.CheckRefusal.TheVariants as refusal;
 ghost use Rattle.syntax_trees.specs.Rising.{PlacesRise};
 
+use crate::CheckRefusal;
 use crate::bounds::{Counted, HandlerBounds, count_calls};
 use crate::excess::bound_all;
 use crate::resolution::resolve;
 use check_meaning::CheckedHandler;
-use crate::CheckRefusal;
 use session_values::{Listed, NoMemory, TableKind};
 use std::alloc::Global;
 use std::marker::Model;

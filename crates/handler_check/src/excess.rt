@@ -7,11 +7,11 @@ ghost use Rattle.handler_check.specs.Checked.{AreBoundsOf};
 ghost use Rattle.handler_check.specs.Excess as spec;
 ghost use Rattle.handler_check.specs.Scan.{Found};
 
+use crate::CheckRefusal;
 use crate::bounds::{Counted, HandlerBounds, count_calls};
 use crate::resolution::listed;
 use crate::work::count_work;
 use check_meaning::CheckedHandler;
-use crate::CheckRefusal;
 use session_values::{Listed, MAX_CALLS, MAX_WORK};
 use std::alloc::Global;
 

@@ -14,8 +14,8 @@ ghost use Rattle.handler_check.specs.Scan.{Found, of_tables, of_variables, scan}
 pub(crate) use self::names::declare;
 use self::names::declare_variable;
 use self::stmt::find_in_block;
-use crate::resolution::listed;
 use crate::CheckRefusal;
+use crate::resolution::listed;
 use session_values::{Listed, MAX_TABLES, NoMemory};
 use std::alloc::Global;
 use syntax_trees::{Handler, Param, TableDecl};

@@ -15,10 +15,10 @@ ghost use Rattle.syntax_trees.specs.Source.{Source, block_source, stmt_source};
 
 pub(crate) use self::expr::listed;
 use self::expr::{number_in, resolve_call, resolve_cond, resolve_expr, resolve_values};
-use crate::faults::{declare, find_in_handler, find_in_tables};
-use check_meaning::{CheckedBlock, CheckedHandler, CheckedStmt};
 use crate::CheckRefusal;
 use crate::check_rules_laws::walk_finds_first;
+use crate::faults::{declare, find_in_handler, find_in_tables};
+use check_meaning::{CheckedBlock, CheckedHandler, CheckedStmt};
 use session_values::{Listed, MAX_HANDLERS, NoMemory};
 use std::alloc::Global;
 use syntax_trees::{Call, File, Handler, Right, Stmt, TableDecl};

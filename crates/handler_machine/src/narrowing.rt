@@ -13,9 +13,9 @@ ghost use Rattle.check_meaning.specs.Code.{points};
 ghost use Rattle.handler_machine.specs.Serving.{HasListOf, IsAwaiting, IsServing, IsSettled, MayTell, once_told};
 ghost use Rattle.handler_machine.specs.Serving.{course_of, list_with};
 
+use crate::Guide;
 use crate::telling::TellsLate;
 use declaration_insertion::Program;
-use crate::Guide;
 use session_journal::{Desk, Site};
 use session_values::{NoMemory, Op, Value};
 use std::sync::Wait;

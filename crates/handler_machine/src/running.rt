@@ -5,8 +5,8 @@ ghost use Rattle.check_meaning.specs.Dialogue.{env_of, next};
 ghost use Rattle.handler_check.specs.Resolved.{code_at, params_at, shape_of};
 ghost use Rattle.handler_machine.specs.Asking.{Breaks, Runs, Stays};
 
-use handler_check::Checked;
 use crate::{Answerer, run_body};
+use handler_check::Checked;
 use session_journal::Scratch;
 use session_values::{NoMemory, Reply, Value};
 

@@ -13,9 +13,9 @@ ghost use Rattle.handler_machine.specs.Serving.{DeclaresHandler, Gives, IsSettle
 
 use crate::narrowing::Narrowing;
 use crate::telling::TellsLate;
+use crate::{set_up, walk_body};
 use check_meaning::CheckedBlock;
 use declaration_insertion::Program;
-use crate::{set_up, walk_body};
 use session_journal::{Desk, Scratch, Script, Site};
 use session_values::{NoMemory, Value};
 use std::sync::Wait;

@@ -4,8 +4,7 @@ ghost use Rattle.std.specs.Prelude.{◌≡◌, ℕ, suc, List, [], ◌∷◌, �
 ghost use Rattle.session_values.specs.declared.reply.Reply.{Reply as Given};
 ghost use Rattle.session_values.specs.Opening.{Pair};
 
-use session_values::Opening;
-use session_values::{Names, Reply};
+use session_values::{Names, Opening, Reply};
 use std::marker::Model;
 
 /// What a session was opened with, how many acts the program did itself, and the lines that were

@@ -23,11 +23,10 @@ use crate::session::LiveSession;
 use crate::tables::LiveTables;
 use driven_tickets::OpenTickets;
 use handler_check::Checked;
-use session_values::Opening;
 use serve_faults::Fault;
 use serve_reading::{LoadError, Loaded, load_session};
 use session_journal::Scratch;
-use session_values::{MAX_HANDLERS, MAX_INPUT, MAX_VARIABLES, NoMemory, TableKind};
+use session_values::{MAX_HANDLERS, MAX_INPUT, MAX_VARIABLES, NoMemory, Opening, TableKind};
 use shard_tables::Part;
 use std::alloc::Global;
 

@@ -6,10 +6,10 @@ ghost use Rattle.range_tables.specs.Faults as spec;
 ghost use Rattle.range_tables.specs.Ready.{IsReadyStep};
 ghost use Rattle.range_tables.specs.Steps as steps;
 
+use crate::RangeSymbol;
 use crate::refusal::RangeRefusal;
 use crate::step::{Flaw, Step, step_of};
 use crate::word::Word;
-use crate::RangeSymbol;
 use session_values::Listed;
 use std::alloc::Global;
 

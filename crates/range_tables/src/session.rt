@@ -5,11 +5,11 @@ ghost use Rattle.session_values.specs.Limits.{max_input};
 ghost use Rattle.range_tables.specs.Faults as spec;
 ghost use Rattle.range_tables.specs.Session.{IsRangesText};
 
+use crate::RangeTable;
 use crate::judging::MAX_LINES;
 use crate::naming::names_of;
 use crate::refusal::RangeRefusal;
 use crate::taking::Session;
-use crate::RangeTable;
 use session_values::Names;
 use std::alloc::Global;
 use text_lines::Lines;

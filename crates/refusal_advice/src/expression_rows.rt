@@ -6,8 +6,7 @@ ghost use Rattle.refusal_advice.specs.Parts.{IsRow};
 
 use crate::part::Part;
 use crate::word_rows::ALONE;
-use syntax_grammar::operation;
-use syntax_grammar::Sort;
+use syntax_grammar::{Sort, operation};
 
 const MINUS: [Part; 1] = [Part::AfterMinus];
 

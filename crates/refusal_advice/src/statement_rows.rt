@@ -7,8 +7,7 @@ ghost use Rattle.refusal_advice.specs.Parts.{IsRow};
 
 use crate::part::Part;
 use crate::word_rows::ALONE;
-use syntax_grammar::{Start, comparison, statement_start, table_kind};
-use syntax_grammar::Sort;
+use syntax_grammar::{Sort, Start, comparison, statement_start, table_kind};
 
 const TABLE: [Part; 3] = [Part::Tables, Part::Semicolon, Part::Name];
 

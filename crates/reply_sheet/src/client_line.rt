@@ -10,9 +10,9 @@ ghost use Rattle.reply_sheet.specs.Arrivals.{max_clients};
 ghost use Rattle.reply_sheet.specs.ClientText.{client_line};
 ghost use Rattle.reply_sheet.specs.Moved.{HasMoved};
 
+use crate::push_line;
 use byte_ends::{Sink, WriteBuffer, write_all};
 use itoa::Buffer;
-use crate::push_line;
 use session_values::{Names, Reply};
 
 /// The longest line: a client of 2 digits, a space, and a reply's line.

@@ -4,13 +4,13 @@ ghost use Rattle.std.specs.Prelude.{◌≡◌, ◌≢◌, ◌≤◌, length};
 ghost use Rattle.serve_faults.specs.Message as spec;
 
 use crate::status::{Fault, Status};
+use byte_ends::{ShortText, push_number, short_text};
 use handler_check::CheckRefusal;
 use handler_syntax::SyntaxRefusal;
 use may_use_analysis::AnalysisRefusal;
 use range_tables::RangeRefusal;
 use request_files::RequestRefusal;
 use serve_words::usage_line;
-use byte_ends::{ShortText, push_number, short_text};
 use table_lines::TableRefusal;
 use trace_lines::TraceRefusal;
 

@@ -18,14 +18,13 @@ use crate::load_error::LoadError;
 use crate::session::{Loaded, read_session};
 use declaration_insertion::Program;
 use handler_check::Checked;
-use session_values::Opening;
 use request_files::{Divided, Requests, TracePlace, divide, find_trace};
 use serve_faults::Fault;
-use session_values::{MAX_INPUT, Names, NoMemory};
+use session_journal::Trace;
+use session_values::{MAX_INPUT, Names, NoMemory, Opening};
 use std::alloc::Global;
 use syntax_trees::File;
 use trace_lines::read_trace;
-use session_journal::Trace;
 
 /// A session whose requests a trace tells of, and the trace.
 #[derive(Drop)]

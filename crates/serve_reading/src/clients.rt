@@ -14,10 +14,9 @@ use crate::load_error::LoadError;
 use crate::naming::names_of_input;
 use crate::program::read_program;
 use declaration_insertion::Program;
-use session_values::Opening;
 use request_files::{ClientRequests, Divided, count_marks, divide, read_clients};
 use serve_faults::Fault;
-use session_values::Names;
+use session_values::{Names, Opening};
 use std::alloc::Global;
 use table_lines::read_tables;
 

@@ -10,10 +10,9 @@ use crate::load_error::LoadError;
 use crate::naming::names_of_input;
 use crate::program::read_program;
 use declaration_insertion::Program;
-use session_values::Opening;
 use request_files::{Divided, Requests, divide, read_requests};
 use serve_faults::Fault;
-use session_values::Names;
+use session_values::{Names, Opening};
 use std::alloc::Global;
 use table_lines::read_tables;
 

@@ -16,11 +16,11 @@ use byte_ends::{Sink, Source, write_all};
 use handler_machine::Scripts;
 use serve_faults::{MAX_AUDIT_INPUT, Status};
 use serve_reading::{Audited, load_audited, read_at_most};
+use session_journal::Verdict;
 use session_values::NoMemory;
 use std::alloc::Global;
 use trace_audit::judge_session;
 use trace_lines::verdict_line;
-use session_journal::Verdict;
 
 /// Reads a session file that ends in a trace, and writes what is judged of the trace.
 pub(crate) fn audit_source<I: Source, O: Sink>(alloc: Global, source: &mut I, out: &mut O) -> Status

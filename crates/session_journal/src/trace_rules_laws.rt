@@ -9,8 +9,8 @@ ghost use Rattle.session_journal.specs.Bare.{bare_script};
 ghost use Rattle.session_journal.specs.Traces.{max_events};
 ghost use Rattle.session_journal.specs.Verdicts.{IsVerdict};
 
-use crate::verdict::Verdict;
 use crate::Event;
+use crate::verdict::Verdict;
 
 /// The entries and the Replies of an accepted trace are those of serving the tickets one at a time.
 pub fn accepted_is_serial()

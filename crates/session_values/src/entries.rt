@@ -4,8 +4,8 @@ ghost use Rattle.std.specs.Prelude.{◌≡◌, ◌<◌, ◌++◌, ◌∷◌, [],
 ghost use Rattle.session_values.specs.Opening.{has_key};
 
 use crate::seeded::Seeded;
-use indexmap::IndexMap;
 use crate::{NoMemory, Value};
+use indexmap::IndexMap;
 use std::alloc::Global;
 use std::marker::Model;
 

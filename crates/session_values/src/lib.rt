@@ -23,12 +23,16 @@ mod value;
 pub use boxed::Boxed;
 pub use bump::bumped;
 pub use kind::{Kind, TableKind};
-pub use limits::{MAX_INPUT, MAX_NAME, MAX_DEPTH, MAX_OPEN, MAX_SIGNS, MAX_TABLES, MAX_HANDLERS, MAX_VARIABLES, MAX_TURNS, MAX_CALLS, MAX_WORK, MAX_SYMBOLS, MAX_REQUESTS, MAX_SESSION_CALLS, MAX_SESSION_WORK, MAX_CALLERS, MAX_SHARDS};
+pub use limits::{
+    MAX_CALLERS, MAX_CALLS, MAX_DEPTH, MAX_HANDLERS, MAX_INPUT, MAX_NAME, MAX_OPEN, MAX_REQUESTS,
+    MAX_SESSION_CALLS, MAX_SESSION_WORK, MAX_SHARDS, MAX_SIGNS, MAX_SYMBOLS, MAX_TABLES, MAX_TURNS,
+    MAX_VARIABLES, MAX_WORK,
+};
 pub use listed::Listed;
 pub use names::Names;
 pub use no_memory::NoMemory;
 pub use op::Op;
 pub use opening::Opening;
-pub use opening_tables_limits::{MAX_TABLE_LINES, MAX_OPENING};
+pub use opening_tables_limits::{MAX_OPENING, MAX_TABLE_LINES};
 pub use reply::Reply;
 pub use value::Value;

@@ -5,9 +5,9 @@ ghost use Rattle.std.specs.List.{position};
 ghost use Rattle.std.specs.Str.{bytes_eq};
 ghost use Rattle.session_values.specs.Names.{with_text, place_of, AreDistinct};
 
+use crate::NoMemory;
 use crate::seeded::Seeded;
 use indexmap::IndexSet;
-use crate::NoMemory;
 use std::alloc::Global;
 use std::marker::Model;
 

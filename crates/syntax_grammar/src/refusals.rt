@@ -3,9 +3,9 @@
 ghost use Rattle.std.specs.Prelude.{◌≡◌};
 ghost use Rattle.syntax_grammar.specs.Refusal as spec;
 
+use crate::{Sort, TokenKind, Word};
 use session_values::NoMemory;
 use std::alloc::{AllocError, AllocFailed};
-use crate::{Sort, TokenKind, Word};
 use thiserror::Error;
 
 /// The first fault of a source, with the byte place of its token.

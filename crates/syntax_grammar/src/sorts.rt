@@ -3,8 +3,8 @@
 ghost use Rattle.std.specs.Prelude.{◌≡◌};
 ghost use Rattle.syntax_grammar.specs.Sorts as spec;
 
-use session_values::{Kind, TableKind};
 use crate::Sort;
+use session_values::{Kind, TableKind};
 use syntax_trees::Compare;
 
 /// What a statement begins with.

@@ -16,8 +16,7 @@ use crate::parse_handler::handlers;
 use crate::parse_table::tables;
 use session_values::Names;
 use std::alloc::Global;
-use syntax_grammar::{SyntaxRefusal, refusal};
-use syntax_grammar::{Reader, Sort};
+use syntax_grammar::{Reader, Sort, SyntaxRefusal, refusal};
 use syntax_trees::File;
 
 fn file(alloc: Global, input: &mut Input<'_>) -> Result<File, SyntaxRefusal>

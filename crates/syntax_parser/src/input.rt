@@ -7,8 +7,7 @@ ghost use Rattle.syntax_grammar.specs.declared.refusals.SyntaxRefusal.TheVariant
 ghost use Rattle.syntax_parser.specs.Reads.{NamesStay};
 
 use session_values::{MAX_SIGNS, NoMemory};
-use syntax_grammar::SyntaxRefusal;
-use syntax_grammar::{Reader, Word};
+use syntax_grammar::{Reader, SyntaxRefusal, Word};
 
 /// The words still to come, and how many operator signs the expression has so far.
 #[derive(Drop)]

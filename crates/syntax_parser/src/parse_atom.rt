@@ -8,8 +8,7 @@ ghost use Rattle.syntax_parser.specs.Reads.{Reads};
 
 use crate::input::Input;
 use session_values::Value;
-use syntax_grammar::{SyntaxRefusal, refusal};
-use syntax_grammar::Sort;
+use syntax_grammar::{Sort, SyntaxRefusal, refusal};
 use syntax_trees::{Atom, Literal};
 
 pub(crate) const MAX_NUMBER: u64 = 9_223_372_036_854_775_807;

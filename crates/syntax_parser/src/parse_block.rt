@@ -17,8 +17,7 @@ use crate::parse_stmt::{assignment, call_statement, let_statement, reply_stateme
 use crate::parse_words::mark;
 use session_values::{Boxed, Listed, MAX_DEPTH};
 use std::alloc::Global;
-use syntax_grammar::{Start, SyntaxRefusal, refusal, statement_start};
-use syntax_grammar::Sort;
+use syntax_grammar::{Sort, Start, SyntaxRefusal, refusal, statement_start};
 use syntax_trees::{Block, Stmt};
 
 /// A block inside so many others.

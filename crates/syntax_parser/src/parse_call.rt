@@ -14,8 +14,7 @@ use crate::parse_expr::expression;
 use crate::parse_words::{mark, name};
 use session_values::Kind;
 use std::alloc::Global;
-use syntax_grammar::{SyntaxRefusal, Turns, comparison, operation, refusal};
-use syntax_grammar::Sort;
+use syntax_grammar::{Sort, SyntaxRefusal, Turns, comparison, operation, refusal};
 use syntax_trees::{Atoms, Call, Compare, Cond, Right};
 
 /// At most two arguments, each behind a comma.

@@ -13,8 +13,7 @@ use crate::input::Input;
 use crate::parse_atom::atom;
 use session_values::{Boxed, MAX_OPEN, NoMemory};
 use std::alloc::Global;
-use syntax_grammar::{SyntaxRefusal, refusal};
-use syntax_grammar::Sort;
+use syntax_grammar::{Sort, SyntaxRefusal, refusal};
 use syntax_trees::{Calc, Expr};
 
 fn binary(alloc: Global, calc: Calc, left: Expr, right: Expr) -> Result<Expr, NoMemory>

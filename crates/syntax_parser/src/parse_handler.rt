@@ -14,8 +14,7 @@ use crate::parse_block::block;
 use crate::parse_words::{mark, name};
 use session_values::Listed;
 use std::alloc::Global;
-use syntax_grammar::SyntaxRefusal;
-use syntax_grammar::Sort;
+use syntax_grammar::{Sort, SyntaxRefusal};
 use syntax_trees::{Handler, Handlers, Param, Params};
 
 /// One parameter, and those behind it.

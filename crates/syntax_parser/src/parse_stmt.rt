@@ -16,8 +16,7 @@ use crate::parse_expr::expression;
 use crate::parse_words::{mark, name};
 use session_values::Kind;
 use std::alloc::Global;
-use syntax_grammar::SyntaxRefusal;
-use syntax_grammar::Sort;
+use syntax_grammar::{Sort, SyntaxRefusal};
 use syntax_trees::{Exprs, Stmt};
 
 /// A `let` statement in hand.

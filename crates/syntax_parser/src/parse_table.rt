@@ -13,8 +13,7 @@ use crate::list::list;
 use crate::parse_words::{mark, name};
 use session_values::TableKind;
 use std::alloc::Global;
-use syntax_grammar::{SyntaxRefusal, table_kind};
-use syntax_grammar::Sort;
+use syntax_grammar::{Sort, SyntaxRefusal, table_kind};
 use syntax_trees::{TableDecl, TableDecls};
 
 /// A table whose first word is in hand.

@@ -7,8 +7,7 @@ ghost use Rattle.syntax_grammar.specs.Tree.{name_of};
 ghost use Rattle.syntax_parser.specs.Reads.{Reads};
 
 use crate::input::Input;
-use syntax_grammar::{SyntaxRefusal, refusal};
-use syntax_grammar::Sort;
+use syntax_grammar::{Sort, SyntaxRefusal, refusal};
 
 #[tactic(auto, using(syntax_grammar::proofs::Rows::mark_none))]
 fn is_mark(sort: Sort, mark: Sort) -> bool

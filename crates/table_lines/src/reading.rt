@@ -13,8 +13,7 @@ use crate::naming::seed;
 use crate::refusal::TableRefusal;
 use crate::table_row::push_row;
 use handler_check::Checked;
-use session_values::Opening;
-use session_values::Names;
+use session_values::{Names, Opening};
 use std::alloc::Global;
 use text_lines::Lines;
 

@@ -13,8 +13,7 @@ ghost use Rattle.table_lines.specs.TableRows.{AreKnown};
 use crate::naming::table;
 use crate::refusal::TableRefusal;
 use crate::words::entry;
-use session_values::{MAX_TABLE_LINES, Opening};
-use session_values::{Names, Value};
+use session_values::{MAX_TABLE_LINES, Names, Opening, Value};
 use syntax_trees::TableDecls;
 use text_lines::Line;
 

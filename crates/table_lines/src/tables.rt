@@ -8,8 +8,7 @@ ghost use Rattle.table_lines.specs.Lines.{head_text};
 
 use crate::dumping::write_entries;
 use byte_ends::{Sink, WriteBuffer, write_all};
-use session_values::Opening;
-use session_values::{Names, Value};
+use session_values::{Names, Opening, Value};
 use syntax_trees::TableDecl;
 
 /// Tables whose entries can be asked for, by their places.

@@ -3,10 +3,10 @@
 ghost use Rattle.std.specs.Prelude.{◌≤◌, length};
 ghost use Rattle.session_values.specs.Limits.{max_input};
 
+use byte_ends::{ShortText, short_text};
 use serve_faults::{Status, message_of};
 use serve_reading::{LoadError, Loaded, load_session, read_description};
 use session_values::{Names, Value};
-use byte_ends::{ShortText, short_text};
 use std::alloc::Global;
 use std::test::Fail;
 

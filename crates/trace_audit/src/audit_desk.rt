@@ -10,11 +10,10 @@ use crate::judge::judge_trace;
 use crate::opening::opened_tables;
 use crate::ticket_replay::TicketReplay;
 use handler_machine::Answerer;
-use session_journal::Script;
+use session_journal::{Script, Trace, Verdict};
 use session_values::{NoMemory, Op, Reply, TableKind, Value};
 use std::alloc::Global;
 use std::marker::Model;
-use session_journal::{Trace, Verdict};
 
 /// Answers each ticket's operations by its entries in a trace, and keeps what the trace is judged
 /// by.

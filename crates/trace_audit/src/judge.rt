@@ -14,11 +14,10 @@ use crate::front::Front;
 use crate::judging::first_against;
 use crate::replaying::first_unreplayed;
 use crate::ticket_replay::TicketReplay;
-use session_journal::Event;
+use session_journal::{Event, Verdict};
 use session_values::NoMemory;
 use shard_tables::WholeTables;
 use std::alloc::Global;
-use session_journal::Verdict;
 
 /// The number of the rule that an event of this kind breaks.
 fn rule_of(e: Event) -> u32

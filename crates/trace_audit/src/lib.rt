@@ -14,5 +14,5 @@ mod standing;
 mod ticket_replay;
 
 pub use audit_desk::AuditDesk;
-pub use sessions::judge_session;
 pub use session_journal::{MAX_EVENTS, Trace, Verdict};
+pub use sessions::judge_session;

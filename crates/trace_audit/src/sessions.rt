@@ -8,10 +8,9 @@ ghost use Rattle.session_journal.specs.Verdicts.{IsVerdict};
 
 use crate::audit_desk::AuditDesk;
 use handler_machine::Scripts;
-use session_journal::{Scratch, Script};
+use session_journal::{Scratch, Script, Trace, Verdict};
 use session_values::NoMemory;
 use std::alloc::Global;
-use session_journal::{Trace, Verdict};
 
 /// Runs the handler of the next ticket on what the trace tells. It takes no memory.
 fn run_ticket<'a, 'b>(

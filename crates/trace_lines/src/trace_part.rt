@@ -16,11 +16,10 @@ use crate::front::Tables;
 use crate::numbered_line::NumberedLine;
 use crate::refusal::TraceRefusal;
 use crate::words::{MAX_WORDS, Word, take_words};
-use session_journal::Event;
+use session_journal::{Event, MAX_EVENTS, Trace};
 use session_values::{Names, NoMemory, TableKind};
 use std::alloc::Global;
 use text_lines::{Line, Lines};
-use session_journal::{MAX_EVENTS, Trace};
 
 /// Adds an event.
 fn push(trace: &mut Trace, e: Event, line: u32) -> Result<(), TraceRefusal>

@@ -19,7 +19,7 @@ pub use board::Board;
 pub use hands::Hands;
 pub use laws::changes_tell;
 pub use lists::{Seats, Values};
-pub use session_values::NoMemory;
 pub use seat::Seat;
+pub use session_values::NoMemory;
 pub use taken::{Taken, TookAll};
 pub use turn_steps::{MAX_BOARD_TURNS, TieRule};

@@ -14,8 +14,8 @@ mod tie_rule;
 mod view;
 mod words;
 
-pub use session_values::NoMemory;
 pub use pass::Pass;
 pub use plays::Change;
+pub use session_values::NoMemory;
 pub use tie_rule::TieRule;
 pub use words::{MAX_BOARD_TURNS, Words};
