@@ -1,5 +1,7 @@
 //! Where bytes come from and where they go: sources and sinks, those in memory, and how all bytes
 //! are read and written.
+//!
+//! Short lines that take no memory: messages and summaries. Each has at most 256 bytes.
 #![tactic(auto)]
 
 mod calls;

@@ -11,7 +11,7 @@ use Rattle.session_values.specs.Sums.{sum_below}
 use Rattle.session_values.specs.Tables.{size_of, table}
 use Rattle.session_values.proofs.Sums.{sum_first}
 use Rattle.session_values.proofs.Serial.{replies_few}
-use Rattle.session_values.specs.OpeningTablesLimits.{max_opening}
+use Rattle.session_values.specs.OpeningLimits.{max_opening}
 use Rattle.session_values.specs.Opening.{Pair, count_all, tables_of}
 use Rattle.session_hall.specs.Script.{Meaning, session_of}
 use Rattle.session_hall.specs.Closings.{ClosedView, IsDone}

@@ -4,7 +4,7 @@ use Rattle.session_values.specs.declared.kind.TableKind.{TableKind}
 use Rattle.session_values.specs.Serial.{tables_before}
 use Rattle.session_values.specs.Sums.{sum_below}
 use Rattle.session_values.specs.Tables.{Tables, size_of, table}
-use Rattle.session_values.specs.OpeningTablesLimits.{max_opening}
+use Rattle.session_values.specs.OpeningLimits.{max_opening}
 use Rattle.session_values.specs.Opening.{Pair, entries_of, tables_of}
 use Rattle.session_hall.specs.Script.{Meaning, session_of}
 use Rattle.session_hall.specs.Closings.{ClosedView, IsDone}

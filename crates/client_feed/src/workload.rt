@@ -2,7 +2,7 @@
 
 ghost use Rattle.std.specs.Prelude.{◌≡◌, ◌+◌, ◌≤◌, length, IfOk};
 ghost use Rattle.session_values.specs.Limits.{max_session_calls, max_tables};
-ghost use Rattle.session_values.specs.OpeningTablesLimits.{max_opening};
+ghost use Rattle.session_values.specs.OpeningLimits.{max_opening};
 ghost use Rattle.session_values.specs.Opening.{IsOpening, count_all};
 ghost use Rattle.handler_check.specs.Resolved.{shape_of};
 ghost use Rattle.request_files.specs.Servable.{IsServable};

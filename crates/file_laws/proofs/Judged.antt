@@ -14,7 +14,7 @@ use Rattle.session_journal.specs.Verdicts.{IsVerdict}
 use Rattle.session_journal.specs.declared.verdict.Verdict.{Verdict}
 use Rattle.session_journal.specs.declared.verdict.Verdict.TheVariants.{Accepted as IsFine, Event as AtEvent, Ticket as AtTicket}
 use Rattle.session_journal.proofs.Bare.{accepted_back}
-use Rattle.session_journal.proofs.TraceRulesSerial.{same_entries, same_answer}
+use Rattle.session_journal.proofs.TraceSerial.{same_entries, same_answer}
 use Rattle.serve_faults.specs.VerdictText.{accepted, verdict_text}
 use Rattle.serve_faults.specs.Audited.{IsAudited, audited_parts}
 use Rattle.serve_faults.specs.Input.{IsInput, Parts}

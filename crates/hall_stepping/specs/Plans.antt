@@ -5,7 +5,7 @@ use Rattle.session_values.specs.declared.kind.TableKind.{TableKind}
 use Rattle.session_values.specs.declared.op.Op.{Op}
 use Rattle.session_values.specs.declared.reply.Reply.{Reply}
 use Rattle.session_values.specs.Tables.{Fits}
-use Rattle.session_values.specs.OpeningTablesLimits.{max_table_lines}
+use Rattle.session_values.specs.OpeningLimits.{max_table_lines}
 use Rattle.session_values.specs.Opening.{IsEntry, Pair, count_all, entries_of, has_key, with_entry}
 use Rattle.symbolic_ops.specs.declared.symbol.Symbol.{Symbol}
 use Rattle.symbolic_ops.specs.Matching.{HasNoVar}

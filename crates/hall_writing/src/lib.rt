@@ -4,6 +4,12 @@
 //! can run out of it. The clauses of `serve_and_write` are about the whole text, or a prefix of it
 //! after a fault: that lines are written while tickets are served rests on clauses of private
 //! functions and on tests.
+//!
+//! A lane on which several callers hand replies to one of them. No message is lost or handed out
+//! twice. When several ends work beside each other, no clause ties 'full' and 'empty' to the lane,
+//! or says that `next` and `offer` try again. Each message has shares that add up to the callers,
+//! so no end can be made beside those that were handed out, and none can say that another one took
+//! what it dropped.
 #![tactic(auto)]
 
 mod after;

@@ -1,9 +1,11 @@
 //! The checker of the handler language.
+//!
+//! The rules of the checker on names, arguments and numbers, and the first place where a file of
+//! handlers breaks one.
 #![tactic(auto)]
 
 mod accepted;
 mod bounds;
-pub mod check_rules_laws;
 mod checked;
 mod excess;
 mod faults;
@@ -11,6 +13,7 @@ pub mod laws;
 mod looking;
 mod refusal;
 mod resolution;
+pub mod rule_laws;
 mod work;
 
 pub use accepted::{Accepted, accept};

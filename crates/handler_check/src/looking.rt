@@ -9,10 +9,10 @@ ghost use Rattle.syntax_trees.specs.Rising.{PlacesRise};
 ghost use Rattle.handler_check.specs.Scan.{Found, file_fault, scan_handlers};
 
 use crate::CheckRefusal;
-use crate::check_rules_laws::walk_finds_first;
 use crate::excess::bound_handler;
 use crate::faults::find_in_tables;
 use crate::resolution::resolve_next;
+use crate::rule_laws::walk_finds_first;
 use session_values::Listed;
 use std::alloc::Global;
 use syntax_trees::{File, Handler, TableDecl};

@@ -1,5 +1,8 @@
 //! Reply lines: the text of one, those of a session, written to a sink, and the replies that wait
 //! for their turn to be written.
+//!
+//! The replies of several clients as a text: for each client, in the order of its requests, a line
+//! with the client, the ticket and the reply.
 #![tactic(auto)]
 
 mod arrival;

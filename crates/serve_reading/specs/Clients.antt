@@ -1,6 +1,6 @@
 -- What is made of a session file whose requests are several clients' before they are served.
 use Rattle.std.specs.Prelude.{◌≡◌, ℕ, ◌≤◌, List}
-use Rattle.session_values.specs.OpeningTablesLimits.{max_table_lines}
+use Rattle.session_values.specs.OpeningLimits.{max_table_lines}
 use Rattle.session_values.specs.Opening.{count_all}
 use Rattle.request_files.specs.Clients.{AreShared, row_counts, unmarked}
 use Rattle.request_files.specs.Text.{lines}

@@ -1,4 +1,6 @@
 //! The command line of the program: which words ask for what.
+//!
+//! The made session of `work`: its text, by a generator of numbers, and the lines of its summary.
 #![tactic(auto)]
 
 mod command;

@@ -6,7 +6,7 @@ use Rattle.session_journal.specs.Script.{IsScript, Meaning, calls}
 use Rattle.session_journal.proofs.EventCounts.{Counted, IsCountable, counted_none, counted_step, few_counted}
 use Rattle.session_journal.specs.Accepted.{Accepted, IsAllowed}
 use Rattle.session_journal.proofs.Allowed.{through_allowed}
-use Rattle.session_journal.proofs.TraceRulesSerial.{told}
+use Rattle.session_journal.proofs.TraceSerial.{told}
 
 countable : (m : Meaning) (J : List Event) (e : Event) → IsAllowed m J e → IsCountable m J e
 countable m J (Begin t c) a = a.next

@@ -15,4 +15,4 @@ pub mod Allowed
 pub mod Bare
 pub mod Counting
 pub mod OneVerdict
-pub mod TraceRulesSerial
+pub mod TraceSerial

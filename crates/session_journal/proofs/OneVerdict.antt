@@ -11,7 +11,7 @@ use Rattle.session_journal.specs.declared.verdict.Verdict.TheVariants.{Accepted 
 use Rattle.session_journal.specs.Accepted.{Accepted, AreAllowed, IsAllowed, HaveEnded}
 use Rattle.session_journal.specs.Verdicts.{FirstAgainst, NotEnded, NotReplayed, IsTicketFault, IsVerdict, rule_of}
 use Rattle.session_journal.proofs.Allowed.{only_begun}
-use Rattle.session_journal.proofs.TraceRulesSerial.{replays_to}
+use Rattle.session_journal.proofs.TraceSerial.{replays_to}
 
 -- an event that is allowed where it stands
 allowed_at : (m : Meaning) (front xs : List Event) (e : Event) (ys : List Event) → AreAllowed m front (xs ++ e ∷ ys) → IsAllowed m (front ++ xs) e

@@ -9,7 +9,7 @@ pub mod EventsInTurn
 pub use Rattle.symbolic_ops.specs.declared.symbol.Symbol
 pub use Rattle.session_values.specs.Opening
 pub use Rattle.symbolic_ops.specs.declared.arg.Arg
-pub use Rattle.session_values.specs.OpeningTablesLimits
+pub use Rattle.session_values.specs.OpeningLimits
 pub use Rattle.symbolic_ops.specs.Commuting
 pub use Rattle.symbolic_ops.specs.Matching
 pub mod Accepted

@@ -1,5 +1,7 @@
 //! The journal of finished operations, what a script of tickets means, desks at which tickets are
 //! served, and the room that this takes.
+//!
+//! What a trace is, when it is accepted as the journal of a session, and what is judged of it.
 #![tactic(auto)]
 
 mod desk;
@@ -14,7 +16,7 @@ mod serves;
 mod site;
 mod tickets;
 mod trace;
-pub mod trace_rules_laws;
+pub mod trace_laws;
 mod verdict;
 
 pub use desk::Desk;

@@ -15,5 +15,5 @@ pub mod Values
 pub mod Length
 pub mod formers
 pub mod Limits
-pub mod OpeningTablesLimits
+pub mod OpeningLimits
 pub mod Opening

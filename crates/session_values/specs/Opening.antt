@@ -9,7 +9,7 @@ use Rattle.session_values.specs.declared.kind.TableKind.{TableKind}
 use Rattle.session_values.specs.declared.kind.TableKind.TheVariants.{Map, Set}
 use Rattle.session_values.specs.Tables.{Container, Bindings, Members, Tables}
 use Rattle.session_values.specs.Values.{IsValue, value_eq}
-use Rattle.session_values.specs.OpeningTablesLimits.{max_opening}
+use Rattle.session_values.specs.OpeningLimits.{max_opening}
 
 -- ---- tables with entries
 

@@ -1,4 +1,13 @@
 //! Values, operations, replies and names, and the definitions that every layer above speaks of.
+//!
+//! Lists and boxes that contracts see as plain lists and values, and the error of running
+//! out of memory: what trees, sessions and boards are made of.
+//!
+//! The limits of files, handlers, sessions and those who serve them. The definitions have them by
+//! the same names, in small letters. It has no function: that code and contracts have the same
+//! number is proved where both are used.
+//!
+//! The tables with which a session opens, as lists of entries.
 #![tactic(auto)]
 
 mod boxed;
@@ -12,9 +21,8 @@ mod names;
 mod no_memory;
 mod op;
 mod opening;
-pub mod opening_tables_laws;
-mod opening_tables_limits;
-mod opening_tables_seeded;
+pub mod opening_laws;
+mod opening_limits;
 mod reply;
 mod seeded;
 mod sort;
@@ -33,6 +41,6 @@ pub use names::Names;
 pub use no_memory::NoMemory;
 pub use op::Op;
 pub use opening::Opening;
-pub use opening_tables_limits::{MAX_OPENING, MAX_TABLE_LINES};
+pub use opening_limits::{MAX_OPENING, MAX_TABLE_LINES};
 pub use reply::Reply;
 pub use value::Value;

@@ -1,7 +1,7 @@
 // The entries with which tables open.
 
 ghost use Rattle.std.specs.Prelude.{◌≡◌, ◌<◌, [], IfOk, OnOk, OnErr, Some, false, length, replicate, slice_get};
-ghost use Rattle.session_values.specs.OpeningTablesLimits.{max_opening};
+ghost use Rattle.session_values.specs.OpeningLimits.{max_opening};
 ghost use Rattle.session_values.specs.Opening.{AreKept, count_all, entries_of, has_key, with_entry};
 
 use crate::entries::Entries;

@@ -6,6 +6,9 @@
 //! tables are filled from any `TellsOpening`, since scripts are defined above shards; a user has a
 //! one-field type for it, since a crate can implement a trait only for a type or a trait of its
 //! own.
+//!
+//! Where the elements of a list stand, found by their keys: a table of slots with open addressing
+//! and linear probing, in which a deletion leaves no mark.
 #![tactic(auto)]
 
 mod index;

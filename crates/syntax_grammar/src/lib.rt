@@ -1,6 +1,8 @@
 //! The grammar of the handler language: phrases with their words and their trees, the limits, and
 //! the first fault of a list of words. These are definitions with their lemmas; beside them stands
 //! what is told of a word alone.
+//!
+//! Tokens of the handler language, and the words that the parser reads.
 #![tactic(auto)]
 
 mod keyword;

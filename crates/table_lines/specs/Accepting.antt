@@ -4,7 +4,7 @@ use Rattle.std.specs.Prelude.{◌≡◌, ℕ, true, if◌then◌else◌, nat_le,
 use Rattle.std.specs.Prelude.{Some, None}
 use Rattle.std.specs.List.{list_all}
 use Rattle.std.specs.Option.{option_or}
-use Rattle.session_values.specs.OpeningTablesLimits.{max_table_lines}
+use Rattle.session_values.specs.OpeningLimits.{max_table_lines}
 use Rattle.session_values.specs.Opening.{Pair, count_all, entries_of, has_key, with_entry}
 use Rattle.session_values.specs.declared.kind.TableKind.{TableKind}
 use Rattle.syntax_trees.specs.declared.file.TableDecl.{TableDecl}

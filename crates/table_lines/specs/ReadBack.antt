@@ -1,6 +1,6 @@
 -- The text of tables as table lines.
 use Rattle.std.specs.Prelude.{◌≡◌, ℕ, ◌≤◌, List, length, map, slice_get, Some}
-use Rattle.session_values.specs.OpeningTablesLimits.{max_table_lines}
+use Rattle.session_values.specs.OpeningLimits.{max_table_lines}
 use Rattle.session_values.specs.Opening.{Pair}
 use Rattle.session_values.specs.Names.{AreDistinct}
 use Rattle.session_values.specs.declared.kind.TableKind.{TableKind}

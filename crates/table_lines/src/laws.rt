@@ -3,7 +3,7 @@
 ghost use Rattle.std.specs.Prelude.{◌≡◌, ◌↔◌, ℕ, ◌<◌, List, [], ◌∷◌, ◌++◌, length, None, Some};
 ghost use Rattle.std.specs.Prelude.{slice_get};
 ghost use Rattle.std.specs.List.{Contains};
-ghost use Rattle.session_values.specs.OpeningTablesLimits.{max_table_lines};
+ghost use Rattle.session_values.specs.OpeningLimits.{max_table_lines};
 ghost use Rattle.session_values.specs.Opening.{Pair, container_of, entries_of};
 ghost use Rattle.syntax_trees.specs.declared.file.TableDecl.{TableDecl};
 ghost use Rattle.table_lines.specs.TableText.{WrittenTable, written_table};

@@ -1,4 +1,6 @@
 //! The table part of a session file: its lines, and the entries with which tables open.
+//!
+//! Tables written as text: their entries in the order of what is written, a line each.
 #![tactic(auto)]
 
 mod dumping;
@@ -9,8 +11,8 @@ mod order;
 mod reading;
 mod refusal;
 mod table_row;
-pub mod table_text_laws;
 mod tables;
+pub mod text_laws;
 mod words;
 
 pub use dumping::write_entries;

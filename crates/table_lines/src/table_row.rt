@@ -4,7 +4,7 @@ ghost use Rattle.std.specs.Prelude.{◌≡◌, ◌≢◌, ◌+◌, ◌<◌, ◌�
 ghost use Rattle.session_values.specs.Names.{Begins};
 ghost use Rattle.text_lines.specs.Rows.{row_of};
 ghost use Rattle.text_lines.specs.Text.{words as words_of};
-ghost use Rattle.session_values.specs.OpeningTablesLimits.{max_opening};
+ghost use Rattle.session_values.specs.OpeningLimits.{max_opening};
 ghost use Rattle.session_values.specs.Opening.{count_all, entries_of, has_key, with_entry};
 ghost use Rattle.table_lines.specs.declared.refusal.TableRefusal.TheVariants.{Twice};
 ghost use Rattle.table_lines.specs.Accepting.{Accepts, row_fault};

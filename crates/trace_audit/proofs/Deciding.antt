@@ -28,7 +28,7 @@ use Rattle.session_journal.specs.declared.verdict.Verdict.{Verdict}
 use Rattle.session_journal.specs.declared.verdict.Verdict.TheVariants.{Accepted as IsFine, Event as AtEvent, Ticket as AtTicket}
 use Rattle.session_journal.specs.Accepted.{AreAllowed, HaveEnded, IsAllowed, IsDelayAllowed}
 use Rattle.session_journal.specs.Verdicts.{FirstAgainst, IsVerdict, rule_of}
-use Rattle.session_journal.proofs.TraceRulesSerial.{told}
+use Rattle.session_journal.proofs.TraceSerial.{told}
 use Rattle.trace_audit.specs.Deciding.{CanBeJudged}
 use Rattle.trace_audit.proofs.Fronts.{allowed_push}
 

@@ -25,7 +25,7 @@ use Rattle.session_journal.specs.Accepted.{AreAllowed, IsDelayAllowed}
 use Rattle.trace_audit.specs.Desk.{Break, Kept, ReplayView, given_entries, kept_next, next_call, next_of, replay_at}
 use Rattle.trace_audit.specs.Judging.{AnswersNow, CallsNow, FrontView, IsFront, IsStanding, WasRun, WereRun, begins, call_of, delayed_at, done_at, ends_at, is_free, is_open, latest_of, may_begin, standing_at}
 use Rattle.session_journal.proofs.Allowed.{only_begun}
-use Rattle.session_journal.proofs.TraceRulesSerial.{told}
+use Rattle.session_journal.proofs.TraceSerial.{told}
 use Rattle.trace_audit.proofs.Runs.{tells}
 use Rattle.trace_audit.proofs.Fronts.{allowed_push, free_decides, latest_set, latest_stays, stands_begin, stands_begun, stands_delay, stands_delay_now, stands_done, stands_done_now, stands_end, stands_end_now, standings_set, undelayed}
 

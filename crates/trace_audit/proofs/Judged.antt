@@ -27,7 +27,7 @@ use Rattle.trace_audit.specs.Judging.{FindsOpen, FrontView, IsAgainst, IsFirst, 
 use Rattle.trace_audit.specs.Replaying.{AllFit, EntriesFit, TicketsFit, TicketsJudged, joined}
 use Rattle.session_journal.specs.Verdicts.{IsVerdict, rule_of}
 use Rattle.session_journal.proofs.Allowed.{only_begun}
-use Rattle.session_journal.proofs.TraceRulesSerial.{told}
+use Rattle.session_journal.proofs.TraceSerial.{told}
 use Rattle.trace_audit.proofs.Tickets.{joined_more}
 
 -- ---- before any event

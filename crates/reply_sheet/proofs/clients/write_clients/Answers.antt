@@ -1,7 +1,7 @@
 use Rattle.std.proofs.Common.{rules, sym, ap, subst, ◌∙◌}
 use Rattle.byte_ends.specs.Ends.{AppendedPrefix}
 use Rattle.reply_sheet.proofs.TextLemmas.{Waits, waits_none, waits_same}
-use Rattle.reply_sheet.proofs.ClientSheetTextLemmas.{no_clients, to_none, to_all, line_waits, none_waits, broke_in, broke_behind}
+use Rattle.reply_sheet.proofs.ClientTextLemmas.{no_clients, to_none, to_all, line_waits, none_waits, broke_in, broke_behind}
 use Rattle.reply_sheet.proofs.clients.write_clients.Goals.{else-arrival-client-via-then-arrival-client+else-not-gather_line, else-arrival-client-via-else-arrival-client}
 use Rattle.reply_sheet.proofs.clients.write_clients.Goals as goal
 

@@ -1,7 +1,7 @@
 use Rattle.std.proofs.Common.{◌≡◌}
 use Rattle.reply_sheet.proofs.TextLemmas.{Waits}
 use Rattle.reply_sheet.specs.ClientText.{clients_text}
-use Rattle.reply_sheet.proofs.ClientSheetTextLemmas.{text_to}
+use Rattle.reply_sheet.proofs.ClientTextLemmas.{text_to}
 use Rattle.reply_sheet.proofs.clients.write_clients.Given as goal
 
 abbrev pub invariant-loop-client : goal.invariant-loop-client

@@ -1,5 +1,0 @@
-use Rattle.table_lines.proofs.WordsBack.{rows_back}
-use Rattle.table_lines.proofs.table_text_laws.text_reads_back.Goals as goal
-
-pub returns : goal.returns
-returns c = rows_back
