@@ -33,6 +33,7 @@ pub mod KeptTickets
 pub mod KeptAdmits
 pub mod KeptTaking
 pub mod OneCall
+pub mod States
 pub use Rattle.turn_board.proofs.Rows
 pub use Rattle.turn_board.proofs.Moving
 pub use Rattle.hall_rule.proofs.Shares

@@ -14,6 +14,7 @@ pub mod Openings
 pub mod Reopenings
 pub mod Closings
 pub mod Listings
+pub mod States
 pub use Rattle.session_journal.specs.Lists
 pub use Rattle.turn_board.specs.Boards
 pub use Rattle.hall_rule.specs.Listing

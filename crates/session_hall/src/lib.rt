@@ -16,6 +16,7 @@ mod holding_reply;
 mod holding_ticket;
 mod holding_work;
 mod in_hand;
+pub mod laws;
 mod listing;
 mod on_shards;
 mod opening;
