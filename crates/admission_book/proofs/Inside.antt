@@ -9,7 +9,7 @@ abbrev pub view_in : {S : Type 0} → (S → Meaning) → Inner S → BookView S
 view_in meaning x = record { script = x.script; book = book_of (meaning x.script) x.journal.events x.kept x.records.items }
 
 abbrev pub KeepsIn : {S : Type 0} → (S → Meaning) → Inner S → Type 0
-KeepsIn meaning x = Keeps (meaning x.script) x.begun x.journal x.kept x.records.items
+KeepsIn meaning x = Keeps (meaning x.script) x.begun x.oldest x.journal x.kept x.records.items
 
 pub view_lent : {S : Type 0} (meaning : S → Meaning) (x y : Inner S) (v : BookView S) → y ≡ x → view_in meaning x ≡ v → view_in meaning y ≡ v
 view_lent meaning x y v e is = ap (view_in meaning) e ∙ is

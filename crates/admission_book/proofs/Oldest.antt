@@ -1,16 +1,20 @@
 -- The search for the least open ticket.
 use Rattle.std.proofs.Common.{◌≡◌, ℕ, ◌+◌, ◌<◌, ◌≤◌, List, ◌⊎◌, inl, inr, Option, Some, None, length, get_or, refl, sym, ◌∙◌, ap, subst, arith}
-use Rattle.std.proofs.lemmas.List.{length-map}
+use Rattle.std.proofs.lemmas.Bool.{cases_lt}
+use Rattle.std.proofs.lemmas.List.{get_or_past, length-map}
+use Rattle.std.proofs.lemmas.Option.{none-some}
 use Rattle.session_values.specs.declared.reply.Reply.{Reply}
 use Rattle.session_journal.specs.declared.event.Event.{Event}
 use Rattle.session_journal.specs.Script.{Meaning}
-use Rattle.admission_book.specs.Book.{Serving}
+use Rattle.admission_book.specs.Book.{Serving, IsFree}
+use Rattle.admission_book.specs.Found.{book_with}
+use Rattle.session_values.specs.declared.op.Op.{Op}
 use Rattle.session_journal.specs.EventsInTurn.{IsOpen}
 use Rattle.admission_book.specs.Lawful.{Lawful}
 use Rattle.admission_book.specs.declared.caller_record.CallerRecord.{CallerRecord}
-use Rattle.admission_book.specs.CallerRecord.{serving_of, servings, record_at}
+use Rattle.admission_book.specs.CallerRecord.{idle_record, serving_of, servings, record_at}
 use Rattle.admission_book.specs.Methods.{IsOldestOpen}
-use Rattle.admission_book.specs.Kept.{book_of, IsAtMost, IfServed, IsLeastTicket, IsLesser}
+use Rattle.admission_book.specs.Kept.{book_of, AreFrom, IsAtMost, IfServed, IsLeastTicket, IsLesser}
 use Rattle.admission_book.proofs.Records.{within}
 use Rattle.admission_book.proofs.Shown.{served, serving_is, servings_at, ticket_is, record_here}
 
@@ -72,3 +76,21 @@ oldest m J k xs rs r same L h = go r (let P : List CallerRecord → Type 0 = λ 
     go : (r : Option ℕ) → IsLeastTicket rs (length rs) r → IsOldestOpen r J
     go None s = λ u o. least None s u o
     go (Some t) s = ((L.records s.at.caller (served m t (record_at rs s.at.caller)) (servings_at m rs s.at.caller ∙ serving_is m (record_at rs s.at.caller) t s.at.ticket)).is_open, λ u o. least (Some t) s u o)
+
+-- where no open ticket is older than this one, nobody delays it or an older one
+pub none_older : (m : Meaning) (rs : List CallerRecord) (oldest t : ℕ) (op : Op) → AreFrom oldest rs → t ≤ oldest → IsFree (book_with (servings m rs)) t op
+none_older m rs oldest t op from near c s at less = absurd (let l : oldest ≤ s.ticket = from.each c s.ticket (ticket_is m (record_at rs c) s (sym (servings_at m rs c) ∙ at)) in omega arith)
+
+-- a record that has a ticket stands at one of the places
+has_place : (rs : List CallerRecord) (c u : ℕ) → (record_at rs c).ticket ≡ Some u → c < length rs
+has_place rs c u e = elim (cases_lt c (length rs)) [
+  | inl l ↦ l
+  | inr g ↦ absurd (none-some u (sym (ap (λ (r : CallerRecord). r.ticket) (get_or_past rs c idle_record g)) ∙ e))
+]
+
+-- no record has an older ticket than the least one, or than any where none has one
+pub from_least : (rs : List CallerRecord) (t bound : ℕ) → bound ≤ t → IsLeastTicket rs (length rs) (Some t) → AreFrom bound rs
+from_least rs t bound near s = record { each = λ c u e. let l : t ≤ u = s.each c u (has_place rs c u e) e in omega arith }
+
+pub from_nothing : (rs : List CallerRecord) (bound : ℕ) → IsLeastTicket rs (length rs) None → AreFrom bound rs
+from_nothing rs bound s = record { each = λ c u e. absurd (s.each c u (has_place rs c u e) e) }

@@ -19,7 +19,7 @@ use Rattle.admission_book.specs.declared.caller_record.CallerRecord.{CallerRecor
 use Rattle.admission_book.specs.CallerRecord.{IsRecord, serving_at, serving_of, servings, record_at, idle_record}
 use Rattle.admission_book.specs.Foresights.{KeepsForesight, symbols_of}
 use Rattle.admission_book.specs.Methods.{BookView}
-use Rattle.admission_book.specs.Kept.{book_of, Keeps, KeepsRecord}
+use Rattle.admission_book.specs.Kept.{book_of, AreFrom, Keeps, KeepsRecord}
 use Rattle.admission_book.proofs.Keep.{one_caller}
 use Rattle.admission_book.proofs.Room.{few_events}
 use Rattle.session_journal.proofs.EventCounts.{is_delayed-append}
@@ -118,11 +118,35 @@ keeps_more m J rs c e apart k = record {
 }
 
 -- the fields with one event more
-pub keeps_with : (m : Meaning) (count count2 : ℕ) (journal journal2 : JournalView) (k k2 : List (Option Reply)) (rs rs2 : List CallerRecord) (K : List Event)
-    → Keeps m count journal k rs → journal2 ≡ record { events = K; room = journal.room } → count2 ≡ begun K → length k2 ≡ length k → ((c : ℕ) → KeepsRecord m K (record_at rs2 c)) → Keeps m count2 journal2 k2 rs2
-keeps_with m count count2 journal journal2 k k2 rs rs2 K keeps is counted same each =
-    let P : JournalView → Type 0 = λ j. Keeps m count2 j k2 rs2 in
-    subst P (sym is) (record { script = keeps.script; counted = counted; events = keeps.events; one_each = same ∙ keeps.one_each; each = each })
+pub keeps_with : (m : Meaning) (count count2 oldest oldest2 : ℕ) (journal journal2 : JournalView) (k k2 : List (Option Reply)) (rs rs2 : List CallerRecord) (K : List Event)
+    → Keeps m count oldest journal k rs → journal2 ≡ record { events = K; room = journal.room } → count2 ≡ begun K → length k2 ≡ length k → ((c : ℕ) → KeepsRecord m K (record_at rs2 c)) → AreFrom oldest2 rs2 → oldest2 ≤ count2 → Keeps m count2 oldest2 journal2 k2 rs2
+keeps_with m count count2 oldest oldest2 journal journal2 k k2 rs rs2 K keeps is counted same each from near =
+    let P : JournalView → Type 0 = λ j. Keeps m count2 oldest2 j k2 rs2 in
+    subst P (sym is) (record { script = keeps.script; counted = counted; from = from; is_begun = near; events = keeps.events; one_each = same ∙ keeps.one_each; each = each })
+
+-- ---- no open ticket is older
+module _ (oldest : ℕ) (rs : List CallerRecord) (i : ℕ) (new : CallerRecord) (l : i < length rs) (from : AreFrom oldest rs) where
+  -- after one record is replaced
+  from_set : ((u : ℕ) → new.ticket ≡ Some u → oldest ≤ u) → AreFrom oldest (set rs i new)
+  from_set h = record { each = each }
+    where
+      each : (c u : ℕ) → (record_at (set rs i new) c).ticket ≡ Some u → oldest ≤ u
+      each c u e = elim (cases_eq c i) [
+        | inl p ↦ h u (ap (λ (r : CallerRecord). r.ticket) (sym (get_or-set_same rs i new idle_record l)) ∙ ap (λ (j : ℕ). (record_at (set rs i new) j).ticket) (sym p) ∙ e)
+        | inr p ↦ from.each c u (ap (λ (r : CallerRecord). r.ticket) (sym (get_or-set_other rs i c new idle_record p)) ∙ e)
+      ]
+
+  -- by one with the same ticket
+  pub from_same : (old : CallerRecord) → record_at rs i ≡ old → new.ticket ≡ old.ticket → AreFrom oldest (set rs i new)
+  from_same old is same = from_set (λ u e. from.each i u (ap (λ (r : CallerRecord). r.ticket) is ∙ sym same ∙ e))
+
+  -- by one with a younger ticket
+  pub from_younger : (t : ℕ) → oldest ≤ t → new.ticket ≡ Some t → AreFrom oldest (set rs i new)
+  from_younger t near has = from_set (λ u e. let p : t ≡ u = same_Some t u (sym has ∙ e) in omega arith)
+
+  -- by one with no ticket
+  pub from_none : new.ticket ≡ None → AreFrom oldest (set rs i new)
+  from_none has = from_set (λ u e. absurd (none-some u (sym has ∙ e)))
 
 -- there is room for an event that leads to a lawful book
 pub room_for : (m : Meaning) (J : List Event) (e : Event) (k : List (Option Reply)) (us : List (Option Serving)) (room : ℕ) → IsScript m → 2 * m.requests + 2 * calls m ≤ room → Lawful m (record { journal = J ++ e ∷ []; kept = k; records = us }) → length J < room

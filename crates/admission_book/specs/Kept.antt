@@ -20,11 +20,17 @@ pub record KeepsRecord (m : Meaning) (J : List Event) (r : CallerRecord) : Type 
   pub foresight : KeepsForesight m r.foresight
   pub noted : (s : Serving) → serving_of m r ≡ Some s → r.delayed ≡ is_delayed J s.ticket
 
--- the begun tickets are counted, and there is room for all that the script can make of the book
-pub record Keeps (m : Meaning) (count : ℕ) (journal : JournalView) (kept : List (Option Reply))
-    (records : List CallerRecord) : Type 0 where
+-- no record has an older ticket than this one
+pub record AreFrom (oldest : ℕ) (rs : List CallerRecord) : Type 0 where
+  pub each : (c u : ℕ) → (record_at rs c).ticket ≡ Some u → oldest ≤ u
+
+-- the begun tickets are counted, none that is open is older than this one, and there is room for all that the script can make of the book
+pub record Keeps (m : Meaning) (count oldest : ℕ) (journal : JournalView)
+    (kept : List (Option Reply)) (records : List CallerRecord) : Type 0 where
   pub script : IsScript m
   pub counted : count ≡ begun journal.events
+  pub from : AreFrom oldest records
+  pub is_begun : oldest ≤ count
   pub events : 2 * m.requests + 2 * calls m ≤ journal.room
   pub one_each : length kept ≡ m.requests
   pub each : (c : ℕ) → KeepsRecord m journal.events (record_at records c)

@@ -8,6 +8,7 @@ ghost use Rattle.admission_book.specs.Book.{IsFirstAgainst};
 ghost use Rattle.admission_book.specs.CallerRecord.{record_at, serving_of, servings};
 ghost use Rattle.admission_book.specs.Foresights.{KeepsForesight};
 ghost use Rattle.admission_book.specs.Found.{Found, NextFound, bound};
+ghost use Rattle.admission_book.specs.Kept.{AreFrom};
 
 use crate::caller_record::CallerRecord;
 use commute_tables::commute_symbol;
@@ -71,17 +72,23 @@ fn older_blocker<S: Tickets>(
     }
 }
 
-/// The least older open ticket with a symbol against the operation, and its first one.
+/// The least older open ticket with a symbol against the operation, and its first one. No ticket
+/// older than `oldest` is open, so at this one and older ones no record is looked at.
 pub(crate) fn least_against<S: Tickets>(
     script: &S,
     records: &[CallerRecord],
+    oldest: u32,
     t: u32,
     op: &Op,
 ) -> Option<Blocker>
-    requires { (c : ℕ) →
+    requires kept { (c : ℕ) →
         KeepsForesight (S.meaning script.now) (record_at records.now c).foresight }
+    requires from { AreFrom oldest records.now }
     ensures { Found (servings (S.meaning script.now) records.now) t op.now result }
 {
+    if t <= oldest {
+        return None;
+    }
     let mut found = None;
     for r in records {
         found = older_blocker(script, found, r, t, op);

@@ -12,7 +12,7 @@ ghost use Rattle.admission_book.specs.Methods.{Admits, Begins, DidIt, Entered, H
 use crate::admission::Admission;
 use crate::blocker::least_against;
 use crate::caller_record::CallerRecord;
-use crate::fields::{idle_records, least_ticket, note_delay, place_of};
+use crate::fields::{idle_records, least_ticket, next_oldest, note_delay, place_of};
 use crate::kept_replies::{KeptReplies, Replies};
 use session_journal::{Event, Journal, Site, Tickets};
 use session_values::{NoMemory, Op, Reply, Value};
@@ -33,6 +33,8 @@ struct Inner<S: Tickets + Drop> {
     kept: KeptReplies,
     /// For each caller, by its number, the ticket that it serves.
     records: Vec<CallerRecord>,
+    /// No older ticket than this one is open, so nobody delays it.
+    oldest: u32,
 }
 
 /// A script, the journal of what was done of it, the replies of its tickets that have ended, and
@@ -55,7 +57,8 @@ impl<S: Tickets + Drop> Model for Book<S> {
     } };
 
     ghost invariant = { λ b. let inner = b.inner.value in Keeps
-        (S.meaning inner.script) inner.begun inner.journal inner.kept inner.records.items };
+        (S.meaning inner.script) inner.begun inner.oldest inner.journal inner.kept
+        inner.records.items };
 }
 
 impl<S: Tickets + Drop> Book<S> {
@@ -78,6 +81,7 @@ impl<S: Tickets + Drop> Book<S> {
             journal,
             kept,
             records,
+            oldest: 0,
         };
         Ok(Book {
             inner: Box::new(alloc, inner)?,
@@ -188,7 +192,8 @@ impl<S: Tickets + Drop> Book<S> {
     {
         let inner = &mut *self.inner;
         let caller = place_of(inner.records.as_slice(), t);
-        let Some(b) = least_against(&inner.script, inner.records.as_slice(), t, &op) else {
+        let records = inner.records.as_slice();
+        let Some(b) = least_against(&inner.script, records, inner.oldest, t, &op) else {
             inner.records[caller].launch(op);
             return Admission::Admitted;
         };
@@ -252,7 +257,8 @@ impl<S: Tickets + Drop> Book<S> {
             → Lawful (S.meaning self.now.script) self.now.book → result ≡ Admission.Admitted }
     {
         let inner = &*self.inner;
-        match least_against(&inner.script, inner.records.as_slice(), t, op) {
+        let records = inner.records.as_slice();
+        match least_against(&inner.script, records, inner.oldest, t, op) {
             None => Admission::Admitted,
             Some(b) => Admission::Delayed {
                 older: b.older,
@@ -311,6 +317,7 @@ impl<S: Tickets + Drop> Book<S> {
         let inner = &mut *self.inner;
         let caller = place_of(inner.records.as_slice(), t);
         inner.records[caller].end();
+        inner.oldest = next_oldest(inner.records.as_slice(), inner.oldest, t, inner.begun);
         inner.journal.push_reserved(Event::End { ticket: t, reply });
         inner.kept.keep(t, reply);
     }
@@ -366,6 +373,7 @@ impl<S: Tickets + Drop> Book<S> {
             journal,
             kept,
             records: _,
+            oldest: _,
         } = Box::into_inner(inner);
         (journal, kept.all())
     }

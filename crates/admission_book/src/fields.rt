@@ -3,7 +3,7 @@
 ghost use Rattle.std.specs.Prelude.{◌≡◌, ◌<◌, ◌≤◌, ◌∷◌, ◌++◌, [], Some, None, IsSome, IfOk, cond, length, map, replicate, false, vec_capacity};
 ghost use Rattle.std.specs.List.{AllByRecursion};
 ghost use Rattle.admission_book.specs.CallerRecord.{idle_record, record_at, with_delay};
-ghost use Rattle.admission_book.specs.Kept.{IsLeastTicket, IsLesser, IsServed};
+ghost use Rattle.admission_book.specs.Kept.{AreFrom, IsLeastTicket, IsLesser, IsServed};
 
 use crate::caller_record::CallerRecord;
 use session_journal::{Event, Journal};
@@ -55,6 +55,23 @@ pub(crate) fn least_ticket(records: &[CallerRecord]) -> Option<u32>
         found = lesser(found, r.ticket);
     }
     found
+}
+
+/// The ticket than which no older one is open, after a ticket has ended: where it was the oldest
+/// one, the least that is open, and the next that begins where none is.
+pub(crate) fn next_oldest(records: &[CallerRecord], oldest: u32, ended: u32, begun: u32) -> u32
+    requires from { AreFrom oldest records.now }
+    requires begun { oldest ≤ begun }
+    ensures from { AreFrom result records.now }
+    ensures begun { result ≤ begun }
+{
+    if ended > oldest {
+        return oldest;
+    }
+    match least_ticket(records) {
+        Some(t) => t.min(begun),
+        None => begun,
+    }
 }
 
 /// Notes a delay, where the last event of the record's ticket is none.

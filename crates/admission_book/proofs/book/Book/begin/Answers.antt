@@ -5,7 +5,7 @@ use Rattle.admission_book.specs.Lawful.{Lawful}
 use Rattle.admission_book.specs.declared.caller_record.CallerRecord.{CallerRecord}
 use Rattle.admission_book.specs.Methods.{MayBeginNext, Begins}
 use Rattle.admission_book.proofs.Inside.{view_lent, keeps_lent, stays_lent}
-use Rattle.admission_book.proofs.Shown.{events_are, here, leaves_of, lawful_same, record_here, keeps_with, room_for}
+use Rattle.admission_book.proofs.Shown.{events_are, here, leaves_of, lawful_same, record_here, keeps_with, room_for, from_younger}
 use Rattle.admission_book.proofs.Stays.{grows_by, stays, stays_same}
 use Rattle.admission_book.proofs.Begins.{begin_lawful, begin_shown, begin_keeps, begin_count, begins, within}
 use Rattle.admission_book.proofs.book.Book.begin.Goals as goal
@@ -51,8 +51,9 @@ invariant_of-self-2 g c =
     let L = here Lawful g.S.Tickets.meaning _ _ _ seen c.requires.lawful in
     let may = here (λ (m : Meaning) (b : Book). MayBeginNext m b c.args.caller c.args.entry.now.symbols) g.S.Tickets.meaning _ _ _ seen c.requires.may in
     let left : c.deref_mut-inner.result.now.begun < (g.S.Tickets.meaning c.deref_mut-inner.result.now.script).requests = omega (arith, c.requests.ensures.requests, c.if-inner-requests.false) in
-    keeps_with _ _ _ c.deref_mut-inner.result.now.journal c.push_reserved.new.self _ _ _ _ _ keeps c.push_reserved.ensures (begin_count _ _ _ _ _ _ _ L may left keeps.counted) refl
+    keeps_with _ _ _ _ _ c.deref_mut-inner.result.now.journal c.push_reserved.new.self _ _ _ _ _ keeps c.push_reserved.ensures (begin_count _ _ _ _ _ _ _ L may left keeps.counted) refl
     (begin_keeps _ _ _ _ _ _ _ L may left keeps.counted c.begin.new.self (c.begin.ensures _) keeps.each)
+    (from_younger _ _ _ c.begin.new.self (within _ _ _ _ _ _ _ L may left keeps.counted) keeps.from _ keeps.is_begun (c.begin.ensures (g.S.Tickets.meaning c.deref_mut-inner.result.now.script)).ticket) (omega (arith, keeps.is_begun))
 
 pub returns-clause-begins : goal.returns-clause-begins
 returns-clause-begins g c =

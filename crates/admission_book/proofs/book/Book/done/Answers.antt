@@ -4,7 +4,7 @@ use Rattle.admission_book.specs.Book.{Book}
 use Rattle.admission_book.specs.Lawful.{Lawful}
 use Rattle.admission_book.specs.Methods.{MayDo, DidIt}
 use Rattle.admission_book.proofs.Inside.{view_lent, keeps_lent}
-use Rattle.admission_book.proofs.Shown.{events_are, here, leaves, lawful_same, place, foresight_at, keeps_with, room_for}
+use Rattle.admission_book.proofs.Shown.{events_are, here, leaves, lawful_same, place, foresight_at, keeps_with, room_for, from_same}
 use Rattle.admission_book.proofs.Stays.{grows_by, stays}
 use Rattle.admission_book.proofs.Dones.{flies, done_lawful, done_shown, did, done_keeps, done_count}
 use Rattle.admission_book.proofs.book.Book.done.Goals as goal
@@ -46,9 +46,10 @@ invariant_of-self g c =
     let p = place _ _ _ _ _ c.as_slice.ensures.value c.place_of-caller.ensures.within c.place_of-caller.ensures.serves c.index_mut.ensures.value in
     let L = here Lawful g.S.Tickets.meaning _ _ _ seen c.requires.lawful in
     let may = here (λ (m : Meaning) (b : Book). MayDo m b c.args.t c.args.reply c.args.next.now.symbols) g.S.Tickets.meaning _ _ _ seen c.requires.may in
-    keeps_with _ _ _ c.deref_mut-inner.result.now.journal c.push_reserved.new.self _ _ _ _ _ keeps c.push_reserved.ensures
+    keeps_with _ _ _ _ _ c.deref_mut-inner.result.now.journal c.push_reserved.new.self _ _ _ _ _ keeps c.push_reserved.ensures
     (done_count _ _ _ _ _ _ _ _ _ L may p c.finish-op.result c.finish-op.ensures.op _ keeps.counted) refl
     (done_keeps _ _ _ _ _ _ _ _ _ L may p c.finish-op.result c.finish-op.ensures.op c.finish-op.new.self (c.finish-op.ensures.finished _) keeps.each)
+    (from_same _ _ _ c.finish-op.new.self p.within keeps.from _ p.is (c.finish-op.ensures.finished (g.S.Tickets.meaning c.deref_mut-inner.result.now.script)).ticket) keeps.is_begun
 
 pub returns-clause-did : goal.returns-clause-did
 returns-clause-did g c =

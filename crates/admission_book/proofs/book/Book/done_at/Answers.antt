@@ -4,7 +4,7 @@ use Rattle.admission_book.specs.Book.{Book}
 use Rattle.admission_book.specs.Lawful.{Lawful}
 use Rattle.admission_book.specs.Methods.{MayDo, DidIt}
 use Rattle.admission_book.proofs.Inside.{view_lent, keeps_lent}
-use Rattle.admission_book.proofs.Shown.{events_are, here, leaves_of, lawful_same, place, foresight_at, keeps_with, room_for}
+use Rattle.admission_book.proofs.Shown.{events_are, here, leaves_of, lawful_same, place, foresight_at, keeps_with, room_for, from_same}
 use Rattle.admission_book.proofs.Stays.{grows_by, stays}
 use Rattle.admission_book.proofs.Known.{after_flight_record}
 use Rattle.admission_book.proofs.Dones.{flies, done_covered, done_lawful, done_shown, did, done_keeps, done_count}
@@ -39,9 +39,10 @@ invariant_of-self g c =
     let may = here (λ (m : Meaning) (b : Book). MayDo m b c.args.t c.args.reply (declared_with m c.args.site c.args.values.now)) g.S.Tickets.meaning _ _ _ seen c.requires.may in
     let has = here (λ (m : Meaning) (b : Book). HasSite m c.args.site (length c.args.values.now)) g.S.Tickets.meaning _ _ _ seen c.requires.site in
     let told = after_flight_record _ c.index_mut.result.now c.finish_at-op.new.self c.args.site c.args.values.now has (foresight_at _ _ _ _ _ _ p keeps.each) (done_covered _ _ _ _ _ _ _ _ _ L may p) c.finish_at-op.ensures.finished in
-    keeps_with _ _ _ c.deref_mut-inner.result.now.journal c.push_reserved.new.self _ _ _ _ _ keeps c.push_reserved.ensures
+    keeps_with _ _ _ _ _ c.deref_mut-inner.result.now.journal c.push_reserved.new.self _ _ _ _ _ keeps c.push_reserved.ensures
     (done_count _ _ _ _ _ _ _ _ _ L may p c.finish_at-op.result c.finish_at-op.ensures.op _ keeps.counted) refl
     (done_keeps _ _ _ _ _ _ _ _ _ L may p c.finish_at-op.result c.finish_at-op.ensures.op c.finish_at-op.new.self told keeps.each)
+    (from_same _ _ _ c.finish_at-op.new.self p.within keeps.from _ p.is told.ticket) keeps.is_begun
 
 pub returns-clause-did : goal.returns-clause-did
 returns-clause-did g c =

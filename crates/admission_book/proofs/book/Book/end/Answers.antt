@@ -1,14 +1,26 @@
-use Rattle.std.proofs.Common.{length, ◌∙◌, ap}
+use Rattle.std.proofs.Common.{length, ◌∙◌, ap, subst, sym}
 use Rattle.std.proofs.lemmas.List.{length-set}
 use Rattle.session_journal.specs.Script.{Meaning}
 use Rattle.admission_book.specs.Book.{Book}
 use Rattle.admission_book.specs.Lawful.{Lawful}
+use Rattle.admission_book.specs.declared.caller_record.CallerRecord.{CallerRecord}
+use Rattle.admission_book.specs.Kept.{AreFrom}
 use Rattle.admission_book.specs.Methods.{MayEnd, HasEnded}
 use Rattle.admission_book.proofs.Inside.{view_lent, keeps_lent}
-use Rattle.admission_book.proofs.Shown.{events_are, here, leaves, lawful_same, place, keeps_with, room_for}
+use Rattle.admission_book.proofs.Shown.{events_are, here, leaves, lawful_same, place, keeps_with, room_for, from_none}
 use Rattle.admission_book.proofs.Stays.{grows_by, stays}
 use Rattle.admission_book.proofs.Ends.{end_within, end_lawful, end_shown, ended_so, end_keeps, end_count}
 use Rattle.admission_book.proofs.book.Book.end.Goals as goal
+
+pub next_oldest-inner-requires-clause-from : goal.next_oldest-inner-requires-clause-from
+next_oldest-inner-requires-clause-from g c =
+    let keeps = keeps_lent g.S.Tickets.meaning _ _ c.deref_mut-inner.ensures.value c.self.invariant in
+    let p = place _ _ _ _ _ c.as_slice.ensures.value c.place_of-caller.ensures.within c.place_of-caller.ensures.serves c.index_mut.ensures.value in
+    subst (AreFrom _) (sym c.as_slice-2.ensures.value) (from_none _ _ _ c.end.new.self p.within keeps.from (ap (λ (r : CallerRecord). r.ticket) c.end.ensures))
+
+pub next_oldest-inner-requires-clause-begun : goal.next_oldest-inner-requires-clause-begun
+next_oldest-inner-requires-clause-begun g c =
+    (keeps_lent g.S.Tickets.meaning _ _ c.deref_mut-inner.ensures.value c.self.invariant).is_begun
 
 pub push_reserved-requires : goal.push_reserved-requires
 push_reserved-requires g c =
@@ -35,9 +47,10 @@ invariant_of-self g c =
     let p = place _ _ _ _ _ c.as_slice.ensures.value c.place_of-caller.ensures.within c.place_of-caller.ensures.serves c.index_mut.ensures.value in
     let L = here Lawful g.S.Tickets.meaning _ _ _ seen c.requires.lawful in
     let may = here (λ (m : Meaning) (b : Book). MayEnd m b c.args.t c.args.reply) g.S.Tickets.meaning _ _ _ seen c.requires.may in
-    keeps_with _ _ _ c.deref_mut-inner.result.now.journal c.push_reserved.new.self _ _ _ _ _ keeps c.push_reserved.ensures
+    keeps_with _ _ _ _ _ c.deref_mut-inner.result.now.journal c.push_reserved.new.self _ _ _ _ _ keeps c.push_reserved.ensures
     (end_count _ _ _ _ _ _ _ _ L may p keeps.one_each _ keeps.counted) (ap length c.keep.ensures ∙ length-set c.deref_mut-inner.result.now.kept c.args.t _)
     (end_keeps _ _ _ _ _ _ _ _ L may p keeps.one_each c.end.new.self c.end.ensures keeps.each)
+    (subst (AreFrom c.next_oldest-inner.result) c.as_slice-2.ensures.value c.next_oldest-inner.ensures.from) c.next_oldest-inner.ensures.begun
 
 pub returns-clause-ended : goal.returns-clause-ended
 returns-clause-ended g c =

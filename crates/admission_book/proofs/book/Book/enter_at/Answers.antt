@@ -4,7 +4,7 @@ use Rattle.admission_book.specs.Book.{Book}
 use Rattle.admission_book.specs.Lawful.{Lawful}
 use Rattle.admission_book.specs.Methods.{Entered, MayEnter}
 use Rattle.admission_book.proofs.Inside.{view_lent, keeps_lent}
-use Rattle.admission_book.proofs.Shown.{events_are, here, leaves_of, lawful_same, place, foresight_at, keeps_with, room_for}
+use Rattle.admission_book.proofs.Shown.{events_are, here, leaves_of, lawful_same, place, foresight_at, keeps_with, room_for, from_same}
 use Rattle.admission_book.proofs.Stays.{grows_by, stays}
 use Rattle.admission_book.proofs.Known.{after_flight_record}
 use Rattle.admission_book.proofs.Entries.{enter_covered, enter_lawful, enter_shown, entered, enter_keeps, enter_count}
@@ -31,9 +31,10 @@ invariant_of-self g c =
     let may = here (λ (m : Meaning) (b : Book). MayEnter m b c.args.t c.args.op c.args.reply (declared_with m c.args.site c.args.values.now)) g.S.Tickets.meaning _ _ _ seen c.requires.may in
     let has = here (λ (m : Meaning) (b : Book). HasSite m c.args.site (length c.args.values.now)) g.S.Tickets.meaning _ _ _ seen c.requires.site in
     let told = after_flight_record _ c.index_mut.result.now c.enter_at.new.self c.args.site c.args.values.now has (foresight_at _ _ _ _ _ _ p keeps.each) (enter_covered _ _ _ _ _ _ _ _ _ _ L may p) c.enter_at.ensures in
-    keeps_with _ _ _ c.deref_mut-inner.result.now.journal c.push_reserved.new.self _ _ _ _ _ keeps c.push_reserved.ensures
+    keeps_with _ _ _ _ _ c.deref_mut-inner.result.now.journal c.push_reserved.new.self _ _ _ _ _ keeps c.push_reserved.ensures
     (enter_count _ _ _ _ _ _ _ _ _ _ L may p _ keeps.counted) refl
     (enter_keeps _ _ _ _ _ _ _ _ _ _ L may p c.enter_at.new.self told keeps.each)
+    (from_same _ _ _ c.enter_at.new.self p.within keeps.from _ p.is told.ticket) keeps.is_begun
 
 pub returns-clause-entered : goal.returns-clause-entered
 returns-clause-entered g c =

@@ -4,7 +4,7 @@ use Rattle.admission_book.specs.Book.{Book}
 use Rattle.admission_book.specs.Lawful.{Lawful}
 use Rattle.admission_book.specs.Methods.{MayNarrow, Narrowed}
 use Rattle.admission_book.proofs.Inside.{view_lent, keeps_lent}
-use Rattle.admission_book.proofs.Shown.{here, leaves_of, lawful_same, place, foresight_at, keeps_with}
+use Rattle.admission_book.proofs.Shown.{here, leaves_of, lawful_same, place, foresight_at, keeps_with, from_same}
 use Rattle.admission_book.proofs.Stays.{grows_none, stays}
 use Rattle.admission_book.proofs.Known.{with_site_record}
 use Rattle.admission_book.proofs.Narrows.{narrow_covered, narrow_lawful, narrow_shown, narrowed, narrow_keeps}
@@ -19,7 +19,8 @@ invariant_of-self g c =
     let may = here (λ (m : Meaning) (b : Book). MayNarrow m b c.args.t (declared_with m c.args.site c.args.values.now)) g.S.Tickets.meaning _ _ _ seen c.requires.may in
     let has = here (λ (m : Meaning) (b : Book). HasSite m c.args.site (length c.args.values.now)) g.S.Tickets.meaning _ _ _ seen c.requires.site in
     let told = with_site_record _ c.index_mut.result.now c.narrow_at.new.self c.args.site c.args.values.now has (foresight_at _ _ _ _ _ _ p keeps.each) (narrow_covered _ _ _ _ _ _ _ _ L may p) c.narrow_at.ensures in
-    keeps_with _ _ _ c.deref_mut-inner.result.now.journal c.deref_mut-inner.result.now.journal _ _ _ _ _ keeps refl keeps.counted refl (narrow_keeps _ _ _ _ _ _ _ _ L may p c.narrow_at.new.self told keeps.each)
+    keeps_with _ _ _ _ _ c.deref_mut-inner.result.now.journal c.deref_mut-inner.result.now.journal _ _ _ _ _ keeps refl keeps.counted refl (narrow_keeps _ _ _ _ _ _ _ _ L may p c.narrow_at.new.self told keeps.each)
+    (from_same _ _ _ c.narrow_at.new.self p.within keeps.from _ p.is told.ticket) keeps.is_begun
 
 pub narrow_at-requires : goal.narrow_at-requires
 narrow_at-requires g c = c.requires.site.few
