@@ -24,7 +24,8 @@ pub record KeepsRecord (m : Meaning) (J : List Event) (r : CallerRecord) : Type 
 pub record AreFrom (oldest : ℕ) (rs : List CallerRecord) : Type 0 where
   pub each : (c u : ℕ) → (record_at rs c).ticket ≡ Some u → oldest ≤ u
 
--- the begun tickets are counted, none that is open is older than this one, and there is room for all that the script can make of the book
+-- the begun tickets are counted, none that is open is older than this one, and there is room for all
+-- that the script can make of the book
 pub record Keeps (m : Meaning) (count oldest : ℕ) (journal : JournalView)
     (kept : List (Option Reply)) (records : List CallerRecord) : Type 0 where
   pub script : IsScript m
