@@ -1,6 +1,6 @@
 # Sourced after programs.sh by .ci/embedding and oracle/embedding.sh: builds and runs what lives over
 # the library that `make_look` made: sessions, tickets, servers, and packages for other languages.
-# `live_wrong` takes what isn't as it should be. What isn't at hand is said: NOT RUN.
+# `live_wrong` takes what isn't as it should be, and `not_run` what isn't run and why: a tool isn't here.
 
 # A case for all bindings: handlers, requests, and what the program answers to a file with both.
 live_case() {
@@ -24,7 +24,7 @@ HANDLERS
 # Servers, each tried by clients that also do what they may not: a name, how it ends, the program.
 live_server() {
   if ! command -v python3 > "$work/log"; then
-    echo "embedding: NOT RUN: $1, since there is no python3"
+    not_run "$1, since there is no python3"
   else
     timeout 110 python3 embedding/tests/servers.py "$foresight" "$2" "$3" || live_wrong "$1"
   fi
@@ -36,7 +36,7 @@ live_shared() { export FORESIGHT_LIBRARY=$work/look/libforesight.so PYTHONDONTWR
 # Some of what oracle/tickets.sh and oracle/sessions.sh judge: drives of tickets, sessions of each kind.
 live_judged() {
   if ! command -v python3 > "$work/log"; then
-    echo "embedding: NOT RUN: the judges of tickets and sessions, since there is no python3"
+    not_run "the judges of tickets and sessions, since there is no python3"
     return
   fi
   live_shared
@@ -68,7 +68,7 @@ live_python() {
     timeout 60 python3 embedding/tests/package.py "$work/case" \
       || live_wrong "embedding/foresight.py"
   else
-    echo "embedding: NOT RUN: embedding/foresight.py, since there is no python3"
+    not_run "embedding/foresight.py, since there is no python3"
   fi
 }
 
@@ -79,13 +79,13 @@ live_others() {
     rustc --edition 2024 -O embedding/server.rs -C link-arg="$library" -o "$work/server_rs"
     live_server embedding/server.rs stdin "$work/server_rs"
   else
-    echo "embedding: NOT RUN: embedding/server.rs, since there is no rustc"
+    not_run "embedding/server.rs, since there is no rustc"
   fi
   if command -v go > "$work/log"; then
     (cd embedding/go && FORESIGHT_CASE=$work/case CGO_ENABLED=1 GOFLAGS=-mod=mod GOPROXY=off \
       GOCACHE=$work/go CGO_CFLAGS="-I$PWD/.." CGO_LDFLAGS=$library \
       timeout 110 go test -count=1 .) || live_wrong "embedding/go"
   else
-    echo "embedding: NOT RUN: embedding/go, since there is no go"
+    not_run "embedding/go, since there is no go"
   fi
 }

@@ -5,7 +5,8 @@ Each line that four blanks begin is a command, with the lines that it goes on in
 run in order, each by a bash of its own at the top of a copy of the tree, whose target/look is LOOK:
 they may write there. Each has to end with 0 within 60 seconds. A block ```prints is what the last
 command before it writes. A line that begins with `tools/look.sh` isn't run, since that builds what is
-in LOOK, and none that needs a tool that isn't here; so it says. Other blocks aren't run.
+in LOOK, and none that needs a tool that isn't here; so it says, and if CI is `true` that is wrong.
+Other blocks aren't run.
 """
 import os
 import re
@@ -78,6 +79,8 @@ def main():
                     wrong.append(f"{page}:{line}: this is what comes:\n{wrote}")
             elif why := why_not(text):
                 left_out.append(f"{page}:{line}, since {why}")
+                if os.environ.get("CI") == "true" and why.startswith("there is no"):
+                    wrong.append(f"{page}:{line} isn't run, and CI is set")
                 wrote = None
             else:
                 ran += 1

@@ -43,6 +43,7 @@ while read -r command file; do
 done < <(cases)
 live=0
 live_wrong() { echo "embedding: NOT AS IT SHOULD BE: $*"; live=1; }
+not_run() { echo "embedding: NOT RUN: $*"; }
 if command -v cc > "$work/log"; then
   live_c
   live_others

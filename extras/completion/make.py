@@ -15,7 +15,7 @@ import sys
 HERE = os.path.dirname(os.path.realpath(__file__))
 ROOT = os.path.join(HERE, "..", "..")
 COMMANDS = "crates/serve_words/specs/Commands.antt"
-LIMITS = "crates/session_limits/specs/Limits.antt"
+LIMITS = "crates/session_values/specs/Limits.antt"
 SAYS = {
     "check": "write handlers in canonical form",
     "show": "write handlers with what each may still call",
