@@ -2,7 +2,7 @@
 use Rattle.std.specs.Prelude.{◌≡◌, ◌≢◌, ℕ, ◌+◌, ◌*◌, ◌<◌, ◌≤◌, pos}
 use Rattle.std.specs.Prelude.{List, Option, Some, None, IfSome, IsSomeAnd}
 use Rattle.std.specs.Int.{bit_at}
-use Rattle.session_journal.specs.Limits.{max_keys}
+use Rattle.session_values.specs.OpeningLimits.{max_keys}
 use Rattle.session_journal.specs.Script.{Meaning}
 use Rattle.session_values.specs.declared.op.Op.{Op}
 use Rattle.session_values.specs.declared.value.Value.{Value}

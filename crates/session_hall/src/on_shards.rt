@@ -2,7 +2,7 @@
 
 ghost use Rattle.std.specs.Prelude.{◌≡◌, ℕ, ◌+◌, ◌<◌, ◌≤◌, length, IsSomeAnd};
 ghost use Rattle.session_values.specs.Sums.{sum_below};
-ghost use Rattle.session_journal.specs.Limits.{max_keys};
+ghost use Rattle.session_values.specs.OpeningLimits.{max_keys};
 ghost use Rattle.turn_board.specs.Boards.{CanAsk, IsSeatOf, SameNote, turn_count};
 ghost use Rattle.turn_board.specs.Hands.{Once, in_hands};
 ghost use Rattle.turn_board.specs.Limits.{max_board_turns};
