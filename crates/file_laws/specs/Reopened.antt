@@ -1,7 +1,7 @@
 -- A session file that opens with what was dumped of another.
 use Rattle.std.specs.Prelude.{◌≡◌, ℕ, ◌+◌, ◌≤◌, true, List, ◌∷◌, ◌++◌, [], codes, length, map, None}
 use Rattle.session_values.specs.Limits.{max_input}
-use Rattle.session_journal.specs.Limits.{max_table_lines}
+use Rattle.session_values.specs.OpeningLimits.{max_table_lines}
 use Rattle.session_journal.specs.Opening.{tables_of}
 use Rattle.session_values.specs.Serial.{tables_before}
 use Rattle.text_lines.specs.Text.{lines}

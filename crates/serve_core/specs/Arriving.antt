@@ -1,7 +1,7 @@
 -- How serving several clients ends. Only this crate's own functions cite it.
 use Rattle.std.specs.Prelude.{◌≡◌, ℕ, ◌+◌, ◌≤◌, List, length, Option, None}
 use Rattle.session_values.specs.Limits.{max_session_calls}
-use Rattle.session_journal.specs.Limits.{max_opening}
+use Rattle.session_values.specs.OpeningLimits.{max_opening}
 use Rattle.session_journal.specs.Opening.{count_all}
 use Rattle.session_hall.specs.Closings.{ClosedView}
 use Rattle.reply_sheet.specs.ClientText.{clients_text}
