@@ -1,6 +1,7 @@
 pub mod Carry
 pub mod Extends
 pub mod FactLemmas
+pub mod KindCounts
 pub mod Law
 pub mod Programs
 pub mod SamePoints

@@ -1,13 +1,15 @@
 // What is known of the declarations of points beside their symbols, so that a walk over a handler
 // looks at no list.
 
-ghost use Rattle.std.specs.Prelude.{◌≡◌, ◌≢◌, ◌↔◌, ◌-◌, ◌<◌, ◌≤◌, [], IfOk, length, slice_index_or};
+ghost use Rattle.std.specs.Prelude.{◌≡◌, ◌≢◌, ◌↔◌, ◌+◌, ◌-◌, ◌<◌, ◌≤◌, [], cond, IfOk, length, slice_index_or};
 ghost use Rattle.std.specs.Bool.{OnFalse, OnTrue};
 ghost use Rattle.std.specs.List.{AllByRecursion};
+ghost use Rattle.std.specs.List.Sorted.{IsStrictlySortedBy};
 ghost use Rattle.std.specs.Ordering.{eq_by_cmp};
+ghost use Rattle.session_values.specs.Limits.{max_symbols};
 ghost use Rattle.symbolic_ops.specs.Order.{symbol_cmp};
 ghost use Rattle.may_use_analysis.specs.Later.{AreLater};
-ghost use Rattle.declaration_insertion.specs.Facts.{AreAllFacts, AreFacts, HasFacts, IsAlike, IsOther, NamesEachOnce, looked_at};
+ghost use Rattle.declaration_insertion.specs.Facts.{AreAllFacts, AreFacts, AreInOrder, HasFacts, IsAlike, IsOther, NamesEachOnce, is_same_kind, kinds_in, looked_at};
 ghost use Rattle.declaration_insertion.specs.Promises.{listed};
 
 use handler_check::Checked;
@@ -69,18 +71,36 @@ fn names_each_once(list: &[Symbol]) -> bool
     true
 }
 
-/// How many kinds of operations a declaration names, each on each of its tables; it is in order.
+/// A count, and one more where two symbols are of different kinds or on different tables.
+#[tactic(auto, using(crate::proofs::KindCounts::one_more, crate::proofs::KindCounts::none_more))]
+fn count_next(count: u32, last: &Symbol, next: &Symbol) -> u32
+    requires { count < max_symbols }
+    ensures counts { result ≡ count + cond (is_same_kind last.now next.now) 0 1 }
+    ensures least { count ≤ result }
+    ensures most { result ≤ count + 1 }
+{
+    if is_other(last, next) {
+        count + 1
+    } else {
+        count
+    }
+}
+
+/// How many kinds of operations a declaration names, each on each of its tables. It is in order, so
+/// symbols of one kind on one table stand together.
+#[tactic(auto, using(crate::proofs::KindCounts::kinds_none, crate::proofs::KindCounts::kinds_first, crate::proofs::KindCounts::kinds_next, crate::proofs::KindCounts::kinds_whole))]
 fn kinds_named(list: &[Symbol]) -> u32
-    ensures { (result ≡ 0) ↔ (list.now ≡ []) }
+    requires order { IsStrictlySortedBy symbol_cmp list.now }
+    requires few { length list.now ≤ max_symbols }
+    ensures count { result ≡ kinds_in list.now }
+    ensures nothing { (result ≡ 0) ↔ (list.now ≡ []) }
 {
     if list.is_empty() {
         return 0;
     }
     let mut count = 1u32;
     for i in 1..list.len() {
-        if is_other(&list[i - 1], &list[i]) {
-            count = count.saturating_add(1);
-        }
+        count = count_next(count, &list[i - 1], &list[i]);
     }
     count
 }
@@ -140,6 +160,8 @@ fn facts_at(later: &Later, h: u32, point: u32, alike: u32) -> PointFacts
     requires handler { h < length later.now }
     requires point { point < length (slice_index_or later.now h []) }
     requires alike { IsAlike (listed (slice_index_or later.now h [])) alike point }
+    requires order { IsStrictlySortedBy symbol_cmp (listed (slice_index_or later.now h []) point) }
+    requires few { length (listed (slice_index_or later.now h []) point) ≤ max_symbols }
     ensures { HasFacts (listed (slice_index_or later.now h [])) point result }
 {
     let list = later.list(h, point);
@@ -157,6 +179,7 @@ fn facts_of_handler(
 ) -> Result<Listed<PointFacts>, NoMemory>
     requires handler { h < length later.now }
     requires points { points ≡ length (slice_index_or later.now h []) }
+    requires order { AreInOrder (slice_index_or later.now h []) }
     ensures { IfOk result (AreFacts (slice_index_or later.now h [])) }
 {
     let mut facts = Vec::with_capacity(alloc, points as usize)?;
@@ -170,6 +193,7 @@ fn facts_of_handler(
 }
 
 /// The facts of each point of each handler.
+#[tactic(auto, using(crate::proofs::KindCounts::lists_in_order))]
 pub(crate) fn facts_of(
     alloc: Global,
     checked: &Checked,

@@ -9,7 +9,7 @@ ghost use Rattle.handler_check.specs.Code.{points};
 ghost use Rattle.handler_check.specs.Resolved.{code_at};
 ghost use Rattle.may_use_analysis.specs.Later.{AreLater};
 ghost use Rattle.may_use_analysis.specs.Own.{IsOfHandler};
-ghost use Rattle.declaration_insertion.specs.Facts.{HasFacts, NamesEachOnce, looked_at};
+ghost use Rattle.declaration_insertion.specs.Facts.{HasFacts, NamesEachOnce, kinds_in, looked_at};
 ghost use Rattle.declaration_insertion.specs.Program.{IsProgram, declared_at};
 
 use crate::facts::{PointFacts, facts_of};
@@ -109,13 +109,13 @@ impl Program {
         self.facts(h, point).alike
     }
 
-    /// How many kinds of operations are declared at a point, each on each of its tables. The clause
-    /// says only when there is none.
+    /// How many kinds of operations are declared at a point, each on each of its tables.
     #[inline(always)]
     pub fn kinds(&self, h: u32, point: u32) -> u32
         requires handler { h < length self.now.file.handlers }
         requires point { point < 1 + points (code_at self.now.file h) }
-        ensures { (result ≡ 0) ↔ (declared_at self.now h point ≡ []) }
+        ensures count { result ≡ kinds_in (declared_at self.now h point) }
+        ensures nothing { (result ≡ 0) ↔ (declared_at self.now h point ≡ []) }
     {
         self.facts(h, point).kinds
     }

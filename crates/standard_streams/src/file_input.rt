@@ -1,6 +1,7 @@
 // Files as a source.
 
 ghost use Rattle.std.specs.Prelude.{◌≡◌, None};
+ghost use Rattle.standard_streams.specs.Opening.{left_of};
 
 use crate::input::{PIECE, read_again};
 use crate::opens_files::{Opened, OpensFiles};
@@ -9,11 +10,12 @@ use std::fs;
 use std::fs::Files;
 use std::io::ErrorKind;
 
-/// The files of a system, and the one of them that is open. What they hold isn't told.
+/// The files of a system, and the one of them that is open. What is left of that one is what its
+/// reader tells, so a read that fails is never taken for its end; what the others hold isn't told.
 #[derive(Drop)]
 pub struct FileInput<'a, R: Files> {
     files: &'a R,
-    open: Option<R::File>,
+    opened: Option<R::File>,
     faults: u64,
 }
 
@@ -24,19 +26,19 @@ impl<'a, R: Files> FileInput<'a, R> {
     {
         FileInput {
             files,
-            open: None,
+            opened: None,
             faults: 0,
         }
     }
 }
 
 impl<R: Files> Source for FileInput<'_, R> {
-    ghost left = { λ _. None };
+    ghost left = { λ s. left_of R.File.remaining s.opened };
 
     ghost faults = { λ s. s.faults };
 
     fn read(&mut self, buf: &mut [u8]) -> Got {
-        let Some(file) = &mut self.open else {
+        let Some(file) = &mut self.opened else {
             return Got::End;
         };
         let most = buf.len().min(PIECE);
@@ -55,10 +57,10 @@ impl<R: Files> OpensFiles for FileInput<'_, R> {
     ghost bytes_of = { λ _ _. None };
 
     fn open(&mut self, name: &str) -> Opened {
-        self.open = None;
+        self.opened = None;
         match fs::open(self.files, name) {
             Ok(file) => {
-                self.open = Some(file);
+                self.opened = Some(file);
                 Opened::Open
             }
             Err(e) if e.kind() == ErrorKind::OutOfMemory => Opened::NoMemory,
