@@ -4,6 +4,7 @@ pub mod EndLemmas
 pub mod FileLemmas
 pub mod FinalLemmas
 pub mod GatherLemmas
+pub mod ProgramEnds
 pub mod RunLemmas
 pub mod SessionEnds
 pub mod TopLemmas

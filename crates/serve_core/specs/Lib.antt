@@ -1,4 +1,5 @@
 pub mod Commands
+pub mod Endings
 pub mod Runs
 pub mod Serving
 pub mod Arriving

@@ -21,4 +21,4 @@ pub use serve_single::{
     Fault, Got, MemorySink, MemorySource, Put, Sink, Source, Status, SureSink, SureSource, audit,
     describe, ended, ranges, tell,
 };
-pub use top::run;
+pub use top::{exit_number, run};

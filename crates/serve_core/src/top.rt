@@ -1,9 +1,10 @@
 // The top call.
 
-ghost use Rattle.std.specs.Prelude.{map, string_bytes, IfSome};
+ghost use Rattle.std.specs.Prelude.{map, string_bytes, IfSome, MatchResult};
 ghost use Rattle.serve_words.specs.Commands as commands;
 ghost use Rattle.byte_ends.specs.Changes.{change};
 ghost use Rattle.serve_single.specs.Runs.{Tells};
+ghost use Rattle.serve_core.specs.Endings.{EndsAsRun, EndsWithoutWords};
 ghost use Rattle.serve_core.specs.Runs.{Runs};
 
 use crate::asked::Writes;
@@ -16,7 +17,7 @@ use hall_serving::Sizes;
 use serve_faults::Status;
 use serve_single::{audit, describe, ranges, tell};
 use serve_words::{Command, command_of};
-use std::alloc::Global;
+use std::alloc::{AllocError, Global};
 use std::sync::Wait;
 use std::thread::Threads;
 use worker_gate::Gate;
@@ -81,5 +82,42 @@ fn answer<R: Threads + Wait + Sync, I: Source, O: Sink, G: Gate + Sync>(
             serve_source(by, Writes::ClientReplies, sizes, source, out)
         }
         None => unserved(Status::Usage),
+    }
+}
+
+/// Runs the words of a command line as `run` does, and gives the number with which the program
+/// ends: that of the run's status. Where there was no memory for the words it tells so, and the
+/// number is that of no memory.
+#[tactic(auto, using(
+    crate::proofs::ProgramEnds::ends_as_run,
+    crate::proofs::ProgramEnds::ends_without_words
+))]
+pub fn exit_number<R: Threads + Wait + Sync, I: Source, O: Sink, E: Sink, G: Gate + Sync>(
+    rt: &R,
+    alloc: Global,
+    words: Result<Vec<String>, AllocError>,
+    source: &mut I,
+    out: &mut O,
+    err: &mut E,
+    gate: &G,
+) -> u8
+    ensures { MatchResult words
+        (λ list. EndsAsRun (map string_bytes list.items)
+        (change I.left I.faults source.old source.new)
+        (change O.held O.faults out.old out.new) (change E.held E.faults err.old err.new) result)
+        (λ _. EndsWithoutWords (change I.left I.faults source.old source.new)
+        (change O.held O.faults out.old out.new) (change E.held E.faults err.old err.new)
+        result) }
+{
+    match words {
+        Ok(list) => {
+            let outcome = run(rt, alloc, &list, source, out, err, gate);
+            outcome.status.number()
+        }
+        Err(_) => {
+            let status = Status::NoMemory;
+            tell(&status, err);
+            status.number()
+        }
     }
 }
