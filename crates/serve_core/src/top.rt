@@ -88,10 +88,7 @@ fn answer<R: Threads + Wait + Sync, I: Source, O: Sink, G: Gate + Sync>(
 /// Runs the words of a command line as `run` does, and gives the number with which the program
 /// ends: that of the run's status. Where there was no memory for the words it tells so, and the
 /// number is that of no memory.
-#[tactic(auto, using(
-    crate::proofs::ProgramEnds::ends_as_run,
-    crate::proofs::ProgramEnds::ends_without_words
-))]
+#[tactic(auto, using(crate::proofs::ProgramEnds::ends_as_run, crate::proofs::ProgramEnds::ends_without_words))]
 pub fn exit_number<R: Threads + Wait + Sync, I: Source, O: Sink, E: Sink, G: Gate + Sync>(
     rt: &R,
     alloc: Global,
