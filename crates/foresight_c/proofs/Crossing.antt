@@ -1,8 +1,8 @@
 -- A desk may go to another thread.
 use denote.Param.Send.{IsSend}
 use denote.Param.SendFields.{as_row_send, declared_send, variants_send}
-use Rattle.driven_tickets.specs.contracts.desk.Desk as tables_row
-use Rattle.driven_tickets.proofs.desk.Desk.TheSendSync as tables
+use Rattle.driven_tickets.specs.contracts.driven_tables.DrivenTables as tables_row
+use Rattle.driven_tickets.proofs.driven_tables.DrivenTables.TheSendSync as tables
 use Rattle.live_session.specs.contracts.session.LiveSession as live_row
 use Rattle.live_session.proofs.Crossing.{buffer_send, live_send}
 use Rattle.foresight_c.specs.contracts.desk.Desk as desk

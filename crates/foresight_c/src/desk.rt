@@ -1,7 +1,7 @@
 // Desks: what a handle stands for.
 
 use crate::session_desk::SessionDesk;
-use driven_tickets::Desk as DrivenTables;
+use driven_tickets::DrivenTables;
 
 /// Tables with the tickets that a program drives on them, or a session that lives.
 #[derive(Drop)]

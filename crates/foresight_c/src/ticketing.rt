@@ -7,7 +7,7 @@ ghost use Rattle.foresight_c.specs.Tickets.{BeginOn, CallOn, EndOn, NarrowOn, Op
 use crate::desk::Desk;
 use crate::reading::{op_of, symbol_of};
 use crate::values::{COperation, CValue, told_value};
-use driven_tickets::{BeginError, Called, Desk as DrivenTables, NarrowError};
+use driven_tickets::{BeginError, Called, DrivenTables, NarrowError};
 use session_values::{MAX_SYMBOLS, MAX_TABLES, NoMemory, TableKind};
 use std::alloc::Global;
 use symbolic_ops::Foresight;

@@ -2,10 +2,10 @@ use Rattle.std.proofs.Common.{◌≡◌, ℕ, ◌≤◌, None, subst}
 use Rattle.session_journal.specs.Journal.{Replays, by_ticket, run}
 use Rattle.driven_tickets.specs.Acts.{done_in}
 use Rattle.driven_tickets.specs.Desk.{DeskView, IsDesk, declared, state_of}
-use Rattle.driven_tickets.specs.contracts.desk.Desk.{the_view}
+use Rattle.driven_tickets.specs.contracts.driven_tables.DrivenTables.{the_view}
 use Rattle.driven_tickets.proofs.Runs.{regroups_replay, regroups_tables}
 use Rattle.driven_tickets.proofs.Tickets.{over}
-use Rattle.driven_tickets.proofs.desk.Desk.regroups.Goals as goal
+use Rattle.driven_tickets.proofs.driven_tables.DrivenTables.regroups.Goals as goal
 
 pub returns-clause-desk : goal.returns-clause-desk
 returns-clause-desk c = let P : DeskView → Type 0 = λ x. IsDesk x in subst P c.self.view_is c.self.invariant

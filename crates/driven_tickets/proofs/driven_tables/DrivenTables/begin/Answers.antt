@@ -1,8 +1,8 @@
 use Rattle.std.proofs.Common.{subst}
 use Rattle.driven_tickets.specs.Desk.{DeskView, BegunAs, desk_over}
-use Rattle.driven_tickets.specs.contracts.desk.Desk.{the_view}
+use Rattle.driven_tickets.specs.contracts.driven_tables.DrivenTables.{the_view}
 use Rattle.driven_tickets.proofs.Following.{after_begun}
-use Rattle.driven_tickets.proofs.desk.Desk.begin.Goals as goal
+use Rattle.driven_tickets.proofs.driven_tables.DrivenTables.begin.Goals as goal
 
 pub invariant_of-self : goal.invariant_of-self
 invariant_of-self c =

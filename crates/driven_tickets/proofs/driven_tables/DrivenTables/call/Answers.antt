@@ -3,10 +3,10 @@ use Rattle.session_values.specs.Kinds.{is_adding}
 use Rattle.session_values.specs.Tables.{Tables}
 use Rattle.driven_tickets.specs.Acts.{Calls, IsFree}
 use Rattle.driven_tickets.specs.Desk.{CalledAs, DeskView, FitsDesk, HasActed, IsDeclared, TicketsView, desk_over, state_of}
-use Rattle.driven_tickets.specs.contracts.desk.Desk.{the_view}
+use Rattle.driven_tickets.specs.contracts.driven_tables.DrivenTables.{the_view}
 use Rattle.driven_tickets.proofs.Following.{refused_by}
 use Rattle.driven_tickets.proofs.Keeping.{Acted, called, desk_on}
-use Rattle.driven_tickets.proofs.desk.Desk.call.Goals as goal
+use Rattle.driven_tickets.proofs.driven_tables.DrivenTables.call.Goals as goal
 
 -- what alone may want memory
 wants : (b : Bool) → (b ≡ false → false ≡ true) → b ≡ true
