@@ -22,7 +22,7 @@ fn shape_of(alloc: Global, maps: u8, sets: u8) -> Result<Vec<TableKind>, NoMemor
 }
 
 // The list of the symbols that C gives, or the number of why there is none.
-fn foresight_of(alloc: Global, given: &[COperation]) -> Result<Foresight, u8>
+fn symbols_of(alloc: Global, given: &[COperation]) -> Result<Foresight, u8>
     ensures { ReadAs given.now result }
 {
     if given.len() > MAX_SYMBOLS as usize {
@@ -96,7 +96,7 @@ impl Desk {
     pub(crate) fn begin(&mut self, alloc: Global, declared: &[COperation], ticket: &mut u64) -> u8
         ensures { BeginOn self.old self.new declared.now ticket.old ticket.new result }
     {
-        match foresight_of(alloc, declared) {
+        match symbols_of(alloc, declared) {
             Ok(list) => match self.begun(list) {
                 Ok(number) => {
                     *ticket = number;
@@ -138,7 +138,7 @@ impl Desk {
     pub(crate) fn narrow(&mut self, alloc: Global, ticket: u64, declared: &[COperation]) -> u8
         ensures { NarrowOn self.old self.new ticket declared.now result }
     {
-        match foresight_of(alloc, declared) {
+        match symbols_of(alloc, declared) {
             Ok(list) => match self.narrowed(ticket, list) {
                 Ok(()) => 0,
                 Err(why) => narrowed_number(why),

@@ -3,7 +3,7 @@ use Rattle.symbolic_ops.specs.declared.symbol.Symbol.{Symbol}
 use Rattle.symbolic_ops.specs.Foresight.{ForesightView}
 use Rattle.foresight_c.specs.Tickets.{AreSymbolsOf}
 use Rattle.foresight_c.proofs.Symbols.{symbols_next, unread_at}
-use Rattle.foresight_c.proofs.ticketing.foresight_of.Goals as goal
+use Rattle.foresight_c.proofs.ticketing.symbols_of.Goals as goal
 
 pub returns-in-None : goal.returns-in-None
 returns-in-None c = inr (omega (arith, c.if-given.false), inl (refl, unread_at c.args.given.now c.loop-g.g-index _ c.loop-g-test.true c.in-None.ensures))

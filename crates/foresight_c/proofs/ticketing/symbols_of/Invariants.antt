@@ -1,6 +1,6 @@
 use Rattle.std.proofs.Common.{◌≡◌, length, take}
 use Rattle.foresight_c.specs.Tickets.{AreSymbolsOf}
-use Rattle.foresight_c.proofs.ticketing.foresight_of.Given as goal
+use Rattle.foresight_c.proofs.ticketing.symbols_of.Given as goal
 
 -- the first symbols were read, and there is room for all
 abbrev pub invariant-loop-g : goal.invariant-loop-g
