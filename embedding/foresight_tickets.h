@@ -37,8 +37,8 @@ enum foresight_ticket_status {
     /* A number has no meaning: there are too many tables, there is no such kind or sort, or a field
      * that the kind doesn't use isn't nil. Nothing was done. */
     FORESIGHT_TICKET_UNREAD = 10,
-    /* The handle isn't in a state for this call: it has no tables, has some already, or has
-     * something else. Nothing was done. */
+    /* The handle has no tables, or `open` was given one that has some already. Nothing was
+     * done. */
     FORESIGHT_TICKET_WRONG = 11,
     /* There are more than 256 symbols, or all 2^64 - 1 numbers of tickets are used up. Nothing was
      * done. */
