@@ -16,7 +16,7 @@ import threading
 
 MESSAGE_ROOM = 256
 REPLIES_ROOM = 65536
-VERSION_NUMBER = 10500
+VERSION_NUMBER = 20000
 NIL, NUMBER, NAME, ANY = range(4)
 KINDS = ("get", "put", "swap", "del", "size", "bump", "has", "add", "mark", "drop", "count")
 _KIND_NUMBERS = {kind: number for number, kind in enumerate(KINDS)}

@@ -11,7 +11,7 @@
  * by a thread's start or join; a handle that is dropped without `close` leaks its memory. Each
  * pointer points to what its call says, which has been initialized; these don't overlap, and no
  * pointer is NULL. The functions of foresight_session_guard.h check for NULL first. A handle of a
- * session isn't one of a hall or of tables.
+ * session isn't one of tables.
  */
 #ifndef FORESIGHT_SESSION_H
 #define FORESIGHT_SESSION_H

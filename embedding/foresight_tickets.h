@@ -22,8 +22,8 @@ extern "C" {
 #endif
 
 /* The version of this header; `foresight_version` returns that of the archive. */
-#define FORESIGHT_VERSION "1.5"
-#define FORESIGHT_VERSION_NUMBER 10500
+#define FORESIGHT_VERSION "2.0"
+#define FORESIGHT_VERSION_NUMBER 20000
 
 /* 10,000 times the first number of the archive's version, plus 100 times the second. */
 uint32_t foresight_version(void);
@@ -37,8 +37,8 @@ enum foresight_ticket_status {
     /* A number has no meaning: there are too many tables, there is no such kind or sort, or a field
      * that the kind doesn't use isn't nil. Nothing was done. */
     FORESIGHT_TICKET_UNREAD = 10,
-    /* The handle isn't in a state for this call: it has no tables, has some already, or has
-     * something else. Nothing was done. */
+    /* The handle has no tables, or `open` was given one that has some already. Nothing was
+     * done. */
     FORESIGHT_TICKET_WRONG = 11,
     /* There are more than 256 symbols, or all 2^64 - 1 numbers of tickets are used up. Nothing was
      * done. */

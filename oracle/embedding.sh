@@ -2,11 +2,10 @@
 # Builds the static library and, over it, embedding/check.c by `cc` and embedding/check.rs by
 # `rustc`, as far as these are at hand, and has each answer to every file of examples/ and checks/
 # that is for `check`, `show`, `ranges`, `audit`, `serve` or `dump`; the program runs with all words
-# of the file, so with its callers and shards. embedding/hall.c, over a handle of the hall, is built
-# by `cc` too, and what it prints is compared with embedding/hall.stdout. Then sessions, tickets and
-# servers in C and Rust, and the packages for Python and Go (embedding/live.sh). Ends with 1 where a text, a
-# message or a status is another than the program's, where the hall's lines are others, or where
-# nothing was compared. Needs the program as `rt ci` leaves it, or its path as a word; a second word
+# of the file, so with its callers and shards. Then
+# sessions, tickets and servers in C and Rust, and the packages for Python and Go
+# (embedding/live.sh). Ends with 1 where a text, a message or a status is another than the
+# program's, or where nothing was compared. Needs the program as `rt ci` leaves it, or its path as a word; a second word
 # is the path of a library that is built already. The gate does the same on some of the files
 # (.ci/embedding), where each call is tested and its memory counted too.
 set -euo pipefail
@@ -26,12 +25,9 @@ library=$(realpath "$library")
 make_look
 
 programs=()
-hall=0
 if command -v cc > "$work/log"; then
   compile c embedding/check.c
   programs+=("$work/c")
-  compile hall embedding/hall.c
-  if ! "$work/hall" | cmp - embedding/hall.stdout; then hall=1; fi
 fi
 if command -v rustc > "$work/log"; then
   rustc --edition 2024 -O embedding/check.rs -C link-arg="$library" -o "$work/rust"
@@ -49,4 +45,4 @@ if command -v cc > "$work/log"; then
   live_others
 fi
 echo "${#programs[@]} programs, $compared answers, $differ differences"
-[ "$compared" -gt 0 ] && [ "$differ" -eq 0 ] && [ "$hall" -eq 0 ] && [ "$live" -eq 0 ]
+[ "$compared" -gt 0 ] && [ "$differ" -eq 0 ] && [ "$live" -eq 0 ]

@@ -75,20 +75,15 @@ main_of_library() {
   cat src/lib.rt
   cat <<'MAIN'
 use crate::handle::Handle;
-use crate::session_handle::SessionHandle;
-use hall_desk::{HallOperation, HallStep, HallValue};
+use crate::values::{COperation, CValue};
 use std::process::ExitCode;
 
-fn a_value() -> HallValue {
-    HallValue { sort: 0, name: 0, number: 0 }
+fn a_value() -> CValue {
+    CValue { sort: 0, name: 0, number: 0 }
 }
 
-fn an_operation() -> HallOperation {
-    HallOperation { kind: 0, table: 0, key: a_value(), value: a_value() }
-}
-
-fn a_step() -> HallStep {
-    HallStep { answer: 0, ticket: 0, other: 0, reply: a_value() }
+fn an_operation() -> COperation {
+    COperation { kind: 0, table: 0, key: a_value(), value: a_value() }
 }
 
 fn an_answer() -> Answer {
@@ -105,8 +100,8 @@ MAIN
   for file in src/*.rt; do
     tr '\n' ' ' < "$file" | { grep -oE 'extern "C" fn \w+\([^)]*\)' || true; } | sed -E "
       s/.* fn /let _ = crate::$(basename "$file" .rt)::/; s/\w+: //g; s/\$/;/; s/Global/rt.alloc()/
-      s/\bu(8|32|64|size)\b/0/g; s/HallValue/a_value()/g; s/HallOperation/an_operation()/
-      s/HallStep/a_step()/; s/Answer/an_answer()/; s/Served/a_served()/; s/\w*Handle/&::none()/"
+      s/\bu(8|32|64|size)\b/0/g; s/CValue/a_value()/g; s/COperation/an_operation()/
+      s/Answer/an_answer()/; s/Served/a_served()/; s/Handle/&::none()/"
   done
   echo 'ExitCode::from(0) }'
 }

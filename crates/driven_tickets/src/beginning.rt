@@ -5,7 +5,7 @@ ghost use Rattle.driven_tickets.specs.Desk.{BegunAs, desk_over};
 ghost use Rattle.driven_tickets.specs.Tickets.{AreAscending};
 
 use crate::answers::BeginError;
-use crate::desk::Desk;
+use crate::driven_tables::DrivenTables;
 use crate::open_ticket::OpenTicket;
 use crate::open_tickets::OpenTickets;
 use symbolic_ops::Foresight;
@@ -31,7 +31,7 @@ impl OpenTickets {
     }
 }
 
-impl Desk {
+impl DrivenTables {
     /// Begins the next ticket, which declares this list, and answers its number.
     pub fn begin(&mut self, declared: Foresight) -> Result<u64, BeginError>
         ensures { BegunAs self.old self.new declared.symbols result }

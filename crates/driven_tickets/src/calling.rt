@@ -1,10 +1,10 @@
 // Calling an operation of a ticket.
 
 use crate::answers::Called;
-use crate::desk::Desk;
+use crate::driven_tables::DrivenTables;
 use session_values::Op;
 
-impl Desk {
+impl DrivenTables {
     ghost use Rattle.driven_tickets.specs.Desk.{CalledAs};
 
     /// Does an operation of an open ticket, which has declared it, unless an older ticket is in the

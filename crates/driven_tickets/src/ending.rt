@@ -5,7 +5,7 @@ ghost use Rattle.driven_tickets.specs.Desk.{EndedAs, desk_over};
 ghost use Rattle.driven_tickets.specs.Tickets.{AreAscending};
 
 use crate::answers::NoTicket;
-use crate::desk::Desk;
+use crate::driven_tables::DrivenTables;
 use crate::open_tickets::OpenTickets;
 use crate::place::place_of;
 
@@ -25,7 +25,7 @@ impl OpenTickets {
     }
 }
 
-impl Desk {
+impl DrivenTables {
     /// Ends an open ticket. What it did stays, and it is in nobody's way any more.
     pub fn end(&mut self, ticket: u64) -> Result<(), NoTicket>
         ensures { EndedAs self.old self.new ticket result }

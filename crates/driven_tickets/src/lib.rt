@@ -4,13 +4,13 @@
 //! operations that were done, ticket after ticket, replay with the same replies.
 //!
 //! ```text
-//! let older = desk.begin(transfer)?;       // may get account 1, and bump 1 and 2
-//! let younger = desk.begin(reader)?;       // may get account 2
-//! desk.call(younger, get_2)                // Delayed { older }
-//! desk.call(older, bump_2)                 // Done(Nil)
-//! desk.narrow(older, get_1_alone)?;
-//! desk.call(younger, get_2)                // Done(..), what the bump left
-//! desk.end(older)?;
+//! let older = tables.begin(transfer)?;       // may get account 1, and bump 1 and 2
+//! let younger = tables.begin(reader)?;       // may get account 2
+//! tables.call(younger, get_2)                // Delayed { older }
+//! tables.call(older, bump_2)                 // Done(Nil)
+//! tables.narrow(older, get_1_alone)?;
+//! tables.call(younger, get_2)                // Done(..), what the bump left
+//! tables.end(older)?;
 //! ```
 #![tactic(auto)]
 
@@ -18,8 +18,8 @@ mod answers;
 mod beginning;
 mod blocker;
 mod calling;
-mod desk;
 mod desk_tables;
+mod driven_tables;
 mod ending;
 mod history;
 pub mod laws;
@@ -31,6 +31,6 @@ mod place;
 mod standing;
 
 pub use answers::{BeginError, Called, NarrowError, NoTicket};
-pub use desk::Desk;
+pub use driven_tables::DrivenTables;
 pub use history::History;
 pub use open_tickets::OpenTickets;

@@ -5,7 +5,7 @@ ghost use Rattle.driven_tickets.specs.Desk.{NarrowedAs, desk_over};
 ghost use Rattle.driven_tickets.specs.Tickets.{AreAscending};
 
 use crate::answers::NarrowError;
-use crate::desk::Desk;
+use crate::driven_tables::DrivenTables;
 use crate::open_tickets::OpenTickets;
 use crate::place::place_of;
 use symbolic_ops::{Foresight, covered};
@@ -30,7 +30,7 @@ impl OpenTickets {
     }
 }
 
-impl Desk {
+impl DrivenTables {
     /// An open ticket declares this list in place of its own, which covers it. No memory is taken.
     pub fn narrow(&mut self, ticket: u64, declared: Foresight) -> Result<(), NarrowError>
         ensures { NarrowedAs self.old self.new ticket declared.symbols result }

@@ -7,8 +7,8 @@ use denote.Exit.{no}
 use denote.Param.{layout, arg}
 use denote.Param.Laws.{Laws, arg_laws}
 use denote.RattleType.{RattleType}
-use Rattle.hall_desk.specs.contracts.desk.Desk as desk
-use Rattle.hall_desk.proofs.desk.Desk.TheLaws as desk_laws
+use Rattle.foresight_c.specs.contracts.desk.Desk as desk
+use Rattle.foresight_c.proofs.desk.Desk.TheLaws as desk_laws
 use Rattle.std.specs.contracts.alloc.Global as global
 use Rattle.std.proofs.alloc.Global.TheLaws as global_laws
 use Rattle.std.specs.contracts.impls.GlobalAllocator.TheImpl as heap

@@ -21,13 +21,13 @@ use denote.Triple.Carry.{AllWithin}
 use denote.Triple.Clauses.{Lasts, lasts, at_exit}
 use denote.Triple.Walked.{Fit}
 use Rattle.foresight_c.proofs.BoxedDesk.{value_row, value_laws}
-use Rattle.foresight_c.proofs.hall_desk++desk++Desk+Destruct.drop.Kinds as kinds
-use Rattle.foresight_c.proofs.hall_desk++desk++Desk+Destruct.drop.Reads as reads
-use Rattle.foresight_c.proofs.hall_desk++desk++Desk+Destruct.drop.Symbol as symbol
-use Rattle.foresight_c.proofs.hall_desk++desk++Desk+Destruct.drop.Met as met
+use Rattle.foresight_c.proofs.foresight_c++desk++Desk+Destruct.drop.Kinds as kinds
+use Rattle.foresight_c.proofs.foresight_c++desk++Desk+Destruct.drop.Reads as reads
+use Rattle.foresight_c.proofs.foresight_c++desk++Desk+Destruct.drop.Symbol as symbol
+use Rattle.foresight_c.proofs.foresight_c++desk++Desk+Destruct.drop.Met as met
 
 abbrev pub dx : Dict
-dx = impl ("foresight_c::hall_desk++desk++Desk+Destruct::drop" ∷ []) tnil dnil
+dx = impl ("foresight_c::foresight_c++desk++Desk+Destruct::drop" ∷ []) tnil dnil
 
 abbrev ps : List (ParamKind 1)
 ps = p_owned (param 0 value_row) refl no (Mute-seen (λ x. tt)) (λ M 𝓤 𝓛. (param_laws 0 value_row value_laws).lawful 𝓛) ∷ []

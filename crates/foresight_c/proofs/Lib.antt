@@ -2,7 +2,6 @@ pub mod Crossing
 pub mod Endings
 mod Filling
 mod BoxedDesk
-mod BoxedSession
 mod DeskDrops
-mod SessionDrops
 pub mod Serving
+mod Symbols

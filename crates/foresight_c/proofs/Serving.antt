@@ -9,13 +9,14 @@ use Rattle.live_session.specs.Live.{LiveView, dump_of}
 use Rattle.live_session.specs.declared.dumping.Dumped.{Dumped}
 use Rattle.live_session.specs.declared.dumping.Dumped.TheVariants as dumped
 use Rattle.live_session.specs.declared.batch.Batch.{Batch}
+use Rattle.foresight_c.specs.declared.desk.Desk.{Desk}
 use Rattle.foresight_c.specs.declared.session_desk.SessionDesk.{SessionDesk}
 use Rattle.foresight_c.specs.Fronts.{put_at_front}
 use Rattle.foresight_c.specs.SessionMessages.{ended_line, ended_number, ended_older}
 use Rattle.foresight_c.specs.Answered.{IsHandedOver}
 use Rattle.foresight_c.specs.Endings.{ending, handed}
 use Rattle.foresight_c.specs.Sessions.{HasMessage, IsDumped, IsServing, dump_status}
-use Rattle.foresight_c.specs.SessionCalls.{DumpsOn}
+use Rattle.foresight_c.specs.SessionCalls.{DumpOn, DumpsOn}
 use Rattle.foresight_c.specs.declared.answer.Answer.{Answer}
 use Rattle.foresight_c.proofs.Endings.{whole}
 use Rattle.foresight_c.specs.declared.served.Served.{Served}
@@ -69,7 +70,7 @@ module _ {O : Type 0} (v : LiveView) (text out out_new message message_new : Lis
       go dumped.NoMemory took h = inr h
 
 -- a session that was taken and put back, and whose tables were handed over between
-pub dumps_on : (o e : Option SessionDesk) (d x : SessionDesk) (out out_new message message_new : List ℕ) (a : Answer) (n : ℕ) → Some d ≡ o → e ≡ Some d → x ≡ d → IsDumped x.session out out_new message message_new a n → DumpsOn o e out out_new message message_new a n
+pub dumps_on : (o e : Option Desk) (d x : Desk) (out out_new message message_new : List ℕ) (a : Answer) (n : ℕ) → Some d ≡ o → e ≡ Some d → x ≡ d → DumpOn x out out_new message message_new a n → DumpsOn o e out out_new message message_new a n
 dumps_on o e d x out out_new message message_new a n old new same dumped =
-    let is : IsDumped d.session out out_new message message_new a n = subst (λ (y : SessionDesk). IsDumped y.session out out_new message message_new a n) same dumped in
-    subst (λ (p : Option SessionDesk). DumpsOn p e out out_new message message_new a n) old (new, is)
+    let is : DumpOn d out out_new message message_new a n = subst (λ (y : Desk). DumpOn y out out_new message message_new a n) same dumped in
+    subst (λ (p : Option Desk). DumpsOn p e out out_new message message_new a n) old (new, is)

@@ -6,8 +6,8 @@ use Rattle.std.specs.contracts.impls.GlobalAllocator.TheImpl as heap
 use base.Fml.{Fml, ftrue}
 use denote.RawPtr.{Ptr}
 use Rattle.std_alloc.specs.Box.Ownership.{box_owns}
-use Rattle.hall_desk.specs.declared.desk.Desk.{Desk}
-use Rattle.hall_desk.specs.contracts.desk.Desk.{the_row}
+use Rattle.foresight_c.specs.declared.desk.Desk.{Desk}
+use Rattle.foresight_c.specs.contracts.desk.Desk.{the_row}
 
 abbrev pub DeskOf : Type 0
 DeskOf = Desk

@@ -11,36 +11,7 @@ use Rattle.live_session.specs.declared.batch.Ended.{Ended}
 use Rattle.live_session.specs.declared.batch.Ended.TheVariants as batch
 use Rattle.live_session.specs.declared.opening.OpenError.{OpenError}
 use Rattle.live_session.specs.declared.opening.OpenError.TheVariants as unopened
-
--- ---- the numbers: all was done; a rule is broken; memory ran out; there may be no room for one
--- more reply; the handle has no session, or has one already; no ticket number is left; there would
--- be too many names; the bytes are no text; an open ticket is in the way
-abbrev pub fine : ℕ
-fine = 0
-
-abbrev pub refused : ℕ
-refused = 1
-
-abbrev pub no_memory : ℕ
-no_memory = 3
-
-abbrev pub no_room : ℕ
-no_room = 5
-
-abbrev pub wrong : ℕ
-wrong = 11
-
-abbrev pub no_number : ℕ
-no_number = 12
-
-abbrev pub delayed : ℕ
-delayed = 20
-
-abbrev pub too_many_names : ℕ
-too_many_names = 15
-
-abbrev pub not_text : ℕ
-not_text = 16
+use Rattle.foresight_c.specs.Numbers.{delayed, fine, full, no_memory, no_room, refused, too_many_names}
 
 abbrev pub answered_number : Answered → ℕ
 answered_number answered.Served = fine
@@ -48,7 +19,7 @@ answered_number answered.Nothing = fine
 answered_number (answered.Refused why) = refused
 answered_number answered.TooManyNames = too_many_names
 answered_number (answered.Delayed u) = delayed
-answered_number answered.NoNumber = no_number
+answered_number answered.NoNumber = full
 answered_number answered.NoMemory = no_memory
 
 abbrev pub ended_number : Ended → ℕ

@@ -10,11 +10,14 @@ use Rattle.live_session.specs.declared.batch.Batch.{Batch}
 use Rattle.live_session.specs.declared.dumping.Dumped.{Dumped}
 use Rattle.live_session.specs.declared.dumping.Dumped.TheVariants as dumped
 use Rattle.live_session.specs.declared.opening.OpenError.{OpenError}
+use Rattle.foresight_c.specs.declared.desk.Desk.{Desk}
+use Rattle.foresight_c.specs.declared.desk.Desk.TheVariants.{Tables, Session}
 use Rattle.foresight_c.specs.declared.session_desk.SessionDesk.{SessionDesk}
 use Rattle.foresight_c.specs.Answered.{IsHandedOver}
 use Rattle.foresight_c.specs.Endings.{ending}
 use Rattle.foresight_c.specs.Fronts.{put_at_front}
-use Rattle.foresight_c.specs.SessionMessages.{ended_line, ended_number, ended_older, not_text, wrong}
+use Rattle.foresight_c.specs.Numbers.{not_text, wrong}
+use Rattle.foresight_c.specs.SessionMessages.{ended_line, ended_number, ended_older}
 use Rattle.foresight_c.specs.declared.answer.Answer.{Answer}
 use Rattle.foresight_c.specs.declared.served.Served.{Served}
 
@@ -22,13 +25,14 @@ use Rattle.foresight_c.specs.declared.served.Served.{Served}
 abbrev pub names_bound : ℕ → ℕ
 names_bound most = min most 4000000000
 
--- the desk's session was opened over the text
-abbrev pub HasOpenedDesk : List ℕ → ℕ → SessionDesk → Type 0
-HasOpenedDesk text most d = HasOpened text (names_bound most) d.session
+-- the desk has a session that was opened over the text
+abbrev pub HasOpenedDesk : List ℕ → ℕ → Desk → Type 0
+HasOpenedDesk text most (Session d) = HasOpened text (names_bound most) d.session
+HasOpenedDesk text most (Tables d) = ⊥
 
 -- the same of what a box has
-abbrev pub HasOpenedIn : List ℕ → ℕ → SessionDesk → Type 0
-HasOpenedIn text most value = (d : SessionDesk) × (value ≡ d) × HasOpenedDesk text most d
+abbrev pub HasOpenedIn : List ℕ → ℕ → Desk → Type 0
+HasOpenedIn text most value = (d : Desk) × (value ≡ d) × HasOpenedDesk text most d
 
 abbrev pub IsUnopenedDesk : List ℕ → ℕ → OpenError → Type 0
 IsUnopenedDesk text most why = IsUnopened text (names_bound most) why
@@ -64,10 +68,10 @@ pub record IsServing (d e : SessionDesk) (lines out out_new message message_new 
   pub message_has : HasMessage message message_new (ended_line batch.ended) s.told
   pub number_is : number ≡ ended_number batch.ended
 
--- lines at a desk: bytes that are UTF-8 are served, and others aren't read
-abbrev pub ServeOn : SessionDesk → SessionDesk → List ℕ → List ℕ → List ℕ → List ℕ → List ℕ → Served
+-- lines at a session's desk: bytes that are UTF-8 are served, and others aren't read
+abbrev pub ServeAt : SessionDesk → SessionDesk → List ℕ → List ℕ → List ℕ → List ℕ → List ℕ → Served
     → ℕ → Type 0
-ServeOn d e lines out out_new message message_new s n =
+ServeAt d e lines out out_new message message_new s n =
     (IsUtf8 lines × IsServing d e lines out out_new message message_new s n)
     ⊎ ((IsUtf8 lines → ⊥) × (e ≡ d) × (out_new ≡ out)
     × IsTold message message_new s not_text (ended (codes "not text")) n)

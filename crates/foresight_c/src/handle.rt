@@ -4,7 +4,7 @@ ghost use Rattle.std.specs.Prelude.{◌≡◌, Option, Some, None, true};
 ghost use Rattle.std.specs.Coded.{coded_option};
 ghost use Rattle.foresight_c.specs.Held.{DeskOf, desk_code, held, is_live, value_in};
 
-use hall_desk::Desk;
+use crate::desk::Desk;
 use std::alloc::Global;
 use std::marker::Model;
 

@@ -1,28 +1,30 @@
 //! A static library for programs in C and others: what `check`, `show`, `ranges`, `audit`, `serve`
-//! and `dump` answer to bytes in memory; and over a handle a hall, whose callers are stepped, a
-//! session that lives, or tables, on which tickets are driven. It starts no thread, takes no lock,
-//! opens no file and keeps nothing between calls, but for what a handle stands for. The headers of
-//! `embedding/` declare it.
+//! and `dump` answer to bytes in memory; and over a handle a session that lives, or tables, on which
+//! tickets are driven. It starts no thread, takes no lock, opens no file and keeps nothing between
+//! calls, but for what a handle stands for. The headers of `embedding/` declare it.
 #![tactic(auto)]
 
 mod answer;
 mod calling;
+mod desk;
+mod driving;
 mod exports;
 mod fronts;
-mod hall_exports;
 mod handing;
 mod handle;
+mod reading;
 mod served;
 mod session_desk;
 mod session_exports;
-mod session_handle;
 mod session_messages;
+mod session_names;
 mod session_ticket_exports;
-mod session_ticketing;
 mod sessions;
 mod text_rooms;
 mod text_store;
 mod ticket_exports;
+mod ticketing;
+mod values;
 mod version;
 
 pub use answer::Answer;

@@ -1,13 +1,14 @@
 // What C calls over a handle of a session. `embedding/foresight_session.h` declares each by the
 // same name.
 
-ghost use Rattle.foresight_c.specs.SessionCalls.{ClosesOn, DumpsOn, OpensOn, ServesOn};
+ghost use Rattle.foresight_c.specs.Handles.{ClosesOn};
+ghost use Rattle.foresight_c.specs.SessionCalls.{DumpsOn, OpensOn, ServesOn};
 
 use crate::answer::Answer;
+use crate::handle::{Handle, taken};
 use crate::served::Served;
-use crate::session_handle::{SessionHandle, taken};
 use crate::session_messages::{tell_unopened, unopened_number};
-use crate::sessions::{dump_of, opened, serve_at, tell};
+use crate::sessions::{opened, tell, wrong};
 use std::alloc::Global;
 
 /// A session over a session file without requests: handlers, perhaps a table part, and the dividing
@@ -15,7 +16,7 @@ use std::alloc::Global;
 #[unsafe(no_mangle)]
 pub extern "C" fn foresight_session_open(
     alloc: Global,
-    handle: &mut SessionHandle,
+    handle: &mut Handle,
     text: &[u8],
     seed: u64,
     most_names: u32,
@@ -29,12 +30,12 @@ pub extern "C" fn foresight_session_open(
     answer.needed = 0;
     answer.told = 0;
     if let Some(desk) = taken(handle, alloc) {
-        *handle = SessionHandle::of(desk);
+        *handle = Handle::of(desk);
         return 11;
     }
     match opened(alloc, text, seed, most_names) {
         Ok(desk) => {
-            *handle = SessionHandle::of(desk);
+            *handle = Handle::of(desk);
             0
         }
         Err(why) => {
@@ -50,7 +51,7 @@ pub extern "C" fn foresight_session_open(
 #[unsafe(no_mangle)]
 pub extern "C" fn foresight_session_serve(
     alloc: Global,
-    handle: &mut SessionHandle,
+    handle: &mut Handle,
     lines: &[u8],
     out: &mut [u8],
     message: &mut [u8],
@@ -61,8 +62,8 @@ pub extern "C" fn foresight_session_serve(
 {
     match taken(handle, alloc) {
         Some(mut desk) => {
-            let number = serve_at(&mut desk, lines, out, message, served);
-            *handle = SessionHandle::of(desk);
+            let number = desk.serve(lines, out, message, served);
+            *handle = Handle::of(desk);
             number
         }
         None => tell(served, 11, "", message),
@@ -73,7 +74,7 @@ pub extern "C" fn foresight_session_serve(
 #[unsafe(no_mangle)]
 pub extern "C" fn foresight_session_dump(
     alloc: Global,
-    handle: &mut SessionHandle,
+    handle: &mut Handle,
     out: &mut [u8],
     message: &mut [u8],
     answer: &mut Answer,
@@ -83,22 +84,17 @@ pub extern "C" fn foresight_session_dump(
 {
     match taken(handle, alloc) {
         Some(desk) => {
-            let number = dump_of(alloc, &desk.session, out, message, answer);
-            *handle = SessionHandle::of(desk);
+            let number = desk.dump(alloc, out, message, answer);
+            *handle = Handle::of(desk);
             number
         }
-        None => {
-            answer.written = 0;
-            answer.needed = 0;
-            answer.told = 0;
-            11
-        }
+        None => wrong(answer),
     }
 }
 
 /// Gives back all memory of the handle.
 #[unsafe(no_mangle)]
-pub extern "C" fn foresight_session_close(alloc: Global, handle: &mut SessionHandle) -> u8
+pub extern "C" fn foresight_session_close(alloc: Global, handle: &mut Handle) -> u8
     ensures { ClosesOn handle.old.held.value handle.new.held.value result }
 {
     match taken(handle, alloc) {

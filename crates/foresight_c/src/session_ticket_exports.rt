@@ -1,28 +1,29 @@
 // What C calls of tickets over a handle of a session. `embedding/foresight_session.h` declares each by
 // the same name.
 
-ghost use Rattle.foresight_c.specs.SessionTickets.{BeginAt, CallAt, EndAt, NameAt, NarrowAt, OnCalled, OnNumbered, OnSession, OnText};
+ghost use Rattle.foresight_c.specs.Handles.{OnCalled, OnDesk, OnTold};
+ghost use Rattle.foresight_c.specs.SessionNames.{NameOn, OnText};
+ghost use Rattle.foresight_c.specs.Tickets.{BeginOn, CallOn, EndOn, NarrowOn};
 
-use crate::session_handle::{SessionHandle, taken};
-use crate::session_ticketing::{begin_at, call_at, end_at, name_at, narrow_at, text_at};
-use hall_desk::{HallOperation, HallValue};
+use crate::handle::{Handle, taken};
+use crate::values::{COperation, CValue};
 use std::alloc::Global;
 
 /// Begins the next ticket, which declares these symbols.
 #[unsafe(no_mangle)]
 pub extern "C" fn foresight_session_begin(
     alloc: Global,
-    handle: &mut SessionHandle,
-    declared: &[HallOperation],
+    handle: &mut Handle,
+    declared: &[COperation],
     ticket: &mut u64,
 ) -> u8
-    ensures { OnNumbered handle.old.held.value handle.new.held.value ticket.old ticket.new result
-        (λ d e. BeginAt d e declared.now ticket.old ticket.new result) }
+    ensures { OnTold handle.old.held.value handle.new.held.value ticket.old ticket.new result
+        (λ d e. BeginOn d e declared.now ticket.old ticket.new result) }
 {
     match taken(handle, alloc) {
         Some(mut desk) => {
-            let number = begin_at(alloc, &mut desk, declared, ticket);
-            *handle = SessionHandle::of(desk);
+            let number = desk.begin(alloc, declared, ticket);
+            *handle = Handle::of(desk);
             number
         }
         None => 11,
@@ -33,20 +34,20 @@ pub extern "C" fn foresight_session_begin(
 #[unsafe(no_mangle)]
 pub extern "C" fn foresight_session_call(
     alloc: Global,
-    handle: &mut SessionHandle,
+    handle: &mut Handle,
     ticket: u64,
-    operation: &HallOperation,
-    reply: &mut HallValue,
+    operation: &COperation,
+    reply: &mut CValue,
     older: &mut u64,
 ) -> u8
     ensures { OnCalled handle.old.held.value handle.new.held.value reply.old reply.new older.old
-        older.new result (λ d e. CallAt d e ticket operation.now reply.old reply.new older.old
+        older.new result (λ d e. CallOn d e ticket operation.now reply.old reply.new older.old
         older.new result) }
 {
     match taken(handle, alloc) {
         Some(mut desk) => {
-            let number = call_at(&mut desk, ticket, operation, reply, older);
-            *handle = SessionHandle::of(desk);
+            let number = desk.call(ticket, operation, reply, older);
+            *handle = Handle::of(desk);
             number
         }
         None => 11,
@@ -57,17 +58,17 @@ pub extern "C" fn foresight_session_call(
 #[unsafe(no_mangle)]
 pub extern "C" fn foresight_session_narrow(
     alloc: Global,
-    handle: &mut SessionHandle,
+    handle: &mut Handle,
     ticket: u64,
-    declared: &[HallOperation],
+    declared: &[COperation],
 ) -> u8
-    ensures { OnSession handle.old.held.value handle.new.held.value result
-        (λ d e. NarrowAt d e ticket declared.now result) }
+    ensures { OnDesk handle.old.held.value handle.new.held.value result
+        (λ d e. NarrowOn d e ticket declared.now result) }
 {
     match taken(handle, alloc) {
         Some(mut desk) => {
-            let number = narrow_at(alloc, &mut desk, ticket, declared);
-            *handle = SessionHandle::of(desk);
+            let number = desk.narrow(alloc, ticket, declared);
+            *handle = Handle::of(desk);
             number
         }
         None => 11,
@@ -76,18 +77,14 @@ pub extern "C" fn foresight_session_narrow(
 
 /// Ends an open ticket.
 #[unsafe(no_mangle)]
-pub extern "C" fn foresight_session_end(
-    alloc: Global,
-    handle: &mut SessionHandle,
-    ticket: u64,
-) -> u8
-    ensures { OnSession handle.old.held.value handle.new.held.value result
-        (λ d e. EndAt d e ticket result) }
+pub extern "C" fn foresight_session_end(alloc: Global, handle: &mut Handle, ticket: u64) -> u8
+    ensures { OnDesk handle.old.held.value handle.new.held.value result
+        (λ d e. EndOn d e ticket result) }
 {
     match taken(handle, alloc) {
         Some(mut desk) => {
-            let number = end_at(&mut desk, ticket);
-            *handle = SessionHandle::of(desk);
+            let number = desk.end(ticket);
+            *handle = Handle::of(desk);
             number
         }
         None => 11,
@@ -98,17 +95,17 @@ pub extern "C" fn foresight_session_end(
 #[unsafe(no_mangle)]
 pub extern "C" fn foresight_session_name(
     alloc: Global,
-    handle: &mut SessionHandle,
+    handle: &mut Handle,
     text: &[u8],
     number: &mut u32,
 ) -> u8
-    ensures { OnNumbered handle.old.held.value handle.new.held.value number.old number.new result
-        (λ d e. NameAt d e text.now number.old number.new result) }
+    ensures { OnTold handle.old.held.value handle.new.held.value number.old number.new result
+        (λ d e. NameOn d e text.now number.old number.new result) }
 {
     match taken(handle, alloc) {
         Some(mut desk) => {
-            let number = name_at(&mut desk, text, number);
-            *handle = SessionHandle::of(desk);
+            let number = desk.name(text, number);
+            *handle = Handle::of(desk);
             number
         }
         None => 11,
@@ -119,7 +116,7 @@ pub extern "C" fn foresight_session_name(
 #[unsafe(no_mangle)]
 pub extern "C" fn foresight_session_text(
     alloc: Global,
-    handle: &mut SessionHandle,
+    handle: &mut Handle,
     name: u32,
     out: &mut [u8],
     size: &mut usize,
@@ -129,8 +126,8 @@ pub extern "C" fn foresight_session_text(
 {
     match taken(handle, alloc) {
         Some(desk) => {
-            let number = text_at(&desk, name, out, size);
-            *handle = SessionHandle::of(desk);
+            let number = desk.text(name, out, size);
+            *handle = Handle::of(desk);
             number
         }
         None => 11,

@@ -2,9 +2,11 @@
 
 ghost use Rattle.std.specs.Prelude.{◌≡◌, IfErr, IfOk, IfSome};
 ghost use Rattle.foresight_c.specs.Sessions as spec;
-ghost use Rattle.foresight_c.specs.Sessions.{HasOpenedIn, IsDumped, IsServing, IsTold, IsUnopenedDesk, ServeOn};
+ghost use Rattle.foresight_c.specs.Sessions.{HasOpenedIn, IsDumped, IsServing, IsTold, IsUnopenedDesk, ServeAt};
+ghost use Rattle.foresight_c.specs.SessionCalls.{DumpOn, ServeOn};
 
 use crate::answer::Answer;
+use crate::desk::Desk;
 use crate::fronts::put_front;
 use crate::handing::hand_over;
 use crate::served::Served;
@@ -22,7 +24,7 @@ pub(crate) fn opened(
     text: &[u8],
     seed: u64,
     most_names: u32,
-) -> Result<Box<SessionDesk, Global>, OpenError>
+) -> Result<Box<Desk, Global>, OpenError>
     ensures opened { IfOk result (λ desk. HasOpenedIn text.now most_names desk.value) }
     ensures unopened { IfErr result (IsUnopenedDesk text.now most_names) }
 {
@@ -30,14 +32,14 @@ pub(crate) fn opened(
         return Err(OpenError::NoMemory);
     };
     let session = LiveSession::open(alloc, text, seed, most_names)?;
-    match boxed(alloc, SessionDesk { session, replies }) {
+    match boxed(alloc, Desk::Session(SessionDesk { session, replies })) {
         Some(desk) => Ok(desk),
         None => Err(OpenError::NoMemory),
     }
 }
 
 // The desk in a block of its own, if there is memory for it.
-fn boxed(alloc: Global, desk: SessionDesk) -> Option<Box<SessionDesk, Global>>
+fn boxed(alloc: Global, desk: Desk) -> Option<Box<Desk, Global>>
     ensures { IfSome result (λ b. b.value ≡ desk) }
 {
     match Box::new(alloc, desk) {
@@ -46,15 +48,15 @@ fn boxed(alloc: Global, desk: SessionDesk) -> Option<Box<SessionDesk, Global>>
     }
 }
 
-/// Serves lines at a desk.
-pub(crate) fn serve_at(
+// Serves lines at a session's desk.
+fn serve_at(
     desk: &mut SessionDesk,
     lines: &[u8],
     out: &mut [u8],
     message: &mut [u8],
     served: &mut Served,
 ) -> u8
-    ensures { ServeOn desk.old desk.new lines.now out.old out.new message.old message.new
+    ensures { ServeAt desk.old desk.new lines.now out.old out.new message.old message.new
         served.new result }
 {
     match std::str::from_utf8(lines) {
@@ -96,8 +98,56 @@ pub(crate) fn tell(served: &mut Served, number: u8, line: &str, message: &mut [u
     number
 }
 
-/// Writes the tables of a session, and hands their text over.
-pub(crate) fn dump_of(
+/// Says that nothing was handed over, since there is no session.
+pub(crate) fn wrong(answer: &mut Answer) -> u8
+    ensures written { answer.new.written ≡ 0 }
+    ensures needed { answer.new.needed ≡ 0 }
+    ensures told { answer.new.told ≡ 0 }
+    ensures number { result ≡ 11 }
+{
+    answer.written = 0;
+    answer.needed = 0;
+    answer.told = 0;
+    11
+}
+
+impl Desk {
+    /// Serves lines, where there is a session.
+    pub(crate) fn serve(
+        &mut self,
+        lines: &[u8],
+        out: &mut [u8],
+        message: &mut [u8],
+        served: &mut Served,
+    ) -> u8
+        ensures { ServeOn self.old self.new lines.now out.old out.new message.old message.new
+            served.new result }
+    {
+        match self {
+            Desk::Session(desk) => serve_at(desk, lines, out, message, served),
+            Desk::Tables(_) => tell(served, 11, "", message),
+        }
+    }
+
+    /// Writes the tables of the session, where there is one, and hands their text over.
+    pub(crate) fn dump(
+        &self,
+        alloc: Global,
+        out: &mut [u8],
+        message: &mut [u8],
+        answer: &mut Answer,
+    ) -> u8
+        ensures { DumpOn self.now out.old out.new message.old message.new answer.new result }
+    {
+        match self {
+            Desk::Session(desk) => dump_of(alloc, &desk.session, out, message, answer),
+            Desk::Tables(_) => wrong(answer),
+        }
+    }
+}
+
+// Writes the tables of a session, and hands their text over.
+fn dump_of(
     alloc: Global,
     session: &LiveSession,
     out: &mut [u8],

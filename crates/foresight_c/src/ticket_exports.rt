@@ -2,12 +2,12 @@
 // declares each by the same name.
 
 ghost use Rattle.std.specs.Prelude.{◌≡◌};
-ghost use Rattle.hall_desk.specs.Tickets.{BeginOn, CallTicketOn, EndOn, NarrowOn};
-ghost use Rattle.foresight_c.specs.HallCalls.{FreesOn, OnDesk};
-ghost use Rattle.foresight_c.specs.TicketCalls.{OnTickets, OnTold, TablesOn};
+ghost use Rattle.foresight_c.specs.Handles.{ClosesOn, OnCalled, OnDesk, OnTold, TablesOn};
+ghost use Rattle.foresight_c.specs.Tickets.{BeginOn, CallOn, EndOn, NarrowOn};
 
+use crate::desk::Desk;
 use crate::handle::{Handle, taken};
-use hall_desk::{Desk, HallOperation, HallValue};
+use crate::values::{COperation, CValue};
 use std::alloc::Global;
 
 /// Tables, over so many maps and behind them so many sets, all empty, on which no ticket has begun.
@@ -25,7 +25,7 @@ pub extern "C" fn foresight_tables_open(
             *handle = Handle::of(desk);
             11
         }
-        None => match Desk::tickets(alloc, maps, sets) {
+        None => match Desk::tables(alloc, maps, sets) {
             Ok(desk) => match Box::new(alloc, desk) {
                 Ok(desk) => {
                     *handle = Handle::of(desk);
@@ -43,7 +43,7 @@ pub extern "C" fn foresight_tables_open(
 pub extern "C" fn foresight_ticket_begin(
     alloc: Global,
     handle: &mut Handle,
-    declared: &[HallOperation],
+    declared: &[COperation],
     ticket: &mut u64,
 ) -> u8
     ensures { OnTold handle.old.held.value handle.new.held.value ticket.old ticket.new result
@@ -65,17 +65,17 @@ pub extern "C" fn foresight_ticket_call(
     alloc: Global,
     handle: &mut Handle,
     ticket: u64,
-    operation: &HallOperation,
-    reply: &mut HallValue,
+    operation: &COperation,
+    reply: &mut CValue,
     older: &mut u64,
 ) -> u8
-    ensures { OnTickets handle.old.held.value handle.new.held.value reply.old reply.new older.old
-        older.new result (λ d e. CallTicketOn d e ticket operation.now reply.old reply.new older.old
+    ensures { OnCalled handle.old.held.value handle.new.held.value reply.old reply.new older.old
+        older.new result (λ d e. CallOn d e ticket operation.now reply.old reply.new older.old
         older.new result) }
 {
     match taken(handle, alloc) {
         Some(mut desk) => {
-            let number = desk.call_of(ticket, operation, reply, older);
+            let number = desk.call(ticket, operation, reply, older);
             *handle = Handle::of(desk);
             number
         }
@@ -89,7 +89,7 @@ pub extern "C" fn foresight_ticket_narrow(
     alloc: Global,
     handle: &mut Handle,
     ticket: u64,
-    declared: &[HallOperation],
+    declared: &[COperation],
 ) -> u8
     ensures { OnDesk handle.old.held.value handle.new.held.value result
         (λ d e. NarrowOn d e ticket declared.now result) }
@@ -123,7 +123,7 @@ pub extern "C" fn foresight_ticket_end(alloc: Global, handle: &mut Handle, ticke
 /// Gives back all memory of the handle.
 #[unsafe(no_mangle)]
 pub extern "C" fn foresight_tables_close(alloc: Global, handle: &mut Handle) -> u8
-    ensures { FreesOn handle.old.held.value handle.new.held.value result }
+    ensures { ClosesOn handle.old.held.value handle.new.held.value result }
 {
     match taken(handle, alloc) {
         Some(_) => 0,

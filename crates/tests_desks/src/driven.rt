@@ -1,7 +1,7 @@
 // Tickets driven call by call: two transfers that overlap, one that waits until an older ticket
 // narrows, and each refusal.
 
-use driven_tickets::{Called, Desk, NarrowError, NoTicket};
+use driven_tickets::{Called, DrivenTables, NarrowError, NoTicket};
 use session_values::{Kind, NoMemory, Op, TableKind, Value};
 use std::alloc::Global;
 use std::process::Abort;
@@ -59,9 +59,9 @@ fn held(number: i64) -> Called {
 }
 
 /// Calls of tickets, in order, with what each has to answer.
-fn calls<R: Abort>(rt: &R, desk: &mut Desk, rows: &[(u64, Op, Called)]) {
+fn calls<R: Abort>(rt: &R, tables: &mut DrivenTables, rows: &[(u64, Op, Called)]) {
     for (ticket, op, answer) in rows {
-        assert_eq!(rt; desk.call(*ticket, *op), *answer);
+        assert_eq!(rt; tables.call(*ticket, *op), *answer);
     }
 }
 
@@ -70,28 +70,28 @@ fn may_go<T: Send>(value: T) -> T {
     value
 }
 
-/// A desk over one map, in which ticket 0 has bumped account 1 to 100, 2 to 50 and 3 to 10.
-fn bank<R: Abort>(rt: &R, alloc: Global) -> Desk {
-    let mut desk = Desk::open(alloc, &[TableKind::Map]).expect(rt, "memory");
+/// Tables of one map, in which ticket 0 has bumped account 1 to 100, 2 to 50 and 3 to 10.
+fn bank<R: Abort>(rt: &R, alloc: Global) -> DrivenTables {
+    let mut tables = DrivenTables::open(alloc, &[TableKind::Map]).expect(rt, "memory");
     let any = [Symbol::new(Kind::Bump, 0, Arg::Any, Arg::Any)];
     let declared = list(alloc, &any).expect(rt, "memory");
-    assert_eq!(rt; desk.begin(declared), Ok(0));
+    assert_eq!(rt; tables.begin(declared), Ok(0));
     let rows = [
         (0, bump(1, 100), NOTHING),
         (0, bump(2, 50), NOTHING),
         (0, bump(3, 10), NOTHING),
     ];
-    calls(rt, &mut desk, &rows);
-    assert_eq!(rt; desk.end(0), Ok(()));
-    may_go(desk)
+    calls(rt, &mut tables, &rows);
+    assert_eq!(rt; tables.end(0), Ok(()));
+    may_go(tables)
 }
 
 #[test]
 fn transfers_that_commute_overlap(rt: HostRuntime) {
     let alloc = rt.alloc();
-    let mut desk = bank(&rt, alloc);
-    assert_eq!(rt; desk.begin(transfer(&rt, alloc, 1, 2)), Ok(1));
-    assert_eq!(rt; desk.begin(transfer(&rt, alloc, 3, 2)), Ok(2));
+    let mut tables = bank(&rt, alloc);
+    assert_eq!(rt; tables.begin(transfer(&rt, alloc, 1, 2)), Ok(1));
+    assert_eq!(rt; tables.begin(transfer(&rt, alloc, 3, 2)), Ok(2));
     let rows = [
         (1, get(1), held(100)),
         (2, get(3), held(10)),
@@ -100,24 +100,24 @@ fn transfers_that_commute_overlap(rt: HostRuntime) {
         (2, bump(2, 5), NOTHING),
         (1, bump(2, 30), NOTHING),
     ];
-    calls(&rt, &mut desk, &rows);
-    assert_eq!(rt; desk.end(2), Ok(()));
-    assert_eq!(rt; desk.end(1), Ok(()));
-    assert_eq!(rt; desk.begin(reading(&rt, alloc, &[1, 2, 3])), Ok(3));
+    calls(&rt, &mut tables, &rows);
+    assert_eq!(rt; tables.end(2), Ok(()));
+    assert_eq!(rt; tables.end(1), Ok(()));
+    assert_eq!(rt; tables.begin(reading(&rt, alloc, &[1, 2, 3])), Ok(3));
     let rows = [
         (3, get(1), held(70)),
         (3, get(2), held(85)),
         (3, get(3), held(5)),
     ];
-    calls(&rt, &mut desk, &rows);
+    calls(&rt, &mut tables, &rows);
 }
 
 #[test]
 fn a_reader_waits_until_the_older_ticket_narrows(rt: HostRuntime) {
     let alloc = rt.alloc();
-    let mut desk = bank(&rt, alloc);
-    assert_eq!(rt; desk.begin(transfer(&rt, alloc, 1, 2)), Ok(1));
-    assert_eq!(rt; desk.begin(reading(&rt, alloc, &[2])), Ok(2));
+    let mut tables = bank(&rt, alloc);
+    assert_eq!(rt; tables.begin(transfer(&rt, alloc, 1, 2)), Ok(1));
+    assert_eq!(rt; tables.begin(reading(&rt, alloc, &[2])), Ok(2));
     let waits = Called::Delayed { older: 1 };
     let rows = [
         (2, get(2), waits),
@@ -126,23 +126,23 @@ fn a_reader_waits_until_the_older_ticket_narrows(rt: HostRuntime) {
         (1, bump(2, 30), NOTHING),
         (2, get(2), waits),
     ];
-    calls(&rt, &mut desk, &rows);
-    assert_eq!(rt; desk.narrow(1, reading(&rt, alloc, &[1])), Ok(()));
+    calls(&rt, &mut tables, &rows);
+    assert_eq!(rt; tables.narrow(1, reading(&rt, alloc, &[1])), Ok(()));
     let rows = [
         (2, get(2), held(80)),
         (1, get(1), held(70)),
         (1, bump(2, 1), Called::Undeclared),
     ];
-    calls(&rt, &mut desk, &rows);
-    assert_eq!(rt; desk.end(1), Ok(()));
-    assert_eq!(rt; desk.end(2), Ok(()));
+    calls(&rt, &mut tables, &rows);
+    assert_eq!(rt; tables.end(1), Ok(()));
+    assert_eq!(rt; tables.end(2), Ok(()));
 }
 
 #[test]
 fn each_refusal_changes_nothing(rt: HostRuntime) {
     let alloc = rt.alloc();
-    let mut desk = bank(&rt, alloc);
-    assert_eq!(rt; desk.begin(transfer(&rt, alloc, 1, 2)), Ok(1));
+    let mut tables = bank(&rt, alloc);
+    assert_eq!(rt; tables.begin(transfer(&rt, alloc, 1, 2)), Ok(1));
     let member = Op::new(Kind::Has, 0, Value::Num(1), Value::Nil);
     let elsewhere = Op::new(Kind::Get, 1, Value::Num(1), Value::Nil);
     let rows = [
@@ -152,14 +152,14 @@ fn each_refusal_changes_nothing(rt: HostRuntime) {
         (0, get(1), Called::NoTicket),
         (2, get(1), Called::NoTicket),
     ];
-    calls(&rt, &mut desk, &rows);
+    calls(&rt, &mut tables, &rows);
     let wider = transfer(&rt, alloc, 1, 3);
-    assert_eq!(rt; desk.narrow(1, wider), Err(NarrowError::Undeclared));
+    assert_eq!(rt; tables.narrow(1, wider), Err(NarrowError::Undeclared));
     let nobody = reading(&rt, alloc, &[1]);
-    assert_eq!(rt; desk.narrow(2, nobody), Err(NarrowError::NoTicket));
-    assert_eq!(rt; desk.end(2), Err(NoTicket));
-    calls(&rt, &mut desk, &[(1, get(1), held(100))]);
-    assert_eq!(rt; desk.end(1), Ok(()));
-    assert_eq!(rt; desk.end(1), Err(NoTicket));
-    calls(&rt, &mut desk, &[(1, get(1), Called::NoTicket)]);
+    assert_eq!(rt; tables.narrow(2, nobody), Err(NarrowError::NoTicket));
+    assert_eq!(rt; tables.end(2), Err(NoTicket));
+    calls(&rt, &mut tables, &[(1, get(1), held(100))]);
+    assert_eq!(rt; tables.end(1), Ok(()));
+    assert_eq!(rt; tables.end(1), Err(NoTicket));
+    calls(&rt, &mut tables, &[(1, get(1), Called::NoTicket)]);
 }

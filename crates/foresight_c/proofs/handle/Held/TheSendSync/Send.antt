@@ -10,9 +10,9 @@ use denote.Param.Send.{IsSend, AllSend, owning_send, struct_send, sendable}
 use Rattle.std.specs.Prelude.{Option, Some, None}
 use Rattle.std.proofs.Crossing.{frees}
 use Rattle.std_alloc.proofs.SendSync.{lies, quiet}
-use Rattle.hall_desk.specs.declared.desk.Desk.{Desk}
-use Rattle.hall_desk.specs.contracts.desk.Desk as desk
-use Rattle.hall_desk.proofs.Crossing.{desk_send}
+use Rattle.foresight_c.specs.declared.desk.Desk.{Desk}
+use Rattle.foresight_c.specs.contracts.desk.Desk as desk
+use Rattle.foresight_c.proofs.Crossing.{desk_send}
 use Rattle.foresight_c.specs.Held.{held, the_heap}
 use Rattle.foresight_c.specs.contracts.handle.Held.{the_row, the_type}
 

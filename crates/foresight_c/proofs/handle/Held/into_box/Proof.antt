@@ -39,8 +39,8 @@ use Rattle.core.proofs.alloc.Calls.{token, handle_tells, Fits, Goes-blank}
 use Rattle.std_alloc.specs.Box.Ownership.{box_owns}
 use Rattle.std_alloc.proofs.BoxSteps.Form.{D, τ, B, handle, box_ty, box_typed}
 use Rattle.std_alloc.proofs.BoxSteps.Steps.{box_out, box_in}
-use Rattle.hall_desk.specs.declared.desk.Desk.{Desk}
-use Rattle.hall_desk.specs.contracts.desk.Desk as desk
+use Rattle.foresight_c.specs.declared.desk.Desk.{Desk}
+use Rattle.foresight_c.specs.contracts.desk.Desk as desk
 use Rattle.std.specs.contracts.alloc.Global as global
 use Rattle.foresight_c.specs.Held as owned
 use Rattle.foresight_c.proofs.BoxedDesk.{C, E}

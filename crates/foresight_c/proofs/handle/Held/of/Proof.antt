@@ -54,7 +54,7 @@ use Rattle.foresight_c.proofs.handle.Held.of.Statement as stated
 use Rattle.foresight_c.proofs.handle.Held.of.Code as code
 
 abbrev dx : Dict
-dx = impl ("foresight_c::hall_desk++desk++Desk+Destruct::drop" ∷ []) tnil dnil
+dx = impl ("foresight_c::foresight_c++desk++Desk+Destruct::drop" ∷ []) tnil dnil
 
 abbrev args : Args
 args = bounded (a_type ∷ a_type ∷ []) (C.row, (C.al.row, tt)) (dcons C.al.d (dcons C.al.drops (dcons dx dnil)))
@@ -115,4 +115,4 @@ of_spec {M} 𝓤 𝓛 𝓜 𝓡 wired =
     (walk 𝓛 𝓜.mem 𝓡.returns 𝓣 (raw_met.met 𝓤 𝓛 𝓜 𝓡 (code.calls-std_alloc::boxed::Box::into_raw 𝓡.env wired) C.row C.al.row C.laws C.al.laws C.al.g C.al.d C.al.drops dx
     (heap_met.passed 𝓡.env (code.calls-std_heap::GlobalAllocator::allocate 𝓡.env wired) (code.calls-std_heap::GlobalAllocator::deallocate 𝓡.env wired) (code.calls-std_heap::GlobalAllocator::grow 𝓡.env wired) (code.calls-std_heap::GlobalAllocator::shrink 𝓡.env wired) M 𝓤 𝓛 𝓜 𝓡)
     (no_drop_glues "foresight_c::Destruct++none::drop" 𝓡.env (code.calls-foresight_c::Destruct++none::drop 𝓡.env wired) C.al.row C.al.laws M 𝓤 𝓛 𝓜 𝓡)
-    (drops 𝓤 𝓛 𝓜 𝓡 (code.calls-foresight_c::hall_desk++desk++Desk+Destruct::drop 𝓡.env wired)))))
+    (drops 𝓤 𝓛 𝓜 𝓡 (code.calls-foresight_c::foresight_c++desk++Desk+Destruct::drop 𝓡.env wired)))))

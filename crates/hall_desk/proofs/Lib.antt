@@ -1,3 +1,0 @@
-mod Symbols
-mod TablesLeft
-pub mod Crossing
