@@ -27,6 +27,7 @@ mod reply_line;
 mod running;
 mod session;
 mod tables;
+mod telling;
 
 pub use answers::{Answered, LineRefusal, NameError};
 pub use batch::{Batch, Ended};
