@@ -1,11 +1,11 @@
 -- What the open tickets declare after one begins, narrows or ends, and that they still ascend.
-use Rattle.std.proofs.Common.{◌≡◌, ℕ, zero, suc, ◌<◌, ◌≤◌, Bool, true, false, List, [], ◌∷◌, ◌++◌, Option, Some, None, cond, eqb, take, set, refl, sym, ◌∙◌, ap, subst, arith}
+use Rattle.std.proofs.Common.{◌≡◌, ℕ, zero, suc, ◌<◌, ◌≤◌, Bool, true, false, List, [], ◌∷◌, ◌++◌, Option, Some, None, cond, eqb, get_or, length, take, set, refl, sym, ◌∙◌, ap, subst, arith}
 use Rattle.std.specs.List.{remove}
 use Rattle.std.proofs.lemmas.Bool.Decides.{nat_tests}
 use Rattle.std.proofs.lemmas.Bool.{eq-eqb, eqb-true}
 use Rattle.symbolic_ops.specs.declared.symbol.Symbol.{Symbol}
 use Rattle.driven_tickets.specs.declared.open_ticket.OpenTicket.{OpenTicket}
-use Rattle.driven_tickets.specs.Tickets.{AreAscending, IsAt, declared_in}
+use Rattle.driven_tickets.specs.Tickets.{AreAscending, IsAt, IsOldestOpen, declared_in}
 
 abbrev Declares : Type 0
 Declares = Option (List Symbol)
@@ -75,6 +75,25 @@ over n m (x ∷ os) u h l =
   where
     above : (a b : ℕ) → b < a → eqb a b ≡ false
     above a b l = grind (arith, nat_tests)
+
+-- the first ticket is the oldest
+pub first_oldest : (n m : ℕ) (o : OpenTicket) (os : List OpenTicket) → AreAscending n (o ∷ os) m → IsOldestOpen (o ∷ os) o.ticket
+first_oldest n m o os h = record {
+  list = o.declared.symbols;
+  is = ap (λ b. cond b (list_of o) (declared_in os o.ticket)) (eq-eqb o.ticket o.ticket refl);
+  least = λ u l.
+      ap (λ b. cond b (list_of o) (declared_in os u)) (apart u o.ticket l)
+      ∙ under (suc o.ticket) m os u h.1 (omega (arith, l));
+}
+
+pub oldest_at : (m : ℕ) (os : List OpenTicket) (r : OpenTicket) → AreAscending 0 os m → 0 < length os → r ≡ get_or os 0 r → IsOldestOpen os r.ticket
+oldest_at m [] r h l is = absurd (omega (arith, l))
+oldest_at m (o ∷ os) r h l is = subst (λ (x : OpenTicket). IsOldestOpen (o ∷ os) x.ticket) (sym is) (first_oldest 0 m o os h)
+
+-- nobody is open below the limit 0
+pub none_below_zero : (os : List OpenTicket) → AreAscending 0 os 0 → os ≡ []
+none_below_zero [] h = refl
+none_below_zero (o ∷ os) h = let l : suc o.ticket ≤ 0 = most (suc o.ticket) 0 os h.1 in absurd (omega (arith, l))
 
 -- a ticket that is open comes after one that is below all
 pub later : (n m : ℕ) (os : List OpenTicket) (u k : ℕ) (f : List Symbol) → AreAscending n os m → declared_in os u ≡ Some f → k < n → eqb u k ≡ false

@@ -11,6 +11,12 @@ abbrev pub declared_in : List OpenTicket → ℕ → Option (List Symbol)
 declared_in [] t = None
 declared_in (o ∷ os) t = cond (t == o.ticket) (Some o.declared.symbols) (declared_in os t)
 
+-- the ticket is open, and none below it is
+pub record IsOldestOpen (os : List OpenTicket) (t : ℕ) : Type 0 where
+  pub list : List Symbol
+  pub is : declared_in os t ≡ Some list
+  pub least : (u : ℕ) → u < t → declared_in os u ≡ None
+
 -- the ticket is kept at this place
 pub record IsAt (os : List OpenTicket) (t : ℕ) (i : ℕ) : Type 0 where
   pub within : i < length os

@@ -29,6 +29,7 @@ mod open_tickets;
 mod origin;
 mod place;
 mod standing;
+mod telling;
 
 pub use answers::{BeginError, Called, NarrowError, NoTicket};
 pub use driven_tables::DrivenTables;

@@ -228,6 +228,7 @@ module _ (v : LiveView) (text : Text) (most : ℕ) (before : Text) (u : LiveView
     lines_done = h.lines_done;
     after_is = h.after_is;
     within = h.within;
+    used_within = omega arith;
     ends = (h.left ∙ ap (λ (ls : List Text). h.done ++ ls) (none_left rest none) ∙ append-nil h.done, refl);
   }
 
@@ -243,6 +244,7 @@ module _ (v : LiveView) (text : Text) (most : ℕ) (before : Text) (u : LiveView
     lines_done = h.lines_done;
     after_is = h.after_is;
     within = h.within;
+    used_within = omega (arith, is);
     ends = (h.left ∙ ap (λ (r : Text). h.done ++ lines r) (sym (left_over used is)), omega (arith, some, is, h.short), full);
   }
 
@@ -265,8 +267,8 @@ module _ (v : LiveView) (text : Text) (most : ℕ) (before : Text) (u : LiveView
     whole = h.left ∙ ap (λ (ls : List Text). h.done ++ ls) is
 
     module _ (a : Answered) (s : Text) (w : LiveView) (more : Text) (d : LineAnswered u line a s w) (on : more ≡ after ++ s) where
-      ended_by : Ends a → (used : ℕ) → EndsAs u text most after h.done used (ended.Stopped a) → BatchAnswered v text most before (record { used = used; requests = n; ended = ended.Stopped a }) w more
-      ended_by stops used ends =
+      ended_by : Ends a → (used : ℕ) → used ≤ length text → EndsAs u text most after h.done used (ended.Stopped a) → BatchAnswered v text most before (record { used = used; requests = n; ended = ended.Stopped a }) w more
+      ended_by stops used low ends =
           let still = line_still u line a s w d stops in
           let same : more ≡ after = on ∙ ap (λ (x : Text). after ++ x) still.1 ∙ append-nil after in
           subst (λ (x : LiveView). BatchAnswered v text most before (record { used = used; requests = n; ended = ended.Stopped a }) x more) (sym still.0)
@@ -276,6 +278,7 @@ module _ (v : LiveView) (text : Text) (most : ℕ) (before : Text) (u : LiveView
             lines_done = h.lines_done;
             after_is = h.after_is;
             within = h.within;
+            used_within = low;
             ends = ends;
           }))
 
@@ -283,7 +286,7 @@ module _ (v : LiveView) (text : Text) (most : ℕ) (before : Text) (u : LiveView
       when_wanting : (used : ℕ) → EndsUnused a → used ≡ length text - length rest → BatchAnswered v text most before (record { used = used; requests = n; ended = ended.Stopped a }) w more
       when_wanting used stops at =
           let stop : IsStop u line a = line_stop u line a s w d (as_unused a stops) in
-          ended_by (as_unused a stops) used
+          ended_by (as_unused a stops) used (omega (arith, at))
           (ends_wanting u text most after h.done used a line (lines next) stops whole (ap lines (left_over used at) ∙ is) stop)
 
       -- the line broke a rule, and is used
@@ -291,7 +294,7 @@ module _ (v : LiveView) (text : Text) (most : ℕ) (before : Text) (u : LiveView
       when_refused used stops at =
           let stop : IsStop u line a = line_stop u line a s w d (as_end a stops) in
           let behind : drop used text ≡ next = ap (λ (k : ℕ). drop k text) at ∙ sym (back_on text rest next h.back h.short back (omega (arith, less))) in
-          ended_by (as_end a stops) used
+          ended_by (as_end a stops) used (omega (arith, at))
           (ends_refused u text most after h.done used a line (lines next) stops whole (ap lines behind) stop)
 
       -- one or the other

@@ -45,7 +45,9 @@ EndsAs w text most after done used (ended.Stopped a) =
     (line : Text) × (more : List Text) × (lines text ≡ done ++ line ∷ more)
     × (lines (drop used text) ≡ more) × IsStop w line a
 
--- the first lines were served, up to where the batch ended
+-- the first lines were served, up to where the batch ended. What is used is within the text, so it
+-- is just what those lines take, their line feeds included, and that of a line that broke a rule:
+-- no other place of the text has the lines behind it that are left
 pub record BatchAnswered (v : LiveView) (text : Text) (most : ℕ) (before : Text) (b : Batch)
     (w : LiveView) (after : Text) : Type 0 where
   pub done : List Text
@@ -53,6 +55,7 @@ pub record BatchAnswered (v : LiveView) (text : Text) (most : ℕ) (before : Tex
   pub lines_done : LinesDone v done b.requests replies w
   pub after_is : after ≡ before ++ replies
   pub within : (length after ≤ most) ⊎ (replies ≡ [])
+  pub used_within : b.used ≤ length text
   pub ends : EndsAs w text most after done b.used b.ended
 
 -- ---- on the way. Only this crate's own functions cite these.

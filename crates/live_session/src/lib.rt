@@ -3,8 +3,7 @@
 //! served alone from the tables before it, or changes nothing. Beside open tickets it is delayed as
 //! a whole if what its handler declares at its entry doesn't commute with what they have declared.
 //! The law `regroups` holds of every session, `answered_as_served` of one that was given lines
-//! alone. In no clause: that searches begin by the seed, and that `used` of a batch is at most the
-//! length of the text.
+//! alone. In no clause: that searches begin by the seed.
 #![tactic(auto)]
 
 mod accepting;
@@ -28,6 +27,7 @@ mod reply_line;
 mod running;
 mod session;
 mod tables;
+mod telling;
 
 pub use answers::{Answered, LineRefusal, NameError};
 pub use batch::{Batch, Ended};

@@ -1,6 +1,7 @@
 //! Tests of sessions that live: replies and tables are those that `serve` and `dump` write of one
 //! file with all the lines; what each call refuses, and where a batch stops and goes on; and
-//! tickets and requests over the tables of one session, of which one delays the other.
+//! tickets and requests over the tables of one session, of which one delays the other; and what a
+//! session tells of what it holds.
 #![tactic(auto)]
 
 #[cfg(test)]
@@ -9,3 +10,5 @@ mod calls;
 mod driven;
 #[cfg(test)]
 mod living;
+#[cfg(test)]
+mod telling;
