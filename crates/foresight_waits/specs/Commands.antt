@@ -48,7 +48,7 @@ command_of (word ∷ next ∷ name ∷ more ∷ words) = None
 
 -- the line that tells the version
 abbrev pub version_line : List ℕ
-version_line = codes "foresight_waits 1.5\n"
+version_line = codes "foresight_waits 2.0\n"
 
 -- ---- what the code finds
 

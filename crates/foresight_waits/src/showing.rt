@@ -41,7 +41,7 @@ pub(crate) fn count<W: Write>(alloc: Global, form: Form, bytes: &[u8], out: &mut
 pub(crate) fn show_version<W: Write>(out: &mut W) -> Ending
     ensures { IsWritten version_line (W.contents out.old) (W.contents out.new) result }
 {
-    written(out, b"foresight_waits 1.5\n")
+    written(out, b"foresight_waits 2.0\n")
 }
 
 /// Writes all bytes, and tells how that ended.
