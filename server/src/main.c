@@ -1,0 +1,192 @@
+/* foresight-server: a durable server over a session of the library. See server/README.md. */
+#include "client.h"
+#include "command.h"
+#include "commits.h"
+#include "disk.h"
+#include "handlers.h"
+#include "metrics.h"
+#include "options.h"
+#include "serving.h"
+#include "snapshot.h"
+#include "tables.h"
+
+#include "foresight_tickets.h"
+
+#include <signal.h>
+#include <stdio.h>
+#include <stdlib.h>
+#include <string.h>
+
+enum { END_SECONDS = 30 };
+
+static struct head head;
+static bool ending, skips_snapshot, snapshot_asked;
+static uint64_t end_began;
+static uv_timer_t end_tick;
+
+/* ---- Without a network. */
+
+static void print_row(const struct row *row, const uint8_t *line, const uint8_t *client,
+    const uint8_t *chain, void *with) {
+    (void)client, (void)chain, (void)with;
+    printf("%.*s\n", (int)row->line_size, line);
+}
+
+static void print_log(void) {
+    struct named named;
+    log_open(options.data);
+    log_head(&head, &named);
+    printf("%.*s\n%%%%\n", (int)head.handlers.size, head.handlers.at);
+    log_rows(print_row, NULL);
+}
+
+static void print_tables(void) {
+    struct bytes dump = { NULL, 0, 0 };
+    tables_dump(&dump);
+    fwrite(dump.at, 1, dump.size, stdout);
+}
+
+/* A copy of the log, and of the snapshot that it names. */
+static void back_up(void) {
+    struct named named;
+    struct bytes text = { NULL, 0, 0 };
+    char from[SNAPSHOT_PATH], to[SNAPSHOT_PATH];
+    log_copy(options.data, options.backup);
+    log_open(options.backup);
+    log_head(&head, &named);
+    if (named.stand.position > 0) {
+        snapshot_path(from, options.data, named.stand.position);
+        snapshot_path(to, options.backup, named.stand.position);
+        if (!bytes_read_file(&text, from)) give_up(STATUS_NO_FILE, "%s is gone: try again", from);
+        const char *fault = disk_write(to, &text);
+        if (fault != NULL) give_up(STATUS_NO_FILE, "%s: %s", to, fault);
+    }
+    log_close();
+    const char *fault = disk_sync_folder(options.backup);
+    if (fault != NULL) give_up(STATUS_NO_FILE, "%s", fault);
+}
+
+/* ---- The beginning. */
+
+/* Handlers are those of the data; those that are given have to be the same. */
+static void open_tables(void) {
+    struct bytes given = { NULL, 0, 0 };
+    if (options.handlers != NULL && !bytes_read_file(&given, options.handlers)) {
+        give_up(STATUS_NO_FILE, "%s can't be read", options.handlers);
+    }
+    bool there = options.data != NULL && log_open(options.data);
+    if (!there && options.handlers == NULL) give_up(STATUS_NO_FILE, "%s has no log", options.data);
+    if (!there) {
+        head = (struct head){ given, foresight_version(), (uint32_t)options.most_names,
+            options.once_clients, options.once_window, { 0 } };
+        seal_of(&head);
+        tables_open(&given, head.most_names);
+        handlers_read(&given);
+        if (options.data != NULL) log_create(&head);
+    }
+    if (options.data == NULL) once_open(options.once_clients, options.once_window);
+    if (options.data == NULL) return;
+    head.handlers = (struct bytes){ NULL, 0, 0 };
+    if (options.has_until && !log_is_copy()) {
+        give_up(STATUS_REFUSED, "--until cuts the log: it is for a copy, made by --backup");
+    }
+    serve_log(options.data, &head, options.has_until ? options.until : INT64_MAX);
+    handlers_read(&head.handlers);
+    bool same = options.handlers == NULL || (given.size == head.handlers.size
+        && memcmp(given.at, head.handlers.at, given.size) == 0);
+    if (!same) give_up(STATUS_REFUSED, "the data is of other handlers");
+    options.once_window = head.once_window;
+}
+
+/* ---- The end. */
+
+static void finish(void) {
+    if (options.data != NULL) log_close();
+    say("ends at position %llu", (unsigned long long)serving.position);
+    exit(STATUS_FINE);
+}
+
+/* All that was served is committed and answered, then a snapshot, then the end. */
+static void try_to_end(void) {
+    if (!commits_done()) return;
+    if (!skips_snapshot && !snapshot_asked) {
+        snapshot_asked = true;
+        commits_want_snapshot();
+        commits_turn();
+    }
+    bool sent = clients_quiet() || metrics_clock() - end_began > options.send_seconds * 1000000000;
+    if ((skips_snapshot || commits_quiet()) && sent) finish();
+}
+
+static void on_tick(uv_timer_t *timer) {
+    (void)timer;
+    if (!ending) return;
+    if (metrics_clock() - end_began > END_SECONDS * 1000000000ull) {
+        give_up(STATUS_LATE, "%d seconds were not enough to end", END_SECONDS);
+    }
+    try_to_end();
+}
+
+static void on_signal(uv_signal_t *signal, int number) {
+    (void)signal;
+    (void)number;
+    if (ending) {
+        skips_snapshot = true;
+        return;
+    }
+    ending = true;
+    end_began = metrics_clock();
+    say("ends");
+    clients_end();
+    uv_timer_start(&end_tick, on_tick, 0, 20);
+}
+
+static void on_turn(uv_check_t *check) {
+    (void)check;
+    commits_turn();
+}
+
+static void watch(uv_loop_t *loop) {
+    static uv_signal_t terminate, interrupt;
+    static uv_check_t turn;
+    signal(SIGPIPE, SIG_IGN);
+    signal(SIGHUP, SIG_IGN);
+    uv_signal_init(loop, &terminate);
+    uv_signal_start(&terminate, on_signal, SIGTERM);
+    uv_signal_init(loop, &interrupt);
+    uv_signal_start(&interrupt, on_signal, SIGINT);
+    uv_check_init(loop, &turn);
+    uv_check_start(&turn, on_turn);
+    uv_timer_init(loop, &end_tick);
+}
+
+int main(int count, char **words) {
+    uv_loop_t *loop = uv_default_loop();
+    struct named named = { 0 };
+    options_read(count, words);
+    if (options.backup != NULL) {
+        back_up();
+        return STATUS_FINE;
+    }
+    if (options.data != NULL) disk_lock(options.data);
+    if (options.print_log) {
+        print_log();
+        return STATUS_FINE;
+    }
+    open_tables();
+    if (options.print_tables) {
+        print_tables();
+        return STATUS_FINE;
+    }
+    if (options.password_file != NULL) command_password(options.password_file);
+    command_names();
+    clients_begin(loop);
+    watch(loop);
+    if (options.data != NULL) {
+        log_named(&named);
+        commits_begin(loop, &head, &named);
+    }
+    if (options.unix_path != NULL) clients_listen_unix(options.unix_path);
+    if (options.listen != NULL) clients_listen_tcp(options.listen);
+    return uv_run(loop, UV_RUN_DEFAULT);
+}
