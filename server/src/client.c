@@ -20,10 +20,11 @@ enum {
 };
 
 static uv_idle_t idle; /* runs as long as somebody has more to be served */
-static struct client *more;
+static struct client *more, *last_more;
 static bool ending;
 
 static void update(struct client *client);
+static void serve_more(uv_idle_t *handle);
 
 /* ---- Sending. */
 
@@ -130,16 +131,28 @@ static void serve_read(struct client *client) {
     client_send(client);
 }
 
+static void add_more(struct client *client) {
+    if (client->in_more) return;
+    client->in_more = true;
+    client->next_more = NULL;
+    *(more != NULL ? &last_more->next_more : &more) = client;
+    last_more = client;
+    uv_idle_start(&idle, serve_more);
+}
+
+/* Each who has more has a turn, in order, as long as all of them take no longer than one may. */
 static void serve_more(uv_idle_t *handle) {
-    struct client *list = more;
+    uint64_t until = metrics_clock() + TURN_NANOSECONDS;
+    struct client *last = last_more;
     (void)handle;
-    more = NULL;
-    while (list != NULL) {
-        struct client *client = list;
-        list = client->next_more;
+    while (more != NULL && metrics_clock() < until) {
+        struct client *client = more;
+        more = client->next_more;
         client->in_more = false;
+        bool was_last = client == last;
         if (!client->closing && !ending) serve_read(client);
         client_free_closed(client);
+        if (was_last) break;
     }
     if (more == NULL) uv_idle_stop(&idle);
 }
@@ -174,12 +187,7 @@ static void update(struct client *client) {
     bool serves = client->has_more && !is_full(client) && !ending;
     bool reads = !client->has_more && !is_full(client) && !client->ended && !client->by.leaves
         && !ending;
-    if (serves && !client->in_more) {
-        client->in_more = true;
-        client->next_more = more;
-        more = client;
-        uv_idle_start(&idle, serve_more);
-    }
+    if (serves) add_more(client);
     if (reads && !client->reads) uv_read_start(&client->at.stream, give_room, was_read);
     if (!reads && client->reads) uv_read_stop(&client->at.stream);
     client->reads = reads;

@@ -205,7 +205,7 @@ void serve_log(const char *data, struct head *head, uint64_t until) {
     if (again.stand.position < again.from.position) {
         give_up(STATUS_DIFFERS, "position %" PRIu64 " isn't there", again.stand.position + 1);
     }
-    bool whole = until >= tail.position;
+    bool whole = until == tail.position || until == INT64_MAX;
     if (whole ? memcmp(&tail, &again.stand, sizeof tail) != 0 : again.stand.position != until) {
         give_up(STATUS_DIFFERS, "the log ends at position %" PRIu64 ", and should at %" PRIu64,
             again.stand.position, whole ? tail.position : until);

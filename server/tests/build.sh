@@ -1,0 +1,10 @@
+#!/usr/bin/env bash
+# Builds a server over the lossy disk of cut.c: server/tests/build.sh LIBRARY OUT [EDIT], at the top of
+# the repository. EDIT is one of server/tests/planted.
+set -euo pipefail
+cd "$(dirname "$0")/../.."
+work=$(mktemp -d)
+trap 'rm -rf "$work"' EXIT
+if [ $# = 3 ]; then python3 server/tests/plant.py "$3" "$work"; else cp server/src/* "$work"; fi
+cc -std=gnu11 -O2 -g -Wall -Wextra -Iembedding -pthread "$work"/*.c server/tests/cut.c \
+  -Wl,--wrap=write,--wrap=fsync,--wrap=rename "$1" -lsqlite3 -luv -o "$2"
