@@ -19,6 +19,7 @@ static struct {
     const struct head *head;
     struct batch batches[2];
     bool flies; /* a commit is under way: of the batch that isn't serving.pending */
+    bool ends;
     uv_work_t flight;
     struct work work;
     const char *fault;
@@ -39,12 +40,18 @@ void commits_begin(uv_loop_t *loop, const struct head *head, const struct named 
     commits.loop = loop;
     commits.head = head;
     snap.named_at = snap.tried_at = named->stand.position;
+    if (!options.keep_log) commits.trim = snap.named_at;
     serving.pending = &commits.batches[0];
     metrics_snapshot(snap.named_at);
 }
 
 bool commits_done(void) {
     return serving.pending == NULL || (!commits.flies && serving.pending->count == 0);
+}
+
+void commits_end(void) {
+    commits.ends = true;
+    commits.trim = 0;
 }
 
 bool commits_quiet(void) { return commits_done() && snap.stage == NONE; }
@@ -106,15 +113,33 @@ static void named(void) {
     snap.stage = NONE;
     metrics_snapshot(snap.position);
     say("snapshot of position %" PRIu64, snap.position);
-    if (!options.keep_log) commits.trim = snap.position;
+    if (!options.keep_log && !commits.ends) commits.trim = snap.position;
+}
+
+static void checkpoint(uv_work_t *work) {
+    (void)work;
+    commits.fault = log_checkpoint();
+}
+
+/* Nothing is served, committed or synced after a fault. */
+static void end_if_failed(void) {
+    if (commits.fault == NULL) return;
+    clients_unknown();
+    give_up(STATUS_LOG_FAULT, "the log can't be written: %s; what waits for it is unknown",
+        commits.fault);
+}
+
+static void checkpointed(uv_work_t *work, int status) {
+    (void)work, (void)status;
+    end_if_failed();
+    commits.flies = false;
+    clients_committed(commits_done());
+    commits_turn();
 }
 
 static void committed(uv_work_t *work, int status) {
-    (void)work;
-    if (status != 0 || commits.fault != NULL) {
-        clients_unknown();
-        give_up(STATUS_LOG_FAULT, "a commit failed: %s; what waits for it is unknown", commits.fault);
-    }
+    (void)work, (void)status;
+    end_if_failed();
     metrics_committed(metrics_clock() - commits.began, commits.work.rows->count);
     commits.flies = false;
     if (commits.work.trim > 0 && !commits.work.more) commits.trim = 0;
@@ -132,6 +157,11 @@ void commits_turn(void) {
     if (due) commits_want_snapshot();
     if (snap.stage == WANTED) take_snapshot();
     begin_writing();
+    if (log_is_long(options.checkpoint)) {
+        commits.flies = true;
+        uv_queue_work(commits.loop, &commits.flight, checkpoint, checkpointed);
+        return;
+    }
     if (serving.pending->count == 0 && snap.stage != WRITTEN && commits.trim == 0) return;
     commits.work = (struct work){ serving.pending, NULL, commits.trim, false };
     if (snap.stage == WRITTEN) commits.work.name = &snap.named;

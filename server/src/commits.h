@@ -14,6 +14,8 @@ bool commits_done(void);
 void commits_turn(void);
 /* Asks for a snapshot; false: one is under way. */
 bool commits_want_snapshot(void);
+/* From now on no rows are taken out. */
+void commits_end(void);
 /* Whether nothing is under way, no snapshot either. */
 bool commits_quiet(void);
 

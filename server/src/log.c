@@ -11,6 +11,7 @@ enum { BUSY_MILLISECONDS = 10000, TRIM_ROWS = 1000 };
 static sqlite3 *db;
 static sqlite3_stmt *begin, *commit, *insert, *set_tail, *set_name, *trim;
 static struct stand stand;
+static uint64_t wal_pages;
 
 static const char TABLES[] =
     "CREATE TABLE head(one INTEGER PRIMARY KEY CHECK(one = 1), format INTEGER, version INTEGER,"
@@ -39,12 +40,25 @@ sqlite3_stmt *log_prepare(const char *words) {
     return made;
 }
 
-bool log_open(const char *path) {
-    int status = sqlite3_open_v2(path, &db, SQLITE_OPEN_READWRITE | SQLITE_OPEN_CREATE, NULL);
-    if (status != SQLITE_OK) give_up(STATUS_NO_FILE, "%s can't be opened", path);
+static int count_pages(void *with, sqlite3 *of, const char *name, int pages) {
+    (void)with, (void)of, (void)name;
+    wal_pages = (uint64_t)pages;
+    return SQLITE_OK;
+}
+
+bool log_open(const char *path, bool may_make) {
+    int flags = SQLITE_OPEN_READWRITE | (may_make ? SQLITE_OPEN_CREATE : 0);
+    if (sqlite3_open_v2(path, &db, flags, NULL) != SQLITE_OK) {
+        give_up(STATUS_NO_FILE, "%s can't be opened", path);
+    }
     sqlite3_busy_timeout(db, BUSY_MILLISECONDS);
-    log_do("PRAGMA journal_mode=WAL");
+    sqlite3_stmt *mode = log_prepare("PRAGMA journal_mode=WAL");
+    log_must(sqlite3_step(mode));
+    const char *is = (const char *)sqlite3_column_text(mode, 0);
+    if (is == NULL || strcmp(is, "wal") != 0) give_up(STATUS_NO_FILE, "%s can't have a WAL", path);
+    sqlite3_finalize(mode);
     log_do("PRAGMA synchronous=FULL");
+    sqlite3_wal_hook(db, count_pages, NULL);
     sqlite3_stmt *has = log_prepare("SELECT count(*) FROM sqlite_master");
     log_must(sqlite3_step(has));
     bool there = sqlite3_column_int(has, 0) > 0;
@@ -139,6 +153,15 @@ const char *log_commit(struct work *work) {
     if (fine && work->name != NULL) fine = name_snapshot(work->name);
     if (fine && work->trim > 0) fine = trim_rows(work);
     return fine && run(commit) ? NULL : sqlite3_errmsg(db);
+}
+
+bool log_is_long(uint64_t pages) { return wal_pages >= pages; }
+
+/* SQLite would do this within a commit, and not tell if it failed. */
+const char *log_checkpoint(void) {
+    wal_pages = 0;
+    int status = sqlite3_wal_checkpoint_v2(db, NULL, SQLITE_CHECKPOINT_PASSIVE, NULL, NULL);
+    return status == SQLITE_OK || status == SQLITE_BUSY ? NULL : sqlite3_errmsg(db);
 }
 
 void log_close(void) {

@@ -47,7 +47,7 @@ void chain_row(uint8_t chain[CHAIN_SIZE], const struct row *row, const uint8_t *
 void seal_of(struct head *head);
 
 /* Opens the file; whether it has a log. `create` writes the head of a new one. */
-bool log_open(const char *path);
+bool log_open(const char *path, bool may_make);
 void log_create(const struct head *head);
 /* Reads the head, and the snapshot that is named: its position is 0 if there is none. */
 void log_head(struct head *head, struct named *named);
@@ -70,6 +70,9 @@ struct work {
     bool more;
 };
 const char *log_commit(struct work *work);
+/* Copies the pages of the WAL into the database, once there are this many: whether there are. */
+bool log_is_long(uint64_t pages);
+const char *log_checkpoint(void);
 
 /* Takes out all rows behind a position, of a copy alone. */
 void log_cut(const struct stand *stand);

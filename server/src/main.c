@@ -12,6 +12,7 @@
 
 #include "foresight_tickets.h"
 
+#include <inttypes.h>
 #include <signal.h>
 #include <stdio.h>
 #include <stdlib.h>
@@ -28,16 +29,20 @@ static uv_timer_t end_tick;
 
 static void print_row(const struct row *row, const uint8_t *line, const uint8_t *client,
     const uint8_t *chain, void *with) {
-    (void)client, (void)chain, (void)with;
+    bool *begun = with;
+    (void)client, (void)chain;
+    if (!*begun && row->position != 1) say("the log begins at position %" PRIu64, row->position);
+    *begun = true;
     printf("%.*s\n", (int)row->line_size, line);
 }
 
 static void print_log(void) {
     struct named named;
-    log_open(options.data);
+    log_open(options.data, false);
     log_head(&head, &named);
     printf("%.*s\n%%%%\n", (int)head.handlers.size, head.handlers.at);
-    log_rows(print_row, NULL);
+    bool begun = false;
+    log_rows(print_row, &begun);
 }
 
 static void print_tables(void) {
@@ -52,7 +57,7 @@ static void back_up(void) {
     struct bytes text = { NULL, 0, 0 };
     char from[SNAPSHOT_PATH], to[SNAPSHOT_PATH];
     log_copy(options.data, options.backup);
-    log_open(options.backup);
+    log_open(options.backup, false);
     log_head(&head, &named);
     if (named.stand.position > 0) {
         snapshot_path(from, options.data, named.stand.position);
@@ -74,7 +79,7 @@ static void open_tables(void) {
     if (options.handlers != NULL && !bytes_read_file(&given, options.handlers)) {
         give_up(STATUS_NO_FILE, "%s can't be read", options.handlers);
     }
-    bool there = options.data != NULL && log_open(options.data);
+    bool there = options.data != NULL && log_open(options.data, options.handlers != NULL);
     if (!there && options.handlers == NULL) give_up(STATUS_NO_FILE, "%s has no log", options.data);
     if (!there) {
         head = (struct head){ given, foresight_version(), (uint32_t)options.most_names,
@@ -102,7 +107,7 @@ static void open_tables(void) {
 
 static void finish(void) {
     if (options.data != NULL) log_close();
-    say("ends at position %llu", (unsigned long long)serving.position);
+    say("ends at position %" PRIu64, serving.position);
     exit(STATUS_FINE);
 }
 
@@ -138,6 +143,7 @@ static void on_signal(uv_signal_t *signal, int number) {
     end_began = metrics_clock();
     say("ends");
     clients_end();
+    commits_end();
     uv_timer_start(&end_tick, on_tick, 0, 20);
 }
 
@@ -184,6 +190,7 @@ int main(int count, char **words) {
     watch(loop);
     if (options.data != NULL) {
         log_named(&named);
+        snapshot_clean(options.data, named.stand.position);
         commits_begin(loop, &head, &named);
     }
     if (options.unix_path != NULL) clients_listen_unix(options.unix_path);

@@ -9,7 +9,7 @@
 
 struct options options = { .most_names = 1000000, .connections = 1000, .idle_seconds = 300,
     .queue = 10000, .slow_milliseconds = 10, .once_clients = 4096, .once_window = 64,
-    .snapshot_every = 100000, .send_seconds = 5 };
+    .snapshot_every = 100000, .send_seconds = 5, .checkpoint = 1000 };
 
 enum sort { TEXT, NUMBER, FLAG };
 
@@ -33,6 +33,7 @@ static const struct word_of {
     { "--once-clients", "N that ONCE knows", NUMBER, &options.once_clients, 1, 1000000 },
     { "--once-window", "N numbers of each", NUMBER, &options.once_window, 1, 10000 },
     { "--snapshot-every", "N changes; 0: only at the end", NUMBER, &options.snapshot_every, 0, INT64_MAX },
+    { "--checkpoint", "PAGES of the WAL, which are then copied into the database", NUMBER, &options.checkpoint, 1, 1000000 },
     { "--keep-log", "keeps what is before a snapshot", FLAG, &options.keep_log, 0, 0 },
     { "--backup", "FILE: copies --data, which may be in use, and ends", TEXT, &options.backup, 0, 0 },
     { "--until", "POSITION: cuts a copy behind it", NUMBER, &options.until, 0, INT64_MAX },

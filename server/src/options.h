@@ -8,7 +8,7 @@
 struct options {
     const char *handlers, *data, *unix_path, *listen, *password_file, *backup;
     uint64_t most_names, connections, idle_seconds, queue, slow_milliseconds, once_clients,
-        once_window, snapshot_every, until, send_seconds;
+        once_window, snapshot_every, until, send_seconds, checkpoint;
     bool keep_log, print_log, print_tables, has_until;
 };
 

@@ -5,6 +5,7 @@
 #include "once.h"
 #include "tables.h"
 
+#include <glob.h>
 #include <inttypes.h>
 #include <stdio.h>
 #include <stdlib.h>
@@ -92,6 +93,18 @@ uint64_t snapshot_load(const char *data, const struct named *named, const struct
     bytes_free(&dump);
     bytes_free(&text);
     return now;
+}
+
+void snapshot_clean(const char *data, uint64_t position) {
+    char pattern[SNAPSHOT_PATH], kept[SNAPSHOT_PATH];
+    glob_t found;
+    snapshot_path(kept, data, position);
+    snprintf(pattern, sizeof pattern, "%s.snapshot-*", data);
+    if (glob(pattern, 0, NULL, &found) != 0) return;
+    for (size_t i = 0; i < found.gl_pathc; i++) {
+        if (strcmp(found.gl_pathv[i], kept) != 0) unlink(found.gl_pathv[i]);
+    }
+    globfree(&found);
 }
 
 void snapshot_remove(const char *data, uint64_t position) {

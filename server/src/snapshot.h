@@ -16,6 +16,8 @@ const char *snapshot_write(const char *data, const struct stand *stand, uint64_t
     const struct bytes *body, struct named *named);
 /* Reads a named one into the session and ONCE, or ends; answers the time of its last `@now`. */
 uint64_t snapshot_load(const char *data, const struct named *named, const struct head *head);
+/* Removes what kills left: all but the one that is named. */
+void snapshot_clean(const char *data, uint64_t position);
 void snapshot_remove(const char *data, uint64_t position);
 
 #endif

@@ -6,5 +6,5 @@ cd "$(dirname "$0")/../.."
 work=$(mktemp -d)
 trap 'rm -rf "$work"' EXIT
 if [ $# = 3 ]; then python3 server/tests/plant.py "$3" "$work"; else cp server/src/* "$work"; fi
-cc -std=gnu11 -O2 -g -Wall -Wextra -Iembedding -pthread "$work"/*.c server/tests/cut.c \
+cc -std=gnu11 -O1 -Wall -Wextra -Iembedding -pthread "$work"/*.c server/tests/cut.c \
   -Wl,--wrap=write,--wrap=fsync,--wrap=rename "$1" -lsqlite3 -luv -o "$2"

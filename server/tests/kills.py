@@ -131,7 +131,7 @@ def compare(server, check):
 def series(program, rounds, connections, check, snapshots, words):
     """Some kills over the same data: how many answers came."""
     with tempfile.TemporaryDirectory() as folder:
-        more = ["--snapshot-every", "300"] if snapshots else ["--snapshot-every", "0", "--keep-log"]
+        more = ["--snapshot-every", "300", "--checkpoint", "30"] if snapshots else ["--snapshot-every", "0", "--keep-log"]
         server = Server(program, folder, *more, *words)
         clients = [Sender(f"c{i}") for i in range(connections)] + [Reader()]
         count = 0
