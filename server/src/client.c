@@ -61,7 +61,6 @@ void client_send(struct client *client) {
             }
         }
         bytes_drop(&client->out, client->release);
-        client->flight -= client->flight < client->release ? client->flight : client->release;
         client->release = 0;
         client->active = metrics_clock();
     }

@@ -94,20 +94,14 @@ void client_wait(struct client *client) {
     waiting = client;
 }
 
-void clients_commit_begins(void) {
-    for (struct client *at = waiting; at != NULL; at = at->next_waiting) at->flight = at->out.size;
-}
-
-void clients_committed(bool all) {
+void clients_committed(void) {
     struct client *list = waiting;
     waiting = NULL;
     while (list != NULL) {
         struct client *client = list;
         list = client->next_waiting;
         client->waits = false;
-        client->release = all ? client->out.size : client->flight;
-        client->flight = client->release;
-        if (!client->closing && client->release < client->out.size) client_wait(client);
+        client->release = client->out.size;
         client_send(client);
         client_free_closed(client);
     }

@@ -19,7 +19,6 @@ struct client {
     struct bytes in, out, sending;
     size_t used;    /* bytes of `in` that are served */
     size_t release; /* bytes of `out` that may be sent */
-    size_t flight;  /* bytes of `out` that may be once the commit that is under way is done */
     bool reads, ended, skips, has_more, in_more, waits, closing, closed;
     uint64_t active, write_began;
     struct client *next, *previous, *next_more, *next_waiting;

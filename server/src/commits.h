@@ -10,7 +10,8 @@
 void commits_begin(uv_loop_t *loop, const struct head *head, const struct named *named);
 /* Whether all that was served is committed. */
 bool commits_done(void);
-/* To be called once a turn of the loop, when all that came was served: begins a commit. */
+/* To be called once a turn of the loop, when all that came was served: commits it, and sends the
+ * answers. Nobody is served meanwhile: what comes is the next commit's. */
 void commits_turn(void);
 /* Asks for a snapshot; false: one is under way. */
 bool commits_want_snapshot(void);
