@@ -19,8 +19,9 @@ enum {
     IDLE_ROOM = 16384
 };
 
-static uv_idle_t idle; /* runs as long as somebody has more to be served */
+static uv_idle_t idle; /* runs as long as somebody has something to be served */
 static struct client *more, *last_more;
+static uint64_t queued;
 static bool ending;
 
 static void update(struct client *client);
@@ -100,8 +101,7 @@ static size_t serve_command(struct client *client, const char *at, size_t size) 
 }
 
 /* Serves some of what was read; whether there may be more. */
-static bool serve_some(struct client *client) {
-    uint64_t until = metrics_clock() + TURN_NANOSECONDS;
+static bool serve_some(struct client *client, uint64_t until) {
     for (int i = 0; i < TURN_REQUESTS; i++) {
         const char *at = (char *)client->in.at + client->used;
         size_t left = client->in.size - client->used;
@@ -118,8 +118,8 @@ static bool serve_some(struct client *client) {
     return client->used < client->in.size && !client->by.leaves;
 }
 
-static void serve_read(struct client *client) {
-    client->has_more = serve_some(client);
+static void serve_read(struct client *client, uint64_t until) {
+    client->has_more = serve_some(client, until);
     if (client->used > client->in.size / 2) {
         bytes_drop(&client->in, client->used);
         client->used = 0;
@@ -136,22 +136,22 @@ static void add_more(struct client *client) {
     client->next_more = NULL;
     *(more != NULL ? &last_more->next_more : &more) = client;
     last_more = client;
+    queued++;
     uv_idle_start(&idle, serve_more);
 }
 
-/* Each who has more has a turn, in order, as long as all of them take no longer than one may. */
+/* Each who sent something has a turn, in order, and all of them share the time: so nobody waits longer
+ * than that and one request of each. */
 static void serve_more(uv_idle_t *handle) {
-    uint64_t until = metrics_clock() + TURN_NANOSECONDS;
-    struct client *last = last_more;
+    uint64_t count = queued, share = TURN_NANOSECONDS / (count + 1);
     (void)handle;
-    while (more != NULL && metrics_clock() < until) {
+    for (uint64_t i = 0; i < count; i++) {
         struct client *client = more;
         more = client->next_more;
         client->in_more = false;
-        bool was_last = client == last;
-        if (!client->closing && !ending) serve_read(client);
+        queued--;
+        if (!client->closing && !ending) serve_read(client, metrics_clock() + share);
         client_free_closed(client);
-        if (was_last) break;
     }
     if (more == NULL) uv_idle_stop(&idle);
 }
@@ -175,7 +175,8 @@ static void was_read(uv_stream_t *stream, ssize_t size, const uv_buf_t *buffer) 
     } else if (size > 0) {
         client->active = metrics_clock();
         bytes_put(&client->in, buffer->base, (size_t)size);
-        serve_read(client);
+        client->has_more = true;
+        update(client);
     }
 }
 
@@ -184,8 +185,8 @@ static void was_read(uv_stream_t *stream, ssize_t size, const uv_buf_t *buffer) 
 static void update(struct client *client) {
     if (client->closing) return;
     bool serves = client->has_more && !is_full(client) && !ending;
-    bool reads = !client->has_more && !is_full(client) && !client->ended && !client->by.leaves
-        && !ending;
+    bool reads = client->in.size - client->used <= MOST_COMMAND && !is_full(client)
+        && !client->ended && !client->by.leaves && !ending;
     if (serves) add_more(client);
     if (reads && !client->reads) uv_read_start(&client->at.stream, give_room, was_read);
     if (!reads && client->reads) uv_read_stop(&client->at.stream);
@@ -198,10 +199,10 @@ static void update(struct client *client) {
 
 static void accept_one(uv_stream_t *listener, int status) {
     static const char full[] = "-ERR max number of clients reached\r\n";
-    if (status != 0) return;
+    if (status != 0) return; /* there may be no descriptor for now */
     struct client *client = client_new(listener);
     if (client == NULL) return;
-    if (clients_count > options.connections) {
+    if (clients_count > options.connections && !clients_make_room(client)) {
         uv_buf_t buffer = uv_buf_init((char *)full, sizeof full - 1);
         uv_try_write(&client->at.stream, &buffer, 1);
         client_close(client);

@@ -11,6 +11,7 @@
 #include <unistd.h>
 
 enum { BACKLOG = 511, TICK_MILLISECONDS = 1000 };
+static const uint64_t SECOND = 1000000000;
 
 static uv_loop_t *loop;
 static uv_connection_cb accept_client;
@@ -71,16 +72,31 @@ struct client *client_new(uv_stream_t *listener) {
     return client;
 }
 
+bool clients_make_room(const struct client *but) {
+    struct client *gone = NULL;
+    uint64_t now = metrics_clock(), longest = 0;
+    for (struct client *client = clients_first; client != NULL; client = client->next) {
+        if (client == but || client->out.size > 0 || client->has_more) continue;
+        uint64_t silent = now - client->active, limit = client->by.known ? 10 * SECOND : SECOND;
+        if (!client->by.known) silent *= 1000; /* they go first */
+        if (now - client->active < limit || silent <= longest) continue;
+        longest = silent;
+        gone = client;
+    }
+    if (gone != NULL) client_close(gone);
+    return gone != NULL;
+}
+
 /* Lets go who doesn't read, and who is silent. */
 static void look_at_all(uv_timer_t *timer) {
-    uint64_t now = metrics_clock(), second = 1000000000;
+    uint64_t now = metrics_clock();
     (void)timer;
     for (struct client *client = clients_first, *next; client != NULL; client = next) {
         next = client->next;
         bool mute = client->write_began != 0
-            && now - client->write_began > options.send_seconds * second;
+            && now - client->write_began > options.send_seconds * SECOND;
         bool silent = options.idle_seconds != 0 && client->out.size == 0 && !client->has_more
-            && now - client->active > options.idle_seconds * second;
+            && now - client->active > options.idle_seconds * SECOND;
         if (mute || silent) client_close(client);
     }
 }

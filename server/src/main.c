@@ -17,6 +17,7 @@
 #include <stdio.h>
 #include <stdlib.h>
 #include <string.h>
+#include <sys/resource.h>
 #include <unistd.h>
 
 enum { END_SECONDS = 30 };
@@ -159,6 +160,18 @@ static void on_turn(uv_prepare_t *prepare) {
     commits_turn();
 }
 
+/* As many descriptors as connections, or as many connections as descriptors. */
+static void take_descriptors(void) {
+    enum { OTHERS = 64 };
+    struct rlimit limit;
+    if (getrlimit(RLIMIT_NOFILE, &limit) != 0) return;
+    uint64_t wanted = options.connections + OTHERS;
+    limit.rlim_cur = limit.rlim_max < wanted ? limit.rlim_max : wanted;
+    if (setrlimit(RLIMIT_NOFILE, &limit) != 0 || limit.rlim_cur >= wanted) return;
+    options.connections = limit.rlim_cur > 2 * OTHERS ? limit.rlim_cur - OTHERS : OTHERS;
+    say("at most %" PRIu64 " connections, for want of descriptors", options.connections);
+}
+
 static void watch(uv_loop_t *loop) {
     static uv_signal_t terminate, interrupt;
     static uv_prepare_t turn;
@@ -194,6 +207,7 @@ int main(int count, char **words) {
     }
     if (options.password_file != NULL) command_password(options.password_file);
     command_names();
+    take_descriptors();
     clients_begin(loop);
     watch(loop);
     if (options.data != NULL) {

@@ -225,6 +225,21 @@ def test_bounds(folder):
     assert server.stop() == 0
 
 
+def test_silent(folder):
+    """Silent connections keep nobody out."""
+    server = Server(PROGRAM, folder, "--connections", "20", data=False).start()
+    time.sleep(0.3)
+    silent = [server.connect() for _ in range(20)]
+    time.sleep(1.2)
+    clients = [Client(server) for _ in range(20)]
+    assert [client("PING") for client in clients] == ["PONG"] * 20
+    more = Client(server)
+    assert more.answer() == "-ERR max number of clients reached", "those that have spoken stay"
+    for one in silent:
+        one.close()
+    assert server.stop() == 0
+
+
 def test_fair(folder):
     """Beside a client that asks for heavy handlers without end another one is answered soon."""
     server = Server(PROGRAM, folder, data=False).start()
