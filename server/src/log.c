@@ -87,8 +87,17 @@ void log_create(const struct head *head) {
     if (fault != NULL) give_up(STATUS_LOG_FAULT, "%s", fault);
 }
 
+/* What a killed process left may have been read, and not be on the disk: so all is synced before anybody
+ * is answered, and before a file is removed. */
+static void sync_all(void) {
+    if (sqlite3_wal_checkpoint_v2(db, NULL, SQLITE_CHECKPOINT_TRUNCATE, NULL, NULL) != SQLITE_OK) {
+        give_up(STATUS_LOG_FAULT, "the log can't be synced: %s", sqlite3_errmsg(db));
+    }
+}
+
 void log_begin(const struct stand *from) {
     stand = *from;
+    sync_all();
     begin = log_prepare("BEGIN IMMEDIATE");
     commit = log_prepare("COMMIT");
     insert = log_prepare("INSERT INTO log VALUES(?1, ?2, ?3, ?4, ?5, ?6, ?7, ?8)");

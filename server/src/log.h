@@ -57,7 +57,7 @@ typedef void log_each(const struct row *row, const uint8_t *line, const uint8_t 
     const uint8_t *chain, void *with);
 void log_rows(log_each *each, void *with);
 struct stand log_tail(void);
-/* Says where the log stands that has been read, before the first commit. */
+/* Says where the log stands that has been read, before the first answer: it is on the disk then. */
 void log_begin(const struct stand *stand);
 struct stand log_stand(void);
 

@@ -7,4 +7,4 @@ work=$(mktemp -d)
 trap 'rm -rf "$work"' EXIT
 if [ $# = 3 ]; then python3 server/tests/plant.py "$3" "$work"; else cp server/src/* "$work"; fi
 cc -std=gnu11 -O1 -Wall -Wextra -Iembedding -pthread "$work"/*.c server/tests/cut.c \
-  -Wl,--wrap=write,--wrap=fsync,--wrap=rename "$1" -lsqlite3 -luv -o "$2"
+  -Wl,--wrap=write,--wrap=fsync,--wrap=rename,--wrap=unlink "$1" -lsqlite3 -luv -o "$2"

@@ -259,6 +259,60 @@ def test_fair(folder):
     server.kill()
 
 
+def test_snapshot_steps(folder):
+    """Killed before and after each step of a snapshot: a start has all that was answered, and one snapshot
+    at most. A snapshot that can't be written stops nobody."""
+    died = 0
+    for moment in range(1, 31):
+        shutil.rmtree(folder)
+        os.mkdir(folder)
+        server = Server(LOSSY, folder, "--snapshot-every", "0")
+        client, number, got = Client(server.start()), 0, 0
+        while number < 10:
+            number += 1
+            assert client("take", "a", 1) == number
+        assert client("SNAPSHOT") == "Snapshot begins"
+        number = snapshots_until(server, number)
+        assert server.stop() == 0
+        client = Client(server.start(env={"CUT_FAULT": f"die:{moment}"}))
+        assert client("ONCE", "c", number + 1, "take", "a", 1) == number + 1
+        try:
+            client("SNAPSHOT")
+            while number < 60:
+                number += 1
+                got = client("ONCE", "c", number, "take", "a", 1)
+                if got is None:
+                    break
+                assert got == number, got
+        except OSError:
+            pass
+        if server.process.poll() is None:
+            server.process.kill()
+        died += server.process.wait() == -9 and number < 60
+        client = Client(server.start())
+        assert client("ONCE", "c", number, "take", "a", 1) == number, (moment, number)
+        assert client("ONCE", "c", number, "take", "a", 1) == number
+        assert len([name for name in os.listdir(folder) if "snapshot-" in name]) == 1, moment
+        server.kill()
+    assert died > 15, died
+    server = Server(LOSSY, folder, "--snapshot-every", "0")
+    client = Client(server.start(env={"CUT_FAULT": "file:1"}))
+    number = client("take", "a", 1)
+    client("SNAPSHOT")
+    assert snapshots_until(server, number, "no snapshot: a file can't be written") == number
+    assert client("take", "a", 1) == number + 1 and client("SNAPSHOT") == "Snapshot begins"
+    assert server.stop() == 0
+
+
+def snapshots_until(server, number, told="snapshot of position"):
+    """Waits until it tells of a snapshot."""
+    for _ in range(1000):
+        if told in server.told().rsplit("unix", 1)[1]:
+            return number
+        time.sleep(0.005)
+    raise AssertionError(server.told())
+
+
 def test_backup(folder):
     """A copy while it runs, a start of it at an earlier position; a log that isn't a copy isn't cut."""
     server = Server(PROGRAM, folder, "--keep-log").start()

@@ -6,10 +6,14 @@
  * folder is synced. Syncs themselves are not passed on, but take a random time.
  *
  * CUT_FAULT=sync:N fails the Nth sync of a log, write:N the Nth write as if the disk were full, slow:MS
- * makes each sync take so long. Whoever writes or syncs the log after a failed sync is told of. */
+ * makes each sync take so long, file:N fails the Nth write of a snapshot, die:N ends the process before or
+ * after one of the steps of a snapshot, the Nth of these moments. Whoever writes or syncs the log after a
+ * failed sync is told of. */
 #define _GNU_SOURCE
+#include <errno.h>
 #include <fcntl.h>
 #include <pthread.h>
+#include <signal.h>
 #include <sqlite3.h>
 #include <stdbool.h>
 #include <stdio.h>
@@ -38,8 +42,9 @@ struct file {
 
 static sqlite3_vfs *below;
 static pthread_mutex_t lock = PTHREAD_MUTEX_INITIALIZER;
-static long syncs, writes, fail_sync = -1, fail_write = -1, slow = -1;
-static bool failed;
+static long syncs, writes, files, moments;
+static long fail_sync = -1, fail_write = -1, fail_file = -1, slow = -1, die_at = -1;
+static bool failed, has_file;
 
 static unsigned chance(unsigned below_this) {
     static unsigned long long state;
@@ -55,6 +60,11 @@ static unsigned chance(unsigned below_this) {
 
 static void tell_again(const char *what) {
     if (failed) fprintf(stderr, "AGAIN: %s after a failed sync\n", what);
+}
+
+/* A moment at which a process may be killed, once the first snapshot is being written. */
+static void moment(void) {
+    if (has_file && __atomic_add_fetch(&moments, 1, __ATOMIC_SEQ_CST) == die_at) raise(SIGKILL);
 }
 
 /* ---- Files of SQLite. */
@@ -129,7 +139,10 @@ static int file_sync(sqlite3_file *base, int flags) {
         return SQLITE_IOERR_FSYNC;
     }
     usleep(slow >= 0 ? (useconds_t)slow * 1000 : chance(3000));
-    return flush(file);
+    moment();
+    int status = flush(file);
+    moment();
+    return status;
 }
 
 static int file_size(sqlite3_file *base, sqlite3_int64 *size) {
@@ -186,6 +199,8 @@ __attribute__((constructor)) static void begin(void) {
     if (fault != NULL && strncmp(fault, "sync:", 5) == 0) fail_sync = atol(fault + 5);
     if (fault != NULL && strncmp(fault, "write:", 6) == 0) fail_write = atol(fault + 6);
     if (fault != NULL && strncmp(fault, "slow:", 5) == 0) slow = atol(fault + 5);
+    if (fault != NULL && strncmp(fault, "file:", 5) == 0) fail_file = atol(fault + 5);
+    if (fault != NULL && strncmp(fault, "die:", 4) == 0) die_at = atol(fault + 4);
     sqlite3_initialize();
     below = sqlite3_vfs_find(NULL);
     vfs = *below;
@@ -211,26 +226,40 @@ static int renames_count;
 
 ssize_t __wrap_write(int at, const void *from, size_t size) {
     size_t early = chance(2) ? 0 : chance((unsigned)size + 1);
+    has_file = true;
+    if (++files == fail_file) {
+        errno = ENOSPC;
+        return -1;
+    }
+    moment();
     if (early > 0 && __real_write(at, from, early) != (ssize_t)early) return -1;
     for (int i = 0; i < MOST_FILES; i++) {
         if (late[i].bytes != NULL) continue;
         late[i] = (struct late){ at, malloc(size + 1), size - early };
         memcpy(late[i].bytes, (const char *)from + early, size - early);
+        moment();
         return (ssize_t)size;
     }
     abort();
 }
 
 int __wrap_rename(const char *from, const char *to) {
-    if (chance(2) || renames_count == MOST_RENAMES) return __real_rename(from, to);
-    strcpy(renames[renames_count][0], from);
-    strcpy(renames[renames_count++][1], to);
-    return 0;
+    int status = 0;
+    moment();
+    if (chance(2) || renames_count == MOST_RENAMES) {
+        status = __real_rename(from, to);
+    } else {
+        strcpy(renames[renames_count][0], from);
+        strcpy(renames[renames_count++][1], to);
+    }
+    moment();
+    return status;
 }
 
 int __wrap_fsync(int at) {
     struct stat is;
     usleep(chance(3000));
+    moment();
     for (int i = 0; i < MOST_FILES; i++) {
         if (late[i].bytes == NULL || late[i].at != at) continue;
         if (__real_write(at, late[i].bytes, late[i].size) != (ssize_t)late[i].size) return -1;
@@ -241,5 +270,15 @@ int __wrap_fsync(int at) {
         for (int i = 0; i < renames_count; i++) __real_rename(renames[i][0], renames[i][1]);
         renames_count = 0;
     }
+    moment();
     return 0;
+}
+
+int __real_unlink(const char *path);
+
+int __wrap_unlink(const char *path) {
+    moment();
+    int status = __real_unlink(path);
+    moment();
+    return status;
 }
