@@ -196,7 +196,7 @@ void serve_log(const char *data, struct head *head, uint64_t until) {
         serving.now = snapshot_load(data, &named, head);
         again.from = named.stand;
     } else {
-        tables_open(&head->handlers, head->most_names);
+        tables_open(&head->handlers, NAMES_WITHOUT_BOUND);
         memcpy(again.from.chain, head->seal, CHAIN_SIZE);
     }
     log_rows(serve_row, &again);
@@ -213,6 +213,7 @@ void serve_log(const char *data, struct head *head, uint64_t until) {
     serving.position = again.stand.position;
     say("position %" PRIu64 ": snapshot of %" PRIu64 ", %" PRIu64 " requests served again",
         serving.position, again.from.position, again.served);
+    tables_bound(head->most_names);
     if (!whole) log_cut(&again.stand);
     log_begin(&again.stand);
 }

@@ -89,7 +89,7 @@ uint64_t snapshot_load(const char *data, const struct named *named, const struct
         }
     }
     bytes_put(&dump, at, (size_t)(end - at));
-    tables_load(&head->handlers, &dump, head->most_names);
+    tables_load(&head->handlers, &dump, NAMES_WITHOUT_BOUND);
     bytes_free(&dump);
     bytes_free(&text);
     return now;

@@ -17,12 +17,18 @@ struct outcome {
 
 void refuse(struct outcome *out, const char *format, ...) __attribute__((format(printf, 2, 3)));
 
+/* The log is served again with as many names as there are: how often names were given back, and when, is
+ * not in it. */
+enum { NAMES_WITHOUT_BOUND = 2000000000 };
+
 /* Opens it over a session file without requests; a line `%%` is added if there is none. */
 void tables_open(const struct bytes *text, uint32_t most_names);
 /* Serves handler and arguments, each of which is a value. May become the library's typed call. */
 void tables_request(const struct word *words, size_t count, struct outcome *out);
 /* Serves a line of the log. */
 void tables_line(const void *line, size_t size, struct outcome *out);
+/* From now on there are at most so many names, if the tables can be opened with them. */
+void tables_bound(uint32_t most_names);
 /* What `foresight dump` writes. */
 void tables_dump(struct bytes *out);
 /* Whether a dump can be opened again, and a new session over handlers and a dump. These two are to

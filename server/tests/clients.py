@@ -225,6 +225,26 @@ def test_bounds(folder):
     assert server.stop() == 0
 
 
+def test_names(folder):
+    """Names of words that no table has any more are given back, also at a start; held ones never are."""
+    handlers = "map m; handler hold(k) { put(m, k, 1); reply k; } handler free(k) { del(m, k); reply k; }"
+    server = Server(PROGRAM, folder, "--most-names", "40", "--snapshot-every", "0", handlers=handlers)
+    client = Client(server.start())
+    for word in range(400):
+        assert client("hold", f"w{word}") == f"w{word}" == client("free", f"w{word}")
+    server.kill()
+    client = Client(server.start())
+    got = [client("hold", f"held{i}") for i in range(60)]
+    kept = [word for word in got if not word.startswith("-")]
+    assert 20 < len(kept) < 40 and got[-1].startswith("-ERR too many names"), got
+    server.kill()
+    client = Client(server.start())
+    assert [client("hold", word) for word in kept] == kept and client("hold", "one_more")[0] == "-"
+    assert [client("free", word) for word in kept] == kept
+    assert [client("hold", f"new{i}") for i in range(20)][-1] == "new19"
+    assert server.stop() == 0 and server.start() and server.stop() == 0
+
+
 def test_silent(folder):
     """Silent connections keep nobody out."""
     server = Server(PROGRAM, folder, "--connections", "20", data=False).start()
