@@ -220,8 +220,8 @@ def test_bounds(folder):
     client.socket.sendall(command("store", 1, 1) * 40)
     got = [client.answer() for _ in range(40)]
     assert 1 in got and any(str(g).startswith("-BUSY") for g in got), got
-    got = [client("store", 1, f"word{i}") for i in range(12)]
-    assert got[0] == "word0" and got[-1].startswith("-ERR too many names") and client("store", 1, 2) == 2
+    got = [client("store", f"word{i}", i) for i in range(12)]
+    assert got[0] == 0 and got[-1].startswith("-ERR too many names") and client("store", 1, 2) == 2, got
     assert server.stop() == 0
 
 

@@ -138,10 +138,11 @@ static int file_sync(sqlite3_file *base, int flags) {
         failed = true;
         return SQLITE_IOERR_FSYNC;
     }
-    usleep(slow >= 0 ? (useconds_t)slow * 1000 : chance(3000));
+    usleep(slow >= 0 ? (useconds_t)slow * 1000 : chance(2000));
     moment();
     int status = flush(file);
     moment();
+    if (slow < 0) usleep(chance(2000));
     return status;
 }
 
