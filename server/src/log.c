@@ -66,7 +66,13 @@ bool log_open(const char *path, bool may_make) {
     return there;
 }
 
-void log_create(const struct head *head) {
+static void bind_name(sqlite3_stmt *statement, const struct named *named) {
+    sqlite3_bind_int64(statement, 1, (sqlite3_int64)named->stand.position);
+    sqlite3_bind_blob(statement, 2, named->stand.chain, CHAIN_SIZE, SQLITE_STATIC);
+    sqlite3_bind_blob(statement, 3, named->sum, SUM_SIZE, SQLITE_STATIC);
+}
+
+void log_create(const struct head *head, const struct named *named) {
     log_do("BEGIN IMMEDIATE");
     log_do(TABLES);
     sqlite3_stmt *add = log_prepare("INSERT INTO head VALUES(1, 1, ?1, ?2, ?3, ?4, ?5, ?6, 0)");
@@ -78,10 +84,17 @@ void log_create(const struct head *head) {
     sqlite3_bind_blob(add, 6, head->seal, CHAIN_SIZE, SQLITE_STATIC);
     log_must(sqlite3_step(add));
     sqlite3_finalize(add);
-    sqlite3_stmt *tail = log_prepare("INSERT INTO tail VALUES(1, 0, ?1)");
-    sqlite3_bind_blob(tail, 1, head->seal, CHAIN_SIZE, SQLITE_STATIC);
-    log_must(sqlite3_step(tail));
-    sqlite3_finalize(tail);
+    add = log_prepare("INSERT INTO tail VALUES(1, ?2, ?1)");
+    sqlite3_bind_blob(add, 1, head->seal, CHAIN_SIZE, SQLITE_STATIC);
+    sqlite3_bind_int64(add, 2, named == NULL ? 0 : (sqlite3_int64)named->stand.position);
+    log_must(sqlite3_step(add));
+    sqlite3_finalize(add);
+    if (named != NULL) {
+        add = log_prepare("INSERT INTO snapshot VALUES(1, ?1, ?2, ?3)");
+        bind_name(add, named);
+        log_must(sqlite3_step(add));
+        sqlite3_finalize(add);
+    }
     log_do("COMMIT");
     const char *fault = disk_sync_folder(sqlite3_db_filename(db, "main"));
     if (fault != NULL) give_up(STATUS_LOG_FAULT, "%s", fault);
@@ -143,9 +156,7 @@ static bool insert_rows(const struct batch *batch) {
 }
 
 static bool name_snapshot(const struct named *named) {
-    sqlite3_bind_int64(set_name, 1, (sqlite3_int64)named->stand.position);
-    sqlite3_bind_blob(set_name, 2, named->stand.chain, CHAIN_SIZE, SQLITE_STATIC);
-    sqlite3_bind_blob(set_name, 3, named->sum, SUM_SIZE, SQLITE_STATIC);
+    bind_name(set_name, named);
     return run(set_name);
 }
 
@@ -174,7 +185,10 @@ const char *log_checkpoint(void) {
 }
 
 void log_close(void) {
-    sqlite3_stmt *all[] = { begin, commit, insert, set_tail, set_name, trim };
-    for (size_t i = 0; i < sizeof all / sizeof *all; i++) sqlite3_finalize(all[i]);
+    sqlite3_stmt **all[] = { &begin, &commit, &insert, &set_tail, &set_name, &trim };
+    for (size_t i = 0; i < sizeof all / sizeof *all; i++) {
+        sqlite3_finalize(*all[i]);
+        *all[i] = NULL;
+    }
     sqlite3_close(db);
 }

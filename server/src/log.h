@@ -46,9 +46,10 @@ void chain_row(uint8_t chain[CHAIN_SIZE], const struct row *row, const uint8_t *
     const uint8_t *client);
 void seal_of(struct head *head);
 
-/* Opens the file; whether it has a log. `create` writes the head of a new one. */
+/* Opens the file; whether it has a log. `create` writes the head of a new one, and
+ * perhaps the name of a snapshot with which it begins. */
 bool log_open(const char *path, bool may_make);
-void log_create(const struct head *head);
+void log_create(const struct head *head, const struct named *named);
 /* Reads the head, and the snapshot that is named: its position is 0 if there is none. */
 void log_head(struct head *head, struct named *named);
 void log_named(struct named *named);

@@ -5,6 +5,7 @@
 #include "disk.h"
 #include "handlers.h"
 #include "metrics.h"
+#include "offline.h"
 #include "options.h"
 #include "serving.h"
 #include "snapshot.h"
@@ -27,52 +28,6 @@ static bool ending, skips_snapshot, snapshot_asked;
 static uint64_t end_began;
 static uv_timer_t end_tick;
 
-/* ---- Without a network. */
-
-static void print_row(const struct row *row, const uint8_t *line, const uint8_t *client,
-    const uint8_t *chain, void *with) {
-    bool *begun = with;
-    (void)client, (void)chain;
-    if (!*begun && row->position != 1) say("the log begins at position %" PRIu64, row->position);
-    *begun = true;
-    printf("%.*s\n", (int)row->line_size, line);
-}
-
-static void print_log(void) {
-    struct named named;
-    log_open(options.data, false);
-    log_head(&head, &named);
-    printf("%.*s\n%%%%\n", (int)head.handlers.size, head.handlers.at);
-    bool begun = false;
-    log_rows(print_row, &begun);
-}
-
-static void print_tables(void) {
-    struct bytes dump = { NULL, 0, 0 };
-    tables_dump(&dump);
-    fwrite(dump.at, 1, dump.size, stdout);
-}
-
-/* A copy of the log, and of the snapshot that it names. */
-static void back_up(void) {
-    struct named named;
-    struct bytes text = { NULL, 0, 0 };
-    char from[SNAPSHOT_PATH], to[SNAPSHOT_PATH];
-    log_copy(options.data, options.backup);
-    log_open(options.backup, false);
-    log_head(&head, &named);
-    if (named.stand.position > 0) {
-        snapshot_path(from, options.data, named.stand.position);
-        snapshot_path(to, options.backup, named.stand.position);
-        if (!bytes_read_file(&text, from)) give_up(STATUS_NO_FILE, "%s is gone: try again", from);
-        const char *fault = disk_write(to, &text);
-        if (fault != NULL) give_up(STATUS_NO_FILE, "%s: %s", to, fault);
-    }
-    log_close();
-    const char *fault = disk_sync_folder(options.backup);
-    if (fault != NULL) give_up(STATUS_NO_FILE, "%s", fault);
-}
-
 /* ---- The beginning. */
 
 /* Handlers are those of the data; those that are given have to be the same. */
@@ -89,7 +44,7 @@ static void open_tables(void) {
         seal_of(&head);
         tables_open(&given, head.most_names);
         handlers_read(&given);
-        if (options.data != NULL) log_create(&head);
+        if (options.data != NULL) log_create(&head, NULL);
     }
     if (options.data == NULL) once_open(options.once_clients, options.once_window);
     if (options.data == NULL) return;
@@ -191,20 +146,12 @@ int main(int count, char **words) {
     uv_loop_t *loop = uv_default_loop();
     struct named named = { 0 };
     options_read(count, words);
-    if (options.backup != NULL) {
-        back_up();
-        return STATUS_FINE;
-    }
+    if (options.backup != NULL) return offline_backup();
     if (options.data != NULL) disk_lock(options.data);
-    if (options.print_log) {
-        print_log();
-        return STATUS_FINE;
-    }
+    if (options.print_log) return offline_print_log();
+    if (options.change != NULL) return offline_change();
     open_tables();
-    if (options.print_tables) {
-        print_tables();
-        return STATUS_FINE;
-    }
+    if (options.print_tables) return offline_print_tables();
     if (options.password_file != NULL) command_password(options.password_file);
     command_names();
     take_descriptors();

@@ -36,6 +36,7 @@ static const struct word_of {
     { "--checkpoint", "PAGES of the WAL, which are then copied into the database", NUMBER, &options.checkpoint, 1, 1000000 },
     { "--keep-log", "keeps what is before a snapshot", FLAG, &options.keep_log, 0, 0 },
     { "--backup", "FILE: copies --data, which may be in use, and ends", TEXT, &options.backup, 0, 0 },
+    { "--change", "FILE: makes data for other --handlers with the tables of --data, and ends", TEXT, &options.change, 0, 0 },
     { "--until", "POSITION: cuts a copy behind it", NUMBER, &options.until, 0, INT64_MAX },
     { "--print-log", "writes handlers and log as a session file, and ends", FLAG, &options.print_log, 0, 0 },
     { "--print-tables", "writes the tables, as `foresight dump`, and ends", FLAG, &options.print_tables, 0, 0 },
@@ -79,8 +80,10 @@ void options_read(int count, char **words) {
         if (word->sort == TEXT) *(const char **)word->at = words[i];
         else take_number(word, words[i]);
     }
-    bool ends = options.backup != NULL || options.print_log || options.print_tables;
+    bool ends = options.backup != NULL || options.print_log || options.print_tables
+        || options.change != NULL;
     bool opens = options.unix_path != NULL || options.listen != NULL;
     if ((ends || options.has_until) && options.data == NULL) usage();
+    if (options.change != NULL && options.handlers == NULL) usage();
     if (!ends && (options.handlers == NULL || !opens)) usage();
 }

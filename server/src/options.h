@@ -6,7 +6,7 @@
 #include <stdint.h>
 
 struct options {
-    const char *handlers, *data, *unix_path, *listen, *password_file, *backup;
+    const char *handlers, *data, *unix_path, *listen, *password_file, *backup, *change;
     uint64_t most_names, connections, idle_seconds, queue, slow_milliseconds, once_clients,
         once_window, snapshot_every, until, send_seconds, checkpoint;
     bool keep_log, print_log, print_tables, has_until;

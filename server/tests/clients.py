@@ -9,7 +9,7 @@ import sys
 import tempfile
 import time
 
-from served import Client, Server, command
+from served import HANDLERS, Client, Server, command
 
 PROGRAM, LOSSY = sys.argv[1], sys.argv[2]
 
@@ -186,6 +186,8 @@ def test_password(folder):
     status, _, why = server.run("--listen", "0.0.0.0:0")
     assert status == 2 and "password" in why, (status, why)
     server.start("--password-file", f"{folder}/password", "--listen", "0.0.0.0:0")
+    while "port " not in server.told():
+        time.sleep(0.01)
     port = int(server.told().rsplit("port ", 1)[1].split()[0])
     client = Client(socket.create_connection(("127.0.0.1", port)))
     assert client("take", "a", 1).startswith("-NOAUTH") and client("AUTH", "x").startswith("-WRONGPASS")
@@ -200,8 +202,8 @@ def test_bounds(folder):
     handlers = "map m; handler info(k) { reply k; } handler store(k, v) { put(m, k, v); reply v; }"
     server = Server(LOSSY, folder, "--connections", "3", "--idle", "1", "--send", "1", "--queue", "5",
                     "--most-names", "12", env={"CUT_FAULT": "slow:200"}, handlers=handlers).start()
-    assert "`info` has a command's name" in server.told()
     time.sleep(0.3)  # so that the connection that start tried is gone
+    assert "`info` has a command's name" in server.told()
     held = [Client(server) for _ in range(3)]
     assert held[0]("FCALL", "info", 0, 7) == 7 and held[1]("PING") == held[2]("PING") == "PONG"
     more = Client(server)
@@ -327,7 +329,7 @@ def test_snapshot_steps(folder):
 def snapshots_until(server, number, told="snapshot of position"):
     """Waits until it tells of a snapshot."""
     for _ in range(1000):
-        if told in server.told().rsplit("unix", 1)[1]:
+        if told in server.told().rsplit("unix", 1)[-1]:
             return number
         time.sleep(0.005)
     raise AssertionError(server.told())
@@ -350,6 +352,30 @@ def test_backup(folder):
         status, tables, why = server.run("--until", str(until), "--print-tables")
         assert status == 0 and tables == b"%%%% tables\nkept a %d\n" % until, (until, tables, why)
     assert server.run("--until", "15", "--print-tables")[0] == 8, "behind the end"
+
+
+def test_change(folder):
+    """Other handlers over the same tables: in new data, with what ONCE knows; the old stays."""
+    server = Server(PROGRAM, folder).start()
+    client = Client(server)
+    assert [client("ONCE", "c", n, "take", "a", 1) for n in (1, 2)] == [1, 2]
+    assert server.stop() == 0
+    for handlers, status, said in (("map sums; handler h(k) { reply k; }", 1, "refused B1"),
+                                   ("map none; " + HANDLERS + "handler twice(k) { let s = get(kept, k);"
+                                    " s = s * 2; reply s; }", 0, "position 2")):
+        with open(server.file, "w", encoding="utf-8") as out:
+            out.write(handlers)
+        got, _, why = server.run("--change", f"{folder}/changed")
+        assert got == status and said in why, (got, why)
+        assert os.path.exists(f"{folder}/changed") == (status == 0)
+    server.data = f"{folder}/changed"
+    client = Client(server.start())
+    assert client("twice", "a") == 4 and client("ONCE", "c", 2, "take", "a", 1) == 2
+    assert client("ONCE", "c", 3, "take", "a", 1) == 3
+    server.kill()
+    client = Client(server.start())
+    assert client("twice", "a") == 6 and "position:3" in client("INFO")
+    assert server.stop() == 0
 
 
 def main():
